@@ -1,4 +1,6 @@
 -- Definitions that only proofs and contracts inside the crates use: no contract of a public call of `kdl` mentions them.
 
+-- What the fields of the control of an entry text represent.
+pub mod EntryViews
 -- What the fields of the control represent.
 pub mod Views

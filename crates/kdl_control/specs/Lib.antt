@@ -1,4 +1,8 @@
 -- The control grammar: which tokens may come.
 pub mod Control
+-- The control of an entry text.
+pub mod EntryControl
+-- The control of a node text.
+pub mod NodeControl
 -- Definitions that only proofs and contracts inside the crates use.
 pub mod Internal

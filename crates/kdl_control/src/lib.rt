@@ -2,5 +2,9 @@
 #![tactic(auto)]
 
 mod control;
+mod entry_control;
+mod node_control;
 
 pub use control::{Control, Frame, Owner, Phase, Spot, Word};
+pub use entry_control::{EntryControl, Role};
+pub use node_control::NodeControl;

@@ -1,14 +1,13 @@
 -- The turns of the loop over the tokens of a front: their places are in the text, and what they cost.
-use Rattle.std.proofs.Common.{◌≡◌, ℕ, ◌+◌, ◌*◌, ◌<◌, ◌≤◌, List, ◌++◌, length, sym, ap, ◌∙◌, arith}
+use Rattle.std.proofs.Common.{◌≡◌, ℕ, ◌+◌, ◌*◌, ◌<◌, ◌≤◌, List, [], ◌++◌, length, sym, ap, ◌∙◌, arith}
 use Rattle.std.specs.Str.{chars, IsUtf8}
 use Rattle.kdl_text.specs.Chars.{Text, Star, plus}
 use Rattle.kdl_text.specs.Chars.Star.{none as no_star, more}
-use Rattle.kdl_text.specs.Internal.Here.{Here, Position, Ate}
+use Rattle.kdl_text.specs.Internal.Here.{Here, Position}
 use Rattle.kdl_text.specs.Internal.Reading.{Moves, Costs}
 use Rattle.kdl_text.specs.Spans.{bytes, raise}
 use Rattle.kdl_text.specs.Trivia.{NodeSpace}
-use Rattle.kdl_text.proofs.Looking.MovesJoin.{moves_then, fewer_bytes}
-use Rattle.kdl_text.proofs.Looking.SliceCost.{ate}
+use Rattle.kdl_text.proofs.Looking.MovesJoin.{moves_then}
 use Rattle.kdl_text.proofs.Looking.Texts.{bytes-chars}
 use Rattle.kdl_lexer.specs.Internal.Handed.{Cuts, one, spaces, HandsOut}
 use Rattle.kdl_lexer.specs.Tokens.{Token, t_space}
@@ -21,8 +20,8 @@ pub record Fronting (old new : Here) : Type 0 where
   pub moves : Moves old new
   pub most : new.steps + 24 * bytes new.rest ≤ old.steps + 24 * bytes old.rest + 1
 
-pub front_begins : (r : _) (a b : Here) → Ate 0xFEFF r a b → Fronting a b
-front_begins r a b x = let y = ate _ r a b x in record { moves = y.0; most = omega (arith, y.1.most, fewer_bytes y.0) }
+pub front_begins : (a b : Here) → Moves a b → Costs 24 1 a b → Fronting a b
+front_begins a b m k = record { moves = m; most = omega (arith, k.most) }
 
 pub front_goes_on : (f a b : Here) → Fronting f a → Moves a b → Costs 24 0 a b → Fronting f b
 front_goes_on f a b x m k = record { moves = moves_then x.moves m; most = omega (arith, x.most, k.most) }
@@ -39,7 +38,7 @@ spaces_shorter : {s r : Text} → Star NodeSpace s r → length r ≤ length s
 spaces_shorter no_star = omega arith
 spaces_shorter (more n m) = omega (arith, token_shorter (t_space n), spaces_shorter m)
 
-cut_shorter : {s r : Text} {k : Token} → Cuts s k r → length r < length s
+pub cut_shorter : {s r : Text} {k : Token} → Cuts s k r → length r < length s
 cut_shorter (one t) = token_shorter t
 cut_shorter (spaces (plus n m)) = omega (arith, token_shorter (t_space n), spaces_shorter m)
 
@@ -59,3 +58,7 @@ token_end_lies text f a b k x e h = front_lies text f b k.at.end x e h.end_rest
 -- the steps over a whole text
 pub front_bounded : (text : List ℕ) (a b : Here) (before after : ℕ) → IsUtf8 text → b.steps ≤ a.steps + (24 * bytes a.rest + 25) → a ≡ record { rest = chars text; at = 0; steps = before } → after ≡ b.steps → after ≤ before + (24 * length text + 25)
 front_bounded text a b before after u x e g = omega (arith, x, ap (λ (z : Here). bytes z.rest) e, ap (λ (z : Here). z.steps) e, bytes-chars text u, g)
+
+-- a token begins before the end of a text
+pub begun : (a b : Here) (k : CodeToken) → HandsOut a k b → a.rest ≡ [] → ⊥
+begun a b k h e = omega (arith, cut_shorter h.cuts, ap length e)

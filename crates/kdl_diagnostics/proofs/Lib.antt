@@ -1,3 +1,7 @@
+-- What a token, the end of the text and a U+FEFF do to a text that is accepted.
+pub mod Accepting
+-- How many blocks are open after a token, and what is missing where a text may not end.
+pub mod OpenCount
 -- Value ends, from further back.
 pub mod ValueEnds
 -- Spans between places of a text, and what a reader of faults holds.
@@ -10,6 +14,8 @@ pub mod PieceMoves
 pub mod StringLoops
 -- The diagnostics of a text, one for each fault.
 pub mod Diagnostics
+-- Where a front ends, and where the reader of faults begins.
+pub mod FrontEnds
 -- The turns of the loop over the tokens of a front.
 pub mod FrontReads
 -- What the turns of a reader of faults cost.

@@ -2,5 +2,7 @@
 
 -- The places and spans that a reader of faults keeps are in the text that it reads.
 pub mod Noted
+-- Where the reader of faults begins, and what is missing where a text ends.
+pub mod Outsets
 -- What the readers of pieces and value ends advance past, and what that costs.
 pub mod Reading

@@ -1,8 +1,8 @@
 //! The faults of a refused text, each with its span and its message.
 //!
-//! The lexer and the control read a document again up to its first fault (`front`). From there on, and in other texts
-//! from their start, the reader of faults takes one piece at a time, faulty or not, and continues after a fault
-//! (`reader`). An accepted text pays nothing for it.
+//! The lexer and the control read a text again up to its first fault (`front`). There the reader of faults notes that
+//! fault, and from there on it takes one piece at a time, faulty or not, and continues after a fault (`reader`). An
+//! accepted text pays nothing for it.
 #![tactic(auto)]
 
 mod ends;
@@ -13,6 +13,7 @@ mod machine;
 mod pieces;
 mod reader;
 mod strings;
+mod text_control;
 mod told;
 mod whole;
 

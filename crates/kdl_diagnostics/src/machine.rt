@@ -3,6 +3,10 @@
 //! Which piece may come where is up to the `Control`. If a piece does not fit, what was expected counts as read, and
 //! the control continues from there.
 
+ghost use Rattle.kdl_control.specs.Control.{at, finish};
+ghost use Rattle.kdl_control.specs.Internal.Views.{phase_view};
+ghost use Rattle.std.specs.Prelude.{◌≡◌, [], false, true};
+
 use crate::kind::Kind;
 use crate::pieces::{PieceKind, StringRole};
 use kdl_control::{Owner, Phase, Spot, Word};
@@ -69,7 +73,9 @@ pub(crate) fn misfit(phase: Phase, is_property: bool) -> Kind {
 }
 
 /// Whether something is expected in the phase, so that the text may not end here.
-pub(crate) fn is_due(phase: Phase) -> bool {
+pub(crate) fn is_due(phase: Phase) -> bool
+    ensures { result ≡ false → finish (at (phase_view phase) []) ≡ true }
+{
     !matches!(phase, Phase::Gap | Phase::InNode(_) | Phase::Kept)
 }
 

@@ -7,7 +7,7 @@ ghost use Rattle.kdl_text.specs.Chars.{Text, is_identifier_char, is_number_sign,
 ghost use Rattle.kdl_text.specs.Internal.Here.{Ahead, Behind as Follows, Returned, Position, first};
 ghost use Rattle.kdl_text.specs.Spans.{bytes};
 ghost use Rattle.kdl_text.specs.Internal.Reading.{Moves};
-ghost use Rattle.std.specs.Prelude.{◌≡◌, ◌+◌, ◌*◌, ◌≤◌, ◌++◌, true, IfOk, IfSome};
+ghost use Rattle.std.specs.Prelude.{◌≡◌, ◌+◌, ◌*◌, ◌≤◌, ◌++◌, [], true, IfOk, IfSome};
 
 use crate::ends::{Behind, Unclosed, behind_backslash, value_end};
 use crate::kind::{Form, Kind};
@@ -564,6 +564,7 @@ pub(crate) fn next_piece<'a>(
 ) -> Result<Piece<'a>, AllocError>
     ensures piece { IfOk result (λ p. Stands cursor.old.rest p) }
     ensures went { IfOk result (λ p. WentPast p.kind cursor.old cursor.new) }
+    ensures end { IfOk result (λ p. p.kind ≡ PieceKind.End → cursor.old.rest ≡ []) }
     ensures moves { Moves cursor.old cursor.new }
     ensures most { Most 37 41 cursor.old cursor.new }
 {

@@ -12,12 +12,14 @@ ghost use Rattle.kdl_diagnostics.specs.Internal.Noted.{
   ReadsAgain,
   Recovers,
 };
+ghost use Rattle.kdl_diagnostics.specs.Internal.Outsets.{BeginsAt, Enters, Grows, HasFault, IsReady, IsReadyAt, IsSingle, IsStopped, Lacking, NotesAlone, Untold};
 ghost use Rattle.kdl_diagnostics.specs.Internal.Reading.{Most, Stands, Turning, WentPast};
+ghost use Rattle.kdl_diagnostics.specs.declared.machine.Place.TheVariants.{FaultyType};
 ghost use Rattle.kdl_diagnostics.specs.declared.pieces.PieceKind.TheVariants.{End};
 ghost use Rattle.kdl_text.specs.Internal.Reading.{Moves};
 ghost use Rattle.kdl_text.specs.Chars.{Text};
 ghost use Rattle.kdl_text.specs.Spans.{raise};
-ghost use Rattle.std.specs.Prelude.{◌≡◌, ◌+◌, ◌≤◌, true, false, IfOk};
+ghost use Rattle.std.specs.Prelude.{◌≡◌, ◌+◌, ◌≤◌, ◌<◌, length, true, false, IfOk, IsSome, None};
 
 use crate::ends::{is_value_end, value_end};
 use crate::esclines::{Candidate, esclines};
@@ -27,6 +29,7 @@ use crate::machine::{
     Move, Place, behind_misfit, in_node, is_before_entry, is_dropping, is_due, misfit, token_kind,
 };
 use crate::pieces::{Piece, PieceKind, StringRole, next_piece};
+use crate::text_control::Outset;
 use crate::whole::Whole;
 use kdl_control::{Control, Phase};
 use kdl_lexer::TokenKind;
@@ -103,33 +106,35 @@ fn goes_on(kind: PieceKind) -> bool {
 impl<'a> Reader<'a> {
     /// Creates a reader that continues after the front of the text, and adds to the given count of steps. If no value
     /// end is there, it begins at the string, number or keyword that ends there.
-    pub(crate) fn new(text: &'a str, whole: Whole, front: Front<'a>, steps: Steps) -> Self
+    pub(crate) fn new(text: &'a str, front: Front<'a>, steps: Steps) -> Self
         ensures reads { (t : Text) → IsFrontOf t front.entry → IsReaderOf t result }
+        ensures ready { IsStopped front.entry → IsReady result }
         ensures most { result.cursor.steps ≤ steps + 7 }
         ensures counts { raise steps 0 ≤ raise result.cursor.steps 0 }
     {
         let Front {
             alloc,
-            whole: start,
+            whole,
             control,
             blocks,
             left,
             is_property,
             place,
             from,
-            phase,
+            before,
             ..
         } = front;
+        let here = control.outset();
         let mut cursor = Cursor::new(text, steps);
         cursor.go_to(&place);
         let mut reader = Reader {
             alloc,
-            text: whole,
-            whole: start,
+            text: control.whole,
+            whole,
             left,
             is_property,
             cursor,
-            control,
+            control: control.node.control,
             place: Place::Control,
             blocks,
             has_item: false,
@@ -140,21 +145,39 @@ impl<'a> Reader<'a> {
             faults: Vec::new(alloc),
             candidates: Vec::new(alloc),
         };
-        reader.go_back(&from, phase);
+        reader.begin_at(here, &from, before);
         reader
     }
 
-    /// Goes back to the place, where the control was in the phase, if no value end is here.
-    fn go_back(&mut self, from: &Checkpoint<'a>, phase: Phase)
+    /// Begins here if a value end is here, and else at the earlier place. An identifier is read again from its start.
+    fn begin_at(&mut self, here: Outset, from: &Checkpoint<'a>, before: Outset)
         ensures keeps { KeepsBetween from.now from.now self.old self.new }
+        ensures begins { BeginsAt from.now here before self.old self.new }
         ensures most { self.new.cursor.steps ≤ self.old.cursor.steps + 7 }
         ensures counts { raise self.old.cursor.steps 0 ≤ raise self.new.cursor.steps 0 }
     {
-        if is_value_end(&mut self.cursor) {
-            return;
+        if is_value_end(&mut self.cursor) && !matches!(self.text, Whole::Identifier) {
+            return self.enter(here);
         }
         self.cursor.go_to(from);
-        self.control.go_to(phase);
+        self.enter(before);
+    }
+
+    /// Continues at the outset.
+    fn enter(&mut self, outset: Outset)
+        ensures keeps { Keeps self.old self.new }
+        ensures cursor { self.new.cursor ≡ self.old.cursor }
+        ensures enters { Enters outset self.old self.new }
+    {
+        self.control.go_to(outset.phase);
+        self.place = if outset.is_over {
+            Place::Over
+        } else {
+            Place::Control
+        };
+        self.has_item = outset.has_item;
+        self.has_dropped = outset.has_dropped;
+        self.is_apart = outset.is_apart;
     }
 
     /// The faults that were noted, and the count of steps.
@@ -173,6 +196,8 @@ impl<'a> Reader<'a> {
         to: &Checkpoint<'a>,
     ) -> Result<(), AllocError>
         ensures keeps { KeepsBetween from.now to.now self.old self.new }
+        ensures grows { Grows self.old self.new }
+        ensures noted { IfOk result (λ _. HasFault self.new) }
         ensures cursor { self.new.cursor ≡ self.old.cursor }
         ensures same { self.new.is_over ≡ self.old.is_over }
     {
@@ -190,6 +215,7 @@ impl<'a> Reader<'a> {
         piece: &Piece<'a>,
     ) -> Result<(), AllocError>
         ensures keeps { KeepsUpTo piece.now from.now from.now self.old self.new }
+        ensures grows { Grows self.old self.new }
         ensures cursor { self.new.cursor ≡ self.old.cursor }
         ensures same { self.new.is_over ≡ self.old.is_over }
     {
@@ -214,6 +240,8 @@ impl<'a> Reader<'a> {
         piece: &Piece<'a>,
     ) -> Result<(), AllocError>
         ensures keeps { KeepsUpTo piece.now from.now to.now self.old self.new }
+        ensures grows { Grows self.old self.new }
+        ensures noted { IfOk result (λ _. HasFault self.new) }
         ensures cursor { self.new.cursor ≡ self.old.cursor }
         ensures same { self.new.is_over ≡ self.old.is_over }
     {
@@ -229,6 +257,7 @@ impl<'a> Reader<'a> {
     fn end_of(&mut self, piece: &Piece<'a>) -> Checkpoint<'a>
         ensures end { IsPlaceAt self.old piece.now result }
         ensures keeps { Keeps self.old self.new }
+        ensures grows { Grows self.old self.new }
         ensures moves { Moves self.old.cursor self.new.cursor }
         ensures most { Most 24 24 self.old.cursor self.new.cursor }
         ensures same { self.new.is_over ≡ self.old.is_over }
@@ -253,6 +282,8 @@ impl<'a> Reader<'a> {
     /// Notes that the piece does not fit, by a fault of the kind.
     fn note_misfit(&mut self, kind: Kind, piece: &Piece<'a>) -> Result<(), AllocError>
         ensures keeps { KeepsAt piece.now self.old self.new }
+        ensures grows { Grows self.old self.new }
+        ensures noted { IfOk result (λ _. HasFault self.new) }
         ensures moves { Moves self.old.cursor self.new.cursor }
         ensures most { Most 24 24 self.old.cursor self.new.cursor }
         ensures same { self.new.is_over ≡ self.old.is_over }
@@ -269,6 +300,8 @@ impl<'a> Reader<'a> {
     /// blocks is misplaced. In the text of an entry, and after the only node of a text, reading ends.
     fn misfit(&mut self, piece: &Piece<'a>) -> Result<(), AllocError>
         ensures keeps { KeepsAt piece.now self.old self.new }
+        ensures grows { Grows self.old self.new }
+        ensures noted { IfOk result (λ _. HasFault self.new) }
         ensures moves { Moves self.old.cursor self.new.cursor }
         ensures most { Most 24 24 self.old.cursor self.new.cursor }
         ensures over { self.old.is_over ≡ true → self.new.is_over ≡ true }
@@ -345,8 +378,10 @@ impl<'a> Reader<'a> {
     /// Notes that the only node or entry of a text, or a slashdashed entry, begins with the piece.
     fn begin(&mut self, kind: PieceKind)
         ensures keeps { Keeps self.old self.new }
+        ensures grows { Grows self.old self.new }
         ensures cursor { self.new.cursor ≡ self.old.cursor }
         ensures same { self.new.is_over ≡ self.old.is_over }
+        ensures place { self.new.place ≡ self.old.place }
     {
         if !begins_item(kind) || !self.blocks.is_empty() {
             return;
@@ -362,6 +397,7 @@ impl<'a> Reader<'a> {
     /// Continues in the place, after the name or an entry of a node.
     fn go_to(&mut self, place: Place)
         ensures keeps { Keeps self.old self.new }
+        ensures grows { Grows self.old self.new }
         ensures cursor { self.new.cursor ≡ self.old.cursor }
         ensures same { self.new.is_over ≡ self.old.is_over }
     {
@@ -372,6 +408,7 @@ impl<'a> Reader<'a> {
     /// After the only node of a text only line-spaces may follow.
     fn end_node(&mut self)
         ensures keeps { Keeps self.old self.new }
+        ensures grows { Grows self.old self.new }
         ensures cursor { self.new.cursor ≡ self.old.cursor }
         ensures same { self.new.is_over ≡ self.old.is_over }
     {
@@ -386,6 +423,7 @@ impl<'a> Reader<'a> {
     /// Opens a block with the piece.
     fn open_block(&mut self, piece: &Piece<'a>, is_told: bool) -> Result<(), AllocError>
         ensures keeps { KeepsAt piece.now self.old self.new }
+        ensures grows { Grows self.old self.new }
         ensures cursor { self.new.cursor ≡ self.old.cursor }
         ensures same { self.new.is_over ≡ self.old.is_over }
     {
@@ -397,6 +435,7 @@ impl<'a> Reader<'a> {
     /// Notes the block that the piece opens or closes.
     fn note_block(&mut self, piece: &Piece<'a>, is_told: bool) -> Result<(), AllocError>
         ensures keeps { KeepsAt piece.now self.old self.new }
+        ensures grows { Grows self.old self.new }
         ensures cursor { self.new.cursor ≡ self.old.cursor }
         ensures same { self.new.is_over ≡ self.old.is_over }
     {
@@ -413,6 +452,7 @@ impl<'a> Reader<'a> {
     /// Takes the token of the piece if it may come here, and returns whether it may.
     fn take_token(&mut self, piece: &Piece<'a>, is_told: bool) -> Result<bool, AllocError>
         ensures keeps { KeepsAt piece.now self.old self.new }
+        ensures grows { Grows self.old self.new }
         ensures cursor { self.new.cursor ≡ self.old.cursor }
         ensures same { self.new.is_over ≡ self.old.is_over }
     {
@@ -437,6 +477,7 @@ impl<'a> Reader<'a> {
     /// Notes the place after a `(`.
     fn note_left(&mut self, piece: &Piece<'a>)
         ensures keeps { KeepsAt piece.now self.old self.new }
+        ensures grows { Grows self.old self.new }
         ensures cursor { self.new.cursor ≡ self.old.cursor }
         ensures same { self.new.is_over ≡ self.old.is_over }
     {
@@ -448,6 +489,7 @@ impl<'a> Reader<'a> {
     /// Does what the move says if the piece fits, and returns whether it fits.
     fn apply(&mut self, piece: &Piece<'a>, step: Move, is_told: bool) -> Result<bool, AllocError>
         ensures keeps { KeepsAt piece.now self.old self.new }
+        ensures grows { Grows self.old self.new }
         ensures cursor { self.new.cursor ≡ self.old.cursor }
         ensures same { self.new.is_over ≡ self.old.is_over }
     {
@@ -464,6 +506,8 @@ impl<'a> Reader<'a> {
     /// Notes the own fault of a piece that fits at the place, except for a string in a type that is faulty already.
     fn fit(&mut self, piece: &Piece<'a>, place: Place) -> Result<(), AllocError>
         ensures keeps { KeepsAt piece.now self.old self.new }
+        ensures grows { Grows self.old self.new }
+        ensures noted { IfOk result (λ _. (place ≡ FaultyType → ⊥) → IsSome piece.now.fault → HasFault self.new) }
         ensures cursor { self.new.cursor ≡ self.old.cursor }
         ensures same { self.new.is_over ≡ self.old.is_over }
     {
@@ -481,6 +525,7 @@ impl<'a> Reader<'a> {
     /// outside blocks ends a node.
     fn go_on(&mut self, piece: &Piece<'a>) -> Result<(), AllocError>
         ensures keeps { KeepsAt piece.now self.old self.new }
+        ensures grows { Grows self.old self.new }
         ensures cursor { self.new.cursor ≡ self.old.cursor }
         ensures same { self.new.is_over ≡ self.old.is_over }
     {
@@ -503,6 +548,8 @@ impl<'a> Reader<'a> {
     /// a node, a block or what a `/-` drops, if it is such a piece.
     fn mend(&mut self, piece: &Piece<'a>) -> Result<(), AllocError>
         ensures keeps { KeepsAt piece.now self.old self.new }
+        ensures grows { Grows self.old self.new }
+        ensures noted { IfOk result (λ _. HasFault self.new) }
         ensures moves { Moves self.old.cursor self.new.cursor }
         ensures most { Most 24 24 self.old.cursor self.new.cursor }
         ensures over { self.old.is_over ≡ true → self.new.is_over ≡ true }
@@ -522,6 +569,8 @@ impl<'a> Reader<'a> {
     /// Notes each open block, the innermost first, except those with a fault noted at their `{`.
     fn note_blocks(&mut self) -> Result<(), AllocError>
         ensures keeps { Keeps self.old self.new }
+        ensures grows { Grows self.old self.new }
+        ensures noted { IfOk result (λ _. Untold self.old.blocks.items → 0 < length self.old.blocks.items → HasFault self.new) }
         ensures cursor { self.new.cursor ≡ self.old.cursor }
         ensures same { self.new.is_over ≡ self.old.is_over }
     {
@@ -539,6 +588,8 @@ impl<'a> Reader<'a> {
     /// Takes the end of the text: what is expected is missing, and open blocks are unclosed, the innermost first.
     fn end(&mut self, piece: &Piece<'a>) -> Result<(), AllocError>
         ensures keeps { KeepsAt piece.now self.old self.new }
+        ensures grows { Grows self.old self.new }
+        ensures noted { IfOk result (λ _. Lacking self.old → HasFault self.new) }
         ensures moves { Moves self.old.cursor self.new.cursor }
         ensures most { Most 24 24 self.old.cursor self.new.cursor }
         ensures over { self.new.is_over ≡ true }
@@ -559,6 +610,8 @@ impl<'a> Reader<'a> {
     /// Takes a piece of the grammar, whether it fits or not.
     fn take_part(&mut self, piece: &Piece<'a>) -> Result<(), AllocError>
         ensures keeps { KeepsAt piece.now self.old self.new }
+        ensures grows { Grows self.old self.new }
+        ensures noted { IfOk result (λ _. (self.old.place ≡ FaultyType → ⊥) → IsSome piece.now.fault → HasFault self.new) }
         ensures moves { Moves self.old.cursor self.new.cursor }
         ensures most { Most 24 24 self.old.cursor self.new.cursor }
     {
@@ -575,6 +628,8 @@ impl<'a> Reader<'a> {
     /// Takes a piece, without what follows it.
     fn take_alone(&mut self, piece: &Piece<'a>) -> Result<(), AllocError>
         ensures keeps { KeepsAt piece.now self.old self.new }
+        ensures grows { Grows self.old self.new }
+        ensures noted { IfOk result (λ _. IsReadyAt piece.now self.old → NotesAlone piece.now.kind (HasFault self.new)) }
         ensures moves { Moves self.old.cursor self.new.cursor }
         ensures most { Most 24 24 self.old.cursor self.new.cursor }
         ensures over { piece.now.kind ≡ End → self.new.is_over ≡ true }
@@ -588,7 +643,10 @@ impl<'a> Reader<'a> {
     }
 
     /// The fault of a text that has no node or no entry, if no block is open and there is no other fault.
-    fn missing(&self) -> Option<Kind> {
+    fn missing(&self) -> Option<Kind>
+        ensures { result ≡ None → IsSingle self.now.text → self.now.has_item ≡ false
+            → 0 < length self.now.blocks.items + length self.now.faults.items }
+    {
         if self.has_item || !self.blocks.is_empty() || !self.faults.is_empty() {
             return None;
         }
@@ -602,6 +660,7 @@ impl<'a> Reader<'a> {
     /// Takes a piece of the text.
     fn take(&mut self, piece: &Piece<'a>) -> Result<(), AllocError>
         ensures keeps { KeepsAt piece.now self.old self.new }
+        ensures grows { Grows self.old self.new }
         ensures moves { Moves self.old.cursor self.new.cursor }
         ensures most { Most 24 24 self.old.cursor self.new.cursor }
         ensures over { piece.now.kind ≡ End → self.new.is_over ≡ true }
@@ -613,6 +672,7 @@ impl<'a> Reader<'a> {
     /// Takes what follows the piece: an unclosed block comment, in what begins as an escline.
     fn behind(&mut self, piece: &Piece<'a>) -> Result<(), AllocError>
         ensures keeps { KeepsAt piece.now self.old self.new }
+        ensures grows { Grows self.old self.new }
         ensures cursor { self.new.cursor ≡ self.old.cursor }
         ensures same { self.new.is_over ≡ self.old.is_over }
     {
@@ -627,6 +687,8 @@ impl<'a> Reader<'a> {
     /// Notes that the character at the place can't be there, or that something is expected where the text ends.
     fn note_character(&mut self, from: &Checkpoint<'a>) -> Result<(), AllocError>
         ensures keeps { KeepsBetween from.now from.now self.old self.new }
+        ensures grows { Grows self.old self.new }
+        ensures noted { IfOk result (λ _. HasFault self.new) }
         ensures steps { self.new.cursor.steps ≡ raise self.old.cursor.steps 1 }
     {
         self.cursor.go_to(from);
@@ -635,9 +697,11 @@ impl<'a> Reader<'a> {
         self.note(Kind::Misplaced, from, &next)
     }
 
-    /// Notes the faults of a text that is read as an identifier.
+    /// Notes the fault of a text that is read as an identifier.
     fn read_identifier(&mut self) -> Result<(), AllocError>
         ensures keeps { Keeps self.old self.new }
+        ensures grows { Grows self.old self.new }
+        ensures noted { IfOk result (λ _. HasFault self.new) }
         ensures bounded { Bounded 124 self.old.cursor self.new.cursor }
     {
         let start = self.cursor.checkpoint();
@@ -648,16 +712,14 @@ impl<'a> Reader<'a> {
         if let Some(kind) = fault {
             return self.note_up_to(kind, &piece.start, &piece.end, &piece);
         }
-        self.cursor.go_to(&piece.end);
-        if self.cursor.look().is_none() {
-            return Ok(());
-        }
         self.note_character(&piece.end)
     }
 
     /// Takes a piece that has a fault, or else does not fit, without what follows it.
     fn refuse(&mut self, piece: &Piece<'a>) -> Result<(), AllocError>
         ensures keeps { KeepsAt piece.now self.old self.new }
+        ensures grows { Grows self.old self.new }
+        ensures noted { IfOk result (λ _. IsReadyAt piece.now self.old → HasFault self.new) }
         ensures moves { Moves self.old.cursor self.new.cursor }
         ensures most { Most 24 24 self.old.cursor self.new.cursor }
         ensures over { piece.now.kind ≡ End → self.new.is_over ≡ true }
@@ -665,13 +727,18 @@ impl<'a> Reader<'a> {
         match piece.kind {
             PieceKind::Comment | PieceKind::End => self.take_alone(piece),
             _ if piece.fault.is_some() => self.take_part(piece),
-            _ => self.mend(piece),
+            _ => {
+                self.begin(piece.kind);
+                self.mend(piece)
+            }
         }
     }
 
     /// Takes a piece that has a fault, or else does not fit.
     fn take_refused(&mut self, piece: &Piece<'a>) -> Result<(), AllocError>
         ensures keeps { KeepsAt piece.now self.old self.new }
+        ensures grows { Grows self.old self.new }
+        ensures noted { IfOk result (λ _. IsReadyAt piece.now self.old → HasFault self.new) }
         ensures moves { Moves self.old.cursor self.new.cursor }
         ensures most { Most 24 24 self.old.cursor self.new.cursor }
         ensures over { piece.now.kind ≡ End → self.new.is_over ≡ true }
@@ -683,6 +750,8 @@ impl<'a> Reader<'a> {
     /// Reads the next piece.
     fn next(&mut self) -> Result<Piece<'a>, AllocError>
         ensures keeps { Keeps self.old self.new }
+        ensures grows { Grows self.old self.new }
+        ensures ready { IfOk result (λ p. IsReady self.old → IsReadyAt p self.new) }
         ensures piece { IfOk result (λ p. Stands self.old.cursor.rest p) }
         ensures went { IfOk result (λ p. WentPast p.kind self.old.cursor self.new.cursor) }
         ensures moves { Moves self.old.cursor self.new.cursor }
@@ -693,15 +762,14 @@ impl<'a> Reader<'a> {
         next_piece(self.alloc, &mut self.cursor, role)
     }
 
-    /// Notes the first fault of a document, where its front ends.
-    fn begin_document(&mut self) -> Result<(), AllocError>
+    /// Notes the first fault, where the front ends.
+    fn note_first(&mut self) -> Result<(), AllocError>
         ensures keeps { Keeps self.old self.new }
+        ensures grows { Grows self.old self.new }
+        ensures noted { IfOk result (λ _. IsReady self.old → HasFault self.new) }
         ensures turning { IfOk result (λ _. Turning self.old.cursor self.new.cursor self.new.is_over) }
         ensures bounded { Bounded 124 self.old.cursor self.new.cursor }
     {
-        let Whole::Document = self.text else {
-            return Ok(());
-        };
         let piece = self.next()?;
         self.take_refused(&piece)
     }
@@ -709,12 +777,14 @@ impl<'a> Reader<'a> {
     /// Notes the faults of the text, as if no candidate began an escline.
     fn read(&mut self) -> Result<(), AllocError>
         ensures keeps { Keeps self.old self.new }
+        ensures grows { Grows self.old self.new }
+        ensures noted { IfOk result (λ _. IsReady self.old → HasFault self.new) }
         ensures bounded { Bounded 124 self.old.cursor self.new.cursor }
     {
         if let Whole::Identifier = self.text {
             return self.read_identifier();
         }
-        self.begin_document()?;
+        self.note_first()?;
         'pieces: while !self.is_over {
             let piece = self.next()?;
             self.take(&piece)?;
@@ -725,6 +795,7 @@ impl<'a> Reader<'a> {
     /// Ends the fault of the candidate with this number at its backslash, which begins an escline.
     fn settle(&mut self, candidate: usize)
         ensures keeps { Keeps self.old self.new }
+        ensures grows { Grows self.old self.new }
         ensures cursor { self.new.cursor ≡ self.old.cursor }
     {
         if candidate >= self.candidates.len() {
@@ -739,6 +810,7 @@ impl<'a> Reader<'a> {
     /// Ends the faults of all candidates that begin an escline at their backslashes.
     fn settle_all(&mut self) -> Result<(), AllocError>
         ensures keeps { Keeps self.old self.new }
+        ensures grows { Grows self.old self.new }
         ensures bounded { ReadsAgain 4 self.old self.new }
     {
         if self.candidates.is_empty() {
@@ -755,6 +827,8 @@ impl<'a> Reader<'a> {
     /// Notes the faults of the text.
     pub(crate) fn find(&mut self) -> Result<(), AllocError>
         ensures keeps { Keeps self.old self.new }
+        ensures grows { Grows self.old self.new }
+        ensures noted { IfOk result (λ _. IsReady self.old → HasFault self.new) }
         ensures bounded { (text : Text) → IsReaderOf text self.old → Recovers text self.old.cursor self.new.cursor }
     {
         self.read()?;

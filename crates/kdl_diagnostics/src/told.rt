@@ -1,20 +1,21 @@
 //! The error of a refused text.
 
 ghost use Rattle.kdl_diagnostics.specs.Internal.Noted.{IsFrontOf, Noted, OnRefused};
+ghost use Rattle.kdl_diagnostics.specs.Internal.Outsets.{IsStopped};
+ghost use Rattle.kdl_diagnostics.specs.TextControl.{Accepts};
 ghost use Rattle.kdl_text.specs.Failures.{IsToldOf, Tells, TellsOf};
 ghost use Rattle.kdl_text.specs.Spans.{InText, raise};
-ghost use Rattle.std.specs.Prelude.{◌+◌, ◌*◌, ◌<◌, ◌≤◌, length, IfOk, OnOk};
+ghost use Rattle.std.specs.Prelude.{◌≡◌, ◌↔◌, ◌+◌, ◌*◌, ◌<◌, ◌≤◌, [], false, length, true, IfOk, OnOk};
 ghost use Rattle.std.specs.Rc.{rc_str_bytes};
 ghost use Rattle.std.specs.Str.{chars};
 
 use crate::front::Front;
-use crate::kind::Kind;
 use crate::reader::{Fault, Reader};
 use crate::whole::Whole;
 use kdl_lexer::Lexer;
 use kdl_text::cursor::Steps;
 use kdl_text::error::{KdlDiagnostic, KdlError, ParseFailure};
-use kdl_text::span::{Severity, SourceSpan};
+use kdl_text::span::Severity;
 use std::alloc::{AllocError, Global};
 use std::mem;
 use std::rc::RcStr;
@@ -53,7 +54,7 @@ fn error_of(alloc: Global, text: &str, faults: &[Fault]) -> Result<KdlError, All
     Ok(KdlError { input, diagnostics })
 }
 
-/// Reads a document up to its first fault; of another text, nothing. Adds the steps to the count.
+/// Reads a text up to its first fault. Adds the steps to the count.
 fn read_front<'a>(
     alloc: Global,
     text: &'a str,
@@ -61,30 +62,29 @@ fn read_front<'a>(
     steps: &mut Steps,
 ) -> Result<Front<'a>, AllocError>
     ensures front { IfOk result (IsFrontOf (chars text.now)) }
+    ensures exact { IfOk result (λ f. f.is_accepted ≡ true ↔ Accepts whole (chars text.now)) }
+    ensures stopped { IfOk result (λ f. f.is_accepted ≡ false → IsStopped f) }
     ensures most { OnOk result (steps.new ≤ steps.old + (24 * length text.now + 25)) }
     ensures raised { raise steps.old 0 ≤ raise steps.new 0 }
 {
     let mut lexer = Lexer::new(text, mem::replace(steps, Steps::new()));
     let mut front = Front::new(alloc, whole, lexer.checkpoint());
-    let answer = front.read(whole, &mut lexer);
+    let answer = front.read(&mut lexer);
     *steps = lexer.into_steps();
     answer?;
     Ok(front)
 }
 
-/// The faults of a text from its front on. Adds the steps of reading to the count.
-fn recovered(
-    text: &str,
-    whole: Whole,
-    front: Front<'_>,
-    steps: &mut Steps,
-) -> Result<Vec<Fault>, AllocError>
-    requires { IsFrontOf (chars text.now) front }
+/// The faults of a refused text from its front on. Adds the steps of reading to the count.
+fn recovered(text: &str, front: Front<'_>, steps: &mut Steps) -> Result<Vec<Fault>, AllocError>
+    requires front { IsFrontOf (chars text.now) front }
+    requires stopped { IsStopped front }
+    ensures some { IfOk result (λ fs. 0 < length fs.items) }
     ensures noted { IfOk result (λ fs. Noted (chars text.now) fs.items) }
     ensures most { steps.new ≤ steps.old + (128 * length text.now + 111) }
     ensures raised { raise steps.old 0 ≤ raise steps.new 0 }
 {
-    let mut reader = Reader::new(text, whole, front, mem::replace(steps, Steps::new()));
+    let mut reader = Reader::new(text, front, mem::replace(steps, Steps::new()));
     let answer = reader.find();
     let (faults, count) = reader.into_parts();
     *steps = count;
@@ -92,14 +92,15 @@ fn recovered(
     Ok(faults)
 }
 
-/// Returns the faults of the text, in the order in which reading meets them; an accepted text has none. Adds the steps
-/// of reading to the count.
+/// Returns the faults of the text, in the order in which reading meets them. A text has none exactly if it is accepted.
+/// Adds the steps of reading to the count.
 pub fn faults(
     alloc: Global,
     text: &str,
     whole: Whole,
     steps: &mut Steps,
 ) -> Result<Vec<Fault>, AllocError>
+    ensures exact { IfOk result (λ fs. (fs.items ≡ []) ↔ Accepts whole (chars text.now)) }
     ensures noted { IfOk result (λ fs. Noted (chars text.now) fs.items) }
     ensures most { OnOk result (steps.new ≤ steps.old + 152 * (length text.now + 1)) }
     ensures raised { raise steps.old 0 ≤ raise steps.new 0 }
@@ -108,47 +109,33 @@ pub fn faults(
     if front.is_accepted {
         return Ok(Vec::new(alloc));
     }
-    recovered(text, whole, front, steps)
+    recovered(text, front, steps)
 }
 
-/// The error of a text that is refused at the span: a diagnostic for each fault in the order in which reading meets
-/// them, or one at the span if no fault is found.
+/// The error of a refused text: a diagnostic for each fault, in the order in which reading meets them.
 fn refusal(
     alloc: Global,
     text: &str,
     whole: Whole,
-    span: SourceSpan,
     steps: &mut Steps,
 ) -> Result<KdlError, AllocError>
-    requires { InText (chars text.now) span }
+    requires { Accepts whole (chars text.now) → ⊥ }
     ensures tells { IfOk result (Tells text.now) }
     ensures most { OnOk result (steps.new ≤ steps.old + 152 * (length text.now + 1)) }
     ensures raised { raise steps.old 0 ≤ raise steps.new 0 }
 {
-    let mut faults = faults(alloc, text, whole, steps)?;
-    if faults.is_empty() {
-        faults.push(Fault {
-            kind: Kind::Misplaced,
-            span,
-        })?;
-    }
+    let faults = faults(alloc, text, whole, steps)?;
     error_of(alloc, text, &faults)
 }
 
-/// Returns the failure for a text that is refused at the span, or for an allocation that failed.
-pub fn failure(
-    alloc: Global,
-    text: &str,
-    whole: Whole,
-    span: SourceSpan,
-    steps: &mut Steps,
-) -> ParseFailure
-    requires { InText (chars text.now) span }
+/// Returns the failure for a refused text, or for an allocation that failed.
+pub fn failure(alloc: Global, text: &str, whole: Whole, steps: &mut Steps) -> ParseFailure
+    requires { Accepts whole (chars text.now) → ⊥ }
     ensures tells { TellsOf text.now result }
     ensures most { OnRefused result (steps.new ≤ steps.old + 152 * (length text.now + 1)) }
     ensures raised { raise steps.old 0 ≤ raise steps.new 0 }
 {
-    match refusal(alloc, text, whole, span, steps) {
+    match refusal(alloc, text, whole, steps) {
         Ok(error) => ParseFailure::Syntax(error),
         Err(_) => ParseFailure::Memory,
     }

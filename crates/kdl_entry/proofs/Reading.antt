@@ -26,3 +26,5 @@ pub mod EntryRefusing
 pub mod EntryRefused
 -- Where an identifier text is refused.
 pub mod IdentifierRefused
+-- An accepted entry text is derived, and so is an accepted identifier text.
+pub mod Accepted

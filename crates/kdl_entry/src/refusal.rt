@@ -1,6 +1,7 @@
 //! The error of a refused text: its first diagnostic is near the place where the text is refused.
 
 ghost use Rattle.kdl_diagnostics.specs.Internal.Noted.{OnRefused};
+ghost use Rattle.kdl_diagnostics.specs.TextControl.{Accepts};
 ghost use Rattle.kdl_entry.specs.Internal.Near.{BeginNear, FailsNear, ReportsNear};
 ghost use Rattle.kdl_lexer.specs.Earliest.{IsNear};
 ghost use Rattle.kdl_text.specs.Failures.{IsToldOf, Tells, TellsOf};
@@ -88,13 +89,14 @@ pub fn refusal(
     span: SourceSpan,
     steps: &mut Steps,
 ) -> ParseFailure
-    requires { InText (chars text.now) span }
+    requires refused { Accepts whole (chars text.now) → ⊥ }
+    requires span { InText (chars text.now) span }
     ensures tells { TellsOf text.now result }
     ensures near { FailsNear text.now span.offset result }
     ensures most { OnRefused result (steps.new ≤ steps.old + 152 * (length text.now + 1)) }
     ensures raised { raise steps.old 0 ≤ raise steps.new 0 }
 {
-    match failure(alloc, text, whole, span, steps) {
+    match failure(alloc, text, whole, steps) {
         ParseFailure::Syntax(error) => match with_place(alloc, text, error, span) {
             Ok(error) => ParseFailure::Syntax(error),
             Err(_) => ParseFailure::Memory,

@@ -1,5 +1,7 @@
 //! Nodes that are a whole text.
 
+ghost use Rattle.kdl_diagnostics.specs.TextControl.{Accepts};
+ghost use Rattle.kdl_diagnostics.specs.declared.whole.Whole.TheVariants.{Node};
 ghost use Rattle.kdl_grammar.specs.Data as data';
 ghost use Rattle.kdl_grammar.specs.GoingOn.{DerivedNode};
 ghost use Rattle.kdl_grammar.specs.Grammar.{IsNodeText};
@@ -118,6 +120,7 @@ fn read_whole<N: ParsedNode>(alloc: Global, text: &str) -> Result<NodeText<N>, L
 
 /// The failure of a text that is refused as a node, or of memory that ran out.
 fn node_refusal(alloc: Global, text: &str) -> ParseFailure
+    requires { Accepts Node (chars text.now) → ⊥ }
     ensures told { TellsOf text.now result }
     ensures earliest { FailsEarliest DerivedNode text.now result }
 {

@@ -1,7 +1,7 @@
 use Rattle.std.proofs.Common.{ap}
 use Rattle.std.specs.Str.{chars}
 use Rattle.kdl_text.specs.Internal.Here.{Here}
-use Rattle.kdl_parser.specs.Internal.NodePlace.{node_view}
+use Rattle.kdl_control.specs.Internal.EntryViews.{node_view}
 use Rattle.kdl_parser.proofs.Answering.NodePlaces.{node_starts, node_goes_on, refused_token, no_token_there, end_there}
 use Rattle.kdl_parser.proofs.Answering.TokenLoop.{cut_shorter}
 use Rattle.kdl_parser.proofs.node_place.refused_place.Goals as goal

@@ -1,6 +1,6 @@
 use Rattle.std.proofs.Common.{length}
 use Rattle.std.specs.Str.{chars}
-use Rattle.kdl_parser.specs.Internal.NodePlace.{node_view}
+use Rattle.kdl_control.specs.Internal.EntryViews.{node_view}
 use Rattle.kdl_parser.proofs.Answering.NodePlaces.{NodeGoing}
 use Rattle.kdl_parser.proofs.node_place.refused_place.Given as goal
 

@@ -1,8 +1,8 @@
 use Rattle.kdl_diagnostics.proofs.NotedSpans.{opened_less}
 use Rattle.kdl_diagnostics.proofs.front.Front.note.Goals as goal
 
-pub returns-in-Closing : goal.returns-in-Closing
-returns-in-Closing c text x u v = record {
+pub returns-in-Closing-clause-keeps : goal.returns-in-Closing-clause-keeps
+returns-in-Closing-clause-keeps c text x u v = record {
   whole = x.whole;
   left = x.left;
   place = x.place;

@@ -1,8 +1,8 @@
 use Rattle.kdl_diagnostics.proofs.NotedSpans.{opened_more, opened_same, span_at}
 use Rattle.kdl_diagnostics.proofs.front.Front.open_block.Goals as goal
 
-pub returns-in_err-push : goal.returns-in_err-push
-returns-in_err-push c text x u v = record {
+pub returns-in_err-push-clause-keeps : goal.returns-in_err-push-clause-keeps
+returns-in_err-push-clause-keeps c text x u v = record {
   whole = x.whole;
   left = x.left;
   place = x.place;
@@ -10,8 +10,8 @@ returns-in_err-push c text x u v = record {
   blocks = opened_same text c.args.self.now.blocks.items c.push.new.self.items c.in_err-push.ensures.items x.blocks;
 }
 
-pub returns : goal.returns
-returns c text x u v = record {
+pub returns-clause-keeps : goal.returns-clause-keeps
+returns-clause-keeps c text x u v = record {
   whole = x.whole;
   left = x.left;
   place = x.place;

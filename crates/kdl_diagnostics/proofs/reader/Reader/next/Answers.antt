@@ -1,3 +1,4 @@
+use Rattle.kdl_diagnostics.proofs.FrontEnds.{if_ok}
 use Rattle.kdl_diagnostics.proofs.NotedSpans.{moved_here}
 use Rattle.kdl_diagnostics.proofs.reader.Reader.next.Goals as goal
 
@@ -10,3 +11,6 @@ returns-clause-keeps c text x = record {
   blocks = x.blocks;
   candidates = x.candidates;
 }
+
+pub returns-clause-ready : goal.returns-clause-ready
+returns-clause-ready c = if_ok c.next_piece.result (λ p h s. (record { ends = λ e. (let x = s.ends (h e) in record { lacks = x.lacks; untold = x.untold; cut = x.cut }); place = s.place })) c.next_piece.ensures.end

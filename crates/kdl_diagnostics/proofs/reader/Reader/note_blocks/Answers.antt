@@ -1,4 +1,5 @@
-use Rattle.std.proofs.Common.{Some, None}
+use Rattle.std.proofs.Common.{Some, None, arith}
+use Rattle.kdl_diagnostics.proofs.FrontEnds.{pushed, told_not, untold_less}
 use Rattle.kdl_diagnostics.proofs.NotedSpans.{noted_more, noted_same, opened_less}
 use Rattle.kdl_diagnostics.proofs.reader.Reader.note_blocks.Goals as goal
 
@@ -8,6 +9,9 @@ unclosed-preserved-in-Continue-1 c = record {
       (let y = c.unclosed.invariant.keeps text x in
       let z = opened_less text c.unclosed.self.blocks.items c.pop.new.self.items (Some c.in-Some.block) c.in-Some.ensures.items y.blocks in
       record { whole = y.whole; here = y.here; left = y.left; faults = noted_more text c.unclosed.self.faults.items c.push.new.self.items _ c.in_ok-push.ensures.items y.faults z.1; blocks = z.0; candidates = y.candidates });
+  grows = omega (arith, c.unclosed.invariant.grows, pushed _ _ _ c.in_ok-push.ensures.items);
+  untold = λ u. (untold_less c.unclosed.self.blocks.items c.pop.new.self.items (Some c.in-Some.block) c.in-Some.ensures.items (c.unclosed.invariant.untold u)).0;
+  noted = λ u h. omega (arith, pushed _ _ _ c.in_ok-push.ensures.items);
   cursor = c.unclosed.invariant.cursor;
   same = c.unclosed.invariant.same;
 }
@@ -18,6 +22,9 @@ unclosed-preserved c = record {
       (let y = c.unclosed.invariant.keeps text x in
       let z = opened_less text c.unclosed.self.blocks.items c.pop.new.self.items (Some c.in-Some.block) c.in-Some.ensures.items y.blocks in
       record { whole = y.whole; here = y.here; left = y.left; faults = y.faults; blocks = z.0; candidates = y.candidates });
+  grows = c.unclosed.invariant.grows;
+  untold = λ u. (untold_less c.unclosed.self.blocks.items c.pop.new.self.items (Some c.in-Some.block) c.in-Some.ensures.items (c.unclosed.invariant.untold u)).0;
+  noted = λ u h. absurd (told_not c.in-Some.block.is_told c.if-not-block.false (untold_less c.unclosed.self.blocks.items c.pop.new.self.items (Some c.in-Some.block) c.in-Some.ensures.items (c.unclosed.invariant.untold u)).1);
   cursor = c.unclosed.invariant.cursor;
   same = c.unclosed.invariant.same;
 }

@@ -1,12 +1,15 @@
 use Rattle.std.proofs.Common.{◌+◌}
 use Rattle.kdl_text.specs.Spans.{bytes}
 use Rattle.kdl_diagnostics.specs.Internal.Noted.{Keeps}
+use Rattle.kdl_diagnostics.specs.Internal.Outsets.{Grows, HasFault, IsReady}
 use Rattle.kdl_diagnostics.specs.Internal.Reading.{Turning, turns_left}
 use Rattle.kdl_diagnostics.proofs.reader.Reader.read.Given as goal
 
 abbrev pub invariant-pieces : goal.invariant-pieces
 invariant-pieces l = record {
   keeps : Keeps l.fn.self l.self;
+  grows : Grows l.fn.self l.self;
+  noted : IsReady l.fn.self → HasFault l.self;
   turning : Turning l.fn.self.cursor l.self.cursor l.self.is_over;
 }
 

@@ -1,4 +1,4 @@
-use Rattle.std.proofs.Common.{refl, ◌∙◌}
+use Rattle.std.proofs.Common.{refl, ◌∙◌, arith}
 use Rattle.kdl_diagnostics.proofs.ReaderCost.{again_lies, read_again}
 use Rattle.kdl_diagnostics.proofs.reader.Reader.settle_all.Goals as goal
 
@@ -12,12 +12,14 @@ loop-candidate-init c = record {
     blocks = x.blocks;
     candidates = x.candidates;
   });
+  grows = omega arith;
   cursor = refl;
 }
 
 pub loop-candidate-preserved : goal.loop-candidate-preserved
 loop-candidate-preserved c = record {
   keeps = λ text x. c.settle.ensures.keeps text (c.loop-candidate.invariant.keeps text x);
+  grows = omega (arith, c.loop-candidate.invariant.grows, c.settle.ensures.grows);
   cursor = c.settle.ensures.cursor ∙ c.loop-candidate.invariant.cursor;
 }
 

@@ -1,12 +1,7 @@
+use Rattle.kdl_diagnostics.proofs.FrontEnds.{if_ok}
 use Rattle.kdl_diagnostics.proofs.NotedSpans.{stands_in}
-use Rattle.kdl_diagnostics.proofs.ReaderCost.{on_ok, turning_begins, turning_first, turning_ends, piece_bounded, piece_bounded_more}
-use Rattle.kdl_diagnostics.proofs.reader.Reader.begin_document.Goals as goal
-
-pub returns-in_default-clause-turning : goal.returns-in_default-clause-turning
-returns-in_default-clause-turning c = turning_begins c.args.self.now.cursor c.args.self.now.is_over
-
-pub returns-in_default-clause-bounded : goal.returns-in_default-clause-bounded
-returns-in_default-clause-bounded c = turning_ends _ _ _ (turning_begins c.args.self.now.cursor c.args.self.now.is_over)
+use Rattle.kdl_diagnostics.proofs.ReaderCost.{on_ok, turning_first, piece_bounded, piece_bounded_more}
+use Rattle.kdl_diagnostics.proofs.reader.Reader.note_first.Goals as goal
 
 pub returns-in_err-piece-clause-bounded : goal.returns-in_err-piece-clause-bounded
 returns-in_err-piece-clause-bounded c = piece_bounded _ _ c.next.ensures.moves c.next.ensures.most
@@ -19,3 +14,6 @@ returns-clause-turning c = on_ok c.take_refused.result (turning_first c.args.sel
 
 pub returns-clause-bounded : goal.returns-clause-bounded
 returns-clause-bounded c = piece_bounded_more _ _ _ c.next.ensures.moves c.next.ensures.most c.take_refused.ensures.moves c.take_refused.ensures.most
+
+pub returns-clause-noted : goal.returns-clause-noted
+returns-clause-noted c = if_ok c.take_refused.result (λ x h s. h (c.in_ok-piece.ensures.ready s)) c.take_refused.ensures.noted

@@ -1,0 +1,43 @@
+-- What the fields of the controls of an entry text and of a node text represent.
+use Rattle.std.specs.Prelude.{Bool, true, false}
+use Rattle.kdl_lexer.specs.declared.lexer.TokenKind.{TokenKind}
+use Rattle.kdl_lexer.specs.declared.lexer.TokenKind.TheVariants.{String, Left, Space, Newline}
+use Rattle.kdl_control.specs.EntryControl as e
+use Rattle.kdl_control.specs.NodeControl as n
+use Rattle.kdl_control.specs.Internal.Views.{control_view, word_view}
+use Rattle.kdl_control.specs.declared.entry_control.EntryControl.{EntryControl}
+use Rattle.kdl_control.specs.declared.entry_control.EntryControl.TheVariants.{Ahead, Slashdash, TypeOpen, TypeName, TypeDone, Property, Dropped, Word, Done}
+use Rattle.kdl_control.specs.declared.entry_control.Role.{Role}
+use Rattle.kdl_control.specs.declared.entry_control.Role.TheVariants.{Own, Slashdashed}
+use Rattle.kdl_control.specs.declared.node_control.NodeControl.{NodeControl}
+
+-- whether the entry is the one that the text is
+abbrev pub role_view : Role → Bool
+role_view Own = true
+role_view Slashdashed = false
+
+abbrev pub entry_view : EntryControl → e.EntryControl
+entry_view Ahead = e.ahead
+entry_view Slashdash = e.slashdashed
+entry_view (TypeOpen r) = e.type_open (role_view r)
+entry_view (TypeName r) = e.type_name (role_view r)
+entry_view (TypeDone r) = e.type_done (role_view r)
+entry_view (Property r) = e.property (role_view r)
+entry_view (Dropped w spaced) = e.dropped (word_view w) spaced
+entry_view Word = e.word
+entry_view Done = e.done
+
+abbrev pub node_view : NodeControl → n.NodeControl
+node_view c = n.in_text c.begun (control_view c.control)
+
+-- a token that begins a node between nodes
+abbrev pub begins_node : TokenKind → Bool
+begins_node (String s) = true
+begins_node Left = true
+begins_node _ = false
+
+-- a token that is made of line-spaces
+abbrev pub is_line_space : TokenKind → Bool
+is_line_space Space = true
+is_line_space Newline = true
+is_line_space _ = false

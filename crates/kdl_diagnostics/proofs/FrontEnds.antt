@@ -1,0 +1,135 @@
+-- Where a front ends, and where the reader of faults begins.
+use Rattle.std.proofs.Common.{◌≡◌, ◌↔◌, ◌+◌, ◌-◌, ◌<◌, ℕ, Bool, true, false, not, List, [], ◌∷◌, ◌++◌, length, Option, Some, None, Result, Ok, Err, refl, sym, ap, subst, ◌∙◌, arith}
+use Rattle.std.specs.Prelude.{IfOk, option_to_list}
+use Rattle.std.specs.Option.{IfSome}
+use Rattle.std.proofs.lemmas.List.{length_push}
+use Rattle.std.proofs.lemmas.List.Elements.{All-nil, All-pop, All-push, All-same}
+use Rattle.kdl_text.specs.Chars.{Text}
+use Rattle.kdl_text.specs.Internal.Here.{Here}
+use Rattle.kdl_lexer.specs.Internal.Handed.{HandsOut, kind_view}
+use Rattle.kdl_lexer.specs.Tokens.{Token, space, newline, slashdash, string, value, left, right, opening, closing, equals, semicolon, bom, NoToken}
+use Rattle.kdl_lexer.specs.declared.lexer.Token.{Token as CodeToken}
+use Rattle.kdl_control.specs.Internal.Views.{phase_view}
+use Rattle.kdl_diagnostics.specs.Internal.Outsets.{Counts, EndsBefore, Enters, GoesOver, IsNew, BeginsAt, at_the_end, earlier, IsReady, IsStopped, Lacking, Lacks, LacksAt, Matched, Untold, depth, text_view}
+use Rattle.kdl_diagnostics.specs.TextControl.{TextControl, Takes, text_finish, text_start, text_step}
+use Rattle.kdl_diagnostics.specs.declared.front.Front.{Front}
+use Rattle.kdl_diagnostics.specs.declared.reader.Block.{Block}
+use Rattle.kdl_diagnostics.specs.declared.reader.Reader.{Reader}
+use Rattle.kdl_diagnostics.specs.declared.text_control.Outset.{Outset}
+use Rattle.kdl_diagnostics.specs.declared.text_control.TextControl.{TextControl as Control}
+use Rattle.kdl_diagnostics.specs.declared.whole.Whole.{Whole}
+use Rattle.kdl_diagnostics.specs.declared.whole.Whole.TheVariants.{Document, Node, Entry, Identifier}
+use Rattle.kdl_diagnostics.proofs.Accepting.{over, refuses, none_begins, at_end}
+use Rattle.kdl_diagnostics.proofs.FrontReads.{cut_shorter}
+use Rattle.kdl_diagnostics.proofs.OpenCount.{counted}
+
+-- what holds of a value holds of what follows from it
+pub if_ok : {A E : Type 0} {P Q : A → Type 0} (r : Result A E) → ((x : A) → P x → Q x) → IfOk r P → IfOk r Q
+if_ok (Ok x) f p = f x p
+if_ok (Err e) f p = tt
+
+pub not_empty : {A : Type 0} (xs : List A) → (xs ≡ [] → ⊥) → 0 < length xs
+not_empty [] h = absurd (h refl)
+not_empty (x ∷ xs) h = omega arith
+
+pub some_left : {A : Type 0} (xs : List A) → 0 < length xs → xs ≡ [] → ⊥
+some_left xs h e = omega (arith, h, ap length e)
+
+pub pushed : {A : Type 0} (old new : List A) (x : A) → new ≡ old ++ (x ∷ []) → length new ≡ length old + 1
+pushed old new x e = ap length e ∙ length_push old x
+
+-- a front that ends behind no string, number or keyword
+pub ends_at : (rest : Text) (f : Front) → f.place.rest ≡ rest → f.from.rest ≡ rest → (text_finish (text_view f.control) ≡ false → LacksAt f.control.whole (depth (text_view f.control)) f.before) → Matched f → EndsBefore rest f
+ends_at rest f p q h m = record { place = p; from = λ e. (sym q ∙ e, λ x. subst (λ (n : ℕ). LacksAt f.control.whole n f.before) (sym m.0) (h x)); matched = m }
+
+-- or behind one
+pub ends_behind : (start rest : Text) (f : Front) → f.place.rest ≡ rest → f.from.rest ≡ start → (start ≡ [] → ⊥) → Matched f → EndsBefore rest f
+ends_behind start rest f p q h m = record { place = p; from = λ e. absurd (h (sym q ∙ e)); matched = m }
+
+-- the open blocks
+same_count : (k : Token) (m n o : ℕ) → Counts k m n → Counts k m o → n ≡ o
+same_count opening m n o e f = e ∙ sym f
+same_count closing m n o e f = e ∙ sym f
+same_count space m n o e f = e ∙ sym f
+same_count newline m n o e f = e ∙ sym f
+same_count slashdash m n o e f = e ∙ sym f
+same_count (string v) m n o e f = e ∙ sym f
+same_count (value v) m n o e f = e ∙ sym f
+same_count left m n o e f = e ∙ sym f
+same_count right m n o e f = e ∙ sym f
+same_count equals m n o e f = e ∙ sym f
+same_count semicolon m n o e f = e ∙ sym f
+same_count bom m n o e f = e ∙ sym f
+
+pub matched : (k : Token) (a b : TextControl) (m n : ℕ) → text_step a k ≡ Some b → m ≡ depth a → Counts k m n → n ≡ depth b
+matched k a b m n e f c = same_count k (depth a) n (depth b) (subst (λ (z : ℕ). Counts k z n) f c) (counted a b k e)
+
+pub untold_more : (old new : List Block) (b : Block) → new ≡ old ++ (b ∷ []) → b.is_told ≡ false → Untold old → Untold new
+untold_more old new b e h x = All-same (λ (b : Block). b.is_told ≡ false) new (old ++ (b ∷ [])) e (All-push (λ (b : Block). b.is_told ≡ false) old b x h)
+
+pub untold_less : (old new : List Block) (r : Option Block) → old ≡ new ++ option_to_list r → Untold old → Untold new × IfSome r (λ (b : Block). b.is_told ≡ false)
+untold_less old new r e x = All-pop (λ (b : Block). b.is_told ≡ false) old new r e x
+
+pub told_not : (b : Bool) → not b ≡ false → b ≡ false → ⊥
+told_not true e f = cc
+told_not false e f = cc
+
+-- where the reader of faults begins
+lacking : (n : ℕ) (o : Outset) (a b : Reader) → LacksAt a.text n o → Untold a.blocks.items → a.is_cut ≡ false → n ≡ length a.blocks.items → Enters o a b → Lacking b
+lacking n o a b x u c e h =
+    let y : LacksAt b.text (length b.blocks.items) o = subst (λ w. LacksAt w (length b.blocks.items) o) (sym h.text) (subst (λ z. LacksAt a.text (length z.items) o) (sym h.blocks) (subst (λ (z : ℕ). LacksAt a.text z o) e x)) in
+    record {
+      lacks = subst (λ p. Lacks b.text (length b.blocks.items) (phase_view p) b.has_item) (sym h.phase) (subst (λ (i : Bool). Lacks b.text (length b.blocks.items) (phase_view o.phase) i) (sym h.item) y);
+      untold = subst (λ z. Untold z.items) (sym h.blocks) u;
+      cut = h.cut ∙ c;
+    }
+
+pub ready : (f : Front) (here : Outset) (a b : Reader) → IsStopped f → (text_finish (text_view f.control) ≡ false → LacksAt f.control.whole (depth (text_view f.control)) here) → a.text ≡ f.control.whole → a.blocks ≡ f.blocks → a.is_cut ≡ false → a.cursor.rest ≡ f.place.rest → BeginsAt f.from here f.before a b → IsReady b
+ready f here a b s l t k c r (at_the_end e h) = record {
+  ends = λ n.
+      (let (g, m) = s.place (sym r ∙ sym e ∙ n) in
+      lacking (depth (text_view f.control)) here a b (subst (λ w. LacksAt w (depth (text_view f.control)) here) (sym t) (l g)) (subst (λ z. Untold z.items) (sym k) m.1) c (sym m.0 ∙ ap (λ z. length z.items) (sym k)) h);
+  place = h.place;
+}
+ready f here a b s l t k c r (earlier e h) = record {
+  ends = λ n.
+      (let (x, u) = s.from (sym e ∙ n) in
+      lacking (length f.blocks.items) f.before a b (subst (λ w. LacksAt w (length f.blocks.items) f.before) (sym t) x) (subst (λ z. Untold z.items) (sym k) u) c (ap (λ z. length z.items) (sym k)) h);
+  place = h.place;
+}
+
+-- the front at the start of a text
+pub new_matched : (f : Front) → IsNew f → Matched f
+new_matched f n = (ap length n.blocks ∙ sym (ap depth n.control ∙ no_depth f.control.whole), subst Untold (sym n.blocks) (All-nil (λ (b : Block). b.is_told ≡ false)))
+  where
+    no_depth : (w : Whole) → depth (text_start w) ≡ 0
+    no_depth Document = refl
+    no_depth Node = refl
+    no_depth Entry = refl
+    no_depth Identifier = refl
+
+pub starts : {P : Type 0} (s : Text) (w : Whole) (c d : Control) → d ≡ c → text_view c ≡ text_start w → Takes (text_start w) s ↔ P → Takes (text_view d) s ↔ P
+starts {P = P} s w c d e f x = subst (λ (t : TextControl). Takes t s ↔ P) (sym (ap text_view e ∙ f)) x
+
+-- a front goes on over a token that is taken, and stops where none is
+pub over_token : {P : Type 0} (a b : Here) (k : CodeToken) (f g : Front) → HandsOut a k b → text_step (text_view f.control) (kind_view k.kind) ≡ Some (text_view g.control) → Takes (text_view f.control) a.rest ↔ P → Takes (text_view g.control) b.rest ↔ P
+over_token a b k f g h e x = let y = over h.cuts e in (λ t. x.0 (y.0 t), λ p. y.1 (x.1 p))
+
+pub ends_over : (a b : Here) (k : CodeToken) (f g : Front) → HandsOut a k b → EndsBefore a.rest f → GoesOver k f g true → EndsBefore b.rest g
+ends_over a b k f g h e o = subst (λ (t : Text). EndsBefore t g) h.end_rest (o (λ n. omega (arith, cut_shorter h.cuts, ap length (sym h.start_rest ∙ n))) e.matched)
+
+pub refused : {P : Type 0} (r : Bool) (a b : Here) (k : CodeToken) (t : TextControl) → HandsOut a k b → text_step t (kind_view k.kind) ≡ None → r ≡ false → Takes t a.rest ↔ P → (r ≡ true) ↔ P
+refused r a b k t h e f x = (λ q. absurd cc, λ p. absurd (refuses h.cuts e (x.1 p)))
+
+pub no_token_here : {P : Type 0} (r : Bool) (a : Here) (t : TextControl) → NoToken a.rest → r ≡ false → Takes t a.rest ↔ P → (r ≡ true) ↔ P
+no_token_here r a t n f x = (λ q. absurd cc, λ p. absurd (none_begins n (x.1 p)))
+
+pub at_the_text_end : {P : Type 0} (r : Bool) (a : Here) (t : TextControl) → a.rest ≡ [] → r ≡ text_finish t → Takes t a.rest ↔ P → (r ≡ true) ↔ P
+at_the_text_end r a t n f x = let y = at_end n in (λ q. x.0 (y.0 (sym f ∙ q)), λ p. f ∙ y.1 (x.1 p))
+
+-- where the text goes on there is nothing more to know
+pub stopped_before : (rest : Text) (f g : Front) → EndsBefore rest f → (rest ≡ [] → ⊥) → g.place.rest ≡ f.place.rest → g.from.rest ≡ f.from.rest → IsStopped g
+stopped_before rest f g e n p q = record { place = λ x. absurd (n (sym e.place ∙ sym p ∙ x)); from = λ x. absurd (n (e.from (sym q ∙ x)).0) }
+
+pub stopped_at_end : (rest : Text) (f : Front) → EndsBefore rest f → text_finish (text_view f.control) ≡ false → IsStopped f
+stopped_at_end rest f e n = record { place = λ x. (n, e.matched); from = λ x. ((e.from x).1 n, e.matched.1) }

@@ -1,0 +1,185 @@
+-- How many blocks are open after a token, and what is missing where a text may not end.
+use Rattle.std.proofs.Common.{◌≡◌, ◌+◌, ◌-◌, ◌<◌, ℕ, Bool, true, false, List, [], ◌∷◌, length, Option, Some, None, option_map, refl, sym, ap, subst, ◌∙◌, arith}
+use Rattle.kdl_lexer.specs.Tokens.{Token, space, newline, slashdash, string, value, left, right, opening, closing, equals, semicolon, bom}
+use Rattle.kdl_control.specs.Control as c
+use Rattle.kdl_control.specs.EntryControl as e
+use Rattle.kdl_control.specs.NodeControl.{NodeControl, in_text, with_begun, between_nodes, node_step, node_finish}
+use Rattle.kdl_diagnostics.specs.Internal.Outsets.{Counts, Lacks, due, in_block, no_item, IsSingle, depth, open_blocks}
+use Rattle.kdl_diagnostics.specs.TextControl.{TextControl, in_document, in_node, in_entry, in_identifier, text_step}
+use Rattle.kdl_diagnostics.specs.declared.whole.Whole.{Whole}
+use Rattle.kdl_diagnostics.specs.declared.whole.Whole.TheVariants.{Node}
+
+abbrev Of : {S : Type 0} → (S → Type 0) → Option S → Type 0
+Of P None = Unit {0}
+Of P (Some d) = P d
+
+popped_count : (fs : List c.Frame) → Of (λ d. open_blocks d ≡ length fs - 1) (c.popped fs)
+popped_count [] = tt
+popped_count (c.in_block ∷ fs) = omega arith
+popped_count (c.in_dropped ∷ fs) = omega arith
+popped_count (c.in_later ∷ fs) = omega arith
+
+from_spaced_count : (n : ℕ) (p : c.Spot) (d : c.Control) → open_blocks d ≡ n → Of (λ z. open_blocks z ≡ n) (c.from_spaced p d)
+from_spaced_count n (c.spaced b) d h = h
+from_spaced_count n (c.fresh b) d h = tt
+from_spaced_count n c.later d h = tt
+
+value_from_count : (n : ℕ) (p : c.Spot) (d : c.Control) → open_blocks d ≡ n → Of (λ z. open_blocks z ≡ n) (c.value_from p d)
+value_from_count n (c.spaced true) d h = h
+value_from_count n (c.fresh true) d h = h
+value_from_count n (c.spaced false) d h = tt
+value_from_count n (c.fresh false) d h = tt
+value_from_count n c.later d h = tt
+
+for_value_count : (n : ℕ) (b : Bool) (d : c.Control) → open_blocks d ≡ n → Of (λ z. open_blocks z ≡ n) (c.for_value b d)
+for_value_count n true d h = h
+for_value_count n false d h = tt
+
+opened_count : (f : c.Frame) (fs : List c.Frame) → length (f ∷ fs) ≡ length fs + 1
+opened_count f fs = omega arith
+
+step_count : (m : c.Control) (k : Token) → Of (λ d. Counts k (open_blocks m) (open_blocks d)) (c.step m k)
+step_count (c.at c.gap fs) space = refl
+step_count (c.at c.gap fs) newline = refl
+step_count (c.at c.gap fs) slashdash = refl
+step_count (c.at c.gap fs) (string v) = refl
+step_count (c.at c.gap fs) left = refl
+step_count (c.at c.gap fs) closing = popped_count fs
+step_count (c.at c.node_slashdash fs) space = refl
+step_count (c.at c.node_slashdash fs) newline = refl
+step_count (c.at c.node_slashdash fs) (string v) = refl
+step_count (c.at c.node_slashdash fs) left = refl
+step_count (c.at (c.type_open b) fs) space = refl
+step_count (c.at (c.type_open b) fs) (string v) = refl
+step_count (c.at (c.type_name b) fs) space = refl
+step_count (c.at (c.type_name b) fs) right = refl
+step_count (c.at (c.type_done b) fs) space = refl
+step_count (c.at (c.type_done b) fs) (string v) = refl
+step_count (c.at (c.type_done b) fs) (value v) = for_value_count (length fs) b _ refl
+step_count (c.at c.property fs) space = refl
+step_count (c.at c.property fs) (string v) = refl
+step_count (c.at c.property fs) (value v) = refl
+step_count (c.at c.property fs) left = refl
+step_count (c.at (c.in_node p) fs) space = refl
+step_count (c.at (c.in_node p) fs) newline = refl
+step_count (c.at (c.in_node p) fs) semicolon = refl
+step_count (c.at (c.in_node p) fs) closing = popped_count fs
+step_count (c.at (c.in_node p) fs) opening = opened_count c.in_block fs
+step_count (c.at (c.in_node p) fs) slashdash = refl
+step_count (c.at (c.in_node p) fs) (string v) = from_spaced_count (length fs) p _ refl
+step_count (c.at (c.in_node p) fs) (value v) = from_spaced_count (length fs) p _ refl
+step_count (c.at (c.in_node p) fs) left = from_spaced_count (length fs) p _ refl
+step_count (c.at (c.in_node p) fs) equals = value_from_count (length fs) p _ refl
+step_count (c.at c.entry_slashdash fs) space = refl
+step_count (c.at c.entry_slashdash fs) newline = refl
+step_count (c.at c.entry_slashdash fs) (string v) = refl
+step_count (c.at c.entry_slashdash fs) (value v) = refl
+step_count (c.at c.entry_slashdash fs) left = refl
+step_count (c.at c.entry_slashdash fs) opening = opened_count c.in_dropped fs
+step_count (c.at c.block_slashdash fs) space = refl
+step_count (c.at c.block_slashdash fs) newline = refl
+step_count (c.at c.block_slashdash fs) opening = opened_count c.in_dropped fs
+step_count (c.at c.kept fs) space = refl
+step_count (c.at c.kept fs) newline = refl
+step_count (c.at c.kept fs) semicolon = refl
+step_count (c.at c.kept fs) closing = popped_count fs
+step_count (c.at c.kept fs) slashdash = refl
+step_count (c.at c.kept_slashdash fs) space = refl
+step_count (c.at c.kept_slashdash fs) newline = refl
+step_count (c.at c.kept_slashdash fs) opening = opened_count c.in_later fs
+step_count _ _ = tt
+
+begun_count : (P : ℕ → Type 0) (b : Bool) (o : Option c.Control) → Of (λ d. P (open_blocks d)) o → Of (λ d. P (depth (in_node d))) (with_begun b o)
+begun_count P b None h = tt
+begun_count P b (Some d) h = h
+
+between_count : (b : Bool) (k : Token) → Of (λ d. Counts k 0 (depth (in_node d))) (between_nodes b k)
+between_count true space = refl
+between_count true newline = refl
+between_count true _ = tt
+between_count false (string v) = refl
+between_count false left = refl
+between_count false k = begun_count (Counts k 0) false (c.step (c.at c.gap []) k) (step_count (c.at c.gap []) k)
+
+node_count : (m : NodeControl) (k : Token) → Of (λ d. Counts k (depth (in_node m)) (depth (in_node d))) (node_step m k)
+node_count (in_text b (c.at c.gap [])) k = between_count b k
+node_count (in_text b (c.at p fs)) k = begun_count (Counts k (length fs)) b (c.step (c.at p fs) k) (step_count (c.at p fs) k)
+
+entry_count : (m : e.EntryControl) (k : Token) → Of (λ d. Counts k 0 0) (e.entry_step m k)
+entry_count e.ahead space = refl
+entry_count e.ahead newline = refl
+entry_count e.ahead slashdash = refl
+entry_count e.ahead (string v) = refl
+entry_count e.ahead (value v) = refl
+entry_count e.ahead left = refl
+entry_count e.slashdashed space = refl
+entry_count e.slashdashed newline = refl
+entry_count e.slashdashed (string v) = refl
+entry_count e.slashdashed (value v) = refl
+entry_count e.slashdashed left = refl
+entry_count (e.type_open b) space = refl
+entry_count (e.type_open b) (string v) = refl
+entry_count (e.type_name b) space = refl
+entry_count (e.type_name b) right = refl
+entry_count (e.type_done b) space = refl
+entry_count (e.type_done b) (string v) = refl
+entry_count (e.type_done b) (value v) = refl
+entry_count (e.property b) space = refl
+entry_count (e.property b) (string v) = refl
+entry_count (e.property b) (value v) = refl
+entry_count (e.property b) left = refl
+entry_count (e.dropped b s) space = refl
+entry_count (e.dropped true s) equals = refl
+entry_count (e.dropped b true) slashdash = refl
+entry_count (e.dropped b true) (string v) = refl
+entry_count (e.dropped b true) (value v) = refl
+entry_count (e.dropped b true) left = refl
+entry_count e.word space = refl
+entry_count e.word newline = refl
+entry_count e.word equals = refl
+entry_count e.done space = refl
+entry_count e.done newline = refl
+entry_count _ _ = tt
+
+lifted : {S : Type 0} (wrap : S → TextControl) (P : TextControl → Type 0) (o : Option S) → Of (λ d. P (wrap d)) o → Of P (option_map wrap o)
+lifted wrap P None h = tt
+lifted wrap P (Some d) h = h
+
+text_count : (m : TextControl) (k : Token) → Of (λ d. Counts k (depth m) (depth d)) (text_step m k)
+text_count (in_document m) k = lifted in_document (λ d. Counts k (open_blocks m) (depth d)) (c.step m k) (step_count m k)
+text_count (in_node m) k = lifted in_node (λ d. Counts k (depth (in_node m)) (depth d)) (node_step m k) (node_count m k)
+text_count (in_entry m) k = lifted in_entry (λ d. Counts k 0 (depth d)) (e.entry_step m k) (entry_count m k)
+text_count (in_identifier false) (string v) = refl
+text_count (in_identifier _) _ = tt
+
+-- the blocks that are open after a token that is taken
+pub counted : (m d : TextControl) (k : Token) → text_step m k ≡ Some d → Counts k (depth m) (depth d)
+counted m d k f = subst (Of (λ z. Counts k (depth m) (depth z))) f (text_count m k)
+
+-- where the text may not end, something is due, or a block is open
+pub document_lacks : (w : Whole) (has_item : Bool) (p : c.Phase) (fs : List c.Frame) → c.finish (c.at p fs) ≡ false → Lacks w (length fs) p has_item
+document_lacks w i p [] f = due f
+document_lacks w i p (x ∷ fs) f = in_block (omega arith)
+
+pub node_lacks : (b : Bool) (p : c.Phase) (fs : List c.Frame) → node_finish (in_text b (c.at p fs)) ≡ false → Lacks Node (length fs) p b
+node_lacks false p fs f = no_item tt refl
+node_lacks true p fs f = document_lacks Node true p fs f
+
+over_finishes : (m : c.Control) → c.is_gap m ≡ true → c.finish m ≡ true
+over_finishes (c.at c.gap []) h = refl
+over_finishes (c.at c.gap (f ∷ fs)) h = absurd cc
+over_finishes (c.at c.node_slashdash fs) h = absurd cc
+over_finishes (c.at (c.type_open b) fs) h = absurd cc
+over_finishes (c.at (c.type_name b) fs) h = absurd cc
+over_finishes (c.at (c.type_done b) fs) h = absurd cc
+over_finishes (c.at (c.in_node p) fs) h = absurd cc
+over_finishes (c.at c.property fs) h = absurd cc
+over_finishes (c.at c.entry_slashdash fs) h = absurd cc
+over_finishes (c.at c.block_slashdash fs) h = absurd cc
+over_finishes (c.at c.kept fs) h = absurd cc
+over_finishes (c.at c.kept_slashdash fs) h = absurd cc
+
+-- where the node has ended the text may end
+pub node_over : (b : Bool) (m : c.Control) → b ≡ true → c.is_gap m ≡ true → node_finish (in_text b m) ≡ false → ⊥
+node_over true m e h f = let x = over_finishes m h in cc
+node_over false m e h f = cc

@@ -1,0 +1,140 @@
+-- Where the reader of faults begins, and what is missing where a text ends.
+use Rattle.std.specs.Prelude.{◌≡◌, ℕ, ◌+◌, ◌-◌, ◌<◌, ◌≤◌, Bool, true, false, List, [], All, length}
+use Rattle.kdl_text.specs.Chars.{Text}
+use Rattle.kdl_text.specs.Internal.Here.{Position}
+use Rattle.kdl_lexer.specs.Tokens as tokens
+use Rattle.kdl_lexer.specs.declared.lexer.Token.{Token}
+use Rattle.kdl_control.specs.Control as c
+use Rattle.kdl_control.specs.NodeControl.{in_text}
+use Rattle.kdl_control.specs.Internal.EntryViews.{entry_view, node_view}
+use Rattle.kdl_control.specs.Internal.Views.{control_view, phase_view}
+use Rattle.kdl_diagnostics.specs.TextControl as spec
+use Rattle.kdl_diagnostics.specs.TextControl.{text_finish, text_start}
+use Rattle.kdl_diagnostics.specs.declared.front.Front.{Front}
+use Rattle.kdl_diagnostics.specs.declared.machine.Place.{Place}
+use Rattle.kdl_diagnostics.specs.declared.machine.Place.TheVariants.{FaultyType}
+use Rattle.kdl_diagnostics.specs.declared.pieces.Piece.{Piece}
+use Rattle.kdl_diagnostics.specs.declared.pieces.PieceKind.{PieceKind}
+use Rattle.kdl_diagnostics.specs.declared.pieces.PieceKind.TheVariants.{Comment, End}
+use Rattle.kdl_diagnostics.specs.declared.reader.Block.{Block}
+use Rattle.kdl_diagnostics.specs.declared.reader.Reader.{Reader}
+use Rattle.kdl_diagnostics.specs.declared.text_control.Outset.{Outset}
+use Rattle.kdl_diagnostics.specs.declared.text_control.TextControl.{TextControl}
+use Rattle.kdl_diagnostics.specs.declared.whole.Whole.{Whole}
+use Rattle.kdl_diagnostics.specs.declared.whole.Whole.TheVariants.{Document, Node, Entry, Identifier}
+
+-- the control that the fields represent, of a text that is read so
+abbrev pub view_as : Whole → TextControl → spec.TextControl
+view_as Document t = spec.in_document (control_view t.node.control)
+view_as Node t = spec.in_node (node_view t.node)
+view_as Entry t = spec.in_entry (entry_view t.entry)
+view_as Identifier t = spec.in_identifier t.has_string
+
+abbrev pub text_view : TextControl → spec.TextControl
+text_view t = view_as t.whole t
+
+-- how many blocks are open
+abbrev pub open_blocks : c.Control → ℕ
+open_blocks (c.at p fs) = length fs
+
+abbrev pub depth : spec.TextControl → ℕ
+depth (spec.in_document m) = open_blocks m
+depth (spec.in_node (in_text b m)) = open_blocks m
+depth (spec.in_entry e) = 0
+depth (spec.in_identifier b) = 0
+
+-- where the text ends, something is due in the phase, or n blocks are open, or the only node or entry has not begun
+-- the text is one node or one entry
+abbrev pub IsSingle : Whole → Type 0
+IsSingle Node = Unit {0}
+IsSingle Entry = Unit {0}
+IsSingle _ = ⊥
+
+-- where the text ends, something is due in the phase, or n blocks are open, or the only node or entry has not begun
+pub data Lacks (w : Whole) (n : ℕ) (p : c.Phase) (has_item : Bool) : Type 0 where
+  due : c.finish (c.at p []) ≡ false → Lacks w n p has_item
+  in_block : 0 < n → Lacks w n p has_item
+  no_item : IsSingle w → has_item ≡ false → Lacks w n p has_item
+
+abbrev pub LacksAt : Whole → ℕ → Outset → Type 0
+LacksAt w n o = Lacks w n (phase_view o.phase) o.has_item
+
+-- no fault was noted at the `{` of a block
+abbrev pub Untold : List Block → Type 0
+Untold blocks = All (λ (b : Block). b.is_told ≡ false) blocks
+
+-- the open blocks are those of the control
+abbrev pub Matched : Front → Type 0
+Matched f = (length f.blocks.items ≡ depth (text_view f.control)) × Untold f.blocks.items
+
+-- how many blocks are open after a token, if m were open before it: the `{` opens one, and the `}` closes one
+abbrev pub Counts : tokens.Token → ℕ → ℕ → Type 0
+Counts tokens.opening m n = n ≡ m + 1
+Counts tokens.closing m n = n ≡ m - 1
+Counts _ m n = n ≡ m
+
+-- the front is at the start of a text
+pub record IsNew (f : Front) : Type 0 where
+  pub control : text_view f.control ≡ text_start f.control.whole
+  pub blocks : f.blocks.items ≡ []
+  pub accepted : f.is_accepted ≡ false
+
+-- the front ends before the rest of the text
+pub record EndsBefore (rest : Text) (f : Front) : Type 0 where
+  pub place : f.place.rest ≡ rest
+  pub from : f.from.rest ≡ [] → (rest ≡ []) × (text_finish (text_view f.control) ≡ false → LacksAt f.control.whole (length f.blocks.items) f.before)
+  pub matched : Matched f
+
+-- the front goes on over the token, if it is taken; else it ends where it did
+abbrev pub GoesOver : Token → Front → Front → Bool → Type 0
+GoesOver k old new true = (k.at.start.rest ≡ [] → ⊥) → Matched old → EndsBefore k.at.end.rest new
+GoesOver k old new false = (new.place ≡ old.place) × (new.from ≡ old.from)
+
+-- the front ends where the text is refused: where the text ends there, something is missing
+pub record IsStopped (f : Front) : Type 0 where
+  pub place : f.place.rest ≡ [] → (text_finish (text_view f.control) ≡ false) × Matched f
+  pub from : f.from.rest ≡ [] → LacksAt f.control.whole (length f.blocks.items) f.before × Untold f.blocks.items
+
+-- something is missing if the text ends where the reader is
+pub record Lacking (r : Reader) : Type 0 where
+  pub lacks : Lacks r.text (length r.blocks.items) (phase_view r.control.phase) r.has_item
+  pub untold : Untold r.blocks.items
+  pub cut : r.is_cut ≡ false
+
+-- the reader is where the text is refused
+pub record IsReady (r : Reader) : Type 0 where
+  pub ends : r.cursor.rest ≡ [] → Lacking r
+  pub place : r.place ≡ FaultyType → ⊥
+
+-- the same after the next piece was read
+pub record IsReadyAt (p : Piece) (r : Reader) : Type 0 where
+  pub ends : p.kind ≡ End → Lacking r
+  pub place : r.place ≡ FaultyType → ⊥
+
+-- the reader goes on at the outset
+pub record Enters (o : Outset) (old new : Reader) : Type 0 where
+  pub phase : new.control.phase ≡ o.phase
+  pub item : new.has_item ≡ o.has_item
+  pub text : new.text ≡ old.text
+  pub blocks : new.blocks ≡ old.blocks
+  pub cut : new.is_cut ≡ old.is_cut
+  pub place : new.place ≡ FaultyType → ⊥
+
+-- the reader begins here, or at the earlier place
+pub data BeginsAt (from : Position) (here before : Outset) (old new : Reader) : Type 0 where
+  at_the_end : new.cursor.rest ≡ old.cursor.rest → Enters here old new → BeginsAt from here before old new
+  earlier : new.cursor.rest ≡ from.rest → Enters before old new → BeginsAt from here before old new
+
+-- a fault was noted
+abbrev pub HasFault : Reader → Type 0
+HasFault r = 0 < length r.faults.items
+
+-- a piece that is no part of the grammar is noted by itself
+abbrev pub NotesAlone : PieceKind → Type 0 → Type 0
+NotesAlone End P = P
+NotesAlone Comment P = P
+NotesAlone _ P = Unit {0}
+
+-- no fault is forgotten
+abbrev pub Grows : Reader → Reader → Type 0
+Grows old new = length old.faults.items ≤ length new.faults.items
