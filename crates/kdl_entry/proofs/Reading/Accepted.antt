@@ -4,47 +4,54 @@ use Rattle.kdl_text.specs.Chars.{Text}
 use Rattle.kdl_text.specs.Trivia.ValueEnd.{nothing}
 use Rattle.kdl_lexer.specs.Pieces.{StringPiece}
 use Rattle.kdl_lexer.specs.Tokens.{Token, space, string, value, BeginsToken, t_string}
+use Rattle.kdl_control.specs.Control as c
 use Rattle.kdl_control.specs.EntryControl as control
 use Rattle.kdl_diagnostics.specs.TextControl.{TextControl, in_entry, in_identifier, text_step, text_finish, Takes}
 use Rattle.kdl_diagnostics.specs.TextControl as text
 use Rattle.kdl_entry.specs.EarliestEntry.{DerivedEntry}
 use Rattle.kdl_entry.specs.EarliestIdentifier.{DerivedIdentifier}
 use Rattle.kdl_entry.specs.Entries as entries
-use Rattle.kdl_entry.specs.Internal.EntryControl.{Phase, ahead, entry_slashdash, under, dropped, word, done, given, turn, finish}
-use Rattle.kdl_entry.specs.Internal.Items.{opened, named, closed, keyed}
+use Rattle.kdl_entry.specs.Internal.EntryControl.{Phase, ahead, dropping, under, word, done, turn, finish}
 use Rattle.kdl_entry.proofs.Reading.EntryErased.{Accepts, ends, takes, accepts_derived}
 
 -- the phase of the machine without data
 abbrev of : control.EntryControl → Phase
 of control.ahead = ahead
-of control.slashdashed = entry_slashdash
-of (control.type_open b) = under b true opened
-of (control.type_name b) = under b true named
-of (control.type_done b) = under b true closed
-of (control.property b) = under b true keyed
-of (control.dropped b c) = dropped b c
+of control.slashdashed = dropping c.entry_slashdash
+of (control.type_open true) = under (c.type_open true)
+of (control.type_open false) = dropping (c.type_open true)
+of (control.type_name true) = under (c.type_name true)
+of (control.type_name false) = dropping (c.type_name true)
+of (control.type_done true) = under (c.type_done true)
+of (control.type_done false) = dropping (c.type_done true)
+of (control.property true) = under c.property
+of (control.property false) = dropping c.property
+of (control.dropped b false) = dropping (c.in_node (c.fresh b))
+of (control.dropped b true) = dropping (c.in_node (c.spaced b))
 of control.word = word
 of control.done = done
-
-given_same : (b : Bool) → Some (of (control.given b)) ≡ Some (given b)
-given_same true = refl
-given_same false = refl
 
 same_step : (p : control.EntryControl) (k : Token) → option_map of (control.entry_step p k) ≡ turn (of p) k
 same_step control.ahead space = refl
 same_step control.ahead _ = refl
 same_step control.slashdashed space = refl
 same_step control.slashdashed _ = refl
-same_step (control.type_open b) space = refl
-same_step (control.type_open b) _ = refl
-same_step (control.type_name b) space = refl
-same_step (control.type_name b) _ = refl
-same_step (control.type_done b) (string v) = given_same b
-same_step (control.type_done b) (value v) = given_same b
-same_step (control.type_done b) _ = refl
-same_step (control.property b) (string v) = given_same b
-same_step (control.property b) (value v) = given_same b
-same_step (control.property b) _ = refl
+same_step (control.type_open true) space = refl
+same_step (control.type_open true) _ = refl
+same_step (control.type_open false) space = refl
+same_step (control.type_open false) _ = refl
+same_step (control.type_name true) space = refl
+same_step (control.type_name true) _ = refl
+same_step (control.type_name false) space = refl
+same_step (control.type_name false) _ = refl
+same_step (control.type_done true) space = refl
+same_step (control.type_done true) _ = refl
+same_step (control.type_done false) space = refl
+same_step (control.type_done false) _ = refl
+same_step (control.property true) space = refl
+same_step (control.property true) _ = refl
+same_step (control.property false) space = refl
+same_step (control.property false) _ = refl
 same_step (control.dropped true true) space = refl
 same_step (control.dropped true true) _ = refl
 same_step (control.dropped true false) space = refl
@@ -61,11 +68,16 @@ same_step control.done _ = refl
 same_finish : (p : control.EntryControl) → control.entry_finish p ≡ finish (of p)
 same_finish control.ahead = refl
 same_finish control.slashdashed = refl
-same_finish (control.type_open b) = refl
-same_finish (control.type_name b) = refl
-same_finish (control.type_done b) = refl
-same_finish (control.property b) = refl
-same_finish (control.dropped b c) = refl
+same_finish (control.type_open true) = refl
+same_finish (control.type_open false) = refl
+same_finish (control.type_name true) = refl
+same_finish (control.type_name false) = refl
+same_finish (control.type_done true) = refl
+same_finish (control.type_done false) = refl
+same_finish (control.property true) = refl
+same_finish (control.property false) = refl
+same_finish (control.dropped b true) = refl
+same_finish (control.dropped b false) = refl
 same_finish control.word = refl
 same_finish control.done = refl
 
