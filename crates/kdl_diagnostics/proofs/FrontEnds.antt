@@ -3,7 +3,7 @@ use Rattle.std.proofs.Common.{◌≡◌, ◌↔◌, ◌+◌, ◌-◌, ◌<◌, �
 use Rattle.std.specs.Prelude.{IfOk, option_to_list}
 use Rattle.std.specs.Option.{IfSome}
 use Rattle.std.proofs.lemmas.List.{length_push}
-use Rattle.std.proofs.lemmas.List.Elements.{All-nil, All-pop, All-push, All-same}
+use Rattle.std.proofs.lemmas.List.Elements.{All-nil, All-pop}
 use Rattle.kdl_text.specs.Chars.{Text}
 use Rattle.kdl_text.specs.Internal.Here.{Here}
 use Rattle.kdl_lexer.specs.Internal.Handed.{HandsOut, kind_view}
@@ -32,19 +32,12 @@ pub not_empty : {A : Type 0} (xs : List A) → (xs ≡ [] → ⊥) → 0 < lengt
 not_empty [] h = absurd (h refl)
 not_empty (x ∷ xs) h = omega arith
 
-pub some_left : {A : Type 0} (xs : List A) → 0 < length xs → xs ≡ [] → ⊥
-some_left xs h e = omega (arith, h, ap length e)
-
 pub pushed : {A : Type 0} (old new : List A) (x : A) → new ≡ old ++ (x ∷ []) → length new ≡ length old + 1
 pushed old new x e = ap length e ∙ length_push old x
 
 -- a front that ends behind no string, number or keyword
 pub ends_at : (rest : Text) (f : Front) → f.place.rest ≡ rest → f.from.rest ≡ rest → (text_finish (text_view f.control) ≡ false → LacksAt f.control.whole (depth (text_view f.control)) f.before) → Matched f → EndsBefore rest f
 ends_at rest f p q h m = record { place = p; from = λ e. (sym q ∙ e, λ x. subst (λ (n : ℕ). LacksAt f.control.whole n f.before) (sym m.0) (h x)); matched = m }
-
--- or behind one
-pub ends_behind : (start rest : Text) (f : Front) → f.place.rest ≡ rest → f.from.rest ≡ start → (start ≡ [] → ⊥) → Matched f → EndsBefore rest f
-ends_behind start rest f p q h m = record { place = p; from = λ e. absurd (h (sym q ∙ e)); matched = m }
 
 -- the open blocks
 same_count : (k : Token) (m n o : ℕ) → Counts k m n → Counts k m o → n ≡ o
@@ -63,9 +56,6 @@ same_count bom m n o e f = e ∙ sym f
 
 pub matched : (k : Token) (a b : TextControl) (m n : ℕ) → text_step a k ≡ Some b → m ≡ depth a → Counts k m n → n ≡ depth b
 matched k a b m n e f c = same_count k (depth a) n (depth b) (subst (λ (z : ℕ). Counts k z n) f c) (counted a b k e)
-
-pub untold_more : (old new : List Block) (b : Block) → new ≡ old ++ (b ∷ []) → b.is_told ≡ false → Untold old → Untold new
-untold_more old new b e h x = All-same (λ (b : Block). b.is_told ≡ false) new (old ++ (b ∷ [])) e (All-push (λ (b : Block). b.is_told ≡ false) old b x h)
 
 pub untold_less : (old new : List Block) (r : Option Block) → old ≡ new ++ option_to_list r → Untold old → Untold new × IfSome r (λ (b : Block). b.is_told ≡ false)
 untold_less old new r e x = All-pop (λ (b : Block). b.is_told ≡ false) old new r e x

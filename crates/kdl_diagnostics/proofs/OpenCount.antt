@@ -1,10 +1,10 @@
 -- How many blocks are open after a token, and what is missing where a text may not end.
-use Rattle.std.proofs.Common.{◌≡◌, ◌+◌, ◌-◌, ◌<◌, ℕ, Bool, true, false, List, [], ◌∷◌, length, Option, Some, None, option_map, refl, sym, ap, subst, ◌∙◌, arith}
-use Rattle.kdl_lexer.specs.Tokens.{Token, space, newline, slashdash, string, value, left, right, opening, closing, equals, semicolon, bom}
+use Rattle.std.proofs.Common.{◌≡◌, ◌+◌, ◌-◌, ℕ, Bool, true, false, List, [], ◌∷◌, length, Option, Some, None, option_map, refl, subst, arith}
+use Rattle.kdl_lexer.specs.Tokens.{Token, space, newline, slashdash, string, value, left, right, opening, closing, equals, semicolon}
 use Rattle.kdl_control.specs.Control as c
 use Rattle.kdl_control.specs.EntryControl as e
 use Rattle.kdl_control.specs.NodeControl.{NodeControl, in_text, with_begun, between_nodes, node_step, node_finish}
-use Rattle.kdl_diagnostics.specs.Internal.Outsets.{Counts, Lacks, due, in_block, no_item, IsSingle, depth, open_blocks}
+use Rattle.kdl_diagnostics.specs.Internal.Outsets.{Counts, Lacks, due, in_block, no_item, depth, open_blocks}
 use Rattle.kdl_diagnostics.specs.TextControl.{TextControl, in_document, in_node, in_entry, in_identifier, text_step}
 use Rattle.kdl_diagnostics.specs.declared.whole.Whole.{Whole}
 use Rattle.kdl_diagnostics.specs.declared.whole.Whole.TheVariants.{Node}

@@ -11,7 +11,6 @@ use Rattle.kdl_control.specs.Internal.Views.{control_view, phase_view}
 use Rattle.kdl_diagnostics.specs.TextControl as spec
 use Rattle.kdl_diagnostics.specs.TextControl.{text_finish, text_start}
 use Rattle.kdl_diagnostics.specs.declared.front.Front.{Front}
-use Rattle.kdl_diagnostics.specs.declared.machine.Place.{Place}
 use Rattle.kdl_diagnostics.specs.declared.machine.Place.TheVariants.{FaultyType}
 use Rattle.kdl_diagnostics.specs.declared.pieces.Piece.{Piece}
 use Rattle.kdl_diagnostics.specs.declared.pieces.PieceKind.{PieceKind}
