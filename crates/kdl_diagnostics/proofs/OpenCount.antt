@@ -3,11 +3,9 @@ use Rattle.std.proofs.Common.{◌≡◌, ◌+◌, ◌-◌, ℕ, Bool, true, fals
 use Rattle.kdl_lexer.specs.Tokens.{Token, space, newline, slashdash, string, value, left, right, opening, closing, equals, semicolon}
 use Rattle.kdl_control.specs.Control as c
 use Rattle.kdl_control.specs.EntryControl as e
-use Rattle.kdl_control.specs.NodeControl.{NodeControl, in_text, with_begun, between_nodes, node_step, node_finish}
-use Rattle.kdl_diagnostics.specs.Internal.Outsets.{Counts, Lacks, due, in_block, no_item, depth, open_blocks}
+use Rattle.kdl_control.specs.NodeControl.{NodeControl, in_text, with_begun, between_nodes, node_step}
+use Rattle.kdl_diagnostics.specs.Internal.Outsets.{Counts, depth, open_blocks}
 use Rattle.kdl_diagnostics.specs.TextControl.{TextControl, in_document, in_node, in_entry, in_identifier, text_step}
-use Rattle.kdl_diagnostics.specs.declared.whole.Whole.{Whole}
-use Rattle.kdl_diagnostics.specs.declared.whole.Whole.TheVariants.{Node}
 
 abbrev Of : {S : Type 0} → (S → Type 0) → Option S → Type 0
 Of P None = Unit {0}
@@ -155,31 +153,3 @@ text_count (in_identifier _) _ = tt
 -- the blocks that are open after a token that is taken
 pub counted : (m d : TextControl) (k : Token) → text_step m k ≡ Some d → Counts k (depth m) (depth d)
 counted m d k f = subst (Of (λ z. Counts k (depth m) (depth z))) f (text_count m k)
-
--- where the text may not end, something is due, or a block is open
-pub document_lacks : (w : Whole) (has_item : Bool) (p : c.Phase) (fs : List c.Frame) → c.finish (c.at p fs) ≡ false → Lacks w (length fs) p has_item
-document_lacks w i p [] f = due f
-document_lacks w i p (x ∷ fs) f = in_block (omega arith)
-
-pub node_lacks : (b : Bool) (p : c.Phase) (fs : List c.Frame) → node_finish (in_text b (c.at p fs)) ≡ false → Lacks Node (length fs) p b
-node_lacks false p fs f = no_item tt refl
-node_lacks true p fs f = document_lacks Node true p fs f
-
-over_finishes : (m : c.Control) → c.is_gap m ≡ true → c.finish m ≡ true
-over_finishes (c.at c.gap []) h = refl
-over_finishes (c.at c.gap (f ∷ fs)) h = absurd cc
-over_finishes (c.at c.node_slashdash fs) h = absurd cc
-over_finishes (c.at (c.type_open b) fs) h = absurd cc
-over_finishes (c.at (c.type_name b) fs) h = absurd cc
-over_finishes (c.at (c.type_done b) fs) h = absurd cc
-over_finishes (c.at (c.in_node p) fs) h = absurd cc
-over_finishes (c.at c.property fs) h = absurd cc
-over_finishes (c.at c.entry_slashdash fs) h = absurd cc
-over_finishes (c.at c.block_slashdash fs) h = absurd cc
-over_finishes (c.at c.kept fs) h = absurd cc
-over_finishes (c.at c.kept_slashdash fs) h = absurd cc
-
--- where the node has ended the text may end
-pub node_over : (b : Bool) (m : c.Control) → b ≡ true → c.is_gap m ≡ true → node_finish (in_text b m) ≡ false → ⊥
-node_over true m e h f = let x = over_finishes m h in cc
-node_over false m e h f = cc

@@ -3,7 +3,7 @@ use Rattle.std.proofs.Common.{◌≡◌, ℕ, ◌+◌, ◌-◌, ◌*◌, ◌<◌
 use Rattle.std.specs.Prelude.{Option, Some, None, Result, Ok, Err, IfOk}
 use Rattle.std.specs.Str.{chars, IsUtf8}
 use Rattle.kdl_text.specs.Chars.{Text}
-use Rattle.kdl_text.specs.Internal.Here.{Here, Position, Took, looked}
+use Rattle.kdl_text.specs.Internal.Here.{Here, Position, Took}
 use Rattle.kdl_text.specs.Spans.{bytes, raise}
 use Rattle.kdl_text.specs.Internal.Reading.{Moves}
 use Rattle.kdl_text.proofs.Looking.MovesJoin.{bytes-append, fewer_bytes}
@@ -21,9 +21,6 @@ bounded_one a b e m k s = record { most = omega (arith, s); counts = omega (arit
 same_rest : (text s r : Text) → r ≡ s → ((p : Text) × (text ≡ p ++ s)) → (p : Text) × (text ≡ p ++ r)
 same_rest text s r e x = (x.0, x.1 ∙ ap (λ (t : Text). x.0 ++ t) (sym e))
 
-pub looked_lies : (text : Text) (place : Position) (a b : Here) (steps : ℕ) → LiesIn text place → a ≡ record { rest = place.rest; at = place.at; steps = steps } → b ≡ looked a → (p : Text) × (text ≡ p ++ b.rest)
-looked_lies text place a b steps x e f = same_rest text place.rest b.rest (ap (λ (z : Here). z.rest) f ∙ ap (λ (z : Here). z.rest) e) x
-
 -- a character that was taken, if there was one
 pub took_lies : (text : Text) (c : Option ℕ) (a b : Here) → ((p : Text) × (text ≡ p ++ a.rest)) → Took c a b → (p : Text) × (text ≡ p ++ b.rest)
 took_lies text None a b x t = same_rest text a.rest b.rest (ap (λ (z : Here). z.rest) t.1) x
@@ -35,10 +32,6 @@ place_lies text a place x e = same_rest text a.rest place.rest e x
 one_left : (over : Bool) → turns_left over ≤ 1
 one_left true = omega arith
 one_left false = omega arith
-
--- a text of an entry or a node, and a first piece that was read
-pub turning_begins : (a : Here) (over : Bool) → Turning a a over
-turning_begins a over = record { counts = omega arith; most = omega (arith, one_left over) }
 
 still_left : (over : Bool) → over ≡ false → turns_left over ≡ 1
 still_left over e = ap turns_left e
@@ -71,10 +64,6 @@ turning_first a b e k over m x w m' x' o = record {
 pub on_ok : {A E P : Type 0} (r : Result A E) → P → IfOk r (λ (x : A). P)
 on_ok (Ok x) p = p
 on_ok (Err e) p = tt
-
--- where the turns end
-pub turning_ends : (a b : Here) (over : Bool) → Turning a b over → Bounded 124 a b
-turning_ends a b over t = record { most = omega (arith, t.most); counts = t.counts }
 
 pub piece_bounded : (a b : Here) → Moves a b → Most 37 41 a b → Bounded 124 a b
 piece_bounded a b m x = record { most = omega (arith, x, fewer_bytes m); counts = m.counts }

@@ -1,9 +1,9 @@
 -- An accepted entry text is derived, and so is an accepted identifier text.
-use Rattle.std.proofs.Common.{◌≡◌, Bool, true, false, [], Option, Some, None, option_map, refl, sym, ap, subst, ◌∙◌}
+use Rattle.std.proofs.Common.{◌≡◌, true, false, [], Option, Some, None, option_map, refl, sym, ap, subst, ◌∙◌}
 use Rattle.kdl_text.specs.Chars.{Text}
 use Rattle.kdl_text.specs.Trivia.ValueEnd.{nothing}
 use Rattle.kdl_lexer.specs.Pieces.{StringPiece}
-use Rattle.kdl_lexer.specs.Tokens.{Token, space, string, value, BeginsToken, t_string}
+use Rattle.kdl_lexer.specs.Tokens.{Token, space, string, BeginsToken, t_string}
 use Rattle.kdl_control.specs.Control as c
 use Rattle.kdl_control.specs.EntryControl as control
 use Rattle.kdl_diagnostics.specs.TextControl.{TextControl, in_entry, in_identifier, text_step, text_finish, Takes}

@@ -14,6 +14,7 @@ use Rattle.kdl_entry.specs.Places.{between}
 use Rattle.kdl_lexer.specs.declared.lexer.LexFailure.{LexFailure}
 use Rattle.kdl_lexer.specs.declared.lexer.TokenKind.{TokenKind}
 use Rattle.kdl_lexer.specs.declared.token_span.TokenSpan.{TokenSpan}
+use Rattle.kdl_entry.specs.Tree.{Identifier}
 use Rattle.kdl_grammar.specs.Internal.Machine as machine
 use Rattle.kdl_grammar.specs.Internal.Machine.{State, at, for_name, for_value}
 use Rattle.kdl_grammar.specs.Tree.{Node, Nodes, none, Document, no_children}
@@ -70,10 +71,12 @@ name_slot b s = for_name (between b.from.rest s.rest) s.rest
 abbrev pub argument_slot : {N : Type 0} → Builder N → Position → machine.Slot
 argument_slot b s = for_value (node_now b) (between b.from.rest s.rest) s.rest None
 
--- the slot of a name, or of a value with its key
-abbrev pub named_slot : Slot → machine.Slot
-named_slot slot = for_name (text_of slot.leading) slot.start.rest
+-- after the name of a node, which ends at r
+abbrev pub node_begun : {N : Type 0} → (N → Node) → Builder N → Slot → Option TypeParts → Identifier → Position → State
+node_begun tree b slot ty name r =
+    at (machine.in_node (Some (record { leading = text_of slot.leading; start = slot.start.rest; ty = ty; name = name; entries = [] })) (machine.fresh None)) (nodes_now tree b) (frames_view tree b) r.rest
 
+-- the slot of a value with its key
 abbrev pub valued_slot : {N : Type 0} → Builder N → Slot → Option KeyParts → machine.Slot
 valued_slot b slot key = for_value (under_view b.under) (text_of slot.leading) slot.start.rest key
 

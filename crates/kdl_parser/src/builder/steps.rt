@@ -4,7 +4,8 @@ ghost use Rattle.kdl_control.specs.declared.control.Word.TheVariants.{MayBeKey};
 ghost use Rattle.kdl_entry.specs.Internal.Building.{key_view, type_view};
 ghost use Rattle.kdl_parser.specs.Internal.Building.{in_phase, node_now, state_view, under_view, Does};
 ghost use Rattle.kdl_parser.specs.Internal.Counted.{unsliced};
-ghost use Rattle.kdl_parser.specs.Internal.States.{argument_slot, around, around_kept, around_node, block_opened, given_at, item_name_slot, item_value_slot, key_now, kept_ended, name_opened, name_slot, named_slot, node_ended, property_opened, Reaches, Steps, type_now, value_opened, valued_slot, worded};
+ghost use Rattle.kdl_parser.specs.Internal.States.{argument_slot, around, around_kept, around_node, block_opened, given_at, item_name_slot, item_value_slot, key_now, kept_ended, name_opened, name_slot, node_begun, node_ended, property_opened, Reaches, Steps, type_now, value_opened, valued_slot, worded};
+ghost use Rattle.kdl_entry.specs.Tree.{identifier_tree};
 ghost use Rattle.kdl_grammar.specs.Internal.Machine as machine;
 ghost use Rattle.kdl_parser.specs.declared.builder.dropping.Dropped.TheVariants.{Nothing};
 ghost use Rattle.kdl_text.specs.Internal.Here.{Ahead};
@@ -21,7 +22,7 @@ use kdl_control::{Owner, Phase, Spot, Word};
 use kdl_entry::items::item::{
     Given, Key, TypeParts, empty, identifier_between, piece_between, span_at, text_between,
 };
-use kdl_entry::{KdlValue, sliced_identifier};
+use kdl_entry::{KdlIdentifier, KdlValue, sliced_identifier};
 use kdl_lexer::{LexFailure, Lexer, TokenKind, TokenSpan, fault_at};
 use std::alloc::AllocError;
 use std::mem;
@@ -150,19 +151,19 @@ impl<'a, N: ParsedNode> Builder<'a, N> {
     }
 
     /// Begins a node, whose name is the token.
-    #[tactic(auto, using(crate::proofs::Stepping::TurnCost::fewer, crate::proofs::Stepping::TurnCost::token_fewer, kdl_lexer::proofs::Order::ahead))]
-    pub(super) fn begin_node(
+    fn begin_node(
         &mut self,
-        lexer: &mut Lexer<'a>,
         slot: Slot<'a>,
         ty: Option<TypeParts>,
-        name: String,
+        name: KdlIdentifier,
         at: &TokenSpan<'a>,
-    ) -> Result<(), LexFailure>
+    )
         requires live { self.old.dropped ≡ Nothing }
-        ensures { Reaches N.tree (given_at N.tree self.old (named_slot slot.entry) (option_map type_view ty) (text (text_of name)) at.now.start at.now.end) (bytes at.now.start.rest) self.old result self.new lexer.old lexer.new }
+        ensures state { state_view N.tree self.new
+            ≡ node_begun N.tree self.old slot (option_map type_view ty) (identifier_tree name) at.now.end }
+        ensures whole { self.new.whole ≡ self.old.whole }
+        ensures unsliced { unsliced self.new ≡ bytes at.now.end.rest }
     {
-        let name = identifier_between(self.alloc, lexer, &self.whole, name, at)?;
         let Slot { leading, start } = slot;
         let under = Under {
             leading,
@@ -175,7 +176,6 @@ impl<'a, N: ParsedNode> Builder<'a, N> {
         put(&mut self.waiting, None);
         self.from = at.end.copied();
         self.phase = Phase::InNode(Spot::Fresh(Word::NoKey));
-        Ok(())
     }
 
     /// Adds an entry to the current node. Its value is the token.
@@ -376,6 +376,7 @@ impl<'a, N: ParsedNode> Builder<'a, N> {
     }
 
     /// Takes a string that is a node's name.
+    #[tactic(auto, using(crate::proofs::Stepping::TurnCost::fewer, crate::proofs::Stepping::TurnCost::token_fewer, kdl_lexer::proofs::Order::ahead))]
     pub(super) fn name_node(
         &mut self,
         lexer: &mut Lexer<'a>,
@@ -391,10 +392,13 @@ impl<'a, N: ParsedNode> Builder<'a, N> {
             leading,
             start: at.start.copied(),
         };
-        self.begin_node(lexer, slot, None, name, at)
+        let name = identifier_between(self.alloc, lexer, &self.whole, name, at)?;
+        self.begin_node(slot, None, name, at);
+        Ok(())
     }
 
     /// Takes a string that is a node's name and has a type.
+    #[tactic(auto, using(crate::proofs::Stepping::TurnCost::fewer, crate::proofs::Stepping::TurnCost::token_fewer, kdl_lexer::proofs::Order::ahead))]
     pub(super) fn name_typed(
         &mut self,
         lexer: &mut Lexer<'a>,
@@ -407,7 +411,9 @@ impl<'a, N: ParsedNode> Builder<'a, N> {
     {
         let ty = self.item.type_parts(lexer, &at.start)?;
         let slot = self.item_slot();
-        self.begin_node(lexer, slot, Some(ty), name, at)
+        let name = identifier_between(self.alloc, lexer, &self.whole, name, at)?;
+        self.begin_node(slot, Some(ty), name, at);
+        Ok(())
     }
 
     /// Takes a `/-` in a node, before its block.
