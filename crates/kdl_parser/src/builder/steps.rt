@@ -160,7 +160,7 @@ impl<'a, N: ParsedNode> Builder<'a, N> {
     )
         requires live { self.old.dropped ≡ Nothing }
         ensures state { state_view N.tree self.new
-            ≡ node_begun N.tree self.old slot (option_map type_view ty) (identifier_tree name) at.now.end }
+            ≡ node_begun N.tree self.old slot.entry (option_map type_view ty) (identifier_tree name) at.now.end }
         ensures whole { self.new.whole ≡ self.old.whole }
         ensures unsliced { unsliced self.new ≡ bytes at.now.end.rest }
     {
