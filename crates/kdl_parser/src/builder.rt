@@ -1,13 +1,29 @@
 //! The builder: a document being read, token by token.
 
-ghost use Rattle.kdl_control.specs.declared.control.Phase.TheVariants.{Gap, InNode, Kept, TypeOpen, TypeName, TypeDone, Property};
+ghost use Rattle.kdl_control.specs.declared.control.Phase.TheVariants.{
+  Gap,
+  InNode,
+  Kept,
+  TypeOpen,
+  TypeName,
+  TypeDone,
+  Property,
+};
 ghost use Rattle.kdl_control.specs.declared.control.Spot.TheVariants.{Fresh, Spaced, Later};
 ghost use Rattle.kdl_entry.specs.Internal.Building.{Stays};
 ghost use Rattle.kdl_grammar.specs.Internal.Machine.{initial};
 ghost use Rattle.kdl_parser.specs.Internal.Answered.{Finished};
 ghost use Rattle.kdl_parser.specs.Internal.Building.{state_view, EndsIn, Placed};
 ghost use Rattle.kdl_parser.specs.Internal.Counted.{unsliced, SlicedOn};
-ghost use Rattle.kdl_parser.specs.Internal.States.{document_now, document_of_nodes, property_opened, spot_of, Steps, Takes, token_step};
+ghost use Rattle.kdl_parser.specs.Internal.States.{
+  document_now,
+  document_of_nodes,
+  property_opened,
+  spot_of,
+  Steps,
+  Takes,
+  token_step,
+};
 ghost use Rattle.kdl_parser.specs.declared.builder.dropping.Dropped.TheVariants.{Nothing};
 ghost use Rattle.kdl_text.specs.Internal.Here.{Ahead};
 ghost use Rattle.kdl_text.specs.Spans.{bytes, raise};
@@ -417,7 +433,9 @@ impl<'a, N: ParsedNode> Builder<'a, N> {
     #[inline(always)]
     pub(crate) fn take(&mut self, lexer: &mut Lexer<'a>, token: Token<'a>) -> Result<(), LexFailure>
         requires placed { Placed (state_view N.tree self.old) token.at.start.rest }
-        ensures takes { Steps N.tree (token_step N.tree self.old token.entry.kind token.entry.at) token.entry.at.start (unsliced self.old + 1) self.old result self.new lexer.old lexer.new }
+        ensures takes { Steps N.tree (token_step N.tree self.old token.entry.kind token.entry.at)
+            token.entry.at.start (unsliced self.old + 1) self.old result self.new lexer.old
+            lexer.new }
         ensures looked { raise lexer.old.steps 1 ≤ raise lexer.new.steps 0 }
     {
         lexer.count_look();
@@ -433,7 +451,8 @@ impl<'a, N: ParsedNode> Builder<'a, N> {
     pub(crate) fn finish(&mut self, lexer: &mut Lexer<'a>) -> Result<DocumentParts<N>, LexFailure>
         requires end { lexer.old.rest ≡ [] }
         requires from { EndsIn self.old.from.rest lexer.old.rest }
-        ensures finished { Finished N.tree (document_now N.tree self.old) (spot_of lexer.old) result }
+        ensures finished { Finished N.tree (document_now N.tree self.old) (spot_of lexer.old)
+            result }
         ensures stays { Stays lexer.old lexer.new }
         ensures sliced { SlicedOn result (unsliced self.old) 0 lexer.old lexer.new }
     {

@@ -4,7 +4,29 @@ ghost use Rattle.kdl_control.specs.declared.control.Word.TheVariants.{MayBeKey};
 ghost use Rattle.kdl_entry.specs.Internal.Building.{key_view, type_view};
 ghost use Rattle.kdl_parser.specs.Internal.Building.{in_phase, node_now, state_view, under_view, Does};
 ghost use Rattle.kdl_parser.specs.Internal.Counted.{unsliced};
-ghost use Rattle.kdl_parser.specs.Internal.States.{argument_slot, around, around_kept, around_node, block_opened, given_at, item_name_slot, item_value_slot, key_now, kept_ended, name_opened, name_slot, node_begun, node_ended, property_opened, Reaches, Steps, type_now, value_opened, valued_slot, worded};
+ghost use Rattle.kdl_parser.specs.Internal.States.{
+  argument_slot,
+  around,
+  around_kept,
+  around_node,
+  block_opened,
+  given_at,
+  item_name_slot,
+  item_value_slot,
+  key_now,
+  kept_ended,
+  name_opened,
+  name_slot,
+  node_begun,
+  node_ended,
+  property_opened,
+  Reaches,
+  Steps,
+  type_now,
+  value_opened,
+  valued_slot,
+  worded,
+};
 ghost use Rattle.kdl_entry.specs.Tree.{identifier_tree};
 ghost use Rattle.kdl_grammar.specs.Internal.Machine as machine;
 ghost use Rattle.kdl_parser.specs.declared.builder.dropping.Dropped.TheVariants.{Nothing};
@@ -32,7 +54,11 @@ impl<'a, N: ParsedNode> Builder<'a, N> {
     #[inline(always)]
     pub(super) fn settle_word(&mut self) -> Result<(), AllocError>
         ensures under { OnOk result (under_view self.new.under ≡ node_now self.old) }
-        ensures rest { OnOk result (self.new ≡ record self.old { under = self.new.under; waiting = None }) }
+        ensures rest { OnOk result (self.new ≡ record self.old {
+          under = self.new.under;
+          waiting =
+              None;
+        }) }
         ensures whole { self.new.whole ≡ self.old.whole }
     {
         if self.waiting.is_none() {
@@ -44,7 +70,11 @@ impl<'a, N: ParsedNode> Builder<'a, N> {
     /// Turns the pending string, which is there, into an argument.
     fn settle_waiting(&mut self) -> Result<(), AllocError>
         ensures under { OnOk result (under_view self.new.under ≡ node_now self.old) }
-        ensures rest { OnOk result (self.new ≡ record self.old { under = self.new.under; waiting = None }) }
+        ensures rest { OnOk result (self.new ≡ record self.old {
+          under = self.new.under;
+          waiting =
+              None;
+        }) }
         ensures whole { self.new.whole ≡ self.old.whole }
     {
         match self.waiting.take() {
@@ -61,7 +91,8 @@ impl<'a, N: ParsedNode> Builder<'a, N> {
     ) -> Result<(), LexFailure>
         requires live { self.old.dropped ≡ Nothing }
         requires from { Ahead self.old.from at.now.start }
-        ensures ended { Reaches N.tree (node_ended N.tree self.old at.now.start at.now.end) (bytes self.old.from.rest) self.old result self.new lexer.old lexer.new }
+        ensures ended { Reaches N.tree (node_ended N.tree self.old at.now.start at.now.end) (bytes
+            self.old.from.rest) self.old result self.new lexer.old lexer.new }
         ensures live { OnOk result (self.new.dropped ≡ Nothing) }
         ensures from { OnOk result (self.new.from ≡ at.now.end) }
         ensures unsliced { OnOk result (unsliced self.new ≡ bytes self.new.from.rest) }
@@ -81,7 +112,8 @@ impl<'a, N: ParsedNode> Builder<'a, N> {
     ) -> Result<(), LexFailure>
         requires live { self.old.dropped ≡ Nothing }
         requires from { Ahead self.old.from at.now.start }
-        ensures ended { Reaches N.tree (kept_ended N.tree self.old at.now.start at.now.end) (bytes self.old.from.rest) self.old result self.new lexer.old lexer.new }
+        ensures ended { Reaches N.tree (kept_ended N.tree self.old at.now.start at.now.end) (bytes
+            self.old.from.rest) self.old result self.new lexer.old lexer.new }
         ensures live { OnOk result (self.new.dropped ≡ Nothing) }
         ensures from { OnOk result (self.new.from ≡ at.now.end) }
         ensures unsliced { OnOk result (unsliced self.new ≡ bytes self.new.from.rest) }
@@ -102,7 +134,8 @@ impl<'a, N: ParsedNode> Builder<'a, N> {
     ) -> Result<(), LexFailure>
         requires live { self.old.dropped ≡ Nothing }
         requires from { Ahead self.old.from at.now.start }
-        ensures { Reaches N.tree (block_opened N.tree self.old at.now.start at.now.end) (bytes self.old.from.rest) self.old result self.new lexer.old lexer.new }
+        ensures { Reaches N.tree (block_opened N.tree self.old at.now.start at.now.end) (bytes
+            self.old.from.rest) self.old result self.new lexer.old lexer.new }
     {
         self.settle_word()?;
         let before = text_between(self.alloc, lexer, &self.from, &at.start)?;
@@ -127,7 +160,8 @@ impl<'a, N: ParsedNode> Builder<'a, N> {
     ) -> Result<(), LexFailure>
         requires live { self.old.dropped ≡ Nothing }
         requires from { Ahead self.old.from at.now.start }
-        ensures { Steps N.tree (around N.tree self.old at.now.start at.now.end) at.now.start (bytes self.old.from.rest) self.old result self.new lexer.old lexer.new }
+        ensures { Steps N.tree (around N.tree self.old at.now.start at.now.end) at.now.start (bytes
+            self.old.from.rest) self.old result self.new lexer.old lexer.new }
     {
         let Some(
             Level {
@@ -188,7 +222,10 @@ impl<'a, N: ParsedNode> Builder<'a, N> {
         at: &TokenSpan<'a>,
     ) -> Result<(), LexFailure>
         requires live { self.old.dropped ≡ Nothing }
-        ensures { Reaches N.tree (given_at N.tree self.old (valued_slot self.old slot.entry (option_map key_view given.key)) (option_map type_view given.ty) (value_tree given.value) at.now.start at.now.end) (bytes at.now.start.rest) self.old result self.new lexer.old lexer.new }
+        ensures { Reaches N.tree (given_at N.tree self.old (valued_slot self.old slot.entry
+            (option_map key_view given.key)) (option_map type_view given.ty) (value_tree
+            given.value) at.now.start at.now.end) (bytes at.now.start.rest) self.old result
+            self.new lexer.old lexer.new }
     {
         let entry = self.entry_between(lexer, slot, given, at)?;
         add(&mut self.under.entries, entry)?;
@@ -208,7 +245,8 @@ impl<'a, N: ParsedNode> Builder<'a, N> {
     ) -> Result<(), LexFailure>
         requires live { self.old.dropped ≡ Nothing }
         requires from { Ahead self.old.from at.now.start }
-        ensures { Reaches N.tree (worded N.tree self.old (text_of value) at.now.start at.now.end) (bytes self.old.from.rest) self.old result self.new lexer.old lexer.new }
+        ensures { Reaches N.tree (worded N.tree self.old (text_of value) at.now.start at.now.end)
+            (bytes self.old.from.rest) self.old result self.new lexer.old lexer.new }
     {
         self.settle_word()?;
         let leading = text_between(self.alloc, lexer, &self.from, &at.start)?;
@@ -233,7 +271,8 @@ impl<'a, N: ParsedNode> Builder<'a, N> {
     ) -> Result<(), LexFailure>
         requires live { self.old.dropped ≡ Nothing }
         requires from { Ahead self.old.from at.now.start }
-        ensures { Steps N.tree (property_opened N.tree self.old MayBeKey at.now.start at.now.end) at.now.start (bytes self.old.from.rest) self.old result self.new lexer.old lexer.new }
+        ensures { Steps N.tree (property_opened N.tree self.old MayBeKey at.now.start at.now.end)
+            at.now.start (bytes self.old.from.rest) self.old result self.new lexer.old lexer.new }
     {
         let Some(word) = self.waiting.take() else {
             put(
@@ -266,7 +305,8 @@ impl<'a, N: ParsedNode> Builder<'a, N> {
     ) -> Result<(), LexFailure>
         requires live { self.old.dropped ≡ Nothing }
         requires from { Ahead self.old.from at.now.start }
-        ensures { Reaches N.tree (name_opened N.tree self.old at.now.start at.now.end) (bytes self.old.from.rest) self.old result self.new lexer.old lexer.new }
+        ensures { Reaches N.tree (name_opened N.tree self.old at.now.start at.now.end) (bytes
+            self.old.from.rest) self.old result self.new lexer.old lexer.new }
     {
         let leading = text_between(self.alloc, lexer, &self.from, &at.start)?;
         self.item.open(Owner::Name, leading, at);
@@ -283,7 +323,8 @@ impl<'a, N: ParsedNode> Builder<'a, N> {
     ) -> Result<(), LexFailure>
         requires live { self.old.dropped ≡ Nothing }
         requires from { Ahead self.old.from at.now.start }
-        ensures { Reaches N.tree (value_opened N.tree self.old at.now.start at.now.end) (bytes self.old.from.rest) self.old result self.new lexer.old lexer.new }
+        ensures { Reaches N.tree (value_opened N.tree self.old at.now.start at.now.end) (bytes
+            self.old.from.rest) self.old result self.new lexer.old lexer.new }
     {
         self.settle_word()?;
         let leading = text_between(self.alloc, lexer, &self.from, &at.start)?;
@@ -301,7 +342,9 @@ impl<'a, N: ParsedNode> Builder<'a, N> {
     ) -> Result<(), LexFailure>
         requires live { self.old.dropped ≡ Nothing }
         requires from { Ahead self.old.from at.now.start }
-        ensures { Reaches N.tree (given_at N.tree self.old (argument_slot self.old at.now.start) None (value_tree value) at.now.start at.now.end) (bytes self.old.from.rest) self.old result self.new lexer.old lexer.new }
+        ensures { Reaches N.tree (given_at N.tree self.old (argument_slot self.old at.now.start)
+            None (value_tree value) at.now.start at.now.end) (bytes self.old.from.rest) self.old
+            result self.new lexer.old lexer.new }
     {
         self.settle_word()?;
         let leading = text_between(self.alloc, lexer, &self.from, &at.start)?;
@@ -333,7 +376,10 @@ impl<'a, N: ParsedNode> Builder<'a, N> {
     ) -> Result<(), LexFailure>
         requires live { self.old.dropped ≡ Nothing }
         requires from { Ahead self.old.item.from at.now.start }
-        ensures { Reaches N.tree (given_at N.tree self.old (item_value_slot self.old (option_map key_view self.old.item.key)) (type_now self.old at.now.start) (value_tree value) at.now.start at.now.end) (bytes self.old.item.from.rest) self.old result self.new lexer.old lexer.new }
+        ensures { Reaches N.tree (given_at N.tree self.old (item_value_slot self.old (option_map
+            key_view self.old.item.key)) (type_now self.old at.now.start) (value_tree value)
+            at.now.start at.now.end) (bytes self.old.item.from.rest) self.old result self.new
+            lexer.old lexer.new }
     {
         let ty = self.item.type_parts(lexer, &at.start)?;
         let key = self.item.key.take();
@@ -359,7 +405,9 @@ impl<'a, N: ParsedNode> Builder<'a, N> {
     ) -> Result<(), LexFailure>
         requires live { self.old.dropped ≡ Nothing }
         requires from { Ahead self.old.item.from at.now.start }
-        ensures { Reaches N.tree (given_at N.tree self.old (item_value_slot self.old (key_now self.old at.now.start)) None (value_tree value) at.now.start at.now.end) (bytes self.old.item.from.rest) self.old result self.new lexer.old lexer.new }
+        ensures { Reaches N.tree (given_at N.tree self.old (item_value_slot self.old (key_now
+            self.old at.now.start)) None (value_tree value) at.now.start at.now.end) (bytes
+            self.old.item.from.rest) self.old result self.new lexer.old lexer.new }
     {
         let key = self.item.key_parts(lexer, &at.start)?;
         let slot = self.item_slot();
@@ -385,7 +433,9 @@ impl<'a, N: ParsedNode> Builder<'a, N> {
     ) -> Result<(), LexFailure>
         requires live { self.old.dropped ≡ Nothing }
         requires from { Ahead self.old.from at.now.start }
-        ensures { Reaches N.tree (given_at N.tree self.old (name_slot self.old at.now.start) None (text (text_of name)) at.now.start at.now.end) (bytes self.old.from.rest) self.old result self.new lexer.old lexer.new }
+        ensures { Reaches N.tree (given_at N.tree self.old (name_slot self.old at.now.start) None
+            (text (text_of name)) at.now.start at.now.end) (bytes self.old.from.rest) self.old
+            result self.new lexer.old lexer.new }
     {
         let leading = text_between(self.alloc, lexer, &self.from, &at.start)?;
         let slot = Slot {
@@ -407,7 +457,9 @@ impl<'a, N: ParsedNode> Builder<'a, N> {
     ) -> Result<(), LexFailure>
         requires live { self.old.dropped ≡ Nothing }
         requires from { Ahead self.old.item.from at.now.start }
-        ensures { Reaches N.tree (given_at N.tree self.old (item_name_slot self.old) (type_now self.old at.now.start) (text (text_of name)) at.now.start at.now.end) (bytes self.old.item.from.rest) self.old result self.new lexer.old lexer.new }
+        ensures { Reaches N.tree (given_at N.tree self.old (item_name_slot self.old) (type_now
+            self.old at.now.start) (text (text_of name)) at.now.start at.now.end) (bytes
+            self.old.item.from.rest) self.old result self.new lexer.old lexer.new }
     {
         let ty = self.item.type_parts(lexer, &at.start)?;
         let slot = self.item_slot();
@@ -419,7 +471,8 @@ impl<'a, N: ParsedNode> Builder<'a, N> {
     /// Takes a `/-` in a node, before its block.
     pub(super) fn go_past_slashdash(&mut self) -> Result<(), LexFailure>
         requires live { self.old.dropped ≡ Nothing }
-        ensures did { Does (in_phase N.tree self.old (machine.entry_slashdash (Some (node_now self.old)))) result (state_view N.tree self.new) }
+        ensures did { Does (in_phase N.tree self.old (machine.entry_slashdash (Some (node_now
+            self.old)))) result (state_view N.tree self.new) }
         ensures whole { self.new.whole ≡ self.old.whole }
         ensures unsliced { OnOk result (unsliced self.new ≡ bytes self.old.from.rest) }
     {
@@ -437,7 +490,8 @@ impl<'a, N: ParsedNode> Builder<'a, N> {
     ) -> Result<(), LexFailure>
         requires live { self.old.dropped ≡ Nothing }
         requires from { Ahead self.old.from at.now.start }
-        ensures { Steps N.tree (around_node N.tree self.old at.now.start at.now.end) at.now.start (bytes self.old.from.rest) self.old result self.new lexer.old lexer.new }
+        ensures { Steps N.tree (around_node N.tree self.old at.now.start at.now.end) at.now.start
+            (bytes self.old.from.rest) self.old result self.new lexer.old lexer.new }
     {
         self.end_node(lexer, &nothing_at(&at.start))?;
         self.close(lexer, at)
@@ -452,7 +506,8 @@ impl<'a, N: ParsedNode> Builder<'a, N> {
     ) -> Result<(), LexFailure>
         requires live { self.old.dropped ≡ Nothing }
         requires from { Ahead self.old.from at.now.start }
-        ensures { Steps N.tree (around_kept N.tree self.old at.now.start at.now.end) at.now.start (bytes self.old.from.rest) self.old result self.new lexer.old lexer.new }
+        ensures { Steps N.tree (around_kept N.tree self.old at.now.start at.now.end) at.now.start
+            (bytes self.old.from.rest) self.old result self.new lexer.old lexer.new }
     {
         self.end_kept(lexer, &nothing_at(&at.start))?;
         self.close(lexer, at)
