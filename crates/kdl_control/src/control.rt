@@ -273,7 +273,7 @@ impl Phase {
     /// here or opens a block.
     ///
     /// ```
-    /// let behind = Phase::Property.after(&TokenKind::Space); // `Some(Phase::Property)`
+    /// let spaced = Phase::Property.after(&TokenKind::Space); // `Some(Phase::Property)`
     /// let refused = Phase::Property.after(&TokenKind::Equals); // `None`
     /// let block = Phase::EntrySlashdash.after(&TokenKind::Opening); // `None`
     /// ```
