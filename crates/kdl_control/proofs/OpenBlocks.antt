@@ -6,8 +6,8 @@ use Rattle.kdl_lexer.specs.Tokens.{Token}
 use Rattle.kdl_control.specs.Control as control
 use Rattle.kdl_control.specs.Internal.Views.{spot_view, phase_view, frame_view, stacked, move_view}
 use Rattle.kdl_control.specs.declared.control.Frame.{Frame}
-use Rattle.kdl_control.specs.declared.control.Move.{Move}
-use Rattle.kdl_control.specs.declared.control.Move.TheVariants.{Open, Close}
+use Rattle.kdl_control.specs.declared.events.Move.{Move}
+use Rattle.kdl_control.specs.declared.events.Move.TheVariants.{Open, Close}
 use Rattle.kdl_control.specs.Control.{is_gap, is_over, is_word}
 use Rattle.kdl_control.specs.declared.control.Phase.{Phase}
 use Rattle.kdl_control.specs.declared.control.Phase.TheVariants.{Gap, InNode, Kept}

@@ -2,5 +2,7 @@
 
 -- What the fields of the control of an entry text represent.
 pub mod EntryViews
+-- What a token is for the tree, in each phase.
+pub mod Events
 -- What the fields of the control represent.
 pub mod Views

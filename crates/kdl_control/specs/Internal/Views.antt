@@ -5,8 +5,6 @@ use Rattle.kdl_control.specs.Control as c
 use Rattle.kdl_control.specs.declared.control.Control.{Control}
 use Rattle.kdl_control.specs.declared.control.Frame.{Frame}
 use Rattle.kdl_control.specs.declared.control.Frame.TheVariants.{Node, Dropped, Later as LaterBlock}
-use Rattle.kdl_control.specs.declared.control.Move.{Move}
-use Rattle.kdl_control.specs.declared.control.Move.TheVariants.{To, Open, Close, Refuse}
 use Rattle.kdl_control.specs.declared.control.Owner.{Owner}
 use Rattle.kdl_control.specs.declared.control.Owner.TheVariants.{Name, Value}
 use Rattle.kdl_control.specs.declared.control.Phase.{Phase}
@@ -15,6 +13,10 @@ use Rattle.kdl_control.specs.declared.control.Spot.{Spot}
 use Rattle.kdl_control.specs.declared.control.Spot.TheVariants.{Fresh, Spaced, Later}
 use Rattle.kdl_control.specs.declared.control.Word.{Word}
 use Rattle.kdl_control.specs.declared.control.Word.TheVariants.{MayBeKey, NoKey}
+use Rattle.kdl_control.specs.declared.events.Event.{Event}
+use Rattle.kdl_control.specs.declared.events.Event.TheVariants as e
+use Rattle.kdl_control.specs.declared.events.Move.{Move}
+use Rattle.kdl_control.specs.declared.events.Move.TheVariants.{To, Open, Close, Refuse}
 
 -- whether the type is that of a value
 abbrev pub owner_view : Owner → Bool
@@ -56,6 +58,30 @@ stacked acc (f ∷ fs) = stacked (frame_view f ∷ acc) fs
 
 abbrev pub control_view : Control → c.Control
 control_view m = c.at (phase_view m.phase) (stacked [] m.frames.items)
+
+-- what the token of an event does
+abbrev pub move_of : Option Event → Move
+move_of None = Refuse
+move_of (Some (e.Skip p)) = To p
+move_of (Some e.Name) = To (InNode (Fresh NoKey))
+move_of (Some e.TypedName) = To (InNode (Fresh NoKey))
+move_of (Some e.NameType) = To (TypeOpen Name)
+move_of (Some e.ValueType) = To (TypeOpen Value)
+move_of (Some e.KeyedType) = To (TypeOpen Value)
+move_of (Some (e.TypeName o)) = To (TypeName o)
+move_of (Some (e.TypeEnd o)) = To (TypeDone o)
+move_of (Some e.Word) = To (InNode (Fresh MayBeKey))
+move_of (Some e.Argument) = To (InNode (Fresh NoKey))
+move_of (Some e.TypedValue) = To (InNode (Fresh NoKey))
+move_of (Some e.KeyedValue) = To (InNode (Fresh NoKey))
+move_of (Some e.Equals) = To Property
+move_of (Some e.EntrySlashdash) = To EntrySlashdash
+move_of (Some e.NodeEnd) = To Gap
+move_of (Some e.KeptEnd) = To Gap
+move_of (Some (e.Opening f)) = Open f
+move_of (Some e.GapClosing) = Close
+move_of (Some e.NodeClosing) = Close
+move_of (Some e.KeptClosing) = Close
 
 -- the control after a move, with these blocks open
 abbrev pub move_view : Move → List c.Frame → Option c.Control
