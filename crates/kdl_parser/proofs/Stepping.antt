@@ -2,6 +2,8 @@
 
 -- The document at the end of the text, after the current node.
 pub mod Endings
+-- A token's event brings the builder where the machine's step does.
+pub mod Events
 -- The span of nodes, from the first to the last, and their document.
 pub mod NodeSpans
 -- What the turns of the loop over the tokens cost.

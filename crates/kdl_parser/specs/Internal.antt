@@ -10,6 +10,8 @@ pub mod Building
 pub mod Counted
 -- The machine's states inside what is slashdashed, by those of the machine without data.
 pub mod Dropping
+-- The state to which a token brings the builder, by what it is for the tree.
+pub mod Events
 -- Only line-spaces, up to the end of a text.
 pub mod LineSpaces
 -- The place where a text is refused as a node.

@@ -1,33 +1,17 @@
 //! The builder: a document being read, token by token.
 
-ghost use Rattle.kdl_control.specs.declared.control.Phase.TheVariants.{
-  Gap,
-  InNode,
-  Kept,
-  TypeOpen,
-  TypeName,
-  TypeDone,
-  Property,
-};
-ghost use Rattle.kdl_control.specs.declared.control.Spot.TheVariants.{Fresh, Spaced, Later};
 ghost use Rattle.kdl_entry.specs.Internal.Building.{Stays};
 ghost use Rattle.kdl_grammar.specs.Internal.Machine.{initial};
 ghost use Rattle.kdl_parser.specs.Internal.Answered.{Finished};
 ghost use Rattle.kdl_parser.specs.Internal.Building.{state_view, EndsIn, Placed};
 ghost use Rattle.kdl_parser.specs.Internal.Counted.{unsliced, SlicedOn};
-ghost use Rattle.kdl_parser.specs.Internal.States.{
-  document_now,
-  document_of_nodes,
-  property_opened,
-  spot_of,
-  Steps,
-  Takes,
-  token_step,
-};
+ghost use Rattle.kdl_parser.specs.Internal.Events.{Acts, ItemAhead, is_live, mark_step, string_step, value_step};
+ghost use Rattle.kdl_parser.specs.Internal.States.{document_now, document_of_nodes, spot_of, Steps, Takes, token_step};
 ghost use Rattle.kdl_parser.specs.declared.builder.dropping.Dropped.TheVariants.{Nothing};
 ghost use Rattle.kdl_text.specs.Internal.Here.{Ahead};
 ghost use Rattle.kdl_text.specs.Spans.{bytes, raise};
-ghost use Rattle.std.specs.Prelude.{◌≡◌, ◌+◌, ◌≤◌, []};
+ghost use Rattle.kdl_value.specs.Tree.{text_of, value_tree};
+ghost use Rattle.std.specs.Prelude.{◌≡◌, ◌+◌, ◌≤◌, [], true};
 
 mod content;
 mod dropping;
@@ -36,7 +20,7 @@ mod steps;
 use self::content::nothing_at;
 use self::dropping::Dropped;
 use crate::node_parts::{DocumentParts, ParsedNode};
-use kdl_control::{Owner, Phase, Spot, Word};
+use kdl_control::{Event, Phase};
 use kdl_entry::items::item::{Item, TypeParts, empty};
 use kdl_entry::{KdlEntry, KdlIdentifier, KdlValue};
 use kdl_lexer::{LexFailure, Lexer, Token, TokenKind, TokenSpan, fault_at};
@@ -149,257 +133,112 @@ impl<'a, N: ParsedNode> Builder<'a, N> {
         }
     }
 
-    /// Takes a token between nodes.
+    /// Takes a value that is this for the tree.
     #[tactic(auto, using(crate::proofs::Stepping::StepsDone::does_did))]
-    fn at_gap(
+    fn take_value(
         &mut self,
         lexer: &mut Lexer<'a>,
-        kind: TokenKind,
+        event: Event,
+        value: KdlValue,
         at: &TokenSpan<'a>,
     ) -> Result<(), LexFailure>
         requires live { self.old.dropped ≡ Nothing }
         requires from { Ahead self.old.from at.now.start }
-        requires phase { self.old.phase ≡ Gap }
-        ensures { Takes N.tree self.old kind at.now result self.new lexer.old lexer.new }
+        requires item { ItemAhead event self.old.item.from at.now.start }
+        ensures { Acts N.tree event (value_step N.tree self.old event (value_tree value) at.now.start at.now.end) at.now
+            self.old result self.new lexer.old lexer.new }
     {
-        match kind {
-            TokenKind::Space | TokenKind::Newline => Ok(()),
-            TokenKind::Slashdash => {
-                self.phase = Phase::NodeSlashdash;
-                Ok(())
-            }
-            TokenKind::String(name) => self.name_node(lexer, name, at),
-            TokenKind::Left => self.open_name(lexer, at),
-            TokenKind::Closing => self.close(lexer, at),
+        match event {
+            Event::Argument => self.add_argument(lexer, value, at),
+            Event::TypedValue => self.add_typed(lexer, value, at),
+            Event::KeyedValue => self.add_keyed(lexer, value, at),
             _ => Err(LexFailure::Faulty(fault_at(&at.start))),
         }
     }
 
-    /// Takes an `=` in a node, which may come only after a string that may be a key.
-    fn at_equals(
+    /// Takes a string that is this for the tree.
+    #[tactic(auto, using(crate::proofs::Stepping::StepsDone::does_did))]
+    fn take_string(
         &mut self,
         lexer: &mut Lexer<'a>,
-        word: Word,
+        event: Event,
+        text: String,
         at: &TokenSpan<'a>,
     ) -> Result<(), LexFailure>
         requires live { self.old.dropped ≡ Nothing }
         requires from { Ahead self.old.from at.now.start }
-        ensures { Steps N.tree (property_opened N.tree self.old word at.now.start at.now.end)
-            at.now.start (bytes self.old.from.rest) self.old result self.new lexer.old lexer.new }
+        requires item { ItemAhead event self.old.item.from at.now.start }
+        ensures { Acts N.tree event (string_step N.tree self.old event (text_of text) at.now.start at.now.end) at.now
+            self.old result self.new lexer.old lexer.new }
     {
-        match word {
-            Word::MayBeKey => self.open_property(lexer, at),
-            Word::NoKey => Err(LexFailure::Faulty(fault_at(&at.start))),
+        match event {
+            Event::Name => self.name_node(lexer, text, at),
+            Event::TypedName => self.name_typed(lexer, text, at),
+            Event::TypeName(owner) => self.name_type(lexer, owner, text, at),
+            Event::Word => self.wait(lexer, text, at),
+            _ => self.take_value(lexer, event, KdlValue::String(text), at),
         }
     }
 
-    /// Takes a token directly after a name or an entry.
+    /// Takes a token that is this for the tree, and neither a string nor a value.
     #[tactic(auto, using(crate::proofs::Stepping::StepsDone::does_did, crate::proofs::Stepping::StepsDone::none_sliced))]
-    fn at_fresh(
+    fn take_mark(
         &mut self,
         lexer: &mut Lexer<'a>,
-        word: Word,
-        kind: TokenKind,
+        event: Event,
         at: &TokenSpan<'a>,
     ) -> Result<(), LexFailure>
         requires live { self.old.dropped ≡ Nothing }
         requires from { Ahead self.old.from at.now.start }
-        requires phase { self.old.phase ≡ InNode (Fresh word) }
-        ensures { Takes N.tree self.old kind at.now result self.new lexer.old lexer.new }
+        requires item { ItemAhead event self.old.item.from at.now.start }
+        ensures { Acts N.tree event (mark_step N.tree self.old event at.now.start at.now.end) at.now
+            self.old result self.new lexer.old lexer.new }
     {
-        match kind {
-            TokenKind::Space => {
-                self.phase = Phase::InNode(Spot::Spaced(word));
+        match event {
+            Event::Skip(phase) => {
+                self.phase = phase;
                 Ok(())
             }
-            TokenKind::Newline | TokenKind::Semicolon => self.end_node(lexer, at),
-            TokenKind::Closing => self.close_node(lexer, at),
-            TokenKind::Opening => self.open_block(lexer, at),
-            TokenKind::Slashdash => self.go_past_slashdash(),
-            TokenKind::Equals => self.at_equals(lexer, word, at),
-            _ => Err(LexFailure::Faulty(fault_at(&at.start))),
-        }
-    }
-
-    /// Takes a token after spaces in a node.
-    #[tactic(auto, using(crate::proofs::Stepping::StepsDone::does_did, crate::proofs::Stepping::StepsDone::none_sliced))]
-    fn at_spaced(
-        &mut self,
-        lexer: &mut Lexer<'a>,
-        word: Word,
-        kind: TokenKind,
-        at: &TokenSpan<'a>,
-    ) -> Result<(), LexFailure>
-        requires live { self.old.dropped ≡ Nothing }
-        requires from { Ahead self.old.from at.now.start }
-        requires phase { self.old.phase ≡ InNode (Spaced word) }
-        ensures { Takes N.tree self.old kind at.now result self.new lexer.old lexer.new }
-    {
-        match kind {
-            TokenKind::Space => Ok(()),
-            TokenKind::Newline | TokenKind::Semicolon => self.end_node(lexer, at),
-            TokenKind::Closing => self.close_node(lexer, at),
-            TokenKind::Opening => self.open_block(lexer, at),
-            TokenKind::Slashdash => self.go_past_slashdash(),
-            TokenKind::Equals => self.at_equals(lexer, word, at),
-            TokenKind::String(value) => self.wait(lexer, value, at),
-            TokenKind::Value(value) => self.add_argument(lexer, value, at),
-            TokenKind::Left => self.open_value(lexer, at),
-            _ => Err(LexFailure::Faulty(fault_at(&at.start))),
-        }
-    }
-
-    /// Takes a token after a slashdashed block, before the node's own.
-    #[tactic(auto, using(crate::proofs::Stepping::StepsDone::does_did))]
-    fn at_later(
-        &mut self,
-        lexer: &mut Lexer<'a>,
-        kind: TokenKind,
-        at: &TokenSpan<'a>,
-    ) -> Result<(), LexFailure>
-        requires live { self.old.dropped ≡ Nothing }
-        requires from { Ahead self.old.from at.now.start }
-        requires phase { self.old.phase ≡ InNode Later }
-        ensures { Takes N.tree self.old kind at.now result self.new lexer.old lexer.new }
-    {
-        match kind {
-            TokenKind::Space => Ok(()),
-            TokenKind::Newline | TokenKind::Semicolon => self.end_node(lexer, at),
-            TokenKind::Closing => self.close_node(lexer, at),
-            TokenKind::Opening => self.open_block(lexer, at),
-            TokenKind::Slashdash => {
-                self.phase = Phase::BlockSlashdash;
-                Ok(())
-            }
-            _ => Err(LexFailure::Faulty(fault_at(&at.start))),
-        }
-    }
-
-    /// Takes a token after a node's block.
-    #[tactic(auto, using(crate::proofs::Stepping::StepsDone::does_did))]
-    fn at_kept(
-        &mut self,
-        lexer: &mut Lexer<'a>,
-        kind: TokenKind,
-        at: &TokenSpan<'a>,
-    ) -> Result<(), LexFailure>
-        requires live { self.old.dropped ≡ Nothing }
-        requires from { Ahead self.old.from at.now.start }
-        requires phase { self.old.phase ≡ Kept }
-        ensures { Takes N.tree self.old kind at.now result self.new lexer.old lexer.new }
-    {
-        match kind {
-            TokenKind::Space => Ok(()),
-            TokenKind::Newline | TokenKind::Semicolon => self.end_kept(lexer, at),
-            TokenKind::Closing => self.close_kept(lexer, at),
-            TokenKind::Slashdash => {
-                self.phase = Phase::KeptSlashdash;
-                Ok(())
-            }
-            _ => Err(LexFailure::Faulty(fault_at(&at.start))),
-        }
-    }
-
-    /// Takes a token after the `(` of a type.
-    fn at_type_open(
-        &mut self,
-        lexer: &mut Lexer<'a>,
-        owner: Owner,
-        kind: TokenKind,
-        at: &TokenSpan<'a>,
-    ) -> Result<(), LexFailure>
-        requires live { self.old.dropped ≡ Nothing }
-        requires from { Ahead self.old.item.from at.now.start }
-        requires phase { self.old.phase ≡ TypeOpen owner }
-        ensures { Takes N.tree self.old kind at.now result self.new lexer.old lexer.new }
-    {
-        match kind {
-            TokenKind::Space => Ok(()),
-            TokenKind::String(name) => {
-                self.item.take_name(lexer, &self.whole, name, at)?;
-                self.phase = Phase::TypeName(owner);
-                Ok(())
-            }
-            _ => Err(LexFailure::Faulty(fault_at(&at.start))),
-        }
-    }
-
-    /// Takes a token after the name of a type.
-    fn at_type_name(
-        &mut self,
-        lexer: &mut Lexer<'a>,
-        owner: Owner,
-        kind: TokenKind,
-        at: &TokenSpan<'a>,
-    ) -> Result<(), LexFailure>
-        requires live { self.old.dropped ≡ Nothing }
-        requires from { Ahead self.old.item.from at.now.start }
-        requires phase { self.old.phase ≡ TypeName owner }
-        ensures { Takes N.tree self.old kind at.now result self.new lexer.old lexer.new }
-    {
-        match kind {
-            TokenKind::Space => Ok(()),
-            TokenKind::Right => {
-                self.item.close(lexer, at)?;
-                self.phase = Phase::TypeDone(owner);
-                Ok(())
-            }
-            _ => Err(LexFailure::Faulty(fault_at(&at.start))),
-        }
-    }
-
-    /// Takes a token after the `)` of a type.
-    #[tactic(auto, using(crate::proofs::Stepping::StepsDone::does_did))]
-    fn at_type_done(
-        &mut self,
-        lexer: &mut Lexer<'a>,
-        owner: Owner,
-        kind: TokenKind,
-        at: &TokenSpan<'a>,
-    ) -> Result<(), LexFailure>
-        requires live { self.old.dropped ≡ Nothing }
-        requires from { Ahead self.old.item.from at.now.start }
-        requires phase { self.old.phase ≡ TypeDone owner }
-        ensures { Takes N.tree self.old kind at.now result self.new lexer.old lexer.new }
-    {
-        match (owner, kind) {
-            (_, TokenKind::Space) => Ok(()),
-            (Owner::Name, TokenKind::String(name)) => self.name_typed(lexer, name, at),
-            (Owner::Value, TokenKind::String(text)) => {
-                self.add_typed(lexer, KdlValue::String(text), at)
-            }
-            (Owner::Value, TokenKind::Value(value)) => self.add_typed(lexer, value, at),
-            _ => Err(LexFailure::Faulty(fault_at(&at.start))),
-        }
-    }
-
-    /// Takes a token after the `=` of a property.
-    fn at_property(
-        &mut self,
-        lexer: &mut Lexer<'a>,
-        kind: TokenKind,
-        at: &TokenSpan<'a>,
-    ) -> Result<(), LexFailure>
-        requires live { self.old.dropped ≡ Nothing }
-        requires from { Ahead self.old.item.from at.now.start }
-        requires phase { self.old.phase ≡ Property }
-        ensures { Takes N.tree self.old kind at.now result self.new lexer.old lexer.new }
-    {
-        match kind {
-            TokenKind::Space => Ok(()),
-            TokenKind::String(text) => self.add_keyed(lexer, KdlValue::String(text), at),
-            TokenKind::Value(value) => self.add_keyed(lexer, value, at),
-            TokenKind::Left => {
-                self.item.open_typed(lexer, at)?;
-                self.phase = Phase::TypeOpen(Owner::Value);
-                Ok(())
-            }
+            Event::NameType => self.open_name(lexer, at),
+            Event::ValueType => self.open_value(lexer, at),
+            Event::KeyedType => self.open_keyed_type(lexer, at),
+            Event::TypeEnd(owner) => self.end_type(lexer, owner, at),
+            Event::Equals => self.open_property(lexer, at),
+            Event::EntrySlashdash => self.go_past_slashdash(),
+            Event::NodeEnd => self.end_node(lexer, at),
+            Event::KeptEnd => self.end_kept(lexer, at),
+            Event::Opening(_) => self.open_block(lexer, at),
+            Event::GapClosing => self.close(lexer, at),
+            Event::NodeClosing => self.close_node(lexer, at),
+            Event::KeptClosing => self.close_kept(lexer, at),
             _ => Err(LexFailure::Faulty(fault_at(&at.start))),
         }
     }
 
     /// Takes a token outside of what is slashdashed.
-    #[tactic(auto, using(crate::proofs::Stepping::PlacesAhead::item_placed, crate::proofs::Stepping::StepsDone::none_sliced))]
+    #[inline(always)]
+    fn take_live(
+        &mut self,
+        lexer: &mut Lexer<'a>,
+        kind: TokenKind,
+        at: &TokenSpan<'a>,
+    ) -> Result<(), LexFailure>
+        requires live { self.old.dropped ≡ Nothing }
+        requires phase { is_live self.old.phase ≡ true }
+        requires placed { Placed (state_view N.tree self.old) at.now.start.rest }
+        ensures { Takes N.tree self.old kind at.now result self.new lexer.old lexer.new }
+    {
+        let Some(event) = self.phase.event(&kind) else {
+            return Err(LexFailure::Faulty(fault_at(&at.start)));
+        };
+        match kind {
+            TokenKind::String(text) => self.take_string(lexer, event, text, at),
+            TokenKind::Value(value) => self.take_value(lexer, event, value, at),
+            _ => self.take_mark(lexer, event, at),
+        }
+    }
+
+    /// Takes a token if nothing slashdashed is being read.
     #[inline(always)]
     fn take_kept(
         &mut self,
@@ -412,19 +251,11 @@ impl<'a, N: ParsedNode> Builder<'a, N> {
         ensures { Takes N.tree self.old kind at.now result self.new lexer.old lexer.new }
     {
         match self.phase {
-            Phase::Gap => self.at_gap(lexer, kind, at),
-            Phase::InNode(Spot::Fresh(word)) => self.at_fresh(lexer, word, kind, at),
-            Phase::InNode(Spot::Spaced(word)) => self.at_spaced(lexer, word, kind, at),
-            Phase::InNode(Spot::Later) => self.at_later(lexer, kind, at),
-            Phase::Kept => self.at_kept(lexer, kind, at),
-            Phase::TypeOpen(owner) => self.at_type_open(lexer, owner, kind, at),
-            Phase::TypeName(owner) => self.at_type_name(lexer, owner, kind, at),
-            Phase::TypeDone(owner) => self.at_type_done(lexer, owner, kind, at),
-            Phase::Property => self.at_property(lexer, kind, at),
             Phase::NodeSlashdash => self.drop_token(Dropped::node(self.alloc), kind, at),
             Phase::EntrySlashdash | Phase::BlockSlashdash | Phase::KeptSlashdash => {
                 self.drop_token(Dropped::part(self.alloc, self.phase), kind, at)
             }
+            _ => self.take_live(lexer, kind, at),
         }
     }
 

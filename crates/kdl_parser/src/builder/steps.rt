@@ -4,6 +4,7 @@ ghost use Rattle.kdl_control.specs.declared.control.Word.TheVariants.{MayBeKey};
 ghost use Rattle.kdl_entry.specs.Internal.Building.{key_view, type_view};
 ghost use Rattle.kdl_parser.specs.Internal.Building.{in_phase, node_now, state_view, under_view, Does};
 ghost use Rattle.kdl_parser.specs.Internal.Counted.{unsliced};
+ghost use Rattle.kdl_parser.specs.Internal.Events.{keyed_opened, type_ended, type_named};
 ghost use Rattle.kdl_parser.specs.Internal.States.{
   argument_slot,
   around,
@@ -311,6 +312,57 @@ impl<'a, N: ParsedNode> Builder<'a, N> {
         let leading = text_between(self.alloc, lexer, &self.from, &at.start)?;
         self.item.open(Owner::Name, leading, at);
         self.phase = Phase::TypeOpen(Owner::Name);
+        Ok(())
+    }
+
+    /// Takes the name of a type.
+    pub(super) fn name_type(
+        &mut self,
+        lexer: &mut Lexer<'a>,
+        owner: Owner,
+        name: String,
+        at: &TokenSpan<'a>,
+    ) -> Result<(), LexFailure>
+        requires live { self.old.dropped ≡ Nothing }
+        requires from { Ahead self.old.item.from at.now.start }
+        ensures { Reaches N.tree (type_named N.tree self.old owner (text_of name) at.now.start at.now.end)
+            (bytes self.old.item.from.rest) self.old result self.new lexer.old lexer.new }
+    {
+        self.item.take_name(lexer, &self.whole, name, at)?;
+        self.phase = Phase::TypeName(owner);
+        Ok(())
+    }
+
+    /// Takes the `)` of a type.
+    pub(super) fn end_type(
+        &mut self,
+        lexer: &mut Lexer<'a>,
+        owner: Owner,
+        at: &TokenSpan<'a>,
+    ) -> Result<(), LexFailure>
+        requires live { self.old.dropped ≡ Nothing }
+        requires from { Ahead self.old.item.from at.now.start }
+        ensures { Reaches N.tree (type_ended N.tree self.old owner at.now.start at.now.end)
+            (bytes self.old.item.from.rest) self.old result self.new lexer.old lexer.new }
+    {
+        self.item.close(lexer, at)?;
+        self.phase = Phase::TypeDone(owner);
+        Ok(())
+    }
+
+    /// Begins the type of a value at its `(`, after a key.
+    pub(super) fn open_keyed_type(
+        &mut self,
+        lexer: &mut Lexer<'a>,
+        at: &TokenSpan<'a>,
+    ) -> Result<(), LexFailure>
+        requires live { self.old.dropped ≡ Nothing }
+        requires from { Ahead self.old.item.from at.now.start }
+        ensures { Reaches N.tree (keyed_opened N.tree self.old at.now.start at.now.end)
+            (bytes self.old.item.from.rest) self.old result self.new lexer.old lexer.new }
+    {
+        self.item.open_typed(lexer, at)?;
+        self.phase = Phase::TypeOpen(Owner::Value);
         Ok(())
     }
 

@@ -1,0 +1,121 @@
+-- A token's event brings the builder where the machine's step does.
+use Rattle.std.proofs.Common.{◌≡◌, ℕ, true, Option, Some, None, Result, refl, sym, ap, subst, ◌∙◌}
+use Rattle.kdl_text.specs.Chars.{Text}
+use Rattle.kdl_text.specs.Internal.Here.{Here, Position}
+use Rattle.kdl_text.specs.Spans.{bytes}
+use Rattle.kdl_control.specs.Internal.Events.{event_of}
+use Rattle.kdl_control.specs.declared.control.Owner.TheVariants.{Name, Value}
+use Rattle.kdl_control.specs.declared.control.Phase.{Phase}
+use Rattle.kdl_control.specs.declared.control.Phase.TheVariants.{NodeSlashdash, TypeOpen, TypeName, TypeDone, InNode, Property, EntrySlashdash, BlockSlashdash, KeptSlashdash}
+use Rattle.kdl_control.specs.declared.control.Spot.TheVariants.{Fresh, Spaced, Later}
+use Rattle.kdl_control.specs.declared.control.Word.TheVariants.{MayBeKey, NoKey}
+use Rattle.kdl_control.specs.declared.events.Event.{Event}
+use Rattle.kdl_grammar.specs.Internal.Machine as machine
+use Rattle.kdl_grammar.specs.Internal.Machine.{State, step, Pending, pending, value_from, stay}
+use Rattle.kdl_grammar.specs.Tree.{Node}
+use Rattle.kdl_lexer.specs.Internal.Handed.{kind_view}
+use Rattle.kdl_lexer.specs.Tokens.{Token, space, equals}
+use Rattle.kdl_lexer.specs.declared.lexer.LexFailure.{LexFailure}
+use Rattle.kdl_lexer.specs.declared.lexer.TokenKind.{TokenKind}
+use Rattle.kdl_lexer.specs.declared.lexer.TokenKind.TheVariants.{String as StringKind, Value as ValueKind}
+use Rattle.kdl_lexer.specs.declared.token_span.TokenSpan.{TokenSpan}
+use Rattle.kdl_parser.specs.Internal.Building.{in_phase, phase_now, under_view, pending_now, nodes_now, frames_view, state_view, state_by, reading_view, Did}
+use Rattle.kdl_parser.specs.Internal.Counted.{unsliced, unsliced_at, unsliced_in, SlicedOn}
+use Rattle.kdl_parser.specs.Internal.Events.{event_step, mark_step, is_live, unsliced_before, Acts}
+use Rattle.kdl_parser.specs.Internal.States.{token_step, Takes}
+use Rattle.kdl_parser.specs.declared.builder.Builder.{Builder}
+use Rattle.kdl_parser.specs.declared.builder.dropping.Dropped.{Dropped}
+use Rattle.kdl_parser.specs.declared.builder.dropping.Dropped.TheVariants.{Nothing}
+
+-- the state after the event, if there is one
+abbrev pub stepped_by : {N : Type 0} → (N → Node) → Builder N → Option Event → Token → Position → Position → Option State
+stepped_by tree b None k s r = None
+stepped_by tree b (Some e) k s r = event_step tree b e k s r
+
+-- a key goes on to its `=` directly and after spaces
+same_from : (o : Option Pending) (s r : Text) → value_from (machine.spaced o) s r ≡ value_from (machine.fresh o) s r
+same_from None s r = refl
+same_from (Some (pending c k a)) s r = refl
+
+module _ {N : Type 0} (tree : N → Node) (b : Builder N) (s r : Position) where
+  in_live : (k : Token) (p : Phase) → is_live p ≡ true → step b.whole.rest (in_phase tree b (phase_now tree b p)) k s.rest r.rest ≡ stepped_by tree b (event_of p k) k s r
+  in_live k NodeSlashdash e = absurd cc
+  in_live k EntrySlashdash e = absurd cc
+  in_live k BlockSlashdash e = absurd cc
+  in_live k KeptSlashdash e = absurd cc
+  in_live space (TypeOpen Name) e = refl
+  in_live space (TypeOpen Value) e = refl
+  in_live space (TypeName Name) e = refl
+  in_live space (TypeName Value) e = refl
+  in_live space (TypeDone Name) e = refl
+  in_live space (TypeDone Value) e = refl
+  in_live space (InNode (Fresh MayBeKey)) e = refl
+  in_live space (InNode (Fresh NoKey)) e = refl
+  in_live space (InNode (Spaced MayBeKey)) e = refl
+  in_live space (InNode (Spaced NoKey)) e = refl
+  in_live space (InNode Later) e = refl
+  in_live space p e = refl
+  in_live equals (InNode (Spaced MayBeKey)) e = ap (stay (nodes_now tree b) (frames_view tree b) b.from.rest) (same_from (pending_now MayBeKey b.whole.rest b.from.rest b.waiting (under_view b.under)) s.rest r.rest)
+  in_live equals (InNode (Fresh MayBeKey)) e = refl
+  in_live k (TypeOpen Name) e = refl
+  in_live k (TypeOpen Value) e = refl
+  in_live k (TypeName Name) e = refl
+  in_live k (TypeName Value) e = refl
+  in_live k (TypeDone Name) e = refl
+  in_live k (TypeDone Value) e = refl
+  in_live k (InNode (Fresh MayBeKey)) e = refl
+  in_live k (InNode (Fresh NoKey)) e = refl
+  in_live k (InNode (Spaced MayBeKey)) e = refl
+  in_live k (InNode (Spaced NoKey)) e = refl
+  in_live k (InNode Later) e = refl
+  in_live k p e = refl
+
+-- what is not sliced before the token
+abbrev unsliced_by : Option Event → Phase → ℕ → ℕ → ℕ
+unsliced_by None p n m = unsliced_in p n m
+unsliced_by (Some e) p n m = unsliced_before e n m
+
+same_unsliced : (n m : ℕ) (k : Token) (p : Phase) → unsliced_by (event_of p k) p n m ≡ unsliced_in p n m
+same_unsliced n m space (TypeDone Name) = refl
+same_unsliced n m space (TypeDone Value) = refl
+same_unsliced n m space (InNode (Fresh w)) = refl
+same_unsliced n m space (InNode (Spaced w)) = refl
+same_unsliced n m space (InNode Later) = refl
+same_unsliced n m space p = refl
+same_unsliced n m k (TypeDone Name) = refl
+same_unsliced n m k (TypeDone Value) = refl
+same_unsliced n m k (InNode (Fresh MayBeKey)) = refl
+same_unsliced n m k (InNode (Fresh NoKey)) = refl
+same_unsliced n m k (InNode (Spaced MayBeKey)) = refl
+same_unsliced n m k (InNode (Spaced NoKey)) = refl
+same_unsliced n m k (InNode Later) = refl
+same_unsliced n m k p = refl
+
+module _ {N : Type 0} (tree : N → Node) (b b' : Builder N) (span : TokenSpan) (e : Event) (result : Result (Unit {0}) LexFailure) (before after : Here) where
+  -- the machine's step at the token
+  token_is : (k : TokenKind) (o : Option Event) → b.dropped ≡ Nothing → is_live b.phase ≡ true → o ≡ event_of b.phase (kind_view k) → token_step tree b k span ≡ stepped_by tree b o (kind_view k) span.start span.end
+  token_is k o d l f =
+      ap (λ (z : Dropped). step b.whole.rest (state_by tree b (reading_view z)) (kind_view k) span.start.rest span.end.rest) d ∙ in_live tree b span.start span.end (kind_view k) b.phase l ∙ ap (λ (z : Option Event). stepped_by tree b z (kind_view k) span.start span.end) (sym f)
+
+  unsliced_is : (k : TokenKind) → b.dropped ≡ Nothing → Some e ≡ event_of b.phase (kind_view k) → unsliced_before e (bytes b.from.rest) (bytes b.item.from.rest) ≡ unsliced b
+  unsliced_is k d f =
+      ap (λ (z : Option Event). unsliced_by z b.phase (bytes b.from.rest) (bytes b.item.from.rest)) f ∙ same_unsliced (bytes b.from.rest) (bytes b.item.from.rest) (kind_view k) b.phase
+      ∙ ap (λ (z : Dropped). unsliced_at z b.phase (bytes b.from.rest) (bytes b.item.from.rest)) (sym d)
+
+  -- what a token of an event does
+  takes : (k : TokenKind) → b.dropped ≡ Nothing → is_live b.phase ≡ true → Some e ≡ event_of b.phase (kind_view k) → Acts tree e (event_step tree b e (kind_view k) span.start span.end) span b result b' before after → Takes tree b k span result b' before after
+  takes k d l f x = record {
+    did = subst (λ (o : Option State). Did o span.start result (state_view tree b')) (sym (token_is k (Some e) d l f)) x.did;
+    whole = x.whole;
+    stays = x.stays;
+    sliced = subst (λ (n : ℕ). SlicedOn result n (unsliced b') before after) (unsliced_is k d f) x.sliced;
+  }
+
+  pub takes_as : (k k' : TokenKind) (o : Option State) → b.dropped ≡ Nothing → is_live b.phase ≡ true → Some e ≡ event_of b.phase (kind_view k) → k ≡ k' → o ≡ event_step tree b e (kind_view k') span.start span.end → Acts tree e o span b result b' before after → Takes tree b k span result b' before after
+  takes_as k k' o d l f i j x = takes k d l f (subst (λ (z : TokenKind). Acts tree e (event_step tree b e (kind_view z) span.start span.end) span b result b' before after) (sym i) (subst (λ (z : Option State). Acts tree e z span b result b' before after) j x))
+
+-- a token that is neither a string nor a value
+pub is_mark : {N : Type 0} (tree : N → Node) (b : Builder N) (e : Event) (s r : Position) (k : TokenKind) → ((x : _) → k ≡ StringKind x → ⊥) → ((x : _) → k ≡ ValueKind x → ⊥) → mark_step tree b e s r ≡ event_step tree b e (kind_view k) s r
+is_mark tree b e s r (StringKind x) f g = absurd (f x refl)
+is_mark tree b e s r (ValueKind x) f g = absurd (g x refl)
+is_mark tree b e s r k f g = refl
