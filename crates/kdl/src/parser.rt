@@ -9,6 +9,7 @@ ghost use Rattle.kdl_grammar.specs.Grammar.{IsDocument, IsNodeText};
 ghost use Rattle.kdl_grammar.specs.Laid.{LaidNodeText};
 ghost use Rattle.kdl_grammar.specs.Internal.Machine.{AnswersDocument};
 ghost use Rattle.kdl_parser.specs.Earliest.{EarliestOnSyntax, NodeEarliestOnSyntax};
+ghost use Rattle.kdl_parser.specs.Internal.Steps.{Parses, ParsesNode};
 ghost use Rattle.kdl_text.specs.Failures.{IsSyntax, TellsOnSyntax};
 ghost use Rattle.kdl_text.specs.Spans.{raise};
 ghost use Rattle.std.specs.Prelude.{◌≡◌, ◌+◌, ◌*◌, ◌≤◌, length, true, IfOk, OnOk};
@@ -24,13 +25,7 @@ use std::alloc::Global;
 /// Reads the document that the machine makes of the text. Adds the steps to the count.
 fn parse_from(alloc: Global, text: &str, steps: &mut Steps) -> Result<KdlDocument, ParseFailure>
     ensures answers { IfOk result (λ d. AnswersDocument (chars text.now) (document_tree d)) }
-    ensures refused { IsSyntax result → (x : Nodes) → IsDocument true (chars text.now) x → ⊥ }
-    ensures told { TellsOnSyntax text.now result }
-    ensures earliest { EarliestOnSyntax text.now result }
-    ensures least { OnOk result (raise steps.old (length (chars text.now)) ≤ steps.new) }
-    ensures most { OnOk result (steps.new ≤ steps.old + 32 * (length text.now + 1)) }
-    ensures told_most { IsSyntax result → steps.new ≤ steps.old + 184 * (length text.now + 1) }
-    ensures raised { raise steps.old 1 ≤ steps.new }
+    ensures parses { Parses text.now result steps.old steps.new }
 {
     match read_document(alloc, text, steps) {
         Ok(document) => Ok(KdlDocument::from_text(alloc, document)?),
@@ -41,9 +36,7 @@ fn parse_from(alloc: Global, text: &str, steps: &mut Steps) -> Result<KdlDocumen
 /// Reads the node that the whole text is.
 fn read_node(alloc: Global, text: &str) -> Result<KdlNode, ParseFailure>
     ensures laid { IfOk result (λ n. LaidNodeText true (chars text.now) (node_tree n)) }
-    ensures refused { IsSyntax result → (x : data'.Node) → IsNodeText true (chars text.now) x → ⊥ }
-    ensures told { TellsOnSyntax text.now result }
-    ensures earliest { NodeEarliestOnSyntax text.now result }
+    ensures parses { ParsesNode text.now result }
 {
     match read_node_text(alloc, text) {
         Ok(text) => Ok(KdlNode::from_text(text)),

@@ -4,6 +4,8 @@
 pub mod TokenLoop
 -- What the result on a whole text says of the grammar.
 pub mod Outcomes
+-- What each reader of a whole text promises beside its result.
+pub mod Parsing
 -- Every edited document of a result reads back.
 pub mod EditedOutcomes
 -- A text with U+FEFF before it, or without.

@@ -20,7 +20,7 @@ pub mod NodePlace
 pub mod NodeText
 -- The trees of nodes and documents from their parts, for a given tree of a node.
 pub mod Parts
--- The steps of a parse, for a whole text.
+-- What the readers of whole texts promise, and the steps of a parse.
 pub mod Steps
 -- Where the machine without data stops in a text.
 pub mod Stopping

@@ -134,6 +134,7 @@ impl<'a, N: ParsedNode> Builder<'a, N> {
     }
 
     /// Takes a value that is this for the tree.
+    #[inline(always)]
     #[tactic(auto, using(crate::proofs::Stepping::StepsDone::does_did))]
     fn take_value(
         &mut self,
@@ -157,6 +158,7 @@ impl<'a, N: ParsedNode> Builder<'a, N> {
     }
 
     /// Takes a string that is this for the tree.
+    #[inline(always)]
     #[tactic(auto, using(crate::proofs::Stepping::StepsDone::does_did))]
     fn take_string(
         &mut self,
@@ -181,6 +183,7 @@ impl<'a, N: ParsedNode> Builder<'a, N> {
     }
 
     /// Takes a token that is this for the tree, and neither a string nor a value.
+    #[inline(always)]
     #[tactic(auto, using(crate::proofs::Stepping::StepsDone::does_did, crate::proofs::Stepping::StepsDone::none_sliced))]
     fn take_mark(
         &mut self,

@@ -1,14 +1,10 @@
 //! Documents that are a whole text.
 
-ghost use Rattle.kdl_grammar.specs.Data.{Nodes};
-ghost use Rattle.kdl_grammar.specs.Grammar.{IsDocument};
 ghost use Rattle.kdl_grammar.specs.Internal.Machine.{AnswersDocument};
-ghost use Rattle.kdl_parser.specs.Earliest.{EarliestOnSyntax};
-ghost use Rattle.kdl_parser.specs.Internal.Steps.{CountedOn};
+ghost use Rattle.kdl_parser.specs.Internal.Steps.{CountedOn, Parses};
 ghost use Rattle.kdl_parser.specs.Internal.Whole.{AnswersDocumentText, whole_by};
-ghost use Rattle.kdl_text.specs.Failures.{IsSyntax, TellsOnSyntax};
 ghost use Rattle.kdl_text.specs.Spans.{raise};
-ghost use Rattle.std.specs.Prelude.{◌≡◌, ◌+◌, ◌*◌, ◌≤◌, length, true, IfOk, OnOk};
+ghost use Rattle.std.specs.Prelude.{◌≡◌, ◌≤◌, IfOk};
 ghost use Rattle.std.specs.Str.{chars};
 
 use crate::node_parts::{DocumentParts, ParsedNode};
@@ -70,7 +66,6 @@ fn read_counted<N: ParsedNode>(
 /// decoded by the lexer, which slices what it needs for that, even of what is slashdashed. Returns `Syntax` if the text
 /// is not a document; its error has a diagnostic for each fault, and at least one. The text is then read again to find
 /// them. Returns `Memory` if an allocation fails.
-#[tactic(auto, using(crate::proofs::Answering::Outcomes::refused, crate::proofs::Answering::Outcomes::most_counted))]
 pub fn read_document<N: ParsedNode>(
     alloc: Global,
     text: &str,
@@ -78,17 +73,7 @@ pub fn read_document<N: ParsedNode>(
 ) -> Result<DocumentText<N>, ParseFailure>
     // The result is the machine's result on the text.
     ensures found { IfOk result (λ d. AnswersDocument (chars text.now) (whole_by N.tree d)) }
-    // A refused text is not derived, and the error reports where: its first diagnostic is near the earliest fault that
-    // the text can have.
-    ensures refused { IsSyntax result → (x : Nodes) → IsDocument true (chars text.now) x → ⊥ }
-    ensures told { TellsOnSyntax text.now result }
-    ensures earliest { EarliestOnSyntax text.now result }
-    // At least a step for each character is counted, and at most 32 for each byte and 32 more; for a refused text and
-    // the report of its faults, at most 184.
-    ensures least { OnOk result (raise steps.old (length (chars text.now)) ≤ steps.new) }
-    ensures most { OnOk result (steps.new ≤ steps.old + 32 * (length text.now + 1)) }
-    ensures told_most { IsSyntax result → steps.new ≤ steps.old + 184 * (length text.now + 1) }
-    ensures raised { raise steps.old 1 ≤ steps.new }
+    ensures parses { Parses text.now result steps.old steps.new }
 {
     match read_counted(alloc, text, steps) {
         Ok(document) => Ok(document),

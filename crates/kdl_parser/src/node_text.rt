@@ -2,15 +2,13 @@
 
 ghost use Rattle.kdl_diagnostics.specs.TextControl.{Accepts};
 ghost use Rattle.kdl_diagnostics.specs.declared.whole.Whole.TheVariants.{Node};
-ghost use Rattle.kdl_grammar.specs.Data as data';
 ghost use Rattle.kdl_grammar.specs.GoingOn.{DerivedNode};
-ghost use Rattle.kdl_grammar.specs.Grammar.{IsNodeText};
 ghost use Rattle.kdl_grammar.specs.Laid.{LaidNodeText};
 ghost use Rattle.kdl_lexer.specs.Earliest.{FailsEarliest};
-ghost use Rattle.kdl_parser.specs.Earliest.{NodeEarliestOnSyntax};
 ghost use Rattle.kdl_parser.specs.Internal.NodeText.{RunsOnText, ReadsSome, ReadsOne, IsOnly, AnswersNodeText, text_by};
 ghost use Rattle.kdl_parser.specs.Internal.Parts.{document_by, nodes_tree};
-ghost use Rattle.kdl_text.specs.Failures.{IsSyntax, TellsOf, TellsOnSyntax};
+ghost use Rattle.kdl_parser.specs.Internal.Steps.{ParsesNode};
+ghost use Rattle.kdl_text.specs.Failures.{TellsOf};
 ghost use Rattle.kdl_value.specs.Tree.{text_of};
 ghost use Rattle.std.specs.Prelude.{IfOk, true};
 ghost use Rattle.std.specs.Str.{chars};
@@ -136,11 +134,7 @@ fn node_refusal(alloc: Global, text: &str) -> ParseFailure
 pub fn read_node_text<N: ParsedNode>(alloc: Global, text: &str) -> Result<NodeText<N>, ParseFailure>
     // The node that is returned is located in the text, which it is.
     ensures found { IfOk result (λ n. LaidNodeText true (chars text.now) (text_by N.tree n)) }
-    // A refused text is not derived, and the error reports where: its first diagnostic is near the earliest fault that
-    // the text can have.
-    ensures refused { IsSyntax result → (x : data'.Node) → IsNodeText true (chars text.now) x → ⊥ }
-    ensures told { TellsOnSyntax text.now result }
-    ensures earliest { NodeEarliestOnSyntax text.now result }
+    ensures parses { ParsesNode text.now result }
 {
     match read_whole(alloc, text) {
         Ok(node) => Ok(node),

@@ -7,7 +7,7 @@ pub returns-clause-keeps_none : goal.returns-clause-keeps_none
 returns-clause-keeps_none c = keeps_none (chars c.args.text.now) c.parse_from.result c.parse_from.ensures.answers
 
 pub returns-clause-kept : goal.returns-clause-kept
-returns-clause-kept c x i s = kept (chars c.args.text.now) x (c.parse_from.ensures.refused s) i
+returns-clause-kept c x i s = kept (chars c.args.text.now) x (c.parse_from.ensures.parses.refused s) i
 
 pub returns-clause-former : goal.returns-clause-former
 returns-clause-former c x i = former (chars c.args.text.now) c.parse_from.result x c.parse_from.ensures.answers i
