@@ -10,14 +10,15 @@ ghost use Rattle.kdl_lexer.specs.declared.lexer.LexFailure.TheVariants.{Memory};
 ghost use Rattle.kdl_text.specs.Chars.{starts, is_identifier_char, is_space};
 ghost use Rattle.kdl_text.specs.Numbers as numbers;
 ghost use Rattle.kdl_text.specs.Numbers.{FloatText};
-ghost use Rattle.kdl_text.specs.Internal.Here.{Ahead, Ate, Stayed, looked, sliced, first, tail};
+ghost use Rattle.kdl_text.specs.Internal.Here.{Ate, Stayed, first, tail};
 ghost use Rattle.kdl_text.specs.Internal.Reading.{Moves};
-ghost use Rattle.std.specs.Prelude.{◌≡◌, ◌++◌, ◌==◌, ◌||◌, true, false, Some, None, IfOk};
+ghost use Rattle.kdl_text.specs.Spans.{raise};
+ghost use Rattle.std.specs.Prelude.{◌≡◌, ◌==◌, ◌||◌, true, false, Some, None, IfOk};
 ghost use Rattle.std.specs.Str.{chars};
 
 use crate::token_span::TokenSpan;
 use kdl_text::chars::{Class, is_digit, is_identifier_char, is_newline_char, is_sign, is_space};
-use kdl_text::cursor::{Checkpoint, Cursor, Piece, Steps, newline};
+use kdl_text::cursor::{Checkpoint, Cursor, Steps, newline};
 use kdl_text::numbers::{Keyword, Number, NumberFailure, begins_number, read_keyword, read_number};
 use kdl_text::span::SourceSpan;
 use kdl_text::strings::{StringFailure, bare_string, quoted_string, raw_string};
@@ -490,34 +491,16 @@ impl<'a> Lexer<'a> {
         self.cursor.eat('\u{feff}')
     }
 
-    /// Counts a look at the token that was returned last. Costs a step.
+    /// Adds the steps of another count.
     ///
     /// ```
     /// let mut lexer = Lexer::new("a", Steps::new());
-    /// lexer.count_look();
-    /// let count = lexer.into_steps().count(); // 1
+    /// lexer.add_steps(steps); // the count of the lexer's steps and of those
     /// ```
-    pub fn count_look(&mut self)
-        ensures { self.new ≡ looked self.old }
+    pub fn add_steps(&mut self, steps: Steps)
+        ensures { self.new ≡ record self.old { steps = raise self.old.steps steps } }
     {
-        self.cursor.count_look();
-    }
-
-    /// Returns the text from one place to another after it. Costs a step for each of its bytes.
-    ///
-    /// ```
-    /// let mut lexer = Lexer::new("ab=1", Steps::new());
-    /// let from = lexer.checkpoint();
-    /// let token = lexer.next(alloc)?;
-    /// let to = lexer.checkpoint();
-    /// let text = lexer.slice_between(&from, &to).to_string(alloc)?; // "ab"
-    /// ```
-    pub fn slice_between(&mut self, from: &Checkpoint<'a>, to: &Checkpoint<'a>) -> Piece<'a>
-        requires { Ahead from.now to.now }
-        ensures result { from.now.rest ≡ result ++ to.now.rest }
-        ensures moved { self.new ≡ sliced result self.old }
-    {
-        self.cursor.slice_between(from, to)
+        self.cursor.add_steps(steps);
     }
 
     /// Returns the token here and advances past it, or returns `None` at the end of the text.

@@ -57,6 +57,33 @@ impl Steps {
     {
         self.count = self.count.saturating_add(by);
     }
+
+    /// Adds the steps of another count.
+    pub fn add(&mut self, other: Steps)
+        ensures { self.new ≡ raise self.old other }
+    {
+        self.raise(other.count);
+    }
+
+    /// Counts a look at a token that was read. Costs a step.
+    #[inline]
+    pub fn count_look(&mut self)
+        ensures { self.new ≡ raise self.old 1 }
+    {
+        self.raise(1);
+    }
+
+    /// Returns the text from one checkpoint to a later one. Costs a step for each of its bytes.
+    #[inline]
+    pub fn slice_between<'a>(&mut self, from: &Checkpoint<'a>, to: &Checkpoint<'a>) -> Piece<'a>
+        requires { Ahead from.now to.now }
+        ensures result { from.now.rest ≡ result ++ to.now.rest }
+        ensures counted { self.new ≡ raise self.old (bytes result) }
+    {
+        let text = cut(from.rest, to.rest);
+        self.raise(text.len() as u64);
+        Piece { text }
+    }
 }
 
 /// The second character.
@@ -385,12 +412,11 @@ impl<'a> Cursor<'a> {
         self.at
     }
 
-    /// Counts a look at a token that was read here. Costs a step.
-    #[inline]
-    pub fn count_look(&mut self)
-        ensures { self.new ≡ looked self.old }
+    /// Adds the steps of another count.
+    pub fn add_steps(&mut self, steps: Steps)
+        ensures { self.new ≡ record self.old { steps = raise self.old.steps steps } }
     {
-        self.steps.raise(1);
+        self.steps.add(steps);
     }
 
     /// Counts looks at characters of a piece. Costs as many steps.
@@ -558,9 +584,7 @@ impl<'a> Cursor<'a> {
         ensures result { from.now.rest ≡ result ++ to.now.rest }
         ensures moved { self.new ≡ sliced result self.old }
     {
-        let text = cut(from.rest, to.rest);
-        self.steps.raise(text.len() as u64);
-        Piece { text }
+        self.steps.slice_between(from, to)
     }
 
     /// Returns the characters of the segment. Costs a step for each of its bytes.
