@@ -1,12 +1,12 @@
 -- The move of a token's event is the step of the control.
-use Rattle.std.proofs.Common.{◌≡◌, Bool, true, false, List, Option, Some, None, refl, ap, ◌∙◌}
-use Rattle.kdl_lexer.specs.Tokens.{Token, space, value}
+use Rattle.std.proofs.Common.{◌≡◌, List, Option, refl}
+use Rattle.kdl_lexer.specs.Tokens.{Token, space}
 use Rattle.kdl_control.specs.Control as control
 use Rattle.kdl_control.specs.Internal.Events.{event_of}
 use Rattle.kdl_control.specs.Internal.Views.{phase_view, move_of, move_view, IsMove}
 use Rattle.kdl_control.specs.declared.control.Owner.TheVariants.{Name, Value}
 use Rattle.kdl_control.specs.declared.control.Phase.{Phase}
-use Rattle.kdl_control.specs.declared.control.Phase.TheVariants.{TypeOpen, TypeName, TypeDone, InNode}
+use Rattle.kdl_control.specs.declared.control.Phase.TheVariants.{TypeDone, InNode}
 use Rattle.kdl_control.specs.declared.control.Spot.TheVariants.{Fresh, Spaced, Later}
 use Rattle.kdl_control.specs.declared.control.Word.TheVariants.{MayBeKey, NoKey}
 use Rattle.kdl_control.specs.declared.events.Event.{Event}

@@ -7,7 +7,7 @@ use Rattle.kdl_control.specs.declared.control.Phase.{Phase}
 use Rattle.kdl_control.specs.declared.control.Phase.TheVariants.{Gap, NodeSlashdash, TypeOpen, TypeName, TypeDone, InNode, Property, EntrySlashdash, BlockSlashdash, Kept, KeptSlashdash}
 use Rattle.kdl_control.specs.declared.control.Spot.{Spot}
 use Rattle.kdl_control.specs.declared.control.Spot.TheVariants.{Fresh, Spaced, Later}
-use Rattle.kdl_control.specs.declared.control.Word.TheVariants.{MayBeKey, NoKey}
+use Rattle.kdl_control.specs.declared.control.Word.TheVariants.{MayBeKey}
 use Rattle.kdl_control.specs.declared.events.Event.{Event}
 use Rattle.kdl_control.specs.declared.events.Event.TheVariants as e
 

@@ -6,7 +6,7 @@ use Rattle.kdl_text.specs.Spans.{bytes}
 use Rattle.kdl_control.specs.Internal.Events.{event_of}
 use Rattle.kdl_control.specs.declared.control.Owner.TheVariants.{Name, Value}
 use Rattle.kdl_control.specs.declared.control.Phase.{Phase}
-use Rattle.kdl_control.specs.declared.control.Phase.TheVariants.{NodeSlashdash, TypeOpen, TypeName, TypeDone, InNode, Property, EntrySlashdash, BlockSlashdash, KeptSlashdash}
+use Rattle.kdl_control.specs.declared.control.Phase.TheVariants.{NodeSlashdash, TypeOpen, TypeName, TypeDone, InNode, EntrySlashdash, BlockSlashdash, KeptSlashdash}
 use Rattle.kdl_control.specs.declared.control.Spot.TheVariants.{Fresh, Spaced, Later}
 use Rattle.kdl_control.specs.declared.control.Word.TheVariants.{MayBeKey, NoKey}
 use Rattle.kdl_control.specs.declared.events.Event.{Event}

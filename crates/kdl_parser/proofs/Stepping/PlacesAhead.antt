@@ -3,14 +3,11 @@ use Rattle.std.proofs.Common.{◌≡◌, true, false, List, [], ◌∷◌, ◌++
 use Rattle.kdl_text.specs.Chars.{Text}
 use Rattle.kdl_lexer.specs.Tokens.{Token, space, newline, slashdash, string, value, left, right, opening, closing, equals, semicolon}
 use Rattle.kdl_grammar.specs.Internal.Machine.{Under, Kept, Slot, no_name, for_name, no_value, for_value, pending, fresh, spaced, later, Phase, gap, node_slashdash, type_open, type_name, type_done, in_node, property, entry_slashdash, block_slashdash, kept, kept_slashdash, Frame, in_block, in_dropped, in_later, State, at, origin, moved, popped, step}
-use Rattle.kdl_parser.specs.Internal.Building.{held, only, slot_of, node_now, kept_now, nodes_now, frames_view, phase_now, reading_view, state_view, EndsIn, place_placed, phase_placed, Placed}
+use Rattle.kdl_parser.specs.Internal.Building.{held, only, node_now, kept_now, nodes_now, frames_view, phase_now, reading_view, state_view, EndsIn, place_placed, phase_placed, Placed}
 use Rattle.kdl_control.specs.Control as c
 use Rattle.kdl_grammar.specs.Tree.{Node, Nodes}
 use Rattle.kdl_parser.specs.Internal.Dropping.{Reading, nothing, node, part, reading_state}
 use Rattle.kdl_parser.specs.declared.builder.Builder.{Builder}
-use Rattle.kdl_control.specs.declared.control.Owner.{Owner}
-use Rattle.kdl_control.specs.declared.control.Owner.TheVariants.{Name, Value}
-use Rattle.kdl_entry.specs.Internal.Items as items
 use Rattle.kdl_parser.proofs.Stepping.Held.{reached}
 
 pub then_ends : {t s r : Text} → EndsIn t s → EndsIn s r → EndsIn t r
@@ -143,11 +140,6 @@ placed_step whole (at p l fs from) st' k s r e a b =
     let m = reached (step whole (at p l fs from) k s r) st' e in
     let x : Placed m.0 r = subst (λ (z : Option State). AllPlaced z r) m.1 (placed_of p k whole l fs from s r a b) in
     of_held st' r (subst (λ (z : State). Placed z r) (sym m.2) (to_held m.0 r x))
-
--- the place in a type, and after the `=` of a property
-pub item_placed : (o : Owner) (u : Under) (it : items.Item) (a s : Text) → place_placed (slot_of o u it) a s → EndsIn a s
-item_placed Name u it a s x = x
-item_placed Value u it a s x = x
 
 -- the place where the builder is begins before s
 reading_from : (u : Under) (x : Kept) (p : Phase) (l : Option Nodes) (fs : List Frame) (from s : Text) (d : Reading) → Placed (reading_state u x l fs from (at p l fs from) d) s → EndsIn from s

@@ -8,7 +8,6 @@ use Rattle.kdl_control.specs.Internal.Views.{owner_view}
 use Rattle.kdl_control.specs.declared.control.Owner.{Owner}
 use Rattle.kdl_control.specs.declared.control.Phase.{Phase}
 use Rattle.kdl_control.specs.declared.control.Phase.TheVariants.{NodeSlashdash, EntrySlashdash as PhaseEntrySlashdash, BlockSlashdash, KeptSlashdash}
-use Rattle.kdl_control.specs.declared.control.Word.TheVariants.{MayBeKey}
 use Rattle.kdl_control.specs.declared.events.Event.{Event}
 use Rattle.kdl_control.specs.declared.events.Event.TheVariants.{Skip, Name, TypedName, NameType, ValueType, KeyedType, TypeName, TypeEnd, Word, Argument, TypedValue, KeyedValue, Equals, EntrySlashdash, NodeEnd, KeptEnd, Opening, GapClosing, NodeClosing, KeptClosing}
 use Rattle.kdl_entry.specs.Internal.Building.{key_view, item_view}
@@ -63,7 +62,7 @@ mark_step tree b NameType s r = Some (name_opened tree b s r)
 mark_step tree b ValueType s r = Some (value_opened tree b s r)
 mark_step tree b KeyedType s r = Some (keyed_opened tree b s r)
 mark_step tree b (TypeEnd o) s r = Some (type_ended tree b o s r)
-mark_step tree b Equals s r = property_opened tree b MayBeKey s r
+mark_step tree b Equals s r = property_opened tree b s r
 mark_step tree b EntrySlashdash s r = Some (in_phase tree b (machine.entry_slashdash (Some (node_now b))))
 mark_step tree b NodeEnd s r = Some (node_ended tree b s r)
 mark_step tree b KeptEnd s r = Some (kept_ended tree b s r)

@@ -3,7 +3,7 @@
 use Rattle.std.specs.Prelude.{◌≡◌, ℕ, true, false, [], ◌∷◌, Option, Some, None, Result}
 use Rattle.kdl_text.specs.Chars.{Text}
 use Rattle.kdl_text.specs.Internal.Here.{Here, Position}
-use Rattle.kdl_control.specs.declared.control.Word.{Word}
+use Rattle.kdl_control.specs.declared.control.Word.TheVariants.{MayBeKey}
 use Rattle.kdl_value.specs.Data.{Value}
 use Rattle.kdl_value.specs.Tree.{text_of}
 use Rattle.kdl_entry.specs.Internal.Building.{item_view, Stays}
@@ -94,11 +94,11 @@ type_now b s = Some (items.type_at (item_view b.item) s.rest)
 abbrev pub key_now : {N : Type 0} → Builder N → Position → Option KeyParts
 key_now b s = Some (items.key_at (item_view b.item) s.rest)
 
--- after the `=` that follows a string, if it may be a key
-abbrev pub property_opened : {N : Type 0} → (N → Node) → Builder N → Word → Position → Position → Option State
-property_opened tree b w s r =
+-- after the `=` that follows a string that may be a key
+abbrev pub property_opened : {N : Type 0} → (N → Node) → Builder N → Position → Position → Option State
+property_opened tree b s r =
     machine.stay (nodes_now tree b) (frames_view tree b) b.from.rest
-    (machine.value_from (machine.fresh (pending_now w b.whole.rest b.from.rest b.waiting (under_view b.under))) s.rest r.rest)
+    (machine.value_from (machine.fresh (pending_now MayBeKey b.whole.rest b.from.rest b.waiting (under_view b.under))) s.rest r.rest)
 
 -- after a string that may be a key
 abbrev pub worded : {N : Type 0} → (N → Node) → Builder N → Text → Position → Position → State

@@ -1,6 +1,5 @@
 //! What the builder does at a token: nodes begin and end, blocks open and close, entries are added.
 
-ghost use Rattle.kdl_control.specs.declared.control.Word.TheVariants.{MayBeKey};
 ghost use Rattle.kdl_entry.specs.Internal.Building.{key_view, type_view};
 ghost use Rattle.kdl_parser.specs.Internal.Building.{in_phase, node_now, state_view, under_view, Does};
 ghost use Rattle.kdl_parser.specs.Internal.Counted.{unsliced};
@@ -272,7 +271,7 @@ impl<'a, N: ParsedNode> Builder<'a, N> {
     ) -> Result<(), LexFailure>
         requires live { self.old.dropped ≡ Nothing }
         requires from { Ahead self.old.from at.now.start }
-        ensures { Steps N.tree (property_opened N.tree self.old MayBeKey at.now.start at.now.end)
+        ensures { Steps N.tree (property_opened N.tree self.old at.now.start at.now.end)
             at.now.start (bytes self.old.from.rest) self.old result self.new lexer.old lexer.new }
     {
         let Some(word) = self.waiting.take() else {
