@@ -15,7 +15,7 @@ ghost use Rattle.kdl_diagnostics.specs.Internal.Noted.{
 ghost use Rattle.kdl_diagnostics.specs.Internal.Outsets.{BeginsAt, Enters, Grows, HasFault, IsReady, IsReadyAt, IsSingle, IsStopped, Lacking, NotesAlone, Untold};
 ghost use Rattle.kdl_diagnostics.specs.Internal.Reading.{Most, Stands, Turning, WentPast};
 ghost use Rattle.kdl_diagnostics.specs.declared.machine.Place.TheVariants.{FaultyType};
-ghost use Rattle.kdl_diagnostics.specs.declared.pieces.PieceKind.TheVariants.{End};
+ghost use Rattle.kdl_diagnostics.specs.declared.lexemes.LexemeKind.TheVariants.{End};
 ghost use Rattle.kdl_text.specs.Internal.Reading.{Moves};
 ghost use Rattle.kdl_text.specs.Chars.{Text};
 ghost use Rattle.kdl_text.specs.Spans.{raise};
@@ -25,10 +25,10 @@ use crate::ends::{is_value_end, value_end};
 use crate::esclines::{Candidate, esclines};
 use crate::front::Front;
 use crate::kind::Kind;
+use crate::lexemes::{Lexeme, LexemeKind, StringRole, next_lexeme};
 use crate::machine::{
-    Move, Place, behind_misfit, in_node, is_before_entry, is_dropping, is_due, misfit, token_kind,
+    Move, Place, after_misfit, in_node, is_before_entry, is_dropping, is_due, misfit, token_kind,
 };
-use crate::pieces::{Piece, PieceKind, StringRole, next_piece};
 use crate::text_control::Outset;
 use crate::whole::Whole;
 use kdl_control::{Control, Phase};
@@ -60,7 +60,7 @@ pub(crate) struct Reader<'a> {
     /// The start of the text.
     whole: Checkpoint<'a>,
     cursor: Cursor<'a>,
-    /// The phase of the grammar. Spaces count as read after each piece.
+    /// The phase of the grammar. Spaces count as read after each lexeme.
     control: Control,
     place: Place,
     blocks: Vec<Block>,
@@ -72,7 +72,7 @@ pub(crate) struct Reader<'a> {
     has_item: bool,
     /// Whether an entry was slashdashed.
     has_dropped: bool,
-    /// Whether the last piece that was read is a space.
+    /// Whether the last lexeme that was read is a space.
     is_apart: bool,
     /// Whether the text ended in a string or a comment.
     is_cut: bool,
@@ -83,23 +83,23 @@ pub(crate) struct Reader<'a> {
     candidates: Vec<Candidate>,
 }
 
-/// Whether the piece begins a node or an entry.
-fn begins_item(kind: PieceKind) -> bool {
+/// Whether the lexeme begins a node or an entry.
+fn begins_item(kind: LexemeKind) -> bool {
     matches!(
         kind,
-        PieceKind::String | PieceKind::Value | PieceKind::Left | PieceKind::Opening
+        LexemeKind::String | LexemeKind::Value | LexemeKind::Left | LexemeKind::Opening
     )
 }
 
-/// Whether the piece ends a node, an entry or a block, or begins a block or what a `/-` drops.
-fn goes_on(kind: PieceKind) -> bool {
+/// Whether the lexeme ends a node, an entry or a block, or begins a block or what a `/-` drops.
+fn goes_on(kind: LexemeKind) -> bool {
     matches!(
         kind,
-        PieceKind::Newline
-            | PieceKind::Semicolon
-            | PieceKind::Closing
-            | PieceKind::Opening
-            | PieceKind::Slashdash
+        LexemeKind::Newline
+            | LexemeKind::Semicolon
+            | LexemeKind::Closing
+            | LexemeKind::Opening
+            | LexemeKind::Slashdash
     )
 }
 
@@ -206,20 +206,20 @@ impl<'a> Reader<'a> {
         Ok(())
     }
 
-    /// Notes a candidate if the piece has one: the next fault that is noted, of this kind and from this place on, ends
+    /// Notes a candidate if the lexeme has one: the next fault that is noted, of this kind and from this place on, ends
     /// at the backslash if an escline begins there.
     fn note_candidate(
         &mut self,
         kind: Kind,
         from: &Checkpoint<'a>,
-        piece: &Piece<'a>,
+        lexeme: &Lexeme<'a>,
     ) -> Result<(), AllocError>
-        ensures keeps { KeepsUpTo piece.now from.now from.now self.old self.new }
+        ensures keeps { KeepsUpTo lexeme.now from.now from.now self.old self.new }
         ensures grows { Grows self.old self.new }
         ensures cursor { self.new.cursor ≡ self.old.cursor }
         ensures same { self.new.is_over ≡ self.old.is_over }
     {
-        if let Some(backslash) = &piece.backslash {
+        if let Some(backslash) = &lexeme.backslash {
             let span = self.whole.span_between(from, backslash);
             self.candidates.push(Candidate {
                 at: backslash.at(),
@@ -230,58 +230,58 @@ impl<'a> Reader<'a> {
         Ok(())
     }
 
-    /// Notes a fault from one place to another after it, or at the first character of the piece if they are the same
+    /// Notes a fault from one place to another after it, or at the first character of the lexeme if they are the same
     /// place.
     fn note_up_to(
         &mut self,
         kind: Kind,
         from: &Checkpoint<'a>,
         to: &Checkpoint<'a>,
-        piece: &Piece<'a>,
+        lexeme: &Lexeme<'a>,
     ) -> Result<(), AllocError>
-        ensures keeps { KeepsUpTo piece.now from.now to.now self.old self.new }
+        ensures keeps { KeepsUpTo lexeme.now from.now to.now self.old self.new }
         ensures grows { Grows self.old self.new }
         ensures noted { IfOk result (λ _. HasFault self.new) }
         ensures cursor { self.new.cursor ≡ self.old.cursor }
         ensures same { self.new.is_over ≡ self.old.is_over }
     {
         if from.at() == to.at() {
-            self.note(kind, &piece.start, &piece.next)
+            self.note(kind, &lexeme.start, &lexeme.next)
         } else {
-            self.note_candidate(kind, from, piece)?;
+            self.note_candidate(kind, from, lexeme)?;
             self.note(kind, from, to)
         }
     }
 
-    /// The end of a fault at the piece: after a `(` the next value end, and else the piece's own end.
-    fn end_of(&mut self, piece: &Piece<'a>) -> Checkpoint<'a>
-        ensures end { IsPlaceAt self.old piece.now result }
+    /// The end of a fault at the lexeme: after a `(` the next value end, and else the lexeme's own end.
+    fn end_of(&mut self, lexeme: &Lexeme<'a>) -> Checkpoint<'a>
+        ensures end { IsPlaceAt self.old lexeme.now result }
         ensures keeps { Keeps self.old self.new }
         ensures grows { Grows self.old self.new }
         ensures moves { Moves self.old.cursor self.new.cursor }
         ensures most { Most 24 24 self.old.cursor self.new.cursor }
         ensures same { self.new.is_over ≡ self.old.is_over }
     {
-        match piece.kind {
-            PieceKind::Left => value_end(&mut self.cursor).place,
-            _ => piece.end.copied(),
+        match lexeme.kind {
+            LexemeKind::Left => value_end(&mut self.cursor).place,
+            _ => lexeme.end.copied(),
         }
     }
 
-    /// The start of a fault of the kind at the piece: in a type the place after its `(`, and else the piece's own
+    /// The start of a fault of the kind at the lexeme: in a type the place after its `(`, and else the lexeme's own
     /// start.
-    fn start_of(&self, kind: Kind, piece: &Piece<'a>) -> Checkpoint<'a>
-        ensures { IsPlaceAt self.now piece.now result }
+    fn start_of(&self, kind: Kind, lexeme: &Lexeme<'a>) -> Checkpoint<'a>
+        ensures { IsPlaceAt self.now lexeme.now result }
     {
         match kind {
             Kind::Type => self.left.copied(),
-            _ => piece.start.copied(),
+            _ => lexeme.start.copied(),
         }
     }
 
-    /// Notes that the piece does not fit, by a fault of the kind.
-    fn note_misfit(&mut self, kind: Kind, piece: &Piece<'a>) -> Result<(), AllocError>
-        ensures keeps { KeepsAt piece.now self.old self.new }
+    /// Notes that the lexeme does not fit, by a fault of the kind.
+    fn note_misfit(&mut self, kind: Kind, lexeme: &Lexeme<'a>) -> Result<(), AllocError>
+        ensures keeps { KeepsAt lexeme.now self.old self.new }
         ensures grows { Grows self.old self.new }
         ensures noted { IfOk result (λ _. HasFault self.new) }
         ensures moves { Moves self.old.cursor self.new.cursor }
@@ -289,29 +289,29 @@ impl<'a> Reader<'a> {
         ensures same { self.new.is_over ≡ self.old.is_over }
     {
         if let Kind::Misplaced | Kind::Nameless = kind {
-            return self.note(kind, &piece.start, &piece.next);
+            return self.note(kind, &lexeme.start, &lexeme.next);
         }
-        let end = self.end_of(piece);
-        let from = self.start_of(kind, piece);
-        self.note_up_to(kind, &from, &end, piece)
+        let end = self.end_of(lexeme);
+        let from = self.start_of(kind, lexeme);
+        self.note_up_to(kind, &from, &end, lexeme)
     }
 
-    /// Notes that the piece does not fit: where a name is expected, a `{` opens a block without one, and a `}` outside
+    /// Notes that the lexeme does not fit: where a name is expected, a `{` opens a block without one, and a `}` outside
     /// blocks is misplaced. In the text of an entry, and after the only node of a text, reading ends.
-    fn misfit(&mut self, piece: &Piece<'a>) -> Result<(), AllocError>
-        ensures keeps { KeepsAt piece.now self.old self.new }
+    fn misfit(&mut self, lexeme: &Lexeme<'a>) -> Result<(), AllocError>
+        ensures keeps { KeepsAt lexeme.now self.old self.new }
         ensures grows { Grows self.old self.new }
         ensures noted { IfOk result (λ _. HasFault self.new) }
         ensures moves { Moves self.old.cursor self.new.cursor }
         ensures most { Most 24 24 self.old.cursor self.new.cursor }
         ensures over { self.old.is_over ≡ true → self.new.is_over ≡ true }
     {
-        let kind = match (misfit(self.control.phase(), self.is_property), piece.kind) {
-            (Kind::Name, PieceKind::Opening) => Kind::Nameless,
-            (Kind::Name, PieceKind::Closing) if self.blocks.is_empty() => Kind::Misplaced,
+        let kind = match (misfit(self.control.phase(), self.is_property), lexeme.kind) {
+            (Kind::Name, LexemeKind::Opening) => Kind::Nameless,
+            (Kind::Name, LexemeKind::Closing) if self.blocks.is_empty() => Kind::Misplaced,
             (kind, _) => kind,
         };
-        self.note_misfit(kind, piece)?;
+        self.note_misfit(kind, lexeme)?;
         let is_last = match (self.text, self.place) {
             (Whole::Entry, _) => matches!(kind, Kind::Misplaced),
             (_, Place::Over) => true,
@@ -337,12 +337,12 @@ impl<'a> Reader<'a> {
         matches!(self.place, Place::Control) && is_before_entry(self.control.phase())
     }
 
-    /// What the piece does in the text of an entry, where a space follows each slashdashed entry.
-    fn move_in_entry(&self, kind: PieceKind) -> Move {
+    /// What the lexeme does in the text of an entry, where a space follows each slashdashed entry.
+    fn move_in_entry(&self, kind: LexemeKind) -> Move {
         match kind {
-            PieceKind::Opening | PieceKind::Closing | PieceKind::Semicolon => Move::Refuse,
-            PieceKind::Slashdash if self.has_dropped && !self.is_apart => Move::Refuse,
-            PieceKind::Newline if self.is_between_entries() => {
+            LexemeKind::Opening | LexemeKind::Closing | LexemeKind::Semicolon => Move::Refuse,
+            LexemeKind::Slashdash if self.has_dropped && !self.is_apart => Move::Refuse,
+            LexemeKind::Newline if self.is_between_entries() => {
                 if self.has_item {
                     Move::To(Place::Over)
                 } else if self.has_dropped {
@@ -351,22 +351,22 @@ impl<'a> Reader<'a> {
                     Move::To(Place::Control)
                 }
             }
-            PieceKind::Equals => self.place.takes(kind),
+            LexemeKind::Equals => self.place.takes(kind),
             _ if self.has_item && self.is_before_entry() => Move::Refuse,
             _ => self.place.takes(kind),
         }
     }
 
-    /// What the piece does. A faulty string is not the name of a type.
-    fn move_of(&self, piece: &Piece<'a>) -> Move {
-        if piece.fault.is_some()
+    /// What the lexeme does. A faulty string is not the name of a type.
+    fn move_of(&self, lexeme: &Lexeme<'a>) -> Move {
+        if lexeme.fault.is_some()
             && let StringRole::TypeName = self.string_role()
         {
             return Move::Refuse;
         }
         match self.text {
-            Whole::Entry => self.move_in_entry(piece.kind),
-            _ => self.place.takes(piece.kind),
+            Whole::Entry => self.move_in_entry(lexeme.kind),
+            _ => self.place.takes(lexeme.kind),
         }
     }
 
@@ -375,8 +375,8 @@ impl<'a> Reader<'a> {
         self.place.string_role(self.control.phase())
     }
 
-    /// Notes that the only node or entry of a text, or a slashdashed entry, begins with the piece.
-    fn begin(&mut self, kind: PieceKind)
+    /// Notes that the only node or entry of a text, or a slashdashed entry, begins with the lexeme.
+    fn begin(&mut self, kind: LexemeKind)
         ensures keeps { Keeps self.old self.new }
         ensures grows { Grows self.old self.new }
         ensures cursor { self.new.cursor ≡ self.old.cursor }
@@ -420,28 +420,28 @@ impl<'a> Reader<'a> {
         }
     }
 
-    /// Opens a block with the piece.
-    fn open_block(&mut self, piece: &Piece<'a>, is_told: bool) -> Result<(), AllocError>
-        ensures keeps { KeepsAt piece.now self.old self.new }
+    /// Opens a block with the lexeme.
+    fn open_block(&mut self, lexeme: &Lexeme<'a>, is_told: bool) -> Result<(), AllocError>
+        ensures keeps { KeepsAt lexeme.now self.old self.new }
         ensures grows { Grows self.old self.new }
         ensures cursor { self.new.cursor ≡ self.old.cursor }
         ensures same { self.new.is_over ≡ self.old.is_over }
     {
-        let span = self.whole.span_between(&piece.start, &piece.next);
+        let span = self.whole.span_between(&lexeme.start, &lexeme.next);
         self.blocks.push(Block { span, is_told })?;
         Ok(())
     }
 
-    /// Notes the block that the piece opens or closes.
-    fn note_block(&mut self, piece: &Piece<'a>, is_told: bool) -> Result<(), AllocError>
-        ensures keeps { KeepsAt piece.now self.old self.new }
+    /// Notes the block that the lexeme opens or closes.
+    fn note_block(&mut self, lexeme: &Lexeme<'a>, is_told: bool) -> Result<(), AllocError>
+        ensures keeps { KeepsAt lexeme.now self.old self.new }
         ensures grows { Grows self.old self.new }
         ensures cursor { self.new.cursor ≡ self.old.cursor }
         ensures same { self.new.is_over ≡ self.old.is_over }
     {
-        match piece.kind {
-            PieceKind::Opening => self.open_block(piece, is_told),
-            PieceKind::Closing => {
+        match lexeme.kind {
+            LexemeKind::Opening => self.open_block(lexeme, is_told),
+            LexemeKind::Closing => {
                 let _ = self.blocks.pop();
                 Ok(())
             }
@@ -449,14 +449,14 @@ impl<'a> Reader<'a> {
         }
     }
 
-    /// Takes the token of the piece if it may come here, and returns whether it may.
-    fn take_token(&mut self, piece: &Piece<'a>, is_told: bool) -> Result<bool, AllocError>
-        ensures keeps { KeepsAt piece.now self.old self.new }
+    /// Takes the token of the lexeme if it may come here, and returns whether it may.
+    fn take_token(&mut self, lexeme: &Lexeme<'a>, is_told: bool) -> Result<bool, AllocError>
+        ensures keeps { KeepsAt lexeme.now self.old self.new }
         ensures grows { Grows self.old self.new }
         ensures cursor { self.new.cursor ≡ self.old.cursor }
         ensures same { self.new.is_over ≡ self.old.is_over }
     {
-        let Some(kind) = token_kind(self.alloc, piece.kind) else {
+        let Some(kind) = token_kind(self.alloc, lexeme.kind) else {
             return Ok(false);
         };
         let phase = self.control.phase();
@@ -465,30 +465,30 @@ impl<'a> Reader<'a> {
         }
         let _ = self.control.take(&TokenKind::Space)?;
         self.place = Place::Control;
-        self.is_property = match piece.kind {
-            PieceKind::Left => matches!(phase, Phase::Property),
+        self.is_property = match lexeme.kind {
+            LexemeKind::Left => matches!(phase, Phase::Property),
             _ => self.is_property,
         };
-        self.note_block(piece, is_told)?;
+        self.note_block(lexeme, is_told)?;
         self.end_node();
         Ok(true)
     }
 
     /// Notes the place after a `(`.
-    fn note_left(&mut self, piece: &Piece<'a>)
-        ensures keeps { KeepsAt piece.now self.old self.new }
+    fn note_left(&mut self, lexeme: &Lexeme<'a>)
+        ensures keeps { KeepsAt lexeme.now self.old self.new }
         ensures grows { Grows self.old self.new }
         ensures cursor { self.new.cursor ≡ self.old.cursor }
         ensures same { self.new.is_over ≡ self.old.is_over }
     {
-        if let PieceKind::Left = piece.kind {
-            self.left = piece.next.copied();
+        if let LexemeKind::Left = lexeme.kind {
+            self.left = lexeme.next.copied();
         }
     }
 
-    /// Does what the move says if the piece fits, and returns whether it fits.
-    fn apply(&mut self, piece: &Piece<'a>, step: Move, is_told: bool) -> Result<bool, AllocError>
-        ensures keeps { KeepsAt piece.now self.old self.new }
+    /// Does what the move says if the lexeme fits, and returns whether it fits.
+    fn apply(&mut self, lexeme: &Lexeme<'a>, step: Move, is_told: bool) -> Result<bool, AllocError>
+        ensures keeps { KeepsAt lexeme.now self.old self.new }
         ensures grows { Grows self.old self.new }
         ensures cursor { self.new.cursor ≡ self.old.cursor }
         ensures same { self.new.is_over ≡ self.old.is_over }
@@ -498,39 +498,39 @@ impl<'a> Reader<'a> {
                 self.go_to(place);
                 Ok(true)
             }
-            Move::Take => self.take_token(piece, is_told),
+            Move::Take => self.take_token(lexeme, is_told),
             Move::Refuse => Ok(false),
         }
     }
 
-    /// Notes the own fault of a piece that fits at the place, except for a string in a type that is faulty already.
-    fn fit(&mut self, piece: &Piece<'a>, place: Place) -> Result<(), AllocError>
-        ensures keeps { KeepsAt piece.now self.old self.new }
+    /// Notes the own fault of a lexeme that fits at the place, except for a string in a type that is faulty already.
+    fn fit(&mut self, lexeme: &Lexeme<'a>, place: Place) -> Result<(), AllocError>
+        ensures keeps { KeepsAt lexeme.now self.old self.new }
         ensures grows { Grows self.old self.new }
-        ensures noted { IfOk result (λ _. (place ≡ FaultyType → ⊥) → IsSome piece.now.fault → HasFault self.new) }
+        ensures noted { IfOk result (λ _. (place ≡ FaultyType → ⊥) → IsSome lexeme.now.fault → HasFault self.new) }
         ensures cursor { self.new.cursor ≡ self.old.cursor }
         ensures same { self.new.is_over ≡ self.old.is_over }
     {
-        self.note_left(piece);
+        self.note_left(lexeme);
         if let Place::FaultyType = place {
             return Ok(());
         }
-        match piece.fault {
-            Some(kind) => self.note_up_to(kind, &piece.start, &piece.end, piece),
+        match lexeme.fault {
+            Some(kind) => self.note_up_to(kind, &lexeme.start, &lexeme.end, lexeme),
             None => Ok(()),
         }
     }
 
-    /// After a piece that does not fit, which ends or begins a node, a block or what a `/-` drops: it does so. A `}`
+    /// After a lexeme that does not fit, which ends or begins a node, a block or what a `/-` drops: it does so. A `}`
     /// outside blocks ends a node.
-    fn go_on(&mut self, piece: &Piece<'a>) -> Result<(), AllocError>
-        ensures keeps { KeepsAt piece.now self.old self.new }
+    fn go_on(&mut self, lexeme: &Lexeme<'a>) -> Result<(), AllocError>
+        ensures keeps { KeepsAt lexeme.now self.old self.new }
         ensures grows { Grows self.old self.new }
         ensures cursor { self.new.cursor ≡ self.old.cursor }
         ensures same { self.new.is_over ≡ self.old.is_over }
     {
-        let step = self.move_of(piece);
-        if self.apply(piece, step, true)? {
+        let step = self.move_of(lexeme);
+        if self.apply(lexeme, step, true)? {
             return Ok(());
         }
         match step {
@@ -544,24 +544,24 @@ impl<'a> Reader<'a> {
         }
     }
 
-    /// Takes a piece that does not fit, and notes that. What was expected counts as read; then the piece ends or begins
-    /// a node, a block or what a `/-` drops, if it is such a piece.
-    fn mend(&mut self, piece: &Piece<'a>) -> Result<(), AllocError>
-        ensures keeps { KeepsAt piece.now self.old self.new }
+    /// Takes a lexeme that does not fit, and notes that. What was expected counts as read; then the lexeme ends or begins
+    /// a node, a block or what a `/-` drops, if it is such a lexeme.
+    fn mend(&mut self, lexeme: &Lexeme<'a>) -> Result<(), AllocError>
+        ensures keeps { KeepsAt lexeme.now self.old self.new }
         ensures grows { Grows self.old self.new }
         ensures noted { IfOk result (λ _. HasFault self.new) }
         ensures moves { Moves self.old.cursor self.new.cursor }
         ensures most { Most 24 24 self.old.cursor self.new.cursor }
         ensures over { self.old.is_over ≡ true → self.new.is_over ≡ true }
     {
-        self.misfit(piece)?;
-        let (place, phase) = behind_misfit(self.control.phase(), piece.kind);
+        self.misfit(lexeme)?;
+        let (place, phase) = after_misfit(self.control.phase(), lexeme.kind);
         self.place = place;
         self.control.go_to(phase);
         self.is_property = false;
-        self.note_left(piece);
-        if goes_on(piece.kind) && !self.is_over {
-            return self.go_on(piece);
+        self.note_left(lexeme);
+        if goes_on(lexeme.kind) && !self.is_over {
+            return self.go_on(lexeme);
         }
         Ok(())
     }
@@ -586,8 +586,8 @@ impl<'a> Reader<'a> {
     }
 
     /// Takes the end of the text: what is expected is missing, and open blocks are unclosed, the innermost first.
-    fn end(&mut self, piece: &Piece<'a>) -> Result<(), AllocError>
-        ensures keeps { KeepsAt piece.now self.old self.new }
+    fn end(&mut self, lexeme: &Lexeme<'a>) -> Result<(), AllocError>
+        ensures keeps { KeepsAt lexeme.now self.old self.new }
         ensures grows { Grows self.old self.new }
         ensures noted { IfOk result (λ _. Lacking self.old → HasFault self.new) }
         ensures moves { Moves self.old.cursor self.new.cursor }
@@ -599,46 +599,46 @@ impl<'a> Reader<'a> {
             return Ok(());
         }
         if is_due(self.control.phase()) {
-            return self.misfit(piece);
+            return self.misfit(lexeme);
         }
         if let Some(kind) = self.missing() {
-            return self.note(kind, &piece.start, &piece.next);
+            return self.note(kind, &lexeme.start, &lexeme.next);
         }
         self.note_blocks()
     }
 
-    /// Takes a piece of the grammar, whether it fits or not.
-    fn take_part(&mut self, piece: &Piece<'a>) -> Result<(), AllocError>
-        ensures keeps { KeepsAt piece.now self.old self.new }
+    /// Takes a lexeme of the grammar, whether it fits or not.
+    fn take_part(&mut self, lexeme: &Lexeme<'a>) -> Result<(), AllocError>
+        ensures keeps { KeepsAt lexeme.now self.old self.new }
         ensures grows { Grows self.old self.new }
-        ensures noted { IfOk result (λ _. (self.old.place ≡ FaultyType → ⊥) → IsSome piece.now.fault → HasFault self.new) }
+        ensures noted { IfOk result (λ _. (self.old.place ≡ FaultyType → ⊥) → IsSome lexeme.now.fault → HasFault self.new) }
         ensures moves { Moves self.old.cursor self.new.cursor }
         ensures most { Most 24 24 self.old.cursor self.new.cursor }
     {
-        let step = self.move_of(piece);
-        self.begin(piece.kind);
+        let step = self.move_of(lexeme);
+        self.begin(lexeme.kind);
         let place = self.place;
-        if self.apply(piece, step, false)? {
-            self.fit(piece, place)
+        if self.apply(lexeme, step, false)? {
+            self.fit(lexeme, place)
         } else {
-            self.mend(piece)
+            self.mend(lexeme)
         }
     }
 
-    /// Takes a piece, without what follows it.
-    fn take_alone(&mut self, piece: &Piece<'a>) -> Result<(), AllocError>
-        ensures keeps { KeepsAt piece.now self.old self.new }
+    /// Takes a lexeme, without what follows it.
+    fn take_alone(&mut self, lexeme: &Lexeme<'a>) -> Result<(), AllocError>
+        ensures keeps { KeepsAt lexeme.now self.old self.new }
         ensures grows { Grows self.old self.new }
-        ensures noted { IfOk result (λ _. IsReadyAt piece.now self.old → NotesAlone piece.now.kind (HasFault self.new)) }
+        ensures noted { IfOk result (λ _. IsReadyAt lexeme.now self.old → NotesAlone lexeme.now.kind (HasFault self.new)) }
         ensures moves { Moves self.old.cursor self.new.cursor }
         ensures most { Most 24 24 self.old.cursor self.new.cursor }
-        ensures over { piece.now.kind ≡ End → self.new.is_over ≡ true }
+        ensures over { lexeme.now.kind ≡ End → self.new.is_over ≡ true }
     {
-        match piece.kind {
-            PieceKind::Space => Ok(()),
-            PieceKind::Comment => self.note(Kind::Comment, &piece.start, &piece.end),
-            PieceKind::End => self.end(piece),
-            _ => self.take_part(piece),
+        match lexeme.kind {
+            LexemeKind::Space => Ok(()),
+            LexemeKind::Comment => self.note(Kind::Comment, &lexeme.start, &lexeme.end),
+            LexemeKind::End => self.end(lexeme),
+            _ => self.take_part(lexeme),
         }
     }
 
@@ -657,28 +657,28 @@ impl<'a> Reader<'a> {
         }
     }
 
-    /// Takes a piece of the text.
-    fn take(&mut self, piece: &Piece<'a>) -> Result<(), AllocError>
-        ensures keeps { KeepsAt piece.now self.old self.new }
+    /// Takes a lexeme of the text.
+    fn take(&mut self, lexeme: &Lexeme<'a>) -> Result<(), AllocError>
+        ensures keeps { KeepsAt lexeme.now self.old self.new }
         ensures grows { Grows self.old self.new }
         ensures moves { Moves self.old.cursor self.new.cursor }
         ensures most { Most 24 24 self.old.cursor self.new.cursor }
-        ensures over { piece.now.kind ≡ End → self.new.is_over ≡ true }
+        ensures over { lexeme.now.kind ≡ End → self.new.is_over ≡ true }
     {
-        self.take_alone(piece)?;
-        self.behind(piece)
+        self.take_alone(lexeme)?;
+        self.take_after(lexeme)
     }
 
-    /// Takes what follows the piece: an unclosed block comment, in what begins as an escline.
-    fn behind(&mut self, piece: &Piece<'a>) -> Result<(), AllocError>
-        ensures keeps { KeepsAt piece.now self.old self.new }
+    /// Takes what follows the lexeme: an unclosed block comment, in what begins as an escline.
+    fn take_after(&mut self, lexeme: &Lexeme<'a>) -> Result<(), AllocError>
+        ensures keeps { KeepsAt lexeme.now self.old self.new }
         ensures grows { Grows self.old self.new }
         ensures cursor { self.new.cursor ≡ self.old.cursor }
         ensures same { self.new.is_over ≡ self.old.is_over }
     {
-        self.is_apart = matches!(piece.kind, PieceKind::Space);
-        self.is_cut = self.is_cut || piece.cut || piece.comment.is_some();
-        match &piece.comment {
+        self.is_apart = matches!(lexeme.kind, LexemeKind::Space);
+        self.is_cut = self.is_cut || lexeme.cut || lexeme.comment.is_some();
+        match &lexeme.comment {
             Some(comment) => self.note(Kind::Comment, &comment.start, &comment.end),
             None => Ok(()),
         }
@@ -705,61 +705,61 @@ impl<'a> Reader<'a> {
         ensures bounded { Bounded 124 self.old.cursor self.new.cursor }
     {
         let start = self.cursor.checkpoint();
-        let piece = next_piece(self.alloc, &mut self.cursor, StringRole::Plain)?;
-        let (PieceKind::String, fault) = (piece.kind, piece.fault) else {
+        let lexeme = next_lexeme(self.alloc, &mut self.cursor, StringRole::Plain)?;
+        let (LexemeKind::String, fault) = (lexeme.kind, lexeme.fault) else {
             return self.note_character(&start);
         };
         if let Some(kind) = fault {
-            return self.note_up_to(kind, &piece.start, &piece.end, &piece);
+            return self.note_up_to(kind, &lexeme.start, &lexeme.end, &lexeme);
         }
-        self.note_character(&piece.end)
+        self.note_character(&lexeme.end)
     }
 
-    /// Takes a piece that has a fault, or else does not fit, without what follows it.
-    fn refuse(&mut self, piece: &Piece<'a>) -> Result<(), AllocError>
-        ensures keeps { KeepsAt piece.now self.old self.new }
+    /// Takes a lexeme that has a fault, or else does not fit, without what follows it.
+    fn refuse(&mut self, lexeme: &Lexeme<'a>) -> Result<(), AllocError>
+        ensures keeps { KeepsAt lexeme.now self.old self.new }
         ensures grows { Grows self.old self.new }
-        ensures noted { IfOk result (λ _. IsReadyAt piece.now self.old → HasFault self.new) }
+        ensures noted { IfOk result (λ _. IsReadyAt lexeme.now self.old → HasFault self.new) }
         ensures moves { Moves self.old.cursor self.new.cursor }
         ensures most { Most 24 24 self.old.cursor self.new.cursor }
-        ensures over { piece.now.kind ≡ End → self.new.is_over ≡ true }
+        ensures over { lexeme.now.kind ≡ End → self.new.is_over ≡ true }
     {
-        match piece.kind {
-            PieceKind::Comment | PieceKind::End => self.take_alone(piece),
-            _ if piece.fault.is_some() => self.take_part(piece),
+        match lexeme.kind {
+            LexemeKind::Comment | LexemeKind::End => self.take_alone(lexeme),
+            _ if lexeme.fault.is_some() => self.take_part(lexeme),
             _ => {
-                self.begin(piece.kind);
-                self.mend(piece)
+                self.begin(lexeme.kind);
+                self.mend(lexeme)
             }
         }
     }
 
-    /// Takes a piece that has a fault, or else does not fit.
-    fn take_refused(&mut self, piece: &Piece<'a>) -> Result<(), AllocError>
-        ensures keeps { KeepsAt piece.now self.old self.new }
+    /// Takes a lexeme that has a fault, or else does not fit.
+    fn take_refused(&mut self, lexeme: &Lexeme<'a>) -> Result<(), AllocError>
+        ensures keeps { KeepsAt lexeme.now self.old self.new }
         ensures grows { Grows self.old self.new }
-        ensures noted { IfOk result (λ _. IsReadyAt piece.now self.old → HasFault self.new) }
+        ensures noted { IfOk result (λ _. IsReadyAt lexeme.now self.old → HasFault self.new) }
         ensures moves { Moves self.old.cursor self.new.cursor }
         ensures most { Most 24 24 self.old.cursor self.new.cursor }
-        ensures over { piece.now.kind ≡ End → self.new.is_over ≡ true }
+        ensures over { lexeme.now.kind ≡ End → self.new.is_over ≡ true }
     {
-        self.refuse(piece)?;
-        self.behind(piece)
+        self.refuse(lexeme)?;
+        self.take_after(lexeme)
     }
 
-    /// Reads the next piece.
-    fn next(&mut self) -> Result<Piece<'a>, AllocError>
+    /// Reads the next lexeme.
+    fn next(&mut self) -> Result<Lexeme<'a>, AllocError>
         ensures keeps { Keeps self.old self.new }
         ensures grows { Grows self.old self.new }
         ensures ready { IfOk result (λ p. IsReady self.old → IsReadyAt p self.new) }
-        ensures piece { IfOk result (λ p. Stands self.old.cursor.rest p) }
+        ensures lexeme { IfOk result (λ p. Stands self.old.cursor.rest p) }
         ensures went { IfOk result (λ p. WentPast p.kind self.old.cursor self.new.cursor) }
         ensures moves { Moves self.old.cursor self.new.cursor }
         ensures most { Most 37 41 self.old.cursor self.new.cursor }
         ensures same { self.new.is_over ≡ self.old.is_over }
     {
         let role = self.string_role();
-        next_piece(self.alloc, &mut self.cursor, role)
+        next_lexeme(self.alloc, &mut self.cursor, role)
     }
 
     /// Notes the first fault, where the front ends.
@@ -770,8 +770,8 @@ impl<'a> Reader<'a> {
         ensures turning { IfOk result (λ _. Turning self.old.cursor self.new.cursor self.new.is_over) }
         ensures bounded { Bounded 124 self.old.cursor self.new.cursor }
     {
-        let piece = self.next()?;
-        self.take_refused(&piece)
+        let lexeme = self.next()?;
+        self.take_refused(&lexeme)
     }
 
     /// Notes the faults of the text, as if no candidate began an escline.
@@ -785,9 +785,9 @@ impl<'a> Reader<'a> {
             return self.read_identifier();
         }
         self.note_first()?;
-        'pieces: while !self.is_over {
-            let piece = self.next()?;
-            self.take(&piece)?;
+        'lexemes: while !self.is_over {
+            let lexeme = self.next()?;
+            self.take(&lexeme)?;
         }
         Ok(())
     }
