@@ -18,7 +18,7 @@ use Rattle.kdl_diagnostics.specs.declared.reader.Fault.{Fault}
 use Rattle.kdl_diagnostics.specs.declared.reader.Reader.{Reader}
 
 -- of two ends of a text one is an end of the other
-ends_of : (p a q b : Text) → p ++ a ≡ q ++ b → ((r : Text) × (a ≡ r ++ b)) ⊎ ((r : Text) × (b ≡ r ++ a))
+pub ends_of : (p a q b : Text) → p ++ a ≡ q ++ b → ((r : Text) × (a ≡ r ++ b)) ⊎ ((r : Text) × (b ≡ r ++ a))
 ends_of [] a q b e = inl (q, e)
 ends_of (c ∷ p) a [] b e = inr (c ∷ p, sym e)
 ends_of (c ∷ p) a (d ∷ q) b e = ends_of p a q b cc
