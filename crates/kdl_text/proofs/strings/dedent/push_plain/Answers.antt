@@ -1,4 +1,4 @@
-use Rattle.std.proofs.Common.{◌≡◌, ◌++◌, ◌∷◌, [], true, false, not, refl, ap, sym, ◌∙◌, append_assoc, append-nil, string_bytes}
+use Rattle.std.proofs.Common.{◌≡◌, ◌++◌, ◌∷◌, [], false, not, refl, ap, sym, ◌∙◌, append_assoc, append-nil, string_bytes}
 use Rattle.std.specs.Str.{chars}
 use Rattle.std.proofs.lemmas.Str.{IsUtf8-string_bytes}
 use Rattle.kdl_text.specs.Dedent.{blank, dedented, is_blank_line}
@@ -32,8 +32,8 @@ returns-clause-done c =
     let rest = c.in-Some.first ∷ c.next.new.self in
     let line = ap literals (sym c.characters-characters.ensures.result) ∙ c.if-not-eat_prefix.ensures ∙ ap (λ z. c.args.prefix.now ++ literals z) c.in-Some.ensures in
     let is_blank : is_blank_line (literals c.args.segment.now) ≡ false = elim c.else-is_space.branch [
-      else-is_space-via-then-is_space+else-is_space_segment-2 w ↦ sym (blank_literals c.args.segment.now) ∙ sym w.is_space_segment-then-is_space.ensures.result ∙ w.if-is_space_segment-2.false
-    | else-is_space-via-else-is_space w ↦ not_blank c.args.prefix.now c.args.segment.now rest line (ap not (sym c.is_space.ensures ∙ w.if-is_space.false))
+      | else-is_space-via-then-is_space+else-is_space_segment-2 w ↦ sym (blank_literals c.args.segment.now) ∙ sym w.is_space_segment-then-is_space.ensures.result ∙ w.if-is_space_segment-2.false
+      | else-is_space-via-else-is_space w ↦ not_blank c.args.prefix.now c.args.segment.now rest line (ap not (sym c.is_space.ensures ∙ w.if-is_space.false))
     ] in
     let out = c.args.out.now in
     let one = char_pushed (string_bytes out) (string_bytes c.push.new.self) c.in-Some.first (IsUtf8-string_bytes out) (IsUtf8-string_bytes c.push.new.self) c.in_ok-push.ensures.bytes in
