@@ -115,7 +115,7 @@ impl Blocks {
     fn lay_out(&mut self, layout: &Layout) -> Result<(), AllocError>
         ensures kept { map bare_node (whole self.new.above.items self.new.inner) ≡
             map bare_node (whole self.old.above.items self.old.inner) }
-        ensures laid { OnOk result ((level : ℕ) (c : Before) (olds : List Node)
+        ensures spaced { OnOk result ((level : ℕ) (c : Before) (olds : List Node)
             → IsUnderWay layout.now level c olds self.old.above.items self.old.inner
             → (self.new.above.items ≡ [])
             × NodesAreSpaced layout.now level c olds (map node_tree self.new.inner.nodes.items)) }
@@ -177,7 +177,7 @@ pub(crate) fn lay_out_nodes(
 ) -> Result<(), AllocError>
     ensures kept { map bare_node (map node_tree nodes.new.items) ≡
         map bare_node (map node_tree nodes.old.items) }
-    ensures laid { OnOk result (NodesAreSpaced layout.now level first
+    ensures spaced { OnOk result (NodesAreSpaced layout.now level first
         (map node_tree nodes.old.items) (map node_tree nodes.new.items)) }
 {
     if nodes.is_empty() {

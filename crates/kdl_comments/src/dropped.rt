@@ -6,7 +6,7 @@ ghost use Rattle.kdl_control.specs.Control.{at, finish, is_word};
 ghost use Rattle.kdl_comments.specs.Internal.Passing.{follows_word, slashdash_in};
 ghost use Rattle.kdl_comments.specs.Items.{ItemEnd};
 ghost use Rattle.kdl_comments.specs.Internal.Lacking.{HasOpenEnd};
-ghost use Rattle.kdl_control.specs.Internal.Views.{control_view, phase_view};
+ghost use Rattle.kdl_control.specs.Internal.Views.{control_view, ended_view, phase_view};
 ghost use Rattle.kdl_comments.specs.Internal.Passed.{Before, BehindPart, AnswersDroppedNode, AnswersDroppedPart, PlaceTakesHeld, of_spaces};
 ghost use Rattle.kdl_comments.specs.Internal.Reading.{TakesHeld, place_view};
 ghost use Rattle.kdl_text.specs.Chars.{Text};
@@ -16,7 +16,7 @@ ghost use Rattle.std.specs.Str.{chars};
 use crate::item::{Item, Place};
 use crate::slices::cut;
 use crate::spaces::line;
-use kdl_control::{Control, Phase, Spot};
+use kdl_control::{Control, Ended, Phase, Spot};
 use kdl_lexer::{LexFailure, Lexer, Token, TokenKind};
 use kdl_text::cursor::Steps;
 use std::alloc::{AllocError, Global};
@@ -129,6 +129,17 @@ fn word_end(control: &Control, last: usize) -> Option<PartEnd>
     }
 }
 
+/// The end of an entry or a block.
+fn part_end(ended: Ended, at: usize) -> PartEnd
+    ensures at { result.at ≡ at }
+    ensures block { result.is_block ≡ ended_view ended }
+{
+    PartEnd {
+        at,
+        is_block: matches!(ended, Ended::Block),
+    }
+}
+
 /// The end of the node that a `/-` before the text drops, or `None` if it drops no node.
 pub(crate) fn pass_node(alloc: Global, text: &str) -> Result<Option<NodeEnd>, AllocError>
     ensures { IfOk result (λ o. AnswersDroppedNode (chars text.now) o) }
@@ -222,8 +233,8 @@ pub(crate) fn pass_part(
         }
         last = end_behind(&token, last);
         drop(token);
-        if let Some(is_block) = control.over() {
-            return Ok(Some(PartEnd { at: last, is_block }));
+        if let Some(ended) = control.over() {
+            return Ok(Some(part_end(ended, last)));
         }
     }
 }

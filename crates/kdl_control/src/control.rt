@@ -2,7 +2,7 @@
 
 ghost use Rattle.kdl_control.specs.Control as control;
 ghost use Rattle.kdl_control.specs.Control.{is_block, is_gap, is_over, is_word};
-ghost use Rattle.kdl_control.specs.Internal.Views.{control_view, frame_view, phase_view, spot_view};
+ghost use Rattle.kdl_control.specs.Internal.Views.{control_view, ended_view, frame_view, phase_view, spot_view};
 ghost use Rattle.kdl_lexer.specs.Internal.Handed.{kind_view};
 ghost use Rattle.std.specs.Prelude.{◌≡◌, ◌∷◌, IfOk, List, MatchOption, Some, None, [], true, false, if◌then◌else◌};
 
@@ -67,6 +67,13 @@ pub enum Frame {
     Node,
     Dropped,
     Later,
+}
+
+/// What ends in a node: an entry or a block.
+#[derive(Clone, Copy)]
+pub enum Ended {
+    Entry,
+    Block,
 }
 
 /// Whether a string that may be a key is here.
@@ -187,26 +194,25 @@ impl Control {
         }
     }
 
-    /// Returns whether what ends directly before is a block, or `None` if neither an entry nor a
-    /// block does.
+    /// Returns what ends directly before, or `None` if neither an entry nor a block does.
     ///
     /// ```
     /// let mut control = Control::new(alloc, Phase::EntrySlashdash);
     /// let before = control.over(); // `None`
     /// let taken = control.take(&TokenKind::Value(KdlValue::Null))?; // true
-    /// let behind = control.over(); // `Some(false)`: an entry
+    /// let after = control.over(); // `Some(Ended::Entry)`
     /// ```
-    pub fn over(&self) -> Option<bool>
+    pub fn over(&self) -> Option<Ended>
         ensures { MatchOption result (is_over (control_view self.now) ≡ false)
-            (λ b. (is_over (control_view self.now) ≡ true)
-            × (b ≡ is_block (control_view self.now))) }
+            (λ e. (is_over (control_view self.now) ≡ true)
+            × (ended_view e ≡ is_block (control_view self.now))) }
     {
         if !self.frames.is_empty() {
             return None;
         }
         match self.phase {
-            Phase::InNode(Spot::Fresh(Word::NoKey)) => Some(false),
-            Phase::InNode(Spot::Later) => Some(true),
+            Phase::InNode(Spot::Fresh(Word::NoKey)) => Some(Ended::Entry),
+            Phase::InNode(Spot::Later) => Some(Ended::Block),
             _ => None,
         }
     }

@@ -8,8 +8,8 @@ pub mod ValueEnds
 pub mod NotedSpans
 -- Places that a cursor went past, and what its steps cost.
 pub mod Passing
--- Where pieces are, and how the cursor moves past them.
-pub mod PieceMoves
+-- Where lexemes are, and how the cursor moves past them.
+pub mod LexemeMoves
 -- The loops over the units of a string.
 pub mod StringLoops
 -- The diagnostics of a text, one for each fault.

@@ -12,13 +12,13 @@ use Rattle.kdl_diagnostics.specs.Internal.Noted.{LiesIn, Noted, Opened, Candidat
 use Rattle.kdl_diagnostics.specs.Internal.Reading.{Stands}
 use Rattle.kdl_diagnostics.specs.declared.ends.Unclosed.{Unclosed}
 use Rattle.kdl_diagnostics.specs.declared.esclines.Candidate.{Candidate}
-use Rattle.kdl_diagnostics.specs.declared.pieces.Piece.{Piece}
+use Rattle.kdl_diagnostics.specs.declared.lexemes.Lexeme.{Lexeme}
 use Rattle.kdl_diagnostics.specs.declared.reader.Block.{Block}
 use Rattle.kdl_diagnostics.specs.declared.reader.Fault.{Fault}
 use Rattle.kdl_diagnostics.specs.declared.reader.Reader.{Reader}
 
 -- of two ends of a text one is an end of the other
-ends_of : (p a q b : Text) → p ++ a ≡ q ++ b → ((r : Text) × (a ≡ r ++ b)) ⊎ ((r : Text) × (b ≡ r ++ a))
+pub ends_of : (p a q b : Text) → p ++ a ≡ q ++ b → ((r : Text) × (a ≡ r ++ b)) ⊎ ((r : Text) × (b ≡ r ++ a))
 ends_of [] a q b e = inl (q, e)
 ends_of (c ∷ p) a [] b e = inr (c ∷ p, sym e)
 ends_of (c ∷ p) a (d ∷ q) b e = ends_of p a q b cc
@@ -46,21 +46,21 @@ then_ends t s r x y = (x.0 ++ y.0, x.1 ∙ ap (λ (z : Text). x.0 ++ z) y.1 ∙ 
 pub moved_here : (text : Text) (a b : Here) → ((p : Text) × (text ≡ p ++ a.rest)) → Moves a b → (p : Text) × (text ≡ p ++ b.rest)
 moved_here text a b x m = then_ends text a.rest b.rest x m.piece
 
--- the places of a piece of the text
-pub next_lies : (text : Text) (p : Piece) → Stands text p → LiesIn text p.next
+-- the places of a lexeme of the text
+pub next_lies : (text : Text) (p : Lexeme) → Stands text p → LiesIn text p.next
 next_lies text p s = then_ends text p.start.rest p.next.rest s.start s.next
 
-pub end_lies : (text : Text) (p : Piece) → Stands text p → LiesIn text p.end
+pub end_lies : (text : Text) (p : Lexeme) → Stands text p → LiesIn text p.end
 end_lies text p s = then_ends text p.start.rest p.end.rest s.start s.end
 
-pub comment_lies : (text : Text) (p : Piece) (c : Unclosed) → Stands text p → p.comment ≡ Some c → LiesIn text c.start
+pub comment_lies : (text : Text) (p : Lexeme) (c : Unclosed) → Stands text p → p.comment ≡ Some c → LiesIn text c.start
 comment_lies text p c s e = let x = s.comment c e in (x.0, x.2)
 
-pub comment_end_lies : (text : Text) (p : Piece) (c : Unclosed) → Stands text p → p.comment ≡ Some c → LiesIn text c.end
+pub comment_end_lies : (text : Text) (p : Lexeme) (c : Unclosed) → Stands text p → p.comment ≡ Some c → LiesIn text c.end
 comment_end_lies text p c s e = let x = s.comment c e in then_ends text c.start.rest c.end.rest (x.0, x.2) (x.1, x.3)
 
--- a piece of an end of the text
-pub stands_in : (text rest : Text) (p : Piece) → ((q : Text) × (text ≡ q ++ rest)) → Stands rest p → Stands text p
+-- a lexeme of an end of the text
+pub stands_in : (text rest : Text) (p : Lexeme) → ((q : Text) × (text ≡ q ++ rest)) → Stands rest p → Stands text p
 stands_in text rest p x s = record {
   start = then_ends text rest p.start.rest x s.start;
   next = s.next;

@@ -10,11 +10,11 @@ use Rattle.kdl_text.proofs.Looking.MovesJoin.{bytes-append, fewer_bytes}
 use Rattle.kdl_text.proofs.Looking.Texts.{bytes-chars}
 use Rattle.kdl_diagnostics.specs.Internal.Noted.{Bounded, IsReaderOf, LiesIn, ReadsAgain, Recovers}
 use Rattle.kdl_diagnostics.specs.Internal.Reading.{Most, WentPast, Turning, turns_left}
-use Rattle.kdl_diagnostics.specs.declared.pieces.PieceKind.{PieceKind}
-use Rattle.kdl_diagnostics.specs.declared.pieces.PieceKind.TheVariants.{End}
+use Rattle.kdl_diagnostics.specs.declared.lexemes.LexemeKind.{LexemeKind}
+use Rattle.kdl_diagnostics.specs.declared.lexemes.LexemeKind.TheVariants.{End}
 use Rattle.kdl_diagnostics.specs.declared.reader.Reader.{Reader}
 
--- a piece that was read, and a step after it
+-- a lexeme that was read, and a step after it
 pub bounded_one : (a b e : Here) → Moves a b → Most 37 41 a b → e.steps ≡ raise b.steps 1 → Bounded 124 a e
 bounded_one a b e m k s = record { most = omega (arith, s); counts = omega (arith, m.counts, s) }
 
@@ -39,22 +39,22 @@ still_left over e = ap turns_left e
 none_left : (over : Bool) → over ≡ true → turns_left over ≡ 0
 none_left over e = ap turns_left e
 
--- a piece that was read is shorter than what was to be read, or it is the last one
-went_on : (k : PieceKind) (a b : Here) (over : Bool) → WentPast k a b → (k ≡ End → over ≡ true) → bytes b.rest + turns_left over ≤ bytes a.rest
+-- a lexeme that was read is shorter than what was to be read, or it is the last one
+went_on : (k : LexemeKind) (a b : Here) (over : Bool) → WentPast k a b → (k ≡ End → over ≡ true) → bytes b.rest + turns_left over ≤ bytes a.rest
 went_on End a b over w o = omega (arith, ap bytes w, none_left over (o refl))
 went_on _ a b over w o = omega (arith, w, one_left over)
 
-pub turning_turn : (f a b e : Here) (k : PieceKind) (over over' : Bool) → over ≡ false → Turning f a over → Moves a b → Most 37 41 a b → WentPast k a b → Moves b e → Most 24 24 b e → (k ≡ End → over' ≡ true) → Turning f e over'
+pub turning_turn : (f a b e : Here) (k : LexemeKind) (over over' : Bool) → over ≡ false → Turning f a over → Moves a b → Most 37 41 a b → WentPast k a b → Moves b e → Most 24 24 b e → (k ≡ End → over' ≡ true) → Turning f e over'
 turning_turn f a b e k over over' n t m x w m' x' o = record {
   counts = omega (arith, t.counts, m.counts, m'.counts);
   most = omega (arith, t.most, still_left over n, fewer_bytes m, fewer_bytes m', went_on k a b over' w o);
 }
 
-first_more : (k : PieceKind) (a b : Here) (over : Bool) → WentPast k a b → (k ≡ End → over ≡ true) → 65 * turns_left over ≤ 87 * (bytes a.rest - bytes b.rest)
+first_more : (k : LexemeKind) (a b : Here) (over : Bool) → WentPast k a b → (k ≡ End → over ≡ true) → 65 * turns_left over ≤ 87 * (bytes a.rest - bytes b.rest)
 first_more End a b over w o = omega (arith, none_left over (o refl))
 first_more _ a b over w o = omega (arith, w, one_left over)
 
-pub turning_first : (a b e : Here) (k : PieceKind) (over : Bool) → Moves a b → Most 37 41 a b → WentPast k a b → Moves b e → Most 24 24 b e → (k ≡ End → over ≡ true) → Turning a e over
+pub turning_first : (a b e : Here) (k : LexemeKind) (over : Bool) → Moves a b → Most 37 41 a b → WentPast k a b → Moves b e → Most 24 24 b e → (k ≡ End → over ≡ true) → Turning a e over
 turning_first a b e k over m x w m' x' o = record {
   counts = omega (arith, m.counts, m'.counts);
   most = omega (arith, fewer_bytes m, fewer_bytes m', first_more k a b over w o);
@@ -65,13 +65,13 @@ pub on_ok : {A E P : Type 0} (r : Result A E) → P → IfOk r (λ (x : A). P)
 on_ok (Ok x) p = p
 on_ok (Err e) p = tt
 
-pub piece_bounded : (a b : Here) → Moves a b → Most 37 41 a b → Bounded 124 a b
-piece_bounded a b m x = record { most = omega (arith, x, fewer_bytes m); counts = m.counts }
+pub lexeme_bounded : (a b : Here) → Moves a b → Most 37 41 a b → Bounded 124 a b
+lexeme_bounded a b m x = record { most = omega (arith, x, fewer_bytes m); counts = m.counts }
 
-pub piece_bounded_more : (a b e : Here) → Moves a b → Most 37 41 a b → Moves b e → Most 24 24 b e → Bounded 124 a e
-piece_bounded_more a b e m x m' x' = record { most = omega (arith, x, x', fewer_bytes m, fewer_bytes m'); counts = omega (arith, m.counts, m'.counts) }
+pub lexeme_bounded_more : (a b e : Here) → Moves a b → Most 37 41 a b → Moves b e → Most 24 24 b e → Bounded 124 a e
+lexeme_bounded_more a b e m x m' x' = record { most = omega (arith, x, x', fewer_bytes m, fewer_bytes m'); counts = omega (arith, m.counts, m'.counts) }
 
-pub turning_nearer : (a b e : Here) (k : PieceKind) (over over' : Bool) → over ≡ false → WentPast k a b → Moves b e → (k ≡ End → over' ≡ true) → bytes e.rest + turns_left over' < bytes a.rest + turns_left over
+pub turning_nearer : (a b e : Here) (k : LexemeKind) (over over' : Bool) → over ≡ false → WentPast k a b → Moves b e → (k ≡ End → over' ≡ true) → bytes e.rest + turns_left over' < bytes a.rest + turns_left over
 turning_nearer a b e k over over' n w m o = omega (arith, still_left over n, fewer_bytes m, went_on k a b over' w o)
 
 -- where memory is refused, and at the end

@@ -1,6 +1,6 @@
 //! Value ends (KDL 2.0.0, Value): where a string, a number or a keyword may end.
 
-ghost use Rattle.kdl_diagnostics.specs.Internal.Reading.{Most, IsEnd, OnUnclosed, StandsBehind};
+ghost use Rattle.kdl_diagnostics.specs.Internal.Reading.{Most, IsEnd, OnUnclosed, StandsAfter};
 ghost use Rattle.kdl_text.specs.Chars.{begins};
 ghost use Rattle.kdl_text.specs.Internal.Here.{Stayed};
 ghost use Rattle.kdl_text.specs.Spans.{bytes};
@@ -28,7 +28,7 @@ pub(crate) struct ValueEnd<'a> {
 
 /// What follows a backslash.
 #[derive(Drop)]
-pub(crate) enum Behind<'a> {
+pub(crate) enum After<'a> {
     /// The rest of an escline. The cursor is after it.
     Escline,
     /// Anything else. The cursor is after the spaces and block comments here.
@@ -60,22 +60,22 @@ fn ws_run<'a>(cursor: &mut Cursor<'a>) -> Option<Unclosed<'a>>
 }
 
 /// Advances past what follows a backslash.
-pub(crate) fn behind_backslash<'a>(cursor: &mut Cursor<'a>) -> Behind<'a>
-    ensures comment { StandsBehind cursor.old result cursor.new }
+pub(crate) fn after_backslash<'a>(cursor: &mut Cursor<'a>) -> After<'a>
+    ensures comment { StandsAfter cursor.old result cursor.new }
     ensures moves { Moves cursor.old cursor.new }
     ensures most { Most 12 12 cursor.old cursor.new }
 {
     if let Some(comment) = ws_run(cursor) {
-        return Behind::Unclosed(comment);
+        return After::Unclosed(comment);
     }
     if cursor.looks_two('/', '/') {
         line_comment(cursor);
-        return Behind::Escline;
+        return After::Escline;
     }
     if newline(cursor) || cursor.look().is_none() {
-        Behind::Escline
+        After::Escline
     } else {
-        Behind::Other
+        After::Other
     }
 }
 
@@ -85,7 +85,7 @@ fn ends_value(c: char) -> bool {
 }
 
 /// Whether a comment or a `/-` begins here.
-fn begins_slash_piece(cursor: &mut Cursor) -> bool
+fn begins_slash_lexeme(cursor: &mut Cursor) -> bool
     ensures stayed { (k : ℕ) × (k ≤ 6) × Stayed k cursor.old cursor.new }
 {
     cursor.looks_two('/', '*') || cursor.looks_two('/', '/') || cursor.looks_two('/', '-')
@@ -97,7 +97,7 @@ pub(crate) fn is_value_end(cursor: &mut Cursor) -> bool
 {
     match cursor.look() {
         None => true,
-        Some('/') => begins_slash_piece(cursor),
+        Some('/') => begins_slash_lexeme(cursor),
         Some(c) => ends_value(c),
     }
 }
@@ -114,19 +114,19 @@ fn end_at_backslash<'a>(cursor: &mut Cursor<'a>) -> Option<ValueEnd<'a>>
 {
     let place = cursor.checkpoint();
     cursor.step();
-    let behind = cursor.checkpoint();
-    match behind_backslash(cursor) {
-        Behind::Escline => Some(ValueEnd {
+    let after = cursor.checkpoint();
+    match after_backslash(cursor) {
+        After::Escline => Some(ValueEnd {
             place,
             comment: None,
         }),
-        Behind::Unclosed(comment) => Some(ValueEnd {
-            place: behind,
+        After::Unclosed(comment) => Some(ValueEnd {
+            place: after,
             comment: Some(comment),
         }),
-        Behind::Other if behind.at() == cursor.at() => None,
-        Behind::Other => Some(ValueEnd {
-            place: behind,
+        After::Other if after.at() == cursor.at() => None,
+        After::Other => Some(ValueEnd {
+            place: after,
             comment: None,
         }),
     }
@@ -144,7 +144,7 @@ pub(crate) fn value_end<'a>(cursor: &mut Cursor<'a>) -> ValueEnd<'a>
         let place = cursor.checkpoint();
         let is_end = match cursor.look() {
             None => true,
-            Some('/') => begins_slash_piece(cursor),
+            Some('/') => begins_slash_lexeme(cursor),
             Some('\\') => {
                 if let Some(end) = end_at_backslash(cursor) {
                     return end;

@@ -1,7 +1,7 @@
 //! The faults of a refused text, each with its span and its message.
 //!
 //! The lexer and the control read a text again up to its first fault (`front`). There the reader of faults notes that
-//! fault, and from there on it takes one piece at a time, faulty or not, and continues after a fault (`reader`). An
+//! fault, and from there on it takes one lexeme at a time, faulty or not, and continues after a fault (`reader`). An
 //! accepted text pays nothing for it.
 #![tactic(auto)]
 
@@ -9,8 +9,8 @@ mod ends;
 mod esclines;
 mod front;
 mod kind;
+mod lexemes;
 mod machine;
-mod pieces;
 mod reader;
 mod strings;
 mod text_control;

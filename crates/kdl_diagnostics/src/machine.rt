@@ -1,6 +1,6 @@
-//! What is expected where a piece does not fit, and what is expected after it.
+//! What is expected where a lexeme does not fit, and what is expected after it.
 //!
-//! Which piece may come where is up to the `Control`. If a piece does not fit, what was expected counts as read, and
+//! Which lexeme may come where is up to the `Control`. If a lexeme does not fit, what was expected counts as read, and
 //! the control continues from there.
 
 ghost use Rattle.kdl_control.specs.Control.{at, finish};
@@ -8,7 +8,7 @@ ghost use Rattle.kdl_control.specs.Internal.Views.{phase_view};
 ghost use Rattle.std.specs.Prelude.{◌≡◌, [], false, true};
 
 use crate::kind::Kind;
-use crate::pieces::{PieceKind, StringRole};
+use crate::lexemes::{LexemeKind, StringRole};
 use kdl_control::{Owner, Phase, Spot, Word};
 use kdl_lexer::TokenKind;
 use kdl_value::KdlValue;
@@ -27,7 +27,7 @@ pub(crate) enum Place {
     Over,
 }
 
-/// What a piece does.
+/// What a lexeme does.
 #[derive(Clone, Copy)]
 pub(crate) enum Move {
     /// What its token does in the control.
@@ -43,25 +43,25 @@ pub(crate) fn in_node() -> Phase {
     Phase::InNode(Spot::Spaced(Word::NoKey))
 }
 
-/// The token of a piece. The value of a string or a number does not matter to the control.
-pub(crate) fn token_kind(alloc: Global, kind: PieceKind) -> Option<TokenKind> {
+/// The token of a lexeme. The value of a string or a number does not matter to the control.
+pub(crate) fn token_kind(alloc: Global, kind: LexemeKind) -> Option<TokenKind> {
     match kind {
-        PieceKind::Space => Some(TokenKind::Space),
-        PieceKind::Newline => Some(TokenKind::Newline),
-        PieceKind::Slashdash => Some(TokenKind::Slashdash),
-        PieceKind::String => Some(TokenKind::String(String::new(alloc))),
-        PieceKind::Value => Some(TokenKind::Value(KdlValue::Null)),
-        PieceKind::Left => Some(TokenKind::Left),
-        PieceKind::Right => Some(TokenKind::Right),
-        PieceKind::Opening => Some(TokenKind::Opening),
-        PieceKind::Closing => Some(TokenKind::Closing),
-        PieceKind::Equals => Some(TokenKind::Equals),
-        PieceKind::Semicolon => Some(TokenKind::Semicolon),
-        PieceKind::Comment | PieceKind::Other | PieceKind::End => None,
+        LexemeKind::Space => Some(TokenKind::Space),
+        LexemeKind::Newline => Some(TokenKind::Newline),
+        LexemeKind::Slashdash => Some(TokenKind::Slashdash),
+        LexemeKind::String => Some(TokenKind::String(String::new(alloc))),
+        LexemeKind::Value => Some(TokenKind::Value(KdlValue::Null)),
+        LexemeKind::Left => Some(TokenKind::Left),
+        LexemeKind::Right => Some(TokenKind::Right),
+        LexemeKind::Opening => Some(TokenKind::Opening),
+        LexemeKind::Closing => Some(TokenKind::Closing),
+        LexemeKind::Equals => Some(TokenKind::Equals),
+        LexemeKind::Semicolon => Some(TokenKind::Semicolon),
+        LexemeKind::Comment | LexemeKind::Other | LexemeKind::End => None,
     }
 }
 
-/// The fault if a piece does not fit in the phase. `is_property` is whether the last type is that of a property's value.
+/// The fault if a lexeme does not fit in the phase. `is_property` is whether the last type is that of a property's value.
 pub(crate) fn misfit(phase: Phase, is_property: bool) -> Kind {
     match phase {
         Phase::Gap | Phase::NodeSlashdash | Phase::TypeDone(Owner::Name) => Kind::Name,
@@ -95,20 +95,20 @@ pub(crate) fn is_dropping(phase: Phase) -> bool {
     )
 }
 
-/// The place after a piece that does not fit in the phase, and the phase there: what was expected counts as read.
-pub(crate) fn behind_misfit(phase: Phase, kind: PieceKind) -> (Place, Phase) {
+/// The place after a lexeme that does not fit in the phase, and the phase there: what was expected counts as read.
+pub(crate) fn after_misfit(phase: Phase, kind: LexemeKind) -> (Place, Phase) {
     match (phase, kind) {
-        (Phase::TypeOpen(_), PieceKind::Right) => (Place::Typeless, in_node()),
+        (Phase::TypeOpen(_), LexemeKind::Right) => (Place::Typeless, in_node()),
         (Phase::TypeOpen(_) | Phase::TypeName(_), _) => (Place::FaultyType, in_node()),
-        (_, PieceKind::Left) => (Place::Control, behind_left(phase)),
-        (_, PieceKind::String) => (Place::Control, behind_string(phase)),
-        (Phase::KeptSlashdash, PieceKind::Value) => (Place::Control, Phase::Kept),
+        (_, LexemeKind::Left) => (Place::Control, after_left(phase)),
+        (_, LexemeKind::String) => (Place::Control, after_string(phase)),
+        (Phase::KeptSlashdash, LexemeKind::Value) => (Place::Control, Phase::Kept),
         _ => (Place::Control, in_node()),
     }
 }
 
 /// The phase after a `(` that does not fit in the phase: in its type if it may be one, and else in a node.
-fn behind_left(phase: Phase) -> Phase {
+fn after_left(phase: Phase) -> Phase {
     match phase {
         Phase::TypeDone(_) | Phase::InNode(Spot::Later) => Phase::TypeOpen(Owner::Value),
         Phase::EntrySlashdash | Phase::BlockSlashdash | Phase::KeptSlashdash => {
@@ -120,7 +120,7 @@ fn behind_left(phase: Phase) -> Phase {
 }
 
 /// The phase after a string that does not fit in the phase.
-fn behind_string(phase: Phase) -> Phase {
+fn after_string(phase: Phase) -> Phase {
     match phase {
         Phase::KeptSlashdash => Phase::Kept,
         Phase::InNode(Spot::Later) | Phase::EntrySlashdash | Phase::BlockSlashdash | Phase::Kept =>
@@ -139,39 +139,39 @@ impl Place {
         }
     }
 
-    /// What a piece does at the place.
-    pub(crate) fn takes(self, kind: PieceKind) -> Move {
+    /// What a lexeme does at the place.
+    pub(crate) fn takes(self, kind: LexemeKind) -> Move {
         match self {
             Place::Control => Move::Take,
             Place::FaultyType => in_faulty_type(kind),
-            Place::Typeless => behind_faulty_type(kind),
-            Place::Over => behind_all(kind),
+            Place::Typeless => after_faulty_type(kind),
+            Place::Over => after_all(kind),
         }
     }
 }
 
-/// What a piece does in a faulty type: up to its `)`, or to what opens or ends a block or ends the node.
-fn in_faulty_type(kind: PieceKind) -> Move {
+/// What a lexeme does in a faulty type: up to its `)`, or to what opens or ends a block or ends the node.
+fn in_faulty_type(kind: LexemeKind) -> Move {
     match kind {
-        PieceKind::Right => Move::To(Place::Typeless),
-        PieceKind::Opening | PieceKind::Newline | PieceKind::Semicolon | PieceKind::Closing =>
+        LexemeKind::Right => Move::To(Place::Typeless),
+        LexemeKind::Opening | LexemeKind::Newline | LexemeKind::Semicolon | LexemeKind::Closing =>
             Move::Take,
         _ => Move::To(Place::FaultyType),
     }
 }
 
-/// What a piece does after a faulty type: a name or a value may follow, or what follows that.
-fn behind_faulty_type(kind: PieceKind) -> Move {
+/// What a lexeme does after a faulty type: a name or a value may follow, or what follows that.
+fn after_faulty_type(kind: LexemeKind) -> Move {
     match kind {
-        PieceKind::String | PieceKind::Value => Move::To(Place::Control),
+        LexemeKind::String | LexemeKind::Value => Move::To(Place::Control),
         _ => Move::Take,
     }
 }
 
-/// What a piece does after the only node or entry of a text.
-fn behind_all(kind: PieceKind) -> Move {
+/// What a lexeme does after the only node or entry of a text.
+fn after_all(kind: LexemeKind) -> Move {
     match kind {
-        PieceKind::Newline => Move::To(Place::Over),
+        LexemeKind::Newline => Move::To(Place::Over),
         _ => Move::Refuse,
     }
 }

@@ -2,20 +2,18 @@
 
 ghost use Rattle.kdl_diagnostics.specs.Internal.Noted.{OnRefused};
 ghost use Rattle.kdl_diagnostics.specs.TextControl.{Accepts};
-ghost use Rattle.kdl_entry.specs.Internal.Near.{BeginNear, FailsNear, ReportsNear};
+ghost use Rattle.kdl_entry.specs.Internal.Near.{FailsNear, ReportsNear};
 ghost use Rattle.kdl_lexer.specs.Earliest.{IsNear};
 ghost use Rattle.kdl_text.specs.Failures.{IsToldOf, Tells, TellsOf};
 ghost use Rattle.kdl_text.specs.Spans.{InText, raise};
-ghost use Rattle.std.specs.Prelude.{◌≡◌, ◌+◌, ◌*◌, ◌≤◌, length, true, IfOk};
-ghost use Rattle.std.specs.Rc.{rc_str_bytes};
+ghost use Rattle.std.specs.Prelude.{◌≡◌, ◌+◌, ◌*◌, ◌≤◌, length, true};
 ghost use Rattle.std.specs.Str.{chars};
 
-use kdl_diagnostics::{Kind, Whole, failure};
+use kdl_diagnostics::{Whole, failure};
 use kdl_text::cursor::Steps;
 use kdl_text::error::{KdlDiagnostic, KdlError, ParseFailure};
-use kdl_text::span::{Severity, SourceSpan};
-use std::alloc::{AllocError, Global};
-use std::rc::RcStr;
+use kdl_text::span::SourceSpan;
+use std::alloc::Global;
 
 /// Whether the span is near the place in a text of so many bytes: it contains the place, or begins after it and ends
 /// with the text, or the place is the end of the text.
@@ -32,56 +30,48 @@ fn is_near(span: SourceSpan, place: usize, end: usize) -> bool
     }
 }
 
-/// Whether the span of the first diagnostic is near the place in a text of so many bytes.
-fn begin_near(diagnostics: &[KdlDiagnostic], place: usize, end: usize) -> bool
-    ensures { result ≡ true → BeginNear diagnostics.now place end }
+/// The smallest span that contains both spans of the text.
+fn joined(text: &str, a: SourceSpan, b: SourceSpan) -> SourceSpan
+    requires a { InText (chars text.now) a }
+    requires b { InText (chars text.now) b }
+    ensures in_text { InText (chars text.now) result }
+    ensures begins { result.offset ≤ b.offset }
+    ensures ends { b.offset + b.len ≤ result.offset + result.len }
 {
-    match diagnostics.first() {
-        Some(first) => is_near(first.span, place, end),
-        None => false,
+    let _end = text.len();
+    let offset = a.offset.min(b.offset);
+    let end = (a.offset + a.len).max(b.offset + b.len);
+    SourceSpan {
+        offset,
+        len: end - offset,
     }
 }
 
-/// The diagnostic of what is not allowed at the span.
-fn misplaced(alloc: Global, input: &RcStr, span: SourceSpan) -> Result<KdlDiagnostic, AllocError>
-    requires { InText (chars (rc_str_bytes input.now)) span }
-    ensures of_text { IfOk result (IsToldOf (rc_str_bytes input.now)) }
-    ensures span { IfOk result (λ d. d.span ≡ span) }
-{
-    let words = Kind::Misplaced.words();
-    Ok(KdlDiagnostic {
-        input: input.clone()?,
-        span,
-        message: Some(String::from_str(alloc, words.message)?),
-        label: Some(String::from_str(alloc, words.label)?),
-        help: None,
-        severity: Severity::Error,
-    })
-}
-
-/// The error with a diagnostic at the span before the others, where the first of them is not near the place where the
-/// span begins.
-fn with_place(
-    alloc: Global,
-    text: &str,
-    mut error: KdlError,
-    span: SourceSpan,
-) -> Result<KdlError, AllocError>
-    requires tells { Tells text.now error }
+/// Widens the span of the diagnostic to this one, where it is not near the place where this one begins.
+fn widen(text: &str, diagnostic: &mut KdlDiagnostic, span: SourceSpan)
+    requires told { IsToldOf text.now diagnostic.old }
     requires span { InText (chars text.now) span }
-    ensures tells { IfOk result (Tells text.now) }
-    ensures near { IfOk result (ReportsNear text.now span.offset) }
+    ensures told { IsToldOf text.now diagnostic.new }
+    ensures near { IsNear diagnostic.new.span span.offset (length text.now) }
 {
-    if begin_near(&error.diagnostics, span.offset, text.len()) {
-        return Ok(error);
+    if !is_near(diagnostic.span, span.offset, text.len()) {
+        diagnostic.span = joined(text, diagnostic.span, span);
     }
-    let diagnostic = misplaced(alloc, &error.input, span)?;
-    error.diagnostics.insert(0, diagnostic)?;
-    Ok(error)
+}
+
+/// Widens the first span of the error to this one, where it is not near the place where this one begins.
+fn widen_first(text: &str, error: &mut KdlError, span: SourceSpan)
+    requires tells { Tells text.now error.old }
+    requires span { InText (chars text.now) span }
+    ensures tells { Tells text.now error.new }
+    ensures near { ReportsNear text.now span.offset error.new }
+{
+    widen(text, &mut error.diagnostics[0], span);
 }
 
 /// Returns the failure of a text that is refused at the span, or of memory that ran out. A refused text has a diagnostic
-/// for each fault; the first of them is near the place where the span begins. Adds the steps of reading to the count.
+/// for each fault; the first of them is near the place where the span begins: its span is widened where it is not.
+/// Adds the steps of reading to the count.
 pub fn refusal(
     alloc: Global,
     text: &str,
@@ -97,10 +87,10 @@ pub fn refusal(
     ensures raised { raise steps.old 0 ≤ raise steps.new 0 }
 {
     match failure(alloc, text, whole, steps) {
-        ParseFailure::Syntax(error) => match with_place(alloc, text, error, span) {
-            Ok(error) => ParseFailure::Syntax(error),
-            Err(_) => ParseFailure::Memory,
-        },
+        ParseFailure::Syntax(mut error) => {
+            widen_first(text, &mut error, span);
+            ParseFailure::Syntax(error)
+        }
         ParseFailure::Memory => ParseFailure::Memory,
     }
 }

@@ -13,10 +13,10 @@ ghost use Rattle.kdl_text.specs.Internal.Here.{Ahead, Behind, Skips, Took, Ate, 
 ghost use Rattle.kdl_text.specs.Spans.{bytes, raise};
 ghost use Rattle.kdl_text.specs.Internal.Reading.{Moves, Costs, ReadsNewline};
 ghost use Rattle.kdl_text.specs.Spans as spans;
-ghost use Rattle.std.specs.Prelude.{◌≡◌, ◌+◌, ◌<◌, ◌^◌, ◌++◌, ◌∷◌, [], length, MatchOption, IfOk, IsTrue, ◌↔◌, not, string_bytes};
+ghost use Rattle.std.specs.Prelude.{◌≡◌, ◌+◌, ◌<◌, ◌^◌, ◌++◌, ◌∷◌, [], length, MatchOption, IfOk, IsTrue, ◌↔◌, string_bytes};
 ghost use Rattle.std.specs.Str.{chars};
 
-use crate::chars::{Class, first_char, is_newline_char, is_space, skip_class, split_first};
+use crate::chars::{Class, first_char, is_newline_char, skip_class, split_first};
 use crate::span::SourceSpan;
 use std::alloc::{AllocError, Global};
 use std::marker::Model;
@@ -267,17 +267,6 @@ impl<'a> Characters<'a> {
                 Some(c)
             }
             None => None,
-        }
-    }
-
-    /// Returns whether there is a next character, which is not a space.
-    #[inline]
-    pub(crate) fn begins_text(&self) -> bool
-        ensures { result ≡ class.starts (λ c. not (class.is_space c)) self.now }
-    {
-        match first_char(self.text) {
-            Some(c) => !is_space(c),
-            None => false,
         }
     }
 

@@ -210,7 +210,7 @@ impl KdlNode {
     ) -> Result<(Before, Before), AllocError>
         ensures kept { node_bare self.new ≡ node_bare self.old }
         ensures block { child_nodes self.new ≡ child_nodes self.old }
-        ensures laid { IfOk result (λ (behind, first).
+        ensures spaced { IfOk result (λ (behind, first).
             chars before.now ≡ indentation (settings layout.now.config) level
             → PassesAt layout.now (node_tree self.old) behind
             × IsSpacedBut layout.now level next (node_tree self.old) first
@@ -291,7 +291,7 @@ fn lay_out_below(
     ensures block { (ms : List Node) → filled_block children.new ms ≡ filled_block children.old ms }
     ensures kept { map bare_node (map node_tree (nodes_in children.new)) ≡
         map bare_node (map node_tree (nodes_in children.old)) }
-    ensures laid { OnOk result (NodesAreSpaced layout.now (level + 1) first
+    ensures spaced { OnOk result (NodesAreSpaced layout.now (level + 1) first
         (map node_tree (nodes_in children.old)) (map node_tree (nodes_in children.new))) }
 {
     let Some(children) = children else {

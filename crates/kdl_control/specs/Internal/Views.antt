@@ -3,6 +3,8 @@ use Rattle.std.specs.Prelude.{◌≡◌, Bool, true, false, List, [], ◌∷◌,
 use Rattle.kdl_lexer.specs.Tokens.{Token}
 use Rattle.kdl_control.specs.Control as c
 use Rattle.kdl_control.specs.declared.control.Control.{Control}
+use Rattle.kdl_control.specs.declared.control.Ended.{Ended}
+use Rattle.kdl_control.specs.declared.control.Ended.TheVariants.{Entry, Block}
 use Rattle.kdl_control.specs.declared.control.Frame.{Frame}
 use Rattle.kdl_control.specs.declared.control.Frame.TheVariants.{Node, Dropped, Later as LaterBlock}
 use Rattle.kdl_control.specs.declared.control.Owner.{Owner}
@@ -27,6 +29,11 @@ owner_view Value = true
 abbrev pub word_view : Word → Bool
 word_view MayBeKey = true
 word_view NoKey = false
+
+-- whether what ends is a block
+abbrev pub ended_view : Ended → Bool
+ended_view Entry = false
+ended_view Block = true
 
 abbrev pub spot_view : Spot → c.Spot
 spot_view (Fresh w) = c.fresh (word_view w)

@@ -6,7 +6,7 @@ use Rattle.kdl_text.specs.Spans.{InText, bytes, raise}
 use Rattle.kdl_text.specs.declared.error.ParseFailure.{ParseFailure}
 use Rattle.kdl_text.specs.declared.error.ParseFailure.TheVariants.{Syntax, Memory}
 use Rattle.kdl_diagnostics.specs.Internal.Reading.{Stands}
-use Rattle.kdl_diagnostics.specs.declared.pieces.Piece.{Piece}
+use Rattle.kdl_diagnostics.specs.declared.lexemes.Lexeme.{Lexeme}
 use Rattle.kdl_diagnostics.specs.declared.reader.Block.{Block}
 use Rattle.kdl_diagnostics.specs.declared.reader.Fault.{Fault}
 use Rattle.kdl_diagnostics.specs.declared.esclines.Candidate.{Candidate}
@@ -58,16 +58,16 @@ Keeps old new = (text : Text) → IsReaderOf text old → IsReaderOf text new
 abbrev pub KeepsBetween : Position → Position → Reader → Reader → Type 0
 KeepsBetween a b old new = (text : Text) → IsReaderOf text old → LiesIn text a → LiesIn text b → IsReaderOf text new
 
--- if a piece is of the text, a reader of the text stays one
-abbrev pub KeepsAt : Piece → Reader → Reader → Type 0
+-- if a lexeme is of the text, a reader of the text stays one
+abbrev pub KeepsAt : Lexeme → Reader → Reader → Type 0
 KeepsAt p old new = (text : Text) → IsReaderOf text old → Stands text p → IsReaderOf text new
 
--- if a piece is of the text and two places are in it, a reader of the text stays one
-abbrev pub KeepsUpTo : Piece → Position → Position → Reader → Reader → Type 0
+-- if a lexeme is of the text and two places are in it, a reader of the text stays one
+abbrev pub KeepsUpTo : Lexeme → Position → Position → Reader → Reader → Type 0
 KeepsUpTo p a b old new = (text : Text) → IsReaderOf text old → Stands text p → LiesIn text a → LiesIn text b → IsReaderOf text new
 
--- if a piece is of the text that is read, the place is in that text
-abbrev pub IsPlaceAt : Reader → Piece → Position → Type 0
+-- if a lexeme is of the text that is read, the place is in that text
+abbrev pub IsPlaceAt : Reader → Lexeme → Position → Type 0
 IsPlaceAt r p place = (text : Text) → IsReaderOf text r → Stands text p → LiesIn text place
 
 -- at most k steps for each byte that was to be read, and 100 more; the count did not fall

@@ -12,9 +12,9 @@ use Rattle.kdl_diagnostics.specs.TextControl as spec
 use Rattle.kdl_diagnostics.specs.TextControl.{text_finish, text_start}
 use Rattle.kdl_diagnostics.specs.declared.front.Front.{Front}
 use Rattle.kdl_diagnostics.specs.declared.machine.Place.TheVariants.{FaultyType}
-use Rattle.kdl_diagnostics.specs.declared.pieces.Piece.{Piece}
-use Rattle.kdl_diagnostics.specs.declared.pieces.PieceKind.{PieceKind}
-use Rattle.kdl_diagnostics.specs.declared.pieces.PieceKind.TheVariants.{Comment, End}
+use Rattle.kdl_diagnostics.specs.declared.lexemes.Lexeme.{Lexeme}
+use Rattle.kdl_diagnostics.specs.declared.lexemes.LexemeKind.{LexemeKind}
+use Rattle.kdl_diagnostics.specs.declared.lexemes.LexemeKind.TheVariants.{Comment, End}
 use Rattle.kdl_diagnostics.specs.declared.reader.Block.{Block}
 use Rattle.kdl_diagnostics.specs.declared.reader.Reader.{Reader}
 use Rattle.kdl_diagnostics.specs.declared.text_control.Outset.{Outset}
@@ -105,8 +105,8 @@ pub record IsReady (r : Reader) : Type 0 where
   pub ends : r.cursor.rest ≡ [] → Lacking r
   pub place : r.place ≡ FaultyType → ⊥
 
--- the same after the next piece was read
-pub record IsReadyAt (p : Piece) (r : Reader) : Type 0 where
+-- the same after the next lexeme was read
+pub record IsReadyAt (p : Lexeme) (r : Reader) : Type 0 where
   pub ends : p.kind ≡ End → Lacking r
   pub place : r.place ≡ FaultyType → ⊥
 
@@ -128,8 +128,8 @@ pub data BeginsAt (from : Position) (here before : Outset) (old new : Reader) : 
 abbrev pub HasFault : Reader → Type 0
 HasFault r = 0 < length r.faults.items
 
--- a piece that is no part of the grammar is noted by itself
-abbrev pub NotesAlone : PieceKind → Type 0 → Type 0
+-- a lexeme that is no part of the grammar is noted by itself
+abbrev pub NotesAlone : LexemeKind → Type 0 → Type 0
 NotesAlone End P = P
 NotesAlone Comment P = P
 NotesAlone _ P = Unit {0}

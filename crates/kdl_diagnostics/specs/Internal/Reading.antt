@@ -1,4 +1,4 @@
--- What the readers of pieces and value ends advance past, and what that costs.
+-- What the readers of lexemes and value ends advance past, and what that costs.
 use Rattle.std.specs.Prelude.{◌≡◌, ℕ, ◌+◌, ◌-◌, ◌*◌, ◌<◌, ◌≤◌, ◌++◌, Bool, true, false, Option, Some, None}
 use Rattle.std.specs.Option.{IfSome}
 use Rattle.kdl_text.specs.Chars.{Text}
@@ -7,13 +7,13 @@ use Rattle.kdl_text.specs.Spans.{bytes, raise}
 use Rattle.kdl_text.specs.Internal.Reading.{Moves}
 use Rattle.kdl_diagnostics.specs.declared.ends.Unclosed.{Unclosed}
 use Rattle.kdl_diagnostics.specs.declared.ends.ValueEnd.{ValueEnd}
-use Rattle.kdl_diagnostics.specs.declared.ends.Behind.{Behind}
-use Rattle.kdl_diagnostics.specs.declared.ends.Behind.TheVariants as behind
+use Rattle.kdl_diagnostics.specs.declared.ends.After.{After}
+use Rattle.kdl_diagnostics.specs.declared.ends.After.TheVariants as after
 use Rattle.kdl_diagnostics.specs.declared.strings.Found.{Found}
-use Rattle.kdl_diagnostics.specs.declared.pieces.Piece.{Piece}
-use Rattle.kdl_diagnostics.specs.declared.pieces.PieceKind.{PieceKind}
-use Rattle.kdl_diagnostics.specs.declared.pieces.PieceKind.TheVariants.{End}
-use Rattle.kdl_diagnostics.specs.declared.pieces.Start.{Start}
+use Rattle.kdl_diagnostics.specs.declared.lexemes.Lexeme.{Lexeme}
+use Rattle.kdl_diagnostics.specs.declared.lexemes.LexemeKind.{LexemeKind}
+use Rattle.kdl_diagnostics.specs.declared.lexemes.LexemeKind.TheVariants.{End}
+use Rattle.kdl_diagnostics.specs.declared.lexemes.Start.{Start}
 
 -- at most k steps for each byte that was read, and c more
 abbrev pub Most : ℕ → ℕ → Here → Here → Type 0
@@ -44,9 +44,9 @@ OnUnclosed old None new = Unit {0}
 OnUnclosed old (Some c) new = IsUnclosed old c new
 
 -- what follows a backslash
-abbrev pub StandsBehind : Here → Behind → Here → Type 0
-StandsBehind old (behind.Unclosed c) new = IsUnclosed old c new
-StandsBehind old _ new = Unit {0}
+abbrev pub StandsAfter : Here → After → Here → Type 0
+StandsAfter old (after.Unclosed c) new = IsUnclosed old c new
+StandsAfter old _ new = Unit {0}
 
 -- a value end that was met, and the comment after it
 pub record IsEnd (old : Here) (e : ValueEnd) (new : Here) : Type 0 where
@@ -66,16 +66,16 @@ FindsAlso fault place found = (old new : Here) → OnFound old fault new → Pas
 abbrev pub FindsOn : Option Found → Here → Option Found → Here → Type 0
 FindsOn fault old found new = (start : Here) → Moves start old → OnFound start fault old → OnFound start found new
 
--- the places of a piece, in a text of which the rest is given: they are at or after its start
-pub record Stands (rest : Text) (p : Piece) : Type 0 where
+-- the places of a lexeme, in a text of which the rest is given: they are at or after its start
+pub record Stands (rest : Text) (p : Lexeme) : Type 0 where
   pub start : (q : Text) × (rest ≡ q ++ p.start.rest)
   pub next : (q : Text) × (p.start.rest ≡ q ++ p.next.rest)
   pub end : (q : Text) × (p.start.rest ≡ q ++ p.end.rest)
   pub backslash : IfSome p.backslash (λ b. (q : Text) × (p.start.rest ≡ q ++ b.rest))
   pub comment : (c : Unclosed) → p.comment ≡ Some c → (q r : Text) × (rest ≡ q ++ c.start.rest) × (c.start.rest ≡ r ++ c.end.rest)
 
--- the cursor passed a piece, or the text ends here
-abbrev pub WentPast : PieceKind → Here → Here → Type 0
+-- the cursor passed a lexeme, or the text ends here
+abbrev pub WentPast : LexemeKind → Here → Here → Type 0
 WentPast End old new = new.rest ≡ old.rest
 WentPast _ old new = bytes new.rest < bytes old.rest
 
@@ -83,23 +83,23 @@ WentPast _ old new = bytes new.rest < bytes old.rest
 abbrev pub gone : Position → Here → Here
 gone spot here = record here { rest = spot.rest; at = spot.at }
 
--- the place where a piece begins, and one at or after it
+-- the place where a lexeme begins, and one at or after it
 pub record Spans (start : Start) : Type 0 where
   pub next : (q : Text) × (start.place.rest ≡ q ++ start.next.rest)
   pub at : start.next.at + bytes start.next.rest ≡ start.place.at + bytes start.place.rest
 
--- the place where a piece begins, and one after it by at least a character
+-- the place where a lexeme begins, and one after it by at least a character
 pub record Begins (start : Start) : Type 0 where
   pub spans : Spans start
   pub fewer : bytes start.next.rest < bytes start.place.rest
 
--- a piece that begins at the place or after it, and is not the end of the text; the cursor passed it
-pub record IsPiece (place : Position) (p : Piece) (new : Here) : Type 0 where
+-- a lexeme that begins at the place or after it, and is not the end of the text; the cursor passed it
+pub record IsLexeme (place : Position) (p : Lexeme) (new : Here) : Type 0 where
   pub stands : Stands place.rest p
   pub more : p.kind ≡ End → ⊥
   pub went : bytes new.rest < bytes place.rest
 
--- how far the loop over the pieces is: until reading is over, a last turn is to come
+-- how far the loop over the lexemes is: until reading is over, a last turn is to come
 abbrev pub turns_left : Bool → ℕ
 turns_left true = 0
 turns_left false = 1

@@ -184,3 +184,11 @@ not_blank ps cs (c ∷ rest) e h =
     not_true : (b : Bool) → not b ≡ true → b ≡ false
     not_true true h = cc
     not_true false h = refl
+
+-- a line that is the prefix alone represents the empty text
+pub prefix_alone : (ps us : List LineUnit) → us ≡ ps ++ [] → LineValue ps us []
+prefix_alone ps us e = by_blank (is_blank_line us) refl
+  where
+    by_blank : (b : Bool) → is_blank_line us ≡ b → LineValue ps us []
+    by_blank true h = blank h refl
+    by_blank false h = dedented [] h e refl

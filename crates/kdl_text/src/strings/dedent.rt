@@ -246,17 +246,19 @@ fn push_plain<'a>(
     ensures returned { Returned (2 * (bytes segment.now + 1)) cursor.old cursor.new }
 {
     let mut characters = cursor.characters(segment);
-    let begins = eat_prefix(prefix, &mut characters);
-    if begins && characters.begins_text() {
-        characters.into_piece().push_to(out)?;
-        return Ok(());
-    }
-    if is_space_segment(segment, cursor) {
-        return Ok(());
-    }
-    if !begins {
+    if !eat_prefix(prefix, &mut characters) {
+        if is_space_segment(segment, cursor) {
+            return Ok(());
+        }
         return Err(StringFailure::Fault(StringFault::NoPrefix));
     }
+    let Some(first) = characters.next() else {
+        return Ok(());
+    };
+    if is_space(first) && is_space_segment(segment, cursor) {
+        return Ok(());
+    }
+    out.push(first)?;
     characters.into_piece().push_to(out)?;
     Ok(())
 }

@@ -44,7 +44,7 @@ returns-then-is_end-clause-end c =
     let k = ran_costs _ _ _ c.skip.ensures in
     let stay : (k : ℕ) × (k ≤ 7) × Stayed k c.skip.new.self c.match-look.cursor = elim c.match-look.branch [
       | in-None w ↦ rw w.cursor-is (stayed_one _ _ c.look.ensures.moved)
-      | in-Some-eq47 w ↦ let b = w.begins_slash_piece-is_end.ensures.stayed in rw w.cursor-is (stayed_more b.0 _ _ _ c.look.ensures.moved b.1 b.2)
+      | in-Some-eq47 w ↦ let b = w.begins_slash_lexeme-is_end.ensures.stayed in rw w.cursor-is (stayed_more b.0 _ _ _ c.look.ensures.moved b.1 b.2)
       | in-Some w ↦ rw w.cursor-is (stayed_one _ _ c.look.ensures.moved)
     ] in
     record { place = passed_here _ _ _ _ c.checkpoint-place.ensures.rest c.checkpoint-place.ensures.at (moves_then c.ends.invariant.moves r) (moves_stayed stay.2); comment = tt }
@@ -55,7 +55,7 @@ returns-then-is_end-clause-moves c =
     let k = ran_costs _ _ _ c.skip.ensures in
     let stay : (k : ℕ) × (k ≤ 7) × Stayed k c.skip.new.self c.match-look.cursor = elim c.match-look.branch [
       | in-None w ↦ rw w.cursor-is (stayed_one _ _ c.look.ensures.moved)
-      | in-Some-eq47 w ↦ let b = w.begins_slash_piece-is_end.ensures.stayed in rw w.cursor-is (stayed_more b.0 _ _ _ c.look.ensures.moved b.1 b.2)
+      | in-Some-eq47 w ↦ let b = w.begins_slash_lexeme-is_end.ensures.stayed in rw w.cursor-is (stayed_more b.0 _ _ _ c.look.ensures.moved b.1 b.2)
       | in-Some w ↦ rw w.cursor-is (stayed_one _ _ c.look.ensures.moved)
     ] in
     moves_then c.ends.invariant.moves (moves_then r (moves_stayed stay.2))
@@ -66,7 +66,7 @@ returns-then-is_end-clause-most c =
     let k = ran_costs _ _ _ c.skip.ensures in
     let stay : (k : ℕ) × (k ≤ 7) × Stayed k c.skip.new.self c.match-look.cursor = elim c.match-look.branch [
       | in-None w ↦ rw w.cursor-is (stayed_one _ _ c.look.ensures.moved)
-      | in-Some-eq47 w ↦ let b = w.begins_slash_piece-is_end.ensures.stayed in rw w.cursor-is (stayed_more b.0 _ _ _ c.look.ensures.moved b.1 b.2)
+      | in-Some-eq47 w ↦ let b = w.begins_slash_lexeme-is_end.ensures.stayed in rw w.cursor-is (stayed_more b.0 _ _ _ c.look.ensures.moved b.1 b.2)
       | in-Some w ↦ rw w.cursor-is (stayed_one _ _ c.look.ensures.moved)
     ] in
     omega (arith, c.ends.invariant.most, k.most, fewer_bytes r, stay.1, stay.2.steps, ap bytes stay.2.rest)
@@ -77,7 +77,7 @@ ends-smaller c =
     let k = ran_costs _ _ _ c.skip.ensures in
     let stay : (k : ℕ) × (k ≤ 7) × Stayed k c.skip.new.self c.match-look.cursor = elim c.match-look.branch [
       | in-None w ↦ rw w.cursor-is (stayed_one _ _ c.look.ensures.moved)
-      | in-Some-eq47 w ↦ let b = w.begins_slash_piece-is_end.ensures.stayed in rw w.cursor-is (stayed_more b.0 _ _ _ c.look.ensures.moved b.1 b.2)
+      | in-Some-eq47 w ↦ let b = w.begins_slash_lexeme-is_end.ensures.stayed in rw w.cursor-is (stayed_more b.0 _ _ _ c.look.ensures.moved b.1 b.2)
       | in-Some w ↦ rw w.cursor-is (stayed_one _ _ c.look.ensures.moved)
     ] in
     let step : Stepped c.match-look.cursor c.step.new.self = elim c.match-look.branch [
@@ -93,7 +93,7 @@ ends-preserved c =
     let k = ran_costs _ _ _ c.skip.ensures in
     let stay : (k : ℕ) × (k ≤ 7) × Stayed k c.skip.new.self c.match-look.cursor = elim c.match-look.branch [
       | in-None w ↦ rw w.cursor-is (stayed_one _ _ c.look.ensures.moved)
-      | in-Some-eq47 w ↦ let b = w.begins_slash_piece-is_end.ensures.stayed in rw w.cursor-is (stayed_more b.0 _ _ _ c.look.ensures.moved b.1 b.2)
+      | in-Some-eq47 w ↦ let b = w.begins_slash_lexeme-is_end.ensures.stayed in rw w.cursor-is (stayed_more b.0 _ _ _ c.look.ensures.moved b.1 b.2)
       | in-Some w ↦ rw w.cursor-is (stayed_one _ _ c.look.ensures.moved)
     ] in
     let step : Stepped c.match-look.cursor c.step.new.self = elim c.match-look.branch [

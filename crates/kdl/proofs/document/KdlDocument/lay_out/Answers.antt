@@ -26,7 +26,7 @@ returns-clause-formatted c =
     (option_map document_format_tree c.lay_out_content.new.format) (search (rules, the_lemmas))
     (c.in_ok-first.ensures (nodes_tree d.nodes.items) (search (rules, the_lemmas)) (search (rules, the_lemmas)))
     (subst (λ x. NodesAreSpaced l level first (map node_tree x.nodes.items) (map node_tree new.items)) (out-roll-KdlDocument fields) h))
-    c.lay_out_nodes.ensures.laid
+    c.lay_out_nodes.ensures.spaced
 
 pub returns-clause-well_formed : goal.returns-clause-well_formed
 returns-clause-well_formed c =
@@ -39,4 +39,4 @@ returns-clause-well_formed c =
     if_ok c.lay_out_nodes.result
     (λ h. fitting_document c.args.self.now (nodes_fit l level first (map node_tree d.nodes.items) new
     (subst (λ x. NodesAreSpaced l level first (map node_tree x.nodes.items) new) (out-roll-KdlDocument fields) h)))
-    c.lay_out_nodes.ensures.laid
+    c.lay_out_nodes.ensures.spaced

@@ -38,8 +38,8 @@ returns-in_default-clause-kept c =
     let same : c.pop.new.self.items ≡ c.steps.self.above.items = search rules in
     ap (λ z. map bare_node (whole z c.steps.self.inner)) same ∙ c.steps.invariant.0
 
-pub returns-in_default-clause-laid : goal.returns-in_default-clause-laid
-returns-in_default-clause-laid c level x olds u = (
+pub returns-in_default-clause-spaced : goal.returns-in_default-clause-spaced
+returns-in_default-clause-spaced c level x olds u = (
   search rules,
   all_done c.args.layout.now c.steps.self.above.items c.steps.self.inner level x olds (search rules) (search rules) (c.steps.invariant.1 level x olds u),
 )

@@ -27,7 +27,7 @@ returns-then-not-has_nodes-clause-goes_on c =
     let b' : Block = record { nodes = with_item b.nodes b.at c.lay_out_own.new.self; at = b.at + 1; level = b.level; before = b.before; next = c.in_ok-behind.behind } in
     let is : chars c.as_str.result.now ≡ text_of b.before = search rules in
     line_goes_on c.args.layout.now c.args.self.now.above.items b b' c.in_ok-behind.first c.index_mut-node.result.now c.lay_out_own.new.self (search rules) (search rules) (search rules) (search rules) (search rules) (search rules)
-    c.lay_out_own.ensures.block (λ h. search rules) (λ e. c.in_ok-behind.ensures.laid (is ∙ e))
+    c.lay_out_own.ensures.block (λ h. search rules) (λ e. c.in_ok-behind.ensures.spaced (is ∙ e))
 
 pub returns-in_err-level-clause-kept : goal.returns-in_err-level-clause-kept
 returns-in_err-level-clause-kept c =
@@ -62,4 +62,4 @@ returns-clause-goes_on c =
     (search rules) (search rules) (search rules) (search rules) (search rules) (search rules) (search rules) c.lay_out_own.ensures.block (search rules) c.exchange_nodes-nodes.ensures.had c.exchange_nodes-nodes.ensures.has (search rules) (search rules) (search rules) (search rules) (search rules)
     (search rules) (search rules) (search rules)
     (λ e. subst (λ (x : Before). Own s b.level b x inner.next c.index_mut-node.result.now c.lay_out_own.new.self) next
-    (subst (λ (x : Before). Own s b.level b c.in_ok-behind.behind x c.index_mut-node.result.now c.lay_out_own.new.self) first (c.in_ok-behind.ensures.laid (is ∙ e)))))
+    (subst (λ (x : Before). Own s b.level b c.in_ok-behind.behind x c.index_mut-node.result.now c.lay_out_own.new.self) first (c.in_ok-behind.ensures.spaced (is ∙ e)))))

@@ -25,7 +25,7 @@ returns-clause-formatted c =
     let fields = record (out-KdlNode n) { children = o } in
     if_ok c.lay_out_below.result (λ l. l.0)
     (laid_below c.lay_out_below.result c.args.layout.now c.args.level at_start c.in_ok-first.first c.args.self.now n (roll-KdlNode fields) o (node_below n (roll-KdlNode fields) o (out-roll-KdlNode fields) c.lay_out_below.ensures.block)
-    c.lay_out_own.ensures.block (c.in_ok-first.ensures.laid (search rules)).1 c.lay_out_below.ensures.laid)
+    c.lay_out_own.ensures.block (c.in_ok-first.ensures.spaced (search rules)).1 c.lay_out_below.ensures.spaced)
 
 pub returns-clause-well_formed : goal.returns-clause-well_formed
 returns-clause-well_formed c =
@@ -34,4 +34,4 @@ returns-clause-well_formed c =
     let fields = record (out-KdlNode n) { children = o } in
     if_ok c.lay_out_below.result (λ l. l.1)
     (laid_below c.lay_out_below.result c.args.layout.now c.args.level at_start c.in_ok-first.first c.args.self.now n (roll-KdlNode fields) o (node_below n (roll-KdlNode fields) o (out-roll-KdlNode fields) c.lay_out_below.ensures.block)
-    c.lay_out_own.ensures.block (c.in_ok-first.ensures.laid (search rules)).1 c.lay_out_below.ensures.laid)
+    c.lay_out_own.ensures.block (c.in_ok-first.ensures.spaced (search rules)).1 c.lay_out_below.ensures.spaced)

@@ -7,8 +7,8 @@ use Rattle.kdl_fmt.specs.Config.{settings}
 use Rattle.kdl.proofs.LayingOut.PartsSpaced.{laid_node, own_block, own_passes, fitting_node, nodes_laid, nodes_fit}
 use Rattle.kdl.proofs.node.KdlNode.lay_out_own.Goals as goal
 
-pub returns-clause-laid : goal.returns-clause-laid
-returns-clause-laid c e =
+pub returns-clause-spaced : goal.returns-clause-spaced
+returns-clause-spaced c e =
     let l = c.args.layout.now in
     let s = settings l.config in
     let first = c.in_ok-first.first in

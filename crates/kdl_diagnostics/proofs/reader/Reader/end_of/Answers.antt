@@ -15,4 +15,4 @@ returns-in-Left-clause-keeps c text x = record {
 }
 
 pub returns-in_default-clause-end : goal.returns-in_default-clause-end
-returns-in_default-clause-end c text x s = same_lies text c.copied.result c.args.piece.now.end c.copied.ensures (end_lies text c.args.piece.now s)
+returns-in_default-clause-end c text x s = same_lies text c.copied.result c.args.lexeme.now.end c.copied.ensures (end_lies text c.args.lexeme.now s)

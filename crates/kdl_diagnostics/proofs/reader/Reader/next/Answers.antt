@@ -5,7 +5,7 @@ use Rattle.kdl_diagnostics.proofs.reader.Reader.next.Goals as goal
 pub returns-clause-keeps : goal.returns-clause-keeps
 returns-clause-keeps c text x = record {
   whole = x.whole;
-  here = moved_here text c.args.self.now.cursor c.next_piece.new.cursor x.here c.next_piece.ensures.moves;
+  here = moved_here text c.args.self.now.cursor c.next_lexeme.new.cursor x.here c.next_lexeme.ensures.moves;
   left = x.left;
   faults = x.faults;
   blocks = x.blocks;
@@ -13,4 +13,4 @@ returns-clause-keeps c text x = record {
 }
 
 pub returns-clause-ready : goal.returns-clause-ready
-returns-clause-ready c = if_ok c.next_piece.result (λ p h s. (record { ends = λ e. (let x = s.ends (h e) in record { lacks = x.lacks; untold = x.untold; cut = x.cut }); place = s.place })) c.next_piece.ensures.end
+returns-clause-ready c = if_ok c.next_lexeme.result (λ p h s. (record { ends = λ e. (let x = s.ends (h e) in record { lacks = x.lacks; untold = x.untold; cut = x.cut }); place = s.place })) c.next_lexeme.ensures.end

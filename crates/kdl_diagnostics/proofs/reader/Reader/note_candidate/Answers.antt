@@ -13,7 +13,7 @@ returns-in_err-push-clause-keeps c text x s u v = record {
 
 pub returns-in_ok-push-clause-keeps : goal.returns-in_ok-push-clause-keeps
 returns-in_ok-push-clause-keeps c text x s u v =
-    let b = then_ends text c.args.piece.now.start.rest c.in-Some.backslash.rest s.start (rw c.in-Some.is at s.backslash) in
+    let b = then_ends text c.args.lexeme.now.start.rest c.in-Some.backslash.rest s.start (rw c.in-Some.is at s.backslash) in
     let i = span_in text c.args.self.now c.args.from.now c.in-Some.backslash c.span_between-span.result x u b c.span_between-span.ensures in
     record {
       whole = x.whole;

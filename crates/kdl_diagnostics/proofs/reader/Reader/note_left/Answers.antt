@@ -5,7 +5,7 @@ pub returns-in-Left-clause-keeps : goal.returns-in-Left-clause-keeps
 returns-in-Left-clause-keeps c text x s = record {
   whole = x.whole;
   here = x.here;
-  left = same_lies text c.copied-self.result c.args.piece.now.next c.copied-self.ensures (next_lies text c.args.piece.now s);
+  left = same_lies text c.copied-self.result c.args.lexeme.now.next c.copied-self.ensures (next_lies text c.args.lexeme.now s);
   faults = x.faults;
   blocks = x.blocks;
   candidates = x.candidates;

@@ -13,7 +13,7 @@ returns-in_err-push-clause-keeps c text x s = record {
 
 pub returns-clause-keeps : goal.returns-clause-keeps
 returns-clause-keeps c text x s =
-    let i = span_in text c.args.self.now c.args.piece.now.start c.args.piece.now.next c.span_between-span.result x s.start (next_lies text c.args.piece.now s) c.span_between-span.ensures in
+    let i = span_in text c.args.self.now c.args.lexeme.now.start c.args.lexeme.now.next c.span_between-span.result x s.start (next_lies text c.args.lexeme.now s) c.span_between-span.ensures in
     record {
       whole = x.whole;
       here = x.here;
