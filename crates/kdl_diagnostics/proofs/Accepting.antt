@@ -52,12 +52,10 @@ node_again (in_text b (c.at c.kept_slashdash fs)) = refl
 
 entry_again : (p : e.EntryControl) → Of (λ q. e.entry_step q space ≡ Some q) (e.entry_step p space)
 entry_again e.ahead = refl
-entry_again e.slashdashed = refl
-entry_again (e.type_open b) = refl
-entry_again (e.type_name b) = refl
-entry_again (e.type_done b) = refl
-entry_again (e.property b) = refl
-entry_again (e.dropped b s) = refl
+entry_again (e.dropping (c.in_node (c.fresh b))) = refl
+entry_again (e.dropping p) = refl
+entry_again (e.under (c.in_node q)) = refl
+entry_again (e.under p) = refl
 entry_again e.word = refl
 entry_again e.done = refl
 

@@ -4,7 +4,7 @@
 pub mod Building
 -- What a call costs for the texts that it slices: at most a step for each of their bytes.
 pub mod Counted
--- The machine of entry texts without data: which token may come where.
+-- The control at a state of the machine of entry texts, and where it goes in a text.
 pub mod EntryControl
 -- The machine that reads a text that is one entry: it reads the tokens once. The token k is in the text s before r, in the text `whole`.
 pub mod EntryMachine

@@ -9,10 +9,11 @@ use Rattle.kdl_text.specs.Trivia.{NodeSpace}
 use Rattle.kdl_text.specs.declared.span.SourceSpan.{SourceSpan}
 use Rattle.kdl_text.proofs.Looking.MovesJoin.{bytes-append}
 use Rattle.kdl_control.specs.Control.{Phase, fresh, spaced, in_node, entry_slashdash}
+use Rattle.kdl_control.specs.EntryControl.{dropped_turn}
 use Rattle.kdl_entry.specs.Internal.Building.{Stays}
 use Rattle.kdl_entry.specs.EarliestEntry.{DerivedEntry}
 use Rattle.kdl_entry.specs.Internal.EntryControl.{phase_of, EntryReaches, EntryStuck}
-use Rattle.kdl_entry.specs.Internal.EntryMachine.{State, ahead, dropping, under, word, done, came, dropped_turn, step, finish, Runs, stops, reads, AnswersEntry}
+use Rattle.kdl_entry.specs.Internal.EntryMachine.{State, ahead, dropping, under, word, done, came, step, finish, Runs, stops, reads, AnswersEntry}
 use Rattle.kdl_entry.specs.Internal.EntryReading.{AnswersEntryText, EndsIn, Ended, Same, Stands, Stepped}
 use Rattle.kdl_value.specs.Data.{Value}
 use Rattle.kdl_lexer.specs.Earliest.{IsRefusedAt}

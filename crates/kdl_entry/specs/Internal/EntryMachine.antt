@@ -1,15 +1,15 @@
 -- The machine that reads a text that is one entry: it reads the tokens once. The token k is in the text s before r, in the text `whole`.
 -- The start of a place is kept as the text from there on. Of a slashdashed entry only the phase of the control grammar is kept.
 use Rattle.std.specs.Prelude.{◌≡◌, true, [], Option, Some, None, option_map}
-use Rattle.kdl_control.specs.Control as control
-use Rattle.kdl_control.specs.Control.{Phase, fresh, spaced, in_node, entry_slashdash, at, without_block}
+use Rattle.kdl_control.specs.Control.{Phase, spaced, in_node, entry_slashdash}
+use Rattle.kdl_control.specs.EntryControl.{dropped_turn}
 use Rattle.kdl_text.specs.Chars.{Text}
 use Rattle.kdl_text.specs.declared.span.SourceSpan.{SourceSpan}
 use Rattle.kdl_value.specs.Data.{Value, text}
 use Rattle.kdl_entry.specs.Internal.Items as items
 use Rattle.kdl_entry.specs.Internal.Items.{entry_at, KeyParts, TypeParts, Item, opened, keyed, Answer, goes, gives, refuses}
 use Rattle.kdl_entry.specs.Places.{span_of, between}
-use Rattle.kdl_lexer.specs.Tokens.{Token, space, newline, slashdash, string, value, left, equals, semicolon, BeginsToken}
+use Rattle.kdl_lexer.specs.Tokens.{Token, space, newline, slashdash, string, value, left, equals, BeginsToken}
 use Rattle.kdl_entry.specs.Tree.{Identifier, EntryFormat, Entry, no_span, plain_identifier}
 
 -- a string that may still be a key: what comes before it, what it represents, its spelling, and its span
@@ -27,13 +27,6 @@ pub data State : Type 0 where
   under : Item → State
   word : Word → Text → State
   done : Entry → Text → State
-
--- the phase after a token in or after a slashdashed entry, where no block opens: neither a newline nor a `;` ends a node here, and spaces are due between the entry and the next slashdash
-abbrev pub dropped_turn : Phase → Token → Option Phase
-dropped_turn (in_node (fresh b)) slashdash = None
-dropped_turn (in_node p) newline = None
-dropped_turn (in_node p) semicolon = None
-dropped_turn p k = without_block (control.step (at p []) k)
 
 -- an entry being read, after the `(` of its type, which is in s before r
 abbrev pub opened_item : Text → Text → Text → Item

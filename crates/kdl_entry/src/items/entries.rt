@@ -1,9 +1,10 @@
 //! Entries that are a whole text, read token by token.
 
+ghost use Rattle.kdl_control.specs.EntryControl.{dropped_turn};
 ghost use Rattle.kdl_control.specs.Internal.Views.{phase_view};
 ghost use Rattle.kdl_entry.specs.Internal.Building.{item_view, Stays};
 ghost use Rattle.kdl_entry.specs.Internal.EntryMachine as machine;
-ghost use Rattle.kdl_entry.specs.Internal.EntryMachine.{argument_of, dropped_turn, ended, entry_by, finish, keyed_item, opened_item, step, word_at};
+ghost use Rattle.kdl_entry.specs.Internal.EntryMachine.{argument_of, ended, entry_by, finish, keyed_item, opened_item, step, word_at};
 ghost use Rattle.kdl_entry.specs.Internal.EntryReading.{word_view, state_view, AnswersEntryText, Stands, Stepped, Ended};
 ghost use Rattle.kdl_lexer.specs.Internal.Handed.{kind_view};
 ghost use Rattle.kdl_entry.specs.Places.{between};
