@@ -1,10 +1,10 @@
 -- Definitions that only proofs and contracts inside the crates use: no contract of a public call of `kdl` mentions them.
 
--- The item that a reader's fields represent, and what its steps return.
+-- The item that a reader's fields represent.
 pub mod Building
 -- What a call costs for the texts that it slices: at most a step for each of their bytes.
 pub mod Counted
--- The control at a state of the machine of entry texts, and where it goes in a text.
+-- Where the control of entry texts goes in a text.
 pub mod EntryControl
 -- The machine that reads a text that is one entry: it reads the tokens once. The token k is in the text s before r, in the text `whole`.
 pub mod EntryMachine
