@@ -4,13 +4,11 @@
 pub mod Building
 -- What a call costs for the texts that it slices: at most a step for each of their bytes.
 pub mod Counted
--- Where the control of entry texts goes in a text.
-pub mod EntryControl
 -- The machine that reads a text that is one entry: it reads the tokens once. The token k is in the text s before r, in the text `whole`.
 pub mod EntryMachine
 -- The machine's state that a reader of an entry holds, and what its steps return.
 pub mod EntryReading
--- How far a machine without data reads in a text.
+-- How far a machine without data reads in a text, and the control of an entry text.
 pub mod Going
 -- What the reader of identifier texts returns.
 pub mod IdentifierReading

@@ -13,12 +13,11 @@ use Rattle.kdl_control.specs.EntryControl as control
 use Rattle.kdl_control.specs.EntryControl.{EntryControl, entry_step}
 use Rattle.kdl_entry.specs.Internal.Building.{Stays}
 use Rattle.kdl_entry.specs.EarliestEntry.{DerivedEntry}
-use Rattle.kdl_entry.specs.Internal.EntryControl.{EntryReaches, EntryStuck}
 use Rattle.kdl_entry.specs.Internal.EntryMachine.{Word, State, ahead, dropping, under, word, done, phase_of, begin_to, value_to, under_to, word_to, go_to, if_taken, step, finish, Runs, stops, reads, AnswersEntry}
 use Rattle.kdl_entry.specs.Internal.EntryReading.{AnswersEntryText, EndsIn, Ended, Same, Stands, Stepped}
 use Rattle.kdl_lexer.specs.Earliest.{IsRefusedAt}
 use Rattle.kdl_lexer.specs.Internal.Handed.{Cuts, one, spaces, IsFaultAt, HandsOut, Lexed, kind_view}
-use Rattle.kdl_entry.specs.Internal.Going.{GoesBy}
+use Rattle.kdl_entry.specs.Internal.Going.{GoesBy, EntryReaches, EntryStuck}
 use Rattle.kdl_entry.specs.Internal.Items.{Item, taken}
 use Rattle.kdl_lexer.specs.Tokens.{Token, space, string, value, left, right, BeginsToken, t_space, NoToken}
 use Rattle.kdl_entry.specs.Tree.{Entry, entry_tree}
@@ -133,17 +132,16 @@ module _ (whole s r : Text) (b : EndsIn s r) where
   under_stands p it (control.under q) k st e a = to _ st e (item_stands p it k a)
   under_stands p it c k st e a = value_stands p it k st e
 
-  word_stands : (w : Word) (f : Text) (c : EntryControl) (st : State) → word_to whole w f c s r ≡ Some st → EndsIn f s → Stands st r
-  word_stands w f control.word st e a = to (word w f) st e (then_ends a b)
-  word_stands w f control.done st e a = to (done _ f) st e (then_ends a b)
-  word_stands w f (control.under p) st e a = to _ st e (ends_here r)
-  word_stands w f _ st e a = absurd cc
+  word_stands : (w : Word) (f : Text) (c : EntryControl) → EndsIn f s → Stands (word_to whole w f c s r) r
+  word_stands w f control.word a = then_ends a b
+  word_stands w f (control.under p) a = ends_here r
+  word_stands w f c a = then_ends a b
 
   go_stands : (x st : State) (c : EntryControl) (k : Token) → go_to whole x c k s r ≡ Some st → Stands x s → Stands st r
   go_stands ahead st c k e a = begin_stands c st k e
   go_stands (dropping p) st c k e a = begin_stands c st k e
   go_stands (under p it) st c k e a = under_stands p it c k st e a
-  go_stands (word w f) st c k e a = word_stands w f c st e a
+  go_stands (word w f) st c k e a = to _ st e (word_stands w f c a)
   go_stands (done x f) st c k e a = to (done x f) st e (then_ends a b)
 
   step_stands : (x st : State) (k : Token) → step whole x k s r ≡ Some st → Stands x s → Stands st r

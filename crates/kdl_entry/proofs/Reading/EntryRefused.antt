@@ -1,5 +1,5 @@
 -- Where an entry text is refused.
-use Rattle.std.proofs.Common.{◌≡◌, ◌⊎◌, inl, inr, ℕ, ◌+◌, ◌++◌, [], take, Some, None, refl, ap, subst, arith}
+use Rattle.std.proofs.Common.{◌≡◌, ◌⊎◌, inl, inr, ℕ, ◌+◌, ◌++◌, [], take, Some, None, ap, subst, arith}
 use Rattle.kdl_text.specs.Chars.{Text, Star, plus}
 use Rattle.kdl_text.specs.Chars.Star.{none as no_star, more}
 use Rattle.kdl_text.specs.Spans.{bytes}
@@ -9,27 +9,17 @@ use Rattle.kdl_lexer.specs.Earliest.{BeginsNone, BeginsNoOther, IsCut, up_to_her
 use Rattle.kdl_lexer.specs.Internal.Handed.{Cuts, one, spaces}
 use Rattle.kdl_lexer.specs.Tokens.{Token, space, t_space, NoToken}
 use Rattle.kdl_lexer.proofs.Lexing.TokenUnique.{no_token}
-use Rattle.kdl_control.specs.Control.{fresh, spaced, in_node}
-use Rattle.kdl_control.specs.EntryControl.{EntryControl, ahead, dropping, under, word, done, entry_step}
+use Rattle.kdl_control.specs.EntryControl.{EntryControl, entry_step}
 use Rattle.kdl_entry.specs.EarliestEntry.{DerivedEntry}
-use Rattle.kdl_entry.specs.Internal.EntryControl.{EntryReaches, EntryStuck}
 use Rattle.kdl_entry.specs.Internal.EntryReading.{EndsIn}
-use Rattle.kdl_entry.specs.Internal.Going.{GoesBy, here, goes}
+use Rattle.kdl_entry.specs.Internal.Going.{GoesBy, here, goes, EntryReaches, EntryStuck}
+use Rattle.kdl_diagnostics.proofs.Accepting.{Of, entry_again}
 use Rattle.kdl_entry.proofs.Reading.EntryRefusing.{entry_dead}
 use Rattle.kdl_entry.proofs.Reading.EntryViable.{entry_alive}
 
 -- a space more changes nothing
-to_same : (c d : EntryControl) → Some c ≡ Some d → entry_step c space ≡ Some c → entry_step d space ≡ Some d
-to_same c d e f = let q : c ≡ d = cc in subst (λ (z : EntryControl). entry_step z space ≡ Some z) q f
-
 again : (c d : EntryControl) → entry_step c space ≡ Some d → entry_step d space ≡ Some d
-again ahead d e = to_same ahead d e refl
-again (dropping (in_node (fresh b))) d e = to_same (dropping (in_node (spaced b))) d e refl
-again (dropping p) d e = to_same (dropping p) d e refl
-again (under (in_node q)) d e = to_same done d e refl
-again (under p) d e = to_same (under p) d e refl
-again word d e = to_same word d e refl
-again done d e = to_same done d e refl
+again c d e = subst (Of (λ z. entry_step z space ≡ Some z)) e (entry_again c)
 
 over_spaces : (c : EntryControl) {s r : Text} → entry_step c space ≡ Some c → Star NodeSpace s r → GoesBy entry_step c s c r
 over_spaces c e no_star = here

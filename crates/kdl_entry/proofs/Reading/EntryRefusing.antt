@@ -12,7 +12,7 @@ use Rattle.kdl_control.specs.Control as control
 use Rattle.kdl_control.specs.Control.{spaced, gap, node_slashdash, type_open, type_done, in_node, property, entry_slashdash, at, without_block}
 use Rattle.kdl_control.specs.EntryControl.{EntryControl, ahead, dropping, under, word, done, under_phase, entry_step}
 use Rattle.kdl_entry.specs.EarliestEntry.{DerivedEntry}
-use Rattle.kdl_entry.specs.Internal.EntryControl.{EntryReaches}
+use Rattle.kdl_entry.specs.Internal.Going.{EntryReaches}
 use Rattle.kdl_entry.proofs.Reading.EntryErased.{Accepts, ends, takes, derived_accepts, follow}
 use Rattle.kdl_entry.proofs.Reading.Going.{near_goes}
 

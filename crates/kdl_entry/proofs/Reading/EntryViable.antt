@@ -16,7 +16,7 @@ use Rattle.kdl_control.specs.Control.{fresh, spaced, gap, node_slashdash, type_o
 use Rattle.kdl_control.specs.EntryControl.{EntryControl, ahead, dropping, under, word, done, entry_step}
 use Rattle.kdl_entry.specs.EarliestEntry.{DerivedEntry}
 use Rattle.kdl_entry.specs.Entries.{IsEntryText}
-use Rattle.kdl_entry.specs.Internal.EntryControl.{EntryReaches}
+use Rattle.kdl_entry.specs.Internal.Going.{EntryReaches}
 use Rattle.kdl_entry.proofs.Moving.TokenMoves.{Fits}
 use Rattle.kdl_entry.proofs.Reading.EntryErased.{Accepts, ends, takes, accepts_derived, behind}
 use Rattle.kdl_entry.proofs.Reading.Going.{carry}

@@ -85,18 +85,17 @@ under_to whole p it (control.under q) k s r = Some (under q (taken p whole it k 
 under_to whole p it c k s r = value_to p it k s r
 
 -- the state after a token after a string that may be a key, after which the control is c
-abbrev pub word_to : Text → Word → Text → control.EntryControl → Text → Text → Option State
-word_to whole w from control.word s r = Some (word w from)
-word_to whole w from control.done s r = Some (done (argument_of w) from)
-word_to whole w from (control.under p) s r = Some (under p (keyed_item whole w.leading (word_identifier w) (between from s) r))
-word_to whole w from c s r = None
+abbrev pub word_to : Text → Word → Text → control.EntryControl → Text → Text → State
+word_to whole w from control.word s r = word w from
+word_to whole w from (control.under p) s r = under p (keyed_item whole w.leading (word_identifier w) (between from s) r)
+word_to whole w from c s r = done (argument_of w) from
 
 -- the state after the token, after which the control is c
 abbrev pub go_to : Text → State → control.EntryControl → Token → Text → Text → Option State
 go_to whole ahead c k s r = begin_to whole c k s r
 go_to whole (dropping p) c k s r = begin_to whole c k s r
 go_to whole (under p it) c k s r = under_to whole p it c k s r
-go_to whole (word w from) c k s r = word_to whole w from c s r
+go_to whole (word w from) c k s r = Some (word_to whole w from c s r)
 go_to whole (done e from) c k s r = Some (done e from)
 
 -- where the control refuses the token, none

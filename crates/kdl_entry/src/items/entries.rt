@@ -159,7 +159,7 @@ fn argument(word: Word) -> Result<KdlEntry, AllocError>
     Ok(entry_from(alloc, UNPLACED, leading, given, repr))
 }
 
-/// Takes a token before the entry, after which the control is `next`.
+/// Takes a token before the entry. The control goes to `next`.
 fn begin_to<'a>(
     next: EntryControl,
     alloc: Global,
@@ -240,25 +240,22 @@ fn at_value<'a>(
     }
 }
 
-/// Takes a token after a string that may still be a key, after which the control is `next`.
+/// Takes a token after a string that may still be a key. The control goes to `next`.
 fn word_to<'a>(
     next: EntryControl,
     word: Word<'a>,
     lexer: &mut Lexer<'a>,
     whole: &Checkpoint<'a>,
     at: &TokenSpan<'a>,
-) -> Result<State<'a>, LexFailure>
+) -> Result<State<'a>, AllocError>
     requires { Ahead word.end at.now.start }
-    ensures did { Stepped (word_to whole.now.rest (word_view word.entry) word.entry.end.rest
-        (entry_view next) at.now.start.rest at.now.end.rest) at.now.start result }
+    ensures is { IfOk result (λ st. state_view st
+        ≡ word_to whole.now.rest (word_view word.entry) word.entry.end.rest (entry_view next)
+        at.now.start.rest at.now.end.rest) }
     ensures stays { Stays lexer.old lexer.new }
 {
     match next {
         EntryControl::Word => Ok(State::Pending(word)),
-        EntryControl::Done => {
-            let end = word.end.copied();
-            Ok(State::Done(argument(word)?, end))
-        }
         EntryControl::Under(phase) => {
             let before = text_between(word.alloc, lexer, &word.end, &at.start)?;
             let Word {
@@ -273,7 +270,10 @@ fn word_to<'a>(
             let key = Key { name, before };
             Ok(State::Under(phase, keyed(alloc, whole, leading, key, &at.end)))
         }
-        _ => Err(LexFailure::Faulty(fault_at(&at.start))),
+        _ => {
+            let end = word.end.copied();
+            Ok(State::Done(argument(word)?, end))
+        }
     }
 }
 
@@ -342,7 +342,7 @@ impl<'a> State<'a> {
                 }
                 _ => at_value(phase, item, lexer, token),
             },
-            State::Pending(word) => word_to(next, word, lexer, whole, &token.at),
+            State::Pending(word) => Ok(word_to(next, word, lexer, whole, &token.at)?),
             State::Done(entry, from) => Ok(State::Done(entry, from)),
         }
     }

@@ -13,7 +13,7 @@ ghost use Rattle.kdl_value.specs.Tree.{value_tree, text_of};
 ghost use Rattle.kdl_entry.specs.Tree.{entry_tree, identifier_tree};
 ghost use Rattle.kdl_text.specs.Internal.Here.{Ahead};
 ghost use Rattle.kdl_text.specs.Spans.{bytes};
-ghost use Rattle.std.specs.Prelude.{◌≡◌, [], Some, None, true, IfOk, OnOk, option_map};
+ghost use Rattle.std.specs.Prelude.{◌≡◌, [], Some, None, IfOk, OnOk, option_map};
 
 use crate::entry::{KdlEntry, KdlEntryFormat};
 use crate::identifier::{KdlIdentifier, sliced_identifier};
@@ -440,7 +440,7 @@ impl<'a> Item<'a> {
         Ok(())
     }
 
-    /// Continues after a token that the control takes in the phase. The token is not the item's value.
+    /// Continues after a token that may come in the phase and is not the item's value.
     ///
     /// ```
     /// item.take(Phase::TypeOpen(Owner::Value), &mut lexer, &whole, name)?; // the type has its name
@@ -470,7 +470,7 @@ impl<'a> Item<'a> {
         }
     }
 
-    /// Returns what the item gives: its key, its type and the value, which begins at `start` in the phase.
+    /// Ends the item in the phase, with its value, which begins at `start`. Returns its key, its type and the value.
     ///
     /// ```
     /// let given = item.give(Phase::Property, &mut lexer, value, &at.start)?; // no type
