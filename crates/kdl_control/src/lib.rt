@@ -7,6 +7,6 @@ mod events;
 mod node_control;
 
 pub use control::{Control, Ended, Frame, Owner, Phase, Spot, Word};
-pub use entry_control::{EntryControl, Role};
+pub use entry_control::EntryControl;
 pub use events::Event;
 pub use node_control::NodeControl;

@@ -16,6 +16,8 @@ pub mod IdentifierToken
 pub mod IdentifierAnswers
 -- What a machine without data goes over, it goes over before another rest too.
 pub mod Going
+-- The phases that the control of entry texts reaches.
+pub mod Placed
 -- The machine of entry texts without data accepts what the grammar derives.
 pub mod EntryErased
 -- What the machine of entry texts goes over begins an entry text.

@@ -10,8 +10,9 @@ use Rattle.kdl_lexer.proofs.Lexing.TokenFronts.{RefusedWith, refused_with}
 use Rattle.kdl_lexer.proofs.Lexing.TokenUnique.{no_token}
 use Rattle.kdl_control.specs.Control as control
 use Rattle.kdl_control.specs.Control.{spaced, gap, node_slashdash, type_open, type_done, in_node, property, entry_slashdash, at, without_block}
+use Rattle.kdl_control.specs.EntryControl.{EntryControl, ahead, dropping, under, word, done, under_phase, entry_step}
 use Rattle.kdl_entry.specs.EarliestEntry.{DerivedEntry}
-use Rattle.kdl_entry.specs.Internal.EntryControl.{Phase, ahead, dropping, under, word, done, under_phase, turn, EntryReaches}
+use Rattle.kdl_entry.specs.Internal.Going.{EntryReaches}
 use Rattle.kdl_entry.proofs.Reading.EntryErased.{Accepts, ends, takes, derived_accepts, follow}
 use Rattle.kdl_entry.proofs.Reading.Going.{near_goes}
 
@@ -53,7 +54,7 @@ not_dropping None e = refl
 not_dropping (Some p) e = absurd cc
 
 -- and so does the machine of entry texts
-no_string : (c : Phase) (v : Text) (w : Text) → turn c (string v) ≡ None → turn c (string w) ≡ None
+no_string : (c : EntryControl) (v : Text) (w : Text) → entry_step c (string v) ≡ None → entry_step c (string w) ≡ None
 no_string ahead v w e = absurd cc
 no_string (dropping (in_node (spaced b))) v w e = absurd cc
 no_string (dropping p) v w e = ap (option_map dropping) (string_refused p v w (not_dropping _ e))
@@ -61,7 +62,7 @@ no_string (under p) v w e = ap under_phase (string_refused p v w (not_under _ e)
 no_string word v w e = refl
 no_string done v w e = refl
 
-no_value : (c : Phase) (v : Text) (w : Value) → turn c (string v) ≡ None → turn c (value w) ≡ None
+no_value : (c : EntryControl) (v : Text) (w : Value) → entry_step c (string v) ≡ None → entry_step c (value w) ≡ None
 no_value ahead v w e = absurd cc
 no_value (dropping (in_node (spaced b))) v w e = absurd cc
 no_value (dropping p) v w e = ap (option_map dropping) (value_refused p v w (not_dropping _ e))
@@ -69,7 +70,7 @@ no_value (under p) v w e = ap under_phase (value_refused p v w (not_under _ e))
 no_value word v w e = refl
 no_value done v w e = refl
 
-no_other : (c : Phase) (v : Value) (w : Value) → turn c (value v) ≡ None → turn c (value w) ≡ None
+no_other : (c : EntryControl) (v : Value) (w : Value) → entry_step c (value v) ≡ None → entry_step c (value w) ≡ None
 no_other ahead v w e = absurd cc
 no_other (dropping (in_node (spaced b))) v w e = absurd cc
 no_other (dropping p) v w e = ap (option_map dropping) (other_refused p v w (not_dropping _ e))
@@ -77,25 +78,25 @@ no_other (under p) v w e = ap under_phase (other_refused p v w (not_under _ e))
 no_other word v w e = refl
 no_other done v w e = refl
 
-refused_too : (c : Phase) (k j : Token) → RefusedWith k j → turn c k ≡ None → turn c j ≡ None
+refused_too : (c : EntryControl) (k j : Token) → RefusedWith k j → entry_step c k ≡ None → entry_step c j ≡ None
 refused_too c (string v) (string w) a e = no_string c v w e
 refused_too c (string v) (value w) a e = no_value c v w e
 refused_too c (value v) (value w) a e = no_other c v w e
-refused_too c space j a e = ap (turn c) (sym a) ∙ e
-refused_too c newline j a e = ap (turn c) (sym a) ∙ e
-refused_too c slashdash j a e = ap (turn c) (sym a) ∙ e
-refused_too c left j a e = ap (turn c) (sym a) ∙ e
-refused_too c right j a e = ap (turn c) (sym a) ∙ e
-refused_too c opening j a e = ap (turn c) (sym a) ∙ e
-refused_too c closing j a e = ap (turn c) (sym a) ∙ e
-refused_too c equals j a e = ap (turn c) (sym a) ∙ e
-refused_too c semicolon j a e = ap (turn c) (sym a) ∙ e
-refused_too c bom j a e = ap (turn c) (sym a) ∙ e
+refused_too c space j a e = ap (entry_step c) (sym a) ∙ e
+refused_too c newline j a e = ap (entry_step c) (sym a) ∙ e
+refused_too c slashdash j a e = ap (entry_step c) (sym a) ∙ e
+refused_too c left j a e = ap (entry_step c) (sym a) ∙ e
+refused_too c right j a e = ap (entry_step c) (sym a) ∙ e
+refused_too c opening j a e = ap (entry_step c) (sym a) ∙ e
+refused_too c closing j a e = ap (entry_step c) (sym a) ∙ e
+refused_too c equals j a e = ap (entry_step c) (sym a) ∙ e
+refused_too c semicolon j a e = ap (entry_step c) (sym a) ∙ e
+refused_too c bom j a e = ap (entry_step c) (sym a) ∙ e
 refused_too c (string v) _ a e = absurd a
 refused_too c (value v) _ a e = absurd a
 
 -- nothing is accepted that begins with a front of refused tokens alone
-refused_front : (c : Phase) (f u : Text) → f ++ u ≢ [] → ((r : Text) (k : Token) → BeginsToken (f ++ u) k r → turn c k ≡ None) → Accepts c (f ++ u) → ⊥
+refused_front : (c : EntryControl) (f u : Text) → f ++ u ≢ [] → ((r : Text) (k : Token) → BeginsToken (f ++ u) k r → entry_step c k ≡ None) → Accepts c (f ++ u) → ⊥
 refused_front c f u some n a = go (f ++ u) refl a
   where
     go : (s : Text) → s ≡ f ++ u → Accepts c s → ⊥
@@ -119,7 +120,7 @@ two_some (c ∷ []) u h e = cc
 two_some (c ∷ d ∷ r) u h e = cc
 
 -- no entry text begins with what it went over and the first two characters of a token that it refuses
-pub entry_dead : (p r s : Text) (c : Phase) (k : Token) → EntryReaches (p ++ r) c r → BeginsToken r k s → turn c k ≡ None → BeginsNoOther DerivedEntry (p ++ take 2 r)
+pub entry_dead : (p r s : Text) (c : EntryControl) (k : Token) → EntryReaches (p ++ r) c r → BeginsToken r k s → entry_step c k ≡ None → BeginsNoOther DerivedEntry (p ++ take 2 r)
 entry_dead p r s c k g b n u x =
     let (q, e) = two_parts r in
     let f = take 2 r in
