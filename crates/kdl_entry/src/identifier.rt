@@ -204,7 +204,8 @@ impl KdlIdentifier {
 /// let mut lexer = Lexer::new("ab=1", Steps::new());
 /// let whole = lexer.checkpoint();
 /// let token = lexer.next(alloc)?; // the string `ab`
-/// let piece = lexer.slice_between(&whole, &lexer.checkpoint());
+/// let mut slices = Slices::new(alloc, whole.copied());
+/// let piece = slices.piece(&whole, &lexer.checkpoint());
 /// let span = SourceSpan { offset: 0, len: 2 };
 /// let name = sliced_identifier(alloc, String::from_str(alloc, "ab")?, &piece, span)?; // prints "ab"
 /// ```

@@ -3,3 +3,4 @@
 mod entries;
 mod identifiers;
 pub mod item;
+pub mod slices;

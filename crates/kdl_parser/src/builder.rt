@@ -1,17 +1,16 @@
 //! The builder: a document being read, token by token.
 
-ghost use Rattle.kdl_entry.specs.Internal.Building.{Stays};
 ghost use Rattle.kdl_grammar.specs.Internal.Machine.{initial};
 ghost use Rattle.kdl_parser.specs.Internal.Answered.{Finished};
 ghost use Rattle.kdl_parser.specs.Internal.Building.{state_view, EndsIn, Placed};
 ghost use Rattle.kdl_parser.specs.Internal.Counted.{unsliced, SlicedOn};
 ghost use Rattle.kdl_parser.specs.Internal.Events.{Acts, ItemAhead, is_live, mark_step, string_step, value_step};
-ghost use Rattle.kdl_parser.specs.Internal.States.{document_now, document_of_nodes, spot_of, Steps, Takes, token_step};
+ghost use Rattle.kdl_parser.specs.Internal.States.{document_now, document_of_nodes, Steps, Takes, token_step};
 ghost use Rattle.kdl_parser.specs.declared.builder.dropping.Dropped.TheVariants.{Nothing};
 ghost use Rattle.kdl_text.specs.Internal.Here.{Ahead};
-ghost use Rattle.kdl_text.specs.Spans.{bytes, raise};
+ghost use Rattle.kdl_text.specs.Spans.{bytes};
 ghost use Rattle.kdl_value.specs.Tree.{text_of, value_tree};
-ghost use Rattle.std.specs.Prelude.{◌≡◌, ◌+◌, ◌≤◌, [], true};
+ghost use Rattle.std.specs.Prelude.{◌≡◌, ◌+◌, [], true};
 
 mod content;
 mod dropping;
@@ -22,9 +21,10 @@ use self::dropping::Dropped;
 use crate::node_parts::{DocumentParts, ParsedNode};
 use kdl_control::{Event, Phase};
 use kdl_entry::items::item::{Item, TypeParts, empty};
+use kdl_entry::items::slices::Slices;
 use kdl_entry::{KdlEntry, KdlIdentifier, KdlValue};
-use kdl_lexer::{LexFailure, Lexer, Token, TokenKind, TokenSpan, fault_at};
-use kdl_text::cursor::{Checkpoint, Piece};
+use kdl_lexer::{LexFailure, Token, TokenKind, TokenSpan, fault_at};
+use kdl_text::cursor::{self, Checkpoint, Piece};
 use kdl_text::span::SourceSpan;
 use std::alloc::Global;
 use std::mem;
@@ -67,9 +67,8 @@ struct Slot<'a> {
 /// A document being read. It holds nothing of what is slashdashed.
 #[derive(Drop)]
 pub(crate) struct Builder<'a, N> {
-    alloc: Global,
-    /// The start of the text.
-    whole: Checkpoint<'a>,
+    /// The text, of which each place and each spelling that the document keeps is sliced once.
+    slices: Slices<'a>,
     /// The phase of the grammar, outside of what is slashdashed.
     phase: Phase,
     /// What is slashdashed and being read.
@@ -110,11 +109,11 @@ impl<'a, N: ParsedNode> Builder<'a, N> {
     pub(crate) fn new(alloc: Global, whole: Checkpoint<'a>, start: Checkpoint<'a>) -> Self
         ensures state { state_view N.tree result ≡ initial start.entry.rest }
         ensures unsliced { unsliced result ≡ bytes start.entry.rest }
-        ensures whole { result.whole ≡ whole.entry }
+        ensures whole { result.slices.whole ≡ whole.entry }
+        ensures steps { result.slices.steps ≡ 0 }
     {
         Builder {
-            alloc,
-            whole,
+            slices: Slices::new(alloc, whole),
             phase: Phase::Gap,
             dropped: Dropped::Nothing,
             item: Item::new(alloc, &start),
@@ -138,7 +137,6 @@ impl<'a, N: ParsedNode> Builder<'a, N> {
     #[tactic(auto, using(crate::proofs::Stepping::StepsDone::does_did))]
     fn take_value(
         &mut self,
-        lexer: &mut Lexer<'a>,
         event: Event,
         value: KdlValue,
         at: &TokenSpan<'a>,
@@ -147,12 +145,12 @@ impl<'a, N: ParsedNode> Builder<'a, N> {
         requires from { Ahead self.old.from at.now.start }
         requires item { ItemAhead event self.old.item.from at.now.start }
         ensures { Acts N.tree event (value_step N.tree self.old event (value_tree value) at.now.start at.now.end) at.now
-            self.old result self.new lexer.old lexer.new }
+            self.old result self.new }
     {
         match event {
-            Event::Argument => self.add_argument(lexer, value, at),
-            Event::TypedValue => self.add_typed(lexer, value, at),
-            Event::KeyedValue => self.add_keyed(lexer, value, at),
+            Event::Argument => self.add_argument(value, at),
+            Event::TypedValue => self.add_typed(value, at),
+            Event::KeyedValue => self.add_keyed(value, at),
             _ => Err(LexFailure::Faulty(fault_at(&at.start))),
         }
     }
@@ -162,7 +160,6 @@ impl<'a, N: ParsedNode> Builder<'a, N> {
     #[tactic(auto, using(crate::proofs::Stepping::StepsDone::does_did))]
     fn take_string(
         &mut self,
-        lexer: &mut Lexer<'a>,
         event: Event,
         text: String,
         at: &TokenSpan<'a>,
@@ -171,154 +168,141 @@ impl<'a, N: ParsedNode> Builder<'a, N> {
         requires from { Ahead self.old.from at.now.start }
         requires item { ItemAhead event self.old.item.from at.now.start }
         ensures { Acts N.tree event (string_step N.tree self.old event (text_of text) at.now.start at.now.end) at.now
-            self.old result self.new lexer.old lexer.new }
+            self.old result self.new }
     {
         match event {
-            Event::Name => self.name_node(lexer, text, at),
-            Event::TypedName => self.name_typed(lexer, text, at),
-            Event::TypeName(owner) => self.name_type(lexer, owner, text, at),
-            Event::Word => self.wait(lexer, text, at),
-            _ => self.take_value(lexer, event, KdlValue::String(text), at),
+            Event::Name => self.name_node(text, at),
+            Event::TypedName => self.name_typed(text, at),
+            Event::TypeName(owner) => self.name_type(owner, text, at),
+            Event::Word => self.wait(text, at),
+            _ => self.take_value(event, KdlValue::String(text), at),
         }
     }
 
     /// Takes a token that is this for the tree, and neither a string nor a value.
     #[inline(always)]
-    #[tactic(auto, using(crate::proofs::Stepping::StepsDone::does_did, crate::proofs::Stepping::StepsDone::none_sliced))]
-    fn take_mark(
-        &mut self,
-        lexer: &mut Lexer<'a>,
-        event: Event,
-        at: &TokenSpan<'a>,
-    ) -> Result<(), LexFailure>
+    #[tactic(auto, using(crate::proofs::Stepping::StepsDone::does_did, crate::proofs::Stepping::StepsDone::none_sliced, crate::proofs::Stepping::StepsDone::does_sliced))]
+    fn take_mark(&mut self, event: Event, at: &TokenSpan<'a>) -> Result<(), LexFailure>
         requires live { self.old.dropped ≡ Nothing }
         requires from { Ahead self.old.from at.now.start }
         requires item { ItemAhead event self.old.item.from at.now.start }
         ensures { Acts N.tree event (mark_step N.tree self.old event at.now.start at.now.end) at.now
-            self.old result self.new lexer.old lexer.new }
+            self.old result self.new }
     {
         match event {
             Event::Skip(phase) => {
                 self.phase = phase;
                 Ok(())
             }
-            Event::NameType => self.open_name(lexer, at),
-            Event::ValueType => self.open_value(lexer, at),
-            Event::KeyedType => self.open_keyed_type(lexer, at),
-            Event::TypeEnd(owner) => self.end_type(lexer, owner, at),
-            Event::Equals => self.open_property(lexer, at),
+            Event::NameType => self.open_name(at),
+            Event::ValueType => self.open_value(at),
+            Event::KeyedType => self.open_keyed_type(at),
+            Event::TypeEnd(owner) => self.end_type(owner, at),
+            Event::Equals => self.open_property(at),
             Event::EntrySlashdash => self.go_past_slashdash(),
-            Event::NodeEnd => self.end_node(lexer, at),
-            Event::KeptEnd => self.end_kept(lexer, at),
-            Event::Opening(_) => self.open_block(lexer, at),
-            Event::GapClosing => self.close(lexer, at),
-            Event::NodeClosing => self.close_node(lexer, at),
-            Event::KeptClosing => self.close_kept(lexer, at),
+            Event::NodeEnd => self.end_node(at),
+            Event::KeptEnd => self.end_kept(at),
+            Event::Opening(_) => self.open_block(at),
+            Event::GapClosing => self.close(at),
+            Event::NodeClosing => self.close_node(at),
+            Event::KeptClosing => self.close_kept(at),
             _ => Err(LexFailure::Faulty(fault_at(&at.start))),
         }
     }
 
     /// Takes a token outside of what is slashdashed.
     #[inline(always)]
-    fn take_live(
-        &mut self,
-        lexer: &mut Lexer<'a>,
-        kind: TokenKind,
-        at: &TokenSpan<'a>,
-    ) -> Result<(), LexFailure>
+    fn take_live(&mut self, kind: TokenKind, at: &TokenSpan<'a>) -> Result<(), LexFailure>
         requires live { self.old.dropped ≡ Nothing }
         requires phase { is_live self.old.phase ≡ true }
         requires placed { Placed (state_view N.tree self.old) at.now.start.rest }
-        ensures { Takes N.tree self.old kind at.now result self.new lexer.old lexer.new }
+        ensures { Takes N.tree self.old kind at.now result self.new }
     {
         let Some(event) = self.phase.event(&kind) else {
             return Err(LexFailure::Faulty(fault_at(&at.start)));
         };
         match kind {
-            TokenKind::String(text) => self.take_string(lexer, event, text, at),
-            TokenKind::Value(value) => self.take_value(lexer, event, value, at),
-            _ => self.take_mark(lexer, event, at),
+            TokenKind::String(text) => self.take_string(event, text, at),
+            TokenKind::Value(value) => self.take_value(event, value, at),
+            _ => self.take_mark(event, at),
         }
     }
 
     /// Takes a token if nothing slashdashed is being read.
     #[inline(always)]
-    fn take_kept(
-        &mut self,
-        lexer: &mut Lexer<'a>,
-        kind: TokenKind,
-        at: &TokenSpan<'a>,
-    ) -> Result<(), LexFailure>
+    fn take_kept(&mut self, kind: TokenKind, at: &TokenSpan<'a>) -> Result<(), LexFailure>
         requires live { self.old.dropped ≡ Nothing }
         requires placed { Placed (state_view N.tree self.old) at.now.start.rest }
-        ensures { Takes N.tree self.old kind at.now result self.new lexer.old lexer.new }
+        ensures { Takes N.tree self.old kind at.now result self.new }
     {
         match self.phase {
-            Phase::NodeSlashdash => self.drop_token(Dropped::node(self.alloc), kind, at),
-            Phase::EntrySlashdash | Phase::BlockSlashdash | Phase::KeptSlashdash => {
-                self.drop_token(Dropped::part(self.alloc, self.phase), kind, at)
+            Phase::NodeSlashdash => {
+                let dropped = Dropped::node(self.slices.alloc());
+                self.drop_token(dropped, kind, at)
             }
-            _ => self.take_live(lexer, kind, at),
+            Phase::EntrySlashdash | Phase::BlockSlashdash | Phase::KeptSlashdash => {
+                let dropped = Dropped::part(self.slices.alloc(), self.phase);
+                self.drop_token(dropped, kind, at)
+            }
+            _ => self.take_live(kind, at),
         }
     }
 
     /// Takes a token. Fails if the token may not be here, or if an allocation fails; the builder is then in an
     /// unspecified state.
     #[inline(always)]
-    pub(crate) fn take(&mut self, lexer: &mut Lexer<'a>, token: Token<'a>) -> Result<(), LexFailure>
+    pub(crate) fn take(&mut self, token: Token<'a>) -> Result<(), LexFailure>
         requires placed { Placed (state_view N.tree self.old) token.at.start.rest }
-        ensures takes { Steps N.tree (token_step N.tree self.old token.entry.kind token.entry.at)
-            token.entry.at.start (unsliced self.old + 1) self.old result self.new lexer.old
-            lexer.new }
-        ensures looked { raise lexer.old.steps 1 ≤ raise lexer.new.steps 0 }
+        ensures { Steps N.tree (token_step N.tree self.old token.entry.kind token.entry.at)
+            token.entry.at.start (unsliced self.old + 1) self.old result self.new }
     {
-        lexer.count_look();
+        self.slices.count_look();
         let Token { kind, at } = token;
         match self.dropped {
-            Dropped::Nothing => self.take_kept(lexer, kind, &at),
-            _ => self.take_dropped(lexer, kind, &at),
+            Dropped::Nothing => self.take_kept(kind, &at),
+            _ => self.take_dropped(kind, &at),
         }
     }
 
-    /// Returns the document at the end of the text. Fails if something open is not closed. The builder can't be used
-    /// afterwards.
-    pub(crate) fn finish(&mut self, lexer: &mut Lexer<'a>) -> Result<DocumentParts<N>, LexFailure>
-        requires end { lexer.old.rest ≡ [] }
-        requires from { EndsIn self.old.from.rest lexer.old.rest }
-        ensures finished { Finished N.tree (document_now N.tree self.old) (spot_of lexer.old)
-            result }
-        ensures stays { Stays lexer.old lexer.new }
-        ensures sliced { SlicedOn result (unsliced self.old) 0 lexer.old lexer.new }
+    /// Returns the count of the builder's steps, and continues with a count of 0.
+    pub(crate) fn take_steps(&mut self) -> cursor::Steps
+        ensures { result ≡ self.old.slices.steps }
     {
-        let here = lexer.checkpoint();
+        self.slices.take_steps()
+    }
+
+    /// Returns the document at the end of the text, which is here. Fails if something open is not closed. The builder
+    /// can't be used afterwards.
+    pub(crate) fn finish(&mut self, here: &Checkpoint<'a>) -> Result<DocumentParts<N>, LexFailure>
+        requires end { here.now.rest ≡ [] }
+        requires from { EndsIn self.old.from.rest here.now.rest }
+        ensures finished { Finished N.tree (document_now N.tree self.old) here.now result }
+        ensures sliced { SlicedOn result (unsliced self.old) 0 self.old.slices.steps
+            self.new.slices.steps }
+    {
         match self.dropped {
-            Dropped::Nothing => self.finish_at(lexer, &here),
-            _ => self.finish_dropped(lexer, &here),
+            Dropped::Nothing => self.finish_at(here),
+            _ => self.finish_dropped(here),
         }
     }
 
     /// Returns the document if the text ends at the place.
-    fn finish_at(
-        &mut self,
-        lexer: &mut Lexer<'a>,
-        here: &Checkpoint<'a>,
-    ) -> Result<DocumentParts<N>, LexFailure>
+    fn finish_at(&mut self, here: &Checkpoint<'a>) -> Result<DocumentParts<N>, LexFailure>
         requires live { self.old.dropped ≡ Nothing }
         requires end { here.now.rest ≡ [] }
         requires from { Ahead self.old.from here.now }
         ensures finished { Finished N.tree (document_now N.tree self.old) here.now result }
-        ensures stays { Stays lexer.old lexer.new }
-        ensures sliced { SlicedOn result (unsliced self.old) 0 lexer.old lexer.new }
+        ensures sliced { SlicedOn result (unsliced self.old) 0 self.old.slices.steps self.new.slices.steps }
     {
         match self.phase {
-            Phase::Gap => self.finish_nodes(lexer, here),
+            Phase::Gap => self.finish_nodes(here),
             Phase::InNode(_) => {
-                self.end_node(lexer, &nothing_at(here))?;
-                self.finish_nodes(lexer, here)
+                self.end_node(&nothing_at(here))?;
+                self.finish_nodes(here)
             }
             Phase::Kept => {
-                self.end_kept(lexer, &nothing_at(here))?;
-                self.finish_nodes(lexer, here)
+                self.end_kept(&nothing_at(here))?;
+                self.finish_nodes(here)
             }
             _ => Err(LexFailure::Faulty(fault_at(here))),
         }
@@ -326,22 +310,17 @@ impl<'a, N: ParsedNode> Builder<'a, N> {
 
     /// Returns the document of the nodes, if no block is open.
     #[tactic(auto, using(crate::proofs::Stepping::Views::one_open, crate::proofs::Stepping::Views::all_closed))]
-    fn finish_nodes(
-        &mut self,
-        lexer: &mut Lexer<'a>,
-        here: &Checkpoint<'a>,
-    ) -> Result<DocumentParts<N>, LexFailure>
+    fn finish_nodes(&mut self, here: &Checkpoint<'a>) -> Result<DocumentParts<N>, LexFailure>
         requires from { Ahead self.old.from here.now }
         requires end { here.now.rest ≡ [] }
         ensures finished { Finished N.tree (document_of_nodes N.tree self.old) here.now result }
-        ensures stays { Stays lexer.old lexer.new }
-        ensures sliced { SlicedOn result (bytes self.old.from.rest) 0 lexer.old lexer.new }
+        ensures sliced { SlicedOn result (bytes self.old.from.rest) 0 self.old.slices.steps self.new.slices.steps }
     {
         if !self.levels.is_empty() {
             return Err(LexFailure::Faulty(fault_at(here)));
         }
-        let nodes = mem::replace(&mut self.nodes, Vec::new(self.alloc));
-        let document = self.content_up_to(lexer, nodes, here)?;
+        let nodes = mem::replace(&mut self.nodes, Vec::new(self.slices.alloc()));
+        let document = self.content_up_to(nodes, here)?;
         Ok(document)
     }
 }

@@ -22,16 +22,17 @@ fn build_with<'a, N: ParsedNode>(
 ) -> Result<DocumentParts<N>, LexFailure>
     requires state { state_view N.tree builder.old ≡ initial lexer.old.rest }
     requires unsliced { unsliced builder.old ≡ bytes lexer.old.rest }
-    requires text { EndsIn builder.old.whole.rest lexer.old.rest }
-    requires at { lexer.old.at + bytes lexer.old.rest ≡ bytes builder.old.whole.rest }
-    ensures answers { AnswersParts N.tree builder.old.whole.rest lexer.old.rest result }
-    ensures counted { ReadOn result lexer.old lexer.new }
+    requires steps { builder.old.slices.steps ≡ 0 }
+    requires text { EndsIn builder.old.slices.whole.rest lexer.old.rest }
+    requires at { lexer.old.at + bytes lexer.old.rest ≡ bytes builder.old.slices.whole.rest }
+    ensures answers { AnswersParts N.tree builder.old.slices.whole.rest lexer.old.rest result }
+    ensures counted { ReadOn result lexer.old (lexer.new.steps + builder.new.slices.steps) }
     ensures counts { raise lexer.old.steps 0 ≤ raise lexer.new.steps 0 }
 {
     'tokens: while let Some(token) = lexer.next(alloc)? {
-        builder.take(lexer, token)?;
+        builder.take(token)?;
     }
-    builder.finish(lexer)
+    builder.finish(&lexer.checkpoint())
 }
 
 /// Reads the document before the lexer: the text `whole`, or what follows its U+FEFF. Fails at the first token that may
@@ -40,6 +41,7 @@ fn build_with<'a, N: ParsedNode>(
 ///
 /// The builder slices each place and each spelling that the document keeps once. It does not slice what is slashdashed
 /// by itself: that text is part of the place around it.
+#[tactic(auto, using(crate::proofs::Stepping::TurnCost::counted_up))]
 pub fn build<'a, N: ParsedNode>(
     alloc: Global,
     whole: Checkpoint<'a>,
@@ -48,11 +50,12 @@ pub fn build<'a, N: ParsedNode>(
     requires text { EndsIn whole.rest lexer.old.rest }
     requires at { lexer.old.at + bytes lexer.old.rest ≡ bytes whole.rest }
     ensures answers { AnswersParts N.tree whole.entry.rest lexer.old.rest result }
-    ensures counted { ReadOn result lexer.old lexer.new }
+    ensures counted { ReadOn result lexer.old lexer.new.steps }
     ensures counts { raise lexer.old.steps 0 ≤ raise lexer.new.steps 0 }
 {
     let mut builder = Builder::new(alloc, whole, lexer.checkpoint());
     let answer = build_with(alloc, &mut builder, lexer);
+    lexer.add_steps(builder.take_steps());
     drop(builder);
     answer
 }

@@ -11,7 +11,6 @@ use Rattle.kdl_text.proofs.Looking.MovesJoin.{bytes-append}
 use Rattle.kdl_control.specs.Control.{Phase, fresh, spaced, type_open, type_name, in_node, property}
 use Rattle.kdl_control.specs.EntryControl as control
 use Rattle.kdl_control.specs.EntryControl.{EntryControl, entry_step}
-use Rattle.kdl_entry.specs.Internal.Building.{Stays}
 use Rattle.kdl_entry.specs.EarliestEntry.{DerivedEntry}
 use Rattle.kdl_entry.specs.Internal.EntryMachine.{Word, State, ahead, dropping, under, word, done, phase_of, begin_to, value_to, under_to, word_to, go_to, if_taken, step, finish, Runs, stops, reads, AnswersEntry}
 use Rattle.kdl_entry.specs.Internal.EntryReading.{AnswersEntryText, EndsIn, Ended, Same, Stands, Stepped}
@@ -171,29 +170,23 @@ starts_going t here e f = record {
   at = omega (arith, ap bytes e);
 }
 
-pub next_going : (st st' : State) (old mid new : Here) (t : Text) (k : CodeToken) → Going st old t → HandsOut old k mid → Moves old mid
-    → step t st (kind_view k.kind) k.at.start.rest k.at.end.rest ≡ Some st' → Stays mid new → Going st' new t
-next_going st st' old mid new t k g h m e y =
-    let e' : step t st (kind_view k.kind) old.rest mid.rest ≡ Some st' = rw (h.start_rest, h.end_rest) at e in
+-- the text that is read is w, which is t
+pub next_going : (st st' : State) (old mid : Here) (w t : Text) (k : CodeToken) → w ≡ t → Going st old t → HandsOut old k mid → Moves old mid
+    → step w st (kind_view k.kind) k.at.start.rest k.at.end.rest ≡ Some st' → Going st' mid t
+next_going st st' old mid w t k i g h m e =
+    let e' : step t st (kind_view k.kind) old.rest mid.rest ≡ Some st' = rw (i, h.start_rest, h.end_rest) at e in
     let piece : EndsIn old.rest mid.rest = m.piece in
-    let went : Going st' mid t = record {
+    record {
       same = λ d. let a = read_cut t d st st' old.rest mid.rest (kind_view k.kind) h.cuts e' in let b = g.same d in (λ x. b.0 (a.0 x), λ x. a.1 (b.1 x));
       from = step_stands t old.rest mid.rest piece st st' (kind_view k.kind) e' g.from;
       reached = goes_over g.reached h.cuts (turned t st st' (kind_view k.kind) old.rest mid.rest (is_placed g) e');
       text = then_ends g.text piece;
       at = m.at ∙ g.at;
-    } in
-    record {
-      same = rw y.rest went.same;
-      from = rw y.rest went.from;
-      reached = rw y.rest went.reached;
-      text = rw y.rest went.text;
-      at = rw (y.rest, y.at) went.at;
     }
 
 -- what a step asks of the places
-pub whole_start : (st : State) (old mid : Here) (place : Position) (k : CodeToken) → Going st old place.rest → HandsOut old k mid → Ahead place k.at.start
-whole_start st old mid place k g h = rw h.start_rest g.text
+pub whole_start : (st : State) (old mid : Here) (place whole : Position) (k : CodeToken) → place ≡ whole → Going st old whole.rest → HandsOut old k mid → Ahead place k.at.start
+whole_start st old mid place whole k i g h = rw (i, h.start_rest) g.text
 
 pub from_start : (st : State) (old mid : Here) (t : Text) (k : CodeToken) → Going st old t → HandsOut old k mid → Stands st k.at.start.rest
 from_start st old mid t k g h = rw h.start_rest g.from
@@ -225,11 +218,14 @@ pub lexer_told : (st : State) (old new : Here) (t : Text) (e : LexFailure) → G
 lexer_told st old new t (Faulty span) g x = (λ d a. faults t d st old.rest x.0 ((g.same d).1 a), told st old t (record { rest = old.rest; at = old.at }) span g refl refl x.1, refused_here st old t (record { rest = old.rest; at = old.at }) span g refl x.1 (stuck_no_token (phase_of st) old.rest x.0))
 lexer_told st old new t Memory g x = tt
 
-pub take_told : (st : State) (old mid : Here) (t : Text) (k : CodeToken) (e : LexFailure) → Going st old t → HandsOut old k mid → Stepped (step t st (kind_view k.kind) k.at.start.rest k.at.end.rest) k.at.start (Err e) → AnswersEntryText t (Err e)
-take_told st old mid t k (Faulty span) g h x =
+told_turn : (st : State) (old mid : Here) (t : Text) (k : CodeToken) (e : LexFailure) → Going st old t → HandsOut old k mid → Stepped (step t st (kind_view k.kind) k.at.start.rest k.at.end.rest) k.at.start (Err e) → AnswersEntryText t (Err e)
+told_turn st old mid t k (Faulty span) g h x =
     let e : step t st (kind_view k.kind) old.rest mid.rest ≡ None = rw (h.start_rest, h.end_rest) at x.0 in
     (no_turn st old mid t k g h x.0, told st old t k.at.start span g h.start_rest h.start_at x.1, refused_here st old t k.at.start span g h.start_at x.1 (stuck_at (phase_of st) old.rest mid.rest (kind_view k.kind) h.cuts (not_turned t st (kind_view k.kind) old.rest mid.rest (is_placed g) e)))
-take_told st old mid t k Memory g h x = tt
+told_turn st old mid t k Memory g h x = tt
+
+pub take_told : (st : State) (old mid : Here) (w t : Text) (k : CodeToken) (e : LexFailure) → w ≡ t → Going st old t → HandsOut old k mid → Stepped (step w st (kind_view k.kind) k.at.start.rest k.at.end.rest) k.at.start (Err e) → AnswersEntryText t (Err e)
+take_told st old mid w t k e i g h x = told_turn st old mid t k e g h (subst (λ (z : Text). Stepped (step z st (kind_view k.kind) k.at.start.rest k.at.end.rest) k.at.start (Err e)) i x)
 
 -- a turn comes nearer to the end
 spaces_shorter : {s r : Text} → Star NodeSpace s r → length r < length s + 1
@@ -240,8 +236,8 @@ cut_shorter : {s r : Text} {k : Token} → Cuts s k r → length r < length s
 cut_shorter (one t) = token_shorter t
 cut_shorter (spaces (plus n m)) = omega (arith, token_shorter (t_space n), spaces_shorter m)
 
-pub nearer : (old mid new : Here) (k : CodeToken) → HandsOut old k mid → Stays mid new → length new.rest < length old.rest
-nearer old mid new k h y = omega (arith, cut_shorter h.cuts, ap length y.rest)
+pub nearer : (old mid : Here) (k : CodeToken) → HandsOut old k mid → length mid.rest < length old.rest
+nearer old mid k h = cut_shorter h.cuts
 
 nothing_left : (p r : Text) → [] ≡ p ++ r → r ≡ []
 nothing_left [] r e = sym e
@@ -254,12 +250,13 @@ pub from_end : (st : State) (old new : Here) (t : Text) → Going st old t → o
 from_end st old new t g e m = rw (all_read old new e m) (rw e at g.from)
 
 -- where the text ends, the machine's entry is the result, or there is none
-pub at_the_end : (st : State) (here : Here) (t : Text) (e : KdlEntry) → Going st here t → here.rest ≡ [] → Ended (finish t st) (Some e) → AnswersEntryText t (Ok e)
-at_the_end st here t e g x f = (g.same (entry_tree e)).0 (subst (λ (z : Text). Runs t (entry_tree e) st z) (sym x) ((at_stop t (entry_tree e) st).1 f))
+pub at_the_end : (st : State) (here : Here) (w t : Text) (e : KdlEntry) → w ≡ t → Going st here t → here.rest ≡ [] → Ended (finish w st) (Some e) → AnswersEntryText t (Ok e)
+at_the_end st here w t e i g x f' =
+    let f : Ended (finish t st) (Some e) = subst (λ (z : Text). Ended (finish z st) (Some e)) i f' in (g.same (entry_tree e)).0 (subst (λ (z : Text). Runs t (entry_tree e) st z) (sym x) ((at_stop t (entry_tree e) st).1 f))
 
-pub no_end : (st : State) (old new : Here) (t : Text) (place : Position) (span : SourceSpan) → Going st old t → old.rest ≡ [] → Moves old new → place.rest ≡ new.rest → place.at ≡ new.at → Ended (finish t st) None → IsFaultAt place span → AnswersEntryText t (Err (Faulty span))
-no_end st old new t place span g x m p q f z = (
-  λ d a. (let b = (at_stop t d st).0 (subst (λ (z : Text). Runs t d st z) x ((g.same d).1 a)) in cc),
+pub no_end : (st : State) (old new : Here) (w t : Text) (place : Position) (span : SourceSpan) → w ≡ t → Going st old t → old.rest ≡ [] → Moves old new → place.rest ≡ new.rest → place.at ≡ new.at → Ended (finish w st) None → IsFaultAt place span → AnswersEntryText t (Err (Faulty span))
+no_end st old new w t place span i g x m p q f z = (
+  λ d a. (let f' : finish t st ≡ None = rw i at f in let b = (at_stop t d st).0 (subst (λ (z : Text). Runs t d st z) x ((g.same d).1 a)) in cc),
   char_in [] t t span (simp append-nil) (z.offset ∙ q ∙ all_before) (z.len ∙ ap first_len (p ∙ all_read old new x m)),
   refused_at t span.offset (phase_of st) [] (subst (λ (z : Text). EntryReaches t (phase_of st) z) x g.reached) (t, simp append-nil) (omega (arith, z.offset, q, all_before)) (stuck_end (phase_of st)),
 )

@@ -1,16 +1,16 @@
 -- What slices take.
-use Rattle.std.proofs.Common.{◌≡◌, ◌≤◌, ◌++◌, ap, arith}
+use Rattle.std.proofs.Common.{◌≡◌, ℕ, ◌≤◌, ◌++◌, ap, arith}
 use Rattle.kdl_text.specs.Chars.{Text}
-use Rattle.kdl_text.specs.Internal.Here.{Here, Position, Ahead, sliced}
-use Rattle.kdl_text.specs.Spans.{bytes}
+use Rattle.kdl_text.specs.Internal.Here.{Position, Ahead}
+use Rattle.kdl_text.specs.Spans.{bytes, raise}
 use Rattle.kdl_text.proofs.Looking.MovesJoin.{bytes-append}
 use Rattle.kdl_lexer.specs.Internal.Order.{IsEndOf}
 use Rattle.kdl_lexer.proofs.Order.{ahead}
 use Rattle.kdl_entry.specs.Internal.Counted.{Sliced}
 
 -- a slice
-pub piece_sliced : (p s r : Text) (old new : Here) → s ≡ p ++ r → new ≡ sliced p old → Sliced (bytes s) (bytes r) old new
-piece_sliced p s r old new e f = record { most = omega (arith, ap bytes e, bytes-append p r, ap (λ (h : Here). h.steps) f) }
+pub piece_sliced : (p s r : Text) (old new : ℕ) → s ≡ p ++ r → new ≡ raise old (bytes p) → Sliced (bytes s) (bytes r) old new
+piece_sliced p s r old new e f = record { most = omega (arith, ap bytes e, bytes-append p r, f) }
 
 -- what is ahead has fewer bytes
 pub ahead_fewer : (from to : Position) → Ahead from to → bytes to.rest ≤ bytes from.rest

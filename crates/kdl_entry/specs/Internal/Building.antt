@@ -1,7 +1,5 @@
 -- The item that a reader's fields represent.
-use Rattle.std.specs.Prelude.{◌≡◌, ◌≤◌, option_map}
-use Rattle.kdl_text.specs.Internal.Here.{Here}
-use Rattle.kdl_text.specs.Spans.{raise}
+use Rattle.std.specs.Prelude.{◌≡◌, option_map}
 use Rattle.kdl_entry.specs.Internal.Items as items
 use Rattle.kdl_value.specs.Tree.{text_of}
 use Rattle.kdl_entry.specs.Tree.{identifier_tree}
@@ -33,9 +31,3 @@ item_view it = record {
 pub record Holds (old new : items.Item) : Type 0 where
   pub leading : new.leading ≡ old.leading
   pub start : new.start ≡ old.start
-
--- the lexer is where it was, and its count did not fall
-pub record Stays (old new : Here) : Type 0 where
-  pub rest : new.rest ≡ old.rest
-  pub at : new.at ≡ old.at
-  pub counts : raise old.steps 0 ≤ raise new.steps 0

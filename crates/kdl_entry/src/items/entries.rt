@@ -2,7 +2,7 @@
 
 ghost use Rattle.kdl_control.specs.Internal.EntryViews.{entry_view};
 ghost use Rattle.kdl_control.specs.Internal.Views.{phase_view};
-ghost use Rattle.kdl_entry.specs.Internal.Building.{item_view, Stays};
+ghost use Rattle.kdl_entry.specs.Internal.Building.{item_view};
 ghost use Rattle.kdl_entry.specs.Internal.EntryMachine as machine;
 ghost use Rattle.kdl_entry.specs.Internal.EntryMachine.{argument_of, begin_to, ended, entry_by, finish, keyed_item, opened_item, phase_of, step, value_to, word_at, word_to};
 ghost use Rattle.kdl_entry.specs.Internal.EntryReading.{word_view, state_view, AnswersEntryText, Stands, Stepped, Ended};
@@ -14,7 +14,8 @@ ghost use Rattle.kdl_text.specs.Internal.Here.{Ahead};
 ghost use Rattle.std.specs.Prelude.{◌≡◌, [], None, Some, true, IfOk};
 ghost use Rattle.std.specs.Str.{chars};
 
-use super::item::{Given, Item, Key, entry_from, piece_between, text_between};
+use super::item::{Given, Item, Key, entry_from};
+use super::slices::Slices;
 use crate::entry::KdlEntry;
 use crate::identifier::sliced_identifier;
 use crate::refusal::refusal;
@@ -33,7 +34,6 @@ const UNPLACED: SourceSpan = SourceSpan { offset: 0, len: 0 };
 /// A string that may still be a key.
 #[derive(Drop)]
 struct Word<'a> {
-    alloc: Global,
     /// The text before it.
     leading: String,
     value: String,
@@ -70,45 +70,37 @@ fn opened<'a>(alloc: Global, leading: String, at: &TokenSpan<'a>) -> Item<'a>
 }
 
 /// Begins an entry after the `=` of its key.
-fn keyed<'a>(
-    alloc: Global,
-    whole: &Checkpoint<'a>,
-    leading: String,
-    key: Key,
-    end: &Checkpoint<'a>,
-) -> Item<'a>
+fn keyed<'a>(slices: &Slices<'a>, leading: String, key: Key, end: &Checkpoint<'a>) -> Item<'a>
     ensures { item_view result
-        ≡ keyed_item whole.now.rest (text_of leading) (identifier_tree key.name)
+        ≡ keyed_item slices.now.whole.rest (text_of leading) (identifier_tree key.name)
         (text_of key.before) end.now.rest }
 {
-    let mut item = Item::new(alloc, whole);
-    item.open_keyed(leading, whole, key, end);
+    let start = slices.start();
+    let mut item = Item::new(slices.alloc(), &start);
+    item.open_keyed(leading, &start, key, end);
     item
 }
 
 /// The string that the token is, and the text before it.
-#[tactic(auto, unfolding(crate::specs::Places::span_of), using(kdl_lexer::proofs::Order::ahead))]
+#[tactic(auto, using(kdl_lexer::proofs::Order::ahead))]
 fn word_between<'a>(
-    alloc: Global,
-    lexer: &mut Lexer<'a>,
-    whole: &Checkpoint<'a>,
+    slices: &mut Slices<'a>,
     value: String,
     at: TokenSpan<'a>,
 ) -> Result<Word<'a>, AllocError>
-    requires leading { Ahead whole.now at.start }
+    requires leading { Ahead slices.old.whole at.start }
     ensures is { IfOk result
         (λ w. word_view w
-        ≡ word_at whole.now.rest (text_of value) at.entry.start.rest at.entry.end.rest) }
+        ≡ word_at slices.old.whole.rest (text_of value) at.entry.start.rest at.entry.end.rest) }
     ensures end { IfOk result (λ w. w.end ≡ at.entry.end) }
-    ensures stays { Stays lexer.old lexer.new }
+    ensures whole { slices.new.whole ≡ slices.old.whole }
 {
-    let leading = text_between(alloc, lexer, whole, &at.start)?;
+    let leading = slices.text(&slices.start(), &at.start)?;
     Ok(Word {
-        alloc,
         leading,
         value,
-        repr: piece_between(lexer, &at.start, &at.end),
-        span: whole.span_between(&at.start, &at.end),
+        repr: slices.piece(&at.start, &at.end),
+        span: slices.span(&at.start, &at.end),
         end: at.end,
     })
 }
@@ -116,34 +108,31 @@ fn word_between<'a>(
 /// The value that the token is, as an argument, and the text before it.
 #[tactic(auto, using(kdl_lexer::proofs::Order::ahead))]
 fn argument_between<'a>(
-    alloc: Global,
-    lexer: &mut Lexer<'a>,
-    whole: &Checkpoint<'a>,
+    slices: &mut Slices<'a>,
     value: KdlValue,
     at: &TokenSpan<'a>,
 ) -> Result<KdlEntry, AllocError>
-    requires leading { Ahead whole.now at.now.start }
+    requires leading { Ahead slices.old.whole at.now.start }
     ensures is { IfOk result
-        (λ e. entry_tree e ≡ entry_by (between whole.now.rest at.now.start.rest) None None
+        (λ e. entry_tree e ≡ entry_by (between slices.old.whole.rest at.now.start.rest) None None
         (value_tree value) (between at.now.start.rest at.now.end.rest)) }
-    ensures stays { Stays lexer.old lexer.new }
+    ensures whole { slices.new.whole ≡ slices.old.whole }
 {
-    let leading = text_between(alloc, lexer, whole, &at.start)?;
-    let repr = text_between(alloc, lexer, &at.start, &at.end)?;
+    let leading = slices.text(&slices.start(), &at.start)?;
+    let repr = slices.text(&at.start, &at.end)?;
     let given = Given {
         key: None,
         ty: None,
         value,
     };
-    Ok(entry_from(alloc, UNPLACED, leading, given, repr))
+    Ok(entry_from(slices.alloc(), UNPLACED, leading, given, repr))
 }
 
 /// The word as an argument.
-fn argument(word: Word) -> Result<KdlEntry, AllocError>
+fn argument(alloc: Global, word: Word) -> Result<KdlEntry, AllocError>
     ensures { IfOk result (λ e. entry_tree e ≡ argument_of (word_view word.entry)) }
 {
     let Word {
-        alloc,
         leading,
         value,
         repr,
@@ -162,31 +151,29 @@ fn argument(word: Word) -> Result<KdlEntry, AllocError>
 /// Takes a token before the entry. The control goes to `next`.
 fn begin_to<'a>(
     next: EntryControl,
-    alloc: Global,
-    lexer: &mut Lexer<'a>,
-    whole: &Checkpoint<'a>,
+    slices: &mut Slices<'a>,
     token: Token<'a>,
 ) -> Result<State<'a>, LexFailure>
-    requires leading { Ahead whole.now token.at.start }
-    ensures did { Stepped (begin_to whole.now.rest (entry_view next)
+    requires leading { Ahead slices.old.whole token.at.start }
+    ensures did { Stepped (begin_to slices.old.whole.rest (entry_view next)
         (kind_view token.entry.kind) token.entry.at.start.rest token.entry.at.end.rest)
         token.entry.at.start result }
-    ensures stays { Stays lexer.old lexer.new }
+    ensures whole { slices.new.whole ≡ slices.old.whole }
 {
     let Token { kind, at } = token;
     match (next, kind) {
         (EntryControl::Ahead, _) => Ok(State::Start),
         (EntryControl::Dropping(phase), _) => Ok(State::Dropping(phase)),
         (EntryControl::Under(phase), _) => {
-            let leading = text_between(alloc, lexer, whole, &at.start)?;
-            Ok(State::Under(phase, opened(alloc, leading, &at)))
+            let leading = slices.text(&slices.start(), &at.start)?;
+            Ok(State::Under(phase, opened(slices.alloc(), leading, &at)))
         }
         (EntryControl::Word, TokenKind::String(value)) => {
-            let word = word_between(alloc, lexer, whole, value, at)?;
+            let word = word_between(slices, value, at)?;
             Ok(State::Pending(word))
         }
         (EntryControl::Done, TokenKind::Value(value)) => {
-            let entry = argument_between(alloc, lexer, whole, value, &at)?;
+            let entry = argument_between(slices, value, &at)?;
             Ok(State::Done(entry, at.end))
         }
         _ => Err(LexFailure::Faulty(fault_at(&at.start))),
@@ -198,7 +185,7 @@ fn begin_to<'a>(
 fn valued<'a>(
     phase: Phase,
     mut item: Item<'a>,
-    lexer: &mut Lexer<'a>,
+    slices: &mut Slices<'a>,
     value: KdlValue,
     at: &TokenSpan<'a>,
 ) -> Result<KdlEntry, AllocError>
@@ -206,10 +193,10 @@ fn valued<'a>(
     ensures is { IfOk result
         (λ e. entry_tree e ≡ machine.valued (phase_view phase) (item_view item.entry)
         (value_tree value) at.now.start.rest at.now.end.rest) }
-    ensures stays { Stays lexer.old lexer.new }
+    ensures whole { slices.new.whole ≡ slices.old.whole }
 {
-    let given = item.give(phase, lexer, value, &at.start)?;
-    let repr = text_between(item.alloc, lexer, &at.start, &at.end)?;
+    let given = item.give(phase, slices, value, &at.start)?;
+    let repr = slices.text(&at.start, &at.end)?;
     Ok(entry_from(item.alloc, UNPLACED, item.leading, given, repr))
 }
 
@@ -217,23 +204,23 @@ fn valued<'a>(
 fn at_value<'a>(
     phase: Phase,
     item: Item<'a>,
-    lexer: &mut Lexer<'a>,
+    slices: &mut Slices<'a>,
     token: Token<'a>,
 ) -> Result<State<'a>, LexFailure>
     requires from { Ahead item.from token.at.start }
     ensures did { Stepped (value_to (phase_view phase) (item_view item.entry)
         (kind_view token.entry.kind) token.entry.at.start.rest token.entry.at.end.rest)
         token.entry.at.start result }
-    ensures stays { Stays lexer.old lexer.new }
+    ensures whole { slices.new.whole ≡ slices.old.whole }
 {
     let Token { kind, at } = token;
     match kind {
         TokenKind::String(value) => {
-            let entry = valued(phase, item, lexer, KdlValue::String(value), &at)?;
+            let entry = valued(phase, item, slices, KdlValue::String(value), &at)?;
             Ok(State::Done(entry, at.end))
         }
         TokenKind::Value(value) => {
-            let entry = valued(phase, item, lexer, value, &at)?;
+            let entry = valued(phase, item, slices, value, &at)?;
             Ok(State::Done(entry, at.end))
         }
         _ => Err(LexFailure::Faulty(fault_at(&at.start))),
@@ -244,60 +231,54 @@ fn at_value<'a>(
 fn word_to<'a>(
     next: EntryControl,
     word: Word<'a>,
-    lexer: &mut Lexer<'a>,
-    whole: &Checkpoint<'a>,
+    slices: &mut Slices<'a>,
     at: &TokenSpan<'a>,
 ) -> Result<State<'a>, AllocError>
     requires { Ahead word.end at.now.start }
     ensures is { IfOk result (λ st. state_view st
-        ≡ word_to whole.now.rest (word_view word.entry) word.entry.end.rest (entry_view next)
+        ≡ word_to slices.old.whole.rest (word_view word.entry) word.entry.end.rest (entry_view next)
         at.now.start.rest at.now.end.rest) }
-    ensures stays { Stays lexer.old lexer.new }
+    ensures whole { slices.new.whole ≡ slices.old.whole }
 {
     match next {
         EntryControl::Word => Ok(State::Pending(word)),
         EntryControl::Under(phase) => {
-            let before = text_between(word.alloc, lexer, &word.end, &at.start)?;
+            let before = slices.text(&word.end, &at.start)?;
             let Word {
-                alloc,
                 leading,
                 value,
                 repr,
                 span,
                 end: _,
             } = word;
-            let name = sliced_identifier(alloc, value, &repr, span)?;
+            let name = sliced_identifier(slices.alloc(), value, &repr, span)?;
             let key = Key { name, before };
-            Ok(State::Under(phase, keyed(alloc, whole, leading, key, &at.end)))
+            Ok(State::Under(phase, keyed(slices, leading, key, &at.end)))
         }
         _ => {
             let end = word.end.copied();
-            Ok(State::Done(argument(word)?, end))
+            Ok(State::Done(argument(slices.alloc(), word)?, end))
         }
     }
 }
 
-/// The entry, whose span is the whole text, with the text after it.
-#[tactic(auto, unfolding(crate::specs::Places::span_of))]
+/// The entry, whose span is the whole text, with the text after it, which ends here.
 fn ended<'a>(
     mut entry: KdlEntry,
-    alloc: Global,
-    lexer: &mut Lexer<'a>,
-    whole: &Checkpoint<'a>,
+    slices: &mut Slices<'a>,
     from: &Checkpoint<'a>,
+    here: &Checkpoint<'a>,
 ) -> Result<KdlEntry, AllocError>
-    requires end { lexer.old.rest ≡ [] }
-    requires from { Ahead from.now (record { rest = lexer.old.rest; at = lexer.old.at }) }
+    requires end { here.now.rest ≡ [] }
+    requires from { Ahead from.now here.now }
     ensures { IfOk result (λ e. entry_tree e
-        ≡ machine.ended whole.now.rest (between from.now.rest []) (entry_tree entry)) }
+        ≡ machine.ended slices.old.whole.rest (between from.now.rest []) (entry_tree entry)) }
 {
-    let here = lexer.checkpoint();
-    let trailing = text_between(alloc, lexer, from, &here)?;
+    let trailing = slices.text(from, here)?;
     if let Some(format) = entry.format_mut() {
         format.trailing = trailing;
     }
-    let start = whole.copied();
-    entry.set_span(whole.span_between(&start, &here));
+    entry.set_span(slices.span(&slices.start(), here));
     Ok(entry)
 }
 
@@ -316,33 +297,27 @@ impl<'a> State<'a> {
     }
 
     /// Takes a token. Fails if the token may not be here.
-    fn take(
-        self,
-        alloc: Global,
-        lexer: &mut Lexer<'a>,
-        whole: &Checkpoint<'a>,
-        token: Token<'a>,
-    ) -> Result<State<'a>, LexFailure>
-        requires leading { Ahead whole.now token.at.start }
+    fn take(self, slices: &mut Slices<'a>, token: Token<'a>) -> Result<State<'a>, LexFailure>
+        requires leading { Ahead slices.old.whole token.at.start }
         requires from { Stands (state_view self) token.at.start.rest }
-        ensures did { Stepped (step whole.now.rest (state_view self.entry)
+        ensures did { Stepped (step slices.old.whole.rest (state_view self.entry)
             (kind_view token.entry.kind) token.entry.at.start.rest token.entry.at.end.rest)
             token.entry.at.start result }
-        ensures stays { Stays lexer.old lexer.new }
+        ensures whole { slices.new.whole ≡ slices.old.whole }
     {
         let Some(next) = self.control().after(&token.kind) else {
             return Err(LexFailure::Faulty(fault_at(&token.at.start)));
         };
         match self {
-            State::Start | State::Dropping(_) => begin_to(next, alloc, lexer, whole, token),
+            State::Start | State::Dropping(_) => begin_to(next, slices, token),
             State::Under(phase, mut item) => match next {
                 EntryControl::Under(next) => {
-                    item.take(phase, lexer, whole, token)?;
+                    item.take(phase, slices, token)?;
                     Ok(State::Under(next, item))
                 }
-                _ => at_value(phase, item, lexer, token),
+                _ => at_value(phase, item, slices, token),
             },
-            State::Pending(word) => Ok(word_to(next, word, lexer, whole, &token.at)?),
+            State::Pending(word) => Ok(word_to(next, word, slices, &token.at)?),
             State::Done(entry, from) => Ok(State::Done(entry, from)),
         }
     }
@@ -350,21 +325,21 @@ impl<'a> State<'a> {
     /// Returns the entry at the end of the text, or `None` if there is none.
     fn finish(
         self,
-        alloc: Global,
-        lexer: &mut Lexer<'a>,
-        whole: &Checkpoint<'a>,
+        slices: &mut Slices<'a>,
+        here: &Checkpoint<'a>,
     ) -> Result<Option<KdlEntry>, AllocError>
-        requires end { lexer.old.rest ≡ [] }
-        requires from { Stands (state_view self) lexer.old.rest }
-        ensures { IfOk result (λ e. Ended (finish whole.now.rest (state_view self.entry)) e) }
+        requires end { here.now.rest ≡ [] }
+        requires from { Stands (state_view self) here.now.rest }
+        ensures { IfOk result (λ e. Ended
+            (finish slices.old.whole.rest (state_view self.entry)) e) }
     {
         match self {
             State::Pending(word) => {
                 let end = word.end.copied();
-                let entry = argument(word)?;
-                Ok(Some(ended(entry, alloc, lexer, whole, &end)?))
+                let entry = argument(slices.alloc(), word)?;
+                Ok(Some(ended(entry, slices, &end, here)?))
             }
-            State::Done(entry, from) => Ok(Some(ended(entry, alloc, lexer, whole, &from)?)),
+            State::Done(entry, from) => Ok(Some(ended(entry, slices, &from, here)?)),
             _ => Ok(None),
         }
     }
@@ -372,21 +347,18 @@ impl<'a> State<'a> {
 
 /// Reads the entry that the text is; the lexer is at its start.
 #[tactic(auto, using(crate::proofs::Reading::EntryLoop::starts_going, crate::proofs::Reading::EntryLoop::next_going, crate::proofs::Reading::EntryLoop::whole_start, crate::proofs::Reading::EntryLoop::from_start, crate::proofs::Reading::EntryLoop::lexer_told, crate::proofs::Reading::EntryLoop::take_told, crate::proofs::Reading::EntryLoop::all_read, crate::proofs::Reading::EntryLoop::from_end, crate::proofs::Reading::EntryLoop::at_the_end, crate::proofs::Reading::EntryLoop::no_end))]
-fn read_tokens<'a>(
-    alloc: Global,
-    lexer: &mut Lexer<'a>,
-    whole: &Checkpoint<'a>,
-) -> Result<KdlEntry, LexFailure>
-    requires rest { lexer.old.rest ≡ whole.now.rest }
+fn read_tokens<'a>(lexer: &mut Lexer<'a>, slices: &mut Slices<'a>) -> Result<KdlEntry, LexFailure>
+    requires rest { lexer.old.rest ≡ slices.old.whole.rest }
     requires at { lexer.old.at ≡ 0 }
-    ensures { AnswersEntryText whole.now.rest result }
+    ensures { AnswersEntryText slices.old.whole.rest result }
 {
+    let alloc = slices.alloc();
     let mut state = State::Start;
     'tokens: while let Some(token) = lexer.next(alloc)? {
-        state = state.take(alloc, lexer, whole, token)?;
+        state = state.take(slices, token)?;
     }
     let here = lexer.checkpoint();
-    match state.finish(alloc, lexer, whole)? {
+    match state.finish(slices, &here)? {
         Some(entry) => Ok(entry),
         None => Err(LexFailure::Faulty(fault_at(&here))),
     }
@@ -397,8 +369,8 @@ fn read_entry(alloc: Global, text: &str) -> Result<KdlEntry, LexFailure>
     ensures { AnswersEntryText (chars text.now) result }
 {
     let mut lexer = Lexer::new(text, Steps::new());
-    let whole = lexer.checkpoint();
-    read_tokens(alloc, &mut lexer, &whole)
+    let mut slices = Slices::new(alloc, lexer.checkpoint());
+    read_tokens(&mut lexer, &mut slices)
 }
 
 impl KdlEntry {

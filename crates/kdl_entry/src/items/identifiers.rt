@@ -4,7 +4,7 @@ ghost use Rattle.kdl_entry.specs.Internal.IdentifierReading.{AnswersIdentifierTe
 ghost use Rattle.std.specs.Prelude.{◌≡◌, ◌↔◌, IsTrue, []};
 ghost use Rattle.std.specs.Str.{chars};
 
-use super::item::identifier_between;
+use super::slices::Slices;
 use crate::identifier::KdlIdentifier;
 use crate::refusal::refusal;
 use kdl_diagnostics::Whole;
@@ -44,7 +44,8 @@ fn read_token<'a>(
     if !is_end(&at.end) {
         return Err(LexFailure::Faulty(fault_at(&at.end)));
     }
-    Ok(identifier_between(alloc, lexer, whole, value, &at)?)
+    let mut slices = Slices::new(alloc, whole.copied());
+    Ok(slices.identifier(value, &at)?)
 }
 
 /// Reads the identifier that the text is.

@@ -3,23 +3,24 @@
 //! The rules of types, keys and values, both for an entry that is a whole text and for those of a document.
 
 ghost use Rattle.kdl_control.specs.Internal.Views.{phase_view};
-ghost use Rattle.kdl_entry.specs.Internal.Building.{key_view, type_view, item_view, Holds, Stays};
+ghost use Rattle.kdl_entry.specs.Internal.Building.{key_view, type_view, item_view, Holds};
 ghost use Rattle.kdl_entry.specs.Internal.Counted.{Sliced};
 ghost use Rattle.kdl_lexer.specs.Internal.Handed.{kind_view};
 ghost use Rattle.kdl_entry.specs.Internal.Items as spec;
 ghost use Rattle.kdl_entry.specs.Internal.Items.{entry_at, identifier_at};
-ghost use Rattle.kdl_entry.specs.Places.{span_of, between};
+ghost use Rattle.kdl_entry.specs.Places.{between};
 ghost use Rattle.kdl_value.specs.Tree.{value_tree, text_of};
 ghost use Rattle.kdl_entry.specs.Tree.{entry_tree, identifier_tree};
 ghost use Rattle.kdl_text.specs.Internal.Here.{Ahead};
 ghost use Rattle.kdl_text.specs.Spans.{bytes};
 ghost use Rattle.std.specs.Prelude.{◌≡◌, [], Some, None, IfOk, OnOk, option_map};
 
+use super::slices::Slices;
 use crate::entry::{KdlEntry, KdlEntryFormat};
-use crate::identifier::{KdlIdentifier, sliced_identifier};
+use crate::identifier::KdlIdentifier;
 use kdl_control::Phase;
-use kdl_lexer::{Lexer, Token, TokenKind, TokenSpan};
-use kdl_text::cursor::{Checkpoint, Piece};
+use kdl_lexer::{Token, TokenKind, TokenSpan};
+use kdl_text::cursor::Checkpoint;
 use kdl_text::span::SourceSpan;
 use kdl_value::KdlValue;
 use std::alloc::{AllocError, Global};
@@ -70,98 +71,6 @@ pub struct Given {
     pub key: Option<KeyParts>,
     pub ty: Option<TypeParts>,
     pub value: KdlValue,
-}
-
-/// Returns the piece of the text between two places. Costs a step for each of its bytes.
-///
-/// ```
-/// let mut lexer = Lexer::new("ab=1", Steps::new());
-/// let from = lexer.checkpoint();
-/// let token = lexer.next(alloc)?; // the string `ab`
-/// let to = lexer.checkpoint();
-/// let text = piece_between(&mut lexer, &from, &to).to_string(alloc)?; // "ab"
-/// ```
-#[inline]
-#[tactic(auto, using(crate::proofs::Slicing::Between::is_between))]
-pub fn piece_between<'a>(
-    lexer: &mut Lexer<'a>,
-    from: &Checkpoint<'a>,
-    to: &Checkpoint<'a>,
-) -> Piece<'a>
-    requires { Ahead from.now to.now }
-    ensures text { result ≡ between from.now.rest to.now.rest }
-    ensures stays { Stays lexer.old lexer.new }
-    ensures sliced { Sliced (bytes from.now.rest) (bytes to.now.rest) lexer.old lexer.new }
-{
-    lexer.slice_between(from, to)
-}
-
-/// Returns a copy of the text between two places. Costs a step for each of its bytes.
-///
-/// ```
-/// let mut lexer = Lexer::new("ab=1", Steps::new());
-/// let from = lexer.checkpoint();
-/// let token = lexer.next(alloc)?; // the string `ab`
-/// let to = lexer.checkpoint();
-/// let text = text_between(alloc, &mut lexer, &from, &to)?; // "ab"
-/// ```
-pub fn text_between<'a>(
-    alloc: Global,
-    lexer: &mut Lexer<'a>,
-    from: &Checkpoint<'a>,
-    to: &Checkpoint<'a>,
-) -> Result<String, AllocError>
-    requires { Ahead from.now to.now }
-    ensures text { IfOk result (λ s. text_of s ≡ between from.now.rest to.now.rest) }
-    ensures stays { Stays lexer.old lexer.new }
-    ensures sliced { Sliced (bytes from.now.rest) (bytes to.now.rest) lexer.old lexer.new }
-{
-    piece_between(lexer, from, to).to_string(alloc)
-}
-
-/// Returns the span between two places, in the text that begins at `whole`.
-///
-/// ```
-/// let mut lexer = Lexer::new("ab=1", Steps::new());
-/// let whole = lexer.checkpoint();
-/// let token = lexer.next(alloc)?; // the string `ab`
-/// let span = span_at(&whole, &lexer.checkpoint(), &lexer.checkpoint()); // offset 2 and length 0
-/// ```
-#[inline]
-#[tactic(auto, unfolding(crate::specs::Places::span_of))]
-pub fn span_at(whole: &Checkpoint, start: &Checkpoint, end: &Checkpoint) -> SourceSpan
-    ensures { result ≡ span_of whole.now.rest start.now.rest end.now.rest }
-{
-    whole.span_between(start, end)
-}
-
-/// Returns the identifier that a token is, in the text that begins at `whole`.
-///
-/// ```
-/// let mut lexer = Lexer::new("\"ab\"=1", Steps::new());
-/// let whole = lexer.checkpoint();
-/// if let Some(Token { kind: TokenKind::String(value), at }) = lexer.next(alloc)? {
-///     let name = identifier_between(alloc, &mut lexer, &whole, value, &at)?; // prints "\"ab\""
-/// }
-/// ```
-#[inline]
-#[tactic(auto, using(kdl_lexer::proofs::Order::ahead))]
-pub fn identifier_between<'a>(
-    alloc: Global,
-    lexer: &mut Lexer<'a>,
-    whole: &Checkpoint<'a>,
-    value: String,
-    at: &TokenSpan<'a>,
-) -> Result<KdlIdentifier, AllocError>
-    ensures is { IfOk result
-        (λ i. identifier_tree i
-        ≡ identifier_at whole.now.rest (text_of value) at.now.start.rest at.now.end.rest) }
-    ensures stays { Stays lexer.old lexer.new }
-    ensures sliced { Sliced (bytes at.now.start.rest) (bytes at.now.end.rest) lexer.old lexer.new }
-{
-    let piece = piece_between(lexer, &at.start, &at.end);
-    let span = span_at(whole, &at.start, &at.end);
-    sliced_identifier(alloc, value, &piece, span)
 }
 
 /// Returns an empty text. Does not allocate.
@@ -327,40 +236,39 @@ impl<'a> Item<'a> {
     /// Continues after the string that is the type's name.
     pub fn take_name(
         &mut self,
-        lexer: &mut Lexer<'a>,
-        whole: &Checkpoint<'a>,
+        slices: &mut Slices<'a>,
         value: String,
         at: &TokenSpan<'a>,
     ) -> Result<(), AllocError>
         requires from { Ahead self.old.from at.now.start }
         ensures named { OnOk result
             (item_view self.new ≡ spec.named_at
-            (identifier_at whole.now.rest (text_of value) at.now.start.rest at.now.end.rest)
+            (identifier_at slices.old.whole.rest (text_of value) at.now.start.rest at.now.end.rest)
             (between self.old.from.rest at.now.start.rest) at.now.end.rest (item_view self.old)) }
-        ensures stays { Stays lexer.old lexer.new }
+        ensures whole { slices.new.whole ≡ slices.old.whole }
         ensures sliced { OnOk result
-            (Sliced (bytes self.old.from.rest) (bytes self.new.from.rest) lexer.old lexer.new) }
+            (Sliced (bytes self.old.from.rest) (bytes self.new.from.rest) slices.old.steps slices.new.steps) }
         ensures from { OnOk result (Ahead self.new.from at.now.end) }
     {
-        self.before = text_between(self.alloc, lexer, &self.from, &at.start)?;
-        self.name = identifier_between(self.alloc, lexer, whole, value, at)?;
+        self.before = slices.text(&self.from, &at.start)?;
+        self.name = slices.identifier(value, at)?;
         self.from = at.end.copied();
         Ok(())
     }
 
     /// Continues after the `)` of the type.
     #[tactic(auto, using(crate::proofs::Slicing::SliceCost::token_fewer))]
-    pub fn close(&mut self, lexer: &mut Lexer<'a>, at: &TokenSpan<'a>) -> Result<(), AllocError>
+    pub fn close(&mut self, slices: &mut Slices<'a>, at: &TokenSpan<'a>) -> Result<(), AllocError>
         requires from { Ahead self.old.from at.now.start }
         ensures closed { OnOk result
             (item_view self.new ≡ spec.closed_at
             (between self.old.from.rest at.now.start.rest) at.now.end.rest (item_view self.old)) }
-        ensures stays { Stays lexer.old lexer.new }
+        ensures whole { slices.new.whole ≡ slices.old.whole }
         ensures sliced { OnOk result
-            (Sliced (bytes self.old.from.rest) (bytes self.new.from.rest) lexer.old lexer.new) }
+            (Sliced (bytes self.old.from.rest) (bytes self.new.from.rest) slices.old.steps slices.new.steps) }
         ensures from { OnOk result (Ahead self.new.from at.now.end) }
     {
-        self.after = text_between(self.alloc, lexer, &self.from, &at.start)?;
+        self.after = slices.text(&self.from, &at.start)?;
         self.from = at.end.copied();
         Ok(())
     }
@@ -368,7 +276,7 @@ impl<'a> Item<'a> {
     /// The type, at the start of the value.
     pub fn type_parts(
         &mut self,
-        lexer: &mut Lexer<'a>,
+        slices: &mut Slices<'a>,
         start: &Checkpoint<'a>,
     ) -> Result<TypeParts, AllocError>
         requires from { Ahead self.old.from start.now }
@@ -377,11 +285,11 @@ impl<'a> Item<'a> {
         ensures key { option_map key_view self.new.key ≡ option_map key_view self.old.key }
         ensures holds { OnOk result (Holds (item_view self.old) (item_view self.new)) }
         ensures from { self.new.from ≡ self.old.from }
-        ensures stays { Stays lexer.old lexer.new }
+        ensures whole { slices.new.whole ≡ slices.old.whole }
         ensures sliced { OnOk result
-            (Sliced (bytes self.old.from.rest) (bytes start.now.rest) lexer.old lexer.new) }
+            (Sliced (bytes self.old.from.rest) (bytes start.now.rest) slices.old.steps slices.new.steps) }
     {
-        let behind = text_between(self.alloc, lexer, &self.from, start)?;
+        let behind = slices.text(&self.from, start)?;
         let name = mem::replace(&mut self.name, KdlIdentifier::from(empty(self.alloc)));
         let before = mem::replace(&mut self.before, empty(self.alloc));
         let after = mem::replace(&mut self.after, empty(self.alloc));
@@ -396,7 +304,7 @@ impl<'a> Item<'a> {
     /// The key, at the start of its value or type.
     pub fn key_parts(
         &mut self,
-        lexer: &mut Lexer<'a>,
+        slices: &mut Slices<'a>,
         start: &Checkpoint<'a>,
     ) -> Result<KeyParts, AllocError>
         requires from { Ahead self.old.from start.now }
@@ -404,11 +312,11 @@ impl<'a> Item<'a> {
             (λ k. key_view k ≡ spec.key_at (item_view self.old) start.now.rest) }
         ensures taken { OnOk result (item_view self.new ≡ spec.emptied (item_view self.old)) }
         ensures from { self.new.from ≡ self.old.from }
-        ensures stays { Stays lexer.old lexer.new }
+        ensures whole { slices.new.whole ≡ slices.old.whole }
         ensures sliced { OnOk result
-            (Sliced (bytes self.old.from.rest) (bytes start.now.rest) lexer.old lexer.new) }
+            (Sliced (bytes self.old.from.rest) (bytes start.now.rest) slices.old.steps slices.new.steps) }
     {
-        let behind = text_between(self.alloc, lexer, &self.from, start)?;
+        let behind = slices.text(&self.from, start)?;
         let name = mem::replace(&mut self.name, KdlIdentifier::from(empty(self.alloc)));
         let before = mem::replace(&mut self.before, empty(self.alloc));
         Ok(KeyParts {
@@ -422,7 +330,7 @@ impl<'a> Item<'a> {
     #[tactic(auto, using(crate::proofs::Slicing::SliceCost::token_fewer))]
     pub fn open_typed(
         &mut self,
-        lexer: &mut Lexer<'a>,
+        slices: &mut Slices<'a>,
         at: &TokenSpan<'a>,
     ) -> Result<(), AllocError>
         requires from { Ahead self.old.from at.now.start }
@@ -430,11 +338,11 @@ impl<'a> Item<'a> {
             (spec.key_at (item_view self.old) at.now.start.rest) at.now.end.rest
             (item_view self.old)) }
         ensures from { OnOk result (self.new.from ≡ at.now.end) }
-        ensures stays { Stays lexer.old lexer.new }
+        ensures whole { slices.new.whole ≡ slices.old.whole }
         ensures sliced { OnOk result
-            (Sliced (bytes self.old.from.rest) (bytes self.new.from.rest) lexer.old lexer.new) }
+            (Sliced (bytes self.old.from.rest) (bytes self.new.from.rest) slices.old.steps slices.new.steps) }
     {
-        let key = self.key_parts(lexer, &at.start)?;
+        let key = self.key_parts(slices, &at.start)?;
         self.key = Some(key);
         self.from = at.end.copied();
         Ok(())
@@ -443,29 +351,26 @@ impl<'a> Item<'a> {
     /// Continues after a token that may come in the phase and is not the item's value.
     ///
     /// ```
-    /// item.take(Phase::TypeOpen(Owner::Value), &mut lexer, &whole, name)?; // the type has its name
-    /// item.take(Phase::TypeName(Owner::Value), &mut lexer, &whole, right)?; // the type has ended
+    /// item.take(Phase::TypeOpen(Owner::Value), &mut slices, name)?; // the type has its name
+    /// item.take(Phase::TypeName(Owner::Value), &mut slices, right)?; // the type has ended
     /// ```
     pub fn take(
         &mut self,
         phase: Phase,
-        lexer: &mut Lexer<'a>,
-        whole: &Checkpoint<'a>,
+        slices: &mut Slices<'a>,
         token: Token<'a>,
     ) -> Result<(), AllocError>
         requires from { Ahead self.old.from token.at.start }
         ensures is { OnOk result
-            (item_view self.new ≡ spec.taken (phase_view phase) whole.now.rest (item_view self.old)
+            (item_view self.new ≡ spec.taken (phase_view phase) slices.old.whole.rest (item_view self.old)
             (kind_view token.entry.kind) token.entry.at.start.rest token.entry.at.end.rest) }
-        ensures stays { Stays lexer.old lexer.new }
+        ensures whole { slices.new.whole ≡ slices.old.whole }
     {
         let Token { kind, at } = token;
         match (phase, kind) {
-            (Phase::TypeOpen(_), TokenKind::String(value)) => {
-                self.take_name(lexer, whole, value, &at)
-            }
-            (Phase::TypeName(_), TokenKind::Right) => self.close(lexer, &at),
-            (Phase::Property, TokenKind::Left) => self.open_typed(lexer, &at),
+            (Phase::TypeOpen(_), TokenKind::String(value)) => { self.take_name(slices, value, &at) }
+            (Phase::TypeName(_), TokenKind::Right) => self.close(slices, &at),
+            (Phase::Property, TokenKind::Left) => self.open_typed(slices, &at),
             _ => Ok(()),
         }
     }
@@ -473,12 +378,12 @@ impl<'a> Item<'a> {
     /// Ends the item in the phase, with its value, which begins at `start`. Returns its key, its type and the value.
     ///
     /// ```
-    /// let given = item.give(Phase::Property, &mut lexer, value, &at.start)?; // no type
+    /// let given = item.give(Phase::Property, &mut slices, value, &at.start)?; // no type
     /// ```
     pub fn give(
         &mut self,
         phase: Phase,
-        lexer: &mut Lexer<'a>,
+        slices: &mut Slices<'a>,
         value: KdlValue,
         start: &Checkpoint<'a>,
     ) -> Result<Given, AllocError>
@@ -491,17 +396,17 @@ impl<'a> Item<'a> {
             ≡ spec.type_given (phase_view phase) (item_view self.old) start.now.rest) }
         ensures value { IfOk result (λ g. g.value ≡ value) }
         ensures leading { OnOk result (text_of self.new.leading ≡ text_of self.old.leading) }
-        ensures stays { Stays lexer.old lexer.new }
+        ensures whole { slices.new.whole ≡ slices.old.whole }
     {
         if let Phase::Property = phase {
-            let key = self.key_parts(lexer, start)?;
+            let key = self.key_parts(slices, start)?;
             return Ok(Given {
                 key: Some(key),
                 ty: None,
                 value,
             });
         }
-        let ty = self.type_parts(lexer, start)?;
+        let ty = self.type_parts(slices, start)?;
         Ok(Given {
             key: self.key.take(),
             ty: Some(ty),

@@ -100,11 +100,7 @@ impl<'a> Slices<'a> {
     /// let mut slices = Slices::new(alloc, from.copied());
     /// let text = slices.text(&from, &lexer.checkpoint())?; // "ab"
     /// ```
-    pub fn text(
-        &mut self,
-        from: &Checkpoint<'a>,
-        to: &Checkpoint<'a>,
-    ) -> Result<String, AllocError>
+    pub fn text(&mut self, from: &Checkpoint<'a>, to: &Checkpoint<'a>) -> Result<String, AllocError>
         requires { Ahead from.now to.now }
         ensures text { IfOk result (λ s. text_of s ≡ between from.now.rest to.now.rest) }
         ensures whole { self.new.whole ≡ self.old.whole }

@@ -7,7 +7,6 @@ use Rattle.kdl_text.specs.Internal.Reading.{Moves}
 use Rattle.kdl_text.specs.Spans.{InText, bytes}
 use Rattle.kdl_text.specs.Trivia.{NodeSpace}
 use Rattle.kdl_text.specs.declared.span.SourceSpan.{SourceSpan}
-use Rattle.kdl_entry.specs.Internal.Building.{Stays}
 use Rattle.kdl_entry.proofs.Reading.EntryLoop.{bytes_before, char_in}
 use Rattle.kdl_lexer.specs.Internal.Handed.{Cuts, one, spaces, IsFaultAt, kind_view, HandsOut, Lexed}
 use Rattle.kdl_lexer.specs.Tokens.{Token, t_space, NoToken}
@@ -39,7 +38,7 @@ Same whole u st s = (d : Document) → Runs whole d st s ↔ Runs whole d (initi
 -- the lexer is in the text t, and the machine goes on from here as from the start of u
 pub record Going {N : Type 0} (tree : N → Node) (b : Builder N) (here : Here) (t u : Text) : Type 0 where
   pub same : Same t u (state_view tree b) here.rest
-  pub whole : b.whole.rest ≡ t
+  pub whole : b.slices.whole.rest ≡ t
   pub placed : Placed (state_view tree b) here.rest
   pub went : Goes (control.at control.gap []) u (a_state (state_view tree b)) here.rest
   pub text : EndsIn t here.rest
@@ -68,7 +67,7 @@ same_at : (t u s r : Text) (st : State) → r ≡ s → Same t u st s → Same t
 same_at t u s r st e a = rw e a
 
 -- the start of a text, or after its U+FEFF
-pub starts : {N : Type 0} (tree : N → Node) (t u : Text) (b : Builder N) (here : Here) → state_view tree b ≡ initial u → b.whole.rest ≡ t → here.rest ≡ u → EndsIn t u → here.at + bytes u ≡ bytes t → Going tree b here t u
+pub starts : {N : Type 0} (tree : N → Node) (t u : Text) (b : Builder N) (here : Here) → state_view tree b ≡ initial u → b.slices.whole.rest ≡ t → here.rest ≡ u → EndsIn t u → here.at + bytes u ≡ bytes t → Going tree b here t u
 starts tree t u b here e w f x n = record {
   same = start_same t u here.rest (state_view tree b) e f;
   whole = w;
@@ -79,19 +78,18 @@ starts tree t u b here e w f x n = record {
 }
 
 -- a token's turn
-pub goes_on : {N : Type 0} (tree : N → Node) (b b' : Builder N) (before mid after : Here) (t u : Text) (k : CodeToken) → Going tree b before t u → HandsOut before k mid → Moves before mid
-    → option_map held (step b.whole.rest (state_view tree b) (kind_view k.kind) k.at.start.rest k.at.end.rest) ≡ Some (held (state_view tree b')) → b'.whole ≡ b.whole → Stays mid after → Going tree b' after t u
-goes_on tree b b' before mid after t u k g h m e w y =
-    let e' = told_step b.whole.rest t before.rest mid.rest k.at.start.rest k.at.end.rest (state_view tree b) (state_view tree b') (kind_view k.kind) g.whole h.start_rest h.end_rest e in
+pub goes_on : {N : Type 0} (tree : N → Node) (b b' : Builder N) (before mid : Here) (t u : Text) (k : CodeToken) → Going tree b before t u → HandsOut before k mid → Moves before mid
+    → option_map held (step b.slices.whole.rest (state_view tree b) (kind_view k.kind) k.at.start.rest k.at.end.rest) ≡ Some (held (state_view tree b')) → b'.slices.whole ≡ b.slices.whole → Going tree b' mid t u
+goes_on tree b b' before mid t u k g h m e w =
+    let e' = told_step b.slices.whole.rest t before.rest mid.rest k.at.start.rest k.at.end.rest (state_view tree b) (state_view tree b') (kind_view k.kind) g.whole h.start_rest h.end_rest e in
     let piece : EndsIn before.rest mid.rest = m.piece in
-    let placed = placed_step t (state_view tree b) (state_view tree b') (kind_view k.kind) before.rest mid.rest e' g.placed piece in
     record {
-      same = same_at t u mid.rest after.rest (state_view tree b') y.rest (turn_same t u before.rest mid.rest (state_view tree b) (state_view tree b') (kind_view k.kind) g.same h.cuts e');
+      same = turn_same t u before.rest mid.rest (state_view tree b) (state_view tree b') (kind_view k.kind) g.same h.cuts e';
       whole = ap (λ (z : Position). z.rest) w ∙ g.whole;
-      placed = subst (λ (z : Text). Placed (state_view tree b') z) (sym y.rest) placed;
-      went = subst (λ (z : Text). Goes (control.at control.gap []) u (a_state (state_view tree b')) z) (sym y.rest) (over_cut g.went h.cuts (stepped t (state_view tree b) (state_view tree b') (kind_view k.kind) before.rest mid.rest e'));
-      text = subst (λ (z : Text). EndsIn t z) (sym y.rest) (then_ends g.text piece);
-      at = omega (arith, y.at, ap bytes y.rest, m.at, g.at);
+      placed = placed_step t (state_view tree b) (state_view tree b') (kind_view k.kind) before.rest mid.rest e' g.placed piece;
+      went = over_cut g.went h.cuts (stepped t (state_view tree b) (state_view tree b') (kind_view k.kind) before.rest mid.rest e');
+      text = then_ends g.text piece;
+      at = m.at ∙ g.at;
     }
 
 -- what the builder asks of the places
@@ -107,8 +105,8 @@ pub cut_shorter : {s r : Text} {k : Token} → Cuts s k r → length r < length 
 cut_shorter (one t) = token_shorter t
 cut_shorter (spaces (plus n m)) = omega (arith, token_shorter (t_space n), spaces_shorter m)
 
-pub nearer : (before mid after : Here) (k : CodeToken) → HandsOut before k mid → Stays mid after → length after.rest < length before.rest
-nearer before mid after k h y = omega (arith, cut_shorter h.cuts, ap length y.rest)
+pub nearer : (before mid : Here) (k : CodeToken) → HandsOut before k mid → length mid.rest < length before.rest
+nearer before mid k h = cut_shorter h.cuts
 
 pub told : {N : Type 0} (tree : N → Node) (b : Builder N) (here : Here) (t u : Text) (place : Position) (span : SourceSpan) → Going tree b here t u → place.rest ≡ here.rest → place.at ≡ here.at → IsFaultAt place span → InText t span
 told tree b here t u place span g e f x =
@@ -117,10 +115,10 @@ told tree b here t u place span g e f x =
 no_reading : {N : Type 0} (tree : N → Node) (b : Builder N) (here : Here) (t u : Text) → Going tree b here t u → NoToken here.rest → (d : Document) → Runs t d (initial u) u → ⊥
 no_reading tree b here t u g n d a = faults t d (state_view tree b) here.rest n.begun n.none ((g.same d).1 a)
 
-no_turn : {N : Type 0} (tree : N → Node) (b : Builder N) (before mid : Here) (t u : Text) (k : CodeToken) → Going tree b before t u → HandsOut before k mid → step b.whole.rest (state_view tree b) (kind_view k.kind) k.at.start.rest k.at.end.rest ≡ None
+no_turn : {N : Type 0} (tree : N → Node) (b : Builder N) (before mid : Here) (t u : Text) (k : CodeToken) → Going tree b before t u → HandsOut before k mid → step b.slices.whole.rest (state_view tree b) (kind_view k.kind) k.at.start.rest k.at.end.rest ≡ None
     → (d : Document) → Runs t d (initial u) u → ⊥
 no_turn tree b before mid t u k g h e d a =
-    let e' = told_none b.whole.rest t before.rest mid.rest k.at.start.rest k.at.end.rest (state_view tree b) (kind_view k.kind) g.whole h.start_rest h.end_rest e in
+    let e' = told_none b.slices.whole.rest t before.rest mid.rest k.at.start.rest k.at.end.rest (state_view tree b) (kind_view k.kind) g.whole h.start_rest h.end_rest e in
     refuses t d (state_view tree b) before.rest mid.rest (kind_view k.kind) h.cuts e' ((g.same d).1 a)
 
 -- the machine without data stops there
@@ -134,8 +132,8 @@ stops_there tree b before t u span g e s = record {
   stuck = s;
 }
 
-stuck_turn : {N : Type 0} (tree : N → Node) (b : Builder N) (before mid : Here) (k : CodeToken) → HandsOut before k mid → step b.whole.rest (state_view tree b) (kind_view k.kind) k.at.start.rest k.at.end.rest ≡ None → Stuck (a_state (state_view tree b)) before.rest
-stuck_turn tree b before mid k h e = stuck_cut control.step (a_state (state_view tree b)) h.cuts (refused_step b.whole.rest (state_view tree b) (kind_view k.kind) k.at.start.rest k.at.end.rest e)
+stuck_turn : {N : Type 0} (tree : N → Node) (b : Builder N) (before mid : Here) (k : CodeToken) → HandsOut before k mid → step b.slices.whole.rest (state_view tree b) (kind_view k.kind) k.at.start.rest k.at.end.rest ≡ None → Stuck (a_state (state_view tree b)) before.rest
+stuck_turn tree b before mid k h e = stuck_cut control.step (a_state (state_view tree b)) h.cuts (refused_step b.slices.whole.rest (state_view tree b) (kind_view k.kind) k.at.start.rest k.at.end.rest e)
 
 stuck_end : {N : Type 0} (tree : N → Node) (b : Builder N) (here : Here) → here.rest ≡ [] → Stuck (a_state (state_view tree b)) here.rest
 stuck_end tree b here e = inl (subst BeginsNone (sym e) (λ r k x. no_token x))
@@ -146,7 +144,7 @@ lexer_told tree b before after t u (Faulty span) g x = (no_reading tree b before
 lexer_told tree b before after t u Memory g x = tt
 
 pub take_told : {N : Type 0} (tree : N → Node) (b b' : Builder N) (before mid : Here) (t u : Text) (k : CodeToken) (e : LexFailure) → Going tree b before t u → HandsOut before k mid
-    → Did {A = Unit {0}} (step b.whole.rest (state_view tree b) (kind_view k.kind) k.at.start.rest k.at.end.rest) k.at.start (Err e) (state_view tree b') → AnswersParts tree t u (Err e)
+    → Did {A = Unit {0}} (step b.slices.whole.rest (state_view tree b) (kind_view k.kind) k.at.start.rest k.at.end.rest) k.at.start (Err e) (state_view tree b') → AnswersParts tree t u (Err e)
 take_told tree b b' before mid t u k (Faulty span) g h x =
     (no_turn tree b before mid t u k g h x.0, told tree b before t u k.at.start span g h.start_rest h.start_at x.1, stops_there tree b before t u span g (x.1.offset ∙ h.start_at) (stuck_turn tree b before mid k h x.0))
 take_told tree b b' before mid t u k Memory g h x = tt
@@ -183,18 +181,18 @@ no_run_there t u s st a e f d x =
     let y : finish t st ≡ Some d = (at_stop t d st).0 (subst (λ (z : Text). Runs t d st z) e ((a d).1 x)) in
     cc
 
-pub at_the_end : {N : Type 0} (tree : N → Node) (b : Builder N) (here : Here) (t u : Text) (d : DocumentParts N) → Going tree b here t u → here.rest ≡ [] → finish b.whole.rest (state_view tree b) ≡ Some (document_by tree d) → AnswersParts tree t u (Ok d)
+pub at_the_end : {N : Type 0} (tree : N → Node) (b : Builder N) (here : Here) (t u : Text) (d : DocumentParts N) → Going tree b here t u → here.rest ≡ [] → finish b.slices.whole.rest (state_view tree b) ≡ Some (document_by tree d) → AnswersParts tree t u (Ok d)
 at_the_end tree b here t u d g e f =
     let f' = subst (λ (w : Text). finish w (state_view tree b) ≡ Some (document_by tree d)) g.whole f in
     run_there t u here.rest (state_view tree b) (document_by tree d) g.same e f'
 
-pub no_end : {N : Type 0} (tree : N → Node) (b : Builder N) (here : Here) (t u : Text) → Going tree b here t u → here.rest ≡ [] → finish b.whole.rest (state_view tree b) ≡ None → (d : Document) → Runs t d (initial u) u → ⊥
+pub no_end : {N : Type 0} (tree : N → Node) (b : Builder N) (here : Here) (t u : Text) → Going tree b here t u → here.rest ≡ [] → finish b.slices.whole.rest (state_view tree b) ≡ None → (d : Document) → Runs t d (initial u) u → ⊥
 no_end tree b here t u g e f =
     let f' = subst (λ (w : Text). finish w (state_view tree b) ≡ None) g.whole f in
     no_run_there t u here.rest (state_view tree b) g.same e f'
 
 pub finish_told : {N : Type 0} (tree : N → Node) (b : Builder N) (here : Here) (t u : Text) (place : Position) (result : Result (DocumentParts N) LexFailure) → Going tree b here t u → here.rest ≡ [] → place.rest ≡ here.rest → place.at ≡ here.at
-    → Finished tree (finish b.whole.rest (state_view tree b)) place result → AnswersParts tree t u result
+    → Finished tree (finish b.slices.whole.rest (state_view tree b)) place result → AnswersParts tree t u result
 finish_told tree b here t u place (Ok d) g e f n x = at_the_end tree b here t u d g e x
 finish_told tree b here t u place (Err (Faulty span)) g e f n x = (no_end tree b here t u g e x.0, told tree b here t u place span g f n x.1, stops_there tree b here t u span g (x.1.offset ∙ n) (stuck_end tree b here e))
 finish_told tree b here t u place (Err Memory) g e f n x = tt

@@ -1,7 +1,7 @@
 -- A token's event brings the builder where the machine's step does.
 use Rattle.std.proofs.Common.{◌≡◌, ℕ, true, Option, Some, None, Result, refl, sym, ap, subst, ◌∙◌}
 use Rattle.kdl_text.specs.Chars.{Text}
-use Rattle.kdl_text.specs.Internal.Here.{Here, Position}
+use Rattle.kdl_text.specs.Internal.Here.{Position}
 use Rattle.kdl_text.specs.Spans.{bytes}
 use Rattle.kdl_control.specs.Internal.Events.{event_of}
 use Rattle.kdl_control.specs.declared.control.Owner.TheVariants.{Name, Value}
@@ -38,7 +38,7 @@ same_from None s r = refl
 same_from (Some (pending c k a)) s r = refl
 
 module _ {N : Type 0} (tree : N → Node) (b : Builder N) (s r : Position) where
-  in_live : (k : Token) (p : Phase) → is_live p ≡ true → step b.whole.rest (in_phase tree b (phase_now tree b p)) k s.rest r.rest ≡ stepped_by tree b (event_of p k) k s r
+  in_live : (k : Token) (p : Phase) → is_live p ≡ true → step b.slices.whole.rest (in_phase tree b (phase_now tree b p)) k s.rest r.rest ≡ stepped_by tree b (event_of p k) k s r
   in_live k NodeSlashdash e = absurd cc
   in_live k EntrySlashdash e = absurd cc
   in_live k BlockSlashdash e = absurd cc
@@ -55,7 +55,7 @@ module _ {N : Type 0} (tree : N → Node) (b : Builder N) (s r : Position) where
   in_live space (InNode (Spaced NoKey)) e = refl
   in_live space (InNode Later) e = refl
   in_live space p e = refl
-  in_live equals (InNode (Spaced MayBeKey)) e = ap (stay (nodes_now tree b) (frames_view tree b) b.from.rest) (same_from (pending_now MayBeKey b.whole.rest b.from.rest b.waiting (under_view b.under)) s.rest r.rest)
+  in_live equals (InNode (Spaced MayBeKey)) e = ap (stay (nodes_now tree b) (frames_view tree b) b.from.rest) (same_from (pending_now MayBeKey b.slices.whole.rest b.from.rest b.waiting (under_view b.under)) s.rest r.rest)
   in_live equals (InNode (Fresh MayBeKey)) e = refl
   in_live k (TypeOpen Name) e = refl
   in_live k (TypeOpen Value) e = refl
@@ -91,11 +91,11 @@ same_unsliced n m k (InNode (Spaced NoKey)) = refl
 same_unsliced n m k (InNode Later) = refl
 same_unsliced n m k p = refl
 
-module _ {N : Type 0} (tree : N → Node) (b b' : Builder N) (span : TokenSpan) (e : Event) (result : Result (Unit {0}) LexFailure) (before after : Here) where
+module _ {N : Type 0} (tree : N → Node) (b b' : Builder N) (span : TokenSpan) (e : Event) (result : Result (Unit {0}) LexFailure) where
   -- the machine's step at the token
   token_is : (k : TokenKind) (o : Option Event) → b.dropped ≡ Nothing → is_live b.phase ≡ true → o ≡ event_of b.phase (kind_view k) → token_step tree b k span ≡ stepped_by tree b o (kind_view k) span.start span.end
   token_is k o d l f =
-      ap (λ (z : Dropped). step b.whole.rest (state_by tree b (reading_view z)) (kind_view k) span.start.rest span.end.rest) d ∙ in_live tree b span.start span.end (kind_view k) b.phase l ∙ ap (λ (z : Option Event). stepped_by tree b z (kind_view k) span.start span.end) (sym f)
+      ap (λ (z : Dropped). step b.slices.whole.rest (state_by tree b (reading_view z)) (kind_view k) span.start.rest span.end.rest) d ∙ in_live tree b span.start span.end (kind_view k) b.phase l ∙ ap (λ (z : Option Event). stepped_by tree b z (kind_view k) span.start span.end) (sym f)
 
   unsliced_is : (k : TokenKind) → b.dropped ≡ Nothing → Some e ≡ event_of b.phase (kind_view k) → unsliced_before e (bytes b.from.rest) (bytes b.item.from.rest) ≡ unsliced b
   unsliced_is k d f =
@@ -103,16 +103,15 @@ module _ {N : Type 0} (tree : N → Node) (b b' : Builder N) (span : TokenSpan) 
       ∙ ap (λ (z : Dropped). unsliced_at z b.phase (bytes b.from.rest) (bytes b.item.from.rest)) (sym d)
 
   -- what a token of an event does
-  takes : (k : TokenKind) → b.dropped ≡ Nothing → is_live b.phase ≡ true → Some e ≡ event_of b.phase (kind_view k) → Acts tree e (event_step tree b e (kind_view k) span.start span.end) span b result b' before after → Takes tree b k span result b' before after
+  takes : (k : TokenKind) → b.dropped ≡ Nothing → is_live b.phase ≡ true → Some e ≡ event_of b.phase (kind_view k) → Acts tree e (event_step tree b e (kind_view k) span.start span.end) span b result b' → Takes tree b k span result b'
   takes k d l f x = record {
     did = subst (λ (o : Option State). Did o span.start result (state_view tree b')) (sym (token_is k (Some e) d l f)) x.did;
     whole = x.whole;
-    stays = x.stays;
-    sliced = subst (λ (n : ℕ). SlicedOn result n (unsliced b') before after) (unsliced_is k d f) x.sliced;
+    sliced = subst (λ (n : ℕ). SlicedOn result n (unsliced b') b.slices.steps b'.slices.steps) (unsliced_is k d f) x.sliced;
   }
 
-  pub takes_as : (k k' : TokenKind) (o : Option State) → b.dropped ≡ Nothing → is_live b.phase ≡ true → Some e ≡ event_of b.phase (kind_view k) → k ≡ k' → o ≡ event_step tree b e (kind_view k') span.start span.end → Acts tree e o span b result b' before after → Takes tree b k span result b' before after
-  takes_as k k' o d l f i j x = takes k d l f (subst (λ (z : TokenKind). Acts tree e (event_step tree b e (kind_view z) span.start span.end) span b result b' before after) (sym i) (subst (λ (z : Option State). Acts tree e z span b result b' before after) j x))
+  pub takes_as : (k k' : TokenKind) (o : Option State) → b.dropped ≡ Nothing → is_live b.phase ≡ true → Some e ≡ event_of b.phase (kind_view k) → k ≡ k' → o ≡ event_step tree b e (kind_view k') span.start span.end → Acts tree e o span b result b' → Takes tree b k span result b'
+  takes_as k k' o d l f i j x = takes k d l f (subst (λ (z : TokenKind). Acts tree e (event_step tree b e (kind_view z) span.start span.end) span b result b') (sym i) (subst (λ (z : Option State). Acts tree e z span b result b') j x))
 
 -- a token that is neither a string nor a value
 pub is_mark : {N : Type 0} (tree : N → Node) (b : Builder N) (e : Event) (s r : Position) (k : TokenKind) → ((x : _) → k ≡ StringKind x → ⊥) → ((x : _) → k ≡ ValueKind x → ⊥) → mark_step tree b e s r ≡ event_step tree b e (kind_view k) s r

@@ -5,7 +5,6 @@ use Rattle.kdl_text.specs.Spans.{bytes, raise}
 use Rattle.kdl_text.specs.Internal.Reading.{Moves, Costs}
 use Rattle.kdl_text.proofs.Looking.MovesJoin.{bytes-append}
 use Rattle.kdl_text.proofs.Looking.Runs.{length-bytes}
-use Rattle.kdl_entry.specs.Internal.Building.{Stays}
 use Rattle.kdl_entry.specs.Internal.Counted.{Sliced}
 use Rattle.kdl_lexer.specs.Internal.Handed.{HandsOut}
 use Rattle.kdl_lexer.specs.Internal.Order.{IsEndOf}
@@ -17,33 +16,39 @@ use Rattle.kdl_entry.proofs.Slicing.SliceCost.{ahead_fewer}
 use Rattle.kdl_parser.specs.Internal.Counted.{SlicedOn, ReadOn}
 use Rattle.kdl_parser.proofs.Answering.TokenLoop.{cut_shorter}
 
--- from the start to here, where n bytes are not sliced yet
-pub record Counting (start here : Here) (n : ℕ) : Type 0 where
+-- from the start to here, where k steps were counted for slices and n bytes are not sliced yet
+pub record Counting (start here : Here) (k n : ℕ) : Type 0 where
   pub least : raise start.steps (length start.rest) ≤ raise here.steps (length here.rest)
-  pub most : here.steps + 25 * bytes here.rest + n ≤ start.steps + 26 * bytes start.rest
+  pub most : here.steps + k + 25 * bytes here.rest + n ≤ start.steps + 26 * bytes start.rest
   pub counts : raise start.steps 0 ≤ raise here.steps 0
 
-pub counting_starts : (here : Here) (n : ℕ) → n ≡ bytes here.rest → Counting here here n
-counting_starts here n e = record { least = omega arith; most = omega (arith, e); counts = omega arith }
+pub counting_starts : (here : Here) (k n : ℕ) → k ≡ 0 → n ≡ bytes here.rest → Counting here here k n
+counting_starts here k n f e = record { least = omega arith; most = omega (arith, e, f); counts = omega arith }
 
-pub counting_goes_on : (start before mid after : Here) (k : CodeToken) (m n : ℕ) → Counting start before m → HandsOut before k mid → Moves before mid → Costs 24 0 before mid → Sliced (m + 1) n mid after → Stays mid after → Counting start after n
-counting_goes_on start before mid after k m n g h v c d y =
+pub counting_goes_on : (start before mid : Here) (t : CodeToken) (i j m n : ℕ) → Counting start before i m → HandsOut before t mid → Moves before mid → Costs 24 0 before mid → Sliced (m + 1) n i j → Counting start mid j n
+counting_goes_on start before mid t i j m n g h v c d =
     let less = cut_shorter h.cuts in
     let more : bytes mid.rest + 1 ≤ bytes before.rest = omega (arith, less, ap bytes v.piece.1, bytes-append v.piece.0 mid.rest, length-bytes v.piece.0, ap length v.piece.1, length-append v.piece.0 mid.rest) in
     record {
-      least = omega (arith, g.least, c.least, y.counts, ap length y.rest);
-      most = omega (arith, g.most, c.most, d.most, ap bytes y.rest, more);
-      counts = omega (arith, g.counts, v.counts, y.counts);
+      least = omega (arith, g.least, c.least);
+      most = omega (arith, g.most, c.most, d.most, more);
+      counts = omega (arith, g.counts, v.counts);
     }
 
-pub counting_ends : {A : Type 0} (result : Result A LexFailure) (start before after last : Here) (n : ℕ) → Counting start before n → before.rest ≡ [] → Moves before after → Costs 24 1 before after → SlicedOn result n 0 after last → Stays after last → ReadOn result start last
-counting_ends (Ok x) start before after last n g e v c d y =
+pub counting_ends : {A : Type 0} (result : Result A LexFailure) (start before after : Here) (i j n : ℕ) → Counting start before i n → before.rest ≡ [] → Moves before after → Costs 24 1 before after → SlicedOn result n 0 i j → ReadOn result start (after.steps + j)
+counting_ends (Ok x) start before after i j n g e v c d =
     record {
-      least = omega (arith, g.least, v.counts, y.counts, ap length e);
+      least = omega (arith, g.least, v.counts, ap length e);
       most = omega (arith, g.most, c.most, d.most, ap bytes e);
     }
-counting_ends (Err (Faulty span)) start before after last n g e v c d y = omega (arith, g.most, c.most, d.most, ap bytes e)
-counting_ends (Err Memory) start before after last n g e v c d y = tt
+counting_ends (Err (Faulty span)) start before after i j n g e v c d = omega (arith, g.most, c.most, d.most, ap bytes e)
+counting_ends (Err Memory) start before after i j n g e v c d = tt
+
+-- the count of the slices is added to that of the lexer
+pub counted_up : {A : Type 0} (result : Result A LexFailure) (start : Here) (m k n : ℕ) → n ≡ raise m k → ReadOn result start (m + k) → ReadOn result start n
+counted_up (Ok x) start m k n e r = record { least = omega (arith, e, r.least); most = omega (arith, e, r.most) }
+counted_up (Err (Faulty span)) start m k n e r = omega (arith, e, r)
+counted_up (Err Memory) start m k n e r = tt
 
 -- what is ahead has fewer bytes
 pub fewer : (from to : Position) → Ahead from to → bytes to.rest ≤ bytes from.rest

@@ -76,7 +76,7 @@ slot_of Value u it = for_value u it.leading it.start it.key
 
 -- the current node, with the pending string
 abbrev pub node_now : {N : Type 0} → Builder N → machine.Under
-node_now b = under_now b.whole.rest b.from.rest b.waiting (under_view b.under)
+node_now b = under_now b.slices.whole.rest b.from.rest b.waiting (under_view b.under)
 
 -- the current node with its block, without the pending string
 abbrev pub kept_by : {N : Type 0} → (N → Node) → Builder N → machine.Kept
@@ -92,8 +92,8 @@ phase_now tree b NodeSlashdash = machine.node_slashdash
 phase_now tree b (TypeOpen o) = machine.type_open (owner_view o) (slot_of o (under_view b.under) (item_view b.item)) b.item.from.rest
 phase_now tree b (TypeName o) = machine.type_name (owner_view o) (slot_of o (under_view b.under) (item_view b.item)) (text_of b.item.before) (identifier_tree b.item.name) b.item.from.rest
 phase_now tree b (TypeDone o) = machine.type_done (owner_view o) (slot_of o (under_view b.under) (item_view b.item)) (text_of b.item.before) (identifier_tree b.item.name) (text_of b.item.after) b.item.from.rest
-phase_now tree b (InNode (Fresh w)) = machine.in_node (Some (node_now b)) (machine.fresh (pending_now w b.whole.rest b.from.rest b.waiting (under_view b.under)))
-phase_now tree b (InNode (Spaced w)) = machine.in_node (Some (node_now b)) (machine.spaced (pending_now w b.whole.rest b.from.rest b.waiting (under_view b.under)))
+phase_now tree b (InNode (Fresh w)) = machine.in_node (Some (node_now b)) (machine.fresh (pending_now w b.slices.whole.rest b.from.rest b.waiting (under_view b.under)))
+phase_now tree b (InNode (Spaced w)) = machine.in_node (Some (node_now b)) (machine.spaced (pending_now w b.slices.whole.rest b.from.rest b.waiting (under_view b.under)))
 phase_now tree b (InNode Later) = machine.in_node (Some (node_now b)) machine.later
 phase_now tree b Property = machine.property (for_value (under_view b.under) (text_of b.item.leading) b.item.start.rest None) (identifier_tree b.item.name) (text_of b.item.before) b.item.from.rest
 phase_now tree b EntrySlashdash = machine.entry_slashdash (Some (node_now b))

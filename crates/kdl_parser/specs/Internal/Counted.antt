@@ -29,18 +29,18 @@ abbrev pub unsliced : {N : Type 0} → Builder N → ℕ
 unsliced b = unsliced_at b.dropped b.phase (bytes b.from.rest) (bytes b.item.from.rest)
 
 -- of the m bytes before the end of the text that were not sliced yet, all but the last n may have been; if a token is refused, all may have been
-abbrev pub SlicedOn : {A : Type 0} → Result A LexFailure → ℕ → ℕ → Here → Here → Type 0
+abbrev pub SlicedOn : {A : Type 0} → Result A LexFailure → ℕ → ℕ → ℕ → ℕ → Type 0
 SlicedOn (Ok x) m n old new = Sliced m n old new
 SlicedOn (Err (Faulty span)) m n old new = Sliced m 0 old new
 SlicedOn (Err Memory) m n old new = Unit {0}
 
--- the text before the lexer was read to its end: at least a step for each character, and at most 26 for each byte
-pub record ReadThrough (old new : Here) : Type 0 where
-  pub least : raise old.steps (length old.rest) ≤ new.steps
-  pub most : new.steps ≤ old.steps + 26 * bytes old.rest + 1
+-- the text before the lexer was read to its end, with so many steps then: at least a step for each character, and at most 26 for each byte
+pub record ReadThrough (old : Here) (steps : ℕ) : Type 0 where
+  pub least : raise old.steps (length old.rest) ≤ steps
+  pub most : steps ≤ old.steps + 26 * bytes old.rest + 1
 
 -- it was read to its end, or up to where it is refused: at most 26 steps for each byte, and 24 more
-abbrev pub ReadOn : {A : Type 0} → Result A LexFailure → Here → Here → Type 0
-ReadOn (Ok x) old new = ReadThrough old new
-ReadOn (Err (Faulty span)) old new = new.steps ≤ old.steps + 26 * bytes old.rest + 24
-ReadOn (Err Memory) old new = Unit {0}
+abbrev pub ReadOn : {A : Type 0} → Result A LexFailure → Here → ℕ → Type 0
+ReadOn (Ok x) old steps = ReadThrough old steps
+ReadOn (Err (Faulty span)) old steps = steps ≤ old.steps + 26 * bytes old.rest + 24
+ReadOn (Err Memory) old steps = Unit {0}

@@ -2,7 +2,7 @@
 -- The token is at s and ends at r.
 use Rattle.std.specs.Prelude.{ℕ, Bool, true, false, Option, Some, None, option_map, Result}
 use Rattle.kdl_text.specs.Chars.{Text}
-use Rattle.kdl_text.specs.Internal.Here.{Here, Position, Ahead}
+use Rattle.kdl_text.specs.Internal.Here.{Position, Ahead}
 use Rattle.kdl_text.specs.Spans.{bytes}
 use Rattle.kdl_control.specs.Internal.Views.{owner_view}
 use Rattle.kdl_control.specs.declared.control.Owner.{Owner}
@@ -31,7 +31,7 @@ use Rattle.kdl_entry.specs.Tree.{identifier_tree}
 -- after the name of a type
 abbrev pub type_named : {N : Type 0} → (N → Node) → Builder N → Owner → Text → Position → Position → State
 type_named tree b o v s r =
-    in_phase tree b (machine.type_name (owner_view o) (slot_of o (under_view b.under) (item_view b.item)) (between b.item.from.rest s.rest) (identifier_at b.whole.rest v s.rest r.rest) r.rest)
+    in_phase tree b (machine.type_name (owner_view o) (slot_of o (under_view b.under) (item_view b.item)) (between b.item.from.rest s.rest) (identifier_at b.slices.whole.rest v s.rest r.rest) r.rest)
 
 -- after the `)` of a type
 abbrev pub type_ended : {N : Type 0} → (N → Node) → Builder N → Owner → Position → Position → State
@@ -107,5 +107,5 @@ is_live KeptSlashdash = false
 is_live _ = true
 
 -- what a token did that is this for the tree, given the state to which it brings the builder
-abbrev pub Acts : {N : Type 0} → (N → Node) → Event → Option State → TokenSpan → Builder N → Result (Unit {0}) LexFailure → Builder N → Here → Here → Type 0
-Acts tree e o span old result new before after = Steps tree o span.start (unsliced_before e (bytes old.from.rest) (bytes old.item.from.rest)) old result new before after
+abbrev pub Acts : {N : Type 0} → (N → Node) → Event → Option State → TokenSpan → Builder N → Result (Unit {0}) LexFailure → Builder N → Type 0
+Acts tree e o span old result new = Steps tree o span.start (unsliced_before e (bytes old.from.rest) (bytes old.item.from.rest)) old result new

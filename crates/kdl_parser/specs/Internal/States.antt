@@ -2,11 +2,11 @@
 -- A token is at s and ends at r.
 use Rattle.std.specs.Prelude.{◌≡◌, ℕ, true, false, [], ◌∷◌, Option, Some, None, Result}
 use Rattle.kdl_text.specs.Chars.{Text}
-use Rattle.kdl_text.specs.Internal.Here.{Here, Position}
+use Rattle.kdl_text.specs.Internal.Here.{Position}
 use Rattle.kdl_control.specs.declared.control.Word.TheVariants.{MayBeKey}
 use Rattle.kdl_value.specs.Data.{Value}
 use Rattle.kdl_value.specs.Tree.{text_of}
-use Rattle.kdl_entry.specs.Internal.Building.{item_view, Stays}
+use Rattle.kdl_entry.specs.Internal.Building.{item_view}
 use Rattle.kdl_lexer.specs.Internal.Handed.{kind_view}
 use Rattle.kdl_entry.specs.Internal.Items as items
 use Rattle.kdl_entry.specs.Internal.Items.{TypeParts, KeyParts}
@@ -25,15 +25,15 @@ use Rattle.kdl_parser.specs.declared.builder.Slot.{Slot}
 
 -- the machine's step at a token of the kind
 abbrev pub token_step : {N : Type 0} → (N → Node) → Builder N → TokenKind → TokenSpan → Option State
-token_step tree b kind span = machine.step b.whole.rest (state_view tree b) (kind_view kind) span.start.rest span.end.rest
+token_step tree b kind span = machine.step b.slices.whole.rest (state_view tree b) (kind_view kind) span.start.rest span.end.rest
 
 -- the nodes, and after them the current node: it has no block, and ends at s with the terminator
 abbrev pub nodes_and : {N : Type 0} → (N → Node) → Builder N → Position → Text → Option Nodes
-nodes_and tree b s terminator = machine.ended (machine.closed b.whole.rest (Some (node_now b)) no_children [] (between b.from.rest s.rest) terminator s.rest) (nodes_now tree b)
+nodes_and tree b s terminator = machine.ended (machine.closed b.slices.whole.rest (Some (node_now b)) no_children [] (between b.from.rest s.rest) terminator s.rest) (nodes_now tree b)
 
 -- the same of the node with its block
 abbrev pub nodes_and_kept : {N : Type 0} → (N → Node) → Builder N → Position → Text → Option Nodes
-nodes_and_kept tree b s terminator = machine.ended (machine.closed_kept b.whole.rest (Some (kept_now tree b)) (between b.from.rest s.rest) terminator s.rest) (nodes_now tree b)
+nodes_and_kept tree b s terminator = machine.ended (machine.closed_kept b.slices.whole.rest (Some (kept_now tree b)) (between b.from.rest s.rest) terminator s.rest) (nodes_now tree b)
 
 -- after a node without a block, of which the token is the terminator
 abbrev pub node_ended : {N : Type 0} → (N → Node) → Builder N → Position → Position → State
@@ -45,15 +45,15 @@ kept_ended tree b s r = at machine.gap (nodes_and_kept tree b s (between s.rest 
 
 -- after the `}` that ends the block around the builder's nodes
 abbrev pub around : {N : Type 0} → (N → Node) → Builder N → Position → Position → Option State
-around tree b s r = machine.popped b.whole.rest (nodes_now tree b) (frames_view tree b) b.from.rest s.rest r.rest
+around tree b s r = machine.popped b.slices.whole.rest (nodes_now tree b) (frames_view tree b) b.from.rest s.rest r.rest
 
 -- after the `}` that ends a node without a block, and the block around it
 abbrev pub around_node : {N : Type 0} → (N → Node) → Builder N → Position → Position → Option State
-around_node tree b s r = machine.popped b.whole.rest (nodes_and tree b s []) (frames_view tree b) s.rest s.rest r.rest
+around_node tree b s r = machine.popped b.slices.whole.rest (nodes_and tree b s []) (frames_view tree b) s.rest s.rest r.rest
 
 -- after the `}` that ends a node with a block, and the block around it
 abbrev pub around_kept : {N : Type 0} → (N → Node) → Builder N → Position → Position → Option State
-around_kept tree b s r = machine.popped b.whole.rest (nodes_and_kept tree b s []) (frames_view tree b) s.rest s.rest r.rest
+around_kept tree b s r = machine.popped b.slices.whole.rest (nodes_and_kept tree b s []) (frames_view tree b) s.rest s.rest r.rest
 
 -- in the block of the current node, which the token opens
 abbrev pub block_opened : {N : Type 0} → (N → Node) → Builder N → Position → Position → State
@@ -62,7 +62,7 @@ block_opened tree b s r =
 
 -- after a name or a value, with its type
 abbrev pub given_at : {N : Type 0} → (N → Node) → Builder N → machine.Slot → Option TypeParts → Value → Position → Position → State
-given_at tree b slot ty value s r = machine.given b.whole.rest slot ty value None (nodes_now tree b) (frames_view tree b) b.from.rest s.rest r.rest
+given_at tree b slot ty value s r = machine.given b.slices.whole.rest slot ty value None (nodes_now tree b) (frames_view tree b) b.from.rest s.rest r.rest
 
 -- the slot of a name that begins here, and that of an argument of the current node
 abbrev pub name_slot : {N : Type 0} → Builder N → Position → machine.Slot
@@ -98,11 +98,11 @@ key_now b s = Some (items.key_at (item_view b.item) s.rest)
 abbrev pub property_opened : {N : Type 0} → (N → Node) → Builder N → Position → Position → Option State
 property_opened tree b s r =
     machine.stay (nodes_now tree b) (frames_view tree b) b.from.rest
-    (machine.value_from (machine.fresh (pending_now MayBeKey b.whole.rest b.from.rest b.waiting (under_view b.under))) s.rest r.rest)
+    (machine.value_from (machine.fresh (pending_now MayBeKey b.slices.whole.rest b.from.rest b.waiting (under_view b.under))) s.rest r.rest)
 
 -- after a string that may be a key
 abbrev pub worded : {N : Type 0} → (N → Node) → Builder N → Text → Position → Position → State
-worded tree b value s r = machine.worded b.whole.rest (argument_slot b s) value (nodes_now tree b) (frames_view tree b) b.from.rest s.rest r.rest
+worded tree b value s r = machine.worded b.slices.whole.rest (argument_slot b s) value (nodes_now tree b) (frames_view tree b) b.from.rest s.rest r.rest
 
 -- inside the `(` of a type before the name of a node
 abbrev pub name_opened : {N : Type 0} → (N → Node) → Builder N → Position → Position → State
@@ -114,30 +114,24 @@ value_opened tree b s r = in_phase tree b (machine.type_open true (argument_slot
 
 -- the document if the text ends here
 abbrev pub document_now : {N : Type 0} → (N → Node) → Builder N → Option Document
-document_now tree b = machine.finish b.whole.rest (state_view tree b)
+document_now tree b = machine.finish b.slices.whole.rest (state_view tree b)
 
 -- the document of the nodes, if no block is open
 abbrev pub document_of_nodes : {N : Type 0} → (N → Node) → Builder N → Option Document
-document_of_nodes tree b = machine.at_end b.whole.rest (nodes_now tree b) (frames_view tree b) b.from.rest
+document_of_nodes tree b = machine.at_end b.slices.whole.rest (nodes_now tree b) (frames_view tree b) b.from.rest
 
--- the place where the lexer is
-abbrev pub spot_of : Here → Position
-spot_of here = record { rest = here.rest; at = here.at }
-
--- a step at a token that is at s, given the machine's result o: the text and the lexer's place stay, and of the n bytes that were not sliced yet all may have been sliced but those that are still not
-pub record Steps {N : Type 0} (tree : N → Node) (o : Option State) (s : Position) (n : ℕ) (old : Builder N) (result : Result (Unit {0}) LexFailure) (new : Builder N) (before behind : Here) : Type 0 where
+-- a step at a token that is at s, given the machine's result o: the text stays, and of the n bytes that were not sliced yet all may have been sliced but those that are still not
+pub record Steps {N : Type 0} (tree : N → Node) (o : Option State) (s : Position) (n : ℕ) (old : Builder N) (result : Result (Unit {0}) LexFailure) (new : Builder N) : Type 0 where
   pub did : Did o s result (state_view tree new)
-  pub whole : new.whole ≡ old.whole
-  pub stays : Stays before behind
-  pub sliced : SlicedOn result n (unsliced new) before behind
+  pub whole : new.slices.whole ≡ old.slices.whole
+  pub sliced : SlicedOn result n (unsliced new) old.slices.steps new.slices.steps
 
 -- a step that never refuses a token, to the state want
-pub record Reaches {N : Type 0} (tree : N → Node) (want : State) (n : ℕ) (old : Builder N) (result : Result (Unit {0}) LexFailure) (new : Builder N) (before behind : Here) : Type 0 where
+pub record Reaches {N : Type 0} (tree : N → Node) (want : State) (n : ℕ) (old : Builder N) (result : Result (Unit {0}) LexFailure) (new : Builder N) : Type 0 where
   pub did : Does want result (state_view tree new)
-  pub whole : new.whole ≡ old.whole
-  pub stays : Stays before behind
-  pub sliced : SlicedOn result n (unsliced new) before behind
+  pub whole : new.slices.whole ≡ old.slices.whole
+  pub sliced : SlicedOn result n (unsliced new) old.slices.steps new.slices.steps
 
 -- what a token of the kind did, given the machine's step
-abbrev pub Takes : {N : Type 0} → (N → Node) → Builder N → TokenKind → TokenSpan → Result (Unit {0}) LexFailure → Builder N → Here → Here → Type 0
-Takes tree old kind span result new before behind = Steps tree (token_step tree old kind span) span.start (unsliced old) old result new before behind
+abbrev pub Takes : {N : Type 0} → (N → Node) → Builder N → TokenKind → TokenSpan → Result (Unit {0}) LexFailure → Builder N → Type 0
+Takes tree old kind span result new = Steps tree (token_step tree old kind span) span.start (unsliced old) old result new

@@ -1,6 +1,6 @@
 //! Nodes, blocks and documents, from their parts.
 
-ghost use Rattle.kdl_entry.specs.Internal.Building.{key_view, type_view, Stays};
+ghost use Rattle.kdl_entry.specs.Internal.Building.{key_view, type_view};
 ghost use Rattle.kdl_entry.specs.Internal.Counted.{Sliced};
 ghost use Rattle.kdl_entry.specs.Internal.Items.{entry_at};
 ghost use Rattle.kdl_entry.specs.Places.{span_of, between};
@@ -17,9 +17,10 @@ ghost use Rattle.std.specs.Prelude.{◌≡◌, [], ◌∷◌, ◌++◌, Some, No
 
 use super::{Builder, Slot, Under, WaitingWord};
 use crate::node_parts::{DocumentParts, NodeParts, ParsedNode};
-use kdl_entry::items::item::{Given, empty, entry_from, span_at, text_between};
+use kdl_entry::items::item::{Given, empty, entry_from};
+use kdl_entry::items::slices::Slices;
 use kdl_entry::{KdlEntry, KdlValue};
-use kdl_lexer::{Lexer, TokenSpan};
+use kdl_lexer::TokenSpan;
 use kdl_text::cursor::Checkpoint;
 use kdl_text::span::SourceSpan;
 use std::alloc::{AllocError, Global};
@@ -50,14 +51,13 @@ pub(super) fn put<T: Drop>(place: &mut T, value: T)
 /// Adds the pending string to the current node, as an argument.
 #[tactic(auto, using(crate::proofs::Stepping::Views::entry_pushed))]
 pub(super) fn settle<'a>(
-    alloc: Global,
-    whole: &Checkpoint<'a>,
+    slices: &Slices<'a>,
     from: &Checkpoint<'a>,
     word: WaitingWord<'a>,
     under: &mut Under<'a>,
 ) -> Result<(), AllocError>
     ensures { OnOk result (under_view under.new ≡
-        under_now whole.now.rest from.now.rest (Some word.entry) (under_view under.old)) }
+        under_now slices.now.whole.rest from.now.rest (Some word.entry) (under_view under.old)) }
 {
     let WaitingWord {
         leading,
@@ -65,10 +65,10 @@ pub(super) fn settle<'a>(
         value,
         repr,
     } = word;
-    let repr = repr.to_string(alloc)?;
-    let span = span_at(whole, &start, from);
+    let repr = repr.to_string(slices.alloc())?;
+    let span = slices.span(&start, from);
     let given = lone(KdlValue::String(value));
-    let entry = entry_from(alloc, span, leading, given, repr);
+    let entry = entry_from(slices.alloc(), span, leading, given, repr);
     add(&mut under.entries, entry)
 }
 
@@ -152,28 +152,27 @@ pub(super) fn content_span<N: ParsedNode>(nodes: &[N], place: SourceSpan) -> Sou
 /// The nodes, and the text after them, up to `end`; without nodes it is the leading text.
 #[tactic(auto, using(crate::proofs::Stepping::NodeSpans::without, crate::proofs::Stepping::NodeSpans::within))]
 pub(super) fn content<N: ParsedNode>(
-    alloc: Global,
-    whole: &Checkpoint,
+    slices: &Slices,
     mut nodes: Vec<N>,
     place: String,
     end: &Checkpoint,
 ) -> DocumentParts<N>
     ensures { document_by N.tree result ≡ machine.content_at
-        whole.now.rest (nodes_tree N.tree nodes.items) (text_of place) end.now.rest }
+        slices.now.whole.rest (nodes_tree N.tree nodes.items) (text_of place) end.now.rest }
 {
     nodes.shrink_to_fit();
-    let here = span_at(whole, end, &end.copied());
+    let here = slices.span(end, &end.copied());
     let span = content_span(&nodes, here);
     if nodes.is_empty() {
         return DocumentParts {
             leading: place,
             nodes,
-            trailing: empty(alloc),
+            trailing: empty(slices.alloc()),
             span,
         };
     }
     DocumentParts {
-        leading: empty(alloc),
+        leading: empty(slices.alloc()),
         nodes,
         trailing: place,
         span,
@@ -195,22 +194,21 @@ impl<'a, N: ParsedNode> Builder<'a, N> {
     #[inline]
     #[tactic(auto, using(kdl_lexer::proofs::Order::ahead))]
     pub(super) fn entry_between(
-        &self,
-        lexer: &mut Lexer<'a>,
+        &mut self,
         slot: Slot<'a>,
         given: Given,
         at: &TokenSpan<'a>,
     ) -> Result<KdlEntry, AllocError>
         ensures is { IfOk result (λ e. entry_tree e ≡ entry_at
-            (span_of self.now.whole.rest slot.entry.start.rest at.now.end.rest)
+            (span_of self.old.slices.whole.rest slot.entry.start.rest at.now.end.rest)
             (text_of slot.entry.leading) (option_map key_view given.key)
             (option_map type_view given.ty) (value_tree given.value)
             (between at.now.start.rest at.now.end.rest)) }
-        ensures stays { Stays lexer.old lexer.new }
-        ensures sliced { Sliced (bytes at.now.start.rest) (bytes at.now.end.rest) lexer.old
-            lexer.new }
+        ensures rest { self.new ≡ record self.old { slices = self.new.slices } }
+        ensures whole { self.new.slices.whole ≡ self.old.slices.whole }
+        ensures sliced { Sliced (bytes at.now.start.rest) (bytes at.now.end.rest) self.old.slices.steps self.new.slices.steps }
     {
-        let repr = match text_between(self.alloc, lexer, &at.start, &at.end) {
+        let repr = match self.slices.text(&at.start, &at.end) {
             Ok(repr) => repr,
             Err(e) => {
                 drop(slot);
@@ -218,27 +216,26 @@ impl<'a, N: ParsedNode> Builder<'a, N> {
                 return Err(e);
             }
         };
-        let span = span_at(&self.whole, &slot.start, &at.end);
-        Ok(entry_from(self.alloc, span, slot.leading, given, repr))
+        let span = self.slices.span(&slot.start, &at.end);
+        Ok(entry_from(self.slices.alloc(), span, slot.leading, given, repr))
     }
 
     /// The nodes, with the text of the current place, which ends here.
     pub(super) fn content_up_to(
-        &self,
-        lexer: &mut Lexer<'a>,
+        &mut self,
         nodes: Vec<N>,
         end: &Checkpoint<'a>,
     ) -> Result<DocumentParts<N>, AllocError>
-        requires { Ahead self.now.from end.now }
+        requires { Ahead self.old.from end.now }
         ensures is { IfOk result (λ d. document_by N.tree d ≡ machine.content_at
-            self.now.whole.rest (nodes_tree N.tree nodes.items)
-            (between self.now.from.rest end.now.rest) end.now.rest) }
-        ensures stays { Stays lexer.old lexer.new }
-        ensures sliced { Sliced (bytes self.now.from.rest) (bytes end.now.rest) lexer.old
-            lexer.new }
+            self.old.slices.whole.rest (nodes_tree N.tree nodes.items)
+            (between self.old.from.rest end.now.rest) end.now.rest) }
+        ensures rest { self.new ≡ record self.old { slices = self.new.slices } }
+        ensures whole { self.new.slices.whole ≡ self.old.slices.whole }
+        ensures sliced { Sliced (bytes self.old.from.rest) (bytes end.now.rest) self.old.slices.steps self.new.slices.steps }
     {
-        match text_between(self.alloc, lexer, &self.from, end) {
-            Ok(place) => Ok(content(self.alloc, &self.whole, nodes, place, end)),
+        match self.slices.text(&self.from, end) {
+            Ok(place) => Ok(content(&self.slices, nodes, place, end)),
             Err(e) => {
                 drop(nodes);
                 Err(e)
@@ -249,21 +246,22 @@ impl<'a, N: ParsedNode> Builder<'a, N> {
     /// How the node ends whose terminator is the token.
     #[inline(always)]
     #[tactic(auto, using(kdl_lexer::proofs::Order::ahead))]
-    fn node_end(&self, lexer: &mut Lexer<'a>, at: &TokenSpan<'a>) -> Result<NodeEnd, AllocError>
-        requires from { Ahead self.now.from at.now.start }
+    fn node_end(&mut self, at: &TokenSpan<'a>) -> Result<NodeEnd, AllocError>
+        requires from { Ahead self.old.from at.now.start }
         ensures before { IfOk result
-            (λ n. text_of n.before ≡ between self.now.from.rest at.now.start.rest) }
+            (λ n. text_of n.before ≡ between self.old.from.rest at.now.start.rest) }
         ensures terminator { IfOk result
             (λ n. text_of n.terminator ≡ between at.now.start.rest at.now.end.rest) }
         ensures span { IfOk result
-            (λ n. n.span ≡ span_of self.now.whole.rest self.now.under.start.rest at.now.start.rest) }
-        ensures stays { Stays lexer.old lexer.new }
+            (λ n. n.span ≡ span_of self.old.slices.whole.rest self.old.under.start.rest at.now.start.rest) }
+        ensures rest { self.new ≡ record self.old { slices = self.new.slices } }
+        ensures whole { self.new.slices.whole ≡ self.old.slices.whole }
         ensures sliced { OnOk result
-            (Sliced (bytes self.now.from.rest) (bytes at.now.end.rest) lexer.old lexer.new) }
+            (Sliced (bytes self.old.from.rest) (bytes at.now.end.rest) self.old.slices.steps self.new.slices.steps) }
     {
-        let before = text_between(self.alloc, lexer, &self.from, &at.start)?;
-        let terminator = text_between(self.alloc, lexer, &at.start, &at.end)?;
-        let span = span_at(&self.whole, &self.under.start, &at.start);
+        let before = self.slices.text(&self.from, &at.start)?;
+        let terminator = self.slices.text(&at.start, &at.end)?;
+        let span = self.slices.span(&self.under.start, &at.start);
         Ok(NodeEnd {
             before,
             terminator,
@@ -273,55 +271,57 @@ impl<'a, N: ParsedNode> Builder<'a, N> {
 
     /// Takes the current node, whose terminator is the token, and appends it to the nodes.
     #[tactic(auto, using(crate::proofs::Stepping::Views::node_pushed))]
-    pub(super) fn push_ended(
-        &mut self,
-        lexer: &mut Lexer<'a>,
-        at: &TokenSpan<'a>,
-    ) -> Result<(), AllocError>
+    pub(super) fn push_ended(&mut self, at: &TokenSpan<'a>) -> Result<(), AllocError>
         requires from { Ahead self.old.from at.now.start }
         ensures is { OnOk result (nodes_now N.tree self.new ≡ machine.ended
-            (machine.closed self.old.whole.rest (Some (under_view self.old.under)) no_children []
+            (machine.closed self.old.slices.whole.rest (Some (under_view self.old.under)) no_children []
             (between self.old.from.rest at.now.start.rest) (between at.now.start.rest at.now.end.rest)
             at.now.start.rest)
             (nodes_now N.tree self.old)) }
         ensures rest { OnOk result (self.new ≡
-            record self.old { under = self.new.under; nodes = self.new.nodes }) }
-        ensures whole { self.new.whole ≡ self.old.whole }
-        ensures stays { Stays lexer.old lexer.new }
+            record self.old { slices = self.new.slices; under = self.new.under; nodes = self.new.nodes }) }
+        ensures whole { self.new.slices.whole ≡ self.old.slices.whole }
         ensures sliced { OnOk result
-            (Sliced (bytes self.old.from.rest) (bytes at.now.end.rest) lexer.old lexer.new) }
+            (Sliced (bytes self.old.from.rest) (bytes at.now.end.rest) self.old.slices.steps self.new.slices.steps) }
     {
-        let ending = self.node_end(lexer, at)?;
-        let under = mem::replace(&mut self.under, Under::new(self.alloc, &self.whole));
-        let node = node_from(self.alloc, under, empty(self.alloc), None, ending);
+        let ending = self.node_end(at)?;
+        let under = mem::replace(
+            &mut self.under,
+            Under::new(self.slices.alloc(), &self.slices.start()),
+        );
+        let node = node_from(
+            self.slices.alloc(),
+            under,
+            empty(self.slices.alloc()),
+            None,
+            ending,
+        );
         add(&mut self.nodes, node)
     }
 
     /// Takes the node with its block, whose terminator is the token, and appends it to the nodes.
     #[tactic(auto, using(crate::proofs::Stepping::Views::node_pushed))]
-    pub(super) fn push_kept(
-        &mut self,
-        lexer: &mut Lexer<'a>,
-        at: &TokenSpan<'a>,
-    ) -> Result<(), AllocError>
+    pub(super) fn push_kept(&mut self, at: &TokenSpan<'a>) -> Result<(), AllocError>
         requires from { Ahead self.old.from at.now.start }
         ensures is { OnOk result (nodes_now N.tree self.new ≡ machine.ended
-            (machine.closed_kept self.old.whole.rest (Some (kept_by N.tree self.old))
+            (machine.closed_kept self.old.slices.whole.rest (Some (kept_by N.tree self.old))
             (between self.old.from.rest at.now.start.rest) (between at.now.start.rest at.now.end.rest)
             at.now.start.rest)
             (nodes_now N.tree self.old)) }
         ensures rest { OnOk result (self.new ≡
-            record self.old { under = self.new.under; before = self.new.before; block = self.new.block; nodes = self.new.nodes }) }
-        ensures whole { self.new.whole ≡ self.old.whole }
-        ensures stays { Stays lexer.old lexer.new }
+            record self.old { slices = self.new.slices; under = self.new.under; before = self.new.before; block = self.new.block; nodes = self.new.nodes }) }
+        ensures whole { self.new.slices.whole ≡ self.old.slices.whole }
         ensures sliced { OnOk result
-            (Sliced (bytes self.old.from.rest) (bytes at.now.end.rest) lexer.old lexer.new) }
+            (Sliced (bytes self.old.from.rest) (bytes at.now.end.rest) self.old.slices.steps self.new.slices.steps) }
     {
-        let ending = self.node_end(lexer, at)?;
-        let under = mem::replace(&mut self.under, Under::new(self.alloc, &self.whole));
-        let before = mem::replace(&mut self.before, empty(self.alloc));
-        let block = mem::replace(&mut self.block, no_content(self.alloc));
-        let node = node_from(self.alloc, under, before, Some(block), ending);
+        let ending = self.node_end(at)?;
+        let under = mem::replace(
+            &mut self.under,
+            Under::new(self.slices.alloc(), &self.slices.start()),
+        );
+        let before = mem::replace(&mut self.before, empty(self.slices.alloc()));
+        let block = mem::replace(&mut self.block, no_content(self.slices.alloc()));
+        let node = node_from(self.slices.alloc(), under, before, Some(block), ending);
         add(&mut self.nodes, node)
     }
 }

@@ -8,7 +8,7 @@ use super::Builder;
 use super::content::put;
 use crate::node_parts::{DocumentParts, ParsedNode};
 use kdl_control::{Control, Phase};
-use kdl_lexer::{LexFailure, Lexer, TokenKind, TokenSpan, fault_at};
+use kdl_lexer::{LexFailure, TokenKind, TokenSpan, fault_at};
 use kdl_text::cursor::Checkpoint;
 use std::alloc::{AllocError, Global};
 use std::mem;
@@ -131,7 +131,6 @@ impl Dropped {
 }
 
 impl<'a, N: ParsedNode> Builder<'a, N> {
-    ghost use Rattle.kdl_entry.specs.Internal.Building.{Stays};
     ghost use Rattle.kdl_grammar.specs.Internal.Machine as machine;
     ghost use Rattle.kdl_lexer.specs.Internal.Handed.{kind_view};
     ghost use Rattle.kdl_parser.specs.Internal.Building.{reading_view, state_by, state_view, Did, Placed};
@@ -153,10 +152,10 @@ impl<'a, N: ParsedNode> Builder<'a, N> {
     ) -> Result<(), LexFailure>
         requires reading { is_reading (reading_view dropped) ≡ true }
         requires here { is_over (kind_view kind) (reading_view dropped) ≡ false }
-        ensures did { Did (machine.step self.old.whole.rest
+        ensures did { Did (machine.step self.old.slices.whole.rest
             (state_by N.tree self.old (reading_view dropped)) (kind_view kind)
             at.now.start.rest at.now.end.rest) at.now.start result (state_view N.tree self.new) }
-        ensures whole { self.new.whole ≡ self.old.whole }
+        ensures slices { self.new.slices ≡ self.old.slices }
         ensures unsliced { OnOk result (unsliced self.new ≡ bytes self.old.from.rest) }
     {
         match dropped.take(&kind)? {
@@ -172,13 +171,12 @@ impl<'a, N: ParsedNode> Builder<'a, N> {
     #[inline(never)]
     pub(super) fn take_dropped(
         &mut self,
-        lexer: &mut Lexer<'a>,
         kind: TokenKind,
         at: &TokenSpan<'a>,
     ) -> Result<(), LexFailure>
         requires reading { is_reading (reading_view self.old.dropped) ≡ true }
         requires placed { Placed (state_view N.tree self.old) at.now.start.rest }
-        ensures { Takes N.tree self.old kind at.now result self.new lexer.old lexer.new }
+        ensures { Takes N.tree self.old kind at.now result self.new }
     {
         let dropped = mem::replace(&mut self.dropped, Dropped::Nothing);
         match dropped.phase_at(&kind) {
@@ -186,7 +184,7 @@ impl<'a, N: ParsedNode> Builder<'a, N> {
                 drop(dropped);
                 self.settle_word()?;
                 self.phase = phase;
-                self.take_kept(lexer, kind, at)
+                self.take_kept(kind, at)
             }
             None => self.drop_token(dropped, kind, at),
         }
@@ -195,15 +193,13 @@ impl<'a, N: ParsedNode> Builder<'a, N> {
     /// Returns the document at the end of the text, after what is slashdashed.
     pub(super) fn finish_dropped(
         &mut self,
-        lexer: &mut Lexer<'a>,
         here: &Checkpoint<'a>,
     ) -> Result<DocumentParts<N>, LexFailure>
         requires reading { is_reading (reading_view self.old.dropped) ≡ true }
         requires end { here.now.rest ≡ [] }
         requires from { Ahead self.old.from here.now }
         ensures finished { Finished N.tree (document_now N.tree self.old) here.now result }
-        ensures stays { Stays lexer.old lexer.new }
-        ensures sliced { SlicedOn result (unsliced self.old) 0 lexer.old lexer.new }
+        ensures sliced { SlicedOn result (unsliced self.old) 0 self.old.slices.steps self.new.slices.steps }
     {
         let dropped = mem::replace(&mut self.dropped, Dropped::Nothing);
         match dropped.phase_at_end() {
@@ -211,7 +207,7 @@ impl<'a, N: ParsedNode> Builder<'a, N> {
                 drop(dropped);
                 self.settle_word()?;
                 self.phase = phase;
-                self.finish_at(lexer, here)
+                self.finish_at(here)
             }
             None => {
                 drop(dropped);

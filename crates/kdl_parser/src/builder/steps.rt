@@ -41,11 +41,9 @@ use super::dropping::Dropped;
 use super::{Builder, Level, Slot, Under, WaitingWord};
 use crate::node_parts::ParsedNode;
 use kdl_control::{Owner, Phase, Spot, Word};
-use kdl_entry::items::item::{
-    Given, Key, TypeParts, empty, identifier_between, piece_between, span_at, text_between,
-};
+use kdl_entry::items::item::{Given, Key, TypeParts, empty};
 use kdl_entry::{KdlIdentifier, KdlValue, sliced_identifier};
-use kdl_lexer::{LexFailure, Lexer, TokenKind, TokenSpan, fault_at};
+use kdl_lexer::{LexFailure, TokenKind, TokenSpan, fault_at};
 use std::alloc::AllocError;
 use std::mem;
 
@@ -59,7 +57,7 @@ impl<'a, N: ParsedNode> Builder<'a, N> {
           waiting =
               None;
         }) }
-        ensures whole { self.new.whole ≡ self.old.whole }
+        ensures whole { self.new.slices.whole ≡ self.old.slices.whole }
     {
         if self.waiting.is_none() {
             return Ok(());
@@ -75,51 +73,43 @@ impl<'a, N: ParsedNode> Builder<'a, N> {
           waiting =
               None;
         }) }
-        ensures whole { self.new.whole ≡ self.old.whole }
+        ensures whole { self.new.slices.whole ≡ self.old.slices.whole }
     {
         match self.waiting.take() {
-            Some(word) => settle(self.alloc, &self.whole, &self.from, word, &mut self.under),
+            Some(word) => settle(&self.slices, &self.from, word, &mut self.under),
             None => Ok(()),
         }
     }
 
     /// Ends the current node, which has no block.
-    pub(super) fn end_node(
-        &mut self,
-        lexer: &mut Lexer<'a>,
-        at: &TokenSpan<'a>,
-    ) -> Result<(), LexFailure>
+    pub(super) fn end_node(&mut self, at: &TokenSpan<'a>) -> Result<(), LexFailure>
         requires live { self.old.dropped ≡ Nothing }
         requires from { Ahead self.old.from at.now.start }
         ensures ended { Reaches N.tree (node_ended N.tree self.old at.now.start at.now.end) (bytes
-            self.old.from.rest) self.old result self.new lexer.old lexer.new }
+            self.old.from.rest) self.old result self.new }
         ensures live { OnOk result (self.new.dropped ≡ Nothing) }
         ensures from { OnOk result (self.new.from ≡ at.now.end) }
         ensures unsliced { OnOk result (unsliced self.new ≡ bytes self.new.from.rest) }
     {
         self.settle_word()?;
-        self.push_ended(lexer, at)?;
+        self.push_ended(at)?;
         self.from = at.end.copied();
         self.phase = Phase::Gap;
         Ok(())
     }
 
     /// Ends the current node, which has a block.
-    pub(super) fn end_kept(
-        &mut self,
-        lexer: &mut Lexer<'a>,
-        at: &TokenSpan<'a>,
-    ) -> Result<(), LexFailure>
+    pub(super) fn end_kept(&mut self, at: &TokenSpan<'a>) -> Result<(), LexFailure>
         requires live { self.old.dropped ≡ Nothing }
         requires from { Ahead self.old.from at.now.start }
         ensures ended { Reaches N.tree (kept_ended N.tree self.old at.now.start at.now.end) (bytes
-            self.old.from.rest) self.old result self.new lexer.old lexer.new }
+            self.old.from.rest) self.old result self.new }
         ensures live { OnOk result (self.new.dropped ≡ Nothing) }
         ensures from { OnOk result (self.new.from ≡ at.now.end) }
         ensures unsliced { OnOk result (unsliced self.new ≡ bytes self.new.from.rest) }
     {
         self.settle_word()?;
-        self.push_kept(lexer, at)?;
+        self.push_kept(at)?;
         self.from = at.end.copied();
         self.phase = Phase::Gap;
         Ok(())
@@ -127,20 +117,19 @@ impl<'a, N: ParsedNode> Builder<'a, N> {
 
     /// Opens the block of the current node.
     #[tactic(auto, using(crate::proofs::Stepping::TurnCost::fewer, crate::proofs::Stepping::TurnCost::token_fewer, crate::proofs::Stepping::Views::level_pushed))]
-    pub(super) fn open_block(
-        &mut self,
-        lexer: &mut Lexer<'a>,
-        at: &TokenSpan<'a>,
-    ) -> Result<(), LexFailure>
+    pub(super) fn open_block(&mut self, at: &TokenSpan<'a>) -> Result<(), LexFailure>
         requires live { self.old.dropped ≡ Nothing }
         requires from { Ahead self.old.from at.now.start }
         ensures { Reaches N.tree (block_opened N.tree self.old at.now.start at.now.end) (bytes
-            self.old.from.rest) self.old result self.new lexer.old lexer.new }
+            self.old.from.rest) self.old result self.new }
     {
         self.settle_word()?;
-        let before = text_between(self.alloc, lexer, &self.from, &at.start)?;
-        let under = mem::replace(&mut self.under, Under::new(self.alloc, &self.whole));
-        let nodes = mem::replace(&mut self.nodes, Vec::new(self.alloc));
+        let before = self.slices.text(&self.from, &at.start)?;
+        let under = mem::replace(
+            &mut self.under,
+            Under::new(self.slices.alloc(), &self.slices.start()),
+        );
+        let nodes = mem::replace(&mut self.nodes, Vec::new(self.slices.alloc()));
         self.levels.push(Level {
             under,
             before,
@@ -153,15 +142,11 @@ impl<'a, N: ParsedNode> Builder<'a, N> {
 
     /// Continues with the node around the block that ends here.
     #[tactic(auto, using(crate::proofs::Stepping::TurnCost::fewer, crate::proofs::Stepping::TurnCost::token_fewer, crate::proofs::Stepping::Views::level_pushed))]
-    pub(super) fn close(
-        &mut self,
-        lexer: &mut Lexer<'a>,
-        at: &TokenSpan<'a>,
-    ) -> Result<(), LexFailure>
+    pub(super) fn close(&mut self, at: &TokenSpan<'a>) -> Result<(), LexFailure>
         requires live { self.old.dropped ≡ Nothing }
         requires from { Ahead self.old.from at.now.start }
         ensures { Steps N.tree (around N.tree self.old at.now.start at.now.end) at.now.start (bytes
-            self.old.from.rest) self.old result self.new lexer.old lexer.new }
+            self.old.from.rest) self.old result self.new }
     {
         let Some(
             Level {
@@ -177,7 +162,7 @@ impl<'a, N: ParsedNode> Builder<'a, N> {
         put(&mut self.waiting, None);
         put(&mut self.under, under);
         put(&mut self.before, before);
-        let block = self.content_up_to(lexer, inner, &at.start)?;
+        let block = self.content_up_to(inner, &at.start)?;
         put(&mut self.block, block);
         self.from = at.end.copied();
         self.phase = Phase::Kept;
@@ -195,7 +180,7 @@ impl<'a, N: ParsedNode> Builder<'a, N> {
         requires live { self.old.dropped ≡ Nothing }
         ensures state { state_view N.tree self.new
             ≡ node_begun N.tree self.old slot.entry (option_map type_view ty) (identifier_tree name) at.now.end }
-        ensures whole { self.new.whole ≡ self.old.whole }
+        ensures slices { self.new.slices ≡ self.old.slices }
         ensures unsliced { unsliced self.new ≡ bytes at.now.end.rest }
     {
         let Slot { leading, start } = slot;
@@ -204,7 +189,7 @@ impl<'a, N: ParsedNode> Builder<'a, N> {
             start,
             ty,
             name,
-            entries: Vec::new(self.alloc),
+            entries: Vec::new(self.slices.alloc()),
         };
         put(&mut self.under, under);
         put(&mut self.waiting, None);
@@ -216,7 +201,6 @@ impl<'a, N: ParsedNode> Builder<'a, N> {
     #[tactic(auto, using(crate::proofs::Stepping::Views::entry_pushed, crate::proofs::Stepping::TurnCost::fewer, crate::proofs::Stepping::TurnCost::token_fewer, kdl_lexer::proofs::Order::ahead))]
     pub(super) fn add_entry(
         &mut self,
-        lexer: &mut Lexer<'a>,
         slot: Slot<'a>,
         given: Given,
         at: &TokenSpan<'a>,
@@ -225,9 +209,9 @@ impl<'a, N: ParsedNode> Builder<'a, N> {
         ensures { Reaches N.tree (given_at N.tree self.old (valued_slot self.old slot.entry
             (option_map key_view given.key)) (option_map type_view given.ty) (value_tree
             given.value) at.now.start at.now.end) (bytes at.now.start.rest) self.old result
-            self.new lexer.old lexer.new }
+            self.new }
     {
-        let entry = self.entry_between(lexer, slot, given, at)?;
+        let entry = self.entry_between(slot, given, at)?;
         add(&mut self.under.entries, entry)?;
         put(&mut self.waiting, None);
         self.from = at.end.copied();
@@ -237,24 +221,19 @@ impl<'a, N: ParsedNode> Builder<'a, N> {
 
     /// Keeps a string in a node, which may be a key, as the pending one.
     #[tactic(auto, using(kdl_lexer::proofs::Order::ahead))]
-    pub(super) fn wait(
-        &mut self,
-        lexer: &mut Lexer<'a>,
-        value: String,
-        at: &TokenSpan<'a>,
-    ) -> Result<(), LexFailure>
+    pub(super) fn wait(&mut self, value: String, at: &TokenSpan<'a>) -> Result<(), LexFailure>
         requires live { self.old.dropped ≡ Nothing }
         requires from { Ahead self.old.from at.now.start }
         ensures { Reaches N.tree (worded N.tree self.old (text_of value) at.now.start at.now.end)
-            (bytes self.old.from.rest) self.old result self.new lexer.old lexer.new }
+            (bytes self.old.from.rest) self.old result self.new }
     {
         self.settle_word()?;
-        let leading = text_between(self.alloc, lexer, &self.from, &at.start)?;
+        let leading = self.slices.text(&self.from, &at.start)?;
         let word = WaitingWord {
             leading,
             start: at.start.copied(),
             value,
-            repr: piece_between(lexer, &at.start, &at.end),
+            repr: self.slices.piece(&at.start, &at.end),
         };
         put(&mut self.waiting, Some(word));
         self.from = at.end.copied();
@@ -264,32 +243,28 @@ impl<'a, N: ParsedNode> Builder<'a, N> {
 
     /// Begins a property at its `=`. Its key is the pending string; without one the key is slashdashed.
     #[tactic(auto, using(crate::proofs::Stepping::TurnCost::fewer, crate::proofs::Stepping::TurnCost::token_fewer))]
-    pub(super) fn open_property(
-        &mut self,
-        lexer: &mut Lexer<'a>,
-        at: &TokenSpan<'a>,
-    ) -> Result<(), LexFailure>
+    pub(super) fn open_property(&mut self, at: &TokenSpan<'a>) -> Result<(), LexFailure>
         requires live { self.old.dropped ≡ Nothing }
         requires from { Ahead self.old.from at.now.start }
         ensures { Steps N.tree (property_opened N.tree self.old at.now.start at.now.end)
-            at.now.start (bytes self.old.from.rest) self.old result self.new lexer.old lexer.new }
+            at.now.start (bytes self.old.from.rest) self.old result self.new }
     {
         let Some(word) = self.waiting.take() else {
             put(
                 &mut self.dropped,
-                Dropped::part(self.alloc, Phase::Property),
+                Dropped::part(self.slices.alloc(), Phase::Property),
             );
             return Ok(());
         };
-        let before = text_between(self.alloc, lexer, &self.from, &at.start)?;
+        let before = self.slices.text(&self.from, &at.start)?;
         let WaitingWord {
             leading,
             start: word_start,
             value,
             repr,
         } = word;
-        let span = span_at(&self.whole, &word_start, &self.from);
-        let name = sliced_identifier(self.alloc, value, &repr, span)?;
+        let span = self.slices.span(&word_start, &self.from);
+        let name = sliced_identifier(self.slices.alloc(), value, &repr, span)?;
         self.item
             .open_keyed(leading, &word_start, Key { name, before }, &at.end);
         self.phase = Phase::Property;
@@ -298,17 +273,13 @@ impl<'a, N: ParsedNode> Builder<'a, N> {
 
     /// Begins the type of a node at its `(`.
     #[tactic(auto, using(crate::proofs::Stepping::TurnCost::fewer, crate::proofs::Stepping::TurnCost::token_fewer))]
-    pub(super) fn open_name(
-        &mut self,
-        lexer: &mut Lexer<'a>,
-        at: &TokenSpan<'a>,
-    ) -> Result<(), LexFailure>
+    pub(super) fn open_name(&mut self, at: &TokenSpan<'a>) -> Result<(), LexFailure>
         requires live { self.old.dropped ≡ Nothing }
         requires from { Ahead self.old.from at.now.start }
         ensures { Reaches N.tree (name_opened N.tree self.old at.now.start at.now.end) (bytes
-            self.old.from.rest) self.old result self.new lexer.old lexer.new }
+            self.old.from.rest) self.old result self.new }
     {
-        let leading = text_between(self.alloc, lexer, &self.from, &at.start)?;
+        let leading = self.slices.text(&self.from, &at.start)?;
         self.item.open(leading, at);
         self.phase = Phase::TypeOpen(Owner::Name);
         Ok(())
@@ -317,7 +288,6 @@ impl<'a, N: ParsedNode> Builder<'a, N> {
     /// Takes the name of a type.
     pub(super) fn name_type(
         &mut self,
-        lexer: &mut Lexer<'a>,
         owner: Owner,
         name: String,
         at: &TokenSpan<'a>,
@@ -325,60 +295,47 @@ impl<'a, N: ParsedNode> Builder<'a, N> {
         requires live { self.old.dropped ≡ Nothing }
         requires from { Ahead self.old.item.from at.now.start }
         ensures { Reaches N.tree (type_named N.tree self.old owner (text_of name) at.now.start at.now.end)
-            (bytes self.old.item.from.rest) self.old result self.new lexer.old lexer.new }
+            (bytes self.old.item.from.rest) self.old result self.new }
     {
-        self.item.take_name(lexer, &self.whole, name, at)?;
+        self.item.take_name(&mut self.slices, name, at)?;
         self.phase = Phase::TypeName(owner);
         Ok(())
     }
 
     /// Takes the `)` of a type.
-    pub(super) fn end_type(
-        &mut self,
-        lexer: &mut Lexer<'a>,
-        owner: Owner,
-        at: &TokenSpan<'a>,
-    ) -> Result<(), LexFailure>
+    pub(super) fn end_type(&mut self, owner: Owner, at: &TokenSpan<'a>) -> Result<(), LexFailure>
         requires live { self.old.dropped ≡ Nothing }
         requires from { Ahead self.old.item.from at.now.start }
         ensures { Reaches N.tree (type_ended N.tree self.old owner at.now.start at.now.end)
-            (bytes self.old.item.from.rest) self.old result self.new lexer.old lexer.new }
+            (bytes self.old.item.from.rest) self.old result self.new }
     {
-        self.item.close(lexer, at)?;
+        self.item.close(&mut self.slices, at)?;
         self.phase = Phase::TypeDone(owner);
         Ok(())
     }
 
     /// Begins the type of a value at its `(`, after a key.
-    pub(super) fn open_keyed_type(
-        &mut self,
-        lexer: &mut Lexer<'a>,
-        at: &TokenSpan<'a>,
-    ) -> Result<(), LexFailure>
+    pub(super) fn open_keyed_type(&mut self, at: &TokenSpan<'a>) -> Result<(), LexFailure>
         requires live { self.old.dropped ≡ Nothing }
         requires from { Ahead self.old.item.from at.now.start }
         ensures { Reaches N.tree (keyed_opened N.tree self.old at.now.start at.now.end)
-            (bytes self.old.item.from.rest) self.old result self.new lexer.old lexer.new }
+            (bytes self.old.item.from.rest) self.old result self.new }
     {
-        self.item.open_typed(lexer, at)?;
+        self.item.open_typed(&mut self.slices, at)?;
         self.phase = Phase::TypeOpen(Owner::Value);
         Ok(())
     }
 
     /// Begins the type of a value at its `(`.
     #[tactic(auto, using(crate::proofs::Stepping::TurnCost::fewer, crate::proofs::Stepping::TurnCost::token_fewer))]
-    pub(super) fn open_value(
-        &mut self,
-        lexer: &mut Lexer<'a>,
-        at: &TokenSpan<'a>,
-    ) -> Result<(), LexFailure>
+    pub(super) fn open_value(&mut self, at: &TokenSpan<'a>) -> Result<(), LexFailure>
         requires live { self.old.dropped ≡ Nothing }
         requires from { Ahead self.old.from at.now.start }
         ensures { Reaches N.tree (value_opened N.tree self.old at.now.start at.now.end) (bytes
-            self.old.from.rest) self.old result self.new lexer.old lexer.new }
+            self.old.from.rest) self.old result self.new }
     {
         self.settle_word()?;
-        let leading = text_between(self.alloc, lexer, &self.from, &at.start)?;
+        let leading = self.slices.text(&self.from, &at.start)?;
         self.item.open(leading, at);
         self.phase = Phase::TypeOpen(Owner::Value);
         Ok(())
@@ -387,7 +344,6 @@ impl<'a, N: ParsedNode> Builder<'a, N> {
     /// Adds a value that is an argument.
     pub(super) fn add_argument(
         &mut self,
-        lexer: &mut Lexer<'a>,
         value: KdlValue,
         at: &TokenSpan<'a>,
     ) -> Result<(), LexFailure>
@@ -395,15 +351,15 @@ impl<'a, N: ParsedNode> Builder<'a, N> {
         requires from { Ahead self.old.from at.now.start }
         ensures { Reaches N.tree (given_at N.tree self.old (argument_slot self.old at.now.start)
             None (value_tree value) at.now.start at.now.end) (bytes self.old.from.rest) self.old
-            result self.new lexer.old lexer.new }
+            result self.new }
     {
         self.settle_word()?;
-        let leading = text_between(self.alloc, lexer, &self.from, &at.start)?;
+        let leading = self.slices.text(&self.from, &at.start)?;
         let slot = Slot {
             leading,
             start: at.start.copied(),
         };
-        self.add_entry(lexer, slot, lone(value), at)
+        self.add_entry(slot, lone(value), at)
     }
 
     /// The text before the name or entry that has a type or a key, and its start.
@@ -413,7 +369,7 @@ impl<'a, N: ParsedNode> Builder<'a, N> {
         ensures rest { self.new ≡ record self.old { item = self.new.item } }
     {
         Slot {
-            leading: mem::replace(&mut self.item.leading, empty(self.alloc)),
+            leading: mem::replace(&mut self.item.leading, empty(self.slices.alloc())),
             start: self.item.start.copied(),
         }
     }
@@ -421,7 +377,6 @@ impl<'a, N: ParsedNode> Builder<'a, N> {
     /// Adds a value that has a type, and maybe a key.
     pub(super) fn add_typed(
         &mut self,
-        lexer: &mut Lexer<'a>,
         value: KdlValue,
         at: &TokenSpan<'a>,
     ) -> Result<(), LexFailure>
@@ -429,14 +384,12 @@ impl<'a, N: ParsedNode> Builder<'a, N> {
         requires from { Ahead self.old.item.from at.now.start }
         ensures { Reaches N.tree (given_at N.tree self.old (item_value_slot self.old (option_map
             key_view self.old.item.key)) (type_now self.old at.now.start) (value_tree value)
-            at.now.start at.now.end) (bytes self.old.item.from.rest) self.old result self.new
-            lexer.old lexer.new }
+            at.now.start at.now.end) (bytes self.old.item.from.rest) self.old result self.new }
     {
-        let ty = self.item.type_parts(lexer, &at.start)?;
+        let ty = self.item.type_parts(&mut self.slices, &at.start)?;
         let key = self.item.key.take();
         let slot = self.item_slot();
         self.add_entry(
-            lexer,
             slot,
             Given {
                 key,
@@ -450,7 +403,6 @@ impl<'a, N: ParsedNode> Builder<'a, N> {
     /// Adds a value that has a key and no type.
     pub(super) fn add_keyed(
         &mut self,
-        lexer: &mut Lexer<'a>,
         value: KdlValue,
         at: &TokenSpan<'a>,
     ) -> Result<(), LexFailure>
@@ -458,12 +410,11 @@ impl<'a, N: ParsedNode> Builder<'a, N> {
         requires from { Ahead self.old.item.from at.now.start }
         ensures { Reaches N.tree (given_at N.tree self.old (item_value_slot self.old (key_now
             self.old at.now.start)) None (value_tree value) at.now.start at.now.end) (bytes
-            self.old.item.from.rest) self.old result self.new lexer.old lexer.new }
+            self.old.item.from.rest) self.old result self.new }
     {
-        let key = self.item.key_parts(lexer, &at.start)?;
+        let key = self.item.key_parts(&mut self.slices, &at.start)?;
         let slot = self.item_slot();
         self.add_entry(
-            lexer,
             slot,
             Given {
                 key: Some(key),
@@ -476,45 +427,35 @@ impl<'a, N: ParsedNode> Builder<'a, N> {
 
     /// Takes a string that is a node's name.
     #[tactic(auto, using(crate::proofs::Stepping::TurnCost::fewer, crate::proofs::Stepping::TurnCost::token_fewer, kdl_lexer::proofs::Order::ahead))]
-    pub(super) fn name_node(
-        &mut self,
-        lexer: &mut Lexer<'a>,
-        name: String,
-        at: &TokenSpan<'a>,
-    ) -> Result<(), LexFailure>
+    pub(super) fn name_node(&mut self, name: String, at: &TokenSpan<'a>) -> Result<(), LexFailure>
         requires live { self.old.dropped ≡ Nothing }
         requires from { Ahead self.old.from at.now.start }
         ensures { Reaches N.tree (given_at N.tree self.old (name_slot self.old at.now.start) None
             (text (text_of name)) at.now.start at.now.end) (bytes self.old.from.rest) self.old
-            result self.new lexer.old lexer.new }
+            result self.new }
     {
-        let leading = text_between(self.alloc, lexer, &self.from, &at.start)?;
+        let leading = self.slices.text(&self.from, &at.start)?;
         let slot = Slot {
             leading,
             start: at.start.copied(),
         };
-        let name = identifier_between(self.alloc, lexer, &self.whole, name, at)?;
+        let name = self.slices.identifier(name, at)?;
         self.begin_node(slot, None, name, at);
         Ok(())
     }
 
     /// Takes a string that is a node's name and has a type.
     #[tactic(auto, using(crate::proofs::Stepping::TurnCost::fewer, crate::proofs::Stepping::TurnCost::token_fewer, kdl_lexer::proofs::Order::ahead))]
-    pub(super) fn name_typed(
-        &mut self,
-        lexer: &mut Lexer<'a>,
-        name: String,
-        at: &TokenSpan<'a>,
-    ) -> Result<(), LexFailure>
+    pub(super) fn name_typed(&mut self, name: String, at: &TokenSpan<'a>) -> Result<(), LexFailure>
         requires live { self.old.dropped ≡ Nothing }
         requires from { Ahead self.old.item.from at.now.start }
         ensures { Reaches N.tree (given_at N.tree self.old (item_name_slot self.old) (type_now
             self.old at.now.start) (text (text_of name)) at.now.start at.now.end) (bytes
-            self.old.item.from.rest) self.old result self.new lexer.old lexer.new }
+            self.old.item.from.rest) self.old result self.new }
     {
-        let ty = self.item.type_parts(lexer, &at.start)?;
+        let ty = self.item.type_parts(&mut self.slices, &at.start)?;
         let slot = self.item_slot();
-        let name = identifier_between(self.alloc, lexer, &self.whole, name, at)?;
+        let name = self.slices.identifier(name, at)?;
         self.begin_node(slot, Some(ty), name, at);
         Ok(())
     }
@@ -524,7 +465,8 @@ impl<'a, N: ParsedNode> Builder<'a, N> {
         requires live { self.old.dropped ≡ Nothing }
         ensures did { Does (in_phase N.tree self.old (machine.entry_slashdash (Some (node_now
             self.old)))) result (state_view N.tree self.new) }
-        ensures whole { self.new.whole ≡ self.old.whole }
+        ensures whole { self.new.slices.whole ≡ self.old.slices.whole }
+        ensures steps { OnOk result (self.new.slices.steps ≡ self.old.slices.steps) }
         ensures unsliced { OnOk result (unsliced self.new ≡ bytes self.old.from.rest) }
     {
         self.settle_word()?;
@@ -534,33 +476,25 @@ impl<'a, N: ParsedNode> Builder<'a, N> {
 
     /// Takes the `}` after a node without a block.
     #[tactic(auto, using(crate::proofs::Stepping::Origins::between_none, crate::proofs::Stepping::Origins::origin_ends, crate::proofs::Stepping::StepsDone::failed))]
-    pub(super) fn close_node(
-        &mut self,
-        lexer: &mut Lexer<'a>,
-        at: &TokenSpan<'a>,
-    ) -> Result<(), LexFailure>
+    pub(super) fn close_node(&mut self, at: &TokenSpan<'a>) -> Result<(), LexFailure>
         requires live { self.old.dropped ≡ Nothing }
         requires from { Ahead self.old.from at.now.start }
         ensures { Steps N.tree (around_node N.tree self.old at.now.start at.now.end) at.now.start
-            (bytes self.old.from.rest) self.old result self.new lexer.old lexer.new }
+            (bytes self.old.from.rest) self.old result self.new }
     {
-        self.end_node(lexer, &nothing_at(&at.start))?;
-        self.close(lexer, at)
+        self.end_node(&nothing_at(&at.start))?;
+        self.close(at)
     }
 
     /// Takes the `}` after a node with a block.
     #[tactic(auto, using(crate::proofs::Stepping::Origins::between_none, crate::proofs::Stepping::Origins::origin_ends, crate::proofs::Stepping::StepsDone::failed))]
-    pub(super) fn close_kept(
-        &mut self,
-        lexer: &mut Lexer<'a>,
-        at: &TokenSpan<'a>,
-    ) -> Result<(), LexFailure>
+    pub(super) fn close_kept(&mut self, at: &TokenSpan<'a>) -> Result<(), LexFailure>
         requires live { self.old.dropped ≡ Nothing }
         requires from { Ahead self.old.from at.now.start }
         ensures { Steps N.tree (around_kept N.tree self.old at.now.start at.now.end) at.now.start
-            (bytes self.old.from.rest) self.old result self.new lexer.old lexer.new }
+            (bytes self.old.from.rest) self.old result self.new }
     {
-        self.end_kept(lexer, &nothing_at(&at.start))?;
-        self.close(lexer, at)
+        self.end_kept(&nothing_at(&at.start))?;
+        self.close(at)
     }
 }

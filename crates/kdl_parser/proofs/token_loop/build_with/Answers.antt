@@ -6,17 +6,17 @@ use Rattle.kdl_parser.proofs.token_loop.build_with.Goals as goal
 
 pub tokens-init : goal.tokens-init
 tokens-init g c = (
-  starts g.N.ParsedNode.tree c.args.builder.now.whole.rest c.args.lexer.now.rest c.args.builder.now c.args.lexer.now c.requires.state refl refl c.requires.text c.requires.at,
-  counting_starts c.args.lexer.now (unsliced c.args.builder.now) c.requires.unsliced,
+  starts g.N.ParsedNode.tree c.args.builder.now.slices.whole.rest c.args.lexer.now.rest c.args.builder.now c.args.lexer.now c.requires.state refl refl c.requires.text c.requires.at,
+  counting_starts c.args.lexer.now c.args.builder.now.slices.steps (unsliced c.args.builder.now) c.requires.steps c.requires.unsliced,
 )
 
 pub tokens-preserved : goal.tokens-preserved
 tokens-preserved g c =
     let handed = rw c.in-Some.is at c.in_ok-token.ensures.lexed in
     let costs = rw c.in-Some.is at c.in_ok-token.ensures.costs in (
-      goes_on g.N.ParsedNode.tree c.tokens.builder c.take.new.self c.tokens.lexer c.next.new.self c.take.new.lexer _ _ c.in-Some.token c.tokens.invariant.0 handed c.next.ensures.moves c.in_ok-take.ensures.takes.did c.take.ensures.takes.whole c.take.ensures.takes.stays,
-      counting_goes_on _ c.tokens.lexer c.next.new.self c.take.new.lexer c.in-Some.token _ _ c.tokens.invariant.1 handed c.next.ensures.moves costs c.in_ok-take.ensures.takes.sliced c.take.ensures.takes.stays,
+      goes_on g.N.ParsedNode.tree c.tokens.builder c.take.new.self c.tokens.lexer c.next.new.self _ _ c.in-Some.token c.tokens.invariant.0 handed c.next.ensures.moves c.in_ok-take.ensures.did c.take.ensures.whole,
+      counting_goes_on _ c.tokens.lexer c.next.new.self c.in-Some.token _ _ _ _ c.tokens.invariant.1 handed c.next.ensures.moves costs c.in_ok-take.ensures.sliced,
     )
 
 pub tokens-smaller : goal.tokens-smaller
-tokens-smaller g c = nearer c.tokens.lexer c.next.new.self c.take.new.lexer c.in-Some.token (rw c.in-Some.is at c.in_ok-token.ensures.lexed) c.take.ensures.takes.stays
+tokens-smaller g c = nearer c.tokens.lexer c.next.new.self c.in-Some.token (rw c.in-Some.is at c.in_ok-token.ensures.lexed)

@@ -18,4 +18,4 @@ returns-then-not-is_end c =
 
 pub returns : goal.returns
 returns c =
-    whole_laid _ c.args.lexer.now c.next.new.self c.in-Ok-Some.token c.in-String.value _ c.requires.rest (rw c.in-Ok-Some.field-0-is at c.in-Ok-Some.ensures.lexed) c.in-String.is (c.if-not-is_end.ensures.0 refl) c.in_ok-identifier_between.ensures.is
+    whole_laid _ c.args.lexer.now c.next.new.self c.in-Ok-Some.token c.in-String.value _ c.requires.rest (rw c.in-Ok-Some.field-0-is at c.in-Ok-Some.ensures.lexed) c.in-String.is (c.if-not-is_end.ensures.0 refl) (rw (c.new-slices.ensures.whole, c.copied.ensures) at c.in_ok-identifier.ensures.is)

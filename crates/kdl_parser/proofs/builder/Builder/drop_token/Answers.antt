@@ -9,7 +9,7 @@ returns-in-Some-clause-did g c =
     let self = c.args.self.now in
     let tree = g.N.ParsedNode.tree in
     let d = reading_view c.args.dropped in
-    reads_on self.whole.rest (nodes_now tree self) (frames_view tree self) self.from.rest (node_now self) (kept_now tree self) (in_phase tree self (phase_now tree self self.phase)) d (reading_view c.put.new.place) (kind_view c.args.kind)
+    reads_on self.slices.whole.rest (nodes_now tree self) (frames_view tree self) self.from.rest (node_now self) (kept_now tree self) (in_phase tree self (phase_now tree self self.phase)) d (reading_view c.put.new.place) (kind_view c.args.kind)
     c.args.at.now.start.rest c.args.at.now.end.rest c.requires.reading c.requires.here (begun c.args.dropped) (ap (λ z. Some (reading_view z)) c.put.ensures ∙ sym (ap (option_map reading_view) c.in-Some.is) ∙ c.in_ok-dropped.ensures)
 
 pub returns-in-Some-clause-unsliced : goal.returns-in-Some-clause-unsliced
@@ -19,7 +19,7 @@ pub returns-clause-did : goal.returns-clause-did
 returns-clause-did g c =
     let self = c.args.self.now in
     let tree = g.N.ParsedNode.tree in (
-      refuses self.whole.rest (nodes_now tree self) (frames_view tree self) self.from.rest (node_now self) (kept_now tree self) (in_phase tree self (phase_now tree self self.phase)) (reading_view c.args.dropped) (kind_view c.args.kind)
+      refuses self.slices.whole.rest (nodes_now tree self) (frames_view tree self) self.from.rest (node_now self) (kept_now tree self) (in_phase tree self (phase_now tree self self.phase)) (reading_view c.args.dropped) (kind_view c.args.kind)
           c.args.at.now.start.rest c.args.at.now.end.rest c.requires.reading c.requires.here (begun c.args.dropped) (sym (ap (option_map reading_view) c.in-None.is) ∙ c.in_ok-dropped.ensures),
       c.fault_at.ensures,
     )
