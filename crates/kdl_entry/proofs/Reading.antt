@@ -18,9 +18,9 @@ pub mod IdentifierAnswers
 pub mod Going
 -- The phases that the control of entry texts reaches.
 pub mod Placed
--- The machine of entry texts without data accepts what the grammar derives.
+-- The control of entry texts accepts what the grammar derives.
 pub mod EntryErased
--- What the machine of entry texts goes over begins an entry text.
+-- What the control of entry texts goes over begins an entry text.
 pub mod EntryViable
 -- After a token that it refuses no entry text goes on.
 pub mod EntryRefusing

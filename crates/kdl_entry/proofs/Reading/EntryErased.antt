@@ -1,4 +1,4 @@
--- The machine of entry texts without data takes the tokens that the machine takes, so it accepts the texts that the grammar derives.
+-- The control of entry texts takes the tokens that the machine takes, so it accepts the texts that the grammar derives.
 use Rattle.std.proofs.Common.{◌≡◌, true, false, [], Option, Some, None, option_map, refl, sym, ap, subst, ◌∙◌}
 use Rattle.kdl_text.specs.Chars.{Text}
 use Rattle.kdl_lexer.specs.Tokens.{Token, space, string, value, left, BeginsToken}

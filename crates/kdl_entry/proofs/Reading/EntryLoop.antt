@@ -1,5 +1,5 @@
 -- The turns of the loop that reads an entry text, token by token.
-use Rattle.std.proofs.Common.{◌≡◌, ◌↔◌, ℕ, ◌+◌, ◌<◌, length, [], ◌∷◌, ◌++◌, Option, Some, None, Ok, Err, refl, sym, ap, subst, ◌∙◌, arith, append_assoc, append-nil}
+use Rattle.std.proofs.Common.{◌≡◌, ◌↔◌, ℕ, ◌+◌, ◌<◌, length, [], ◌∷◌, ◌++◌, Option, Some, None, option_map, Ok, Err, refl, sym, ap, subst, ◌∙◌, arith, append_assoc, append-nil}
 use Rattle.kdl_text.specs.Chars.{Text, Star, plus}
 use Rattle.kdl_text.specs.Chars.Star.{none as no_star, more}
 use Rattle.kdl_text.specs.Internal.Here.{Here, Position, Ahead, first_len}
@@ -12,8 +12,9 @@ use Rattle.kdl_control.specs.Control.{Phase, fresh, spaced, type_open, type_name
 use Rattle.kdl_control.specs.EntryControl as control
 use Rattle.kdl_control.specs.EntryControl.{EntryControl, entry_step}
 use Rattle.kdl_entry.specs.EarliestEntry.{DerivedEntry}
-use Rattle.kdl_entry.specs.Internal.EntryMachine.{Word, State, ahead, dropping, under, word, done, phase_of, begin_to, value_to, under_to, word_to, go_to, if_taken, step, finish, Runs, stops, reads, AnswersEntry}
+use Rattle.kdl_entry.specs.Internal.EntryMachine.{Word, State, ahead, dropping, under, word, done, phase_of, valued, begin_to, value_of, under_to, word_to, go_to, if_taken, step, finish, Runs, stops, reads, AnswersEntry}
 use Rattle.kdl_entry.specs.Internal.EntryReading.{AnswersEntryText, EndsIn, Ended, Same, Stands, Stepped}
+use Rattle.kdl_value.specs.Data.{Value}
 use Rattle.kdl_lexer.specs.Earliest.{IsRefusedAt}
 use Rattle.kdl_lexer.specs.Internal.Handed.{Cuts, one, spaces, IsFaultAt, HandsOut, Lexed, kind_view}
 use Rattle.kdl_entry.specs.Internal.Going.{GoesBy, EntryReaches, EntryStuck}
@@ -122,14 +123,13 @@ module _ (whole s r : Text) (b : EndsIn s r) where
   item_stands property it left a = ends_here r
   item_stands p it k a = then_ends a b
 
-  value_stands : (p : Phase) (it : Item) (k : Token) (st : State) → value_to p it k s r ≡ Some st → Stands st r
-  value_stands p it (string v) st e = to _ st e (ends_here r)
-  value_stands p it (value v) st e = to _ st e (ends_here r)
-  value_stands p it k st e = absurd cc
+  value_stands : (p : Phase) (it : Item) (o : Option Value) (st : State) → option_map (λ v. done (valued p it v s r) r) o ≡ Some st → Stands st r
+  value_stands p it None st e = absurd cc
+  value_stands p it (Some v) st e = to _ st e (ends_here r)
 
   under_stands : (p : Phase) (it : Item) (c : EntryControl) (k : Token) (st : State) → under_to whole p it c k s r ≡ Some st → EndsIn it.from s → Stands st r
   under_stands p it (control.under q) k st e a = to _ st e (item_stands p it k a)
-  under_stands p it c k st e a = value_stands p it k st e
+  under_stands p it c k st e a = value_stands p it (value_of k) st e
 
   word_stands : (w : Word) (f : Text) (c : EntryControl) → EndsIn f s → Stands (word_to whole w f c s r) r
   word_stands w f control.word a = then_ends a b

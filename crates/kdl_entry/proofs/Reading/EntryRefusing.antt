@@ -1,4 +1,4 @@
--- After a token that the machine of entry texts without data refuses no entry text goes on.
+-- After a token that the control of entry texts refuses no entry text goes on.
 use Rattle.std.proofs.Common.{◌≡◌, ◌≢◌, true, [], ◌∷◌, ◌++◌, take, Option, Some, None, option_map, refl, sym, ap, subst, ◌∙◌, append_assoc}
 use Rattle.std.proofs.lemmas.List.{append_cancel_right}
 use Rattle.kdl_text.specs.Chars.{Text}
@@ -53,7 +53,7 @@ not_dropping : (o : Option control.Phase) → option_map dropping o ≡ None →
 not_dropping None e = refl
 not_dropping (Some p) e = absurd cc
 
--- and so does the machine of entry texts
+-- and so does the control of entry texts
 no_string : (c : EntryControl) (v : Text) (w : Text) → entry_step c (string v) ≡ None → entry_step c (string w) ≡ None
 no_string ahead v w e = absurd cc
 no_string (dropping (in_node (spaced b))) v w e = absurd cc

@@ -1,4 +1,4 @@
--- From each place that the machine of entry texts without data reaches in a text some text goes on to an entry text.
+-- From each place that the control of entry texts reaches in a text some text goes on to an entry text.
 use Rattle.std.proofs.Common.{◌≡◌, Bool, true, false, [], ◌∷◌, ◌++◌, Some, refl, sym, ap, subst, ◌∙◌}
 use Rattle.std.proofs.lemmas.List.{append_cancel_right}
 use Rattle.kdl_text.specs.Bare.{bare as bare_text, is_bare}

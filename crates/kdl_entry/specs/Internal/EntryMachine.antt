@@ -64,7 +64,7 @@ argument_of w = entry_by w.leading None None (text w.value) w.repr
 abbrev pub valued : Phase → Item → Value → Text → Text → Entry
 valued p it v s r = entry_by it.leading (key_given p it s) (type_given p it s) v (between s r)
 
--- the state after a token before the entry, after which the control is c
+-- the state after a token before the entry, where the control goes to c
 abbrev pub begin_to : Text → control.EntryControl → Token → Text → Text → Option State
 begin_to whole control.ahead k s r = Some ahead
 begin_to whole (control.dropping p) k s r = Some (dropping p)
@@ -73,24 +73,28 @@ begin_to whole control.word (string v) s r = Some (word (word_at whole v s r) r)
 begin_to whole control.done (value v) s r = Some (done (entry_by (between whole s) None None v (between s r)) r)
 begin_to whole c k s r = None
 
--- at the value of the entry
-abbrev pub value_to : Phase → Item → Token → Text → Text → Option State
-value_to p it (string v) s r = Some (done (valued p it (text v) s r) r)
-value_to p it (value v) s r = Some (done (valued p it v s r) r)
-value_to p it k s r = None
+-- the value that a token is
+abbrev pub value_of : Token → Option Value
+value_of (string v) = Some (text v)
+value_of (value v) = Some v
+value_of k = None
 
--- the state after a token in the entry, after which the control is c
+-- the state after the value of the entry
+abbrev pub value_to : Phase → Item → Token → Text → Text → Option State
+value_to p it k s r = option_map (λ v. done (valued p it v s r) r) (value_of k)
+
+-- the state after a token in the entry, where the control goes to c
 abbrev pub under_to : Text → Phase → Item → control.EntryControl → Token → Text → Text → Option State
 under_to whole p it (control.under q) k s r = Some (under q (taken p whole it k s r))
 under_to whole p it c k s r = value_to p it k s r
 
--- the state after a token after a string that may be a key, after which the control is c
+-- the state after a token that follows a string that may be a key, where the control goes to c
 abbrev pub word_to : Text → Word → Text → control.EntryControl → Text → Text → State
 word_to whole w from control.word s r = word w from
 word_to whole w from (control.under p) s r = under p (keyed_item whole w.leading (word_identifier w) (between from s) r)
 word_to whole w from c s r = done (argument_of w) from
 
--- the state after the token, after which the control is c
+-- the state after a token, where the control goes to c
 abbrev pub go_to : Text → State → control.EntryControl → Token → Text → Text → Option State
 go_to whole ahead c k s r = begin_to whole c k s r
 go_to whole (dropping p) c k s r = begin_to whole c k s r
@@ -98,7 +102,7 @@ go_to whole (under p it) c k s r = under_to whole p it c k s r
 go_to whole (word w from) c k s r = Some (word_to whole w from c s r)
 go_to whole (done e from) c k s r = Some (done e from)
 
--- where the control refuses the token, none
+-- the state after a token, by the control; none if the token may not come
 abbrev pub if_taken : Option control.EntryControl → (control.EntryControl → Option State) → Option State
 if_taken None f = None
 if_taken (Some c) f = f c

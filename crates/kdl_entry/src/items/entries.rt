@@ -4,14 +4,14 @@ ghost use Rattle.kdl_control.specs.Internal.EntryViews.{entry_view};
 ghost use Rattle.kdl_control.specs.Internal.Views.{phase_view};
 ghost use Rattle.kdl_entry.specs.Internal.Building.{item_view};
 ghost use Rattle.kdl_entry.specs.Internal.EntryMachine as machine;
-ghost use Rattle.kdl_entry.specs.Internal.EntryMachine.{argument_of, begin_to, ended, entry_by, finish, keyed_item, opened_item, phase_of, step, value_to, word_at, word_to};
+ghost use Rattle.kdl_entry.specs.Internal.EntryMachine.{argument_of, begin_to, ended, entry_by, finish, keyed_item, opened_item, phase_of, step, value_of, value_to, word_at, word_to};
 ghost use Rattle.kdl_entry.specs.Internal.EntryReading.{word_view, state_view, AnswersEntryText, Stands, Stepped, Ended};
 ghost use Rattle.kdl_lexer.specs.Internal.Handed.{kind_view};
 ghost use Rattle.kdl_entry.specs.Places.{between};
 ghost use Rattle.kdl_value.specs.Tree.{text_of, value_tree};
 ghost use Rattle.kdl_entry.specs.Tree.{entry_tree, identifier_tree};
 ghost use Rattle.kdl_text.specs.Internal.Here.{Ahead};
-ghost use Rattle.std.specs.Prelude.{◌≡◌, [], None, Some, true, IfOk};
+ghost use Rattle.std.specs.Prelude.{◌≡◌, [], None, Some, true, IfOk, option_map};
 ghost use Rattle.std.specs.Str.{chars};
 
 use super::item::{Given, Item, Key, entry_from};
@@ -180,30 +180,22 @@ fn begin_to<'a>(
     }
 }
 
-/// The entry, which ends with its value.
-#[tactic(auto, using(kdl_lexer::proofs::Order::ahead))]
-fn valued<'a>(
-    phase: Phase,
-    mut item: Item<'a>,
-    slices: &mut Slices<'a>,
-    value: KdlValue,
-    at: &TokenSpan<'a>,
-) -> Result<KdlEntry, AllocError>
-    requires from { Ahead item.from at.now.start }
-    ensures is { IfOk result
-        (λ e. entry_tree e ≡ machine.valued (phase_view phase) (item_view item.entry)
-        (value_tree value) at.now.start.rest at.now.end.rest) }
-    ensures whole { slices.new.whole ≡ slices.old.whole }
+/// The value that a token is.
+fn value_of(kind: TokenKind) -> Option<KdlValue>
+    ensures { option_map value_tree result ≡ value_of (kind_view kind) }
 {
-    let given = item.give(phase, slices, value, &at.start)?;
-    let repr = slices.text(&at.start, &at.end)?;
-    Ok(entry_from(item.alloc, UNPLACED, item.leading, given, repr))
+    match kind {
+        TokenKind::String(value) => Some(KdlValue::String(value)),
+        TokenKind::Value(value) => Some(value),
+        _ => None,
+    }
 }
 
-/// Takes the token that is the value of an entry.
+/// Takes the token that is the value of the entry.
+#[tactic(auto, using(kdl_lexer::proofs::Order::ahead))]
 fn at_value<'a>(
     phase: Phase,
-    item: Item<'a>,
+    mut item: Item<'a>,
     slices: &mut Slices<'a>,
     token: Token<'a>,
 ) -> Result<State<'a>, LexFailure>
@@ -214,17 +206,13 @@ fn at_value<'a>(
     ensures whole { slices.new.whole ≡ slices.old.whole }
 {
     let Token { kind, at } = token;
-    match kind {
-        TokenKind::String(value) => {
-            let entry = valued(phase, item, slices, KdlValue::String(value), &at)?;
-            Ok(State::Done(entry, at.end))
-        }
-        TokenKind::Value(value) => {
-            let entry = valued(phase, item, slices, value, &at)?;
-            Ok(State::Done(entry, at.end))
-        }
-        _ => Err(LexFailure::Faulty(fault_at(&at.start))),
-    }
+    let Some(value) = value_of(kind) else {
+        return Err(LexFailure::Faulty(fault_at(&at.start)));
+    };
+    let given = item.give(phase, slices, value, &at.start)?;
+    let repr = slices.text(&at.start, &at.end)?;
+    let entry = entry_from(item.alloc, UNPLACED, item.leading, given, repr);
+    Ok(State::Done(entry, at.end))
 }
 
 /// Takes a token after a string that may still be a key. The control goes to `next`.

@@ -1,6 +1,7 @@
 //! Items being read, token by token: the type and value of an entry, or the type and name of a node.
 //!
-//! The rules of types, keys and values, both for an entry that is a whole text and for those of a document.
+//! The texts and places of types, keys and values, both for an entry that is a whole text and for those of a document.
+//! Which token may come is up to the control.
 
 ghost use Rattle.kdl_control.specs.Internal.Views.{phase_view};
 ghost use Rattle.kdl_entry.specs.Internal.Building.{key_view, type_view, item_view, Holds};
