@@ -1,18 +1,4 @@
--- Fronts of texts that no token begins, or none that may come, whatever follows them; and open pieces, which go on to a token.
+-- Fronts of texts that no token begins that may come, whatever follows them.
 
--- A backslash, spaces and comments, and what ends no escline.
-pub mod Esclines
--- Words of identifier characters, and what follows them.
-pub mod Words
--- Words that no token goes on with, and words that go on to one.
-pub mod WordEnds
--- Strings up to a place where nothing goes on with them.
-pub mod Strings
--- Strings of many lines up to such a place.
-pub mod ManyLines
--- Raw strings of many lines up to a character that no line has.
-pub mod RawStrings
 -- What follows a string, a number or a keyword and is no value end.
 pub mod ValueEnds
--- Comments and strings that the end of the text leaves open, which go on to a token.
-pub mod OpenPieces

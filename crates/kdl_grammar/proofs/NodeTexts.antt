@@ -6,6 +6,7 @@ use Rattle.kdl_text.specs.Chars.Star.{none as no_star, more}
 use Rattle.kdl_text.specs.Trivia.{LineSpace}
 use Rattle.kdl_lexer.specs.Tokens.{Token, space, newline, slashdash, string, value, left, right, opening, closing, equals, semicolon, bom, BeginsToken, t_space, t_newline, t_right, t_opening, t_closing, t_semicolon, done}
 use Rattle.kdl_lexer.proofs.Lexing.TokenUnique.{token_det, no_token}
+use Rattle.kdl_lexer.proofs.Moving.Puts.{front_first}
 use Rattle.kdl_grammar.specs.Data.{Nodes}
 use Rattle.kdl_lexer.specs.Earliest.{BeginsNoOther}
 use Rattle.kdl_grammar.specs.GoingOn.{DerivedNode, NodeAlive, NodeDeadAtToken}
@@ -16,7 +17,7 @@ use Rattle.kdl_grammar.specs.NodeControl.{NodeControl, in_text, node_step, node_
 use Rattle.kdl_grammar.proofs.GoingOn.{two_parts, two_some}
 use Rattle.kdl_grammar.proofs.Reading.NodeComplete.{NodeGoes, and_then, lines_stay, at_end, at_close, Stands, between, in_open, kept_open, no_line, found_node, gap_only}
 use Rattle.kdl_grammar.proofs.Reading.NodeSteps.{control_of, steps, refuses_two}
-use Rattle.kdl_grammar.proofs.Reading.Refusing.{near_goes, front_first}
+use Rattle.kdl_grammar.proofs.Reading.Refusing.{near_goes}
 use Rattle.kdl_grammar.proofs.Reading.Sound.{derives}
 use Rattle.kdl_entry.proofs.Moving.TokenMoves.{Fits}
 use Rattle.kdl_grammar.proofs.Reading.Viable.{Ends, at_gap, at_node, at_kept, closing_text, missing_text, a_word, no_right, no_close, worded, behind_string, behind_value, carry, reads}

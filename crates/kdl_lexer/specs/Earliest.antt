@@ -23,6 +23,10 @@ BeginsNoOther derived t = (u : Text) → derived (t ++ u) → ⊥
 abbrev pub BeginsNone : Text → Type 0
 BeginsNone s = (r : Text) (k : Token) → BeginsToken s k r → ⊥
 
+-- no token begins a text with this front
+abbrev pub BeginsNoToken : Text → Type 0
+BeginsNoToken f = (u : Text) → BeginsNone (f ++ u)
+
 -- the text is cut into tokens up to where the second text is left
 pub data IsCut : Text → Text → Type 0 where
   up_to_here : {s : Text} → IsCut s s

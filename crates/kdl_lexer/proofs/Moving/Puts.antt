@@ -1,5 +1,5 @@
 -- A piece as a function of what follows it.
-use Rattle.std.proofs.Common.{◌≡◌, ℕ, Bool, true, false, ◌==◌, [], ◌∷◌, ◌++◌, None, refl, sym, ap, ◌∙◌, append_assoc}
+use Rattle.std.proofs.Common.{◌≡◌, ◌≢◌, ℕ, Bool, true, false, ◌==◌, [], ◌∷◌, ◌++◌, None, refl, sym, ap, ◌∙◌, append_assoc}
 use Rattle.std.proofs.lemmas.List.{append_cancel_right}
 use Rattle.kdl_text.specs.Chars.{Text, begins, starts, is_identifier_char}
 use Rattle.kdl_text.specs.Internal.Here.{first}
@@ -30,6 +30,11 @@ before p e = record { put = λ u. p ++ u; piece = p; text = λ u. refl; here = e
 pub first_piece : (p s t : Text) → first s ≡ first t → first (p ++ s) ≡ first (p ++ t)
 first_piece [] s t e = e
 first_piece (c ∷ p) s t e = refl
+
+-- what follows a front that is not empty does not change its first character
+pub front_first : (f u r : Text) → f ≢ [] → first (f ++ u) ≡ first (f ++ r)
+front_first [] u r some = absurd (some refl)
+front_first (c ∷ f) u r some = refl
 
 -- what begins like the rest makes the text begin like the text
 pub same : {s r : Text} (p : Put s r) (u : Text) → first u ≡ first r → first (p.put u) ≡ first s

@@ -12,13 +12,13 @@ use Rattle.kdl_text.proofs.Numeric.DecimalUnique.{number_begins}
 use Rattle.kdl_text.proofs.Numeric.KeywordUnique.{word}
 use Rattle.kdl_text.proofs.Quoted.StringUnique.{is_quoted_begins, is_raw_begins}
 use Rattle.kdl_value.specs.Data.{Value}
+use Rattle.kdl_lexer.specs.Earliest.{BeginsNoToken}
 use Rattle.kdl_lexer.specs.Pieces.{StringPiece, bare, quoted, raw, PlainPiece, number, keyword, keyword_value}
 use Rattle.kdl_lexer.specs.Tokens.{string, value, BeginsToken, t_string, t_value}
 use Rattle.kdl_lexer.proofs.Lexing.FirstCharacters.{digit_identifier}
 use Rattle.kdl_lexer.proofs.Lexing.StringUnique.{quote_identifier, sign_identifier as no_sign_identifier, keyword_front}
-use Rattle.kdl_lexer.proofs.Lexing.TokenFronts.{BeginsNone}
 use Rattle.kdl_lexer.proofs.Lexing.TokenUnique.{no_piece}
-use Rattle.kdl_grammar.proofs.Fronts.Words.{keyword_word, piece_or}
+use Rattle.kdl_lexer.proofs.Fronts.Words.{keyword_word, piece_or}
 
 point_identifier : is_identifier_char 46 ≡ true
 unfolding is_identifier_char is_space is_newline_char is_banned is_punctuation
@@ -48,7 +48,7 @@ no_other {c = c} {s = s} h f (quoted y) = quote_identifier (c ∷ s) (is_quoted_
 no_other {c = c} {s = s} h f (raw y) = no_sign_identifier (c ∷ s) (is_raw_begins y) h
 
 -- a point and a digit
-pub point_front : (d : ℕ) → is_digit d ≡ true → BeginsNone (46 ∷ d ∷ [])
+pub point_front : (d : ℕ) → is_digit d ≡ true → BeginsNoToken (46 ∷ d ∷ [])
 point_front d h u r k b =
     no_piece 46 (d ∷ u) (piece_or 46 point_identifier) (λ x v. no_other point_identifier (point_no_bare h)) no_plain r k b
   where

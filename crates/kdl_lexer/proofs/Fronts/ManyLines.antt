@@ -10,13 +10,13 @@ use Rattle.kdl_text.proofs.Quoted.UnitUnique.{unit_no_quote}
 use Rattle.kdl_text.proofs.RawStrings.RawUnique.{quote_no_newline}
 use Rattle.kdl_text.proofs.Spacing.NewlineUnique.{newline_det, no_newline}
 use Rattle.kdl_text.proofs.Spacing.SpaceUnique.{newline_begins}
+use Rattle.kdl_lexer.specs.Earliest.{BeginsNoToken}
 use Rattle.kdl_lexer.specs.Tokens.{BeginsToken}
-use Rattle.kdl_lexer.proofs.Lexing.TokenFronts.{BeginsNone}
 use Rattle.kdl_lexer.proofs.Lexing.TokenUnique.{no_piece}
 use Rattle.kdl_lexer.proofs.Moving.Puts.{Put, stands, also, joined, same, begins_first}
 use Rattle.kdl_lexer.proofs.Moving.StringMoves.{move_newline, move_unit}
-use Rattle.kdl_grammar.proofs.Fronts.Strings.{BeginsNoUnit, quote_piece, quote_no_plain, quote_no_other, no_quote_there}
-use Rattle.kdl_grammar.proofs.Reading.Refusing.{front_first}
+use Rattle.kdl_lexer.proofs.Fronts.Strings.{BeginsNoUnit, quote_piece, quote_no_plain, quote_no_other, no_quote_there}
+use Rattle.kdl_lexer.proofs.Moving.Puts.{front_first}
 
 -- units of lines in a row
 pub data AreLines : Text → Text → Type 0 where
@@ -82,7 +82,7 @@ two_none (c ∷ s) h = rw h refl
 
 -- three quotes, a newline n, units p, and a front g that no quote and no unit begins
 pub lines_front : (n p g t : Text) → Newline (n ++ (p ++ (g ++ t))) (p ++ (g ++ t)) → AreLines (p ++ (g ++ t)) (g ++ t) → g ≢ [] → begins 34 g ≡ false → BeginsNoLine g
-    → BeginsNone (34 ∷ 34 ∷ 34 ∷ (n ++ (p ++ g)))
+    → BeginsNoToken (34 ∷ 34 ∷ 34 ∷ (n ++ (p ++ g)))
 lines_front n p g t nl run some no_quote stuck u r k b =
     no_piece 34 (34 ∷ 34 ∷ (n ++ (p ++ (g ++ u)))) quote_piece (λ x v. quote_no_other no_quoted) (λ x v. quote_no_plain) r k
     (subst (λ (z : Text). BeginsToken (34 ∷ 34 ∷ 34 ∷ z) k r) (append_assoc n (p ++ g) u ∙ ap (λ (z : Text). n ++ z) (append_assoc p g u)) b)
@@ -112,7 +112,7 @@ lines_front n p g t nl run some no_quote stuck u r k b =
         stuck_there g u (no_quote_there g u some no_quote) stuck z
 
 -- three quotes and a character that is no newline
-pub opening_front : (c : ℕ) → is_newline_char c ≡ false → BeginsNone (34 ∷ 34 ∷ 34 ∷ c ∷ [])
+pub opening_front : (c : ℕ) → is_newline_char c ≡ false → BeginsNoToken (34 ∷ 34 ∷ 34 ∷ c ∷ [])
 opening_front c h u r k b = no_piece 34 (34 ∷ 34 ∷ c ∷ u) quote_piece (λ x v. quote_no_other no_quoted) (λ x v. quote_no_plain) r k b
   where
     no_quoted : {x v : Text} → IsQuoted (34 ∷ 34 ∷ 34 ∷ c ∷ u) x v → ⊥
