@@ -14,3 +14,9 @@ pub mod ManyLines
 pub mod RawStrings
 -- Comments and strings that the end of the text leaves open, which go on to a token.
 pub mod OpenPieces
+-- Texts at which no token begins: what there is to say of one.
+pub mod Begun
+-- Words at which no token begins.
+pub mod AnyWord
+-- A number sign and a word at which no token begins.
+pub mod AnySign

@@ -177,7 +177,7 @@ sign_other : is_identifier_char 35 ≡ false
 unfolding is_identifier_char is_space is_newline_char is_banned is_punctuation
 sign_other = refl
 
-sign_piece : begins_piece 35 ≡ true
+pub sign_piece : begins_piece 35 ≡ true
 unfolding is_identifier_char is_space is_newline_char is_banned is_punctuation
 sign_piece = refl
 

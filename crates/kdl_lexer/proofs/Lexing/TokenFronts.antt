@@ -57,7 +57,7 @@ number_no_string {c = c} {s = s} h (quoted x) = quote_identifier (c ∷ s) (is_q
 number_no_string {c = c} {s = s} h (raw x) = sign_identifier (c ∷ s) (is_raw_begins x) (number_identifier c s h)
 
 -- nor as a keyword does
-keyword_no_string : {c d : ℕ} {s r v : Text} → c ≡ 35 → is_identifier_char d ≡ true → StringPiece (c ∷ d ∷ s) r v → ⊥
+pub keyword_no_string : {c d : ℕ} {s r v : Text} → c ≡ 35 → is_identifier_char d ≡ true → StringPiece (c ∷ d ∷ s) r v → ⊥
 keyword_no_string {c = c} {d = d} {s = s} e h (bare x) = sign_identifier (c ∷ d ∷ s) (rw e refl) (bare_begins x)
 keyword_no_string {c = c} {d = d} {s = s} e h (quoted x) = quote_sign (c ∷ d ∷ s) (is_quoted_begins x) (rw e refl)
 keyword_no_string {c = c} {d = d} {s = s} e h (raw x) =
