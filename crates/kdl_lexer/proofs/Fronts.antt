@@ -20,3 +20,5 @@ pub mod Begun
 pub mod AnyWord
 -- A number sign and a word at which no token begins.
 pub mod AnySign
+-- A slash or a backslash at which no token begins.
+pub mod AnySlash

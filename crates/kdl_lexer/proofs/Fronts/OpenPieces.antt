@@ -13,7 +13,7 @@ use Rattle.kdl_lexer.specs.Pieces.{quoted}
 use Rattle.kdl_lexer.specs.Tokens.{space, string, BeginsToken, t_space, t_string}
 
 -- a text after `/*`: a comment ends in it, before each rest; or it goes on to the end of one
-data Closing (s : Text) : Type 0 where
+pub data Closing (s : Text) : Type 0 where
   closed : (p r : Text) → s ≡ p ++ r → ((w : Text) → first (p ++ w) ≡ first s) → ((w : Text) → Parts (p ++ w) w) → Closing s
   goes_on : (u : Text) → ((w : Text) → Parts (s ++ (u ++ w)) w) → Closing s
 
@@ -47,7 +47,7 @@ after_other {c = c} {d = d} {s = s} x y (closed p r e full f) =
     (λ w. other (two_other 47 42 c (p ++ w) (d ∷ s) (full w) ∙ x) (two_other 42 47 c (p ++ w) (d ∷ s) (full w) ∙ y) (f w))
 after_other x y (goes_on u f) = goes_on u (λ w. other x y (f w))
 
-closing : (n : ℕ) (s : Text) → length s ≤ n → Closing s
+pub closing : (n : ℕ) (s : Text) → length s ≤ n → Closing s
 closing n [] h = goes_on (42 ∷ 47 ∷ []) (λ w. close)
 closing n (c ∷ []) h = one_open c
 closing zero (c ∷ d ∷ s) h = absurd (omega (arith, h))
