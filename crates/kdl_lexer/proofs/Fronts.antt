@@ -22,3 +22,5 @@ pub mod AnyWord
 pub mod AnySign
 -- A slash or a backslash at which no token begins.
 pub mod AnySlash
+-- Units of quoted strings, whole or cut off, and what begins none.
+pub mod AnyUnit

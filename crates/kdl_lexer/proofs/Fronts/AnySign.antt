@@ -17,7 +17,7 @@ use Rattle.kdl_lexer.specs.Pieces.{PlainPiece, number, keyword}
 use Rattle.kdl_lexer.specs.Tokens.{Token, BeginsToken}
 use Rattle.kdl_lexer.proofs.Lexing.TokenFronts.{keyword_no_string}
 use Rattle.kdl_lexer.proofs.Lexing.TokenUnique.{no_piece}
-use Rattle.kdl_lexer.proofs.Fronts.Begun.{Begun, stuck, two_on, longest}
+use Rattle.kdl_lexer.proofs.Fronts.Begun.{Begun, stuck, two_on, longest, first_begins}
 use Rattle.kdl_lexer.proofs.Fronts.WordEnds.{open_keyword}
 use Rattle.kdl_lexer.proofs.Fronts.Words.{sign_piece, keyword_word, sign_front}
 
@@ -39,19 +39,6 @@ prefix (c ∷ w) (d ∷ v) = go (prefix w v) (c == d) refl
         apart : (u : Text) → c ∷ (w ++ u) ≡ d ∷ v → ⊥
         apart u g = let h : c ≡ d = cc in let i = (Decides-eqb c d).1 h in cc
 
--- of two fronts of a text, where the second ends before no identifier character, the first begins the second
-first_begins : (w v u r : Text) → list_all is_identifier_char w ≡ true → starts is_identifier_char r ≡ false → w ++ u ≡ v ++ r → (x : Text) × (w ++ x ≡ v)
-first_begins [] v u r all n e = (v, refl)
-first_begins (c ∷ w) [] u r all n e =
-    let f : is_identifier_char c ≡ starts is_identifier_char r = ap (starts is_identifier_char) e in
-    let g = (and_parts (is_identifier_char c) (list_all is_identifier_char w) all).0 in
-    absurd cc
-first_begins (c ∷ w) (d ∷ v) u r all n e =
-    let f : c ≡ d = cc in
-    let g : w ++ u ≡ v ++ r = cc in
-    let (x, h) = first_begins w v u r (and_parts (is_identifier_char c) (list_all is_identifier_char w) all).1 n g in
-    (x, ap (λ (z : ℕ). z ∷ (w ++ x)) f ∙ ap (λ (z : Text). d ∷ z) h)
-
 -- a number sign and a word that no keyword begins with
 no_keyword_front : (c : ℕ) (s : Text) → list_all is_identifier_char (c ∷ s) ≡ true → ((k : Keyword) (u : Text) → (c ∷ s) ++ u ≡ word k → ⊥) → BeginsNoToken (35 ∷ c ∷ s)
 no_keyword_front c s all none u r k b =
@@ -62,7 +49,7 @@ no_keyword_front c s all none u r k b =
     no_plain x v (keyword {k = j} (a_keyword e n) f) =
         let g : 35 ∷ ((c ∷ s) ++ u) ≡ 35 ∷ (word j ++ x) = e ∙ ap (λ (z : Text). z ++ x) (keyword_word j) in
         let h : (c ∷ s) ++ u ≡ word j ++ x = cc in
-        let (y, i) = first_begins (c ∷ s) (word j) u x all n h in
+        let (y, i) = first_begins is_identifier_char (c ∷ s) (word j) u x all n h in
         none j y i
 
 -- a number sign and a word that is all of the text

@@ -1,7 +1,8 @@
 -- A text at which no token begins: none begins with some front of it, or the text goes on to a token.
 use Rattle.std.proofs.Common.{◌≡◌, ℕ, Bool, true, false, ◌==◌, [], ◌∷◌, ◌++◌, take, refl, sym, ap, ◌∙◌}
+use Rattle.std.proofs.lemmas.Bool.{and_parts}
 use Rattle.std.specs.List.{list_all}
-use Rattle.kdl_text.specs.Chars.{Text, is_identifier_char}
+use Rattle.kdl_text.specs.Chars.{Text, starts, is_identifier_char}
 use Rattle.kdl_text.specs.Numbers.{begins_number}
 use Rattle.kdl_text.specs.Strings.{Run}
 use Rattle.kdl_lexer.specs.Earliest.{BeginsNoToken}
@@ -35,3 +36,16 @@ longest p (c ∷ s) = go (longest p s) (p c) refl
     go : Longest p s → (b : Bool) → p c ≡ b → Longest p (c ∷ s)
     go x true e = record { rest = x.rest; run = record { run = c ∷ x.run.run; text = ap (λ (z : Text). c ∷ z) x.run.text; all = rw (e, x.run.all) refl; stops = x.run.stops } }
     go x false e = record { rest = c ∷ s; run = record { run = []; text = refl; all = refl; stops = e } }
+
+-- of two fronts of a text, where the first is of a class and the second ends before no character of it, the first begins the second
+pub first_begins : (p : ℕ → Bool) (w v u r : Text) → list_all p w ≡ true → starts p r ≡ false → w ++ u ≡ v ++ r → (x : Text) × (w ++ x ≡ v)
+first_begins p [] v u r all n e = (v, refl)
+first_begins p (c ∷ w) [] u r all n e =
+    let f : p c ≡ starts p r = ap (starts p) e in
+    let g = (and_parts (p c) (list_all p w) all).0 in
+    absurd cc
+first_begins p (c ∷ w) (d ∷ v) u r all n e =
+    let f : c ≡ d = cc in
+    let g : w ++ u ≡ v ++ r = cc in
+    let (x, h) = first_begins p w v u r (and_parts (p c) (list_all p w) all).1 n g in
+    (x, ap (λ (z : ℕ). z ∷ (w ++ x)) f ∙ ap (λ (z : Text). d ∷ z) h)
