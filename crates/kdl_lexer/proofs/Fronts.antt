@@ -24,3 +24,7 @@ pub mod AnySign
 pub mod AnySlash
 -- Units of quoted strings, whole or cut off, and what begins none.
 pub mod AnyUnit
+-- Lines before a line that is empty have a value.
+pub mod Dedented
+-- A quote at which no token begins.
+pub mod AnyQuote

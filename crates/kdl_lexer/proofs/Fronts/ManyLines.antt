@@ -24,9 +24,9 @@ pub data AreLines : Text → Text → Type 0 where
   more : {t m r : Text} {us : List LineUnit} → ContentUnit t m us → AreLines m r → AreLines t r
 
 -- they come before each rest that begins with the same character, and with two quotes where the other does
-record MoveLines (R : Text → Text → Type 0) (s m : Text) : Type 0 where
-  at : Put s m
-  there : (u : Text) → first u ≡ first m → begins_two 34 34 u ≡ begins_two 34 34 m → R (at.put u) u
+pub record MoveLines (R : Text → Text → Type 0) (s m : Text) : Type 0 where
+  pub at : Put s m
+  pub there : (u : Text) → first u ≡ first m → begins_two 34 34 u ≡ begins_two 34 34 m → R (at.put u) u
 
 two_piece : (p u m : Text) → first u ≡ first m → begins_two 34 34 u ≡ begins_two 34 34 m → begins_two 34 34 (p ++ u) ≡ begins_two 34 34 (p ++ m)
 two_piece [] u m e f = f
@@ -36,7 +36,7 @@ two_piece (c ∷ d ∷ p) u m e f = refl
 two_put : {s m : Text} (p : Put s m) (u : Text) → first u ≡ first m → begins_two 34 34 u ≡ begins_two 34 34 m → begins_two 34 34 (p.put u) ≡ begins_two 34 34 s
 two_put {m = m} p u e f = ap (begins_two 34 34) (p.text u) ∙ two_piece p.piece u m e f ∙ ap (begins_two 34 34) (sym (p.text m) ∙ sym p.here)
 
-move_line_unit : {t m : Text} {us : List LineUnit} → ContentUnit t m us → MoveLines (λ t m. ContentUnit t m us) t m
+pub move_line_unit : {t m : Text} {us : List LineUnit} → ContentUnit t m us → MoveLines (λ t m. ContentUnit t m us) t m
 move_line_unit (ContentUnit.quote h) = record { at = also 34 stands; there = λ u e f. ContentUnit.quote (f ∙ h) }
 move_line_unit (ContentUnit.line n) = let a = move_newline n in record { at = a.at; there = λ u e f. ContentUnit.line (a.there u e) }
 move_line_unit (ContentUnit.unit x y) = let a = move_unit x in record { at = a.at; there = λ u e f. ContentUnit.unit (a.there u e) y }
