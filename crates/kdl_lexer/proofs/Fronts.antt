@@ -28,3 +28,5 @@ pub mod AnyUnit
 pub mod Dedented
 -- A quote at which no token begins.
 pub mod AnyQuote
+-- Number signs and a quote at which no token begins.
+pub mod AnyRaw

@@ -82,7 +82,7 @@ two_more [] x u n h = rw n refl
 two_more (d ∷ []) x u n h = rw n (and-false (d == 34))
 two_more (d ∷ e ∷ m) x u n h = h
 
-newline_more : {t m : Text} (x : ℕ) (u : Text) → (x == 10) ≡ false → Newline t m → Newline (t ++ (x ∷ u)) (m ++ (x ∷ u))
+pub newline_more : {t m : Text} (x : ℕ) (u : Text) → (x == 10) ≡ false → Newline t m → Newline (t ++ (x ∷ u)) (m ++ (x ∷ u))
 newline_more x u n crlf = crlf
 newline_more x u n (one_char {c = c} {r = []} i j) = one_char i (rw n (and-false (c == 13)))
 newline_more x u n (one_char {r = d ∷ r} i j) = one_char i j
@@ -99,7 +99,7 @@ then_lines {m = m} i (all_stuck p g t e k some no_quote f) =
     let a = (move_line_unit i).at in
     all_stuck (a.piece ++ p) g t (a.here ∙ a.text m ∙ ap (λ (z : Text). a.piece ++ z) e ∙ sym (append_assoc a.piece p (g ++ t))) (more i k) some no_quote f
 
-feed : is_newline_char 10 ≡ true
+pub feed : is_newline_char 10 ≡ true
 unfolding is_newline_char
 feed = refl
 
@@ -111,7 +111,7 @@ closed_line : Content closing_line [] (Literal 97 ∷ LineEnd ∷ [])
 unfolding closing_line
 closed_line = Content.more (ContentUnit.unit (one_literal literal_a) refl) (Content.more (ContentUnit.line (one_char feed refl)) Content.close refl) refl
 
-two_quotes : (s : Text) → begins_two 34 34 s ≡ true → (r : Text) × (s ≡ 34 ∷ 34 ∷ r)
+pub two_quotes : (s : Text) → begins_two 34 34 s ≡ true → (r : Text) × (s ≡ 34 ∷ 34 ∷ r)
 two_quotes [] h = cc
 two_quotes (c ∷ s) h = go (c == 34) refl h
   where
