@@ -30,3 +30,5 @@ pub mod Dedented
 pub mod AnyQuote
 -- Number signs and a quote at which no token begins.
 pub mod AnyRaw
+-- Each text at which no token begins.
+pub mod AnyText

@@ -1,5 +1,5 @@
 -- A piece as a function of what follows it.
-use Rattle.std.proofs.Common.{◌≡◌, ◌≢◌, ℕ, Bool, true, false, ◌==◌, [], ◌∷◌, ◌++◌, None, refl, sym, ap, ◌∙◌, append_assoc}
+use Rattle.std.proofs.Common.{◌≡◌, ◌≢◌, ℕ, Bool, true, false, ◌==◌, [], ◌∷◌, ◌++◌, take, None, refl, sym, ap, ◌∙◌, append_assoc}
 use Rattle.std.proofs.lemmas.List.{append_cancel_right}
 use Rattle.kdl_text.specs.Chars.{Text, begins, starts, is_identifier_char}
 use Rattle.kdl_text.specs.Internal.Here.{first}
@@ -35,6 +35,17 @@ first_piece (c ∷ p) s t e = refl
 pub front_first : (f u r : Text) → f ≢ [] → first (f ++ u) ≡ first (f ++ r)
 front_first [] u r some = absurd (some refl)
 front_first (c ∷ f) u r some = refl
+
+-- the first two characters of a text, and the rest
+pub two_parts : (r : Text) → (q : Text) × (r ≡ take 2 r ++ q)
+two_parts [] = ([], refl)
+two_parts (c ∷ []) = ([], refl)
+two_parts (c ∷ d ∷ r) = (r, refl)
+
+pub two_some : (r : Text) → r ≢ [] → take 2 r ≢ []
+two_some [] h e = h e
+two_some (c ∷ []) h e = cc
+two_some (c ∷ d ∷ r) h e = cc
 
 -- what begins like the rest makes the text begin like the text
 pub same : {s r : Text} (p : Put s r) (u : Text) → first u ≡ first r → first (p.put u) ≡ first s
