@@ -36,6 +36,14 @@ pub front_first : (f u r : Text) → f ≢ [] → first (f ++ u) ≡ first (f ++
 front_first [] u r some = absurd (some refl)
 front_first (c ∷ f) u r some = refl
 
+pub more_first : (r u : Text) → r ≢ [] → first (r ++ u) ≡ first r
+more_first [] u some = absurd (some refl)
+more_first (c ∷ r) u some = refl
+
+pub more_some : (f u : Text) → f ≢ [] → f ++ u ≢ []
+more_some [] u some e = some refl
+more_some (c ∷ f) u some e = cc
+
 -- the first two characters of a text, and the rest
 pub two_parts : (r : Text) → (q : Text) × (r ≡ take 2 r ++ q)
 two_parts [] = ([], refl)
