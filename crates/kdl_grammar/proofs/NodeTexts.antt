@@ -277,8 +277,8 @@ node_dead_at_token p r s n k g b e =
     node_dead_at_front p (take 2 r) q n (two_some r some) (subst (λ (z : Text). NodeReaches (p ++ z) n z) f g) (refuses_two n b e)
 
 -- where a token goes on that it takes, so does some node text
-pub node_goes_on : (p r u : Text) (n m : NodeControl) (k : Token) → r ≢ [] → NodeReaches (p ++ r) n r → BeginsToken (r ++ u) k [] → node_step n k ≡ Some m → BeginsSome DerivedNode (p ++ r)
-node_goes_on p r u n m k some g b e =
+pub node_alive_in_token : (p r u : Text) (n m : NodeControl) (k : Token) → r ≢ [] → NodeReaches (p ++ r) n r → BeginsToken (r ++ u) k [] → node_step n k ≡ Some m → BeginsSome DerivedNode (p ++ r)
+node_alive_in_token p r u n m k some g b e =
     let y = near_goes (r ++ u) (more_first r u some) g in
     let same : y.at.piece ≡ p = append_cancel_right y.at.piece p r (sym (y.at.here ∙ y.at.text r)) in
     let text : y.at.put (r ++ u) ≡ (p ++ (r ++ u)) ++ [] = y.at.text (r ++ u) ∙ ap (λ (z : Text). z ++ (r ++ u)) same ∙ sym (append-nil (p ++ (r ++ u))) in

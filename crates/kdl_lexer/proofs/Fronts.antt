@@ -32,3 +32,5 @@ pub mod AnyQuote
 pub mod AnyRaw
 -- Each text at which no token begins.
 pub mod AnyText
+-- Words that begin as a number does, at which no token begins.
+pub mod AnyNumber

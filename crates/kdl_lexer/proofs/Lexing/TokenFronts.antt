@@ -51,7 +51,7 @@ of_kind (value v) (string w) e n = absurd n
 of_kind _ _ e n = absurd cc
 
 -- no string begins as a number does
-number_no_string : {c : ℕ} {s r v : Text} → begins_number (c ∷ s) ≡ true → StringPiece (c ∷ s) r v → ⊥
+pub number_no_string : {c : ℕ} {s r v : Text} → begins_number (c ∷ s) ≡ true → StringPiece (c ∷ s) r v → ⊥
 number_no_string h (bare x) = number_not_bare h x
 number_no_string {c = c} {s = s} h (quoted x) = quote_identifier (c ∷ s) (is_quoted_begins x) (number_identifier c s h)
 number_no_string {c = c} {s = s} h (raw x) = sign_identifier (c ∷ s) (is_raw_begins x) (number_identifier c s h)
