@@ -1,12 +1,11 @@
 -- Where a machine that goes over tokens stops before a text at which no token begins.
-use Rattle.std.proofs.Common.{◌≡◌, ◌≢◌, ◌⊎◌, inl, inr, true, false, [], ◌∷◌, ◌++◌, take, Option, Some, None, refl, sym, ap, subst, ◌∙◌}
+use Rattle.std.proofs.Common.{◌≡◌, ◌≢◌, ◌⊎◌, inl, inr, false, [], ◌∷◌, ◌++◌, take, Option, Some, None, refl, sym, ap, subst, ◌∙◌}
 use Rattle.std.proofs.lemmas.List.{append-nil}
 use Rattle.kdl_text.specs.Chars.{Text, is_identifier_char, is_space, is_newline_char, is_banned, is_punctuation}
 use Rattle.kdl_text.specs.Trivia.{close, block, line, Line, Ws, NodeSpace, Break}
-use Rattle.kdl_lexer.specs.Earliest.{BeginsSome, BeginsNoOther, BeginsNone, BeginsNoToken, Stops, too_early, two, front, number}
+use Rattle.kdl_lexer.specs.Earliest.{BeginsSome, BeginsNoOther, BeginsNone, BeginsNoToken, StopsAt, too_short, at_token, at_front}
 use Rattle.kdl_lexer.specs.Tokens.{Token, space, newline, slashdash, left, BeginsToken, t_space, t_newline, t_slashdash, t_left, t_string, t_value}
 use Rattle.kdl_lexer.proofs.Fronts.AnyText.{begun}
-use Rattle.kdl_lexer.proofs.Fronts.Begun as fronts
 use Rattle.kdl_lexer.proofs.Fronts.Begun.{Begun, stuck, goes_on, slash}
 use Rattle.kdl_lexer.proofs.Lexing.StringUnique.{begins_piece, string_begins, plain_begins}
 use Rattle.kdl_lexer.proofs.Lexing.TokenFronts.{RefusedWith}
@@ -29,32 +28,32 @@ module _ {S : Type 0} (turn : Token → Option S) (derived : Text → Type 0) (b
     (too : (k j : Token) → RefusedWith k j → turn k ≡ None → turn j ≡ None)
     (dead : (f g : Text) → f ≢ [] → rest ≡ f ++ g → ((u s : Text) (j : Token) → BeginsToken (f ++ u) j s → turn j ≡ None) → BeginsNoOther derived (before ++ f))
     (goes : (u : Text) (k : Token) (d : S) → rest ≢ [] → BeginsToken (rest ++ u) k [] → turn k ≡ Some d → BeginsSome derived (before ++ rest)) where
-  dead_two : rest ≢ [] → ((u s : Text) (j : Token) → BeginsToken (take 2 rest ++ u) j s → turn j ≡ None) → Stops derived before rest
-  dead_two some h = let (q, e) = two_parts rest in two (dead (take 2 rest) q (two_some rest some) e h)
+  dead_two : rest ≢ [] → ((u s : Text) (j : Token) → BeginsToken (take 2 rest ++ u) j s → turn j ≡ None) → StopsAt derived before rest
+  dead_two some h = let (q, e) = two_parts rest in at_token (dead (take 2 rest) q (two_some rest some) e h)
 
-  dead_front : (f g : Text) → rest ≡ f ++ g → BeginsNoToken f → Stops derived before rest
-  dead_front f g e n = front f g e n (dead f g some e (λ u s j b. absurd (n u s j b)))
+  dead_front : (f g : Text) → rest ≡ f ++ g → BeginsNoToken f → StopsAt derived before rest
+  dead_front f g e n = at_front f g e n (dead f g some e (λ u s j b. absurd (n u s j b)))
     where
       some : f ≢ []
       some h = n (40 ∷ []) [] left (subst (λ (z : Text). BeginsToken (z ++ (40 ∷ [])) left []) (sym h) t_left)
 
-  on : rest ≢ [] → BeginsNone rest → (u : Text) {k : Token} → BeginsToken (rest ++ u) k [] → ((v s : Text) (j : Token) → BeginsToken (take 2 rest ++ v) j s → RefusedWith k j) → Stops derived before rest
+  on : rest ≢ [] → BeginsNone rest → (u : Text) {k : Token} → BeginsToken (rest ++ u) k [] → ((v s : Text) (j : Token) → BeginsToken (take 2 rest ++ v) j s → RefusedWith k j) → StopsAt derived before rest
   on some f u {k = k} b h = go (turn k) refl
     where
-      go : (o : Option S) → turn k ≡ o → Stops derived before rest
-      go (Some d) e = too_early f (goes u k d some b e)
+      go : (o : Option S) → turn k ≡ o → StopsAt derived before rest
+      go (Some d) e = too_short f (goes u k d some b e)
       go None e = dead_two some (λ v s j b'. too k j (h v s j b') e)
 
-  lone_slash : rest ≡ 47 ∷ [] → BeginsNone rest → Stops derived before rest
+  lone_slash : rest ≡ 47 ∷ [] → BeginsNone rest → StopsAt derived before rest
   lone_slash same f = go (turn space) (turn newline) (turn slashdash) refl refl refl
     where
       some : rest ≢ []
       some h = let x = sym same ∙ h in cc
 
-      reach : (u : Text) (k : Token) (d : S) → BeginsToken (47 ∷ u) k [] → turn k ≡ Some d → Stops derived before rest
-      reach u k d b e = too_early f (goes u k d some (subst (λ (z : Text). BeginsToken (z ++ u) k []) (sym same) b) e)
+      reach : (u : Text) (k : Token) (d : S) → BeginsToken (47 ∷ u) k [] → turn k ≡ Some d → StopsAt derived before rest
+      reach u k d b e = too_short f (goes u k d some (subst (λ (z : Text). BeginsToken (z ++ u) k []) (sym same) b) e)
 
-      go : (x y z : Option S) → turn space ≡ x → turn newline ≡ y → turn slashdash ≡ z → Stops derived before rest
+      go : (x y z : Option S) → turn space ≡ x → turn newline ≡ y → turn slashdash ≡ z → StopsAt derived before rest
       go (Some d) y z e g h = reach (42 ∷ 42 ∷ 47 ∷ []) space d (t_space (NodeSpace.ws (Ws.comment (block close)))) e
       go None (Some d) z e g h = reach (47 ∷ []) newline d (t_newline (Break.comment (line Line.ends))) g
       go None None (Some d) e g h = reach (45 ∷ []) slashdash d t_slashdash h
@@ -66,18 +65,17 @@ module _ {S : Type 0} (turn : Token → Option S) (derived : Text → Type 0) (b
           none j (inr (inr i)) = ap turn i ∙ h
 
   -- it stops there
-  pub stops_there : BeginsSome derived before → BeginsNone rest → Stops derived before rest
+  pub stops_there : BeginsSome derived before → BeginsNone rest → StopsAt derived before rest
   stops_there alive f = go rest refl
     where
-      go : (r : Text) → rest ≡ r → Stops derived before rest
-      go [] e = too_early f (subst (λ (z : Text). BeginsSome derived z) (sym (append-nil before) ∙ ap (λ (z : Text). before ++ z) (sym e)) alive)
+      go : (r : Text) → rest ≡ r → StopsAt derived before rest
+      go [] e = too_short f (subst (λ (z : Text). BeginsSome derived z) (sym (append-nil before) ∙ ap (λ (z : Text). before ++ z) (sym e)) alive)
       go (c ∷ s) e = by (begun rest some f)
         where
           some : rest ≢ []
           some h = let x = sym e ∙ h in cc
 
-          by : Begun rest → Stops derived before rest
+          by : Begun rest → StopsAt derived before rest
           by (stuck p g h n) = dead_front p g h n
           by (goes_on u b h) = on some f u b h
           by (slash h) = lone_slash h f
-          by (fronts.number h a) = number f h a

@@ -1,10 +1,8 @@
 -- Where the first fault of a refused text is: near the place where the text is refused. No fault is earlier, since some derived text begins with what is before that place.
 -- `derived` says which texts the grammar derives: documents, or texts of another kind.
-use Rattle.std.specs.Prelude.{◌≡◌, ℕ, true, ◌+◌, ◌≤◌, List, ◌∷◌, ◌++◌, take, Result, Ok, Err}
-use Rattle.std.specs.List.{list_all}
+use Rattle.std.specs.Prelude.{◌≡◌, ℕ, ◌+◌, ◌≤◌, List, ◌∷◌, ◌++◌, take, Result, Ok, Err}
 use Rattle.std.specs.Str.{chars}
-use Rattle.kdl_text.specs.Chars.{Text, is_identifier_char}
-use Rattle.kdl_text.specs.Numbers.{begins_number}
+use Rattle.kdl_text.specs.Chars.{Text}
 use Rattle.kdl_text.specs.Spans.{bytes}
 use Rattle.kdl_text.specs.declared.error.KdlDiagnostic.{KdlDiagnostic}
 use Rattle.kdl_text.specs.declared.error.KdlError.{KdlError}
@@ -34,18 +32,16 @@ pub data IsCut : Text → Text → Type 0 where
   up_to_here : {s : Text} → IsCut s s
   token : {s r t : Text} {k : Token} → BeginsToken s k r → IsCut r t → IsCut s t
 
--- why the text is refused at the rest, after what is before it
-pub data Stops (derived : Text → Type 0) (before rest : Text) : Type 0 where
-  -- it only ends too early: no token begins the rest, but some derived text begins with all of the text
-  too_early : BeginsNone rest → BeginsSome derived (before ++ rest) → Stops derived before rest
-  -- no derived text goes on with the first two characters of the rest
-  two : BeginsNoOther derived (before ++ take 2 rest) → Stops derived before rest
-  -- none goes on with a front of the rest, with which no token begins
-  front : (f g : Text) → rest ≡ f ++ g → BeginsNoToken f → BeginsNoOther derived (before ++ f) → Stops derived before rest
-  -- the rest is a word that begins as a number does, and is none
-  number : BeginsNone rest → begins_number rest ≡ true → list_all is_identifier_char rest ≡ true → Stops derived before rest
+-- why a text is refused at the rest, after what is before it
+pub data StopsAt (derived : Text → Type 0) (before rest : Text) : Type 0 where
+  -- the text is only too short: no token begins the rest, but some derived text begins with the whole text
+  too_short : BeginsNone rest → BeginsSome derived (before ++ rest) → StopsAt derived before rest
+  -- no derived text begins with what is before and the first two characters of the rest
+  at_token : BeginsNoOther derived (before ++ take 2 rest) → StopsAt derived before rest
+  -- no derived text begins with what is before and a front of the rest, with which no token begins
+  at_front : (f g : Text) → rest ≡ f ++ g → BeginsNoToken f → BeginsNoOther derived (before ++ f) → StopsAt derived before rest
 
--- the text is refused after n bytes: it is cut into tokens up to there, some derived text begins with these, and none goes on with what follows
+-- the text is refused after n bytes: it is cut into tokens up to there, some derived text begins with these, and there it stops
 pub record IsRefusedAt (derived : Text → Type 0) (t : Text) (n : ℕ) : Type 0 where
   pub before : Text
   pub rest : Text
@@ -53,7 +49,7 @@ pub record IsRefusedAt (derived : Text → Type 0) (t : Text) (n : ℕ) : Type 0
   pub place : bytes before ≡ n
   pub cut : IsCut t rest
   pub alive : BeginsSome derived before
-  pub stops : Stops derived before rest
+  pub stops : StopsAt derived before rest
 
 -- the span is near the place after n bytes, in a text of `end` bytes: it contains the place, its own end included; or it begins after the place and ends with the text, as that of an open comment; or the text ends too early, at the place
 pub data IsNear (span : SourceSpan) (n end : ℕ) : Type 0 where

@@ -6,7 +6,7 @@ use Rattle.kdl_text.specs.Chars.Star.{none as no_star, more}
 use Rattle.kdl_text.specs.Spans.{bytes}
 use Rattle.kdl_text.specs.Trivia.{NodeSpace}
 use Rattle.kdl_text.proofs.Looking.MovesJoin.{bytes-append}
-use Rattle.kdl_lexer.specs.Earliest.{BeginsNoOther, BeginsSome, IsCut, up_to_here, token, Stops, two, IsRefusedAt}
+use Rattle.kdl_lexer.specs.Earliest.{BeginsNoOther, BeginsSome, IsCut, up_to_here, token, StopsAt, at_token, IsRefusedAt}
 use Rattle.kdl_lexer.specs.Internal.Handed.{Cuts, one, spaces}
 use Rattle.kdl_lexer.specs.Tokens.{Token, space, BeginsToken, t_space, NoToken}
 use Rattle.kdl_lexer.proofs.Lexing.TokenUnique.{no_token}
@@ -84,6 +84,6 @@ refused_at t n c r g (p, e) m s = record { before = p; rest = r; text = e; place
     dead : (f q : Text) → f ≢ [] → r ≡ f ++ q → ((u v : Text) (j : Token) → BeginsToken (f ++ u) j v → turn c j ≡ None) → BeginsNoOther DerivedEntry (p ++ f)
     dead f q some i n = entry_dead_front p f q c some (subst (λ (z : Text). EntryReaches (p ++ z) c z) i h) n
 
-    stops : EntryStuck c r → Stops DerivedEntry p r
+    stops : EntryStuck c r → StopsAt DerivedEntry p r
     stops (inl x) = stops_there (turn c) DerivedEntry p r (refused_too c) dead (λ u k d some b i. goes_on p r u c d k h some b i) (entry_alive p r c h) x
-    stops (inr (k, v, b, f)) = two (entry_dead p r v c k h b f)
+    stops (inr (k, v, b, f)) = at_token (entry_dead p r v c k h b f)

@@ -7,7 +7,7 @@ use Rattle.kdl_text.specs.Internal.Here.{first}
 use Rattle.kdl_text.specs.Spans.{bytes}
 use Rattle.kdl_text.specs.Trivia.ValueEnd.{nothing}
 use Rattle.kdl_text.proofs.Looking.MovesJoin.{bytes-append}
-use Rattle.kdl_lexer.specs.Earliest.{BeginsNoOther, BeginsNone, BeginsSome, up_to_here, token, Stops, two, IsRefusedAt}
+use Rattle.kdl_lexer.specs.Earliest.{BeginsNoOther, BeginsNone, BeginsSome, up_to_here, token, StopsAt, at_token, IsRefusedAt}
 use Rattle.kdl_lexer.specs.Internal.Handed.{Cuts, one, spaces}
 use Rattle.kdl_lexer.specs.Tokens as tokens
 use Rattle.kdl_lexer.specs.Tokens.{Token, BeginsToken, t_space, t_string}
@@ -25,7 +25,7 @@ use Rattle.kdl_entry.proofs.Reading.EntryViable.{is_word}
 some_start : BeginsSome DerivedIdentifier []
 some_start = (97 ∷ [], (97 ∷ [], string (bare (bare_text refl is_word refl)) nothing))
 
-pub refused_start : (t : Text) (n : ℕ) → n ≡ 0 → Stops DerivedIdentifier [] t → IsRefusedAt DerivedIdentifier t n
+pub refused_start : (t : Text) (n : ℕ) → n ≡ 0 → StopsAt DerivedIdentifier [] t → IsRefusedAt DerivedIdentifier t n
 refused_start t n e s = record { before = []; rest = t; text = refl; place = sym e; cut = up_to_here; alive = some_start; stops = s }
 
 pub refused_empty : BeginsNone []
@@ -80,7 +80,7 @@ goes_on t u v tokens.semicolon b e = absurd cc
 goes_on t u v tokens.bom b e = absurd cc
 
 -- where no token begins
-pub refused_none : (t : Text) → BeginsNone t → Stops DerivedIdentifier [] t
+pub refused_none : (t : Text) → BeginsNone t → StopsAt DerivedIdentifier [] t
 refused_none t f = stops_there takes DerivedIdentifier [] t takes_too dead (λ u k d some b e. goes_on t u d k b e) some_start f
   where
     dead : (f g : Text) → f ≢ [] → t ≡ f ++ g → ((u s : Text) (j : Token) → BeginsToken (f ++ u) j s → takes j ≡ None) → BeginsNoOther DerivedIdentifier f
@@ -104,9 +104,9 @@ no_string tokens.bom v n x = cc
 dead_start : (t r : Text) (k : Token) → BeginsToken t k r → ((v : Text) → k ≡ tokens.string v → ⊥) → BeginsNoOther DerivedIdentifier (take 2 t)
 dead_start t r k b n u (v, string p e) = no_string k v n (refused_with t u b (t_string p))
 
-pub refused_other : (t r : Text) (k : Token) → Cuts t k r → ((v : Text) → k ≡ tokens.string v → ⊥) → Stops DerivedIdentifier [] t
-refused_other t r k (one b) n = two (dead_start t r k b n)
-refused_other t r k (spaces (plus {t = w} x m)) n = two (dead_start t w tokens.space (t_space x) (λ v e. cc))
+pub refused_other : (t r : Text) (k : Token) → Cuts t k r → ((v : Text) → k ≡ tokens.string v → ⊥) → StopsAt DerivedIdentifier [] t
+refused_other t r k (one b) n = at_token (dead_start t r k b n)
+refused_other t r k (spaces (plus {t = w} x m)) n = at_token (dead_start t w tokens.space (t_space x) (λ v e. cc))
 
 -- behind the string
 dead_behind : {t r v : Text} → StringPiece t r v → r ≢ [] → (p : Text) → t ≡ p ++ r → BeginsNoOther DerivedIdentifier (p ++ take 2 r)
@@ -131,5 +131,5 @@ refused_behind t r v n (one (t_string x)) some m =
       place = omega (arith, ap bytes h, bytes-append p r, m);
       cut = token (t_string x) up_to_here;
       alive = ([], (v, string (subst (λ (w : Text). StringPiece w [] v) (y.at.text []) (y.there [] refl refl)) nothing));
-      stops = two (dead_behind x some p h);
+      stops = at_token (dead_behind x some p h);
     }

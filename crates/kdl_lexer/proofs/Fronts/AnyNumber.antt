@@ -1,5 +1,5 @@
 -- A word that begins as a number does, at which no token begins.
-use Rattle.std.proofs.Common.{◌≡◌, ◌≢◌, ℕ, suc, ◌≤◌, ◌^◌, Bool, true, false, ◌&&◌, ◌||◌, ◌==◌, [], ◌∷◌, ◌++◌, length, Some, None, refl, sym, ap, subst, ◌∙◌, append_assoc, arith}
+use Rattle.std.proofs.Common.{◌≡◌, ℕ, ◌≤◌, ◌<◌, ◌^◌, Bool, true, false, ◌&&◌, ◌||◌, ◌==◌, [], ◌∷◌, ◌++◌, length, Option, Some, None, refl, sym, ap, subst, ◌∙◌, append_assoc, arith}
 use Rattle.std.proofs.Math.Seq.{take-append_seam}
 use Rattle.std.proofs.lemmas.Bool.{and_parts, eqb-true}
 use Rattle.std.proofs.lemmas.Bool.Decides.{nat_tests}
@@ -8,16 +8,19 @@ use Rattle.std.proofs.lemmas.List.Folds.{list_all-append}
 use Rattle.std.proofs.lemmas.Str.Parse.{digits_value-take-le}
 use Rattle.std.specs.List.{list_all}
 use Rattle.std.specs.Prelude.{if◌then◌else◌, nat_lt, nat_le}
+use Rattle.std.proofs.lemmas.Int.Digits.{digits_value-lt}
+use Rattle.std.specs.Char.{digit_value}
 use Rattle.std.specs.Str.Parse.{digits_value}
-use Rattle.kdl_text.specs.Chars.{Text, begins, starts, is_digit, is_sign, is_identifier_char}
-use Rattle.kdl_text.specs.Numbers.{is_digit_of, is_part, Sign, BasePrefix, base_of, base_prefix, Digits, Integer, integer, fits, WholeNumber, whole, Fraction, Exponent, is_exponent_letter, DecimalPart, part, Decimal, decimal, IsNumber, is_whole, is_decimal, NumberValue, begins_number, plain, signed}
+use borrow.Author.Tests.{ltb-true}
+use Rattle.kdl_text.specs.Chars.{Text, starts, is_digit, is_sign, is_identifier_char}
+use Rattle.kdl_text.specs.Numbers.{is_digit_of, is_part, Sign, BasePrefix, base_of, base_prefix, Digits, Integer, integer, fits, whole, Fraction, Exponent, is_exponent_letter, DecimalPart, part, Decimal, decimal, IsNumber, is_whole, is_decimal, NumberValue, begins_number}
 use Rattle.kdl_text.specs.Strings.{Run}
 use Rattle.kdl_text.proofs.Numeric.DecimalUnique.{fraction_det, base_is_ten, no_ten, part_of}
-use Rattle.kdl_text.proofs.Numeric.NumberUnique.{sign_det, integer_det, integer_digit, no_digit, whole_is, whole_digit}
+use Rattle.kdl_text.proofs.Numeric.NumberUnique.{sign_det, base_det, integer_det, integer_digit, no_digit, whole_is, whole_digit}
 use Rattle.kdl_value.specs.Data.{Value}
 use Rattle.kdl_lexer.specs.Earliest.{BeginsNone, BeginsNoToken}
 use Rattle.kdl_lexer.specs.Pieces.{PlainPiece, number, keyword}
-use Rattle.kdl_lexer.specs.Tokens.{Token, BeginsToken, t_value}
+use Rattle.kdl_lexer.specs.Tokens.{t_value}
 use Rattle.kdl_lexer.proofs.Lexing.FirstCharacters.{number_identifier}
 use Rattle.kdl_lexer.proofs.Lexing.StringUnique.{sign_identifier, keyword_front}
 use Rattle.kdl_lexer.proofs.Lexing.TokenFronts.{number_no_string}
@@ -135,6 +138,39 @@ digit_ten : (c : ℕ) → is_digit c ≡ true → is_digit_of 10 c ≡ true
 unfolding is_digit_of
 digit_ten c h = grind (arith, nat_tests)
 
+point_no_part : is_part 10 46 ≡ false
+unfolding is_digit_of
+point_no_part = refl
+
+-- an integer whose digits end the text, or end before what is none
+integer_end : (k : ℕ) (q : Text) (y : ℕ) (z : Text) → q ≡ y ∷ z → is_digit_of k y ≡ true → (x : Run (is_part k) z []) (r : Text) → starts (is_part k) r ≡ false → Integer k (q ++ r) r (y ∷ digits_in k x.run)
+integer_end k q y z e h x r n =
+    let i : Integer k (y ∷ (x.run ++ r)) r (y ∷ digits_in k x.run) = integer h (digits_run k x.run r x.all n) in
+    let text : y ∷ (x.run ++ r) ≡ q ++ r = ap (λ (v : Text). y ∷ (v ++ r)) (sym (x.text ∙ append-nil x.run)) ∙ ap (λ (v : Text). v ++ r) (sym e) in
+    subst (λ (v : Text). Integer k v r (y ∷ digits_in k x.run)) text i
+
+integer_there : (k : ℕ) (q : Text) (y : ℕ) (z : Text) {d : ℕ} {r : Text} → q ≡ y ∷ z → is_digit_of k y ≡ true → (x : Run (is_part k) z (d ∷ r)) (u : Text) → Integer k (q ++ u) (d ∷ (r ++ u)) (y ∷ digits_in k x.run)
+integer_there k q y z {d = d} {r = r} e h x u =
+    let i : Integer k (y ∷ (x.run ++ (d ∷ (r ++ u)))) (d ∷ (r ++ u)) (y ∷ digits_in k x.run) = integer h (digits_run k x.run (d ∷ (r ++ u)) x.all x.stops) in
+    let text : y ∷ (x.run ++ (d ∷ (r ++ u))) ≡ q ++ u = ap (λ (v : Text). y ∷ v) (sym (append_assoc x.run (d ∷ r) u) ∙ ap (λ (v : Text). v ++ u) (sym x.text)) ∙ ap (λ (v : Text). v ++ u) (sym e) in
+    subst (λ (v : Text). Integer k v (d ∷ (r ++ u)) (y ∷ digits_in k x.run)) text i
+
+-- where its digits do not fit, it does not fit with more of them
+over_fits : (n : Bool) (k y : ℕ) (q u : Text) {r w : Text} → 1 ≤ k → is_digit_of k 95 ≡ false → list_all (is_part k) q ≡ true → Integer k (y ∷ (q ++ u)) r w → fits n (digits_value k (y ∷ digits_in k q)) ≡ false → fits n (digits_value k w) ≡ true → ⊥
+over_fits n k y q u one no_line all (integer i d) h f =
+    let (m, e) = digits_more k q u no_line all d in
+    let g = ap (λ (v : Text). fits n (digits_value k (y ∷ v))) e in
+    let j = more_digits n k (y ∷ digits_in k q) m one h in
+    cc
+
+letter_exponent : {d : ℕ} {q r : Text} {b : Bool} → is_exponent_letter d ≡ true → Exponent (d ∷ q) r b → Exponent (d ∷ q) r true
+letter_exponent h (Exponent.none x) = absurd cc
+letter_exponent h (Exponent.exponent x g i) = Exponent.exponent x g i
+
+no_letter_exponent : {d : ℕ} {q r : Text} {b : Bool} → is_exponent_letter d ≡ false → Exponent (d ∷ q) r b → (r ≡ d ∷ q) × (b ≡ false)
+no_letter_exponent h (Exponent.none x) = (refl, refl)
+no_letter_exponent h (Exponent.exponent x g i) = absurd cc
+
 -- a word of two characters or more, and what its sign leaves of it
 module _ (a b : ℕ) (t s : Text) (n : Bool) (sign : (u : Text) → Sign (a ∷ b ∷ (t ++ u)) (s ++ u) n) (is : begins_number (a ∷ b ∷ t) ≡ true) (free : BeginsNone (a ∷ b ∷ t)) where
   on : (u : Text) {x : NumberValue} → IsNumber (a ∷ b ∷ (t ++ u)) [] x → Begun (a ∷ b ∷ t)
@@ -171,26 +207,17 @@ module _ (a b : ℕ) (t s : Text) (n : Bool) (sign : (u : Text) → Sign (a ∷ 
 
     power_run : (y : ℕ) (z : Text) → q ≡ y ∷ z → is_digit_of 10 y ≡ true → list_all is_identifier_char z ≡ true → (rest : Text) → Run (is_part 10) z rest → Begun (a ∷ b ∷ t)
     power_run y z e h all [] x =
-        let same : z ≡ x.run = x.text ∙ append-nil x.run in
-        let i : Integer 10 (y ∷ (x.run ++ [])) [] (y ∷ digits_in 10 x.run) = integer h (digits_run 10 x.run [] x.all refl) in
-        let text : y ∷ (x.run ++ []) ≡ q ++ [] = ap (λ (v : Text). y ∷ (v ++ [])) (sym same) ∙ ap (λ (v : Text). v ++ []) (sym e) in
-        let (v, j) = num [] (Exponent.exponent letter (sgn []) (subst (λ (v : Text). Integer 10 v [] (y ∷ digits_in 10 x.run)) text i)) in
+        let (v, j) = num [] (Exponent.exponent letter (sgn []) (integer_end 10 q y z e h x [] refl)) in
         done j
     power_run y z e h all (d ∷ r') x = none_there (λ u r v i. let (p, ends) = back u r v i in go u r p ends)
       where
         word : is_identifier_char d ≡ true
         word = (all_at is_identifier_char x.run d r' (ap (list_all is_identifier_char) (sym x.text) ∙ all)).0
 
-        there : (u : Text) → Integer 10 (q ++ u) (d ∷ (r' ++ u)) (y ∷ digits_in 10 x.run)
-        there u =
-            let i : Integer 10 (y ∷ (x.run ++ (d ∷ (r' ++ u)))) (d ∷ (r' ++ u)) (y ∷ digits_in 10 x.run) = integer h (digits_run 10 x.run (d ∷ (r' ++ u)) x.all x.stops) in
-            let text : y ∷ (x.run ++ (d ∷ (r' ++ u))) ≡ q ++ u = ap (λ (v : Text). y ∷ v) (sym (append_assoc x.run (d ∷ r') u) ∙ ap (λ (v : Text). v ++ u) (sym x.text)) ∙ ap (λ (v : Text). v ++ u) (sym e) in
-            subst (λ (v : Text). Integer 10 v (d ∷ (r' ++ u)) (y ∷ digits_in 10 x.run)) text i
-
         go : (u r : Text) → Exponent (c ∷ (w ++ u)) r true → starts is_identifier_char r ≡ false → ⊥
         go u r (Exponent.exponent {t = s'} {w = w'} k g i) ends =
             let j : Integer 10 (q ++ u) r w' = subst (λ (v : Text). Integer 10 v r w') (sym (sign_det (sgn u) g).0) i in
-            let f = ap (starts is_identifier_char) (integer_det ten_low_line (there u) j).0 in
+            let f = ap (starts is_identifier_char) (integer_det ten_low_line (integer_there 10 q y z e h x u) j).0 in
             let known = word in
             cc
 
@@ -232,3 +259,236 @@ module _ (a b : ℕ) (t s : Text) (n : Bool) (sign : (u : Text) → Sign (a ∷ 
             by false true i j = signed_by 45 true j (λ u. Sign.minus)
             by false false i j = power_digits c q q false letter (λ u. subst (λ (v : Text). Sign (v ++ u) (v ++ u) false) (sym e) (Sign.none (rw (i, j) refl))) num back q refl all
 
+  -- after the point of a fraction
+  module _ (q : Text) (all : list_all is_identifier_char q ≡ true)
+      (num : (u : Text) → DecimalPart (46 ∷ (q ++ u)) [] → (x : NumberValue) × IsNumber (a ∷ b ∷ (t ++ u)) [] x)
+      (back : (u r : Text) (x : NumberValue) → IsNumber (a ∷ b ∷ (t ++ u)) r x → DecimalPart (46 ∷ (q ++ u)) r) where
+    point_none : (y : ℕ) (z : Text) → q ≡ y ∷ z → is_digit_of 10 y ≡ false → Begun (a ∷ b ∷ t)
+    point_none y z e h = none_there (λ u r x i. go u (back u r x i))
+      where
+        go : (u : Text) {r : Text} → DecimalPart (46 ∷ (q ++ u)) r → ⊥
+        go u (part (Fraction.fraction i) f g k) =
+            let j = integer_digit i in
+            let l = ap (starts (is_digit_of 10)) (ap (λ (v : Text). v ++ u) (sym e)) in
+            cc
+        go u (part (Fraction.none i) f g k) = cc
+
+    point_run : (y : ℕ) (z : Text) → q ≡ y ∷ z → is_digit_of 10 y ≡ true → list_all is_identifier_char z ≡ true → (rest : Text) → Run (is_part 10) z rest → Begun (a ∷ b ∷ t)
+    point_run y z e h tail [] x =
+        let (v, j) = num [] (part (Fraction.fraction (integer_end 10 q y z e h x [] refl)) (Exponent.none refl) refl refl) in
+        done j
+    point_run y z e h tail (d ∷ r') x = by (is_exponent_letter d) refl
+      where
+        there : (u : Text) → Fraction (46 ∷ (q ++ u)) (d ∷ (r' ++ u)) true
+        there u = Fraction.fraction (integer_there 10 q y z e h x u)
+
+        after : (is_identifier_char d ≡ true) × (list_all is_identifier_char r' ≡ true)
+        after = all_at is_identifier_char x.run d r' (ap (list_all is_identifier_char) (sym x.text) ∙ tail)
+
+        rest_of : (u : Text) {r : Text} → DecimalPart (46 ∷ (q ++ u)) r → (o : Bool) × Exponent (d ∷ (r' ++ u)) r o × (starts is_identifier_char r ≡ false)
+        rest_of u {r = r} (part {power = o} f g i k) = (o, subst (λ (v : Text). Exponent v r o) (sym (fraction_det (there u) f).0) g, k)
+
+        by : (o : Bool) → is_exponent_letter d ≡ o → Begun (a ∷ b ∷ t)
+        by true i = power d r' i after.1 (λ u p. num u (part (there u) p refl refl)) (λ u r v j. let (o, p, ends) = rest_of u (back u r v j) in (letter_exponent i p, ends))
+        by false i = none_there (λ u r v j. let (o, p, ends) = rest_of u (back u r v j) in let (same, other) = no_letter_exponent i p in let f = ap (starts is_identifier_char) same in let g = after.0 in cc)
+
+    point : Begun (a ∷ b ∷ t)
+    point = go q refl
+      where
+        go : (z : Text) → q ≡ z → Begun (a ∷ b ∷ t)
+        go [] e =
+            let i : Integer 10 (q ++ (48 ∷ [])) [] (48 ∷ []) = subst (λ (v : Text). Integer 10 (v ++ (48 ∷ [])) [] (48 ∷ [])) (sym e) (integer zero_ten (Digits.stop refl)) in
+            let (v, j) = num (48 ∷ []) (part (Fraction.fraction i) (Exponent.none refl) refl refl) in
+            on (48 ∷ []) j
+        go (y ∷ z) e = by (is_digit_of 10 y) refl
+          where
+            tail : list_all is_identifier_char z ≡ true
+            tail = (and_parts (is_identifier_char y) (list_all is_identifier_char z) (ap (list_all is_identifier_char) (sym e) ∙ all)).1
+
+            by : (o : Bool) → is_digit_of 10 y ≡ o → Begun (a ∷ b ∷ t)
+            by true h = let x = longest (is_part 10) z in point_run y z e h tail x.rest x.run
+            by false h = point_none y z e h
+
+  -- digits without the prefix of a base
+  module _ (d : ℕ) (q : Text) (first : s ≡ d ∷ q) (digit : is_digit_of 10 d ≡ true) (all : list_all is_identifier_char q ≡ true)
+      (ten_end : BasePrefix (s ++ []) (s ++ []) 10) (ten : (z : ℕ) (r u : Text) → q ≡ z ∷ r → BasePrefix (s ++ u) (s ++ u) 10) where
+    ten_whole : Run (is_part 10) q [] → Begun (a ∷ b ∷ t)
+    ten_whole x = go (fits n (digits_value 10 (d ∷ digits_in 10 x.run))) refl
+      where
+        go : (o : Bool) → fits n (digits_value 10 (d ∷ digits_in 10 x.run)) ≡ o → Begun (a ∷ b ∷ t)
+        go true e = done (is_whole (whole (sign []) ten_end (integer_end 10 s d q first digit x [] refl) refl e refl))
+        go false e =
+            on (46 ∷ 48 ∷ [])
+            (is_decimal (decimal (a ∷ b ∷ (t ++ (46 ∷ 48 ∷ []))) (sign (46 ∷ 48 ∷ [])) (integer_end 10 s d q first digit x (46 ∷ 48 ∷ []) point_no_part)
+            (part (Fraction.fraction (integer zero_ten (Digits.stop refl))) (Exponent.none refl) refl refl) (sym (append-nil (a ∷ b ∷ (t ++ (46 ∷ 48 ∷ []))))) refl))
+
+    ten_more : (z : ℕ) (r' : Text) → Run (is_part 10) q (z ∷ r') → Begun (a ∷ b ∷ t)
+    ten_more z r' x = by (z == 46) (is_exponent_letter z) refl refl
+      where
+        there : (u : Text) → Integer 10 (s ++ u) (z ∷ (r' ++ u)) (d ∷ digits_in 10 x.run)
+        there u = integer_there 10 s d q first digit x u
+
+        after : (is_identifier_char z ≡ true) × (list_all is_identifier_char r' ≡ true)
+        after = all_at is_identifier_char x.run z r' (ap (list_all is_identifier_char) (sym x.text) ∙ all)
+
+        ten_here : (u : Text) → BasePrefix (s ++ u) (s ++ u) 10
+        ten_here u = go x.run x.text
+          where
+            go : (w : Text) → q ≡ w ++ (z ∷ r') → BasePrefix (s ++ u) (s ++ u) 10
+            go [] e = ten z r' u e
+            go (c ∷ w) e = ten c (w ++ (z ∷ r')) u e
+
+        num : (u : Text) → DecimalPart (z ∷ (r' ++ u)) [] → (v : NumberValue) × IsNumber (a ∷ b ∷ (t ++ u)) [] v
+        num u p = (_, is_decimal (decimal (a ∷ b ∷ (t ++ u)) (sign u) (there u) p (sym (append-nil (a ∷ b ∷ (t ++ u)))) refl))
+
+        back : (u r : Text) (v : NumberValue) → IsNumber (a ∷ b ∷ (t ++ u)) r v → DecimalPart (z ∷ (r' ++ u)) r
+        back u r v (is_whole w) =
+            let k = whole_is (a ∷ b ∷ (t ++ u)) (s ++ u) (s ++ u) (z ∷ (r' ++ u)) (d ∷ digits_in 10 x.run) r n 10 _ (sign u) (ten_here u) (there u) w in
+            let f = k.ends in
+            let g = after.0 in
+            absurd cc
+        back u r v (is_decimal w) = (part_of (a ∷ b ∷ (t ++ u)) (s ++ u) (s ++ u) (z ∷ (r' ++ u)) (d ∷ digits_in 10 x.run) r n 10 _ (sign u) (ten_here u) (there u) w).1
+
+        rest_of : (u : Text) {r : Text} → (z == 46) ≡ false → DecimalPart (z ∷ (r' ++ u)) r → Exponent (z ∷ (r' ++ u)) r true × (starts is_identifier_char r ≡ false)
+        rest_of u {r = r} h (part {point = p} {power = o} f g i k) =
+            let (same, other) = fraction_det (Fraction.none h) f in
+            let some : o ≡ true = (let m = ap (λ (v : Bool). v || o) other ∙ i in m) in
+            (subst (λ (v : Bool). Exponent (z ∷ (r' ++ u)) r v) some (subst (λ (v : Text). Exponent v r o) (sym same) g), k)
+
+        by : (o p : Bool) → (z == 46) ≡ o → is_exponent_letter z ≡ p → Begun (a ∷ b ∷ t)
+        by true p h i =
+            let same = eqb-true z 46 h in
+            point r' after.1 (λ u m. num u (subst (λ (v : ℕ). DecimalPart (v ∷ (r' ++ u)) []) (sym same) m)) (λ u r v m. subst (λ (w : ℕ). DecimalPart (w ∷ (r' ++ u)) r) same (back u r v m))
+        by false true h i = power z r' i after.1 (λ u p. num u (part (Fraction.none h) p refl refl)) (λ u r v j. rest_of u h (back u r v j))
+        by false false h i = none_there (λ u r v j. let (p, ends) = rest_of u h (back u r v j) in let (same, other) = no_letter_exponent i p in cc)
+
+    no_prefix : Begun (a ∷ b ∷ t)
+    no_prefix = let x = longest (is_part 10) q in go x.rest x.run
+      where
+        go : (rest : Text) → Run (is_part 10) q rest → Begun (a ∷ b ∷ t)
+        go [] x = ten_whole x
+        go (z ∷ r') x = ten_more z r' x
+
+  -- the prefix of a base
+  module _ (d c : ℕ) (q : Text) (k : ℕ) (first : s ≡ d ∷ c ∷ q) (pre : base_prefix (d ∷ c ∷ []) ≡ Some k) (all : list_all is_identifier_char q ≡ true) where
+    prefixed : (u : Text) → BasePrefix (s ++ u) (q ++ u) k
+    prefixed u = subst (λ (v : Text). BasePrefix (v ++ u) (q ++ u) k) (sym first) (BasePrefix.other pre)
+
+    no_decimal : (u r : Text) {w : Text} → Decimal (a ∷ b ∷ (t ++ u)) r w → ⊥
+    no_decimal u r (decimal {u = u'} {v = v'} p g i e f h) =
+        let i' = subst (λ (v : Text). Integer 10 v u' v') (sym (sign_det (sign u) g).0) i in
+        let (x, y) = base_is_ten i' e (prefixed u) in
+        no_ten d c [] (pre ∙ ap Some y)
+
+    based_none : (y : ℕ) (z : Text) → q ≡ y ∷ z → is_digit_of k y ≡ false → Begun (a ∷ b ∷ t)
+    based_none y z e h = none_there go
+      where
+        go : (u r : Text) (x : NumberValue) → IsNumber (a ∷ b ∷ (t ++ u)) r x → ⊥
+        go u r x (is_whole w) =
+            let f = whole_digit (a ∷ b ∷ (t ++ u)) (s ++ u) (q ++ u) r n k _ (sign u) (prefixed u) w in
+            let g = ap (starts (is_digit_of k)) (ap (λ (v : Text). v ++ u) (sym e)) in
+            cc
+        go u r x (is_decimal w) = no_decimal u r w
+
+    -- digits to the end that do not fit
+    too_great : (y : ℕ) (z : Text) → q ≡ y ∷ z → (x : Run (is_part k) z []) → fits n (digits_value k (y ∷ digits_in k x.run)) ≡ false → Begun (a ∷ b ∷ t)
+    too_great y z e x h = none_there go
+      where
+        no_line : is_digit_of k 95 ≡ false
+        no_line = no_digit (prefixed [])
+
+        go : (u r : Text) (v : NumberValue) → IsNumber (a ∷ b ∷ (t ++ u)) r v → ⊥
+        go u r v (is_whole (whole {u = u'} {w = w} {radix = j} g p i f l m)) =
+            let o = sign_det (sign u) g in
+            let i' = base_det (prefixed u) (subst (λ (v : Text). BasePrefix v u' j) (sym o.0) p) in
+            let i'' : Integer k (q ++ u) r w = subst (λ (v : Text). Integer k v r w) (sym i'.0) (subst (λ (v : ℕ). Integer v u' r w) (sym i'.1) i) in
+            let f' : fits n (digits_value k w) ≡ true = subst (λ (v : ℕ). fits n (digits_value v w) ≡ true) (sym i'.1) (subst (λ (v : Bool). fits v (digits_value j w) ≡ true) (sym o.1) l) in
+            let text : q ++ u ≡ y ∷ (x.run ++ u) = ap (λ (v : Text). v ++ u) (e ∙ ap (λ (v : Text). y ∷ v) (x.text ∙ append-nil x.run)) in
+            over_fits n k y x.run u (other_base d c k pre).some no_line x.all (subst (λ (v : Text). Integer k v r w) text i'') h f'
+        go u r v (is_decimal w) = no_decimal u r w
+
+    based_run : (y : ℕ) (z : Text) → q ≡ y ∷ z → is_digit_of k y ≡ true → list_all is_identifier_char z ≡ true → (rest : Text) → Run (is_part k) z rest → Begun (a ∷ b ∷ t)
+    based_run y z e h tail [] x = by (fits n (digits_value k (y ∷ digits_in k x.run))) refl
+      where
+        by : (o : Bool) → fits n (digits_value k (y ∷ digits_in k x.run)) ≡ o → Begun (a ∷ b ∷ t)
+        by true f = done (is_whole (whole (sign []) (prefixed []) (integer_end k q y z e h x [] refl) refl f refl))
+        by false f = too_great y z e x f
+    based_run y z e h tail (c' ∷ r') x = none_there go
+      where
+        word : is_identifier_char c' ≡ true
+        word = (all_at is_identifier_char x.run c' r' (ap (list_all is_identifier_char) (sym x.text) ∙ tail)).0
+
+        go : (u r : Text) (v : NumberValue) → IsNumber (a ∷ b ∷ (t ++ u)) r v → ⊥
+        go u r v (is_whole w) =
+            let f = (whole_is (a ∷ b ∷ (t ++ u)) (s ++ u) (q ++ u) (c' ∷ (r' ++ u)) (y ∷ digits_in k x.run) r n k _ (sign u) (prefixed u) (integer_there k q y z e h x u) w).ends in
+            let g = word in
+            cc
+        go u r v (is_decimal w) = no_decimal u r w
+
+    based : Begun (a ∷ b ∷ t)
+    based = go q refl
+      where
+        go : (z : Text) → q ≡ z → Begun (a ∷ b ∷ t)
+        go [] e =
+            let o = other_base d c k pre in
+            let i : Integer k (q ++ (48 ∷ [])) [] (48 ∷ []) = subst (λ (v : Text). Integer k (v ++ (48 ∷ [])) [] (48 ∷ [])) (sym e) (integer o.zero (Digits.stop refl)) in
+            on (48 ∷ []) (is_whole (whole (sign (48 ∷ [])) (prefixed (48 ∷ [])) i refl (o.empty n) refl))
+        go (y ∷ z) e = by (is_digit_of k y) refl
+          where
+            tail : list_all is_identifier_char z ≡ true
+            tail = (and_parts (is_identifier_char y) (list_all is_identifier_char z) (ap (list_all is_identifier_char) (sym e) ∙ all)).1
+
+            by : (o : Bool) → is_digit_of k y ≡ o → Begun (a ∷ b ∷ t)
+            by true h = let x = longest (is_part k) z in based_run y z e h tail x.rest x.run
+            by false h = based_none y z e h
+
+  -- a digit and what follows it
+  unsigned : (d : ℕ) (q : Text) → s ≡ d ∷ q → is_digit d ≡ true → list_all is_identifier_char q ≡ true → Begun (a ∷ b ∷ t)
+  unsigned d [] e h all = no_prefix d [] e (digit_ten d h) all (subst (λ (v : Text). BasePrefix (v ++ []) (v ++ []) 10) (sym e) (BasePrefix.ten refl)) (λ z r u g. absurd cc)
+  unsigned d (c ∷ q) e h all = go (base_prefix (d ∷ c ∷ [])) refl
+    where
+      go : (o : Option ℕ) → base_prefix (d ∷ c ∷ []) ≡ o → Begun (a ∷ b ∷ t)
+      go (Some k) f = based d c q k e f (and_parts (is_identifier_char c) (list_all is_identifier_char q) all).1
+      go None f =
+          let ten : (u : Text) → BasePrefix (s ++ u) (s ++ u) 10 = λ u. subst (λ (v : Text). BasePrefix (v ++ u) (v ++ u) 10) (sym e) (BasePrefix.ten f) in
+          no_prefix d (c ∷ q) e (digit_ten d h) all (ten []) (λ z r u g. ten u)
+
+small : (x m : ℕ) → x < 10 → 10 ≤ m → nat_lt x m ≡ true
+small x m h k = grind (arith, nat_tests)
+
+digit_fits : (c : ℕ) → is_digit c ≡ true → fits false (digits_value 10 (c ∷ [])) ≡ true
+unfolding is_digit_of
+digit_fits c h = small (digits_value 10 (c ∷ [])) (2 ^ 127) (digits_value-lt 10 (c ∷ []) (ltb-true (digit_value c) 10 (digit_ten c h), tt)) (omega arith)
+
+digit_no_sign : (c : ℕ) → is_digit c ≡ true → is_sign c ≡ false
+digit_no_sign c h = grind (arith, nat_tests)
+
+-- a word that begins as a number does
+pub any_number : (r : Text) → begins_number r ≡ true → list_all is_identifier_char r ≡ true → BeginsNone r → Begun r
+any_number [] is all f = cc
+any_number (a ∷ []) is all f = go (is_digit a) refl is
+  where
+    go : (o : Bool) → is_digit a ≡ o → (o || (is_sign a && false)) ≡ true → Begun (a ∷ [])
+    go true e h =
+        absurd (f [] _ (t_value (number (is_whole (whole (Sign.none (digit_no_sign a e)) (BasePrefix.ten refl) (integer (digit_ten a e) (Digits.stop refl)) refl (digit_fits a e) refl)) refl)))
+    go false e h = by (is_sign a) h
+      where
+        by : (o : Bool) → (o && false) ≡ true → Begun (a ∷ [])
+        by true h = cc
+        by false h = cc
+any_number (a ∷ b ∷ t) is all f = go (is_digit a) refl is
+  where
+    tail : list_all is_identifier_char (b ∷ t) ≡ true
+    tail = (and_parts (is_identifier_char a) (list_all is_identifier_char (b ∷ t)) all).1
+
+    signed_by : (d : ℕ) (m : Bool) → (a == d) ≡ true → ((u : Text) → Sign (d ∷ u) u m) → is_digit b ≡ true → Begun (a ∷ b ∷ t)
+    signed_by d m e g h = unsigned a b t (b ∷ t) m (λ u. subst (λ (z : ℕ). Sign (z ∷ b ∷ (t ++ u)) (b ∷ (t ++ u)) m) (sym (eqb-true a d e)) (g (b ∷ (t ++ u)))) is f b t refl h (and_parts (is_identifier_char b) (list_all is_identifier_char t) tail).1
+
+    go : (o : Bool) → is_digit a ≡ o → (o || (is_sign a && is_digit b)) ≡ true → Begun (a ∷ b ∷ t)
+    go true e h = unsigned a b t (a ∷ b ∷ t) false (λ u. Sign.none (digit_no_sign a e)) is f a (b ∷ t) refl e tail
+    go false e h = by (a == 43) (a == 45) refl refl (and_parts (is_sign a) (is_digit b) h)
+      where
+        by : (x y : Bool) → (a == 43) ≡ x → (a == 45) ≡ y → (is_sign a ≡ true) × (is_digit b ≡ true) → Begun (a ∷ b ∷ t)
+        by true y i j (k, l) = signed_by 43 false i (λ u. Sign.plus) l
+        by false true i j (k, l) = signed_by 45 true j (λ u. Sign.minus) l
+        by false false i j (k, l) = absurd cc

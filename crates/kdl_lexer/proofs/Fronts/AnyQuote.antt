@@ -13,7 +13,7 @@ use Rattle.kdl_text.proofs.Quoted.UnitUnique.{unit_shorter}
 use Rattle.kdl_text.proofs.Spacing.NewlineUnique.{newline_there, newline_det, newline_shorter}
 use Rattle.kdl_lexer.specs.Earliest.{BeginsNone, BeginsNoToken}
 use Rattle.kdl_lexer.specs.Pieces.{quoted}
-use Rattle.kdl_lexer.specs.Tokens.{Token, string, BeginsToken, t_string}
+use Rattle.kdl_lexer.specs.Tokens.{string, BeginsToken, t_string}
 use Rattle.kdl_lexer.proofs.Lexing.TokenUnique.{no_piece}
 use Rattle.kdl_lexer.proofs.Moving.StringMoves.{move_unit, move_newline, move_content}
 use Rattle.kdl_lexer.proofs.Fronts.AnyUnit.{Calm, AnUnit, one, cut_off as unit_cut_off, no_unit, a_unit}

@@ -1,5 +1,5 @@
 -- Number signs and a quote at which no token begins.
-use Rattle.std.proofs.Common.{◌≡◌, ℕ, zero, suc, ◌≤◌, ◌<◌, Bool, true, false, not, ◌&&◌, ◌||◌, ◌==◌, List, [], ◌∷◌, ◌++◌, length, refl, sym, ap, subst, ◌∙◌, append_assoc, arith}
+use Rattle.std.proofs.Common.{◌≡◌, ℕ, zero, suc, ◌≤◌, Bool, true, false, not, ◌&&◌, ◌==◌, List, [], ◌∷◌, ◌++◌, length, refl, sym, ap, subst, ◌∙◌, append_assoc, arith}
 use Rattle.std.proofs.Math.Bool.{and-false}
 use Rattle.std.proofs.lemmas.Bool.{and_parts, eqb-true}
 use Rattle.std.proofs.lemmas.Bool.Decides.{nat_tests}
@@ -7,7 +7,7 @@ use Rattle.std.proofs.lemmas.List.{append-nil, append_cancel_right}
 use Rattle.std.specs.List.{list_all}
 use Rattle.kdl_text.specs.Chars.{Text, Newline, one, begins_two, begins_with, times, is_raw, is_newline_char, is_banned}
 use Rattle.kdl_text.specs.Dedent.{Dedents}
-use Rattle.kdl_text.specs.Raw.{closing, literals, is_single, RawUnit, char, line, RawUnits, none, more, RawContent, content, RawString, MultiLineRawBody, lines, MultiLineRawString, IsRaw, on_one_line, on_many_lines}
+use Rattle.kdl_text.specs.Raw.{closing, literals, is_single, RawUnit, char, line, RawUnits, none, more, RawContent, content, MultiLineRawBody, lines, IsRaw, on_one_line, on_many_lines}
 use Rattle.kdl_text.specs.declared.strings.dedent.LineUnit.{LineUnit}
 use Rattle.kdl_text.specs.declared.strings.dedent.LineUnit.TheVariants.{Literal, LineEnd}
 use Rattle.kdl_text.proofs.Numeric.DecimalUnique.{number_begins}
@@ -20,7 +20,7 @@ use Rattle.kdl_text.proofs.RawStrings.RawUnique.{goes_raw, raw_det}
 use Rattle.kdl_text.proofs.Spacing.NewlineUnique.{newline_there, newline_det, newline_shorter}
 use Rattle.kdl_text.proofs.Spacing.SpaceUnique.{newline_begins}
 use Rattle.kdl_value.specs.Data.{Value}
-use Rattle.kdl_lexer.specs.Earliest.{BeginsNone, BeginsNoToken}
+use Rattle.kdl_lexer.specs.Earliest.{BeginsNone}
 use Rattle.kdl_lexer.specs.Pieces.{StringPiece, bare, quoted, raw, PlainPiece, number, keyword}
 use Rattle.kdl_lexer.specs.Tokens.{Token, string, BeginsToken, t_string}
 use Rattle.kdl_lexer.proofs.Lexing.StringUnique.{sign_identifier, quote_sign, raw_second}

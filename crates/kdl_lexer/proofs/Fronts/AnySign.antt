@@ -4,8 +4,8 @@ use Rattle.std.proofs.lemmas.Bool.{and_parts, eqb-true}
 use Rattle.std.proofs.lemmas.Bool.Decides.{Decides-eqb}
 use Rattle.std.proofs.lemmas.List.{append-nil}
 use Rattle.std.specs.List.{list_all}
-use Rattle.kdl_text.specs.Chars.{Text, starts, is_identifier_char}
-use Rattle.kdl_text.specs.Numbers.{IsKeyword, keyword as a_keyword}
+use Rattle.kdl_text.specs.Chars.{Text, is_identifier_char}
+use Rattle.kdl_text.specs.Numbers.{keyword as a_keyword}
 use Rattle.kdl_text.specs.Strings.{Run}
 use Rattle.kdl_text.specs.declared.numbers.Keyword.{Keyword}
 use Rattle.kdl_text.specs.declared.numbers.Keyword.TheVariants.{True, False, Null, Infinity, NegativeInfinity, NotANumber}
@@ -14,7 +14,7 @@ use Rattle.kdl_text.proofs.Numeric.KeywordUnique.{word}
 use Rattle.kdl_value.specs.Data.{Value}
 use Rattle.kdl_lexer.specs.Earliest.{BeginsNone, BeginsNoToken}
 use Rattle.kdl_lexer.specs.Pieces.{PlainPiece, number, keyword}
-use Rattle.kdl_lexer.specs.Tokens.{Token, BeginsToken}
+use Rattle.kdl_lexer.specs.Tokens.{BeginsToken}
 use Rattle.kdl_lexer.proofs.Lexing.TokenFronts.{keyword_no_string}
 use Rattle.kdl_lexer.proofs.Lexing.TokenUnique.{no_piece}
 use Rattle.kdl_lexer.proofs.Fronts.Begun.{Begun, stuck, two_on, longest, first_begins}

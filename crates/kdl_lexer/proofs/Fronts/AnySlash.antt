@@ -10,7 +10,7 @@ use Rattle.kdl_lexer.specs.Earliest.{BeginsNone}
 use Rattle.kdl_lexer.specs.Tokens.{space, newline, slashdash, BeginsToken, t_space, t_newline, t_slashdash}
 use Rattle.kdl_lexer.proofs.Lexing.TokenFronts.{slash_front}
 use Rattle.kdl_lexer.proofs.Moving.FarMoves.{any_run}
-use Rattle.kdl_lexer.proofs.Fronts.Begun.{Begun, stuck, goes_on, slash, two_on, one_on}
+use Rattle.kdl_lexer.proofs.Fronts.Begun.{Begun, stuck, slash, two_on, one_on}
 use Rattle.kdl_lexer.proofs.Fronts.Esclines.{EndsNone, other, slash as slash_other, escline_front}
 use Rattle.kdl_lexer.proofs.Fronts.OpenPieces.{Closing, closed, goes_on as still_open, closing, open_comment}
 

@@ -1,19 +1,18 @@
 -- Texts at which no token begins, by their first character.
-use Rattle.std.proofs.Common.{◌≡◌, ◌≢◌, ℕ, zero, suc, Bool, true, false, ◌&&◌, ◌||◌, ◌==◌, [], ◌∷◌, ◌++◌, refl, sym, ap, subst, ◌∙◌, append_assoc, arith}
+use Rattle.std.proofs.Common.{◌≡◌, ◌≢◌, ℕ, zero, suc, Bool, true, false, ◌&&◌, ◌==◌, [], ◌∷◌, ◌++◌, refl, sym, ap, subst, ◌∙◌, append_assoc, arith}
 use Rattle.std.proofs.lemmas.Bool.{eqb-true}
 use Rattle.std.proofs.lemmas.List.{append-nil}
 use Rattle.std.specs.List.{list_all}
 use Rattle.kdl_text.specs.Chars.{Text, starts, times, is_identifier_char, is_number_sign, is_space, is_newline_char, space as a_space}
-use Rattle.kdl_text.specs.Raw.{closing, content, none, is_single, RawString, IsRaw}
+use Rattle.kdl_text.specs.Raw.{content, none, IsRaw}
 use Rattle.kdl_text.specs.Strings.{Run}
 use Rattle.kdl_text.specs.Trivia.{Ws, NodeSpace, Break}
 use Rattle.kdl_text.proofs.Spacing.NewlineUnique.{newline_there}
 use Rattle.kdl_lexer.specs.Earliest.{BeginsNone}
 use Rattle.kdl_lexer.specs.Pieces.{raw}
-use Rattle.kdl_lexer.specs.Tokens.{Token, space, newline, left, right, opening, closing as closing_brace, equals, semicolon, bom, BeginsToken, t_space, t_newline, t_string, t_left, t_right, t_opening, t_closing, t_equals, t_semicolon, t_bom}
+use Rattle.kdl_lexer.specs.Tokens.{Token, space, newline, BeginsToken, t_space, t_newline, t_string, t_left, t_right, t_opening, t_closing, t_equals, t_semicolon, t_bom}
 use Rattle.kdl_lexer.proofs.Lexing.StringUnique.{begins_piece}
 use Rattle.kdl_lexer.proofs.Lexing.TokenFronts.{alien_front}
-use Rattle.kdl_lexer.proofs.Lexing.TokenUnique.{Alien}
 use Rattle.kdl_lexer.proofs.Fronts.AnyQuote.{any_quote}
 use Rattle.kdl_lexer.proofs.Fronts.AnyRaw.{any_raw}
 use Rattle.kdl_lexer.proofs.Fronts.AnySign.{any_keyword}

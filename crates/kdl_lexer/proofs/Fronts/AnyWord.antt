@@ -1,13 +1,13 @@
 -- A word at which no token begins.
 use Rattle.std.proofs.Common.{◌≡◌, ℕ, Bool, true, false, not, ◌&&◌, ◌||◌, ◌==◌, [], ◌∷◌, ◌++◌, refl, sym, ap, subst, ◌∙◌, append_assoc}
-use Rattle.std.proofs.lemmas.Bool.{and_parts, eqb-true}
+use Rattle.std.proofs.lemmas.Bool.{eqb-true}
 use Rattle.std.proofs.lemmas.List.{append-nil}
 use Rattle.std.proofs.lemmas.Slice.Eq.{bytes_eq-Decides}
 use Rattle.std.specs.List.{list_all}
 use Rattle.std.specs.Prelude.{if◌then◌else◌, codes}
 use Rattle.std.specs.Str.{bytes_eq}
 use Rattle.kdl_text.specs.Bare.{bare as bare_text, is_bare, bare_form, is_excluded, after_sign, after_point}
-use Rattle.kdl_text.specs.Chars.{Text, starts, is_digit, is_sign, is_identifier_char}
+use Rattle.kdl_text.specs.Chars.{Text, is_digit, is_sign, is_identifier_char}
 use Rattle.kdl_text.specs.Numbers.{begins_number}
 use Rattle.kdl_text.specs.Strings.{Run}
 use Rattle.kdl_text.specs.declared.numbers.Keyword.{Keyword}
@@ -15,8 +15,9 @@ use Rattle.kdl_text.specs.declared.numbers.Keyword.TheVariants.{True, False, Nul
 use Rattle.kdl_text.proofs.Numeric.KeywordUnique.{word}
 use Rattle.kdl_lexer.specs.Earliest.{BeginsNone}
 use Rattle.kdl_lexer.specs.Pieces.{bare}
-use Rattle.kdl_lexer.specs.Tokens.{Token, string, BeginsToken, t_string}
-use Rattle.kdl_lexer.proofs.Fronts.Begun.{Begun, stuck, number, two_on, longest}
+use Rattle.kdl_lexer.specs.Tokens.{string, BeginsToken, t_string}
+use Rattle.kdl_lexer.proofs.Fronts.AnyNumber.{any_number}
+use Rattle.kdl_lexer.proofs.Fronts.Begun.{Begun, stuck, two_on, longest}
 use Rattle.kdl_lexer.proofs.Fronts.WordEnds.{point_front, signed_point_front, open_word}
 use Rattle.kdl_lexer.proofs.Fronts.Words.{word_front}
 
@@ -52,9 +53,9 @@ signed_point : (a : ℕ) (s : Text) → is_sign a ≡ true → after_point s ≡
 signed_point a [] e h = absurd cc
 signed_point a (d ∷ s) e h = stuck (a ∷ 46 ∷ d ∷ []) s refl (signed_point_front a d e (not_false (is_digit d) h))
 
-signed : (a : ℕ) (s : Text) → is_sign a ≡ true → list_all is_identifier_char (a ∷ s) ≡ true → after_sign s ≡ false → Begun (a ∷ s)
-signed a [] e all h = absurd cc
-signed a (c ∷ s) e all h = go (c == 46) refl h
+signed : (a : ℕ) (s : Text) → is_sign a ≡ true → list_all is_identifier_char (a ∷ s) ≡ true → BeginsNone (a ∷ s) → after_sign s ≡ false → Begun (a ∷ s)
+signed a [] e all none h = absurd cc
+signed a (c ∷ s) e all none h = go (c == 46) refl h
   where
     is_number : is_digit c ≡ true → begins_number (a ∷ c ∷ s) ≡ true
     is_number f = (let x = or_true (is_digit a) in rw (e, f) x)
@@ -65,7 +66,7 @@ signed a (c ∷ s) e all h = go (c == 46) refl h
 
     go : (b : Bool) → (c == 46) ≡ b → (if b then after_point s else not (is_digit c)) ≡ false → Begun (a ∷ c ∷ s)
     go true f h = subst (λ (z : ℕ). Begun (a ∷ z ∷ s)) (sym (eqb-true c 46 f)) (signed_point a s e h)
-    go false f h = number (is_number (not_false (is_digit c) h)) all
+    go false f h = any_number (a ∷ c ∷ s) (is_number (not_false (is_digit c) h)) all none
 
 pointed : (s : Text) → after_point s ≡ false → Begun (46 ∷ s)
 pointed [] h = absurd cc
@@ -77,13 +78,13 @@ is_bare_word w h k = rw (h, k) refl
 
 -- a word that is all of the text
 module _ (a : ℕ) (s : Text) (all : list_all is_identifier_char (a ∷ s) ≡ true) where
-  of_form : bare_form (a ∷ s) ≡ false → Begun (a ∷ s)
-  of_form h = go (is_sign a) (a == 46) (is_digit a) refl refl refl h
+  of_form : BeginsNone (a ∷ s) → bare_form (a ∷ s) ≡ false → Begun (a ∷ s)
+  of_form none h = go (is_sign a) (a == 46) (is_digit a) refl refl refl h
     where
       go : (x y z : Bool) → is_sign a ≡ x → (a == 46) ≡ y → is_digit a ≡ z → (if x then after_sign s else if y then after_point s else not z && not (is_excluded (a ∷ s))) ≡ false → Begun (a ∷ s)
-      go true y z e f g h = signed a s e all h
+      go true y z e f g h = signed a s e all none h
       go false true z e f g h = subst (λ (z : ℕ). Begun (z ∷ s)) (sym (eqb-true a 46 f)) (pointed s h)
-      go false false true e f g h = number (rw g refl) all
+      go false false true e f g h = any_number (a ∷ s) (rw g refl) all none
       go false false false e f g h = an_excluded (a ∷ s) (not_false (is_excluded (a ∷ s)) h)
 
   whole_word : BeginsNone (a ∷ s) → Begun (a ∷ s)
@@ -91,7 +92,7 @@ module _ (a : ℕ) (s : Text) (all : list_all is_identifier_char (a ∷ s) ≡ t
     where
       go : (b : Bool) → bare_form (a ∷ s) ≡ b → Begun (a ∷ s)
       go true e = absurd (none [] (string (a ∷ s)) (t_string (bare (bare_text (sym (append-nil (a ∷ s))) (is_bare_word (a ∷ s) all e) refl))))
-      go false e = of_form e
+      go false e = of_form none e
 
 -- a word
 pub any_word : (a : ℕ) (s : Text) → is_identifier_char a ≡ true → BeginsNone (a ∷ s) → Begun (a ∷ s)

@@ -1,20 +1,18 @@
 -- A text at which no token begins: none begins with some front of it, or the text goes on to a token.
-use Rattle.std.proofs.Common.{◌≡◌, ℕ, Bool, true, false, ◌==◌, [], ◌∷◌, ◌++◌, take, refl, sym, ap, ◌∙◌}
+use Rattle.std.proofs.Common.{◌≡◌, ℕ, Bool, true, false, ◌==◌, [], ◌∷◌, ◌++◌, take, refl, ap, ◌∙◌}
 use Rattle.std.proofs.lemmas.Bool.{and_parts}
 use Rattle.std.specs.List.{list_all}
-use Rattle.kdl_text.specs.Chars.{Text, starts, is_identifier_char}
-use Rattle.kdl_text.specs.Numbers.{begins_number}
+use Rattle.kdl_text.specs.Chars.{Text, starts}
 use Rattle.kdl_text.specs.Strings.{Run}
 use Rattle.kdl_lexer.specs.Earliest.{BeginsNoToken}
 use Rattle.kdl_lexer.specs.Tokens.{Token, BeginsToken}
 use Rattle.kdl_lexer.proofs.Lexing.TokenFronts.{RefusedWith, Fills, refused_with, refused_first}
 
--- a front f with which no token begins; what goes on to a token, with which each token is refused that begins with the same two characters; a lone slash, which goes on to three; a word that begins as a number does
+-- a front f with which no token begins; what goes on to a token, with which each token is refused that begins with the same two characters; a lone slash, which goes on to three
 pub data Begun (r : Text) : Type 0 where
   stuck : (f g : Text) → r ≡ f ++ g → BeginsNoToken f → Begun r
   goes_on : (u : Text) {k : Token} → BeginsToken (r ++ u) k [] → ((v s : Text) (j : Token) → BeginsToken (take 2 r ++ v) j s → RefusedWith k j) → Begun r
   slash : r ≡ 47 ∷ [] → Begun r
-  number : begins_number r ≡ true → list_all is_identifier_char r ≡ true → Begun r
 
 -- what goes on from two characters or more
 pub two_on : (c d : ℕ) (r u : Text) {k : Token} → BeginsToken (c ∷ d ∷ (r ++ u)) k [] → Begun (c ∷ d ∷ r)

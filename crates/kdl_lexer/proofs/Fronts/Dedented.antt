@@ -1,7 +1,7 @@
 -- Lines before a line that is empty have a value: their prefix is empty.
 use Rattle.std.proofs.Common.{◌≡◌, Bool, true, false, List, [], ◌∷◌, ◌++◌, refl, sym, ap, ◌∙◌}
 use Rattle.kdl_text.specs.Chars.{Text}
-use Rattle.kdl_text.specs.Dedent.{is_blank_line, line_text, onto_first, onto_lines, lines_of, LineValue, blank, dedented, LineValues, joined, Dedents}
+use Rattle.kdl_text.specs.Dedent.{is_blank_line, line_text, onto_first, onto_lines, lines_of, LineValue, LineValues, joined, Dedents}
 use Rattle.kdl_text.specs.declared.strings.dedent.LineUnit.{LineUnit}
 use Rattle.kdl_text.specs.declared.strings.dedent.LineUnit.TheVariants.{Literal, Escape, LineEnd}
 

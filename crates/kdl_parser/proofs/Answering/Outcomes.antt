@@ -24,8 +24,7 @@ use Rattle.kdl_grammar.specs.Laid.{LaidDocument, with_bom}
 use Rattle.kdl_grammar.specs.Internal.Machine.{step, initial, Runs, reads, AnswersDocument}
 use Rattle.kdl_grammar.specs.Print.{print_document}
 use Rattle.kdl_grammar.specs.Tree.{Node, Document, document_data}
-use Rattle.kdl_lexer.specs.Earliest as earliest
-use Rattle.kdl_lexer.specs.Earliest.{IsCut, up_to_here, token, IsRefusedAt}
+use Rattle.kdl_lexer.specs.Earliest.{IsCut, up_to_here, token, StopsAt, at_token, IsRefusedAt}
 use Rattle.kdl_parser.specs.Internal.Answered.{AnswersParts}
 use Rattle.kdl_parser.specs.Internal.Building.{EndsIn}
 use Rattle.kdl_parser.specs.Internal.Parts.{document_by}
@@ -65,9 +64,9 @@ refused_at t n {c = c} {r = r} g (p, e) m s = record { before = p; rest = r; tex
     gone : (f q : Text) → f ≢ [] → r ≡ f ++ q → ((u v : Text) (j : Token) → BeginsToken (f ++ u) j v → step_control c j ≡ None) → Dead (p ++ f)
     gone f q some i n = dead_at_front p f q c some (subst (λ (z : Text). Reaches (p ++ z) c z) i h) n
 
-    stops : Stuck c r → earliest.Stops Derived p r
+    stops : Stuck c r → StopsAt Derived p r
     stops (inl x) = stops_there (step_control c) Derived p r (refused_too c) gone (λ u k d some b i. alive_in_token p r u c d k some h b i) (alive p r c h) x
-    stops (inr (k, v, b, f)) = earliest.two (dead_at_token p r v c k h b f)
+    stops (inr (k, v, b, f)) = at_token (dead_at_token p r v c k h b f)
 
 -- a text that does not begin with U+FEFF
 not_begins : (t : Text) → begins 0xFEFF t ≡ false → (u : Text) → t ≡ 0xFEFF ∷ u → ⊥
