@@ -41,7 +41,7 @@ pub data StopsAt (derived : Text → Type 0) (before rest : Text) : Type 0 where
   -- no derived text begins with what is before and a front of the rest, with which no token begins
   at_front : (f g : Text) → rest ≡ f ++ g → BeginsNoToken f → BeginsNoOther derived (before ++ f) → StopsAt derived before rest
 
--- the text is refused after n bytes: it is cut into tokens up to there, some derived text begins with these, and there it stops
+-- the text is refused after n bytes: it is cut into tokens up to there, some derived text begins with these, and none goes on with what follows, unless the text is only too short
 pub record IsRefusedAt (derived : Text → Type 0) (t : Text) (n : ℕ) : Type 0 where
   pub before : Text
   pub rest : Text
