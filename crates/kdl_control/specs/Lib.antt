@@ -1,6 +1,6 @@
 -- The control grammar: which tokens may come.
 pub mod Control
--- The control of an entry text.
+-- The control of an entry text: which token may come where.
 pub mod EntryControl
 -- The control of a node text.
 pub mod NodeControl

@@ -1,39 +1,24 @@
 //! Which token may come where in the text of one entry.
 
 ghost use Rattle.kdl_control.specs.EntryControl as spec;
-ghost use Rattle.kdl_control.specs.EntryControl.{entry_step};
-ghost use Rattle.kdl_control.specs.Internal.EntryViews.{entry_view, role_view};
-ghost use Rattle.kdl_control.specs.Internal.Views.{word_view};
+ghost use Rattle.kdl_control.specs.EntryControl.{dropped_turn, entry_step};
+ghost use Rattle.kdl_control.specs.Internal.EntryViews.{entry_view};
+ghost use Rattle.kdl_control.specs.Internal.Views.{phase_view};
 ghost use Rattle.kdl_lexer.specs.Internal.Handed.{kind_view};
-ghost use Rattle.std.specs.Prelude.{◌≡◌, false, option_map, true};
+ghost use Rattle.std.specs.Prelude.{◌≡◌, option_map};
 
-use crate::control::Word;
+use crate::control::{Owner, Phase, Spot};
 use kdl_lexer::TokenKind;
-
-/// Which entry a type, a key or a value belongs to: the one that the text is, or a slashdashed one.
-#[derive(Clone, Copy)]
-pub enum Role {
-    Own,
-    Slashdashed,
-}
 
 /// The control of a text that is one entry. It takes tokens, and builds nothing.
 #[derive(Clone, Copy)]
 pub enum EntryControl {
     /// Before the entry.
     Ahead,
-    /// After `/-`.
-    Slashdash,
-    /// After the `(` of a type.
-    TypeOpen(Role),
-    /// After the name of a type.
-    TypeName(Role),
-    /// After the `)` of a type.
-    TypeDone(Role),
-    /// After the `=` of a property.
-    Property(Role),
-    /// After a slashdashed entry, and whether spaces came after it.
-    Dropped(Word, bool),
+    /// In or after a slashdashed entry, in this phase.
+    Dropping(Phase),
+    /// In the entry, which has a type or a key, in this phase.
+    Under(Phase),
     /// After a string that may be the entry's key.
     Word,
     /// After the entry.
@@ -46,111 +31,47 @@ fn in_ahead(kind: &TokenKind) -> Option<EntryControl>
 {
     match kind {
         TokenKind::Space | TokenKind::Newline => Some(EntryControl::Ahead),
-        TokenKind::Slashdash => Some(EntryControl::Slashdash),
+        TokenKind::Slashdash => Some(EntryControl::Dropping(Phase::EntrySlashdash)),
         TokenKind::String(_) => Some(EntryControl::Word),
         TokenKind::Value(_) => Some(EntryControl::Done),
-        TokenKind::Left => Some(EntryControl::TypeOpen(Role::Own)),
+        TokenKind::Left => Some(EntryControl::Under(Phase::TypeOpen(Owner::Value))),
         _ => None,
     }
 }
 
-/// After `/-`.
-fn in_slashdash(kind: &TokenKind) -> Option<EntryControl>
-    ensures { option_map entry_view result ≡ entry_step spec.slashdashed (kind_view kind.now) }
+/// The phase after a token in or after a slashdashed entry, or `None` if the token may not come here.
+fn dropped_turn(phase: Phase, kind: &TokenKind) -> Option<Phase>
+    ensures { option_map phase_view result ≡ dropped_turn (phase_view phase) (kind_view kind.now) }
 {
-    match kind {
-        TokenKind::Space | TokenKind::Newline => Some(EntryControl::Slashdash),
-        TokenKind::String(_) => Some(EntryControl::Dropped(Word::MayBeKey, false)),
-        TokenKind::Value(_) => Some(EntryControl::Dropped(Word::NoKey, false)),
-        TokenKind::Left => Some(EntryControl::TypeOpen(Role::Slashdashed)),
-        _ => None,
+    match (phase, kind) {
+        (Phase::InNode(Spot::Fresh(_)), TokenKind::Slashdash) => None,
+        (Phase::InNode(_), TokenKind::Newline | TokenKind::Semicolon) => None,
+        _ => phase.after(kind),
     }
 }
 
-/// After the `(` of a type.
-fn in_type(role: Role, kind: &TokenKind) -> Option<EntryControl>
+/// In or after a slashdashed entry. After spaces the entry may begin.
+fn in_dropping(phase: Phase, kind: &TokenKind) -> Option<EntryControl>
     ensures { option_map entry_view result
-        ≡ entry_step (spec.type_open (role_view role)) (kind_view kind.now) }
+        ≡ entry_step (spec.dropping (phase_view phase)) (kind_view kind.now) }
 {
-    match kind {
-        TokenKind::Space => Some(EntryControl::TypeOpen(role)),
-        TokenKind::String(_) => Some(EntryControl::TypeName(role)),
-        _ => None,
+    match (phase, kind) {
+        (
+            Phase::InNode(Spot::Spaced(_)),
+            TokenKind::String(_) | TokenKind::Value(_) | TokenKind::Left,
+        ) => in_ahead(kind),
+        _ => Some(EntryControl::Dropping(dropped_turn(phase, kind)?)),
     }
 }
 
-/// After the name of a type.
-fn behind_type_name(role: Role, kind: &TokenKind) -> Option<EntryControl>
+/// In the entry, which ends with its value.
+fn in_under(phase: Phase, kind: &TokenKind) -> Option<EntryControl>
     ensures { option_map entry_view result
-        ≡ entry_step (spec.type_name (role_view role)) (kind_view kind.now) }
+        ≡ entry_step (spec.under (phase_view phase)) (kind_view kind.now) }
 {
-    match kind {
-        TokenKind::Space => Some(EntryControl::TypeName(role)),
-        TokenKind::Right => Some(EntryControl::TypeDone(role)),
-        _ => None,
-    }
-}
-
-/// After the value of an entry.
-fn behind_value(role: Role) -> EntryControl
-    ensures { entry_view result ≡ spec.given (role_view role) }
-{
-    match role {
-        Role::Own => EntryControl::Done,
-        Role::Slashdashed => EntryControl::Dropped(Word::NoKey, false),
-    }
-}
-
-/// After the `)` of a type.
-fn behind_type(role: Role, kind: &TokenKind) -> Option<EntryControl>
-    ensures { option_map entry_view result
-        ≡ entry_step (spec.type_done (role_view role)) (kind_view kind.now) }
-{
-    match kind {
-        TokenKind::Space => Some(EntryControl::TypeDone(role)),
-        TokenKind::String(_) | TokenKind::Value(_) => Some(behind_value(role)),
-        _ => None,
-    }
-}
-
-/// After the `=` of a property.
-fn in_property(role: Role, kind: &TokenKind) -> Option<EntryControl>
-    ensures { option_map entry_view result
-        ≡ entry_step (spec.property (role_view role)) (kind_view kind.now) }
-{
-    match kind {
-        TokenKind::Space => Some(EntryControl::Property(role)),
-        TokenKind::String(_) | TokenKind::Value(_) => Some(behind_value(role)),
-        TokenKind::Left => Some(EntryControl::TypeOpen(role)),
-        _ => None,
-    }
-}
-
-/// After a slashdashed entry and spaces, where the entry may begin.
-fn behind_dropped(kind: &TokenKind) -> Option<EntryControl>
-    ensures { option_map entry_view result
-        ≡ entry_step (spec.dropped false true) (kind_view kind.now) }
-{
-    match kind {
-        TokenKind::Space => Some(EntryControl::Dropped(Word::NoKey, true)),
-        TokenKind::Slashdash => Some(EntryControl::Slashdash),
-        TokenKind::String(_) => Some(EntryControl::Word),
-        TokenKind::Value(_) => Some(EntryControl::Done),
-        TokenKind::Left => Some(EntryControl::TypeOpen(Role::Own)),
-        _ => None,
-    }
-}
-
-/// After a slashdashed entry.
-fn in_dropped(word: Word, is_spaced: bool, kind: &TokenKind) -> Option<EntryControl>
-    ensures { option_map entry_view result
-        ≡ entry_step (spec.dropped (word_view word) is_spaced) (kind_view kind.now) }
-{
-    match (kind, word) {
-        (TokenKind::Space, _) => Some(EntryControl::Dropped(word, true)),
-        (TokenKind::Equals, Word::MayBeKey) => Some(EntryControl::Property(Role::Slashdashed)),
-        _ if is_spaced => behind_dropped(kind),
-        _ => None,
+    match phase.after(kind)? {
+        Phase::InNode(_) => Some(EntryControl::Done),
+        next => Some(EntryControl::Under(next)),
     }
 }
 
@@ -161,7 +82,7 @@ fn in_word(kind: &TokenKind) -> Option<EntryControl>
     match kind {
         TokenKind::Space => Some(EntryControl::Word),
         TokenKind::Newline => Some(EntryControl::Done),
-        TokenKind::Equals => Some(EntryControl::Property(Role::Own)),
+        TokenKind::Equals => Some(EntryControl::Under(Phase::Property)),
         _ => None,
     }
 }
@@ -189,12 +110,8 @@ impl EntryControl {
     {
         match self {
             EntryControl::Ahead => in_ahead(kind),
-            EntryControl::Slashdash => in_slashdash(kind),
-            EntryControl::TypeOpen(role) => in_type(role, kind),
-            EntryControl::TypeName(role) => behind_type_name(role, kind),
-            EntryControl::TypeDone(role) => behind_type(role, kind),
-            EntryControl::Property(role) => in_property(role, kind),
-            EntryControl::Dropped(word, is_spaced) => in_dropped(word, is_spaced, kind),
+            EntryControl::Dropping(phase) => in_dropping(phase, kind),
+            EntryControl::Under(phase) => in_under(phase, kind),
             EntryControl::Word => in_word(kind),
             EntryControl::Done => in_done(kind),
         }

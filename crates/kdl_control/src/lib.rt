@@ -6,5 +6,5 @@ mod entry_control;
 mod node_control;
 
 pub use control::{Control, Frame, Owner, Phase, Spot, Word};
-pub use entry_control::{EntryControl, Role};
+pub use entry_control::EntryControl;
 pub use node_control::NodeControl;

@@ -13,7 +13,7 @@ use Rattle.kdl_control.specs.NodeControl.{NodeControl, in_text, node_step}
 use Rattle.kdl_diagnostics.specs.TextControl.{TextControl, in_document, in_node, in_entry, in_identifier, text_step, text_finish, text_start, Takes, ends, takes, AcceptsDocument, no_bom, behind_bom}
 use Rattle.kdl_diagnostics.specs.declared.whole.Whole.TheVariants.{Document}
 
-abbrev Of : {S : Type 0} → (S → Type 0) → Option S → Type 0
+abbrev pub Of : {S : Type 0} → (S → Type 0) → Option S → Type 0
 Of P None = Unit {0}
 Of P (Some d) = P d
 
@@ -50,14 +50,12 @@ node_again (in_text b (c.at c.block_slashdash fs)) = refl
 node_again (in_text b (c.at c.kept fs)) = refl
 node_again (in_text b (c.at c.kept_slashdash fs)) = refl
 
-entry_again : (p : e.EntryControl) → Of (λ q. e.entry_step q space ≡ Some q) (e.entry_step p space)
+pub entry_again : (p : e.EntryControl) → Of (λ q. e.entry_step q space ≡ Some q) (e.entry_step p space)
 entry_again e.ahead = refl
-entry_again e.slashdashed = refl
-entry_again (e.type_open b) = refl
-entry_again (e.type_name b) = refl
-entry_again (e.type_done b) = refl
-entry_again (e.property b) = refl
-entry_again (e.dropped b s) = refl
+entry_again (e.dropping (c.in_node (c.fresh b))) = refl
+entry_again (e.dropping p) = refl
+entry_again (e.under (c.in_node q)) = refl
+entry_again (e.under p) = refl
 entry_again e.word = refl
 entry_again e.done = refl
 

@@ -103,41 +103,22 @@ node_count : (m : NodeControl) (k : Token) → Of (λ d. Counts k (depth (in_nod
 node_count (in_text b (c.at c.gap [])) k = between_count b k
 node_count (in_text b (c.at p fs)) k = begun_count (Counts k (length fs)) b (c.step (c.at p fs) k) (step_count (c.at p fs) k)
 
+-- in the text of an entry none opens
+not_opened : (m : e.EntryControl) → e.entry_step m opening ≡ None
+not_opened (e.dropping (c.in_node (c.spaced b))) = refl
+not_opened (e.dropping p) = refl
+not_opened (e.under (c.in_node q)) = refl
+not_opened (e.under p) = refl
+not_opened _ = refl
+
+always : {S : Type 0} {P : Type 0} (o : Option S) → P → Of (λ d. P) o
+always None h = tt
+always (Some d) h = h
+
 entry_count : (m : e.EntryControl) (k : Token) → Of (λ d. Counts k 0 0) (e.entry_step m k)
-entry_count e.ahead space = refl
-entry_count e.ahead newline = refl
-entry_count e.ahead slashdash = refl
-entry_count e.ahead (string v) = refl
-entry_count e.ahead (value v) = refl
-entry_count e.ahead left = refl
-entry_count e.slashdashed space = refl
-entry_count e.slashdashed newline = refl
-entry_count e.slashdashed (string v) = refl
-entry_count e.slashdashed (value v) = refl
-entry_count e.slashdashed left = refl
-entry_count (e.type_open b) space = refl
-entry_count (e.type_open b) (string v) = refl
-entry_count (e.type_name b) space = refl
-entry_count (e.type_name b) right = refl
-entry_count (e.type_done b) space = refl
-entry_count (e.type_done b) (string v) = refl
-entry_count (e.type_done b) (value v) = refl
-entry_count (e.property b) space = refl
-entry_count (e.property b) (string v) = refl
-entry_count (e.property b) (value v) = refl
-entry_count (e.property b) left = refl
-entry_count (e.dropped b s) space = refl
-entry_count (e.dropped true s) equals = refl
-entry_count (e.dropped b true) slashdash = refl
-entry_count (e.dropped b true) (string v) = refl
-entry_count (e.dropped b true) (value v) = refl
-entry_count (e.dropped b true) left = refl
-entry_count e.word space = refl
-entry_count e.word newline = refl
-entry_count e.word equals = refl
-entry_count e.done space = refl
-entry_count e.done newline = refl
-entry_count _ _ = tt
+entry_count m opening = rw (not_opened m) tt
+entry_count m closing = always (e.entry_step m closing) refl
+entry_count m k = always (e.entry_step m k) refl
 
 lifted : {S : Type 0} (wrap : S → TextControl) (P : TextControl → Type 0) (o : Option S) → Of (λ d. P (wrap d)) o → Of P (option_map wrap o)
 lifted wrap P None h = tt

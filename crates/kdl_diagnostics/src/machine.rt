@@ -5,7 +5,7 @@
 
 ghost use Rattle.kdl_control.specs.Control.{at, finish};
 ghost use Rattle.kdl_control.specs.Internal.Views.{phase_view};
-ghost use Rattle.std.specs.Prelude.{◌≡◌, [], false, true};
+ghost use Rattle.std.specs.Prelude.{◌≡◌, [], false, if◌then◌else◌, true};
 
 use crate::kind::Kind;
 use crate::pieces::{PieceKind, StringRole};
@@ -74,7 +74,7 @@ pub(crate) fn misfit(phase: Phase, is_property: bool) -> Kind {
 
 /// Whether something is expected in the phase, so that the text may not end here.
 pub(crate) fn is_due(phase: Phase) -> bool
-    ensures { result ≡ false → finish (at (phase_view phase) []) ≡ true }
+    ensures { finish (at (phase_view phase) []) ≡ (if result then false else true) }
 {
     !matches!(phase, Phase::Gap | Phase::InNode(_) | Phase::Kept)
 }

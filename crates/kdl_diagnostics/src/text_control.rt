@@ -8,9 +8,9 @@ ghost use Rattle.kdl_diagnostics.specs.declared.whole.Whole.TheVariants.{Entry, 
 ghost use Rattle.kdl_lexer.specs.Internal.Handed.{kind_view};
 ghost use Rattle.std.specs.Prelude.{◌≡◌, false, IfOk, None, Some, if◌then◌else◌};
 
-use crate::machine::in_node;
+use crate::machine::{in_node, is_dropping, is_due};
 use crate::whole::Whole;
-use kdl_control::{EntryControl, NodeControl, Owner, Phase, Role, Spot, Word};
+use kdl_control::{EntryControl, NodeControl, Owner, Phase, Spot, Word};
 use kdl_lexer::TokenKind;
 use std::alloc::{AllocError, Global};
 
@@ -44,28 +44,24 @@ impl Outset {
         }
     }
 
-    /// The place in a phase, in an entry.
-    fn in_entry(phase: Phase, role: Role) -> Self
+    /// The place in a phase, in or after the entry.
+    fn in_entry(phase: Phase) -> Self
         ensures { result.phase ≡ phase }
     {
         Outset {
             phase,
             is_over: false,
-            has_item: matches!(role, Role::Own),
+            has_item: true,
             has_dropped: false,
             is_apart: false,
         }
     }
 }
 
-/// Whether the entry that is under way, or that ends directly before, is slashdashed.
+/// Whether a slashdashed entry is under way, or ends directly before.
 fn is_slashdashed(control: EntryControl) -> bool {
     match control {
-        EntryControl::TypeOpen(role)
-        | EntryControl::TypeName(role)
-        | EntryControl::TypeDone(role)
-        | EntryControl::Property(role) => matches!(role, Role::Slashdashed),
-        EntryControl::Dropped(_, _) => true,
+        EntryControl::Dropping(phase) => !is_dropping(phase),
         _ => false,
     }
 }
@@ -76,17 +72,14 @@ fn place_in_entry(control: EntryControl) -> Outset
 {
     match control {
         EntryControl::Ahead => Outset::in_phase(in_node()),
-        EntryControl::Slashdash => Outset::in_phase(Phase::EntrySlashdash),
-        EntryControl::TypeOpen(role) => Outset::in_entry(Phase::TypeOpen(Owner::Value), role),
-        EntryControl::TypeName(role) => Outset::in_entry(Phase::TypeName(Owner::Value), role),
-        EntryControl::TypeDone(role) => Outset::in_entry(Phase::TypeDone(Owner::Value), role),
-        EntryControl::Property(role) => Outset::in_entry(Phase::Property, role),
-        EntryControl::Dropped(word, _) => Outset::in_phase(Phase::InNode(Spot::Spaced(word))),
-        EntryControl::Word => {
-            let phase = Phase::InNode(Spot::Spaced(Word::MayBeKey));
-            Outset::in_entry(phase, Role::Own)
+        EntryControl::Dropping(Phase::InNode(Spot::Fresh(word))) => {
+            Outset::in_phase(Phase::InNode(Spot::Spaced(word)))
         }
-        EntryControl::Done => Outset::in_entry(in_node(), Role::Own),
+        // Up to its value, something is due in the entry.
+        EntryControl::Under(phase) if is_due(phase) => Outset::in_entry(phase),
+        EntryControl::Dropping(phase) | EntryControl::Under(phase) => Outset::in_phase(phase),
+        EntryControl::Word => Outset::in_entry(Phase::InNode(Spot::Spaced(Word::MayBeKey))),
+        EntryControl::Done => Outset::in_entry(in_node()),
     }
 }
 

@@ -16,9 +16,11 @@ pub mod IdentifierToken
 pub mod IdentifierAnswers
 -- What a machine without data goes over, it goes over before another rest too.
 pub mod Going
--- The machine of entry texts without data accepts what the grammar derives.
+-- The phases that the control of entry texts reaches.
+pub mod Placed
+-- The control of entry texts accepts what the grammar derives.
 pub mod EntryErased
--- What the machine of entry texts goes over begins an entry text.
+-- What the control of entry texts goes over begins an entry text.
 pub mod EntryViable
 -- After a token that it refuses no entry text goes on.
 pub mod EntryRefusing

@@ -1,16 +1,14 @@
 -- Definitions that only proofs and contracts inside the crates use: no contract of a public call of `kdl` mentions them.
 
--- The item that a reader's fields represent, and what its steps return.
+-- The item that a reader's fields represent.
 pub mod Building
 -- What a call costs for the texts that it slices: at most a step for each of their bytes.
 pub mod Counted
--- The machine of entry texts without data: which token may come where.
-pub mod EntryControl
 -- The machine that reads a text that is one entry: it reads the tokens once. The token k is in the text s before r, in the text `whole`.
 pub mod EntryMachine
 -- The machine's state that a reader of an entry holds, and what its steps return.
 pub mod EntryReading
--- How far a machine without data reads in a text.
+-- How far a machine without data reads in a text, and the control of an entry text.
 pub mod Going
 -- What the reader of identifier texts returns.
 pub mod IdentifierReading

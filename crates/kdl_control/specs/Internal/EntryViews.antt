@@ -4,26 +4,15 @@ use Rattle.kdl_lexer.specs.declared.lexer.TokenKind.{TokenKind}
 use Rattle.kdl_lexer.specs.declared.lexer.TokenKind.TheVariants.{String, Left, Space, Newline}
 use Rattle.kdl_control.specs.EntryControl as e
 use Rattle.kdl_control.specs.NodeControl as n
-use Rattle.kdl_control.specs.Internal.Views.{control_view, word_view}
+use Rattle.kdl_control.specs.Internal.Views.{control_view, phase_view}
 use Rattle.kdl_control.specs.declared.entry_control.EntryControl.{EntryControl}
-use Rattle.kdl_control.specs.declared.entry_control.EntryControl.TheVariants.{Ahead, Slashdash, TypeOpen, TypeName, TypeDone, Property, Dropped, Word, Done}
-use Rattle.kdl_control.specs.declared.entry_control.Role.{Role}
-use Rattle.kdl_control.specs.declared.entry_control.Role.TheVariants.{Own, Slashdashed}
+use Rattle.kdl_control.specs.declared.entry_control.EntryControl.TheVariants.{Ahead, Dropping, Under, Word, Done}
 use Rattle.kdl_control.specs.declared.node_control.NodeControl.{NodeControl}
-
--- whether the entry is the one that the text is
-abbrev pub role_view : Role → Bool
-role_view Own = true
-role_view Slashdashed = false
 
 abbrev pub entry_view : EntryControl → e.EntryControl
 entry_view Ahead = e.ahead
-entry_view Slashdash = e.slashdashed
-entry_view (TypeOpen r) = e.type_open (role_view r)
-entry_view (TypeName r) = e.type_name (role_view r)
-entry_view (TypeDone r) = e.type_done (role_view r)
-entry_view (Property r) = e.property (role_view r)
-entry_view (Dropped w spaced) = e.dropped (word_view w) spaced
+entry_view (Dropping p) = e.dropping (phase_view p)
+entry_view (Under p) = e.under (phase_view p)
 entry_view Word = e.word
 entry_view Done = e.done
 

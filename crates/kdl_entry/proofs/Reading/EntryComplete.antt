@@ -8,7 +8,7 @@ use Rattle.kdl_entry.specs.Data as data'
 use Rattle.kdl_value.specs.Data.{Value, text}
 use Rattle.kdl_entry.specs.Entries.{IsString, string as a_string', IsPlainValue, a_string, a_plain, parens, MaybeType, untyped, typed, value as a_value, IsEntry, property, argument, DroppedFirst, dropped_first, BeforeEntry, before_entry, IsEntryText, entry_text}
 use Rattle.kdl_entry.specs.Internal.EntryMachine.{Word, State, ahead, dropping, under, word, done, opened_item, word_at, entry_by, argument_of, step, ended, Runs, stops, reads, AnswersEntry}
-use Rattle.kdl_entry.specs.Internal.Items.{TypeParts, KeyParts, type_of, before_name, after_name, behind_type, identifier_at, Stage, opened, named, closed, keyed, Item}
+use Rattle.kdl_entry.specs.Internal.Items.{TypeParts, KeyParts, type_of, before_name, after_name, behind_type, identifier_at, Item}
 use Rattle.kdl_control.specs.Control.{fresh, spaced, type_open, type_name, type_done, in_node, property as in_property, entry_slashdash}
 use Rattle.kdl_entry.specs.Laid.{LaidIdentifier, spelled, LaidType, no_type, a_type, no_key, a_key, LaidItem, item, LaidEntryText, laid_entry_text}
 use Rattle.kdl_entry.specs.Places.{span_of, between}
@@ -40,7 +40,7 @@ module _ (whole : Text) where
   record Starts (st : State) : Type 0 where
     to_string : (v s r : Text) → step whole st (string v) s r ≡ Some (word (word_at whole v s r) r)
     to_value : (v : Value) (s r : Text) → step whole st (value v) s r ≡ Some (done (entry_by (between whole s) None None v (between s r)) r)
-    to_left : (s r : Text) → step whole st left s r ≡ Some (under (opened_item s (between whole s) r))
+    to_left : (s r : Text) → step whole st left s r ≡ Some (under (type_open true) (opened_item s (between whole s) r))
     to_slashdash : (s r : Text) → step whole st a_slashdash s r ≡ Some (dropping entry_slashdash)
 
   at_ahead : Starts ahead
@@ -54,20 +54,20 @@ module _ (whole : Text) where
     is_word : {w : Word} → argument_of w ≡ e → After e r (word w r)
     is_done : After e r (done e r)
 
-  abbrev item_at : Text → Stage → Text → Text → Option KeyParts → Identifier → Text → Text → Item
-  item_at h g q from k i b a = record { valued = true; stage = g; leading = q; start = h; from = from; key = k; name = i; before = b; after = a }
+  abbrev item_at : Text → Text → Text → Option KeyParts → Identifier → Text → Text → Item
+  item_at h q from k i b a = record { leading = q; start = h; from = from; key = k; name = i; before = b; after = a }
 
   abbrev parts : Text → Text → Text → Text → Text → Text → TypeParts
   parts y s1 s2 s3 s4 t = record { name = identifier_at whole y s2 s3; before = between s1 s2; after = between s3 (41 ∷ s4); behind = between s4 t }
 
   kept_type : (out : Entry) → {s1 s2 s3 s4 t r y : Text} {v : Value} → Star NodeSpace s1 s2 → IsString true s2 s3 y → Star NodeSpace s3 (41 ∷ s4) → Star NodeSpace s4 t → IsPlainValue true t r v
-      → (h q : Text) (k : Option KeyParts) (i : Identifier) (b a : Text) → Runs whole out (done (entry_by q k (Some (parts y s1 s2 s3 s4 t)) v (between t r)) r) r → Runs whole out (under (item_at h opened q s1 k i b a)) s1
+      → (h q : Text) (k : Option KeyParts) (i : Identifier) (b a : Text) → Runs whole out (done (entry_by q k (Some (parts y s1 s2 s3 s4 t)) v (between t r)) r) r → Runs whole out (under (type_open true) (item_at h q s1 k i b a)) s1
   kept_type out {s1 = s1} {s2 = s2} {s3 = s3} {s4 = s4} {t = t} {r = r} {y = y} ss d us vs p h q k i b a x =
       let n = identifier_at whole y s2 s3 in
-      stay out (under (item_at h opened q s1 k i b a)) (λ s r. refl) ss (read_string out d refl
-      (stay out (under (item_at h named q s3 k n (between s1 s2) a)) (λ s r. refl) us (reads t_right refl
-      (stay out (under (item_at h closed q s4 k n (between s1 s2) (between s3 (41 ∷ s4)))) (λ s r. refl) vs
-      (read_plain out p (under (item_at h closed q s4 k n (between s1 s2) (between s3 (41 ∷ s4)))) (λ v. done (entry_by q k (Some (parts y s1 s2 s3 s4 t)) v (between t r)) r) (λ v. refl) (λ v. refl) x)))))
+      stay out (under (type_open true) (item_at h q s1 k i b a)) (λ s r. refl) ss (read_string out d refl
+      (stay out (under (type_name true) (item_at h q s3 k n (between s1 s2) a)) (λ s r. refl) us (reads t_right refl
+      (stay out (under (type_done true) (item_at h q s4 k n (between s1 s2) (between s3 (41 ∷ s4)))) (λ s r. refl) vs
+      (read_plain out p (under (type_done true) (item_at h q s4 k n (between s1 s2) (between s3 (41 ∷ s4)))) (λ v. done (entry_by q k (Some (parts y s1 s2 s3 s4 t)) v (between t r)) r) (λ v. refl) (λ v. refl) x)))))
 
   dropped_type : (out : Entry) → {s1 s2 s3 s4 t r y : Text} {v : Value} → Star NodeSpace s1 s2 → IsString true s2 s3 y → Star NodeSpace s3 (41 ∷ s4) → Star NodeSpace s4 t → IsPlainValue true t r v
       → Runs whole out (dropping (in_node (fresh false))) r → Runs whole out (dropping (type_open true)) s1
@@ -88,7 +88,7 @@ module _ (whole : Text) where
     starts : (out : Entry) (st : State) → Starts st → ((st' : State) → After (entry_by (between whole s) None type v (between t r)) r st' → Runs whole out st' r) → Runs whole out st s
     drops : (out : Entry) → ((b : Bool) → Runs whole out (dropping (in_node (fresh b))) r) → Runs whole out (dropping entry_slashdash) s
     behind_key : (out : Entry) (h q from : Text) (i : Identifier) (b : Text) → Runs whole out (done (entry_by q (Some (record { name = i; before = b; behind = between from s })) type v (between t r)) r) r
-        → Runs whole out (under (item_at h keyed q from None i b [])) s
+        → Runs whole out (under in_property (item_at h q from None i b [])) s
     drops_behind : (out : Entry) → Runs whole out (dropping (in_node (fresh false))) r → Runs whole out (dropping in_property) s
 
   starts_plain : {s r : Text} {v : Value} → IsPlainValue true s r v → (out : Entry) (st : State) → Starts st → ((st' : State) → After (entry_by (between whole s) None None v (between s r)) r st' → Runs whole out st' r) → Runs whole out st s
@@ -106,7 +106,7 @@ module _ (whole : Text) where
     same = refl;
     starts = λ out st z a. starts_plain d out st z a;
     drops = λ out a. drops_plain d out a;
-    behind_key = λ out h q from i b x. read_plain out d (under (item_at h keyed q from None i b [])) (λ v. done (entry_by q (Some (record { name = i; before = b; behind = between from s })) None v (between s r)) r) (λ v. refl) (λ v. refl) x;
+    behind_key = λ out h q from i b x. read_plain out d (under in_property (item_at h q from None i b [])) (λ v. done (entry_by q (Some (record { name = i; before = b; behind = between from s })) None v (between s r)) r) (λ v. refl) (λ v. refl) x;
     drops_behind = λ out x. read_plain out d (dropping in_property) (λ v. dropping (in_node (fresh false))) (λ v. refl) (λ v. refl) x;
   }
   read_value {s = s} {t = t} {r = r} {v = v} (typed (parens {s = s1} {t = s2} {u = s3} {r = s4} {v = y} ss u us) vs) d = record {
@@ -151,7 +151,7 @@ module _ (whole : Text) where
         same = λ q x. ap (λ (z : Option Text). record { key = Some k; ty = z; value = v }) V.same;
         starts = λ out st x a.
             read_string out d (x.to_string k s t) (stay out (word (word_at whole k s t) t) (λ s r. refl) ss (reads t_equals refl
-            (stay out (under (item_at whole keyed (between whole s) u None i (between t (61 ∷ u)) [])) (λ s r. refl) us
+            (stay out (under in_property (item_at whole (between whole s) u None i (between t (61 ∷ u)) [])) (λ s r. refl) us
             (V.behind_key out whole (between whole s) u i (between t (61 ∷ u)) (a (done (entry_by (between whole s) (Some n) V.type v (between p r)) r) is_done)))));
         drops = λ out a. read_string out d refl (to_equals out ss (stay out (dropping in_property) (λ s r. refl) us (V.drops_behind out (a false))));
       }

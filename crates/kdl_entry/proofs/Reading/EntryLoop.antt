@@ -1,5 +1,5 @@
 -- The turns of the loop that reads an entry text, token by token.
-use Rattle.std.proofs.Common.{◌≡◌, ◌↔◌, ℕ, ◌+◌, ◌<◌, Bool, true, false, length, [], ◌∷◌, ◌++◌, Option, Some, None, option_map, Ok, Err, refl, sym, ap, subst, ◌∙◌, arith, append_assoc, append-nil}
+use Rattle.std.proofs.Common.{◌≡◌, ◌↔◌, ℕ, ◌+◌, ◌<◌, length, [], ◌∷◌, ◌++◌, Option, Some, None, option_map, Ok, Err, refl, sym, ap, subst, ◌∙◌, arith, append_assoc, append-nil}
 use Rattle.kdl_text.specs.Chars.{Text, Star, plus}
 use Rattle.kdl_text.specs.Chars.Star.{none as no_star, more}
 use Rattle.kdl_text.specs.Internal.Here.{Here, Position, Ahead, first_len}
@@ -8,19 +8,19 @@ use Rattle.kdl_text.specs.Spans.{InText, bytes}
 use Rattle.kdl_text.specs.Trivia.{NodeSpace}
 use Rattle.kdl_text.specs.declared.span.SourceSpan.{SourceSpan}
 use Rattle.kdl_text.proofs.Looking.MovesJoin.{bytes-append}
-use Rattle.kdl_control.specs.Control.{Phase, fresh, spaced, in_node, entry_slashdash}
+use Rattle.kdl_control.specs.Control.{Phase, fresh, spaced, type_open, type_name, in_node, property}
+use Rattle.kdl_control.specs.EntryControl as control
+use Rattle.kdl_control.specs.EntryControl.{EntryControl, entry_step}
 use Rattle.kdl_entry.specs.Internal.Building.{Stays}
 use Rattle.kdl_entry.specs.EarliestEntry.{DerivedEntry}
-use Rattle.kdl_entry.specs.Internal.EntryControl.{phase_of, EntryReaches, EntryStuck}
-use Rattle.kdl_entry.specs.Internal.EntryMachine.{State, ahead, dropping, under, word, done, came, dropped_turn, step, finish, Runs, stops, reads, AnswersEntry}
+use Rattle.kdl_entry.specs.Internal.EntryMachine.{Word, State, ahead, dropping, under, word, done, phase_of, valued, begin_to, value_of, under_to, word_to, go_to, if_taken, step, finish, Runs, stops, reads, AnswersEntry}
 use Rattle.kdl_entry.specs.Internal.EntryReading.{AnswersEntryText, EndsIn, Ended, Same, Stands, Stepped}
 use Rattle.kdl_value.specs.Data.{Value}
 use Rattle.kdl_lexer.specs.Earliest.{IsRefusedAt}
 use Rattle.kdl_lexer.specs.Internal.Handed.{Cuts, one, spaces, IsFaultAt, HandsOut, Lexed, kind_view}
-use Rattle.kdl_entry.specs.Internal.Going.{GoesBy}
-use Rattle.kdl_entry.specs.Internal.Items.{Stage, opened, named, closed, keyed, Item, TypeParts, KeyParts, if_valued}
-use Rattle.kdl_entry.specs.Internal.Items as items
-use Rattle.kdl_lexer.specs.Tokens.{Token, space, newline, slashdash, string, value, left, right, equals, BeginsToken, t_space, NoToken}
+use Rattle.kdl_entry.specs.Internal.Going.{GoesBy, EntryReaches, EntryStuck}
+use Rattle.kdl_entry.specs.Internal.Items.{Item, taken}
+use Rattle.kdl_lexer.specs.Tokens.{Token, space, string, value, left, right, BeginsToken, t_space, NoToken}
 use Rattle.kdl_entry.specs.Tree.{Entry, entry_tree}
 use Rattle.kdl_entry.specs.declared.entry.KdlEntry.{KdlEntry}
 use Rattle.kdl_lexer.specs.declared.lexer.LexFailure.{LexFailure}
@@ -30,21 +30,16 @@ use Rattle.kdl_lexer.proofs.Lexing.TokenUnique.{no_token, token_shorter}
 use Rattle.kdl_entry.proofs.Reading.EntryErased.{turned, not_turned}
 use Rattle.kdl_entry.proofs.Reading.EntryLaws.{goes_on}
 use Rattle.kdl_entry.proofs.Reading.EntryRefused.{goes_over, refused_at, stuck_at, stuck_end, stuck_no_token}
+use Rattle.kdl_entry.proofs.Reading.Placed.{Placed, placed}
 
 module _ (whole : Text) where
-  -- spaces change nothing in an item
-  item_space : (it : Item) (g : Stage) (s r : Text) → came it (items.move g whole it space s r) s r ≡ Some (under it)
-  item_space it opened s r = refl
-  item_space it named s r = refl
-  item_space it closed s r = refl
-  item_space it keyed s r = refl
-
   -- the place of a space does not matter
   anywhere : (st : State) (s r t q : Text) → step whole st space s r ≡ step whole st space t q
   anywhere ahead s r t q = refl
   anywhere (dropping (in_node (spaced b))) s r t q = refl
   anywhere (dropping p) s r t q = refl
-  anywhere (under it) s r t q = item_space it it.stage s r ∙ sym (item_space it it.stage t q)
+  anywhere (under (in_node p) it) s r t q = refl
+  anywhere (under p it) s r t q = refl
   anywhere (word w f) s r t q = refl
   anywhere (done e f) s r t q = refl
 
@@ -65,7 +60,8 @@ module _ (whole : Text) where
       go : (st : State) → step whole st space s r ≡ Some st' → step whole st' space t q ≡ Some st'
       go ahead e = same ahead e refl
       go (dropping p) e = again_dropped p st' s r t q e
-      go (under it) e = same (under it) (sym (item_space it it.stage s r) ∙ e) (item_space it it.stage t q)
+      go (under (in_node p) it) e = absurd cc
+      go (under p it) e = same (under p it) e refl
       go (word w f) e = same (word w f) e refl
       go (done x f) e = same (done x f) e refl
 
@@ -114,46 +110,46 @@ module _ (whole s r : Text) (b : EndsIn s r) where
   to : (x y : State) → Some x ≡ Some y → Stands x r → Stands y r
   to x y e a = let q : x ≡ y = cc in subst (λ (z : State). Stands z r) q a
 
-  valued_stands : (c : Bool) (it : Item) (k : Option KeyParts) (y : Option TypeParts) (v : Value) (st : State) → came it (if_valued c (items.gives k y v)) s r ≡ Some st → Stands st r
-  valued_stands true it k y v st e = to _ st e (ends_here r)
-  valued_stands false it k y v st e = absurd cc
+  begin_stands : (c : EntryControl) (st : State) (k : Token) → begin_to whole c k s r ≡ Some st → Stands st r
+  begin_stands control.ahead st k e = to ahead st e tt
+  begin_stands (control.dropping p) st k e = to (dropping p) st e tt
+  begin_stands (control.under p) st k e = to _ st e (ends_here r)
+  begin_stands control.word st (string v) e = to _ st e (ends_here r)
+  begin_stands control.done st (value v) e = to _ st e (ends_here r)
+  begin_stands _ st k e = absurd cc
 
-  item_stands : (it : Item) (g : Stage) (k : Token) (st : State) → came it (items.move g whole it k s r) s r ≡ Some st → EndsIn it.from s → Stands st r
-  item_stands it opened space st e a = to (under it) st e (then_ends a b)
-  item_stands it opened (string v) st e a = to _ st e (ends_here r)
-  item_stands it named space st e a = to (under it) st e (then_ends a b)
-  item_stands it named right st e a = to _ st e (ends_here r)
-  item_stands it closed space st e a = to (under it) st e (then_ends a b)
-  item_stands it closed (string v) st e a = to _ st e (ends_here r)
-  item_stands it closed (value v) st e a = valued_stands it.valued it _ _ v st e
-  item_stands it keyed space st e a = to (under it) st e (then_ends a b)
-  item_stands it keyed (string v) st e a = to _ st e (ends_here r)
-  item_stands it keyed (value v) st e a = to _ st e (ends_here r)
-  item_stands it keyed left st e a = to _ st e (ends_here r)
-  item_stands it _ k st e a = absurd cc
+  item_stands : (p : Phase) (it : Item) (k : Token) → EndsIn it.from s → EndsIn (taken p whole it k s r).from r
+  item_stands (type_open c) it (string v) a = ends_here r
+  item_stands (type_name c) it right a = ends_here r
+  item_stands property it left a = ends_here r
+  item_stands p it k a = then_ends a b
 
-  dropped_stands : (o : Option Phase) (st : State) → option_map dropping o ≡ Some st → Stands st r
-  dropped_stands None st e = absurd cc
-  dropped_stands (Some p) st e = to (dropping p) st e tt
+  value_stands : (p : Phase) (it : Item) (o : Option Value) (st : State) → option_map (λ v. done (valued p it v s r) r) o ≡ Some st → Stands st r
+  value_stands p it None st e = absurd cc
+  value_stands p it (Some v) st e = to _ st e (ends_here r)
+
+  under_stands : (p : Phase) (it : Item) (c : EntryControl) (k : Token) (st : State) → under_to whole p it c k s r ≡ Some st → EndsIn it.from s → Stands st r
+  under_stands p it (control.under q) k st e a = to _ st e (item_stands p it k a)
+  under_stands p it c k st e a = value_stands p it (value_of k) st e
+
+  word_stands : (w : Word) (f : Text) (c : EntryControl) → EndsIn f s → Stands (word_to whole w f c s r) r
+  word_stands w f control.word a = then_ends a b
+  word_stands w f (control.under p) a = ends_here r
+  word_stands w f c a = then_ends a b
+
+  go_stands : (x st : State) (c : EntryControl) (k : Token) → go_to whole x c k s r ≡ Some st → Stands x s → Stands st r
+  go_stands ahead st c k e a = begin_stands c st k e
+  go_stands (dropping p) st c k e a = begin_stands c st k e
+  go_stands (under p it) st c k e a = under_stands p it c k st e a
+  go_stands (word w f) st c k e a = to _ st e (word_stands w f c a)
+  go_stands (done x f) st c k e a = to (done x f) st e (then_ends a b)
 
   step_stands : (x st : State) (k : Token) → step whole x k s r ≡ Some st → Stands x s → Stands st r
-  step_stands ahead st space e a = to ahead st e tt
-  step_stands ahead st newline e a = to ahead st e tt
-  step_stands ahead st slashdash e a = to (dropping entry_slashdash) st e tt
-  step_stands ahead st (string v) e a = to _ st e (ends_here r)
-  step_stands ahead st (value v) e a = to _ st e (ends_here r)
-  step_stands ahead st left e a = to _ st e (ends_here r)
-  step_stands (dropping (in_node (spaced b))) st (string v) e a = to _ st e (ends_here r)
-  step_stands (dropping (in_node (spaced b))) st (value v) e a = to _ st e (ends_here r)
-  step_stands (dropping (in_node (spaced b))) st left e a = to _ st e (ends_here r)
-  step_stands (dropping p) st k e a = dropped_stands (dropped_turn p k) st e
-  step_stands (under it) st k e a = item_stands it it.stage k st e a
-  step_stands (word w f) st space e a = to (word w f) st e (then_ends a b)
-  step_stands (word w f) st newline e a = to (done _ f) st e (then_ends a b)
-  step_stands (word w f) st equals e a = to _ st e (ends_here r)
-  step_stands (done x f) st space e a = to (done x f) st e (then_ends a b)
-  step_stands (done x f) st newline e a = to (done x f) st e (then_ends a b)
-  step_stands _ st _ e a = absurd cc
+  step_stands x st k e a = go (entry_step (phase_of x) k) e
+    where
+      go : (o : Option EntryControl) → if_taken o (λ c. go_to whole x c k s r) ≡ Some st → Stands st r
+      go None e = absurd cc
+      go (Some c) e = go_stands x st c k e a
 
 -- the lexer is in the text, the machine goes on from here as from the start, and it goes over the text up to here
 pub record Going (st : State) (here : Here) (t : Text) : Type 0 where
@@ -162,6 +158,9 @@ pub record Going (st : State) (here : Here) (t : Text) : Type 0 where
   pub reached : EntryReaches t (phase_of st) here.rest
   pub text : EndsIn t here.rest
   pub at : here.at + bytes here.rest ≡ bytes t
+
+is_placed : {st : State} {here : Here} {t : Text} → Going st here t → Placed (phase_of st)
+is_placed g = placed {c = control.ahead} tt g.reached
 
 pub starts_going : (t : Text) (here : Here) → here.rest ≡ t → here.at ≡ 0 → Going ahead here t
 starts_going t here e f = record {
@@ -180,7 +179,7 @@ next_going st st' old mid new t k g h m e y =
     let went : Going st' mid t = record {
       same = λ d. let a = read_cut t d st st' old.rest mid.rest (kind_view k.kind) h.cuts e' in let b = g.same d in (λ x. b.0 (a.0 x), λ x. a.1 (b.1 x));
       from = step_stands t old.rest mid.rest piece st st' (kind_view k.kind) e' g.from;
-      reached = goes_over g.reached h.cuts (turned t st st' (kind_view k.kind) old.rest mid.rest e');
+      reached = goes_over g.reached h.cuts (turned t st st' (kind_view k.kind) old.rest mid.rest (is_placed g) e');
       text = then_ends g.text piece;
       at = m.at ∙ g.at;
     } in
@@ -229,7 +228,7 @@ lexer_told st old new t Memory g x = tt
 pub take_told : (st : State) (old mid : Here) (t : Text) (k : CodeToken) (e : LexFailure) → Going st old t → HandsOut old k mid → Stepped (step t st (kind_view k.kind) k.at.start.rest k.at.end.rest) k.at.start (Err e) → AnswersEntryText t (Err e)
 take_told st old mid t k (Faulty span) g h x =
     let e : step t st (kind_view k.kind) old.rest mid.rest ≡ None = rw (h.start_rest, h.end_rest) at x.0 in
-    (no_turn st old mid t k g h x.0, told st old t k.at.start span g h.start_rest h.start_at x.1, refused_here st old t k.at.start span g h.start_at x.1 (stuck_at (phase_of st) old.rest mid.rest (kind_view k.kind) h.cuts (not_turned t st (kind_view k.kind) old.rest mid.rest e)))
+    (no_turn st old mid t k g h x.0, told st old t k.at.start span g h.start_rest h.start_at x.1, refused_here st old t k.at.start span g h.start_at x.1 (stuck_at (phase_of st) old.rest mid.rest (kind_view k.kind) h.cuts (not_turned t st (kind_view k.kind) old.rest mid.rest (is_placed g) e)))
 take_told st old mid t k Memory g h x = tt
 
 -- a turn comes nearer to the end

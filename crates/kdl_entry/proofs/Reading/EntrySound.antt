@@ -6,10 +6,9 @@ use Rattle.kdl_text.specs.Trivia.{NodeSpace, LineSpace, slashdash, ValueEnd}
 use Rattle.kdl_entry.specs.Data as data'
 use Rattle.kdl_value.specs.Data.{Value}
 use Rattle.kdl_entry.specs.Entries.{IsString, string as a_string', IsPlainValue, a_string, a_plain, parens, untyped, typed, IsValue, value as a_value, IsEntry, property, argument, DroppedFirst, dropped_first, before_entry, IsEntryText, entry_text}
-use Rattle.kdl_entry.specs.Internal.EntryMachine.{Word, State, ahead, dropping, under, word, done, came, step, Runs, stops, reads, AnswersEntry}
+use Rattle.kdl_entry.specs.Internal.EntryMachine.{Word, State, ahead, dropping, under, word, done, step, Runs, stops, reads, AnswersEntry}
 use Rattle.kdl_control.specs.Control.{Phase, fresh, spaced, later, gap, node_slashdash, type_open, type_name, type_done, in_node, property as in_property, entry_slashdash, block_slashdash, kept, kept_slashdash}
-use Rattle.kdl_entry.specs.Internal.Items.{Stage, opened, named, closed, keyed, Item, Answer, if_valued}
-use Rattle.kdl_entry.specs.Internal.Items as items
+use Rattle.kdl_entry.specs.Internal.Items.{Item}
 use Rattle.kdl_lexer.specs.Tokens.{Token, string, value, left, bom, BeginsToken, t_space, t_newline, t_slashdash, t_string, t_value, t_left, t_right, t_equals}
 use Rattle.kdl_entry.specs.Tree.{Entry}
 use Rattle.kdl_lexer.proofs.Lexing.TokenUnique.{is_end, end_behind}
@@ -48,11 +47,12 @@ data SlashdashThen : Text → Type 0 where
 data SpacedThen : Text → Type 0 where
   spaced_then : {s t : Text} → Star NodeSpace s t → Left t → SpacedThen s
 
-abbrev InItem : Stage → Bool → Text → Type 0
-InItem opened b s = OpenThen b s
-InItem named b s = NamedThen b s
-InItem closed b s = ClosedThen b s
-InItem keyed b s = ValueThen b s
+abbrev InItem : Phase → Bool → Text → Type 0
+InItem (type_open c) b s = OpenThen b s
+InItem (type_name c) b s = NamedThen b s
+InItem (type_done c) b s = ClosedThen b s
+InItem in_property b s = ValueThen b s
+InItem _ b s = Unit {0}
 
 abbrev Key : Bool → Bool → Text → Type 0
 Key false b s = ⊥
@@ -60,18 +60,14 @@ Key true b s = KeyThen b s
 
 abbrev DroppedThen : Phase → Text → Type 0
 DroppedThen entry_slashdash s = SlashdashThen s
-DroppedThen (type_open b) s = OpenThen false s
-DroppedThen (type_name b) s = NamedThen false s
-DroppedThen (type_done b) s = ClosedThen false s
-DroppedThen in_property s = ValueThen false s
 DroppedThen (in_node (fresh b)) s = Then false s ⊎ Key b false s
 DroppedThen (in_node (spaced b)) s = SpacedThen s ⊎ Key b false s
-DroppedThen _ s = Unit {0}
+DroppedThen p s = InItem p false s
 
 abbrev Rest : State → Text → Type 0
 Rest ahead s = (x : data'.Entry) × IsEntryText true s x
 Rest (dropping p) s = DroppedThen p s
-Rest (under it) s = InItem it.stage true s
+Rest (under p it) s = InItem p true s
 Rest (word w from) s = Then true s ⊎ KeyThen true s
 Rest (done e from) s = Then true s
 
@@ -132,11 +128,12 @@ word_space : {s r : Text} → NodeSpace s r → Then true r ⊎ KeyThen true r �
 word_space n (inl d) = inl (last_space (LineSpace.space n) d)
 word_space n (inr k) = inr (key_space n k)
 
-item_space : {s r : Text} (g : Stage) (b : Bool) → NodeSpace s r → InItem g b r → InItem g b s
-item_space opened b n (open_then ss w d) = open_then (more n ss) w d
-item_space named b n (named_then ss d) = named_then (more n ss) d
-item_space closed b n (closed_then ss w d) = closed_then (more n ss) w d
-item_space keyed b n (value_then ss w d) = value_then (more n ss) w d
+item_space : {s r : Text} (p : Phase) (b : Bool) → NodeSpace s r → InItem p b r → InItem p b s
+item_space (type_open c) b n (open_then ss w d) = open_then (more n ss) w d
+item_space (type_name c) b n (named_then ss d) = named_then (more n ss) d
+item_space (type_done c) b n (closed_then ss w d) = closed_then (more n ss) w d
+item_space in_property b n (value_then ss w d) = value_then (more n ss) w d
+item_space _ b n d = tt
 
 module _ (whole : Text) (out : Entry) where
   back : (r : Text) (x y : State) → Some x ≡ Some y → Rest y r → Rest x r
@@ -174,12 +171,12 @@ module _ (whole : Text) (out : Entry) where
   type_ends b bom s r st e = absurd cc
   type_ends b _ s r st e = refl
 
-  named_ends : (it : Item) (k : Token) (s r : Text) (st : State) → came it (items.move named whole it k s r) s r ≡ Some st → is_end k ≡ true
-  named_ends it (string v) s r st e = absurd cc
-  named_ends it (value v) s r st e = absurd cc
-  named_ends it left s r st e = absurd cc
-  named_ends it bom s r st e = absurd cc
-  named_ends it _ s r st e = refl
+  named_ends : (b : Bool) (it : Item) (k : Token) (s r : Text) (st : State) → step whole (under (type_name b) it) k s r ≡ Some st → is_end k ≡ true
+  named_ends b it (string v) s r st e = absurd cc
+  named_ends b it (value v) s r st e = absurd cc
+  named_ends b it left s r st e = absurd cc
+  named_ends b it bom s r st e = absurd cc
+  named_ends b it _ s r st e = refl
 
   ends : {s : Text} {st : State} → Runs whole out st s → ((k : Token) (s r : Text) (st' : State) → step whole st k s r ≡ Some st' → is_end k ≡ true) → ValueEnd true s
   ends (stops e) f = ValueEnd.nothing
@@ -197,28 +194,29 @@ module _ (whole : Text) (out : Entry) where
   done_end : {s : Text} (x : Entry) (from : Text) → Runs whole out (done x from) s → ValueEnd true s
   done_end x from a = ends a (done_ends x from)
 
-  named_end : {s : Text} (it : Item) → it.stage ≡ named → Runs whole out (under it) s → ValueEnd true s
-  named_end it q a = ends a (λ k s r st e. named_ends it k s r st (subst (λ (g : Stage). came it (items.move g whole it k s r) s r ≡ Some st) q e))
+  named_end : {s : Text} (b : Bool) (it : Item) → Runs whole out (under (type_name b) it) s → ValueEnd true s
+  named_end b it a = ends a (named_ends b it)
 
-  valued_gives : (b : Bool) (it : Item) (a : Answer) (s r : Text) (st : State) → came it (if_valued b a) s r ≡ Some st → came it a s r ≡ Some st
-  valued_gives true it a s r st e = e
-  valued_gives false it a s r st e = absurd cc
-
-  in_item : {s r : Text} {k : Token} {st : State} (it : Item) (g : Stage) → it.stage ≡ g → BeginsToken s k r → came it (items.move g whole it k s r) s r ≡ Some st → Runs whole out st r → Rest st r → InItem g true s
-  in_item {r = r} {st = st} it opened q (t_space n) e a d = item_space opened true n (subst (λ (z : Stage). InItem z true r) q (back r (under it) st e d))
-  in_item {r = r} {st = st} it named q (t_space n) e a d = item_space named true n (subst (λ (z : Stage). InItem z true r) q (back r (under it) st e d))
-  in_item {r = r} {st = st} it closed q (t_space n) e a d = item_space closed true n (subst (λ (z : Stage). InItem z true r) q (back r (under it) st e d))
-  in_item {r = r} {st = st} it keyed q (t_space n) e a d = item_space keyed true n (subst (λ (z : Stage). InItem z true r) q (back r (under it) st e d))
-  in_item it opened q (t_string p) e a d = open_then no_star (a_string' p (named_end _ refl (back_run _ _ e a))) (back _ (under _) _ e d)
-  in_item it named q t_right e a d = named_then no_star (back _ (under _) _ e d)
-  in_item it closed q (t_string p) e a d = closed_then no_star (a_string (a_string' p (done_end _ _ (back_run _ _ e a)))) (back _ (done _ _) _ e d)
-  in_item {s = s} {r = r} {st = st} it closed q (t_value p) e a d =
-      let f = valued_gives it.valued it _ s r st e in
-      closed_then no_star (a_plain p (done_end _ _ (back_run _ _ f a))) (back _ (done _ _) _ f d)
-  in_item it keyed q (t_string p) e a d = value_of (a_string (a_string' p (done_end _ _ (back_run _ _ e a)))) (back _ (done _ _) _ e d)
-  in_item it keyed q (t_value p) e a d = value_of (a_plain p (done_end _ _ (back_run _ _ e a))) (back _ (done _ _) _ e d)
-  in_item it keyed q t_left e a d = value_typed (back _ (under _) _ e d)
-  in_item it _ q t e a d = absurd cc
+  in_item : {s r : Text} {k : Token} {st : State} (p : Phase) (it : Item) → BeginsToken s k r → step whole (under p it) k s r ≡ Some st → Runs whole out st r → Rest st r → InItem p true s
+  in_item (type_open b) it (t_space n) e a d = item_space (type_open b) true n (back _ (under (type_open b) it) _ e d)
+  in_item (type_open b) it (t_string p) e a d = open_then no_star (a_string' p (named_end b _ (back_run _ _ e a))) (back _ (under (type_name b) _) _ e d)
+  in_item (type_name b) it (t_space n) e a d = item_space (type_name b) true n (back _ (under (type_name b) it) _ e d)
+  in_item (type_name b) it t_right e a d = named_then no_star (back _ (under (type_done b) _) _ e d)
+  in_item (type_done b) it (t_space n) e a d = item_space (type_done b) true n (back _ (under (type_done b) it) _ e d)
+  in_item (type_done b) it (t_string p) e a d = closed_then no_star (a_string (a_string' p (done_end _ _ (back_run _ _ e a)))) (back _ (done _ _) _ e d)
+  in_item (type_done true) it (t_value p) e a d = closed_then no_star (a_plain p (done_end _ _ (back_run _ _ e a))) (back _ (done _ _) _ e d)
+  in_item in_property it (t_space n) e a d = item_space in_property true n (back _ (under in_property it) _ e d)
+  in_item in_property it (t_string p) e a d = value_of (a_string (a_string' p (done_end _ _ (back_run _ _ e a)))) (back _ (done _ _) _ e d)
+  in_item in_property it (t_value p) e a d = value_of (a_plain p (done_end _ _ (back_run _ _ e a))) (back _ (done _ _) _ e d)
+  in_item in_property it t_left e a d = value_typed (back _ (under (type_open true) _) _ e d)
+  in_item gap it t e a d = tt
+  in_item node_slashdash it t e a d = tt
+  in_item (in_node p) it t e a d = tt
+  in_item entry_slashdash it t e a d = tt
+  in_item block_slashdash it t e a d = tt
+  in_item kept it t e a d = tt
+  in_item kept_slashdash it t e a d = tt
+  in_item _ it t e a d = absurd cc
 
   -- in or after a slashdashed entry
   in_dropped : {s r : Text} {k : Token} {st : State} (p : Phase) → BeginsToken s k r → step whole (dropping p) k s r ≡ Some st → Runs whole out st r → Rest st r → DroppedThen p s
@@ -227,14 +225,14 @@ module _ (whole : Text) (out : Entry) where
   in_dropped entry_slashdash (t_string p) e a d = slashdash_then no_star (entry_of (a_string' p (fresh_end true (back_run _ _ e a))) (back _ (dropping (in_node (fresh true))) _ e d))
   in_dropped entry_slashdash (t_value p) e a d = slashdash_then no_star (entry_plain (a_plain p (fresh_end false (back_run _ _ e a))) (no_key (back _ (dropping (in_node (fresh false))) _ e d)))
   in_dropped entry_slashdash t_left e a d = slashdash_then no_star (entry_typed (back _ (dropping (type_open true)) _ e d))
-  in_dropped (type_open b) (t_space n) e a d = item_space opened false n (back _ (dropping (type_open b)) _ e d)
+  in_dropped (type_open b) (t_space n) e a d = item_space (type_open b) false n (back _ (dropping (type_open b)) _ e d)
   in_dropped (type_open b) (t_string p) e a d = open_then no_star (a_string' p (type_end b (back_run _ _ e a))) (back _ (dropping (type_name b)) _ e d)
-  in_dropped (type_name b) (t_space n) e a d = item_space named false n (back _ (dropping (type_name b)) _ e d)
+  in_dropped (type_name b) (t_space n) e a d = item_space (type_name b) false n (back _ (dropping (type_name b)) _ e d)
   in_dropped (type_name b) t_right e a d = named_then no_star (back _ (dropping (type_done b)) _ e d)
-  in_dropped (type_done b) (t_space n) e a d = item_space closed false n (back _ (dropping (type_done b)) _ e d)
+  in_dropped (type_done b) (t_space n) e a d = item_space (type_done b) false n (back _ (dropping (type_done b)) _ e d)
   in_dropped (type_done b) (t_string p) e a d = closed_then no_star (a_string (a_string' p (fresh_end false (back_run _ _ e a)))) (no_key (back _ (dropping (in_node (fresh false))) _ e d))
   in_dropped (type_done true) (t_value p) e a d = closed_then no_star (a_plain p (fresh_end false (back_run _ _ e a))) (no_key (back _ (dropping (in_node (fresh false))) _ e d))
-  in_dropped in_property (t_space n) e a d = item_space keyed false n (back _ (dropping in_property) _ e d)
+  in_dropped in_property (t_space n) e a d = item_space in_property false n (back _ (dropping in_property) _ e d)
   in_dropped in_property (t_string p) e a d = value_of (a_string (a_string' p (fresh_end false (back_run _ _ e a)))) (no_key (back _ (dropping (in_node (fresh false))) _ e d))
   in_dropped in_property (t_value p) e a d = value_of (a_plain p (fresh_end false (back_run _ _ e a))) (no_key (back _ (dropping (in_node (fresh false))) _ e d))
   in_dropped in_property t_left e a d = value_typed (back _ (dropping (type_open true)) _ e d)
@@ -245,7 +243,7 @@ module _ (whole : Text) (out : Entry) where
   in_dropped (in_node (spaced b)) t_slashdash e a d = inl (spaced_then no_star (left_slashdash (back _ (dropping entry_slashdash) _ e d)))
   in_dropped (in_node (spaced b)) (t_string p) e a d = inl (spaced_then no_star (left_entry (entry_of (a_string' p (word_end _ _ (back_run _ _ e a))) (back _ (word _ _) _ e d))))
   in_dropped (in_node (spaced b)) (t_value p) e a d = inl (spaced_then no_star (left_entry (entry_plain (a_plain p (done_end _ _ (back_run _ _ e a))) (back _ (done _ _) _ e d))))
-  in_dropped (in_node (spaced b)) t_left e a d = inl (spaced_then no_star (left_entry (entry_typed (back _ (under _) _ e d))))
+  in_dropped (in_node (spaced b)) t_left e a d = inl (spaced_then no_star (left_entry (entry_typed (back _ (under (type_open true) _) _ e d))))
   in_dropped gap t e a d = tt
   in_dropped node_slashdash t e a d = tt
   in_dropped (in_node later) t e a d = tt
@@ -263,12 +261,12 @@ module _ (whole : Text) (out : Entry) where
   sound (reads {st = ahead} t_slashdash e a) = text_left (left_slashdash (back _ (dropping entry_slashdash) _ e (sound a)))
   sound (reads {st = ahead} (t_string p) e a) = text_left (left_entry (entry_of (a_string' p (word_end _ _ (back_run _ _ e a))) (back _ (word _ _) _ e (sound a))))
   sound (reads {st = ahead} (t_value p) e a) = text_left (left_entry (entry_plain (a_plain p (done_end _ _ (back_run _ _ e a))) (back _ (done _ _) _ e (sound a))))
-  sound (reads {st = ahead} t_left e a) = text_left (left_entry (entry_typed (back _ (under _) _ e (sound a))))
+  sound (reads {st = ahead} t_left e a) = text_left (left_entry (entry_typed (back _ (under (type_open true) _) _ e (sound a))))
   sound (reads {st = dropping p} t e a) = in_dropped p t e a (sound a)
-  sound (reads {st = under it} t e a) = in_item it it.stage refl t e a (sound a)
+  sound (reads {st = under p it} t e a) = in_item p it t e a (sound a)
   sound (reads {st = word w from} (t_space n) e a) = word_space n (back _ (word w from) _ e (sound a))
   sound (reads {st = word w from} (t_newline n) e a) = inl (last_space (LineSpace.«break» n) (back _ (done _ _) _ e (sound a)))
-  sound (reads {st = word w from} t_equals e a) = inr (key_then no_star (back _ (under _) _ e (sound a)))
+  sound (reads {st = word w from} t_equals e a) = inr (key_then no_star (back _ (under in_property _) _ e (sound a)))
   sound (reads {st = done x from} (t_space n) e a) = last_space (LineSpace.space n) (back _ (done x from) _ e (sound a))
   sound (reads {st = done x from} (t_newline n) e a) = last_space (LineSpace.«break» n) (back _ (done x from) _ e (sound a))
   sound (reads t e a) = absurd cc

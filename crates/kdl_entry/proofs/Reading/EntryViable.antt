@@ -1,5 +1,5 @@
--- From each place that the machine of entry texts without data reaches in a text some text goes on to an entry text.
-use Rattle.std.proofs.Common.{◌≡◌, Bool, true, false, [], ◌∷◌, ◌++◌, Option, Some, None, option_map, refl, sym, ap, subst, ◌∙◌}
+-- From each place that the control of entry texts reaches in a text some text goes on to an entry text.
+use Rattle.std.proofs.Common.{◌≡◌, Bool, true, false, [], ◌∷◌, ◌++◌, Some, refl, sym, ap, subst, ◌∙◌}
 use Rattle.std.proofs.lemmas.List.{append_cancel_right}
 use Rattle.kdl_text.specs.Bare.{bare as bare_text, is_bare}
 use Rattle.kdl_text.specs.Chars.{Text, begins, starts, is_identifier_char, Space}
@@ -13,14 +13,14 @@ use Rattle.kdl_lexer.proofs.Lexing.TokenUnique.{is_end, end_behind}
 use Rattle.kdl_lexer.proofs.Moving.StringMoves.{value_end_no_quote}
 use Rattle.kdl_control.specs.Control as control
 use Rattle.kdl_control.specs.Control.{fresh, spaced, gap, node_slashdash, type_open, type_name, type_done, in_node, property, entry_slashdash}
+use Rattle.kdl_control.specs.EntryControl.{EntryControl, ahead, dropping, under, word, done, entry_step}
 use Rattle.kdl_entry.specs.EarliestEntry.{DerivedEntry}
 use Rattle.kdl_entry.specs.Entries.{IsEntryText}
-use Rattle.kdl_entry.specs.Internal.EntryControl.{Phase, ahead, dropping, under, word, done, turn, EntryReaches}
-use Rattle.kdl_entry.specs.Internal.EntryMachine.{dropped_turn}
-use Rattle.kdl_entry.specs.Internal.Going.{GoesBy, here, goes}
+use Rattle.kdl_entry.specs.Internal.Going.{EntryReaches}
 use Rattle.kdl_entry.proofs.Moving.TokenMoves.{Fits}
 use Rattle.kdl_entry.proofs.Reading.EntryErased.{Accepts, ends, takes, accepts_derived, behind}
 use Rattle.kdl_entry.proofs.Reading.Going.{carry}
+use Rattle.kdl_entry.proofs.Reading.Placed.{in_dropped, in_item, Placed, placed}
 
 -- Texts that end an entry text: what is due, and after an entry that is slashdashed an entry.
 abbrev due : control.Phase → Text → Text
@@ -34,7 +34,7 @@ due _ u = 97 ∷ u
 abbrev one_more : Text
 one_more = 32 ∷ 97 ∷ []
 
-abbrev rest_text : Phase → Text
+abbrev rest_text : EntryControl → Text
 rest_text ahead = 97 ∷ []
 rest_text (dropping p) = due p one_more
 rest_text (under p) = due p []
@@ -59,25 +59,6 @@ a_word r h = t_string (bare (bare_text refl is_word h))
 a_space : (r : Text) → BeginsToken (32 ∷ r) space r
 unfolding Rattle.kdl_text.specs.Chars.is_space
 a_space r = t_space (NodeSpace.ws (Ws.space (Space.space refl)))
-
--- the phases from a slashdash on
-abbrev in_dropped : control.Phase → Bool
-in_dropped entry_slashdash = true
-in_dropped (type_open b) = true
-in_dropped (type_name b) = true
-in_dropped (type_done b) = true
-in_dropped property = true
-in_dropped (in_node (fresh b)) = true
-in_dropped (in_node (spaced b)) = true
-in_dropped _ = false
-
--- the phases in an entry that has a type or a key
-abbrev in_item : control.Phase → Bool
-in_item (type_open b) = true
-in_item (type_name b) = true
-in_item (type_done b) = true
-in_item property = true
-in_item _ = false
 
 last_accepted : (b : Bool) → Accepts (under (type_done b)) (97 ∷ [])
 last_accepted b = takes (a_word [] refl) refl (ends refl)
@@ -111,91 +92,15 @@ dropped_accepted (in_node (fresh b)) h = fresh_accepted b
 dropped_accepted (in_node (spaced b)) h = spaced_accepted b
 dropped_accepted _ h = absurd cc
 
--- the machine is in no other phases
-abbrev Placed : Phase → Type 0
-Placed (dropping p) = in_dropped p ≡ true
-Placed (under p) = in_item p ≡ true
-Placed _ = Unit {0}
-
-to_placed : (c d : Phase) → Some c ≡ Some d → Placed c → Placed d
-to_placed c d e h = let q : c ≡ d = cc in subst (λ (z : Phase). Placed z) q h
-
-to_phase : (p q : control.Phase) → Some p ≡ Some q → in_dropped p ≡ true → in_dropped q ≡ true
-to_phase p q e h = let x : p ≡ q = cc in subst (λ (z : control.Phase). in_dropped z ≡ true) x h
-
-dropped_goes : (p : control.Phase) (k : Token) (q : control.Phase) → in_dropped p ≡ true → dropped_turn p k ≡ Some q → in_dropped q ≡ true
-dropped_goes entry_slashdash space q h e = to_phase _ q e refl
-dropped_goes entry_slashdash newline q h e = to_phase _ q e refl
-dropped_goes entry_slashdash (string v) q h e = to_phase _ q e refl
-dropped_goes entry_slashdash (value v) q h e = to_phase _ q e refl
-dropped_goes entry_slashdash left q h e = to_phase _ q e refl
-dropped_goes (type_open b) space q h e = to_phase _ q e refl
-dropped_goes (type_open b) (string v) q h e = to_phase _ q e refl
-dropped_goes (type_name b) space q h e = to_phase _ q e refl
-dropped_goes (type_name b) right q h e = to_phase _ q e refl
-dropped_goes (type_done b) space q h e = to_phase _ q e refl
-dropped_goes (type_done b) (string v) q h e = to_phase _ q e refl
-dropped_goes (type_done true) (value v) q h e = to_phase _ q e refl
-dropped_goes property space q h e = to_phase _ q e refl
-dropped_goes property (string v) q h e = to_phase _ q e refl
-dropped_goes property (value v) q h e = to_phase _ q e refl
-dropped_goes property left q h e = to_phase _ q e refl
-dropped_goes (in_node (fresh b)) space q h e = to_phase _ q e refl
-dropped_goes (in_node (fresh true)) equals q h e = to_phase _ q e refl
-dropped_goes (in_node (spaced b)) space q h e = to_phase _ q e refl
-dropped_goes (in_node (spaced b)) slashdash q h e = to_phase _ q e refl
-dropped_goes (in_node (spaced true)) equals q h e = to_phase _ q e refl
-dropped_goes (in_node (spaced b)) (string v) q h e = to_phase _ q e refl
-dropped_goes (in_node (spaced b)) (value v) q h e = to_phase _ q e refl
-dropped_goes (in_node (spaced b)) left q h e = to_phase _ q e refl
-dropped_goes _ _ q h e = absurd cc
-
-dropped_placed : (o : Option control.Phase) (d : Phase) → ((q : control.Phase) → o ≡ Some q → in_dropped q ≡ true) → option_map dropping o ≡ Some d → Placed d
-dropped_placed None d h e = absurd cc
-dropped_placed (Some q) d h e = to_placed (dropping q) d e (h q refl)
-
-under_placed : (p : control.Phase) (k : Token) (d : Phase) → in_item p ≡ true → turn (under p) k ≡ Some d → Placed d
-under_placed (type_open b) space d h e = to_placed (under (type_open b)) d e refl
-under_placed (type_open b) (string v) d h e = to_placed (under (type_name b)) d e refl
-under_placed (type_name b) space d h e = to_placed (under (type_name b)) d e refl
-under_placed (type_name b) right d h e = to_placed (under (type_done b)) d e refl
-under_placed (type_done b) space d h e = to_placed (under (type_done b)) d e refl
-under_placed (type_done b) (string v) d h e = to_placed done d e tt
-under_placed (type_done true) (value v) d h e = to_placed done d e tt
-under_placed property space d h e = to_placed (under property) d e refl
-under_placed property (string v) d h e = to_placed done d e tt
-under_placed property (value v) d h e = to_placed done d e tt
-under_placed property left d h e = to_placed (under (type_open true)) d e refl
-under_placed _ _ d h e = absurd cc
-
-turn_placed : (c : Phase) (k : Token) (d : Phase) → Placed c → turn c k ≡ Some d → Placed d
-turn_placed ahead space d h e = to_placed ahead d e tt
-turn_placed ahead newline d h e = to_placed ahead d e tt
-turn_placed ahead slashdash d h e = to_placed (dropping entry_slashdash) d e refl
-turn_placed ahead (string v) d h e = to_placed word d e tt
-turn_placed ahead (value v) d h e = to_placed done d e tt
-turn_placed ahead left d h e = to_placed (under (type_open true)) d e refl
-turn_placed (dropping (in_node (spaced b))) (string v) d h e = to_placed word d e tt
-turn_placed (dropping (in_node (spaced b))) (value v) d h e = to_placed done d e tt
-turn_placed (dropping (in_node (spaced b))) left d h e = to_placed (under (type_open true)) d e refl
-turn_placed (dropping p) k d h e = dropped_placed (dropped_turn p k) d (λ q x. dropped_goes p k q h x) e
-turn_placed (under p) k d h e = under_placed p k d h e
-turn_placed word space d h e = to_placed word d e tt
-turn_placed word newline d h e = to_placed done d e tt
-turn_placed word equals d h e = to_placed (under property) d e refl
-turn_placed done space d h e = to_placed done d e tt
-turn_placed done newline d h e = to_placed done d e tt
-turn_placed _ _ d h e = absurd cc
-
 -- from each phase its text is accepted
-rest_accepted : (c : Phase) → Placed c → Accepts c (rest_text c)
+rest_accepted : (c : EntryControl) → Placed c → Accepts c (rest_text c)
 rest_accepted ahead h = takes (a_word [] refl) refl (ends refl)
 rest_accepted (dropping p) h = dropped_accepted p h
 rest_accepted (under p) h = under_accepted p h
 rest_accepted word h = ends refl
 rest_accepted done h = ends refl
 
-no_feed : (c : Phase) → begins 10 (rest_text c) ≡ false
+no_feed : (c : EntryControl) → begins 10 (rest_text c) ≡ false
 no_feed ahead = refl
 no_feed (dropping (in_node (fresh b))) = refl
 no_feed (dropping (in_node (spaced b))) = refl
@@ -207,7 +112,7 @@ no_feed word = refl
 no_feed done = refl
 
 -- after a string, a number or a keyword
-abbrev worded : Phase → Bool
+abbrev worded : EntryControl → Bool
 worded (dropping (in_node (fresh b))) = true
 worded (dropping (type_name b)) = true
 worded (under (type_name b)) = true
@@ -215,10 +120,10 @@ worded word = true
 worded done = true
 worded _ = false
 
-to_worded : (c d : Phase) → Some c ≡ Some d → worded c ≡ true → worded d ≡ true
-to_worded c d e h = let q : c ≡ d = cc in subst (λ (z : Phase). worded z ≡ true) q h
+to_worded : (c d : EntryControl) → Some c ≡ Some d → worded c ≡ true → worded d ≡ true
+to_worded c d e h = let q : c ≡ d = cc in subst (λ (z : EntryControl). worded z ≡ true) q h
 
-behind_string : (c : Phase) (v : Text) (d : Phase) → turn c (string v) ≡ Some d → worded d ≡ true
+behind_string : (c : EntryControl) (v : Text) (d : EntryControl) → entry_step c (string v) ≡ Some d → worded d ≡ true
 behind_string ahead v d e = to_worded _ d e refl
 behind_string (dropping (in_node (spaced b))) v d e = to_worded _ d e refl
 behind_string (dropping gap) v d e = to_worded _ d e refl
@@ -239,7 +144,7 @@ behind_string (under _) v d e = absurd cc
 behind_string word v d e = absurd cc
 behind_string done v d e = absurd cc
 
-behind_value : (c : Phase) (v : Value) (d : Phase) → turn c (value v) ≡ Some d → worded d ≡ true
+behind_value : (c : EntryControl) (v : Value) (d : EntryControl) → entry_step c (value v) ≡ Some d → worded d ≡ true
 behind_value ahead v d e = to_worded _ d e refl
 behind_value (dropping (in_node (spaced b))) v d e = to_worded _ d e refl
 behind_value (dropping (type_done true)) v d e = to_worded _ d e refl
@@ -255,7 +160,7 @@ behind_value word v d e = absurd cc
 behind_value done v d e = absurd cc
 
 -- there only what ends a value may follow
-next_end : (c : Phase) (k : Token) (d : Phase) → worded c ≡ true → turn c k ≡ Some d → is_end k ≡ true
+next_end : (c : EntryControl) (k : Token) (d : EntryControl) → worded c ≡ true → entry_step c k ≡ Some d → is_end k ≡ true
 next_end word (string v) d w e = absurd cc
 next_end word (value v) d w e = absurd cc
 next_end word left d w e = absurd cc
@@ -284,7 +189,7 @@ next_end (under (type_name b)) _ d w e = refl
 next_end _ k d w e = absurd cc
 
 -- what ends a value goes on with none
-fits_next : (c d d' : Phase) (k j : Token) (t r : Text) → turn c k ≡ Some d → BeginsToken t j r → turn d j ≡ Some d' → Fits k t
+fits_next : (c d d' : EntryControl) (k j : Token) (t r : Text) → entry_step c k ≡ Some d → BeginsToken t j r → entry_step d j ≡ Some d' → Fits k t
 fits_next c d d' (string v) j t r e b f = let z = end_behind b (next_end d j d' (behind_string c v d e) f) in (value_end_no_identifier z, value_end_no_quote z)
 fits_next c d d' (value v) j t r e b f = value_end_no_identifier (end_behind b (next_end d j d' (behind_value c v d e) f))
 fits_next c d d' space j t r e b f = tt
@@ -299,7 +204,7 @@ fits_next c d d' semicolon j t r e b f = tt
 fits_next c d d' bom j t r e b f = tt
 
 -- nor does the text that ends what is under way
-word_fits : (d : Phase) → worded d ≡ true → (starts is_identifier_char (rest_text d) ≡ false) × (begins 34 (rest_text d) ≡ false)
+word_fits : (d : EntryControl) → worded d ≡ true → (starts is_identifier_char (rest_text d) ≡ false) × (begins 34 (rest_text d) ≡ false)
 word_fits word w = (refl, refl)
 word_fits done w = (refl, refl)
 word_fits (dropping (in_node (fresh b))) w = (no_space, refl)
@@ -307,7 +212,7 @@ word_fits (dropping (type_name b)) w = (no_right, refl)
 word_fits (under (type_name b)) w = (no_right, refl)
 word_fits _ w = absurd cc
 
-fits_rest : (c : Phase) (k : Token) (d : Phase) → turn c k ≡ Some d → Fits k (rest_text d)
+fits_rest : (c : EntryControl) (k : Token) (d : EntryControl) → entry_step c k ≡ Some d → Fits k (rest_text d)
 fits_rest c (string v) d e = word_fits d (behind_string c v d e)
 fits_rest c (value v) d e = (word_fits d (behind_value c v d e)).0
 fits_rest c space d e = tt
@@ -321,12 +226,8 @@ fits_rest c equals d e = tt
 fits_rest c semicolon d e = tt
 fits_rest c bom d e = tt
 
-placed : {c d : Phase} {s r : Text} → Placed c → GoesBy turn c s d r → Placed d
-placed h here = h
-placed h (goes {c = c} {c' = c'} {k = k} b e g) = placed (turn_placed c k c' h e) g
-
 -- what it goes over begins a derived text
-pub entry_alive : (p r : Text) (c : Phase) → EntryReaches (p ++ r) c r → BeginsSome DerivedEntry p
+pub entry_alive : (p r : Text) (c : EntryControl) → EntryReaches (p ++ r) c r → BeginsSome DerivedEntry p
 entry_alive p r c g =
     let u = rest_text c in
     let x = carry fits_next u (no_feed c) (λ d k e. fits_rest d k c e) g in

@@ -1,5 +1,5 @@
 -- The piece between two places.
-use Rattle.std.proofs.Common.{◌≡◌, ◌-◌, [], ◌++◌, length, take, sym, ap, ◌∙◌, arith, length-append, append_assoc}
+use Rattle.std.proofs.Common.{◌≡◌, ◌-◌, [], ◌++◌, length, take, sym, ap, ◌∙◌, arith, length-append}
 use Rattle.std.proofs.Math.Seq.{take-append_seam}
 use Rattle.std.proofs.lemmas.Str.{chars-nil}
 use Rattle.std.specs.Prelude.{String, string_bytes}
@@ -7,10 +7,7 @@ use Rattle.std.specs.Str.{chars}
 use Rattle.std.specs.declared.alloc.Global.{Global}
 use Rattle.kdl_entry.specs.Places.{between}
 use Rattle.kdl_value.specs.Tree.{text_of}
-use Rattle.kdl_lexer.specs.declared.token_span.TokenSpan.{TokenSpan}
-use Rattle.kdl_lexer.proofs.Order.{ahead}
 use Rattle.kdl_text.specs.Chars.{Text}
-use Rattle.kdl_text.specs.Internal.Here.{Position, Ahead}
 
 pub between_is : (p s : Text) → between (p ++ s) s ≡ p
 unfolding between
@@ -25,11 +22,3 @@ is_between t s p e = sym (between_is p s) ∙ ap (λ (u : Text). between u s) (s
 -- no bytes are no characters
 pub empty_text : (s : String Global) → string_bytes s ≡ [] → text_of s ≡ []
 empty_text s e = ap chars e ∙ chars-nil
-
--- a place before one that lies before a third lies before the third
-pub ahead_then : (a b c : Position) → Ahead a b → Ahead b c → Ahead a c
-ahead_then a b c x y = (x.0 ++ y.0, x.1 ∙ ap (λ (z : Text). x.0 ++ z) y.1 ∙ sym (append_assoc x.0 y.0 c.rest))
-
--- a place before a token is before its end
-pub past_token : (from : Position) (at : TokenSpan) → Ahead from at.start → Ahead from at.end
-past_token from at x = ahead_then from at.start at.end x (ahead at.start at.end at.order)

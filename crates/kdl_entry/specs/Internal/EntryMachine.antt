@@ -1,15 +1,15 @@
 -- The machine that reads a text that is one entry: it reads the tokens once. The token k is in the text s before r, in the text `whole`.
--- The start of a place is kept as the text from there on. Of a slashdashed entry only the phase of the control grammar is kept.
-use Rattle.std.specs.Prelude.{◌≡◌, true, [], Option, Some, None, option_map}
-use Rattle.kdl_control.specs.Control as control
-use Rattle.kdl_control.specs.Control.{Phase, fresh, spaced, in_node, entry_slashdash, at, without_block}
+-- The control says which token may come. The start of a place is kept as the text from there on; of a slashdashed entry only the phase is kept.
+use Rattle.std.specs.Prelude.{◌≡◌, [], Option, Some, None, option_map}
+use Rattle.kdl_control.specs.Control.{Phase}
+use Rattle.kdl_control.specs.EntryControl as control
+use Rattle.kdl_control.specs.EntryControl.{entry_step}
 use Rattle.kdl_text.specs.Chars.{Text}
 use Rattle.kdl_text.specs.declared.span.SourceSpan.{SourceSpan}
 use Rattle.kdl_value.specs.Data.{Value, text}
-use Rattle.kdl_entry.specs.Internal.Items as items
-use Rattle.kdl_entry.specs.Internal.Items.{entry_at, KeyParts, TypeParts, Item, opened, keyed, Answer, goes, gives, refuses}
+use Rattle.kdl_entry.specs.Internal.Items.{entry_at, KeyParts, TypeParts, Item, taken, key_given, type_given}
 use Rattle.kdl_entry.specs.Places.{span_of, between}
-use Rattle.kdl_lexer.specs.Tokens.{Token, space, newline, slashdash, string, value, left, equals, semicolon, BeginsToken}
+use Rattle.kdl_lexer.specs.Tokens.{Token, string, value, BeginsToken}
 use Rattle.kdl_entry.specs.Tree.{Identifier, EntryFormat, Entry, no_span, plain_identifier}
 
 -- a string that may still be a key: what comes before it, what it represents, its spelling, and its span
@@ -24,24 +24,25 @@ pub record Word : Type 0 where
 pub data State : Type 0 where
   ahead : State
   dropping : Phase → State
-  under : Item → State
+  under : Phase → Item → State
   word : Word → Text → State
   done : Entry → Text → State
 
--- the phase after a token in or after a slashdashed entry, where no block opens: neither a newline nor a `;` ends a node here, and spaces are due between the entry and the next slashdash
-abbrev pub dropped_turn : Phase → Token → Option Phase
-dropped_turn (in_node (fresh b)) slashdash = None
-dropped_turn (in_node p) newline = None
-dropped_turn (in_node p) semicolon = None
-dropped_turn p k = without_block (control.step (at p []) k)
+-- the control at a state
+abbrev pub phase_of : State → control.EntryControl
+phase_of ahead = control.ahead
+phase_of (dropping p) = control.dropping p
+phase_of (under p it) = control.under p
+phase_of (word w from) = control.word
+phase_of (done e from) = control.done
 
 -- an entry being read, after the `(` of its type, which is in s before r
 abbrev pub opened_item : Text → Text → Text → Item
-opened_item s leading r = record { valued = true; stage = opened; leading = leading; start = s; from = r; key = None; name = plain_identifier []; before = []; after = [] }
+opened_item s leading r = record { leading = leading; start = s; from = r; key = None; name = plain_identifier []; before = []; after = [] }
 
 -- an entry being read, after the `=` that follows its key and this text
 abbrev pub keyed_item : Text → Text → Identifier → Text → Text → Item
-keyed_item start leading name before r = record { valued = true; stage = keyed; leading = leading; start = start; from = r; key = None; name = name; before = before; after = [] }
+keyed_item start leading name before r = record { leading = leading; start = start; from = r; key = None; name = name; before = before; after = [] }
 
 -- the string that is in s before r
 abbrev pub word_at : Text → Text → Text → Text → Word
@@ -59,31 +60,56 @@ entry_by leading k y v repr = entry_at no_span leading k y v repr
 abbrev pub argument_of : Word → Entry
 argument_of w = entry_by w.leading None None (text w.value) w.repr
 
--- the state after an answer of the item
-abbrev pub came : Item → Answer → Text → Text → Option State
-came it (goes next) s r = Some (under next)
-came it (gives k y v) s r = Some (done (entry_by it.leading k y v (between s r)) r)
-came it refuses s r = None
+-- the entry whose value is in s before r, in the phase
+abbrev pub valued : Phase → Item → Value → Text → Text → Entry
+valued p it v s r = entry_by it.leading (key_given p it s) (type_given p it s) v (between s r)
+
+-- the state after a token before the entry, where the control goes to c
+abbrev pub begin_to : Text → control.EntryControl → Token → Text → Text → Option State
+begin_to whole control.ahead k s r = Some ahead
+begin_to whole (control.dropping p) k s r = Some (dropping p)
+begin_to whole (control.under p) k s r = Some (under p (opened_item s (between whole s) r))
+begin_to whole control.word (string v) s r = Some (word (word_at whole v s r) r)
+begin_to whole control.done (value v) s r = Some (done (entry_by (between whole s) None None v (between s r)) r)
+begin_to whole c k s r = None
+
+-- the value that a token is
+abbrev pub value_of : Token → Option Value
+value_of (string v) = Some (text v)
+value_of (value v) = Some v
+value_of k = None
+
+-- the state after the value of the entry
+abbrev pub value_to : Phase → Item → Token → Text → Text → Option State
+value_to p it k s r = option_map (λ v. done (valued p it v s r) r) (value_of k)
+
+-- the state after a token in the entry, where the control goes to c
+abbrev pub under_to : Text → Phase → Item → control.EntryControl → Token → Text → Text → Option State
+under_to whole p it (control.under q) k s r = Some (under q (taken p whole it k s r))
+under_to whole p it c k s r = value_to p it k s r
+
+-- the state after a token that follows a string that may be a key, where the control goes to c
+abbrev pub word_to : Text → Word → Text → control.EntryControl → Text → Text → State
+word_to whole w from control.word s r = word w from
+word_to whole w from (control.under p) s r = under p (keyed_item whole w.leading (word_identifier w) (between from s) r)
+word_to whole w from c s r = done (argument_of w) from
+
+-- the state after a token, where the control goes to c
+abbrev pub go_to : Text → State → control.EntryControl → Token → Text → Text → Option State
+go_to whole ahead c k s r = begin_to whole c k s r
+go_to whole (dropping p) c k s r = begin_to whole c k s r
+go_to whole (under p it) c k s r = under_to whole p it c k s r
+go_to whole (word w from) c k s r = Some (word_to whole w from c s r)
+go_to whole (done e from) c k s r = Some (done e from)
+
+-- the state after a token, by the control; none if the token may not come
+abbrev pub if_taken : Option control.EntryControl → (control.EntryControl → Option State) → Option State
+if_taken None f = None
+if_taken (Some c) f = f c
 
 -- the token k is in s before r, in the text `whole`
 abbrev pub step : Text → State → Token → Text → Text → Option State
-step whole ahead space s r = Some ahead
-step whole ahead newline s r = Some ahead
-step whole ahead slashdash s r = Some (dropping entry_slashdash)
-step whole ahead (string v) s r = Some (word (word_at whole v s r) r)
-step whole ahead (value v) s r = Some (done (entry_by (between whole s) None None v (between s r)) r)
-step whole ahead left s r = Some (under (opened_item s (between whole s) r))
-step whole (dropping (in_node (spaced b))) (string v) s r = Some (word (word_at whole v s r) r)
-step whole (dropping (in_node (spaced b))) (value v) s r = Some (done (entry_by (between whole s) None None v (between s r)) r)
-step whole (dropping (in_node (spaced b))) left s r = Some (under (opened_item s (between whole s) r))
-step whole (dropping p) k s r = option_map dropping (dropped_turn p k)
-step whole (under it) k s r = came it (items.step whole it k s r) s r
-step whole (word w from) space s r = Some (word w from)
-step whole (word w from) newline s r = Some (done (argument_of w) from)
-step whole (word w from) equals s r = Some (under (keyed_item whole w.leading (word_identifier w) (between from s) r))
-step whole (done e from) space s r = Some (done e from)
-step whole (done e from) newline s r = Some (done e from)
-step _ _ _ _ _ = None
+step whole st k s r = if_taken (entry_step (phase_of st) k) (λ c. go_to whole st c k s r)
 
 -- the format with that trailing text
 abbrev pub with_trailing : Text → EntryFormat → EntryFormat

@@ -28,7 +28,7 @@ word_view w = record { leading = text_of w.leading; value = text_of w.value; rep
 abbrev pub state_view : State → machine.State
 state_view Start = machine.ahead
 state_view (Dropping p) = machine.dropping (phase_view p)
-state_view (Under it) = under (item_view it)
+state_view (Under p it) = under (phase_view p) (item_view it)
 state_view (Pending w) = word (word_view w) w.end.rest
 state_view (Done e from) = done (entry_tree e) from.rest
 
@@ -38,7 +38,7 @@ EndsIn t s = (p : Text) × (t ≡ p ++ s)
 
 -- the current place began before s
 abbrev pub Stands : machine.State → Text → Type 0
-Stands (under it) s = EndsIn it.from s
+Stands (under p it) s = EndsIn it.from s
 Stands (word w from) s = EndsIn from s
 Stands (done e from) s = EndsIn from s
 Stands _ s = Unit {0}

@@ -1,11 +1,12 @@
 -- An item being read, token by token: the type and value of an entry after its key, or the type and name of a node.
 -- The token k is in the text s before r, in the text `whole`. The start of a place is kept as the text from there on.
-use Rattle.std.specs.Prelude.{Bool, true, false, [], Option, Some, None}
+use Rattle.std.specs.Prelude.{false, [], Option, Some, None}
 use Rattle.kdl_text.specs.Chars.{Text}
 use Rattle.kdl_text.specs.declared.span.SourceSpan.{SourceSpan}
-use Rattle.kdl_value.specs.Data.{Value, text}
+use Rattle.kdl_value.specs.Data.{Value}
 use Rattle.kdl_entry.specs.Places.{between, span_of}
-use Rattle.kdl_lexer.specs.Tokens.{Token, space, string, value, left, right}
+use Rattle.kdl_lexer.specs.Tokens.{Token, string, left, right}
+use Rattle.kdl_control.specs.Control.{Phase, type_open, type_name, property}
 use Rattle.kdl_entry.specs.Tree.{Identifier, plain_identifier, Entry}
 
 -- a type, and the texts before its name, after it, and after the `)`
@@ -80,18 +81,8 @@ entry_at span leading k y v repr = record {
   span = span;
 }
 
--- after the `(` of a type, after its name, after its `)`; after the `=` of a property
-pub data Stage : Type 0 where
-  opened : Stage
-  named : Stage
-  closed : Stage
-  keyed : Stage
-
--- an item being read; the name and the texts around it are those of its type, or after `=` those of its key.
--- An item that is not valued takes only a string.
+-- an item being read; the name and the texts around it are those of its type, or after `=` those of its key
 pub record Item : Type 0 where
-  pub valued : Bool
-  pub stage : Stage
   pub leading : Text
   pub start : Text
   pub from : Text
@@ -102,21 +93,15 @@ pub record Item : Type 0 where
 
 -- no item yet, at the place s
 abbrev pub no_item : Text → Item
-no_item s = record { valued = false; stage = opened; leading = []; start = s; from = s; key = None; name = plain_identifier []; before = []; after = [] }
-
--- the item continues, or gives its key, its type and its value, or the token may not be here
-pub data Answer : Type 0 where
-  goes : Item → Answer
-  gives : Option KeyParts → Option TypeParts → Value → Answer
-  refuses : Answer
+no_item s = record { leading = []; start = s; from = s; key = None; name = plain_identifier []; before = []; after = [] }
 
 -- the item with the name of its type, and the text before it
 abbrev pub named_at : Identifier → Text → Text → Item → Item
-named_at i before r it = record it { stage = named; name = i; before = before; from = r }
+named_at i before r it = record it { name = i; before = before; from = r }
 
 -- the item with the text after the name of its type
 abbrev pub closed_at : Text → Text → Item → Item
-closed_at after r it = record it { stage = closed; after = after; from = r }
+closed_at after r it = record it { after = after; from = r }
 
 -- the type, if what follows it begins at s
 abbrev pub type_at : Item → Text → TypeParts
@@ -132,28 +117,21 @@ emptied it = record it { name = plain_identifier []; before = [] }
 
 -- after the `(` of a type that follows the key k
 abbrev pub reopened : KeyParts → Text → Item → Item
-reopened k r it = record (emptied it) { stage = opened; valued = true; key = Some k; from = r }
+reopened k r it = record (emptied it) { key = Some k; from = r }
 
--- a number or a keyword gives only a value, and not a name
-abbrev pub if_valued : Bool → Answer → Answer
-if_valued true a = a
-if_valued false a = refuses
+-- the item after a token in the phase, but for its value
+abbrev pub taken : Phase → Text → Item → Token → Text → Text → Item
+taken (type_open b) whole it (string v) s r = named_at (identifier_at whole v s r) (between it.from s) r it
+taken (type_name b) whole it right s r = closed_at (between it.from s) r it
+taken property whole it left s r = reopened (key_at it s) r it
+taken p whole it k s r = it
 
--- the step at each stage
-abbrev pub move : Stage → Text → Item → Token → Text → Text → Answer
-move opened whole it space s r = goes it
-move opened whole it (string v) s r = goes (named_at (identifier_at whole v s r) (between it.from s) r it)
-move named whole it space s r = goes it
-move named whole it right s r = goes (closed_at (between it.from s) r it)
-move closed whole it space s r = goes it
-move closed whole it (string v) s r = gives it.key (Some (type_at it s)) (text v)
-move closed whole it (value v) s r = if_valued it.valued (gives it.key (Some (type_at it s)) v)
-move keyed whole it space s r = goes it
-move keyed whole it (string v) s r = gives (Some (key_at it s)) None (text v)
-move keyed whole it (value v) s r = gives (Some (key_at it s)) None v
-move keyed whole it left s r = goes (reopened (key_at it s) r it)
-move _ whole it k s r = refuses
+-- the key of an item whose value begins at s in the phase
+abbrev pub key_given : Phase → Item → Text → Option KeyParts
+key_given property it s = Some (key_at it s)
+key_given p it s = it.key
 
--- the step at a token
-abbrev pub step : Text → Item → Token → Text → Text → Answer
-step whole it k s r = move it.stage whole it k s r
+-- the type of an item whose value begins at s in the phase
+abbrev pub type_given : Phase → Item → Text → Option TypeParts
+type_given property it s = None
+type_given p it s = Some (type_at it s)

@@ -1,9 +1,10 @@
 //! Entries that are a whole text, read token by token.
 
+ghost use Rattle.kdl_control.specs.Internal.EntryViews.{entry_view};
 ghost use Rattle.kdl_control.specs.Internal.Views.{phase_view};
 ghost use Rattle.kdl_entry.specs.Internal.Building.{item_view, Stays};
 ghost use Rattle.kdl_entry.specs.Internal.EntryMachine as machine;
-ghost use Rattle.kdl_entry.specs.Internal.EntryMachine.{argument_of, dropped_turn, ended, entry_by, finish, keyed_item, opened_item, step, word_at};
+ghost use Rattle.kdl_entry.specs.Internal.EntryMachine.{argument_of, begin_to, ended, entry_by, finish, keyed_item, opened_item, phase_of, step, value_of, value_to, word_at, word_to};
 ghost use Rattle.kdl_entry.specs.Internal.EntryReading.{word_view, state_view, AnswersEntryText, Stands, Stepped, Ended};
 ghost use Rattle.kdl_lexer.specs.Internal.Handed.{kind_view};
 ghost use Rattle.kdl_entry.specs.Places.{between};
@@ -17,7 +18,7 @@ use super::item::{Given, Item, Key, entry_from, piece_between, text_between};
 use crate::entry::KdlEntry;
 use crate::identifier::sliced_identifier;
 use crate::refusal::refusal;
-use kdl_control::{Owner, Phase, Spot};
+use kdl_control::{EntryControl, Phase};
 use kdl_diagnostics::Whole;
 use kdl_lexer::{LexFailure, Lexer, Token, TokenKind, TokenSpan, fault_at};
 use kdl_text::cursor::{Checkpoint, Piece, Steps};
@@ -32,6 +33,7 @@ const UNPLACED: SourceSpan = SourceSpan { offset: 0, len: 0 };
 /// A string that may still be a key.
 #[derive(Drop)]
 struct Word<'a> {
+    alloc: Global,
     /// The text before it.
     leading: String,
     value: String,
@@ -49,8 +51,8 @@ enum State<'a> {
     Start,
     /// A slashdash, and perhaps the entry that it drops and spaces after that, up to this phase.
     Dropping(Phase),
-    /// An entry being read, which has a type or a key.
-    Under(Item<'a>),
+    /// An entry being read, which has a type or a key, in this phase.
+    Under(Phase, Item<'a>),
     /// A string that may still be a key.
     Pending(Word<'a>),
     /// The entry, and where it ended.
@@ -63,7 +65,7 @@ fn opened<'a>(alloc: Global, leading: String, at: &TokenSpan<'a>) -> Item<'a>
         ≡ opened_item at.now.start.rest (text_of leading) at.now.end.rest }
 {
     let mut item = Item::new(alloc, &at.start);
-    item.open(Owner::Value, leading, at);
+    item.open(leading, at);
     item
 }
 
@@ -102,6 +104,7 @@ fn word_between<'a>(
 {
     let leading = text_between(alloc, lexer, whole, &at.start)?;
     Ok(Word {
+        alloc,
         leading,
         value,
         repr: piece_between(lexer, &at.start, &at.end),
@@ -136,10 +139,11 @@ fn argument_between<'a>(
 }
 
 /// The word as an argument.
-fn argument(alloc: Global, word: Word) -> Result<KdlEntry, AllocError>
+fn argument(word: Word) -> Result<KdlEntry, AllocError>
     ensures { IfOk result (λ e. entry_tree e ≡ argument_of (word_view word.entry)) }
 {
     let Word {
+        alloc,
         leading,
         value,
         repr,
@@ -155,124 +159,95 @@ fn argument(alloc: Global, word: Word) -> Result<KdlEntry, AllocError>
     Ok(entry_from(alloc, UNPLACED, leading, given, repr))
 }
 
-/// Takes a token before the entry.
-fn at_start<'a>(
+/// Takes a token before the entry. The control goes to `next`.
+fn begin_to<'a>(
+    next: EntryControl,
     alloc: Global,
     lexer: &mut Lexer<'a>,
     whole: &Checkpoint<'a>,
     token: Token<'a>,
 ) -> Result<State<'a>, LexFailure>
     requires leading { Ahead whole.now token.at.start }
-    ensures did { Stepped (step whole.now.rest machine.ahead
+    ensures did { Stepped (begin_to whole.now.rest (entry_view next)
         (kind_view token.entry.kind) token.entry.at.start.rest token.entry.at.end.rest)
         token.entry.at.start result }
     ensures stays { Stays lexer.old lexer.new }
 {
     let Token { kind, at } = token;
-    match kind {
-        TokenKind::Space | TokenKind::Newline => Ok(State::Start),
-        TokenKind::Slashdash => Ok(State::Dropping(Phase::EntrySlashdash)),
-        TokenKind::String(value) => {
+    match (next, kind) {
+        (EntryControl::Ahead, _) => Ok(State::Start),
+        (EntryControl::Dropping(phase), _) => Ok(State::Dropping(phase)),
+        (EntryControl::Under(phase), _) => {
+            let leading = text_between(alloc, lexer, whole, &at.start)?;
+            Ok(State::Under(phase, opened(alloc, leading, &at)))
+        }
+        (EntryControl::Word, TokenKind::String(value)) => {
             let word = word_between(alloc, lexer, whole, value, at)?;
             Ok(State::Pending(word))
         }
-        TokenKind::Value(value) => {
+        (EntryControl::Done, TokenKind::Value(value)) => {
             let entry = argument_between(alloc, lexer, whole, value, &at)?;
             Ok(State::Done(entry, at.end))
-        }
-        TokenKind::Left => {
-            let leading = text_between(alloc, lexer, whole, &at.start)?;
-            Ok(State::Under(opened(alloc, leading, &at)))
         }
         _ => Err(LexFailure::Faulty(fault_at(&at.start))),
     }
 }
 
-/// Takes a token in an entry.
+/// The value that a token is.
+fn value_of(kind: TokenKind) -> Option<KdlValue>
+    ensures { option_map value_tree result ≡ value_of (kind_view kind) }
+{
+    match kind {
+        TokenKind::String(value) => Some(KdlValue::String(value)),
+        TokenKind::Value(value) => Some(value),
+        _ => None,
+    }
+}
+
+/// Takes the token that is the value of the entry.
 #[tactic(auto, using(kdl_lexer::proofs::Order::ahead))]
-fn at_under<'a>(
+fn at_value<'a>(
+    phase: Phase,
     mut item: Item<'a>,
     lexer: &mut Lexer<'a>,
-    whole: &Checkpoint<'a>,
     token: Token<'a>,
 ) -> Result<State<'a>, LexFailure>
     requires from { Ahead item.from token.at.start }
-    ensures did { Stepped (step whole.now.rest (machine.under (item_view item.entry))
+    ensures did { Stepped (value_to (phase_view phase) (item_view item.entry)
         (kind_view token.entry.kind) token.entry.at.start.rest token.entry.at.end.rest)
         token.entry.at.start result }
     ensures stays { Stays lexer.old lexer.new }
 {
     let Token { kind, at } = token;
-    let Some(given) = item.take(lexer, whole, kind, &at)? else {
-        return Ok(State::Under(item));
+    let Some(value) = value_of(kind) else {
+        return Err(LexFailure::Faulty(fault_at(&at.start)));
     };
+    let given = item.give(phase, lexer, value, &at.start)?;
     let repr = text_between(item.alloc, lexer, &at.start, &at.end)?;
     let entry = entry_from(item.alloc, UNPLACED, item.leading, given, repr);
     Ok(State::Done(entry, at.end))
 }
 
-/// The phase after a token in or after a slashdashed entry, or `None` if the token may not be here.
-fn dropped_turn(phase: Phase, kind: &TokenKind) -> Option<Phase>
-    ensures { option_map phase_view result ≡ dropped_turn (phase_view phase) (kind_view kind.now) }
-{
-    match (phase, kind) {
-        (Phase::InNode(Spot::Fresh(_)), TokenKind::Slashdash) => None,
-        (Phase::InNode(_), TokenKind::Newline | TokenKind::Semicolon) => None,
-        _ => phase.after(kind),
-    }
-}
-
-/// Takes a token in or after a slashdashed entry.
-fn at_dropping<'a>(
-    phase: Phase,
-    alloc: Global,
-    lexer: &mut Lexer<'a>,
-    whole: &Checkpoint<'a>,
-    token: Token<'a>,
-) -> Result<State<'a>, LexFailure>
-    requires leading { Ahead whole.now token.at.start }
-    ensures did { Stepped (step whole.now.rest (machine.dropping (phase_view phase))
-        (kind_view token.entry.kind) token.entry.at.start.rest token.entry.at.end.rest)
-        token.entry.at.start result }
-    ensures stays { Stays lexer.old lexer.new }
-{
-    let is_spaced = matches!(phase, Phase::InNode(Spot::Spaced(_)));
-    match token.kind {
-        TokenKind::String(_) | TokenKind::Value(_) | TokenKind::Left if is_spaced => {
-            at_start(alloc, lexer, whole, token)
-        }
-        _ => match dropped_turn(phase, &token.kind) {
-            Some(next) => Ok(State::Dropping(next)),
-            None => Err(LexFailure::Faulty(fault_at(&token.at.start))),
-        },
-    }
-}
-
-/// Takes a token after a string that may still be a key.
-fn at_pending<'a>(
+/// Takes a token after a string that may still be a key. The control goes to `next`.
+fn word_to<'a>(
+    next: EntryControl,
     word: Word<'a>,
-    alloc: Global,
     lexer: &mut Lexer<'a>,
     whole: &Checkpoint<'a>,
-    token: Token<'a>,
-) -> Result<State<'a>, LexFailure>
-    requires { Ahead word.end token.at.start }
-    ensures did { Stepped (step whole.now.rest
-        (machine.word (word_view word.entry) word.entry.end.rest)
-        (kind_view token.entry.kind) token.entry.at.start.rest token.entry.at.end.rest)
-        token.entry.at.start result }
+    at: &TokenSpan<'a>,
+) -> Result<State<'a>, AllocError>
+    requires { Ahead word.end at.now.start }
+    ensures is { IfOk result (λ st. state_view st
+        ≡ word_to whole.now.rest (word_view word.entry) word.entry.end.rest (entry_view next)
+        at.now.start.rest at.now.end.rest) }
     ensures stays { Stays lexer.old lexer.new }
 {
-    let Token { kind, at } = token;
-    match kind {
-        TokenKind::Space => Ok(State::Pending(word)),
-        TokenKind::Newline => {
-            let end = word.end.copied();
-            Ok(State::Done(argument(alloc, word)?, end))
-        }
-        TokenKind::Equals => {
-            let before = text_between(alloc, lexer, &word.end, &at.start)?;
+    match next {
+        EntryControl::Word => Ok(State::Pending(word)),
+        EntryControl::Under(phase) => {
+            let before = text_between(word.alloc, lexer, &word.end, &at.start)?;
             let Word {
+                alloc,
                 leading,
                 value,
                 repr,
@@ -281,26 +256,12 @@ fn at_pending<'a>(
             } = word;
             let name = sliced_identifier(alloc, value, &repr, span)?;
             let key = Key { name, before };
-            Ok(State::Under(keyed(alloc, whole, leading, key, &at.end)))
+            Ok(State::Under(phase, keyed(alloc, whole, leading, key, &at.end)))
         }
-        _ => Err(LexFailure::Faulty(fault_at(&at.start))),
-    }
-}
-
-/// Takes a token after the entry.
-fn at_done<'a>(
-    entry: KdlEntry,
-    from: Checkpoint<'a>,
-    whole: &Checkpoint<'a>,
-    token: Token<'a>,
-) -> Result<State<'a>, LexFailure>
-    ensures { Stepped (step whole.now.rest (machine.done (entry_tree entry) from.entry.rest)
-        (kind_view token.entry.kind) token.entry.at.start.rest token.entry.at.end.rest)
-        token.entry.at.start result }
-{
-    match token.kind {
-        TokenKind::Space | TokenKind::Newline => Ok(State::Done(entry, from)),
-        _ => Err(LexFailure::Faulty(fault_at(&token.at.start))),
+        _ => {
+            let end = word.end.copied();
+            Ok(State::Done(argument(word)?, end))
+        }
     }
 }
 
@@ -329,6 +290,19 @@ fn ended<'a>(
 }
 
 impl<'a> State<'a> {
+    /// The control here.
+    fn control(&self) -> EntryControl
+        ensures { entry_view result ≡ phase_of (state_view self.now) }
+    {
+        match self {
+            State::Start => EntryControl::Ahead,
+            State::Dropping(phase) => EntryControl::Dropping(*phase),
+            State::Under(phase, _) => EntryControl::Under(*phase),
+            State::Pending(_) => EntryControl::Word,
+            State::Done(_, _) => EntryControl::Done,
+        }
+    }
+
     /// Takes a token. Fails if the token may not be here.
     fn take(
         self,
@@ -344,12 +318,20 @@ impl<'a> State<'a> {
             token.entry.at.start result }
         ensures stays { Stays lexer.old lexer.new }
     {
+        let Some(next) = self.control().after(&token.kind) else {
+            return Err(LexFailure::Faulty(fault_at(&token.at.start)));
+        };
         match self {
-            State::Start => at_start(alloc, lexer, whole, token),
-            State::Dropping(phase) => at_dropping(phase, alloc, lexer, whole, token),
-            State::Under(item) => at_under(item, lexer, whole, token),
-            State::Pending(word) => at_pending(word, alloc, lexer, whole, token),
-            State::Done(entry, from) => at_done(entry, from, whole, token),
+            State::Start | State::Dropping(_) => begin_to(next, alloc, lexer, whole, token),
+            State::Under(phase, mut item) => match next {
+                EntryControl::Under(next) => {
+                    item.take(phase, lexer, whole, token)?;
+                    Ok(State::Under(next, item))
+                }
+                _ => at_value(phase, item, lexer, token),
+            },
+            State::Pending(word) => Ok(word_to(next, word, lexer, whole, &token.at)?),
+            State::Done(entry, from) => Ok(State::Done(entry, from)),
         }
     }
 
@@ -367,7 +349,7 @@ impl<'a> State<'a> {
         match self {
             State::Pending(word) => {
                 let end = word.end.copied();
-                let entry = argument(alloc, word)?;
+                let entry = argument(word)?;
                 Ok(Some(ended(entry, alloc, lexer, whole, &end)?))
             }
             State::Done(entry, from) => Ok(Some(ended(entry, alloc, lexer, whole, &from)?)),

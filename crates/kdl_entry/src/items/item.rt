@@ -1,10 +1,11 @@
 //! Items being read, token by token: the type and value of an entry, or the type and name of a node.
 //!
-//! The rules of types, keys and values, both for an entry that is a whole text and for those of a document.
+//! The texts and places of types, keys and values, both for an entry that is a whole text and for those of a document.
+//! Which token may come is up to the control.
 
-ghost use Rattle.kdl_control.specs.Internal.Views.{owner_view};
-ghost use Rattle.kdl_entry.specs.Internal.Building.{key_view, type_view, item_view, Did, Holds, Stays};
-ghost use Rattle.kdl_entry.specs.Internal.Counted.{Sliced, ItemSliced};
+ghost use Rattle.kdl_control.specs.Internal.Views.{phase_view};
+ghost use Rattle.kdl_entry.specs.Internal.Building.{key_view, type_view, item_view, Holds, Stays};
+ghost use Rattle.kdl_entry.specs.Internal.Counted.{Sliced};
 ghost use Rattle.kdl_lexer.specs.Internal.Handed.{kind_view};
 ghost use Rattle.kdl_entry.specs.Internal.Items as spec;
 ghost use Rattle.kdl_entry.specs.Internal.Items.{entry_at, identifier_at};
@@ -13,12 +14,12 @@ ghost use Rattle.kdl_value.specs.Tree.{value_tree, text_of};
 ghost use Rattle.kdl_entry.specs.Tree.{entry_tree, identifier_tree};
 ghost use Rattle.kdl_text.specs.Internal.Here.{Ahead};
 ghost use Rattle.kdl_text.specs.Spans.{bytes};
-ghost use Rattle.std.specs.Prelude.{◌≡◌, [], Some, None, true, IfOk, OnOk, option_map};
+ghost use Rattle.std.specs.Prelude.{◌≡◌, [], Some, None, IfOk, OnOk, option_map};
 
 use crate::entry::{KdlEntry, KdlEntryFormat};
 use crate::identifier::{KdlIdentifier, sliced_identifier};
-use kdl_control::Owner;
-use kdl_lexer::{LexFailure, Lexer, TokenKind, TokenSpan, fault_at};
+use kdl_control::Phase;
+use kdl_lexer::{Lexer, Token, TokenKind, TokenSpan};
 use kdl_text::cursor::{Checkpoint, Piece};
 use kdl_text::span::SourceSpan;
 use kdl_value::KdlValue;
@@ -49,22 +50,10 @@ pub struct Key {
     pub before: String,
 }
 
-/// A stage of an item: after the `(` of its type, after the type's name, after its `)`, or after the `=` of a property.
-#[derive(Clone, Copy)]
-pub enum Stage {
-    Opened,
-    Named,
-    Closed,
-    Keyed,
-}
-
 /// An item being read. The name and the texts around it are those of its type, or after `=` those of its key.
 #[derive(Drop)]
 pub struct Item<'a> {
     pub alloc: Global,
-    /// What its type precedes. A name is a string, a value any value.
-    pub owner: Owner,
-    pub stage: Stage,
     /// The text before the item.
     pub leading: String,
     pub start: Checkpoint<'a>,
@@ -260,8 +249,6 @@ impl<'a> Item<'a> {
     {
         Item {
             alloc,
-            owner: Owner::Name,
-            stage: Stage::Opened,
             leading: empty(alloc),
             start: place.copied(),
             from: place.copied(),
@@ -278,14 +265,12 @@ impl<'a> Item<'a> {
     /// let mut lexer = Lexer::new("(u8)1", Steps::new());
     /// let mut item = Item::new(alloc, &lexer.checkpoint());
     /// if let Some(left) = lexer.next(alloc)? {
-    ///     item.open(Owner::Value, empty(alloc), &left.at); // the type's name is expected
+    ///     item.open(empty(alloc), &left.at); // the type's name is expected
     /// }
     /// ```
-    pub fn open(&mut self, owner: Owner, leading: String, at: &TokenSpan<'a>)
+    pub fn open(&mut self, leading: String, at: &TokenSpan<'a>)
         ensures is { item_view self.new
             ≡ record (item_view self.old) {
-              valued = owner_view owner;
-              stage = spec.opened;
               leading = text_of leading;
               start
                   = at.now.start.rest;
@@ -295,8 +280,6 @@ impl<'a> Item<'a> {
         ensures start { self.new.start ≡ at.now.start }
         ensures from { self.new.from ≡ at.now.end }
     {
-        self.owner = owner;
-        self.stage = Stage::Opened;
         self.leading = leading;
         self.start = at.start.copied();
         self.from = at.end.copied();
@@ -322,8 +305,6 @@ impl<'a> Item<'a> {
     )
         ensures is { item_view self.new
             ≡ record (item_view self.old) {
-              valued = true;
-              stage = spec.keyed;
               leading = text_of leading;
               start
                   = start.now.rest;
@@ -336,8 +317,6 @@ impl<'a> Item<'a> {
         ensures start { self.new.start ≡ start.now }
         ensures from { self.new.from ≡ end.now }
     {
-        self.owner = Owner::Value;
-        self.stage = Stage::Keyed;
         self.leading = leading;
         self.start = start.copied();
         self.from = end.copied();
@@ -366,7 +345,6 @@ impl<'a> Item<'a> {
     {
         self.before = text_between(self.alloc, lexer, &self.from, &at.start)?;
         self.name = identifier_between(self.alloc, lexer, whole, value, at)?;
-        self.stage = Stage::Named;
         self.from = at.end.copied();
         Ok(())
     }
@@ -384,7 +362,6 @@ impl<'a> Item<'a> {
         ensures from { OnOk result (Ahead self.new.from at.now.end) }
     {
         self.after = text_between(self.alloc, lexer, &self.from, &at.start)?;
-        self.stage = Stage::Closed;
         self.from = at.end.copied();
         Ok(())
     }
@@ -460,42 +437,48 @@ impl<'a> Item<'a> {
     {
         let key = self.key_parts(lexer, &at.start)?;
         self.key = Some(key);
-        self.stage = Stage::Opened;
-        self.owner = Owner::Value;
         self.from = at.end.copied();
         Ok(())
     }
 
-    /// The type and the value, at the value.
-    fn give_typed(
+    /// Continues after a token that may come in the phase and is not the item's value.
+    ///
+    /// ```
+    /// item.take(Phase::TypeOpen(Owner::Value), &mut lexer, &whole, name)?; // the type has its name
+    /// item.take(Phase::TypeName(Owner::Value), &mut lexer, &whole, right)?; // the type has ended
+    /// ```
+    pub fn take(
         &mut self,
+        phase: Phase,
         lexer: &mut Lexer<'a>,
-        value: KdlValue,
-        start: &Checkpoint<'a>,
-    ) -> Result<Given, AllocError>
-        requires from { Ahead self.old.from start.now }
-        ensures key { IfOk result (λ g. option_map key_view g.key ≡ (item_view self.old).key) }
-        ensures is { IfOk result
-            (λ g. option_map type_view g.ty
-            ≡ Some (spec.type_at (item_view self.old) start.now.rest)) }
-        ensures value { IfOk result (λ g. g.value ≡ value) }
-        ensures holds { OnOk result (Holds (item_view self.old) (item_view self.new)) }
-        ensures from { self.new.from ≡ self.old.from }
+        whole: &Checkpoint<'a>,
+        token: Token<'a>,
+    ) -> Result<(), AllocError>
+        requires from { Ahead self.old.from token.at.start }
+        ensures is { OnOk result
+            (item_view self.new ≡ spec.taken (phase_view phase) whole.now.rest (item_view self.old)
+            (kind_view token.entry.kind) token.entry.at.start.rest token.entry.at.end.rest) }
         ensures stays { Stays lexer.old lexer.new }
-        ensures sliced { OnOk result
-            (Sliced (bytes self.old.from.rest) (bytes start.now.rest) lexer.old lexer.new) }
     {
-        let ty = self.type_parts(lexer, start)?;
-        Ok(Given {
-            key: self.key.take(),
-            ty: Some(ty),
-            value,
-        })
+        let Token { kind, at } = token;
+        match (phase, kind) {
+            (Phase::TypeOpen(_), TokenKind::String(value)) => {
+                self.take_name(lexer, whole, value, &at)
+            }
+            (Phase::TypeName(_), TokenKind::Right) => self.close(lexer, &at),
+            (Phase::Property, TokenKind::Left) => self.open_typed(lexer, &at),
+            _ => Ok(()),
+        }
     }
 
-    /// The key and the value, at the value.
-    fn give_keyed(
+    /// Ends the item in the phase, with its value, which begins at `start`. Returns its key, its type and the value.
+    ///
+    /// ```
+    /// let given = item.give(Phase::Property, &mut lexer, value, &at.start)?; // no type
+    /// ```
+    pub fn give(
         &mut self,
+        phase: Phase,
         lexer: &mut Lexer<'a>,
         value: KdlValue,
         start: &Checkpoint<'a>,
@@ -503,179 +486,27 @@ impl<'a> Item<'a> {
         requires from { Ahead self.old.from start.now }
         ensures key { IfOk result
             (λ g. option_map key_view g.key
-            ≡ Some (spec.key_at (item_view self.old) start.now.rest)) }
-        ensures is { IfOk result (λ g. option_map type_view g.ty ≡ None) }
+            ≡ spec.key_given (phase_view phase) (item_view self.old) start.now.rest) }
+        ensures ty { IfOk result
+            (λ g. option_map type_view g.ty
+            ≡ spec.type_given (phase_view phase) (item_view self.old) start.now.rest) }
         ensures value { IfOk result (λ g. g.value ≡ value) }
-        ensures holds { OnOk result (Holds (item_view self.old) (item_view self.new)) }
-        ensures from { self.new.from ≡ self.old.from }
+        ensures leading { OnOk result (text_of self.new.leading ≡ text_of self.old.leading) }
         ensures stays { Stays lexer.old lexer.new }
-        ensures sliced { OnOk result
-            (Sliced (bytes self.old.from.rest) (bytes start.now.rest) lexer.old lexer.new) }
     {
-        let key = self.key_parts(lexer, start)?;
+        if let Phase::Property = phase {
+            let key = self.key_parts(lexer, start)?;
+            return Ok(Given {
+                key: Some(key),
+                ty: None,
+                value,
+            });
+        }
+        let ty = self.type_parts(lexer, start)?;
         Ok(Given {
-            key: Some(key),
-            ty: None,
+            key: self.key.take(),
+            ty: Some(ty),
             value,
         })
-    }
-
-    /// Takes a token after the `(` of a type.
-    fn at_opened(
-        &mut self,
-        lexer: &mut Lexer<'a>,
-        whole: &Checkpoint<'a>,
-        kind: TokenKind,
-        at: &TokenSpan<'a>,
-    ) -> Result<Option<Given>, LexFailure>
-        requires from { Ahead self.old.from at.now.start }
-        ensures did { Did (spec.move spec.opened whole.now.rest (item_view self.old)
-            (kind_view kind) at.now.start.rest at.now.end.rest) at.now.start result
-            (item_view self.new) }
-        ensures holds { OnOk result (Holds (item_view self.old) (item_view self.new)) }
-        ensures from { OnOk result (Ahead self.new.from at.now.end) }
-        ensures stays { Stays lexer.old lexer.new }
-        ensures sliced { ItemSliced result (bytes self.old.from.rest) (bytes self.new.from.rest)
-            (bytes at.now.start.rest) lexer.old lexer.new }
-    {
-        match kind {
-            TokenKind::Space => Ok(None),
-            TokenKind::String(value) => {
-                self.take_name(lexer, whole, value, at)?;
-                Ok(None)
-            }
-            _ => Err(LexFailure::Faulty(fault_at(&at.start))),
-        }
-    }
-
-    /// Takes a token after the name of a type.
-    fn at_named(
-        &mut self,
-        lexer: &mut Lexer<'a>,
-        whole: &Checkpoint<'a>,
-        kind: TokenKind,
-        at: &TokenSpan<'a>,
-    ) -> Result<Option<Given>, LexFailure>
-        requires from { Ahead self.old.from at.now.start }
-        ensures did { Did (spec.move spec.named whole.now.rest (item_view self.old)
-            (kind_view kind) at.now.start.rest at.now.end.rest) at.now.start result
-            (item_view self.new) }
-        ensures holds { OnOk result (Holds (item_view self.old) (item_view self.new)) }
-        ensures from { OnOk result (Ahead self.new.from at.now.end) }
-        ensures stays { Stays lexer.old lexer.new }
-        ensures sliced { ItemSliced result (bytes self.old.from.rest) (bytes self.new.from.rest)
-            (bytes at.now.start.rest) lexer.old lexer.new }
-    {
-        match kind {
-            TokenKind::Space => Ok(None),
-            TokenKind::Right => {
-                self.close(lexer, at)?;
-                Ok(None)
-            }
-            _ => Err(LexFailure::Faulty(fault_at(&at.start))),
-        }
-    }
-
-    /// Takes a token after the `)` of a type.
-    fn at_closed(
-        &mut self,
-        lexer: &mut Lexer<'a>,
-        whole: &Checkpoint<'a>,
-        kind: TokenKind,
-        at: &TokenSpan<'a>,
-    ) -> Result<Option<Given>, LexFailure>
-        requires from { Ahead self.old.from at.now.start }
-        ensures did { Did (spec.move spec.closed whole.now.rest (item_view self.old)
-            (kind_view kind) at.now.start.rest at.now.end.rest) at.now.start result
-            (item_view self.new) }
-        ensures holds { OnOk result (Holds (item_view self.old) (item_view self.new)) }
-        ensures from { OnOk result (Ahead self.new.from at.now.end) }
-        ensures stays { Stays lexer.old lexer.new }
-        ensures sliced { ItemSliced result (bytes self.old.from.rest) (bytes self.new.from.rest)
-            (bytes at.now.start.rest) lexer.old lexer.new }
-    {
-        match kind {
-            TokenKind::Space => Ok(None),
-            TokenKind::String(value) => {
-                let given = self.give_typed(lexer, KdlValue::String(value), &at.start)?;
-                Ok(Some(given))
-            }
-            TokenKind::Value(value) if matches!(self.owner, Owner::Value) => {
-                let given = self.give_typed(lexer, value, &at.start)?;
-                Ok(Some(given))
-            }
-            _ => Err(LexFailure::Faulty(fault_at(&at.start))),
-        }
-    }
-
-    /// Takes a token after the `=` of a property.
-    #[tactic(auto, using(crate::proofs::Slicing::SliceCost::token_fewer))]
-    fn at_keyed(
-        &mut self,
-        lexer: &mut Lexer<'a>,
-        whole: &Checkpoint<'a>,
-        kind: TokenKind,
-        at: &TokenSpan<'a>,
-    ) -> Result<Option<Given>, LexFailure>
-        requires from { Ahead self.old.from at.now.start }
-        ensures did { Did (spec.move spec.keyed whole.now.rest (item_view self.old)
-            (kind_view kind) at.now.start.rest at.now.end.rest) at.now.start result
-            (item_view self.new) }
-        ensures holds { OnOk result (Holds (item_view self.old) (item_view self.new)) }
-        ensures from { OnOk result (Ahead self.new.from at.now.end) }
-        ensures stays { Stays lexer.old lexer.new }
-        ensures sliced { ItemSliced result (bytes self.old.from.rest) (bytes self.new.from.rest)
-            (bytes at.now.start.rest) lexer.old lexer.new }
-    {
-        match kind {
-            TokenKind::Space => Ok(None),
-            TokenKind::String(value) => {
-                let given = self.give_keyed(lexer, KdlValue::String(value), &at.start)?;
-                Ok(Some(given))
-            }
-            TokenKind::Value(value) => {
-                let given = self.give_keyed(lexer, value, &at.start)?;
-                Ok(Some(given))
-            }
-            TokenKind::Left => {
-                self.open_typed(lexer, at)?;
-                Ok(None)
-            }
-            _ => Err(LexFailure::Faulty(fault_at(&at.start))),
-        }
-    }
-
-    /// Takes a token. Returns the result of the item if the token is its value, and `None` if the item continues. Fails
-    /// if the token may not be here.
-    ///
-    /// ```
-    /// let taken = item.take(&mut lexer, &whole, token.kind, &token.at)?;
-    /// if let Some(given) = taken {
-    ///     let value = given.value; // the item ends with this token
-    /// }
-    /// ```
-    pub fn take(
-        &mut self,
-        lexer: &mut Lexer<'a>,
-        whole: &Checkpoint<'a>,
-        kind: TokenKind,
-        at: &TokenSpan<'a>,
-    ) -> Result<Option<Given>, LexFailure>
-        requires from { Ahead self.old.from at.now.start }
-        ensures did { Did (spec.step whole.now.rest (item_view self.old)
-            (kind_view kind) at.now.start.rest at.now.end.rest) at.now.start result
-            (item_view self.new) }
-        ensures holds { OnOk result (Holds (item_view self.old) (item_view self.new)) }
-        ensures from { OnOk result (Ahead self.new.from at.now.end) }
-        ensures stays { Stays lexer.old lexer.new }
-        ensures sliced { ItemSliced result (bytes self.old.from.rest) (bytes self.new.from.rest)
-            (bytes at.now.start.rest) lexer.old lexer.new }
-    {
-        match self.stage {
-            Stage::Opened => self.at_opened(lexer, whole, kind, at),
-            Stage::Named => self.at_named(lexer, whole, kind, at),
-            Stage::Closed => self.at_closed(lexer, whole, kind, at),
-            Stage::Keyed => self.at_keyed(lexer, whole, kind, at),
-        }
     }
 }

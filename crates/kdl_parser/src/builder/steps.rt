@@ -309,7 +309,7 @@ impl<'a, N: ParsedNode> Builder<'a, N> {
             self.old.from.rest) self.old result self.new lexer.old lexer.new }
     {
         let leading = text_between(self.alloc, lexer, &self.from, &at.start)?;
-        self.item.open(Owner::Name, leading, at);
+        self.item.open(leading, at);
         self.phase = Phase::TypeOpen(Owner::Name);
         Ok(())
     }
@@ -328,7 +328,7 @@ impl<'a, N: ParsedNode> Builder<'a, N> {
     {
         self.settle_word()?;
         let leading = text_between(self.alloc, lexer, &self.from, &at.start)?;
-        self.item.open(Owner::Value, leading, at);
+        self.item.open(leading, at);
         self.phase = Phase::TypeOpen(Owner::Value);
         Ok(())
     }
