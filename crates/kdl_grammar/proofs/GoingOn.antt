@@ -6,14 +6,14 @@ use Rattle.kdl_text.specs.Chars.{Text, begins}
 use Rattle.kdl_text.specs.Internal.Here.{first}
 use Rattle.kdl_lexer.specs.Tokens.{Token, BeginsToken, t_bom, Lexes, done, next, NoToken}
 use Rattle.kdl_lexer.proofs.Lexing.TokenUnique.{no_token}
-use Rattle.kdl_lexer.proofs.Moving.Puts.{begins_first}
+use Rattle.kdl_lexer.proofs.Moving.Puts.{begins_first, front_first, more_first, two_parts, two_some}
 use Rattle.kdl_grammar.specs.Data.{Nodes}
 use Rattle.kdl_grammar.specs.GoingOn.{Derived, Viable, Alive, AliveInToken, DeadAtToken, DeadAtFront, RefusedAtPiece, DerivedAtEnd}
 use Rattle.kdl_grammar.specs.Grammar.{AreNodes, IsDocument}
 use Rattle.kdl_control.specs.Control.{Control, at, gap, accepts, finish, step}
 use Rattle.kdl_grammar.specs.Going.{Goes, here, goes, Reaches, no_bom, behind_bom}
 use Rattle.kdl_grammar.proofs.Reading.Erased.{accepted_nodes}
-use Rattle.kdl_grammar.proofs.Reading.Refusing.{near_goes, rest_of, dead_nodes, refused_here, refuses_two, front_first}
+use Rattle.kdl_grammar.proofs.Reading.Refusing.{near_goes, rest_of, dead_nodes, refused_here, refuses_two}
 use Rattle.kdl_grammar.proofs.Reading.Sound.{derives}
 use Rattle.kdl_grammar.proofs.Reading.Viable.{reads, viable, goes_length}
 
@@ -52,19 +52,15 @@ behind (goes x y g) b f = goes x y (behind g b f)
 pub alive_in_token : AliveInToken
 alive_in_token p r u c d k some g b f = longer (alive (p ++ (r ++ u)) [] d (go (went p r g refl)))
   where
-    first_more : (r : Text) → r ≢ [] → first (r ++ u) ≡ first r
-    first_more [] h = absurd (h refl)
-    first_more (x ∷ r) h = refl
-
     over : (q : Text) → Goes (at gap []) (q ++ r) c r → Goes (at gap []) ((q ++ (r ++ u)) ++ []) d []
     over q g =
-        let y = near_goes (r ++ u) (first_more r some) g in
+        let y = near_goes (r ++ u) (more_first r u some) g in
         let same : y.at.piece ≡ q = append_cancel_right y.at.piece q r (sym (y.at.here ∙ y.at.text r)) in
         let text : y.at.put (r ++ u) ≡ (q ++ (r ++ u)) ++ [] = y.at.text (r ++ u) ∙ ap (λ (z : Text). z ++ (r ++ u)) same ∙ sym (append-nil (q ++ (r ++ u))) in
         subst (λ (z : Text). Goes (at gap []) z d []) text (behind y.there b f)
 
     no_bom_more : (q : Text) → begins 0xFEFF (q ++ r) ≡ false → begins 0xFEFF ((q ++ (r ++ u)) ++ []) ≡ false
-    no_bom_more [] h = ap (begins 0xFEFF) (append-nil (r ++ u)) ∙ begins_first 0xFEFF (r ++ u) r (first_more r some) ∙ h
+    no_bom_more [] h = ap (begins 0xFEFF) (append-nil (r ++ u)) ∙ begins_first 0xFEFF (r ++ u) r (more_first r u some) ∙ h
     no_bom_more (x ∷ q) h = h
 
     go : Went p r c → Reaches ((p ++ (r ++ u)) ++ []) d []
@@ -106,16 +102,6 @@ dead_at_front p f r c some g n u (xs, d) = go (went p (f ++ r) g refl) (parts (s
         let same : 0xFEFF ∷ (q ++ (f ++ u)) ≡ 0xFEFF ∷ s = ap (λ (z : Text). z ++ (f ++ u)) (sym e) ∙ e' in
         let x : s ≡ q ++ (f ++ u) = cc in
         dead_nodes q f r some g n u (subst (λ (z : Text). AreNodes true z [] ys) x m)
-
-pub two_parts : (r : Text) → (q : Text) × (r ≡ take 2 r ++ q)
-two_parts [] = ([], refl)
-two_parts (c ∷ []) = ([], refl)
-two_parts (c ∷ d ∷ r) = (r, refl)
-
-pub two_some : (r : Text) → r ≢ [] → take 2 r ≢ []
-two_some [] h e = h e
-two_some (c ∷ []) h e = cc
-two_some (c ∷ d ∷ r) h e = cc
 
 pub dead_at_token : DeadAtToken
 dead_at_token p r s c k g b n =

@@ -12,7 +12,5 @@ pub mod LawProofs
 pub mod ReadingBack
 -- Which texts begin a document.
 pub mod GoingOn
--- Fronts of texts that no token begins, whatever follows them.
-pub mod Fronts
 -- Which texts begin a node text.
 pub mod NodeTexts

@@ -1,13 +1,13 @@
 -- After a token that the control of entry texts refuses no entry text goes on.
-use Rattle.std.proofs.Common.{◌≡◌, ◌≢◌, true, [], ◌∷◌, ◌++◌, take, Option, Some, None, option_map, refl, sym, ap, subst, ◌∙◌, append_assoc}
+use Rattle.std.proofs.Common.{◌≡◌, ◌≢◌, true, [], ◌++◌, take, Option, Some, None, option_map, refl, sym, ap, subst, ◌∙◌, append_assoc}
 use Rattle.std.proofs.lemmas.List.{append_cancel_right}
 use Rattle.kdl_text.specs.Chars.{Text}
-use Rattle.kdl_text.specs.Internal.Here.{first}
 use Rattle.kdl_value.specs.Data.{Value}
 use Rattle.kdl_lexer.specs.Earliest.{BeginsNoOther}
 use Rattle.kdl_lexer.specs.Tokens.{Token, space, newline, slashdash, string, value, left, right, opening, closing, equals, semicolon, bom, BeginsToken}
 use Rattle.kdl_lexer.proofs.Lexing.TokenFronts.{RefusedWith, refused_with}
 use Rattle.kdl_lexer.proofs.Lexing.TokenUnique.{no_token}
+use Rattle.kdl_lexer.proofs.Moving.Puts.{front_first, more_some, two_parts, two_some}
 use Rattle.kdl_control.specs.Control as control
 use Rattle.kdl_control.specs.Control.{spaced, gap, node_slashdash, type_open, type_done, in_node, property, entry_slashdash, at, without_block}
 use Rattle.kdl_control.specs.EntryControl.{EntryControl, ahead, dropping, under, word, done, under_phase, entry_step}
@@ -78,7 +78,7 @@ no_other (under p) v w e = ap under_phase (other_refused p v w (not_under _ e))
 no_other word v w e = refl
 no_other done v w e = refl
 
-refused_too : (c : EntryControl) (k j : Token) → RefusedWith k j → entry_step c k ≡ None → entry_step c j ≡ None
+pub refused_too : (c : EntryControl) (k j : Token) → RefusedWith k j → entry_step c k ≡ None → entry_step c j ≡ None
 refused_too c (string v) (string w) a e = no_string c v w e
 refused_too c (string v) (value w) a e = no_value c v w e
 refused_too c (value v) (value w) a e = no_other c v w e
@@ -103,30 +103,18 @@ refused_front c f u some n a = go (f ++ u) refl a
     go s e (ends h) = some (sym e)
     go s e (takes {r = r} {k = k} b h a') = let x = n r k (subst (λ (z : Text). BeginsToken z k r) e b) in cc
 
-pub two_parts : (r : Text) → (q : Text) × (r ≡ take 2 r ++ q)
-two_parts [] = ([], refl)
-two_parts (c ∷ []) = ([], refl)
-two_parts (c ∷ d ∷ r) = (r, refl)
-
--- the front of a text that is not empty hides what follows it
-pub two_first : (r u q : Text) → r ≢ [] → first (take 2 r ++ u) ≡ first (take 2 r ++ q)
-two_first [] u q h = absurd (h refl)
-two_first (c ∷ []) u q h = refl
-two_first (c ∷ d ∷ r) u q h = refl
-
-pub two_some : (r u : Text) → r ≢ [] → take 2 r ++ u ≢ []
-two_some [] u h e = h refl
-two_some (c ∷ []) u h e = cc
-two_some (c ∷ d ∷ r) u h e = cc
-
--- no entry text begins with what it went over and the first two characters of a token that it refuses
-pub entry_dead : (p r s : Text) (c : EntryControl) (k : Token) → EntryReaches (p ++ r) c r → BeginsToken r k s → entry_step c k ≡ None → BeginsNoOther DerivedEntry (p ++ take 2 r)
-entry_dead p r s c k g b n u x =
-    let (q, e) = two_parts r in
-    let f = take 2 r in
-    let some : r ≢ [] = λ y. no_token (subst (λ (z : Text). BeginsToken z k s) y b) in
-    let y = near_goes (f ++ u) (two_first r u q some ∙ ap first (sym e)) g in
-    let same : y.at.piece ≡ p = append_cancel_right y.at.piece p r (sym (y.at.here ∙ y.at.text r)) in
+-- no entry text begins with what it went over and a front of refused tokens alone
+pub entry_dead_front : (p f r : Text) (c : EntryControl) → f ≢ [] → EntryReaches (p ++ (f ++ r)) c (f ++ r) → ((u s : Text) (j : Token) → BeginsToken (f ++ u) j s → entry_step c j ≡ None) → BeginsNoOther DerivedEntry (p ++ f)
+entry_dead_front p f r c some g n u x =
+    let y = near_goes (f ++ u) (front_first f u r some) g in
+    let same : y.at.piece ≡ p = append_cancel_right y.at.piece p (f ++ r) (sym (y.at.here ∙ y.at.text (f ++ r))) in
     let text : p ++ (f ++ u) ≡ y.at.put (f ++ u) = sym (y.at.text (f ++ u) ∙ ap (λ (z : Text). z ++ (f ++ u)) same) in
     let a : Accepts ahead (y.at.put (f ++ u)) = subst (λ (z : Text). Accepts ahead z) (append_assoc p f u ∙ text) (derived_accepts x) in
-    refused_front c f u (two_some r u some) (λ t j d. refused_too c k j (refused_with r u b d) n) (follow y.there a)
+    refused_front c f u (more_some f u some) (n u) (follow y.there a)
+
+-- the first two characters of a token that it refuses are such a front
+pub entry_dead : (p r s : Text) (c : EntryControl) (k : Token) → EntryReaches (p ++ r) c r → BeginsToken r k s → entry_step c k ≡ None → BeginsNoOther DerivedEntry (p ++ take 2 r)
+entry_dead p r s c k g b n =
+    let (q, e) = two_parts r in
+    let some : r ≢ [] = λ y. no_token (subst (λ (z : Text). BeginsToken z k s) y b) in
+    entry_dead_front p (take 2 r) q c (two_some r some) (subst (λ (z : Text). EntryReaches (p ++ z) c z) e g) (λ u t j d. refused_too c k j (refused_with r u b d) n)

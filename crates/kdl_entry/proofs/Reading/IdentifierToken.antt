@@ -1,5 +1,5 @@
 -- What the first token of a text says of it as an identifier.
-use Rattle.std.proofs.Common.{◌≡◌, inl, ◌+◌, true, [], ◌++◌, Err, refl, sym, ap, subst, ◌∙◌, arith}
+use Rattle.std.proofs.Common.{◌≡◌, ◌+◌, true, [], ◌++◌, Err, refl, sym, ap, subst, ◌∙◌, arith}
 use Rattle.std.specs.Prelude.{String}
 use Rattle.std.specs.declared.alloc.Global.{Global}
 use Rattle.kdl_text.specs.Chars.{Text, plus}
@@ -28,7 +28,7 @@ use Rattle.kdl_lexer.specs.declared.lexer.TokenKind.{TokenKind}
 use Rattle.kdl_lexer.specs.declared.lexer.TokenKind.TheVariants.{String as StringKind}
 use Rattle.kdl_lexer.proofs.Lexing.TokenUnique.{no_token, token_det}
 use Rattle.kdl_entry.proofs.Reading.EntryLoop.{bytes_before, char_in}
-use Rattle.kdl_entry.proofs.Reading.IdentifierRefused.{refused_behind, refused_empty, refused_other, refused_start}
+use Rattle.kdl_entry.proofs.Reading.IdentifierRefused.{refused_behind, refused_empty, refused_none, refused_other, refused_start}
 use Rattle.kdl_entry.proofs.Slicing.Placing.{place}
 use Rattle.kdl_lexer.proofs.Lexing.StringUnique.{string_end}
 
@@ -49,7 +49,7 @@ place_told t place span p e f x = char_in place.rest p t span e (x.offset ∙ by
 
 -- where no token begins
 pub no_token_told : (t : Text) (old new : Here) (e : LexFailure) → old.rest ≡ t → old.at ≡ 0 → Lexed old (Err e) new → AnswersIdentifierText t (Err e)
-no_token_told t old new (Faulty span) e f x = (λ v d. none v (subst (λ (z : Text). IsIdentifierText true z v) (sym e) d), place_told t (record { rest = old.rest; at = old.at }) span [] (sym e) (omega (arith, ap bytes e, f)) x.1, refused_start t span.offset (x.1.offset ∙ f) (inl (subst BeginsNone e x.0.none)))
+no_token_told t old new (Faulty span) e f x = (λ v d. none v (subst (λ (z : Text). IsIdentifierText true z v) (sym e) d), place_told t (record { rest = old.rest; at = old.at }) span [] (sym e) (omega (arith, ap bytes e, f)) x.1, refused_start t span.offset (x.1.offset ∙ f) (refused_none t (subst BeginsNone e x.0.none)))
   where
     none : (v : Text) → IsIdentifierText true old.rest v → ⊥
     none v (string p q) = x.0.none _ _ (t_string p)
@@ -57,7 +57,7 @@ no_token_told t old new Memory e f x = tt
 
 -- where the text is empty
 pub empty_told : (t : Text) (old : Here) (place : Position) (span : SourceSpan) → old.rest ≡ t → old.rest ≡ [] → place.rest ≡ t → place.at ≡ 0 → IsFaultAt place span → AnswersIdentifierText t (Err (Faulty span))
-empty_told t old place span e n f g x = (λ v d. none v (subst (λ (z : Text). IsIdentifierText true z v) (sym e ∙ n) d), place_told t place span [] (sym f) (omega (arith, ap bytes f, g)) x, refused_start t span.offset (x.offset ∙ g) (inl (subst BeginsNone (sym n ∙ e) refused_empty)))
+empty_told t old place span e n f g x = (λ v d. none v (subst (λ (z : Text). IsIdentifierText true z v) (sym e ∙ n) d), place_told t place span [] (sym f) (omega (arith, ap bytes f, g)) x, refused_start t span.offset (x.offset ∙ g) (refused_none t (subst BeginsNone (sym n ∙ e) refused_empty)))
   where
     none : (v : Text) → IsIdentifierText true [] v → ⊥
     none v (string p q) = no_token (t_string p)

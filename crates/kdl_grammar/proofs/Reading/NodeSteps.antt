@@ -93,7 +93,7 @@ between_too b equals j a e = ap (between_nodes b) (sym a) ∙ e
 between_too b semicolon j a e = ap (between_nodes b) (sym a) ∙ e
 between_too b bom j a e = ap (between_nodes b) (sym a) ∙ e
 
-also_refused : (n : NodeControl) (k j : Token) → RefusedWith k j → node_step n k ≡ None → node_step n j ≡ None
+pub also_refused : (n : NodeControl) (k j : Token) → RefusedWith k j → node_step n k ≡ None → node_step n j ≡ None
 also_refused (in_text b c) k j a e = go (place c)
   where
     go : Place c → node_step (in_text b c) j ≡ None

@@ -6,7 +6,7 @@ use Rattle.kdl_text.specs.Internal.Here.{first}
 use Rattle.kdl_lexer.specs.Tokens.{Token, space, newline, slashdash, string, value, left, right, opening, closing, equals, semicolon, bom, BeginsToken, Lexes, done, next}
 use Rattle.kdl_lexer.proofs.Lexing.TokenFronts.{RefusedWith, refused_with}
 use Rattle.kdl_lexer.proofs.Lexing.TokenUnique.{token_det, no_token, token_shorter}
-use Rattle.kdl_lexer.proofs.Moving.Puts.{Put, stands, joined}
+use Rattle.kdl_lexer.proofs.Moving.Puts.{Put, stands, joined, front_first}
 use Rattle.kdl_entry.proofs.Moving.TokenMoves.{near, full_of}
 use Rattle.kdl_value.specs.Data.{Value}
 use Rattle.kdl_grammar.specs.Data.{Nodes}
@@ -128,11 +128,6 @@ refused_front d f u some n l a = go (f ++ u) refl l a
 -- the text that the machine goes over to the end is accepted from there on, where it is derived
 pub rest_of : {t r : Text} {c : Control} → Goes (at gap []) t c r → {xs : Nodes} → AreNodes true t [] xs → Reads c r
 rest_of g n = let (ks, l, a) = accepted_nodes n in follow g l a
-
--- what follows a front that is not empty does not change its first character
-pub front_first : (f u r : Text) → f ≢ [] → first (f ++ u) ≡ first (f ++ r)
-front_first [] u r some = absurd (some refl)
-front_first (c ∷ f) u r some = refl
 
 -- no nodes begin with what the machine went over and such a front
 pub dead_nodes : (p f r : Text) {d : Control} → f ≢ [] → Goes (at gap []) (p ++ (f ++ r)) d (f ++ r) → RefusesFront d f → (u : Text) {xs : Nodes} → AreNodes true (p ++ (f ++ u)) [] xs → ⊥

@@ -11,6 +11,7 @@ use Rattle.kdl_text.proofs.Quoted.StringUnique.{is_quoted_begins, is_raw_begins,
 use Rattle.kdl_text.specs.Trivia.{BlockComment, LineComment}
 use Rattle.kdl_text.proofs.Spacing.SpaceUnique.{block_begins, line_comment_begins}
 use Rattle.kdl_value.specs.Data.{Value}
+use Rattle.kdl_lexer.specs.Earliest.{BeginsNoToken}
 use Rattle.kdl_lexer.specs.Pieces.{StringPiece, bare, quoted, raw, PlainPiece, number, keyword}
 use Rattle.kdl_lexer.specs.Tokens.{Token, space, newline, slashdash, string, value, left, right, opening, closing, equals, semicolon, bom, BeginsToken, t_string, t_value}
 use Rattle.kdl_lexer.proofs.Lexing.FirstCharacters.{number_identifier}
@@ -27,7 +28,7 @@ RefusedWith (value v) j = ⊥
 RefusedWith k j = k ≡ j
 
 -- a value is not refused with a string
-abbrev Fills : Token → Token → Type 0
+abbrev pub Fills : Token → Token → Type 0
 Fills (value v) (string w) = ⊥
 Fills k j = Unit {0}
 
@@ -50,13 +51,13 @@ of_kind (value v) (string w) e n = absurd n
 of_kind _ _ e n = absurd cc
 
 -- no string begins as a number does
-number_no_string : {c : ℕ} {s r v : Text} → begins_number (c ∷ s) ≡ true → StringPiece (c ∷ s) r v → ⊥
+pub number_no_string : {c : ℕ} {s r v : Text} → begins_number (c ∷ s) ≡ true → StringPiece (c ∷ s) r v → ⊥
 number_no_string h (bare x) = number_not_bare h x
 number_no_string {c = c} {s = s} h (quoted x) = quote_identifier (c ∷ s) (is_quoted_begins x) (number_identifier c s h)
 number_no_string {c = c} {s = s} h (raw x) = sign_identifier (c ∷ s) (is_raw_begins x) (number_identifier c s h)
 
 -- nor as a keyword does
-keyword_no_string : {c d : ℕ} {s r v : Text} → c ≡ 35 → is_identifier_char d ≡ true → StringPiece (c ∷ d ∷ s) r v → ⊥
+pub keyword_no_string : {c d : ℕ} {s r v : Text} → c ≡ 35 → is_identifier_char d ≡ true → StringPiece (c ∷ d ∷ s) r v → ⊥
 keyword_no_string {c = c} {d = d} {s = s} e h (bare x) = sign_identifier (c ∷ d ∷ s) (rw e refl) (bare_begins x)
 keyword_no_string {c = c} {d = d} {s = s} e h (quoted x) = quote_sign (c ∷ d ∷ s) (is_quoted_begins x) (rw e refl)
 keyword_no_string {c = c} {d = d} {s = s} e h (raw x) =
@@ -104,16 +105,16 @@ refused_with [] u b b' = absurd (no_token b)
 refused_with (c ∷ []) u {k = k} {j = j} b b' = of_kind k j (sym (kind_is b) ∙ kind_first c [] u (slash_alone c b) ∙ kind_is b') (one_fill b b')
 refused_with (c ∷ d ∷ s) u {k = k} {j = j} b b' = of_kind k j (sym (kind_is b) ∙ kind_front c d s u ∙ kind_is b') (two_fill b b')
 
--- no token begins a text with this front
-abbrev pub BeginsNone : Text → Type 0
-BeginsNone f = (u r : Text) (k : Token) → BeginsToken (f ++ u) k r → ⊥
+-- so is each that begins with the same character, if that is no slash
+pub refused_first : (c : ℕ) (s u : Text) {r t : Text} {k j : Token} → (c == 47) ≡ false → Fills k j → BeginsToken (c ∷ s) k r → BeginsToken (c ∷ u) j t → RefusedWith k j
+refused_first c s u {k = k} {j = j} h f b b' = of_kind k j (sym (kind_is b) ∙ kind_first c s u h ∙ kind_is b') f
 
 -- a character with which no token begins
-pub alien_front : (c : ℕ) → Alien c → BeginsNone (c ∷ [])
+pub alien_front : (c : ℕ) → Alien c → BeginsNoToken (c ∷ [])
 alien_front c a u r k b = no_alien c u a r k b
 
 -- a slash before a character with which it begins no comment and no slashdash
-pub slash_front : (c : ℕ) → (c == 42) ≡ false → (c == 47) ≡ false → (c == 45) ≡ false → BeginsNone (47 ∷ c ∷ [])
+pub slash_front : (c : ℕ) → (c == 42) ≡ false → (c == 47) ≡ false → (c == 45) ≡ false → BeginsNoToken (47 ∷ c ∷ [])
 slash_front c x y z u r k b = no_slash (c ∷ u) (λ v p. no_block v p) (λ v p. no_line v p) z r k b
   where
     no_block : (v : Text) → BlockComment (47 ∷ c ∷ u) v → ⊥

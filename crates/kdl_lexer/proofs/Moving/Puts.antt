@@ -1,5 +1,5 @@
 -- A piece as a function of what follows it.
-use Rattle.std.proofs.Common.{◌≡◌, ℕ, Bool, true, false, ◌==◌, [], ◌∷◌, ◌++◌, None, refl, sym, ap, ◌∙◌, append_assoc}
+use Rattle.std.proofs.Common.{◌≡◌, ◌≢◌, ℕ, Bool, true, false, ◌==◌, [], ◌∷◌, ◌++◌, take, None, refl, sym, ap, ◌∙◌, append_assoc}
 use Rattle.std.proofs.lemmas.List.{append_cancel_right}
 use Rattle.kdl_text.specs.Chars.{Text, begins, starts, is_identifier_char}
 use Rattle.kdl_text.specs.Internal.Here.{first}
@@ -30,6 +30,30 @@ before p e = record { put = λ u. p ++ u; piece = p; text = λ u. refl; here = e
 pub first_piece : (p s t : Text) → first s ≡ first t → first (p ++ s) ≡ first (p ++ t)
 first_piece [] s t e = e
 first_piece (c ∷ p) s t e = refl
+
+-- what follows a front that is not empty does not change its first character
+pub front_first : (f u r : Text) → f ≢ [] → first (f ++ u) ≡ first (f ++ r)
+front_first [] u r some = absurd (some refl)
+front_first (c ∷ f) u r some = refl
+
+pub more_first : (r u : Text) → r ≢ [] → first (r ++ u) ≡ first r
+more_first [] u some = absurd (some refl)
+more_first (c ∷ r) u some = refl
+
+pub more_some : (f u : Text) → f ≢ [] → f ++ u ≢ []
+more_some [] u some e = some refl
+more_some (c ∷ f) u some e = cc
+
+-- the first two characters of a text, and the rest
+pub two_parts : (r : Text) → (q : Text) × (r ≡ take 2 r ++ q)
+two_parts [] = ([], refl)
+two_parts (c ∷ []) = ([], refl)
+two_parts (c ∷ d ∷ r) = (r, refl)
+
+pub two_some : (r : Text) → r ≢ [] → take 2 r ≢ []
+two_some [] h e = h e
+two_some (c ∷ []) h e = cc
+two_some (c ∷ d ∷ r) h e = cc
 
 -- what begins like the rest makes the text begin like the text
 pub same : {s r : Text} (p : Put s r) (u : Text) → first u ≡ first r → first (p.put u) ≡ first s

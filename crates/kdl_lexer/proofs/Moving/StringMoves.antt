@@ -20,10 +20,10 @@ pub record MoveString (R : Text → Text → Type 0) (s r : Text) : Type 0 where
   pub there : (u : Text) → starts is_identifier_char u ≡ false → begins 34 u ≡ false → R (at.put u) u
 
 -- it comes before each rest
-record MoveClosed (R : Text → Text → Type 0) (s r : Text) : Type 0 where
-  at : Put s r
-  full : (u : Text) → first (at.put u) ≡ first s
-  there : (u : Text) → R (at.put u) u
+pub record MoveClosed (R : Text → Text → Type 0) (s r : Text) : Type 0 where
+  pub at : Put s r
+  pub full : (u : Text) → first (at.put u) ≡ first s
+  pub there : (u : Text) → R (at.put u) u
 
 space_no_quote : (c : ℕ) → is_space c ≡ true → (c == 34) ≡ false
 unfolding is_space
@@ -103,7 +103,7 @@ move_newline crlf = record { at = also 13 (also 10 stands); there = λ u e. crlf
 move_newline (one {c = c} {r = r} x y) = record { at = also c stands; there = λ u e. one x (ap (λ b. (c == 13) && b) (begins_first 10 u r e) ∙ y) }
 
 -- a text of three characters at least
-abbrev Long : Text → Type 0
+abbrev pub Long : Text → Type 0
 Long p = 3 ≤ length p
 
 longer : (p q : Text) → Long q → Long (p ++ q)
@@ -114,16 +114,16 @@ begins_long a b [] u r h = absurd (omega (arith, h))
 begins_long a b (c ∷ []) u r h = absurd (omega (arith, h))
 begins_long a b (c ∷ d ∷ p) u r h = refl
 
-record MoveContent (us : List LineUnit) (s r : Text) : Type 0 where
-  at : Put s r
-  full : (u : Text) → first (at.put u) ≡ first s
-  long : Long at.piece
-  there : (u : Text) → Content (at.put u) u us
+pub record MoveContent (us : List LineUnit) (s r : Text) : Type 0 where
+  pub at : Put s r
+  pub full : (u : Text) → first (at.put u) ≡ first s
+  pub long : Long at.piece
+  pub there : (u : Text) → Content (at.put u) u us
 
 no_two : {s r : Text} (p : Put s r) → Long p.piece → begins_two 34 34 s ≡ false → (u : Text) → begins_two 34 34 (p.put u) ≡ false
 no_two {r = r} p h e u = ap (begins_two 34 34) (p.text u) ∙ begins_long 34 34 p.piece u r h ∙ ap (begins_two 34 34) (sym (p.text r) ∙ sym p.here) ∙ e
 
-move_content : {t r : Text} {us : List LineUnit} → Content t r us → MoveContent us t r
+pub move_content : {t r : Text} {us : List LineUnit} → Content t r us → MoveContent us t r
 move_content Content.close = record { at = also 34 (also 34 (also 34 stands)); full = λ u. refl; long = omega arith; there = λ u. Content.close }
 move_content (Content.more (ContentUnit.quote h) k e) =
     let m = move_content k in
@@ -190,7 +190,7 @@ close_far close q u r =
     sym (e u) ∙ begins_far close (q ++ close) u r (omega (arith, length-append q close)) ∙ e r
 
 module _ (close : Text) (begun : (u r : Text) → first (close ++ u) ≡ first (close ++ r)) where
-  move_raw_content : {t r : Text} {us : List LineUnit} → RawContent close t r us → MoveClosed (λ t r. RawContent close t r us) t r
+  pub move_raw_content : {t r : Text} {us : List LineUnit} → RawContent close t r us → MoveClosed (λ t r. RawContent close t r us) t r
   move_raw_content {r = r} (content k e) =
       let m = move_raw_units k in
       let f = λ (u : Text). begun u r ∙ ap first (sym e) in

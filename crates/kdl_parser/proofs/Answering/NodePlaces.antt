@@ -1,5 +1,5 @@
 -- The place where a text is refused as a node.
-use Rattle.std.proofs.Common.{◌≡◌, ◌⊎◌, inl, inr, ◌+◌, true, false, [], ◌∷◌, ◌++◌, take, Some, None, refl, sym, ap, subst, ◌∙◌, arith}
+use Rattle.std.proofs.Common.{◌≡◌, ◌≢◌, inl, inr, ◌+◌, true, false, [], ◌∷◌, ◌++◌, Some, None, refl, sym, ap, subst, ◌∙◌, arith}
 use Rattle.kdl_text.specs.Chars.{Text}
 use Rattle.kdl_text.specs.Internal.Here.{Here, Position, first_len}
 use Rattle.kdl_text.specs.Internal.Reading.{Moves}
@@ -8,15 +8,17 @@ use Rattle.kdl_text.specs.declared.span.SourceSpan.{SourceSpan}
 use Rattle.kdl_text.proofs.Looking.MovesJoin.{bytes-append}
 use Rattle.kdl_entry.proofs.Reading.EntryLoop.{bytes_before, char_in}
 use Rattle.kdl_lexer.specs.Internal.Handed.{IsFaultAt, kind_view, HandsOut}
-use Rattle.kdl_lexer.specs.Tokens.{space, NoToken}
+use Rattle.kdl_lexer.specs.Tokens.{Token, space, BeginsToken, NoToken}
 use Rattle.kdl_lexer.specs.declared.lexer.Token.{Token as CodeToken}
 use Rattle.kdl_lexer.proofs.Lexing.TokenUnique.{no_token}
+use Rattle.kdl_lexer.proofs.Stopping.{stops_there}
 use Rattle.kdl_control.specs.Control as c
 use Rattle.kdl_grammar.specs.GoingOn.{DerivedNode}
 use Rattle.kdl_grammar.specs.Going.{here}
 use Rattle.kdl_grammar.specs.NodeControl.{NodeControl, in_text, node_step, node_start, NodeReaches}
-use Rattle.kdl_grammar.proofs.NodeTexts.{node_alive, node_dead_at_token}
-use Rattle.kdl_lexer.specs.Earliest.{BeginsNone, BeginsNoOther}
+use Rattle.kdl_grammar.proofs.Reading.NodeSteps.{also_refused}
+use Rattle.kdl_grammar.proofs.NodeTexts.{node_alive, node_dead_at_front, node_dead_at_token, node_alive_in_token}
+use Rattle.kdl_lexer.specs.Earliest.{BeginsNone, BeginsNoOther, StopsAt, at_token}
 use Rattle.kdl_parser.specs.Internal.Building.{EndsIn}
 use Rattle.kdl_parser.specs.Internal.NodePlace.{IsNodePlace}
 use Rattle.kdl_parser.specs.Internal.Stopping.{StuckBy}
@@ -76,9 +78,12 @@ stuck_there t at n place span g e f x s = (
     h : NodeReaches (p ++ at.rest) n at.rest
     h = subst (λ (z : Text). NodeReaches z n at.rest) g.text.1 g.went
 
-    stops : StuckBy node_step n at.rest → BeginsNone at.rest ⊎ BeginsNoOther DerivedNode (p ++ take 2 at.rest)
-    stops (inl y) = inl y
-    stops (inr (k, v, b, i)) = inr (node_dead_at_token p at.rest v n k h b i)
+    gone : (f q : Text) → f ≢ [] → at.rest ≡ f ++ q → ((u v : Text) (j : Token) → BeginsToken (f ++ u) j v → node_step n j ≡ None) → BeginsNoOther DerivedNode (p ++ f)
+    gone f q some i m = node_dead_at_front p f q n some (subst (λ (z : Text). NodeReaches (p ++ z) n z) i h) m
+
+    stops : StuckBy node_step n at.rest → StopsAt DerivedNode p at.rest
+    stops (inl y) = stops_there (node_step n) DerivedNode p at.rest (also_refused n) gone (λ u k m some b i. node_alive_in_token p at.rest u n m k some h b i) (node_alive p at.rest n h) y
+    stops (inr (k, v, b, i)) = at_token (node_dead_at_token p at.rest v n k h b i)
 
 pub refused_token : (t : Text) (before mid : Here) (n : NodeControl) (k : CodeToken) (span : SourceSpan) → NodeGoing before t n → HandsOut before k mid → node_step n (kind_view k.kind) ≡ None → IsFaultAt k.at.start span → IsNodePlace t span
 refused_token t before mid n k span g h e x = stuck_there t before n k.at.start span g h.start_rest h.start_at x (stuck_cut node_step n h.cuts e)

@@ -1,9 +1,9 @@
 -- What the result on a whole text says of the grammar.
-use Rattle.std.proofs.Common.{◌≡◌, ◌⊎◌, inl, inr, ℕ, List, Option, ◌+◌, ◌*◌, ◌≤◌, length, take, arith, true, false, ◌∷◌, ◌++◌, Ok, Err, refl, sym, ap, subst, ◌∙◌}
+use Rattle.std.proofs.Common.{◌≡◌, ◌≢◌, inl, inr, ℕ, List, Option, None, ◌+◌, ◌*◌, ◌≤◌, length, [], arith, true, false, ◌∷◌, ◌++◌, Ok, Err, refl, sym, ap, subst, ◌∙◌}
 use Rattle.std.specs.Str.{chars, IsUtf8}
 use Rattle.kdl_text.specs.Chars.{Text, begins}
 use Rattle.kdl_text.specs.Spans.{bytes}
-use Rattle.kdl_lexer.specs.Tokens.{Token, t_bom}
+use Rattle.kdl_lexer.specs.Tokens.{Token, BeginsToken, t_bom}
 use Rattle.kdl_lexer.specs.declared.lexer.LexFailure.{LexFailure}
 use Rattle.kdl_lexer.specs.declared.lexer.LexFailure.TheVariants.{Faulty, Memory}
 use Rattle.kdl_text.specs.Failures.{IsSyntax}
@@ -11,9 +11,10 @@ use Rattle.kdl_text.specs.declared.error.ParseFailure.{ParseFailure}
 use Rattle.kdl_text.specs.declared.error.ParseFailure.TheVariants.{Syntax, Memory as NoMemory}
 use Rattle.kdl_diagnostics.specs.Internal.Noted.{OnRefused}
 use Rattle.kdl_lexer.proofs.Lexing.TokenUnique.{token_det}
+use Rattle.kdl_lexer.proofs.Stopping.{stops_there}
 use Rattle.kdl_text.proofs.Looking.Texts.{bytes-chars}
 use Rattle.kdl_text.proofs.Looking.MovesJoin.{bytes-append}
-use Rattle.kdl_control.specs.Control.{Control}
+use Rattle.kdl_control.specs.Control.{Control, step as step_control}
 use Rattle.kdl_grammar.specs.Data.{Nodes}
 use Rattle.kdl_grammar.specs.GoingOn.{Derived, Dead}
 use Rattle.kdl_grammar.specs.Going.{GoesBy, here, goes, Reaches, no_bom, behind_bom}
@@ -23,7 +24,7 @@ use Rattle.kdl_grammar.specs.Laid.{LaidDocument, with_bom}
 use Rattle.kdl_grammar.specs.Internal.Machine.{step, initial, Runs, reads, AnswersDocument}
 use Rattle.kdl_grammar.specs.Print.{print_document}
 use Rattle.kdl_grammar.specs.Tree.{Node, Document, document_data}
-use Rattle.kdl_lexer.specs.Earliest.{BeginsNone, IsCut, up_to_here, token, IsRefusedAt}
+use Rattle.kdl_lexer.specs.Earliest.{IsCut, up_to_here, token, StopsAt, at_token, IsRefusedAt}
 use Rattle.kdl_parser.specs.Internal.Answered.{AnswersParts}
 use Rattle.kdl_parser.specs.Internal.Building.{EndsIn}
 use Rattle.kdl_parser.specs.Internal.Parts.{document_by}
@@ -31,7 +32,8 @@ use Rattle.kdl_parser.specs.Internal.Steps.{Counted}
 use Rattle.kdl_parser.specs.Internal.Stopping.{Stuck}
 use Rattle.kdl_parser.specs.Internal.Whole.{AnswersDocumentText}
 use Rattle.kdl_parser.specs.declared.node_parts.DocumentParts.{DocumentParts}
-use Rattle.kdl_grammar.proofs.GoingOn.{alive, dead_at_token}
+use Rattle.kdl_grammar.proofs.GoingOn.{alive, alive_in_token, dead_at_front, dead_at_token}
+use Rattle.kdl_grammar.proofs.Reading.Refusing.{refused_too}
 use Rattle.kdl_grammar.proofs.Reading.Erased.{sound, answered, one_document}
 use Rattle.kdl_grammar.proofs.Laying.LaidPrints.{printed}
 use Rattle.kdl_grammar.proofs.Moving.FormerIsPresent.{wider}
@@ -59,9 +61,12 @@ refused_at t n {c = c} {r = r} g (p, e) m s = record { before = p; rest = r; tex
     h : Reaches (p ++ r) c r
     h = subst (λ (z : Text). Reaches z c r) e g
 
-    stops : Stuck c r → BeginsNone r ⊎ Dead (p ++ take 2 r)
-    stops (inl x) = inl x
-    stops (inr (k, v, b, f)) = inr (dead_at_token p r v c k h b f)
+    gone : (f q : Text) → f ≢ [] → r ≡ f ++ q → ((u v : Text) (j : Token) → BeginsToken (f ++ u) j v → step_control c j ≡ None) → Dead (p ++ f)
+    gone f q some i n = dead_at_front p f q c some (subst (λ (z : Text). Reaches (p ++ z) c z) i h) n
+
+    stops : Stuck c r → StopsAt Derived p r
+    stops (inl x) = stops_there (step_control c) Derived p r (refused_too c) gone (λ u k d some b i. alive_in_token p r u c d k some h b i) (alive p r c h) x
+    stops (inr (k, v, b, f)) = at_token (dead_at_token p r v c k h b f)
 
 -- a text that does not begin with U+FEFF
 not_begins : (t : Text) → begins 0xFEFF t ≡ false → (u : Text) → t ≡ 0xFEFF ∷ u → ⊥

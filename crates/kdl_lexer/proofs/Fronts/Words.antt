@@ -17,10 +17,10 @@ use Rattle.kdl_text.proofs.Quoted.BareReads.{bare_begins}
 use Rattle.kdl_text.proofs.Quoted.StringUnique.{is_quoted_begins, is_raw_begins, is_raw_front}
 use Rattle.kdl_text.proofs.Quoted.UnitUnique.{run_same}
 use Rattle.kdl_value.specs.Data.{Value}
+use Rattle.kdl_lexer.specs.Earliest.{BeginsNoToken}
 use Rattle.kdl_lexer.specs.Pieces.{StringPiece, bare, quoted, raw, PlainPiece, number, keyword, number_value}
 use Rattle.kdl_lexer.specs.Tokens.{Token, string, value, BeginsToken, t_string, t_value}
 use Rattle.kdl_lexer.proofs.Lexing.StringUnique.{begins_piece, quote_identifier, sign_identifier, quote_sign, raw_second, keyword_front}
-use Rattle.kdl_lexer.proofs.Lexing.TokenFronts.{BeginsNone}
 use Rattle.kdl_lexer.proofs.Lexing.TokenUnique.{no_piece}
 use Rattle.kdl_lexer.proofs.Moving.PieceMoves.{move_plain_piece}
 
@@ -177,7 +177,7 @@ sign_other : is_identifier_char 35 ≡ false
 unfolding is_identifier_char is_space is_newline_char is_banned is_punctuation
 sign_other = refl
 
-sign_piece : begins_piece 35 ≡ true
+pub sign_piece : begins_piece 35 ≡ true
 unfolding is_identifier_char is_space is_newline_char is_banned is_punctuation
 sign_piece = refl
 
@@ -189,7 +189,7 @@ shifted w c u = append_assoc w (c ∷ []) u
 
 -- where no token begins with the word before one rest, none does before another
 pub word_front : (a : ℕ) (w : Text) (c : ℕ) (t : Text) → list_all is_identifier_char (a ∷ w) ≡ true → is_identifier_char c ≡ false
-    → ((r : Text) (k : Token) → BeginsToken (a ∷ (w ++ (c ∷ t))) k r → ⊥) → BeginsNone (a ∷ (w ++ (c ∷ [])))
+    → ((r : Text) (k : Token) → BeginsToken (a ∷ (w ++ (c ∷ t))) k r → ⊥) → BeginsNoToken (a ∷ (w ++ (c ∷ [])))
 word_front a w c t all ends none u r k b =
     no_piece a (w ++ (c ∷ u)) (piece_or a here) no_string no_plain r k (subst (λ (z : Text). BeginsToken (a ∷ z) k r) (shifted w c u) b)
   where
@@ -207,7 +207,7 @@ word_front a w c t all ends none u r k b =
 
 -- nor with a number sign and the word; with no word, before a character that is no quote and no number sign
 pub sign_front : (w : Text) (c : ℕ) (t : Text) → list_all is_identifier_char w ≡ true → is_identifier_char c ≡ false → (w ≡ [] → ((c == 34) ≡ false) × ((c == 35) ≡ false))
-    → ((r : Text) (k : Token) → BeginsToken (35 ∷ (w ++ (c ∷ t))) k r → ⊥) → BeginsNone (35 ∷ (w ++ (c ∷ [])))
+    → ((r : Text) (k : Token) → BeginsToken (35 ∷ (w ++ (c ∷ t))) k r → ⊥) → BeginsNoToken (35 ∷ (w ++ (c ∷ [])))
 sign_front w c t all ends alone none u r k b =
     no_piece 35 (w ++ (c ∷ u)) sign_piece no_string no_plain r k (subst (λ (z : Text). BeginsToken (35 ∷ z) k r) (shifted w c u) b)
   where
@@ -234,7 +234,7 @@ signs_all zero = refl
 signs_all (suc n) = signs_all n
 
 -- nor with two number signs or more, before a character that is no quote and no number sign
-pub signs_front : (n c : ℕ) → (c == 34) ≡ false → (c == 35) ≡ false → BeginsNone (35 ∷ 35 ∷ (times n 35 ++ (c ∷ [])))
+pub signs_front : (n c : ℕ) → (c == 34) ≡ false → (c == 35) ≡ false → BeginsNoToken (35 ∷ 35 ∷ (times n 35 ++ (c ∷ [])))
 signs_front n c no_quote no_sign u r k b =
     no_piece 35 (35 ∷ (times n 35 ++ (c ∷ u))) sign_piece no_string no_plain r k (subst (λ (z : Text). BeginsToken (35 ∷ 35 ∷ z) k r) (shifted (times n 35) c u) b)
   where

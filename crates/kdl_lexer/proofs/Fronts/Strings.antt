@@ -10,13 +10,13 @@ use Rattle.kdl_text.proofs.Quoted.BareReads.{bare_begins}
 use Rattle.kdl_text.proofs.Quoted.StringUnique.{is_raw_begins}
 use Rattle.kdl_text.proofs.Quoted.UnitUnique.{unit_det, unit_no_quote, unit_front, run_same, backslash, blank_u}
 use Rattle.kdl_value.specs.Data.{Value}
+use Rattle.kdl_lexer.specs.Earliest.{BeginsNoToken}
 use Rattle.kdl_lexer.specs.Pieces.{StringPiece, bare, quoted, raw, PlainPiece, number, keyword}
 use Rattle.kdl_lexer.specs.Tokens.{BeginsToken}
 use Rattle.kdl_lexer.proofs.Lexing.StringUnique.{begins_piece, quote_identifier, quote_sign, keyword_front}
-use Rattle.kdl_lexer.proofs.Lexing.TokenFronts.{BeginsNone}
 use Rattle.kdl_lexer.proofs.Lexing.TokenUnique.{no_piece}
 use Rattle.kdl_lexer.proofs.Moving.StringMoves.{move_units}
-use Rattle.kdl_grammar.proofs.Reading.Refusing.{front_first}
+use Rattle.kdl_lexer.proofs.Moving.Puts.{front_first}
 
 -- no unit of a quoted string begins a text with this front
 abbrev pub BeginsNoUnit : Text → Type 0
@@ -94,7 +94,7 @@ no_quote_there [] u some h = absurd (some refl)
 no_quote_there (c ∷ g) u some h = h
 
 -- a quote, units, and a front that no unit and no quote begins
-pub quoted_front : (p g t : Text) {us : List StringUnit} → AreUnits (p ++ (g ++ t)) (g ++ t) us → g ≢ [] → begins 34 g ≡ false → BeginsNoUnit g → BeginsNone (34 ∷ (p ++ g))
+pub quoted_front : (p g t : Text) {us : List StringUnit} → AreUnits (p ++ (g ++ t)) (g ++ t) us → g ≢ [] → begins 34 g ≡ false → BeginsNoUnit g → BeginsNoToken (34 ∷ (p ++ g))
 quoted_front p g t {us = us} run some no_quote stuck u r k b =
     no_piece 34 (p ++ (g ++ u)) quote_piece
     (λ x v. quote_no_other (no_quoted there (λ w y. stuck u w y) (no_quote_there g u some no_quote)))

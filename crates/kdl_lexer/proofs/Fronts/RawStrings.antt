@@ -13,17 +13,17 @@ use Rattle.kdl_lexer.proofs.Moving.Puts.{Put, stands, also, joined, same}
 use Rattle.kdl_lexer.proofs.Moving.StringMoves.{move_newline}
 
 -- the characters of closings
-abbrev is_close : ℕ → Bool
+abbrev pub is_close : ℕ → Bool
 is_close c = (c == 34) || (c == 35)
 
 times_close : (n c : ℕ) → is_close c ≡ true → list_all is_close (times n c) ≡ true
 times_close zero c h = refl
 times_close (suc n) c h = rw (h, times_close n c h) refl
 
-closing_close : (q n : ℕ) → list_all is_close (closing q n) ≡ true
+pub closing_close : (q n : ℕ) → list_all is_close (closing q n) ≡ true
 closing_close q n = rw (list_all-append is_close (times q 34) (times n 35), times_close q 34 refl, times_close n 35 refl) refl
 
-apart : (c d : ℕ) → is_close c ≡ false → is_close d ≡ true → (c == d) ≡ false
+pub apart : (c d : ℕ) → is_close c ≡ false → is_close d ≡ true → (c == d) ≡ false
 apart c d h k = go (c == d) refl
   where
     go : (b : Bool) → (c == d) ≡ b → (c == d) ≡ false
@@ -37,11 +37,11 @@ begins_apart (d ∷ p) [] c u t a h = let e = apart c d h (and_parts (is_close d
 begins_apart (d ∷ p) (x ∷ q) c u t a h = ap (λ b. (x == d) && b) (begins_apart p q c u t (and_parts (is_close d) (list_all is_close p) a).1 h)
 
 -- units before the character c come before each rest that begins with it
-record MoveBefore (close : Text) (us : List LineUnit) (s m : Text) (c : ℕ) (u : Text) : Type 0 where
-  at : Put s m
-  there : RawUnits close (at.put (c ∷ u)) (c ∷ u) us
+pub record MoveBefore (close : Text) (us : List LineUnit) (s m : Text) (c : ℕ) (u : Text) : Type 0 where
+  pub at : Put s m
+  pub there : RawUnits close (at.put (c ∷ u)) (c ∷ u) us
 
-move_before : {close s m : Text} {us : List LineUnit} (c : ℕ) (t u : Text) → list_all is_close close ≡ true → is_close c ≡ false → m ≡ c ∷ t → RawUnits close s m us → MoveBefore close us s m c u
+pub move_before : {close s m : Text} {us : List LineUnit} (c : ℕ) (t u : Text) → list_all is_close close ≡ true → is_close c ≡ false → m ≡ c ∷ t → RawUnits close s m us → MoveBefore close us s m c u
 move_before c t u a h e RawUnits.none = record { at = stands; there = RawUnits.none }
 move_before {close = close} {m = m} c t u a h e (RawUnits.more (RawUnit.char {c = d} f x) k) =
     let n = move_before c t u a h e k in

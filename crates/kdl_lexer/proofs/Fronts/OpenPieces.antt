@@ -13,7 +13,7 @@ use Rattle.kdl_lexer.specs.Pieces.{quoted}
 use Rattle.kdl_lexer.specs.Tokens.{space, string, BeginsToken, t_space, t_string}
 
 -- a text after `/*`: a comment ends in it, before each rest; or it goes on to the end of one
-data Closing (s : Text) : Type 0 where
+pub data Closing (s : Text) : Type 0 where
   closed : (p r : Text) → s ≡ p ++ r → ((w : Text) → first (p ++ w) ≡ first s) → ((w : Text) → Parts (p ++ w) w) → Closing s
   goes_on : (u : Text) → ((w : Text) → Parts (s ++ (u ++ w)) w) → Closing s
 
@@ -47,7 +47,7 @@ after_other {c = c} {d = d} {s = s} x y (closed p r e full f) =
     (λ w. other (two_other 47 42 c (p ++ w) (d ∷ s) (full w) ∙ x) (two_other 42 47 c (p ++ w) (d ∷ s) (full w) ∙ y) (f w))
 after_other x y (goes_on u f) = goes_on u (λ w. other x y (f w))
 
-closing : (n : ℕ) (s : Text) → length s ≤ n → Closing s
+pub closing : (n : ℕ) (s : Text) → length s ≤ n → Closing s
 closing n [] h = goes_on (42 ∷ 47 ∷ []) (λ w. close)
 closing n (c ∷ []) h = one_open c
 closing zero (c ∷ d ∷ s) h = absurd (omega (arith, h))
@@ -79,29 +79,29 @@ quote_no_gap : is_escaped_space 34 ≡ false
 unfolding is_space is_newline_char
 quote_no_gap = refl
 
-gap_stops : (r : Text) → starts is_escaped_space r ≡ false → starts is_escaped_space (r ++ (34 ∷ [])) ≡ false
-gap_stops [] h = quote_no_gap
-gap_stops (c ∷ r) h = h
+gap_stops : (r : Text) (x : ℕ) (u : Text) → is_escaped_space x ≡ false → starts is_escaped_space r ≡ false → starts is_escaped_space (r ++ (x ∷ u)) ≡ false
+gap_stops [] x u n h = n
+gap_stops (c ∷ r) x u n h = h
 
--- units come before a quote too
-unit_quote : {t m : Text} {u : StringUnit} → IsUnit t m u → IsUnit (t ++ (34 ∷ [])) (m ++ (34 ∷ [])) u
-unit_quote (one_literal x) = one_literal x
-unit_quote (one_letter x) = one_letter x
-unit_quote {m = m} (one_number x) = one_number (record {
-  digits = x.digits;
-  text = ap (λ (z : Text). z ++ (34 ∷ [])) x.text ∙ append_assoc x.digits (125 ∷ m) (34 ∷ []);
-  all = x.all;
-  some = x.some;
-  few = x.few;
-  value = x.value;
-  scalar = x.scalar;
+-- a unit comes before more of the text too, if that begins with no escaped space
+pub unit_more : {t m : Text} {y : StringUnit} (x : ℕ) (u : Text) → is_escaped_space x ≡ false → IsUnit t m y → IsUnit (t ++ (x ∷ u)) (m ++ (x ∷ u)) y
+unit_more x u n (one_literal i) = one_literal i
+unit_more x u n (one_letter i) = one_letter i
+unit_more {m = m} x u n (one_number i) = one_number (record {
+  digits = i.digits;
+  text = ap (λ (z : Text). z ++ (x ∷ u)) i.text ∙ append_assoc i.digits (125 ∷ m) (x ∷ u);
+  all = i.all;
+  some = i.some;
+  few = i.few;
+  value = i.value;
+  scalar = i.scalar;
 })
-unit_quote {m = m} (one_gap x y) =
-    one_gap x (record { run = y.run; text = ap (λ (z : Text). z ++ (34 ∷ [])) y.text ∙ append_assoc y.run m (34 ∷ []); all = y.all; stops = gap_stops m y.stops })
+unit_more {m = m} x u n (one_gap i y) =
+    one_gap i (record { run = y.run; text = ap (λ (z : Text). z ++ (x ∷ u)) y.text ∙ append_assoc y.run m (x ∷ u); all = y.all; stops = gap_stops m x u n y.stops })
 
 units_quote : {t m : Text} {us : List StringUnit} → AreUnits t m us → AreUnits (t ++ (34 ∷ [])) (m ++ (34 ∷ [])) us
 units_quote AreUnits.none = AreUnits.none
-units_quote (AreUnits.more x xs) = AreUnits.more (unit_quote x) (units_quote xs)
+units_quote (AreUnits.more x xs) = AreUnits.more (unit_more 34 [] quote_no_gap x) (units_quote xs)
 
 -- no two quotes begin what units and a quote are
 no_quotes : {s : Text} {us : List StringUnit} → AreUnits s (34 ∷ []) us → begins_with (34 ∷ 34 ∷ []) s ≡ false

@@ -10,13 +10,13 @@ use Rattle.kdl_text.proofs.Quoted.UnitUnique.{unit_no_quote}
 use Rattle.kdl_text.proofs.RawStrings.RawUnique.{quote_no_newline}
 use Rattle.kdl_text.proofs.Spacing.NewlineUnique.{newline_det, no_newline}
 use Rattle.kdl_text.proofs.Spacing.SpaceUnique.{newline_begins}
+use Rattle.kdl_lexer.specs.Earliest.{BeginsNoToken}
 use Rattle.kdl_lexer.specs.Tokens.{BeginsToken}
-use Rattle.kdl_lexer.proofs.Lexing.TokenFronts.{BeginsNone}
 use Rattle.kdl_lexer.proofs.Lexing.TokenUnique.{no_piece}
 use Rattle.kdl_lexer.proofs.Moving.Puts.{Put, stands, also, joined, same, begins_first}
 use Rattle.kdl_lexer.proofs.Moving.StringMoves.{move_newline, move_unit}
-use Rattle.kdl_grammar.proofs.Fronts.Strings.{BeginsNoUnit, quote_piece, quote_no_plain, quote_no_other, no_quote_there}
-use Rattle.kdl_grammar.proofs.Reading.Refusing.{front_first}
+use Rattle.kdl_lexer.proofs.Fronts.Strings.{BeginsNoUnit, quote_piece, quote_no_plain, quote_no_other, no_quote_there}
+use Rattle.kdl_lexer.proofs.Moving.Puts.{front_first}
 
 -- units of lines in a row
 pub data AreLines : Text → Text → Type 0 where
@@ -24,9 +24,9 @@ pub data AreLines : Text → Text → Type 0 where
   more : {t m r : Text} {us : List LineUnit} → ContentUnit t m us → AreLines m r → AreLines t r
 
 -- they come before each rest that begins with the same character, and with two quotes where the other does
-record MoveLines (R : Text → Text → Type 0) (s m : Text) : Type 0 where
-  at : Put s m
-  there : (u : Text) → first u ≡ first m → begins_two 34 34 u ≡ begins_two 34 34 m → R (at.put u) u
+pub record MoveLines (R : Text → Text → Type 0) (s m : Text) : Type 0 where
+  pub at : Put s m
+  pub there : (u : Text) → first u ≡ first m → begins_two 34 34 u ≡ begins_two 34 34 m → R (at.put u) u
 
 two_piece : (p u m : Text) → first u ≡ first m → begins_two 34 34 u ≡ begins_two 34 34 m → begins_two 34 34 (p ++ u) ≡ begins_two 34 34 (p ++ m)
 two_piece [] u m e f = f
@@ -36,7 +36,7 @@ two_piece (c ∷ d ∷ p) u m e f = refl
 two_put : {s m : Text} (p : Put s m) (u : Text) → first u ≡ first m → begins_two 34 34 u ≡ begins_two 34 34 m → begins_two 34 34 (p.put u) ≡ begins_two 34 34 s
 two_put {m = m} p u e f = ap (begins_two 34 34) (p.text u) ∙ two_piece p.piece u m e f ∙ ap (begins_two 34 34) (sym (p.text m) ∙ sym p.here)
 
-move_line_unit : {t m : Text} {us : List LineUnit} → ContentUnit t m us → MoveLines (λ t m. ContentUnit t m us) t m
+pub move_line_unit : {t m : Text} {us : List LineUnit} → ContentUnit t m us → MoveLines (λ t m. ContentUnit t m us) t m
 move_line_unit (ContentUnit.quote h) = record { at = also 34 stands; there = λ u e f. ContentUnit.quote (f ∙ h) }
 move_line_unit (ContentUnit.line n) = let a = move_newline n in record { at = a.at; there = λ u e f. ContentUnit.line (a.there u e) }
 move_line_unit (ContentUnit.unit x y) = let a = move_unit x in record { at = a.at; there = λ u e f. ContentUnit.unit (a.there u e) y }
@@ -82,7 +82,7 @@ two_none (c ∷ s) h = rw h refl
 
 -- three quotes, a newline n, units p, and a front g that no quote and no unit begins
 pub lines_front : (n p g t : Text) → Newline (n ++ (p ++ (g ++ t))) (p ++ (g ++ t)) → AreLines (p ++ (g ++ t)) (g ++ t) → g ≢ [] → begins 34 g ≡ false → BeginsNoLine g
-    → BeginsNone (34 ∷ 34 ∷ 34 ∷ (n ++ (p ++ g)))
+    → BeginsNoToken (34 ∷ 34 ∷ 34 ∷ (n ++ (p ++ g)))
 lines_front n p g t nl run some no_quote stuck u r k b =
     no_piece 34 (34 ∷ 34 ∷ (n ++ (p ++ (g ++ u)))) quote_piece (λ x v. quote_no_other no_quoted) (λ x v. quote_no_plain) r k
     (subst (λ (z : Text). BeginsToken (34 ∷ 34 ∷ 34 ∷ z) k r) (append_assoc n (p ++ g) u ∙ ap (λ (z : Text). n ++ z) (append_assoc p g u)) b)
@@ -112,7 +112,7 @@ lines_front n p g t nl run some no_quote stuck u r k b =
         stuck_there g u (no_quote_there g u some no_quote) stuck z
 
 -- three quotes and a character that is no newline
-pub opening_front : (c : ℕ) → is_newline_char c ≡ false → BeginsNone (34 ∷ 34 ∷ 34 ∷ c ∷ [])
+pub opening_front : (c : ℕ) → is_newline_char c ≡ false → BeginsNoToken (34 ∷ 34 ∷ 34 ∷ c ∷ [])
 opening_front c h u r k b = no_piece 34 (34 ∷ 34 ∷ c ∷ u) quote_piece (λ x v. quote_no_other no_quoted) (λ x v. quote_no_plain) r k b
   where
     no_quoted : {x v : Text} → IsQuoted (34 ∷ 34 ∷ 34 ∷ c ∷ u) x v → ⊥
