@@ -57,33 +57,6 @@ impl Steps {
     {
         self.count = self.count.saturating_add(by);
     }
-
-    /// Adds the steps of another count.
-    pub fn add(&mut self, other: Steps)
-        ensures { self.new ≡ raise self.old other }
-    {
-        self.raise(other.count);
-    }
-
-    /// Counts a look at a token that was read. Costs a step.
-    #[inline]
-    pub fn count_look(&mut self)
-        ensures { self.new ≡ raise self.old 1 }
-    {
-        self.raise(1);
-    }
-
-    /// Returns the text from one checkpoint to a later one. Costs a step for each of its bytes.
-    #[inline]
-    pub fn slice_between<'a>(&mut self, from: &Checkpoint<'a>, to: &Checkpoint<'a>) -> Piece<'a>
-        requires { Ahead from.now to.now }
-        ensures result { from.now.rest ≡ result ++ to.now.rest }
-        ensures counted { self.new ≡ raise self.old (bytes result) }
-    {
-        let text = cut(from.rest, to.rest);
-        self.raise(text.len() as u64);
-        Piece { text }
-    }
 }
 
 /// The second character.
@@ -337,6 +310,26 @@ impl<'a> Piece<'a> {
     }
 }
 
+/// Returns the text from one checkpoint to a later one. Costs a step for each of its bytes.
+#[inline]
+pub fn slice_between<'a>(steps: &mut Steps, from: &Checkpoint<'a>, to: &Checkpoint<'a>) -> Piece<'a>
+    requires { Ahead from.now to.now }
+    ensures result { from.now.rest ≡ result ++ to.now.rest }
+    ensures counted { steps.new ≡ raise steps.old (bytes result) }
+{
+    let text = cut(from.rest, to.rest);
+    steps.raise(text.len() as u64);
+    Piece { text }
+}
+
+/// Counts a look at a token that was read. Costs a step.
+#[inline]
+pub fn count_look(steps: &mut Steps)
+    ensures { steps.new ≡ raise steps.old 1 }
+{
+    steps.raise(1);
+}
+
 /// A reader of a text, character by character. Each look costs a step, and each byte of a slice
 /// does.
 #[derive(Drop)]
@@ -405,7 +398,7 @@ impl<'a> Cursor<'a> {
     pub fn add_steps(&mut self, steps: Steps)
         ensures { self.new ≡ record self.old { steps = raise self.old.steps steps } }
     {
-        self.steps.add(steps);
+        self.steps.raise(steps.count);
     }
 
     /// Counts looks at characters of a piece. Costs as many steps.
@@ -573,7 +566,7 @@ impl<'a> Cursor<'a> {
         ensures result { from.now.rest ≡ result ++ to.now.rest }
         ensures moved { self.new ≡ sliced result self.old }
     {
-        self.steps.slice_between(from, to)
+        slice_between(&mut self.steps, from, to)
     }
 
     /// Returns the characters of the segment. Costs a step for each of its bytes.

@@ -11,7 +11,7 @@ ghost use Rattle.std.specs.Prelude.{◌≡◌, IfOk};
 
 use crate::identifier::{KdlIdentifier, sliced_identifier};
 use kdl_lexer::TokenSpan;
-use kdl_text::cursor::{Checkpoint, Piece, Steps};
+use kdl_text::cursor::{Checkpoint, Piece, Steps, count_look, slice_between};
 use kdl_text::span::SourceSpan;
 use std::alloc::{AllocError, Global};
 use std::mem;
@@ -67,7 +67,7 @@ impl<'a> Slices<'a> {
     pub fn count_look(&mut self)
         ensures { self.new ≡ record self.old { steps = raise self.old.steps 1 } }
     {
-        self.steps.count_look();
+        count_look(&mut self.steps);
     }
 
     /// Returns the piece of the text between two places. Costs a step for each of its bytes.
@@ -88,7 +88,7 @@ impl<'a> Slices<'a> {
         ensures sliced { Sliced (bytes from.now.rest) (bytes to.now.rest) self.old.steps
             self.new.steps }
     {
-        self.steps.slice_between(from, to)
+        slice_between(&mut self.steps, from, to)
     }
 
     /// Returns a copy of the text between two places. Costs a step for each of its bytes.
