@@ -1,6 +1,6 @@
 -- Definitions that only proofs and contracts inside the crates use: no contract of a public call of `kdl` mentions them.
 
--- The item that a reader's fields represent.
+-- What the fields of a type, of a key, and of the parts of an entry represent.
 pub mod Building
 -- What a call costs for the texts that it slices: at most a step for each of their bytes.
 pub mod Counted
@@ -12,8 +12,8 @@ pub mod EntryReading
 pub mod Going
 -- What the reader of identifier texts returns.
 pub mod IdentifierReading
--- An item being read, token by token: the type and value of an entry after its key, or the type and name of a node.
-pub mod Items
+-- The parts of an entry, or of a node's name, that is being read: its type and its key.
+pub mod Parts
 -- What is proved of the machine that reads entry texts.
 pub mod MachineLaws
 -- Where the first diagnostic of an error is.

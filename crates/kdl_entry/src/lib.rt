@@ -3,7 +3,7 @@
 
 mod entry;
 mod identifier;
-pub mod items;
+pub mod parsing;
 mod print;
 pub mod refusal;
 

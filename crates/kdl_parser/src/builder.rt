@@ -4,7 +4,7 @@ ghost use Rattle.kdl_grammar.specs.Internal.Machine.{initial};
 ghost use Rattle.kdl_parser.specs.Internal.Answered.{Finished};
 ghost use Rattle.kdl_parser.specs.Internal.Building.{state_view, EndsIn, Placed};
 ghost use Rattle.kdl_parser.specs.Internal.Counted.{unsliced, SlicedOn};
-ghost use Rattle.kdl_parser.specs.Internal.Events.{Acts, ItemAhead, is_live, mark_step, string_step, value_step};
+ghost use Rattle.kdl_parser.specs.Internal.Events.{Acts, PartsAhead, is_live, mark_step, string_step, value_step};
 ghost use Rattle.kdl_parser.specs.Internal.States.{document_now, document_of_nodes, Steps, Takes, token_step};
 ghost use Rattle.kdl_parser.specs.declared.builder.dropping.Dropped.TheVariants.{Nothing};
 ghost use Rattle.kdl_text.specs.Internal.Here.{Ahead};
@@ -20,8 +20,8 @@ use self::content::nothing_at;
 use self::dropping::Dropped;
 use crate::node_parts::{DocumentParts, ParsedNode};
 use kdl_control::{Event, Phase};
-use kdl_entry::items::item::{Item, TypeParts, empty};
-use kdl_entry::items::slices::Slices;
+use kdl_entry::parsing::parts::{Parts, TypeParts, empty};
+use kdl_entry::parsing::slices::Slices;
 use kdl_entry::{KdlEntry, KdlIdentifier, KdlValue};
 use kdl_lexer::{LexFailure, Token, TokenKind, TokenSpan, fault_at};
 use kdl_text::cursor::{self, Checkpoint, Piece};
@@ -74,7 +74,7 @@ pub(crate) struct Builder<'a, N> {
     /// What is slashdashed and being read.
     dropped: Dropped,
     /// The type of the next name or value, or the key of the next value.
-    item: Item<'a>,
+    parts: Parts<'a>,
     /// A string that may be a key.
     waiting: Option<WaitingWord<'a>>,
     /// The current node; in no node, nothing of it is used.
@@ -116,7 +116,7 @@ impl<'a, N: ParsedNode> Builder<'a, N> {
             slices: Slices::new(alloc, whole),
             phase: Phase::Gap,
             dropped: Dropped::Nothing,
-            item: Item::new(alloc, &start),
+            parts: Parts::new(alloc, &start),
             waiting: None,
             under: Under::new(alloc, &start),
             before: empty(alloc),
@@ -143,7 +143,7 @@ impl<'a, N: ParsedNode> Builder<'a, N> {
     ) -> Result<(), LexFailure>
         requires live { self.old.dropped ≡ Nothing }
         requires from { Ahead self.old.from at.now.start }
-        requires item { ItemAhead event self.old.item.from at.now.start }
+        requires item { PartsAhead event self.old.parts.from at.now.start }
         ensures { Acts N.tree event (value_step N.tree self.old event (value_tree value) at.now.start at.now.end) at.now
             self.old result self.new }
     {
@@ -166,7 +166,7 @@ impl<'a, N: ParsedNode> Builder<'a, N> {
     ) -> Result<(), LexFailure>
         requires live { self.old.dropped ≡ Nothing }
         requires from { Ahead self.old.from at.now.start }
-        requires item { ItemAhead event self.old.item.from at.now.start }
+        requires item { PartsAhead event self.old.parts.from at.now.start }
         ensures { Acts N.tree event (string_step N.tree self.old event (text_of text) at.now.start at.now.end) at.now
             self.old result self.new }
     {
@@ -185,7 +185,7 @@ impl<'a, N: ParsedNode> Builder<'a, N> {
     fn take_mark(&mut self, event: Event, at: &TokenSpan<'a>) -> Result<(), LexFailure>
         requires live { self.old.dropped ≡ Nothing }
         requires from { Ahead self.old.from at.now.start }
-        requires item { ItemAhead event self.old.item.from at.now.start }
+        requires item { PartsAhead event self.old.parts.from at.now.start }
         ensures { Acts N.tree event (mark_step N.tree self.old event at.now.start at.now.end) at.now
             self.old result self.new }
     {

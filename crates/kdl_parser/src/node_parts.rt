@@ -5,7 +5,7 @@ ghost use Rattle.kdl_grammar.specs.Tree.{Node};
 ghost use Rattle.kdl_parser.specs.Internal.Parts.{node_by};
 ghost use Rattle.std.specs.Prelude.{◌≡◌};
 
-use kdl_entry::items::item::TypeParts;
+use kdl_entry::parsing::parts::TypeParts;
 use kdl_entry::{KdlEntry, KdlIdentifier};
 use kdl_text::span::SourceSpan;
 use std::alloc::Global;

@@ -7,7 +7,7 @@ ghost use Rattle.std.specs.Prelude.{◌≡◌};
 
 use super::KdlNode;
 use crate::document::KdlDocument;
-use kdl_entry::items::item::TypeParts;
+use kdl_entry::parsing::parts::TypeParts;
 use kdl_parser::{NodeParts, ParsedNode};
 use kdl_parts::KdlNodeFormat;
 use kdl_text::span::SourceSpan;

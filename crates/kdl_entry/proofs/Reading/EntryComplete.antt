@@ -7,8 +7,8 @@ use Rattle.kdl_text.proofs.Looking.Ends.{End, then, end_star}
 use Rattle.kdl_entry.specs.Data as data'
 use Rattle.kdl_value.specs.Data.{Value, text}
 use Rattle.kdl_entry.specs.Entries.{IsString, string as a_string', IsPlainValue, a_string, a_plain, parens, MaybeType, untyped, typed, value as a_value, IsEntry, property, argument, DroppedFirst, dropped_first, BeforeEntry, before_entry, IsEntryText, entry_text}
-use Rattle.kdl_entry.specs.Internal.EntryMachine.{Word, State, ahead, dropping, under, word, done, opened_item, word_at, entry_by, argument_of, step, ended, Runs, stops, reads, AnswersEntry}
-use Rattle.kdl_entry.specs.Internal.Items.{TypeParts, KeyParts, type_of, before_name, after_name, behind_type, identifier_at, Item}
+use Rattle.kdl_entry.specs.Internal.EntryMachine.{Word, State, ahead, dropping, under, word, done, opened_parts, word_at, entry_by, argument_of, step, ended, Runs, stops, reads, AnswersEntry}
+use Rattle.kdl_entry.specs.Internal.Parts.{TypeParts, KeyParts, type_of, before_name, after_name, behind_type, identifier_at, Parts}
 use Rattle.kdl_control.specs.Control.{fresh, spaced, type_open, type_name, type_done, in_node, property as in_property, entry_slashdash}
 use Rattle.kdl_entry.specs.Laid.{LaidIdentifier, spelled, LaidType, no_type, a_type, no_key, a_key, LaidItem, item, LaidEntryText, laid_entry_text}
 use Rattle.kdl_entry.specs.Places.{span_of, between}
@@ -40,7 +40,7 @@ module _ (whole : Text) where
   record Starts (st : State) : Type 0 where
     to_string : (v s r : Text) → step whole st (string v) s r ≡ Some (word (word_at whole v s r) r)
     to_value : (v : Value) (s r : Text) → step whole st (value v) s r ≡ Some (done (entry_by (between whole s) None None v (between s r)) r)
-    to_left : (s r : Text) → step whole st left s r ≡ Some (under (type_open true) (opened_item s (between whole s) r))
+    to_left : (s r : Text) → step whole st left s r ≡ Some (under (type_open true) (opened_parts s (between whole s) r))
     to_slashdash : (s r : Text) → step whole st a_slashdash s r ≡ Some (dropping entry_slashdash)
 
   at_ahead : Starts ahead
@@ -54,7 +54,7 @@ module _ (whole : Text) where
     is_word : {w : Word} → argument_of w ≡ e → After e r (word w r)
     is_done : After e r (done e r)
 
-  abbrev item_at : Text → Text → Text → Option KeyParts → Identifier → Text → Text → Item
+  abbrev item_at : Text → Text → Text → Option KeyParts → Identifier → Text → Text → Parts
   item_at h q from k i b a = record { leading = q; start = h; from = from; key = k; name = i; before = b; after = a }
 
   abbrev parts : Text → Text → Text → Text → Text → Text → TypeParts

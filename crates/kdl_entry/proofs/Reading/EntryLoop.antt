@@ -18,7 +18,7 @@ use Rattle.kdl_value.specs.Data.{Value}
 use Rattle.kdl_lexer.specs.Earliest.{IsRefusedAt}
 use Rattle.kdl_lexer.specs.Internal.Handed.{Cuts, one, spaces, IsFaultAt, HandsOut, Lexed, kind_view}
 use Rattle.kdl_entry.specs.Internal.Going.{GoesBy, EntryReaches, EntryStuck}
-use Rattle.kdl_entry.specs.Internal.Items.{Item, taken}
+use Rattle.kdl_entry.specs.Internal.Parts.{Parts, taken}
 use Rattle.kdl_lexer.specs.Tokens.{Token, space, string, value, left, right, BeginsToken, t_space, NoToken}
 use Rattle.kdl_entry.specs.Tree.{Entry, entry_tree}
 use Rattle.kdl_entry.specs.declared.entry.KdlEntry.{KdlEntry}
@@ -117,17 +117,17 @@ module _ (whole s r : Text) (b : EndsIn s r) where
   begin_stands control.done st (value v) e = to _ st e (ends_here r)
   begin_stands _ st k e = absurd cc
 
-  item_stands : (p : Phase) (it : Item) (k : Token) → EndsIn it.from s → EndsIn (taken p whole it k s r).from r
+  item_stands : (p : Phase) (it : Parts) (k : Token) → EndsIn it.from s → EndsIn (taken p whole it k s r).from r
   item_stands (type_open c) it (string v) a = ends_here r
   item_stands (type_name c) it right a = ends_here r
   item_stands property it left a = ends_here r
   item_stands p it k a = then_ends a b
 
-  value_stands : (p : Phase) (it : Item) (o : Option Value) (st : State) → option_map (λ v. done (valued p it v s r) r) o ≡ Some st → Stands st r
+  value_stands : (p : Phase) (it : Parts) (o : Option Value) (st : State) → option_map (λ v. done (valued p it v s r) r) o ≡ Some st → Stands st r
   value_stands p it None st e = absurd cc
   value_stands p it (Some v) st e = to _ st e (ends_here r)
 
-  under_stands : (p : Phase) (it : Item) (c : EntryControl) (k : Token) (st : State) → under_to whole p it c k s r ≡ Some st → EndsIn it.from s → Stands st r
+  under_stands : (p : Phase) (it : Parts) (c : EntryControl) (k : Token) (st : State) → under_to whole p it c k s r ≡ Some st → EndsIn it.from s → Stands st r
   under_stands p it (control.under q) k st e a = to _ st e (item_stands p it k a)
   under_stands p it c k st e a = value_stands p it (value_of k) st e
 

@@ -8,7 +8,7 @@ use Rattle.kdl_value.specs.Data.{Value}
 use Rattle.kdl_entry.specs.Entries.{IsString, string as a_string', IsPlainValue, a_string, a_plain, parens, untyped, typed, IsValue, value as a_value, IsEntry, property, argument, DroppedFirst, dropped_first, before_entry, IsEntryText, entry_text}
 use Rattle.kdl_entry.specs.Internal.EntryMachine.{Word, State, ahead, dropping, under, word, done, step, Runs, stops, reads, AnswersEntry}
 use Rattle.kdl_control.specs.Control.{Phase, fresh, spaced, later, gap, node_slashdash, type_open, type_name, type_done, in_node, property as in_property, entry_slashdash, block_slashdash, kept, kept_slashdash}
-use Rattle.kdl_entry.specs.Internal.Items.{Item}
+use Rattle.kdl_entry.specs.Internal.Parts.{Parts}
 use Rattle.kdl_lexer.specs.Tokens.{Token, string, value, left, bom, BeginsToken, t_space, t_newline, t_slashdash, t_string, t_value, t_left, t_right, t_equals}
 use Rattle.kdl_entry.specs.Tree.{Entry}
 use Rattle.kdl_lexer.proofs.Lexing.TokenUnique.{is_end, end_behind}
@@ -171,7 +171,7 @@ module _ (whole : Text) (out : Entry) where
   type_ends b bom s r st e = absurd cc
   type_ends b _ s r st e = refl
 
-  named_ends : (b : Bool) (it : Item) (k : Token) (s r : Text) (st : State) → step whole (under (type_name b) it) k s r ≡ Some st → is_end k ≡ true
+  named_ends : (b : Bool) (it : Parts) (k : Token) (s r : Text) (st : State) → step whole (under (type_name b) it) k s r ≡ Some st → is_end k ≡ true
   named_ends b it (string v) s r st e = absurd cc
   named_ends b it (value v) s r st e = absurd cc
   named_ends b it left s r st e = absurd cc
@@ -194,10 +194,10 @@ module _ (whole : Text) (out : Entry) where
   done_end : {s : Text} (x : Entry) (from : Text) → Runs whole out (done x from) s → ValueEnd true s
   done_end x from a = ends a (done_ends x from)
 
-  named_end : {s : Text} (b : Bool) (it : Item) → Runs whole out (under (type_name b) it) s → ValueEnd true s
+  named_end : {s : Text} (b : Bool) (it : Parts) → Runs whole out (under (type_name b) it) s → ValueEnd true s
   named_end b it a = ends a (named_ends b it)
 
-  in_item : {s r : Text} {k : Token} {st : State} (p : Phase) (it : Item) → BeginsToken s k r → step whole (under p it) k s r ≡ Some st → Runs whole out st r → Rest st r → InItem p true s
+  in_item : {s r : Text} {k : Token} {st : State} (p : Phase) (it : Parts) → BeginsToken s k r → step whole (under p it) k s r ≡ Some st → Runs whole out st r → Rest st r → InItem p true s
   in_item (type_open b) it (t_space n) e a d = item_space (type_open b) true n (back _ (under (type_open b) it) _ e d)
   in_item (type_open b) it (t_string p) e a d = open_then no_star (a_string' p (named_end b _ (back_run _ _ e a))) (back _ (under (type_name b) _) _ e d)
   in_item (type_name b) it (t_space n) e a d = item_space (type_name b) true n (back _ (under (type_name b) it) _ e d)

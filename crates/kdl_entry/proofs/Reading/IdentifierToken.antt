@@ -13,7 +13,7 @@ use Rattle.kdl_lexer.specs.Pieces.{StringPiece}
 use Rattle.kdl_entry.specs.Entries.{IsString, string, IsIdentifierText}
 use Rattle.kdl_lexer.specs.Internal.Handed.{Cuts, one, spaces, IsFaultAt, HandsOut, Lexed, kind_view}
 use Rattle.kdl_entry.specs.Internal.IdentifierReading.{AnswersIdentifierText}
-use Rattle.kdl_entry.specs.Internal.Items.{identifier_at}
+use Rattle.kdl_entry.specs.Internal.Parts.{identifier_at}
 use Rattle.kdl_entry.specs.Laid.{LaidIdentifier, LaidIdentifierText, spelled}
 use Rattle.kdl_entry.specs.Places.{Is, between}
 use Rattle.kdl_lexer.specs.Tokens as tokens

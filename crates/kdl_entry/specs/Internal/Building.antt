@@ -1,23 +1,23 @@
--- The item that a reader's fields represent.
+-- What the fields of a type, of a key, and of the parts of an entry represent.
 use Rattle.std.specs.Prelude.{◌≡◌, option_map}
-use Rattle.kdl_entry.specs.Internal.Items as items
+use Rattle.kdl_entry.specs.Internal.Parts as under_way
 use Rattle.kdl_value.specs.Tree.{text_of}
 use Rattle.kdl_entry.specs.Tree.{identifier_tree}
-use Rattle.kdl_entry.specs.declared.items.item.Item.{Item}
-use Rattle.kdl_entry.specs.declared.items.item.KeyParts.{KeyParts}
-use Rattle.kdl_entry.specs.declared.items.item.TypeParts.{TypeParts}
+use Rattle.kdl_entry.specs.declared.parsing.parts.Parts.{Parts}
+use Rattle.kdl_entry.specs.declared.parsing.parts.KeyParts.{KeyParts}
+use Rattle.kdl_entry.specs.declared.parsing.parts.TypeParts.{TypeParts}
 
 -- a type in memory, as characters
-abbrev pub type_view : TypeParts → items.TypeParts
+abbrev pub type_view : TypeParts → under_way.TypeParts
 type_view y = record { name = identifier_tree y.name; before = text_of y.before; after = text_of y.after; behind = text_of y.behind }
 
 -- a key in memory, as characters
-abbrev pub key_view : KeyParts → items.KeyParts
+abbrev pub key_view : KeyParts → under_way.KeyParts
 key_view k = record { name = identifier_tree k.name; before = text_of k.before; behind = text_of k.behind }
 
--- the item that the reader's fields represent
-abbrev pub item_view : Item → items.Item
-item_view it = record {
+-- the parts that the fields represent
+abbrev pub parts_view : Parts → under_way.Parts
+parts_view it = record {
   leading = text_of it.leading;
   start = it.start.rest;
   from = it.from.rest;
@@ -27,7 +27,7 @@ item_view it = record {
   after = text_of it.after;
 }
 
--- the item begins where it began
-pub record Holds (old new : items.Item) : Type 0 where
+-- the entry begins where it began
+pub record Holds (old new : under_way.Parts) : Type 0 where
   pub leading : new.leading ≡ old.leading
   pub start : new.start ≡ old.start

@@ -7,7 +7,7 @@ use Rattle.kdl_control.specs.EntryControl.{entry_step}
 use Rattle.kdl_text.specs.Chars.{Text}
 use Rattle.kdl_text.specs.declared.span.SourceSpan.{SourceSpan}
 use Rattle.kdl_value.specs.Data.{Value, text}
-use Rattle.kdl_entry.specs.Internal.Items.{entry_at, KeyParts, TypeParts, Item, taken, key_given, type_given}
+use Rattle.kdl_entry.specs.Internal.Parts.{entry_at, KeyParts, TypeParts, Parts, taken, key_given, type_given}
 use Rattle.kdl_entry.specs.Places.{span_of, between}
 use Rattle.kdl_lexer.specs.Tokens.{Token, string, value, BeginsToken}
 use Rattle.kdl_entry.specs.Tree.{Identifier, EntryFormat, Entry, no_span, plain_identifier}
@@ -24,7 +24,7 @@ pub record Word : Type 0 where
 pub data State : Type 0 where
   ahead : State
   dropping : Phase → State
-  under : Phase → Item → State
+  under : Phase → Parts → State
   word : Word → Text → State
   done : Entry → Text → State
 
@@ -37,12 +37,12 @@ phase_of (word w from) = control.word
 phase_of (done e from) = control.done
 
 -- an entry being read, after the `(` of its type, which is in s before r
-abbrev pub opened_item : Text → Text → Text → Item
-opened_item s leading r = record { leading = leading; start = s; from = r; key = None; name = plain_identifier []; before = []; after = [] }
+abbrev pub opened_parts : Text → Text → Text → Parts
+opened_parts s leading r = record { leading = leading; start = s; from = r; key = None; name = plain_identifier []; before = []; after = [] }
 
 -- an entry being read, after the `=` that follows its key and this text
-abbrev pub keyed_item : Text → Text → Identifier → Text → Text → Item
-keyed_item start leading name before r = record { leading = leading; start = start; from = r; key = None; name = name; before = before; after = [] }
+abbrev pub keyed_parts : Text → Text → Identifier → Text → Text → Parts
+keyed_parts start leading name before r = record { leading = leading; start = start; from = r; key = None; name = name; before = before; after = [] }
 
 -- the string that is in s before r
 abbrev pub word_at : Text → Text → Text → Text → Word
@@ -61,14 +61,14 @@ abbrev pub argument_of : Word → Entry
 argument_of w = entry_by w.leading None None (text w.value) w.repr
 
 -- the entry whose value is in s before r, in the phase
-abbrev pub valued : Phase → Item → Value → Text → Text → Entry
+abbrev pub valued : Phase → Parts → Value → Text → Text → Entry
 valued p it v s r = entry_by it.leading (key_given p it s) (type_given p it s) v (between s r)
 
 -- the state after a token before the entry, where the control goes to c
 abbrev pub begin_to : Text → control.EntryControl → Token → Text → Text → Option State
 begin_to whole control.ahead k s r = Some ahead
 begin_to whole (control.dropping p) k s r = Some (dropping p)
-begin_to whole (control.under p) k s r = Some (under p (opened_item s (between whole s) r))
+begin_to whole (control.under p) k s r = Some (under p (opened_parts s (between whole s) r))
 begin_to whole control.word (string v) s r = Some (word (word_at whole v s r) r)
 begin_to whole control.done (value v) s r = Some (done (entry_by (between whole s) None None v (between s r)) r)
 begin_to whole c k s r = None
@@ -80,18 +80,18 @@ value_of (value v) = Some v
 value_of k = None
 
 -- the state after the value of the entry
-abbrev pub value_to : Phase → Item → Token → Text → Text → Option State
+abbrev pub value_to : Phase → Parts → Token → Text → Text → Option State
 value_to p it k s r = option_map (λ v. done (valued p it v s r) r) (value_of k)
 
 -- the state after a token in the entry, where the control goes to c
-abbrev pub under_to : Text → Phase → Item → control.EntryControl → Token → Text → Text → Option State
+abbrev pub under_to : Text → Phase → Parts → control.EntryControl → Token → Text → Text → Option State
 under_to whole p it (control.under q) k s r = Some (under q (taken p whole it k s r))
 under_to whole p it c k s r = value_to p it k s r
 
 -- the state after a token that follows a string that may be a key, where the control goes to c
 abbrev pub word_to : Text → Word → Text → control.EntryControl → Text → Text → State
 word_to whole w from control.word s r = word w from
-word_to whole w from (control.under p) s r = under p (keyed_item whole w.leading (word_identifier w) (between from s) r)
+word_to whole w from (control.under p) s r = under p (keyed_parts whole w.leading (word_identifier w) (between from s) r)
 word_to whole w from c s r = done (argument_of w) from
 
 -- the state after a token, where the control goes to c

@@ -4,7 +4,7 @@ use Rattle.kdl_text.specs.Chars.{Text}
 use Rattle.kdl_text.specs.Internal.Here.{Position}
 use Rattle.kdl_text.specs.Spans.{InText}
 use Rattle.kdl_control.specs.Internal.Views.{phase_view}
-use Rattle.kdl_entry.specs.Internal.Building.{item_view}
+use Rattle.kdl_entry.specs.Internal.Building.{parts_view}
 use Rattle.kdl_entry.specs.Internal.EntryMachine as machine
 use Rattle.kdl_entry.specs.Internal.EntryMachine.{AnswersEntry, Runs, under, word, done}
 use Rattle.kdl_entry.specs.EarliestEntry.{DerivedEntry}
@@ -14,9 +14,9 @@ use Rattle.kdl_value.specs.Tree.{text_of}
 use Rattle.kdl_entry.specs.Tree.{entry_tree}
 use Rattle.kdl_entry.specs.Tree as tree
 use Rattle.kdl_entry.specs.declared.entry.KdlEntry.{KdlEntry}
-use Rattle.kdl_entry.specs.declared.items.entries.State.{State}
-use Rattle.kdl_entry.specs.declared.items.entries.State.TheVariants.{Start, Dropping, Under, Pending, Done}
-use Rattle.kdl_entry.specs.declared.items.entries.Word.{Word}
+use Rattle.kdl_entry.specs.declared.parsing.entries.State.{State}
+use Rattle.kdl_entry.specs.declared.parsing.entries.State.TheVariants.{Start, Dropping, Under, Pending, Done}
+use Rattle.kdl_entry.specs.declared.parsing.entries.Word.{Word}
 use Rattle.kdl_lexer.specs.declared.lexer.LexFailure.{LexFailure}
 use Rattle.kdl_lexer.specs.declared.lexer.LexFailure.TheVariants.{Faulty, Memory}
 
@@ -28,7 +28,7 @@ word_view w = record { leading = text_of w.leading; value = text_of w.value; rep
 abbrev pub state_view : State → machine.State
 state_view Start = machine.ahead
 state_view (Dropping p) = machine.dropping (phase_view p)
-state_view (Under p it) = under (phase_view p) (item_view it)
+state_view (Under p it) = under (phase_view p) (parts_view it)
 state_view (Pending w) = word (word_view w) w.end.rest
 state_view (Done e from) = done (entry_tree e) from.rest
 

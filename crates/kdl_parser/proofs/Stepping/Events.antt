@@ -97,10 +97,10 @@ module _ {N : Type 0} (tree : N → Node) (b b' : Builder N) (span : TokenSpan) 
   token_is k o d l f =
       ap (λ (z : Dropped). step b.slices.whole.rest (state_by tree b (reading_view z)) (kind_view k) span.start.rest span.end.rest) d ∙ in_live tree b span.start span.end (kind_view k) b.phase l ∙ ap (λ (z : Option Event). stepped_by tree b z (kind_view k) span.start span.end) (sym f)
 
-  unsliced_is : (k : TokenKind) → b.dropped ≡ Nothing → Some e ≡ event_of b.phase (kind_view k) → unsliced_before e (bytes b.from.rest) (bytes b.item.from.rest) ≡ unsliced b
+  unsliced_is : (k : TokenKind) → b.dropped ≡ Nothing → Some e ≡ event_of b.phase (kind_view k) → unsliced_before e (bytes b.from.rest) (bytes b.parts.from.rest) ≡ unsliced b
   unsliced_is k d f =
-      ap (λ (z : Option Event). unsliced_by z b.phase (bytes b.from.rest) (bytes b.item.from.rest)) f ∙ same_unsliced (bytes b.from.rest) (bytes b.item.from.rest) (kind_view k) b.phase
-      ∙ ap (λ (z : Dropped). unsliced_at z b.phase (bytes b.from.rest) (bytes b.item.from.rest)) (sym d)
+      ap (λ (z : Option Event). unsliced_by z b.phase (bytes b.from.rest) (bytes b.parts.from.rest)) f ∙ same_unsliced (bytes b.from.rest) (bytes b.parts.from.rest) (kind_view k) b.phase
+      ∙ ap (λ (z : Dropped). unsliced_at z b.phase (bytes b.from.rest) (bytes b.parts.from.rest)) (sym d)
 
   -- what a token of an event does
   takes : (k : TokenKind) → b.dropped ≡ Nothing → is_live b.phase ≡ true → Some e ≡ event_of b.phase (kind_view k) → Acts tree e (event_step tree b e (kind_view k) span.start span.end) span b result b' → Takes tree b k span result b'

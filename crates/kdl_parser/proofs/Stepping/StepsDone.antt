@@ -2,7 +2,7 @@
 use Rattle.std.proofs.Common.{◌≡◌, ℕ, ◌+◌, Option, Some, option_map, Result, Ok, Err, OnOk, sym, ap, subst, ◌∙◌, arith}
 use Rattle.kdl_text.specs.Internal.Here.{Position}
 use Rattle.kdl_text.specs.Spans.{raise}
-use Rattle.kdl_entry.specs.declared.items.slices.Slices.{Slices}
+use Rattle.kdl_entry.specs.declared.parsing.slices.Slices.{Slices}
 use Rattle.kdl_lexer.specs.declared.lexer.LexFailure.{LexFailure}
 use Rattle.kdl_lexer.specs.declared.lexer.LexFailure.TheVariants.{Faulty, Memory}
 use Rattle.kdl_lexer.specs.declared.lexer.TokenKind.{TokenKind}

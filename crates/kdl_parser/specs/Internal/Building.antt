@@ -10,12 +10,12 @@ use Rattle.kdl_control.specs.declared.control.Phase.TheVariants.{Gap, NodeSlashd
 use Rattle.kdl_control.specs.declared.control.Spot.TheVariants.{Fresh, Spaced, Later}
 use Rattle.kdl_control.specs.declared.control.Word.{Word}
 use Rattle.kdl_control.specs.declared.control.Word.TheVariants.{MayBeKey, NoKey}
-use Rattle.kdl_entry.specs.Internal.Building.{type_view, item_view}
+use Rattle.kdl_entry.specs.Internal.Building.{type_view, parts_view}
 use Rattle.kdl_value.specs.Data.{text}
 pub use Rattle.kdl_entry.specs.Internal.EntryReading.{EndsIn}
 use Rattle.kdl_lexer.specs.Internal.Handed.{IsFaultAt}
-use Rattle.kdl_entry.specs.Internal.Items as items
-use Rattle.kdl_entry.specs.Internal.Items.{entry_at}
+use Rattle.kdl_entry.specs.Internal.Parts as under_way
+use Rattle.kdl_entry.specs.Internal.Parts.{entry_at}
 use Rattle.kdl_entry.specs.Places.{span_of}
 use Rattle.kdl_value.specs.Tree.{text_of}
 use Rattle.kdl_entry.specs.Tree.{Identifier, identifier_tree, plain_identifier, Entry, entry_tree}
@@ -70,7 +70,7 @@ pending_now MayBeKey whole from None u = Some (pending (no_value (Some u)) (plai
 pending_now MayBeKey whole from (Some w) u = Some (pending (for_value u (text_of w.leading) w.start.rest None) (word_name whole from w) from)
 
 -- what a type belongs to
-abbrev pub slot_of : Owner → machine.Under → items.Item → Slot
+abbrev pub slot_of : Owner → machine.Under → under_way.Parts → Slot
 slot_of Name u it = for_name it.leading it.start
 slot_of Value u it = for_value u it.leading it.start it.key
 
@@ -89,13 +89,13 @@ kept_now tree b = record { under = node_now b; before = text_of b.before; block 
 abbrev pub phase_now : {N : Type 0} → (N → Node) → Builder N → Phase → machine.Phase
 phase_now tree b Gap = machine.gap
 phase_now tree b NodeSlashdash = machine.node_slashdash
-phase_now tree b (TypeOpen o) = machine.type_open (owner_view o) (slot_of o (under_view b.under) (item_view b.item)) b.item.from.rest
-phase_now tree b (TypeName o) = machine.type_name (owner_view o) (slot_of o (under_view b.under) (item_view b.item)) (text_of b.item.before) (identifier_tree b.item.name) b.item.from.rest
-phase_now tree b (TypeDone o) = machine.type_done (owner_view o) (slot_of o (under_view b.under) (item_view b.item)) (text_of b.item.before) (identifier_tree b.item.name) (text_of b.item.after) b.item.from.rest
+phase_now tree b (TypeOpen o) = machine.type_open (owner_view o) (slot_of o (under_view b.under) (parts_view b.parts)) b.parts.from.rest
+phase_now tree b (TypeName o) = machine.type_name (owner_view o) (slot_of o (under_view b.under) (parts_view b.parts)) (text_of b.parts.before) (identifier_tree b.parts.name) b.parts.from.rest
+phase_now tree b (TypeDone o) = machine.type_done (owner_view o) (slot_of o (under_view b.under) (parts_view b.parts)) (text_of b.parts.before) (identifier_tree b.parts.name) (text_of b.parts.after) b.parts.from.rest
 phase_now tree b (InNode (Fresh w)) = machine.in_node (Some (node_now b)) (machine.fresh (pending_now w b.slices.whole.rest b.from.rest b.waiting (under_view b.under)))
 phase_now tree b (InNode (Spaced w)) = machine.in_node (Some (node_now b)) (machine.spaced (pending_now w b.slices.whole.rest b.from.rest b.waiting (under_view b.under)))
 phase_now tree b (InNode Later) = machine.in_node (Some (node_now b)) machine.later
-phase_now tree b Property = machine.property (for_value (under_view b.under) (text_of b.item.leading) b.item.start.rest None) (identifier_tree b.item.name) (text_of b.item.before) b.item.from.rest
+phase_now tree b Property = machine.property (for_value (under_view b.under) (text_of b.parts.leading) b.parts.start.rest None) (identifier_tree b.parts.name) (text_of b.parts.before) b.parts.from.rest
 phase_now tree b EntrySlashdash = machine.entry_slashdash (Some (node_now b))
 phase_now tree b BlockSlashdash = machine.block_slashdash (Some (node_now b))
 phase_now tree b Kept = machine.kept (Some (kept_now tree b))

@@ -11,7 +11,7 @@ use Rattle.kdl_parser.specs.declared.builder.Builder.{Builder}
 use Rattle.kdl_parser.specs.declared.builder.dropping.Dropped.{Dropped}
 use Rattle.kdl_parser.specs.declared.builder.dropping.Dropped.TheVariants.{Nothing}
 
--- inside a type, and after the `=` of a property, the bytes from the start of the item's place on; else those from the start of the builder's place on
+-- inside a type, and after the `=` of a property, the bytes from the start of the entry's current place on; else those from the start of the builder's place on
 abbrev pub unsliced_in : Phase → ℕ → ℕ → ℕ
 unsliced_in (TypeOpen o) from item = item
 unsliced_in (TypeName o) from item = item
@@ -26,7 +26,7 @@ unsliced_at _ p from item = from
 
 -- the bytes before the end of the text that were not sliced yet
 abbrev pub unsliced : {N : Type 0} → Builder N → ℕ
-unsliced b = unsliced_at b.dropped b.phase (bytes b.from.rest) (bytes b.item.from.rest)
+unsliced b = unsliced_at b.dropped b.phase (bytes b.from.rest) (bytes b.parts.from.rest)
 
 -- of the m bytes before the end of the text that were not sliced yet, all but the last n may have been; if a token is refused, all may have been
 abbrev pub SlicedOn : {A : Type 0} → Result A LexFailure → ℕ → ℕ → ℕ → ℕ → Type 0

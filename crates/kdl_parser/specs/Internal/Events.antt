@@ -10,8 +10,8 @@ use Rattle.kdl_control.specs.declared.control.Phase.{Phase}
 use Rattle.kdl_control.specs.declared.control.Phase.TheVariants.{NodeSlashdash, EntrySlashdash as PhaseEntrySlashdash, BlockSlashdash, KeptSlashdash}
 use Rattle.kdl_control.specs.declared.events.Event.{Event}
 use Rattle.kdl_control.specs.declared.events.Event.TheVariants.{Skip, Name, TypedName, NameType, ValueType, KeyedType, TypeName, TypeEnd, Word, Argument, TypedValue, KeyedValue, Equals, EntrySlashdash, NodeEnd, KeptEnd, Opening, GapClosing, NodeClosing, KeptClosing}
-use Rattle.kdl_entry.specs.Internal.Building.{key_view, item_view}
-use Rattle.kdl_entry.specs.Internal.Items.{identifier_at, key_at}
+use Rattle.kdl_entry.specs.Internal.Building.{key_view, parts_view}
+use Rattle.kdl_entry.specs.Internal.Parts.{identifier_at, key_at}
 use Rattle.kdl_entry.specs.Places.{between}
 use Rattle.kdl_grammar.specs.Internal.Machine as machine
 use Rattle.kdl_grammar.specs.Internal.Machine.{State, for_value, keyed}
@@ -22,7 +22,7 @@ use Rattle.kdl_lexer.specs.declared.lexer.LexFailure.{LexFailure}
 use Rattle.kdl_lexer.specs.declared.token_span.TokenSpan.{TokenSpan}
 use Rattle.kdl_parser.specs.Internal.Building.{under_view, node_now, in_phase, phase_now, slot_of}
 use Rattle.kdl_parser.specs.Internal.Counted.{unsliced_in}
-use Rattle.kdl_parser.specs.Internal.States.{given_at, name_slot, argument_slot, item_name_slot, item_value_slot, type_now, key_now, worded, name_opened, value_opened, property_opened, node_ended, kept_ended, block_opened, around, around_node, around_kept, Steps}
+use Rattle.kdl_parser.specs.Internal.States.{given_at, name_slot, argument_slot, parts_name_slot, parts_value_slot, type_now, key_now, worded, name_opened, value_opened, property_opened, node_ended, kept_ended, block_opened, around, around_node, around_kept, Steps}
 use Rattle.kdl_parser.specs.declared.builder.Builder.{Builder}
 use Rattle.kdl_value.specs.Data.{Value, text}
 use Rattle.kdl_value.specs.Tree.{text_of}
@@ -31,27 +31,27 @@ use Rattle.kdl_entry.specs.Tree.{identifier_tree}
 -- after the name of a type
 abbrev pub type_named : {N : Type 0} → (N → Node) → Builder N → Owner → Text → Position → Position → State
 type_named tree b o v s r =
-    in_phase tree b (machine.type_name (owner_view o) (slot_of o (under_view b.under) (item_view b.item)) (between b.item.from.rest s.rest) (identifier_at b.slices.whole.rest v s.rest r.rest) r.rest)
+    in_phase tree b (machine.type_name (owner_view o) (slot_of o (under_view b.under) (parts_view b.parts)) (between b.parts.from.rest s.rest) (identifier_at b.slices.whole.rest v s.rest r.rest) r.rest)
 
 -- after the `)` of a type
 abbrev pub type_ended : {N : Type 0} → (N → Node) → Builder N → Owner → Position → Position → State
 type_ended tree b o s r =
-    in_phase tree b (machine.type_done (owner_view o) (slot_of o (under_view b.under) (item_view b.item)) (text_of b.item.before) (identifier_tree b.item.name) (between b.item.from.rest s.rest) r.rest)
+    in_phase tree b (machine.type_done (owner_view o) (slot_of o (under_view b.under) (parts_view b.parts)) (text_of b.parts.before) (identifier_tree b.parts.name) (between b.parts.from.rest s.rest) r.rest)
 
 -- inside the `(` of a type after a key
 abbrev pub keyed_opened : {N : Type 0} → (N → Node) → Builder N → Position → Position → State
 keyed_opened tree b s r =
-    in_phase tree b (machine.type_open true (keyed (for_value (under_view b.under) (text_of b.item.leading) b.item.start.rest None) (key_at (item_view b.item) s.rest)) r.rest)
+    in_phase tree b (machine.type_open true (keyed (for_value (under_view b.under) (text_of b.parts.leading) b.parts.start.rest None) (key_at (parts_view b.parts) s.rest)) r.rest)
 
 abbrev pub value_step : {N : Type 0} → (N → Node) → Builder N → Event → Value → Position → Position → Option State
 value_step tree b Argument v s r = Some (given_at tree b (argument_slot b s) None v s r)
-value_step tree b TypedValue v s r = Some (given_at tree b (item_value_slot b (option_map key_view b.item.key)) (type_now b s) v s r)
-value_step tree b KeyedValue v s r = Some (given_at tree b (item_value_slot b (key_now b s)) None v s r)
+value_step tree b TypedValue v s r = Some (given_at tree b (parts_value_slot b (option_map key_view b.parts.key)) (type_now b s) v s r)
+value_step tree b KeyedValue v s r = Some (given_at tree b (parts_value_slot b (key_now b s)) None v s r)
 value_step tree b _ v s r = None
 
 abbrev pub string_step : {N : Type 0} → (N → Node) → Builder N → Event → Text → Position → Position → Option State
 string_step tree b Name v s r = Some (given_at tree b (name_slot b s) None (text v) s r)
-string_step tree b TypedName v s r = Some (given_at tree b (item_name_slot b) (type_now b s) (text v) s r)
+string_step tree b TypedName v s r = Some (given_at tree b (parts_name_slot b) (type_now b s) (text v) s r)
 string_step tree b (TypeName o) v s r = Some (type_named tree b o v s r)
 string_step tree b Word v s r = Some (worded tree b v s r)
 string_step tree b e v s r = value_step tree b e (text v) s r
@@ -78,16 +78,16 @@ event_step tree b e (token.value v) s r = value_step tree b e v s r
 event_step tree b e k s r = mark_step tree b e s r
 
 -- whether the token belongs to what has a type or a key
-abbrev pub ItemAhead : Event → Position → Position → Type 0
-ItemAhead TypedName from s = Ahead from s
-ItemAhead (TypeName o) from s = Ahead from s
-ItemAhead (TypeEnd o) from s = Ahead from s
-ItemAhead TypedValue from s = Ahead from s
-ItemAhead KeyedValue from s = Ahead from s
-ItemAhead KeyedType from s = Ahead from s
-ItemAhead _ from s = Unit {0}
+abbrev pub PartsAhead : Event → Position → Position → Type 0
+PartsAhead TypedName from s = Ahead from s
+PartsAhead (TypeName o) from s = Ahead from s
+PartsAhead (TypeEnd o) from s = Ahead from s
+PartsAhead TypedValue from s = Ahead from s
+PartsAhead KeyedValue from s = Ahead from s
+PartsAhead KeyedType from s = Ahead from s
+PartsAhead _ from s = Unit {0}
 
--- the bytes that were not sliced before the token, from the start of the item's place, or of the builder's
+-- the bytes that were not sliced before the token, from the start of the entry's current place, or of the builder's
 abbrev pub unsliced_before : Event → ℕ → ℕ → ℕ
 unsliced_before (Skip p) from item = unsliced_in p from item
 unsliced_before TypedName from item = item
@@ -108,4 +108,4 @@ is_live _ = true
 
 -- what a token did that is this for the tree, given the state to which it brings the builder
 abbrev pub Acts : {N : Type 0} → (N → Node) → Event → Option State → TokenSpan → Builder N → Result (Unit {0}) LexFailure → Builder N → Type 0
-Acts tree e o span old result new = Steps tree o span.start (unsliced_before e (bytes old.from.rest) (bytes old.item.from.rest)) old result new
+Acts tree e o span old result new = Steps tree o span.start (unsliced_before e (bytes old.from.rest) (bytes old.parts.from.rest)) old result new

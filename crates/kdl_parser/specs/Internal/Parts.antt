@@ -1,7 +1,7 @@
 -- The trees of nodes and documents from their parts, for a given tree of a node.
 use Rattle.std.specs.Prelude.{List, [], Some, map, option_map}
 use Rattle.kdl_entry.specs.Internal.Building.{type_view}
-use Rattle.kdl_entry.specs.Internal.Items.{type_of, before_name, after_name, behind_type}
+use Rattle.kdl_entry.specs.Internal.Parts.{type_of, before_name, after_name, behind_type}
 use Rattle.kdl_value.specs.Tree.{text_of}
 use Rattle.kdl_entry.specs.Tree.{identifier_tree, entry_tree}
 use Rattle.kdl_grammar.specs.Laid.{node_format}

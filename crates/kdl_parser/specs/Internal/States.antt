@@ -6,10 +6,10 @@ use Rattle.kdl_text.specs.Internal.Here.{Position}
 use Rattle.kdl_control.specs.declared.control.Word.TheVariants.{MayBeKey}
 use Rattle.kdl_value.specs.Data.{Value}
 use Rattle.kdl_value.specs.Tree.{text_of}
-use Rattle.kdl_entry.specs.Internal.Building.{item_view}
+use Rattle.kdl_entry.specs.Internal.Building.{parts_view}
 use Rattle.kdl_lexer.specs.Internal.Handed.{kind_view}
-use Rattle.kdl_entry.specs.Internal.Items as items
-use Rattle.kdl_entry.specs.Internal.Items.{TypeParts, KeyParts}
+use Rattle.kdl_entry.specs.Internal.Parts as under_way
+use Rattle.kdl_entry.specs.Internal.Parts.{TypeParts, KeyParts}
 use Rattle.kdl_entry.specs.Places.{between}
 use Rattle.kdl_lexer.specs.declared.lexer.LexFailure.{LexFailure}
 use Rattle.kdl_lexer.specs.declared.lexer.TokenKind.{TokenKind}
@@ -81,18 +81,18 @@ abbrev pub valued_slot : {N : Type 0} → Builder N → Slot → Option KeyParts
 valued_slot b slot key = for_value (under_view b.under) (text_of slot.leading) slot.start.rest key
 
 -- the slot of the name or the value that the type or the key belongs to
-abbrev pub item_name_slot : {N : Type 0} → Builder N → machine.Slot
-item_name_slot b = for_name (text_of b.item.leading) b.item.start.rest
+abbrev pub parts_name_slot : {N : Type 0} → Builder N → machine.Slot
+parts_name_slot b = for_name (text_of b.parts.leading) b.parts.start.rest
 
-abbrev pub item_value_slot : {N : Type 0} → Builder N → Option KeyParts → machine.Slot
-item_value_slot b key = for_value (under_view b.under) (text_of b.item.leading) b.item.start.rest key
+abbrev pub parts_value_slot : {N : Type 0} → Builder N → Option KeyParts → machine.Slot
+parts_value_slot b key = for_value (under_view b.under) (text_of b.parts.leading) b.parts.start.rest key
 
 -- the type, and the key, if what follows begins at s
 abbrev pub type_now : {N : Type 0} → Builder N → Position → Option TypeParts
-type_now b s = Some (items.type_at (item_view b.item) s.rest)
+type_now b s = Some (under_way.type_at (parts_view b.parts) s.rest)
 
 abbrev pub key_now : {N : Type 0} → Builder N → Position → Option KeyParts
-key_now b s = Some (items.key_at (item_view b.item) s.rest)
+key_now b s = Some (under_way.key_at (parts_view b.parts) s.rest)
 
 -- after the `=` that follows a string that may be a key
 abbrev pub property_opened : {N : Type 0} → (N → Node) → Builder N → Position → Position → Option State

@@ -2,7 +2,7 @@
 
 ghost use Rattle.kdl_entry.specs.Internal.Building.{key_view, type_view};
 ghost use Rattle.kdl_entry.specs.Internal.Counted.{Sliced};
-ghost use Rattle.kdl_entry.specs.Internal.Items.{entry_at};
+ghost use Rattle.kdl_entry.specs.Internal.Parts.{entry_at};
 ghost use Rattle.kdl_entry.specs.Places.{span_of, between};
 ghost use Rattle.kdl_entry.specs.Tree.{entry_tree};
 ghost use Rattle.kdl_grammar.specs.Internal.Machine as machine;
@@ -17,8 +17,8 @@ ghost use Rattle.std.specs.Prelude.{◌≡◌, [], ◌∷◌, ◌++◌, Some, No
 
 use super::{Builder, Slot, Under, WaitingWord};
 use crate::node_parts::{DocumentParts, NodeParts, ParsedNode};
-use kdl_entry::items::item::{Given, empty, entry_from};
-use kdl_entry::items::slices::Slices;
+use kdl_entry::parsing::parts::{Given, empty, entry_from};
+use kdl_entry::parsing::slices::Slices;
 use kdl_entry::{KdlEntry, KdlValue};
 use kdl_lexer::TokenSpan;
 use kdl_text::cursor::Checkpoint;

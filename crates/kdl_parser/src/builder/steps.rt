@@ -11,8 +11,8 @@ ghost use Rattle.kdl_parser.specs.Internal.States.{
   around_node,
   block_opened,
   given_at,
-  item_name_slot,
-  item_value_slot,
+  parts_name_slot,
+  parts_value_slot,
   key_now,
   kept_ended,
   name_opened,
@@ -41,7 +41,7 @@ use super::dropping::Dropped;
 use super::{Builder, Level, Slot, Under, WaitingWord};
 use crate::node_parts::ParsedNode;
 use kdl_control::{Owner, Phase, Spot, Word};
-use kdl_entry::items::item::{Given, Key, TypeParts, empty};
+use kdl_entry::parsing::parts::{Given, Key, TypeParts, empty};
 use kdl_entry::{KdlIdentifier, KdlValue, sliced_identifier};
 use kdl_lexer::{LexFailure, TokenKind, TokenSpan, fault_at};
 use std::alloc::AllocError;
@@ -265,7 +265,7 @@ impl<'a, N: ParsedNode> Builder<'a, N> {
         } = word;
         let span = self.slices.span(&word_start, &self.from);
         let name = sliced_identifier(self.slices.alloc(), value, &repr, span)?;
-        self.item
+        self.parts
             .open_keyed(leading, &word_start, Key { name, before }, &at.end);
         self.phase = Phase::Property;
         Ok(())
@@ -280,7 +280,7 @@ impl<'a, N: ParsedNode> Builder<'a, N> {
             self.old.from.rest) self.old result self.new }
     {
         let leading = self.slices.text(&self.from, &at.start)?;
-        self.item.open(leading, at);
+        self.parts.open(leading, at);
         self.phase = Phase::TypeOpen(Owner::Name);
         Ok(())
     }
@@ -293,11 +293,11 @@ impl<'a, N: ParsedNode> Builder<'a, N> {
         at: &TokenSpan<'a>,
     ) -> Result<(), LexFailure>
         requires live { self.old.dropped ≡ Nothing }
-        requires from { Ahead self.old.item.from at.now.start }
+        requires from { Ahead self.old.parts.from at.now.start }
         ensures { Reaches N.tree (type_named N.tree self.old owner (text_of name) at.now.start at.now.end)
-            (bytes self.old.item.from.rest) self.old result self.new }
+            (bytes self.old.parts.from.rest) self.old result self.new }
     {
-        self.item.take_name(&mut self.slices, name, at)?;
+        self.parts.take_name(&mut self.slices, name, at)?;
         self.phase = Phase::TypeName(owner);
         Ok(())
     }
@@ -305,11 +305,11 @@ impl<'a, N: ParsedNode> Builder<'a, N> {
     /// Takes the `)` of a type.
     pub(super) fn end_type(&mut self, owner: Owner, at: &TokenSpan<'a>) -> Result<(), LexFailure>
         requires live { self.old.dropped ≡ Nothing }
-        requires from { Ahead self.old.item.from at.now.start }
+        requires from { Ahead self.old.parts.from at.now.start }
         ensures { Reaches N.tree (type_ended N.tree self.old owner at.now.start at.now.end)
-            (bytes self.old.item.from.rest) self.old result self.new }
+            (bytes self.old.parts.from.rest) self.old result self.new }
     {
-        self.item.close(&mut self.slices, at)?;
+        self.parts.close(&mut self.slices, at)?;
         self.phase = Phase::TypeDone(owner);
         Ok(())
     }
@@ -317,11 +317,11 @@ impl<'a, N: ParsedNode> Builder<'a, N> {
     /// Begins the type of a value at its `(`, after a key.
     pub(super) fn open_keyed_type(&mut self, at: &TokenSpan<'a>) -> Result<(), LexFailure>
         requires live { self.old.dropped ≡ Nothing }
-        requires from { Ahead self.old.item.from at.now.start }
+        requires from { Ahead self.old.parts.from at.now.start }
         ensures { Reaches N.tree (keyed_opened N.tree self.old at.now.start at.now.end)
-            (bytes self.old.item.from.rest) self.old result self.new }
+            (bytes self.old.parts.from.rest) self.old result self.new }
     {
-        self.item.open_typed(&mut self.slices, at)?;
+        self.parts.open_typed(&mut self.slices, at)?;
         self.phase = Phase::TypeOpen(Owner::Value);
         Ok(())
     }
@@ -336,7 +336,7 @@ impl<'a, N: ParsedNode> Builder<'a, N> {
     {
         self.settle_word()?;
         let leading = self.slices.text(&self.from, &at.start)?;
-        self.item.open(leading, at);
+        self.parts.open(leading, at);
         self.phase = Phase::TypeOpen(Owner::Value);
         Ok(())
     }
@@ -363,14 +363,14 @@ impl<'a, N: ParsedNode> Builder<'a, N> {
     }
 
     /// The text before the name or entry that has a type or a key, and its start.
-    fn item_slot(&mut self) -> Slot<'a>
-        ensures leading { text_of result.leading ≡ text_of self.old.item.leading }
-        ensures start { result.start ≡ self.old.item.start }
-        ensures rest { self.new ≡ record self.old { item = self.new.item } }
+    fn parts_slot(&mut self) -> Slot<'a>
+        ensures leading { text_of result.leading ≡ text_of self.old.parts.leading }
+        ensures start { result.start ≡ self.old.parts.start }
+        ensures rest { self.new ≡ record self.old { parts = self.new.parts } }
     {
         Slot {
-            leading: mem::replace(&mut self.item.leading, empty(self.slices.alloc())),
-            start: self.item.start.copied(),
+            leading: mem::replace(&mut self.parts.leading, empty(self.slices.alloc())),
+            start: self.parts.start.copied(),
         }
     }
 
@@ -381,14 +381,14 @@ impl<'a, N: ParsedNode> Builder<'a, N> {
         at: &TokenSpan<'a>,
     ) -> Result<(), LexFailure>
         requires live { self.old.dropped ≡ Nothing }
-        requires from { Ahead self.old.item.from at.now.start }
-        ensures { Reaches N.tree (given_at N.tree self.old (item_value_slot self.old (option_map
-            key_view self.old.item.key)) (type_now self.old at.now.start) (value_tree value)
-            at.now.start at.now.end) (bytes self.old.item.from.rest) self.old result self.new }
+        requires from { Ahead self.old.parts.from at.now.start }
+        ensures { Reaches N.tree (given_at N.tree self.old (parts_value_slot self.old (option_map
+            key_view self.old.parts.key)) (type_now self.old at.now.start) (value_tree value)
+            at.now.start at.now.end) (bytes self.old.parts.from.rest) self.old result self.new }
     {
-        let ty = self.item.type_parts(&mut self.slices, &at.start)?;
-        let key = self.item.key.take();
-        let slot = self.item_slot();
+        let ty = self.parts.type_parts(&mut self.slices, &at.start)?;
+        let key = self.parts.key.take();
+        let slot = self.parts_slot();
         self.add_entry(
             slot,
             Given {
@@ -407,13 +407,13 @@ impl<'a, N: ParsedNode> Builder<'a, N> {
         at: &TokenSpan<'a>,
     ) -> Result<(), LexFailure>
         requires live { self.old.dropped ≡ Nothing }
-        requires from { Ahead self.old.item.from at.now.start }
-        ensures { Reaches N.tree (given_at N.tree self.old (item_value_slot self.old (key_now
+        requires from { Ahead self.old.parts.from at.now.start }
+        ensures { Reaches N.tree (given_at N.tree self.old (parts_value_slot self.old (key_now
             self.old at.now.start)) None (value_tree value) at.now.start at.now.end) (bytes
-            self.old.item.from.rest) self.old result self.new }
+            self.old.parts.from.rest) self.old result self.new }
     {
-        let key = self.item.key_parts(&mut self.slices, &at.start)?;
-        let slot = self.item_slot();
+        let key = self.parts.key_parts(&mut self.slices, &at.start)?;
+        let slot = self.parts_slot();
         self.add_entry(
             slot,
             Given {
@@ -448,13 +448,13 @@ impl<'a, N: ParsedNode> Builder<'a, N> {
     #[tactic(auto, using(crate::proofs::Stepping::TurnCost::fewer, crate::proofs::Stepping::TurnCost::token_fewer, kdl_lexer::proofs::Order::ahead))]
     pub(super) fn name_typed(&mut self, name: String, at: &TokenSpan<'a>) -> Result<(), LexFailure>
         requires live { self.old.dropped ≡ Nothing }
-        requires from { Ahead self.old.item.from at.now.start }
-        ensures { Reaches N.tree (given_at N.tree self.old (item_name_slot self.old) (type_now
+        requires from { Ahead self.old.parts.from at.now.start }
+        ensures { Reaches N.tree (given_at N.tree self.old (parts_name_slot self.old) (type_now
             self.old at.now.start) (text (text_of name)) at.now.start at.now.end) (bytes
-            self.old.item.from.rest) self.old result self.new }
+            self.old.parts.from.rest) self.old result self.new }
     {
-        let ty = self.item.type_parts(&mut self.slices, &at.start)?;
-        let slot = self.item_slot();
+        let ty = self.parts.type_parts(&mut self.slices, &at.start)?;
+        let slot = self.parts_slot();
         let name = self.slices.identifier(name, at)?;
         self.begin_node(slot, Some(ty), name, at);
         Ok(())

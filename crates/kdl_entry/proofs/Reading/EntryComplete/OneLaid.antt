@@ -7,7 +7,7 @@ use Rattle.kdl_value.specs.Data.{Value}
 use Rattle.kdl_entry.specs.Data as data'
 use Rattle.kdl_entry.specs.Entries.{IsPlainValue, IsEntry, BeforeEntry, before_entry, entry_text}
 use Rattle.kdl_entry.specs.Internal.EntryMachine.{ended, AnswersEntry}
-use Rattle.kdl_entry.specs.Internal.Items.{TypeParts, type_of, before_name, after_name, behind_type, identifier_at}
+use Rattle.kdl_entry.specs.Internal.Parts.{TypeParts, type_of, before_name, after_name, behind_type, identifier_at}
 use Rattle.kdl_entry.specs.Laid.{LaidIdentifier, spelled, LaidType, no_type, a_type, no_key, a_key, LaidItem, item, LaidEntryText, laid_entry_text}
 use Rattle.kdl_entry.specs.Laws.{OneLaidIdentifier, OneLaidEntry}
 use Rattle.kdl_entry.specs.Places.{span_of, between}

@@ -8,7 +8,7 @@ use Rattle.kdl_text.proofs.Looking.Stars.{snoc}
 use Rattle.kdl_value.specs.Data.{Value}
 use Rattle.kdl_entry.specs.Data as entry_data'
 use Rattle.kdl_entry.specs.Entries.{IsString, MaybeType, IsEntry}
-use Rattle.kdl_entry.specs.Internal.Items.{identifier_at}
+use Rattle.kdl_entry.specs.Internal.Parts.{identifier_at}
 use Rattle.kdl_entry.specs.Laid.{LaidType, no_type, a_type, no_key, a_key, LaidItem, item, laid_entry}
 use Rattle.kdl_entry.specs.Places.{Is, DroppedEntry, EntryLeading, leading as an_entry_leading, span_of, between}
 use Rattle.kdl_entry.specs.Tree.{Identifier, Entry}

@@ -1,7 +1,7 @@
 //! Slices of a text that is being read, which are counted, and spans in it.
 
 ghost use Rattle.kdl_entry.specs.Internal.Counted.{Sliced};
-ghost use Rattle.kdl_entry.specs.Internal.Items.{identifier_at};
+ghost use Rattle.kdl_entry.specs.Internal.Parts.{identifier_at};
 ghost use Rattle.kdl_entry.specs.Places.{between, span_of};
 ghost use Rattle.kdl_entry.specs.Tree.{identifier_tree};
 ghost use Rattle.kdl_text.specs.Internal.Here.{Ahead};

@@ -1,14 +1,13 @@
-//! Items being read, token by token: the type and value of an entry, or the type and name of a node.
+//! What is known of an entry, or of a node's name, that is being read: its type, its key, and the texts around them.
 //!
-//! The texts and places of types, keys and values, both for an entry that is a whole text and for those of a document.
-//! Which token may come is up to the control.
+//! The same for an entry that is a whole text and for those of a document. Which token may come is up to the control.
 
 ghost use Rattle.kdl_control.specs.Internal.Views.{phase_view};
-ghost use Rattle.kdl_entry.specs.Internal.Building.{key_view, type_view, item_view, Holds};
+ghost use Rattle.kdl_entry.specs.Internal.Building.{key_view, type_view, parts_view, Holds};
 ghost use Rattle.kdl_entry.specs.Internal.Counted.{Sliced};
 ghost use Rattle.kdl_lexer.specs.Internal.Handed.{kind_view};
-ghost use Rattle.kdl_entry.specs.Internal.Items as spec;
-ghost use Rattle.kdl_entry.specs.Internal.Items.{entry_at, identifier_at};
+ghost use Rattle.kdl_entry.specs.Internal.Parts as spec;
+ghost use Rattle.kdl_entry.specs.Internal.Parts.{entry_at, identifier_at};
 ghost use Rattle.kdl_entry.specs.Places.{between};
 ghost use Rattle.kdl_value.specs.Tree.{value_tree, text_of};
 ghost use Rattle.kdl_entry.specs.Tree.{entry_tree, identifier_tree};
@@ -51,11 +50,12 @@ pub struct Key {
     pub before: String,
 }
 
-/// An item being read. The name and the texts around it are those of its type, or after `=` those of its key.
+/// The parts of an entry, or of a node's name, being read. The name and the texts around it are those of the type, or
+/// after `=` those of the key.
 #[derive(Drop)]
-pub struct Item<'a> {
+pub struct Parts<'a> {
     pub alloc: Global,
-    /// The text before the item.
+    /// The text before the entry or the name.
     pub leading: String,
     pub start: Checkpoint<'a>,
     /// Where the current place began.
@@ -66,7 +66,7 @@ pub struct Item<'a> {
     pub after: String,
 }
 
-/// The result of an item.
+/// An entry: its key, its type and its value.
 #[derive(Drop)]
 pub struct Given {
     pub key: Option<KeyParts>,
@@ -144,19 +144,19 @@ pub fn entry_from(
     KdlEntry::parsed(ty, name, value, format, span)
 }
 
-impl<'a> Item<'a> {
-    /// Creates a reader of items at the place, without an item. Does not allocate.
+impl<'a> Parts<'a> {
+    /// Creates empty parts at the place. Does not allocate.
     ///
     /// ```
     /// let lexer = Lexer::new("(u8)1", Steps::new());
-    /// let item = Item::new(alloc, &lexer.checkpoint()); // empty: `open` and `open_keyed` begin an item in it
+    /// let parts = Parts::new(alloc, &lexer.checkpoint()); // `open` and `open_keyed` begin an entry in them
     /// ```
-    pub fn new(alloc: Global, place: &Checkpoint<'a>) -> Item<'a>
-        ensures is { item_view result ≡ spec.no_item place.now.rest }
+    pub fn new(alloc: Global, place: &Checkpoint<'a>) -> Parts<'a>
+        ensures is { parts_view result ≡ spec.no_parts place.now.rest }
         ensures start { result.start ≡ place.now }
         ensures from { result.from ≡ place.now }
     {
-        Item {
+        Parts {
             alloc,
             leading: empty(alloc),
             start: place.copied(),
@@ -168,18 +168,18 @@ impl<'a> Item<'a> {
         }
     }
 
-    /// Begins an item at the `(` of its type.
+    /// Begins an entry, or a node's name, at the `(` of its type.
     ///
     /// ```
     /// let mut lexer = Lexer::new("(u8)1", Steps::new());
-    /// let mut item = Item::new(alloc, &lexer.checkpoint());
+    /// let mut parts = Parts::new(alloc, &lexer.checkpoint());
     /// if let Some(left) = lexer.next(alloc)? {
-    ///     item.open(empty(alloc), &left.at); // the type's name is expected
+    ///     parts.open(empty(alloc), &left.at); // the type's name is expected
     /// }
     /// ```
     pub fn open(&mut self, leading: String, at: &TokenSpan<'a>)
-        ensures is { item_view self.new
-            ≡ record (item_view self.old) {
+        ensures is { parts_view self.new
+            ≡ record (parts_view self.old) {
               leading = text_of leading;
               start
                   = at.now.start.rest;
@@ -202,8 +202,8 @@ impl<'a> Item<'a> {
     /// let start = lexer.checkpoint();
     /// let tokens = (lexer.next(alloc)?, lexer.next(alloc)?); // `a` and `=`
     /// let key = Key { name: KdlIdentifier::from_text(alloc, "a")?, before: empty(alloc) };
-    /// let mut item = Item::new(alloc, &start);
-    /// item.open_keyed(empty(alloc), &start, key, &lexer.checkpoint()); // its value is expected
+    /// let mut parts = Parts::new(alloc, &start);
+    /// parts.open_keyed(empty(alloc), &start, key, &lexer.checkpoint()); // its value is expected
     /// ```
     pub fn open_keyed(
         &mut self,
@@ -212,8 +212,8 @@ impl<'a> Item<'a> {
         key: Key,
         end: &Checkpoint<'a>,
     )
-        ensures is { item_view self.new
-            ≡ record (item_view self.old) {
+        ensures is { parts_view self.new
+            ≡ record (parts_view self.old) {
               leading = text_of leading;
               start
                   = start.now.rest;
@@ -243,9 +243,9 @@ impl<'a> Item<'a> {
     ) -> Result<(), AllocError>
         requires from { Ahead self.old.from at.now.start }
         ensures named { OnOk result
-            (item_view self.new ≡ spec.named_at
+            (parts_view self.new ≡ spec.named_at
             (identifier_at slices.old.whole.rest (text_of value) at.now.start.rest at.now.end.rest)
-            (between self.old.from.rest at.now.start.rest) at.now.end.rest (item_view self.old)) }
+            (between self.old.from.rest at.now.start.rest) at.now.end.rest (parts_view self.old)) }
         ensures whole { slices.new.whole ≡ slices.old.whole }
         ensures sliced { OnOk result
             (Sliced (bytes self.old.from.rest) (bytes self.new.from.rest) slices.old.steps slices.new.steps) }
@@ -262,8 +262,8 @@ impl<'a> Item<'a> {
     pub fn close(&mut self, slices: &mut Slices<'a>, at: &TokenSpan<'a>) -> Result<(), AllocError>
         requires from { Ahead self.old.from at.now.start }
         ensures closed { OnOk result
-            (item_view self.new ≡ spec.closed_at
-            (between self.old.from.rest at.now.start.rest) at.now.end.rest (item_view self.old)) }
+            (parts_view self.new ≡ spec.closed_at
+            (between self.old.from.rest at.now.start.rest) at.now.end.rest (parts_view self.old)) }
         ensures whole { slices.new.whole ≡ slices.old.whole }
         ensures sliced { OnOk result
             (Sliced (bytes self.old.from.rest) (bytes self.new.from.rest) slices.old.steps slices.new.steps) }
@@ -282,9 +282,9 @@ impl<'a> Item<'a> {
     ) -> Result<TypeParts, AllocError>
         requires from { Ahead self.old.from start.now }
         ensures is { IfOk result
-            (λ y. type_view y ≡ spec.type_at (item_view self.old) start.now.rest) }
+            (λ y. type_view y ≡ spec.type_at (parts_view self.old) start.now.rest) }
         ensures key { option_map key_view self.new.key ≡ option_map key_view self.old.key }
-        ensures holds { OnOk result (Holds (item_view self.old) (item_view self.new)) }
+        ensures holds { OnOk result (Holds (parts_view self.old) (parts_view self.new)) }
         ensures from { self.new.from ≡ self.old.from }
         ensures whole { slices.new.whole ≡ slices.old.whole }
         ensures sliced { OnOk result
@@ -310,8 +310,8 @@ impl<'a> Item<'a> {
     ) -> Result<KeyParts, AllocError>
         requires from { Ahead self.old.from start.now }
         ensures is { IfOk result
-            (λ k. key_view k ≡ spec.key_at (item_view self.old) start.now.rest) }
-        ensures taken { OnOk result (item_view self.new ≡ spec.emptied (item_view self.old)) }
+            (λ k. key_view k ≡ spec.key_at (parts_view self.old) start.now.rest) }
+        ensures taken { OnOk result (parts_view self.new ≡ spec.emptied (parts_view self.old)) }
         ensures from { self.new.from ≡ self.old.from }
         ensures whole { slices.new.whole ≡ slices.old.whole }
         ensures sliced { OnOk result
@@ -335,9 +335,9 @@ impl<'a> Item<'a> {
         at: &TokenSpan<'a>,
     ) -> Result<(), AllocError>
         requires from { Ahead self.old.from at.now.start }
-        ensures is { OnOk result (item_view self.new ≡ spec.reopened
-            (spec.key_at (item_view self.old) at.now.start.rest) at.now.end.rest
-            (item_view self.old)) }
+        ensures is { OnOk result (parts_view self.new ≡ spec.reopened
+            (spec.key_at (parts_view self.old) at.now.start.rest) at.now.end.rest
+            (parts_view self.old)) }
         ensures from { OnOk result (self.new.from ≡ at.now.end) }
         ensures whole { slices.new.whole ≡ slices.old.whole }
         ensures sliced { OnOk result
@@ -349,11 +349,11 @@ impl<'a> Item<'a> {
         Ok(())
     }
 
-    /// Continues after a token that may come in the phase and is not the item's value.
+    /// Continues after a token that may come in the phase and is not the entry's value.
     ///
     /// ```
-    /// item.take(Phase::TypeOpen(Owner::Value), &mut slices, name)?; // the type has its name
-    /// item.take(Phase::TypeName(Owner::Value), &mut slices, right)?; // the type has ended
+    /// parts.take(Phase::TypeOpen(Owner::Value), &mut slices, name)?; // the type has its name
+    /// parts.take(Phase::TypeName(Owner::Value), &mut slices, right)?; // the type has ended
     /// ```
     pub fn take(
         &mut self,
@@ -363,7 +363,7 @@ impl<'a> Item<'a> {
     ) -> Result<(), AllocError>
         requires from { Ahead self.old.from token.at.start }
         ensures is { OnOk result
-            (item_view self.new ≡ spec.taken (phase_view phase) slices.old.whole.rest (item_view self.old)
+            (parts_view self.new ≡ spec.taken (phase_view phase) slices.old.whole.rest (parts_view self.old)
             (kind_view token.entry.kind) token.entry.at.start.rest token.entry.at.end.rest) }
         ensures whole { slices.new.whole ≡ slices.old.whole }
     {
@@ -376,10 +376,10 @@ impl<'a> Item<'a> {
         }
     }
 
-    /// Ends the item in the phase, with its value, which begins at `start`. Returns its key, its type and the value.
+    /// Ends the entry in the phase, with its value, which begins at `start`. Returns its key, its type and the value.
     ///
     /// ```
-    /// let given = item.give(Phase::Property, &mut slices, value, &at.start)?; // no type
+    /// let given = parts.give(Phase::Property, &mut slices, value, &at.start)?; // no type
     /// ```
     pub fn give(
         &mut self,
@@ -391,10 +391,10 @@ impl<'a> Item<'a> {
         requires from { Ahead self.old.from start.now }
         ensures key { IfOk result
             (λ g. option_map key_view g.key
-            ≡ spec.key_given (phase_view phase) (item_view self.old) start.now.rest) }
+            ≡ spec.key_given (phase_view phase) (parts_view self.old) start.now.rest) }
         ensures ty { IfOk result
             (λ g. option_map type_view g.ty
-            ≡ spec.type_given (phase_view phase) (item_view self.old) start.now.rest) }
+            ≡ spec.type_given (phase_view phase) (parts_view self.old) start.now.rest) }
         ensures value { IfOk result (λ g. g.value ≡ value) }
         ensures leading { OnOk result (text_of self.new.leading ≡ text_of self.old.leading) }
         ensures whole { slices.new.whole ≡ slices.old.whole }

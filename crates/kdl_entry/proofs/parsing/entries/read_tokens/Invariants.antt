@@ -1,7 +1,7 @@
 use Rattle.std.proofs.Common.{◌≡◌, length}
 use Rattle.kdl_entry.specs.Internal.EntryReading.{state_view}
 use Rattle.kdl_entry.proofs.Reading.EntryLoop.{Going}
-use Rattle.kdl_entry.proofs.items.entries.read_tokens.Given as goal
+use Rattle.kdl_entry.proofs.parsing.entries.read_tokens.Given as goal
 
 abbrev pub invariant-tokens : goal.invariant-tokens
 invariant-tokens l = Going (state_view l.state) l.lexer l.fn.slices.whole.rest × (l.slices.whole ≡ l.fn.slices.whole)

@@ -2,5 +2,5 @@
 
 mod entries;
 mod identifiers;
-pub mod item;
+pub mod parts;
 pub mod slices;

@@ -1,6 +1,6 @@
 use Rattle.std.proofs.Common.{refl}
 use Rattle.kdl_entry.proofs.Reading.IdentifierToken.{no_token_told, empty_told, other_told, more_told, whole_laid}
-use Rattle.kdl_entry.proofs.items.identifiers.read_token.Goals as goal
+use Rattle.kdl_entry.proofs.parsing.identifiers.read_token.Goals as goal
 
 pub returns-in-Ok-None : goal.returns-in-Ok-None
 returns-in-Ok-None c = empty_told _ c.args.lexer.now c.args.whole.now c.fault_at.result c.requires.rest (rw c.in-Ok-None.field-0-is at c.in-Ok-None.ensures.lexed) refl c.requires.start c.fault_at.ensures

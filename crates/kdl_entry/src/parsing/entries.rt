@@ -2,9 +2,9 @@
 
 ghost use Rattle.kdl_control.specs.Internal.EntryViews.{entry_view};
 ghost use Rattle.kdl_control.specs.Internal.Views.{phase_view};
-ghost use Rattle.kdl_entry.specs.Internal.Building.{item_view};
+ghost use Rattle.kdl_entry.specs.Internal.Building.{parts_view};
 ghost use Rattle.kdl_entry.specs.Internal.EntryMachine as machine;
-ghost use Rattle.kdl_entry.specs.Internal.EntryMachine.{argument_of, begin_to, ended, entry_by, finish, keyed_item, opened_item, phase_of, step, value_of, value_to, word_at, word_to};
+ghost use Rattle.kdl_entry.specs.Internal.EntryMachine.{argument_of, begin_to, ended, entry_by, finish, keyed_parts, opened_parts, phase_of, step, value_of, value_to, word_at, word_to};
 ghost use Rattle.kdl_entry.specs.Internal.EntryReading.{word_view, state_view, AnswersEntryText, Stands, Stepped, Ended};
 ghost use Rattle.kdl_lexer.specs.Internal.Handed.{kind_view};
 ghost use Rattle.kdl_entry.specs.Places.{between};
@@ -14,7 +14,7 @@ ghost use Rattle.kdl_text.specs.Internal.Here.{Ahead};
 ghost use Rattle.std.specs.Prelude.{◌≡◌, [], None, Some, true, IfOk, option_map};
 ghost use Rattle.std.specs.Str.{chars};
 
-use super::item::{Given, Item, Key, entry_from};
+use super::parts::{Given, Key, Parts, entry_from};
 use super::slices::Slices;
 use crate::entry::KdlEntry;
 use crate::identifier::sliced_identifier;
@@ -52,7 +52,7 @@ enum State<'a> {
     /// A slashdash, and perhaps the entry that it drops and spaces after that, up to this phase.
     Dropping(Phase),
     /// An entry being read, which has a type or a key, in this phase.
-    Under(Phase, Item<'a>),
+    Under(Phase, Parts<'a>),
     /// A string that may still be a key.
     Pending(Word<'a>),
     /// The entry, and where it ended.
@@ -60,25 +60,25 @@ enum State<'a> {
 }
 
 /// Begins an entry at the `(` of its type.
-fn opened<'a>(alloc: Global, leading: String, at: &TokenSpan<'a>) -> Item<'a>
-    ensures { item_view result
-        ≡ opened_item at.now.start.rest (text_of leading) at.now.end.rest }
+fn opened<'a>(alloc: Global, leading: String, at: &TokenSpan<'a>) -> Parts<'a>
+    ensures { parts_view result
+        ≡ opened_parts at.now.start.rest (text_of leading) at.now.end.rest }
 {
-    let mut item = Item::new(alloc, &at.start);
-    item.open(leading, at);
-    item
+    let mut parts = Parts::new(alloc, &at.start);
+    parts.open(leading, at);
+    parts
 }
 
 /// Begins an entry after the `=` of its key.
-fn keyed<'a>(slices: &Slices<'a>, leading: String, key: Key, end: &Checkpoint<'a>) -> Item<'a>
-    ensures { item_view result
-        ≡ keyed_item slices.now.whole.rest (text_of leading) (identifier_tree key.name)
+fn keyed<'a>(slices: &Slices<'a>, leading: String, key: Key, end: &Checkpoint<'a>) -> Parts<'a>
+    ensures { parts_view result
+        ≡ keyed_parts slices.now.whole.rest (text_of leading) (identifier_tree key.name)
         (text_of key.before) end.now.rest }
 {
     let start = slices.start();
-    let mut item = Item::new(slices.alloc(), &start);
-    item.open_keyed(leading, &start, key, end);
-    item
+    let mut parts = Parts::new(slices.alloc(), &start);
+    parts.open_keyed(leading, &start, key, end);
+    parts
 }
 
 /// The string that the token is, and the text before it.
@@ -195,12 +195,12 @@ fn value_of(kind: TokenKind) -> Option<KdlValue>
 #[tactic(auto, using(kdl_lexer::proofs::Order::ahead))]
 fn at_value<'a>(
     phase: Phase,
-    mut item: Item<'a>,
+    mut parts: Parts<'a>,
     slices: &mut Slices<'a>,
     token: Token<'a>,
 ) -> Result<State<'a>, LexFailure>
-    requires from { Ahead item.from token.at.start }
-    ensures did { Stepped (value_to (phase_view phase) (item_view item.entry)
+    requires from { Ahead parts.from token.at.start }
+    ensures did { Stepped (value_to (phase_view phase) (parts_view parts.entry)
         (kind_view token.entry.kind) token.entry.at.start.rest token.entry.at.end.rest)
         token.entry.at.start result }
     ensures whole { slices.new.whole ≡ slices.old.whole }
@@ -209,9 +209,9 @@ fn at_value<'a>(
     let Some(value) = value_of(kind) else {
         return Err(LexFailure::Faulty(fault_at(&at.start)));
     };
-    let given = item.give(phase, slices, value, &at.start)?;
+    let given = parts.give(phase, slices, value, &at.start)?;
     let repr = slices.text(&at.start, &at.end)?;
-    let entry = entry_from(item.alloc, UNPLACED, item.leading, given, repr);
+    let entry = entry_from(parts.alloc, UNPLACED, parts.leading, given, repr);
     Ok(State::Done(entry, at.end))
 }
 
@@ -298,12 +298,12 @@ impl<'a> State<'a> {
         };
         match self {
             State::Start | State::Dropping(_) => begin_to(next, slices, token),
-            State::Under(phase, mut item) => match next {
+            State::Under(phase, mut parts) => match next {
                 EntryControl::Under(next) => {
-                    item.take(phase, slices, token)?;
-                    Ok(State::Under(next, item))
+                    parts.take(phase, slices, token)?;
+                    Ok(State::Under(next, parts))
                 }
-                _ => at_value(phase, item, slices, token),
+                _ => at_value(phase, parts, slices, token),
             },
             State::Pending(word) => Ok(word_to(next, word, slices, &token.at)?),
             State::Done(entry, from) => Ok(State::Done(entry, from)),

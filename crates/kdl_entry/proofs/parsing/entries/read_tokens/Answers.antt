@@ -1,7 +1,7 @@
 use Rattle.std.proofs.Common.{ap, ◌∙◌}
 use Rattle.kdl_text.specs.Internal.Here.{Position}
 use Rattle.kdl_entry.proofs.Reading.EntryLoop.{next_going, nearer, no_end}
-use Rattle.kdl_entry.proofs.items.entries.read_tokens.Goals as goal
+use Rattle.kdl_entry.proofs.parsing.entries.read_tokens.Goals as goal
 
 pub tokens-preserved : goal.tokens-preserved
 tokens-preserved c = (

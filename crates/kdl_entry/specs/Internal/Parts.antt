@@ -1,4 +1,4 @@
--- An item being read, token by token: the type and value of an entry after its key, or the type and name of a node.
+-- The parts of an entry, or of a node's name, that is being read token by token: its type and its key.
 -- The token k is in the text s before r, in the text `whole`. The start of a place is kept as the text from there on.
 use Rattle.std.specs.Prelude.{false, [], Option, Some, None}
 use Rattle.kdl_text.specs.Chars.{Text}
@@ -81,8 +81,8 @@ entry_at span leading k y v repr = record {
   span = span;
 }
 
--- an item being read; the name and the texts around it are those of its type, or after `=` those of its key
-pub record Item : Type 0 where
+-- what is known of it; the name and the texts around it are those of the type, or after `=` those of the key
+pub record Parts : Type 0 where
   pub leading : Text
   pub start : Text
   pub from : Text
@@ -91,47 +91,47 @@ pub record Item : Type 0 where
   pub before : Text
   pub after : Text
 
--- no item yet, at the place s
-abbrev pub no_item : Text → Item
-no_item s = record { leading = []; start = s; from = s; key = None; name = plain_identifier []; before = []; after = [] }
+-- nothing yet, at the place s
+abbrev pub no_parts : Text → Parts
+no_parts s = record { leading = []; start = s; from = s; key = None; name = plain_identifier []; before = []; after = [] }
 
--- the item with the name of its type, and the text before it
-abbrev pub named_at : Identifier → Text → Text → Item → Item
+-- with the name of the type, and the text before it
+abbrev pub named_at : Identifier → Text → Text → Parts → Parts
 named_at i before r it = record it { name = i; before = before; from = r }
 
--- the item with the text after the name of its type
-abbrev pub closed_at : Text → Text → Item → Item
+-- with the text after the name of the type
+abbrev pub closed_at : Text → Text → Parts → Parts
 closed_at after r it = record it { after = after; from = r }
 
 -- the type, if what follows it begins at s
-abbrev pub type_at : Item → Text → TypeParts
+abbrev pub type_at : Parts → Text → TypeParts
 type_at it s = record { name = it.name; before = it.before; after = it.after; behind = between it.from s }
 
 -- the key, if what follows its `=` begins at s
-abbrev pub key_at : Item → Text → KeyParts
+abbrev pub key_at : Parts → Text → KeyParts
 key_at it s = record { name = it.name; before = it.before; behind = between it.from s }
 
 -- the name and the text before it were taken
-abbrev pub emptied : Item → Item
+abbrev pub emptied : Parts → Parts
 emptied it = record it { name = plain_identifier []; before = [] }
 
 -- after the `(` of a type that follows the key k
-abbrev pub reopened : KeyParts → Text → Item → Item
+abbrev pub reopened : KeyParts → Text → Parts → Parts
 reopened k r it = record (emptied it) { key = Some k; from = r }
 
--- the item after a token in the phase, but for its value
-abbrev pub taken : Phase → Text → Item → Token → Text → Text → Item
+-- after a token in the phase that is not the value
+abbrev pub taken : Phase → Text → Parts → Token → Text → Text → Parts
 taken (type_open b) whole it (string v) s r = named_at (identifier_at whole v s r) (between it.from s) r it
 taken (type_name b) whole it right s r = closed_at (between it.from s) r it
 taken property whole it left s r = reopened (key_at it s) r it
 taken p whole it k s r = it
 
--- the key of an item whose value begins at s in the phase
-abbrev pub key_given : Phase → Item → Text → Option KeyParts
+-- the key, if the value begins at s in the phase
+abbrev pub key_given : Phase → Parts → Text → Option KeyParts
 key_given property it s = Some (key_at it s)
 key_given p it s = it.key
 
--- the type of an item whose value begins at s in the phase
-abbrev pub type_given : Phase → Item → Text → Option TypeParts
+-- the type, if the value begins at s in the phase
+abbrev pub type_given : Phase → Parts → Text → Option TypeParts
 type_given property it s = None
 type_given p it s = Some (type_at it s)
