@@ -132,7 +132,7 @@ impl<'a, N: ParsedNode> Builder<'a, N> {
         }
     }
 
-    /// Takes a value that is this for the tree.
+    /// Takes a value, and does its event.
     #[inline(always)]
     #[tactic(auto, using(crate::proofs::Stepping::StepsDone::does_did))]
     fn take_value(
@@ -143,7 +143,7 @@ impl<'a, N: ParsedNode> Builder<'a, N> {
     ) -> Result<(), LexFailure>
         requires live { self.old.dropped ≡ Nothing }
         requires from { Ahead self.old.from at.now.start }
-        requires item { PartsAhead event self.old.parts.from at.now.start }
+        requires parts { PartsAhead event self.old.parts.from at.now.start }
         ensures { Acts N.tree event (value_step N.tree self.old event (value_tree value) at.now.start at.now.end) at.now
             self.old result self.new }
     {
@@ -155,7 +155,7 @@ impl<'a, N: ParsedNode> Builder<'a, N> {
         }
     }
 
-    /// Takes a string that is this for the tree.
+    /// Takes a string, and does its event.
     #[inline(always)]
     #[tactic(auto, using(crate::proofs::Stepping::StepsDone::does_did))]
     fn take_string(
@@ -166,7 +166,7 @@ impl<'a, N: ParsedNode> Builder<'a, N> {
     ) -> Result<(), LexFailure>
         requires live { self.old.dropped ≡ Nothing }
         requires from { Ahead self.old.from at.now.start }
-        requires item { PartsAhead event self.old.parts.from at.now.start }
+        requires parts { PartsAhead event self.old.parts.from at.now.start }
         ensures { Acts N.tree event (string_step N.tree self.old event (text_of text) at.now.start at.now.end) at.now
             self.old result self.new }
     {
@@ -179,13 +179,13 @@ impl<'a, N: ParsedNode> Builder<'a, N> {
         }
     }
 
-    /// Takes a token that is this for the tree, and neither a string nor a value.
+    /// Takes a token that is neither a string nor a value, and does its event.
     #[inline(always)]
     #[tactic(auto, using(crate::proofs::Stepping::StepsDone::does_did, crate::proofs::Stepping::StepsDone::none_sliced, crate::proofs::Stepping::StepsDone::does_sliced))]
     fn take_mark(&mut self, event: Event, at: &TokenSpan<'a>) -> Result<(), LexFailure>
         requires live { self.old.dropped ≡ Nothing }
         requires from { Ahead self.old.from at.now.start }
-        requires item { PartsAhead event self.old.parts.from at.now.start }
+        requires parts { PartsAhead event self.old.parts.from at.now.start }
         ensures { Acts N.tree event (mark_step N.tree self.old event at.now.start at.now.end) at.now
             self.old result self.new }
     {
