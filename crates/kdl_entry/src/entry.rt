@@ -462,6 +462,7 @@ impl KdlEntry {
     }
 
     /// An entry as it was parsed: its key and type, if any, its value, the texts around them and its span.
+    #[inline(always)]
     pub(crate) fn parsed(
         ty: Option<KdlIdentifier>,
         name: Option<KdlIdentifier>,

@@ -144,6 +144,80 @@ pub fn entry_from(
     KdlEntry::parsed(ty, name, value, format, span)
 }
 
+/// Creates an argument without a type.
+///
+/// ```
+/// let span = SourceSpan { offset: 0, len: 5 };
+/// let leading = String::from_str(alloc, " ")?;
+/// let repr = String::from_str(alloc, "0x10")?;
+/// let entry = argument_from(alloc, span, leading, KdlValue::from(16), repr); // prints " 0x10"
+/// ```
+#[inline(always)]
+pub fn argument_from(
+    alloc: Global,
+    span: SourceSpan,
+    leading: String,
+    value: KdlValue,
+    repr: String,
+) -> KdlEntry
+    ensures { entry_tree result
+        ≡ entry_at span (text_of leading) None None (value_tree value) (text_of repr) }
+{
+    let format = KdlEntryFormat {
+        value_repr: repr,
+        leading,
+        trailing: empty(alloc),
+        after_ty: empty(alloc),
+        before_ty_name: empty(alloc),
+        after_ty_name: empty(alloc),
+        after_key: empty(alloc),
+        after_eq: empty(alloc),
+        autoformat_keep: false,
+    };
+    KdlEntry::parsed(None, None, value, format, span)
+}
+
+/// Creates a property without a type.
+///
+/// ```
+/// let span = SourceSpan { offset: 0, len: 4 };
+/// let name = KdlIdentifier::from_text(alloc, "a")?;
+/// let key = KeyParts { name, before: empty(alloc), behind: empty(alloc) };
+/// let leading = String::from_str(alloc, " ")?;
+/// let repr = String::from_str(alloc, "1")?;
+/// let entry = property_from(alloc, span, leading, key, KdlValue::from(1), repr); // prints " a=1"
+/// ```
+#[inline(always)]
+pub fn property_from(
+    alloc: Global,
+    span: SourceSpan,
+    leading: String,
+    key: KeyParts,
+    value: KdlValue,
+    repr: String,
+) -> KdlEntry
+    ensures { entry_tree result
+        ≡ entry_at span (text_of leading) (Some (key_view key)) None (value_tree value) (text_of repr) }
+{
+    let KeyParts {
+        name,
+        before,
+        behind,
+    } = key;
+    let format = KdlEntryFormat {
+        value_repr: repr,
+        leading,
+        trailing: empty(alloc),
+        after_ty: empty(alloc),
+        before_ty_name: empty(alloc),
+        after_ty_name: empty(alloc),
+        after_key: before,
+        after_eq: behind,
+        autoformat_keep: false,
+    };
+    KdlEntry::parsed(None, Some(name), value, format, span)
+}
+
 impl<'a> Parts<'a> {
     /// Creates empty parts at the place. Does not allocate.
     ///

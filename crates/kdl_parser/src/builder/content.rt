@@ -17,9 +17,9 @@ ghost use Rattle.std.specs.Prelude.{◌≡◌, [], ◌∷◌, ◌++◌, Some, No
 
 use super::{Builder, Slot, Under, WaitingWord};
 use crate::node_parts::{DocumentParts, NodeParts, ParsedNode};
-use kdl_entry::parsing::parts::{Given, empty, entry_from};
+use kdl_entry::parsing::parts::{Given, argument_from, empty, entry_from};
 use kdl_entry::parsing::slices::Slices;
-use kdl_entry::{KdlEntry, KdlValue};
+use kdl_entry::{KdlEntry, KdlIdentifier, KdlValue};
 use kdl_lexer::TokenSpan;
 use kdl_text::cursor::Checkpoint;
 use kdl_text::span::SourceSpan;
@@ -35,7 +35,7 @@ pub(super) fn add<T: Drop>(items: &mut Vec<T>, item: T) -> Result<(), AllocError
     if len == items.capacity() {
         items.reserve_exact(len.max(1))?;
     }
-    items.push(item)?;
+    items.push_reserved(item);
     Ok(())
 }
 
@@ -67,8 +67,7 @@ pub(super) fn settle<'a>(
     } = word;
     let repr = repr.to_string(slices.alloc())?;
     let span = slices.span(&start, from);
-    let given = lone(KdlValue::String(value));
-    let entry = entry_from(slices.alloc(), span, leading, given, repr);
+    let entry = argument_from(slices.alloc(), span, leading, KdlValue::String(value), repr);
     add(&mut under.entries, entry)
 }
 
@@ -78,56 +77,6 @@ struct NodeEnd {
     before: String,
     terminator: String,
     span: SourceSpan,
-}
-
-/// Creates a node from what was read of it, its block, the text before the block, and its end.
-#[inline(always)]
-fn node_from<N: ParsedNode>(
-    alloc: Global,
-    under: Under,
-    before_children: String,
-    children: Option<DocumentParts<N>>,
-    end: NodeEnd,
-) -> N
-    ensures { N.tree result ≡ node_by N.tree (record {
-      leading = under.entry.leading;
-      ty = under.entry.ty;
-      name = under.entry.name;
-      entries = under.entry.entries;
-      before_children = before_children;
-      children = children;
-      before_terminator = end.before;
-      terminator = end.terminator;
-      span = end.span;
-    }) }
-{
-    let Under {
-        leading,
-        start: _start,
-        ty,
-        name,
-        mut entries,
-    } = under;
-    entries.shrink_to_fit();
-    let NodeEnd {
-        before: before_terminator,
-        terminator,
-        span,
-    } = end;
-    N::from_parts(
-        alloc,
-        NodeParts {
-            leading,
-            ty,
-            name,
-            entries,
-            before_children,
-            children,
-            before_terminator,
-            terminator,
-            span,
-        },
-    )
 }
 
 /// The span from the start of the first node to the end of the last one; without nodes the given span.
@@ -269,6 +218,49 @@ impl<'a, N: ParsedNode> Builder<'a, N> {
         })
     }
 
+    /// Takes the current node, with its block, the text before the block, and its end.
+    #[inline(always)]
+    fn take_node(
+        &mut self,
+        before_children: String,
+        children: Option<DocumentParts<N>>,
+        end: NodeEnd,
+    ) -> N
+        ensures node { N.tree result ≡ node_by N.tree (record {
+          leading = self.old.under.leading;
+          ty = self.old.under.ty;
+          name = self.old.under.name;
+          entries = self.old.under.entries;
+          before_children = before_children;
+          children = children;
+          before_terminator = end.before;
+          terminator = end.terminator;
+          span = end.span;
+        }) }
+        ensures rest { self.new ≡ record self.old { under = self.new.under } }
+    {
+        let alloc = self.slices.alloc();
+        let mut entries = mem::replace(&mut self.under.entries, Vec::new(alloc));
+        entries.shrink_to_fit();
+        let NodeEnd {
+            before: before_terminator,
+            terminator,
+            span,
+        } = end;
+        let parts = NodeParts {
+            leading: mem::replace(&mut self.under.leading, empty(alloc)),
+            ty: self.under.ty.take(),
+            name: mem::replace(&mut self.under.name, KdlIdentifier::from(empty(alloc))),
+            entries,
+            before_children,
+            children,
+            before_terminator,
+            terminator,
+            span,
+        };
+        N::from_parts(alloc, parts)
+    }
+
     /// Takes the current node, whose terminator is the token, and appends it to the nodes.
     #[tactic(auto, using(crate::proofs::Stepping::Views::node_pushed))]
     pub(super) fn push_ended(&mut self, at: &TokenSpan<'a>) -> Result<(), AllocError>
@@ -285,17 +277,7 @@ impl<'a, N: ParsedNode> Builder<'a, N> {
             (Sliced (bytes self.old.from.rest) (bytes at.now.end.rest) self.old.slices.steps self.new.slices.steps) }
     {
         let ending = self.node_end(at)?;
-        let under = mem::replace(
-            &mut self.under,
-            Under::new(self.slices.alloc(), &self.slices.start()),
-        );
-        let node = node_from(
-            self.slices.alloc(),
-            under,
-            empty(self.slices.alloc()),
-            None,
-            ending,
-        );
+        let node = self.take_node(empty(self.slices.alloc()), None, ending);
         add(&mut self.nodes, node)
     }
 
@@ -315,27 +297,10 @@ impl<'a, N: ParsedNode> Builder<'a, N> {
             (Sliced (bytes self.old.from.rest) (bytes at.now.end.rest) self.old.slices.steps self.new.slices.steps) }
     {
         let ending = self.node_end(at)?;
-        let under = mem::replace(
-            &mut self.under,
-            Under::new(self.slices.alloc(), &self.slices.start()),
-        );
         let before = mem::replace(&mut self.before, empty(self.slices.alloc()));
         let block = mem::replace(&mut self.block, no_content(self.slices.alloc()));
-        let node = node_from(self.slices.alloc(), under, before, Some(block), ending);
+        let node = self.take_node(before, Some(block), ending);
         add(&mut self.nodes, node)
-    }
-}
-
-/// A value without a type and a key.
-pub(super) fn lone(value: KdlValue) -> Given
-    ensures key { result.key ≡ None }
-    ensures ty { result.ty ≡ None }
-    ensures value { result.value ≡ value }
-{
-    Given {
-        key: None,
-        ty: None,
-        value,
     }
 }
 

@@ -27,7 +27,10 @@ ghost use Rattle.kdl_parser.specs.Internal.States.{
   valued_slot,
   worded,
 };
-ghost use Rattle.kdl_entry.specs.Tree.{identifier_tree};
+ghost use Rattle.kdl_control.specs.declared.control.Phase.TheVariants.{InNode};
+ghost use Rattle.kdl_control.specs.declared.control.Spot.TheVariants.{Fresh};
+ghost use Rattle.kdl_control.specs.declared.control.Word.TheVariants.{NoKey};
+ghost use Rattle.kdl_entry.specs.Tree.{entry_tree, identifier_tree};
 ghost use Rattle.kdl_grammar.specs.Internal.Machine as machine;
 ghost use Rattle.kdl_parser.specs.declared.builder.dropping.Dropped.TheVariants.{Nothing};
 ghost use Rattle.kdl_text.specs.Internal.Here.{Ahead};
@@ -36,13 +39,13 @@ ghost use Rattle.kdl_value.specs.Data.{text};
 ghost use Rattle.kdl_value.specs.Tree.{value_tree, text_of};
 ghost use Rattle.std.specs.Prelude.{◌≡◌, Some, None, OnOk, option_map};
 
-use super::content::{add, lone, nothing_at, put, settle};
+use super::content::{add, nothing_at, put, settle};
 use super::dropping::Dropped;
 use super::{Builder, Level, Slot, Under, WaitingWord};
 use crate::node_parts::ParsedNode;
 use kdl_control::{Owner, Phase, Spot, Word};
-use kdl_entry::parsing::parts::{Given, Key, TypeParts, empty};
-use kdl_entry::{KdlIdentifier, KdlValue, sliced_identifier};
+use kdl_entry::parsing::parts::{Given, Key, TypeParts, argument_from, empty, property_from};
+use kdl_entry::{KdlEntry, KdlIdentifier, KdlValue, sliced_identifier};
 use kdl_lexer::{LexFailure, TokenKind, TokenSpan, fault_at};
 use std::alloc::AllocError;
 use std::mem;
@@ -125,16 +128,17 @@ impl<'a, N: ParsedNode> Builder<'a, N> {
     {
         self.settle_word()?;
         let before = self.slices.text(&self.from, &at.start)?;
+        self.levels.reserve(1)?;
         let under = mem::replace(
             &mut self.under,
             Under::new(self.slices.alloc(), &self.slices.start()),
         );
         let nodes = mem::replace(&mut self.nodes, Vec::new(self.slices.alloc()));
-        self.levels.push(Level {
+        self.levels.push_reserved(Level {
             under,
             before,
             nodes,
-        })?;
+        });
         self.from = at.end.copied();
         self.phase = Phase::Gap;
         Ok(())
@@ -184,17 +188,45 @@ impl<'a, N: ParsedNode> Builder<'a, N> {
         ensures unsliced { unsliced self.new ≡ bytes at.now.end.rest }
     {
         let Slot { leading, start } = slot;
-        let under = Under {
-            leading,
-            start,
-            ty,
-            name,
-            entries: Vec::new(self.slices.alloc()),
-        };
-        put(&mut self.under, under);
-        put(&mut self.waiting, None);
+        self.under.leading = leading;
+        self.under.start = start;
+        self.under.ty = ty;
+        self.under.name = name;
+        self.under.entries = Vec::new(self.slices.alloc());
+        self.forget_word();
         self.from = at.end.copied();
         self.phase = Phase::InNode(Spot::Fresh(Word::NoKey));
+    }
+
+    /// Forgets the pending string, if there is one.
+    #[inline(always)]
+    fn forget_word(&mut self)
+        ensures { self.new ≡ record self.old { waiting = None } }
+    {
+        if self.waiting.is_some() {
+            put(&mut self.waiting, None);
+        }
+    }
+
+    /// Adds an entry, whose value is the token, to the current node.
+    #[inline(always)]
+    #[tactic(auto, using(crate::proofs::Stepping::Views::entry_pushed))]
+    fn push_entry(&mut self, entry: KdlEntry, at: &TokenSpan<'a>) -> Result<(), AllocError>
+        ensures under { OnOk result
+            (under_view self.new.under ≡ machine.with_entry (under_view self.old.under) (entry_tree entry)) }
+        ensures rest { OnOk result (self.new ≡ record self.old {
+          under = self.new.under;
+          waiting = None;
+          from = at.now.end;
+          phase = InNode (Fresh NoKey);
+        }) }
+        ensures slices { self.new.slices ≡ self.old.slices }
+    {
+        add(&mut self.under.entries, entry)?;
+        self.forget_word();
+        self.from = at.end.copied();
+        self.phase = Phase::InNode(Spot::Fresh(Word::NoKey));
+        Ok(())
     }
 
     /// Adds an entry to the current node. Its value is the token.
@@ -212,10 +244,7 @@ impl<'a, N: ParsedNode> Builder<'a, N> {
             self.new }
     {
         let entry = self.entry_between(slot, given, at)?;
-        add(&mut self.under.entries, entry)?;
-        put(&mut self.waiting, None);
-        self.from = at.end.copied();
-        self.phase = Phase::InNode(Spot::Fresh(Word::NoKey));
+        self.push_entry(entry, at)?;
         Ok(())
     }
 
@@ -355,11 +384,11 @@ impl<'a, N: ParsedNode> Builder<'a, N> {
     {
         self.settle_word()?;
         let leading = self.slices.text(&self.from, &at.start)?;
-        let slot = Slot {
-            leading,
-            start: at.start.copied(),
-        };
-        self.add_entry(slot, lone(value), at)
+        let repr = self.slices.text(&at.start, &at.end)?;
+        let span = self.slices.span(&at.start, &at.end);
+        let entry = argument_from(self.slices.alloc(), span, leading, value, repr);
+        self.push_entry(entry, at)?;
+        Ok(())
     }
 
     /// The text before the name or entry that has a type or a key, and its start.
@@ -413,16 +442,12 @@ impl<'a, N: ParsedNode> Builder<'a, N> {
             self.old.parts.from.rest) self.old result self.new }
     {
         let key = self.parts.key_parts(&mut self.slices, &at.start)?;
-        let slot = self.parts_slot();
-        self.add_entry(
-            slot,
-            Given {
-                key: Some(key),
-                ty: None,
-                value,
-            },
-            at,
-        )
+        let Slot { leading, start } = self.parts_slot();
+        let repr = self.slices.text(&at.start, &at.end)?;
+        let span = self.slices.span(&start, &at.end);
+        let entry = property_from(self.slices.alloc(), span, leading, key, value, repr);
+        self.push_entry(entry, at)?;
+        Ok(())
     }
 
     /// Takes a string that is a node's name.
