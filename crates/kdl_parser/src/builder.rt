@@ -1,8 +1,9 @@
 //! The builder: a document being read, token by token.
 
+ghost use Rattle.kdl_entry.specs.Tree.{plain_identifier};
 ghost use Rattle.kdl_grammar.specs.Internal.Machine.{initial};
 ghost use Rattle.kdl_parser.specs.Internal.Answered.{Finished};
-ghost use Rattle.kdl_parser.specs.Internal.Building.{state_view, EndsIn, Placed};
+ghost use Rattle.kdl_parser.specs.Internal.Building.{state_view, under_view, EndsIn, Placed};
 ghost use Rattle.kdl_parser.specs.Internal.Counted.{unsliced, SlicedOn};
 ghost use Rattle.kdl_parser.specs.Internal.Events.{Acts, PartsAhead, is_live, mark_step, string_step, value_step};
 ghost use Rattle.kdl_parser.specs.Internal.States.{document_now, document_of_nodes, Steps, Takes, token_step};
@@ -10,7 +11,7 @@ ghost use Rattle.kdl_parser.specs.declared.builder.dropping.Dropped.TheVariants.
 ghost use Rattle.kdl_text.specs.Internal.Here.{Ahead};
 ghost use Rattle.kdl_text.specs.Spans.{bytes};
 ghost use Rattle.kdl_value.specs.Tree.{text_of, value_tree};
-ghost use Rattle.std.specs.Prelude.{◌≡◌, ◌+◌, [], true};
+ghost use Rattle.std.specs.Prelude.{◌≡◌, ◌+◌, [], None, true};
 
 mod content;
 mod dropping;
@@ -93,7 +94,16 @@ pub(crate) struct Builder<'a, N> {
 
 impl<'a> Under<'a> {
     /// Creates a node without content. Does not allocate.
-    fn new(alloc: Global, start: &Checkpoint<'a>) -> Self {
+    fn new(alloc: Global, start: &Checkpoint<'a>) -> Self
+        ensures is { under_view result ≡ record {
+          leading = [];
+          start = start.now.rest;
+          ty = None;
+          name = plain_identifier [];
+          entries = [];
+        } }
+        ensures start { result.start ≡ start.now }
+    {
         Under {
             leading: empty(alloc),
             start: start.copied(),

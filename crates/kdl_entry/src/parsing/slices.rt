@@ -57,7 +57,8 @@ impl<'a> Slices<'a> {
 
     /// Returns the count of steps, and continues with a count of 0.
     pub fn take_steps(&mut self) -> Steps
-        ensures { result ≡ self.old.steps }
+        ensures steps { result ≡ self.old.steps }
+        ensures rest { self.new ≡ record self.old { steps = 0 } }
     {
         mem::replace(&mut self.steps, Steps::new())
     }
@@ -84,6 +85,7 @@ impl<'a> Slices<'a> {
     pub fn piece(&mut self, from: &Checkpoint<'a>, to: &Checkpoint<'a>) -> Piece<'a>
         requires { Ahead from.now to.now }
         ensures text { result ≡ between from.now.rest to.now.rest }
+        ensures counted { self.new ≡ record self.old { steps = raise self.old.steps (bytes result) } }
         ensures whole { self.new.whole ≡ self.old.whole }
         ensures sliced { Sliced (bytes from.now.rest) (bytes to.now.rest) self.old.steps
             self.new.steps }
@@ -103,6 +105,9 @@ impl<'a> Slices<'a> {
     pub fn text(&mut self, from: &Checkpoint<'a>, to: &Checkpoint<'a>) -> Result<String, AllocError>
         requires { Ahead from.now to.now }
         ensures text { IfOk result (λ s. text_of s ≡ between from.now.rest to.now.rest) }
+        ensures counted { self.new ≡ record self.old {
+          steps = raise self.old.steps (bytes (between from.now.rest to.now.rest));
+        } }
         ensures whole { self.new.whole ≡ self.old.whole }
         ensures sliced { Sliced (bytes from.now.rest) (bytes to.now.rest) self.old.steps
             self.new.steps }
@@ -145,6 +150,9 @@ impl<'a> Slices<'a> {
         ensures is { IfOk result
             (λ i. identifier_tree i ≡ identifier_at self.old.whole.rest (text_of value)
             at.now.start.rest at.now.end.rest) }
+        ensures counted { self.new ≡ record self.old {
+          steps = raise self.old.steps (bytes (between at.now.start.rest at.now.end.rest));
+        } }
         ensures whole { self.new.whole ≡ self.old.whole }
         ensures sliced { Sliced (bytes at.now.start.rest) (bytes at.now.end.rest) self.old.steps
             self.new.steps }

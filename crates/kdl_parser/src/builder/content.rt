@@ -7,7 +7,7 @@ ghost use Rattle.kdl_entry.specs.Places.{span_of, between};
 ghost use Rattle.kdl_entry.specs.Tree.{entry_tree};
 ghost use Rattle.kdl_grammar.specs.Internal.Machine as machine;
 ghost use Rattle.kdl_grammar.specs.Laid as laid;
-ghost use Rattle.kdl_grammar.specs.Tree.{no_children};
+ghost use Rattle.kdl_grammar.specs.Tree.{document, no_children, none};
 ghost use Rattle.kdl_parser.specs.Internal.Building.{under_view, under_now, kept_by, nodes_now};
 ghost use Rattle.kdl_parser.specs.Internal.Parts.{nodes_tree, document_by, node_by};
 ghost use Rattle.kdl_text.specs.Internal.Here.{Ahead};
@@ -129,7 +129,10 @@ pub(super) fn content<N: ParsedNode>(
 }
 
 /// An empty document, for a builder outside of a block. Does not allocate.
-pub(super) fn no_content<N: ParsedNode>(alloc: Global) -> DocumentParts<N> {
+pub(super) fn no_content<N: ParsedNode>(alloc: Global) -> DocumentParts<N>
+    ensures { document_by N.tree result ≡ document
+        (Some (record { leading = []; trailing = [] })) (record { offset = 0; len = 0 }) none }
+{
     DocumentParts {
         leading: empty(alloc),
         nodes: Vec::new(alloc),
