@@ -280,7 +280,8 @@ impl<'a, N: ParsedNode> Builder<'a, N> {
             (Sliced (bytes self.old.from.rest) (bytes at.now.end.rest) self.old.slices.steps self.new.slices.steps) }
     {
         let ending = self.node_end(at)?;
-        let node = self.take_node(empty(self.slices.alloc()), None, ending);
+        let before = empty(self.slices.alloc());
+        let node = self.take_node(before, None, ending);
         add(&mut self.nodes, node)
     }
 

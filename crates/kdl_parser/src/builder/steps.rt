@@ -230,7 +230,7 @@ impl<'a, N: ParsedNode> Builder<'a, N> {
     }
 
     /// Adds an entry to the current node. Its value is the token.
-    #[tactic(auto, using(crate::proofs::Stepping::Views::entry_pushed, crate::proofs::Stepping::TurnCost::fewer, crate::proofs::Stepping::TurnCost::token_fewer, kdl_lexer::proofs::Order::ahead))]
+    #[tactic(auto, using(crate::proofs::Stepping::TurnCost::fewer, crate::proofs::Stepping::TurnCost::token_fewer, kdl_lexer::proofs::Order::ahead))]
     pub(super) fn add_entry(
         &mut self,
         slot: Slot<'a>,
@@ -371,6 +371,7 @@ impl<'a, N: ParsedNode> Builder<'a, N> {
     }
 
     /// Adds a value that is an argument.
+    #[tactic(auto, using(crate::proofs::Stepping::TurnCost::fewer, crate::proofs::Stepping::TurnCost::token_fewer, kdl_lexer::proofs::Order::ahead))]
     pub(super) fn add_argument(
         &mut self,
         value: KdlValue,
@@ -430,6 +431,7 @@ impl<'a, N: ParsedNode> Builder<'a, N> {
     }
 
     /// Adds a value that has a key and no type.
+    #[tactic(auto, using(crate::proofs::Stepping::TurnCost::fewer, crate::proofs::Stepping::TurnCost::token_fewer, kdl_lexer::proofs::Order::ahead))]
     pub(super) fn add_keyed(
         &mut self,
         value: KdlValue,
