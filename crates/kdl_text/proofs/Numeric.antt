@@ -10,3 +10,5 @@ pub mod KeywordUnique
 pub mod NumberReads
 -- What the readers of decimals return, a step at a time.
 pub mod DecimalReads
+-- Decimal digits at the front of a text.
+pub mod DigitRuns

@@ -12,3 +12,5 @@ pub mod Reading
 pub mod Tables
 -- What the results of the readers of comments and spaces say of the text.
 pub mod TriviaReading
+-- Decimal digits at the front of a text.
+pub mod DigitRuns

@@ -4,6 +4,7 @@ ghost use Rattle.kdl_text.specs.Chars as class;
 ghost use Rattle.kdl_text.specs.Chars.{starts};
 ghost use Rattle.kdl_text.specs.Internal.Here.{first, in_class, RunOf, AsciiOf};
 ghost use Rattle.kdl_text.specs.Spans.{bytes};
+ghost use Rattle.kdl_text.specs.Internal.DigitRuns.{DecimalsLen, DigitRun};
 ghost use Rattle.kdl_text.specs.Internal.Tables.{TableOf};
 ghost use Rattle.std.specs.Char.{len_utf8};
 ghost use Rattle.std.specs.Prelude.{◌≡◌, ◌+◌, ◌∷◌, [], length, MatchOption, IfSome, nat_lt, not, ◌&&◌};
@@ -226,6 +227,36 @@ fn skip_ascii(text: &str, class: Class) -> (&str, u64)
 {
     let count = inside_len(text.as_bytes(), class.table());
     (&text[count..], count as u64)
+}
+
+/// Returns how many decimal digits are at the front, up to the first at which their value is 2^59 or
+/// more, their value, and whether it may be that digits and `_` follow.
+#[inline(always)]
+fn decimals_len(bytes: &[u8]) -> (usize, u64, bool)
+    ensures { DecimalsLen bytes.now result.0 result.1 result.2 }
+{
+    let mut count = 0;
+    let mut value: u64 = 0;
+    'digits: while count < bytes.len() && value < 1 << 59 {
+        let byte = bytes[count];
+        let digit = byte.wrapping_sub(b'0');
+        if digit > 9 {
+            return (count, value, byte == b'_');
+        }
+        value = value * 10 + u64::from(digit);
+        count += 1;
+    }
+    (count, value, true)
+}
+
+/// Returns the text after decimal digits at its front, how many they are, their value, and whether
+/// it may be that digits and `_` follow.
+#[inline(always)]
+pub(crate) fn skip_decimals(text: &str) -> (&str, usize, u64, bool)
+    ensures { DigitRun text.now result.0.now result.1 result.2 result.3 }
+{
+    let (count, value, more) = decimals_len(text.as_bytes());
+    (&text[count..], count, value, more)
 }
 
 /// The first character, and the text after it.

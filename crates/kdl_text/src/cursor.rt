@@ -11,12 +11,13 @@ ghost use Rattle.kdl_text.specs.Chars as class;
 ghost use Rattle.kdl_text.specs.Chars.{Text};
 ghost use Rattle.kdl_text.specs.Internal.Here.{Ahead, Behind, Skips, Took, Ate, AteTwo, Stayed, first, first_len, tail, looked, stepped, sliced, in_class};
 ghost use Rattle.kdl_text.specs.Spans.{bytes, raise};
+ghost use Rattle.kdl_text.specs.Internal.DigitRuns.{SkipsDigits};
 ghost use Rattle.kdl_text.specs.Internal.Reading.{Moves, Costs, ReadsNewline};
 ghost use Rattle.kdl_text.specs.Spans as spans;
 ghost use Rattle.std.specs.Prelude.{◌≡◌, ◌+◌, ◌<◌, ◌^◌, ◌++◌, ◌∷◌, [], length, MatchOption, IfOk, IsTrue, ◌↔◌, string_bytes};
 ghost use Rattle.std.specs.Str.{chars};
 
-use crate::chars::{Class, first_char, is_newline_char, skip_class, split_first};
+use crate::chars::{Class, first_char, is_newline_char, skip_class, skip_decimals, split_first};
 use crate::span::SourceSpan;
 use std::alloc::{AllocError, Global};
 use std::marker::Model;
@@ -545,6 +546,19 @@ impl<'a> Cursor<'a> {
         self.rest = rest;
         self.steps.raise(count);
         self.steps.raise(1);
+    }
+
+    /// Advances past decimal digits. Costs a step for each, and one for the character after them.
+    /// Returns how many they are, their value, and whether it may be that digits and `_` follow.
+    #[inline(always)]
+    pub(crate) fn skip_digits(&mut self) -> (usize, u64, bool)
+        ensures { SkipsDigits result.0 result.1 result.2 self.old self.new }
+    {
+        let (rest, count, value, more) = skip_decimals(self.rest);
+        self.at += count;
+        self.rest = rest;
+        self.steps.raise(count as u64 + 1);
+        (count, value, more)
     }
 
     /// Returns the text from the checkpoint to here. Costs a step for each of its bytes.

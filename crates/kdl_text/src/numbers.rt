@@ -321,8 +321,46 @@ fn integer(cursor: &mut Cursor, radix: u32) -> Option<Magnitude>
     Some(digits(cursor, radix, u64::from(first)))
 }
 
-/// Advances past an integer of the base, if one is here. Base 10, which most integers have, is
-/// passed as a constant.
+/// Advances past the decimal digits and the `_` here. Returns the number `before` with these digits
+/// appended.
+#[inline(never)]
+fn more_decimals(cursor: &mut Cursor, before: u64) -> Magnitude
+    ensures reads { ReadsDigits 10 (Small before) result cursor.old.rest cursor.new.rest }
+    ensures moves { Moves cursor.old cursor.new }
+    ensures costs { Costs 2 1 cursor.old cursor.new }
+{
+    digits(cursor, 10, before)
+}
+
+/// Advances past a decimal integer, if one is here: a digit, then digits and `_`. Most have neither
+/// `_` nor a value that needs more than 64 bits.
+#[inline(always)]
+fn decimal_integer(cursor: &mut Cursor) -> Option<Magnitude>
+    ensures reads { ReadsInteger 10 result cursor.old.rest cursor.new.rest }
+    ensures moves { Moves cursor.old cursor.new }
+    ensures costs { Costs 2 1 cursor.old cursor.new }
+{
+    let (count, value, more) = cursor.skip_digits();
+    if count == 0 {
+        return None;
+    }
+    if more {
+        return Some(more_decimals(cursor, value));
+    }
+    Some(Magnitude::Small(value))
+}
+
+/// Advances past an integer of a base other than 10, if one is here.
+#[inline(never)]
+fn other_integer(cursor: &mut Cursor, radix: Radix) -> Option<Magnitude>
+    ensures reads { ReadsInteger (radix_of radix) result cursor.old.rest cursor.new.rest }
+    ensures moves { Moves cursor.old cursor.new }
+    ensures costs { Costs 2 1 cursor.old cursor.new }
+{
+    integer(cursor, radix.value())
+}
+
+/// Advances past an integer of the base, if one is here.
 #[inline(always)]
 fn integer_in(cursor: &mut Cursor, radix: Radix) -> Option<Magnitude>
     ensures reads { ReadsInteger (radix_of radix) result cursor.old.rest cursor.new.rest }
@@ -330,9 +368,9 @@ fn integer_in(cursor: &mut Cursor, radix: Radix) -> Option<Magnitude>
     ensures costs { Costs 2 1 cursor.old cursor.new }
 {
     if let Radix::Decimal = radix {
-        return integer(cursor, 10);
+        return decimal_integer(cursor);
     }
-    integer(cursor, radix.value())
+    other_integer(cursor, radix)
 }
 
 /// Whether no identifier character is here.
@@ -371,6 +409,7 @@ struct Front {
 }
 
 /// Advances past the sign, the prefix of a base and the integer with which a number begins.
+#[inline(always)]
 fn read_front(cursor: &mut Cursor) -> Result<Front, NumberFault>
     ensures reads { ReadsFront result cursor.old.rest cursor.new.rest }
     ensures fault { IsFault result cursor.old.rest cursor.new.rest }
@@ -400,7 +439,7 @@ fn fraction(cursor: &mut Cursor) -> Result<bool, NumberFault>
     if !cursor.eat('.') {
         return Ok(false);
     }
-    match integer(cursor, 10) {
+    match decimal_integer(cursor) {
         Some(_) => Ok(true),
         None => Err(NumberFault::MissingFraction),
     }
@@ -417,7 +456,7 @@ fn exponent(cursor: &mut Cursor) -> Result<bool, NumberFault>
         return Ok(false);
     }
     let _ = sign(cursor);
-    match integer(cursor, 10) {
+    match decimal_integer(cursor) {
         Some(_) => Ok(true),
         None => Err(NumberFault::MissingExponent),
     }

@@ -17,7 +17,7 @@ use Rattle.kdl_text.specs.declared.numbers.Magnitude.TheVariants.{Small}
 use Rattle.kdl_text.proofs.Looking.MovesJoin.{moves_then, moves_one, stayed_looked, took_from, fewer_bytes, bytes-append}
 use Rattle.kdl_text.proofs.Looking.Runs.{length-bytes}
 
-value_after : (k : ℕ) (ds es : Text) (n : ℕ) → digits_value_after k n (ds ++ es) ≡ digits_value_after k (digits_value_after k n ds) es
+pub value_after : (k : ℕ) (ds es : Text) (n : ℕ) → digits_value_after k n (ds ++ es) ≡ digits_value_after k (digits_value_after k n ds) es
 value_after k [] es n = refl
 value_after k (c ∷ cs) es n = value_after k cs es (n * k + digit_value c)
 

@@ -6,10 +6,10 @@ pub returns-then-not-eat-clause-reads : goal.returns-then-not-eat-clause-reads
 returns-then-not-eat-clause-reads c = fraction_none _ _ c.if-not-eat.ensures
 
 pub returns-in-Some-clause-reads : goal.returns-in-Some-clause-reads
-returns-in-Some-clause-reads c = fraction_some _ _ _ c.integer.new.cursor c.if-not-eat.ensures c.in-Some.ensures.reads
+returns-in-Some-clause-reads c = fraction_some _ _ _ c.decimal_integer.new.cursor c.if-not-eat.ensures c.in-Some.ensures.reads
 
 pub returns-in-Some-clause-moves : goal.returns-in-Some-clause-moves
-returns-in-Some-clause-moves c = moves_then (moves_one c.if-not-eat.ensures) c.integer.ensures.moves
+returns-in-Some-clause-moves c = moves_then (moves_one c.if-not-eat.ensures) c.decimal_integer.ensures.moves
 
 pub returns-in-None-clause-moves : goal.returns-in-None-clause-moves
-returns-in-None-clause-moves c = moves_then (moves_one c.if-not-eat.ensures) c.integer.ensures.moves
+returns-in-None-clause-moves c = moves_then (moves_one c.if-not-eat.ensures) c.decimal_integer.ensures.moves
