@@ -51,7 +51,7 @@ pub enum Line<'a> {
 }
 
 /// How many lines to reserve for a string at first.
-const LINES: usize = 8;
+const LINES: usize = 16;
 
 /// Appends a line.
 pub fn add_line<'a>(lines: &mut Vec<Line<'a>>, line: Line<'a>) -> Result<(), AllocError>
