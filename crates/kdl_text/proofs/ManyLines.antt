@@ -10,6 +10,8 @@ pub mod PlainLoop
 pub mod LinesJoin
 -- What lines represent under a prefix.
 pub mod DedentReads
+-- The units, the text and the bytes of escapes.
+pub mod Escapes
 -- What lines and their dedent cost.
 pub mod LinesCost
 -- What whole strings cost.

@@ -1,20 +1,9 @@
--- A cursor that goes into a segment and comes back.
-use Rattle.std.proofs.Common.{◌≡◌, ℕ, ◌+◌, ◌≤◌, [], ap, sym, ◌∙◌, arith}
+-- A cursor that is back where it was, with steps counted.
+use Rattle.std.proofs.Common.{◌≡◌, ℕ, ◌+◌, ◌≤◌, [], refl, ap, sym, ◌∙◌, arith}
 use Rattle.kdl_text.specs.Chars.{Text}
-use Rattle.kdl_text.specs.Internal.Here.{Here, Position, Counted, Returned}
+use Rattle.kdl_text.specs.Internal.Here.{Here, Returned, sliced}
 use Rattle.kdl_text.specs.Internal.Reading.{Moves}
 use Rattle.kdl_text.specs.Spans.{bytes}
-
-pub comes_back : (k : ℕ) (a i o d : Here) (place : Position) (x : Text) → i ≡ record { rest = x; at = 0; steps = a.steps } → place.rest ≡ a.rest → place.at ≡ a.at → Counted k i o → d ≡ record { rest = place.rest; at = place.at; steps = o.steps } → Returned k a d
-comes_back k a i o d place x e r t n f =
-    let is = ap (λ z. z.steps) e in
-    let ds = ap (λ z. z.steps) f in
-    record {
-      rest = ap (λ z. z.rest) f ∙ r;
-      at = ap (λ z. z.at) f ∙ t;
-      most = omega (arith, is, ds, n.most);
-      counts = omega (arith, is, ds, n.counts);
-    }
 
 pub moves_returned : {k : ℕ} {a b : Here} → Returned k a b → Moves a b
 moves_returned r = record { piece = ([], sym r.rest); at = omega (arith, r.at, ap bytes r.rest); counts = r.counts }
@@ -29,3 +18,9 @@ returned_then j k a b e r s = record {
   most = omega (arith, r.most, s.most);
   counts = omega (arith, r.counts, s.counts);
 }
+
+pub sliced_returned : (p : Text) (a b : Here) → b ≡ sliced p a → Returned (bytes p) a b
+sliced_returned p a b e = record { rest = ap (λ z. z.rest) e; at = ap (λ z. z.at) e; most = omega (arith, ap (λ z. z.steps) e); counts = omega (arith, ap (λ z. z.steps) e) }
+
+pub returned_none : (a : Here) → Returned 0 a a
+returned_none a = record { rest = refl; at = refl; most = omega arith; counts = omega arith }

@@ -115,7 +115,7 @@ dedents_from us ls front last v e f d =
 pub some_lines : (us : List LineUnit) (ls : List Line) → lines_of us ≡ map line_units ls → ls ≡ [] → ⊥
 some_lines us ls e f = let (l, ks, g) = cut_some us in let both : l ∷ ks ≡ [] = sym g ∙ e ∙ ap (map line_units) f in cc
 
-line_text-append : (xs ys : List LineUnit) → line_text (xs ++ ys) ≡ line_text xs ++ line_text ys
+pub line_text-append : (xs ys : List LineUnit) → line_text (xs ++ ys) ≡ line_text xs ++ line_text ys
 line_text-append [] ys = refl
 line_text-append (x ∷ xs) ys = ap (λ z. unit_text x ++ z) (line_text-append xs ys) ∙ sym (append_assoc (unit_text x) (line_text xs) (line_text ys))
 
@@ -170,9 +170,13 @@ literals_text (c ∷ p) = ap (λ z. c ∷ z) (literals_text p)
 pub prefix_whole : (ps us rs : List LineUnit) (n : ℕ) → length ps ≤ n → us ≡ take n ps ++ rs → us ≡ ps ++ rs
 prefix_whole ps us rs n h e = e ∙ ap (λ z. z ++ rs) (take_all n ps h)
 
-no_text : (a b : Bool) → b ≡ false → (a && b) ≡ false
+pub no_text : (a b : Bool) → b ≡ false → (a && b) ≡ false
 no_text true b h = h
 no_text false b h = refl
+
+pub not_true : (b : Bool) → not b ≡ true → b ≡ false
+not_true true h = cc
+not_true false h = refl
 
 -- a line with a character that is not a space is not blank
 pub not_blank : (ps : List LineUnit) (cs rest : Text) → literals cs ≡ ps ++ literals rest → starts (λ c. not (is_space c)) rest ≡ true → is_blank_line (literals cs) ≡ false
@@ -180,15 +184,3 @@ not_blank ps cs [] e h = cc
 not_blank ps cs (c ∷ rest) e h =
     let space : is_space c ≡ false = not_true (is_space c) h in
     ap is_blank_line e ∙ list_all-append is_space_unit ps (literals (c ∷ rest)) ∙ no_text (list_all is_space_unit ps) _ (rw space refl)
-  where
-    not_true : (b : Bool) → not b ≡ true → b ≡ false
-    not_true true h = cc
-    not_true false h = refl
-
--- a line that is the prefix alone represents the empty text
-pub prefix_alone : (ps us : List LineUnit) → us ≡ ps ++ [] → LineValue ps us []
-prefix_alone ps us e = by_blank (is_blank_line us) refl
-  where
-    by_blank : (b : Bool) → is_blank_line us ≡ b → LineValue ps us []
-    by_blank true h = blank h refl
-    by_blank false h = dedented [] h e refl

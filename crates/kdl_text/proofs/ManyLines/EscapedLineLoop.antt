@@ -1,34 +1,34 @@
 -- A line of a string of many lines from an escape on.
-use Rattle.std.proofs.Common.{◌≡◌, ℕ, ◌+◌, ◌<◌, ◌≤◌, Bool, not, true, false, List, [], ◌∷◌, ◌++◌, length, refl, sym, ap, ◌∙◌, subst, arith, append_assoc, length-append}
+use Rattle.std.proofs.Common.{◌≡◌, ℕ, ◌+◌, ◌*◌, ◌<◌, ◌≤◌, Bool, not, true, false, List, [], ◌∷◌, ◌++◌, length, refl, sym, ap, ◌∙◌, subst, arith, append_assoc, append-nil, length-append}
 use Rattle.std.proofs.lemmas.Bool.{false≢true}
 use Rattle.std.proofs.lemmas.List.Folds.{list_all-append}
+use Rattle.std.specs.Prelude.{Option}
 use Rattle.kdl_text.specs.Chars.{Text, is_literal}
 use Rattle.kdl_text.specs.Dedent.{is_line_end}
-use Rattle.kdl_text.specs.Internal.Here.{Here, Returned}
+use Rattle.kdl_text.specs.Internal.Here.{Here}
 use Rattle.kdl_text.specs.Spans.{bytes}
-use Rattle.kdl_text.specs.Internal.Lines.{CostsWith, is_one_line, ReadsLine, ReadsPlain}
+use Rattle.kdl_text.specs.Internal.Lines.{CostsWith, escape_units, escapes_bytes, escapes_units, is_one_line, ReadsLine}
 use Rattle.kdl_text.specs.MultiLine.{kept, unit, Content}
 use Rattle.kdl_text.specs.Raw.{literals}
 use Rattle.kdl_text.specs.Internal.Reading.{Moves, Costs, Goes}
-use Rattle.kdl_text.specs.Strings.{StringUnit, literal, escape, spaces, IsUnit, one_literal, one_letter, one_number, one_gap}
+use Rattle.kdl_text.specs.Strings.{StringUnit, literal, escape, spaces, escape_of, IsUnit, one_literal, one_letter, one_number, one_gap}
+use Rattle.kdl_text.specs.declared.strings.dedent.Escaped.{Escaped}
 use Rattle.kdl_text.specs.declared.strings.dedent.LineUnit.{LineUnit}
 use Rattle.kdl_text.specs.declared.strings.dedent.LineUnit.TheVariants.{LineEnd}
 use Rattle.kdl_text.proofs.Looking.ValueGoes.{goes_then}
 use Rattle.kdl_text.proofs.Looking.MovesJoin.{moves_then, fewer_bytes, bytes-append}
+use Rattle.kdl_text.proofs.Looking.Runs.{length-bytes}
+use Rattle.kdl_text.proofs.ManyLines.Escapes.{escapes_bytes-append, escapes_units-append}
 use Rattle.kdl_text.proofs.ManyLines.LinesJoin.{literals_inside}
 use Rattle.kdl_text.proofs.ManyLines.LinesUnique.{goes_content, slash_unit, content_unit}
-use Rattle.kdl_text.specs.declared.strings.multiline.Stop.{Stop}
-use Rattle.kdl_text.proofs.Looking.Runs.{length-bytes}
-use Rattle.kdl_text.proofs.Looking.Returns.{moves_returned}
 
--- the units read so far, and a backslash that was taken
-pub record InEscaped (f a : Here) (old out : List LineUnit) : Type 0 where
-  pub more : List LineUnit
-  pub is : out ≡ old ++ more
-  pub inside : is_one_line more ≡ true
-  pub goes : Goes Content (92 ∷ f.rest) more (92 ∷ a.rest)
+-- the escapes read so far, and a backslash that was taken
+pub record InEscaped (f a : Here) (es : List Escaped) : Type 0 where
+  pub inside : is_one_line (escapes_units es) ≡ true
+  pub goes : Goes Content (92 ∷ f.rest) (escapes_units es) (92 ∷ a.rest)
   pub moves : Moves f a
-  pub costs : Costs 3 0 f a
+  pub costs : Costs 2 0 f a
+  pub leaves : CostsWith (2 * escapes_bytes es) f a
 
 kept_inside : (u : StringUnit) → is_one_line (kept u) ≡ true
 kept_inside (literal c) = refl
@@ -57,108 +57,107 @@ slash_shorter {s = s} {r = r} i = go i refl
     go (one_number {t = t} x) e = let same : 117 ∷ 123 ∷ t ≡ s = cc in omega (arith, ap length same, ap length x.text, length-append x.digits (125 ∷ r))
     go (one_gap {e = d} {t = t} x y) e = let same : d ∷ t ≡ s = cc in omega (arith, ap length same, ap length y.text, length-append y.run r)
 
-module _ (f a : Here) (old out : List LineUnit) (i : InEscaped f a old out) (u : StringUnit) (b : Here) (unit_is : IsUnit (92 ∷ a.rest) b.rest u) (m : Moves a b) (k : Costs 1 1 a b) where
-  escape_costs : Costs 3 0 f b
-  escape_costs = record {
-    most = omega (arith, i.costs.most, k.most, slash_shorter unit_is, ap length m.piece.1, length-append m.piece.0 b.rest, ap bytes m.piece.1, bytes-append m.piece.0 b.rest, length-bytes m.piece.0);
-    least = omega (arith, i.costs.least, k.least);
-  }
+-- the escapes of a line up to its end
+pub record EscapesRead (f d : Here) (es : List Escaped) (closed : Bool) : Type 0 where
+  pub line : ReadsLine Content closed (92 ∷ f.rest) (escapes_units es) d.rest
+  pub shorter : bytes d.rest + 1 ≤ bytes f.rest
+  pub moves : Moves f d
+  pub costs : Costs 2 0 f d
+  pub leaves : CostsWith (2 * escapes_bytes es) f d
 
-  escape_goes : Goes Content (92 ∷ f.rest) (i.more ++ kept u) b.rest
+module _ (f a : Here) (es : List Escaped) (i : InEscaped f a es) (o : Option ℕ) (b : Here) (unit_is : IsUnit (92 ∷ a.rest) b.rest (escape_of o)) (m : Moves a b) (k : Costs 1 1 a b) where
+  few_read : bytes b.rest + 1 ≤ bytes a.rest
+  few_read = omega (arith, slash_shorter unit_is, ap length m.piece.1, length-append m.piece.0 b.rest, ap bytes m.piece.1, bytes-append m.piece.0 b.rest, length-bytes m.piece.0)
+
+  escape_costs : Costs 2 0 f b
+  escape_costs = record { most = omega (arith, i.costs.most, k.most, few_read); least = omega (arith, i.costs.least, k.least) }
+
+  escape_goes : Goes Content (92 ∷ f.rest) (escapes_units es ++ kept (escape_of o)) b.rest
   escape_goes = goes_then i.goes (slash_kept unit_is)
 
-  escape_inside : is_one_line (i.more ++ kept u) ≡ true
-  escape_inside = joins i.more (kept u) i.inside (kept_inside u)
+  escape_inside : is_one_line (escapes_units es ++ kept (escape_of o)) ≡ true
+  escape_inside = joins (escapes_units es) (kept (escape_of o)) i.inside (kept_inside (escape_of o))
 
-  module _ (p : Text) (d : Here) (mid new : List LineUnit) (n : Moves b d) (l : Costs 3 0 b d) (s : bytes p + 1 + bytes d.rest ≤ bytes b.rest) (e : mid ≡ out ++ kept u) (e' : new ≡ mid ++ literals p) where
-    units_are : new ≡ old ++ ((i.more ++ kept u) ++ literals p)
-    units_are = e' ∙ ap (λ z. z ++ literals p) (e ∙ ap (λ z. z ++ kept u) i.is ∙ append_assoc old i.more (kept u)) ∙ append_assoc old (i.more ++ kept u) (literals p)
+  module _ (e : Escaped) (d : Here) (new : List Escaped) (n : Moves b d) (l : Costs 2 0 b d) (s : bytes e.after + 1 + bytes d.rest ≤ bytes b.rest) (value : e.value ≡ o) (is : new ≡ es ++ (e ∷ [])) where
+    units_are : escapes_units new ≡ (escapes_units es ++ kept (escape_of o)) ++ literals e.after
+    units_are =
+        ap escapes_units is ∙ escapes_units-append es (e ∷ []) ∙ ap (λ z. escapes_units es ++ z) (append-nil (escape_units e))
+        ∙ sym (append_assoc (escapes_units es) (kept (escape_of e.value)) (literals e.after)) ∙ ap (λ z. (escapes_units es ++ kept (escape_of z)) ++ literals e.after) value
+
+    bytes_are : escapes_bytes new ≡ escapes_bytes es + bytes e.after
+    bytes_are = omega (arith, ap escapes_bytes is, escapes_bytes-append es (e ∷ []))
 
     few : bytes d.rest + 1 ≤ bytes f.rest
     few = omega (arith, fewer_bytes i.moves, fewer_bytes m, s)
 
-    all_inside : is_one_line ((i.more ++ kept u) ++ literals p) ≡ true
-    all_inside = joins (i.more ++ kept u) (literals p) escape_inside (literals_inside p)
+    all_inside : is_one_line (escapes_units new) ≡ true
+    all_inside = ap is_one_line units_are ∙ joins (escapes_units es ++ kept (escape_of o)) (literals e.after) escape_inside (literals_inside e.after)
 
     part_moves : Moves f d
     part_moves = moves_then i.moves (moves_then m n)
 
-    part_costs : Costs 3 0 f d
+    part_costs : Costs 2 0 f d
     part_costs = record { most = omega (arith, escape_costs.most, l.most); least = omega (arith, escape_costs.least, l.least) }
 
+    part_leaves : CostsWith (2 * escapes_bytes new) f d
+    part_leaves = record { most = omega (arith, i.leaves.most, k.most, few_read, l.most, s, bytes_are); least = part_costs.least }
+
     -- up to the next escape
-    pub escaped_turn : Goes Content b.rest (literals p) (92 ∷ d.rest) → InEscaped f d old new
-    escaped_turn g = record { more = (i.more ++ kept u) ++ literals p; is = units_are; inside = all_inside; goes = goes_then escape_goes g; moves = part_moves; costs = part_costs }
+    pub escaped_turn : Goes Content b.rest (literals e.after) (92 ∷ d.rest) → InEscaped f d new
+    escaped_turn g = record {
+      inside = all_inside;
+      goes = subst (λ z. Goes Content (92 ∷ f.rest) z (92 ∷ d.rest)) (sym units_are) (goes_then escape_goes g);
+      moves = part_moves;
+      costs = part_costs;
+      leaves = part_leaves;
+    }
 
     -- up to a newline
-    pub escaped_ends : ReadsLine Content false b.rest (literals p) d.rest
-        → ((us : List LineUnit) × (new ≡ old ++ us) × ReadsLine Content false (92 ∷ f.rest) us d.rest × (bytes d.rest + 1 ≤ bytes f.rest)) × Moves f d × Costs 3 0 f d
-    escaped_ends (one, g) = (
-      ((i.more ++ kept u) ++ literals p, units_are, (all_inside, subst (λ z. Goes Content (92 ∷ f.rest) z d.rest) (sym (append_assoc (i.more ++ kept u) (literals p) (LineEnd ∷ []))) (goes_then escape_goes g)), few),
-      part_moves,
-      part_costs,
-    )
+    pub escaped_ends : ReadsLine Content false b.rest (literals e.after) d.rest → EscapesRead f d new false
+    escaped_ends (one, g) = record {
+      line = (all_inside, subst (λ z. Goes Content (92 ∷ f.rest) z d.rest) (sym (ap (λ z. z ++ (LineEnd ∷ [])) units_are ∙ append_assoc (escapes_units es ++ kept (escape_of o)) (literals e.after) (LineEnd ∷ []))) (goes_then escape_goes g));
+      shorter = few;
+      moves = part_moves;
+      costs = part_costs;
+      leaves = part_leaves;
+    }
 
     -- up to three quotes
-    pub escaped_closes : ReadsLine Content true b.rest (literals p) d.rest
-        → ((us : List LineUnit) × (new ≡ old ++ us) × ReadsLine Content true (92 ∷ f.rest) us d.rest × (bytes d.rest + 1 ≤ bytes f.rest)) × Moves f d × Costs 3 0 f d
-    escaped_closes (one, x) = (
-      ((i.more ++ kept u) ++ literals p, units_are, (all_inside, escape_goes.on d.rest (literals p) x), few),
-      part_moves,
-      part_costs,
-    )
+    pub escaped_closes : ReadsLine Content true b.rest (literals e.after) d.rest → EscapesRead f d new true
+    escaped_closes (one, x) = record {
+      line = (all_inside, subst (Content (92 ∷ f.rest) d.rest) (sym units_are) (escape_goes.on d.rest (literals e.after) x));
+      shorter = few;
+      moves = part_moves;
+      costs = part_costs;
+      leaves = part_leaves;
+    }
 
   -- where what follows was not read, or the memory ended
-  pub part_fails : (d : Here) → Moves b d → Costs 3 1 b d → Moves f d × Costs 3 1 f d
+  pub part_fails : (d : Here) → Moves b d → Costs 2 1 b d → Moves f d × Costs 2 1 f d
   part_fails d n l = (moves_then i.moves (moves_then m n), record { most = omega (arith, escape_costs.most, l.most); least = omega (arith, escape_costs.least, l.least) })
 
   pub part_there : (r : Text) (us : List LineUnit) → Content (92 ∷ f.rest) r us → (v : List LineUnit) × Content b.rest r v
   part_there r us x = let (v, e, rest) = escape_goes.back r us x in (v, rest)
 
--- where an escape was not read, or the memory ended
-pub escape_fails : (f a b : Here) (old out : List LineUnit) → InEscaped f a old out → Moves a b → Costs 1 1 a b → Moves f b × Costs 3 1 f b
-escape_fails f a b old out i m k = let x = fewer_bytes m in (moves_then i.moves m, record { most = omega (arith, i.costs.most, k.most); least = omega (arith, i.costs.least, k.least) })
+-- where an escape was not read
+pub escape_fails : (f a b : Here) (es : List Escaped) → InEscaped f a es → Moves a b → Costs 1 1 a b → Moves f b × Costs 2 1 f b
+escape_fails f a b es i m k = let x = fewer_bytes m in (moves_then i.moves m, record { most = omega (arith, i.costs.most, k.most); least = omega (arith, i.costs.least, k.least) })
 
-pub escape_there : (f a : Here) (old out : List LineUnit) → InEscaped f a old out → (r : Text) (us : List LineUnit) → Content (92 ∷ f.rest) r us → (m : Text) × (u : StringUnit) × IsUnit (92 ∷ a.rest) m u
-escape_there f a old out i r us x =
+pub escape_there : (f a : Here) (es : List Escaped) → InEscaped f a es → (r : Text) (us : List LineUnit) → Content (92 ∷ f.rest) r us → (m : Text) × (u : StringUnit) × IsUnit (92 ∷ a.rest) m u
+escape_there f a es i r us x =
     let (v, e, rest) = i.goes.back r us x in
     let (m, ws, there) = content_unit (λ h. omega arith) rest in
     let (u, unit_there) = slash_unit there in
     (m, u, unit_there)
 
--- characters that were read, and once more as units
-pub record LiteralsRead (p : Text) (b e : Here) : Type 0 where
-  pub moves : Moves b e
-  pub costs : Costs 3 0 b e
-  pub shorter : bytes p + 1 + bytes e.rest ≤ bytes b.rest
-
-pub literals_read : (p : Text) (b d e : Here) → Moves b d → Costs 2 0 b d → bytes p + 1 + bytes d.rest ≤ bytes b.rest → Returned (bytes p + 1) d e → LiteralsRead p b e
-literals_read p b d e m k s r = record {
-  moves = moves_then m (moves_returned r);
-  costs = record { most = omega (arith, k.most, s, r.most, ap bytes r.rest); least = omega (arith, k.least, r.counts, ap length r.rest) };
-  shorter = omega (arith, s, ap bytes r.rest);
-}
-
-pub plain_fails : {b d : Here} → Moves b d → Costs 2 1 b d → Costs 3 1 b d
-plain_fails m k = record { most = omega (arith, fewer_bytes m, k.most); least = k.least }
-
-pub plain_at : (stop : Stop) (s p t u : Text) → u ≡ t → ReadsPlain Content stop s p t → ReadsPlain Content stop s p u
-plain_at stop s p t u e x = subst (ReadsPlain Content stop s p) (sym e) x
-
 -- a line with an escape, after what comes before that
-pub line_escaped : (f b d p : Text) (none old : List LineUnit) {new : List LineUnit} (closed : Bool) → Goes Content f (literals p) (92 ∷ b) → none ≡ [] → old ≡ none ++ literals p
-    → (us : List LineUnit) × (new ≡ old ++ us) × ReadsLine Content closed (92 ∷ b) us d × (bytes d + 1 ≤ bytes b) → ReadsLine Content closed f new d
-line_escaped f b d p none old {new = new} closed g n e (us, is, line, few) =
-    let whole : new ≡ literals p ++ us = is ∙ ap (λ z. z ++ us) (e ∙ ap (λ z. z ++ literals p) n) in
-    rw whole (reads closed us line)
-  where
-    reads : (closed : Bool) (us : List LineUnit) → ReadsLine Content closed (92 ∷ b) us d → ReadsLine Content closed f (literals p ++ us) d
-    reads true us (one, x) = (joins (literals p) us (literals_inside p) one, g.on d us x)
-    reads false us (one, x) = (joins (literals p) us (literals_inside p) one, subst (λ z. Goes Content f z d) (sym (append_assoc (literals p) us (LineEnd ∷ []))) (goes_then g x))
+pub line_escaped : (f b d p : Text) (us : List LineUnit) (closed : Bool) → Goes Content f (literals p) (92 ∷ b) → ReadsLine Content closed (92 ∷ b) us d → ReadsLine Content closed f (literals p ++ us) d
+line_escaped f b d p us true g (one, x) = (joins (literals p) us (literals_inside p) one, g.on d us x)
+line_escaped f b d p us false g (one, x) = (joins (literals p) us (literals_inside p) one, subst (λ z. Goes Content f z d) (sym (append_assoc (literals p) us (LineEnd ∷ []))) (goes_then g x))
 
 -- what such a line costs
-pub escaped_costs : (p : Text) (f e d : Here) → LiteralsRead p f e → Costs 3 0 e d → bytes d.rest + 1 ≤ bytes e.rest → CostsWith 2 f d
-escaped_costs p f e d l k few = record { most = omega (arith, l.costs.most, l.shorter, k.most, few); least = omega (arith, l.costs.least, k.least) }
+pub escaped_leaves : (p : Text) (n : ℕ) (f b d : Here) → Costs 2 0 f b → bytes p + 1 + bytes b.rest ≤ bytes f.rest → CostsWith (2 * n) b d → CostsWith (2 * (bytes p + n + 1)) f d
+escaped_leaves p n f b d k s l = record { most = omega (arith, k.most, s, l.most); least = omega (arith, k.least, l.least) }
 
-pub escaped_cut : (p : Text) (f e d : Here) → LiteralsRead p f e → Costs 3 1 e d → Costs 3 1 f d
-escaped_cut p f e d l k = record { most = omega (arith, l.costs.most, k.most); least = omega (arith, l.costs.least, k.least) }
+pub escaped_costs : (f b d : Here) → Costs 2 0 f b → Costs 2 1 b d → Costs 2 1 f d
+escaped_costs f b d k l = record { most = omega (arith, k.most, l.most); least = omega (arith, k.least, l.least) }

@@ -30,9 +30,6 @@ lines_stop n f a b i k = record { most = omega (arith, i.most, k.most); least = 
 pub two_in_four : {a b : Here} → Moves a b → Costs 2 1 a b → Costs 4 1 a b
 two_in_four m k = record { most = omega (arith, fewer_bytes m, k.most); least = k.least }
 
-pub three_in_four : {a b : Here} → Moves a b → Costs 3 1 a b → Costs 4 1 a b
-three_in_four m k = record { most = omega (arith, fewer_bytes m, k.most); least = k.least }
-
 -- a line without escapes, of the piece p
 pub plain_costs : (p : Text) (a b : Here) → Costs 2 0 a b → bytes p + 1 + bytes b.rest ≤ bytes a.rest → CostsWith (2 * (bytes p + 1)) a b
 plain_costs p a b k s = record { most = omega (arith, k.most, s); least = k.least }

@@ -70,11 +70,6 @@ pub record Stayed (k : ℕ) (old new : Here) : Type 0 where
   pub at : new.at ≡ old.at
   pub steps : new.steps ≡ raise old.steps k
 
--- at most k steps were counted, and the count did not fall
-pub record Counted (k : ℕ) (old new : Here) : Type 0 where
-  pub most : new.steps ≤ old.steps + k
-  pub counts : raise old.steps 0 ≤ raise new.steps 0
-
 -- the cursor is back where it was, and at most k steps were counted
 pub record Returned (k : ℕ) (old new : Here) : Type 0 where
   pub rest : new.rest ≡ old.rest

@@ -7,38 +7,60 @@ use Rattle.kdl_text.specs.Spans.{bytes, raise}
 use Rattle.kdl_text.specs.Internal.Here.{Here}
 use Rattle.kdl_text.specs.Raw.{literals}
 use Rattle.kdl_text.specs.Internal.Reading.{Goes}
+use Rattle.kdl_text.specs.MultiLine.{kept}
+use Rattle.kdl_text.specs.Strings.{escape_of}
+use Rattle.kdl_text.specs.declared.strings.dedent.Escaped.{Escaped}
 use Rattle.kdl_text.specs.declared.strings.dedent.Line.{Line}
-use Rattle.kdl_text.specs.declared.strings.dedent.Line.TheVariants.{Plain, Units}
+use Rattle.kdl_text.specs.declared.strings.dedent.Line.TheVariants.{Plain, WithEscapes}
 use Rattle.kdl_text.specs.declared.strings.dedent.LineUnit.{LineUnit}
 use Rattle.kdl_text.specs.declared.strings.dedent.LineUnit.TheVariants.{LineEnd}
 use Rattle.kdl_text.specs.declared.strings.multiline.Stop.{Stop}
 use Rattle.kdl_text.specs.declared.strings.multiline.Stop.TheVariants.{Newline as at_newline, Close, Escape}
 
+-- the units of an escape and of the characters after it
+abbrev pub escape_units : Escaped → List LineUnit
+escape_units e = kept (escape_of e.value) ++ literals e.after
+
+-- the units of escapes
+abbrev pub escapes_units : List Escaped → List LineUnit
+escapes_units [] = []
+escapes_units (e ∷ es) = escape_units e ++ escapes_units es
+
 -- the units of a line
 abbrev pub line_units : Line → List LineUnit
 line_units (Plain p) = literals p
-line_units (Units us) = us.items
+line_units (WithEscapes p es) = literals p ++ escapes_units es.items
 
--- room for the value of a line and a line feed, if each unit is a byte
+-- the bytes of the characters after escapes
+abbrev pub escapes_bytes : List Escaped → ℕ
+escapes_bytes [] = 0
+escapes_bytes (e ∷ es) = bytes e.after + escapes_bytes es
+
+-- room for the text of escapes, if each is a byte
+abbrev pub escapes_room : List Escaped → ℕ
+escapes_room [] = 0
+escapes_room (e ∷ es) = bytes e.after + 1 + escapes_room es
+
+-- room for the value of a line and a line feed, if each escape is a byte
 abbrev pub line_room : Line → ℕ
 line_room (Plain p) = bytes p + 1
-line_room (Units us) = length us.items + 1
+line_room (WithEscapes p es) = bytes p + escapes_room es.items + 1
 
 -- room for the values of lines
 abbrev pub lines_room : List Line → ℕ
 lines_room [] = 0
 lines_room (line ∷ lines) = line_room line + lines_room lines
 
--- how many bytes of a line are read again when it is dedented
-abbrev pub bytes_again : Line → ℕ
-bytes_again (Plain p) = bytes p
-bytes_again (Units us) = 0
+-- the bytes of the characters of a line that are not escaped
+abbrev pub line_bytes : Line → ℕ
+line_bytes (Plain p) = bytes p
+line_bytes (WithEscapes p es) = bytes p + escapes_bytes es.items
 
--- how many steps that takes at most
+-- how many steps the dedent of a line takes at most
 abbrev pub line_steps : Line → ℕ
-line_steps line = 2 * (bytes_again line + 1)
+line_steps line = 2 * (line_bytes line + 1)
 
--- how many steps lines take at most
+-- how many steps that of lines takes at most
 abbrev pub lines_steps : List Line → ℕ
 lines_steps [] = 0
 lines_steps (line ∷ lines) = line_steps line + lines_steps lines

@@ -1,20 +1,23 @@
 //! Dedent: the value of the lines of a multi-line string.
 
-ghost use Rattle.kdl_text.specs.Chars.{is_space};
+ghost use Rattle.kdl_text.specs.Chars.{is_space, starts};
 ghost use Rattle.kdl_text.specs.Dedent as spec;
 ghost use Rattle.kdl_text.specs.Dedent.{Dedents, LineValue, LineValues, joined, lines_of};
-ghost use Rattle.kdl_text.specs.Internal.Here.{Counted, Returned};
-ghost use Rattle.kdl_text.specs.Internal.Lines.{EatsUnits, bytes_again, line_room, line_steps, line_units, lines_room, lines_steps};
+ghost use Rattle.kdl_text.specs.Internal.Here.{Returned};
+ghost use Rattle.kdl_text.specs.Internal.Lines as rooms;
+ghost use Rattle.kdl_text.specs.Internal.Lines.{EatsUnits, escapes_bytes, escapes_units, line_room, line_steps, line_units, lines_room, lines_steps};
+ghost use Rattle.kdl_text.specs.MultiLine.{kept};
 ghost use Rattle.kdl_text.specs.Raw.{literals};
 ghost use Rattle.kdl_text.specs.Spans.{bytes};
+ghost use Rattle.kdl_text.specs.Strings.{escape_of};
 ghost use Rattle.kdl_text.specs.declared.strings.StringFailure.TheVariants.{Memory};
 ghost use Rattle.kdl_text.specs.declared.strings.dedent.LineUnit.{LineUnit};
-ghost use Rattle.std.specs.Prelude.{◌≡◌, ◌++◌, ◌∷◌, [], ◌+◌, ◌*◌, ◌≤◌, ◌↔◌, List, ℕ, false, true, length, map, take, string_bytes, option_to_list, IsTrue, IfOk, IfErr, OnOk, MatchResult};
+ghost use Rattle.std.specs.Prelude.{◌≡◌, ◌++◌, ◌∷◌, [], ◌+◌, ◌*◌, ◌≤◌, ◌↔◌, List, ℕ, false, true, not, length, map, take, string_bytes, option_to_list, is_none, IsTrue, IfOk, IfErr, OnOk, MatchResult};
 ghost use Rattle.std.specs.List.{list_all};
 ghost use Rattle.std.specs.Str.{chars};
 
-use crate::chars::{Class, is_space};
-use crate::cursor::{Characters, Cursor, Segment};
+use crate::chars::is_space;
+use crate::cursor::{Characters, Cursor, Piece, Segment};
 use crate::strings::{StringFailure, StringFault};
 use std::alloc::{AllocError, Global};
 
@@ -29,20 +32,26 @@ pub enum LineUnit {
     LineEnd,
 }
 
+/// An escape in a line, and the literal characters between it and the next one.
+#[derive(Drop)]
+pub struct Escaped<'a> {
+    /// The character of the escape, or `None` for spaces and newlines.
+    pub value: Option<char>,
+    /// The characters after it.
+    pub after: Segment<'a>,
+}
+
 /// A line of a multi-line string, without its newline.
 #[derive(Drop)]
 pub enum Line<'a> {
     /// A line without escapes.
     Plain(Segment<'a>),
-    /// The units of a line with escapes.
-    Units(Vec<LineUnit>),
+    /// The literal characters before the first escape, and the escapes.
+    WithEscapes(Segment<'a>, Vec<Escaped<'a>>),
 }
 
 /// How many lines to reserve for a string at first.
-const LINES: usize = 8;
-
-/// How many units to reserve for a line at first.
-const UNITS: usize = 64;
+const LINES: usize = 16;
 
 /// Appends a line.
 pub fn add_line<'a>(lines: &mut Vec<Line<'a>>, line: Line<'a>) -> Result<(), AllocError>
@@ -55,8 +64,16 @@ pub fn add_line<'a>(lines: &mut Vec<Line<'a>>, line: Line<'a>) -> Result<(), All
     Ok(())
 }
 
+/// Appends an escape.
+pub fn add_escape<'a>(escapes: &mut Vec<Escaped<'a>>, escape: Escaped<'a>) -> Result<(), AllocError>
+    ensures { IfOk result (λ _. escapes.new.items ≡ escapes.old.items ++ escape.entry ∷ []) }
+{
+    escapes.push(escape)?;
+    Ok(())
+}
+
 /// Appends a unit.
-pub fn push_unit(units: &mut Vec<LineUnit>, unit: LineUnit) -> Result<(), AllocError>
+fn push_unit(units: &mut Vec<LineUnit>, unit: LineUnit) -> Result<(), AllocError>
     ensures { IfOk result (λ _. units.new.items ≡ units.old.items ++ unit ∷ []) }
 {
     units.push(unit)?;
@@ -67,9 +84,6 @@ pub fn push_unit(units: &mut Vec<LineUnit>, unit: LineUnit) -> Result<(), AllocE
 fn push_chars(units: &mut Vec<LineUnit>, mut characters: Characters) -> Result<(), AllocError>
     ensures { IfOk result (λ _. units.new.items ≡ units.old.items ++ literals characters.entry) }
 {
-    if units.capacity() < UNITS {
-        units.reserve(UNITS)?;
-    }
     units.reserve(characters.byte_len())?;
     'chars: while let Some(c) = characters.next() {
         push_unit(units, LineUnit::Literal(c))?;
@@ -78,16 +92,63 @@ fn push_chars(units: &mut Vec<LineUnit>, mut characters: Characters) -> Result<(
 }
 
 /// Appends a literal unit for each character of the segment.
-pub fn push_literals<'a>(
+fn push_literals<'a>(
     units: &mut Vec<LineUnit>,
     segment: &Segment<'a>,
     cursor: &mut Cursor<'a>,
 ) -> Result<(), AllocError>
     ensures pushed { IfOk result
         (λ _. units.new.items ≡ units.old.items ++ literals segment.now) }
-    ensures returned { Returned (bytes segment.now + 1) cursor.old cursor.new }
+    ensures returned { Returned (bytes segment.now) cursor.old cursor.new }
 {
     push_chars(units, cursor.characters(segment))
+}
+
+/// Appends the unit of an escape, if it has a character.
+fn push_kept(units: &mut Vec<LineUnit>, value: Option<char>) -> Result<(), AllocError>
+    ensures { IfOk result (λ _. units.new.items ≡ units.old.items ++ kept (escape_of value)) }
+{
+    match value {
+        Some(c) => push_unit(units, LineUnit::Escape(c)),
+        None => Ok(()),
+    }
+}
+
+/// Appends the units of escapes.
+fn push_escapes<'a>(
+    units: &mut Vec<LineUnit>,
+    escapes: &[Escaped<'a>],
+    cursor: &mut Cursor<'a>,
+) -> Result<(), AllocError>
+    ensures pushed { IfOk result
+        (λ _. units.new.items ≡ units.old.items ++ escapes_units escapes.now) }
+    ensures returned { Returned (escapes_bytes escapes.now) cursor.old cursor.new }
+{
+    for escape in escapes {
+        push_kept(units, escape.value)?;
+        push_literals(units, &escape.after, cursor)?;
+    }
+    Ok(())
+}
+
+/// The units of a line with escapes.
+fn units_of<'a>(
+    alloc: Global,
+    segment: &Segment<'a>,
+    escapes: &[Escaped<'a>],
+    cursor: &mut Cursor<'a>,
+) -> Result<Vec<LineUnit>, AllocError>
+    ensures units { IfOk result
+        (λ us. us.items ≡ literals segment.now ++ escapes_units escapes.now) }
+    ensures returned { Returned
+        (bytes segment.now + escapes_bytes escapes.now)
+        cursor.old
+        cursor.new }
+{
+    let mut units = Vec::new(alloc);
+    push_literals(&mut units, segment, cursor)?;
+    push_escapes(&mut units, escapes, cursor)?;
+    Ok(units)
 }
 
 fn is_space_unit(unit: LineUnit) -> bool
@@ -99,24 +160,24 @@ fn is_space_unit(unit: LineUnit) -> bool
     }
 }
 
-/// Advances past spaces. Returns whether the text ends after them.
-fn is_all_space(cursor: &mut Cursor) -> bool
-    ensures result { result ≡ list_all is_space cursor.old.rest }
-    ensures counted { Counted (bytes cursor.old.rest + 2) cursor.old cursor.new }
+/// Whether all characters are spaces.
+fn is_all_space(mut characters: Characters) -> bool
+    ensures { result ≡ list_all is_space characters.entry }
 {
-    cursor.skip(Class::Space);
-    cursor.look().is_none()
+    'chars: while let Some(c) = characters.next() {
+        if !is_space(c) {
+            return false;
+        }
+    }
+    true
 }
 
 /// Whether the segment is only spaces.
 fn is_space_segment<'a>(segment: &Segment<'a>, cursor: &mut Cursor<'a>) -> bool
-    ensures result { result ≡ list_all is_space segment.now }
-    ensures returned { Returned (bytes segment.now + 2) cursor.old cursor.new }
+    ensures result { result ≡ spec.is_blank_line (literals segment.now) }
+    ensures returned { Returned (bytes segment.now) cursor.old cursor.new }
 {
-    let place = cursor.enter(segment);
-    let is_all = is_all_space(cursor);
-    cursor.go_to(&place);
-    is_all
+    is_all_space(cursor.characters(segment))
 }
 
 /// Whether the units are only spaces.
@@ -126,32 +187,67 @@ fn is_space_units(units: &[LineUnit]) -> bool
     units.iter().all(|unit| is_space_unit(*unit))
 }
 
-/// Whether the line is only spaces.
-fn is_blank<'a>(line: &Line<'a>, cursor: &mut Cursor<'a>) -> bool
-    ensures result { result ≡ spec.is_blank_line (line_units line.now) }
-    ensures returned { Returned (bytes_again line.now + 2) cursor.old cursor.new }
+/// The units of the last line, if it has no escapes.
+fn plain_prefix<'a>(
+    alloc: Global,
+    segment: &Segment<'a>,
+    cursor: &mut Cursor<'a>,
+) -> Result<Vec<LineUnit>, StringFailure>
+    ensures units { IfOk result (λ us. us.items ≡ literals segment.now) }
+    ensures blank { IfOk result (λ _. spec.is_blank_line (literals segment.now) ≡ true) }
+    ensures failed { IfErr result
+        (λ e. (e ≡ Memory → ⊥) → spec.is_blank_line (literals segment.now) ≡ false) }
+    ensures returned { Returned (2 * bytes segment.now) cursor.old cursor.new }
 {
-    match line {
-        Line::Plain(segment) => is_space_segment(segment, cursor),
-        Line::Units(units) => is_space_units(units),
+    if !is_space_segment(segment, cursor) {
+        return Err(StringFailure::Fault(StringFault::BadLastLine));
     }
+    let mut units = Vec::new(alloc);
+    push_literals(&mut units, segment, cursor)?;
+    Ok(units)
 }
 
-/// The units of the line.
-fn units_of<'a>(
+/// The units of the last line, if it has escapes.
+fn escaped_prefix<'a>(
+    alloc: Global,
+    segment: &Segment<'a>,
+    escapes: &[Escaped<'a>],
+    cursor: &mut Cursor<'a>,
+) -> Result<Vec<LineUnit>, StringFailure>
+    ensures units { IfOk result
+        (λ us. us.items ≡ literals segment.now ++ escapes_units escapes.now) }
+    ensures blank { IfOk result
+        (λ us. spec.is_blank_line (literals segment.now ++ escapes_units escapes.now) ≡ true) }
+    ensures failed { IfErr result (λ e. (e ≡ Memory → ⊥)
+        → spec.is_blank_line (literals segment.now ++ escapes_units escapes.now) ≡ false) }
+    ensures returned { Returned
+        (bytes segment.now + escapes_bytes escapes.now)
+        cursor.old
+        cursor.new }
+{
+    let units = units_of(alloc, segment, escapes, cursor)?;
+    if !is_space_units(&units) {
+        return Err(StringFailure::Fault(StringFault::BadLastLine));
+    }
+    Ok(units)
+}
+
+/// The units of the last line. Fails if they are not only spaces.
+fn prefix_of<'a>(
     alloc: Global,
     line: &Line<'a>,
     cursor: &mut Cursor<'a>,
-) -> Result<Vec<LineUnit>, AllocError>
+) -> Result<Vec<LineUnit>, StringFailure>
     ensures units { IfOk result (λ us. us.items ≡ line_units line.now) }
-    ensures returned { Returned (bytes_again line.now + 1) cursor.old cursor.new }
+    ensures blank { IfOk result (λ _. spec.is_blank_line (line_units line.now) ≡ true) }
+    ensures failed { IfErr result
+        (λ e. (e ≡ Memory → ⊥) → spec.is_blank_line (line_units line.now) ≡ false) }
+    ensures returned { Returned (line_steps line.now) cursor.old cursor.new }
 {
-    let mut units = Vec::new(alloc);
     match line {
-        Line::Plain(segment) => push_literals(&mut units, segment, cursor)?,
-        Line::Units(others) => units.extend_from_slice(others)?,
+        Line::Plain(segment) => plain_prefix(alloc, segment, cursor),
+        Line::WithEscapes(segment, escapes) => escaped_prefix(alloc, segment, escapes, cursor),
     }
-    Ok(units)
 }
 
 /// Whether the line begins with the prefix.
@@ -231,6 +327,16 @@ fn eat_prefix(prefix: &[LineUnit], characters: &mut Characters) -> bool
     true
 }
 
+/// Whether the piece begins with a character that is not a space.
+fn begins_word(piece: &Piece) -> bool
+    ensures { result ≡ starts (λ c. not (is_space c)) piece.now }
+{
+    match piece.characters().next() {
+        Some(c) => !is_space(c),
+        None => false,
+    }
+}
+
 /// Appends the value of a line without escapes.
 fn push_plain<'a>(
     out: &mut String,
@@ -252,19 +358,102 @@ fn push_plain<'a>(
         }
         return Err(StringFailure::Fault(StringFault::NoPrefix));
     }
-    let Some(first) = characters.next() else {
-        return Ok(());
-    };
-    if is_space(first) && is_space_segment(segment, cursor) {
+    let rest = characters.into_piece();
+    cursor.count_looks(1);
+    if !begins_word(&rest) && is_space_segment(segment, cursor) {
         return Ok(());
     }
-    out.push(first)?;
-    characters.into_piece().push_to(out)?;
+    rest.push_to(out)?;
     Ok(())
+}
+
+/// Whether the escape is that of spaces and newlines.
+fn is_gap(escape: &Escaped) -> bool
+    ensures { result ≡ is_none escape.now.value }
+{
+    escape.value.is_none()
+}
+
+/// Whether all escapes are those of spaces and newlines.
+fn are_gaps(escapes: &[Escaped]) -> bool
+    ensures { result ≡ list_all (λ e. is_none e.value) escapes.now }
+{
+    escapes.iter().all(|escape| is_gap(escape))
+}
+
+/// Whether the first character of the piece or one of the escapes shows that a line that ends in
+/// them is not only spaces.
+fn shows_text(piece: &Piece, escapes: &[Escaped]) -> bool
+    ensures { result ≡ true
+        → spec.is_blank_line (literals piece.now ++ escapes_units escapes.now) ≡ false }
+{
+    begins_word(piece) || !are_gaps(escapes)
+}
+
+/// Appends the text of an escape, if it has one.
+fn push_value(out: &mut String, value: Option<char>) -> Result<(), AllocError>
+    ensures { OnOk result (chars (string_bytes out.new)
+        ≡ chars (string_bytes out.old) ++ spec.line_text (kept (escape_of value))) }
+{
+    if let Some(c) = value {
+        out.push(c)?;
+    }
+    Ok(())
+}
+
+/// Appends the text of escapes.
+fn push_values<'a>(
+    out: &mut String,
+    escapes: &[Escaped<'a>],
+    cursor: &mut Cursor<'a>,
+) -> Result<(), AllocError>
+    ensures pushed { OnOk result (chars (string_bytes out.new)
+        ≡ chars (string_bytes out.old) ++ spec.line_text (escapes_units escapes.now)) }
+    ensures returned { Returned (escapes_bytes escapes.now) cursor.old cursor.new }
+{
+    for escape in escapes {
+        push_value(out, escape.value)?;
+        cursor.characters(&escape.after).into_piece().push_to(out)?;
+    }
+    Ok(())
+}
+
+/// Appends the value of a line with escapes.
+fn push_escaped<'a>(
+    alloc: Global,
+    out: &mut String,
+    prefix: &[LineUnit],
+    segment: &Segment<'a>,
+    escapes: &[Escaped<'a>],
+    cursor: &mut Cursor<'a>,
+) -> Result<(), StringFailure>
+    ensures done { OnOk result ((v : List ℕ)
+        × LineValue prefix.now (literals segment.now ++ escapes_units escapes.now) v
+        × (chars (string_bytes out.new) ≡ chars (string_bytes out.old) ++ v)) }
+    ensures failed { IfErr result (λ e. (e ≡ Memory → ⊥) → (v : List ℕ)
+        → LineValue prefix.now (literals segment.now ++ escapes_units escapes.now) v → ⊥) }
+    ensures returned { Returned
+        (2 * (bytes segment.now + escapes_bytes escapes.now + 1))
+        cursor.old
+        cursor.new }
+{
+    let mut characters = cursor.characters(segment);
+    cursor.count_looks(1);
+    if eat_prefix(prefix, &mut characters) {
+        let rest = characters.into_piece();
+        if shows_text(&rest, escapes) {
+            rest.push_to(out)?;
+            push_values(out, escapes, cursor)?;
+            return Ok(());
+        }
+    }
+    let units = units_of(alloc, segment, escapes, cursor)?;
+    push_units(out, prefix, &units)
 }
 
 /// Appends the value of a line.
 fn push_line<'a>(
+    alloc: Global,
     out: &mut String,
     prefix: &[LineUnit],
     line: &Line<'a>,
@@ -279,12 +468,15 @@ fn push_line<'a>(
 {
     match line {
         Line::Plain(segment) => push_plain(out, prefix, segment, cursor),
-        Line::Units(units) => push_units(out, prefix, units),
+        Line::WithEscapes(segment, escapes) => {
+            push_escaped(alloc, out, prefix, segment, escapes, cursor)
+        }
     }
 }
 
 /// Appends the values of the lines, joined by line feeds.
 fn push_lines<'a>(
+    alloc: Global,
     out: &mut String,
     prefix: &[LineUnit],
     lines: &[Line<'a>],
@@ -301,13 +493,13 @@ fn push_lines<'a>(
     let Some((first, others)) = lines.split_first() else {
         return Ok(());
     };
-    match push_line(out, prefix, first, cursor) {
+    match push_line(alloc, out, prefix, first, cursor) {
         Ok(()) => {}
         Err(e) => return Err(e),
     }
     for line in others {
         out.push('\n')?;
-        match push_line(out, prefix, line, cursor) {
+        match push_line(alloc, out, prefix, line, cursor) {
             Ok(()) => {}
             Err(e) => return Err(e),
         }
@@ -315,14 +507,29 @@ fn push_lines<'a>(
     Ok(())
 }
 
+/// The number of bytes of the escapes' text, if each escape is one byte.
+fn escapes_room(escapes: &[Escaped]) -> usize
+    ensures { result ≤ rooms.escapes_room escapes.now }
+{
+    let mut room: usize = 0;
+    for escape in escapes {
+        room = room
+            .saturating_add(escape.after.byte_len())
+            .saturating_add(1);
+    }
+    room
+}
+
 /// The number of bytes of the line's value after a prefix of `prefix` units, and of a line feed, if
-/// each unit is one byte.
+/// each escape is one byte.
 fn room_of(line: &Line, prefix: usize) -> usize
     ensures { result ≤ line_room line.now }
 {
     let len = match line {
         Line::Plain(segment) => segment.byte_len(),
-        Line::Units(units) => units.len(),
+        Line::WithEscapes(segment, escapes) => {
+            segment.byte_len().saturating_add(escapes_room(escapes))
+        }
     };
     len.saturating_sub(prefix).saturating_add(1)
 }
@@ -356,12 +563,12 @@ pub fn dedent<'a>(
     let Some((last, front)) = lines.split_last() else {
         return Ok(String::new(alloc));
     };
-    if !is_blank(last, cursor) {
-        return Err(StringFailure::Fault(StringFault::BadLastLine));
-    }
-    let prefix = units_of(alloc, last, cursor)?;
+    let prefix = match prefix_of(alloc, last, cursor) {
+        Ok(prefix) => prefix,
+        Err(e) => return Err(e),
+    };
     let mut out = String::with_capacity(alloc, room_for(front, prefix.len()))?;
-    match push_lines(&mut out, &prefix, front, cursor) {
+    match push_lines(alloc, &mut out, &prefix, front, cursor) {
         Ok(()) => Ok(out),
         Err(e) => Err(e),
     }

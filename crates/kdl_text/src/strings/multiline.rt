@@ -3,18 +3,17 @@
 ghost use Rattle.kdl_text.specs.Chars.{Newline, Text, is_newline_char};
 ghost use Rattle.kdl_text.specs.Dedent.{lines_of};
 ghost use Rattle.kdl_text.specs.Spans.{bytes};
-ghost use Rattle.kdl_text.specs.Internal.Lines.{CostsWith, ReadsLine, ReadsPlain, line_steps, line_units, lines_steps};
-ghost use Rattle.kdl_text.specs.MultiLine.{Content, MultiLineBody, kept};
+ghost use Rattle.kdl_text.specs.Internal.Lines.{CostsWith, ReadsLine, ReadsPlain, escapes_bytes, escapes_units, line_steps, line_units, lines_steps};
+ghost use Rattle.kdl_text.specs.MultiLine.{Content, MultiLineBody};
 ghost use Rattle.kdl_text.specs.Internal.Reading.{Moves, Costs};
-ghost use Rattle.kdl_text.specs.Strings.{IsUnit, StringUnit};
 ghost use Rattle.kdl_text.specs.declared.strings.StringFailure.TheVariants.{Memory};
 ghost use Rattle.kdl_text.specs.declared.strings.dedent.LineUnit.{LineUnit};
-ghost use Rattle.std.specs.Prelude.{◌≡◌, ◌≤◌, ◌+◌, ◌∷◌, ◌++◌, List, ℕ, true, map, string_bytes, IfOk, IfErr, MatchResult};
+ghost use Rattle.std.specs.Prelude.{◌≡◌, ◌≤◌, ◌+◌, ◌*◌, ◌∷◌, List, ℕ, true, map, string_bytes, IfOk, IfErr, MatchResult};
 ghost use Rattle.std.specs.Str.{chars};
 
 use crate::chars::{Class, is_literal, is_newline_char};
 use crate::cursor::{Cursor, Segment, newline};
-use crate::strings::dedent::{Line, LineUnit, add_line, dedent, push_literals, push_unit};
+use crate::strings::dedent::{Escaped, Line, add_escape, add_line, dedent};
 use crate::strings::{StringFailure, StringFault, escaped_unit};
 use std::alloc::Global;
 
@@ -75,51 +74,31 @@ fn plain_part<'a>(cursor: &mut Cursor<'a>) -> Result<(Segment<'a>, Stop), String
     }
 }
 
-/// After the backslash of an escape: appends its character, or nothing for spaces and newlines.
-fn push_escape(cursor: &mut Cursor, units: &mut Vec<LineUnit>) -> Result<(), StringFailure>
-    ensures found { IfOk result
-        (λ _. (u : StringUnit) × IsUnit (92 ∷ cursor.old.rest) cursor.new.rest u
-        × (units.new.items ≡ units.old.items ++ kept u)) }
-    ensures only { (r : Text) (u : StringUnit) → IsUnit (92 ∷ cursor.old.rest) r u
-        → IfErr result (λ e. e ≡ Memory) }
-    ensures moves { Moves cursor.old cursor.new }
-    ensures costs { Costs 1 1 cursor.old cursor.new }
-{
-    match escaped_unit(cursor)? {
-        Some(c) => {
-            push_unit(units, LineUnit::Escape(c))?;
-            Ok(())
-        }
-        None => Ok(()),
-    }
-}
-
-/// After the backslash of an escape: appends the units of the line from the backslash on. Returns
-/// whether three quotes end the line.
-fn escaped_line<'a>(
+/// After the backslash of an escape: reads the escapes of the line, each with the characters after it.
+/// Returns whether three quotes end the line.
+fn line_escapes<'a>(
+    alloc: Global,
     cursor: &mut Cursor<'a>,
-    units: &mut Vec<LineUnit>,
-) -> Result<bool, StringFailure>
+) -> Result<(Vec<Escaped<'a>>, bool), StringFailure>
     ensures found { IfOk result
-        (λ closed. (us : List LineUnit) × (units.new.items ≡ units.old.items ++ us)
-        × ReadsLine Content closed (92 ∷ cursor.old.rest) us cursor.new.rest
-        × (bytes cursor.new.rest + 1 ≤ bytes cursor.old.rest)) }
+        (λ (es, closed). ReadsLine Content closed (92 ∷ cursor.old.rest)
+        (escapes_units es.items) cursor.new.rest) }
+    ensures shorter { IfOk result (λ _. bytes cursor.new.rest + 1 ≤ bytes cursor.old.rest) }
     ensures only { (r : Text) (us : List LineUnit) → Content (92 ∷ cursor.old.rest) r us
         → IfErr result (λ e. e ≡ Memory) }
     ensures moves { Moves cursor.old cursor.new }
-    ensures costs { Costs 3 1 cursor.old cursor.new }
-    ensures cost { IfOk result (λ _. Costs 3 0 cursor.old cursor.new) }
+    ensures costs { Costs 2 1 cursor.old cursor.new }
+    ensures cost { IfOk result
+        (λ (es, _). CostsWith (2 * escapes_bytes es.items) cursor.old cursor.new) }
 {
+    let mut escapes = Vec::new(alloc);
     'escapes: loop {
-        match push_escape(cursor, units) {
-            Ok(()) => {}
-            Err(e) => return Err(e),
-        }
-        let (segment, stop) = plain_part(cursor)?;
-        push_literals(units, &segment, cursor)?;
+        let value = escaped_unit(cursor)?;
+        let (after, stop) = plain_part(cursor)?;
+        add_escape(&mut escapes, Escaped { value, after })?;
         match stop {
-            Stop::Newline => return Ok(false),
-            Stop::Close => return Ok(true),
+            Stop::Newline => return Ok((escapes, false)),
+            Stop::Close => return Ok((escapes, true)),
             Stop::Escape => {}
         }
     }
@@ -134,7 +113,7 @@ fn read_line<'a>(alloc: Global, cursor: &mut Cursor<'a>) -> Result<(Line<'a>, bo
     ensures only { (r : Text) (us : List LineUnit) → Content cursor.old.rest r us
         → IfErr result (λ e. e ≡ Memory) }
     ensures moves { Moves cursor.old cursor.new }
-    ensures costs { Costs 3 1 cursor.old cursor.new }
+    ensures costs { Costs 2 1 cursor.old cursor.new }
     ensures cost { IfOk result (λ (line, _). CostsWith (line_steps line) cursor.old cursor.new) }
 {
     let (segment, stop) = plain_part(cursor)?;
@@ -142,10 +121,8 @@ fn read_line<'a>(alloc: Global, cursor: &mut Cursor<'a>) -> Result<(Line<'a>, bo
         Stop::Newline => Ok((Line::Plain(segment), false)),
         Stop::Close => Ok((Line::Plain(segment), true)),
         Stop::Escape => {
-            let mut units = Vec::new(alloc);
-            push_literals(&mut units, &segment, cursor)?;
-            let closed = escaped_line(cursor, &mut units)?;
-            Ok((Line::Units(units), closed))
+            let (escapes, closed) = line_escapes(alloc, cursor)?;
+            Ok((Line::WithEscapes(segment, escapes), closed))
         }
     }
 }

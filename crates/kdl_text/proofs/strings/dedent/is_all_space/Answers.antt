@@ -1,9 +1,10 @@
-use Rattle.std.proofs.Common.{ap, arith}
-use Rattle.kdl_text.proofs.Looking.SliceCost.{costs_ran, moves_ran}
+use Rattle.std.proofs.Common.{◌&&◌, sym, ap, ◌∙◌}
+use Rattle.std.specs.List.{list_all}
+use Rattle.kdl_text.specs.Chars.{is_space}
 use Rattle.kdl_text.proofs.strings.dedent.is_all_space.Goals as goal
 
-pub returns-clause-counted : goal.returns-clause-counted
-returns-clause-counted c =
-    let run = costs_ran c.skip.ensures.1 in
-    let look = ap (λ z. z.steps) c.look.ensures.moved in
-    record { most = omega (arith, run.most, look); counts = omega (arith, (moves_ran c.skip.ensures.1).counts, look) }
+pub returns-then-not-is_space : goal.returns-then-not-is_space
+returns-then-not-is_space c = sym (sym c.chars.invariant ∙ ap (list_all is_space) c.in-Some.ensures ∙ ap (λ b. b && list_all is_space c.next.new.self) (sym c.is_space.ensures ∙ c.if-not-is_space.true))
+
+pub chars-preserved : goal.chars-preserved
+chars-preserved c = sym (ap (λ b. b && list_all is_space c.next.new.self) (sym c.is_space.ensures ∙ c.if-not-is_space.false)) ∙ ap (list_all is_space) (sym c.in-Some.ensures) ∙ c.chars.invariant
