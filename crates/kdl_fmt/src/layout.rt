@@ -20,7 +20,7 @@ ghost use Rattle.kdl_value.specs.Tree.{text_of, value_tree};
 ghost use Rattle.kdl_value.specs.WellFormed.{IsWellFormed};
 ghost use Rattle.std.specs.Int.{w128};
 ghost use Rattle.std.specs.List.{list_all, repeat};
-ghost use Rattle.std.specs.Prelude.{◌≡◌, ◌+◌, ◌==◌, ◌++◌, ◌∷◌, [], ℕ, FitsSigned, IfOk, MatchOption, OnOk, Some, is_none, map, option_map, unwrap_or};
+ghost use Rattle.std.specs.Prelude.{◌≡◌, ◌+◌, ◌==◌, ◌||◌, ◌++◌, ◌∷◌, [], ℕ, FitsSigned, IfOk, MatchOption, OnOk, Some, is_none, map, option_map, unwrap_or};
 ghost use Rattle.std.specs.Str.{chars};
 
 use crate::blank::{
@@ -96,11 +96,18 @@ pub fn further(alloc: Global, config: &FormatConfig, before: &str) -> Result<Str
     Ok(out)
 }
 
-/// Whether each character is U+0020.
+/// Returns whether each character of the text is U+0020. In a node, such a text has no items.
 fn is_blank(text: &str) -> bool
     ensures { result ≡ list_all (λ c. c == 32) (chars text.now) }
 {
     text.chars().all(|c| c == ' ')
+}
+
+/// Returns whether each character of the text is U+0020 or U+000A. Between nodes, such a text has no items.
+fn is_blank_gap(text: &str) -> bool
+    ensures { result ≡ list_all (λ c. (c == 32) || (c == 10)) (chars text.now) }
+{
+    text.chars().all(|c| c == ' ' || c == '\n')
 }
 
 /// Returns what is kept of a text between nodes: a line for each item, each after the text `before`.
@@ -117,7 +124,7 @@ fn kept_lines(
     if config.no_comments {
         return Ok(out);
     }
-    if is_blank(place) {
+    if is_blank_gap(place) {
         return Ok(out);
     }
     if let Some(items) = gap_items(alloc, place)? {
@@ -512,6 +519,9 @@ fn kept_at(
 {
     let mut out = String::new(alloc);
     if config.no_comments {
+        return Ok(out);
+    }
+    if is_blank_gap(place) {
         return Ok(out);
     }
     if let Some(items) = gap_items(alloc, place)? {

@@ -12,8 +12,8 @@ use Rattle.kdl_fmt.proofs.layout.kept_lines.Goals.{in-Some+in_ok-push_lines, in_
 pub returns-then-config : goal.returns-then-config
 returns-then-config c = kept_none c.args.config.now.no_comments (GapItems (chars c.args.place.now)) (lines (chars c.args.before.now)) _ c.if-config.true (no_text c.new-out.result c.new-out.ensures.bytes)
 
-pub returns-then-is_blank : goal.returns-then-is_blank
-returns-then-is_blank c = blank_lines c.args.config.now.no_comments (chars c.args.before.now) (chars c.args.place.now) _ c.if-config.false (sym c.is_blank.ensures ∙ c.if-is_blank.true) (no_text c.new-out.result c.new-out.ensures.bytes)
+pub returns-then-is_blank_gap : goal.returns-then-is_blank_gap
+returns-then-is_blank_gap c = blank_lines c.args.config.now.no_comments (chars c.args.before.now) (chars c.args.place.now) _ c.if-config.false (sym c.is_blank_gap.ensures ∙ c.if-is_blank_gap.true) (no_text c.new-out.result c.new-out.ensures.bytes)
 
 pub returns : goal.returns
 returns c =
