@@ -14,7 +14,7 @@ ghost use Rattle.kdl_value.specs.Tree.{text_of};
 ghost use Rattle.std.specs.Prelude.{◌≡◌, ◌+◌, ◌<◌, ◌≤◌, ◌++◌, ◌∷◌, [], ℕ, IfOk, List, OnOk, is_none, map, unwrap_or, vec_len, vec_capacity};
 
 use crate::node::KdlNode;
-use kdl_fmt::layout::indentation;
+use kdl_fmt::layout::{further, indentation};
 use kdl_fmt::{Before, Layout};
 use std::alloc::AllocError;
 use std::mem;
@@ -45,13 +45,16 @@ impl Blocks {
         ensures above { self.new.above.items ≡ self.old.above.items }
         ensures inner { self.new.inner ≡ self.old.inner }
         ensures room { OnOk result (vec_len self.new.above < vec_capacity self.new.above) }
-        ensures level { IfOk result (λ (l, before). (l ≡ self.old.inner.level + 1)
-            × (text_of before ≡ indentation (settings layout.now.config) l)) }
+        ensures level { IfOk result (λ (l, _). l ≡ self.old.inner.level + 1) }
+        ensures before { IfOk result (λ (l, before). text_of self.old.inner.before
+            ≡ indentation (settings layout.now.config) self.old.inner.level
+            → text_of before ≡ indentation (settings layout.now.config) l) }
     {
         let Some(level) = self.inner.level.checked_add(1) else {
             return Err(AllocError);
         };
-        let before = indentation(*self.above.allocator(), &layout.config, level)?;
+        let alloc = *self.above.allocator();
+        let before = further(alloc, &layout.config, self.inner.before.as_str())?;
         self.above.reserve(1)?;
         Ok((level, before))
     }

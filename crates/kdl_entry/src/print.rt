@@ -3,7 +3,7 @@
 ghost use Rattle.kdl_entry.specs.Print.{print_type, print_key};
 ghost use Rattle.kdl_entry.specs.Tree.{identifier_tree};
 ghost use Rattle.std.specs.Fmt.{WritesOnOk};
-ghost use Rattle.std.specs.Prelude.{option_map};
+ghost use Rattle.std.specs.Prelude.{Some, option_map};
 ghost use Rattle.std.specs.Str.{chars, encode_utf8_all};
 
 use crate::identifier::KdlIdentifier;
@@ -16,6 +16,7 @@ use std::fmt::{Display, Formatter, Write};
 /// ```
 /// write_type(&None, " ", "", f)?; // writes nothing; of the type `u16` it writes "( u16)"
 /// ```
+#[inline(always)]
 pub fn write_type<W: Write>(
     ty: &Option<KdlIdentifier>,
     before: &str,
@@ -26,14 +27,28 @@ pub fn write_type<W: Write>(
         (encode_utf8_all (print_type (option_map identifier_tree ty.now) (chars before.now)
         (chars after.now))) f.new }
 {
-    if let Some(ty) = ty {
-        write_char('(', f)?;
-        write_text(before, f)?;
-        ty.fmt(f)?;
-        write_text(after, f)?;
-        write_char(')', f)?;
+    match ty {
+        Some(ty) => write_a_type(ty, before, after, f),
+        None => Ok(()),
     }
-    Ok(())
+}
+
+/// Writes a type between parentheses, with a text before it and one after it.
+fn write_a_type<W: Write>(
+    ty: &KdlIdentifier,
+    before: &str,
+    after: &str,
+    f: &mut Formatter<W>,
+) -> fmt::Result
+    ensures { WritesOnOk W.write_str_gives f.old result
+        (encode_utf8_all (print_type (Some (identifier_tree ty.now)) (chars before.now)
+        (chars after.now))) f.new }
+{
+    write_char('(', f)?;
+    write_text(before, f)?;
+    ty.fmt(f)?;
+    write_text(after, f)?;
+    write_char(')', f)
 }
 
 /// Writes the key of a property and `=`, with a text after each. Writes nothing if there is no key.

@@ -19,8 +19,8 @@ ghost use Rattle.kdl_value.specs.Print.{print_value};
 ghost use Rattle.kdl_value.specs.Tree.{text_of, value_tree};
 ghost use Rattle.kdl_value.specs.WellFormed.{IsWellFormed};
 ghost use Rattle.std.specs.Int.{w128};
-ghost use Rattle.std.specs.List.{repeat};
-ghost use Rattle.std.specs.Prelude.{◌≡◌, ◌+◌, ◌++◌, ◌∷◌, [], ℕ, FitsSigned, IfOk, MatchOption, OnOk, Some, is_none, map, option_map, unwrap_or};
+ghost use Rattle.std.specs.List.{list_all, repeat};
+ghost use Rattle.std.specs.Prelude.{◌≡◌, ◌+◌, ◌==◌, ◌||◌, ◌++◌, ◌∷◌, [], ℕ, FitsSigned, IfOk, MatchOption, OnOk, Some, is_none, map, option_map, unwrap_or};
 ghost use Rattle.std.specs.Str.{chars};
 
 use crate::blank::{
@@ -83,6 +83,33 @@ pub fn indentation(alloc: Global, config: &FormatConfig, level: usize) -> Result
     repeated(alloc, config.indent, level)
 }
 
+/// Returns the indentation one level further than `before`. If both are empty, does not allocate.
+pub fn further(alloc: Global, config: &FormatConfig, before: &str) -> Result<String, AllocError>
+    ensures { IfOk result (λ s. (level : ℕ)
+        → chars before.now ≡ indentation (settings config.now) level
+        → text_of s ≡ indentation (settings config.now) (level + 1)) }
+{
+    let size = config.indent.len().saturating_add(before.len());
+    let mut out = String::with_capacity(alloc, size)?;
+    push_text(&mut out, config.indent)?;
+    push_text(&mut out, before)?;
+    Ok(out)
+}
+
+/// Returns whether each character of the text is U+0020. In a node, such a text has no items.
+fn is_blank(text: &str) -> bool
+    ensures { result ≡ list_all (λ c. c == 32) (chars text.now) }
+{
+    text.chars().all(|c| c == ' ')
+}
+
+/// Returns whether each character of the text is U+0020 or U+000A. Between nodes, such a text has no items.
+fn is_blank_gap(text: &str) -> bool
+    ensures { result ≡ list_all (λ c. (c == 32) || (c == 10)) (chars text.now) }
+{
+    text.chars().all(|c| c == ' ' || c == '\n')
+}
+
 /// Returns what is kept of a text between nodes: a line for each item, each after the text `before`.
 fn kept_lines(
     alloc: Global,
@@ -95,6 +122,9 @@ fn kept_lines(
 {
     let mut out = String::new(alloc);
     if config.no_comments {
+        return Ok(out);
+    }
+    if is_blank_gap(place) {
         return Ok(out);
     }
     if let Some(items) = gap_items(alloc, place)? {
@@ -163,6 +193,9 @@ fn kept_tail(
 {
     let mut out = String::new(alloc);
     if config.no_comments {
+        return Ok(out);
+    }
+    if is_blank(text) {
         return Ok(out);
     }
     if let Some(items) = place_items(alloc, place, text)? {
@@ -486,6 +519,9 @@ fn kept_at(
 {
     let mut out = String::new(alloc);
     if config.no_comments {
+        return Ok(out);
+    }
+    if is_blank_gap(place) {
         return Ok(out);
     }
     if let Some(items) = gap_items(alloc, place)? {

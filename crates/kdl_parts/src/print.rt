@@ -9,6 +9,7 @@ ghost use Rattle.std.specs.Prelude.{◌≡◌, ◌++◌, [], ◌∷◌, map};
 use crate::format::{KdlDocumentFormat, KdlNodeFormat};
 use kdl_entry::{KdlEntry, KdlIdentifier, write_text, write_type};
 use std::fmt;
+use std::fmt::Display;
 
 /// Writes the indentation at a depth: four spaces for each level.
 #[tactic(auto, using(crate::proofs::Utf8Parts::writes, crate::proofs::Utf8Parts::spaces_more))]
@@ -42,12 +43,12 @@ pub fn write_head<W: fmt::Write>(
             write_text(&format.leading, f)?;
             write_type(ty, &format.before_ty_name, &format.after_ty_name, f)?;
             write_text(&format.after_ty, f)?;
-            write!(f, "{name}")
+            name.fmt(f)
         }
         None => {
             write_spaces(depth, f)?;
             write_type(ty, "", "", f)?;
-            write!(f, "{name}")
+            name.fmt(f)
         }
     }
 }
@@ -75,7 +76,7 @@ fn write_piece<W: fmt::Write>(entry: &KdlEntry, f: &mut fmt::Formatter<W>) -> fm
     if entry.format().is_none() {
         f.write_str(" ")?;
     }
-    write!(f, "{entry}")
+    entry.fmt(f)
 }
 
 /// Whether the last entry has a format.

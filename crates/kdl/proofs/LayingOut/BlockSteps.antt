@@ -366,7 +366,8 @@ module _ (s : Layout) (above : List Block) (b b1 outer inner : Block) (n m x x' 
       ap (map bare_node) (outermost_more above outer (map node_tree inner.nodes.items) ∙ ap (outermost above) two)
       ∙ bare_outermost above (map node_tree (set b.nodes.items b.at m)) (map node_tree b.nodes.items) (bare_set b.nodes.items b.at m n there (e ∙ ap (λ z. bare_node (node_tree z)) (sym next)))
 
-  pub block_goes_on : inner.at ≡ 0 → inner.level ≡ b1.level + 1 → text_of inner.before ≡ indentation (settings s.config) inner.level
+  pub block_goes_on : inner.at ≡ 0 → inner.level ≡ b1.level + 1
+      → (text_of b.before ≡ indentation (settings s.config) b.level → text_of inner.before ≡ indentation (settings s.config) inner.level)
       → (text_of b.before ≡ indentation (settings s.config) b.level → Own s b.level b outer.next inner.next n m) → GoesOn s above b (above ++ outer ∷ []) inner
   block_goes_on first l t own =
       let w = block_is_there (out-KdlNode n).children (subst (λ z. 0 < length z) same some) in
@@ -375,7 +376,7 @@ module _ (s : Layout) (above : List Block) (b b1 outer inner : Block) (n m x x' 
       λ level u.
       let w = at_level s b outer.next inner.next n m own level u in (
         λ ms z. rw (as_before ms, next) (w.1 ms z),
-        let k : inner.level ≡ level + 1 = l ∙ ap (λ z. z + 1) (open_level ∙ u.0) in (k, t ∙ ap (indentation (settings s.config)) k),
+        let k : inner.level ≡ level + 1 = l ∙ ap (λ z. z + 1) (open_level ∙ u.0) in (k, t (u.1 ∙ ap (indentation (settings s.config)) (sym u.0)) ∙ ap (indentation (settings s.config)) k),
         rw next w.0,
       ) in
       let rest : behind outer ≡ behind b =

@@ -1,12 +1,15 @@
 -- What is kept of a text, from the items that were read in it.
-use Rattle.std.proofs.Common.{◌≡◌, ℕ, suc, Bool, true, false, List, [], ◌∷◌, ◌++◌, ◌==◌, length, refl, sym, ap, subst, ◌∙◌, Option, Some, None, MatchOption, Bor}
-use Rattle.std.proofs.lemmas.Bool.{eqb-true}
+use Rattle.std.proofs.Common.{◌≡◌, ℕ, suc, Bool, true, false, ◌||◌, List, [], ◌∷◌, ◌++◌, ◌==◌, length, refl, sym, ap, subst, ◌∙◌, Option, Some, None, MatchOption, Bor}
+use Rattle.std.proofs.lemmas.Bool.{and_parts, eqb-true}
+use Rattle.std.specs.List.{list_all}
 use Rattle.std.specs.Str.{chars}
-use Rattle.kdl_text.specs.Chars.{Text}
+use Rattle.kdl_text.specs.Chars.{Text, Newline, is_newline_char, is_space}
+use Rattle.kdl_text.specs.Chars.Newline.{one as one_char}
+use Rattle.kdl_text.specs.Chars.Space.{space as a_space}
 use Rattle.kdl_text.specs.Trivia.{LineComment}
 use Rattle.kdl_entry.specs.Places.{between}
 use Rattle.kdl_entry.specs.Tree.{EntryFormat}
-use Rattle.kdl_comments.specs.Items.{Item, line_end, GapItems, Place, before_entry, PlaceItems}
+use Rattle.kdl_comments.specs.Items.{Item, line_end, SpaceItems, LineSpaceItems, GapItems, Place, before_entry, before_block, behind_block, may_end, spaced, PlaceItems}
 use Rattle.kdl_comments.specs.Written.{lines, tail}
 use Rattle.kdl_comments.proofs.Listing.SpaceItems.{place_end}
 use Rattle.kdl_fmt.specs.Kept.{Written, WrittenUnless, KeptLines, KeptTail, WrittenEnd, KeptEnd, KeptBefore, is_kept_format}
@@ -63,3 +66,55 @@ tail_at s {p} {q} {place} {place'} t e h k = subst (λ (x : Place). KeptTail s x
 pub no_elements : {A : Type 0} (xs : List A) (n : ℕ) (b : Bool) → n ≡ length xs → b ≡ (n == 0) → b ≡ true → xs ≡ []
 no_elements [] n b l e t = refl
 no_elements (x ∷ xs) n b l e t = let z : suc (length xs) ≡ 0 = sym l ∙ eqb-true n 0 (sym e ∙ t) in absurd cc
+
+-- a text of spaces has no items
+abbrev pub is_blank : Text → Bool
+is_blank s = list_all (λ c. c == 32) s
+
+begins_blank : (c : ℕ) (s : Text) → (c == 32) ≡ true → SpaceItems (c ∷ s) s []
+unfolding is_space
+begins_blank c s e = SpaceItems.space (a_space (subst (λ (d : ℕ). is_space d ≡ true) (sym (eqb-true c 32 e)) refl))
+
+spaced_ends : (p : Place) → may_end (spaced true p) ≡ true
+spaced_ends (before_entry b) = refl
+spaced_ends before_block = refl
+spaced_ends behind_block = refl
+
+blank_place : (p : Place) (c : ℕ) (s : Text) → is_blank (c ∷ s) ≡ true → PlaceItems p (c ∷ s) []
+blank_place p c [] h =
+    let e = and_parts (c == 32) (is_blank []) h in
+    PlaceItems.space {is = []} {js = []} (begins_blank c [] e.0) (PlaceItems.ends (spaced_ends p))
+blank_place p c (d ∷ s) h =
+    let e = and_parts (c == 32) (is_blank (d ∷ s)) h in
+    PlaceItems.space {is = []} {js = []} (begins_blank c (d ∷ s) e.0) (blank_place (spaced true p) d s e.1)
+
+pub blank_tail : (b : Bool) (p : Place) (s t : Text) → b ≡ false → is_blank s ≡ true → t ≡ [] → WrittenUnless b (PlaceItems p s) tail t
+blank_tail b (before_entry true) [] t e h x = kept_items b (PlaceItems (before_entry true) []) tail [] t e (PlaceItems.ends refl) x
+blank_tail b (before_entry false) [] t e h x = kept_nothing b (PlaceItems (before_entry false) []) tail t e no_place x
+blank_tail b before_block [] t e h x = kept_items b (PlaceItems before_block []) tail [] t e (PlaceItems.ends refl) x
+blank_tail b behind_block [] t e h x = kept_items b (PlaceItems behind_block []) tail [] t e (PlaceItems.ends refl) x
+blank_tail b p (c ∷ s) t e h x = kept_items b (PlaceItems p (c ∷ s)) tail [] t e (blank_place p c s h) x
+
+-- nor has one of spaces and newlines between nodes
+abbrev pub is_blank_gap : Text → Bool
+is_blank_gap s = list_all (λ c. (c == 32) || (c == 10)) s
+
+line_feed : (s : Text) → Newline (10 ∷ s) s
+unfolding is_newline_char
+line_feed s = one_char {c = 10} refl refl
+
+begins_blank_gap : (c : ℕ) (s : Text) → ((c == 32) || (c == 10)) ≡ true → LineSpaceItems (c ∷ s) s []
+begins_blank_gap c s e = go (c == 32) refl e
+  where
+    go : (b : Bool) → (c == 32) ≡ b → (b || (c == 10)) ≡ true → LineSpaceItems (c ∷ s) s []
+    go true h e = LineSpaceItems.space (begins_blank c s h)
+    go false h e = LineSpaceItems.newline (subst (λ (d : ℕ). Newline (d ∷ s) s) (sym (eqb-true c 10 e)) (line_feed s))
+
+blank_gap : (s : Text) → is_blank_gap s ≡ true → GapItems s []
+blank_gap [] h = GapItems.none
+blank_gap (c ∷ s) h =
+    let e = and_parts ((c == 32) || (c == 10)) (is_blank_gap s) h in
+    GapItems.space {is = []} {js = []} (begins_blank_gap c s e.0) (blank_gap s e.1)
+
+pub blank_lines : (b : Bool) (before s t : Text) → b ≡ false → is_blank_gap s ≡ true → t ≡ [] → WrittenUnless b (GapItems s) (lines before) t
+blank_lines b before s t e h x = kept_items b (GapItems s) (lines before) [] t e (blank_gap s h) x

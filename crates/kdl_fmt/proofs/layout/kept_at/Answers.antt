@@ -7,7 +7,7 @@ use Rattle.kdl_comments.specs.Internal.Reading.{items_view}
 use Rattle.kdl_comments.specs.Written.{lines}
 use Rattle.kdl_comments.specs.declared.item.Item.{Item}
 use Rattle.kdl_fmt.specs.Config.{indentation, settings}
-use Rattle.kdl_fmt.proofs.Keeping.KeptReads.{no_elements, kept_none, kept_items, kept_nothing, written_behind}
+use Rattle.kdl_fmt.proofs.Keeping.KeptReads.{no_elements, kept_none, kept_items, kept_nothing, written_behind, blank_lines}
 use Rattle.kdl_fmt.proofs.Texts.{no_text}
 use Rattle.kdl_fmt.proofs.layout.kept_at.Goals as goal
 use Rattle.kdl_fmt.proofs.layout.kept_at.Goals.{in-Some, then-not-is_empty+in_ok-before+in_ok-push_lines, else-not-is_empty, in_default}
@@ -15,6 +15,10 @@ use Rattle.kdl_fmt.proofs.layout.kept_at.Goals.{in-Some, then-not-is_empty+in_ok
 pub returns-then-config : goal.returns-then-config
 returns-then-config c =
     kept_none c.args.config.now.no_comments (GapItems (chars c.args.place.now)) (lines (indentation (settings c.args.config.now) c.args.level)) _ c.if-config.true (no_text c.new-out.result c.new-out.ensures.bytes)
+
+pub returns-then-is_blank_gap : goal.returns-then-is_blank_gap
+returns-then-is_blank_gap c =
+    blank_lines c.args.config.now.no_comments (indentation (settings c.args.config.now) c.args.level) (chars c.args.place.now) _ c.if-config.false (sym c.is_blank_gap.ensures ∙ c.if-is_blank_gap.true) (no_text c.new-out.result c.new-out.ensures.bytes)
 
 pub returns : goal.returns
 returns c =

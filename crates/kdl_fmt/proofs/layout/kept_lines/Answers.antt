@@ -1,16 +1,19 @@
-use Rattle.std.proofs.Common.{ap, ◌∙◌}
+use Rattle.std.proofs.Common.{ap, sym, ◌∙◌}
 use Rattle.std.specs.Str.{chars}
 use Rattle.kdl_value.specs.Tree.{text_of}
 use Rattle.kdl_comments.specs.Items.{GapItems}
 use Rattle.kdl_comments.specs.Internal.Reading.{items_view}
 use Rattle.kdl_comments.specs.Written.{lines}
-use Rattle.kdl_fmt.proofs.Keeping.KeptReads.{kept_none, kept_items, kept_nothing, written_behind}
+use Rattle.kdl_fmt.proofs.Keeping.KeptReads.{kept_none, kept_items, kept_nothing, written_behind, blank_lines}
 use Rattle.kdl_fmt.proofs.Texts.{no_text}
 use Rattle.kdl_fmt.proofs.layout.kept_lines.Goals as goal
 use Rattle.kdl_fmt.proofs.layout.kept_lines.Goals.{in-Some+in_ok-push_lines, in_default}
 
 pub returns-then-config : goal.returns-then-config
 returns-then-config c = kept_none c.args.config.now.no_comments (GapItems (chars c.args.place.now)) (lines (chars c.args.before.now)) _ c.if-config.true (no_text c.new-out.result c.new-out.ensures.bytes)
+
+pub returns-then-is_blank_gap : goal.returns-then-is_blank_gap
+returns-then-is_blank_gap c = blank_lines c.args.config.now.no_comments (chars c.args.before.now) (chars c.args.place.now) _ c.if-config.false (sym c.is_blank_gap.ensures ∙ c.if-is_blank_gap.true) (no_text c.new-out.result c.new-out.ensures.bytes)
 
 pub returns : goal.returns
 returns c =

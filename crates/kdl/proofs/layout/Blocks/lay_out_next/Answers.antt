@@ -1,6 +1,7 @@
 use Rattle.std.proofs.Common.{rules, sym, subst, ◌≡◌, ◌++◌, ◌∷◌, [], ap, ◌∙◌, ◌+◌, map}
 use Rattle.std.specs.Str.{chars}
 use Rattle.std.specs.Vec.{with_item}
+use Rattle.kdl_fmt.specs.Config.{indentation, settings}
 use Rattle.kdl_fmt.specs.Formatted.{bare_node}
 use Rattle.kdl_value.specs.Tree.{text_of}
 use Rattle.kdl.specs.Internal.Spacing.{GoesOn, whole}
@@ -57,9 +58,11 @@ returns-clause-goes_on c =
     let is : chars c.as_str.result.now ≡ text_of b.before = search rules in
     let next : c.in_ok-behind.behind ≡ outer.next = search rules in
     let first : c.in_ok-behind.first ≡ inner.next = search rules in
+    let level : c.in_ok-level.level ≡ inner.level = search rules in
+    let before : c.in_ok-level.before ≡ inner.before = search rules in
     subst (λ z. GoesOn s above b z inner) (sym pushed)
     (block_goes_on s above b b1 outer inner c.index_mut-node.result.now c.lay_out_own.new.self c.index_mut.result.now c.exchange_nodes-nodes.new.self c.new.result c.exchange_nodes-nodes.result
     (search rules) (search rules) (search rules) (search rules) (search rules) (search rules) (search rules) c.lay_out_own.ensures.block (search rules) c.exchange_nodes-nodes.ensures.had c.exchange_nodes-nodes.ensures.has (search rules) (search rules) (search rules) (search rules) (search rules)
-    (search rules) (search rules) (search rules)
+    (search rules) (search rules) (λ e. sym (ap text_of before) ∙ c.in_ok-level.ensures.before e ∙ ap (indentation (settings s.config)) level)
     (λ e. subst (λ (x : Before). Own s b.level b x inner.next c.index_mut-node.result.now c.lay_out_own.new.self) next
     (subst (λ (x : Before). Own s b.level b c.in_ok-behind.behind x c.index_mut-node.result.now c.lay_out_own.new.self) first (c.in_ok-behind.ensures.spaced (is ∙ e)))))
