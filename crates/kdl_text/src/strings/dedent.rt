@@ -418,7 +418,8 @@ fn push_values<'a>(
     Ok(())
 }
 
-/// Appends the value of a line with escapes.
+/// Appends the value of a line with escapes: in pieces if the prefix is before the first escape and
+/// text shows after it, and else by its units.
 fn push_escaped<'a>(
     alloc: Global,
     out: &mut String,
