@@ -307,7 +307,7 @@ fn skip_beyond<'a>(text: &str, behind: &'a str, read: u64, class: Class) -> (&'a
 
 /// Returns the text after its longest run of characters of the class, and the number of characters
 /// in the run.
-#[inline]
+#[inline(always)]
 fn skip_run(text: &str, class: Class) -> (&str, u64)
     ensures { RunOf (in_class class) text.now result.0.now result.1 }
 {

@@ -279,6 +279,7 @@ impl<'a> Parts<'a> {
     /// let mut parts = Parts::new(alloc, &start);
     /// parts.open_keyed(empty(alloc), &start, key, &lexer.checkpoint()); // its value is expected
     /// ```
+    #[inline(always)]
     pub fn open_keyed(
         &mut self,
         leading: String,
@@ -377,6 +378,7 @@ impl<'a> Parts<'a> {
     }
 
     /// The key, at the start of its value or type.
+    #[inline(always)]
     pub fn key_parts(
         &mut self,
         slices: &mut Slices<'a>,

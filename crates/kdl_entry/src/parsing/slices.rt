@@ -140,7 +140,7 @@ impl<'a> Slices<'a> {
     ///     let name = slices.identifier(value, &at)?; // prints "\"ab\""
     /// }
     /// ```
-    #[inline]
+    #[inline(always)]
     #[tactic(auto, using(kdl_lexer::proofs::Order::ahead))]
     pub fn identifier(
         &mut self,

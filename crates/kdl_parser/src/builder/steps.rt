@@ -174,6 +174,7 @@ impl<'a, N: ParsedNode> Builder<'a, N> {
     }
 
     /// Begins a node, whose name is the token.
+    #[inline(always)]
     fn begin_node(
         &mut self,
         slot: Slot<'a>,
