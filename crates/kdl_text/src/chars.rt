@@ -229,8 +229,8 @@ fn skip_ascii(text: &str, class: Class) -> (&str, u64)
     (&text[count..], count as u64)
 }
 
-/// Returns how many decimal digits are at the front, up to the first at which their value is 2^59 or
-/// more, their value, and whether it may be that digits and `_` follow.
+/// The number of decimal digits at the front, their value, and whether digits or `_` may follow them.
+/// The count ends where the value is 2^59 or more.
 #[inline(always)]
 fn decimals_len(bytes: &[u8]) -> (usize, u64, bool)
     ensures { DecimalsLen bytes.now result.0 result.1 result.2 }
@@ -249,8 +249,8 @@ fn decimals_len(bytes: &[u8]) -> (usize, u64, bool)
     (count, value, true)
 }
 
-/// Returns the text after decimal digits at its front, how many they are, their value, and whether
-/// it may be that digits and `_` follow.
+/// Returns the text after the decimal digits at its front, their number, their value, and whether
+/// digits or `_` may follow them.
 #[inline(always)]
 pub(crate) fn skip_decimals(text: &str) -> (&str, usize, u64, bool)
     ensures { DigitRun text.now result.0.now result.1 result.2 result.3 }

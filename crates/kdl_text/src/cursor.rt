@@ -548,8 +548,9 @@ impl<'a> Cursor<'a> {
         self.steps.raise(1);
     }
 
-    /// Advances past decimal digits. Costs a step for each, and one for the character after them.
-    /// Returns how many they are, their value, and whether it may be that digits and `_` follow.
+    /// Advances past the decimal digits here, until their value is 2^59 or more. Returns their number,
+    /// their value, and whether digits or `_` may follow them. Costs a step for each, and one for the
+    /// character after them.
     #[inline(always)]
     pub(crate) fn skip_digits(&mut self) -> (usize, u64, bool)
         ensures { SkipsDigits result.0 result.1 result.2 self.old self.new }

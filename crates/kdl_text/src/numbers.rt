@@ -7,9 +7,10 @@ ghost use Rattle.kdl_text.specs.Internal.NumberReading.{radix_of, IsBase, LooksB
 ghost use Rattle.kdl_text.specs.Numbers as spec;
 ghost use Rattle.kdl_text.specs.declared.numbers.Magnitude.TheVariants.{Small};
 ghost use Rattle.kdl_text.specs.Numbers.{Sign, BasePrefix, Decimal, FloatKeyword, FloatText};
+ghost use Rattle.kdl_text.specs.Internal.DigitRuns.{PlainSince};
 ghost use Rattle.kdl_text.specs.Internal.Reading.{Moves, Costs};
 ghost use Rattle.kdl_text.specs.Spans.{bytes};
-ghost use Rattle.std.specs.Prelude.{◌≡◌, ℕ, ◌+◌, ◌*◌, ◌<◌, ◌≤◌, ◌++◌, ◌||◌, false, not, IfOk, if◌then◌else◌, ◌↔◌, IsTrue, IfSome, string_bytes, [], length, ◌==◌};
+ghost use Rattle.std.specs.Prelude.{◌≡◌, true, ℕ, ◌+◌, ◌*◌, ◌<◌, ◌≤◌, ◌++◌, ◌||◌, false, not, IfOk, if◌then◌else◌, ◌↔◌, IsTrue, IfSome, string_bytes, [], length, ◌==◌};
 ghost use Rattle.std.specs.List.{list_all};
 ghost use Rattle.std.specs.Str.{chars};
 
@@ -332,11 +333,12 @@ fn more_decimals(cursor: &mut Cursor, before: u64) -> Magnitude
     digits(cursor, 10, before)
 }
 
-/// Advances past a decimal integer, if one is here: a digit, then digits and `_`. Most have neither
-/// `_` nor a value that needs more than 64 bits.
+/// Advances past a decimal integer, if one is here: a digit, then digits and `_`. Most have no `_`
+/// and a small value. `plain` stays true only if no `_` was read.
 #[inline(always)]
-fn decimal_integer(cursor: &mut Cursor) -> Option<Magnitude>
+fn decimal_integer(cursor: &mut Cursor, plain: &mut bool) -> Option<Magnitude>
     ensures reads { ReadsInteger 10 result cursor.old.rest cursor.new.rest }
+    ensures plain { IfSome result (λ _. PlainSince plain.old plain.new cursor.old.rest cursor.new.rest) }
     ensures moves { Moves cursor.old cursor.new }
     ensures costs { Costs 2 1 cursor.old cursor.new }
 {
@@ -345,41 +347,39 @@ fn decimal_integer(cursor: &mut Cursor) -> Option<Magnitude>
         return None;
     }
     if more {
+        *plain = false;
         return Some(more_decimals(cursor, value));
     }
     Some(Magnitude::Small(value))
 }
 
-/// Advances past an integer of a base other than 10, if one is here.
-#[inline(never)]
-fn other_integer(cursor: &mut Cursor, radix: Radix) -> Option<Magnitude>
-    ensures reads { ReadsInteger (radix_of radix) result cursor.old.rest cursor.new.rest }
-    ensures moves { Moves cursor.old cursor.new }
-    ensures costs { Costs 2 1 cursor.old cursor.new }
-{
-    integer(cursor, radix.value())
-}
-
-/// Advances past an integer of the base, if one is here.
+/// Advances past an integer of the base, if one is here. `plain` stays true only if the base is 10 and
+/// no `_` was read.
 #[inline(always)]
-fn integer_in(cursor: &mut Cursor, radix: Radix) -> Option<Magnitude>
+fn integer_in(cursor: &mut Cursor, radix: Radix, plain: &mut bool) -> Option<Magnitude>
     ensures reads { ReadsInteger (radix_of radix) result cursor.old.rest cursor.new.rest }
+    ensures ten { plain.new ≡ true → radix ≡ Radix.Decimal }
+    ensures plain { IfSome result (λ _. PlainSince plain.old plain.new cursor.old.rest cursor.new.rest) }
     ensures moves { Moves cursor.old cursor.new }
     ensures costs { Costs 2 1 cursor.old cursor.new }
 {
     if let Radix::Decimal = radix {
-        return decimal_integer(cursor);
+        return decimal_integer(cursor, plain);
     }
-    other_integer(cursor, radix)
+    *plain = false;
+    integer(cursor, radix.value())
 }
 
-/// Whether no identifier character is here.
+/// Whether no identifier character is here. The characters that most often follow digits are tested
+/// first.
 #[inline(always)]
 fn is_end(cursor: &mut Cursor) -> bool
     ensures result { result ≡ not (starts class.is_identifier_char cursor.old.rest) }
     ensures stayed { Stayed 1 cursor.old cursor.new }
 {
     match cursor.look() {
+        Some(' ' | '\n') => true,
+        Some('.') => false,
         Some(c) => !is_identifier_char(c),
         None => true,
     }
@@ -408,10 +408,12 @@ struct Front {
     magnitude: Magnitude,
 }
 
-/// Advances past the sign, the prefix of a base and the integer with which a number begins.
+/// Advances past the sign, the prefix of a base and the integer with which a number begins. `plain`
+/// stays true only if no `_` was read.
 #[inline(always)]
-fn read_front(cursor: &mut Cursor) -> Result<Front, NumberFault>
+fn read_front(cursor: &mut Cursor, plain: &mut bool) -> Result<Front, NumberFault>
     ensures reads { ReadsFront result cursor.old.rest cursor.new.rest }
+    ensures plain { IfOk result (λ _. PlainSince plain.old plain.new cursor.old.rest cursor.new.rest) }
     ensures fault { IsFault result cursor.old.rest cursor.new.rest }
     ensures moves { Moves cursor.old cursor.new }
     ensures costs { Costs 2 4 cursor.old cursor.new }
@@ -419,7 +421,7 @@ fn read_front(cursor: &mut Cursor) -> Result<Front, NumberFault>
 {
     let minus = sign(cursor);
     let radix = eat_base_prefix(cursor);
-    match integer_in(cursor, radix) {
+    match integer_in(cursor, radix, plain) {
         Some(magnitude) => Ok(Front {
             minus,
             radix,
@@ -429,9 +431,11 @@ fn read_front(cursor: &mut Cursor) -> Result<Front, NumberFault>
     }
 }
 
-/// Advances past a point and an integer, if a point is here. Returns whether it is.
-fn fraction(cursor: &mut Cursor) -> Result<bool, NumberFault>
+/// Advances past a point and an integer, if a point is here. Returns whether it is. `plain` stays
+/// true only if no `_` was read.
+fn fraction(cursor: &mut Cursor, plain: &mut bool) -> Result<bool, NumberFault>
     ensures reads { ReadsFraction result cursor.old.rest cursor.new.rest }
+    ensures plain { IfOk result (λ _. PlainSince plain.old plain.new cursor.old.rest cursor.new.rest) }
     ensures fault { IsPartFault result cursor.old.rest cursor.new.rest }
     ensures moves { Moves cursor.old cursor.new }
     ensures costs { Costs 2 2 cursor.old cursor.new }
@@ -439,15 +443,17 @@ fn fraction(cursor: &mut Cursor) -> Result<bool, NumberFault>
     if !cursor.eat('.') {
         return Ok(false);
     }
-    match decimal_integer(cursor) {
+    match decimal_integer(cursor, plain) {
         Some(_) => Ok(true),
         None => Err(NumberFault::MissingFraction),
     }
 }
 
-/// Advances past an exponent, if its letter is here. Returns whether it is.
-fn exponent(cursor: &mut Cursor) -> Result<bool, NumberFault>
+/// Advances past an exponent, if its letter is here. Returns whether it is. `plain` stays true only
+/// if no `_` was read.
+fn exponent(cursor: &mut Cursor, plain: &mut bool) -> Result<bool, NumberFault>
     ensures reads { ReadsExponent result cursor.old.rest cursor.new.rest }
+    ensures plain { IfOk result (λ _. PlainSince plain.old plain.new cursor.old.rest cursor.new.rest) }
     ensures fault { IsPowerFault result cursor.old.rest cursor.new.rest }
     ensures moves { Moves cursor.old cursor.new }
     ensures costs { Costs 2 3 cursor.old cursor.new }
@@ -456,7 +462,7 @@ fn exponent(cursor: &mut Cursor) -> Result<bool, NumberFault>
         return Ok(false);
     }
     let _ = sign(cursor);
-    match decimal_integer(cursor) {
+    match decimal_integer(cursor, plain) {
         Some(_) => Ok(true),
         None => Err(NumberFault::MissingExponent),
     }
@@ -476,18 +482,20 @@ fn eat_exponent_letter(cursor: &mut Cursor) -> bool
     }
 }
 
-/// Advances past what turns an integer into a decimal: a fraction, an exponent, or both.
-fn decimal_part(cursor: &mut Cursor) -> Result<(), NumberFault>
+/// Advances past what turns an integer into a decimal: a fraction, an exponent, or both. `plain`
+/// stays true only if no `_` was read.
+fn decimal_part(cursor: &mut Cursor, plain: &mut bool) -> Result<(), NumberFault>
     ensures reads { ReadsPart result cursor.old.rest cursor.new.rest }
+    ensures plain { IfOk result (λ _. PlainSince plain.old plain.new cursor.old.rest cursor.new.rest) }
     ensures fault { IsPartFault result cursor.old.rest cursor.new.rest }
     ensures moves { Moves cursor.old cursor.new }
     ensures costs { Costs 2 6 cursor.old cursor.new }
 {
-    let point = match fraction(cursor) {
+    let point = match fraction(cursor, plain) {
         Ok(point) => point,
         Err(fault) => return Err(fault),
     };
-    let power = match exponent(cursor) {
+    let power = match exponent(cursor, plain) {
         Ok(power) => power,
         Err(fault) => return Err(fault),
     };
@@ -526,15 +534,20 @@ fn push_plain(out: &mut String, mut characters: Characters) -> Result<(), AllocE
     Ok(())
 }
 
-/// A copy of the segment without its `_`.
+/// A copy of the segment without its `_`. If `plain`, it has none.
 fn without_underscores<'a>(
     alloc: Global,
     segment: &Segment<'a>,
+    plain: bool,
     cursor: &mut Cursor<'a>,
 ) -> Result<String, AllocError>
+    requires { plain ≡ true → list_all (λ c. not (c == 95)) segment.now ≡ true }
     ensures plain { IfOk result (λ s. chars (string_bytes s) ≡ spec.plain segment.now) }
     ensures returned { Returned (2 * bytes segment.now + 1) cursor.old cursor.new }
 {
+    if plain {
+        return cursor.characters(segment).into_piece().to_string(alloc);
+    }
     if has_no_underscore(cursor.characters(segment)) {
         return cursor.characters(segment).into_piece().to_string(alloc);
     }
@@ -570,7 +583,8 @@ pub fn read_number(alloc: Global, cursor: &mut Cursor) -> Result<Number, NumberF
     ensures most { Costs 4 12 cursor.old cursor.new }
 {
     let start = cursor.checkpoint();
-    let number = match read_front(cursor) {
+    let mut plain = true;
+    let number = match read_front(cursor, &mut plain) {
         Ok(number) => number,
         Err(fault) => return Err(NumberFailure::Fault(fault)),
     };
@@ -580,11 +594,11 @@ pub fn read_number(alloc: Global, cursor: &mut Cursor) -> Result<Number, NumberF
     let Radix::Decimal = number.radix else {
         return Err(NumberFailure::Fault(NumberFault::Trailing(number.radix)));
     };
-    if let Err(fault) = decimal_part(cursor) {
+    if let Err(fault) = decimal_part(cursor, &mut plain) {
         return Err(NumberFailure::Fault(fault));
     }
     let segment = start.up_to(&cursor.checkpoint());
-    match without_underscores(alloc, &segment, cursor) {
+    match without_underscores(alloc, &segment, plain, cursor) {
         Ok(text) => Ok(Number::Decimal(text)),
         Err(_) => Err(NumberFailure::Memory),
     }
@@ -635,13 +649,14 @@ fn is_plain_decimal(text: &str) -> bool
 {
     let mut cursor = Cursor::new(text, Steps::new());
     let start = cursor.checkpoint();
-    let Ok(number) = read_front(&mut cursor) else {
+    let mut plain = true;
+    let Ok(number) = read_front(&mut cursor, &mut plain) else {
         return false;
     };
     let Radix::Decimal = number.radix else {
         return false;
     };
-    let Ok(()) = decimal_part(&mut cursor) else {
+    let Ok(()) = decimal_part(&mut cursor, &mut plain) else {
         return false;
     };
     let segment = start.up_to(&cursor.checkpoint());

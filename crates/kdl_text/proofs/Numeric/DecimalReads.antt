@@ -38,7 +38,7 @@ no_front t s u n k j a b e h r x (is_decimal (decimal {s = s'} {u = u'} {v = v} 
     let y = integer_digit i' in
     let z : starts (is_digit_of 10) s ≡ false = rw (← m.1, ← m.0, ← e) h in cc
 
-ten_stays : {s u : Text} → BasePrefix s u 10 → u ≡ s
+pub ten_stays : {s u : Text} → BasePrefix s u 10 → u ≡ s
 ten_stays (ten h) = refl
 ten_stays (other {c = c} {d = d} {r = r} h) = absurd (no_ten c d r h)
 

@@ -1,5 +1,5 @@
 -- Decimal digits at the front of a text.
-use Rattle.std.proofs.Common.{◌≡◌, ℕ, ◌+◌, ◌-◌, ◌*◌, ◌%◌, ◌<◌, ◌≤◌, Bool, true, false, List, [], ◌∷◌, ◌++◌, length, take, drop, get_or, refl, ap, sym, subst, ◌∙◌, arith, IsAscii, IsUtf8, IsCharBoundary, chars, length-append, length-take, inl, inr, lt-ltb, ne_eqb, append-nil, Some, None, eqb, ◌||◌}
+use Rattle.std.proofs.Common.{◌≡◌, ℕ, ◌+◌, ◌-◌, ◌*◌, ◌%◌, ◌<◌, ◌≤◌, Bool, false, List, [], ◌∷◌, ◌++◌, length, take, drop, get_or, refl, ap, sym, subst, ◌∙◌, arith, IsAscii, IsUtf8, IsCharBoundary, chars, length-append, length-take, inl, inr, lt-ltb, ne_eqb, append-nil, Some, None, ◌||◌}
 use Rattle.std.specs.Prelude.{nat_lt, ◌==◌}
 use Rattle.std.proofs.lemmas.Bool.{cases_lt, le-ltb}
 use Rattle.std.proofs.lemmas.List.{get_or-drop, length-drop, take-append-drop}
@@ -8,7 +8,7 @@ use Rattle.std.proofs.lemmas.Str.Ascii.{IsAscii-from_reads}
 use Rattle.std.proofs.lemmas.Str.Parse.{digit_from_value, digit_at}
 use Rattle.std.proofs.lemmas.Int.Digits.{digits_value_more, digits_more}
 use Rattle.std.specs.Char.{digit_value}
-use Rattle.std.specs.Str.Parse.{AllDigits, digits_value, digits_value_after}
+use Rattle.std.specs.Str.Parse.{AllDigits, digits_value}
 use Rattle.kdl_text.specs.Chars.{Text, starts}
 use Rattle.kdl_text.specs.Numbers.{is_digit_of, is_part, Digits, Integer, integer}
 use Rattle.kdl_text.specs.Numbers.Digits.{stop, digit}
@@ -19,7 +19,7 @@ use Rattle.kdl_text.specs.Internal.Reading.{Moves, Costs}
 use Rattle.kdl_text.specs.Spans.{bytes}
 use Rattle.kdl_text.specs.declared.numbers.Magnitude.{Magnitude}
 use Rattle.kdl_text.specs.declared.numbers.Magnitude.TheVariants.{Small}
-use Rattle.kdl_text.proofs.Looking.MovesJoin.{bytes-append, costs_then, moves_then}
+use Rattle.kdl_text.proofs.Looking.MovesJoin.{bytes-append}
 use Rattle.kdl_text.proofs.Looking.Texts.{bytes-chars}
 use Rattle.kdl_text.proofs.Numeric.NumberReads.{value_after}
 use lib.Utf8.{encodes, encode}

@@ -1,5 +1,5 @@
 -- Decimal digits at the front of a text, and their value.
-use Rattle.std.specs.Prelude.{◌≡◌, ℕ, ◌+◌, ◌<◌, ◌≤◌, ◌^◌, ◌++◌, ◌==◌, Bool, true, false, List, length, get_or, take, nat_lt}
+use Rattle.std.specs.Prelude.{◌≡◌, ℕ, ◌+◌, ◌<◌, ◌≤◌, ◌^◌, ◌++◌, ◌==◌, not, Bool, true, false, List, length, get_or, take, nat_lt}
 use Rattle.std.specs.Char.{digit_value}
 use Rattle.std.specs.List.{list_all}
 use Rattle.std.specs.Str.{chars}
@@ -43,3 +43,11 @@ pub record RanDigits (run : Text) (n v : ℕ) (more : Bool) (old new : Here) : T
 
 abbrev pub SkipsDigits : ℕ → ℕ → Bool → Here → Here → Type 0
 SkipsDigits n v more old new = (run : Text) × RanDigits run n v more old new
+
+-- the text from s to rest has no `_`
+abbrev pub Bare : Text → Text → Type 0
+Bare s rest = (p : Text) × (s ≡ p ++ rest) × (list_all (λ c. not (c == 95)) p ≡ true)
+
+-- if `new`, no `_` was read from s to rest, and `old`
+abbrev pub PlainSince : Bool → Bool → Text → Text → Type 0
+PlainSince old new s rest = new ≡ true → (old ≡ true) × Bare s rest

@@ -1,3 +1,4 @@
+use Rattle.kdl_text.proofs.Numeric.PlainDigits.{since_bare, bare_digits}
 use Rattle.kdl_text.proofs.Looking.MovesJoin.{moves_then, costs_then}
 use Rattle.kdl_text.proofs.Numeric.DigitRuns.{no_integer, run_integer, run_more, run_moves, run_costs, run_tight}
 use Rattle.kdl_text.proofs.numbers.decimal_integer.Goals as goal
@@ -28,3 +29,6 @@ returns-clause-moves c = run_moves _ _ _ _ _ _ c.skip_digits-count.ensures.1
 
 pub returns-clause-costs : goal.returns-clause-costs
 returns-clause-costs c = run_costs _ _ _ _ _ _ c.skip_digits-count.ensures.1
+
+pub returns-clause-plain : goal.returns-clause-plain
+returns-clause-plain c = since_bare _ _ _ (bare_digits _ _ _ c.skip_digits-count.ensures.1.digits c.skip_digits-count.ensures.1.text)

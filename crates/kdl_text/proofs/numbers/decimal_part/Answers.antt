@@ -1,3 +1,5 @@
+use Rattle.std.proofs.Common.{sym}
+use Rattle.kdl_text.proofs.Numeric.PlainDigits.{bare_then, bare_same}
 use Rattle.kdl_text.proofs.Numeric.DecimalReads.{part_broken, no_part, part_trailing, part_read, either, neither}
 use Rattle.kdl_text.proofs.Looking.MovesJoin.{moves_then, moves_stayed}
 use Rattle.kdl_text.proofs.numbers.decimal_part.Goals as goal
@@ -22,3 +24,9 @@ returns-clause-reads c = part_read _ _ _ _ _ _ c.in-Ok.ensures.reads c.in-Ok-exp
 
 pub returns-clause-moves : goal.returns-clause-moves
 returns-clause-moves c = moves_then c.fraction.ensures.moves (moves_then c.exponent.ensures.moves (moves_stayed c.is_end.ensures.stayed))
+
+pub returns-clause-plain : goal.returns-clause-plain
+returns-clause-plain c = λ e.
+    let (f, k) = c.in-Ok-exponent.ensures.plain e in
+    let (g, h) = c.in-Ok.ensures.plain f in
+    (g, bare_then _ _ _ h (bare_then _ _ _ k (bare_same _ _ (sym c.is_end.ensures.stayed.rest))))

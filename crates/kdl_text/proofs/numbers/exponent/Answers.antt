@@ -1,3 +1,4 @@
+use Rattle.kdl_text.proofs.Numeric.PlainDigits.{bare_then, bare_exponent, bare_sign}
 use Rattle.kdl_text.proofs.Numeric.DecimalReads.{exponent_none, exponent_some, exponent_broken}
 use Rattle.kdl_text.proofs.Looking.MovesJoin.{moves_then, moves_one}
 use Rattle.kdl_text.proofs.numbers.exponent.Goals as goal
@@ -16,3 +17,8 @@ returns-in-None-clause-reads c = exponent_broken _ _ _ c.sign.new.cursor c.if-no
 
 pub returns-in-None-clause-moves : goal.returns-in-None-clause-moves
 returns-in-None-clause-moves c = moves_then (moves_one c.if-not-eat_exponent_letter.ensures.2) (moves_then c.sign.ensures.moves c.decimal_integer.ensures.moves)
+
+pub returns-in-Some-clause-plain : goal.returns-in-Some-clause-plain
+returns-in-Some-clause-plain c =
+    let (letter, is, t) = c.if-not-eat_exponent_letter.ensures in
+    λ e. let (f, k) = c.in-Some.ensures.plain e in (f, bare_then _ _ _ (bare_exponent letter _ _ is t.0) (bare_then _ _ _ (bare_sign c.sign.ensures.reads) k))

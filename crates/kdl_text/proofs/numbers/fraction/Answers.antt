@@ -1,3 +1,5 @@
+use Rattle.std.proofs.Common.{refl}
+use Rattle.kdl_text.proofs.Numeric.PlainDigits.{bare_then, bare_one}
 use Rattle.kdl_text.proofs.Numeric.DecimalReads.{fraction_none, fraction_some}
 use Rattle.kdl_text.proofs.Looking.MovesJoin.{moves_then, moves_one}
 use Rattle.kdl_text.proofs.numbers.fraction.Goals as goal
@@ -13,3 +15,6 @@ returns-in-Some-clause-moves c = moves_then (moves_one c.if-not-eat.ensures) c.d
 
 pub returns-in-None-clause-moves : goal.returns-in-None-clause-moves
 returns-in-None-clause-moves c = moves_then (moves_one c.if-not-eat.ensures) c.decimal_integer.ensures.moves
+
+pub returns-in-Some-clause-plain : goal.returns-in-Some-clause-plain
+returns-in-Some-clause-plain c = λ e. let (f, k) = c.in-Some.ensures.plain e in (f, bare_then _ _ _ (bare_one 46 _ _ refl c.if-not-eat.ensures.0) k)

@@ -1,3 +1,4 @@
+use Rattle.kdl_text.proofs.Numeric.PlainDigits.{bare_piece, bare_then, bare_same}
 use Rattle.std.proofs.Common.{◌≡◌, ◌++◌, ◌∙◌, sym, ap, subst, lit≤}
 use Rattle.kdl_text.specs.Numbers.{DecimalPart}
 use Rattle.kdl_text.specs.Internal.NumberReading.{radix_of}
@@ -66,3 +67,10 @@ pub returns-in-Err-without_underscores-clause-most : goal.returns-in-Err-without
 returns-in-Err-without_underscores-clause-most c =
     copied_most c.up_to-segment.result _ _ _ (front_all _ _ _ _ c.read_front.ensures.costs c.is_end.ensures.stayed c.decimal_part.ensures.costs)
     (sym c.checkpoint-start.ensures.rest ∙ c.up_to-segment.ensures ∙ ap (λ z. c.up_to-segment.result ++ z) c.checkpoint.ensures.rest) c.without_underscores.ensures.returned
+
+pub without_underscores-requires : goal.without_underscores-requires
+without_underscores-requires c = λ e.
+    let (f, k) = c.in_default-decimal_part.ensures.plain e in
+    let (g, h) = c.in-Ok.ensures.plain f in
+    bare_piece _ _ _ (sym c.checkpoint-start.ensures.rest ∙ c.up_to-segment.ensures ∙ ap (λ z. c.up_to-segment.result ++ z) c.checkpoint.ensures.rest)
+    (bare_then _ _ _ h (bare_then _ _ _ (bare_same _ _ (sym c.is_end.ensures.stayed.rest)) k))
