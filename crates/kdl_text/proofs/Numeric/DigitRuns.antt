@@ -30,9 +30,6 @@ pub record InDecimals (s : List ℕ) (n v : ℕ) : Type 0 where
   pub digits : AllDigits 10 (take n s)
   pub value : v ≡ digits_value 10 (take n s)
 
-pub decimals_begin : (s : List ℕ) → InDecimals s 0 0
-decimals_begin s = record { few = omega arith; digits = tt; value = refl }
-
 pub decimals_turn : (s : List ℕ) (n v d : ℕ) → InDecimals s n v → n < length s → d ≡ (get_or s n 0 + 208) % 256 → get_or s n 0 < 256 → d ≤ 9 → InDecimals s (n + 1) (v * 10 + d)
 decimals_turn s n v d i l e byte h =
     let same : d + 48 ≡ get_or s n 0 = omega (arith, e, byte, h) in
