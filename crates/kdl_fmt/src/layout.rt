@@ -110,6 +110,16 @@ fn is_blank_gap(text: &str) -> bool
     text.chars().all(|c| c == ' ' || c == '\n')
 }
 
+/// If `some` is `true`, reserves room for what is kept of the text `place`, after the text `before`.
+fn reserve_if(out: &mut String, some: bool, before: &str, place: &str) -> Result<(), AllocError>
+    ensures { OnOk result (text_of out.new ≡ text_of out.old) }
+{
+    if some {
+        out.reserve(place.len().saturating_add(before.len()))?;
+    }
+    Ok(())
+}
+
 /// Returns what is kept of a text between nodes: a line for each item, each after the text `before`.
 fn kept_lines(
     alloc: Global,
@@ -128,6 +138,7 @@ fn kept_lines(
         return Ok(out);
     }
     if let Some(items) = gap_items(alloc, place)? {
+        reserve_if(&mut out, !items.is_empty(), before, place)?;
         push_lines(&mut out, before, &items)?;
     }
     Ok(out)
