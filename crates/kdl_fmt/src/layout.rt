@@ -1,7 +1,7 @@
 //! Layout of the texts around nodes and documents, and of entries.
 
 ghost use Rattle.kdl_entry.specs.Tree.{cleared, entry_data, entry_tree, identifier_tree, unspelled};
-ghost use Rattle.kdl_fmt.specs.Blank.{at_start, empty_lines};
+ghost use Rattle.kdl_fmt.specs.Blank.{at_start, empty_lines, past_node};
 ghost use Rattle.kdl_fmt.specs.Config.{indentation, settings};
 ghost use Rattle.kdl_fmt.specs.Formatted.{newline_if_none, or_empty, or_empty_document};
 ghost use Rattle.kdl_fmt.specs.Kept.{KeptBefore, KeptBeforeBlock, KeptEnd, KeptLines, KeptTail, WrittenUnless, last_place, without_bom};
@@ -110,6 +110,16 @@ fn is_blank_gap(text: &str) -> bool
     text.chars().all(|c| c == ' ' || c == '\n')
 }
 
+/// If `some` is `true`, reserves room for what is kept of the text `place`, after the text `before`.
+fn reserve_if(out: &mut String, some: bool, before: &str, place: &str) -> Result<(), AllocError>
+    ensures { OnOk result (text_of out.new ≡ text_of out.old) }
+{
+    if some {
+        out.reserve(place.len().saturating_add(before.len()))?;
+    }
+    Ok(())
+}
+
 /// Returns what is kept of a text between nodes: a line for each item, each after the text `before`.
 fn kept_lines(
     alloc: Global,
@@ -128,6 +138,7 @@ fn kept_lines(
         return Ok(out);
     }
     if let Some(items) = gap_items(alloc, place)? {
+        reserve_if(&mut out, !items.is_empty(), before, place)?;
         push_lines(&mut out, before, &items)?;
     }
     Ok(out)
@@ -378,6 +389,17 @@ fn before_node(
     Ok(lines)
 }
 
+/// Returns what comes before the next thing, after a node with this terminator. The result has no meaning if no blank
+/// lines are kept; the terminator is not read then.
+fn behind_end(layout: &Layout, terminator: &str) -> Before
+    ensures { (layout.now.blank_lines ≡ 0 → ⊥) → result ≡ past_node (chars terminator.now) }
+{
+    if layout.blank_lines == 0 {
+        return Before::Nothing(Last::Other);
+    }
+    past_node(terminator)
+}
+
 /// Returns the texts around the parts of a node on its own line, and what comes before the next thing. Reuses the
 /// memory of the old texts.
 fn line_format(
@@ -406,7 +428,7 @@ fn line_format(
         last_place(has_block),
         old.before_terminator.as_str(),
     )?;
-    let mut next = past_node(old.terminator.as_str());
+    let mut next = behind_end(layout, old.terminator.as_str());
     let (last, end) = line_end(alloc, config, last, old.terminator)?;
     format.before_terminator = last;
     format.terminator = end;

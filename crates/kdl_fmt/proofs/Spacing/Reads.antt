@@ -93,3 +93,8 @@ lines_pass (ℕ.suc number) s level b b' place t k = spaces_pass k
 pub lines_as : (number : ℕ) (s : Settings) (level : ℕ) {b c : Before} {place place' : Text} (b' : Before) (t : Text) → b ≡ c → place ≡ place' → SpacedLines number s level b place t b' → SpacedLines number s level c place' t b'
 lines_as number s level {b} {c} {place} {place'} b' t e h k =
     subst (λ (x : Before). SpacedLines number s level x place' t b') e (subst (λ (p : Text). SpacedLines number s level b p t b') h k)
+
+-- of a text after a thing that is known where blank lines are kept
+pub lines_after : (number : ℕ) (s : Settings) (level : ℕ) (b c b' : Before) (place t : Text) → ((number ≡ 0 → ⊥) → b ≡ c) → SpacedLines number s level b place t b' → SpacedLines number s level c place t b'
+lines_after ℕ.zero s level b c b' place t e k = k
+lines_after (ℕ.suc number) s level b c b' place t e k = subst (λ (x : Before). SpacedLines (ℕ.suc number) s level x place t b') (e (λ (z : ℕ.suc number ≡ 0). absurd cc)) k

@@ -7,7 +7,7 @@ use Rattle.kdl_comments.specs.Written.{lines}
 use Rattle.kdl_fmt.proofs.Keeping.KeptReads.{kept_none, kept_items, kept_nothing, written_behind, blank_lines}
 use Rattle.kdl_fmt.proofs.Texts.{no_text}
 use Rattle.kdl_fmt.proofs.layout.kept_lines.Goals as goal
-use Rattle.kdl_fmt.proofs.layout.kept_lines.Goals.{in-Some+in_ok-push_lines, in_default}
+use Rattle.kdl_fmt.proofs.layout.kept_lines.Goals.{in-Some+in_ok-reserve_if+in_ok-push_lines, in_default}
 
 pub returns-then-config : goal.returns-then-config
 returns-then-config c = kept_none c.args.config.now.no_comments (GapItems (chars c.args.place.now)) (lines (chars c.args.before.now)) _ c.if-config.true (no_text c.new-out.result c.new-out.ensures.bytes)
@@ -21,8 +21,8 @@ returns c =
     let write = lines (chars c.args.before.now) in
     let empty = no_text c.new-out.result c.new-out.ensures.bytes in
     elim c.match-branch-2.branch [
-      | in-Some+in_ok-push_lines w ↦
+      | in-Some+in_ok-reserve_if+in_ok-push_lines w ↦
           kept_items c.args.config.now.no_comments has write _ _ c.if-config.false (rw w.in-Some.is at c.in_ok-items.ensures)
-          (ap text_of w.out-is ∙ written_behind write _ _ _ _ w.in_ok-push_lines.ensures empty (ap items_view w.deref.ensures.value))
+          (ap text_of w.out-is ∙ written_behind write _ _ _ _ w.in_ok-push_lines.ensures (w.in_ok-reserve_if.ensures ∙ empty) (ap items_view w.deref.ensures.value))
       | in_default w ↦ kept_nothing c.args.config.now.no_comments has write _ c.if-config.false (rw w.in_default.is at c.in_ok-items.ensures) (ap text_of w.out-is ∙ empty)
     ]
