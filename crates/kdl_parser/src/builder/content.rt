@@ -13,7 +13,8 @@ ghost use Rattle.kdl_parser.specs.Internal.Parts.{nodes_tree, document_by, node_
 ghost use Rattle.kdl_text.specs.Internal.Here.{Ahead};
 ghost use Rattle.kdl_text.specs.Spans.{bytes};
 ghost use Rattle.kdl_value.specs.Tree.{value_tree, text_of};
-ghost use Rattle.std.specs.Prelude.{◌≡◌, [], ◌∷◌, ◌++◌, Some, None, IfOk, OnOk, option_map};
+ghost use Rattle.std.specs.Vec.{vec_capacity, vec_len};
+ghost use Rattle.std.specs.Prelude.{◌≡◌, [], ◌∷◌, ◌++◌, ◌<◌, Some, None, IfOk, OnOk, option_map};
 
 use super::{Builder, Slot, Under, WaitingWord};
 use crate::node_parts::{DocumentParts, NodeParts, ParsedNode};
@@ -26,16 +27,16 @@ use kdl_text::span::SourceSpan;
 use std::alloc::{AllocError, Global};
 use std::mem;
 
-/// Appends the item. Capacity grows 1, 2, 4, and so on.
+/// Makes room for one more item. Capacity grows 1, 2, 4, and so on.
 #[inline(always)]
-pub(super) fn add<T: Drop>(items: &mut Vec<T>, item: T) -> Result<(), AllocError>
-    ensures { OnOk result (items.new.items ≡ items.old.items ++ (item ∷ [])) }
+pub(super) fn make_room<T: Drop>(items: &mut Vec<T>) -> Result<(), AllocError>
+    ensures items { items.new.items ≡ items.old.items }
+    ensures room { OnOk result (vec_len items.new < vec_capacity items.new) }
 {
     let len = items.len();
     if len == items.capacity() {
         items.reserve_exact(len.max(1))?;
     }
-    items.push_reserved(item);
     Ok(())
 }
 
@@ -67,8 +68,11 @@ pub(super) fn settle<'a>(
     } = word;
     let repr = repr.to_string(slices.alloc())?;
     let span = slices.span(&start, from);
-    let entry = argument_from(slices.alloc(), span, leading, KdlValue::String(value), repr);
-    add(&mut under.entries, entry)
+    make_room(&mut under.entries)?;
+    let value = KdlValue::String(value);
+    let entry = argument_from(slices.alloc(), span, leading, value, repr);
+    under.entries.push_reserved(entry);
+    Ok(())
 }
 
 /// How a node ends: the text before its terminator, the terminator, and the span of the node.
@@ -280,9 +284,11 @@ impl<'a, N: ParsedNode> Builder<'a, N> {
             (Sliced (bytes self.old.from.rest) (bytes at.now.end.rest) self.old.slices.steps self.new.slices.steps) }
     {
         let ending = self.node_end(at)?;
+        make_room(&mut self.nodes)?;
         let before = empty(self.slices.alloc());
         let node = self.take_node(before, None, ending);
-        add(&mut self.nodes, node)
+        self.nodes.push_reserved(node);
+        Ok(())
     }
 
     /// Takes the node with its block, whose terminator is the token, and appends it to the nodes.
@@ -301,10 +307,12 @@ impl<'a, N: ParsedNode> Builder<'a, N> {
             (Sliced (bytes self.old.from.rest) (bytes at.now.end.rest) self.old.slices.steps self.new.slices.steps) }
     {
         let ending = self.node_end(at)?;
+        make_room(&mut self.nodes)?;
         let before = mem::replace(&mut self.before, empty(self.slices.alloc()));
         let block = mem::replace(&mut self.block, no_content(self.slices.alloc()));
         let node = self.take_node(before, Some(block), ending);
-        add(&mut self.nodes, node)
+        self.nodes.push_reserved(node);
+        Ok(())
     }
 }
 

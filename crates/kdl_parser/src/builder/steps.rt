@@ -39,7 +39,7 @@ ghost use Rattle.kdl_value.specs.Data.{text};
 ghost use Rattle.kdl_value.specs.Tree.{value_tree, text_of};
 ghost use Rattle.std.specs.Prelude.{◌≡◌, Some, None, OnOk, option_map};
 
-use super::content::{add, nothing_at, put, settle};
+use super::content::{make_room, nothing_at, put, settle};
 use super::dropping::Dropped;
 use super::{Builder, Level, Slot, Under, WaitingWord};
 use crate::node_parts::ParsedNode;
@@ -209,25 +209,18 @@ impl<'a, N: ParsedNode> Builder<'a, N> {
         }
     }
 
-    /// Adds an entry, whose value is the token, to the current node.
+    /// Continues after an entry, whose value is the token.
     #[inline(always)]
-    #[tactic(auto, using(crate::proofs::Stepping::Views::entry_pushed))]
-    fn push_entry(&mut self, entry: KdlEntry, at: &TokenSpan<'a>) -> Result<(), AllocError>
-        ensures under { OnOk result
-            (under_view self.new.under ≡ machine.with_entry (under_view self.old.under) (entry_tree entry)) }
-        ensures rest { OnOk result (self.new ≡ record self.old {
-          under = self.new.under;
+    fn end_entry(&mut self, at: &TokenSpan<'a>)
+        ensures { self.new ≡ record self.old {
           waiting = None;
           from = at.now.end;
           phase = InNode (Fresh NoKey);
-        }) }
-        ensures slices { self.new.slices ≡ self.old.slices }
+        } }
     {
-        add(&mut self.under.entries, entry)?;
         self.forget_word();
         self.from = at.end.copied();
         self.phase = Phase::InNode(Spot::Fresh(Word::NoKey));
-        Ok(())
     }
 
     /// Adds an entry to the current node. Its value is the token.
@@ -244,8 +237,10 @@ impl<'a, N: ParsedNode> Builder<'a, N> {
             given.value) at.now.start at.now.end) (bytes at.now.start.rest) self.old result
             self.new }
     {
+        make_room(&mut self.under.entries)?;
         let entry = self.entry_between(slot, given, at)?;
-        self.push_entry(entry, at)?;
+        self.under.entries.push_reserved(entry);
+        self.end_entry(at);
         Ok(())
     }
 
@@ -388,8 +383,10 @@ impl<'a, N: ParsedNode> Builder<'a, N> {
         let leading = self.slices.text(&self.from, &at.start)?;
         let repr = self.slices.text(&at.start, &at.end)?;
         let span = self.slices.span(&at.start, &at.end);
+        make_room(&mut self.under.entries)?;
         let entry = argument_from(self.slices.alloc(), span, leading, value, repr);
-        self.push_entry(entry, at)?;
+        self.under.entries.push_reserved(entry);
+        self.end_entry(at);
         Ok(())
     }
 
@@ -448,8 +445,10 @@ impl<'a, N: ParsedNode> Builder<'a, N> {
         let Slot { leading, start } = self.parts_slot();
         let repr = self.slices.text(&at.start, &at.end)?;
         let span = self.slices.span(&start, &at.end);
+        make_room(&mut self.under.entries)?;
         let entry = property_from(self.slices.alloc(), span, leading, key, value, repr);
-        self.push_entry(entry, at)?;
+        self.under.entries.push_reserved(entry);
+        self.end_entry(at);
         Ok(())
     }
 
