@@ -391,7 +391,7 @@ fn before_node(
 
 /// Returns what comes before the next thing, after a node with this terminator. The result has no meaning if no blank
 /// lines are kept; the terminator is not read then.
-fn behind_end(layout: &Layout, terminator: &str) -> Before
+fn after_end(layout: &Layout, terminator: &str) -> Before
     ensures { (layout.now.blank_lines ≡ 0 → ⊥) → result ≡ past_node (chars terminator.now) }
 {
     if layout.blank_lines == 0 {
@@ -428,7 +428,7 @@ fn line_format(
         last_place(has_block),
         old.before_terminator.as_str(),
     )?;
-    let mut next = behind_end(layout, old.terminator.as_str());
+    let mut next = after_end(layout, old.terminator.as_str());
     let (last, end) = line_end(alloc, config, last, old.terminator)?;
     format.before_terminator = last;
     format.terminator = end;

@@ -21,8 +21,8 @@ returns c = λ level h.
     let next = c.lines_between.new.before in
     let trailing = text_of c.in_ok-format-3.field-0 in
     let behind : SpacedLines l.blank_lines s level (past_node (text_of c.args.old.terminator)) (text_of c.args.old.trailing) trailing next =
-    lines_after l.blank_lines s level c.behind_end-next.result (past_node (text_of c.args.old.terminator)) next (text_of c.args.old.trailing) trailing
-    (λ n. c.behind_end-next.ensures n ∙ ap (λ (x : List ℕ). past_node (chars x)) c.as_str-3.ensures.value)
+    lines_after l.blank_lines s level c.after_end-next.result (past_node (text_of c.args.old.terminator)) next (text_of c.args.old.trailing) trailing
+    (λ n. c.after_end-next.ensures n ∙ ap (λ (x : List ℕ). past_node (chars x)) c.as_str-3.ensures.value)
     (lines_as l.blank_lines s level next trailing refl (ap chars c.as_str-4.ensures.value) (c.in_ok-format-3.ensures level h)) in
     let k : NodeTexts = record {
       before = text_of c.in_ok-kept.kept;
