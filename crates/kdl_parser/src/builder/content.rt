@@ -13,8 +13,8 @@ ghost use Rattle.kdl_parser.specs.Internal.Parts.{nodes_tree, document_by, node_
 ghost use Rattle.kdl_text.specs.Internal.Here.{Ahead};
 ghost use Rattle.kdl_text.specs.Spans.{bytes};
 ghost use Rattle.kdl_value.specs.Tree.{value_tree, text_of};
+ghost use Rattle.std.specs.Prelude.{◌≡◌, [], ◌<◌, Some, None, IfOk, OnOk, option_map};
 ghost use Rattle.std.specs.Vec.{vec_capacity, vec_len};
-ghost use Rattle.std.specs.Prelude.{◌≡◌, [], ◌∷◌, ◌++◌, ◌<◌, Some, None, IfOk, OnOk, option_map};
 
 use super::{Builder, Slot, Under, WaitingWord};
 use crate::node_parts::{DocumentParts, NodeParts, ParsedNode};

@@ -30,7 +30,7 @@ ghost use Rattle.kdl_parser.specs.Internal.States.{
 ghost use Rattle.kdl_control.specs.declared.control.Phase.TheVariants.{InNode};
 ghost use Rattle.kdl_control.specs.declared.control.Spot.TheVariants.{Fresh};
 ghost use Rattle.kdl_control.specs.declared.control.Word.TheVariants.{NoKey};
-ghost use Rattle.kdl_entry.specs.Tree.{entry_tree, identifier_tree};
+ghost use Rattle.kdl_entry.specs.Tree.{identifier_tree};
 ghost use Rattle.kdl_grammar.specs.Internal.Machine as machine;
 ghost use Rattle.kdl_parser.specs.declared.builder.dropping.Dropped.TheVariants.{Nothing};
 ghost use Rattle.kdl_text.specs.Internal.Here.{Ahead};
