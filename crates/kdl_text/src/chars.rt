@@ -2,7 +2,7 @@
 
 ghost use Rattle.kdl_text.specs.Chars as class;
 ghost use Rattle.kdl_text.specs.Chars.{starts};
-ghost use Rattle.kdl_text.specs.Internal.Here.{first, in_class, RunOf, AsciiOf};
+ghost use Rattle.kdl_text.specs.Internal.Here.{first, in_class, is_plain, RunOf, AfterRun, AsciiOf};
 ghost use Rattle.kdl_text.specs.Spans.{bytes};
 ghost use Rattle.kdl_text.specs.Internal.DigitRuns.{DecimalsLen, DigitRun};
 ghost use Rattle.kdl_text.specs.Internal.Tables.{TableOf};
@@ -119,6 +119,15 @@ fn is_unquoted(c: char) -> bool
     !(c == '"' || is_newline_char(c) || is_banned(c))
 }
 
+/// Whether the character represents itself in a quoted string, and is not a tab.
+#[inline]
+#[tactic(auto, unfolding(crate::specs::Internal::Here::is_plain))]
+fn is_plain(c: char) -> bool
+    ensures { result ≡ is_plain c }
+{
+    is_literal(c) && c != '\t'
+}
+
 /// A class of characters. A cursor reads a run of them by one call.
 #[derive(Clone, Copy)]
 pub enum Class {
@@ -138,6 +147,8 @@ pub enum Class {
     Quote,
     /// All characters but `*` and `/`, at which block comments begin and end.
     Comment,
+    /// The literal characters of a quoted string, except tabs.
+    Plain,
 }
 
 /// The ASCII characters of each class: bit h of entry l tells whether it contains the character 16
@@ -174,6 +185,10 @@ static COMMENTS: [u8; 16] = [
     0xff, 0xff, 0xff, 0xff, 0xff, 0xff, 0xff, 0xff, 0xff, 0xff, 0xfb, 0xff, 0xff, 0xff, 0xff, 0xfb,
 ];
 
+static PLAINS: [u8; 16] = [
+    0xfc, 0xfc, 0xf8, 0xfc, 0xfc, 0xfc, 0xfc, 0xfc, 0xfc, 0xfc, 0xfc, 0xfc, 0xdc, 0xfc, 0xfc, 0x7c,
+];
+
 impl Class {
     /// The table of the class's ASCII characters.
     #[inline(always)]
@@ -189,6 +204,7 @@ impl Class {
             Class::NumberSign => &NUMBER_SIGNS,
             Class::Quote => &QUOTES,
             Class::Comment => &COMMENTS,
+            Class::Plain => &PLAINS,
         }
     }
 
@@ -214,6 +230,7 @@ impl Class {
             Class::NumberSign => c == '#',
             Class::Quote => c == '"',
             Class::Comment => !matches!(c, '*' | '/'),
+            Class::Plain => is_plain(c),
         }
     }
 }
@@ -319,6 +336,15 @@ fn skip_run(text: &str, class: Class) -> (&str, u64)
         return (rest, count);
     }
     skip_beyond(text, rest, count, class)
+}
+
+/// Returns the text after its longest run of characters that represent themselves in a quoted string
+/// and are not tabs.
+pub fn after_plain(text: &str) -> &str
+    ensures { AfterRun is_plain text.now result.now }
+{
+    let (rest, _) = skip_run(text, Class::Plain);
+    rest
 }
 
 /// Whether the text begins with a space.

@@ -11,7 +11,7 @@ ghost use Rattle.std.specs.Prelude.{◌≡◌, ◌++◌, ◌∷◌, [], ◌<◌,
 ghost use Rattle.std.specs.Str.{chars, bytes_eq, encode_utf8_all, IsUtf8};
 
 use crate::print::write_text;
-use kdl_text::chars::{is_banned, is_digit, is_identifier_char, is_newline_char};
+use kdl_text::chars::{after_plain, is_banned, is_digit, is_identifier_char, is_newline_char};
 use std::fmt;
 use std::fmt::{Formatter, Write};
 
@@ -128,28 +128,12 @@ fn write_char_text<W: Write>(c: char, f: &mut Formatter<W>) -> fmt::Result
     }
 }
 
-/// Whether the character is printed as it is between quotes.
-#[tactic(auto, unfolding(crate::specs::Spelled::char_text))]
-fn is_plain(c: char) -> bool
-    ensures { result ≡ true → spec.char_text c ≡ c ∷ [] }
-{
-    escape_letter(c) == '\0' && !is_newline_char(c) && !is_banned(c)
-}
-
 /// The text after its longest run of characters that are printed as they are between quotes.
-#[tactic(auto, using(crate::proofs::Spelling::PlainRuns::run_begins, crate::proofs::Spelling::PlainRuns::run_turn))]
 fn skip_plain(s: &str) -> &str
     ensures run { PlainRun s.now result.now }
     ensures shorter { length result.now ≤ length s.now }
 {
-    let mut rest = s;
-    'chars: while let Some((c, next)) = next_char(rest) {
-        if !is_plain(c) {
-            break;
-        }
-        rest = next;
-    }
-    rest
+    after_plain(s)
 }
 
 /// The part of the text before its rest.

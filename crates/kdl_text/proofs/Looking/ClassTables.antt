@@ -8,12 +8,12 @@ use Rattle.std.proofs.lemmas.List.{get_or-drop, length-drop, take-append-drop}
 use Rattle.std.proofs.lemmas.List.Folds.{list_all-append}
 use Rattle.std.proofs.lemmas.Str.{byte_from_char, chars-append, chars-IsAscii, encodes-chars, IsUtf8-drop, IsUtf8-from_ascii, IsCharBoundary-from_take, length-encode, len_utf8_bounds}
 use Rattle.std.proofs.lemmas.Str.Ascii.{IsAscii-nil, IsAscii-more}
-use Rattle.kdl_text.specs.Internal.Here.{AsciiOf, in_class}
+use Rattle.kdl_text.specs.Internal.Here.{AsciiOf, in_class, is_plain}
 use Rattle.kdl_text.specs.Spans.{bytes}
 use Rattle.kdl_text.proofs.Looking.Texts.{bytes-chars}
 use Rattle.kdl_text.specs.Internal.Tables.{outside, TableOf, InsideLen}
-use Rattle.kdl_text.specs.declared.chars.TheConstants.{SPACES, IDENTIFIERS, LITERALS, LINES, UNQUOTEDS, NUMBER_SIGNS, QUOTES, COMMENTS}
-use Rattle.kdl_text.specs.declared.chars.Class.TheVariants.{Space, Identifier, Literal, Line, Unquoted, NumberSign, Quote, Comment}
+use Rattle.kdl_text.specs.declared.chars.TheConstants.{SPACES, IDENTIFIERS, LITERALS, LINES, UNQUOTEDS, NUMBER_SIGNS, QUOTES, COMMENTS, PLAINS}
+use Rattle.kdl_text.specs.declared.chars.Class.TheVariants.{Space, Identifier, Literal, Line, Unquoted, NumberSign, Quote, Comment, Plain}
 use lib.Utf8.{encodes, encode}
 
 abbrev same : Bool → Bool → Bool
@@ -72,6 +72,10 @@ table_of_quote c l = agree (outside QUOTES) (λ z. not (nat_lt z 128 && is_quote
 
 pub table_of_comment : TableOf (in_class Comment) COMMENTS
 table_of_comment c l = agree (outside COMMENTS) (λ z. not (nat_lt z 128 && is_comment_char z)) 256 c refl l
+
+pub table_of_plain : TableOf (in_class Plain) PLAINS
+unfolding is_newline_char is_banned is_literal is_plain
+table_of_plain c l = agree (outside PLAINS) (λ z. not (nat_lt z 128 && is_plain z)) 256 c refl l
 
 pub table_tells : (p : ℕ → Bool) (t : List ℕ) (c : ℕ) → TableOf p t → c < 128 → not (outside t c) ≡ p c
 table_tells p t c is l = ap not (is c (omega arith)) ∙ in_table (nat_lt c 128) (p c) (lt-ltb c 128 l)

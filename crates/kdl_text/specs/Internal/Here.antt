@@ -1,12 +1,12 @@
 -- A place in a text that is read from left to right, and what a cursor's calls do to it.
-use Rattle.std.specs.Prelude.{◌≡◌, ℕ, ◌+◌, ◌≤◌, nat_lt, ◌&&◌, List, [], ◌∷◌, ◌++◌, length, Bool, true, false, not, Option, Some, None}
+use Rattle.std.specs.Prelude.{◌≡◌, ℕ, ◌+◌, ◌≤◌, nat_lt, ◌&&◌, List, [], ◌∷◌, ◌++◌, length, Bool, true, false, not, ◌==◌, Option, Some, None}
 use Rattle.std.specs.List.{list_all}
 use Rattle.std.specs.Char.{len_utf8}
 use Rattle.std.specs.Str.{chars}
 use Rattle.kdl_text.specs.Chars.{Text, begins, begins_two, starts, is_space, is_identifier_char, is_literal, is_newline_char, is_unquoted, is_number_sign, is_quote, is_comment_char}
 use Rattle.kdl_text.specs.Spans.{bytes, raise}
 use Rattle.kdl_text.specs.declared.chars.Class.{Class}
-use Rattle.kdl_text.specs.declared.chars.Class.TheVariants.{Space, Identifier, Literal, Line, Unquoted, NumberSign, Quote, Comment}
+use Rattle.kdl_text.specs.declared.chars.Class.TheVariants.{Space, Identifier, Literal, Line, Unquoted, NumberSign, Quote, Comment, Plain}
 
 -- the state of a cursor: the characters to come, its offset in bytes, and the steps so far
 pub record Here : Type 0 where
@@ -88,6 +88,10 @@ abbrev pub AteTwo : ℕ → ℕ → Bool → Here → Here → Type 0
 AteTwo a b true old new = TookTwo a b old new
 AteTwo a b false old new = (begins_two a b old.rest ≡ false) × Stayed 2 old new
 
+-- a literal character of a quoted string, except a tab
+unfoldable pub is_plain : ℕ → Bool
+is_plain c = is_literal c && not (c == 9)
+
 -- whether the character is of the class
 abbrev pub in_class : Class → ℕ → Bool
 in_class Space c = is_space c
@@ -98,6 +102,7 @@ in_class Unquoted c = is_unquoted c
 in_class NumberSign c = is_number_sign c
 in_class Quote c = is_quote c
 in_class Comment c = is_comment_char c
+in_class Plain c = is_plain c
 
 -- past the longest run of characters of a class, each looked at once, and the one after it
 pub record Ran (p : ℕ → Bool) (run : Text) (old new : Here) : Type 0 where
@@ -125,6 +130,10 @@ pub record RunOf (p : ℕ → Bool) (old new : List ℕ) (count : ℕ) : Type 0 
   pub stops : starts p (chars new) ≡ false
   pub len : length old ≡ bytes run + length new
   pub count_is : count ≡ length run
+
+-- the longest run of the class begins the UTF-8 text `old` and leaves `new`, whatever its length
+abbrev pub AfterRun : (ℕ → Bool) → List ℕ → List ℕ → Type 0
+AfterRun p old new = (count : ℕ) × RunOf p old new count
 
 -- the longest run of the class, whichever it is
 abbrev pub Skips : (ℕ → Bool) → Here → Here → Type 0

@@ -1,25 +1,41 @@
 -- Runs of characters that are printed as they are between quotes.
-use Rattle.std.proofs.Common.{◌≡◌, ℕ, ◌-◌, ◌≤◌, List, [], ◌∷◌, ◌++◌, length, take, refl, sym, ap, ◌∙◌, subst, arith, append_assoc, length-append, append-nil}
+use Rattle.std.proofs.Common.{◌≡◌, ℕ, true, false, ◌||◌, ◌==◌, ◌-◌, ◌≤◌, List, [], ◌∷◌, ◌++◌, length, take, refl, sym, ap, ◌∙◌, subst, arith, append_assoc, length-append, append-nil}
 use Rattle.std.proofs.Math.Seq.{take-append_seam}
 use Rattle.std.proofs.lemmas.List.{append_cancel_right}
 use Rattle.std.proofs.lemmas.Str.{encodes-chars, encodes-append, chars-append, IsCharBoundary-at_seam}
 use Rattle.std.specs.List.{slice_range}
 use Rattle.std.specs.Str.{chars, encode_utf8_all, IsUtf8, IsCharBoundary}
-use Rattle.kdl_value.specs.Spelled.{char_text, escaped_text, PlainRun}
+use Rattle.std.proofs.lemmas.Bool.{and_parts}
+use Rattle.std.proofs.lemmas.Bool.Decides.{nat_tests}
+use Rattle.std.specs.List.{list_all}
+use Rattle.kdl_text.specs.Chars.{is_literal, is_newline_char, is_banned}
+use Rattle.kdl_text.specs.Internal.Here.{is_plain, AfterRun}
+use Rattle.kdl_value.specs.Spelled.{escape_letter, char_text, escaped_text, PlainRun}
 
 pub escaped-append : (s t : List ℕ) → escaped_text (s ++ t) ≡ escaped_text s ++ escaped_text t
 escaped-append [] t = refl
 escaped-append (c ∷ s) t = ap (λ x. char_text c ++ x) (escaped-append s t) ∙ sym (append_assoc (char_text c) (escaped_text s) (escaped_text t))
 
-pub run_begins : (s : List ℕ) → PlainRun s s
-run_begins s = record { run = []; text = refl; as_is = refl }
+no_letter : (c : ℕ) → is_plain c ≡ true → (escape_letter c == 0) ≡ true
+unfolding is_plain is_literal is_newline_char is_banned
+no_letter c h = grind (arith, nat_tests)
 
-pub run_turn : (old s next : List ℕ) (c : ℕ) → PlainRun old s → chars s ≡ c ∷ chars next → char_text c ≡ c ∷ [] → PlainRun old next
-run_turn old s next c so e one = record {
-  run = so.run ++ (c ∷ []);
-  text = so.text ∙ ap (λ x. so.run ++ x) e ∙ sym (append_assoc so.run (c ∷ []) (chars next));
-  as_is = escaped-append so.run (c ∷ []) ∙ ap (λ x. x ++ escaped_text (c ∷ [])) so.as_is ∙ ap (λ x. so.run ++ (x ++ [])) one;
-}
+no_code : (c : ℕ) → is_plain c ≡ true → (is_newline_char c || is_banned c) ≡ false
+unfolding is_plain is_literal
+no_code c h = grind (arith, nat_tests)
+
+plain : (c : ℕ) → is_plain c ≡ true → char_text c ≡ c ∷ []
+unfolding char_text
+plain c h = rw (no_letter c h, no_code c h) refl
+
+all_plain : (run : List ℕ) → list_all is_plain run ≡ true → escaped_text run ≡ run
+all_plain [] h = refl
+all_plain (c ∷ run) h =
+    let (one, others) = and_parts (is_plain c) (list_all is_plain run) h in
+    rw (plain c one, all_plain run others) refl
+
+pub plain_run : (old new : List ℕ) → AfterRun is_plain old new → PlainRun old new
+plain_run old new (n, r) = record { run = r.run; text = r.text; as_is = all_plain r.run r.all }
 
 whole : (old new : List ℕ) (r : PlainRun old new) → IsUtf8 old → IsUtf8 new → old ≡ encode_utf8_all r.run ++ new
 whole old new r u v =
