@@ -7,6 +7,7 @@ ghost use Rattle.kdl_parser.specs.Internal.Building.{state_view, under_view, End
 ghost use Rattle.kdl_parser.specs.Internal.Counted.{unsliced, SlicedOn};
 ghost use Rattle.kdl_parser.specs.Internal.Events.{Acts, PartsAhead, is_live, mark_step, string_step, value_step};
 ghost use Rattle.kdl_parser.specs.Internal.States.{document_now, document_of_nodes, Steps, Takes, token_step};
+ghost use Rattle.kdl_parser.specs.declared.builder.TakeFailure.TheVariants.{Memory};
 ghost use Rattle.kdl_parser.specs.declared.builder.dropping.Dropped.TheVariants.{Nothing};
 ghost use Rattle.kdl_text.specs.Internal.Here.{Ahead};
 ghost use Rattle.kdl_text.specs.Spans.{bytes};
@@ -24,11 +25,36 @@ use kdl_control::{Event, Phase};
 use kdl_entry::parsing::parts::{Parts, TypeParts, empty};
 use kdl_entry::parsing::slices::Slices;
 use kdl_entry::{KdlEntry, KdlIdentifier, KdlValue};
-use kdl_lexer::{LexFailure, Token, TokenKind, TokenSpan, fault_at};
+use kdl_lexer::{Token, TokenKind, TokenSpan};
 use kdl_text::cursor::{self, Checkpoint, Piece};
 use kdl_text::span::SourceSpan;
-use std::alloc::Global;
+use std::alloc::{AllocError, AllocFailed, Global};
 use std::mem;
+
+/// Why the builder does not take a token, or returns no document.
+#[derive(Clone, Copy, Drop)]
+pub(crate) enum TakeFailure {
+    /// The token may not be where it is, or the text may not end there.
+    Unexpected,
+    /// An allocation failed.
+    Memory,
+}
+
+impl<T: Drop> From<AllocFailed<T>> for TakeFailure {
+    ghost from_gives = { λ _ e. e ≡ Memory };
+
+    fn from(_: AllocFailed<T>) -> TakeFailure {
+        TakeFailure::Memory
+    }
+}
+
+impl From<AllocError> for TakeFailure {
+    ghost from_gives = { λ _ e. e ≡ Memory };
+
+    fn from(_: AllocError) -> TakeFailure {
+        TakeFailure::Memory
+    }
+}
 
 /// A node being read.
 #[derive(Drop)]
@@ -150,18 +176,18 @@ impl<'a, N: ParsedNode> Builder<'a, N> {
         event: Event,
         value: KdlValue,
         at: &TokenSpan<'a>,
-    ) -> Result<(), LexFailure>
+    ) -> Result<(), TakeFailure>
         requires live { self.old.dropped ≡ Nothing }
         requires from { Ahead self.old.from at.now.start }
         requires parts { PartsAhead event self.old.parts.from at.now.start }
-        ensures { Acts N.tree event (value_step N.tree self.old event (value_tree value) at.now.start at.now.end) at.now
+        ensures { Acts N.tree event (value_step N.tree self.old event (value_tree value) at.now.start at.now.end)
             self.old result self.new }
     {
         match event {
             Event::Argument => self.add_argument(value, at),
             Event::TypedValue => self.add_typed(value, at),
             Event::KeyedValue => self.add_keyed(value, at),
-            _ => Err(LexFailure::Faulty(fault_at(&at.start))),
+            _ => Err(TakeFailure::Unexpected),
         }
     }
 
@@ -173,11 +199,11 @@ impl<'a, N: ParsedNode> Builder<'a, N> {
         event: Event,
         text: String,
         at: &TokenSpan<'a>,
-    ) -> Result<(), LexFailure>
+    ) -> Result<(), TakeFailure>
         requires live { self.old.dropped ≡ Nothing }
         requires from { Ahead self.old.from at.now.start }
         requires parts { PartsAhead event self.old.parts.from at.now.start }
-        ensures { Acts N.tree event (string_step N.tree self.old event (text_of text) at.now.start at.now.end) at.now
+        ensures { Acts N.tree event (string_step N.tree self.old event (text_of text) at.now.start at.now.end)
             self.old result self.new }
     {
         match event {
@@ -192,11 +218,11 @@ impl<'a, N: ParsedNode> Builder<'a, N> {
     /// Takes a token that is neither a string nor a value, and does its event.
     #[inline(always)]
     #[tactic(auto, using(crate::proofs::Stepping::StepsDone::does_did, crate::proofs::Stepping::StepsDone::none_sliced, crate::proofs::Stepping::StepsDone::does_sliced))]
-    fn take_mark(&mut self, event: Event, at: &TokenSpan<'a>) -> Result<(), LexFailure>
+    fn take_mark(&mut self, event: Event, at: &TokenSpan<'a>) -> Result<(), TakeFailure>
         requires live { self.old.dropped ≡ Nothing }
         requires from { Ahead self.old.from at.now.start }
         requires parts { PartsAhead event self.old.parts.from at.now.start }
-        ensures { Acts N.tree event (mark_step N.tree self.old event at.now.start at.now.end) at.now
+        ensures { Acts N.tree event (mark_step N.tree self.old event at.now.start at.now.end)
             self.old result self.new }
     {
         match event {
@@ -216,20 +242,20 @@ impl<'a, N: ParsedNode> Builder<'a, N> {
             Event::GapClosing => self.close(at),
             Event::NodeClosing => self.close_node(at),
             Event::KeptClosing => self.close_kept(at),
-            _ => Err(LexFailure::Faulty(fault_at(&at.start))),
+            _ => Err(TakeFailure::Unexpected),
         }
     }
 
     /// Takes a token outside of what is slashdashed.
     #[inline(always)]
-    fn take_live(&mut self, kind: TokenKind, at: &TokenSpan<'a>) -> Result<(), LexFailure>
+    fn take_live(&mut self, kind: TokenKind, at: &TokenSpan<'a>) -> Result<(), TakeFailure>
         requires live { self.old.dropped ≡ Nothing }
         requires phase { is_live self.old.phase ≡ true }
         requires placed { Placed (state_view N.tree self.old) at.now.start.rest }
         ensures { Takes N.tree self.old kind at.now result self.new }
     {
         let Some(event) = self.phase.event(&kind) else {
-            return Err(LexFailure::Faulty(fault_at(&at.start)));
+            return Err(TakeFailure::Unexpected);
         };
         match kind {
             TokenKind::String(text) => self.take_string(event, text, at),
@@ -240,7 +266,7 @@ impl<'a, N: ParsedNode> Builder<'a, N> {
 
     /// Takes a token if nothing slashdashed is being read.
     #[inline(always)]
-    fn take_kept(&mut self, kind: TokenKind, at: &TokenSpan<'a>) -> Result<(), LexFailure>
+    fn take_kept(&mut self, kind: TokenKind, at: &TokenSpan<'a>) -> Result<(), TakeFailure>
         requires live { self.old.dropped ≡ Nothing }
         requires placed { Placed (state_view N.tree self.old) at.now.start.rest }
         ensures { Takes N.tree self.old kind at.now result self.new }
@@ -261,10 +287,10 @@ impl<'a, N: ParsedNode> Builder<'a, N> {
     /// Takes a token. Fails if the token may not be here, or if an allocation fails; the builder is then in an
     /// unspecified state.
     #[inline(always)]
-    pub(crate) fn take(&mut self, token: Token<'a>) -> Result<(), LexFailure>
+    pub(crate) fn take(&mut self, token: Token<'a>) -> Result<(), TakeFailure>
         requires placed { Placed (state_view N.tree self.old) token.at.start.rest }
         ensures { Steps N.tree (token_step N.tree self.old token.entry.kind token.entry.at)
-            token.entry.at.start (unsliced self.old + 1) self.old result self.new }
+            (unsliced self.old + 1) self.old result self.new }
     {
         self.slices.count_look();
         let Token { kind, at } = token;
@@ -283,10 +309,10 @@ impl<'a, N: ParsedNode> Builder<'a, N> {
 
     /// Returns the document at the end of the text, which is here. Fails if something open is not closed. The builder
     /// can't be used afterwards.
-    pub(crate) fn finish(&mut self, here: &Checkpoint<'a>) -> Result<DocumentParts<N>, LexFailure>
+    pub(crate) fn finish(&mut self, here: &Checkpoint<'a>) -> Result<DocumentParts<N>, TakeFailure>
         requires end { here.now.rest ≡ [] }
         requires from { EndsIn self.old.from.rest here.now.rest }
-        ensures finished { Finished N.tree (document_now N.tree self.old) here.now result }
+        ensures finished { Finished N.tree (document_now N.tree self.old) result }
         ensures sliced { SlicedOn result (unsliced self.old) 0 self.old.slices.steps
             self.new.slices.steps }
     {
@@ -297,11 +323,11 @@ impl<'a, N: ParsedNode> Builder<'a, N> {
     }
 
     /// Returns the document if the text ends at the place.
-    fn finish_at(&mut self, here: &Checkpoint<'a>) -> Result<DocumentParts<N>, LexFailure>
+    fn finish_at(&mut self, here: &Checkpoint<'a>) -> Result<DocumentParts<N>, TakeFailure>
         requires live { self.old.dropped ≡ Nothing }
         requires end { here.now.rest ≡ [] }
         requires from { Ahead self.old.from here.now }
-        ensures finished { Finished N.tree (document_now N.tree self.old) here.now result }
+        ensures finished { Finished N.tree (document_now N.tree self.old) result }
         ensures sliced { SlicedOn result (unsliced self.old) 0 self.old.slices.steps self.new.slices.steps }
     {
         match self.phase {
@@ -314,20 +340,20 @@ impl<'a, N: ParsedNode> Builder<'a, N> {
                 self.end_kept(&nothing_at(here))?;
                 self.finish_nodes(here)
             }
-            _ => Err(LexFailure::Faulty(fault_at(here))),
+            _ => Err(TakeFailure::Unexpected),
         }
     }
 
     /// Returns the document of the nodes, if no block is open.
     #[tactic(auto, using(crate::proofs::Stepping::Views::one_open, crate::proofs::Stepping::Views::all_closed))]
-    fn finish_nodes(&mut self, here: &Checkpoint<'a>) -> Result<DocumentParts<N>, LexFailure>
+    fn finish_nodes(&mut self, here: &Checkpoint<'a>) -> Result<DocumentParts<N>, TakeFailure>
         requires from { Ahead self.old.from here.now }
         requires end { here.now.rest ≡ [] }
-        ensures finished { Finished N.tree (document_of_nodes N.tree self.old) here.now result }
+        ensures finished { Finished N.tree (document_of_nodes N.tree self.old) result }
         ensures sliced { SlicedOn result (bytes self.old.from.rest) 0 self.old.slices.steps self.new.slices.steps }
     {
         if !self.levels.is_empty() {
-            return Err(LexFailure::Faulty(fault_at(here)));
+            return Err(TakeFailure::Unexpected);
         }
         let nodes = mem::replace(&mut self.nodes, Vec::new(self.slices.alloc()));
         let document = self.content_up_to(nodes, here)?;

@@ -1,20 +1,30 @@
 //! Documents, read from the tokens of a text one by one.
 
-ghost use Rattle.kdl_parser.specs.Internal.Answered.{AnswersParts};
+ghost use Rattle.kdl_parser.specs.Internal.Answered.{AnswersParts, FailsAt};
 ghost use Rattle.kdl_grammar.specs.Internal.Machine.{initial};
 ghost use Rattle.kdl_parser.specs.Internal.Building.{EndsIn, state_view};
 ghost use Rattle.kdl_parser.specs.Internal.Counted.{ReadOn, unsliced};
 ghost use Rattle.kdl_text.specs.Spans.{bytes, raise};
 ghost use Rattle.std.specs.Prelude.{◌≡◌, ◌+◌, ◌≤◌};
 
-use crate::builder::Builder;
+use crate::builder::{Builder, TakeFailure};
 use crate::node_parts::{DocumentParts, ParsedNode};
-use kdl_lexer::{LexFailure, Lexer};
+use kdl_lexer::{LexFailure, Lexer, fault_at};
 use kdl_text::cursor::Checkpoint;
 use std::alloc::Global;
 
+/// Returns the failure of the builder, at the place.
+fn failure_at(failure: TakeFailure, place: &Checkpoint) -> LexFailure
+    ensures { FailsAt place.now failure result }
+{
+    match failure {
+        TakeFailure::Unexpected => LexFailure::Faulty(fault_at(place)),
+        TakeFailure::Memory => LexFailure::Memory,
+    }
+}
+
 /// Returns the machine's result on the text before the lexer, by a builder that has not taken a token yet.
-#[tactic(auto, using(crate::proofs::Stepping::TurnCost::counting_ends, crate::proofs::Answering::TokenLoop::goes_on, crate::proofs::Answering::TokenLoop::placed_start, crate::proofs::Answering::TokenLoop::lexer_told, crate::proofs::Answering::TokenLoop::take_told, crate::proofs::Answering::TokenLoop::all_read, crate::proofs::Answering::TokenLoop::stops_going, crate::proofs::Answering::TokenLoop::from_now, crate::proofs::Answering::TokenLoop::finish_told))]
+#[tactic(auto, using(crate::proofs::Stepping::TurnCost::counting_ends, crate::proofs::Stepping::TurnCost::counting_fails, crate::proofs::Answering::TokenLoop::goes_on, crate::proofs::Answering::TokenLoop::placed_start, crate::proofs::Answering::TokenLoop::lexer_told, crate::proofs::Answering::TokenLoop::take_told, crate::proofs::Answering::TokenLoop::all_read, crate::proofs::Answering::TokenLoop::stops_going, crate::proofs::Answering::TokenLoop::from_now, crate::proofs::Answering::TokenLoop::at_the_end, crate::proofs::Answering::TokenLoop::finish_told))]
 fn build_with<'a, N: ParsedNode>(
     alloc: Global,
     builder: &mut Builder<'a, N>,
@@ -30,9 +40,17 @@ fn build_with<'a, N: ParsedNode>(
     ensures counts { raise lexer.old.steps 0 ≤ raise lexer.new.steps 0 }
 {
     'tokens: while let Some(token) = lexer.next(alloc)? {
-        builder.take(token)?;
+        let start = token.at.start.copied();
+        match builder.take(token) {
+            Ok(()) => {}
+            Err(failure) => return Err(failure_at(failure, &start)),
+        }
     }
-    builder.finish(&lexer.checkpoint())
+    let end = lexer.checkpoint();
+    match builder.finish(&end) {
+        Ok(document) => Ok(document),
+        Err(failure) => Err(failure_at(failure, &end)),
+    }
 }
 
 /// Reads the document before the lexer: the text `whole`, or what follows its U+FEFF. Fails at the first token that may

@@ -1,5 +1,5 @@
 -- The turns of the loop over the tokens of a text, and what they return.
-use Rattle.std.proofs.Common.{◌≡◌, ◌↔◌, ◌+◌, ◌<◌, ◌≤◌, length, [], ◌∷◌, ◌++◌, Some, None, option_map, Result, Ok, Err, inl, refl, sym, ap, subst, ◌∙◌, arith}
+use Rattle.std.proofs.Common.{◌≡◌, ◌↔◌, ◌+◌, ◌<◌, ◌≤◌, length, [], ◌∷◌, ◌++◌, Some, None, option_map, Ok, Err, inl, refl, sym, ap, subst, ◌∙◌, arith}
 use Rattle.kdl_text.specs.Chars.{Text, Star, plus}
 use Rattle.kdl_text.specs.Chars.Star.{none as no_star, more}
 use Rattle.kdl_text.specs.Internal.Here.{Here, Position, first_len}
@@ -11,19 +11,21 @@ use Rattle.kdl_entry.proofs.Reading.EntryLoop.{bytes_before, char_in}
 use Rattle.kdl_lexer.specs.Internal.Handed.{Cuts, one, spaces, IsFaultAt, kind_view, HandsOut, Lexed}
 use Rattle.kdl_lexer.specs.Tokens.{Token, t_space, NoToken}
 use Rattle.kdl_lexer.specs.declared.lexer.LexFailure.{LexFailure}
-use Rattle.kdl_lexer.specs.declared.lexer.LexFailure.TheVariants.{Faulty, Memory}
+use Rattle.kdl_lexer.specs.declared.lexer.LexFailure.TheVariants.{Faulty, Memory as LexMemory}
 use Rattle.kdl_lexer.specs.declared.lexer.Token.{Token as CodeToken}
 use Rattle.kdl_lexer.proofs.Lexing.TokenUnique.{token_shorter, no_token}
 use Rattle.kdl_control.specs.Control as control
 use Rattle.kdl_grammar.specs.Going.{Goes}
 use Rattle.kdl_grammar.specs.Going as going
 use Rattle.kdl_grammar.proofs.Reading.Erased.{a_state}
-use Rattle.kdl_parser.specs.Internal.Answered.{AnswersParts, Finished}
+use Rattle.kdl_parser.specs.Internal.Answered.{AnswersParts, Finished, FailsAt}
 use Rattle.kdl_grammar.specs.Internal.Machine.{State, step, finish, initial, Runs}
 use Rattle.kdl_parser.specs.Internal.Building.{state_view, held, Did, EndsIn, Placed}
 use Rattle.kdl_grammar.specs.Tree.{Node, Document}
 use Rattle.kdl_parser.specs.Internal.Parts.{document_by}
 use Rattle.kdl_parser.specs.declared.builder.Builder.{Builder}
+use Rattle.kdl_parser.specs.declared.builder.TakeFailure.{TakeFailure}
+use Rattle.kdl_parser.specs.declared.builder.TakeFailure.TheVariants.{Unexpected, Memory}
 use Rattle.kdl_parser.specs.declared.node_parts.DocumentParts.{DocumentParts}
 use Rattle.kdl_parser.proofs.Stepping.PlacesAhead.{placed_step, state_from, then_ends}
 use Rattle.kdl_lexer.specs.Earliest.{BeginsNone}
@@ -141,13 +143,15 @@ stuck_end tree b here e = inl (subst BeginsNone (sym e) (λ r k x. no_token x))
 -- the lexer's failure, and a token that is refused
 pub lexer_told : {N : Type 0} (tree : N → Node) (b : Builder N) (before after : Here) (t u : Text) (e : LexFailure) → Going tree b before t u → Lexed before (Err e) after → AnswersParts tree t u (Err e)
 lexer_told tree b before after t u (Faulty span) g x = (no_reading tree b before t u g x.0, told tree b before t u (record { rest = before.rest; at = before.at }) span g refl refl x.1, stops_there tree b before t u span g x.1.offset (inl x.0.none))
-lexer_told tree b before after t u Memory g x = tt
+lexer_told tree b before after t u LexMemory g x = tt
 
-pub take_told : {N : Type 0} (tree : N → Node) (b b' : Builder N) (before mid : Here) (t u : Text) (k : CodeToken) (e : LexFailure) → Going tree b before t u → HandsOut before k mid
-    → Did {A = Unit {0}} (step b.slices.whole.rest (state_view tree b) (kind_view k.kind) k.at.start.rest k.at.end.rest) k.at.start (Err e) (state_view tree b') → AnswersParts tree t u (Err e)
-take_told tree b b' before mid t u k (Faulty span) g h x =
-    (no_turn tree b before mid t u k g h x.0, told tree b before t u k.at.start span g h.start_rest h.start_at x.1, stops_there tree b before t u span g (x.1.offset ∙ h.start_at) (stuck_turn tree b before mid k h x.0))
-take_told tree b b' before mid t u k Memory g h x = tt
+pub take_told : {N : Type 0} (tree : N → Node) (b b' : Builder N) (before mid : Here) (t u : Text) (k : CodeToken) (f : TakeFailure) (e : LexFailure) → Going tree b before t u → HandsOut before k mid
+    → Did {A = Unit {0}} (step b.slices.whole.rest (state_view tree b) (kind_view k.kind) k.at.start.rest k.at.end.rest) (Err f) (state_view tree b') → FailsAt k.at.start f e → AnswersParts tree t u (Err e)
+take_told tree b b' before mid t u k Unexpected (Faulty span) g h x y =
+    (no_turn tree b before mid t u k g h x, told tree b before t u k.at.start span g h.start_rest h.start_at y, stops_there tree b before t u span g (y.offset ∙ h.start_at) (stuck_turn tree b before mid k h x))
+take_told tree b b' before mid t u k Unexpected LexMemory g h x y = absurd y
+take_told tree b b' before mid t u k Memory (Faulty span) g h x y = absurd y
+take_told tree b b' before mid t u k Memory LexMemory g h x y = tt
 
 -- the end of the text
 nothing_left : (p r : Text) → [] ≡ p ++ r → r ≡ []
@@ -191,8 +195,9 @@ no_end tree b here t u g e f =
     let f' = subst (λ (w : Text). finish w (state_view tree b) ≡ None) g.whole f in
     no_run_there t u here.rest (state_view tree b) g.same e f'
 
-pub finish_told : {N : Type 0} (tree : N → Node) (b : Builder N) (here : Here) (t u : Text) (place : Position) (result : Result (DocumentParts N) LexFailure) → Going tree b here t u → here.rest ≡ [] → place.rest ≡ here.rest → place.at ≡ here.at
-    → Finished tree (finish b.slices.whole.rest (state_view tree b)) place result → AnswersParts tree t u result
-finish_told tree b here t u place (Ok d) g e f n x = at_the_end tree b here t u d g e x
-finish_told tree b here t u place (Err (Faulty span)) g e f n x = (no_end tree b here t u g e x.0, told tree b here t u place span g f n x.1, stops_there tree b here t u span g (x.1.offset ∙ n) (stuck_end tree b here e))
-finish_told tree b here t u place (Err Memory) g e f n x = tt
+pub finish_told : {N : Type 0} (tree : N → Node) (b : Builder N) (here : Here) (t u : Text) (place : Position) (f : TakeFailure) (e : LexFailure) → Going tree b here t u → here.rest ≡ [] → place.rest ≡ here.rest → place.at ≡ here.at
+    → Finished tree (finish b.slices.whole.rest (state_view tree b)) (Err f) → FailsAt place f e → AnswersParts tree t u (Err e)
+finish_told tree b here t u place Unexpected (Faulty span) g e f n x y = (no_end tree b here t u g e x, told tree b here t u place span g f n y, stops_there tree b here t u span g (y.offset ∙ n) (stuck_end tree b here e))
+finish_told tree b here t u place Unexpected LexMemory g e f n x y = absurd y
+finish_told tree b here t u place Memory (Faulty span) g e f n x y = absurd y
+finish_told tree b here t u place Memory LexMemory g e f n x y = tt

@@ -6,7 +6,7 @@ use Rattle.kdl_control.specs.declared.control.Phase.TheVariants.{InNode, Kept as
 use Rattle.kdl_control.specs.declared.control.Spot.{Spot}
 use Rattle.kdl_control.specs.declared.control.Spot.TheVariants.{Fresh, Spaced, Later}
 use Rattle.kdl_entry.specs.Places.{between}
-use Rattle.kdl_lexer.specs.declared.lexer.LexFailure.{LexFailure}
+use Rattle.kdl_parser.specs.declared.builder.TakeFailure.{TakeFailure}
 use Rattle.kdl_grammar.specs.Internal.Machine.{Under, Kept, Frame, State, at, at_end, closed, closed_kept, ended, finish}
 use Rattle.kdl_grammar.specs.Tree.{Node, Nodes, Document, no_children}
 use Rattle.kdl_parser.specs.Internal.Answered.{Finished}
@@ -47,20 +47,20 @@ in_node_ends tree b Later = refl
 now_is : {N : Type 0} (tree : N → Node) (b : Builder N) → b.dropped ≡ Nothing → document_now tree b ≡ finish b.slices.whole.rest (in_phase tree b (phase_now tree b b.phase))
 now_is tree b e = ap (λ (z : Dropped). finish b.slices.whole.rest (state_by tree b (reading_view z))) e
 
-pub node_finishes : {N : Type 0} (tree : N → Node) (b m : Builder N) (spot : Spot) (here : Position) (result : Result (DocumentParts N) LexFailure)
+pub node_finishes : {N : Type 0} (tree : N → Node) (b m : Builder N) (spot : Spot) (here : Position) (result : Result (DocumentParts N) TakeFailure)
     → b.dropped ≡ Nothing → b.phase ≡ InNode spot → here.rest ≡ [] → state_view tree m ≡ node_ended tree b here here → m.dropped ≡ Nothing → m.slices.whole ≡ b.slices.whole
-    → Finished tree (document_of_nodes tree m) here result → Finished tree (document_now tree b) here result
+    → Finished tree (document_of_nodes tree m) result → Finished tree (document_now tree b) result
 node_finishes tree b m spot here result d p e s d' w f =
     let x : document_of_nodes tree m ≡ nodes_of b.slices.whole.rest (node_ended tree b here here) = of_state tree m d' ∙ ap (λ z. nodes_of z.rest (state_view tree m)) w ∙ ap (nodes_of b.slices.whole.rest) s in
     let y = ends_at b.slices.whole.rest b.from.rest here.rest (node_now b) (nodes_now tree b) (frames_view tree b) e in
     let z : document_now tree b ≡ _ = now_is tree b d ∙ ap (λ q. finish b.slices.whole.rest (in_phase tree b (phase_now tree b q))) p ∙ in_node_ends tree b spot in
-    subst (λ o. Finished tree o here result) (x ∙ y ∙ sym z) f
+    subst (λ o. Finished tree o result) (x ∙ y ∙ sym z) f
 
-pub kept_finishes : {N : Type 0} (tree : N → Node) (b m : Builder N) (here : Position) (result : Result (DocumentParts N) LexFailure)
+pub kept_finishes : {N : Type 0} (tree : N → Node) (b m : Builder N) (here : Position) (result : Result (DocumentParts N) TakeFailure)
     → b.dropped ≡ Nothing → b.phase ≡ KeptPhase → here.rest ≡ [] → state_view tree m ≡ kept_ended tree b here here → m.dropped ≡ Nothing → m.slices.whole ≡ b.slices.whole
-    → Finished tree (document_of_nodes tree m) here result → Finished tree (document_now tree b) here result
+    → Finished tree (document_of_nodes tree m) result → Finished tree (document_now tree b) result
 kept_finishes tree b m here result d p e s d' w f =
     let x : document_of_nodes tree m ≡ nodes_of b.slices.whole.rest (kept_ended tree b here here) = of_state tree m d' ∙ ap (λ z. nodes_of z.rest (state_view tree m)) w ∙ ap (nodes_of b.slices.whole.rest) s in
     let y = kept_ends_at b.slices.whole.rest b.from.rest here.rest (kept_now tree b) (nodes_now tree b) (frames_view tree b) e in
     let z : document_now tree b ≡ _ = now_is tree b d ∙ ap (λ q. finish b.slices.whole.rest (in_phase tree b (phase_now tree b q))) p in
-    subst (λ o. Finished tree o here result) (x ∙ y ∙ sym z) f
+    subst (λ o. Finished tree o result) (x ∙ y ∙ sym z) f

@@ -15,7 +15,7 @@ use Rattle.kdl_grammar.specs.Internal.Machine.{State, step, Pending, pending, va
 use Rattle.kdl_grammar.specs.Tree.{Node}
 use Rattle.kdl_lexer.specs.Internal.Handed.{kind_view}
 use Rattle.kdl_lexer.specs.Tokens.{Token, space, equals}
-use Rattle.kdl_lexer.specs.declared.lexer.LexFailure.{LexFailure}
+use Rattle.kdl_parser.specs.declared.builder.TakeFailure.{TakeFailure}
 use Rattle.kdl_lexer.specs.declared.lexer.TokenKind.{TokenKind}
 use Rattle.kdl_lexer.specs.declared.lexer.TokenKind.TheVariants.{String as StringKind, Value as ValueKind}
 use Rattle.kdl_lexer.specs.declared.token_span.TokenSpan.{TokenSpan}
@@ -91,7 +91,7 @@ same_unsliced n m k (InNode (Spaced NoKey)) = refl
 same_unsliced n m k (InNode Later) = refl
 same_unsliced n m k p = refl
 
-module _ {N : Type 0} (tree : N → Node) (b b' : Builder N) (span : TokenSpan) (e : Event) (result : Result (Unit {0}) LexFailure) where
+module _ {N : Type 0} (tree : N → Node) (b b' : Builder N) (span : TokenSpan) (e : Event) (result : Result (Unit {0}) TakeFailure) where
   -- the machine's step at the token
   token_is : (k : TokenKind) (o : Option Event) → b.dropped ≡ Nothing → is_live b.phase ≡ true → o ≡ event_of b.phase (kind_view k) → token_step tree b k span ≡ stepped_by tree b o (kind_view k) span.start span.end
   token_is k o d l f =
@@ -103,15 +103,15 @@ module _ {N : Type 0} (tree : N → Node) (b b' : Builder N) (span : TokenSpan) 
       ∙ ap (λ (z : Dropped). unsliced_at z b.phase (bytes b.from.rest) (bytes b.parts.from.rest)) (sym d)
 
   -- what a token of an event does
-  takes : (k : TokenKind) → b.dropped ≡ Nothing → is_live b.phase ≡ true → Some e ≡ event_of b.phase (kind_view k) → Acts tree e (event_step tree b e (kind_view k) span.start span.end) span b result b' → Takes tree b k span result b'
+  takes : (k : TokenKind) → b.dropped ≡ Nothing → is_live b.phase ≡ true → Some e ≡ event_of b.phase (kind_view k) → Acts tree e (event_step tree b e (kind_view k) span.start span.end) b result b' → Takes tree b k span result b'
   takes k d l f x = record {
-    did = subst (λ (o : Option State). Did o span.start result (state_view tree b')) (sym (token_is k (Some e) d l f)) x.did;
+    did = subst (λ (o : Option State). Did o result (state_view tree b')) (sym (token_is k (Some e) d l f)) x.did;
     whole = x.whole;
     sliced = subst (λ (n : ℕ). SlicedOn result n (unsliced b') b.slices.steps b'.slices.steps) (unsliced_is k d f) x.sliced;
   }
 
-  pub takes_as : (k k' : TokenKind) (o : Option State) → b.dropped ≡ Nothing → is_live b.phase ≡ true → Some e ≡ event_of b.phase (kind_view k) → k ≡ k' → o ≡ event_step tree b e (kind_view k') span.start span.end → Acts tree e o span b result b' → Takes tree b k span result b'
-  takes_as k k' o d l f i j x = takes k d l f (subst (λ (z : TokenKind). Acts tree e (event_step tree b e (kind_view z) span.start span.end) span b result b') (sym i) (subst (λ (z : Option State). Acts tree e z span b result b') j x))
+  pub takes_as : (k k' : TokenKind) (o : Option State) → b.dropped ≡ Nothing → is_live b.phase ≡ true → Some e ≡ event_of b.phase (kind_view k) → k ≡ k' → o ≡ event_step tree b e (kind_view k') span.start span.end → Acts tree e o b result b' → Takes tree b k span result b'
+  takes_as k k' o d l f i j x = takes k d l f (subst (λ (z : TokenKind). Acts tree e (event_step tree b e (kind_view z) span.start span.end) b result b') (sym i) (subst (λ (z : Option State). Acts tree e z b result b') j x))
 
 -- a token that is neither a string nor a value
 pub is_mark : {N : Type 0} (tree : N → Node) (b : Builder N) (e : Event) (s r : Position) (k : TokenKind) → ((x : _) → k ≡ StringKind x → ⊥) → ((x : _) → k ≡ ValueKind x → ⊥) → mark_step tree b e s r ≡ event_step tree b e (kind_view k) s r

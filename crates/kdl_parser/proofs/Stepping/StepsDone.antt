@@ -1,10 +1,9 @@
 -- What a step did that is refused at no token.
 use Rattle.std.proofs.Common.{◌≡◌, ℕ, ◌+◌, Option, Some, option_map, Result, Ok, Err, OnOk, sym, ap, subst, ◌∙◌, arith}
-use Rattle.kdl_text.specs.Internal.Here.{Position}
 use Rattle.kdl_text.specs.Spans.{raise}
 use Rattle.kdl_entry.specs.declared.parsing.slices.Slices.{Slices}
-use Rattle.kdl_lexer.specs.declared.lexer.LexFailure.{LexFailure}
-use Rattle.kdl_lexer.specs.declared.lexer.LexFailure.TheVariants.{Faulty, Memory}
+use Rattle.kdl_parser.specs.declared.builder.TakeFailure.{TakeFailure}
+use Rattle.kdl_parser.specs.declared.builder.TakeFailure.TheVariants.{Unexpected, Memory}
 use Rattle.kdl_lexer.specs.declared.lexer.TokenKind.{TokenKind}
 use Rattle.kdl_lexer.specs.declared.token_span.TokenSpan.{TokenSpan}
 use Rattle.kdl_grammar.specs.Internal.Machine.{State}
@@ -14,37 +13,37 @@ use Rattle.kdl_parser.specs.Internal.Counted.{SlicedOn, unsliced}
 use Rattle.kdl_parser.specs.Internal.States.{Steps, Takes, token_step}
 use Rattle.kdl_parser.specs.declared.builder.Builder.{Builder}
 
-pub does_did : {A : Type 0} (o : Option State) (want st : State) (place : Position) (result : Result A LexFailure) → Does want result st → o ≡ Some want → Did o place result st
-does_did o want st place (Ok x) d e = ap (option_map held) e ∙ ap (λ (z : State). Some (held z)) (sym d)
-does_did o want st place (Err (Faulty span)) d e = absurd d
-does_did o want st place (Err Memory) d e = tt
+pub does_did : {A : Type 0} (o : Option State) (want st : State) (result : Result A TakeFailure) → Does want result st → o ≡ Some want → Did o result st
+does_did o want st (Ok x) d e = ap (option_map held) e ∙ ap (λ (z : State). Some (held z)) (sym d)
+does_did o want st (Err Unexpected) d e = absurd d
+does_did o want st (Err Memory) d e = tt
 
 -- it fails only where memory runs out
-pub failed : (o : Option State) (want st st' : State) (place : Position) (e : LexFailure) → Does {A = Unit {0}} want (Err e) st → Did {A = Unit {0}} o place (Err e) st'
-failed o want st st' place (Faulty span) d = absurd d
-failed o want st st' place Memory d = tt
+pub failed : (o : Option State) (want st st' : State) (e : TakeFailure) → Does {A = Unit {0}} want (Err e) st → Did {A = Unit {0}} o (Err e) st'
+failed o want st st' Unexpected d = absurd d
+failed o want st st' Memory d = tt
 
 -- nothing was sliced
-pub none_sliced : {A : Type 0} (m n k a : ℕ) (result : Result A LexFailure) → OnOk result (n ≡ m) → k ≡ m → SlicedOn result k n a a
+pub none_sliced : {A : Type 0} (m n k a : ℕ) (result : Result A TakeFailure) → OnOk result (n ≡ m) → k ≡ m → SlicedOn result k n a a
 none_sliced m n k a (Ok x) e f = record { most = omega (arith, e, f) }
-none_sliced m n k a (Err (Faulty span)) e f = record { most = omega arith }
+none_sliced m n k a (Err Unexpected) e f = record { most = omega arith }
 none_sliced m n k a (Err Memory) e f = tt
 
 -- the same of a step that no token refuses
-pub does_sliced : {A : Type 0} (m n k a b : ℕ) (want st : State) (result : Result A LexFailure) → Does want result st → OnOk result (b ≡ a) → OnOk result (n ≡ m) → k ≡ m → SlicedOn result k n a b
+pub does_sliced : {A : Type 0} (m n k a b : ℕ) (want st : State) (result : Result A TakeFailure) → Does want result st → OnOk result (b ≡ a) → OnOk result (n ≡ m) → k ≡ m → SlicedOn result k n a b
 does_sliced m n k a b want st (Ok x) d h e f = record { most = omega (arith, h, e, f) }
-does_sliced m n k a b want st (Err (Faulty span)) d h e f = absurd d
+does_sliced m n k a b want st (Err Unexpected) d h e f = absurd d
 does_sliced m n k a b want st (Err Memory) d h e f = tt
 
 -- one look more
-more_sliced : {A : Type 0} (m k s t : ℕ) (result : Result A LexFailure) → SlicedOn result m k (raise s 1) t → SlicedOn result (m + 1) k s t
+more_sliced : {A : Type 0} (m k s t : ℕ) (result : Result A TakeFailure) → SlicedOn result m k (raise s 1) t → SlicedOn result (m + 1) k s t
 more_sliced m k s t (Ok x) d = record { most = omega (arith, d.most) }
-more_sliced m k s t (Err (Faulty span)) d = record { most = omega (arith, d.most) }
+more_sliced m k s t (Err Unexpected) d = record { most = omega (arith, d.most) }
 more_sliced m k s t (Err Memory) d = tt
 
 -- a step after a look that is counted
-pub looked_takes : {N : Type 0} (tree : N → Node) (b new : Builder N) (z : Slices) (kind : TokenKind) (span : TokenSpan) (result : Result (Unit {0}) LexFailure) → z ≡ record b.slices { steps = raise b.slices.steps 1 } → Takes tree (record b { slices = z }) kind span result new
-    → Steps tree (token_step tree b kind span) span.start (unsliced b + 1) b result new
+pub looked_takes : {N : Type 0} (tree : N → Node) (b new : Builder N) (z : Slices) (kind : TokenKind) (span : TokenSpan) (result : Result (Unit {0}) TakeFailure) → z ≡ record b.slices { steps = raise b.slices.steps 1 } → Takes tree (record b { slices = z }) kind span result new
+    → Steps tree (token_step tree b kind span) (unsliced b + 1) b result new
 looked_takes tree b new z kind span result e x =
     let y : Takes tree (record b { slices = record b.slices { steps = raise b.slices.steps 1 } }) kind span result new = subst (λ (s : Slices). Takes tree (record b { slices = s }) kind span result new) e x in
     record { did = y.did; whole = y.whole; sliced = more_sliced (unsliced b) (unsliced new) b.slices.steps new.slices.steps result y.sliced }

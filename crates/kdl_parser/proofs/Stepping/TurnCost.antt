@@ -10,10 +10,13 @@ use Rattle.kdl_lexer.specs.Internal.Handed.{HandsOut}
 use Rattle.kdl_lexer.specs.Internal.Order.{IsEndOf}
 use Rattle.kdl_lexer.proofs.Order.{ahead}
 use Rattle.kdl_lexer.specs.declared.lexer.LexFailure.{LexFailure}
-use Rattle.kdl_lexer.specs.declared.lexer.LexFailure.TheVariants.{Faulty, Memory}
+use Rattle.kdl_lexer.specs.declared.lexer.LexFailure.TheVariants.{Faulty, Memory as LexMemory}
 use Rattle.kdl_lexer.specs.declared.lexer.Token.{Token as CodeToken}
 use Rattle.kdl_entry.proofs.Slicing.SliceCost.{ahead_fewer}
-use Rattle.kdl_parser.specs.Internal.Counted.{SlicedOn, ReadOn}
+use Rattle.kdl_parser.specs.Internal.Answered.{FailsAt}
+use Rattle.kdl_parser.specs.Internal.Counted.{SlicedOn, ReadOn, ReadThrough}
+use Rattle.kdl_parser.specs.declared.builder.TakeFailure.{TakeFailure}
+use Rattle.kdl_parser.specs.declared.builder.TakeFailure.TheVariants.{Unexpected, Memory}
 use Rattle.kdl_parser.proofs.Answering.TokenLoop.{cut_shorter}
 
 -- from the start to here, where k steps were counted for slices and n bytes are not sliced yet
@@ -35,20 +38,25 @@ counting_goes_on start before mid t i j m n g h v c d =
       counts = omega (arith, g.counts, v.counts);
     }
 
-pub counting_ends : {A : Type 0} (result : Result A LexFailure) (start before after : Here) (i j n : ℕ) → Counting start before i n → before.rest ≡ [] → Moves before after → Costs 24 1 before after → SlicedOn result n 0 i j → ReadOn result start (after.steps + j)
-counting_ends (Ok x) start before after i j n g e v c d =
-    record {
-      least = omega (arith, g.least, v.counts, ap length e);
-      most = omega (arith, g.most, c.most, d.most, ap bytes e);
-    }
-counting_ends (Err (Faulty span)) start before after i j n g e v c d = omega (arith, g.most, c.most, d.most, ap bytes e)
-counting_ends (Err Memory) start before after i j n g e v c d = tt
+-- the text was read to its end: the builder's result, and what is returned for it
+pub counting_ends : {A : Type 0} (x : A) (start before after : Here) (i j n : ℕ) → Counting start before i n → before.rest ≡ [] → Moves before after → Costs 24 1 before after → SlicedOn {A = A} (Ok x) n 0 i j → ReadThrough start (after.steps + j)
+counting_ends x start before after i j n g e v c d = record {
+  least = omega (arith, g.least, v.counts, ap length e);
+  most = omega (arith, g.most, c.most, d.most, ap bytes e);
+}
+
+-- a token that is not taken, or an end that may not be there
+pub counting_fails : (A B : Type 0) (start before mid : Here) (i j n k : ℕ) (place : Position) (f : TakeFailure) (e : LexFailure) → Counting start before i n → Costs 24 1 before mid → SlicedOn {A = A} (Err f) (n + 1) k i j → FailsAt place f e → ReadOn {A = B} (Err e) start (mid.steps + j)
+counting_fails A B start before mid i j n k place Unexpected (Faulty span) g c d x = omega (arith, g.most, c.most, d.most)
+counting_fails A B start before mid i j n k place Unexpected LexMemory g c d x = absurd x
+counting_fails A B start before mid i j n k place Memory (Faulty span) g c d x = absurd x
+counting_fails A B start before mid i j n k place Memory LexMemory g c d x = tt
 
 -- the count of the slices is added to that of the lexer
 pub counted_up : {A : Type 0} (result : Result A LexFailure) (start : Here) (m k n : ℕ) → n ≡ raise m k → ReadOn result start (m + k) → ReadOn result start n
 counted_up (Ok x) start m k n e r = record { least = omega (arith, e, r.least); most = omega (arith, e, r.most) }
 counted_up (Err (Faulty span)) start m k n e r = omega (arith, e, r)
-counted_up (Err Memory) start m k n e r = tt
+counted_up (Err LexMemory) start m k n e r = tt
 
 -- what is ahead has fewer bytes
 pub fewer : (from to : Position) → Ahead from to → bytes to.rest ≤ bytes from.rest

@@ -5,21 +5,29 @@ use Rattle.kdl_text.specs.Internal.Here.{Position}
 use Rattle.kdl_text.specs.Spans.{InText}
 use Rattle.kdl_lexer.specs.Internal.Handed.{IsFaultAt}
 use Rattle.kdl_lexer.specs.declared.lexer.LexFailure.{LexFailure}
-use Rattle.kdl_lexer.specs.declared.lexer.LexFailure.TheVariants.{Faulty, Memory}
+use Rattle.kdl_lexer.specs.declared.lexer.LexFailure.TheVariants.{Faulty, Memory as LexMemory}
 use Rattle.kdl_grammar.specs.Internal.Machine.{initial, Runs}
 use Rattle.kdl_grammar.specs.Tree.{Node, Document}
 use Rattle.kdl_parser.specs.Internal.Parts.{document_by}
 use Rattle.kdl_parser.specs.Internal.Stopping.{Stops}
+use Rattle.kdl_parser.specs.declared.builder.TakeFailure.{TakeFailure}
+use Rattle.kdl_parser.specs.declared.builder.TakeFailure.TheVariants.{Unexpected, Memory}
 use Rattle.kdl_parser.specs.declared.node_parts.DocumentParts.{DocumentParts}
 
 -- what the machine returns on u, which is the text t or what follows its U+FEFF; for a refused text the place where it is refused is reported
 abbrev pub AnswersParts : {N : Type 0} → (N → Node) → Text → Text → Result (DocumentParts N) LexFailure → Type 0
 AnswersParts tree t u (Ok d) = Runs t (document_by tree d) (initial u) u
 AnswersParts tree t u (Err (Faulty span)) = ((d : Document) → Runs t d (initial u) u → ⊥) × InText t span × Stops t u span
-AnswersParts tree t u (Err Memory) = Unit {0}
+AnswersParts tree t u (Err LexMemory) = Unit {0}
 
--- what is returned at the end of the text, given what the machine returns; for a refused text the place is reported
-abbrev pub Finished : {N : Type 0} → (N → Node) → Option Document → Position → Result (DocumentParts N) LexFailure → Type 0
-Finished tree o place (Ok d) = o ≡ Some (document_by tree d)
-Finished tree o place (Err (Faulty span)) = (o ≡ None) × IsFaultAt place span
-Finished tree o place (Err Memory) = Unit {0}
+-- what is returned at the end of the text, given what the machine returns
+abbrev pub Finished : {N : Type 0} → (N → Node) → Option Document → Result (DocumentParts N) TakeFailure → Type 0
+Finished tree o (Ok d) = o ≡ Some (document_by tree d)
+Finished tree o (Err Unexpected) = o ≡ None
+Finished tree o (Err Memory) = Unit {0}
+
+-- the builder's failure, at the place
+abbrev pub FailsAt : Position → TakeFailure → LexFailure → Type 0
+FailsAt place Unexpected (Faulty span) = IsFaultAt place span
+FailsAt place Memory LexMemory = Unit {0}
+FailsAt place _ _ = ⊥

@@ -1,7 +1,6 @@
 -- The machine's state that the builder's fields represent, and what its steps return.
 use Rattle.std.specs.Prelude.{◌≡◌, List, [], ◌∷◌, map, Option, Some, None, option_map, Result, Ok, Err}
 use Rattle.kdl_text.specs.Chars.{Text}
-use Rattle.kdl_text.specs.Internal.Here.{Position}
 use Rattle.kdl_control.specs.Internal.Views.{owner_view, control_view}
 use Rattle.kdl_control.specs.declared.control.Owner.{Owner}
 use Rattle.kdl_control.specs.declared.control.Owner.TheVariants.{Name, Value}
@@ -13,14 +12,13 @@ use Rattle.kdl_control.specs.declared.control.Word.TheVariants.{MayBeKey, NoKey}
 use Rattle.kdl_entry.specs.Internal.Building.{type_view, parts_view}
 use Rattle.kdl_value.specs.Data.{text}
 pub use Rattle.kdl_entry.specs.Internal.EntryReading.{EndsIn}
-use Rattle.kdl_lexer.specs.Internal.Handed.{IsFaultAt}
 use Rattle.kdl_entry.specs.Internal.Parts as under_way
 use Rattle.kdl_entry.specs.Internal.Parts.{entry_at}
 use Rattle.kdl_entry.specs.Places.{span_of}
 use Rattle.kdl_value.specs.Tree.{text_of}
 use Rattle.kdl_entry.specs.Tree.{Identifier, identifier_tree, plain_identifier, Entry, entry_tree}
-use Rattle.kdl_lexer.specs.declared.lexer.LexFailure.{LexFailure}
-use Rattle.kdl_lexer.specs.declared.lexer.LexFailure.TheVariants.{Faulty, Memory}
+use Rattle.kdl_parser.specs.declared.builder.TakeFailure.{TakeFailure}
+use Rattle.kdl_parser.specs.declared.builder.TakeFailure.TheVariants.{Unexpected, Memory}
 use Rattle.kdl_grammar.specs.Internal.Machine as machine
 use Rattle.kdl_grammar.specs.Internal.Machine.{Slot, no_name, for_name, no_value, for_value, pending, at, State, with_entry}
 use Rattle.kdl_grammar.specs.Tree.{Node, Nodes}
@@ -161,16 +159,16 @@ frame_held f = f
 abbrev pub held : State → State
 held (at p l fs from) = at (phase_held p) l (map frame_held fs) from
 
--- what a step did, by the machine's; for a refused token its first character is reported; an allocation failure says nothing
-abbrev pub Did : {A : Type 0} → Option State → Position → Result A LexFailure → State → Type 0
-Did o place (Ok x) st = option_map held o ≡ Some (held st)
-Did o place (Err (Faulty span)) st = (o ≡ None) × IsFaultAt place span
-Did o place (Err Memory) st = Unit {0}
+-- what a step did, by the machine's; an allocation failure says nothing
+abbrev pub Did : {A : Type 0} → Option State → Result A TakeFailure → State → Type 0
+Did o (Ok x) st = option_map held o ≡ Some (held st)
+Did o (Err Unexpected) st = o ≡ None
+Did o (Err Memory) st = Unit {0}
 
 -- what a step did that never refuses a token, given the machine's state after it
-abbrev pub Does : {A : Type 0} → State → Result A LexFailure → State → Type 0
+abbrev pub Does : {A : Type 0} → State → Result A TakeFailure → State → Type 0
 Does want (Ok x) st = st ≡ want
-Does want (Err (Faulty span)) st = ⊥
+Does want (Err Unexpected) st = ⊥
 Does want (Err Memory) st = Unit {0}
 
 -- the place a begins before s, if it is kept

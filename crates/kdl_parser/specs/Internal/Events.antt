@@ -18,8 +18,7 @@ use Rattle.kdl_grammar.specs.Internal.Machine.{State, for_value, keyed}
 use Rattle.kdl_grammar.specs.Tree.{Node}
 use Rattle.kdl_lexer.specs.Tokens as token
 use Rattle.kdl_lexer.specs.Tokens.{Token}
-use Rattle.kdl_lexer.specs.declared.lexer.LexFailure.{LexFailure}
-use Rattle.kdl_lexer.specs.declared.token_span.TokenSpan.{TokenSpan}
+use Rattle.kdl_parser.specs.declared.builder.TakeFailure.{TakeFailure}
 use Rattle.kdl_parser.specs.Internal.Building.{under_view, node_now, in_phase, phase_now, slot_of}
 use Rattle.kdl_parser.specs.Internal.Counted.{unsliced_in}
 use Rattle.kdl_parser.specs.Internal.States.{given_at, name_slot, argument_slot, parts_name_slot, parts_value_slot, type_now, key_now, worded, name_opened, value_opened, property_opened, node_ended, kept_ended, block_opened, around, around_node, around_kept, Steps}
@@ -107,5 +106,5 @@ is_live KeptSlashdash = false
 is_live _ = true
 
 -- what a token did that is this for the tree, given the state to which it brings the builder
-abbrev pub Acts : {N : Type 0} → (N → Node) → Event → Option State → TokenSpan → Builder N → Result (Unit {0}) LexFailure → Builder N → Type 0
-Acts tree e o span old result new = Steps tree o span.start (unsliced_before e (bytes old.from.rest) (bytes old.parts.from.rest)) old result new
+abbrev pub Acts : {N : Type 0} → (N → Node) → Event → Option State → Builder N → Result (Unit {0}) TakeFailure → Builder N → Type 0
+Acts tree e o old result new = Steps tree o (unsliced_before e (bytes old.from.rest) (bytes old.parts.from.rest)) old result new

@@ -11,7 +11,7 @@ use Rattle.kdl_lexer.specs.Internal.Handed.{kind_view}
 use Rattle.kdl_entry.specs.Internal.Parts as under_way
 use Rattle.kdl_entry.specs.Internal.Parts.{TypeParts, KeyParts}
 use Rattle.kdl_entry.specs.Places.{between}
-use Rattle.kdl_lexer.specs.declared.lexer.LexFailure.{LexFailure}
+use Rattle.kdl_parser.specs.declared.builder.TakeFailure.{TakeFailure}
 use Rattle.kdl_lexer.specs.declared.lexer.TokenKind.{TokenKind}
 use Rattle.kdl_lexer.specs.declared.token_span.TokenSpan.{TokenSpan}
 use Rattle.kdl_entry.specs.Tree.{Identifier}
@@ -120,18 +120,18 @@ document_now tree b = machine.finish b.slices.whole.rest (state_view tree b)
 abbrev pub document_of_nodes : {N : Type 0} → (N → Node) → Builder N → Option Document
 document_of_nodes tree b = machine.at_end b.slices.whole.rest (nodes_now tree b) (frames_view tree b) b.from.rest
 
--- a step at a token that is at s, given the machine's result o: the text stays, and of the n bytes that were not sliced yet all may have been sliced but those that are still not
-pub record Steps {N : Type 0} (tree : N → Node) (o : Option State) (s : Position) (n : ℕ) (old : Builder N) (result : Result (Unit {0}) LexFailure) (new : Builder N) : Type 0 where
-  pub did : Did o s result (state_view tree new)
+-- a step at a token, given the machine's result o: the text stays, and of the n bytes that were not sliced yet all may have been sliced but those that are still not
+pub record Steps {N : Type 0} (tree : N → Node) (o : Option State) (n : ℕ) (old : Builder N) (result : Result (Unit {0}) TakeFailure) (new : Builder N) : Type 0 where
+  pub did : Did o result (state_view tree new)
   pub whole : new.slices.whole ≡ old.slices.whole
   pub sliced : SlicedOn result n (unsliced new) old.slices.steps new.slices.steps
 
 -- a step that never refuses a token, to the state want
-pub record Reaches {N : Type 0} (tree : N → Node) (want : State) (n : ℕ) (old : Builder N) (result : Result (Unit {0}) LexFailure) (new : Builder N) : Type 0 where
+pub record Reaches {N : Type 0} (tree : N → Node) (want : State) (n : ℕ) (old : Builder N) (result : Result (Unit {0}) TakeFailure) (new : Builder N) : Type 0 where
   pub did : Does want result (state_view tree new)
   pub whole : new.slices.whole ≡ old.slices.whole
   pub sliced : SlicedOn result n (unsliced new) old.slices.steps new.slices.steps
 
 -- what a token of the kind did, given the machine's step
-abbrev pub Takes : {N : Type 0} → (N → Node) → Builder N → TokenKind → TokenSpan → Result (Unit {0}) LexFailure → Builder N → Type 0
-Takes tree old kind span result new = Steps tree (token_step tree old kind span) span.start (unsliced old) old result new
+abbrev pub Takes : {N : Type 0} → (N → Node) → Builder N → TokenKind → TokenSpan → Result (Unit {0}) TakeFailure → Builder N → Type 0
+Takes tree old kind span result new = Steps tree (token_step tree old kind span) (unsliced old) old result new

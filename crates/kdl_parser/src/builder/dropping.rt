@@ -4,11 +4,11 @@ ghost use Rattle.kdl_control.specs.Internal.Views.{control_view};
 ghost use Rattle.kdl_parser.specs.Internal.Dropping.{is_before_node};
 ghost use Rattle.std.specs.Prelude.{◌≡◌, false};
 
-use super::Builder;
 use super::content::put;
+use super::{Builder, TakeFailure};
 use crate::node_parts::{DocumentParts, ParsedNode};
 use kdl_control::{Control, Phase};
-use kdl_lexer::{LexFailure, TokenKind, TokenSpan, fault_at};
+use kdl_lexer::{TokenKind, TokenSpan};
 use kdl_text::cursor::Checkpoint;
 use std::alloc::{AllocError, Global};
 use std::mem;
@@ -149,12 +149,12 @@ impl<'a, N: ParsedNode> Builder<'a, N> {
         dropped: Dropped,
         kind: TokenKind,
         at: &TokenSpan<'a>,
-    ) -> Result<(), LexFailure>
+    ) -> Result<(), TakeFailure>
         requires reading { is_reading (reading_view dropped) ≡ true }
         requires here { is_over (kind_view kind) (reading_view dropped) ≡ false }
         ensures did { Did (machine.step self.old.slices.whole.rest
             (state_by N.tree self.old (reading_view dropped)) (kind_view kind)
-            at.now.start.rest at.now.end.rest) at.now.start result (state_view N.tree self.new) }
+            at.now.start.rest at.now.end.rest) result (state_view N.tree self.new) }
         ensures slices { self.new.slices ≡ self.old.slices }
         ensures unsliced { OnOk result (unsliced self.new ≡ bytes self.old.from.rest) }
     {
@@ -163,7 +163,7 @@ impl<'a, N: ParsedNode> Builder<'a, N> {
                 put(&mut self.dropped, dropped);
                 Ok(())
             }
-            None => Err(LexFailure::Faulty(fault_at(&at.start))),
+            None => Err(TakeFailure::Unexpected),
         }
     }
 
@@ -173,7 +173,7 @@ impl<'a, N: ParsedNode> Builder<'a, N> {
         &mut self,
         kind: TokenKind,
         at: &TokenSpan<'a>,
-    ) -> Result<(), LexFailure>
+    ) -> Result<(), TakeFailure>
         requires reading { is_reading (reading_view self.old.dropped) ≡ true }
         requires placed { Placed (state_view N.tree self.old) at.now.start.rest }
         ensures { Takes N.tree self.old kind at.now result self.new }
@@ -194,11 +194,11 @@ impl<'a, N: ParsedNode> Builder<'a, N> {
     pub(super) fn finish_dropped(
         &mut self,
         here: &Checkpoint<'a>,
-    ) -> Result<DocumentParts<N>, LexFailure>
+    ) -> Result<DocumentParts<N>, TakeFailure>
         requires reading { is_reading (reading_view self.old.dropped) ≡ true }
         requires end { here.now.rest ≡ [] }
         requires from { Ahead self.old.from here.now }
-        ensures finished { Finished N.tree (document_now N.tree self.old) here.now result }
+        ensures finished { Finished N.tree (document_now N.tree self.old) result }
         ensures sliced { SlicedOn result (unsliced self.old) 0 self.old.slices.steps self.new.slices.steps }
     {
         let dropped = mem::replace(&mut self.dropped, Dropped::Nothing);
@@ -211,7 +211,7 @@ impl<'a, N: ParsedNode> Builder<'a, N> {
             }
             None => {
                 drop(dropped);
-                Err(LexFailure::Faulty(fault_at(here)))
+                Err(TakeFailure::Unexpected)
             }
         }
     }

@@ -41,12 +41,12 @@ ghost use Rattle.std.specs.Prelude.{◌≡◌, Some, None, OnOk, option_map};
 
 use super::content::{make_room, nothing_at, put, settle};
 use super::dropping::Dropped;
-use super::{Builder, Level, Slot, Under, WaitingWord};
+use super::{Builder, Level, Slot, TakeFailure, Under, WaitingWord};
 use crate::node_parts::ParsedNode;
 use kdl_control::{Owner, Phase, Spot, Word};
 use kdl_entry::parsing::parts::{Given, Key, TypeParts, argument_from, empty, property_from};
 use kdl_entry::{KdlEntry, KdlIdentifier, KdlValue, sliced_identifier};
-use kdl_lexer::{LexFailure, TokenKind, TokenSpan, fault_at};
+use kdl_lexer::{TokenKind, TokenSpan};
 use std::alloc::AllocError;
 use std::mem;
 
@@ -85,7 +85,7 @@ impl<'a, N: ParsedNode> Builder<'a, N> {
     }
 
     /// Ends the current node, which has no block.
-    pub(super) fn end_node(&mut self, at: &TokenSpan<'a>) -> Result<(), LexFailure>
+    pub(super) fn end_node(&mut self, at: &TokenSpan<'a>) -> Result<(), TakeFailure>
         requires live { self.old.dropped ≡ Nothing }
         requires from { Ahead self.old.from at.now.start }
         ensures ended { Reaches N.tree (node_ended N.tree self.old at.now.start at.now.end) (bytes
@@ -102,7 +102,7 @@ impl<'a, N: ParsedNode> Builder<'a, N> {
     }
 
     /// Ends the current node, which has a block.
-    pub(super) fn end_kept(&mut self, at: &TokenSpan<'a>) -> Result<(), LexFailure>
+    pub(super) fn end_kept(&mut self, at: &TokenSpan<'a>) -> Result<(), TakeFailure>
         requires live { self.old.dropped ≡ Nothing }
         requires from { Ahead self.old.from at.now.start }
         ensures ended { Reaches N.tree (kept_ended N.tree self.old at.now.start at.now.end) (bytes
@@ -120,7 +120,7 @@ impl<'a, N: ParsedNode> Builder<'a, N> {
 
     /// Opens the block of the current node.
     #[tactic(auto, using(crate::proofs::Stepping::TurnCost::fewer, crate::proofs::Stepping::TurnCost::token_fewer, crate::proofs::Stepping::Views::level_pushed))]
-    pub(super) fn open_block(&mut self, at: &TokenSpan<'a>) -> Result<(), LexFailure>
+    pub(super) fn open_block(&mut self, at: &TokenSpan<'a>) -> Result<(), TakeFailure>
         requires live { self.old.dropped ≡ Nothing }
         requires from { Ahead self.old.from at.now.start }
         ensures { Reaches N.tree (block_opened N.tree self.old at.now.start at.now.end) (bytes
@@ -146,10 +146,10 @@ impl<'a, N: ParsedNode> Builder<'a, N> {
 
     /// Continues with the node around the block that ends here.
     #[tactic(auto, using(crate::proofs::Stepping::TurnCost::fewer, crate::proofs::Stepping::TurnCost::token_fewer, crate::proofs::Stepping::Views::level_pushed))]
-    pub(super) fn close(&mut self, at: &TokenSpan<'a>) -> Result<(), LexFailure>
+    pub(super) fn close(&mut self, at: &TokenSpan<'a>) -> Result<(), TakeFailure>
         requires live { self.old.dropped ≡ Nothing }
         requires from { Ahead self.old.from at.now.start }
-        ensures { Steps N.tree (around N.tree self.old at.now.start at.now.end) at.now.start (bytes
+        ensures { Steps N.tree (around N.tree self.old at.now.start at.now.end) (bytes
             self.old.from.rest) self.old result self.new }
     {
         let Some(
@@ -160,7 +160,7 @@ impl<'a, N: ParsedNode> Builder<'a, N> {
             },
         ) = self.levels.pop()
         else {
-            return Err(LexFailure::Faulty(fault_at(&at.start)));
+            return Err(TakeFailure::Unexpected);
         };
         let inner = mem::replace(&mut self.nodes, nodes);
         put(&mut self.waiting, None);
@@ -230,7 +230,7 @@ impl<'a, N: ParsedNode> Builder<'a, N> {
         slot: Slot<'a>,
         given: Given,
         at: &TokenSpan<'a>,
-    ) -> Result<(), LexFailure>
+    ) -> Result<(), TakeFailure>
         requires live { self.old.dropped ≡ Nothing }
         ensures { Reaches N.tree (given_at N.tree self.old (valued_slot self.old slot.entry
             (option_map key_view given.key)) (option_map type_view given.ty) (value_tree
@@ -246,7 +246,7 @@ impl<'a, N: ParsedNode> Builder<'a, N> {
 
     /// Keeps a string in a node, which may be a key, as the pending one.
     #[tactic(auto, using(kdl_lexer::proofs::Order::ahead))]
-    pub(super) fn wait(&mut self, value: String, at: &TokenSpan<'a>) -> Result<(), LexFailure>
+    pub(super) fn wait(&mut self, value: String, at: &TokenSpan<'a>) -> Result<(), TakeFailure>
         requires live { self.old.dropped ≡ Nothing }
         requires from { Ahead self.old.from at.now.start }
         ensures { Reaches N.tree (worded N.tree self.old (text_of value) at.now.start at.now.end)
@@ -268,11 +268,10 @@ impl<'a, N: ParsedNode> Builder<'a, N> {
 
     /// Begins a property at its `=`. Its key is the pending string; without one the key is slashdashed.
     #[tactic(auto, using(crate::proofs::Stepping::TurnCost::fewer, crate::proofs::Stepping::TurnCost::token_fewer))]
-    pub(super) fn open_property(&mut self, at: &TokenSpan<'a>) -> Result<(), LexFailure>
+    pub(super) fn open_property(&mut self, at: &TokenSpan<'a>) -> Result<(), TakeFailure>
         requires live { self.old.dropped ≡ Nothing }
         requires from { Ahead self.old.from at.now.start }
-        ensures { Steps N.tree (property_opened N.tree self.old at.now.start at.now.end)
-            at.now.start (bytes self.old.from.rest) self.old result self.new }
+        ensures { Steps N.tree (property_opened N.tree self.old at.now.start at.now.end) (bytes self.old.from.rest) self.old result self.new }
     {
         let Some(word) = self.waiting.take() else {
             put(
@@ -298,7 +297,7 @@ impl<'a, N: ParsedNode> Builder<'a, N> {
 
     /// Begins the type of a node at its `(`.
     #[tactic(auto, using(crate::proofs::Stepping::TurnCost::fewer, crate::proofs::Stepping::TurnCost::token_fewer))]
-    pub(super) fn open_name(&mut self, at: &TokenSpan<'a>) -> Result<(), LexFailure>
+    pub(super) fn open_name(&mut self, at: &TokenSpan<'a>) -> Result<(), TakeFailure>
         requires live { self.old.dropped ≡ Nothing }
         requires from { Ahead self.old.from at.now.start }
         ensures { Reaches N.tree (name_opened N.tree self.old at.now.start at.now.end) (bytes
@@ -316,7 +315,7 @@ impl<'a, N: ParsedNode> Builder<'a, N> {
         owner: Owner,
         name: String,
         at: &TokenSpan<'a>,
-    ) -> Result<(), LexFailure>
+    ) -> Result<(), TakeFailure>
         requires live { self.old.dropped ≡ Nothing }
         requires from { Ahead self.old.parts.from at.now.start }
         ensures { Reaches N.tree (type_named N.tree self.old owner (text_of name) at.now.start at.now.end)
@@ -328,7 +327,7 @@ impl<'a, N: ParsedNode> Builder<'a, N> {
     }
 
     /// Takes the `)` of a type.
-    pub(super) fn end_type(&mut self, owner: Owner, at: &TokenSpan<'a>) -> Result<(), LexFailure>
+    pub(super) fn end_type(&mut self, owner: Owner, at: &TokenSpan<'a>) -> Result<(), TakeFailure>
         requires live { self.old.dropped ≡ Nothing }
         requires from { Ahead self.old.parts.from at.now.start }
         ensures { Reaches N.tree (type_ended N.tree self.old owner at.now.start at.now.end)
@@ -340,7 +339,7 @@ impl<'a, N: ParsedNode> Builder<'a, N> {
     }
 
     /// Begins the type of a value at its `(`, after a key.
-    pub(super) fn open_keyed_type(&mut self, at: &TokenSpan<'a>) -> Result<(), LexFailure>
+    pub(super) fn open_keyed_type(&mut self, at: &TokenSpan<'a>) -> Result<(), TakeFailure>
         requires live { self.old.dropped ≡ Nothing }
         requires from { Ahead self.old.parts.from at.now.start }
         ensures { Reaches N.tree (keyed_opened N.tree self.old at.now.start at.now.end)
@@ -353,7 +352,7 @@ impl<'a, N: ParsedNode> Builder<'a, N> {
 
     /// Begins the type of a value at its `(`.
     #[tactic(auto, using(crate::proofs::Stepping::TurnCost::fewer, crate::proofs::Stepping::TurnCost::token_fewer))]
-    pub(super) fn open_value(&mut self, at: &TokenSpan<'a>) -> Result<(), LexFailure>
+    pub(super) fn open_value(&mut self, at: &TokenSpan<'a>) -> Result<(), TakeFailure>
         requires live { self.old.dropped ≡ Nothing }
         requires from { Ahead self.old.from at.now.start }
         ensures { Reaches N.tree (value_opened N.tree self.old at.now.start at.now.end) (bytes
@@ -372,7 +371,7 @@ impl<'a, N: ParsedNode> Builder<'a, N> {
         &mut self,
         value: KdlValue,
         at: &TokenSpan<'a>,
-    ) -> Result<(), LexFailure>
+    ) -> Result<(), TakeFailure>
         requires live { self.old.dropped ≡ Nothing }
         requires from { Ahead self.old.from at.now.start }
         ensures { Reaches N.tree (given_at N.tree self.old (argument_slot self.old at.now.start)
@@ -407,7 +406,7 @@ impl<'a, N: ParsedNode> Builder<'a, N> {
         &mut self,
         value: KdlValue,
         at: &TokenSpan<'a>,
-    ) -> Result<(), LexFailure>
+    ) -> Result<(), TakeFailure>
         requires live { self.old.dropped ≡ Nothing }
         requires from { Ahead self.old.parts.from at.now.start }
         ensures { Reaches N.tree (given_at N.tree self.old (parts_value_slot self.old (option_map
@@ -434,7 +433,7 @@ impl<'a, N: ParsedNode> Builder<'a, N> {
         &mut self,
         value: KdlValue,
         at: &TokenSpan<'a>,
-    ) -> Result<(), LexFailure>
+    ) -> Result<(), TakeFailure>
         requires live { self.old.dropped ≡ Nothing }
         requires from { Ahead self.old.parts.from at.now.start }
         ensures { Reaches N.tree (given_at N.tree self.old (parts_value_slot self.old (key_now
@@ -454,7 +453,7 @@ impl<'a, N: ParsedNode> Builder<'a, N> {
 
     /// Takes a string that is a node's name.
     #[tactic(auto, using(crate::proofs::Stepping::TurnCost::fewer, crate::proofs::Stepping::TurnCost::token_fewer, kdl_lexer::proofs::Order::ahead))]
-    pub(super) fn name_node(&mut self, name: String, at: &TokenSpan<'a>) -> Result<(), LexFailure>
+    pub(super) fn name_node(&mut self, name: String, at: &TokenSpan<'a>) -> Result<(), TakeFailure>
         requires live { self.old.dropped ≡ Nothing }
         requires from { Ahead self.old.from at.now.start }
         ensures { Reaches N.tree (given_at N.tree self.old (name_slot self.old at.now.start) None
@@ -473,7 +472,7 @@ impl<'a, N: ParsedNode> Builder<'a, N> {
 
     /// Takes a string that is a node's name and has a type.
     #[tactic(auto, using(crate::proofs::Stepping::TurnCost::fewer, crate::proofs::Stepping::TurnCost::token_fewer, kdl_lexer::proofs::Order::ahead))]
-    pub(super) fn name_typed(&mut self, name: String, at: &TokenSpan<'a>) -> Result<(), LexFailure>
+    pub(super) fn name_typed(&mut self, name: String, at: &TokenSpan<'a>) -> Result<(), TakeFailure>
         requires live { self.old.dropped ≡ Nothing }
         requires from { Ahead self.old.parts.from at.now.start }
         ensures { Reaches N.tree (given_at N.tree self.old (parts_name_slot self.old) (type_now
@@ -488,7 +487,7 @@ impl<'a, N: ParsedNode> Builder<'a, N> {
     }
 
     /// Takes a `/-` in a node, before its block.
-    pub(super) fn go_past_slashdash(&mut self) -> Result<(), LexFailure>
+    pub(super) fn go_past_slashdash(&mut self) -> Result<(), TakeFailure>
         requires live { self.old.dropped ≡ Nothing }
         ensures did { Does (in_phase N.tree self.old (machine.entry_slashdash (Some (node_now
             self.old)))) result (state_view N.tree self.new) }
@@ -503,11 +502,10 @@ impl<'a, N: ParsedNode> Builder<'a, N> {
 
     /// Takes the `}` after a node without a block.
     #[tactic(auto, using(crate::proofs::Stepping::Origins::between_none, crate::proofs::Stepping::Origins::origin_ends, crate::proofs::Stepping::StepsDone::failed))]
-    pub(super) fn close_node(&mut self, at: &TokenSpan<'a>) -> Result<(), LexFailure>
+    pub(super) fn close_node(&mut self, at: &TokenSpan<'a>) -> Result<(), TakeFailure>
         requires live { self.old.dropped ≡ Nothing }
         requires from { Ahead self.old.from at.now.start }
-        ensures { Steps N.tree (around_node N.tree self.old at.now.start at.now.end) at.now.start
-            (bytes self.old.from.rest) self.old result self.new }
+        ensures { Steps N.tree (around_node N.tree self.old at.now.start at.now.end) (bytes self.old.from.rest) self.old result self.new }
     {
         self.end_node(&nothing_at(&at.start))?;
         self.close(at)
@@ -515,11 +513,10 @@ impl<'a, N: ParsedNode> Builder<'a, N> {
 
     /// Takes the `}` after a node with a block.
     #[tactic(auto, using(crate::proofs::Stepping::Origins::between_none, crate::proofs::Stepping::Origins::origin_ends, crate::proofs::Stepping::StepsDone::failed))]
-    pub(super) fn close_kept(&mut self, at: &TokenSpan<'a>) -> Result<(), LexFailure>
+    pub(super) fn close_kept(&mut self, at: &TokenSpan<'a>) -> Result<(), TakeFailure>
         requires live { self.old.dropped ≡ Nothing }
         requires from { Ahead self.old.from at.now.start }
-        ensures { Steps N.tree (around_kept N.tree self.old at.now.start at.now.end) at.now.start
-            (bytes self.old.from.rest) self.old result self.new }
+        ensures { Steps N.tree (around_kept N.tree self.old at.now.start at.now.end) (bytes self.old.from.rest) self.old result self.new }
     {
         self.end_kept(&nothing_at(&at.start))?;
         self.close(at)

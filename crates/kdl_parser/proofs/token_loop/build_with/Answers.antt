@@ -14,8 +14,8 @@ pub tokens-preserved : goal.tokens-preserved
 tokens-preserved g c =
     let handed = rw c.in-Some.is at c.in_ok-token.ensures.lexed in
     let costs = rw c.in-Some.is at c.in_ok-token.ensures.costs in (
-      goes_on g.N.ParsedNode.tree c.tokens.builder c.take.new.self c.tokens.lexer c.next.new.self _ _ c.in-Some.token c.tokens.invariant.0 handed c.next.ensures.moves c.in_ok-take.ensures.did c.take.ensures.whole,
-      counting_goes_on _ c.tokens.lexer c.next.new.self c.in-Some.token _ _ _ _ c.tokens.invariant.1 handed c.next.ensures.moves costs c.in_ok-take.ensures.sliced,
+      goes_on g.N.ParsedNode.tree c.tokens.builder c.take.new.self c.tokens.lexer c.next.new.self _ _ c.in-Some.token c.tokens.invariant.0 handed c.next.ensures.moves (rw c.in-Ok.is at c.take.ensures.did) c.take.ensures.whole,
+      counting_goes_on _ c.tokens.lexer c.next.new.self c.in-Some.token _ _ _ _ c.tokens.invariant.1 handed c.next.ensures.moves costs (rw c.in-Ok.is at c.take.ensures.sliced),
     )
 
 pub tokens-smaller : goal.tokens-smaller

@@ -18,8 +18,6 @@ returns-in-Some-clause-unsliced g c = still_dropped (reading_view c.args.dropped
 pub returns-clause-did : goal.returns-clause-did
 returns-clause-did g c =
     let self = c.args.self.now in
-    let tree = g.N.ParsedNode.tree in (
-      refuses self.slices.whole.rest (nodes_now tree self) (frames_view tree self) self.from.rest (node_now self) (kept_now tree self) (in_phase tree self (phase_now tree self self.phase)) (reading_view c.args.dropped) (kind_view c.args.kind)
-          c.args.at.now.start.rest c.args.at.now.end.rest c.requires.reading c.requires.here (begun c.args.dropped) (sym (ap (option_map reading_view) c.in-None.is) ∙ c.in_ok-dropped.ensures),
-      c.fault_at.ensures,
-    )
+    let tree = g.N.ParsedNode.tree in
+    refuses self.slices.whole.rest (nodes_now tree self) (frames_view tree self) self.from.rest (node_now self) (kept_now tree self) (in_phase tree self (phase_now tree self self.phase)) (reading_view c.args.dropped) (kind_view c.args.kind)
+    c.args.at.now.start.rest c.args.at.now.end.rest c.requires.reading c.requires.here (begun c.args.dropped) (sym (ap (option_map reading_view) c.in-None.is) ∙ c.in_ok-dropped.ensures)
