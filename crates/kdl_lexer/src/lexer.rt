@@ -4,10 +4,11 @@
 
 ghost use Rattle.kdl_value.specs.Data as data';
 ghost use Rattle.kdl_lexer.specs.Pieces as spec;
-ghost use Rattle.kdl_lexer.specs.Internal.Handed.{Lexed, LexCosts, ReadsKind, KindCosts, IsFaultAt, Passes, IsPunctuation};
+ghost use Rattle.kdl_lexer.specs.Internal.Handed.{Lexed, LexCosts, LexedNext, NextCosts, ReadsKind, KindCosts, IsFaultAt, IsRare, Passes, IsPunctuation};
 ghost use Rattle.kdl_value.specs.Tree.{value_tree};
+ghost use Rattle.kdl_lexer.specs.declared.lexer.KindFailure.TheVariants.{Memory as NoMemory};
 ghost use Rattle.kdl_lexer.specs.declared.lexer.LexFailure.TheVariants.{Memory};
-ghost use Rattle.kdl_text.specs.Chars.{starts, is_identifier_char, is_space};
+ghost use Rattle.kdl_text.specs.Chars.{starts, is_digit, is_identifier_char, is_space};
 ghost use Rattle.kdl_text.specs.Numbers as numbers;
 ghost use Rattle.kdl_text.specs.Numbers.{FloatText};
 ghost use Rattle.kdl_text.specs.Internal.Here.{Ate, Stayed, first, tail};
@@ -52,6 +53,31 @@ impl From<AllocError> for LexFailure {
     }
 }
 
+/// Why no token was read.
+#[derive(Clone, Copy)]
+enum KindFailure {
+    /// No token begins here.
+    Absent,
+    /// An allocation failed.
+    Memory,
+}
+
+impl<T: Drop> From<AllocFailed<T>> for KindFailure {
+    ghost from_gives = { λ _ e. e ≡ NoMemory };
+
+    fn from(_: AllocFailed<T>) -> KindFailure {
+        KindFailure::Memory
+    }
+}
+
+impl From<AllocError> for KindFailure {
+    ghost from_gives = { λ _ e. e ≡ NoMemory };
+
+    fn from(_: AllocError) -> KindFailure {
+        KindFailure::Memory
+    }
+}
+
 /// What a token is.
 #[derive(Drop)]
 pub enum TokenKind {
@@ -88,6 +114,18 @@ pub struct Token<'a> {
     pub at: TokenSpan<'a>,
 }
 
+/// What is next in a text. Spaces are the most common tokens, and a reader that only skips them gets no token to take
+/// apart.
+#[derive(Drop)]
+pub enum NextToken<'a> {
+    /// A run of spaces, with its span.
+    Space(TokenSpan<'a>),
+    /// Another token.
+    Other(Token<'a>),
+    /// The end of the text.
+    End,
+}
+
 /// Returns the span of a fault at the place: the character there, or nothing at the end of the text.
 ///
 /// ```
@@ -99,70 +137,58 @@ pub fn fault_at(place: &Checkpoint) -> SourceSpan
     place.char_span()
 }
 
-/// Why no string was read at the place.
-fn string_failure(place: &Checkpoint, failure: StringFailure) -> LexFailure
-    ensures { Passes place.now failure result }
+/// The failure of a token that is a string.
+fn kind_failure(failure: StringFailure) -> KindFailure
+    ensures { Passes failure result }
 {
     match failure {
-        StringFailure::Fault(_) => LexFailure::Faulty(fault_at(place)),
-        StringFailure::Memory => LexFailure::Memory,
+        StringFailure::Fault(_) => KindFailure::Absent,
+        StringFailure::Memory => KindFailure::Memory,
     }
 }
 
 /// Reads the bare string that begins here, where no number does.
 #[inline(always)]
 #[tactic(auto, using(crate::proofs::Lexing::TokenReads::a_bare_here, crate::proofs::Lexing::TokenCost::bare_costs))]
-fn bare_token(
-    cursor: &mut Cursor,
-    alloc: Global,
-    start: &Checkpoint,
-) -> Result<TokenKind, LexFailure>
+fn bare_token(cursor: &mut Cursor, alloc: Global) -> Result<TokenKind, KindFailure>
     requires word { starts is_identifier_char cursor.old.rest ≡ true }
     requires no_number { numbers.begins_number cursor.old.rest ≡ false }
-    ensures read { ReadsKind cursor.old.rest start.now result cursor.new.rest }
+    ensures read { ReadsKind cursor.old.rest result cursor.new.rest }
     ensures moves { Moves cursor.old cursor.new }
     ensures costs { KindCosts 20 result cursor.old cursor.new }
 {
     match bare_string(cursor) {
         Some(piece) => Ok(TokenKind::String(piece.to_string(alloc)?)),
-        None => Err(LexFailure::Faulty(fault_at(start))),
+        None => Err(KindFailure::Absent),
     }
 }
 
 /// Reads the quoted string that begins here.
 #[tactic(auto, using(crate::proofs::Lexing::TokenReads::a_quoted_here, crate::proofs::Lexing::TokenReads::no_quoted_here, crate::proofs::Lexing::TokenCost::quoted_costs))]
-fn quoted_token(
-    cursor: &mut Cursor,
-    alloc: Global,
-    start: &Checkpoint,
-) -> Result<TokenKind, LexFailure>
+fn quoted_token(cursor: &mut Cursor, alloc: Global) -> Result<TokenKind, KindFailure>
     requires { first cursor.old.rest ≡ Some 34 }
-    ensures read { ReadsKind cursor.old.rest start.now result cursor.new.rest }
+    ensures read { ReadsKind cursor.old.rest result cursor.new.rest }
     ensures moves { Moves cursor.old cursor.new }
     ensures costs { KindCosts 22 result cursor.old cursor.new }
 {
     match quoted_string(alloc, cursor) {
         Ok(value) => Ok(TokenKind::String(value)),
-        Err(failure) => Err(string_failure(start, failure)),
+        Err(failure) => Err(kind_failure(failure)),
     }
 }
 
 /// Reads the raw string that begins here, at a number sign with another or a quote after it.
 #[tactic(auto, using(crate::proofs::Lexing::TokenReads::a_raw_here, crate::proofs::Lexing::TokenReads::no_raw_here, crate::proofs::Lexing::TokenCost::raw_costs))]
-fn raw_token(
-    cursor: &mut Cursor,
-    alloc: Global,
-    start: &Checkpoint,
-) -> Result<TokenKind, LexFailure>
+fn raw_token(cursor: &mut Cursor, alloc: Global) -> Result<TokenKind, KindFailure>
     requires sign { first cursor.old.rest ≡ Some 35 }
     requires second { starts (λ c. c == 34 || c == 35) (tail cursor.old.rest) ≡ true }
-    ensures read { ReadsKind cursor.old.rest start.now result cursor.new.rest }
+    ensures read { ReadsKind cursor.old.rest result cursor.new.rest }
     ensures moves { Moves cursor.old cursor.new }
     ensures costs { KindCosts 21 result cursor.old cursor.new }
 {
     match raw_string(alloc, cursor) {
         Ok(value) => Ok(TokenKind::String(value)),
-        Err(failure) => Err(string_failure(start, failure)),
+        Err(failure) => Err(kind_failure(failure)),
     }
 }
 
@@ -189,20 +215,16 @@ fn keyword_value(alloc: Global, keyword: Keyword) -> Result<KdlValue, AllocError
 }
 
 /// Reads the keyword that begins here, at a number sign with neither another nor a quote after it.
-fn keyword_token(
-    cursor: &mut Cursor,
-    alloc: Global,
-    start: &Checkpoint,
-) -> Result<TokenKind, LexFailure>
+fn keyword_token(cursor: &mut Cursor, alloc: Global) -> Result<TokenKind, KindFailure>
     requires sign { first cursor.old.rest ≡ Some 35 }
     requires second { starts (λ c. c == 34 || c == 35) (tail cursor.old.rest) ≡ false }
-    ensures read { ReadsKind cursor.old.rest start.now result cursor.new.rest }
+    ensures read { ReadsKind cursor.old.rest result cursor.new.rest }
     ensures moves { Moves cursor.old cursor.new }
     ensures costs { KindCosts 21 result cursor.old cursor.new }
 {
     match read_keyword(cursor) {
         Some(keyword) => Ok(TokenKind::Value(keyword_value(alloc, keyword)?)),
-        None => Err(LexFailure::Faulty(fault_at(start))),
+        None => Err(KindFailure::Absent),
     }
 }
 
@@ -216,89 +238,71 @@ fn looks_raw(cursor: &mut Cursor) -> bool
 
 /// Reads the raw string or the keyword that begins with the number sign here.
 #[tactic(auto, using(crate::proofs::Lexing::TokenCost::one_look))]
-fn sign_token(
-    cursor: &mut Cursor,
-    alloc: Global,
-    start: &Checkpoint,
-) -> Result<TokenKind, LexFailure>
+fn sign_token(cursor: &mut Cursor, alloc: Global) -> Result<TokenKind, KindFailure>
     requires { first cursor.old.rest ≡ Some 35 }
-    ensures read { ReadsKind cursor.old.rest start.now result cursor.new.rest }
+    ensures read { ReadsKind cursor.old.rest result cursor.new.rest }
     ensures moves { Moves cursor.old cursor.new }
     ensures costs { KindCosts 22 result cursor.old cursor.new }
 {
     if looks_raw(cursor) {
-        raw_token(cursor, alloc, start)
+        raw_token(cursor, alloc)
     } else {
-        keyword_token(cursor, alloc, start)
+        keyword_token(cursor, alloc)
     }
 }
 
 /// Reads the number that begins here.
 #[inline(always)]
-fn number_token(
-    cursor: &mut Cursor,
-    alloc: Global,
-    start: &Checkpoint,
-) -> Result<TokenKind, LexFailure>
+fn number_token(cursor: &mut Cursor, alloc: Global) -> Result<TokenKind, KindFailure>
     requires { numbers.begins_number cursor.old.rest ≡ true }
-    ensures read { ReadsKind cursor.old.rest start.now result cursor.new.rest }
+    ensures read { ReadsKind cursor.old.rest result cursor.new.rest }
     ensures moves { Moves cursor.old cursor.new }
     ensures costs { KindCosts 20 result cursor.old cursor.new }
 {
     match read_number(alloc, cursor) {
         Ok(Number::Integer(n)) => Ok(TokenKind::Value(KdlValue::Integer(n))),
         Ok(Number::Decimal(text)) => Ok(TokenKind::Value(KdlValue::Float(parsed_float(text)))),
-        Err(NumberFailure::Fault(_)) => Err(LexFailure::Faulty(fault_at(start))),
-        Err(NumberFailure::Memory) => Err(LexFailure::Memory),
+        Err(NumberFailure::Fault(_)) => Err(KindFailure::Absent),
+        Err(NumberFailure::Memory) => Err(KindFailure::Memory),
     }
 }
 
 /// Reads the number or the bare string that begins with the sign here.
-fn signed_token(
-    cursor: &mut Cursor,
-    alloc: Global,
-    start: &Checkpoint,
-) -> Result<TokenKind, LexFailure>
+fn signed_token(cursor: &mut Cursor, alloc: Global) -> Result<TokenKind, KindFailure>
     requires { starts is_identifier_char cursor.old.rest ≡ true }
-    ensures read { ReadsKind cursor.old.rest start.now result cursor.new.rest }
+    ensures read { ReadsKind cursor.old.rest result cursor.new.rest }
     ensures moves { Moves cursor.old cursor.new }
     ensures costs { KindCosts 22 result cursor.old cursor.new }
 {
     if begins_number(cursor) {
-        number_token(cursor, alloc, start)
+        number_token(cursor, alloc)
     } else {
-        bare_token(cursor, alloc, start)
+        bare_token(cursor, alloc)
     }
 }
 
-/// Reads the number or the bare string that begins with the identifier character c here.
-#[tactic(auto, using(crate::proofs::Lexing::TokenReads::word_here, crate::proofs::Lexing::TokenReads::digit_here, crate::proofs::Lexing::TokenReads::no_digit_here, crate::proofs::Lexing::TokenReads::few_costs))]
-fn word_token(
-    c: char,
-    cursor: &mut Cursor,
-    alloc: Global,
-    start: &Checkpoint,
-) -> Result<TokenKind, LexFailure>
+/// Reads the bare string or the signed number that begins with the identifier character c here, which is no digit.
+#[tactic(auto, using(crate::proofs::Lexing::TokenReads::word_here, crate::proofs::Lexing::TokenReads::no_digit_here, crate::proofs::Lexing::TokenReads::few_costs))]
+fn word_token(c: char, cursor: &mut Cursor, alloc: Global) -> Result<TokenKind, KindFailure>
     requires first { first cursor.old.rest ≡ Some c }
     requires word { is_identifier_char c ≡ true }
-    ensures read { ReadsKind cursor.old.rest start.now result cursor.new.rest }
+    requires no_digit { is_digit c ≡ false }
+    ensures read { ReadsKind cursor.old.rest result cursor.new.rest }
     ensures moves { Moves cursor.old cursor.new }
     ensures costs { KindCosts 22 result cursor.old cursor.new }
 {
-    if is_digit(c) {
-        number_token(cursor, alloc, start)
-    } else if is_sign(c) {
-        signed_token(cursor, alloc, start)
+    if is_sign(c) {
+        signed_token(cursor, alloc)
     } else {
-        bare_token(cursor, alloc, start)
+        bare_token(cursor, alloc)
     }
 }
 
 /// Reads the comment or the `/-` that begins with the slash here.
 #[tactic(auto, using(crate::proofs::Lexing::TokenReads::a_block_here, crate::proofs::Lexing::TokenReads::a_line_here, crate::proofs::Lexing::TokenReads::a_dash_here))]
-fn slash_token(cursor: &mut Cursor, start: &Checkpoint) -> Result<TokenKind, LexFailure>
+fn slash_token(cursor: &mut Cursor) -> Result<TokenKind, KindFailure>
     requires { first cursor.old.rest ≡ Some 47 }
-    ensures read { ReadsKind cursor.old.rest start.now result cursor.new.rest }
+    ensures read { ReadsKind cursor.old.rest result cursor.new.rest }
     ensures moves { Moves cursor.old cursor.new }
     ensures costs { KindCosts 22 result cursor.old cursor.new }
 {
@@ -306,28 +310,29 @@ fn slash_token(cursor: &mut Cursor, start: &Checkpoint) -> Result<TokenKind, Lex
         SlashRead::Block => Ok(TokenKind::Space),
         SlashRead::Line => Ok(TokenKind::Newline),
         SlashRead::Dash => Ok(TokenKind::Slashdash),
-        SlashRead::Unclosed => Err(LexFailure::Faulty(fault_at(start))),
-        SlashRead::Other => Err(LexFailure::Faulty(fault_at(start))),
+        SlashRead::Unclosed => Err(KindFailure::Absent),
+        SlashRead::Other => Err(KindFailure::Absent),
     }
 }
 
 /// Reads the escline that begins with the backslash here.
 #[tactic(auto, using(crate::proofs::Lexing::TokenReads::an_escline_here))]
-fn escline_token(cursor: &mut Cursor, start: &Checkpoint) -> Result<TokenKind, LexFailure>
+fn escline_token(cursor: &mut Cursor) -> Result<TokenKind, KindFailure>
     requires { first cursor.old.rest ≡ Some 92 }
-    ensures read { ReadsKind cursor.old.rest start.now result cursor.new.rest }
+    ensures read { ReadsKind cursor.old.rest result cursor.new.rest }
     ensures moves { Moves cursor.old cursor.new }
     ensures costs { KindCosts 22 result cursor.old cursor.new }
 {
     if escline(cursor) {
         Ok(TokenKind::Space)
     } else {
-        Err(LexFailure::Faulty(fault_at(start)))
+        Err(KindFailure::Absent)
     }
 }
 
 /// The kind of a token that is only this character.
-fn sign_kind(c: char) -> Option<TokenKind>
+#[inline(always)]
+fn single_kind(c: char) -> Option<TokenKind>
     ensures { IsPunctuation c result }
 {
     match c {
@@ -342,83 +347,70 @@ fn sign_kind(c: char) -> Option<TokenKind>
     }
 }
 
-/// Reads the token that begins with the character c here, which is neither a space nor one of `" # / \`.
-#[tactic(auto, using(crate::proofs::Lexing::TokenReads::newline_here, crate::proofs::Lexing::TokenReads::newline_costs, crate::proofs::Lexing::TokenReads::punctuation_here, crate::proofs::Lexing::TokenReads::take_moves, crate::proofs::Lexing::TokenReads::punctuation_costs))]
-fn plain_token(
-    c: char,
-    cursor: &mut Cursor,
-    alloc: Global,
-    start: &Checkpoint,
-) -> Result<TokenKind, LexFailure>
+/// Reads the token that begins with the character c here, which is no space, no digit, no token by itself, and none of
+/// `" # / \`.
+#[tactic(auto, using(crate::proofs::Lexing::TokenReads::newline_here, crate::proofs::Lexing::TokenReads::newline_costs))]
+fn plain_token(c: char, cursor: &mut Cursor, alloc: Global) -> Result<TokenKind, KindFailure>
     requires first { first cursor.old.rest ≡ Some c }
     requires plain { ((c == 34 || c == 35) || (c == 47 || c == 92)) ≡ false }
-    requires no_space { is_space c ≡ false }
-    ensures read { ReadsKind cursor.old.rest start.now result cursor.new.rest }
+    requires rare { IsRare c }
+    ensures read { ReadsKind cursor.old.rest result cursor.new.rest }
     ensures moves { Moves cursor.old cursor.new }
     ensures costs { KindCosts 22 result cursor.old cursor.new }
 {
     if is_identifier_char(c) {
-        return word_token(c, cursor, alloc, start);
+        return word_token(c, cursor, alloc);
     }
     if is_newline_char(c) {
         let _ = newline(cursor);
         return Ok(TokenKind::Newline);
     }
-    match sign_kind(c) {
-        Some(kind) => {
-            let _ = cursor.take();
-            Ok(kind)
-        }
-        None => Err(LexFailure::Faulty(fault_at(start))),
-    }
+    Err(KindFailure::Absent)
 }
 
-/// Reads the token that begins with the character c here, which is not a space, and returns its kind.
-fn token_kind(
-    c: char,
-    cursor: &mut Cursor,
-    alloc: Global,
-    start: &Checkpoint,
-) -> Result<TokenKind, LexFailure>
+/// Reads the token that begins with the character c here, which is no space, no digit and no token by itself.
+fn rare_token(c: char, cursor: &mut Cursor, alloc: Global) -> Result<TokenKind, KindFailure>
     requires first { first cursor.old.rest ≡ Some c }
-    requires no_space { is_space c ≡ false }
-    ensures read { ReadsKind cursor.old.rest start.now result cursor.new.rest }
+    requires rare { IsRare c }
+    ensures read { ReadsKind cursor.old.rest result cursor.new.rest }
     ensures moves { Moves cursor.old cursor.new }
     ensures costs { KindCosts 22 result cursor.old cursor.new }
 {
     match c {
-        '"' => quoted_token(cursor, alloc, start),
-        '#' => sign_token(cursor, alloc, start),
-        '/' => slash_token(cursor, start),
-        '\\' => escline_token(cursor, start),
-        _ => plain_token(c, cursor, alloc, start),
+        '"' => quoted_token(cursor, alloc),
+        '#' => sign_token(cursor, alloc),
+        '/' => slash_token(cursor),
+        '\\' => escline_token(cursor),
+        _ => plain_token(c, cursor, alloc),
     }
 }
 
-/// Reads the token that begins with the character c here, and returns its kind. Spaces and newlines, which are the
-/// most common tokens, are read where this is called.
+/// Reads the token that begins with the character c here, which is no space, and returns its kind. The most common
+/// tokens are read where this is called: line feeds, words that begin with a letter, numbers, and single characters.
 #[inline(always)]
-#[tactic(auto, using(crate::proofs::Lexing::TokenReads::spaces_here, crate::proofs::Lexing::TokenReads::skip_moves, crate::proofs::Lexing::TokenReads::line_feed_here, crate::proofs::Lexing::TokenReads::take_moves, crate::proofs::Lexing::TokenReads::punctuation_costs))]
-fn any_token(
-    c: char,
-    cursor: &mut Cursor,
-    alloc: Global,
-    start: &Checkpoint,
-) -> Result<TokenKind, LexFailure>
-    requires { first cursor.old.rest ≡ Some c }
-    ensures read { ReadsKind cursor.old.rest start.now result cursor.new.rest }
+#[tactic(auto, using(crate::proofs::Lexing::TokenReads::line_feed_here, crate::proofs::Lexing::TokenReads::take_moves, crate::proofs::Lexing::TokenReads::punctuation_here, crate::proofs::Lexing::TokenReads::punctuation_costs, crate::proofs::Lexing::TokenReads::digit_here, crate::proofs::Lexing::TokenReads::few_costs, crate::proofs::Lexing::TokenReads::letter_here, crate::proofs::Lexing::TokenReads::no_digit_letter))]
+fn token_kind(c: char, cursor: &mut Cursor, alloc: Global) -> Result<TokenKind, KindFailure>
+    requires first { first cursor.old.rest ≡ Some c }
+    requires no_space { is_space c ≡ false }
+    ensures read { ReadsKind cursor.old.rest result cursor.new.rest }
     ensures moves { Moves cursor.old cursor.new }
     ensures costs { KindCosts 22 result cursor.old cursor.new }
 {
-    if is_space(c) {
-        cursor.skip(Class::Space);
-        return Ok(TokenKind::Space);
-    }
     if c == '\n' {
         let _ = cursor.take();
         return Ok(TokenKind::Newline);
     }
-    token_kind(c, cursor, alloc, start)
+    if c.is_ascii_alphabetic() {
+        return bare_token(cursor, alloc);
+    }
+    if is_digit(c) {
+        return number_token(cursor, alloc);
+    }
+    if let Some(kind) = single_kind(c) {
+        let _ = cursor.take();
+        return Ok(kind);
+    }
+    rare_token(c, cursor, alloc)
 }
 
 /// The tokens of a text, one at a time.
@@ -522,12 +514,45 @@ impl<'a> Lexer<'a> {
         ensures moves { Moves self.old self.new }
         ensures costs { LexCosts result self.old self.new }
     {
+        match self.next_token(alloc)? {
+            NextToken::Space(at) => Ok(Some(Token {
+                kind: TokenKind::Space,
+                at,
+            })),
+            NextToken::Other(token) => Ok(Some(token)),
+            NextToken::End => Ok(None),
+        }
+    }
+
+    /// Advances as `next` does, at the same cost, and returns runs of spaces apart from the other tokens. Fails as `next`
+    /// does.
+    ///
+    /// ```
+    /// let mut lexer = Lexer::new(" }", Steps::new());
+    /// let spaces = lexer.next_token(alloc)?; // `NextToken::Space`, with its span
+    /// let closing = lexer.next_token(alloc)?; // `NextToken::Other`, the `}`
+    /// ```
+    #[inline(always)]
+    #[tactic(auto, using(crate::proofs::Lexing::TokenReads::spaces_here, crate::proofs::Lexing::TokenReads::skip_moves))]
+    pub fn next_token(&mut self, alloc: Global) -> Result<NextToken<'a>, LexFailure>
+        ensures lexed { LexedNext self.old result self.new }
+        ensures moves { Moves self.old self.new }
+        ensures costs { NextCosts result self.old self.new }
+    {
         let start = self.cursor.checkpoint();
         let Some(c) = self.cursor.look() else {
-            return Ok(None);
+            return Ok(NextToken::End);
         };
-        let kind = any_token(c, &mut self.cursor, alloc, &start)?;
-        Ok(Some(Token {
+        if is_space(c) {
+            self.cursor.skip(Class::Space);
+            return Ok(NextToken::Space(TokenSpan::new(start, self.cursor.checkpoint())));
+        }
+        let kind = match token_kind(c, &mut self.cursor, alloc) {
+            Ok(kind) => kind,
+            Err(KindFailure::Absent) => return Err(LexFailure::Faulty(fault_at(&start))),
+            Err(KindFailure::Memory) => return Err(LexFailure::Memory),
+        };
+        Ok(NextToken::Other(Token {
             kind,
             at: TokenSpan::new(start, self.cursor.checkpoint()),
         }))

@@ -99,7 +99,7 @@ fn is_word(piece: &Piece, word: &str) -> bool
 
 /// Whether the piece, which begins with the character c, is one of the words that may not be bare
 /// strings.
-#[inline]
+#[inline(always)]
 fn is_excluded(c: char, piece: &Piece) -> bool
     requires { first piece.now ≡ Some c }
     ensures { result ≡ bare.is_excluded piece.now }

@@ -1,7 +1,7 @@
 -- What the readers of tokens cost.
-use Rattle.std.proofs.Common.{◌≡◌, ℕ, ◌+◌, ◌-◌, ◌*◌, ◌≤◌, ◌<◌, Bool, true, false, [], ◌∷◌, length, sym, subst, ap, ◌∙◌, arith, length-append}
+use Rattle.std.proofs.Common.{◌≡◌, ℕ, ◌+◌, ◌-◌, ◌*◌, ◌≤◌, ◌<◌, Bool, true, false, [], ◌∷◌, length, sym, ap, ◌∙◌, arith, length-append}
 use Rattle.std.proofs.Math.Nat.{add-mul, mul-le-mul_left}
-use Rattle.std.specs.Prelude.{Some, Option, Result, Ok, Err, IsErrAnd}
+use Rattle.std.specs.Prelude.{Some, Result, Ok, Err}
 use Rattle.kdl_text.specs.Chars.{Text}
 use Rattle.kdl_text.specs.Bare.{BareString}
 use Rattle.kdl_text.specs.Internal.Here.{Here, Stayed, looked, first, tail}
@@ -16,10 +16,9 @@ use Rattle.kdl_text.proofs.Quoted.StringUnique.{is_quoted_shorter, is_raw_shorte
 use Rattle.kdl_text.proofs.Looking.Runs.{length-bytes}
 use Rattle.kdl_value.specs.Data.{Value}
 use Rattle.kdl_lexer.specs.Pieces.{PlainPiece}
-use Rattle.kdl_lexer.specs.Internal.Handed.{KindCosts, LexCosts}
-use Rattle.kdl_lexer.specs.declared.lexer.LexFailure.{LexFailure}
-use Rattle.kdl_lexer.specs.declared.lexer.LexFailure.TheVariants.{Faulty, Memory}
-use Rattle.kdl_lexer.specs.declared.lexer.Token.{Token}
+use Rattle.kdl_lexer.specs.Internal.Handed.{KindCosts}
+use Rattle.kdl_lexer.specs.declared.lexer.KindFailure.{KindFailure}
+use Rattle.kdl_lexer.specs.declared.lexer.KindFailure.TheVariants.{Absent, Memory as NoMemory}
 use Rattle.kdl_lexer.specs.declared.lexer.TokenKind.{TokenKind}
 use Rattle.kdl_lexer.proofs.Lexing.StringUnique.{plain_shorter}
 
@@ -58,28 +57,28 @@ faulty_costs k c m a b f v i j =
     let y : m * bytes b.rest ≡ k * bytes b.rest + (m - k) * bytes b.rest = sym (ap (λ (n : ℕ). n * bytes b.rest) is) ∙ add-mul k (m - k) (bytes b.rest) in
     record { most = omega (arith, f.most, more, x, y, j); least = f.least }
 
-pub failed_costs : (k c m : ℕ) (f : LexFailure) (a b : Here) → Costs k c a b → Moves a b → k ≤ m → c ≤ m → KindCosts {A = TokenKind} m (Err f) a b
-failed_costs k c m (Faulty s) a b f v i j = faulty_costs k c m a b f v i j
-failed_costs k c m Memory a b f v i j = tt
+pub failed_costs : (k c m : ℕ) (f : KindFailure) (a b : Here) → Costs k c a b → Moves a b → k ≤ m → c ≤ m → KindCosts {A = TokenKind} m (Err f) a b
+failed_costs k c m Absent a b f v i j = faulty_costs k c m a b f v i j
+failed_costs k c m NoMemory a b f v i j = tt
 
 -- with looks before it
-pub two_looks : {A : Type 0} (k : ℕ) (r : Result A LexFailure) (a b e : Here) → k ≤ 2 → Stayed k a b → Moves b e → KindCosts 20 r b e → KindCosts 22 r a e
+pub two_looks : {A : Type 0} (k : ℕ) (r : Result A KindFailure) (a b e : Here) → k ≤ 2 → Stayed k a b → Moves b e → KindCosts 20 r b e → KindCosts 22 r a e
 two_looks k (Ok x) a b e few s v p = let q = ap bytes s.rest in record { fewer = omega (arith, q, p.fewer); costs = record { most = omega (arith, s.steps, q, p.costs.most, p.fewer, few); least = omega (arith, s.steps, ap length s.rest, p.costs.least) } }
-two_looks k (Err (Faulty f)) a b e few s v p = let q = ap bytes s.rest in record { most = omega (arith, s.steps, q, p.most, few, fewer_bytes v); least = omega (arith, s.steps, ap length s.rest, p.least) }
-two_looks k (Err Memory) a b e few s v p = tt
+two_looks k (Err Absent) a b e few s v p = let q = ap bytes s.rest in record { most = omega (arith, s.steps, q, p.most, few, fewer_bytes v); least = omega (arith, s.steps, ap length s.rest, p.least) }
+two_looks k (Err NoMemory) a b e few s v p = tt
 
-pub one_look : {A : Type 0} (r : Result A LexFailure) (a b e : Here) → Stayed 1 a b → Moves b e → KindCosts 21 r b e → KindCosts 22 r a e
+pub one_look : {A : Type 0} (r : Result A KindFailure) (a b e : Here) → Stayed 1 a b → Moves b e → KindCosts 21 r b e → KindCosts 22 r a e
 one_look (Ok x) a b e s v p = let q = ap bytes s.rest in record { fewer = omega (arith, q, p.fewer); costs = record { most = omega (arith, s.steps, q, p.costs.most, p.fewer); least = omega (arith, s.steps, ap length s.rest, p.costs.least) } }
-one_look (Err (Faulty f)) a b e s v p = let q = ap bytes s.rest in record { most = omega (arith, s.steps, q, p.most, fewer_bytes v); least = omega (arith, s.steps, ap length s.rest, p.least) }
-one_look (Err Memory) a b e s v p = tt
+one_look (Err Absent) a b e s v p = let q = ap bytes s.rest in record { most = omega (arith, s.steps, q, p.most, fewer_bytes v); least = omega (arith, s.steps, ap length s.rest, p.least) }
+one_look (Err NoMemory) a b e s v p = tt
 
 -- after a look
-pub no_token_costs : (r : Result (Option Token) LexFailure) (f : LexFailure) (a b e : Here) → IsErrAnd r (λ g. g ≡ f) → b ≡ looked a → Moves b e → KindCosts {A = TokenKind} 22 (Err f) b e → LexCosts r a e
-no_token_costs (Ok o) f a b e h x v p = absurd h
-no_token_costs (Err g) f a b e h x v p = subst (λ (z : LexFailure). LexCosts (Err z) a e) (sym h) (costs f p)
-  where
-    costs : (f : LexFailure) → KindCosts {A = TokenKind} 22 (Err f) b e → LexCosts (Err f) a e
-    costs (Faulty s) p =
-        let y = ap (λ (h : Here). h.steps) x in let z = ap (λ (h : Here). bytes h.rest) x in let w = ap (λ (h : Here). length h.rest) x in
-        record { most = omega (arith, y, z, p.most, fewer_bytes v); least = omega (arith, y, w, p.least) }
-    costs Memory p = tt
+pub no_token_costs : (a b e : Here) → b ≡ looked a → Moves b e → Costs 22 22 b e → Costs 24 24 a e
+no_token_costs a b e x v p =
+    let y = ap (λ (h : Here). h.steps) x in let z = ap (λ (h : Here). bytes h.rest) x in let w = ap (λ (h : Here). length h.rest) x in
+    record { most = omega (arith, y, z, p.most, fewer_bytes v); least = omega (arith, y, w, p.least) }
+
+pub token_costs : (a b e : Here) → b ≡ looked a → PieceCosts 22 b e → Costs 24 0 a e
+token_costs a b e x p =
+    let y = ap (λ (h : Here). h.steps) x in let z = ap (λ (h : Here). bytes h.rest) x in let w = ap (λ (h : Here). length h.rest) x in
+    record { most = omega (arith, y, z, p.costs.most, p.fewer); least = omega (arith, y, w, p.costs.least) }

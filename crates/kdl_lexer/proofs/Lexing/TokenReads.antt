@@ -4,6 +4,7 @@ use Rattle.std.proofs.lemmas.Bool.{and_parts, eqb-true}
 use Rattle.std.proofs.lemmas.Bool.Decides.{nat_tests}
 use Rattle.std.proofs.lemmas.Str.{len_utf8_bounds, chars-IsAscii}
 use borrow.Author.Tests.{ltb-true}
+use Rattle.std.specs.Char.{is_ascii_alphabetic}
 use Rattle.std.specs.Int.{w128}
 use Rattle.std.specs.Prelude.{Some, None, Option, Result, Ok, Err, IfOk, string_bytes, String, codes, nat_lt}
 use Rattle.std.specs.List.{list_all}
@@ -15,7 +16,7 @@ use Rattle.kdl_text.specs.Chars.Newline.{one as newline_one}
 use Rattle.kdl_text.specs.Chars.Plus.{plus}
 use Rattle.kdl_text.specs.Chars.Space.{space as space_char}
 use Rattle.kdl_text.specs.Bare.{BareString}
-use Rattle.kdl_text.specs.Internal.Here.{Here, Position, Skips, first, tail, Took}
+use Rattle.kdl_text.specs.Internal.Here.{Here, Skips, first, tail, Took}
 use Rattle.kdl_text.specs.Spans.{bytes}
 use Rattle.kdl_text.specs.MultiLine.{IsQuoted}
 use Rattle.kdl_text.specs.Internal.NumberReading.{ReadsNumber, ReadsKeyword, number_value}
@@ -31,7 +32,6 @@ use Rattle.kdl_text.specs.Internal.TriviaReading.{PieceCosts, Opens}
 use Rattle.kdl_text.specs.declared.numbers.Keyword.{Keyword}
 use Rattle.kdl_text.specs.declared.numbers.Number.{Number}
 use Rattle.kdl_text.specs.declared.numbers.Number.TheVariants.{Integer as IntegerNumber, Decimal as DecimalNumber}
-use Rattle.kdl_text.specs.declared.span.SourceSpan.{SourceSpan}
 use Rattle.kdl_text.specs.declared.strings.StringFailure.{StringFailure}
 use Rattle.kdl_text.specs.declared.strings.StringFailure.TheVariants.{Fault as StringFaulty, Memory as StringMemory}
 use Rattle.kdl_text.proofs.Looking.MovesJoin.{moves_one, bytes-append, fewer_bytes}
@@ -49,10 +49,10 @@ use Rattle.kdl_value.specs.Tree.{value_tree}
 use Rattle.kdl_value.specs.declared.value.KdlValue.{KdlValue}
 use Rattle.kdl_lexer.specs.Pieces.{StringPiece, bare, quoted, raw, PlainPiece, number, keyword, keyword_value}
 use Rattle.kdl_lexer.specs.Pieces as entries
-use Rattle.kdl_lexer.specs.Internal.Handed.{Cuts, one, spaces, ReadsKind, KindCosts, Passes, IsFaultAt, IsPunctuation, is_single, kind_view}
+use Rattle.kdl_lexer.specs.Internal.Handed.{Cuts, one, spaces, ReadsKind, KindCosts, Passes, IsPunctuation, is_single, kind_view}
 use Rattle.kdl_lexer.specs.Tokens.{space, newline, slashdash, string, value, t_space, t_newline, t_slashdash, t_string, t_value, NoToken}
-use Rattle.kdl_lexer.specs.declared.lexer.LexFailure.{LexFailure}
-use Rattle.kdl_lexer.specs.declared.lexer.LexFailure.TheVariants.{Faulty, Memory}
+use Rattle.kdl_lexer.specs.declared.lexer.KindFailure.{KindFailure}
+use Rattle.kdl_lexer.specs.declared.lexer.KindFailure.TheVariants.{Absent, Memory as NoMemory}
 use Rattle.kdl_lexer.specs.declared.lexer.TokenKind.{TokenKind}
 use Rattle.kdl_lexer.proofs.Lexing.TokenUnique.{no_piece, no_slash, no_backslash, no_alien, Alien}
 use Rattle.kdl_lexer.proofs.Fitting.{number_fits}
@@ -81,8 +81,8 @@ no_bare s h k n = alone s (at_identifier s h) strings plains
     plains r v (number m e) = clash (begins_number s) (number_begins m) k
     plains r v (keyword m e) = sign_identifier s (keyword_front m) h
 
-pub no_bare_here : (s r : Text) (place : Position) (e : SourceSpan) → starts is_identifier_char s ≡ true → begins_number s ≡ false → ((r v : Text) → BareString s r v → ⊥) → IsFaultAt place e → ReadsKind s place (Err (Faulty e)) r
-no_bare_here s r place e h k n x = (no_bare s h k n, x)
+pub no_bare_here : (s r : Text) → starts is_identifier_char s ≡ true → begins_number s ≡ false → ((r v : Text) → BareString s r v → ⊥) → ReadsKind s (Err Absent) r
+no_bare_here s r h k n = no_bare s h k n
 
 -- quoted strings
 pub a_quoted_here : (s r v : Text) → IsQuoted s r v → Cuts s (string v) r
@@ -110,11 +110,10 @@ no_quoted s h n = alone s (at_quote s h) strings plains
     plains r v (number m e) = quote_identifier s (quote_here s h) (number_front s (number_begins m))
     plains r v (keyword m e) = quote_sign s h (keyword_front m)
 
-pub no_quoted_here : (s r : Text) (place : Position) (f : StringFailure) (e : LexFailure) → first s ≡ Some 34 → ((r v : Text) → IsQuoted s r v → f ≡ StringMemory) → Passes place f e → ReadsKind s place (Err e) r
-no_quoted_here s r place (StringFaulty f) (Faulty e) h n x = (no_quoted s h (λ r v q. let z = n r v q in cc), x)
-no_quoted_here s r place (StringFaulty f) Memory h n x = tt
-no_quoted_here s r place StringMemory (Faulty e) h n x = absurd x
-no_quoted_here s r place StringMemory Memory h n x = tt
+pub no_quoted_here : (s r : Text) (f : StringFailure) (e : KindFailure) → first s ≡ Some 34 → ((r v : Text) → IsQuoted s r v → f ≡ StringMemory) → Passes f e → ReadsKind s (Err e) r
+no_quoted_here s r (StringFaulty f) Absent h n x = no_quoted s h (λ r v q. let z = n r v q in cc)
+no_quoted_here s r StringMemory Absent h n x = cc
+no_quoted_here s r f NoMemory h n x = tt
 
 -- raw strings and keywords, by the character after the number sign
 abbrev pub looks_raw : Text → Bool
@@ -161,17 +160,16 @@ no_sign s h n m = alone s (at_sign s h) strings plains
     plains r v (number x e) = sign_identifier s (sign_here s h) (number_front s (number_begins x))
     plains r v (keyword {k = k} x e) = m r k x
 
-pub no_raw_here : (s r : Text) (place : Position) (f : StringFailure) (e : LexFailure) → first s ≡ Some 35 → looks_raw s ≡ true → ((r v : Text) → IsRaw s r v → f ≡ StringMemory) → Passes place f e → ReadsKind s place (Err e) r
-no_raw_here s r place (StringFaulty f) (Faulty e) h k n x = (no_sign s h (λ r v q. let z = n r v q in cc) (λ r w q. clash (looks_raw s) k (keyword_looks s r w q)), x)
-no_raw_here s r place (StringFaulty f) Memory h k n x = tt
-no_raw_here s r place StringMemory (Faulty e) h k n x = absurd x
-no_raw_here s r place StringMemory Memory h k n x = tt
+pub no_raw_here : (s r : Text) (f : StringFailure) (e : KindFailure) → first s ≡ Some 35 → looks_raw s ≡ true → ((r v : Text) → IsRaw s r v → f ≡ StringMemory) → Passes f e → ReadsKind s (Err e) r
+no_raw_here s r (StringFaulty f) Absent h k n x = no_sign s h (λ r v q. let z = n r v q in cc) (λ r w q. clash (looks_raw s) k (keyword_looks s r w q))
+no_raw_here s r StringMemory Absent h k n x = cc
+no_raw_here s r f NoMemory h k n x = tt
 
 pub a_keyword_here : (s r : Text) (k : Keyword) (v : Value) → ReadsKeyword (Some k) s r → v ≡ keyword_value k → Cuts s (value v) r
 a_keyword_here s r k v h e = one (t_value (keyword ((h r k).1 (refl, refl)) e))
 
-pub no_keyword_here : (s t r : Text) (place : Position) (e : SourceSpan) → first s ≡ Some 35 → looks_raw s ≡ false → ReadsKeyword None s t → IsFaultAt place e → ReadsKind s place (Err (Faulty e)) r
-no_keyword_here s t r place e h k n x = (no_sign s h (λ r v q. clash (looks_raw s) (raw_looks s r v q) k) n, x)
+pub no_keyword_here : (s t r : Text) → first s ≡ Some 35 → looks_raw s ≡ false → ReadsKeyword None s t → ReadsKind s (Err Absent) r
+no_keyword_here s t r h k n = no_sign s h (λ r v q. clash (looks_raw s) (raw_looks s r v q) k) n
 
 pub keyword_costs : (k : Keyword) (a b : Here) → ReadsKeyword (Some k) a.rest b.rest → Moves a b → Costs 20 0 a b → PieceCosts 21 a b
 keyword_costs k a b h m c = more_costs a b (plain_costs a b (keyword_value k) (keyword ((h b.rest k).1 (refl, refl)) refl) m c)
@@ -204,8 +202,8 @@ no_number s h n = alone s (at_identifier s (number_front s h)) strings plains
     plains r v (number {n = z} m e) = n r z m
     plains r v (keyword m e) = sign_identifier s (keyword_front m) (number_front s h)
 
-pub no_number_here : (s r : Text) (place : Position) (e : SourceSpan) → begins_number s ≡ true → ((r : Text) (v : NumberValue) → IsNumber s r v → ⊥) → IsFaultAt place e → ReadsKind s place (Err (Faulty e)) r
-no_number_here s r place e h n x = (no_number s h n, x)
+pub no_number_here : (s r : Text) → begins_number s ≡ true → ((r : Text) (v : NumberValue) → IsNumber s r v → ⊥) → ReadsKind s (Err Absent) r
+no_number_here s r h n = no_number s h n
 
 pub number_costs : (x : Number) (a b : Here) → ReadsNumber (Ok x) a.rest b.rest → Moves a b → Costs 20 0 a b → PieceCosts 20 a b
 number_costs x a b h m c = plain_costs a b (entries.number_value (number_value x)) (number ((h b.rest (number_value x)).1 (refl, refl)) refl) m c
@@ -237,18 +235,18 @@ second_is c d [] h n = refl
 second_is c d (a ∷ []) h n = grind (arith, nat_tests)
 second_is c d (a ∷ b ∷ s) h n = let e : b ≡ c = eqb-true b c (and_parts (a == 47) (b == c) h).1 in rw ((and_parts (a == 47) (b == c) h).0, e, n) refl
 
-pub unclosed_here : (s r : Text) (place : Position) (e : SourceSpan) → first s ≡ Some 47 → Opens s → IsFaultAt place e → ReadsKind s place (Err (Faulty e)) r
-unclosed_here s r place e h o x = (no_slash_at s h o.unclosed (λ r. no_line_at s r (second_is 42 47 s o.opens refl)) (second_is 42 45 s o.opens refl), x)
+pub unclosed_here : (s r : Text) → first s ≡ Some 47 → Opens s → ReadsKind s (Err Absent) r
+unclosed_here s r h o = no_slash_at s h o.unclosed (λ r. no_line_at s r (second_is 42 47 s o.opens refl)) (second_is 42 45 s o.opens refl)
 
-pub no_slash_here : (s r : Text) (place : Position) (e : SourceSpan) → first s ≡ Some 47 → begins_two 47 42 s ≡ false → begins_two 47 47 s ≡ false → begins_two 47 45 s ≡ false → IsFaultAt place e → ReadsKind s place (Err (Faulty e)) r
-no_slash_here s r place e h a b c x = (no_slash_at s h (λ r. no_block_at s r a) (λ r. no_line_at s r b) c, x)
+pub no_slash_here : (s r : Text) → first s ≡ Some 47 → begins_two 47 42 s ≡ false → begins_two 47 47 s ≡ false → begins_two 47 45 s ≡ false → ReadsKind s (Err Absent) r
+no_slash_here s r h a b c = no_slash_at s h (λ r. no_block_at s r a) (λ r. no_line_at s r b) c
 
 -- esclines
 pub an_escline_here : (s r : Text) → Reads Escline true s r → Cuts s space r
 an_escline_here s r h = one (t_space (node_escline ((h r).1 refl)))
 
-pub no_escline_here : (s t r : Text) (place : Position) (e : SourceSpan) → first s ≡ Some 92 → Reads Escline false s t → IsFaultAt place e → ReadsKind s place (Err (Faulty e)) r
-no_escline_here s t r place e h n x = (rw (first_is s 92 h) (record { begun = λ y. cc; none = no_backslash (tail s) (subst (λ (z : Text). (r : Text) → Escline z r → ⊥) (first_is s 92 h) n) }), x)
+pub no_escline_here : (s t r : Text) → first s ≡ Some 92 → Reads Escline false s t → ReadsKind s (Err Absent) r
+no_escline_here s t r h n = rw (first_is s 92 h) (record { begun = λ y. cc; none = no_backslash (tail s) (subst (λ (z : Text). (r : Text) → Escline z r → ⊥) (first_is s 92 h) n) })
 
 -- words, spaces, newlines and tokens of one character
 pub word_here : (c : ℕ) (s : Text) → first s ≡ Some c → is_identifier_char c ≡ true → starts is_identifier_char s ≡ true
@@ -260,10 +258,27 @@ digit_here c s h k = rw (first_is s c h) (rw k refl)
 pub no_digit_here : (c : ℕ) (s : Text) → first s ≡ Some c → is_digit c ≡ false → is_sign c ≡ false → begins_number s ≡ false
 no_digit_here c s h k m = rw (first_is s c h) (rw (k, m) refl)
 
-pub few_costs : {A : Type 0} (r : Result A LexFailure) (a b : Here) → Moves a b → KindCosts 20 r a b → KindCosts 22 r a b
+letter_word : (c : ℕ) → is_ascii_alphabetic c ≡ true → is_identifier_char c ≡ true
+unfolding is_identifier_char is_space is_newline_char is_banned is_punctuation
+letter_word c h = grind (arith, nat_tests)
+
+-- a letter begins a word and no number
+pub letter_here : (c : ℕ) (s : Text) → first s ≡ Some c → is_ascii_alphabetic c ≡ true → starts is_identifier_char s ≡ true
+letter_here c s h k = word_here c s h (letter_word c k)
+
+letter_no_digit : (c : ℕ) → is_ascii_alphabetic c ≡ true → is_digit c ≡ false
+letter_no_digit c h = grind (arith, nat_tests)
+
+letter_no_sign : (c : ℕ) → is_ascii_alphabetic c ≡ true → is_sign c ≡ false
+letter_no_sign c h = grind (arith, nat_tests)
+
+pub no_digit_letter : (c : ℕ) (s : Text) → first s ≡ Some c → is_ascii_alphabetic c ≡ true → begins_number s ≡ false
+no_digit_letter c s h k = no_digit_here c s h (letter_no_digit c k) (letter_no_sign c k)
+
+pub few_costs : {A : Type 0} (r : Result A KindFailure) (a b : Here) → Moves a b → KindCosts 20 r a b → KindCosts 22 r a b
 few_costs (Ok x) a b v p = record { fewer = p.fewer; costs = record { most = omega (arith, p.costs.most, p.fewer); least = p.costs.least } }
-few_costs (Err (Faulty f)) a b v p = record { most = omega (arith, p.most, fewer_bytes v); least = p.least }
-few_costs (Err Memory) a b v p = tt
+few_costs (Err Absent) a b v p = record { most = omega (arith, p.most, fewer_bytes v); least = p.least }
+few_costs (Err NoMemory) a b v p = tt
 
 spaces_of : (p r : Text) → list_all is_space p ≡ true → Star NodeSpace (p ++ r) r
 spaces_of [] r h = none
@@ -327,9 +342,8 @@ punctuation_costs c o a b h t =
     record { fewer = omega (arith, ap bytes x, one); costs = record { most = omega (arith, ap bytes x, one, z); least = omega (arith, ap length x, z) } }
 
 -- another character
-pub other_here : (c : ℕ) (s r : Text) (place : Position) (e : SourceSpan) → first s ≡ Some c → ((c == 34 || c == 35) || (c == 47 || c == 92)) ≡ false → is_identifier_char c ≡ false → is_space c ≡ false → is_newline_char c ≡ false → is_single c ≡ false → IsFaultAt place e
-    → ReadsKind s place (Err (Faulty e)) r
-other_here c s r place e h p w x y m z = (rw (first_is s c h) (record { begun = λ f. cc; none = no_alien c (tail s) (alien c p w x y m) }), z)
+pub other_here : (c : ℕ) (s r : Text) → first s ≡ Some c → ((c == 34 || c == 35) || (c == 47 || c == 92)) ≡ false → is_identifier_char c ≡ false → is_space c ≡ false → is_newline_char c ≡ false → is_single c ≡ false → ReadsKind s (Err Absent) r
+other_here c s r h p w x y m = rw (first_is s c h) (record { begun = λ f. cc; none = no_alien c (tail s) (alien c p w x y m) })
   where
     alien : (c : ℕ) → ((c == 34 || c == 35) || (c == 47 || c == 92)) ≡ false → is_identifier_char c ≡ false → is_space c ≡ false → is_newline_char c ≡ false → is_single c ≡ false → Alien c
     alien c p w x y m = record { space = x; newline = y; piece = rw w (grind (arith, nat_tests)); punctuation = grind (arith, nat_tests) }

@@ -1,6 +1,6 @@
 -- What the lexer returns.
 use Rattle.std.specs.Prelude.{◌≡◌, ℕ, Bool, false, ◌||◌, ◌==◌, [], ◌∷◌, Option, Some, None, Result, Ok, Err}
-use Rattle.kdl_text.specs.Chars.{Text, Plus}
+use Rattle.kdl_text.specs.Chars.{Text, Plus, is_digit, is_space}
 use Rattle.kdl_text.specs.Internal.Here.{Here, Position, first_len}
 use Rattle.kdl_text.specs.Internal.Reading.{Costs}
 use Rattle.kdl_text.specs.Trivia.{NodeSpace}
@@ -14,6 +14,10 @@ use Rattle.kdl_lexer.specs.Tokens.{BeginsToken, NoToken}
 use Rattle.kdl_lexer.specs.declared.lexer.TokenKind.{TokenKind}
 use Rattle.kdl_lexer.specs.declared.lexer.TokenKind.TheVariants.{Space, Newline, Slashdash, String, Value, Left, Right, Opening, Closing, Equals, Semicolon, Bom}
 use Rattle.kdl_lexer.specs.declared.lexer.Token.{Token}
+use Rattle.kdl_lexer.specs.declared.lexer.NextToken.{NextToken}
+use Rattle.kdl_lexer.specs.declared.lexer.NextToken.TheVariants.{Space as Spaces, Other, End}
+use Rattle.kdl_lexer.specs.declared.lexer.KindFailure.{KindFailure}
+use Rattle.kdl_lexer.specs.declared.lexer.KindFailure.TheVariants.{Absent, Memory as NoMemory}
 use Rattle.kdl_lexer.specs.declared.lexer.LexFailure.{LexFailure}
 use Rattle.kdl_lexer.specs.declared.lexer.LexFailure.TheVariants.{Faulty, Memory}
 
@@ -42,27 +46,32 @@ pub record IsFaultAt (place : Position) (span : SourceSpan) : Type 0 where
   pub offset : span.offset ≡ place.at
   pub len : span.len ≡ first_len place.rest
 
--- the kind of the token that was read at s, before r; a fault is reported at the character there
-abbrev pub ReadsKind : Text → Position → Result TokenKind LexFailure → Text → Type 0
-ReadsKind s place (Ok k) r = Cuts s (kind_view k) r
-ReadsKind s place (Err (Faulty span)) r = NoToken s × IsFaultAt place span
-ReadsKind s place (Err Memory) r = Unit {0}
+-- the kind of the token that was read at s, before r
+abbrev pub ReadsKind : Text → Result TokenKind KindFailure → Text → Type 0
+ReadsKind s (Ok k) r = Cuts s (kind_view k) r
+ReadsKind s (Err Absent) r = NoToken s
+ReadsKind s (Err NoMemory) r = Unit {0}
 
 -- what a token costs: at most k steps for each byte, and it has at least one; if no token begins here, at most k for each byte that was read, and k more
-abbrev pub KindCosts : {A : Type 0} → ℕ → Result A LexFailure → Here → Here → Type 0
+abbrev pub KindCosts : {A : Type 0} → ℕ → Result A KindFailure → Here → Here → Type 0
 KindCosts k (Ok x) old new = PieceCosts k old new
-KindCosts k (Err (Faulty span)) old new = Costs k k old new
-KindCosts k (Err Memory) old new = Unit {0}
+KindCosts k (Err Absent) old new = Costs k k old new
+KindCosts k (Err NoMemory) old new = Unit {0}
 
--- a string's fault is reported as a fault at the place, and an allocation failure as such
-abbrev pub Passes : Position → StringFailure → LexFailure → Type 0
-Passes place (StringFaulty e) (Faulty span) = IsFaultAt place span
-Passes place StringMemory Memory = Unit {0}
-Passes place _ _ = ⊥
+-- where a string has a fault no token begins, and an allocation failure is passed on as such
+abbrev pub Passes : StringFailure → KindFailure → Type 0
+Passes (StringFaulty e) f = f ≡ Absent
+Passes StringMemory f = f ≡ NoMemory
 
 -- `( ) { } = ;` and U+FEFF, each of which is a token
 abbrev pub is_single : ℕ → Bool
 is_single c = ((c == 40 || c == 41) || (c == 123 || c == 125)) || ((c == 61 || c == 59) || c == 0xFEFF)
+
+-- neither a space, nor a digit, nor a token by itself
+pub record IsRare (c : ℕ) : Type 0 where
+  pub no_space : is_space c ≡ false
+  pub no_digit : is_digit c ≡ false
+  pub no_single : is_single c ≡ false
 
 -- the kind of the token that the character c is, or that it is not a token by itself
 abbrev pub IsPunctuation : ℕ → Option TokenKind → Type 0
@@ -91,3 +100,19 @@ LexCosts (Ok (Some t)) old new = Costs 24 0 old new
 LexCosts (Ok None) old new = Costs 24 1 old new
 LexCosts (Err (Faulty span)) old new = Costs 24 24 old new
 LexCosts (Err Memory) old new = Unit {0}
+
+-- the token that is next, if the text does not end
+abbrev pub token_next : NextToken → Option Token
+token_next (Spaces at) = Some (record { kind = Space; at = at })
+token_next (Other t) = Some t
+token_next End = None
+
+-- the same as a call that returns the next token
+abbrev pub LexedNext : Here → Result NextToken LexFailure → Here → Type 0
+LexedNext old (Ok n) new = Lexed old (Ok (token_next n)) new
+LexedNext old (Err f) new = Lexed old (Err f) new
+
+-- the same cost
+abbrev pub NextCosts : Result NextToken LexFailure → Here → Here → Type 0
+NextCosts (Ok n) old new = LexCosts (Ok (token_next n)) old new
+NextCosts (Err f) old new = LexCosts (Err f) old new

@@ -2,4 +2,4 @@ use Rattle.kdl_lexer.proofs.Lexing.TokenReads.{no_escline_here}
 use Rattle.kdl_lexer.proofs.lexer.escline_token.Goals as goal
 
 pub returns-else-escline-clause-read : goal.returns-else-escline-clause-read
-returns-else-escline-clause-read c = no_escline_here _ c.escline.new.cursor.rest c.escline.new.cursor.rest _ _ c.requires c.if-escline.ensures.reads c.fault_at.ensures
+returns-else-escline-clause-read c = no_escline_here _ c.escline.new.cursor.rest c.escline.new.cursor.rest c.requires c.if-escline.ensures.reads

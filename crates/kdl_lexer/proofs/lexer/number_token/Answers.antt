@@ -19,7 +19,7 @@ pub returns-in-Ok-Decimal-clause-costs : goal.returns-in-Ok-Decimal-clause-costs
 returns-in-Ok-Decimal-clause-costs c = number_costs c.in-Ok-Decimal.field-0 _ _ c.in-Ok-Decimal.ensures.reads c.in-Ok-Decimal.ensures.moves c.in-Ok-Decimal.ensures.costs
 
 pub returns-in-Err-Fault-clause-read : goal.returns-in-Err-Fault-clause-read
-returns-in-Err-Fault-clause-read c = no_number_here _ c.read_number.new.cursor.rest _ _ c.requires (rw c.in-Err-Fault.field-0-is at c.in-Err-Fault.ensures.reads) c.fault_at.ensures
+returns-in-Err-Fault-clause-read c = no_number_here _ c.read_number.new.cursor.rest c.requires (rw c.in-Err-Fault.field-0-is at c.in-Err-Fault.ensures.reads)
 
 pub returns-in-Err-Fault-clause-costs : goal.returns-in-Err-Fault-clause-costs
 returns-in-Err-Fault-clause-costs c = faulty_costs 4 12 20 c.args.cursor.now c.read_number.new.cursor c.read_number.ensures.most c.read_number.ensures.moves (omega arith) (omega arith)

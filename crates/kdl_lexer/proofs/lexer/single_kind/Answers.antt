@@ -1,5 +1,5 @@
 use Rattle.kdl_lexer.specs.Tokens.{t_left, t_right, t_opening, t_closing, t_equals, t_semicolon, t_bom}
-use Rattle.kdl_lexer.proofs.lexer.sign_kind.Goals as goal
+use Rattle.kdl_lexer.proofs.lexer.single_kind.Goals as goal
 
 pub returns-in-40 : goal.returns-in-40
 returns-in-40 c = λ r. rw c.in-40.is t_left
