@@ -17,8 +17,10 @@ ghost use Rattle.kdl_control.specs.declared.control.Phase.TheVariants.{
   Kept,
   KeptSlashdash,
 };
+ghost use Rattle.kdl_control.specs.declared.events.Event.TheVariants.{Skip};
 ghost use Rattle.kdl_lexer.specs.Internal.Handed.{kind_view};
-ghost use Rattle.std.specs.Prelude.{◌≡◌, [], option_map};
+ghost use Rattle.kdl_lexer.specs.Tokens.{space};
+ghost use Rattle.std.specs.Prelude.{◌≡◌, [], Some, option_map};
 
 use crate::control::{Frame, Owner, Phase, Spot, Word};
 use kdl_lexer::TokenKind;
@@ -276,6 +278,22 @@ impl Phase {
             Phase::BlockSlashdash => in_block_slashdash(kind),
             Phase::Kept => in_kept(kind),
             Phase::KeptSlashdash => in_kept_slashdash(kind),
+        }
+    }
+
+    /// Returns the phase after spaces. They may come in each phase, and only the phase changes.
+    ///
+    /// ```
+    /// let property = Phase::Property.spaced(); // `Phase::Property`
+    /// let node = Phase::InNode(Spot::Fresh(word)).spaced(); // `Phase::InNode(Spot::Spaced(word))`
+    /// ```
+    #[inline(always)]
+    pub fn spaced(self) -> Phase
+        ensures { event_of self space ≡ Some (Skip result) }
+    {
+        match self {
+            Phase::InNode(spot) => Phase::InNode(spaced(spot)),
+            _ => self,
         }
     }
 
