@@ -7,14 +7,25 @@ ghost use Rattle.kdl_entry.specs.Tree.{identifier_tree};
 ghost use Rattle.kdl_text.specs.Internal.Here.{Ahead};
 ghost use Rattle.kdl_text.specs.Spans.{bytes, raise};
 ghost use Rattle.kdl_value.specs.Tree.{text_of};
-ghost use Rattle.std.specs.Prelude.{◌≡◌, IfOk};
+ghost use Rattle.std.specs.Prelude.{◌≡◌, [], ◌↔◌, IfOk, IsTrue};
 
+use super::parts::empty;
 use crate::identifier::{KdlIdentifier, sliced_identifier};
 use kdl_lexer::TokenSpan;
 use kdl_text::cursor::{Checkpoint, Piece, Steps, count_look, slice_between};
 use kdl_text::span::SourceSpan;
 use std::alloc::{AllocError, Global};
 use std::mem;
+
+/// Whether there is no text between two places.
+#[inline]
+#[tactic(auto, using(crate::proofs::Slicing::Between::nothing_between))]
+fn is_nothing<'a>(from: &Checkpoint<'a>, to: &Checkpoint<'a>) -> bool
+    requires { Ahead from.now to.now }
+    ensures { IsTrue result ↔ (between from.now.rest to.now.rest ≡ []) }
+{
+    from.up_to(to).byte_len() == 0
+}
 
 /// The slices of a text. It counts a step for each byte of a slice.
 #[derive(Drop)]
@@ -112,7 +123,35 @@ impl<'a> Slices<'a> {
         ensures sliced { Sliced (bytes from.now.rest) (bytes to.now.rest) self.old.steps
             self.new.steps }
     {
-        self.piece(from, to).to_string(self.alloc)
+        let piece = self.piece(from, to);
+        if is_nothing(from, to) {
+            return Ok(empty(self.alloc));
+        }
+        piece.to_string(self.alloc)
+    }
+
+    /// Returns a copy of the text of a token. Costs a step for each of its bytes. `text` does the same, but looks first
+    /// whether there is any text, and a token is rarely empty.
+    ///
+    /// ```
+    /// let mut lexer = Lexer::new("\"ab\"=1", Steps::new());
+    /// let mut slices = Slices::new(alloc, lexer.checkpoint());
+    /// if let Some(Token { at, .. }) = lexer.next(alloc)? {
+    ///     let repr = slices.token(&at)?; // "\"ab\""
+    /// }
+    /// ```
+    #[inline]
+    #[tactic(auto, using(kdl_lexer::proofs::Order::ahead))]
+    pub fn token(&mut self, at: &TokenSpan<'a>) -> Result<String, AllocError>
+        ensures text { IfOk result (λ s. text_of s ≡ between at.now.start.rest at.now.end.rest) }
+        ensures counted { self.new ≡ record self.old {
+          steps = raise self.old.steps (bytes (between at.now.start.rest at.now.end.rest));
+        } }
+        ensures whole { self.new.whole ≡ self.old.whole }
+        ensures sliced { Sliced (bytes at.now.start.rest) (bytes at.now.end.rest) self.old.steps
+            self.new.steps }
+    {
+        self.piece(&at.start, &at.end).to_string(self.alloc)
     }
 
     /// Returns the span between two places.
