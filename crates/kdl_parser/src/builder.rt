@@ -2,10 +2,11 @@
 
 ghost use Rattle.kdl_entry.specs.Tree.{plain_identifier};
 ghost use Rattle.kdl_grammar.specs.Internal.Machine.{initial};
+ghost use Rattle.kdl_lexer.specs.declared.lexer.TokenKind.TheVariants.{Space};
 ghost use Rattle.kdl_parser.specs.Internal.Answered.{Finished};
 ghost use Rattle.kdl_parser.specs.Internal.Building.{state_view, under_view, EndsIn, Placed};
 ghost use Rattle.kdl_parser.specs.Internal.Counted.{unsliced, SlicedOn};
-ghost use Rattle.kdl_parser.specs.Internal.Events.{Acts, PartsAhead, is_live, mark_step, string_step, value_step};
+ghost use Rattle.kdl_parser.specs.Internal.Events.{Acts, PartsAhead, is_building, mark_step, string_step, value_step};
 ghost use Rattle.kdl_parser.specs.Internal.States.{document_now, document_of_nodes, Steps, Takes, token_step};
 ghost use Rattle.kdl_parser.specs.declared.builder.TakeFailure.TheVariants.{Memory};
 ghost use Rattle.kdl_parser.specs.declared.builder.dropping.Dropped.TheVariants.{Nothing};
@@ -56,6 +57,17 @@ impl From<AllocError> for TakeFailure {
     }
 }
 
+/// For how many items a list gets room at first: as many as the last list of its kind had.
+#[derive(Clone, Copy)]
+struct Room {
+    /// For the entries of the next node.
+    entries: usize,
+    /// For the nodes of its block.
+    nodes: usize,
+    /// For the nodes in the next block inside of this one.
+    inner: usize,
+}
+
 /// A node being read.
 #[derive(Drop)]
 struct Under<'a> {
@@ -64,6 +76,7 @@ struct Under<'a> {
     ty: Option<TypeParts>,
     name: KdlIdentifier,
     entries: Vec<KdlEntry>,
+    room: Room,
 }
 
 /// An open block: its node, the text before the block, and the nodes before its node.
@@ -118,6 +131,31 @@ pub(crate) struct Builder<'a, N> {
     from: Checkpoint<'a>,
 }
 
+impl Room {
+    /// Room for one item of each kind.
+    fn new() -> Self
+        ensures { result ≡ record { entries = 1; nodes = 1; inner = 1 } }
+    {
+        Room {
+            entries: 1,
+            nodes: 1,
+            inner: 1,
+        }
+    }
+
+    /// The room in the next block inside of this one.
+    #[inline(always)]
+    fn inside(self) -> Self
+        ensures { result ≡ record { entries = 1; nodes = self.inner; inner = 1 } }
+    {
+        Room {
+            entries: 1,
+            nodes: self.inner,
+            inner: 1,
+        }
+    }
+}
+
 impl<'a> Under<'a> {
     /// Creates a node without content. Does not allocate.
     fn new(alloc: Global, start: &Checkpoint<'a>) -> Self
@@ -136,6 +174,7 @@ impl<'a> Under<'a> {
             ty: None,
             name: KdlIdentifier::from(empty(alloc)),
             entries: Vec::new(alloc),
+            room: Room::new(),
         }
     }
 }
@@ -246,11 +285,27 @@ impl<'a, N: ParsedNode> Builder<'a, N> {
         }
     }
 
+    /// Whether nothing slashdashed is being read, and none begins at the next token.
+    #[inline(always)]
+    fn is_building(&self) -> bool
+        ensures { result ≡ is_building self.now.dropped self.now.phase }
+    {
+        match self.dropped {
+            Dropped::Nothing => !matches!(
+                self.phase,
+                Phase::NodeSlashdash
+                    | Phase::EntrySlashdash
+                    | Phase::BlockSlashdash
+                    | Phase::KeptSlashdash
+            ),
+            _ => false,
+        }
+    }
+
     /// Takes a token outside of what is slashdashed.
     #[inline(always)]
     fn take_live(&mut self, kind: TokenKind, at: &TokenSpan<'a>) -> Result<(), TakeFailure>
-        requires live { self.old.dropped ≡ Nothing }
-        requires phase { is_live self.old.phase ≡ true }
+        requires building { is_building self.old.dropped self.old.phase ≡ true }
         requires placed { Placed (state_view N.tree self.old) at.now.start.rest }
         ensures { Takes N.tree self.old kind at.now result self.new }
     {
@@ -264,26 +319,6 @@ impl<'a, N: ParsedNode> Builder<'a, N> {
         }
     }
 
-    /// Takes a token if nothing slashdashed is being read.
-    #[inline(always)]
-    fn take_kept(&mut self, kind: TokenKind, at: &TokenSpan<'a>) -> Result<(), TakeFailure>
-        requires live { self.old.dropped ≡ Nothing }
-        requires placed { Placed (state_view N.tree self.old) at.now.start.rest }
-        ensures { Takes N.tree self.old kind at.now result self.new }
-    {
-        match self.phase {
-            Phase::NodeSlashdash => {
-                let dropped = Dropped::node(self.slices.alloc());
-                self.drop_token(dropped, kind, at)
-            }
-            Phase::EntrySlashdash | Phase::BlockSlashdash | Phase::KeptSlashdash => {
-                let dropped = Dropped::part(self.slices.alloc(), self.phase);
-                self.drop_token(dropped, kind, at)
-            }
-            _ => self.take_live(kind, at),
-        }
-    }
-
     /// Takes a token. Fails if the token may not be here, or if an allocation fails; the builder is then in an
     /// unspecified state.
     #[inline(always)]
@@ -294,9 +329,26 @@ impl<'a, N: ParsedNode> Builder<'a, N> {
     {
         self.slices.count_look();
         let Token { kind, at } = token;
-        match self.dropped {
-            Dropped::Nothing => self.take_kept(kind, &at),
-            _ => self.take_dropped(kind, &at),
+        if self.is_building() {
+            self.take_live(kind, &at)
+        } else {
+            self.take_dropped(kind, &at)
+        }
+    }
+
+    /// Takes the token at the place, which is a run of spaces. It does what `take` does at such a token.
+    #[inline(always)]
+    pub(crate) fn take_space(&mut self, at: &TokenSpan<'a>) -> Result<(), TakeFailure>
+        requires placed { Placed (state_view N.tree self.old) at.now.start.rest }
+        ensures { Steps N.tree (token_step N.tree self.old Space at.now) (unsliced self.old + 1)
+            self.old result self.new }
+    {
+        self.slices.count_look();
+        if self.is_building() {
+            self.phase = self.phase.spaced();
+            Ok(())
+        } else {
+            self.drop_space(at)
         }
     }
 

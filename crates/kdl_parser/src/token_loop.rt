@@ -9,7 +9,7 @@ ghost use Rattle.std.specs.Prelude.{◌≡◌, ◌+◌, ◌≤◌};
 
 use crate::builder::{Builder, TakeFailure};
 use crate::node_parts::{DocumentParts, ParsedNode};
-use kdl_lexer::{LexFailure, Lexer, fault_at};
+use kdl_lexer::{LexFailure, Lexer, NextToken, fault_at};
 use kdl_text::cursor::Checkpoint;
 use std::alloc::Global;
 
@@ -39,11 +39,20 @@ fn build_with<'a, N: ParsedNode>(
     ensures counted { ReadOn result lexer.old (lexer.new.steps + builder.new.slices.steps) }
     ensures counts { raise lexer.old.steps 0 ≤ raise lexer.new.steps 0 }
 {
-    'tokens: while let Some(token) = lexer.next(alloc)? {
-        let start = token.at.start.copied();
-        match builder.take(token) {
-            Ok(()) => {}
-            Err(failure) => return Err(failure_at(failure, &start)),
+    'tokens: loop {
+        match lexer.next_token(alloc)? {
+            NextToken::Space(at) => match builder.take_space(&at) {
+                Ok(()) => {}
+                Err(failure) => return Err(failure_at(failure, &at.start)),
+            },
+            NextToken::Other(token) => {
+                let start = token.at.start.copied();
+                match builder.take(token) {
+                    Ok(()) => {}
+                    Err(failure) => return Err(failure_at(failure, &start)),
+                }
+            }
+            NextToken::End => break 'tokens,
         }
     }
     let end = lexer.checkpoint();

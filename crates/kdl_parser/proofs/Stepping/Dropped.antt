@@ -1,17 +1,29 @@
 -- Inside what is slashdashed the machine's step is that of the machine without data.
-use Rattle.std.proofs.Common.{◌≡◌, ℕ, true, false, List, [], ◌∷◌, Option, Some, None, option_map, refl, sym, ap, ◌∙◌}
+use Rattle.std.proofs.Common.{◌≡◌, ℕ, true, false, List, [], ◌∷◌, Option, Some, None, option_map, Result, Ok, Err, refl, sym, ap, subst, ◌∙◌}
 use Rattle.kdl_text.specs.Chars.{Text}
 use Rattle.kdl_control.specs.Control as c
 use Rattle.kdl_lexer.specs.Tokens.{Token, space, closing}
 use Rattle.kdl_grammar.specs.Internal.Machine.{Under, Kept, Frame, State, step}
-use Rattle.kdl_grammar.specs.Tree.{Nodes}
-use Rattle.kdl_parser.specs.Internal.Building.{held, reading_view}
+use Rattle.kdl_grammar.specs.Tree.{Node, Nodes}
+use Rattle.kdl_lexer.specs.Internal.Handed.{kind_view}
+use Rattle.kdl_lexer.specs.declared.lexer.TokenKind.{TokenKind}
+use Rattle.kdl_lexer.specs.declared.token_span.TokenSpan.{TokenSpan}
+use Rattle.kdl_parser.specs.Internal.Building.{held, reading_view, state_by, state_view, in_phase, phase_now, node_now, kept_now, nodes_now, frames_view, Did}
+use Rattle.kdl_control.specs.Internal.Views.{phase_view}
 use Rattle.kdl_control.specs.declared.control.Phase.{Phase}
-use Rattle.kdl_parser.specs.Internal.Counted.{unsliced_at}
+use Rattle.kdl_control.specs.declared.control.Phase.TheVariants.{NodeSlashdash, EntrySlashdash, BlockSlashdash, KeptSlashdash}
+use Rattle.kdl_parser.specs.Internal.Counted.{unsliced, unsliced_at, unsliced_in, SlicedOn}
+use Rattle.kdl_parser.specs.Internal.Events.{is_live}
+use Rattle.kdl_parser.specs.Internal.States.{Takes}
+use Rattle.kdl_parser.specs.declared.builder.Builder.{Builder}
+use Rattle.kdl_parser.specs.declared.builder.TakeFailure.{TakeFailure}
+use Rattle.kdl_parser.specs.declared.builder.TakeFailure.TheVariants.{Unexpected}
+use Rattle.kdl_text.specs.Spans.{bytes}
 use Rattle.kdl_parser.specs.declared.builder.dropping.Dropped.{Dropped}
 use Rattle.kdl_parser.specs.declared.builder.dropping.Dropped.TheVariants.{Nothing, Node as DroppedNode, Part as DroppedPart}
 use Rattle.kdl_parser.proofs.Stepping.Held.{not_reached}
-use Rattle.kdl_parser.specs.Internal.Dropping.{inside, is_node_over, is_before_node, Reading, nothing, node, part, is_reading, is_over, next, reading_state, Begun}
+use Rattle.kdl_parser.proofs.Stepping.StepsDone.{none_sliced}
+use Rattle.kdl_parser.specs.Internal.Dropping.{inside, is_node_over, is_before_node, Reading, nothing, node, part, is_reading, is_over, next, reading_state, after_slashdash, Begun}
 
 -- the step inside is the step without data
 abbrev Steps : Text → Option Under → Option Kept → Option Nodes → List Frame → Text → c.Control → Token → Text → Text → Type 0
@@ -114,7 +126,7 @@ module _ (whole : Text) (l : Option Nodes) (fs : List Frame) (from : Text) where
   in_dropped_part u x p k s r e f = refl
 
   -- at a token of what is slashdashed
-  pub reads : (u : Under) (x : Kept) (st : State) (d : Reading) (k : Token) (s r : Text) → is_reading d ≡ true → is_over k d ≡ false → Begun d
+  reads : (u : Under) (x : Kept) (st : State) (d : Reading) (k : Token) (s r : Text) → is_reading d ≡ true → is_over k d ≡ false → Begun d
       → option_map held (step whole (reading_state u x l fs from st d) k s r) ≡ option_map held (option_map (reading_state u x l fs from st) (next k d))
   reads u x st nothing k s r a e f = absurd cc
   reads u x st (node (c.at p [])) k s r a e f = in_dropped_node p k s r e ∙ mapped (c.step (c.at p []) k)
@@ -138,28 +150,78 @@ module _ (whole : Text) (l : Option Nodes) (fs : List Frame) (from : Text) where
       mapped None = refl
       mapped (Some d) = refl
 
-  pub reads_on : (u : Under) (x : Kept) (st : State) (d e : Reading) (k : Token) (s r : Text) → is_reading d ≡ true → is_over k d ≡ false → Begun d → Some e ≡ next k d
+  reads_on : (u : Under) (x : Kept) (st : State) (d e : Reading) (k : Token) (s r : Text) → is_reading d ≡ true → is_over k d ≡ false → Begun d → Some e ≡ next k d
       → option_map held (step whole (reading_state u x l fs from st d) k s r) ≡ Some (held (reading_state u x l fs from st e))
   reads_on u x st d e k s r a b f g = reads u x st d k s r a b f ∙ ap (λ (o : Option Reading). option_map held (option_map (reading_state u x l fs from st) o)) (sym g)
 
-  pub refuses : (u : Under) (x : Kept) (st : State) (d : Reading) (k : Token) (s r : Text) → is_reading d ≡ true → is_over k d ≡ false → Begun d → None ≡ next k d
+  refuses : (u : Under) (x : Kept) (st : State) (d : Reading) (k : Token) (s r : Text) → is_reading d ≡ true → is_over k d ≡ false → Begun d → None ≡ next k d
       → step whole (reading_state u x l fs from st d) k s r ≡ None
   refuses u x st d k s r a b f g = not_reached (step whole (reading_state u x l fs from st d) k s r) (reads u x st d k s r a b f ∙ ap (λ (o : Option Reading). option_map held (option_map (reading_state u x l fs from st) o)) (sym g))
 
 -- a part of a node has begun after its `/-`
-pub begun : (d : Dropped) → Begun (reading_view d)
+begun : (d : Dropped) → Begun (reading_view d)
 begun Nothing = tt
 begun (DroppedNode d) = tt
 begun (DroppedPart p) = p.begun
+
+-- of what is slashdashed nothing is sliced
+unsliced_read : (d : Dropped) (p : Phase) (n m : ℕ) → is_reading (reading_view d) ≡ true → unsliced_at d p n m ≡ n
+unsliced_read (DroppedNode c) p n m e = refl
+unsliced_read (DroppedPart c) p n m e = refl
+unsliced_read Nothing p n m e = absurd cc
 
 -- what goes on is slashdashed, so nothing of it is sliced
 none_next : (o : Option c.Control) (f : c.Control → Reading) → ((d : c.Control) → f d ≡ nothing → ⊥) → Some nothing ≡ option_map f o → ⊥
 none_next None f h e = absurd cc
 none_next (Some d) f h e = h d (cc)
 
-pub still_dropped : (d : Reading) (e : Dropped) (k : Token) (p : Phase) (n m : ℕ) → Some (reading_view e) ≡ next k d → unsliced_at e p n m ≡ n
+still_dropped : (d : Reading) (e : Dropped) (k : Token) (p : Phase) (n m : ℕ) → Some (reading_view e) ≡ next k d → unsliced_at e p n m ≡ n
 still_dropped d (DroppedNode c) k p n m e = refl
 still_dropped d (DroppedPart c) k p n m e = refl
 still_dropped nothing Nothing k p n m e = absurd cc
 still_dropped (node d) Nothing k p n m e = absurd (none_next (c.step d k) node (λ x y. cc) e)
 still_dropped (part d) Nothing k p n m e = absurd (none_next (c.step d k) part (λ x y. cc) e)
+
+module _ {N : Type 0} (tree : N → Node) (b : Builder N) (d : Dropped) (k : TokenKind) (span : TokenSpan) where
+  -- a token of what is slashdashed
+  pub drops : is_reading (reading_view b.dropped) ≡ true → is_over (kind_view k) (reading_view b.dropped) ≡ false → next (kind_view k) (reading_view b.dropped) ≡ Some (reading_view d) → Takes tree b k span (Ok tt) (record b { dropped = d })
+  drops a e f = record {
+    did = reads_on b.slices.whole.rest (nodes_now tree b) (frames_view tree b) b.from.rest (node_now b) (kept_now tree b) (in_phase tree b (phase_now tree b b.phase)) (reading_view b.dropped) (reading_view d) (kind_view k) span.start.rest span.end.rest a e (begun b.dropped) (sym f);
+    whole = refl;
+    sliced = none_sliced {A = Unit {0}} (bytes b.from.rest) _ _ _ (Ok tt) (still_dropped (reading_view b.dropped) d (kind_view k) b.phase _ _ (sym f)) (unsliced_read b.dropped b.phase _ _ a);
+  }
+
+  -- a token that may not be there
+  pub drop_refused : is_reading (reading_view b.dropped) ≡ true → is_over (kind_view k) (reading_view b.dropped) ≡ false → next (kind_view k) (reading_view b.dropped) ≡ None → Takes tree b k span (Err Unexpected) (record b { dropped = d })
+  drop_refused a e f = record {
+    did = refuses b.slices.whole.rest (nodes_now tree b) (frames_view tree b) b.from.rest (node_now b) (kept_now tree b) (in_phase tree b (phase_now tree b b.phase)) (reading_view b.dropped) (kind_view k) span.start.rest span.end.rest a e (begun b.dropped) (sym f);
+    whole = refl;
+    sliced = none_sliced {A = Unit {0}} (bytes b.from.rest) (bytes b.from.rest) _ _ (Err Unexpected) tt (unsliced_read b.dropped b.phase _ _ a);
+  }
+
+  -- the first token after a `/-`
+  pub first_drops : (result : Result (Unit {0}) TakeFailure) (new : Builder N) → b.dropped ≡ Nothing → is_live b.phase ≡ false → reading_view d ≡ after_slashdash (phase_view b.phase) → Takes tree (record b { dropped = d }) k span result new → Takes tree b k span result new
+  first_drops result new f l i x = record {
+    did = subst (λ (st : State). Did (step b.slices.whole.rest st (kind_view k) span.start.rest span.end.rest) result (state_view tree new)) (ap (state_by tree b) i ∙ same_state b.phase l ∙ ap (λ (z : Dropped). state_by tree b (reading_view z)) (sym f)) x.did;
+    whole = x.whole;
+    sliced = subst (λ (n : ℕ). SlicedOn result n (unsliced new) b.slices.steps new.slices.steps) (same_count d b.phase _ _ l i ∙ ap (λ (z : Dropped). unsliced_at z b.phase (bytes b.from.rest) (bytes b.parts.from.rest)) (sym f)) x.sliced;
+  }
+    where
+      same_state : (p : Phase) → is_live p ≡ false → state_by tree b (after_slashdash (phase_view p)) ≡ in_phase tree b (phase_now tree b p)
+      same_state NodeSlashdash e = refl
+      same_state EntrySlashdash e = refl
+      same_state BlockSlashdash e = refl
+      same_state KeptSlashdash e = refl
+      same_state p e = absurd cc
+
+      in_from : (p : Phase) (n m : ℕ) → is_live p ≡ false → n ≡ unsliced_in p n m
+      in_from NodeSlashdash n m e = refl
+      in_from EntrySlashdash n m e = refl
+      in_from BlockSlashdash n m e = refl
+      in_from KeptSlashdash n m e = refl
+      in_from p n m e = absurd cc
+
+      same_count : (z : Dropped) (p : Phase) (n m : ℕ) → is_live p ≡ false → reading_view z ≡ after_slashdash (phase_view p) → unsliced_at z p n m ≡ unsliced_in p n m
+      same_count (DroppedNode e) p n m g h = in_from p n m g
+      same_count (DroppedPart e) p n m g h = in_from p n m g
+      same_count Nothing p n m g h = refl

@@ -21,7 +21,7 @@ use Rattle.kdl_lexer.specs.declared.lexer.TokenKind.TheVariants.{String as Strin
 use Rattle.kdl_lexer.specs.declared.token_span.TokenSpan.{TokenSpan}
 use Rattle.kdl_parser.specs.Internal.Building.{in_phase, phase_now, under_view, pending_now, nodes_now, frames_view, state_view, state_by, reading_view, Did}
 use Rattle.kdl_parser.specs.Internal.Counted.{unsliced, unsliced_at, unsliced_in, SlicedOn}
-use Rattle.kdl_parser.specs.Internal.Events.{event_step, mark_step, is_live, unsliced_before, Acts}
+use Rattle.kdl_parser.specs.Internal.Events.{event_step, mark_step, is_building, is_live, unsliced_before, Acts}
 use Rattle.kdl_parser.specs.Internal.States.{token_step, Takes}
 use Rattle.kdl_parser.specs.declared.builder.Builder.{Builder}
 use Rattle.kdl_parser.specs.declared.builder.dropping.Dropped.{Dropped}
@@ -91,6 +91,15 @@ same_unsliced n m k (InNode (Spaced NoKey)) = refl
 same_unsliced n m k (InNode Later) = refl
 same_unsliced n m k p = refl
 
+-- outside of what is slashdashed
+is_nothing : (d : Dropped) (p : Phase) → is_building d p ≡ true → d ≡ Nothing
+is_nothing Nothing p e = refl
+is_nothing d p e = absurd cc
+
+is_phase_live : (d : Dropped) (p : Phase) → is_building d p ≡ true → is_live p ≡ true
+is_phase_live Nothing p e = e
+is_phase_live d p e = absurd cc
+
 module _ {N : Type 0} (tree : N → Node) (b b' : Builder N) (span : TokenSpan) (e : Event) (result : Result (Unit {0}) TakeFailure) where
   -- the machine's step at the token
   token_is : (k : TokenKind) (o : Option Event) → b.dropped ≡ Nothing → is_live b.phase ≡ true → o ≡ event_of b.phase (kind_view k) → token_step tree b k span ≡ stepped_by tree b o (kind_view k) span.start span.end
@@ -103,15 +112,15 @@ module _ {N : Type 0} (tree : N → Node) (b b' : Builder N) (span : TokenSpan) 
       ∙ ap (λ (z : Dropped). unsliced_at z b.phase (bytes b.from.rest) (bytes b.parts.from.rest)) (sym d)
 
   -- what a token of an event does
-  takes : (k : TokenKind) → b.dropped ≡ Nothing → is_live b.phase ≡ true → Some e ≡ event_of b.phase (kind_view k) → Acts tree e (event_step tree b e (kind_view k) span.start span.end) b result b' → Takes tree b k span result b'
-  takes k d l f x = record {
-    did = subst (λ (o : Option State). Did o result (state_view tree b')) (sym (token_is k (Some e) d l f)) x.did;
+  takes : (k : TokenKind) → is_building b.dropped b.phase ≡ true → Some e ≡ event_of b.phase (kind_view k) → Acts tree e (event_step tree b e (kind_view k) span.start span.end) b result b' → Takes tree b k span result b'
+  takes k i f x = let d = is_nothing b.dropped b.phase i in record {
+    did = subst (λ (o : Option State). Did o result (state_view tree b')) (sym (token_is k (Some e) d (is_phase_live b.dropped b.phase i) f)) x.did;
     whole = x.whole;
     sliced = subst (λ (n : ℕ). SlicedOn result n (unsliced b') b.slices.steps b'.slices.steps) (unsliced_is k d f) x.sliced;
   }
 
-  pub takes_as : (k k' : TokenKind) (o : Option State) → b.dropped ≡ Nothing → is_live b.phase ≡ true → Some e ≡ event_of b.phase (kind_view k) → k ≡ k' → o ≡ event_step tree b e (kind_view k') span.start span.end → Acts tree e o b result b' → Takes tree b k span result b'
-  takes_as k k' o d l f i j x = takes k d l f (subst (λ (z : TokenKind). Acts tree e (event_step tree b e (kind_view z) span.start span.end) b result b') (sym i) (subst (λ (z : Option State). Acts tree e z b result b') j x))
+  pub takes_as : (k k' : TokenKind) (o : Option State) → is_building b.dropped b.phase ≡ true → Some e ≡ event_of b.phase (kind_view k) → k ≡ k' → o ≡ event_step tree b e (kind_view k') span.start span.end → Acts tree e o b result b' → Takes tree b k span result b'
+  takes_as k k' o h f i j x = takes k h f (subst (λ (z : TokenKind). Acts tree e (event_step tree b e (kind_view z) span.start span.end) b result b') (sym i) (subst (λ (z : Option State). Acts tree e z b result b') j x))
 
 -- a token that is neither a string nor a value
 pub is_mark : {N : Type 0} (tree : N → Node) (b : Builder N) (e : Event) (s r : Position) (k : TokenKind) → ((x : _) → k ≡ StringKind x → ⊥) → ((x : _) → k ≡ ValueKind x → ⊥) → mark_step tree b e s r ≡ event_step tree b e (kind_view k) s r

@@ -75,9 +75,15 @@ pub data Reading : Type 0 where
   node : c.Control → Reading
   part : c.Control → Reading
 
+-- something is slashdashed and being read
 abbrev pub is_reading : Reading → Bool
 is_reading nothing = false
 is_reading _ = true
+
+-- what is slashdashed, directly after the `/-` of the phase
+abbrev pub after_slashdash : c.Phase → Reading
+after_slashdash c.node_slashdash = node (c.at c.node_slashdash [])
+after_slashdash p = part (c.at p [])
 
 -- it is over before the token
 abbrev pub is_over : Token → Reading → Bool

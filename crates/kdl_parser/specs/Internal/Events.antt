@@ -23,6 +23,8 @@ use Rattle.kdl_parser.specs.Internal.Building.{under_view, node_now, in_phase, p
 use Rattle.kdl_parser.specs.Internal.Counted.{unsliced_in}
 use Rattle.kdl_parser.specs.Internal.States.{given_at, name_slot, argument_slot, parts_name_slot, parts_value_slot, type_now, key_now, worded, name_opened, value_opened, property_opened, node_ended, kept_ended, block_opened, around, around_node, around_kept, Steps}
 use Rattle.kdl_parser.specs.declared.builder.Builder.{Builder}
+use Rattle.kdl_parser.specs.declared.builder.dropping.Dropped.{Dropped}
+use Rattle.kdl_parser.specs.declared.builder.dropping.Dropped.TheVariants.{Nothing}
 use Rattle.kdl_value.specs.Data.{Value, text}
 use Rattle.kdl_value.specs.Tree.{text_of}
 use Rattle.kdl_entry.specs.Tree.{identifier_tree}
@@ -104,6 +106,11 @@ is_live PhaseEntrySlashdash = false
 is_live BlockSlashdash = false
 is_live KeptSlashdash = false
 is_live _ = true
+
+-- nothing slashdashed is being read, and none begins at the next token
+abbrev pub is_building : Dropped → Phase → Bool
+is_building Nothing p = is_live p
+is_building _ p = false
 
 -- what a token did that is this for the tree, given the state to which it brings the builder
 abbrev pub Acts : {N : Type 0} → (N → Node) → Event → Option State → Builder N → Result (Unit {0}) TakeFailure → Builder N → Type 0

@@ -13,7 +13,7 @@ ghost use Rattle.kdl_parser.specs.Internal.Parts.{nodes_tree, document_by, node_
 ghost use Rattle.kdl_text.specs.Internal.Here.{Ahead};
 ghost use Rattle.kdl_text.specs.Spans.{bytes};
 ghost use Rattle.kdl_value.specs.Tree.{value_tree, text_of};
-ghost use Rattle.std.specs.Prelude.{◌≡◌, [], ◌<◌, Some, None, IfOk, OnOk, option_map};
+ghost use Rattle.std.specs.Prelude.{◌≡◌, [], ◌<◌, Some, None, IfOk, OnOk, if◌then◌else◌, nat_lt, option_map};
 ghost use Rattle.std.specs.Vec.{vec_capacity, vec_len};
 
 use super::{Builder, Slot, Under, WaitingWord};
@@ -27,17 +27,26 @@ use kdl_text::span::SourceSpan;
 use std::alloc::{AllocError, Global};
 use std::mem;
 
-/// Makes room for one more item. Capacity grows 1, 2, 4, and so on.
+/// Makes room for one more item. An empty list gets room for `first` items, at least 1; then capacity doubles.
 #[inline(always)]
-pub(super) fn make_room<T: Drop>(items: &mut Vec<T>) -> Result<(), AllocError>
+pub(super) fn make_room<T: Drop>(items: &mut Vec<T>, first: usize) -> Result<(), AllocError>
     ensures items { items.new.items ≡ items.old.items }
     ensures room { OnOk result (vec_len items.new < vec_capacity items.new) }
 {
     let len = items.len();
     if len == items.capacity() {
-        items.reserve_exact(len.max(1))?;
+        let more = if len == 0 { first } else { len };
+        items.reserve_exact(more.max(1))?;
     }
     Ok(())
+}
+
+/// For how many items the next list gets room at first, after a list of so many. Short lists vary too much to go by.
+#[inline(always)]
+pub(super) fn room_after(len: usize) -> usize
+    ensures { result ≡ (if nat_lt 2 len then len else 1) }
+{
+    if len > 2 { len } else { 1 }
 }
 
 /// Assigns the value to the place, and drops the old one. A plain assignment does the same, but as a call the drop is
@@ -68,7 +77,7 @@ pub(super) fn settle<'a>(
     } = word;
     let repr = repr.to_string(slices.alloc())?;
     let span = slices.span(&start, from);
-    make_room(&mut under.entries)?;
+    make_room(&mut under.entries, under.room.entries)?;
     let value = KdlValue::String(value);
     let entry = argument_from(slices.alloc(), span, leading, value, repr);
     under.entries.push_reserved(entry);
@@ -164,7 +173,7 @@ impl<'a, N: ParsedNode> Builder<'a, N> {
         ensures whole { self.new.slices.whole ≡ self.old.slices.whole }
         ensures sliced { Sliced (bytes at.now.start.rest) (bytes at.now.end.rest) self.old.slices.steps self.new.slices.steps }
     {
-        let repr = match self.slices.text(&at.start, &at.end) {
+        let repr = match self.slices.token(at) {
             Ok(repr) => repr,
             Err(e) => {
                 drop(slot);
@@ -177,6 +186,7 @@ impl<'a, N: ParsedNode> Builder<'a, N> {
     }
 
     /// The nodes, with the text of the current place, which ends here.
+    #[inline(always)]
     pub(super) fn content_up_to(
         &mut self,
         nodes: Vec<N>,
@@ -216,7 +226,7 @@ impl<'a, N: ParsedNode> Builder<'a, N> {
             (Sliced (bytes self.old.from.rest) (bytes at.now.end.rest) self.old.slices.steps self.new.slices.steps) }
     {
         let before = self.slices.text(&self.from, &at.start)?;
-        let terminator = self.slices.text(&at.start, &at.end)?;
+        let terminator = self.slices.token(at)?;
         let span = self.slices.span(&self.under.start, &at.start);
         Ok(NodeEnd {
             before,
@@ -249,6 +259,7 @@ impl<'a, N: ParsedNode> Builder<'a, N> {
         let alloc = self.slices.alloc();
         let mut entries = mem::replace(&mut self.under.entries, Vec::new(alloc));
         entries.shrink_to_fit();
+        self.under.room.entries = room_after(entries.len());
         let NodeEnd {
             before: before_terminator,
             terminator,
@@ -256,7 +267,11 @@ impl<'a, N: ParsedNode> Builder<'a, N> {
         } = end;
         let parts = NodeParts {
             leading: mem::replace(&mut self.under.leading, empty(alloc)),
-            ty: self.under.ty.take(),
+            ty: if self.under.ty.is_some() {
+                self.under.ty.take()
+            } else {
+                None
+            },
             name: mem::replace(&mut self.under.name, KdlIdentifier::from(empty(alloc))),
             entries,
             before_children,
@@ -284,7 +299,7 @@ impl<'a, N: ParsedNode> Builder<'a, N> {
             (Sliced (bytes self.old.from.rest) (bytes at.now.end.rest) self.old.slices.steps self.new.slices.steps) }
     {
         let ending = self.node_end(at)?;
-        make_room(&mut self.nodes)?;
+        make_room(&mut self.nodes, self.under.room.nodes)?;
         let before = empty(self.slices.alloc());
         let node = self.take_node(before, None, ending);
         self.nodes.push_reserved(node);
@@ -307,7 +322,7 @@ impl<'a, N: ParsedNode> Builder<'a, N> {
             (Sliced (bytes self.old.from.rest) (bytes at.now.end.rest) self.old.slices.steps self.new.slices.steps) }
     {
         let ending = self.node_end(at)?;
-        make_room(&mut self.nodes)?;
+        make_room(&mut self.nodes, self.under.room.nodes)?;
         let before = mem::replace(&mut self.before, empty(self.slices.alloc()));
         let block = mem::replace(&mut self.block, no_content(self.slices.alloc()));
         let node = self.take_node(before, Some(block), ending);

@@ -11,13 +11,32 @@ use kdl_control::{Control, Phase};
 use kdl_lexer::{TokenKind, TokenSpan};
 use kdl_text::cursor::Checkpoint;
 use std::alloc::{AllocError, Global};
-use std::mem;
 
 /// An entry or a block of the current node that is slashdashed.
 #[derive(Drop)]
 pub(super) struct DroppedPart {
     control: Control,
     ghost begun: { is_before_node (control_view control) ≡ false },
+}
+
+impl DroppedPart {
+    ghost use Rattle.kdl_control.specs.Control as control;
+    ghost use Rattle.kdl_lexer.specs.Internal.Handed.{kind_view};
+    ghost use Rattle.std.specs.Prelude.{Some, None, IfOk, if◌then◌else◌};
+
+    /// Takes a token. Returns false if it may not be here.
+    fn take(&mut self, kind: &TokenKind) -> Result<bool, AllocError>
+        requires { control.finish (control_view self.old.control) ≡ false }
+        ensures { IfOk result (λ b. control.step (control_view self.old.control) (kind_view kind.now) ≡
+            (if b then Some (control_view self.new.control) else None)) }
+    {
+        let taken = self.control.take(kind);
+        if !matches!(taken, Ok(true)) {
+            // Nothing is known of the control then, but `begun` has to hold.
+            self.control.go_to(Phase::Gap);
+        }
+        taken
+    }
 }
 
 /// What is slashdashed and being read: nothing, a node, or a part of the current node.
@@ -33,21 +52,23 @@ impl Dropped {
     ghost use Rattle.kdl_control.specs.Internal.Views.{phase_view};
     ghost use Rattle.kdl_lexer.specs.Internal.Handed.{kind_view};
     ghost use Rattle.kdl_parser.specs.Internal.Building.{phase_after, reading_view};
-    ghost use Rattle.kdl_parser.specs.Internal.Dropping as spec;
-    ghost use Rattle.kdl_parser.specs.Internal.Dropping.{is_over, may_end, next};
-    ghost use Rattle.std.specs.Prelude.{[], true, IfOk, MatchOption, option_map};
+    ghost use Rattle.kdl_parser.specs.Internal.Dropping.{after_slashdash, is_over, may_end, next, part};
+    ghost use Rattle.std.specs.Prelude.{[], true, IfOk, MatchOption, Some, None, if◌then◌else◌};
 
-    /// A slashdashed node, after its `/-`.
-    pub(super) fn node(alloc: Global) -> Self
-        ensures { reading_view result ≡ spec.node (control.at control.node_slashdash []) }
+    /// What is slashdashed, directly after the `/-` of the phase.
+    fn after_slashdash(alloc: Global, phase: Phase) -> Self
+        ensures { reading_view result ≡ after_slashdash (phase_view phase) }
     {
-        Dropped::Node(Control::new(alloc, Phase::NodeSlashdash))
+        match phase {
+            Phase::NodeSlashdash => Dropped::Node(Control::new(alloc, phase)),
+            _ => Dropped::part(alloc, phase),
+        }
     }
 
     /// A slashdashed part of a node, in the phase.
     pub(super) fn part(alloc: Global, phase: Phase) -> Self
         requires { is_before_node (control.at (phase_view phase) []) ≡ false }
-        ensures { reading_view result ≡ spec.part (control.at (phase_view phase) []) }
+        ensures { reading_view result ≡ part (control.at (phase_view phase) []) }
     {
         Dropped::Part(DroppedPart {
             control: Control::new(alloc, phase),
@@ -103,91 +124,105 @@ impl Dropped {
         }
     }
 
-    /// Takes a token. Returns `None` if it may not be here.
-    fn take(self, kind: &TokenKind) -> Result<Option<Dropped>, AllocError>
-        requires { is_over (kind_view kind.now) (reading_view self) ≡ false }
-        ensures { IfOk result (λ o. option_map reading_view o
-            ≡ next (kind_view kind.now) (reading_view self)) }
+    /// Takes a token. Returns false if it may not be here.
+    fn take(&mut self, kind: &TokenKind) -> Result<bool, AllocError>
+        requires { is_over (kind_view kind.now) (reading_view self.old) ≡ false }
+        ensures { IfOk result (λ b. next (kind_view kind.now) (reading_view self.old) ≡
+            (if b then Some (reading_view self.new) else None)) }
     {
         match self {
-            Dropped::Nothing => Ok(None),
-            Dropped::Node(mut control) => {
-                if control.take(kind)? {
-                    Ok(Some(Dropped::Node(control)))
-                } else {
-                    Ok(None)
-                }
-            }
-            Dropped::Part(part) => {
-                let DroppedPart { mut control } = part;
-                if control.take(kind)? {
-                    Ok(Some(Dropped::Part(DroppedPart { control })))
-                } else {
-                    Ok(None)
-                }
-            }
+            Dropped::Nothing => Ok(false),
+            Dropped::Node(control) => control.take(kind),
+            Dropped::Part(part) => part.take(kind),
         }
     }
 }
 
 impl<'a, N: ParsedNode> Builder<'a, N> {
-    ghost use Rattle.kdl_grammar.specs.Internal.Machine as machine;
     ghost use Rattle.kdl_lexer.specs.Internal.Handed.{kind_view};
-    ghost use Rattle.kdl_parser.specs.Internal.Building.{reading_view, state_by, state_view, Did, Placed};
+    ghost use Rattle.kdl_lexer.specs.declared.lexer.TokenKind.TheVariants.{Space};
+    ghost use Rattle.kdl_parser.specs.Internal.Building.{reading_view, state_view, Placed};
     ghost use Rattle.kdl_parser.specs.Internal.Answered.{Finished};
     ghost use Rattle.kdl_parser.specs.Internal.Counted.{unsliced, SlicedOn};
     ghost use Rattle.kdl_parser.specs.Internal.Dropping.{is_over, is_reading};
+    ghost use Rattle.kdl_parser.specs.Internal.Events.{is_building, is_live};
     ghost use Rattle.kdl_parser.specs.Internal.States.{document_now, Takes};
+    ghost use Rattle.kdl_parser.specs.declared.builder.dropping.Dropped.TheVariants.{Nothing};
     ghost use Rattle.kdl_text.specs.Internal.Here.{Ahead};
-    ghost use Rattle.kdl_text.specs.Spans.{bytes};
-    ghost use Rattle.std.specs.Prelude.{[], true, OnOk};
+    ghost use Rattle.std.specs.Prelude.{[], true};
 
     /// Takes a token of what is slashdashed.
-    #[tactic(auto, using(crate::proofs::Stepping::Dropped::reads))]
-    pub(super) fn drop_token(
-        &mut self,
-        dropped: Dropped,
-        kind: TokenKind,
-        at: &TokenSpan<'a>,
-    ) -> Result<(), TakeFailure>
-        requires reading { is_reading (reading_view dropped) ≡ true }
-        requires here { is_over (kind_view kind) (reading_view dropped) ≡ false }
-        ensures did { Did (machine.step self.old.slices.whole.rest
-            (state_by N.tree self.old (reading_view dropped)) (kind_view kind)
-            at.now.start.rest at.now.end.rest) result (state_view N.tree self.new) }
-        ensures slices { self.new.slices ≡ self.old.slices }
-        ensures unsliced { OnOk result (unsliced self.new ≡ bytes self.old.from.rest) }
+    #[tactic(auto, using(crate::proofs::Stepping::Dropped::drops))]
+    fn drop_token(&mut self, kind: TokenKind, at: &TokenSpan<'a>) -> Result<(), TakeFailure>
+        requires reading { is_reading (reading_view self.old.dropped) ≡ true }
+        requires here { is_over (kind_view kind) (reading_view self.old.dropped) ≡ false }
+        ensures { Takes N.tree self.old kind at.now result self.new }
     {
-        match dropped.take(&kind)? {
-            Some(dropped) => {
-                put(&mut self.dropped, dropped);
-                Ok(())
-            }
-            None => Err(TakeFailure::Unexpected),
+        if self.dropped.take(&kind)? {
+            Ok(())
+        } else {
+            Err(TakeFailure::Unexpected)
         }
     }
 
-    /// Takes a token in or after what is slashdashed.
+    /// Takes the first token after a `/-`.
+    #[tactic(auto, using(crate::proofs::Stepping::Dropped::first_drops))]
+    fn drop_first(&mut self, kind: TokenKind, at: &TokenSpan<'a>) -> Result<(), TakeFailure>
+        requires live { self.old.dropped ≡ Nothing }
+        requires phase { is_live self.old.phase ≡ false }
+        ensures { Takes N.tree self.old kind at.now result self.new }
+    {
+        let dropped = Dropped::after_slashdash(self.slices.alloc(), self.phase);
+        put(&mut self.dropped, dropped);
+        self.drop_token(kind, at)
+    }
+
+    /// Takes a token if nothing slashdashed is being read.
+    fn take_kept(&mut self, kind: TokenKind, at: &TokenSpan<'a>) -> Result<(), TakeFailure>
+        requires live { self.old.dropped ≡ Nothing }
+        requires placed { Placed (state_view N.tree self.old) at.now.start.rest }
+        ensures { Takes N.tree self.old kind at.now result self.new }
+    {
+        if self.is_building() {
+            self.take_live(kind, at)
+        } else {
+            self.drop_first(kind, at)
+        }
+    }
+
+    /// Takes a token in or after what is slashdashed, or the first one after a `/-`.
     #[inline(never)]
     pub(super) fn take_dropped(
         &mut self,
         kind: TokenKind,
         at: &TokenSpan<'a>,
     ) -> Result<(), TakeFailure>
-        requires reading { is_reading (reading_view self.old.dropped) ≡ true }
+        requires dropping { is_building self.old.dropped self.old.phase ≡ false }
         requires placed { Placed (state_view N.tree self.old) at.now.start.rest }
         ensures { Takes N.tree self.old kind at.now result self.new }
     {
-        let dropped = mem::replace(&mut self.dropped, Dropped::Nothing);
-        match dropped.phase_at(&kind) {
+        if let Dropped::Nothing = self.dropped {
+            return self.drop_first(kind, at);
+        }
+        match self.dropped.phase_at(&kind) {
             Some(phase) => {
-                drop(dropped);
+                self.dropped = Dropped::Nothing;
                 self.settle_word()?;
                 self.phase = phase;
                 self.take_kept(kind, at)
             }
-            None => self.drop_token(dropped, kind, at),
+            None => self.drop_token(kind, at),
         }
+    }
+
+    /// Takes a run of spaces in or after what is slashdashed, or directly after a `/-`.
+    #[inline(never)]
+    pub(super) fn drop_space(&mut self, at: &TokenSpan<'a>) -> Result<(), TakeFailure>
+        requires dropping { is_building self.old.dropped self.old.phase ≡ false }
+        requires placed { Placed (state_view N.tree self.old) at.now.start.rest }
+        ensures { Takes N.tree self.old Space at.now result self.new }
+    {
+        self.take_dropped(TokenKind::Space, at)
     }
 
     /// Returns the document at the end of the text, after what is slashdashed.
@@ -201,18 +236,14 @@ impl<'a, N: ParsedNode> Builder<'a, N> {
         ensures finished { Finished N.tree (document_now N.tree self.old) result }
         ensures sliced { SlicedOn result (unsliced self.old) 0 self.old.slices.steps self.new.slices.steps }
     {
-        let dropped = mem::replace(&mut self.dropped, Dropped::Nothing);
-        match dropped.phase_at_end() {
+        match self.dropped.phase_at_end() {
             Some(phase) => {
-                drop(dropped);
+                self.dropped = Dropped::Nothing;
                 self.settle_word()?;
                 self.phase = phase;
                 self.finish_at(here)
             }
-            None => {
-                drop(dropped);
-                Err(TakeFailure::Unexpected)
-            }
+            None => Err(TakeFailure::Unexpected),
         }
     }
 }

@@ -39,7 +39,7 @@ ghost use Rattle.kdl_value.specs.Data.{text};
 ghost use Rattle.kdl_value.specs.Tree.{value_tree, text_of};
 ghost use Rattle.std.specs.Prelude.{◌≡◌, Some, None, OnOk, option_map};
 
-use super::content::{make_room, nothing_at, put, settle};
+use super::content::{make_room, nothing_at, put, room_after, settle};
 use super::dropping::Dropped;
 use super::{Builder, Level, Slot, TakeFailure, Under, WaitingWord};
 use crate::node_parts::ParsedNode;
@@ -129,10 +129,7 @@ impl<'a, N: ParsedNode> Builder<'a, N> {
         self.settle_word()?;
         let before = self.slices.text(&self.from, &at.start)?;
         self.levels.reserve(1)?;
-        let under = mem::replace(
-            &mut self.under,
-            Under::new(self.slices.alloc(), &self.slices.start()),
-        );
+        let under = self.take_under();
         let nodes = mem::replace(&mut self.nodes, Vec::new(self.slices.alloc()));
         self.levels.push_reserved(Level {
             under,
@@ -164,13 +161,54 @@ impl<'a, N: ParsedNode> Builder<'a, N> {
         };
         let inner = mem::replace(&mut self.nodes, nodes);
         put(&mut self.waiting, None);
-        put(&mut self.under, under);
+        self.put_under(under);
+        self.under.room.inner = room_after(inner.len());
         put(&mut self.before, before);
         let block = self.content_up_to(inner, &at.start)?;
         put(&mut self.block, block);
         self.from = at.end.copied();
         self.phase = Phase::Kept;
         Ok(())
+    }
+
+    /// Takes the current node, and leaves one without content. Field by field this is one copy of the node;
+    /// `mem::replace` makes three.
+    #[inline(always)]
+    fn take_under(&mut self) -> Under<'a>
+        ensures taken { result ≡ self.old.under }
+        ensures rest { self.new ≡ record self.old { under = self.new.under } }
+    {
+        let room = self.under.room;
+        let alloc = self.slices.alloc();
+        Under {
+            leading: mem::replace(&mut self.under.leading, empty(alloc)),
+            start: self.under.start.copied(),
+            ty: self.under.ty.take(),
+            name: mem::replace(&mut self.under.name, KdlIdentifier::from(empty(alloc))),
+            entries: mem::replace(&mut self.under.entries, Vec::new(alloc)),
+            room: mem::replace(&mut self.under.room, room.inside()),
+        }
+    }
+
+    /// Puts a node in place of the current one, field by field as `take_under` does.
+    #[inline(always)]
+    fn put_under(&mut self, under: Under<'a>)
+        ensures { self.new ≡ record self.old { under = under.entry } }
+    {
+        let Under {
+            leading,
+            start,
+            ty,
+            name,
+            entries,
+            room,
+        } = under;
+        self.under.leading = leading;
+        self.under.start = start;
+        self.under.ty = ty;
+        self.under.name = name;
+        self.under.entries = entries;
+        self.under.room = room;
     }
 
     /// Begins a node, whose name is the token.
@@ -191,9 +229,13 @@ impl<'a, N: ParsedNode> Builder<'a, N> {
         let Slot { leading, start } = slot;
         self.under.leading = leading;
         self.under.start = start;
-        self.under.ty = ty;
+        if ty.is_some() || self.under.ty.is_some() {
+            self.under.ty = ty;
+        }
         self.under.name = name;
-        self.under.entries = Vec::new(self.slices.alloc());
+        if !self.under.entries.is_empty() {
+            self.under.entries = Vec::new(self.slices.alloc());
+        }
         self.forget_word();
         self.from = at.end.copied();
         self.phase = Phase::InNode(Spot::Fresh(Word::NoKey));
@@ -205,8 +247,16 @@ impl<'a, N: ParsedNode> Builder<'a, N> {
         ensures { self.new ≡ record self.old { waiting = None } }
     {
         if self.waiting.is_some() {
-            put(&mut self.waiting, None);
+            self.drop_word();
         }
+    }
+
+    /// Drops the pending string. It is rarely there, so this stays out of `forget_word`, which is inlined.
+    #[inline(never)]
+    fn drop_word(&mut self)
+        ensures { self.new ≡ record self.old { waiting = None } }
+    {
+        put(&mut self.waiting, None);
     }
 
     /// Continues after an entry, whose value is the token.
@@ -237,7 +287,8 @@ impl<'a, N: ParsedNode> Builder<'a, N> {
             given.value) at.now.start at.now.end) (bytes at.now.start.rest) self.old result
             self.new }
     {
-        make_room(&mut self.under.entries)?;
+        let first = self.under.room.entries;
+        make_room(&mut self.under.entries, first)?;
         let entry = self.entry_between(slot, given, at)?;
         self.under.entries.push_reserved(entry);
         self.end_entry(at);
@@ -253,7 +304,9 @@ impl<'a, N: ParsedNode> Builder<'a, N> {
             (bytes self.old.from.rest) self.old result self.new }
     {
         self.settle_word()?;
-        let leading = self.slices.text(&self.from, &at.start)?;
+        // There is a space before it at least, so this copies the text without looking whether there is any.
+        let place = self.slices.piece(&self.from, &at.start);
+        let leading = place.to_string(self.slices.alloc())?;
         let word = WaitingWord {
             leading,
             start: at.start.copied(),
@@ -379,10 +432,13 @@ impl<'a, N: ParsedNode> Builder<'a, N> {
             result self.new }
     {
         self.settle_word()?;
-        let leading = self.slices.text(&self.from, &at.start)?;
-        let repr = self.slices.text(&at.start, &at.end)?;
+        // There is a space before it at least, so this copies the text without looking whether there is any.
+        let place = self.slices.piece(&self.from, &at.start);
+        let leading = place.to_string(self.slices.alloc())?;
+        let repr = self.slices.token(at)?;
         let span = self.slices.span(&at.start, &at.end);
-        make_room(&mut self.under.entries)?;
+        let first = self.under.room.entries;
+        make_room(&mut self.under.entries, first)?;
         let entry = argument_from(self.slices.alloc(), span, leading, value, repr);
         self.under.entries.push_reserved(entry);
         self.end_entry(at);
@@ -442,9 +498,10 @@ impl<'a, N: ParsedNode> Builder<'a, N> {
     {
         let key = self.parts.key_parts(&mut self.slices, &at.start)?;
         let Slot { leading, start } = self.parts_slot();
-        let repr = self.slices.text(&at.start, &at.end)?;
+        let repr = self.slices.token(at)?;
         let span = self.slices.span(&start, &at.end);
-        make_room(&mut self.under.entries)?;
+        let first = self.under.room.entries;
+        make_room(&mut self.under.entries, first)?;
         let entry = property_from(self.slices.alloc(), span, leading, key, value, repr);
         self.under.entries.push_reserved(entry);
         self.end_entry(at);

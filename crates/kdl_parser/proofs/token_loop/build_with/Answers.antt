@@ -1,7 +1,10 @@
 use Rattle.std.proofs.Common.{refl}
 use Rattle.kdl_parser.specs.Internal.Counted.{unsliced}
 use Rattle.kdl_parser.proofs.Stepping.TurnCost.{counting_starts, counting_goes_on}
-use Rattle.kdl_parser.proofs.Answering.TokenLoop.{starts, goes_on, nearer}
+use Rattle.kdl_parser.proofs.Answering.TokenLoop.{starts, goes_on, nearer, from_now, stops_going}
+use Rattle.kdl_lexer.specs.declared.lexer.Token.{Token}
+use Rattle.kdl_lexer.specs.declared.lexer.TokenKind.TheVariants.{Space}
+use Rattle.kdl_lexer.specs.declared.token_span.TokenSpan.{TokenSpan}
 use Rattle.kdl_parser.proofs.token_loop.build_with.Goals as goal
 
 pub tokens-init : goal.tokens-init
@@ -10,13 +13,33 @@ tokens-init g c = (
   counting_starts c.args.lexer.now c.args.builder.now.slices.steps (unsliced c.args.builder.now) c.requires.steps c.requires.unsliced,
 )
 
+-- a run of spaces as a token
+abbrev spaces : TokenSpan → Token
+spaces at = record { kind = Space; at = at }
+
+pub tokens-preserved-in-Ok : goal.tokens-preserved-in-Ok
+tokens-preserved-in-Ok g c =
+    let handed = rw c.in-Space.is at c.in_ok-at.ensures.lexed in
+    let costs = rw c.in-Space.is at c.in_ok-at.ensures.costs in (
+      goes_on g.N.ParsedNode.tree c.tokens.builder c.take_space.new.self c.tokens.lexer c.next_token.new.self _ _ (spaces c.in-Space.at) c.tokens.invariant.0 handed c.next_token.ensures.moves (rw c.in-Ok.is at c.take_space.ensures.did) c.take_space.ensures.whole,
+      counting_goes_on _ c.tokens.lexer c.next_token.new.self (spaces c.in-Space.at) _ _ _ _ c.tokens.invariant.1 handed c.next_token.ensures.moves costs (rw c.in-Ok.is at c.take_space.ensures.sliced),
+    )
+
+pub tokens-smaller-in-Ok : goal.tokens-smaller-in-Ok
+tokens-smaller-in-Ok g c = nearer c.tokens.lexer c.next_token.new.self (spaces c.in-Space.at) (rw c.in-Space.is at c.in_ok-at.ensures.lexed)
+
 pub tokens-preserved : goal.tokens-preserved
 tokens-preserved g c =
-    let handed = rw c.in-Some.is at c.in_ok-token.ensures.lexed in
-    let costs = rw c.in-Some.is at c.in_ok-token.ensures.costs in (
-      goes_on g.N.ParsedNode.tree c.tokens.builder c.take.new.self c.tokens.lexer c.next.new.self _ _ c.in-Some.token c.tokens.invariant.0 handed c.next.ensures.moves (rw c.in-Ok.is at c.take.ensures.did) c.take.ensures.whole,
-      counting_goes_on _ c.tokens.lexer c.next.new.self c.in-Some.token _ _ _ _ c.tokens.invariant.1 handed c.next.ensures.moves costs (rw c.in-Ok.is at c.take.ensures.sliced),
+    let handed = rw c.in-Other.is at c.in_ok-at.ensures.lexed in
+    let costs = rw c.in-Other.is at c.in_ok-at.ensures.costs in (
+      goes_on g.N.ParsedNode.tree c.tokens.builder c.take.new.self c.tokens.lexer c.next_token.new.self _ _ c.in-Other.token c.tokens.invariant.0 handed c.next_token.ensures.moves (rw c.in-Ok-take.is at c.take.ensures.did) c.take.ensures.whole,
+      counting_goes_on _ c.tokens.lexer c.next_token.new.self c.in-Other.token _ _ _ _ c.tokens.invariant.1 handed c.next_token.ensures.moves costs (rw c.in-Ok-take.is at c.take.ensures.sliced),
     )
 
 pub tokens-smaller : goal.tokens-smaller
-tokens-smaller g c = nearer c.tokens.lexer c.next.new.self c.in-Some.token (rw c.in-Some.is at c.in_ok-token.ensures.lexed)
+tokens-smaller g c = nearer c.tokens.lexer c.next_token.new.self c.in-Other.token (rw c.in-Other.is at c.in_ok-at.ensures.lexed)
+
+pub finish-requires-clause-from : goal.finish-requires-clause-from
+finish-requires-clause-from g c =
+    let going = stops_going g.N.ParsedNode.tree c.tokens.builder c.tokens.lexer c.next_token.new.self _ _ c.tokens.invariant.0 (rw c.in-End.is at c.in_ok-at.ensures.lexed) c.next_token.ensures.moves in
+    rw c.checkpoint-end.ensures.rest (from_now g.N.ParsedNode.tree c.tokens.builder c.next_token.new.self _ _ going)
