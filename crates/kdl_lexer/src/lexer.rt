@@ -4,7 +4,7 @@
 
 ghost use Rattle.kdl_value.specs.Data as data';
 ghost use Rattle.kdl_lexer.specs.Pieces as spec;
-ghost use Rattle.kdl_lexer.specs.Internal.Handed.{Lexed, LexCosts, LexedNext, NextCosts, ReadsKind, KindCosts, IsFaultAt, IsRare, Passes, IsPunctuation};
+ghost use Rattle.kdl_lexer.specs.Internal.Handed.{Lexed, LexCosts, LexedNext, NextCosts, ReturnsApart, ReadsKind, ReadsWord, KindCosts, FailsAt, IsFaultAt, IsOther, Passes, IsPunctuation};
 ghost use Rattle.kdl_value.specs.Tree.{value_tree};
 ghost use Rattle.kdl_lexer.specs.declared.lexer.KindFailure.TheVariants.{Memory as NoMemory};
 ghost use Rattle.kdl_lexer.specs.declared.lexer.LexFailure.TheVariants.{Memory};
@@ -114,13 +114,16 @@ pub struct Token<'a> {
     pub at: TokenSpan<'a>,
 }
 
-/// What is next in a text. Spaces are the most common tokens, and a reader that only skips them gets no token to take
-/// apart.
+/// What is next in a text. The most common tokens are apart, so that a reader has no kind to look at.
 #[derive(Drop)]
 pub enum NextToken<'a> {
     /// A run of spaces, with its span.
     Space(TokenSpan<'a>),
-    /// Another token.
+    /// A line feed, with its span.
+    LineFeed(TokenSpan<'a>),
+    /// A bare string that begins with an ASCII letter, and its span.
+    Word(String, TokenSpan<'a>),
+    /// Another token. A block comment and an escline are tokens of the kind `Space`.
     Other(Token<'a>),
     /// The end of the text.
     End,
@@ -147,9 +150,33 @@ fn kind_failure(failure: StringFailure) -> KindFailure
     }
 }
 
+/// The failure of the lexer where no token was read at the place.
+fn lex_failure(failure: KindFailure, place: &Checkpoint) -> LexFailure
+    ensures { FailsAt place.now failure result }
+{
+    match failure {
+        KindFailure::Absent => LexFailure::Faulty(fault_at(place)),
+        KindFailure::Memory => LexFailure::Memory,
+    }
+}
+
 /// Reads the bare string that begins here, where no number does.
 #[inline(always)]
 #[tactic(auto, using(crate::proofs::Lexing::TokenReads::a_bare_here, crate::proofs::Lexing::TokenCost::bare_costs))]
+fn bare_word(cursor: &mut Cursor, alloc: Global) -> Result<String, KindFailure>
+    requires word { starts is_identifier_char cursor.old.rest ≡ true }
+    requires no_number { numbers.begins_number cursor.old.rest ≡ false }
+    ensures read { ReadsWord cursor.old.rest result cursor.new.rest }
+    ensures moves { Moves cursor.old cursor.new }
+    ensures costs { KindCosts 20 result cursor.old cursor.new }
+{
+    match bare_string(cursor) {
+        Some(piece) => Ok(piece.to_string(alloc)?),
+        None => Err(KindFailure::Absent),
+    }
+}
+
+/// Reads the token that is the bare string that begins here, where no number does.
 fn bare_token(cursor: &mut Cursor, alloc: Global) -> Result<TokenKind, KindFailure>
     requires word { starts is_identifier_char cursor.old.rest ≡ true }
     requires no_number { numbers.begins_number cursor.old.rest ≡ false }
@@ -157,9 +184,9 @@ fn bare_token(cursor: &mut Cursor, alloc: Global) -> Result<TokenKind, KindFailu
     ensures moves { Moves cursor.old cursor.new }
     ensures costs { KindCosts 20 result cursor.old cursor.new }
 {
-    match bare_string(cursor) {
-        Some(piece) => Ok(TokenKind::String(piece.to_string(alloc)?)),
-        None => Err(KindFailure::Absent),
+    match bare_word(cursor, alloc) {
+        Ok(text) => Ok(TokenKind::String(text)),
+        Err(failure) => Err(failure),
     }
 }
 
@@ -353,7 +380,7 @@ fn single_kind(c: char) -> Option<TokenKind>
 fn plain_token(c: char, cursor: &mut Cursor, alloc: Global) -> Result<TokenKind, KindFailure>
     requires first { first cursor.old.rest ≡ Some c }
     requires plain { ((c == 34 || c == 35) || (c == 47 || c == 92)) ≡ false }
-    requires rare { IsRare c }
+    requires other { IsOther c }
     ensures read { ReadsKind cursor.old.rest result cursor.new.rest }
     ensures moves { Moves cursor.old cursor.new }
     ensures costs { KindCosts 22 result cursor.old cursor.new }
@@ -369,9 +396,9 @@ fn plain_token(c: char, cursor: &mut Cursor, alloc: Global) -> Result<TokenKind,
 }
 
 /// Reads the token that begins with the character c here, which is no space, no digit and no token by itself.
-fn rare_token(c: char, cursor: &mut Cursor, alloc: Global) -> Result<TokenKind, KindFailure>
+fn other_token(c: char, cursor: &mut Cursor, alloc: Global) -> Result<TokenKind, KindFailure>
     requires first { first cursor.old.rest ≡ Some c }
-    requires rare { IsRare c }
+    requires other { IsOther c }
     ensures read { ReadsKind cursor.old.rest result cursor.new.rest }
     ensures moves { Moves cursor.old cursor.new }
     ensures costs { KindCosts 22 result cursor.old cursor.new }
@@ -385,10 +412,10 @@ fn rare_token(c: char, cursor: &mut Cursor, alloc: Global) -> Result<TokenKind, 
     }
 }
 
-/// Reads the token that begins with the character c here, which is no space, and returns its kind. The most common
-/// tokens are read where this is called: line feeds, words that begin with a letter, numbers, and single characters.
+/// Reads the token that begins with the character c here, which is no space, and returns its kind. The most common ones
+/// are read where this is called: numbers that begin with a digit, and tokens of one character.
 #[inline(always)]
-#[tactic(auto, using(crate::proofs::Lexing::TokenReads::line_feed_here, crate::proofs::Lexing::TokenReads::take_moves, crate::proofs::Lexing::TokenReads::punctuation_here, crate::proofs::Lexing::TokenReads::punctuation_costs, crate::proofs::Lexing::TokenReads::digit_here, crate::proofs::Lexing::TokenReads::few_costs, crate::proofs::Lexing::TokenReads::letter_here, crate::proofs::Lexing::TokenReads::no_digit_letter))]
+#[tactic(auto, using(crate::proofs::Lexing::TokenReads::take_moves, crate::proofs::Lexing::TokenReads::punctuation_here, crate::proofs::Lexing::TokenReads::punctuation_costs, crate::proofs::Lexing::TokenReads::digit_here, crate::proofs::Lexing::TokenReads::few_costs))]
 fn token_kind(c: char, cursor: &mut Cursor, alloc: Global) -> Result<TokenKind, KindFailure>
     requires first { first cursor.old.rest ≡ Some c }
     requires no_space { is_space c ≡ false }
@@ -396,13 +423,6 @@ fn token_kind(c: char, cursor: &mut Cursor, alloc: Global) -> Result<TokenKind, 
     ensures moves { Moves cursor.old cursor.new }
     ensures costs { KindCosts 22 result cursor.old cursor.new }
 {
-    if c == '\n' {
-        let _ = cursor.take();
-        return Ok(TokenKind::Newline);
-    }
-    if c.is_ascii_alphabetic() {
-        return bare_token(cursor, alloc);
-    }
     if is_digit(c) {
         return number_token(cursor, alloc);
     }
@@ -410,7 +430,7 @@ fn token_kind(c: char, cursor: &mut Cursor, alloc: Global) -> Result<TokenKind, 
         let _ = cursor.take();
         return Ok(kind);
     }
-    rare_token(c, cursor, alloc)
+    other_token(c, cursor, alloc)
 }
 
 /// The tokens of a text, one at a time.
@@ -519,23 +539,33 @@ impl<'a> Lexer<'a> {
                 kind: TokenKind::Space,
                 at,
             })),
+            NextToken::LineFeed(at) => Ok(Some(Token {
+                kind: TokenKind::Newline,
+                at,
+            })),
+            NextToken::Word(text, at) => Ok(Some(Token {
+                kind: TokenKind::String(text),
+                at,
+            })),
             NextToken::Other(token) => Ok(Some(token)),
             NextToken::End => Ok(None),
         }
     }
 
-    /// Advances as `next` does, at the same cost, and returns runs of spaces apart from the other tokens. Fails as `next`
-    /// does.
+    /// Advances as `next` does, at the same cost, and returns the most common tokens apart: a run of spaces, a line feed,
+    /// and a bare string that begins with an ASCII letter. Fails as `next` does.
     ///
     /// ```
-    /// let mut lexer = Lexer::new(" }", Steps::new());
+    /// let mut lexer = Lexer::new("a }", Steps::new());
+    /// let word = lexer.next_token(alloc)?; // `NextToken::Word`, the string `a`
     /// let spaces = lexer.next_token(alloc)?; // `NextToken::Space`, with its span
     /// let closing = lexer.next_token(alloc)?; // `NextToken::Other`, the `}`
     /// ```
     #[inline(always)]
-    #[tactic(auto, using(crate::proofs::Lexing::TokenReads::spaces_here, crate::proofs::Lexing::TokenReads::skip_moves))]
+    #[tactic(auto, using(crate::proofs::Lexing::TokenReads::spaces_here, crate::proofs::Lexing::TokenReads::skip_moves, crate::proofs::Lexing::TokenReads::spaces_apart, crate::proofs::Lexing::TokenReads::line_feed_here, crate::proofs::Lexing::TokenReads::take_moves, crate::proofs::Lexing::TokenReads::letter_here, crate::proofs::Lexing::TokenReads::no_digit_letter, crate::proofs::Lexing::TokenReads::letter_there, crate::proofs::Lexing::TokenReads::not_apart))]
     pub fn next_token(&mut self, alloc: Global) -> Result<NextToken<'a>, LexFailure>
         ensures lexed { LexedNext self.old result self.new }
+        ensures apart { ReturnsApart self.old result self.new }
         ensures moves { Moves self.old self.new }
         ensures costs { NextCosts result self.old self.new }
     {
@@ -547,10 +577,20 @@ impl<'a> Lexer<'a> {
             self.cursor.skip(Class::Space);
             return Ok(NextToken::Space(TokenSpan::new(start, self.cursor.checkpoint())));
         }
+        if c == '\n' {
+            let _ = self.cursor.take();
+            return Ok(NextToken::LineFeed(TokenSpan::new(start, self.cursor.checkpoint())));
+        }
+        if c.is_ascii_alphabetic() {
+            let text = match bare_word(&mut self.cursor, alloc) {
+                Ok(text) => text,
+                Err(failure) => return Err(lex_failure(failure, &start)),
+            };
+            return Ok(NextToken::Word(text, TokenSpan::new(start, self.cursor.checkpoint())));
+        }
         let kind = match token_kind(c, &mut self.cursor, alloc) {
             Ok(kind) => kind,
-            Err(KindFailure::Absent) => return Err(LexFailure::Faulty(fault_at(&start))),
-            Err(KindFailure::Memory) => return Err(LexFailure::Memory),
+            Err(failure) => return Err(lex_failure(failure, &start)),
         };
         Ok(NextToken::Other(Token {
             kind,

@@ -19,16 +19,15 @@ mod content;
 mod dropping;
 mod steps;
 
-use self::content::nothing_at;
+use self::content::{no_content, nothing_at};
 use self::dropping::Dropped;
 use crate::node_parts::{DocumentParts, ParsedNode};
 use kdl_control::{Event, Phase};
 use kdl_entry::parsing::parts::{Parts, TypeParts, empty};
 use kdl_entry::parsing::slices::Slices;
 use kdl_entry::{KdlEntry, KdlIdentifier, KdlValue};
-use kdl_lexer::{Token, TokenKind, TokenSpan};
+use kdl_lexer::{TokenKind, TokenSpan};
 use kdl_text::cursor::{self, Checkpoint, Piece};
-use kdl_text::span::SourceSpan;
 use std::alloc::{AllocError, AllocFailed, Global};
 use std::mem;
 
@@ -57,7 +56,8 @@ impl From<AllocError> for TakeFailure {
     }
 }
 
-/// For how many items a list gets room at first: as many as the last list of its kind had.
+/// For how many items a list gets room at first: as many as the last list of its kind had, or one after a list of one or
+/// two.
 #[derive(Clone, Copy)]
 struct Room {
     /// For the entries of the next node.
@@ -73,7 +73,8 @@ struct Room {
 struct Under<'a> {
     leading: String,
     start: Checkpoint<'a>,
-    ty: Option<TypeParts>,
+    /// Its type, on the heap: few nodes have one, and a node is moved when its block opens and when it closes.
+    ty: Option<Box<TypeParts>>,
     name: KdlIdentifier,
     entries: Vec<KdlEntry>,
     room: Room,
@@ -195,12 +196,7 @@ impl<'a, N: ParsedNode> Builder<'a, N> {
             waiting: None,
             under: Under::new(alloc, &start),
             before: empty(alloc),
-            block: DocumentParts {
-                leading: empty(alloc),
-                nodes: Vec::new(alloc),
-                trailing: empty(alloc),
-                span: SourceSpan { offset: 0, len: 0 },
-            },
+            block: no_content(alloc),
             nodes: Vec::new(alloc),
             levels: Vec::new(alloc),
             from: start,
@@ -319,20 +315,19 @@ impl<'a, N: ParsedNode> Builder<'a, N> {
         }
     }
 
-    /// Takes a token. Fails if the token may not be here, or if an allocation fails; the builder is then in an
-    /// unspecified state.
+    /// Takes the token of this kind at the place. Fails if the token may not be here, or if an allocation fails; the
+    /// builder is then in an unspecified state.
     #[inline(always)]
-    pub(crate) fn take(&mut self, token: Token<'a>) -> Result<(), TakeFailure>
-        requires placed { Placed (state_view N.tree self.old) token.at.start.rest }
-        ensures { Steps N.tree (token_step N.tree self.old token.entry.kind token.entry.at)
-            (unsliced self.old + 1) self.old result self.new }
+    pub(crate) fn take(&mut self, kind: TokenKind, at: &TokenSpan<'a>) -> Result<(), TakeFailure>
+        requires placed { Placed (state_view N.tree self.old) at.now.start.rest }
+        ensures { Steps N.tree (token_step N.tree self.old kind at.now) (unsliced self.old + 1)
+            self.old result self.new }
     {
         self.slices.count_look();
-        let Token { kind, at } = token;
         if self.is_building() {
-            self.take_live(kind, &at)
+            self.take_live(kind, at)
         } else {
-            self.take_dropped(kind, &at)
+            self.take_dropped(kind, at)
         }
     }
 

@@ -9,7 +9,7 @@ ghost use Rattle.std.specs.Prelude.{◌≡◌, ◌+◌, ◌≤◌};
 
 use crate::builder::{Builder, TakeFailure};
 use crate::node_parts::{DocumentParts, ParsedNode};
-use kdl_lexer::{LexFailure, Lexer, NextToken, fault_at};
+use kdl_lexer::{LexFailure, Lexer, NextToken, Token, TokenKind, fault_at};
 use kdl_text::cursor::Checkpoint;
 use std::alloc::Global;
 
@@ -45,11 +45,19 @@ fn build_with<'a, N: ParsedNode>(
                 Ok(()) => {}
                 Err(failure) => return Err(failure_at(failure, &at.start)),
             },
+            NextToken::LineFeed(at) => match builder.take(TokenKind::Newline, &at) {
+                Ok(()) => {}
+                Err(failure) => return Err(failure_at(failure, &at.start)),
+            },
+            NextToken::Word(text, at) => match builder.take(TokenKind::String(text), &at) {
+                Ok(()) => {}
+                Err(failure) => return Err(failure_at(failure, &at.start)),
+            },
             NextToken::Other(token) => {
-                let start = token.at.start.copied();
-                match builder.take(token) {
+                let Token { kind, at } = token;
+                match builder.take(kind, &at) {
                     Ok(()) => {}
-                    Err(failure) => return Err(failure_at(failure, &start)),
+                    Err(failure) => return Err(failure_at(failure, &at.start)),
                 }
             }
             NextToken::End => break 'tokens,

@@ -49,7 +49,7 @@ use Rattle.kdl_value.specs.Tree.{value_tree}
 use Rattle.kdl_value.specs.declared.value.KdlValue.{KdlValue}
 use Rattle.kdl_lexer.specs.Pieces.{StringPiece, bare, quoted, raw, PlainPiece, number, keyword, keyword_value}
 use Rattle.kdl_lexer.specs.Pieces as entries
-use Rattle.kdl_lexer.specs.Internal.Handed.{Cuts, one, spaces, ReadsKind, KindCosts, Passes, IsPunctuation, is_single, kind_view}
+use Rattle.kdl_lexer.specs.Internal.Handed.{Cuts, one, spaces, ReadsKind, KindCosts, Passes, IsPunctuation, is_single, kind_view, begins_apart}
 use Rattle.kdl_lexer.specs.Tokens.{space, newline, slashdash, string, value, t_space, t_newline, t_slashdash, t_string, t_value, NoToken}
 use Rattle.kdl_lexer.specs.declared.lexer.KindFailure.{KindFailure}
 use Rattle.kdl_lexer.specs.declared.lexer.KindFailure.TheVariants.{Absent, Memory as NoMemory}
@@ -302,6 +302,15 @@ spaces_costs c a b h w (u, k) =
       fewer = omega (arith, some, ap bytes k.text, bytes-append u b.rest, length-bytes u);
       costs = record { most = omega (arith, some, k.steps, ap bytes k.text, bytes-append u b.rest, length-bytes u); least = omega (arith, k.steps, ap length k.text, length-append u b.rest) };
     }
+
+pub spaces_apart : (c : ℕ) (a b : Here) → first a.rest ≡ Some c → is_space c ≡ true → Skips is_space a b → (starts is_space a.rest ≡ true) × (starts is_space b.rest ≡ false)
+spaces_apart c a b h w (u, k) = (rw (first_is a.rest c h) w, k.stops)
+
+pub letter_there : (c : ℕ) (a : Here) → first a.rest ≡ Some c → is_ascii_alphabetic c ≡ true → starts is_ascii_alphabetic a.rest ≡ true
+letter_there c a h w = rw (first_is a.rest c h) w
+
+pub not_apart : (c : ℕ) (a : Here) → first a.rest ≡ Some c → is_space c ≡ false → (c == 10) ≡ false → is_ascii_alphabetic c ≡ false → starts begins_apart a.rest ≡ false
+not_apart c a h x y z = rw (first_is a.rest c h, x, y) z
 
 pub skip_moves : (a b : Here) → Skips is_space a b → Moves a b
 skip_moves a b (u, k) = moves_ran k

@@ -1,6 +1,8 @@
 -- What the lexer returns.
-use Rattle.std.specs.Prelude.{◌≡◌, ℕ, Bool, false, ◌||◌, ◌==◌, [], ◌∷◌, Option, Some, None, Result, Ok, Err}
-use Rattle.kdl_text.specs.Chars.{Text, Plus, is_digit, is_space}
+use Rattle.std.specs.Char.{is_ascii_alphabetic}
+use Rattle.std.specs.declared.alloc.Global.{Global}
+use Rattle.std.specs.Prelude.{◌≡◌, ℕ, Bool, true, false, ◌||◌, ◌==◌, [], ◌∷◌, Option, Some, None, Result, Ok, Err, String as StdString}
+use Rattle.kdl_text.specs.Chars.{Text, Plus, starts, is_digit, is_space}
 use Rattle.kdl_text.specs.Internal.Here.{Here, Position, first_len}
 use Rattle.kdl_text.specs.Internal.Reading.{Costs}
 use Rattle.kdl_text.specs.Trivia.{NodeSpace}
@@ -15,7 +17,7 @@ use Rattle.kdl_lexer.specs.declared.lexer.TokenKind.{TokenKind}
 use Rattle.kdl_lexer.specs.declared.lexer.TokenKind.TheVariants.{Space, Newline, Slashdash, String, Value, Left, Right, Opening, Closing, Equals, Semicolon, Bom}
 use Rattle.kdl_lexer.specs.declared.lexer.Token.{Token}
 use Rattle.kdl_lexer.specs.declared.lexer.NextToken.{NextToken}
-use Rattle.kdl_lexer.specs.declared.lexer.NextToken.TheVariants.{Space as Spaces, Other, End}
+use Rattle.kdl_lexer.specs.declared.lexer.NextToken.TheVariants.{Space as Spaces, LineFeed, Word, Other, End}
 use Rattle.kdl_lexer.specs.declared.lexer.KindFailure.{KindFailure}
 use Rattle.kdl_lexer.specs.declared.lexer.KindFailure.TheVariants.{Absent, Memory as NoMemory}
 use Rattle.kdl_lexer.specs.declared.lexer.LexFailure.{LexFailure}
@@ -52,6 +54,12 @@ ReadsKind s (Ok k) r = Cuts s (kind_view k) r
 ReadsKind s (Err Absent) r = NoToken s
 ReadsKind s (Err NoMemory) r = Unit {0}
 
+-- the string that was read at s, before r
+abbrev pub ReadsWord : Text → Result (StdString Global) KindFailure → Text → Type 0
+ReadsWord s (Ok w) r = Cuts s (tokens.string (text_of w)) r
+ReadsWord s (Err Absent) r = NoToken s
+ReadsWord s (Err NoMemory) r = Unit {0}
+
 -- what a token costs: at most k steps for each byte, and it has at least one; if no token begins here, at most k for each byte that was read, and k more
 abbrev pub KindCosts : {A : Type 0} → ℕ → Result A KindFailure → Here → Here → Type 0
 KindCosts k (Ok x) old new = PieceCosts k old new
@@ -68,7 +76,7 @@ abbrev pub is_single : ℕ → Bool
 is_single c = ((c == 40 || c == 41) || (c == 123 || c == 125)) || ((c == 61 || c == 59) || c == 0xFEFF)
 
 -- neither a space, nor a digit, nor a token by itself
-pub record IsRare (c : ℕ) : Type 0 where
+pub record IsOther (c : ℕ) : Type 0 where
   pub no_space : is_space c ≡ false
   pub no_digit : is_digit c ≡ false
   pub no_single : is_single c ≡ false
@@ -85,6 +93,12 @@ pub record HandsOut (old : Here) (t : Token) (new : Here) : Type 0 where
   pub start_at : t.at.start.at ≡ old.at
   pub end_rest : t.at.end.rest ≡ new.rest
   pub end_at : t.at.end.at ≡ new.at
+
+-- the failure of the lexer at the place, after that of a reader
+abbrev pub FailsAt : Position → KindFailure → LexFailure → Type 0
+FailsAt place Absent (Faulty span) = IsFaultAt place span
+FailsAt place Absent Memory = ⊥
+FailsAt place NoMemory f = f ≡ Memory
 
 -- what a call returns
 abbrev pub Lexed : Here → Result (Option Token) LexFailure → Here → Type 0
@@ -104,6 +118,8 @@ LexCosts (Err Memory) old new = Unit {0}
 -- the token that is next, if the text does not end
 abbrev pub token_next : NextToken → Option Token
 token_next (Spaces at) = Some (record { kind = Space; at = at })
+token_next (LineFeed at) = Some (record { kind = Newline; at = at })
+token_next (Word s at) = Some (record { kind = String s; at = at })
 token_next (Other t) = Some t
 token_next End = None
 
@@ -116,3 +132,16 @@ LexedNext old (Err f) new = Lexed old (Err f) new
 abbrev pub NextCosts : Result NextToken LexFailure → Here → Here → Type 0
 NextCosts (Ok n) old new = LexCosts (Ok (token_next n)) old new
 NextCosts (Err f) old new = LexCosts (Err f) old new
+
+-- a space, a line feed or an ASCII letter
+abbrev pub begins_apart : ℕ → Bool
+begins_apart c = (is_space c || c == 10) || is_ascii_alphabetic c
+
+-- tokens that begin with a space, a line feed or an ASCII letter are returned apart; spaces up to the first character that is none
+abbrev pub ReturnsApart : Here → Result NextToken LexFailure → Here → Type 0
+ReturnsApart old (Ok (Spaces at)) new = (starts is_space old.rest ≡ true) × (starts is_space new.rest ≡ false)
+ReturnsApart old (Ok (LineFeed at)) new = starts (λ c. c == 10) old.rest ≡ true
+ReturnsApart old (Ok (Word s at)) new = starts is_ascii_alphabetic old.rest ≡ true
+ReturnsApart old (Ok (Other t)) new = starts begins_apart old.rest ≡ false
+ReturnsApart old (Ok End) new = Unit {0}
+ReturnsApart old (Err f) new = Unit {0}

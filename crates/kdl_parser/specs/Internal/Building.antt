@@ -1,5 +1,6 @@
 -- The machine's state that the builder's fields represent, and what its steps return.
 use Rattle.std.specs.Prelude.{◌≡◌, List, [], ◌∷◌, map, Option, Some, None, option_map, Result, Ok, Err}
+use Rattle.std.specs.Global.{Box}
 use Rattle.kdl_text.specs.Chars.{Text}
 use Rattle.kdl_control.specs.Internal.Views.{owner_view, control_view}
 use Rattle.kdl_control.specs.declared.control.Owner.{Owner}
@@ -10,6 +11,7 @@ use Rattle.kdl_control.specs.declared.control.Spot.TheVariants.{Fresh, Spaced, L
 use Rattle.kdl_control.specs.declared.control.Word.{Word}
 use Rattle.kdl_control.specs.declared.control.Word.TheVariants.{MayBeKey, NoKey}
 use Rattle.kdl_entry.specs.Internal.Building.{type_view, parts_view}
+use Rattle.kdl_entry.specs.declared.parsing.parts.TypeParts.{TypeParts}
 use Rattle.kdl_value.specs.Data.{text}
 pub use Rattle.kdl_entry.specs.Internal.EntryReading.{EndsIn}
 use Rattle.kdl_entry.specs.Internal.Parts as under_way
@@ -31,11 +33,15 @@ use Rattle.kdl_parser.specs.declared.builder.WaitingWord.{WaitingWord}
 use Rattle.kdl_parser.specs.declared.builder.dropping.Dropped.{Dropped}
 use Rattle.kdl_parser.specs.declared.builder.dropping.Dropped.TheVariants.{Nothing, Node as DroppedNode, Part as DroppedPart}
 
+-- a type on the heap
+abbrev pub boxed_type : Box TypeParts → under_way.TypeParts
+boxed_type b = type_view b.value
+
 abbrev pub under_view : Under → machine.Under
 under_view u = record {
   leading = text_of u.leading;
   start = u.start.rest;
-  ty = option_map type_view u.ty;
+  ty = option_map boxed_type u.ty;
   name = identifier_tree u.name;
   entries = map entry_tree u.entries.items;
 }

@@ -8,7 +8,7 @@ ghost use Rattle.kdl_entry.specs.Tree.{entry_tree};
 ghost use Rattle.kdl_grammar.specs.Internal.Machine as machine;
 ghost use Rattle.kdl_grammar.specs.Laid as laid;
 ghost use Rattle.kdl_grammar.specs.Tree.{document, no_children, none};
-ghost use Rattle.kdl_parser.specs.Internal.Building.{under_view, under_now, kept_by, nodes_now};
+ghost use Rattle.kdl_parser.specs.Internal.Building.{boxed_type, under_view, under_now, kept_by, nodes_now};
 ghost use Rattle.kdl_parser.specs.Internal.Parts.{nodes_tree, document_by, node_by};
 ghost use Rattle.kdl_text.specs.Internal.Here.{Ahead};
 ghost use Rattle.kdl_text.specs.Spans.{bytes};
@@ -18,7 +18,7 @@ ghost use Rattle.std.specs.Vec.{vec_capacity, vec_len};
 
 use super::{Builder, Slot, Under, WaitingWord};
 use crate::node_parts::{DocumentParts, NodeParts, ParsedNode};
-use kdl_entry::parsing::parts::{Given, argument_from, empty, entry_from};
+use kdl_entry::parsing::parts::{Given, TypeParts, argument_from, empty, entry_from};
 use kdl_entry::parsing::slices::Slices;
 use kdl_entry::{KdlEntry, KdlIdentifier, KdlValue};
 use kdl_lexer::TokenSpan;
@@ -235,17 +235,18 @@ impl<'a, N: ParsedNode> Builder<'a, N> {
         })
     }
 
-    /// Takes the current node, with its block, the text before the block, and its end.
+    /// Takes the current node as one of this type, with its block, the text before the block, and its end.
     #[inline(always)]
     fn take_node(
         &mut self,
+        ty: Option<TypeParts>,
         before_children: String,
         children: Option<DocumentParts<N>>,
         end: NodeEnd,
     ) -> N
         ensures node { N.tree result ≡ node_by N.tree (record {
           leading = self.old.under.leading;
-          ty = self.old.under.ty;
+          ty = ty;
           name = self.old.under.name;
           entries = self.old.under.entries;
           before_children = before_children;
@@ -267,11 +268,7 @@ impl<'a, N: ParsedNode> Builder<'a, N> {
         } = end;
         let parts = NodeParts {
             leading: mem::replace(&mut self.under.leading, empty(alloc)),
-            ty: if self.under.ty.is_some() {
-                self.under.ty.take()
-            } else {
-                None
-            },
+            ty,
             name: mem::replace(&mut self.under.name, KdlIdentifier::from(empty(alloc))),
             entries,
             before_children,
@@ -283,8 +280,18 @@ impl<'a, N: ParsedNode> Builder<'a, N> {
         N::from_parts(alloc, parts)
     }
 
+    /// Takes the type of the current node, if it has one.
+    fn take_type(&mut self) -> Option<TypeParts>
+        ensures taken { option_map type_view result ≡ option_map boxed_type self.old.under.ty }
+        ensures rest { self.new ≡ record self.old { under = record self.old.under { ty = None } } }
+    {
+        match self.under.ty.take() {
+            Some(ty) => Some(Box::into_inner(ty)),
+            None => None,
+        }
+    }
+
     /// Takes the current node, whose terminator is the token, and appends it to the nodes.
-    #[tactic(auto, using(crate::proofs::Stepping::Views::node_pushed))]
     pub(super) fn push_ended(&mut self, at: &TokenSpan<'a>) -> Result<(), AllocError>
         requires from { Ahead self.old.from at.now.start }
         ensures is { OnOk result (nodes_now N.tree self.new ≡ machine.ended
@@ -298,10 +305,52 @@ impl<'a, N: ParsedNode> Builder<'a, N> {
         ensures sliced { OnOk result
             (Sliced (bytes self.old.from.rest) (bytes at.now.end.rest) self.old.slices.steps self.new.slices.steps) }
     {
+        if self.under.ty.is_none() {
+            return self.push_of_type(None, at);
+        }
+        self.push_typed(at)
+    }
+
+    /// Does what `push_ended` does. Few nodes have a type, so this stays out of it.
+    #[inline(never)]
+    fn push_typed(&mut self, at: &TokenSpan<'a>) -> Result<(), AllocError>
+        requires from { Ahead self.old.from at.now.start }
+        ensures is { OnOk result (nodes_now N.tree self.new ≡ machine.ended
+            (machine.closed self.old.slices.whole.rest (Some (under_view self.old.under)) no_children []
+            (between self.old.from.rest at.now.start.rest) (between at.now.start.rest at.now.end.rest)
+            at.now.start.rest)
+            (nodes_now N.tree self.old)) }
+        ensures rest { OnOk result (self.new ≡
+            record self.old { slices = self.new.slices; under = self.new.under; nodes = self.new.nodes }) }
+        ensures whole { self.new.slices.whole ≡ self.old.slices.whole }
+        ensures sliced { OnOk result
+            (Sliced (bytes self.old.from.rest) (bytes at.now.end.rest) self.old.slices.steps self.new.slices.steps) }
+    {
+        let ty = self.take_type();
+        self.push_of_type(ty, at)
+    }
+
+    /// Takes the current node as one of this type, whose terminator is the token, and appends it to the nodes.
+    #[inline(always)]
+    #[tactic(auto, using(crate::proofs::Stepping::Views::node_pushed))]
+    fn push_of_type(&mut self, ty: Option<TypeParts>, at: &TokenSpan<'a>) -> Result<(), AllocError>
+        requires from { Ahead self.old.from at.now.start }
+        ensures is { OnOk result (nodes_now N.tree self.new ≡ machine.ended
+            (machine.closed self.old.slices.whole.rest
+            (Some (record (under_view self.old.under) { ty = option_map type_view ty })) no_children []
+            (between self.old.from.rest at.now.start.rest) (between at.now.start.rest at.now.end.rest)
+            at.now.start.rest)
+            (nodes_now N.tree self.old)) }
+        ensures rest { OnOk result (self.new ≡
+            record self.old { slices = self.new.slices; under = self.new.under; nodes = self.new.nodes }) }
+        ensures whole { self.new.slices.whole ≡ self.old.slices.whole }
+        ensures sliced { OnOk result
+            (Sliced (bytes self.old.from.rest) (bytes at.now.end.rest) self.old.slices.steps self.new.slices.steps) }
+    {
         let ending = self.node_end(at)?;
         make_room(&mut self.nodes, self.under.room.nodes)?;
         let before = empty(self.slices.alloc());
-        let node = self.take_node(before, None, ending);
+        let node = self.take_node(ty, before, None, ending);
         self.nodes.push_reserved(node);
         Ok(())
     }
@@ -323,9 +372,10 @@ impl<'a, N: ParsedNode> Builder<'a, N> {
     {
         let ending = self.node_end(at)?;
         make_room(&mut self.nodes, self.under.room.nodes)?;
+        let ty = self.take_type();
         let before = mem::replace(&mut self.before, empty(self.slices.alloc()));
         let block = mem::replace(&mut self.block, no_content(self.slices.alloc()));
-        let node = self.take_node(before, Some(block), ending);
+        let node = self.take_node(ty, before, Some(block), ending);
         self.nodes.push_reserved(node);
         Ok(())
     }

@@ -1,7 +1,7 @@
 //! What the builder does at a token: nodes begin and end, blocks open and close, entries are added.
 
 ghost use Rattle.kdl_entry.specs.Internal.Building.{key_view, type_view};
-ghost use Rattle.kdl_parser.specs.Internal.Building.{in_phase, node_now, state_view, under_view, Does};
+ghost use Rattle.kdl_parser.specs.Internal.Building.{boxed_type, in_phase, node_now, state_view, under_view, Does};
 ghost use Rattle.kdl_parser.specs.Internal.Counted.{unsliced};
 ghost use Rattle.kdl_parser.specs.Internal.Events.{keyed_opened, type_ended, type_named};
 ghost use Rattle.kdl_parser.specs.Internal.States.{
@@ -30,14 +30,14 @@ ghost use Rattle.kdl_parser.specs.Internal.States.{
 ghost use Rattle.kdl_control.specs.declared.control.Phase.TheVariants.{InNode};
 ghost use Rattle.kdl_control.specs.declared.control.Spot.TheVariants.{Fresh};
 ghost use Rattle.kdl_control.specs.declared.control.Word.TheVariants.{NoKey};
-ghost use Rattle.kdl_entry.specs.Tree.{identifier_tree};
+ghost use Rattle.kdl_entry.specs.Tree.{identifier_tree, plain_identifier};
 ghost use Rattle.kdl_grammar.specs.Internal.Machine as machine;
 ghost use Rattle.kdl_parser.specs.declared.builder.dropping.Dropped.TheVariants.{Nothing};
 ghost use Rattle.kdl_text.specs.Internal.Here.{Ahead};
 ghost use Rattle.kdl_text.specs.Spans.{bytes};
 ghost use Rattle.kdl_value.specs.Data.{text};
 ghost use Rattle.kdl_value.specs.Tree.{value_tree, text_of};
-ghost use Rattle.std.specs.Prelude.{◌≡◌, Some, None, OnOk, option_map};
+ghost use Rattle.std.specs.Prelude.{◌≡◌, [], Some, None, OnOk, option_map};
 
 use super::content::{make_room, nothing_at, put, room_after, settle};
 use super::dropping::Dropped;
@@ -176,6 +176,13 @@ impl<'a, N: ParsedNode> Builder<'a, N> {
     #[inline(always)]
     fn take_under(&mut self) -> Under<'a>
         ensures taken { result ≡ self.old.under }
+        ensures left { under_view self.new.under ≡ record {
+          leading = [];
+          start = self.old.under.start.rest;
+          ty = None;
+          name = plain_identifier [];
+          entries = [];
+        } }
         ensures rest { self.new ≡ record self.old { under = self.new.under } }
     {
         let room = self.under.room;
@@ -216,22 +223,20 @@ impl<'a, N: ParsedNode> Builder<'a, N> {
     fn begin_node(
         &mut self,
         slot: Slot<'a>,
-        ty: Option<TypeParts>,
+        ty: Option<Box<TypeParts>>,
         name: KdlIdentifier,
         at: &TokenSpan<'a>,
     )
         requires live { self.old.dropped ≡ Nothing }
         ensures state { state_view N.tree self.new
-            ≡ node_begun N.tree self.old slot.entry (option_map type_view ty) (identifier_tree name) at.now.end }
+            ≡ node_begun N.tree self.old slot.entry (option_map boxed_type ty) (identifier_tree name) at.now.end }
         ensures slices { self.new.slices ≡ self.old.slices }
         ensures unsliced { unsliced self.new ≡ bytes at.now.end.rest }
     {
         let Slot { leading, start } = slot;
         self.under.leading = leading;
         self.under.start = start;
-        if ty.is_some() || self.under.ty.is_some() {
-            self.under.ty = ty;
-        }
+        self.under.ty = ty;
         self.under.name = name;
         if !self.under.entries.is_empty() {
             self.under.entries = Vec::new(self.slices.alloc());
@@ -304,7 +309,8 @@ impl<'a, N: ParsedNode> Builder<'a, N> {
             (bytes self.old.from.rest) self.old result self.new }
     {
         self.settle_word()?;
-        // There is a space before it at least, so this copies the text without looking whether there is any.
+        // There is a space before it at least, so here and before an argument `Slices::text` would look in vain whether
+        // there is any text.
         let place = self.slices.piece(&self.from, &at.start);
         let leading = place.to_string(self.slices.alloc())?;
         let word = WaitingWord {
@@ -432,7 +438,6 @@ impl<'a, N: ParsedNode> Builder<'a, N> {
             result self.new }
     {
         self.settle_word()?;
-        // There is a space before it at least, so this copies the text without looking whether there is any.
         let place = self.slices.piece(&self.from, &at.start);
         let leading = place.to_string(self.slices.alloc())?;
         let repr = self.slices.token(at)?;
@@ -539,6 +544,7 @@ impl<'a, N: ParsedNode> Builder<'a, N> {
         let ty = self.parts.type_parts(&mut self.slices, &at.start)?;
         let slot = self.parts_slot();
         let name = self.slices.identifier(name, at)?;
+        let ty = Box::new(self.slices.alloc(), ty)?;
         self.begin_node(slot, Some(ty), name, at);
         Ok(())
     }
