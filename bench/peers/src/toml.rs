@@ -4,7 +4,7 @@ use kdl::{KdlDocument, KdlEntry, KdlNode, KdlValue};
 use std::collections::BTreeMap;
 
 /// The TOML of a document. A node without children is a key with its value, values or table; one with children is a
-/// table. Each key has a number behind it, since a KDL document may have several nodes of a name.
+/// table. Each key ends in a number, since a KDL document may have several nodes of a name.
 pub fn of_document(document: &KdlDocument) -> String {
     let mut writer = Writer { text: String::new(), serial: 0 };
     writer.nodes(document, "");
@@ -58,7 +58,7 @@ impl Writer {
     }
 }
 
-/// What stands behind the `=` of a node without children.
+/// Returns the text after the `=` of a node without children.
 fn line_value(node: &KdlNode) -> String {
     let named = properties(node);
     if named.is_empty() {
