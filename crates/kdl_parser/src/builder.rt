@@ -17,10 +17,12 @@ ghost use Rattle.std.specs.Prelude.{◌≡◌, ◌+◌, [], None, true};
 
 mod content;
 mod dropping;
+mod growing;
 mod steps;
 
 use self::content::{no_content, nothing_at};
 use self::dropping::Dropped;
+use self::growing::Growing;
 use crate::node_parts::{DocumentParts, ParsedNode};
 use kdl_control::{Event, Phase};
 use kdl_entry::parsing::parts::{Parts, TypeParts, empty};
@@ -29,7 +31,6 @@ use kdl_entry::{KdlEntry, KdlIdentifier, KdlValue};
 use kdl_lexer::{TokenKind, TokenSpan};
 use kdl_text::cursor::{self, Checkpoint, Piece};
 use std::alloc::{AllocError, AllocFailed, Global};
-use std::mem;
 
 /// Why the builder does not take a token, or returns no document.
 #[derive(Clone, Copy, Drop)]
@@ -56,18 +57,6 @@ impl From<AllocError> for TakeFailure {
     }
 }
 
-/// For how many items a list gets room at first: as many as the last list of its kind had, or one after a list of one or
-/// two.
-#[derive(Clone, Copy)]
-struct Room {
-    /// For the entries of the next node.
-    entries: usize,
-    /// For the nodes of its block.
-    nodes: usize,
-    /// For the nodes in the next block inside of this one.
-    inner: usize,
-}
-
 /// A node being read.
 #[derive(Drop)]
 struct Under<'a> {
@@ -76,8 +65,7 @@ struct Under<'a> {
     /// Its type, on the heap: few nodes have one, and a node is moved when its block opens and when it closes.
     ty: Option<Box<TypeParts>>,
     name: KdlIdentifier,
-    entries: Vec<KdlEntry>,
-    room: Room,
+    entries: Growing<KdlEntry>,
 }
 
 /// An open block: its node, the text before the block, and the nodes before its node.
@@ -125,36 +113,11 @@ pub(crate) struct Builder<'a, N> {
     /// Its block.
     block: DocumentParts<N>,
     /// The nodes before it.
-    nodes: Vec<N>,
+    nodes: Growing<N>,
     /// The open blocks, the innermost last.
     levels: Vec<Level<'a, N>>,
     /// The start of the current place.
     from: Checkpoint<'a>,
-}
-
-impl Room {
-    /// Room for one item of each kind.
-    fn new() -> Self
-        ensures { result ≡ record { entries = 1; nodes = 1; inner = 1 } }
-    {
-        Room {
-            entries: 1,
-            nodes: 1,
-            inner: 1,
-        }
-    }
-
-    /// The room in the next block inside of this one.
-    #[inline(always)]
-    fn inside(self) -> Self
-        ensures { result ≡ record { entries = 1; nodes = self.inner; inner = 1 } }
-    {
-        Room {
-            entries: 1,
-            nodes: self.inner,
-            inner: 1,
-        }
-    }
 }
 
 impl<'a> Under<'a> {
@@ -174,8 +137,7 @@ impl<'a> Under<'a> {
             start: start.copied(),
             ty: None,
             name: KdlIdentifier::from(empty(alloc)),
-            entries: Vec::new(alloc),
-            room: Room::new(),
+            entries: Growing::new(alloc),
         }
     }
 }
@@ -197,7 +159,7 @@ impl<'a, N: ParsedNode> Builder<'a, N> {
             under: Under::new(alloc, &start),
             before: empty(alloc),
             block: no_content(alloc),
-            nodes: Vec::new(alloc),
+            nodes: Growing::new(alloc),
             levels: Vec::new(alloc),
             from: start,
         }
@@ -402,7 +364,8 @@ impl<'a, N: ParsedNode> Builder<'a, N> {
         if !self.levels.is_empty() {
             return Err(TakeFailure::Unexpected);
         }
-        let nodes = mem::replace(&mut self.nodes, Vec::new(self.slices.alloc()));
+        self.nodes.fit()?;
+        let nodes = self.nodes.replace(Vec::new(self.slices.alloc()));
         let document = self.content_up_to(nodes, here)?;
         Ok(document)
     }

@@ -43,7 +43,7 @@ under_view u = record {
   start = u.start.rest;
   ty = option_map boxed_type u.ty;
   name = identifier_tree u.name;
-  entries = map entry_tree u.entries.items;
+  entries = map entry_tree u.entries.items.items;
 }
 
 -- an open block, in terms of the tree of a node
@@ -107,7 +107,7 @@ phase_now tree b KeptSlashdash = machine.kept_slashdash (Some (kept_now tree b))
 
 -- the nodes before the current one
 abbrev pub nodes_now : {N : Type 0} → (N → Node) → Builder N → Option Nodes
-nodes_now tree b = Some (nodes_tree tree b.nodes.items)
+nodes_now tree b = Some (nodes_tree tree b.nodes.items.items)
 
 abbrev pub frames_view : {N : Type 0} → (N → Node) → Builder N → List machine.Frame
 frames_view tree b = stacked tree [] b.levels.items

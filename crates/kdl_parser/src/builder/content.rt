@@ -13,8 +13,7 @@ ghost use Rattle.kdl_parser.specs.Internal.Parts.{nodes_tree, document_by, node_
 ghost use Rattle.kdl_text.specs.Internal.Here.{Ahead};
 ghost use Rattle.kdl_text.specs.Spans.{bytes};
 ghost use Rattle.kdl_value.specs.Tree.{value_tree, text_of};
-ghost use Rattle.std.specs.Prelude.{◌≡◌, [], ◌<◌, Some, None, IfOk, OnOk, if◌then◌else◌, nat_lt, option_map};
-ghost use Rattle.std.specs.Vec.{vec_capacity, vec_len};
+ghost use Rattle.std.specs.Prelude.{◌≡◌, [], Some, None, IfOk, OnOk, option_map};
 
 use super::{Builder, Slot, Under, WaitingWord};
 use crate::node_parts::{DocumentParts, NodeParts, ParsedNode};
@@ -26,28 +25,6 @@ use kdl_text::cursor::Checkpoint;
 use kdl_text::span::SourceSpan;
 use std::alloc::{AllocError, Global};
 use std::mem;
-
-/// Makes room for one more item. An empty list gets room for `first` items, at least 1; then capacity doubles.
-#[inline(always)]
-pub(super) fn make_room<T: Drop>(items: &mut Vec<T>, first: usize) -> Result<(), AllocError>
-    ensures items { items.new.items ≡ items.old.items }
-    ensures room { OnOk result (vec_len items.new < vec_capacity items.new) }
-{
-    let len = items.len();
-    if len == items.capacity() {
-        let more = if len == 0 { first } else { len };
-        items.reserve_exact(more.max(1))?;
-    }
-    Ok(())
-}
-
-/// For how many items the next list gets room at first, after a list of so many. Short lists vary too much to go by.
-#[inline(always)]
-pub(super) fn room_after(len: usize) -> usize
-    ensures { result ≡ (if nat_lt 2 len then len else 1) }
-{
-    if len > 2 { len } else { 1 }
-}
 
 /// Assigns the value to the place, and drops the old one. A plain assignment does the same, but as a call the drop is
 /// proved once, and not at each place.
@@ -77,7 +54,7 @@ pub(super) fn settle<'a>(
     } = word;
     let repr = repr.to_string(slices.alloc())?;
     let span = slices.span(&start, from);
-    make_room(&mut under.entries, under.room.entries)?;
+    under.entries.make_room()?;
     let value = KdlValue::String(value);
     let entry = argument_from(slices.alloc(), span, leading, value, repr);
     under.entries.push_reserved(entry);
@@ -115,14 +92,13 @@ pub(super) fn content_span<N: ParsedNode>(nodes: &[N], place: SourceSpan) -> Sou
 #[tactic(auto, using(crate::proofs::Stepping::NodeSpans::without, crate::proofs::Stepping::NodeSpans::within))]
 pub(super) fn content<N: ParsedNode>(
     slices: &Slices,
-    mut nodes: Vec<N>,
+    nodes: Vec<N>,
     place: String,
     end: &Checkpoint,
 ) -> DocumentParts<N>
     ensures { document_by N.tree result ≡ machine.content_at
         slices.now.whole.rest (nodes_tree N.tree nodes.items) (text_of place) end.now.rest }
 {
-    nodes.shrink_to_fit();
     let here = slices.span(end, &end.copied());
     let span = content_span(&nodes, here);
     if nodes.is_empty() {
@@ -248,7 +224,7 @@ impl<'a, N: ParsedNode> Builder<'a, N> {
           leading = self.old.under.leading;
           ty = ty;
           name = self.old.under.name;
-          entries = self.old.under.entries;
+          entries = self.old.under.entries.items;
           before_children = before_children;
           children = children;
           before_terminator = end.before;
@@ -258,9 +234,7 @@ impl<'a, N: ParsedNode> Builder<'a, N> {
         ensures rest { self.new ≡ record self.old { under = self.new.under } }
     {
         let alloc = self.slices.alloc();
-        let mut entries = mem::replace(&mut self.under.entries, Vec::new(alloc));
-        entries.shrink_to_fit();
-        self.under.room.entries = room_after(entries.len());
+        let entries = self.under.entries.replace(Vec::new(alloc));
         let NodeEnd {
             before: before_terminator,
             terminator,
@@ -348,7 +322,8 @@ impl<'a, N: ParsedNode> Builder<'a, N> {
             (Sliced (bytes self.old.from.rest) (bytes at.now.end.rest) self.old.slices.steps self.new.slices.steps) }
     {
         let ending = self.node_end(at)?;
-        make_room(&mut self.nodes, self.under.room.nodes)?;
+        self.under.entries.fit()?;
+        self.nodes.make_room()?;
         let before = empty(self.slices.alloc());
         let node = self.take_node(ty, before, None, ending);
         self.nodes.push_reserved(node);
@@ -371,7 +346,7 @@ impl<'a, N: ParsedNode> Builder<'a, N> {
             (Sliced (bytes self.old.from.rest) (bytes at.now.end.rest) self.old.slices.steps self.new.slices.steps) }
     {
         let ending = self.node_end(at)?;
-        make_room(&mut self.nodes, self.under.room.nodes)?;
+        self.nodes.make_room()?;
         let ty = self.take_type();
         let before = mem::replace(&mut self.before, empty(self.slices.alloc()));
         let block = mem::replace(&mut self.block, no_content(self.slices.alloc()));

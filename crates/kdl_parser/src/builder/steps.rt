@@ -39,8 +39,9 @@ ghost use Rattle.kdl_value.specs.Data.{text};
 ghost use Rattle.kdl_value.specs.Tree.{value_tree, text_of};
 ghost use Rattle.std.specs.Prelude.{◌≡◌, [], Some, None, OnOk, option_map};
 
-use super::content::{make_room, nothing_at, put, room_after, settle};
+use super::content::{nothing_at, put, settle};
 use super::dropping::Dropped;
+use super::growing::Growing;
 use super::{Builder, Level, Slot, TakeFailure, Under, WaitingWord};
 use crate::node_parts::ParsedNode;
 use kdl_control::{Owner, Phase, Spot, Word};
@@ -129,8 +130,9 @@ impl<'a, N: ParsedNode> Builder<'a, N> {
         self.settle_word()?;
         let before = self.slices.text(&self.from, &at.start)?;
         self.levels.reserve(1)?;
+        self.under.entries.fit()?;
         let under = self.take_under();
-        let nodes = mem::replace(&mut self.nodes, Vec::new(self.slices.alloc()));
+        let nodes = self.nodes.replace(Vec::new(self.slices.alloc()));
         self.levels.push_reserved(Level {
             under,
             before,
@@ -149,6 +151,7 @@ impl<'a, N: ParsedNode> Builder<'a, N> {
         ensures { Steps N.tree (around N.tree self.old at.now.start at.now.end) (bytes
             self.old.from.rest) self.old result self.new }
     {
+        self.nodes.fit()?;
         let Some(
             Level {
                 under,
@@ -159,10 +162,9 @@ impl<'a, N: ParsedNode> Builder<'a, N> {
         else {
             return Err(TakeFailure::Unexpected);
         };
-        let inner = mem::replace(&mut self.nodes, nodes);
+        let inner = self.nodes.replace(nodes);
         put(&mut self.waiting, None);
         self.put_under(under);
-        self.under.room.inner = room_after(inner.len());
         put(&mut self.before, before);
         let block = self.content_up_to(inner, &at.start)?;
         put(&mut self.block, block);
@@ -175,7 +177,7 @@ impl<'a, N: ParsedNode> Builder<'a, N> {
     /// `mem::replace` makes three.
     #[inline(always)]
     fn take_under(&mut self) -> Under<'a>
-        ensures taken { result ≡ self.old.under }
+        ensures taken { under_view result ≡ under_view self.old.under }
         ensures left { under_view self.new.under ≡ record {
           leading = [];
           start = self.old.under.start.rest;
@@ -185,22 +187,23 @@ impl<'a, N: ParsedNode> Builder<'a, N> {
         } }
         ensures rest { self.new ≡ record self.old { under = self.new.under } }
     {
-        let room = self.under.room;
         let alloc = self.slices.alloc();
+        let mut entries = Growing::new(alloc);
+        entries.items = self.under.entries.replace(Vec::new(alloc));
         Under {
             leading: mem::replace(&mut self.under.leading, empty(alloc)),
             start: self.under.start.copied(),
             ty: self.under.ty.take(),
             name: mem::replace(&mut self.under.name, KdlIdentifier::from(empty(alloc))),
-            entries: mem::replace(&mut self.under.entries, Vec::new(alloc)),
-            room: mem::replace(&mut self.under.room, room.inside()),
+            entries,
         }
     }
 
     /// Puts a node in place of the current one, field by field as `take_under` does.
     #[inline(always)]
     fn put_under(&mut self, under: Under<'a>)
-        ensures { self.new ≡ record self.old { under = under.entry } }
+        ensures put { under_view self.new.under ≡ under_view under.entry }
+        ensures rest { self.new ≡ record self.old { under = self.new.under } }
     {
         let Under {
             leading,
@@ -208,14 +211,12 @@ impl<'a, N: ParsedNode> Builder<'a, N> {
             ty,
             name,
             entries,
-            room,
         } = under;
         self.under.leading = leading;
         self.under.start = start;
         self.under.ty = ty;
         self.under.name = name;
-        self.under.entries = entries;
-        self.under.room = room;
+        self.under.entries.items = entries.items;
     }
 
     /// Begins a node, whose name is the token.
@@ -238,8 +239,8 @@ impl<'a, N: ParsedNode> Builder<'a, N> {
         self.under.start = start;
         self.under.ty = ty;
         self.under.name = name;
-        if !self.under.entries.is_empty() {
-            self.under.entries = Vec::new(self.slices.alloc());
+        if !self.under.entries.items.is_empty() {
+            self.under.entries.items = Vec::new(self.slices.alloc());
         }
         self.forget_word();
         self.from = at.end.copied();
@@ -292,8 +293,7 @@ impl<'a, N: ParsedNode> Builder<'a, N> {
             given.value) at.now.start at.now.end) (bytes at.now.start.rest) self.old result
             self.new }
     {
-        let first = self.under.room.entries;
-        make_room(&mut self.under.entries, first)?;
+        self.under.entries.make_room()?;
         let entry = self.entry_between(slot, given, at)?;
         self.under.entries.push_reserved(entry);
         self.end_entry(at);
@@ -442,8 +442,7 @@ impl<'a, N: ParsedNode> Builder<'a, N> {
         let leading = place.to_string(self.slices.alloc())?;
         let repr = self.slices.token(at)?;
         let span = self.slices.span(&at.start, &at.end);
-        let first = self.under.room.entries;
-        make_room(&mut self.under.entries, first)?;
+        self.under.entries.make_room()?;
         let entry = argument_from(self.slices.alloc(), span, leading, value, repr);
         self.under.entries.push_reserved(entry);
         self.end_entry(at);
@@ -505,8 +504,7 @@ impl<'a, N: ParsedNode> Builder<'a, N> {
         let Slot { leading, start } = self.parts_slot();
         let repr = self.slices.token(at)?;
         let span = self.slices.span(&start, &at.end);
-        let first = self.under.room.entries;
-        make_room(&mut self.under.entries, first)?;
+        self.under.entries.make_room()?;
         let entry = property_from(self.slices.alloc(), span, leading, key, value, repr);
         self.under.entries.push_reserved(entry);
         self.end_entry(at);

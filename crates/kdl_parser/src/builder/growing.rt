@@ -1,0 +1,111 @@
+//! Lists being read.
+
+ghost use Rattle.std.specs.Prelude.{◌≡◌, ◌<◌, ◌++◌, ◌∷◌, [], OnOk};
+ghost use Rattle.std.specs.Vec.{vec_capacity, vec_len};
+
+use std::alloc::{AllocError, Global};
+use std::mem;
+
+/// The number of items up to which a list is copied out of the memory in which it grew. A longer one is cut there.
+const COPIED: usize = 64;
+
+/// A list being read. It ends in memory of its own size.
+///
+/// The first item gets memory for itself alone, since most lists have no other. With the second one the list moves into
+/// memory that an earlier list has left, and is copied from there once, when it ends.
+#[derive(Drop)]
+pub(super) struct Growing<T> {
+    pub(super) items: Vec<T>,
+    /// The memory that an earlier list has left.
+    spare: Vec<T>,
+}
+
+impl<T: Drop> Growing<T> {
+    /// Creates an empty list. Does not allocate.
+    pub(super) fn new(alloc: Global) -> Self
+        ensures { result.items.items ≡ [] }
+    {
+        Growing {
+            items: Vec::new(alloc),
+            spare: Vec::new(alloc),
+        }
+    }
+
+    /// Makes room for one more item.
+    #[inline(always)]
+    pub(super) fn make_room(&mut self) -> Result<(), AllocError>
+        ensures items { self.new.items.items ≡ self.old.items.items }
+        ensures room { OnOk result (vec_len self.new.items < vec_capacity self.new.items) }
+    {
+        if self.items.len() < self.items.capacity() {
+            return Ok(());
+        }
+        if self.items.is_empty() {
+            return self.items.reserve_exact(1);
+        }
+        self.grow()
+    }
+
+    /// Makes room after the first item, or where the spare memory is full.
+    #[inline(never)]
+    fn grow(&mut self) -> Result<(), AllocError>
+        ensures items { self.new.items.items ≡ self.old.items.items }
+        ensures room { OnOk result (vec_len self.new.items < vec_capacity self.new.items) }
+    {
+        let len = self.items.len();
+        if self.spare.capacity() <= len {
+            return self.items.reserve_exact(len.max(3));
+        }
+        self.spare.clear();
+        self.spare.append(&mut self.items)?;
+        mem::swap(&mut self.items, &mut self.spare);
+        self.spare.shrink_to_fit();
+        Ok(())
+    }
+
+    /// Appends an item, for which room was made.
+    #[inline(always)]
+    pub(super) fn push_reserved(&mut self, item: T)
+        requires room { vec_len self.old.items < vec_capacity self.old.items }
+        ensures { self.new.items.items ≡ self.old.items.items ++ (item ∷ []) }
+    {
+        self.items.push_reserved(item);
+    }
+
+    /// Ends the list: cuts off the room that it does not need.
+    #[inline(always)]
+    pub(super) fn fit(&mut self) -> Result<(), AllocError>
+        ensures { self.new.items.items ≡ self.old.items.items }
+    {
+        if self.items.len() == self.items.capacity() {
+            return Ok(());
+        }
+        self.cut()
+    }
+
+    /// Cuts off the room of a list that has more than it needs. Its memory becomes the spare one if it is copied.
+    #[inline(never)]
+    fn cut(&mut self) -> Result<(), AllocError>
+        ensures { self.new.items.items ≡ self.old.items.items }
+    {
+        if self.items.len() > COPIED {
+            self.items.shrink_to_fit();
+            return Ok(());
+        }
+        let copy = self.items.split_off(0)?;
+        let left = mem::replace(&mut self.items, copy);
+        if self.spare.capacity() < left.capacity() {
+            self.spare = left;
+        }
+        Ok(())
+    }
+
+    /// Replaces the items, and returns the old ones.
+    #[inline(always)]
+    pub(super) fn replace(&mut self, items: Vec<T>) -> Vec<T>
+        ensures result { result ≡ self.old.items }
+        ensures items { self.new.items ≡ items }
+    {
+        mem::replace(&mut self.items, items)
+    }
+}
