@@ -331,7 +331,7 @@ impl<'a, N: ParsedNode> Builder<'a, N> {
     }
 
     /// Takes the node with its block, whose terminator is the token, and appends it to the nodes.
-    #[tactic(auto, using(crate::proofs::Stepping::Views::node_pushed))]
+    #[inline(always)]
     pub(super) fn push_kept(&mut self, at: &TokenSpan<'a>) -> Result<(), AllocError>
         requires from { Ahead self.old.from at.now.start }
         ensures is { OnOk result (nodes_now N.tree self.new ≡ machine.ended
@@ -345,9 +345,57 @@ impl<'a, N: ParsedNode> Builder<'a, N> {
         ensures sliced { OnOk result
             (Sliced (bytes self.old.from.rest) (bytes at.now.end.rest) self.old.slices.steps self.new.slices.steps) }
     {
+        if self.under.ty.is_none() {
+            return self.push_kept_of_type(None, at);
+        }
+        self.push_kept_typed(at)
+    }
+
+    /// Does what `push_kept` does. Few nodes have a type, so this stays out of it.
+    #[inline(never)]
+    fn push_kept_typed(&mut self, at: &TokenSpan<'a>) -> Result<(), AllocError>
+        requires from { Ahead self.old.from at.now.start }
+        ensures is { OnOk result (nodes_now N.tree self.new ≡ machine.ended
+            (machine.closed_kept self.old.slices.whole.rest (Some (kept_by N.tree self.old))
+            (between self.old.from.rest at.now.start.rest) (between at.now.start.rest at.now.end.rest)
+            at.now.start.rest)
+            (nodes_now N.tree self.old)) }
+        ensures rest { OnOk result (self.new ≡
+            record self.old { slices = self.new.slices; under = self.new.under; before = self.new.before; block = self.new.block; nodes = self.new.nodes }) }
+        ensures whole { self.new.slices.whole ≡ self.old.slices.whole }
+        ensures sliced { OnOk result
+            (Sliced (bytes self.old.from.rest) (bytes at.now.end.rest) self.old.slices.steps self.new.slices.steps) }
+    {
+        let ty = self.take_type();
+        self.push_kept_of_type(ty, at)
+    }
+
+    /// Takes the node with its block as one of this type, whose terminator is the token, and appends it to the nodes.
+    #[inline(always)]
+    #[tactic(auto, using(crate::proofs::Stepping::Views::node_pushed))]
+    fn push_kept_of_type(
+        &mut self,
+        ty: Option<TypeParts>,
+        at: &TokenSpan<'a>,
+    ) -> Result<(), AllocError>
+        requires from { Ahead self.old.from at.now.start }
+        ensures is { OnOk result (nodes_now N.tree self.new ≡ machine.ended
+            (machine.closed_kept self.old.slices.whole.rest
+            (Some (record (kept_by N.tree self.old) {
+              under =
+                  record (under_view self.old.under) { ty = option_map type_view ty };
+            }))
+            (between self.old.from.rest at.now.start.rest) (between at.now.start.rest at.now.end.rest)
+            at.now.start.rest)
+            (nodes_now N.tree self.old)) }
+        ensures rest { OnOk result (self.new ≡
+            record self.old { slices = self.new.slices; under = self.new.under; before = self.new.before; block = self.new.block; nodes = self.new.nodes }) }
+        ensures whole { self.new.slices.whole ≡ self.old.slices.whole }
+        ensures sliced { OnOk result
+            (Sliced (bytes self.old.from.rest) (bytes at.now.end.rest) self.old.slices.steps self.new.slices.steps) }
+    {
         let ending = self.node_end(at)?;
         self.nodes.make_room()?;
-        let ty = self.take_type();
         let before = mem::replace(&mut self.before, empty(self.slices.alloc()));
         let block = mem::replace(&mut self.block, no_content(self.slices.alloc()));
         let node = self.take_node(ty, before, Some(block), ending);

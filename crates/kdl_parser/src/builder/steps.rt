@@ -163,7 +163,7 @@ impl<'a, N: ParsedNode> Builder<'a, N> {
             return Err(TakeFailure::Unexpected);
         };
         let inner = self.nodes.replace(nodes);
-        put(&mut self.waiting, None);
+        self.forget_word();
         self.put_under(under);
         put(&mut self.before, before);
         let block = self.content_up_to(inner, &at.start)?;
