@@ -11,13 +11,18 @@ const COPIED: usize = 64;
 
 /// A list being read. It ends in memory of its own size.
 ///
-/// The first item gets memory for itself alone, since most lists have no other. With the second one the list moves into
-/// memory that an earlier list has left, and is copied from there once, when it ends.
+/// The first item gets memory for itself alone, since most lists have no other; after two lists of one length it gets
+/// memory for that length. Where this does not suffice the list moves into memory that an earlier list has left, and is
+/// copied from there once, when it ends.
 #[derive(Drop)]
 pub(super) struct Growing<T> {
     pub(super) items: Vec<T>,
     /// The memory that an earlier list has left.
     spare: Vec<T>,
+    /// The length of the last list.
+    last: usize,
+    /// For how many items the next list gets room at first.
+    first: usize,
 }
 
 impl<T: Drop> Growing<T> {
@@ -28,6 +33,8 @@ impl<T: Drop> Growing<T> {
         Growing {
             items: Vec::new(alloc),
             spare: Vec::new(alloc),
+            last: 0,
+            first: 1,
         }
     }
 
@@ -41,12 +48,12 @@ impl<T: Drop> Growing<T> {
             return Ok(());
         }
         if self.items.is_empty() {
-            return self.items.reserve_exact(1);
+            return self.items.reserve_exact(self.first.max(1));
         }
         self.grow()
     }
 
-    /// Makes room after the first item, or where the spare memory is full.
+    /// Makes room in a full list that is not empty.
     #[inline(never)]
     fn grow(&mut self) -> Result<(), AllocError>
         ensures items { self.new.items.items ≡ self.old.items.items }
@@ -77,7 +84,10 @@ impl<T: Drop> Growing<T> {
     pub(super) fn fit(&mut self) -> Result<(), AllocError>
         ensures { self.new.items.items ≡ self.old.items.items }
     {
-        if self.items.len() == self.items.capacity() {
+        let len = self.items.len();
+        self.first = if len > 2 && len == self.last { len } else { 1 };
+        self.last = len;
+        if len == self.items.capacity() {
             return Ok(());
         }
         self.cut()
