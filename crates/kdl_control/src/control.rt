@@ -224,6 +224,7 @@ impl Control {
     /// let name = control.take(&TokenKind::String(name))?; // true: a node begins
     /// let equals = control.take(&TokenKind::Equals)?; // false: a name is no key
     /// ```
+    #[inline(always)]
     pub fn take(&mut self, kind: &TokenKind) -> Result<bool, AllocError>
         ensures { IfOk result (λ b. control.step (control_view self.old) (kind_view kind.now) ≡
             (if b then Some (control_view self.new) else None)) }

@@ -232,6 +232,7 @@ fn in_kept_slashdash(kind: &TokenKind) -> Option<Event>
 }
 
 /// What the token of an event does.
+#[inline(always)]
 fn event_move(event: Event) -> Move
     ensures { result ≡ move_of (Some event) }
 {
@@ -299,6 +300,7 @@ impl Phase {
 
     /// What the token does.
     #[tactic(auto, using(crate::proofs::EventMoves::moves))]
+    #[inline(always)]
     pub(crate) fn token_move(self, kind: &TokenKind) -> Move
         ensures { IsMove (phase_view self) (kind_view kind.now) result }
     {

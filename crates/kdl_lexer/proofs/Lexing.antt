@@ -12,3 +12,5 @@ pub mod TokenReads
 pub mod FirstCharacters
 -- Strings in any spelling, numbers and keywords: one at most.
 pub mod StringUnique
+-- What is next in a text at a slash, and at a letter.
+pub mod Slashes

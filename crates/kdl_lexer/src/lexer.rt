@@ -4,7 +4,7 @@
 
 ghost use Rattle.kdl_value.specs.Data as data';
 ghost use Rattle.kdl_lexer.specs.Pieces as spec;
-ghost use Rattle.kdl_lexer.specs.Internal.Handed.{Lexed, LexCosts, LexedNext, NextCosts, ReturnsApart, ReadsKind, ReadsWord, KindCosts, FailsAt, IsFaultAt, IsOther, Passes, IsPunctuation};
+ghost use Rattle.kdl_lexer.specs.Internal.Handed.{Lexed, LexCosts, LexedNext, NextCosts, ReturnsApart, ReadsKind, KindCosts, FailsAt, IsAfterSlash, IsFaultAt, IsOther, Passes, IsPunctuation};
 ghost use Rattle.kdl_value.specs.Tree.{value_tree};
 ghost use Rattle.kdl_lexer.specs.declared.lexer.KindFailure.TheVariants.{Memory as NoMemory};
 ghost use Rattle.kdl_lexer.specs.declared.lexer.LexFailure.TheVariants.{Memory};
@@ -19,10 +19,10 @@ ghost use Rattle.std.specs.Str.{chars};
 
 use crate::token_span::TokenSpan;
 use kdl_text::chars::{Class, is_digit, is_identifier_char, is_newline_char, is_sign, is_space};
-use kdl_text::cursor::{Checkpoint, Cursor, Steps, newline};
+use kdl_text::cursor::{Checkpoint, Cursor, Piece, Steps, newline};
 use kdl_text::numbers::{Keyword, Number, NumberFailure, begins_number, read_keyword, read_number};
 use kdl_text::span::SourceSpan;
-use kdl_text::strings::{StringFailure, bare_string, quoted_string, raw_string};
+use kdl_text::strings::{StringFailure, bare_string, letter_string, quoted_string, raw_string};
 use kdl_text::trivia::{SlashRead, escline, slash};
 use kdl_value::{KdlValue, parsed_float};
 use std::alloc::{AllocError, AllocFailed, Global};
@@ -117,13 +117,13 @@ pub struct Token<'a> {
 /// What is next in a text. The most common tokens are apart, so that a reader has no kind to look at.
 #[derive(Drop)]
 pub enum NextToken<'a> {
-    /// A run of spaces, with its span.
+    /// A run of spaces or a block comment, with its span.
     Space(TokenSpan<'a>),
-    /// A line feed, with its span.
-    LineFeed(TokenSpan<'a>),
-    /// A bare string that begins with an ASCII letter, and its span.
-    Word(String, TokenSpan<'a>),
-    /// Another token. A block comment and an escline are tokens of the kind `Space`.
+    /// A line feed, or a line comment with the newline that ends it, and its span.
+    Newline(TokenSpan<'a>),
+    /// A bare string that begins with an ASCII letter, as it is in the text, and its span.
+    Word(Piece<'a>, TokenSpan<'a>),
+    /// Another token. An escline is a token of the kind `Space`.
     Other(Token<'a>),
     /// The end of the text.
     End,
@@ -160,23 +160,8 @@ fn lex_failure(failure: KindFailure, place: &Checkpoint) -> LexFailure
     }
 }
 
-/// Reads the bare string that begins here, where no number does.
-#[inline(always)]
-#[tactic(auto, using(crate::proofs::Lexing::TokenReads::a_bare_here, crate::proofs::Lexing::TokenCost::bare_costs))]
-fn bare_word(cursor: &mut Cursor, alloc: Global) -> Result<String, KindFailure>
-    requires word { starts is_identifier_char cursor.old.rest ≡ true }
-    requires no_number { numbers.begins_number cursor.old.rest ≡ false }
-    ensures read { ReadsWord cursor.old.rest result cursor.new.rest }
-    ensures moves { Moves cursor.old cursor.new }
-    ensures costs { KindCosts 20 result cursor.old cursor.new }
-{
-    match bare_string(cursor) {
-        Some(piece) => Ok(piece.to_string(alloc)?),
-        None => Err(KindFailure::Absent),
-    }
-}
-
 /// Reads the token that is the bare string that begins here, where no number does.
+#[tactic(auto, using(crate::proofs::Lexing::TokenReads::a_bare_here, crate::proofs::Lexing::TokenCost::bare_costs))]
 fn bare_token(cursor: &mut Cursor, alloc: Global) -> Result<TokenKind, KindFailure>
     requires word { starts is_identifier_char cursor.old.rest ≡ true }
     requires no_number { numbers.begins_number cursor.old.rest ≡ false }
@@ -184,9 +169,9 @@ fn bare_token(cursor: &mut Cursor, alloc: Global) -> Result<TokenKind, KindFailu
     ensures moves { Moves cursor.old cursor.new }
     ensures costs { KindCosts 20 result cursor.old cursor.new }
 {
-    match bare_word(cursor, alloc) {
-        Ok(text) => Ok(TokenKind::String(text)),
-        Err(failure) => Err(failure),
+    match bare_string(cursor) {
+        Some(piece) => Ok(TokenKind::String(piece.to_string(alloc)?)),
+        None => Err(KindFailure::Absent),
     }
 }
 
@@ -325,20 +310,19 @@ fn word_token(c: char, cursor: &mut Cursor, alloc: Global) -> Result<TokenKind, 
     }
 }
 
-/// Reads the comment or the `/-` that begins with the slash here.
-#[tactic(auto, using(crate::proofs::Lexing::TokenReads::a_block_here, crate::proofs::Lexing::TokenReads::a_line_here, crate::proofs::Lexing::TokenReads::a_dash_here))]
-fn slash_token(cursor: &mut Cursor) -> Result<TokenKind, KindFailure>
-    requires { first cursor.old.rest ≡ Some 47 }
-    ensures read { ReadsKind cursor.old.rest result cursor.new.rest }
-    ensures moves { Moves cursor.old cursor.new }
-    ensures costs { KindCosts 22 result cursor.old cursor.new }
+/// What is next in a text, where the reader of slashes read this at the span.
+#[inline(always)]
+fn after_slash<'a>(read: SlashRead, at: TokenSpan<'a>) -> Result<NextToken<'a>, LexFailure>
+    ensures { IsAfterSlash read at.entry result }
 {
-    match slash(cursor) {
-        SlashRead::Block => Ok(TokenKind::Space),
-        SlashRead::Line => Ok(TokenKind::Newline),
-        SlashRead::Dash => Ok(TokenKind::Slashdash),
-        SlashRead::Unclosed => Err(KindFailure::Absent),
-        SlashRead::Other => Err(KindFailure::Absent),
+    match read {
+        SlashRead::Block => Ok(NextToken::Space(at)),
+        SlashRead::Line => Ok(NextToken::Newline(at)),
+        SlashRead::Dash => Ok(NextToken::Other(Token {
+            kind: TokenKind::Slashdash,
+            at,
+        })),
+        SlashRead::Unclosed | SlashRead::Other => Err(LexFailure::Faulty(fault_at(&at.start))),
     }
 }
 
@@ -374,12 +358,12 @@ fn single_kind(c: char) -> Option<TokenKind>
     }
 }
 
-/// Reads the token that begins with the character c here, which is no space, no digit, no token by itself, and none of
-/// `" # / \`.
+/// Reads the token that begins with the character c here, which is no space, no digit, no slash, no token by itself, and
+/// none of `" # \`.
 #[tactic(auto, using(crate::proofs::Lexing::TokenReads::newline_here, crate::proofs::Lexing::TokenReads::newline_costs))]
 fn plain_token(c: char, cursor: &mut Cursor, alloc: Global) -> Result<TokenKind, KindFailure>
     requires first { first cursor.old.rest ≡ Some c }
-    requires plain { ((c == 34 || c == 35) || (c == 47 || c == 92)) ≡ false }
+    requires plain { ((c == 34 || c == 35) || c == 92) ≡ false }
     requires other { IsOther c }
     ensures read { ReadsKind cursor.old.rest result cursor.new.rest }
     ensures moves { Moves cursor.old cursor.new }
@@ -395,7 +379,7 @@ fn plain_token(c: char, cursor: &mut Cursor, alloc: Global) -> Result<TokenKind,
     Err(KindFailure::Absent)
 }
 
-/// Reads the token that begins with the character c here, which is no space, no digit and no token by itself.
+/// Reads the token that begins with the character c here, which is no space, no digit, no slash and no token by itself.
 fn other_token(c: char, cursor: &mut Cursor, alloc: Global) -> Result<TokenKind, KindFailure>
     requires first { first cursor.old.rest ≡ Some c }
     requires other { IsOther c }
@@ -406,19 +390,19 @@ fn other_token(c: char, cursor: &mut Cursor, alloc: Global) -> Result<TokenKind,
     match c {
         '"' => quoted_token(cursor, alloc),
         '#' => sign_token(cursor, alloc),
-        '/' => slash_token(cursor),
         '\\' => escline_token(cursor),
         _ => plain_token(c, cursor, alloc),
     }
 }
 
-/// Reads the token that begins with the character c here, which is no space, and returns its kind. The most common ones
-/// are read where this is called: numbers that begin with a digit, and tokens of one character.
+/// Reads the token that begins with the character c here, which is no space and no slash, and returns its kind. The most
+/// common ones are read where this is called: numbers that begin with a digit, and tokens of one character.
 #[inline(always)]
 #[tactic(auto, using(crate::proofs::Lexing::TokenReads::take_moves, crate::proofs::Lexing::TokenReads::punctuation_here, crate::proofs::Lexing::TokenReads::punctuation_costs, crate::proofs::Lexing::TokenReads::digit_here, crate::proofs::Lexing::TokenReads::few_costs))]
 fn token_kind(c: char, cursor: &mut Cursor, alloc: Global) -> Result<TokenKind, KindFailure>
     requires first { first cursor.old.rest ≡ Some c }
     requires no_space { is_space c ≡ false }
+    requires no_slash { (c == 47) ≡ false }
     ensures read { ReadsKind cursor.old.rest result cursor.new.rest }
     ensures moves { Moves cursor.old cursor.new }
     ensures costs { KindCosts 22 result cursor.old cursor.new }
@@ -539,12 +523,12 @@ impl<'a> Lexer<'a> {
                 kind: TokenKind::Space,
                 at,
             })),
-            NextToken::LineFeed(at) => Ok(Some(Token {
+            NextToken::Newline(at) => Ok(Some(Token {
                 kind: TokenKind::Newline,
                 at,
             })),
-            NextToken::Word(text, at) => Ok(Some(Token {
-                kind: TokenKind::String(text),
+            NextToken::Word(word, at) => Ok(Some(Token {
+                kind: TokenKind::String(word.to_string(alloc)?),
                 at,
             })),
             NextToken::Other(token) => Ok(Some(token)),
@@ -562,7 +546,7 @@ impl<'a> Lexer<'a> {
     /// let closing = lexer.next_token(alloc)?; // `NextToken::Other`, the `}`
     /// ```
     #[inline(always)]
-    #[tactic(auto, using(crate::proofs::Lexing::TokenReads::spaces_here, crate::proofs::Lexing::TokenReads::skip_moves, crate::proofs::Lexing::TokenReads::spaces_apart, crate::proofs::Lexing::TokenReads::line_feed_here, crate::proofs::Lexing::TokenReads::take_moves, crate::proofs::Lexing::TokenReads::letter_here, crate::proofs::Lexing::TokenReads::no_digit_letter, crate::proofs::Lexing::TokenReads::letter_there, crate::proofs::Lexing::TokenReads::not_apart))]
+    #[tactic(auto, using(crate::proofs::Lexing::TokenReads::spaces_here, crate::proofs::Lexing::TokenReads::skip_moves, crate::proofs::Lexing::TokenReads::spaces_apart, crate::proofs::Lexing::TokenReads::line_feed_here, crate::proofs::Lexing::TokenReads::take_moves, crate::proofs::Lexing::TokenReads::letter_here, crate::proofs::Lexing::TokenReads::no_digit_letter, crate::proofs::Lexing::TokenReads::letter_there, crate::proofs::Lexing::TokenReads::not_apart, crate::proofs::Lexing::TokenReads::a_bare_here, crate::proofs::Lexing::TokenReads::no_bare_here, crate::proofs::Lexing::Slashes::slash_next, crate::proofs::Lexing::Slashes::slash_returned, crate::proofs::Lexing::Slashes::slash_costs, crate::proofs::Lexing::Slashes::word_costs, crate::proofs::Lexing::Slashes::no_word_costs, crate::proofs::Lexing::Slashes::word_text, crate::proofs::Lexing::Slashes::no_comment))]
     pub fn next_token(&mut self, alloc: Global) -> Result<NextToken<'a>, LexFailure>
         ensures lexed { LexedNext self.old result self.new }
         ensures apart { ReturnsApart self.old result self.new }
@@ -579,14 +563,17 @@ impl<'a> Lexer<'a> {
         }
         if c == '\n' {
             let _ = self.cursor.take();
-            return Ok(NextToken::LineFeed(TokenSpan::new(start, self.cursor.checkpoint())));
+            return Ok(NextToken::Newline(TokenSpan::new(start, self.cursor.checkpoint())));
         }
         if c.is_ascii_alphabetic() {
-            let text = match bare_word(&mut self.cursor, alloc) {
-                Ok(text) => text,
-                Err(failure) => return Err(lex_failure(failure, &start)),
+            let Some(word) = letter_string(c, &mut self.cursor) else {
+                return Err(LexFailure::Faulty(fault_at(&start)));
             };
-            return Ok(NextToken::Word(text, TokenSpan::new(start, self.cursor.checkpoint())));
+            return Ok(NextToken::Word(word, TokenSpan::new(start, self.cursor.checkpoint())));
+        }
+        if c == '/' {
+            let read = slash(&mut self.cursor);
+            return after_slash(read, TokenSpan::new(start, self.cursor.checkpoint()));
         }
         let kind = match token_kind(c, &mut self.cursor, alloc) {
             Ok(kind) => kind,

@@ -2,12 +2,13 @@
 
 ghost use Rattle.kdl_entry.specs.Tree.{plain_identifier};
 ghost use Rattle.kdl_grammar.specs.Internal.Machine.{initial};
+ghost use Rattle.kdl_lexer.specs.Tokens.{string};
 ghost use Rattle.kdl_lexer.specs.declared.lexer.TokenKind.TheVariants.{Space};
 ghost use Rattle.kdl_parser.specs.Internal.Answered.{Finished};
 ghost use Rattle.kdl_parser.specs.Internal.Building.{state_view, under_view, EndsIn, Placed};
 ghost use Rattle.kdl_parser.specs.Internal.Counted.{unsliced, SlicedOn};
 ghost use Rattle.kdl_parser.specs.Internal.Events.{Acts, PartsAhead, is_building, mark_step, string_step, value_step};
-ghost use Rattle.kdl_parser.specs.Internal.States.{document_now, document_of_nodes, Steps, Takes, token_step};
+ghost use Rattle.kdl_parser.specs.Internal.States.{document_now, document_of_nodes, Steps, Takes, step_at, token_step};
 ghost use Rattle.kdl_parser.specs.declared.builder.TakeFailure.TheVariants.{Memory};
 ghost use Rattle.kdl_parser.specs.declared.builder.dropping.Dropped.TheVariants.{Nothing};
 ghost use Rattle.kdl_text.specs.Internal.Here.{Ahead};
@@ -290,6 +291,26 @@ impl<'a, N: ParsedNode> Builder<'a, N> {
             self.take_live(kind, at)
         } else {
             self.take_dropped(kind, at)
+        }
+    }
+
+    /// Takes the token at the place, which is the bare string. It does what `take` does at such a token.
+    #[inline(always)]
+    pub(crate) fn take_word(
+        &mut self,
+        word: &Piece<'a>,
+        at: &TokenSpan<'a>,
+    ) -> Result<(), TakeFailure>
+        requires placed { Placed (state_view N.tree self.old) at.now.start.rest }
+        ensures { Steps N.tree (step_at N.tree self.old (string word.now) at.now) (unsliced self.old + 1)
+            self.old result self.new }
+    {
+        self.slices.count_look();
+        if self.is_building() {
+            let text = word.to_string(self.slices.alloc())?;
+            self.take_live(TokenKind::String(text), at)
+        } else {
+            self.drop_bare(word, at)
         }
     }
 

@@ -45,11 +45,11 @@ fn build_with<'a, N: ParsedNode>(
                 Ok(()) => {}
                 Err(failure) => return Err(failure_at(failure, &at.start)),
             },
-            NextToken::LineFeed(at) => match builder.take(TokenKind::Newline, &at) {
+            NextToken::Newline(at) => match builder.take(TokenKind::Newline, &at) {
                 Ok(()) => {}
                 Err(failure) => return Err(failure_at(failure, &at.start)),
             },
-            NextToken::Word(text, at) => match builder.take(TokenKind::String(text), &at) {
+            NextToken::Word(word, at) => match builder.take_word(&word, &at) {
                 Ok(()) => {}
                 Err(failure) => return Err(failure_at(failure, &at.start)),
             },

@@ -13,7 +13,8 @@ ghost use Rattle.kdl_text.specs.Strings as spec;
 ghost use Rattle.kdl_text.specs.Strings.{QuotedBody, StringUnit, IsUnit, HexNumber, Run, unit_value};
 ghost use Rattle.kdl_text.specs.declared.strings.StringFault.TheVariants.{Newline, Banned};
 ghost use Rattle.kdl_text.specs.declared.strings.StringFailure.TheVariants.{Memory, Fault};
-ghost use Rattle.std.specs.Prelude.{◌≡◌, ◌&&◌, ◌||◌, ℕ, true, false, ◌∷◌, ◌++◌, MatchOption, MatchResult, IfSome, IfNone, IfOk, IfErr, string_bytes, encode_utf8};
+ghost use Rattle.std.specs.Prelude.{◌≡◌, ◌&&◌, ◌||◌, ℕ, true, false, ◌∷◌, ◌++◌, Some, MatchOption, MatchResult, IfSome, IfNone, IfOk, IfErr, string_bytes, encode_utf8};
+ghost use Rattle.std.specs.Char.{is_ascii_alphabetic};
 ghost use Rattle.std.specs.List.{list_all};
 ghost use Rattle.std.specs.Str.{chars, bytes_eq};
 
@@ -163,6 +164,35 @@ pub fn bare_string<'a>(cursor: &mut Cursor<'a>) -> Option<Piece<'a>>
     let word = run_of(Class::Identifier, cursor);
     cursor.count_looks(3);
     let is_bare = has_bare_form(&word);
+    if is_bare { Some(word) } else { None }
+}
+
+/// Whether the word, which begins with the ASCII letter c, is a bare string. Only the excluded words are none.
+#[inline(always)]
+#[tactic(auto, using(crate::proofs::Quoted::BareReads::letter_form))]
+fn has_letter_form(c: char, word: &Piece) -> bool
+    requires first { first word.now ≡ Some c }
+    requires letter { is_ascii_alphabetic c ≡ true }
+    ensures { result ≡ bare.bare_form word.now }
+{
+    !is_excluded(c, word)
+}
+
+/// Advances past the longest run of identifier characters, which begins with the ASCII letter c, as `bare_string` does,
+/// and returns what that returns.
+#[inline(always)]
+pub fn letter_string<'a>(c: char, cursor: &mut Cursor<'a>) -> Option<Piece<'a>>
+    requires first { first cursor.old.rest ≡ Some c }
+    requires letter { is_ascii_alphabetic c ≡ true }
+    ensures found { IfSome result (λ p. BareString cursor.old.rest cursor.new.rest p) }
+    ensures only { (r w : Text) → BareString cursor.old.rest r w
+        → MatchOption result ⊥ (λ p. (r ≡ cursor.new.rest) × (w ≡ p)) }
+    ensures moves { Moves cursor.old cursor.new }
+    ensures costs { Costs 2 4 cursor.old cursor.new }
+{
+    let word = run_of(Class::Identifier, cursor);
+    cursor.count_looks(3);
+    let is_bare = has_letter_form(c, &word);
     if is_bare { Some(word) } else { None }
 }
 

@@ -50,6 +50,13 @@ pub struct Key {
     pub before: String,
 }
 
+/// A value, and its spelling.
+#[derive(Drop)]
+pub struct ValueParts {
+    pub value: KdlValue,
+    pub repr: String,
+}
+
 /// The parts of an entry, or of a node's name, being read. The name and the texts around it are those of the type, or
 /// after `=` those of the key.
 #[derive(Drop)]
@@ -188,8 +195,8 @@ pub fn argument_from(
 /// let name = KdlIdentifier::from_text(alloc, "a")?;
 /// let key = KeyParts { name, before: empty(alloc), behind: empty(alloc) };
 /// let leading = String::from_str(alloc, " ")?;
-/// let repr = String::from_str(alloc, "1")?;
-/// let entry = property_from(alloc, span, leading, key, KdlValue::from(1), repr); // prints " a=1"
+/// let value = ValueParts { value: KdlValue::from(1), repr: String::from_str(alloc, "1")? };
+/// let entry = property_from(alloc, span, leading, key, value); // prints " a=1"
 /// ```
 #[inline(always)]
 pub fn property_from(
@@ -197,17 +204,17 @@ pub fn property_from(
     span: SourceSpan,
     leading: String,
     key: KeyParts,
-    value: KdlValue,
-    repr: String,
+    value: ValueParts,
 ) -> KdlEntry
     ensures { entry_tree result
-        ≡ entry_at span (text_of leading) (Some (key_view key)) None (value_tree value) (text_of repr) }
+        ≡ entry_at span (text_of leading) (Some (key_view key)) None (value_tree value.value) (text_of value.repr) }
 {
     let KeyParts {
         name,
         before,
         behind,
     } = key;
+    let ValueParts { value, repr } = value;
     let format = KdlEntryFormat {
         value_repr: repr,
         leading,

@@ -36,7 +36,7 @@ use Rattle.kdl_text.specs.declared.strings.StringFailure.{StringFailure}
 use Rattle.kdl_text.specs.declared.strings.StringFailure.TheVariants.{Fault as StringFaulty, Memory as StringMemory}
 use Rattle.kdl_text.proofs.Looking.MovesJoin.{moves_one, bytes-append, fewer_bytes}
 use Rattle.kdl_text.proofs.Numeric.KeywordUnique.{keyword_begins}
-use Rattle.kdl_text.proofs.Quoted.BareReads.{bare_begins}
+use Rattle.kdl_text.proofs.Quoted.BareReads.{bare_begins, letter_no_digit, letter_no_sign, letter_word}
 use Rattle.kdl_text.proofs.Quoted.StringUnique.{is_quoted_begins, is_raw_begins}
 use Rattle.kdl_text.proofs.Spacing.NewlineUnique.{newline_there}
 use Rattle.kdl_text.proofs.Looking.Runs.{length-bytes}
@@ -258,19 +258,9 @@ digit_here c s h k = rw (first_is s c h) (rw k refl)
 pub no_digit_here : (c : ℕ) (s : Text) → first s ≡ Some c → is_digit c ≡ false → is_sign c ≡ false → begins_number s ≡ false
 no_digit_here c s h k m = rw (first_is s c h) (rw (k, m) refl)
 
-letter_word : (c : ℕ) → is_ascii_alphabetic c ≡ true → is_identifier_char c ≡ true
-unfolding is_identifier_char is_space is_newline_char is_banned is_punctuation
-letter_word c h = grind (arith, nat_tests)
-
 -- a letter begins a word and no number
 pub letter_here : (c : ℕ) (s : Text) → first s ≡ Some c → is_ascii_alphabetic c ≡ true → starts is_identifier_char s ≡ true
 letter_here c s h k = word_here c s h (letter_word c k)
-
-letter_no_digit : (c : ℕ) → is_ascii_alphabetic c ≡ true → is_digit c ≡ false
-letter_no_digit c h = grind (arith, nat_tests)
-
-letter_no_sign : (c : ℕ) → is_ascii_alphabetic c ≡ true → is_sign c ≡ false
-letter_no_sign c h = grind (arith, nat_tests)
 
 pub no_digit_letter : (c : ℕ) (s : Text) → first s ≡ Some c → is_ascii_alphabetic c ≡ true → begins_number s ≡ false
 no_digit_letter c s h k = no_digit_here c s h (letter_no_digit c k) (letter_no_sign c k)
@@ -351,11 +341,11 @@ punctuation_costs c o a b h t =
     record { fewer = omega (arith, ap bytes x, one); costs = record { most = omega (arith, ap bytes x, one, z); least = omega (arith, ap length x, z) } }
 
 -- another character
-pub other_here : (c : ℕ) (s r : Text) → first s ≡ Some c → ((c == 34 || c == 35) || (c == 47 || c == 92)) ≡ false → is_identifier_char c ≡ false → is_space c ≡ false → is_newline_char c ≡ false → is_single c ≡ false → ReadsKind s (Err Absent) r
-other_here c s r h p w x y m = rw (first_is s c h) (record { begun = λ f. cc; none = no_alien c (tail s) (alien c p w x y m) })
+pub other_here : (c : ℕ) (s r : Text) → first s ≡ Some c → ((c == 34 || c == 35) || c == 92) ≡ false → (c == 47) ≡ false → is_identifier_char c ≡ false → is_space c ≡ false → is_newline_char c ≡ false → is_single c ≡ false → ReadsKind s (Err Absent) r
+other_here c s r h p q w x y m = rw (first_is s c h) (record { begun = λ f. cc; none = no_alien c (tail s) (alien c p q w x y m) })
   where
-    alien : (c : ℕ) → ((c == 34 || c == 35) || (c == 47 || c == 92)) ≡ false → is_identifier_char c ≡ false → is_space c ≡ false → is_newline_char c ≡ false → is_single c ≡ false → Alien c
-    alien c p w x y m = record { space = x; newline = y; piece = rw w (grind (arith, nat_tests)); punctuation = grind (arith, nat_tests) }
+    alien : (c : ℕ) → ((c == 34 || c == 35) || c == 92) ≡ false → (c == 47) ≡ false → is_identifier_char c ≡ false → is_space c ≡ false → is_newline_char c ≡ false → is_single c ≡ false → Alien c
+    alien c p q w x y m = record { space = x; newline = y; piece = rw w (grind (arith, nat_tests)); punctuation = grind (arith, nat_tests) }
 
 -- the text of the keyword of a number
 ascii : (s : Text) → list_all (λ c. nat_lt c 128) s ≡ true → IsAscii s

@@ -1,13 +1,14 @@
 -- What the lexer returns.
 use Rattle.std.specs.Char.{is_ascii_alphabetic}
-use Rattle.std.specs.declared.alloc.Global.{Global}
-use Rattle.std.specs.Prelude.{◌≡◌, ℕ, Bool, true, false, ◌||◌, ◌==◌, [], ◌∷◌, Option, Some, None, Result, Ok, Err, String as StdString}
-use Rattle.kdl_text.specs.Chars.{Text, Plus, starts, is_digit, is_space}
+use Rattle.std.specs.Prelude.{◌≡◌, ◌⊎◌, ℕ, Bool, true, false, ◌||◌, ◌==◌, [], ◌∷◌, ◌++◌, Option, Some, None, Result, Ok, Err}
+use Rattle.kdl_text.specs.Chars.{Text, Plus, starts, begins_two, is_digit, is_space}
 use Rattle.kdl_text.specs.Internal.Here.{Here, Position, first_len}
 use Rattle.kdl_text.specs.Internal.Reading.{Costs}
-use Rattle.kdl_text.specs.Trivia.{NodeSpace}
+use Rattle.kdl_text.specs.Trivia.{NodeSpace, BlockComment, LineComment}
 use Rattle.kdl_text.specs.Internal.TriviaReading.{PieceCosts}
 use Rattle.kdl_text.specs.declared.span.SourceSpan.{SourceSpan}
+use Rattle.kdl_text.specs.declared.trivia.SlashRead.{SlashRead}
+use Rattle.kdl_text.specs.declared.trivia.SlashRead.TheVariants.{Block, Line, Dash, Unclosed, Other as NoSlash}
 use Rattle.kdl_text.specs.declared.strings.StringFailure.{StringFailure}
 use Rattle.kdl_text.specs.declared.strings.StringFailure.TheVariants.{Fault as StringFaulty, Memory as StringMemory}
 use Rattle.kdl_value.specs.Tree.{value_tree, text_of}
@@ -17,7 +18,8 @@ use Rattle.kdl_lexer.specs.declared.lexer.TokenKind.{TokenKind}
 use Rattle.kdl_lexer.specs.declared.lexer.TokenKind.TheVariants.{Space, Newline, Slashdash, String, Value, Left, Right, Opening, Closing, Equals, Semicolon, Bom}
 use Rattle.kdl_lexer.specs.declared.lexer.Token.{Token}
 use Rattle.kdl_lexer.specs.declared.lexer.NextToken.{NextToken}
-use Rattle.kdl_lexer.specs.declared.lexer.NextToken.TheVariants.{Space as Spaces, LineFeed, Word, Other, End}
+use Rattle.kdl_lexer.specs.declared.lexer.NextToken.TheVariants.{Space as Spaces, Newline as Lines, Word, Other, End}
+use Rattle.kdl_lexer.specs.declared.token_span.TokenSpan.{TokenSpan}
 use Rattle.kdl_lexer.specs.declared.lexer.KindFailure.{KindFailure}
 use Rattle.kdl_lexer.specs.declared.lexer.KindFailure.TheVariants.{Absent, Memory as NoMemory}
 use Rattle.kdl_lexer.specs.declared.lexer.LexFailure.{LexFailure}
@@ -54,12 +56,6 @@ ReadsKind s (Ok k) r = Cuts s (kind_view k) r
 ReadsKind s (Err Absent) r = NoToken s
 ReadsKind s (Err NoMemory) r = Unit {0}
 
--- the string that was read at s, before r
-abbrev pub ReadsWord : Text → Result (StdString Global) KindFailure → Text → Type 0
-ReadsWord s (Ok w) r = Cuts s (tokens.string (text_of w)) r
-ReadsWord s (Err Absent) r = NoToken s
-ReadsWord s (Err NoMemory) r = Unit {0}
-
 -- what a token costs: at most k steps for each byte, and it has at least one; if no token begins here, at most k for each byte that was read, and k more
 abbrev pub KindCosts : {A : Type 0} → ℕ → Result A KindFailure → Here → Here → Type 0
 KindCosts k (Ok x) old new = PieceCosts k old new
@@ -75,9 +71,10 @@ Passes StringMemory f = f ≡ NoMemory
 abbrev pub is_single : ℕ → Bool
 is_single c = ((c == 40 || c == 41) || (c == 123 || c == 125)) || ((c == 61 || c == 59) || c == 0xFEFF)
 
--- neither a space, nor a digit, nor a token by itself
+-- neither a space, nor a digit, nor a slash, nor a token by itself
 pub record IsOther (c : ℕ) : Type 0 where
   pub no_space : is_space c ≡ false
+  pub no_slash : (c == 47) ≡ false
   pub no_digit : is_digit c ≡ false
   pub no_single : is_single c ≡ false
 
@@ -86,13 +83,16 @@ abbrev pub IsPunctuation : ℕ → Option TokenKind → Type 0
 IsPunctuation c (Some k) = (r : Text) → BeginsToken (c ∷ r) (kind_view k) r
 IsPunctuation c None = is_single c ≡ false
 
--- a token is between two places
-pub record HandsOut (old : Here) (t : Token) (new : Here) : Type 0 where
-  pub cuts : Cuts old.rest (kind_view t.kind) new.rest
-  pub start_rest : t.at.start.rest ≡ old.rest
-  pub start_at : t.at.start.at ≡ old.at
-  pub end_rest : t.at.end.rest ≡ new.rest
-  pub end_at : t.at.end.at ≡ new.at
+-- the token k is between two places
+pub record HandsOver (old : Here) (k : tokens.Token) (span : TokenSpan) (new : Here) : Type 0 where
+  pub cuts : Cuts old.rest k new.rest
+  pub start_rest : span.start.rest ≡ old.rest
+  pub start_at : span.start.at ≡ old.at
+  pub end_rest : span.end.rest ≡ new.rest
+  pub end_at : span.end.at ≡ new.at
+
+abbrev pub HandsOut : Here → Token → Here → Type 0
+HandsOut old t new = HandsOver old (kind_view t.kind) t.at new
 
 -- the failure of the lexer at the place, after that of a reader
 abbrev pub FailsAt : Position → KindFailure → LexFailure → Type 0
@@ -115,33 +115,42 @@ LexCosts (Ok None) old new = Costs 24 1 old new
 LexCosts (Err (Faulty span)) old new = Costs 24 24 old new
 LexCosts (Err Memory) old new = Unit {0}
 
--- the token that is next, if the text does not end
-abbrev pub token_next : NextToken → Option Token
-token_next (Spaces at) = Some (record { kind = Space; at = at })
-token_next (LineFeed at) = Some (record { kind = Newline; at = at })
-token_next (Word s at) = Some (record { kind = String s; at = at })
-token_next (Other t) = Some t
-token_next End = None
-
--- the same as a call that returns the next token
+-- what a call returns that returns common tokens apart; a bare string is as it is in the text
 abbrev pub LexedNext : Here → Result NextToken LexFailure → Here → Type 0
-LexedNext old (Ok n) new = Lexed old (Ok (token_next n)) new
+LexedNext old (Ok (Spaces span)) new = HandsOver old tokens.space span new
+LexedNext old (Ok (Lines span)) new = HandsOver old tokens.newline span new
+LexedNext old (Ok (Word w span)) new = HandsOver old (tokens.string w) span new × (old.rest ≡ w ++ new.rest)
+LexedNext old (Ok (Other t)) new = HandsOut old t new
+LexedNext old (Ok End) new = old.rest ≡ []
 LexedNext old (Err f) new = Lexed old (Err f) new
+
+-- what is next, by what was read at the slash where the span begins
+abbrev pub IsAfterSlash : SlashRead → TokenSpan → Result NextToken LexFailure → Type 0
+IsAfterSlash Block span r = r ≡ Ok (Spaces span)
+IsAfterSlash Line span r = r ≡ Ok (Lines span)
+IsAfterSlash Dash span r = r ≡ Ok (Other (record { kind = Slashdash; at = span }))
+IsAfterSlash Unclosed span r = (f : SourceSpan) × (r ≡ Err (Faulty f)) × IsFaultAt span.start f
+IsAfterSlash NoSlash span r = (f : SourceSpan) × (r ≡ Err (Faulty f)) × IsFaultAt span.start f
 
 -- the same cost
 abbrev pub NextCosts : Result NextToken LexFailure → Here → Here → Type 0
-NextCosts (Ok n) old new = LexCosts (Ok (token_next n)) old new
+NextCosts (Ok End) old new = Costs 24 1 old new
+NextCosts (Ok n) old new = Costs 24 0 old new
 NextCosts (Err f) old new = LexCosts (Err f) old new
 
 -- a space, a line feed or an ASCII letter
 abbrev pub begins_apart : ℕ → Bool
 begins_apart c = (is_space c || c == 10) || is_ascii_alphabetic c
 
--- tokens that begin with a space, a line feed or an ASCII letter are returned apart; spaces up to the first character that is none
+-- the spaces up to the first character that is none
+abbrev pub IsRun : Text → Text → Type 0
+IsRun s r = (starts is_space s ≡ true) × (starts is_space r ≡ false)
+
+-- comments, and tokens that begin with a space, a line feed or an ASCII letter, are returned apart
 abbrev pub ReturnsApart : Here → Result NextToken LexFailure → Here → Type 0
-ReturnsApart old (Ok (Spaces at)) new = (starts is_space old.rest ≡ true) × (starts is_space new.rest ≡ false)
-ReturnsApart old (Ok (LineFeed at)) new = starts (λ c. c == 10) old.rest ≡ true
-ReturnsApart old (Ok (Word s at)) new = starts is_ascii_alphabetic old.rest ≡ true
-ReturnsApart old (Ok (Other t)) new = starts begins_apart old.rest ≡ false
+ReturnsApart old (Ok (Spaces span)) new = IsRun old.rest new.rest ⊎ BlockComment old.rest new.rest
+ReturnsApart old (Ok (Lines span)) new = (starts (λ c. c == 10) old.rest ≡ true) ⊎ LineComment old.rest new.rest
+ReturnsApart old (Ok (Word w span)) new = starts is_ascii_alphabetic old.rest ≡ true
+ReturnsApart old (Ok (Other t)) new = (starts begins_apart old.rest ≡ false) × (begins_two 47 42 old.rest ≡ false) × (begins_two 47 47 old.rest ≡ false)
 ReturnsApart old (Ok End) new = Unit {0}
 ReturnsApart old (Err f) new = Unit {0}

@@ -8,11 +8,11 @@ use Rattle.kdl_text.specs.Spans.{InText, bytes}
 use Rattle.kdl_text.specs.Trivia.{NodeSpace}
 use Rattle.kdl_text.specs.declared.span.SourceSpan.{SourceSpan}
 use Rattle.kdl_entry.proofs.Reading.EntryLoop.{bytes_before, char_in}
-use Rattle.kdl_lexer.specs.Internal.Handed.{Cuts, one, spaces, IsFaultAt, kind_view, HandsOut, Lexed}
+use Rattle.kdl_lexer.specs.Internal.Handed.{Cuts, one, spaces, IsFaultAt, HandsOver, Lexed}
 use Rattle.kdl_lexer.specs.Tokens.{Token, t_space, NoToken}
 use Rattle.kdl_lexer.specs.declared.lexer.LexFailure.{LexFailure}
 use Rattle.kdl_lexer.specs.declared.lexer.LexFailure.TheVariants.{Faulty, Memory as LexMemory}
-use Rattle.kdl_lexer.specs.declared.lexer.Token.{Token as CodeToken}
+use Rattle.kdl_lexer.specs.declared.token_span.TokenSpan.{TokenSpan}
 use Rattle.kdl_lexer.proofs.Lexing.TokenUnique.{token_shorter, no_token}
 use Rattle.kdl_control.specs.Control as control
 use Rattle.kdl_grammar.specs.Going.{Goes}
@@ -80,23 +80,23 @@ starts tree t u b here e w f x n = record {
 }
 
 -- a token's turn
-pub goes_on : {N : Type 0} (tree : N → Node) (b b' : Builder N) (before mid : Here) (t u : Text) (k : CodeToken) → Going tree b before t u → HandsOut before k mid → Moves before mid
-    → option_map held (step b.slices.whole.rest (state_view tree b) (kind_view k.kind) k.at.start.rest k.at.end.rest) ≡ Some (held (state_view tree b')) → b'.slices.whole ≡ b.slices.whole → Going tree b' mid t u
-goes_on tree b b' before mid t u k g h m e w =
-    let e' = told_step b.slices.whole.rest t before.rest mid.rest k.at.start.rest k.at.end.rest (state_view tree b) (state_view tree b') (kind_view k.kind) g.whole h.start_rest h.end_rest e in
+pub goes_on : {N : Type 0} (tree : N → Node) (b b' : Builder N) (before mid : Here) (t u : Text) (k : Token) (ts : TokenSpan) → Going tree b before t u → HandsOver before k ts mid → Moves before mid
+    → option_map held (step b.slices.whole.rest (state_view tree b) k ts.start.rest ts.end.rest) ≡ Some (held (state_view tree b')) → b'.slices.whole ≡ b.slices.whole → Going tree b' mid t u
+goes_on tree b b' before mid t u k ts g h m e w =
+    let e' = told_step b.slices.whole.rest t before.rest mid.rest ts.start.rest ts.end.rest (state_view tree b) (state_view tree b') k g.whole h.start_rest h.end_rest e in
     let piece : EndsIn before.rest mid.rest = m.piece in
     record {
-      same = turn_same t u before.rest mid.rest (state_view tree b) (state_view tree b') (kind_view k.kind) g.same h.cuts e';
+      same = turn_same t u before.rest mid.rest (state_view tree b) (state_view tree b') k g.same h.cuts e';
       whole = ap (λ (z : Position). z.rest) w ∙ g.whole;
-      placed = placed_step t (state_view tree b) (state_view tree b') (kind_view k.kind) before.rest mid.rest e' g.placed piece;
-      went = over_cut g.went h.cuts (stepped t (state_view tree b) (state_view tree b') (kind_view k.kind) before.rest mid.rest e');
+      placed = placed_step t (state_view tree b) (state_view tree b') k before.rest mid.rest e' g.placed piece;
+      went = over_cut g.went h.cuts (stepped t (state_view tree b) (state_view tree b') k before.rest mid.rest e');
       text = then_ends g.text piece;
       at = m.at ∙ g.at;
     }
 
 -- what the builder asks of the places
-pub placed_start : {N : Type 0} (tree : N → Node) (b : Builder N) (before mid : Here) (t u : Text) (k : CodeToken) → Going tree b before t u → HandsOut before k mid → Placed (state_view tree b) k.at.start.rest
-placed_start tree b before mid t u k g h = subst (λ (z : Text). Placed (state_view tree b) z) (sym h.start_rest) g.placed
+pub placed_start : {N : Type 0} (tree : N → Node) (b : Builder N) (before mid : Here) (t u : Text) (k : Token) (ts : TokenSpan) → Going tree b before t u → HandsOver before k ts mid → Placed (state_view tree b) ts.start.rest
+placed_start tree b before mid t u k ts g h = subst (λ (z : Text). Placed (state_view tree b) z) (sym h.start_rest) g.placed
 
 -- a turn comes nearer to the end
 spaces_shorter : {s r : Text} → Star NodeSpace s r → length r ≤ length s
@@ -107,8 +107,8 @@ pub cut_shorter : {s r : Text} {k : Token} → Cuts s k r → length r < length 
 cut_shorter (one t) = token_shorter t
 cut_shorter (spaces (plus n m)) = omega (arith, token_shorter (t_space n), spaces_shorter m)
 
-pub nearer : (before mid : Here) (k : CodeToken) → HandsOut before k mid → length mid.rest < length before.rest
-nearer before mid k h = cut_shorter h.cuts
+pub nearer : (before mid : Here) (k : Token) (ts : TokenSpan) → HandsOver before k ts mid → length mid.rest < length before.rest
+nearer before mid k ts h = cut_shorter h.cuts
 
 pub told : {N : Type 0} (tree : N → Node) (b : Builder N) (here : Here) (t u : Text) (place : Position) (span : SourceSpan) → Going tree b here t u → place.rest ≡ here.rest → place.at ≡ here.at → IsFaultAt place span → InText t span
 told tree b here t u place span g e f x =
@@ -117,11 +117,11 @@ told tree b here t u place span g e f x =
 no_reading : {N : Type 0} (tree : N → Node) (b : Builder N) (here : Here) (t u : Text) → Going tree b here t u → NoToken here.rest → (d : Document) → Runs t d (initial u) u → ⊥
 no_reading tree b here t u g n d a = faults t d (state_view tree b) here.rest n.begun n.none ((g.same d).1 a)
 
-no_turn : {N : Type 0} (tree : N → Node) (b : Builder N) (before mid : Here) (t u : Text) (k : CodeToken) → Going tree b before t u → HandsOut before k mid → step b.slices.whole.rest (state_view tree b) (kind_view k.kind) k.at.start.rest k.at.end.rest ≡ None
+no_turn : {N : Type 0} (tree : N → Node) (b : Builder N) (before mid : Here) (t u : Text) (k : Token) (ts : TokenSpan) → Going tree b before t u → HandsOver before k ts mid → step b.slices.whole.rest (state_view tree b) k ts.start.rest ts.end.rest ≡ None
     → (d : Document) → Runs t d (initial u) u → ⊥
-no_turn tree b before mid t u k g h e d a =
-    let e' = told_none b.slices.whole.rest t before.rest mid.rest k.at.start.rest k.at.end.rest (state_view tree b) (kind_view k.kind) g.whole h.start_rest h.end_rest e in
-    refuses t d (state_view tree b) before.rest mid.rest (kind_view k.kind) h.cuts e' ((g.same d).1 a)
+no_turn tree b before mid t u k ts g h e d a =
+    let e' = told_none b.slices.whole.rest t before.rest mid.rest ts.start.rest ts.end.rest (state_view tree b) k g.whole h.start_rest h.end_rest e in
+    refuses t d (state_view tree b) before.rest mid.rest k h.cuts e' ((g.same d).1 a)
 
 -- the machine without data stops there
 stops_there : {N : Type 0} (tree : N → Node) (b : Builder N) (before : Here) (t u : Text) (span : SourceSpan) → Going tree b before t u → span.offset ≡ before.at → Stuck (a_state (state_view tree b)) before.rest → Stops t u span
@@ -134,8 +134,8 @@ stops_there tree b before t u span g e s = record {
   stuck = s;
 }
 
-stuck_turn : {N : Type 0} (tree : N → Node) (b : Builder N) (before mid : Here) (k : CodeToken) → HandsOut before k mid → step b.slices.whole.rest (state_view tree b) (kind_view k.kind) k.at.start.rest k.at.end.rest ≡ None → Stuck (a_state (state_view tree b)) before.rest
-stuck_turn tree b before mid k h e = stuck_cut control.step (a_state (state_view tree b)) h.cuts (refused_step b.slices.whole.rest (state_view tree b) (kind_view k.kind) k.at.start.rest k.at.end.rest e)
+stuck_turn : {N : Type 0} (tree : N → Node) (b : Builder N) (before mid : Here) (k : Token) (ts : TokenSpan) → HandsOver before k ts mid → step b.slices.whole.rest (state_view tree b) k ts.start.rest ts.end.rest ≡ None → Stuck (a_state (state_view tree b)) before.rest
+stuck_turn tree b before mid k ts h e = stuck_cut control.step (a_state (state_view tree b)) h.cuts (refused_step b.slices.whole.rest (state_view tree b) k ts.start.rest ts.end.rest e)
 
 stuck_end : {N : Type 0} (tree : N → Node) (b : Builder N) (here : Here) → here.rest ≡ [] → Stuck (a_state (state_view tree b)) here.rest
 stuck_end tree b here e = inl (subst BeginsNone (sym e) (λ r k x. no_token x))
@@ -145,13 +145,13 @@ pub lexer_told : {N : Type 0} (tree : N → Node) (b : Builder N) (before after 
 lexer_told tree b before after t u (Faulty span) g x = (no_reading tree b before t u g x.0, told tree b before t u (record { rest = before.rest; at = before.at }) span g refl refl x.1, stops_there tree b before t u span g x.1.offset (inl x.0.none))
 lexer_told tree b before after t u LexMemory g x = tt
 
-pub take_told : {N : Type 0} (tree : N → Node) (b b' : Builder N) (before mid : Here) (t u : Text) (k : CodeToken) (f : TakeFailure) (e : LexFailure) → Going tree b before t u → HandsOut before k mid
-    → Did {A = Unit {0}} (step b.slices.whole.rest (state_view tree b) (kind_view k.kind) k.at.start.rest k.at.end.rest) (Err f) (state_view tree b') → FailsAt k.at.start f e → AnswersParts tree t u (Err e)
-take_told tree b b' before mid t u k Unexpected (Faulty span) g h x y =
-    (no_turn tree b before mid t u k g h x, told tree b before t u k.at.start span g h.start_rest h.start_at y, stops_there tree b before t u span g (y.offset ∙ h.start_at) (stuck_turn tree b before mid k h x))
-take_told tree b b' before mid t u k Unexpected LexMemory g h x y = absurd y
-take_told tree b b' before mid t u k Memory (Faulty span) g h x y = absurd y
-take_told tree b b' before mid t u k Memory LexMemory g h x y = tt
+pub take_told : {N : Type 0} (tree : N → Node) (b b' : Builder N) (before mid : Here) (t u : Text) (k : Token) (ts : TokenSpan) (f : TakeFailure) (e : LexFailure) → Going tree b before t u → HandsOver before k ts mid
+    → Did {A = Unit {0}} (step b.slices.whole.rest (state_view tree b) k ts.start.rest ts.end.rest) (Err f) (state_view tree b') → FailsAt ts.start f e → AnswersParts tree t u (Err e)
+take_told tree b b' before mid t u k ts Unexpected (Faulty span) g h x y =
+    (no_turn tree b before mid t u k ts g h x, told tree b before t u ts.start span g h.start_rest h.start_at y, stops_there tree b before t u span g (y.offset ∙ h.start_at) (stuck_turn tree b before mid k ts h x))
+take_told tree b b' before mid t u k ts Unexpected LexMemory g h x y = absurd y
+take_told tree b b' before mid t u k ts Memory (Faulty span) g h x y = absurd y
+take_told tree b b' before mid t u k ts Memory LexMemory g h x y = tt
 
 -- the end of the text
 nothing_left : (p r : Text) → [] ≡ p ++ r → r ≡ []

@@ -4,13 +4,13 @@ use Rattle.kdl_text.specs.Spans.{raise}
 use Rattle.kdl_entry.specs.declared.parsing.slices.Slices.{Slices}
 use Rattle.kdl_parser.specs.declared.builder.TakeFailure.{TakeFailure}
 use Rattle.kdl_parser.specs.declared.builder.TakeFailure.TheVariants.{Unexpected, Memory}
-use Rattle.kdl_lexer.specs.declared.lexer.TokenKind.{TokenKind}
+use Rattle.kdl_lexer.specs.Tokens.{Token}
 use Rattle.kdl_lexer.specs.declared.token_span.TokenSpan.{TokenSpan}
 use Rattle.kdl_grammar.specs.Internal.Machine.{State}
 use Rattle.kdl_grammar.specs.Tree.{Node}
 use Rattle.kdl_parser.specs.Internal.Building.{held, Did, Does}
 use Rattle.kdl_parser.specs.Internal.Counted.{SlicedOn, unsliced}
-use Rattle.kdl_parser.specs.Internal.States.{Steps, Takes, token_step}
+use Rattle.kdl_parser.specs.Internal.States.{Steps, TakesToken, step_at}
 use Rattle.kdl_parser.specs.declared.builder.Builder.{Builder}
 
 pub does_did : {A : Type 0} (o : Option State) (want st : State) (result : Result A TakeFailure) → Does want result st → o ≡ Some want → Did o result st
@@ -42,8 +42,8 @@ more_sliced m k s t (Err Unexpected) d = record { most = omega (arith, d.most) }
 more_sliced m k s t (Err Memory) d = tt
 
 -- a step after a look that is counted
-pub looked_takes : {N : Type 0} (tree : N → Node) (b new : Builder N) (z : Slices) (kind : TokenKind) (span : TokenSpan) (result : Result (Unit {0}) TakeFailure) → z ≡ record b.slices { steps = raise b.slices.steps 1 } → Takes tree (record b { slices = z }) kind span result new
-    → Steps tree (token_step tree b kind span) (unsliced b + 1) b result new
-looked_takes tree b new z kind span result e x =
-    let y : Takes tree (record b { slices = record b.slices { steps = raise b.slices.steps 1 } }) kind span result new = subst (λ (s : Slices). Takes tree (record b { slices = s }) kind span result new) e x in
+pub looked_takes : {N : Type 0} (tree : N → Node) (b new : Builder N) (z : Slices) (k : Token) (span : TokenSpan) (result : Result (Unit {0}) TakeFailure) → z ≡ record b.slices { steps = raise b.slices.steps 1 } → TakesToken tree (record b { slices = z }) k span result new
+    → Steps tree (step_at tree b k span) (unsliced b + 1) b result new
+looked_takes tree b new z k span result e x =
+    let y : TakesToken tree (record b { slices = record b.slices { steps = raise b.slices.steps 1 } }) k span result new = subst (λ (s : Slices). TakesToken tree (record b { slices = s }) k span result new) e x in
     record { did = y.did; whole = y.whole; sliced = more_sliced (unsliced b) (unsliced new) b.slices.steps new.slices.steps result y.sliced }

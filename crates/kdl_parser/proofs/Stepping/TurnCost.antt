@@ -6,12 +6,13 @@ use Rattle.kdl_text.specs.Internal.Reading.{Moves, Costs}
 use Rattle.kdl_text.proofs.Looking.MovesJoin.{bytes-append}
 use Rattle.kdl_text.proofs.Looking.Runs.{length-bytes}
 use Rattle.kdl_entry.specs.Internal.Counted.{Sliced}
-use Rattle.kdl_lexer.specs.Internal.Handed.{HandsOut}
+use Rattle.kdl_lexer.specs.Internal.Handed.{HandsOver}
+use Rattle.kdl_lexer.specs.Tokens.{Token}
 use Rattle.kdl_lexer.specs.Internal.Order.{IsEndOf}
 use Rattle.kdl_lexer.proofs.Order.{ahead}
 use Rattle.kdl_lexer.specs.declared.lexer.LexFailure.{LexFailure}
 use Rattle.kdl_lexer.specs.declared.lexer.LexFailure.TheVariants.{Faulty, Memory as LexMemory}
-use Rattle.kdl_lexer.specs.declared.lexer.Token.{Token as CodeToken}
+use Rattle.kdl_lexer.specs.declared.token_span.TokenSpan.{TokenSpan}
 use Rattle.kdl_entry.proofs.Slicing.SliceCost.{ahead_fewer}
 use Rattle.kdl_parser.specs.Internal.Answered.{FailsAt}
 use Rattle.kdl_parser.specs.Internal.Counted.{SlicedOn, ReadOn, ReadThrough}
@@ -28,8 +29,8 @@ pub record Counting (start here : Here) (k n : ℕ) : Type 0 where
 pub counting_starts : (here : Here) (k n : ℕ) → k ≡ 0 → n ≡ bytes here.rest → Counting here here k n
 counting_starts here k n f e = record { least = omega arith; most = omega (arith, e, f); counts = omega arith }
 
-pub counting_goes_on : (start before mid : Here) (t : CodeToken) (i j m n : ℕ) → Counting start before i m → HandsOut before t mid → Moves before mid → Costs 24 0 before mid → Sliced (m + 1) n i j → Counting start mid j n
-counting_goes_on start before mid t i j m n g h v c d =
+pub counting_goes_on : (start before mid : Here) (k : Token) (ts : TokenSpan) (i j m n : ℕ) → Counting start before i m → HandsOver before k ts mid → Moves before mid → Costs 24 0 before mid → Sliced (m + 1) n i j → Counting start mid j n
+counting_goes_on start before mid k ts i j m n g h v c d =
     let less = cut_shorter h.cuts in
     let more : bytes mid.rest + 1 ≤ bytes before.rest = omega (arith, less, ap bytes v.piece.1, bytes-append v.piece.0 mid.rest, length-bytes v.piece.0, ap length v.piece.1, length-append v.piece.0 mid.rest) in
     record {

@@ -8,6 +8,7 @@ use Rattle.kdl_value.specs.Data.{Value}
 use Rattle.kdl_value.specs.Tree.{text_of}
 use Rattle.kdl_entry.specs.Internal.Building.{parts_view}
 use Rattle.kdl_lexer.specs.Internal.Handed.{kind_view}
+use Rattle.kdl_lexer.specs.Tokens.{Token, string}
 use Rattle.kdl_entry.specs.Internal.Parts as under_way
 use Rattle.kdl_entry.specs.Internal.Parts.{TypeParts, KeyParts}
 use Rattle.kdl_entry.specs.Places.{between}
@@ -23,9 +24,12 @@ use Rattle.kdl_parser.specs.Internal.Counted.{unsliced, SlicedOn}
 use Rattle.kdl_parser.specs.declared.builder.Builder.{Builder}
 use Rattle.kdl_parser.specs.declared.builder.Slot.{Slot}
 
--- the machine's step at a token of the kind
+-- the machine's step at the token k, and at a token of the kind
+abbrev pub step_at : {N : Type 0} → (N → Node) → Builder N → Token → TokenSpan → Option State
+step_at tree b k span = machine.step b.slices.whole.rest (state_view tree b) k span.start.rest span.end.rest
+
 abbrev pub token_step : {N : Type 0} → (N → Node) → Builder N → TokenKind → TokenSpan → Option State
-token_step tree b kind span = machine.step b.slices.whole.rest (state_view tree b) (kind_view kind) span.start.rest span.end.rest
+token_step tree b kind span = step_at tree b (kind_view kind) span
 
 -- the nodes, and after them the current node: it has no block, and ends at s with the terminator
 abbrev pub nodes_and : {N : Type 0} → (N → Node) → Builder N → Position → Text → Option Nodes
@@ -132,6 +136,18 @@ pub record Reaches {N : Type 0} (tree : N → Node) (want : State) (n : ℕ) (ol
   pub whole : new.slices.whole ≡ old.slices.whole
   pub sliced : SlicedOn result n (unsliced new) old.slices.steps new.slices.steps
 
--- what a token of the kind did, given the machine's step
+-- what the token k did, and what a token of the kind did, given the machine's step
+abbrev pub TakesToken : {N : Type 0} → (N → Node) → Builder N → Token → TokenSpan → Result (Unit {0}) TakeFailure → Builder N → Type 0
+TakesToken tree old k span result new = Steps tree (step_at tree old k span) (unsliced old) old result new
+
 abbrev pub Takes : {N : Type 0} → (N → Node) → Builder N → TokenKind → TokenSpan → Result (Unit {0}) TakeFailure → Builder N → Type 0
-Takes tree old kind span result new = Steps tree (token_step tree old kind span) (unsliced old) old result new
+Takes tree old kind span result new = TakesToken tree old (kind_view kind) span result new
+
+-- the same token, but for the text of a string
+abbrev pub IsLike : Token → Token → Type 0
+IsLike (string v) k = (w : Text) × (k ≡ string w)
+IsLike j k = k ≡ j
+
+-- what each token like j did
+abbrev pub DropsLike : {N : Type 0} → (N → Node) → Builder N → Token → TokenSpan → Result (Unit {0}) TakeFailure → Builder N → Type 0
+DropsLike tree old j span result new = (k : Token) → IsLike j k → TakesToken tree old k span result new

@@ -8,8 +8,9 @@ use super::content::put;
 use super::{Builder, TakeFailure};
 use crate::node_parts::{DocumentParts, ParsedNode};
 use kdl_control::{Control, Phase};
+use kdl_entry::parsing::parts::empty;
 use kdl_lexer::{TokenKind, TokenSpan};
-use kdl_text::cursor::Checkpoint;
+use kdl_text::cursor::{Checkpoint, Piece};
 use std::alloc::{AllocError, Global};
 
 /// An entry or a block of the current node that is slashdashed.
@@ -25,6 +26,7 @@ impl DroppedPart {
     ghost use Rattle.std.specs.Prelude.{Some, None, IfOk, if◌then◌else◌};
 
     /// Takes a token. Returns false if it may not be here.
+    #[inline(always)]
     fn take(&mut self, kind: &TokenKind) -> Result<bool, AllocError>
         requires { control.finish (control_view self.old.control) ≡ false }
         ensures { IfOk result (λ b. control.step (control_view self.old.control) (kind_view kind.now) ≡
@@ -76,6 +78,7 @@ impl Dropped {
     }
 
     /// The phase in which the token is, if it comes after what is slashdashed.
+    #[inline(always)]
     fn phase_at(&self, kind: &TokenKind) -> Option<Phase>
         ensures { MatchOption result (is_over (kind_view kind.now) (reading_view self.now) ≡ false)
             (λ p. (is_over (kind_view kind.now) (reading_view self.now) ≡ true)
@@ -125,6 +128,7 @@ impl Dropped {
     }
 
     /// Takes a token. Returns false if it may not be here.
+    #[inline(always)]
     fn take(&mut self, kind: &TokenKind) -> Result<bool, AllocError>
         requires { is_over (kind_view kind.now) (reading_view self.old) ≡ false }
         ensures { IfOk result (λ b. next (kind_view kind.now) (reading_view self.old) ≡
@@ -146,17 +150,19 @@ impl<'a, N: ParsedNode> Builder<'a, N> {
     ghost use Rattle.kdl_parser.specs.Internal.Counted.{unsliced, SlicedOn};
     ghost use Rattle.kdl_parser.specs.Internal.Dropping.{is_over, is_reading};
     ghost use Rattle.kdl_parser.specs.Internal.Events.{is_building, is_live};
-    ghost use Rattle.kdl_parser.specs.Internal.States.{document_now, Takes};
+    ghost use Rattle.kdl_lexer.specs.Tokens.{string};
+    ghost use Rattle.kdl_parser.specs.Internal.States.{document_now, DropsLike, Takes, TakesToken};
     ghost use Rattle.kdl_parser.specs.declared.builder.dropping.Dropped.TheVariants.{Nothing};
     ghost use Rattle.kdl_text.specs.Internal.Here.{Ahead};
     ghost use Rattle.std.specs.Prelude.{[], true};
 
-    /// Takes a token of what is slashdashed.
-    #[tactic(auto, using(crate::proofs::Stepping::Dropped::drops))]
+    /// Takes a token of what is slashdashed. The text of a string makes no difference.
+    #[inline(always)]
+    #[tactic(auto, using(crate::proofs::Stepping::Dropped::drops_like))]
     fn drop_token(&mut self, kind: TokenKind, at: &TokenSpan<'a>) -> Result<(), TakeFailure>
         requires reading { is_reading (reading_view self.old.dropped) ≡ true }
         requires here { is_over (kind_view kind) (reading_view self.old.dropped) ≡ false }
-        ensures { Takes N.tree self.old kind at.now result self.new }
+        ensures { DropsLike N.tree self.old (kind_view kind) at.now result self.new }
     {
         if self.dropped.take(&kind)? {
             Ok(())
@@ -165,12 +171,13 @@ impl<'a, N: ParsedNode> Builder<'a, N> {
         }
     }
 
-    /// Takes the first token after a `/-`.
-    #[tactic(auto, using(crate::proofs::Stepping::Dropped::first_drops))]
+    /// Takes the first token after a `/-`. The text of a string makes no difference.
+    #[inline(always)]
+    #[tactic(auto, using(crate::proofs::Stepping::Dropped::first_like))]
     fn drop_first(&mut self, kind: TokenKind, at: &TokenSpan<'a>) -> Result<(), TakeFailure>
         requires live { self.old.dropped ≡ Nothing }
         requires phase { is_live self.old.phase ≡ false }
-        ensures { Takes N.tree self.old kind at.now result self.new }
+        ensures { DropsLike N.tree self.old (kind_view kind) at.now result self.new }
     {
         let dropped = Dropped::after_slashdash(self.slices.alloc(), self.phase);
         put(&mut self.dropped, dropped);
@@ -178,6 +185,7 @@ impl<'a, N: ParsedNode> Builder<'a, N> {
     }
 
     /// Takes a token if nothing slashdashed is being read.
+    #[inline(always)]
     fn take_kept(&mut self, kind: TokenKind, at: &TokenSpan<'a>) -> Result<(), TakeFailure>
         requires live { self.old.dropped ≡ Nothing }
         requires placed { Placed (state_view N.tree self.old) at.now.start.rest }
@@ -187,6 +195,21 @@ impl<'a, N: ParsedNode> Builder<'a, N> {
             self.take_live(kind, at)
         } else {
             self.drop_first(kind, at)
+        }
+    }
+
+    /// Takes a run of spaces if nothing slashdashed is being read.
+    #[inline(always)]
+    fn space_kept(&mut self, at: &TokenSpan<'a>) -> Result<(), TakeFailure>
+        requires live { self.old.dropped ≡ Nothing }
+        requires placed { Placed (state_view N.tree self.old) at.now.start.rest }
+        ensures { Takes N.tree self.old Space at.now result self.new }
+    {
+        if self.is_building() {
+            self.phase = self.phase.spaced();
+            Ok(())
+        } else {
+            self.drop_first(TokenKind::Space, at)
         }
     }
 
@@ -215,6 +238,30 @@ impl<'a, N: ParsedNode> Builder<'a, N> {
         }
     }
 
+    /// Takes a bare string in or after what is slashdashed, or directly after a `/-`. It is copied only if it is kept.
+    #[inline(never)]
+    pub(super) fn drop_bare(
+        &mut self,
+        word: &Piece<'a>,
+        at: &TokenSpan<'a>,
+    ) -> Result<(), TakeFailure>
+        requires dropping { is_building self.old.dropped self.old.phase ≡ false }
+        requires placed { Placed (state_view N.tree self.old) at.now.start.rest }
+        ensures { TakesToken N.tree self.old (string word.now) at.now result self.new }
+    {
+        let dropped = TokenKind::String(empty(self.slices.alloc()));
+        if let Dropped::Nothing = self.dropped {
+            return self.drop_first(dropped, at);
+        }
+        match self.dropped.phase_at(&dropped) {
+            Some(_) => {
+                let text = word.to_string(self.slices.alloc())?;
+                self.take_dropped(TokenKind::String(text), at)
+            }
+            None => self.drop_token(dropped, at),
+        }
+    }
+
     /// Takes a run of spaces in or after what is slashdashed, or directly after a `/-`.
     #[inline(never)]
     pub(super) fn drop_space(&mut self, at: &TokenSpan<'a>) -> Result<(), TakeFailure>
@@ -222,7 +269,18 @@ impl<'a, N: ParsedNode> Builder<'a, N> {
         requires placed { Placed (state_view N.tree self.old) at.now.start.rest }
         ensures { Takes N.tree self.old Space at.now result self.new }
     {
-        self.take_dropped(TokenKind::Space, at)
+        if let Dropped::Nothing = self.dropped {
+            return self.drop_first(TokenKind::Space, at);
+        }
+        match self.dropped.phase_at(&TokenKind::Space) {
+            Some(phase) => {
+                self.dropped = Dropped::Nothing;
+                self.settle_word()?;
+                self.phase = phase;
+                self.space_kept(at)
+            }
+            None => self.drop_token(TokenKind::Space, at),
+        }
     }
 
     /// Returns the document at the end of the text, after what is slashdashed.

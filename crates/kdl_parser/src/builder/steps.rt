@@ -45,7 +45,9 @@ use super::growing::Growing;
 use super::{Builder, Level, Slot, TakeFailure, Under, WaitingWord};
 use crate::node_parts::ParsedNode;
 use kdl_control::{Owner, Phase, Spot, Word};
-use kdl_entry::parsing::parts::{Given, Key, TypeParts, argument_from, empty, property_from};
+use kdl_entry::parsing::parts::{
+    Given, Key, TypeParts, ValueParts, argument_from, empty, property_from,
+};
 use kdl_entry::{KdlEntry, KdlIdentifier, KdlValue, sliced_identifier};
 use kdl_lexer::{TokenKind, TokenSpan};
 use std::alloc::AllocError;
@@ -505,7 +507,8 @@ impl<'a, N: ParsedNode> Builder<'a, N> {
         let repr = self.slices.token(at)?;
         let span = self.slices.span(&start, &at.end);
         self.under.entries.make_room()?;
-        let entry = property_from(self.slices.alloc(), span, leading, key, value, repr);
+        let value = ValueParts { value, repr };
+        let entry = property_from(self.slices.alloc(), span, leading, key, value);
         self.under.entries.push_reserved(entry);
         self.end_entry(at);
         Ok(())

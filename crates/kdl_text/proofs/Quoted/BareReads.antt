@@ -1,10 +1,13 @@
 -- Bare strings: a text begins with one at most, and the reader's cases.
-use Rattle.std.proofs.Common.{◌≡◌, ◌<◌, true, false, [], ◌∷◌, ◌++◌, length, refl, sym, ap, ◌∙◌, arith, length-append}
+use Rattle.std.proofs.Common.{◌≡◌, ℕ, ◌<◌, ◌==◌, true, false, [], ◌∷◌, ◌++◌, length, refl, sym, ap, ◌∙◌, arith, length-append}
 use Rattle.std.proofs.lemmas.Bool.{and_parts, false≢true}
+use Rattle.std.proofs.lemmas.Bool.Decides.{nat_tests}
+use Rattle.std.specs.Char.{is_ascii_alphabetic}
 use Rattle.std.specs.List.{list_all}
-use Rattle.kdl_text.specs.Chars.{Text, is_identifier_char, starts}
-use Rattle.kdl_text.specs.Bare.{BareString, bare, is_bare, bare_form}
-use Rattle.kdl_text.specs.Internal.Here.{Here}
+use Rattle.std.specs.Prelude.{Some, not}
+use Rattle.kdl_text.specs.Chars.{Text, is_identifier_char, is_space, is_newline_char, is_banned, is_punctuation, is_digit, is_sign, starts}
+use Rattle.kdl_text.specs.Bare.{BareString, bare, is_bare, bare_form, is_excluded}
+use Rattle.kdl_text.specs.Internal.Here.{Here, first}
 use Rattle.kdl_text.specs.Spans.{bytes, raise}
 use Rattle.kdl_text.specs.Internal.Reading.{Costs}
 use Rattle.kdl_text.specs.Strings.{Run}
@@ -40,6 +43,32 @@ some_form (c ∷ w) h = omega arith
 
 pub bare_shorter : {t r w : Text} → BareString t r w → length r < length t
 bare_shorter {r = r} {w = w} (bare e h k) = omega (arith, some_form w (bare_parts w h).1, ap length e, length-append w r)
+
+-- an ASCII letter is an identifier character, and begins no number
+pub letter_word : (c : ℕ) → is_ascii_alphabetic c ≡ true → is_identifier_char c ≡ true
+unfolding is_identifier_char is_space is_newline_char is_banned is_punctuation
+letter_word c h = grind (arith, nat_tests)
+
+pub letter_no_sign : (c : ℕ) → is_ascii_alphabetic c ≡ true → is_sign c ≡ false
+letter_no_sign c h = grind (arith, nat_tests)
+
+letter_no_point : (c : ℕ) → is_ascii_alphabetic c ≡ true → (c == 46) ≡ false
+letter_no_point c h = grind (arith, nat_tests)
+
+pub letter_no_digit : (c : ℕ) → is_ascii_alphabetic c ≡ true → is_digit c ≡ false
+letter_no_digit c h = grind (arith, nat_tests)
+
+pub letter_form : (c : ℕ) (x : Text) → first x ≡ Some c → is_ascii_alphabetic c ≡ true → bare_form x ≡ not (is_excluded x)
+letter_form c [] h k = cc
+letter_form c (d ∷ x) h k = let e : d ≡ c = cc in rw (e, letter_no_sign c k, letter_no_point c k, letter_no_digit c k) refl
+
+-- a run of identifier characters begins with the letter that is there
+pub letter_first : (x t r : Text) (c : ℕ) → Run is_identifier_char t r → t ≡ x ++ r → first t ≡ Some c → is_ascii_alphabetic c ≡ true → first x ≡ Some c
+letter_first [] t [] c i e h k = let z = rw e at h in cc
+letter_first [] t (d ∷ r) c i e h k =
+    let z : d ≡ c = let y : Some d ≡ Some c = ap first (sym e) ∙ h in cc in
+    absurd (false≢true (sym (rw z at i.stops) ∙ letter_word c k))
+letter_first (d ∷ x) t r c i e h k = ap first (sym e) ∙ h
 
 -- a run x of identifier characters
 module _ (x t r : Text) (i : Run is_identifier_char t r) (e : t ≡ x ++ r) where

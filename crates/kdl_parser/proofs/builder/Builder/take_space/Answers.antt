@@ -1,6 +1,6 @@
-use Rattle.kdl_lexer.specs.declared.lexer.TokenKind.TheVariants.{Space}
+use Rattle.kdl_lexer.specs.Tokens.{space}
 use Rattle.kdl_parser.proofs.Stepping.StepsDone.{looked_takes}
 use Rattle.kdl_parser.proofs.builder.Builder.take_space.Goals as goal
 
 pub returns-else-is_building : goal.returns-else-is_building
-returns-else-is_building g c = looked_takes g.N.ParsedNode.tree c.args.self.now c.drop_space.new.self c.count_look.new.self Space c.args.at.now c.drop_space.result c.count_look.ensures c.drop_space.ensures
+returns-else-is_building g c = looked_takes g.N.ParsedNode.tree c.args.self.now c.drop_space.new.self c.count_look.new.self space c.args.at.now c.drop_space.result c.count_look.ensures c.drop_space.ensures

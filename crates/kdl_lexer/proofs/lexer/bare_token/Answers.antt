@@ -1,7 +1,7 @@
 use Rattle.std.proofs.Common.{arith}
 use Rattle.kdl_lexer.proofs.Lexing.TokenCost.{faulty_costs}
 use Rattle.kdl_lexer.proofs.Lexing.TokenReads.{no_bare_here}
-use Rattle.kdl_lexer.proofs.lexer.bare_word.Goals as goal
+use Rattle.kdl_lexer.proofs.lexer.bare_token.Goals as goal
 
 pub returns-in-None-clause-read : goal.returns-in-None-clause-read
 returns-in-None-clause-read c = no_bare_here _ c.bare_string.new.cursor.rest c.requires.word c.requires.no_number c.in-None.ensures.only
