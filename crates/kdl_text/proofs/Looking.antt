@@ -4,18 +4,22 @@
 pub mod ClassTables
 -- Vectors of 16 bytes, and the bytes that they find in a table.
 pub mod Vectors
+-- The marks that a search of vectors finds.
+pub mod MarkMasks
+-- What a search for marks passes.
+pub mod Marks
 -- Runs of characters of a class.
 pub mod Runs
 -- What runs and slices cost.
 pub mod SliceCost
--- Characters that are read where they are, and else left.
-pub mod Eats
 -- Moves and costs, one after another.
 pub mod MovesJoin
 -- How a reader of a value goes on.
 pub mod ValueGoes
 -- What a reader costs, whether or not it finds a fault.
 pub mod MostCost
+-- Texts that begin with an ASCII character.
+pub mod FirstByte
 -- Texts in bytes and characters.
 pub mod Texts
 -- Pieces in a row.

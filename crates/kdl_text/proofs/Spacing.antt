@@ -14,5 +14,7 @@ pub mod EsclineReads
 pub mod CommentDepth
 -- The loop over a block comment.
 pub mod CommentLoop
+-- The loop to the end of a line.
+pub mod LineLoop
 -- What may come after a value.
 pub mod ValueEnds

@@ -4,6 +4,8 @@
 pub mod Here
 -- Lines of multi-line strings, as they are read.
 pub mod Lines
+-- The bytes at which a search in a comment or a line stops.
+pub mod Marks
 -- How far a reader of numbers has come in the text.
 pub mod NumberReading
 -- What the result of a reader says of a relation, and what it costs.

@@ -1,15 +1,17 @@
 //! Characters: their classes, and the runs of one class at the start of a text.
 
 ghost use Rattle.kdl_text.specs.Chars as class;
-ghost use Rattle.kdl_text.specs.Chars.{starts};
-ghost use Rattle.kdl_text.specs.Internal.Here.{first, in_class, is_plain, RunOf, AfterRun, AsciiOf};
+ghost use Rattle.kdl_text.specs.Chars.{begins, begins_two, starts};
+ghost use Rattle.kdl_text.specs.Internal.Here.{first, in_class, is_plain, RunOf, AfterRun, AsciiOf, PastChar, PastTwo, Unmarked};
+ghost use Rattle.kdl_text.specs.Internal.Marks.{is_passed};
 ghost use Rattle.kdl_text.specs.Spans.{bytes};
 ghost use Rattle.kdl_text.specs.Internal.DigitRuns.{DecimalsLen, DigitRun};
 ghost use Rattle.kdl_text.specs.Internal.Tables.{TableOf};
 ghost use Rattle.std.specs.Char.{len_utf8};
-ghost use Rattle.std.specs.Prelude.{◌≡◌, ◌+◌, ◌∷◌, [], length, MatchOption, IfSome, nat_lt, not, ◌&&◌};
+ghost use Rattle.std.specs.Prelude.{◌≡◌, ◌+◌, ◌<◌, ◌∷◌, [], false, length, MatchOption, IfSome, nat_lt, not, ◌&&◌};
 ghost use Rattle.std.specs.Str.{chars, IsUtf8};
 
+use crate::marks::{Marks, unmarked_len};
 use crate::tables::{inside_len, is_inside};
 
 /// Returns whether the character is one of the 18 spaces (KDL 2.0.0, Whitespace).
@@ -145,8 +147,6 @@ pub enum Class {
     NumberSign,
     /// Quotes.
     Quote,
-    /// All characters but `*` and `/`, at which block comments begin and end.
-    Comment,
     /// The literal characters of a quoted string, except tabs.
     Plain,
 }
@@ -181,10 +181,6 @@ static QUOTES: [u8; 16] = [
     0x00, 0x00, 0x04, 0x00, 0x00, 0x00, 0x00, 0x00, 0x00, 0x00, 0x00, 0x00, 0x00, 0x00, 0x00, 0x00,
 ];
 
-static COMMENTS: [u8; 16] = [
-    0xff, 0xff, 0xff, 0xff, 0xff, 0xff, 0xff, 0xff, 0xff, 0xff, 0xfb, 0xff, 0xff, 0xff, 0xff, 0xfb,
-];
-
 static PLAINS: [u8; 16] = [
     0xfc, 0xfc, 0xf8, 0xfc, 0xfc, 0xfc, 0xfc, 0xfc, 0xfc, 0xfc, 0xfc, 0xfc, 0xdc, 0xfc, 0xfc, 0x7c,
 ];
@@ -203,7 +199,6 @@ impl Class {
             Class::Unquoted => &UNQUOTEDS,
             Class::NumberSign => &NUMBER_SIGNS,
             Class::Quote => &QUOTES,
-            Class::Comment => &COMMENTS,
             Class::Plain => &PLAINS,
         }
     }
@@ -229,7 +224,6 @@ impl Class {
             Class::Unquoted => is_unquoted(c),
             Class::NumberSign => c == '#',
             Class::Quote => c == '"',
-            Class::Comment => !matches!(c, '*' | '/'),
             Class::Plain => is_plain(c),
         }
     }
@@ -298,6 +292,56 @@ pub(crate) fn first_char(text: &str) -> Option<char>
     ensures len { bytes (chars text.now) ≡ length text.now }
 {
     text.chars().next()
+}
+
+/// The text after its first character, if it is the ASCII character c.
+#[inline(always)]
+fn after_ascii(text: &str, c: char) -> Option<&str>
+    requires { c < 128 }
+    ensures past { MatchOption result (begins c (chars text.now) ≡ false) (λ rest. PastChar c text.now rest.now) }
+    ensures text { IfSome result (λ rest. IsUtf8 rest.now) }
+{
+    let bytes = text.as_bytes();
+    if bytes.is_empty() || bytes[0] != c as u8 {
+        return None;
+    }
+    Some(&text[1..])
+}
+
+/// The text after its first character, if it is c.
+#[inline(always)]
+pub(crate) fn after_char(text: &str, c: char) -> Option<&str>
+    ensures past { MatchOption result (begins c (chars text.now) ≡ false) (λ rest. PastChar c text.now rest.now) }
+    ensures text { IfSome result (λ rest. IsUtf8 rest.now) }
+{
+    if c.is_ascii() {
+        return after_ascii(text, c);
+    }
+    match split_first(text) {
+        Some((d, rest)) if d == c => Some(rest),
+        _ => None,
+    }
+}
+
+/// The text after its first two characters, if they are a and b.
+#[inline(always)]
+pub(crate) fn after_two(text: &str, a: char, b: char) -> Option<&str>
+    ensures past { MatchOption result (begins_two a b (chars text.now) ≡ false) (λ rest. PastTwo a b text.now rest.now) }
+    ensures text { IfSome result (λ rest. IsUtf8 rest.now) }
+{
+    match after_char(text, a) {
+        Some(rest) => after_char(rest, b),
+        None => None,
+    }
+}
+
+/// The text from its first mark on.
+#[inline(always)]
+pub(crate) fn skip_unmarked(text: &str, marks: Marks) -> &str
+    ensures { Unmarked (is_passed marks) text.now result.now }
+{
+    let count = unmarked_len(text.as_bytes(), marks);
+    &text[count..]
 }
 
 /// Continues the longest run of the class where `skip_ascii` stopped after `read` characters.

@@ -9,15 +9,20 @@
 
 ghost use Rattle.kdl_text.specs.Chars as class;
 ghost use Rattle.kdl_text.specs.Chars.{Text};
-ghost use Rattle.kdl_text.specs.Internal.Here.{Ahead, Behind, Skips, Took, Ate, AteTwo, Stayed, first, first_len, tail, looked, stepped, sliced, in_class};
+ghost use Rattle.kdl_text.specs.Internal.Here.{Ahead, Behind, Skips, Took, TookAfter, Ate, AteTwo, Stayed, first, first_len, tail, looked, stepped, sliced, in_class};
 ghost use Rattle.kdl_text.specs.Spans.{bytes, raise};
 ghost use Rattle.kdl_text.specs.Internal.DigitRuns.{SkipsDigits};
 ghost use Rattle.kdl_text.specs.Internal.Reading.{Moves, Costs, ReadsNewline};
+ghost use Rattle.kdl_text.specs.Internal.Marks.{is_passed};
 ghost use Rattle.kdl_text.specs.Spans as spans;
 ghost use Rattle.std.specs.Prelude.{◌≡◌, ◌+◌, ◌<◌, ◌^◌, ◌++◌, ◌∷◌, [], length, MatchOption, IfOk, IsTrue, ◌↔◌, string_bytes};
 ghost use Rattle.std.specs.Str.{chars};
 
-use crate::chars::{Class, first_char, is_newline_char, skip_class, skip_decimals, split_first};
+use crate::chars::{
+    Class, after_char, after_two, first_char, is_newline_char, skip_class, skip_decimals,
+    skip_unmarked, split_first,
+};
+use crate::marks::Marks;
 use crate::span::SourceSpan;
 use std::alloc::{AllocError, Global};
 use std::marker::Model;
@@ -75,10 +80,7 @@ fn second_char(text: &str) -> Option<char>
 fn starts_with_two(text: &str, a: char, b: char) -> bool
     ensures { result ≡ class.begins_two a b (chars text.now) }
 {
-    match split_first(text) {
-        Some((c, rest)) => c == a && first_char(rest) == Some(b),
-        None => false,
-    }
+    after_two(text, a, b).is_some()
 }
 
 /// The part of the text before its rest.
@@ -504,11 +506,15 @@ impl<'a> Cursor<'a> {
     pub fn eat(&mut self, c: char) -> bool
         ensures { Ate c result self.old self.new }
     {
-        let eats = self.look() == Some(c);
-        if eats {
-            self.step();
+        self.steps.raise(1);
+        match after_char(self.rest, c) {
+            Some(rest) => {
+                self.at += self.rest.len() - rest.len();
+                self.rest = rest;
+                true
+            }
+            None => false,
         }
-        eats
     }
 
     /// Returns whether the characters a and b are here. Costs two steps.
@@ -527,12 +533,15 @@ impl<'a> Cursor<'a> {
     pub fn eat_two(&mut self, a: char, b: char) -> bool
         ensures { AteTwo a b result self.old self.new }
     {
-        let eats = self.looks_two(a, b);
-        if eats {
-            self.step();
-            self.step();
+        self.steps.raise(2);
+        match after_two(self.rest, a, b) {
+            Some(rest) => {
+                self.at += self.rest.len() - rest.len();
+                self.rest = rest;
+                true
+            }
+            None => false,
         }
-        eats
     }
 
     /// Advances past the longest run of characters of a class. Costs a step for each, and one for
@@ -546,6 +555,28 @@ impl<'a> Cursor<'a> {
         self.rest = rest;
         self.steps.raise(count);
         self.steps.raise(1);
+    }
+
+    /// Advances to the first of the marks, and past the character there. Returns it, or `None` at the
+    /// end of the text. Costs a step for each byte before it, and one for it.
+    #[inline(always)]
+    pub(crate) fn take_at(&mut self, marks: Marks) -> Option<char>
+        ensures took { TookAfter (is_passed marks) result self.old self.new }
+        ensures room { self.old.at + bytes self.old.rest < 2 ^ 64 }
+    {
+        let rest = skip_unmarked(self.rest, marks);
+        let count = self.rest.len() - rest.len();
+        self.at += count;
+        self.rest = rest;
+        self.steps.raise(count as u64 + 1);
+        match split_first(rest) {
+            Some((c, next)) => {
+                self.at += rest.len() - next.len();
+                self.rest = next;
+                Some(c)
+            }
+            None => None,
+        }
     }
 
     /// Advances past the decimal digits here, until their value is 2^59 or more. Returns their number,

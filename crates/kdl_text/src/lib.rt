@@ -5,6 +5,7 @@
 pub mod chars;
 pub mod cursor;
 pub mod error;
+mod marks;
 pub mod numbers;
 pub mod span;
 pub mod strings;

@@ -47,8 +47,9 @@ pub fn inside_len(bytes: &[u8], table: &[u8; 16]) -> usize
     ensures { InsideLen table.now bytes.now result }
 {
     let columns = u8x16::from_array(*table);
+    let room = bytes.len().saturating_sub(15);
     let mut count = 0;
-    'vectors: while bytes.len() - count >= 16 {
+    'vectors: while count < room {
         let found = outsiders(u8x16::from_slice(&bytes[count..]), columns);
         if found != 0 {
             return count + found.trailing_zeros() as usize;

@@ -7,8 +7,9 @@ ghost use Rattle.kdl_text.specs.Trivia.{Parts, BlockComment, Line, LineComment, 
 ghost use Rattle.kdl_text.specs.Internal.TriviaReading.{PieceCosts, RunsWs, ReadsSlash, SlashCosts};
 ghost use Rattle.std.specs.Prelude.{◌≡◌, true, false, []};
 
-use crate::chars::Class;
+use crate::chars::{Class, is_newline_char};
 use crate::cursor::{Cursor, newline};
+use crate::marks::Marks;
 
 /// What begins at a slash.
 #[derive(Clone, Copy)]
@@ -33,24 +34,29 @@ fn block_end(cursor: &mut Cursor) -> bool
     ensures moves { Moves cursor.old cursor.new }
     ensures costs { Costs 2 1 cursor.old cursor.new }
 {
+    let mut here = cursor.copied();
     let mut depth: u64 = 1;
     'parts: loop {
-        match cursor.take() {
-            None => return false,
+        match here.take_at(Marks::Comment) {
+            None => {
+                *cursor = here;
+                return false;
+            }
             Some('/') => {
-                if cursor.eat('*') {
+                if here.eat('*') {
                     depth += 1;
                 }
             }
             Some('*') => {
-                if cursor.eat('/') {
+                if here.eat('/') {
                     depth -= 1;
                     if depth == 0 {
+                        *cursor = here;
                         return true;
                     }
                 }
             }
-            Some(_) => cursor.skip(Class::Comment),
+            Some(_) => {}
         }
     }
 }
@@ -69,13 +75,24 @@ pub fn block_comment(cursor: &mut Cursor) -> bool
 }
 
 /// Advances past the rest of a line, and past the newline that ends it, if one does.
+#[inline(always)]
 fn line_end(cursor: &mut Cursor)
     ensures reads { Reads Line true cursor.old.rest cursor.new.rest }
     ensures moves { Moves cursor.old cursor.new }
     ensures costs { Costs 2 2 cursor.old cursor.new }
 {
-    cursor.skip(Class::Line);
-    let _ = newline(cursor);
+    'line: loop {
+        match cursor.take_at(Marks::Newline) {
+            None => return,
+            Some('\n') => return,
+            Some('\r') => {
+                let _ = cursor.eat('\n');
+                return;
+            }
+            Some(c) if is_newline_char(c) => return,
+            Some(_) => {}
+        }
+    }
 }
 
 /// Advances past the line comment that begins here, including its newline (KDL 2.0.0, Single-line

@@ -2,7 +2,7 @@
 use Rattle.std.proofs.Common.{◌≡◌, ℕ, ◌+◌, ◌<◌, ◌≤◌, zero, suc, Bool, true, false, not, ◌&&◌, List, [], ◌∷◌, ◌++◌, length, take, drop, get_or, refl, ap, sym, subst, ◌∙◌, arith, IsAscii, IsUtf8, IsCharBoundary, chars, length-append, length-take, take-suc, inl, inr, ltb-true, lt-ltb}
 use Rattle.std.specs.Prelude.{nat_lt}
 use Rattle.std.proofs.lemmas.Bool.{cases_lt, le-ltb}
-use Rattle.kdl_text.specs.Chars.{starts, is_space, is_newline_char, is_banned, is_punctuation, is_identifier_char, is_literal, is_unquoted, is_number_sign, is_quote, is_comment_char}
+use Rattle.kdl_text.specs.Chars.{starts, is_space, is_newline_char, is_banned, is_punctuation, is_identifier_char, is_literal, is_unquoted, is_number_sign, is_quote}
 use Rattle.std.specs.List.{list_all}
 use Rattle.std.proofs.lemmas.List.{get_or-drop, length-drop, take-append-drop}
 use Rattle.std.proofs.lemmas.List.Folds.{list_all-append}
@@ -12,8 +12,8 @@ use Rattle.kdl_text.specs.Internal.Here.{AsciiOf, in_class, is_plain}
 use Rattle.kdl_text.specs.Spans.{bytes}
 use Rattle.kdl_text.proofs.Looking.Texts.{bytes-chars}
 use Rattle.kdl_text.specs.Internal.Tables.{outside, TableOf, InsideLen}
-use Rattle.kdl_text.specs.declared.chars.TheConstants.{SPACES, IDENTIFIERS, LITERALS, LINES, UNQUOTEDS, NUMBER_SIGNS, QUOTES, COMMENTS, PLAINS}
-use Rattle.kdl_text.specs.declared.chars.Class.TheVariants.{Space, Identifier, Literal, Line, Unquoted, NumberSign, Quote, Comment, Plain}
+use Rattle.kdl_text.specs.declared.chars.TheConstants.{SPACES, IDENTIFIERS, LITERALS, LINES, UNQUOTEDS, NUMBER_SIGNS, QUOTES, PLAINS}
+use Rattle.kdl_text.specs.declared.chars.Class.TheVariants.{Space, Identifier, Literal, Line, Unquoted, NumberSign, Quote, Plain}
 use lib.Utf8.{encodes, encode}
 
 abbrev same : Bool → Bool → Bool
@@ -69,9 +69,6 @@ table_of_number_sign c l = agree (outside NUMBER_SIGNS) (λ z. not (nat_lt z 128
 
 pub table_of_quote : TableOf (in_class Quote) QUOTES
 table_of_quote c l = agree (outside QUOTES) (λ z. not (nat_lt z 128 && is_quote z)) 256 c refl l
-
-pub table_of_comment : TableOf (in_class Comment) COMMENTS
-table_of_comment c l = agree (outside COMMENTS) (λ z. not (nat_lt z 128 && is_comment_char z)) 256 c refl l
 
 pub table_of_plain : TableOf (in_class Plain) PLAINS
 unfolding is_newline_char is_banned is_literal is_plain

@@ -6,7 +6,7 @@ use Rattle.std.specs.List.{list_all}
 use Rattle.std.proofs.lemmas.List.{append_cancel_right}
 use Rattle.std.proofs.lemmas.Str.{chars-append}
 use Rattle.kdl_text.specs.Chars.{Text}
-use Rattle.kdl_text.specs.Internal.Here.{Here, Took, Ate, Ran, Skips, looked, sliced}
+use Rattle.kdl_text.specs.Internal.Here.{Here, Took, Ate, Ran, Passed, Skips, looked, sliced}
 use Rattle.kdl_text.specs.Spans.{bytes}
 use Rattle.kdl_text.specs.Internal.Reading.{Moves, Costs}
 use Rattle.kdl_text.specs.Strings.{Run}
@@ -22,6 +22,9 @@ costs_ran {run = run} {b = b} r = record {
   most = omega (arith, r.steps, ap bytes r.text, bytes-append run b.rest, length-bytes run);
   least = omega (arith, r.steps, ap length r.text, length-append run b.rest);
 }
+
+pub moves_passed : {p : ℕ → Bool} {a b : Here} → Passed p a b → Moves a b
+moves_passed {b = b} r = record { piece = (r.run, r.text); at = omega (arith, ap bytes r.text, bytes-append r.run b.rest, r.at); counts = omega (arith, r.steps) }
 
 pub run_ran : {p : ℕ → Bool} {run : Text} {a b : Here} → Ran p run a b → Run p a.rest b.rest
 run_ran {run = run} r = record { run = run; text = r.text; all = r.all; stops = r.stops }

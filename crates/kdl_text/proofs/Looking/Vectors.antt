@@ -7,7 +7,7 @@ use Rattle.std.proofs.lemmas.Simd.{Each1-all, Each1-weaker, Each1-zip2, Each1-ge
 use Rattle.std.specs.List.{prefix_len}
 use lib.Count.{count_trailing_zeros}
 use lib.Lanes.{zip2, mask_l, top, chunk, Each1}
-use Rattle.kdl_text.specs.Internal.Tables.{outside, column_of, row_of, InsideLen}
+use Rattle.kdl_text.specs.Internal.Tables.{outside, column_of, row_of, Until}
 use Rattle.kdl_text.specs.declared.tables.TheConstants.{ROW_BITS}
 
 abbrev pub down : ℕ → ℕ → ℕ
@@ -75,9 +75,8 @@ not_all p (x ∷ xs) some = under (p x) (mask_l (map p xs)) (prefix_len (λ y. n
 none_before : (p : ℕ → Bool) (s : List ℕ) (n m : ℕ) → n + 16 ≤ length s → m ≡ mask_l (map p (chunk n 16 s)) → 0 < m → ((k : ℕ) → k < n → p (get_or s k 0) ≡ false) → (k : ℕ) → k < n + count_trailing_zeros 64 m → p (get_or s k 0) ≡ false
 none_before p s n m room is some below k h = elim (cases_lt k n) [ inl l ↦ below k l | inr g ↦ run_in_chunk_fails p s n 16 _ 0 room (before p s n m room is some) k g h ]
 
-pub first_found : (t s : List ℕ) (n m : ℕ) → n + 16 ≤ length s → m ≡ mask_l (map (outside t) (chunk n 16 s)) → 0 < m → ((k : ℕ) → k < n → outside t (get_or s k 0) ≡ false) → InsideLen t s (n + count_trailing_zeros 64 m)
-first_found t s n m room is some below =
-    let p = outside t in
+pub first_found : (p : ℕ → Bool) (s : List ℕ) (n m : ℕ) → n + 16 ≤ length s → m ≡ mask_l (map p (chunk n 16 s)) → 0 < m → ((k : ℕ) → k < n → p (get_or s k 0) ≡ false) → Until p s (n + count_trailing_zeros 64 m)
+first_found p s n m room is some below =
     let r = before p s n m room is some in
     let short : count_trailing_zeros 64 m < 16 = omega (arith, r, not_all p (chunk n 16 s) (omega arith), length-chunk n 16 s room) in record {
       within = omega (arith, run_in_chunk_le p s n 16 _ 0 room r);

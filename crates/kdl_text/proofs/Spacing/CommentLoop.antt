@@ -1,16 +1,17 @@
 -- One turn of the loop over the parts of a block comment.
-use Rattle.std.proofs.Common.{◌≡◌, ℕ, ◌+◌, ◌-◌, ◌<◌, ◌≤◌, ◌∷◌, ◌++◌, ◌∙◌, true, false, length, sym, refl, arith, ap}
+use Rattle.std.proofs.Common.{◌≡◌, ℕ, ◌+◌, ◌-◌, ◌<◌, ◌≤◌, [], ◌∷◌, ◌++◌, ◌∙◌, true, false, length, length-append, sym, refl, arith, ap, ◌^◌, Fits, w64}
 use Rattle.std.specs.Prelude.{Some, None}
 use Rattle.std.proofs.lemmas.Str.{len_utf8_bounds}
 use Rattle.std.proofs.lemmas.Bool.{ne_eqb}
-use Rattle.kdl_text.specs.Internal.Here.{Here, Took, Ate, Skips}
+use Rattle.kdl_text.specs.Internal.Here.{Here, Took, Ate, Passed}
 use Rattle.kdl_text.specs.Spans.{bytes}
 use Rattle.kdl_text.specs.Chars.{is_comment_char}
-use Rattle.kdl_text.proofs.Looking.SliceCost.{moves_ran, costs_ran}
+use Rattle.kdl_text.proofs.Looking.SliceCost.{moves_passed}
+use Rattle.kdl_text.proofs.Looking.Runs.{length-bytes}
 use Rattle.kdl_text.specs.Trivia.{Parts}
 use Rattle.kdl_text.specs.Internal.Reading.{Reads, Moves, Costs}
 use Rattle.kdl_text.proofs.Spacing.CommentDepth.{Ends, none, Same, same_opens, same_closes, same_passes, same_run, same_ends, same_starts, none_end}
-use Rattle.kdl_text.proofs.Looking.MovesJoin.{stays, moves_then, moves_took, fewer_bytes}
+use Rattle.kdl_text.proofs.Looking.MovesJoin.{stays, moves_then, moves_took, moves_stayed, stayed_looked, bytes-append}
 
 -- where the loop is
 pub record Inside (f : Here) (depth : ℕ) (a : Here) : Type 0 where
@@ -23,6 +24,16 @@ pub record Inside (f : Here) (depth : ℕ) (a : Here) : Type 0 where
 pub starts : (f : Here) → Inside f 1 f
 starts f = record { inside = omega arith; few = omega arith; same = same_starts _; moves = stays _; costs = record { most = omega arith; least = omega arith } }
 
+-- past characters at which no comment begins or ends
+pub after_passed : (f : Here) (n : ℕ) (a m : Here) → Inside f n a → Passed is_comment_char a m → Inside f n m
+after_passed f n a m i r = record {
+  inside = i.inside;
+  few = omega (arith, i.few, r.at);
+  same = same_run _ r.run a.rest m.rest n i.inside r.all r.text i.same;
+  moves = moves_then i.moves (moves_passed r);
+  costs = record { most = omega (arith, i.costs.most, r.steps, ap bytes r.text, bytes-append r.run m.rest); least = omega (arith, i.costs.least, r.steps, ap length r.text, length-append r.run m.rest, length-bytes r.run) };
+}
+
 module _ (f : Here) (n c : ℕ) (a b e : Here) (i : Inside f n a) (took : Took (Some c) a b) where
   pub after_open : c ≡ 47 → Took (Some 42) b e → Inside f (n + 1) e
   after_open is ate = record {
@@ -32,6 +43,9 @@ module _ (f : Here) (n c : ℕ) (a b e : Here) (i : Inside f n a) (took : Took (
     moves = moves_took _ _ _ _ ate (moves_took _ _ _ _ took i.moves);
     costs = record { most = omega (arith, ap bytes took.0, ap bytes ate.0, took.2, ate.2, i.costs.most); least = omega (arith, ap length took.0, ap length ate.0, took.2, ate.2, i.costs.least) };
   }
+
+  pub depth_fits : Took (Some 42) b e → a.at + bytes a.rest < 2 ^ 64 → Fits w64 (n + 1)
+  depth_fits ate room = record { fits = omega (arith, i.few, ap bytes took.0, (len_utf8_bounds c).0, ap bytes ate.0, (len_utf8_bounds 42).0, room) }
 
   pub after_close : c ≡ 42 → Took (Some 47) b e → 0 < n - 1 → Inside f (n - 1) e
   after_close is ate more = record {
@@ -50,20 +64,6 @@ module _ (f : Here) (n c : ℕ) (a b e : Here) (i : Inside f n a) (took : Took (
     moves = moves_took _ _ _ _ took i.moves;
     costs = record { most = omega (arith, ap bytes took.0, took.2, i.costs.most, (len_utf8_bounds c).0); least = omega (arith, ap length took.0, took.2, i.costs.least) };
   }
-
-  -- and a run of characters at which no comment begins or ends
-  pub after_run : (c ≡ 47 → ⊥) → (c ≡ 42 → ⊥) → Skips is_comment_char b e → Inside f n e
-  after_run x47 x42 (run, r) =
-      let one = after_one x47 x42 in
-      let moved = moves_ran r in
-      let cost = costs_ran r in
-      record {
-        inside = i.inside;
-        few = omega (arith, took.1, i.few, r.at);
-        same = same_run _ run b.rest e.rest n i.inside r.all r.text one.same;
-        moves = moves_then one.moves moved;
-        costs = record { most = omega (arith, ap bytes took.0, took.2, i.costs.most, (len_utf8_bounds c).0, cost.most, fewer_bytes moved); least = omega (arith, ap length took.0, took.2, i.costs.least, cost.least) };
-      }
 
   looked_after : b.at ≡ e.at → b.rest ≡ e.rest → e.steps ≤ b.steps + 1 → b.steps ≤ e.steps → Moves f e × Costs 2 0 f e × (n + f.at ≤ e.at + 1)
   looked_after x y z w = (
@@ -104,5 +104,11 @@ module _ (f : Here) (n c : ℕ) (a b e : Here) (i : Inside f n a) (took : Took (
     record { most = omega (arith, ap bytes took.0, ap bytes ate.0, took.2, ate.2, i.costs.most); least = omega (arith, ap length took.0, ap length ate.0, took.2, ate.2, i.costs.least) },
   )
 
-pub after_end : (f a b : Here) (n : ℕ) → Inside f n a → Took None a b → Reads Parts false f.rest b.rest
-after_end f a b n i took = same_ends (Parts f.rest) a.rest a.rest n i.inside took.0 i.same
+pub after_end : (f a b : Here) (n : ℕ) → Inside f n a → Took None a b → Reads Parts false f.rest b.rest × (b.rest ≡ []) × Moves f b × Costs 2 1 f b
+after_end f a b n i took =
+    let s = stayed_looked a b took.1 in (
+      same_ends (Parts f.rest) a.rest a.rest n i.inside took.0 i.same,
+      s.rest ∙ took.0,
+      moves_then i.moves (moves_stayed s),
+      record { most = omega (arith, i.costs.most, s.steps, ap bytes s.rest); least = omega (arith, i.costs.least, s.steps, ap length s.rest) },
+    )

@@ -25,13 +25,6 @@ newline_there c s x = go ((c == 13) && begins 10 s) refl
     go true e = let k = and_parts _ _ e in let u = begins_is 10 s k.1 in (u.0, subst (λ z. Newline z u.0) (sym (ap (λ z. z ∷ s) (eqb-true c 13 k.0) ∙ ap (λ z. 13 ∷ z) u.1)) crlf)
     go false e = (s, one x e)
 
-pub not_newline : (c : ℕ) (s : Text) → ((t : Text) → Newline (c ∷ s) t → ⊥) → is_newline_char c ≡ false
-not_newline c s n = go (is_newline_char c) refl
-  where
-    go : (b : Bool) → is_newline_char c ≡ b → is_newline_char c ≡ false
-    go true e = let u = newline_there c s e in absurd (n u.0 u.1)
-    go false e = e
-
 cr_is : is_newline_char 13 ≡ true
 unfolding is_newline_char
 cr_is = refl
@@ -49,14 +42,14 @@ pub no_newline : {c : ℕ} {s t : Text} → is_newline_char c ≡ false → Newl
 no_newline x crlf = let y = cr_is in cc
 no_newline x (one y z) = cc
 
-ate_cr : (r : Bool) (a b d e : Here) → Took (Some 13) a d → Ate 10 r d e → Newline a.rest e.rest × Moves a e
-ate_cr true a b d e t u = (rw t.0 (rw u.0 crlf), moves_then (moves_one t) (moves_one u))
-ate_cr false a b d e t (n, u) =
+pub ate_cr : (r : Bool) (a d e : Here) → Took (Some 13) a d → Ate 10 r d e → Newline a.rest e.rest × Moves a e
+ate_cr true a d e t u = (rw t.0 (rw u.0 crlf), moves_then (moves_one t) (moves_one u))
+ate_cr false a d e t (n, u) =
     let s = stayed_looked d e u in
     (subst (Newline a.rest) (sym s.rest) (rw t.0 (one cr_is n)), moves_then (moves_one t) (moves_stayed s))
 
 pub reads_cr : (c : ℕ) (r : Bool) (a b d e : Here) → Some c ≡ first a.rest → c ≡ 13 → b ≡ looked a → d ≡ stepped b → Ate 10 r d e → Newline a.rest e.rest × Moves a e
-reads_cr c r a b d e h is x y u = ate_cr r a b d e (took_from 13 a b d (ap Some (sym is) ∙ h) x y) u
+reads_cr c r a b d e h is x y u = ate_cr r a d e (took_from 13 a b d (ap Some (sym is) ∙ h) x y) u
 
 pub reads_one : (c : ℕ) (a b e : Here) → Some c ≡ first a.rest → (c ≡ 13 → ⊥) → true ≡ is_newline_char c → b ≡ looked a → e ≡ stepped b → Newline a.rest e.rest × Moves a e
 reads_one c a b e h no13 x y z = let t = took_from c a b e h y z in (rw t.0 (one (sym x) (and_left (c == 13) _ (ne_eqb c 13 no13))), moves_one t)

@@ -1,10 +1,10 @@
 -- What the readers of comments and spaces have read: lines, runs of spaces and block comments, esclines.
-use Rattle.std.proofs.Common.{◌≡◌, ℕ, ◌≤◌, ◌↔◌, [], ◌∷◌, ◌++◌, Bool, true, false, not, length, refl, ap, sym, ◌∙◌, subst, arith, length-append}
+use Rattle.std.proofs.Common.{◌≡◌, ℕ, ◌≤◌, ◌↔◌, [], ◌∷◌, ◌++◌, Bool, true, false, length, refl, ap, sym, ◌∙◌, subst, arith, length-append}
 use Rattle.std.proofs.lemmas.Bool.{and_parts}
 use Rattle.std.proofs.lemmas.Str.{len_utf8_bounds}
 use Rattle.std.specs.Prelude.{Some, None}
 use Rattle.std.specs.List.{list_all}
-use Rattle.kdl_text.specs.Chars.{Text, is_space, is_newline_char, begins, begins_two, starts, Newline, Star, Space}
+use Rattle.kdl_text.specs.Chars.{Text, is_space, begins, begins_two, starts, Newline, Star, Space}
 use Rattle.kdl_text.specs.Chars.Star.{none, more}
 use Rattle.kdl_text.specs.Chars.Space.{space}
 use Rattle.kdl_text.specs.Internal.Here.{Here, Ran, Took, TookTwo, Stayed, Ate, AteTwo, looked, first}
@@ -12,16 +12,14 @@ use Rattle.kdl_text.specs.Spans.{bytes}
 use Rattle.kdl_text.specs.Internal.Reading.{Reads, Moves, Costs, Longest, ReadsNewline}
 use Rattle.kdl_text.specs.Trivia.{Parts, BlockComment, Line, LineComment, Ws, EscEnd}
 use Rattle.kdl_text.specs.Trivia.BlockComment.{block}
-use Rattle.kdl_text.specs.Trivia.Line.{ends as line_ends, newline as line_newline, other as line_other}
 use Rattle.kdl_text.specs.Trivia.LineComment.{line}
 use Rattle.kdl_text.specs.Trivia.Ws.{space as ws_space, comment as ws_comment}
 use Rattle.kdl_text.specs.Trivia.EscEnd.{comment, newline, ends}
 use Rattle.kdl_text.specs.Internal.TriviaReading.{PieceCosts, Opens, RunsWs}
-use Rattle.kdl_text.proofs.Spacing.NewlineUnique.{not_newline}
 use Rattle.kdl_text.proofs.Looking.Runs.{length-bytes}
 use Rattle.kdl_text.proofs.Looking.Stars.{join, snoc, star_map}
 use Rattle.kdl_text.proofs.Looking.MovesJoin.{stays, moves_then, moves_stayed, moves_two, fewer_bytes, bytes-append, stayed_looked}
-use Rattle.kdl_text.proofs.Spacing.SpaceUnique.{block_det, line_det, line_comment_det, esc_end_det, no_line_comment}
+use Rattle.kdl_text.proofs.Spacing.SpaceUnique.{block_det, line_comment_det, esc_end_det, no_line_comment}
 
 -- one piece was found, and there is one at most
 pub reads_found : (R : Text → Text → Type 0) (s t : Text) → R s t → ((r : Text) → R s r → r ≡ t) → (r : Text) → R s r ↔ (r ≡ t)
@@ -46,29 +44,6 @@ no_more x (space y) = cc
 
 pub spaces_ran : {run : Text} {a b : Here} → Ran is_space run a b → Longest Space a.rest b.rest
 spaces_ran {run = run} {b = b} r = (rw r.text (star_run run b.rest r.all), λ t. no_more r.stops)
-
--- the rest of a line
-line_run : (run rest r : Text) → list_all (λ c. not (is_newline_char c)) run ≡ true → Line rest r → Line (run ++ rest) r
-line_run [] rest r h l = l
-line_run (c ∷ run) rest r h l = let k = and_parts (not (is_newline_char c)) _ h in line_other (plain (is_newline_char c) k.0) (line_run run rest r k.1 l)
-  where
-    plain : (b : Bool) → not b ≡ true → b ≡ false
-    plain true h = cc
-    plain false h = refl
-
-nothing_left : (s : Text) → starts (λ c. not (is_newline_char c)) s ≡ false → ((t : Text) → Newline s t → ⊥) → Line s s
-nothing_left [] x n = line_ends
-nothing_left (c ∷ s) x n = let y = rw (not_newline c s n) at x in cc
-
-ends_line : (b : Bool) (m e : Here) → starts (λ c. not (is_newline_char c)) m.rest ≡ false → ReadsNewline b m e → Line m.rest e.rest
-ends_line true m e x n = line_newline n
-ends_line false m e x (s, n) = subst (Line m.rest) (sym s.rest) (nothing_left m.rest x n)
-
-pub line_ran : (b : Bool) (run : Text) (a m e : Here) → Ran (λ c. not (is_newline_char c)) run a m → ReadsNewline b m e → (r : Text) → Line a.rest r ↔ (r ≡ e.rest)
-line_ran b run a m e r n = let found : Line a.rest e.rest = rw r.text (line_run run m.rest e.rest r.all (ends_line b m e r.stops n)) in reads_found Line _ _ found (λ t l. line_det l found)
-
-pub line_costs : (run : Text) (a m e : Here) → Ran (λ c. not (is_newline_char c)) run a m → Moves m e → Costs 2 1 m e → Costs 2 2 a e
-line_costs run a m e r v c = let k = costs_ran r in record { most = omega (arith, k.most, c.most, fewer_bytes (moves_ran r)); least = omega (arith, k.least, c.least) }
 
 -- what the caller knows to be here was eaten
 pub ate_here : (c : ℕ) (b : Bool) (old new : Here) → begins c old.rest ≡ true → Ate c b old new → Took (Some c) old new

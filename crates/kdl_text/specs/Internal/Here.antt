@@ -3,10 +3,10 @@ use Rattle.std.specs.Prelude.{◌≡◌, ℕ, ◌+◌, ◌≤◌, nat_lt, ◌&&�
 use Rattle.std.specs.List.{list_all}
 use Rattle.std.specs.Char.{len_utf8}
 use Rattle.std.specs.Str.{chars}
-use Rattle.kdl_text.specs.Chars.{Text, begins, begins_two, starts, is_space, is_identifier_char, is_literal, is_newline_char, is_unquoted, is_number_sign, is_quote, is_comment_char}
+use Rattle.kdl_text.specs.Chars.{Text, begins, begins_two, starts, is_space, is_identifier_char, is_literal, is_newline_char, is_unquoted, is_number_sign, is_quote}
 use Rattle.kdl_text.specs.Spans.{bytes, raise}
 use Rattle.kdl_text.specs.declared.chars.Class.{Class}
-use Rattle.kdl_text.specs.declared.chars.Class.TheVariants.{Space, Identifier, Literal, Line, Unquoted, NumberSign, Quote, Comment, Plain}
+use Rattle.kdl_text.specs.declared.chars.Class.TheVariants.{Space, Identifier, Literal, Line, Unquoted, NumberSign, Quote, Plain}
 
 -- the state of a cursor: the characters to come, its offset in bytes, and the steps so far
 pub record Here : Type 0 where
@@ -101,7 +101,6 @@ in_class Line c = not (is_newline_char c)
 in_class Unquoted c = is_unquoted c
 in_class NumberSign c = is_number_sign c
 in_class Quote c = is_quote c
-in_class Comment c = is_comment_char c
 in_class Plain c = is_plain c
 
 -- past the longest run of characters of a class, each looked at once, and the one after it
@@ -138,3 +137,32 @@ AfterRun p old new = (count : ℕ) × RunOf p old new count
 -- the longest run of the class, whichever it is
 abbrev pub Skips : (ℕ → Bool) → Here → Here → Type 0
 Skips p old new = (run : Text) × Ran p run old new
+
+-- the character c begins the UTF-8 text `old` and leaves `new`
+pub record PastChar (c : ℕ) (old new : List ℕ) : Type 0 where
+  pub text : chars old ≡ c ∷ chars new
+  pub len : length old ≡ len_utf8 c + length new
+
+-- the characters a and b begin the UTF-8 text `old` and leave `new`
+pub record PastTwo (a b : ℕ) (old new : List ℕ) : Type 0 where
+  pub text : chars old ≡ a ∷ b ∷ chars new
+  pub len : length old ≡ len_utf8 a + len_utf8 b + length new
+
+-- a run of characters that pass p begins the UTF-8 text `old` and leaves `new`
+pub record Unmarked (p : ℕ → Bool) (old new : List ℕ) : Type 0 where
+  pub run : Text
+  pub text : chars old ≡ run ++ chars new
+  pub all : list_all p run ≡ true
+  pub len : length old ≡ bytes run + length new
+
+-- past a run of characters that pass p, at a step for each byte
+pub record Passed (p : ℕ → Bool) (old new : Here) : Type 0 where
+  pub run : Text
+  pub text : old.rest ≡ run ++ new.rest
+  pub all : list_all p run ≡ true
+  pub at : new.at ≡ old.at + bytes run
+  pub steps : new.steps ≡ raise old.steps (bytes run)
+
+-- past a run of characters that pass p, and past the character c after them, or to the end of the text
+abbrev pub TookAfter : (ℕ → Bool) → Option ℕ → Here → Here → Type 0
+TookAfter p c old new = (mid : Here) × Passed p old mid × Took c mid new

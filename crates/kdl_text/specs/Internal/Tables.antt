@@ -18,8 +18,12 @@ outside table c = bit_and (column_of table c) (row_of c) == 0
 abbrev pub TableOf : (ℕ → Bool) → List ℕ → Type 0
 TableOf p table = (c : ℕ) → c < 256 → outside table c ≡ not (nat_lt c 128 && p c)
 
--- n bytes at the front are in the table, and the byte after them is not
-pub record InsideLen (table bytes : List ℕ) (n : ℕ) : Type 0 where
+-- n bytes at the front do not pass p, and the byte after them does
+pub record Until (p : ℕ → Bool) (bytes : List ℕ) (n : ℕ) : Type 0 where
   pub within : n ≤ length bytes
-  pub inside : (k : ℕ) → k < n → outside table (get_or bytes k 0) ≡ false
-  pub stops : n < length bytes → outside table (get_or bytes n 0) ≡ true
+  pub inside : (k : ℕ) → k < n → p (get_or bytes k 0) ≡ false
+  pub stops : n < length bytes → p (get_or bytes n 0) ≡ true
+
+-- n bytes at the front are in the table, and the byte after them is not
+abbrev pub InsideLen : List ℕ → List ℕ → ℕ → Type 0
+InsideLen table bytes n = Until (outside table) bytes n

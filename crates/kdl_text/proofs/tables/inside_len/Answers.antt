@@ -4,7 +4,7 @@ use Rattle.kdl_text.proofs.Looking.Vectors.{none_outside, first_found}
 use Rattle.kdl_text.proofs.tables.inside_len.Goals as goal
 
 pub returns-then-found-ne0 : goal.returns-then-found-ne0
-returns-then-found-ne0 c = first_found c.args.table.now c.args.bytes.now c.vectors.count c.outsiders-found.result (omega arith) c.outsiders-found.ensures (omega arith) c.vectors.invariant.1
+returns-then-found-ne0 c = first_found (outside c.args.table.now) c.args.bytes.now c.vectors.count c.outsiders-found.result (omega arith) c.outsiders-found.ensures (omega arith) c.vectors.invariant.1
 
 pub vectors-preserved : goal.vectors-preserved
 vectors-preserved c = (omega arith, none_outside (outside c.args.table.now) c.args.bytes.now c.vectors.count c.outsiders-found.result (omega arith) c.outsiders-found.ensures c.if-found-ne0.false c.vectors.invariant.1)

@@ -1,30 +1,49 @@
 use Rattle.std.proofs.Common.{arith}
-use Rattle.kdl_text.proofs.Spacing.CommentLoop.{starts, after_open, after_close, after_run, after_slash, after_star, after_all, after_end}
+use Rattle.kdl_text.proofs.Looking.SliceCost.{moves_passed}
+use Rattle.kdl_text.proofs.Spacing.CommentLoop.{starts, depth_fits, after_passed, after_open, after_close, after_one, after_slash, after_star, after_all, after_end}
 use Rattle.kdl_text.proofs.trivia.block_end.Goals as goal
 
 pub parts-init : goal.parts-init
-parts-init c = starts _
+parts-init c = rw c.copied-here.ensures (starts _)
 
-pub returns-in-None-clause-reads : goal.returns-in-None-clause-reads
-returns-in-None-clause-reads c = after_end _ _ c.take.new.self _ c.parts.invariant c.in-None.ensures.took
+pub returns-in-None : goal.returns-in-None
+returns-in-None c =
+    let (m, run, took) = c.in-None.ensures.took in
+    let h = after_end _ _ _ _ (after_passed _ _ _ _ c.parts.invariant run) took in
+    record { reads = h.0; ended = λ _. h.1; moves = h.2; costs = h.3 }
+
+pub overflow_add-depth : goal.overflow_add-depth
+overflow_add-depth c =
+    let (m, run, took) = c.in-Some-eq47.ensures.took in
+    depth_fits _ _ _ _ _ _ (after_passed _ _ _ _ c.parts.invariant run) took c.if-eat.ensures (omega (arith, (moves_passed run).at, c.in-Some-eq47.ensures.room))
 
 pub parts-preserved-then-eat : goal.parts-preserved-then-eat
-parts-preserved-then-eat c = after_open _ _ _ _ _ _ c.parts.invariant c.in-Some-eq47.ensures.took c.in-Some-eq47.field-0-test c.if-eat.ensures
+parts-preserved-then-eat c =
+    let (m, run, took) = c.in-Some-eq47.ensures.took in
+    after_open _ _ _ _ _ _ (after_passed _ _ _ _ c.parts.invariant run) took c.in-Some-eq47.field-0-test c.if-eat.ensures
 
 pub parts-preserved-else-eat : goal.parts-preserved-else-eat
-parts-preserved-else-eat c = after_slash _ _ _ _ _ _ c.parts.invariant c.in-Some-eq47.ensures.took c.in-Some-eq47.field-0-test c.if-eat.ensures
+parts-preserved-else-eat c =
+    let (m, run, took) = c.in-Some-eq47.ensures.took in
+    after_slash _ _ _ _ _ _ (after_passed _ _ _ _ c.parts.invariant run) took c.in-Some-eq47.field-0-test c.if-eat.ensures
 
 pub returns-then-depth-eq0 : goal.returns-then-depth-eq0
 returns-then-depth-eq0 c =
-    let h = after_all _ _ _ _ _ _ c.parts.invariant c.in-Some-eq42.ensures.took c.in-Some-eq42.field-0-test c.if-eat-2.ensures c.if-depth-eq0.true in
+    let (m, run, took) = c.in-Some-eq42.ensures.took in
+    let h = after_all _ _ _ _ _ _ (after_passed _ _ _ _ c.parts.invariant run) took c.in-Some-eq42.field-0-test c.if-eat-2.ensures c.if-depth-eq0.true in
     record { reads = h.0; ended = λ h. cc; moves = h.1; costs = h.2 }
 
 pub parts-preserved-else-depth-eq0 : goal.parts-preserved-else-depth-eq0
 parts-preserved-else-depth-eq0 c =
-    after_close _ _ _ _ _ _ c.parts.invariant c.in-Some-eq42.ensures.took c.in-Some-eq42.field-0-test c.if-eat-2.ensures (omega (arith, c.if-depth-eq0.false))
+    let (m, run, took) = c.in-Some-eq42.ensures.took in
+    after_close _ _ _ _ _ _ (after_passed _ _ _ _ c.parts.invariant run) took c.in-Some-eq42.field-0-test c.if-eat-2.ensures (omega (arith, c.if-depth-eq0.false))
 
 pub parts-preserved-else-eat-2 : goal.parts-preserved-else-eat-2
-parts-preserved-else-eat-2 c = after_star _ _ _ _ _ _ c.parts.invariant c.in-Some-eq42.ensures.took c.in-Some-eq42.field-0-test c.if-eat-2.ensures
+parts-preserved-else-eat-2 c =
+    let (m, run, took) = c.in-Some-eq42.ensures.took in
+    after_star _ _ _ _ _ _ (after_passed _ _ _ _ c.parts.invariant run) took c.in-Some-eq42.field-0-test c.if-eat-2.ensures
 
 pub parts-preserved : goal.parts-preserved
-parts-preserved c = after_run _ _ _ _ _ _ c.parts.invariant c.in-Some.ensures.took c.in-Some.field-0-test.0.1 c.in-Some.field-0-test.1 c.skip.ensures
+parts-preserved c =
+    let (m, run, took) = c.in-Some.ensures.took in
+    after_one _ _ _ _ _ c.take_at.new.self (after_passed _ _ _ _ c.parts.invariant run) took c.in-Some.field-0-test.0.1 c.in-Some.field-0-test.1

@@ -1,10 +1,35 @@
-use Rattle.kdl_text.proofs.Looking.MovesJoin.{moves_then}
-use Rattle.kdl_text.proofs.Spacing.SpaceReads.{line_ran, line_costs, moves_ran}
+use Rattle.std.proofs.Common.{sym, ◌∙◌}
+use Rattle.kdl_text.proofs.Spacing.LineLoop.{line_starts, line_turn, line_end_text, line_end_lf, line_end_one, line_end_cr}
 use Rattle.kdl_text.proofs.trivia.line_end.Goals as goal
 
-pub returns : goal.returns
-returns c = record {
-  reads = line_ran _ _ _ _ _ c.skip.ensures.1 c.newline.ensures.reads;
-  moves = moves_then (moves_ran c.skip.ensures.1) c.newline.ensures.moves;
-  costs = line_costs _ _ _ _ c.skip.ensures.1 c.newline.ensures.moves c.newline.ensures.costs;
-}
+pub line-init : goal.line-init
+line-init c = line_starts _
+
+pub returns-in-None : goal.returns-in-None
+returns-in-None c =
+    let (m, run, took) = c.in-None.ensures.took in
+    let h = line_end_text _ _ _ c.line.invariant run _ took in
+    record { reads = h.reads; moves = h.moves; costs = h.costs }
+
+pub returns-in-Some-eq10 : goal.returns-in-Some-eq10
+returns-in-Some-eq10 c =
+    let (m, run, took) = c.in-Some-eq10.ensures.took in
+    let h = line_end_lf _ _ _ c.line.invariant run _ _ c.in-Some-eq10.field-0-test took in
+    record { reads = h.reads; moves = h.moves; costs = h.costs }
+
+pub returns-in-Some-eq13 : goal.returns-in-Some-eq13
+returns-in-Some-eq13 c =
+    let (m, run, took) = c.in-Some-eq13.ensures.took in
+    let h = line_end_cr _ _ _ c.line.invariant run _ _ _ _ c.in-Some-eq13.field-0-test took c.eat.ensures in
+    record { reads = h.reads; moves = h.moves; costs = h.costs }
+
+pub returns-in-Some : goal.returns-in-Some
+returns-in-Some c =
+    let (m, run, took) = c.in-Some.ensures.took in
+    let h = line_end_one _ _ _ c.line.invariant run _ _ (sym c.is_newline_char.ensures ∙ c.if-is_newline_char.true) c.in-Some.c-test.1 took in
+    record { reads = h.reads; moves = h.moves; costs = h.costs }
+
+pub line-preserved : goal.line-preserved
+line-preserved c =
+    let (m, run, took) = c.in-Some.ensures.took in
+    line_turn _ _ _ c.line.invariant run _ _ (sym c.is_newline_char.ensures ∙ c.if-is_newline_char.false) took

@@ -1,4 +1,4 @@
-use Rattle.kdl_text.proofs.Looking.ClassTables.{table_of_space, table_of_identifier, table_of_literal, table_of_line, table_of_unquoted, table_of_number_sign, table_of_quote, table_of_comment, table_of_plain}
+use Rattle.kdl_text.proofs.Looking.ClassTables.{table_of_space, table_of_identifier, table_of_literal, table_of_line, table_of_unquoted, table_of_number_sign, table_of_quote, table_of_plain}
 use Rattle.kdl_text.proofs.chars.Class.table.Goals as goal
 
 pub returns-in-Space : goal.returns-in-Space
@@ -21,9 +21,6 @@ returns-in-NumberSign c = rw c.in-NumberSign.is table_of_number_sign
 
 pub returns-in-Quote : goal.returns-in-Quote
 returns-in-Quote c = rw c.in-Quote.is table_of_quote
-
-pub returns-in-Comment : goal.returns-in-Comment
-returns-in-Comment c = rw c.in-Comment.is table_of_comment
 
 pub returns-in-Plain : goal.returns-in-Plain
 returns-in-Plain c = rw c.in-Plain.is table_of_plain
