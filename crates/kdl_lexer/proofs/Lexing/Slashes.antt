@@ -1,5 +1,5 @@
 -- What is next in a text at a slash, and at a letter, after a look.
-use Rattle.std.proofs.Common.{◌≡◌, ℕ, [], ◌++◌, ◌∷◌, ◌==◌, Bool, true, false, refl, sym, ap, subst, ◌∙◌, arith, inr}
+use Rattle.std.proofs.Common.{◌≡◌, ℕ, [], ◌++◌, ◌∷◌, ◌==◌, true, false, refl, sym, ap, subst, ◌∙◌, arith, inr}
 use Rattle.std.specs.Char.{is_ascii_alphabetic}
 use Rattle.std.specs.Prelude.{Some, Result, Err}
 use Rattle.kdl_text.specs.Chars.{Text, begins_two, starts, is_space}
