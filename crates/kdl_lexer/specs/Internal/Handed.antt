@@ -2,7 +2,7 @@
 use Rattle.std.specs.Char.{is_ascii_alphabetic}
 use Rattle.std.specs.declared.alloc.Global.{Global}
 use Rattle.std.specs.Prelude.{◌≡◌, ℕ, Bool, true, false, ◌||◌, ◌==◌, [], ◌∷◌, Option, Some, None, Result, Ok, Err, String as StdString}
-use Rattle.kdl_text.specs.Chars.{Text, Plus, starts, is_digit, is_space}
+use Rattle.kdl_text.specs.Chars.{Text, Space as SpaceChar, Plus, starts, is_digit, is_space}
 use Rattle.kdl_text.specs.Internal.Here.{Here, Position, first_len}
 use Rattle.kdl_text.specs.Internal.Reading.{Costs}
 use Rattle.kdl_text.specs.Trivia.{NodeSpace}
@@ -28,6 +28,11 @@ pub data Cuts : Text → tokens.Token → Text → Type 0 where
   one : {s r : Text} {k : tokens.Token} → BeginsToken s k r → Cuts s k r
   spaces : {s r : Text} → Plus NodeSpace s r → Cuts s tokens.space r
 
+-- the token k begins the text; a run of spaces is read as one token
+pub data Alone : Text → tokens.Token → Text → Type 0 where
+  token : {s r : Text} {k : tokens.Token} → BeginsToken s k r → Alone s k r
+  run : {s r : Text} → Plus SpaceChar s r → Alone s tokens.space r
+
 -- the token that a kind represents
 abbrev pub kind_view : TokenKind → tokens.Token
 kind_view Space = tokens.space
@@ -50,13 +55,13 @@ pub record IsFaultAt (place : Position) (span : SourceSpan) : Type 0 where
 
 -- the kind of the token that was read at s, before r
 abbrev pub ReadsKind : Text → Result TokenKind KindFailure → Text → Type 0
-ReadsKind s (Ok k) r = Cuts s (kind_view k) r
+ReadsKind s (Ok k) r = BeginsToken s (kind_view k) r
 ReadsKind s (Err Absent) r = NoToken s
 ReadsKind s (Err NoMemory) r = Unit {0}
 
 -- the string that was read at s, before r
 abbrev pub ReadsWord : Text → Result (StdString Global) KindFailure → Text → Type 0
-ReadsWord s (Ok w) r = Cuts s (tokens.string (text_of w)) r
+ReadsWord s (Ok w) r = BeginsToken s (tokens.string (text_of w)) r
 ReadsWord s (Err Absent) r = NoToken s
 ReadsWord s (Err NoMemory) r = Unit {0}
 
@@ -123,10 +128,20 @@ token_next (Word s at) = Some (record { kind = String s; at = at })
 token_next (Other t) = Some t
 token_next End = None
 
+-- a token is read alone, or is a run of spaces
+abbrev pub ReadsAlone : Here → Result (Option Token) LexFailure → Here → Type 0
+ReadsAlone old (Ok (Some t)) new = Alone old.rest (kind_view t.kind) new.rest
+ReadsAlone old (Ok None) new = Unit {0}
+ReadsAlone old (Err f) new = Unit {0}
+
 -- the same as a call that returns the next token
 abbrev pub LexedNext : Here → Result NextToken LexFailure → Here → Type 0
 LexedNext old (Ok n) new = Lexed old (Ok (token_next n)) new
 LexedNext old (Err f) new = Lexed old (Err f) new
+
+abbrev pub AloneNext : Here → Result NextToken LexFailure → Here → Type 0
+AloneNext old (Ok n) new = ReadsAlone old (Ok (token_next n)) new
+AloneNext old (Err f) new = Unit {0}
 
 -- the same cost
 abbrev pub NextCosts : Result NextToken LexFailure → Here → Here → Type 0
