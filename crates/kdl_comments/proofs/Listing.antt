@@ -8,6 +8,8 @@ pub mod SpaceItems
 pub mod PlaceReads
 -- What the readers of spaces and comments return, and the items that they add.
 pub mod SpaceReads
+-- What begins a text, by its first token.
+pub mod Starts
 -- A text that is cut at a place in bytes.
 pub mod Cuts
 -- A text has a list of items exactly where it may be in its place.

@@ -2,14 +2,15 @@
 
 ghost use Rattle.kdl_comments.specs.Items.{line_end};
 ghost use Rattle.kdl_comments.specs.Internal.Lacking.{EndsAs, LineEnds};
-ghost use Rattle.kdl_text.specs.Chars.{begins_two};
-ghost use Rattle.kdl_text.specs.Internal.Reading.{Longest};
-ghost use Rattle.kdl_text.specs.Trivia.{LineSpace, NodeSpace, Ws};
-ghost use Rattle.std.specs.Prelude.{◌≡◌, ◌∷◌, [], MatchBool, if◌then◌else◌};
+ghost use Rattle.kdl_comments.specs.Internal.Reading.{Starts};
+ghost use Rattle.kdl_text.specs.Chars.{Text};
+ghost use Rattle.kdl_text.specs.Trivia.{Break, LineSpace, NodeSpace};
+ghost use Rattle.std.specs.Prelude.{◌≡◌, ◌∷◌, [], IfOk, MatchBool};
 ghost use Rattle.std.specs.Str.{chars};
 
-use crate::spaces::{begins_space, behind_backslash, behind_newline, behind_spaces, block, line};
+use crate::spaces::{Start, line, same, start_of};
 use kdl_text::cursor::{Cursor, Steps};
+use std::alloc::{AllocError, Global};
 
 /// How the spaces that begin a text end.
 #[derive(Clone, Copy)]
@@ -22,13 +23,6 @@ pub(crate) enum Ending<'a> {
     Open,
 }
 
-/// Whether `//` begins the text.
-fn begins_comment(text: &str) -> bool
-    ensures { result ≡ begins_two 47 47 (chars text.now) }
-{
-    Cursor::new(text, Steps::new()).looks_two('/', '/')
-}
-
 /// Whether the text is a CR.
 fn is_return(text: &str) -> bool
     ensures { MatchBool result (chars text.now ≡ 13 ∷ []) (chars text.now ≡ 13 ∷ [] → ⊥) }
@@ -37,77 +31,61 @@ fn is_return(text: &str) -> bool
     cursor.eat('\r') && cursor.look().is_none()
 }
 
-/// How a line ends if its newline, or the end of the text, is here. `None` if the text begins with anything else.
-pub(crate) fn line_ending(end: &str) -> Option<Ending<'_>>
-    ensures { LineEnds (chars end.now) result }
+/// How the newline or line comment ends that begins the text before the rest.
+pub(crate) fn break_ending<'a>(text: &str, rest: &'a str) -> Ending<'a>
+    requires { Break (chars text.now) (chars rest.now) }
+    ensures { LineEnds (line_end (chars text.now)) result }
 {
+    let (_, end) = line(text);
     if end.is_empty() {
-        return Some(Ending::Open);
-    }
-    if is_return(end) {
-        return Some(Ending::InReturn);
-    }
-    match behind_newline(end) {
-        Some(rest) => Some(Ending::Before(rest)),
-        None => None,
-    }
-}
-
-/// The text without a line comment at its start: from the comment's newline on, if there is a comment.
-pub(crate) fn behind_comment(text: &str) -> &str
-    ensures { chars result.now ≡ (if begins_two 47 47 (chars text.now)
-        then line_end (chars text.now) else chars text.now) }
-{
-    if begins_comment(text) {
-        let (_, end) = line(text);
-        end
+        Ending::Open
+    } else if is_return(end) {
+        Ending::InReturn
     } else {
-        text
+        Ending::Before(rest)
     }
-}
-
-/// The text after the spaces and block comments that begin it.
-fn behind_ws(text: &str) -> &str
-    ensures { Longest Ws (chars text.now) (chars result.now) }
-{
-    let mut rest = behind_spaces(text);
-    'comments: while let Some((_, behind)) = block(rest) {
-        rest = behind_spaces(behind);
-    }
-    rest
 }
 
 /// How the escline ends whose backslash comes before the text, or `None` if there is no escline.
-fn escline_ending(text: &str) -> Option<Ending<'_>>
-    ensures { EndsAs NodeSpace (92 ∷ chars text.now) result }
+fn escline_ending(alloc: Global, text: &str) -> Result<Option<Ending<'_>>, AllocError>
+    ensures { IfOk result (λ o. EndsAs NodeSpace (92 ∷ chars text.now) o) }
 {
-    line_ending(behind_comment(behind_ws(text)))
+    let mut rest = text;
+    'comments: loop {
+        match start_of(alloc, rest)? {
+            Start::Space(_, behind) => rest = same(behind),
+            Start::Break(_, behind) => return Ok(Some(break_ending(rest, behind))),
+            Start::End => return Ok(Some(Ending::Open)),
+            _ => return Ok(None),
+        }
+    }
 }
 
-/// How the node-spaces at the start of the text end. `None` if the text does not begin with a node-space.
-pub(crate) fn node_spaces_ending(text: &str) -> Option<Ending<'_>>
-    ensures { EndsAs NodeSpace (chars text.now) result }
+/// How the node-spaces at the start of a text end. `None` if the text does not begin with a node-space.
+pub(crate) fn node_spaces_ending<'a>(
+    alloc: Global,
+    first: Start<'a>,
+) -> Result<Option<Ending<'a>>, AllocError>
+    ensures { IfOk result (λ o. (s : Text) → Starts s first.entry → EndsAs NodeSpace s o) }
 {
-    if let Some(behind) = behind_backslash(text) {
-        return escline_ending(behind);
-    }
-    if let Some((_, behind)) = block(text) {
-        return Some(Ending::Before(behind));
-    }
-    if begins_space(text) {
-        Some(Ending::Before(behind_spaces(text)))
-    } else {
-        None
+    match first {
+        Start::Space(_, rest) => Ok(Some(Ending::Before(rest))),
+        Start::Backslash(rest) => escline_ending(alloc, rest),
+        _ => Ok(None),
     }
 }
 
 /// How the line-spaces at the start of the text end. `None` if the text does not begin with a line-space.
-pub(crate) fn line_spaces_ending(text: &str) -> Option<Ending<'_>>
-    requires { chars text.now ≡ [] → ⊥ }
-    ensures { EndsAs LineSpace (chars text.now) result }
+pub(crate) fn line_spaces_ending<'a>(
+    alloc: Global,
+    text: &str,
+    first: Start<'a>,
+) -> Result<Option<Ending<'a>>, AllocError>
+    requires { Starts (chars text.now) first }
+    ensures { IfOk result (λ o. EndsAs LineSpace (chars text.now) o) }
 {
-    match line_ending(behind_comment(text)) {
-        Some(ending) => Some(ending),
-        None => node_spaces_ending(text),
+    match first {
+        Start::Break(_, rest) => Ok(Some(break_ending(text, rest))),
+        _ => node_spaces_ending(alloc, first),
     }
 }

@@ -1,19 +1,19 @@
 //! How many newlines a text around nodes lacks for whatever follows it not to become part of it.
 
-ghost use Rattle.kdl_comments.specs.Internal.Lacking.{GapAnswer, PieceEnds, PlaceGoes, PlacePieceEnds, SpacesLack};
+ghost use Rattle.kdl_comments.specs.Internal.Lacking.{GapAnswer, PieceEnds, PlacePieceEnds, SpacesLack};
 ghost use Rattle.kdl_comments.specs.Internal.Reading.{place_view};
 ghost use Rattle.kdl_comments.specs.Lacks.{GapLacks, PlaceLacks, TerminatorLacks};
-ghost use Rattle.kdl_text.specs.Chars.{Star, Text, begins_two};
+ghost use Rattle.kdl_text.specs.Chars.{Star, Text};
 ghost use Rattle.kdl_text.specs.Trivia.{NodeSpace};
-ghost use Rattle.std.specs.Prelude.{◌≡◌, ◌∷◌, IfOk, [], false};
+ghost use Rattle.std.specs.Prelude.{◌≡◌, ◌∷◌, IfOk, []};
 ghost use Rattle.std.specs.Str.{chars};
 
 use crate::dropped::{behind_part, pass_node, pass_part};
-use crate::ends::{Ending, behind_comment, line_ending, line_spaces_ending, node_spaces_ending};
+use crate::ends::{Ending, break_ending, line_spaces_ending, node_spaces_ending};
 use crate::item::Place;
-use crate::places::{begins_slashdash, same, spaced};
+use crate::places::spaced;
 use crate::slices::cut;
-use crate::spaces::behind_semicolon;
+use crate::spaces::{Start, behind_char, same, start_of};
 use std::alloc::{AllocError, Global};
 
 /// The first piece of a gap: line-spaces, or a slashdashed node.
@@ -26,20 +26,21 @@ enum GapPiece<'a> {
 }
 
 /// Whether the text, which is node-spaces, ends in an escline that lacks its newline.
-fn spaces_lack(text: &str) -> bool
+fn spaces_lack(alloc: Global, text: &str) -> Result<bool, AllocError>
     requires { Star NodeSpace (chars text.now) [] }
-    ensures { SpacesLack (chars text.now) result }
+    ensures { IfOk result (λ b. SpacesLack (chars text.now) b) }
 {
     let mut rest = text;
     'spaces: while !rest.is_empty() {
-        match node_spaces_ending(rest) {
+        let first = start_of(alloc, rest)?;
+        match node_spaces_ending(alloc, first)? {
             Some(Ending::Before(behind)) => rest = same(behind),
-            Some(Ending::InReturn) => return true,
-            Some(Ending::Open) => return true,
-            None => return false,
+            Some(Ending::InReturn) => return Ok(true),
+            Some(Ending::Open) => return Ok(true),
+            None => return Ok(false),
         }
     }
-    false
+    Ok(false)
 }
 
 /// The slashdashed node that begins the text.
@@ -53,7 +54,7 @@ fn dropped_piece<'a>(alloc: Global, text: &'a str) -> Result<Option<GapPiece<'a>
     };
     let (_, rest) = cut(behind, end.behind);
     if end.is_open {
-        if spaces_lack(rest) {
+        if spaces_lack(alloc, rest)? {
             Ok(Some(GapPiece::Last(2)))
         } else {
             Ok(Some(GapPiece::Last(1)))
@@ -63,29 +64,20 @@ fn dropped_piece<'a>(alloc: Global, text: &'a str) -> Result<Option<GapPiece<'a>
     }
 }
 
-/// The line-spaces that begin the text.
-fn spaces_piece(text: &str) -> Option<GapPiece<'_>>
-    requires begun { chars text.now ≡ [] → ⊥ }
-    requires no_slashdash { begins_two 47 45 (chars text.now) ≡ false }
-    ensures { PieceEnds (chars text.now) result }
-{
-    match line_spaces_ending(text) {
-        Some(Ending::Before(rest)) => Some(GapPiece::Until(rest)),
-        Some(Ending::InReturn) => Some(GapPiece::Last(0)),
-        Some(Ending::Open) => Some(GapPiece::Last(1)),
-        None => None,
-    }
-}
-
 /// The first piece of the text of a gap, or `None` if the text is not a gap.
 fn gap_piece<'a>(alloc: Global, text: &'a str) -> Result<Option<GapPiece<'a>>, AllocError>
     requires { chars text.now ≡ [] → ⊥ }
     ensures { IfOk result (λ o. PieceEnds (chars text.now) o) }
 {
-    if begins_slashdash(text) {
-        dropped_piece(alloc, text)
-    } else {
-        Ok(spaces_piece(text))
+    let first = start_of(alloc, text)?;
+    if let Start::Slashdash = first {
+        return dropped_piece(alloc, text);
+    }
+    match line_spaces_ending(alloc, text, first)? {
+        Some(Ending::Before(rest)) => Ok(Some(GapPiece::Until(rest))),
+        Some(Ending::InReturn) => Ok(Some(GapPiece::Last(0))),
+        Some(Ending::Open) => Ok(Some(GapPiece::Last(1))),
+        None => Ok(None),
     }
 }
 
@@ -133,14 +125,17 @@ fn gap_newlines(alloc: Global, text: &str) -> Result<Option<usize>, AllocError>
 pub fn terminator_lacks(alloc: Global, text: &str) -> Result<Option<usize>, AllocError>
     ensures { IfOk result (λ o. TerminatorLacks (chars text.now) o) }
 {
-    if let Some(gap) = behind_semicolon(text) {
+    if let Some(gap) = behind_char(text, ';') {
         return gap_newlines(alloc, gap);
     }
-    match line_ending(behind_comment(text)) {
-        Some(Ending::Before(gap)) => gap_newlines(alloc, gap),
-        Some(Ending::InReturn) => Ok(Some(0)),
-        Some(Ending::Open) => Ok(Some(1)),
-        None => Ok(None),
+    match start_of(alloc, text)? {
+        Start::Break(_, rest) => match break_ending(text, rest) {
+            Ending::Before(gap) => gap_newlines(alloc, gap),
+            Ending::InReturn => Ok(Some(0)),
+            Ending::Open => Ok(Some(1)),
+        },
+        Start::End => Ok(Some(1)),
+        _ => Ok(None),
     }
 }
 
@@ -153,15 +148,14 @@ enum PlacePiece<'a> {
     InEscline,
 }
 
-/// The text after the slashdashed entry or block at its start, and the place there. `None` if neither may be
-/// slashdashed.
+/// The slashdashed entry or block that begins the text. `None` if neither may be slashdashed.
 fn dropped_place<'a>(
     alloc: Global,
     place: Place,
     text: &'a str,
-) -> Result<Option<(Place, &'a str)>, AllocError>
+) -> Result<Option<PlacePiece<'a>>, AllocError>
     requires { (t : Text) × (chars text.now ≡ 47 ∷ 45 ∷ t) }
-    ensures { IfOk result (λ o. PlaceGoes place (chars text.now) o) }
+    ensures { IfOk result (λ o. PlacePieceEnds place (chars text.now) o) }
 {
     let (_, behind) = cut(text, 2);
     let Some(end) = pass_part(alloc, place, behind)? else {
@@ -171,21 +165,7 @@ fn dropped_place<'a>(
         return Ok(None);
     };
     let (_, rest) = cut(behind, end.at);
-    Ok(Some((next, rest)))
-}
-
-/// The node-spaces that begin the text in a place.
-fn spaces_place(place: Place, text: &str) -> Option<PlacePiece<'_>>
-    requires begun { chars text.now ≡ [] → ⊥ }
-    requires no_slashdash { begins_two 47 45 (chars text.now) ≡ false }
-    ensures { PlacePieceEnds place (chars text.now) result }
-{
-    match node_spaces_ending(text) {
-        Some(Ending::Before(rest)) => Some(PlacePiece::Onward(spaced(place), rest)),
-        Some(Ending::InReturn) => Some(PlacePiece::InEscline),
-        Some(Ending::Open) => Some(PlacePiece::InEscline),
-        None => None,
-    }
+    Ok(Some(PlacePiece::Onward(next, rest)))
 }
 
 /// The first piece of the text in a place, or `None` if the text can't be in the place.
@@ -197,13 +177,15 @@ fn place_piece<'a>(
     requires { chars text.now ≡ [] → ⊥ }
     ensures { IfOk result (λ o. PlacePieceEnds place (chars text.now) o) }
 {
-    if begins_slashdash(text) {
-        match dropped_place(alloc, place, text)? {
-            Some((next, rest)) => Ok(Some(PlacePiece::Onward(next, rest))),
-            None => Ok(None),
-        }
-    } else {
-        Ok(spaces_place(place, text))
+    let first = start_of(alloc, text)?;
+    if let Start::Slashdash = first {
+        return dropped_place(alloc, place, text);
+    }
+    match node_spaces_ending(alloc, first)? {
+        Some(Ending::Before(rest)) => Ok(Some(PlacePiece::Onward(spaced(place), rest))),
+        Some(Ending::InReturn) => Ok(Some(PlacePiece::InEscline)),
+        Some(Ending::Open) => Ok(Some(PlacePiece::InEscline)),
+        None => Ok(None),
     }
 }
 

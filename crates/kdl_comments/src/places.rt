@@ -3,30 +3,13 @@
 ghost use Rattle.kdl_comments.specs.Items.{may_end, spaced};
 ghost use Rattle.kdl_comments.specs.Internal.Passed.{PlaceTakesHeld};
 ghost use Rattle.kdl_comments.specs.Internal.Reading.{IsGapWith, IsPlaceWith, TakesHeld, items_view, place_view};
-ghost use Rattle.kdl_text.specs.Chars.{begins_two};
 ghost use Rattle.std.specs.Prelude.{◌≡◌, IfOk, [], option_map, true};
 ghost use Rattle.std.specs.Str.{chars};
 
 use crate::dropped::{dropped_node, dropped_part};
 use crate::item::{Item, Place};
-use crate::spaces::{line_spaces, node_spaces};
-use kdl_text::cursor::{Cursor, Steps};
+use crate::spaces::{Start, line_spaces, node_spaces, same, start_of};
 use std::alloc::{AllocError, Global};
-
-/// Whether `/-` begins the text.
-pub(crate) fn begins_slashdash(text: &str) -> bool
-    ensures { result ≡ begins_two 47 45 (chars text.now) }
-{
-    Cursor::new(text, Steps::new()).looks_two('/', '-')
-}
-
-/// Returns the same text. After a call, the proof of a loop knows that the text is UTF-8.
-#[inline]
-pub(crate) fn same(text: &str) -> &str
-    ensures { chars result.now ≡ chars text.now }
-{
-    text
-}
 
 /// Adds the items of the line-spaces or of the slashdashed node that begin the text of a gap. Returns the text after
 /// them, or `None` if the text is not a gap.
@@ -38,10 +21,9 @@ fn gap_piece<'a>(
     requires { chars text.now ≡ [] → ⊥ }
     ensures { IfOk result (λ o. TakesHeld (chars text.now) o items.old.items items.new.items) }
 {
-    if begins_slashdash(text) {
-        dropped_node(alloc, text, items)
-    } else {
-        line_spaces(text, items)
+    match start_of(alloc, text)? {
+        Start::Slashdash => dropped_node(alloc, text, items),
+        first => line_spaces(alloc, first, items),
     }
 }
 
@@ -97,10 +79,11 @@ fn place_piece<'a>(
     ensures { IfOk result (λ o.
         PlaceTakesHeld place (chars text.now) o items.old.items items.new.items) }
 {
-    if begins_slashdash(text) {
+    let first = start_of(alloc, text)?;
+    if let Start::Slashdash = first {
         return dropped_part(alloc, place, text, items);
     }
-    match node_spaces(text, items)? {
+    match node_spaces(alloc, first, items)? {
         Some(behind) => Ok(Some((spaced(place), behind))),
         None => Ok(None),
     }

@@ -1,49 +1,54 @@
 //! Node-spaces and line-spaces, with the comments in them.
 
 ghost use Rattle.kdl_comments.specs.Items.{SpaceItems, LineSpaceItems, line_end};
-ghost use Rattle.kdl_comments.specs.Internal.Reading.{AddsHeld};
-ghost use Rattle.kdl_text.specs.Chars.{Newline, Space, Text, is_space, starts};
-ghost use Rattle.kdl_text.specs.Internal.Reading.{Longest};
-ghost use Rattle.kdl_text.specs.Trivia.{BlockComment, LineComment};
+ghost use Rattle.kdl_comments.specs.Internal.Passed.{Before};
+ghost use Rattle.kdl_comments.specs.Internal.Reading.{AddsHeld, Starts, found, items_view};
+ghost use Rattle.kdl_lexer.specs.Internal.Handed.{Alone, kind_view};
+ghost use Rattle.kdl_text.specs.Chars.{Text};
 ghost use Rattle.std.specs.Prelude.{◌≡◌, ◌++◌, ◌∷◌, IfOk, MatchOption};
 ghost use Rattle.std.specs.Str.{IsUtf8, chars};
 
 use crate::item::Item;
 use crate::slices::cut;
-use kdl_text::chars::{Class, is_space};
-use kdl_text::cursor::{Cursor, Steps, newline};
-use kdl_text::trivia::block_comment;
-use std::alloc::AllocError;
+use kdl_lexer::{LexFailure, Lexer, Token, TokenKind};
+use kdl_text::chars::Class;
+use kdl_text::cursor::{Cursor, Steps};
+use std::alloc::{AllocError, Global};
 
-/// Whether a space begins the text.
-pub(crate) fn begins_space(text: &str) -> bool
-    ensures { result ≡ starts is_space (chars text.now) }
-{
-    match Cursor::new(text, Steps::new()).look() {
-        Some(c) => is_space(c),
-        None => false,
-    }
+/// What begins a text, and the text after it.
+#[derive(Clone, Copy)]
+pub(crate) enum Start<'a> {
+    /// Spaces, or a block comment.
+    Space(Option<Item<'a>>, &'a str),
+    /// A newline, or a line comment with its newline.
+    Break(Option<Item<'a>>, &'a str),
+    /// A backslash.
+    Backslash(&'a str),
+    /// `/-`.
+    Slashdash,
+    /// Nothing: the text is at its end.
+    End,
+    /// Anything else.
+    Other,
 }
 
-/// The text after the spaces that begin it.
-pub(crate) fn behind_spaces(text: &str) -> &str
-    ensures { Longest Space (chars text.now) (chars result.now) }
+/// Returns the same text. After a call, the proof of a loop knows that the text is UTF-8.
+#[inline]
+pub(crate) fn same(text: &str) -> &str
+    ensures { chars result.now ≡ chars text.now }
 {
-    let mut cursor = Cursor::new(text, Steps::new());
-    cursor.skip(Class::Space);
-    let (_, rest) = cut(text, cursor.at());
-    rest
+    text
 }
 
-/// The block comment at the start of the text, and the text after it, or `None` if there is none or it is unclosed.
-pub(crate) fn block(text: &str) -> Option<(&str, &str)>
-    ensures { MatchOption result ((r : Text) → BlockComment (chars text.now) r → ⊥)
-        (λ (comment, rest). BlockComment (chars text.now) (chars rest.now)
-        × (chars text.now ≡ chars comment.now ++ chars rest.now)) }
+/// The text after its first character, if that is c.
+pub(crate) fn behind_char(text: &str, c: char) -> Option<&str>
+    ensures { MatchOption result ((s : Text) → chars text.now ≡ c ∷ s → ⊥)
+        (λ rest. chars text.now ≡ c ∷ chars rest.now) }
 {
     let mut cursor = Cursor::new(text, Steps::new());
-    if cursor.looks_two('/', '*') && block_comment(&mut cursor) {
-        Some(cut(text, cursor.at()))
+    if cursor.eat(c) {
+        let (_, rest) = cut(text, cursor.at());
+        Some(rest)
     } else {
         None
     }
@@ -60,122 +65,117 @@ pub(crate) fn line(text: &str) -> (&str, &str)
     cut(text, cursor.at())
 }
 
-/// The text after the newline that begins it.
-pub(crate) fn behind_newline(text: &str) -> Option<&str>
-    ensures { MatchOption result ((r : Text) → Newline (chars text.now) r → ⊥)
-        (λ rest. Newline (chars text.now) (chars rest.now)) }
+/// What the token is that begins the text, which no backslash begins.
+fn token_start<'a>(text: &'a str, token: &Token) -> Start<'a>
+    requires at { Before (chars text.now) token.now.at.end.at token.now.at.end.rest }
+    requires token { Alone (chars text.now) (kind_view token.now.kind) token.now.at.end.rest }
+    requires no_backslash { (s : Text) → chars text.now ≡ 92 ∷ s → ⊥ }
+    ensures { Starts (chars text.now) result }
 {
-    let mut cursor = Cursor::new(text, Steps::new());
-    if newline(&mut cursor) {
-        let (_, rest) = cut(text, cursor.at());
-        Some(rest)
-    } else {
-        None
+    let (piece, rest) = cut(text, token.at.end.at());
+    match token.kind {
+        TokenKind::Space => match behind_char(text, '/') {
+            Some(_) => Start::Space(Some(Item::Piece(piece)), rest),
+            None => Start::Space(None, rest),
+        },
+        TokenKind::Newline => match behind_char(text, '/') {
+            Some(_) => {
+                let (comment, _) = line(text);
+                Start::Break(Some(Item::Comment(comment)), rest)
+            }
+            None => Start::Break(None, rest),
+        },
+        TokenKind::Slashdash => Start::Slashdash,
+        _ => Start::Other,
     }
 }
 
-/// The line comment that begins the text, without its newline, and the text after that.
-pub(crate) fn comment(text: &str) -> Option<(&str, &str)>
-    ensures { MatchOption result ((r : Text) → LineComment (chars text.now) r → ⊥)
-        (λ (comment, rest). LineComment (chars text.now) (chars rest.now)
-        × (chars text.now ≡ chars comment.now ++ line_end (chars text.now))) }
+/// What begins the text: a backslash, or its first token. So the comments after the backslash of an escline are tokens,
+/// and each token is read once.
+pub(crate) fn start_of(alloc: Global, text: &str) -> Result<Start<'_>, AllocError>
+    ensures { IfOk result (λ x. Starts (chars text.now) x) }
 {
-    let mut cursor = Cursor::new(text, Steps::new());
-    if !cursor.looks_two('/', '/') {
-        return None;
+    if let Some(rest) = behind_char(text, '\\') {
+        return Ok(Start::Backslash(rest));
     }
-    let (comment, end) = line(text);
-    match behind_newline(end) {
-        Some(rest) => Some((comment, rest)),
-        None => Some((comment, end)),
+    let mut lexer = Lexer::new(text, Steps::new());
+    match lexer.next(alloc) {
+        Ok(Some(token)) => Ok(token_start(text, &token)),
+        Ok(None) => Ok(Start::End),
+        Err(LexFailure::Faulty(_)) => Ok(Start::Other),
+        Err(LexFailure::Memory) => Err(AllocError),
     }
 }
 
-/// The text after its first character, if that is a backslash.
-pub(crate) fn behind_backslash(text: &str) -> Option<&str>
-    ensures { MatchOption result ((s : Text) → chars text.now ≡ 92 ∷ s → ⊥)
-        (λ rest. chars text.now ≡ 92 ∷ chars rest.now) }
+/// Adds the item, if there is one.
+fn add<'a>(item: Option<Item<'a>>, items: &mut Vec<Item<'a>>) -> Result<(), AllocError>
+    ensures { IfOk result (λ _. items_view items.new.items
+        ≡ items_view items.old.items ++ found item.entry) }
 {
-    let mut cursor = Cursor::new(text, Steps::new());
-    if cursor.eat('\\') {
-        let (_, rest) = cut(text, cursor.at());
-        Some(rest)
-    } else {
-        None
+    if let Some(item) = item {
+        items.push(item)?;
     }
-}
-
-/// The text after its first character, if that is a semicolon.
-pub(crate) fn behind_semicolon(text: &str) -> Option<&str>
-    ensures { MatchOption result ((s : Text) → chars text.now ≡ 59 ∷ s → ⊥)
-        (λ rest. chars text.now ≡ 59 ∷ chars rest.now) }
-{
-    let mut cursor = Cursor::new(text, Steps::new());
-    if cursor.eat(';') {
-        let (_, rest) = cut(text, cursor.at());
-        Some(rest)
-    } else {
-        None
-    }
+    Ok(())
 }
 
 /// Adds the comments of the escline whose backslash comes before the text. Returns the text after it, or `None` if
 /// there is no escline.
-fn escline<'a>(text: &'a str, items: &mut Vec<Item<'a>>) -> Result<Option<&'a str>, AllocError>
+fn escline<'a>(
+    alloc: Global,
+    text: &'a str,
+    items: &mut Vec<Item<'a>>,
+) -> Result<Option<&'a str>, AllocError>
     ensures { IfOk result (λ o.
         AddsHeld SpaceItems (92 ∷ chars text.now) o items.old.items items.new.items) }
 {
-    let mut rest = behind_spaces(text);
-    'comments: while let Some((comment, behind)) = block(rest) {
-        items.push(Item::Piece(comment))?;
-        rest = behind_spaces(behind);
+    let mut rest = text;
+    'comments: loop {
+        match start_of(alloc, rest)? {
+            Start::Space(item, behind) => {
+                add(item, items)?;
+                rest = same(behind);
+            }
+            Start::Break(item, behind) => {
+                add(item, items)?;
+                return Ok(Some(behind));
+            }
+            Start::End => return Ok(Some(rest)),
+            _ => return Ok(None),
+        }
     }
-    if let Some((comment, behind)) = comment(rest) {
-        items.push(Item::Comment(comment))?;
-        return Ok(Some(behind));
+}
+
+/// Adds the comments of the node-spaces that begin a text. Returns the text after them, or `None` if there are none.
+pub(crate) fn node_spaces<'a>(
+    alloc: Global,
+    first: Start<'a>,
+    items: &mut Vec<Item<'a>>,
+) -> Result<Option<&'a str>, AllocError>
+    ensures { IfOk result (λ o. (s : Text) → Starts s first.entry
+        → AddsHeld SpaceItems s o items.old.items items.new.items) }
+{
+    match first {
+        Start::Space(item, rest) => {
+            add(item, items)?;
+            Ok(Some(rest))
+        }
+        Start::Backslash(rest) => escline(alloc, rest, items),
+        _ => Ok(None),
     }
-    if rest.is_empty() {
+}
+
+/// Adds the comments of the line-spaces that begin a text. Returns the text after them, or `None` if there are none.
+pub(crate) fn line_spaces<'a>(
+    alloc: Global,
+    first: Start<'a>,
+    items: &mut Vec<Item<'a>>,
+) -> Result<Option<&'a str>, AllocError>
+    ensures { IfOk result (λ o. (s : Text) → Starts s first.entry
+        → AddsHeld LineSpaceItems s o items.old.items items.new.items) }
+{
+    if let Start::Break(item, rest) = first {
+        add(item, items)?;
         return Ok(Some(rest));
     }
-    Ok(behind_newline(rest))
-}
-
-/// Adds the comments of the node-spaces that begin the text. Returns the text after them, or `None` if there are none.
-pub(crate) fn node_spaces<'a>(
-    text: &'a str,
-    items: &mut Vec<Item<'a>>,
-) -> Result<Option<&'a str>, AllocError>
-    ensures { IfOk result (λ o.
-        AddsHeld SpaceItems (chars text.now) o items.old.items items.new.items) }
-{
-    if let Some(behind) = behind_backslash(text) {
-        return escline(behind, items);
-    }
-    if let Some((comment, behind)) = block(text) {
-        items.push(Item::Piece(comment))?;
-        return Ok(Some(behind));
-    }
-    if begins_space(text) {
-        Ok(Some(behind_spaces(text)))
-    } else {
-        Ok(None)
-    }
-}
-
-/// Adds the comments of the line-spaces that begin the text. Returns the text after them, or `None` if there are none.
-pub(crate) fn line_spaces<'a>(
-    text: &'a str,
-    items: &mut Vec<Item<'a>>,
-) -> Result<Option<&'a str>, AllocError>
-    ensures { IfOk result (λ o.
-        AddsHeld LineSpaceItems (chars text.now) o items.old.items items.new.items) }
-{
-    if let Some((comment, behind)) = comment(text) {
-        items.push(Item::Comment(comment))?;
-        return Ok(Some(behind));
-    }
-    if let Some(behind) = behind_newline(text) {
-        return Ok(Some(behind));
-    }
-    node_spaces(text, items)
+    node_spaces(alloc, first, items)
 }

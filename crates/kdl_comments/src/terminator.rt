@@ -3,17 +3,12 @@
 ghost use Rattle.kdl_entry.specs.Places.{between};
 ghost use Rattle.kdl_comments.specs.Items.{line_end};
 ghost use Rattle.kdl_text.specs.Trivia.{LineComment};
-ghost use Rattle.std.specs.Prelude.{◌≡◌, ◌≢◌, [], MatchBool, MatchOption};
+ghost use Rattle.std.specs.Prelude.{◌≡◌, [], MatchOption};
 ghost use Rattle.std.specs.Str.{chars};
 
-use crate::spaces::comment;
-
-/// Whether the text has no characters.
-fn is_empty(text: &str) -> bool
-    ensures { MatchBool result (chars text.now ≡ []) (chars text.now ≢ []) }
-{
-    text.is_empty()
-}
+use crate::spaces::line;
+use kdl_text::cursor::{Cursor, Steps};
+use kdl_text::trivia;
 
 /// Returns the line comment that the whole text is, without its newline, or `None` if the text is
 /// not one.
@@ -22,8 +17,16 @@ pub fn line_comment(text: &str) -> Option<&str>
         (λ comment. LineComment (chars text.now) []
         × (chars comment.now ≡ between (chars text.now) (line_end (chars text.now)))) }
 {
-    match comment(text) {
-        Some((comment, rest)) if is_empty(rest) => Some(comment),
-        _ => None,
+    let mut cursor = Cursor::new(text, Steps::new());
+    if !cursor.looks_two('/', '/') {
+        return None;
+    }
+    trivia::line_comment(&mut cursor);
+    match cursor.look() {
+        Some(_) => None,
+        None => {
+            let (comment, _) = line(text);
+            Some(comment)
+        }
     }
 }

@@ -4,7 +4,7 @@
 
 ghost use Rattle.kdl_value.specs.Data as data';
 ghost use Rattle.kdl_lexer.specs.Pieces as spec;
-ghost use Rattle.kdl_lexer.specs.Internal.Handed.{Lexed, LexCosts, LexedNext, NextCosts, ReturnsApart, ReadsKind, KindCosts, FailsAt, IsAfterSlash, IsFaultAt, IsOther, Passes, IsPunctuation};
+ghost use Rattle.kdl_lexer.specs.Internal.Handed.{Lexed, LexCosts, LexedNext, NextCosts, ReadsAlone, AloneNext, ReturnsApart, ReadsKind, KindCosts, FailsAt, IsAfterSlash, IsFaultAt, IsOther, Passes, IsPunctuation};
 ghost use Rattle.kdl_value.specs.Tree.{value_tree};
 ghost use Rattle.kdl_lexer.specs.declared.lexer.KindFailure.TheVariants.{Memory as NoMemory};
 ghost use Rattle.kdl_lexer.specs.declared.lexer.LexFailure.TheVariants.{Memory};
@@ -515,6 +515,7 @@ impl<'a> Lexer<'a> {
     #[inline(always)]
     pub fn next(&mut self, alloc: Global) -> Result<Option<Token<'a>>, LexFailure>
         ensures lexed { Lexed self.old result self.new }
+        ensures alone { ReadsAlone self.old result self.new }
         ensures moves { Moves self.old self.new }
         ensures costs { LexCosts result self.old self.new }
     {
@@ -546,9 +547,10 @@ impl<'a> Lexer<'a> {
     /// let closing = lexer.next_token(alloc)?; // `NextToken::Other`, the `}`
     /// ```
     #[inline(always)]
-    #[tactic(auto, using(crate::proofs::Lexing::TokenReads::spaces_here, crate::proofs::Lexing::TokenReads::skip_moves, crate::proofs::Lexing::TokenReads::spaces_apart, crate::proofs::Lexing::TokenReads::line_feed_here, crate::proofs::Lexing::TokenReads::take_moves, crate::proofs::Lexing::TokenReads::letter_here, crate::proofs::Lexing::TokenReads::no_digit_letter, crate::proofs::Lexing::TokenReads::letter_there, crate::proofs::Lexing::TokenReads::not_apart, crate::proofs::Lexing::TokenReads::a_bare_here, crate::proofs::Lexing::TokenReads::no_bare_here, crate::proofs::Lexing::Slashes::slash_next, crate::proofs::Lexing::Slashes::slash_returned, crate::proofs::Lexing::Slashes::slash_costs, crate::proofs::Lexing::Slashes::word_costs, crate::proofs::Lexing::Slashes::no_word_costs, crate::proofs::Lexing::Slashes::word_text, crate::proofs::Lexing::Slashes::no_comment))]
+    #[tactic(auto, using(crate::proofs::Lexing::TokenReads::read_alone, crate::proofs::Lexing::TokenReads::cut_alone, crate::proofs::Lexing::TokenReads::spaces_alone, crate::proofs::Lexing::TokenReads::skip_moves, crate::proofs::Lexing::TokenReads::spaces_apart, crate::proofs::Lexing::TokenReads::line_feed_here, crate::proofs::Lexing::TokenReads::take_moves, crate::proofs::Lexing::TokenReads::letter_there, crate::proofs::Lexing::TokenReads::not_apart, crate::proofs::Lexing::TokenReads::a_bare_here, crate::proofs::Lexing::Slashes::slash_next, crate::proofs::Lexing::Slashes::slash_alone, crate::proofs::Lexing::Slashes::slash_returned, crate::proofs::Lexing::Slashes::slash_costs, crate::proofs::Lexing::Slashes::word_costs, crate::proofs::Lexing::Slashes::word_text, crate::proofs::Lexing::Slashes::no_comment))]
     pub fn next_token(&mut self, alloc: Global) -> Result<NextToken<'a>, LexFailure>
         ensures lexed { LexedNext self.old result self.new }
+        ensures alone { AloneNext self.old result self.new }
         ensures apart { ReturnsApart self.old result self.new }
         ensures moves { Moves self.old self.new }
         ensures costs { NextCosts result self.old self.new }

@@ -3,12 +3,11 @@ use Rattle.std.proofs.Common.{◌≡◌, ◌↔◌, ◌⊎◌, inl, inr, ℕ, �
 use Rattle.std.specs.Str.{chars, IsUtf8}
 use Rattle.kdl_text.specs.Chars.{Text}
 use Rattle.kdl_text.specs.Spans.{bytes}
-use Rattle.kdl_text.specs.Trivia.{Break}
 use Rattle.kdl_text.proofs.Looking.MovesJoin.{bytes-append}
 use Rattle.kdl_text.proofs.Looking.Texts.{bytes-chars}
 use Rattle.kdl_lexer.specs.Internal.Handed.{Cuts, one, kind_view}
 use Rattle.kdl_entry.specs.Places.{between}
-use Rattle.kdl_lexer.specs.Tokens.{newline, semicolon, t_newline, t_semicolon, Token}
+use Rattle.kdl_lexer.specs.Tokens.{newline, semicolon, t_semicolon, Token}
 use Rattle.kdl_lexer.specs.declared.lexer.TokenKind.{TokenKind}
 use Rattle.kdl_lexer.specs.declared.lexer.TokenKind.TheVariants.{Semicolon}
 use Rattle.kdl_entry.proofs.Slicing.Between.{is_between}
@@ -24,6 +23,7 @@ use Rattle.kdl_comments.specs.declared.item.Item.{Item as CodeItem}
 use Rattle.kdl_comments.proofs.Dropping.DroppedNodes.{node_returned, node_ended, node_refused}
 use Rattle.kdl_comments.proofs.Dropping.DroppedParts.{part_entry, part_block, part_no_block, part_refused}
 use Rattle.kdl_comments.proofs.Listing.SpaceReads.{no_chars, some_chars}
+use Rattle.kdl_comments.proofs.Listing.Starts.{newline_cut}
 
 -- the terminator of a node
 semicolon_cut : {s r : Text} {k : Token} → Cuts s k r → k ≡ semicolon → ItemEnd s r r
@@ -33,10 +33,6 @@ semicolon_cut _ e = absurd cc
 semicolon_open : {s r : Text} {k : Token} → Cuts s k r → k ≡ semicolon → HasOpenEnd s r false
 semicolon_open (one t_semicolon) e = HasOpenEnd.semicolon
 semicolon_open _ e = absurd cc
-
-newline_cut : {s r : Text} {k : Token} → Cuts s k r → k ≡ newline → Break s r
-newline_cut (one (t_newline n)) e = n
-newline_cut _ e = absurd cc
 
 a_semicolon : (k : TokenKind) → kind_view k ≡ semicolon → k ≡ Semicolon
 a_semicolon Semicolon e = refl

@@ -2,13 +2,13 @@
 use Rattle.std.proofs.Common.{◌≡◌, ℕ, ◌<◌, Bool, true, false, ◌&&◌, ◌==◌, if◌then◌else◌, length-append, List, [], ◌∷◌, ◌++◌, length, Some, None, Bor, refl, sym, ap, subst, ◌∙◌, arith, append_assoc, append-nil}
 use Rattle.std.proofs.lemmas.Bool.{and_parts, eqb-true}
 use Rattle.std.specs.Str.{chars}
-use Rattle.kdl_text.specs.Chars.{Text, is_newline_char, begins, begins_two, starts, Newline, crlf, one, Star, none, more, Plus, plus}
+use Rattle.kdl_text.specs.Chars.{Text, begins, Newline, crlf, one, Star, none, more, Plus, plus}
 use Rattle.kdl_text.specs.Internal.Here.{first}
 use Rattle.kdl_text.specs.Spans.{bytes}
-use Rattle.kdl_text.specs.Trivia.{Line, LineComment, line as a_line, NodeSpace, Break, LineSpace, Slashdash, slashdash, ValueEnd}
+use Rattle.kdl_text.specs.Trivia.{NodeSpace, Break, LineSpace, Slashdash, slashdash, ValueEnd}
 use Rattle.kdl_text.proofs.Looking.Stars.{snoc, meets}
-use Rattle.kdl_text.proofs.Spacing.SpacePieces.{node_space_shorter, line_space_shorter}
-use Rattle.kdl_text.proofs.Spacing.SpaceUnique.{newline_begins, line_comment_begins, node_space_dets, line_space_det, space_or_break}
+use Rattle.kdl_text.proofs.Spacing.SpacePieces.{break_shorter, node_space_shorter, line_space_shorter}
+use Rattle.kdl_text.proofs.Spacing.SpaceUnique.{break_det, node_space_dets, line_space_det, space_or_break}
 use Rattle.kdl_lexer.specs.Tokens.{Token, BeginsToken, t_space, t_newline, t_slashdash, t_string, t_value, t_left, t_right, t_opening, t_closing, t_equals, t_semicolon, t_bom}
 use Rattle.kdl_entry.proofs.Moving.EntryMoves.{move_spaces, move_slashdash, spaces_end}
 use Rattle.kdl_grammar.specs.Data as nodes'
@@ -31,7 +31,7 @@ use Rattle.kdl_comments.specs.declared.lacks.GapPiece.TheVariants.{Until, Last}
 use Rattle.kdl_comments.proofs.Dropping.DroppedNodes.{passes_det, passes_last, passes_node, DroppedItems, with_end, at_last, dash_items, node_returned, node_ended, node_refused}
 use Rattle.kdl_comments.proofs.Lacking.Keeping.{put_more, moved_more, alone}
 use Rattle.kdl_comments.proofs.Lacking.Fewest.{letter_end, no_nodes, swallowed, nodes_off, nodes_off_node, letter_dropped, fewest_at, fewest_none}
-use Rattle.kdl_comments.proofs.Lacking.SpaceEnds.{lf, comment_line, comment_open, letter_line}
+use Rattle.kdl_comments.proofs.Lacking.SpaceEnds.{lf, break_newline, break_at, break_open, break_ends, letter_line}
 use Rattle.kdl_comments.proofs.Listing.PlaceTexts.{HasGap, gap_has, gap_of, spaces_only}
 use Rattle.kdl_comments.proofs.Listing.SpaceItems.{dash_no_line}
 use Rattle.kdl_comments.proofs.Rewriting.BeforeNewlines.{cut_node}
@@ -106,13 +106,13 @@ spaces_open s k = (
   fewest_at s 1 0 refl (λ xs ds. swallowed k.swallows (subst (λ (y : Text). AreNodes true (y ++ letter) [] xs) (append-nil s) ds)),
 )
 
-pub no_piece : (s : Text) → (s ≡ [] → ⊥) → begins_two 47 45 s ≡ false → EndsAs LineSpace s None → PieceEnds s None
+pub no_piece : (s : Text) → (s ≡ [] → ⊥) → ((t : Text) → s ≡ 47 ∷ 45 ∷ t → ⊥) → EndsAs LineSpace s None → PieceEnds s None
 no_piece s f h k = λ g. go g f h k
   where
-    go : {s : Text} → Gap true s [] → (s ≡ [] → ⊥) → begins_two 47 45 s ≡ false → ((r : Text) → LineSpace s r → ⊥) → ⊥
+    go : {s : Text} → Gap true s [] → (s ≡ [] → ⊥) → ((t : Text) → s ≡ 47 ∷ 45 ∷ t → ⊥) → ((r : Text) → LineSpace s r → ⊥) → ⊥
     go no_gap f h k = f refl
     go (line_space n g) f h k = k _ n
-    go (dropped_node (slashdash ls) x e g) f h k = cc
+    go (dropped_node (slashdash ls) x e g) f h k = h _ refl
 
 -- a dropped node before more of the rest
 node_more : {s t u : Text} {x : Node} → Slashdash s t → (n : IsNode true t u x) → (w q : Text) → Star NodeSpace ((cut_node n).rest ++ w) q → ValueEnd true q → Slashdash (s ++ w) (t ++ w) × IsNode true (t ++ w) q x
@@ -140,27 +140,18 @@ newline_adds (one {c = c} {r = []} x y) (d ∷ w) z xs e ds = go ((c == 13) && (
         (w, rw (k, l) crlf, behind_lf _ e (subst (λ (y : ℕ). AreNodes true (y ∷ w) z xs) l ds))
     go false h = (d ∷ w, one x h, ds)
 
-line_adds : {u v : Text} → Line u v → (line_end u ≡ [] → ⊥) → (w z : Text) (xs : Nodes) → NodesEnd z → AreNodes true (v ++ w) z xs → (t : Text) × Line (u ++ w) t × AreNodes true t z xs
-line_adds Line.ends f w z xs e ds = absurd (f refl)
-line_adds (Line.newline n) f w z xs e ds = let (t, m, xs') = newline_adds n w z xs e ds in (t, Line.newline m, xs')
-line_adds (Line.other {c = c} x l) f w z xs e ds = let (t, m, xs') = line_adds l (λ h. f (rw x h)) w z xs e ds in (t, Line.other x m, xs')
-
-slashes_end : (s : Text) → line_end (47 ∷ 47 ∷ s) ≡ line_end s
-unfolding is_newline_char
-slashes_end s = refl
+pub break_terminator : {s r : Text} → Break s r → Terminator s r
+break_terminator (Break.newline n) = Terminator.newline n
+break_terminator (Break.comment l) = Terminator.comment l
 
 pub terminator_adds : {u v : Text} → HasOpenEnd u v false → (w z : Text) (xs : Nodes) → NodesEnd z → AreNodes true (v ++ w) z xs → (t : Text) × Terminator (u ++ w) t × AreNodes true t z xs
 terminator_adds (semicolon {r = r}) w z xs e ds = (r ++ w, Terminator.semicolon, ds)
-terminator_adds (ended (Break.newline n) f) w z xs e ds = let (t, m, xs') = newline_adds n w z xs e ds in (t, Terminator.newline m, xs')
-terminator_adds (ended (Break.comment (a_line {s = s} l)) f) w z xs e ds =
-    let (t, m, xs') = line_adds l (λ h. f (slashes_end s ∙ h)) w z xs e ds in (t, Terminator.comment (a_line m), xs')
+terminator_adds (ended b f) w z xs e ds = let (t, m, xs') = newline_adds (break_newline b f) w z xs e ds in (t, break_terminator (break_at b w t m), xs')
 
 some_end : {u v : Text} {b : Bool} → HasOpenEnd u v b → u ≡ [] → ⊥
 some_end semicolon e = cc
-some_end (ended (Break.newline n) f) e = let x = newline_begins n in let y = rw e at x in cc
-some_end (ended (Break.comment (a_line l)) f) e = cc
-some_end (unended (Break.newline n) f) e = let x = newline_begins n in let y = rw e at x in cc
-some_end (unended (Break.comment (a_line l)) f) e = cc
+some_end (ended b f) e = omega (arith, break_shorter b, ap length e)
+some_end (unended b f) e = omega (arith, break_shorter b, ap length e)
 
 -- the terminator before more of the rest, and what that leaves of it
 record EndOff (u v w : Text) : Type 0 where
@@ -188,22 +179,11 @@ newline_off (one {c = c} {r = []} x y) (d ∷ w) = go ((c == 13) && (d == 10)) r
         record { rest = w; is = rw (k, l) crlf; off = λ xs ds. subst (λ (y : ℕ). AreNodes true (y ∷ w) [] xs) (sym l) (in_front (line_space (lf_space w) no_gap) ds) }
     go false h = record { rest = d ∷ w; is = one x h; off = λ xs ds. ds }
 
-record LineOff (u v w : Text) : Type 0 where
-  rest : Text
-  is : Line (u ++ w) rest
-  off : (xs : Nodes) → AreNodes true rest [] xs → AreNodes true (v ++ w) [] xs
-
-line_off : {u v : Text} → Line u v → (line_end u ≡ [] → ⊥) → (w : Text) → LineOff u v w
-line_off Line.ends f w = absurd (f refl)
-line_off (Line.newline n) f w = let k = newline_off n w in record { rest = k.rest; is = Line.newline k.is; off = k.off }
-line_off (Line.other {c = c} x l) f w = let k = line_off l (λ h. f (rw x h)) w in record { rest = k.rest; is = Line.other x k.is; off = k.off }
-
 end_off : {u v : Text} → HasOpenEnd u v false → (w : Text) → EndOff u v w
 end_off (semicolon {r = r}) w = record { rest = r ++ w; piece = r ++ w; item = ItemEnd.semicolon; is = Terminator.semicolon; off = λ xs ds. ds }
-end_off {u} (ended (Break.newline n) f) w = let k = newline_off n w in record { rest = k.rest; piece = line_end (u ++ w); item = ItemEnd.line (Break.newline k.is); is = Terminator.newline k.is; off = k.off }
-end_off {u} (ended (Break.comment (a_line {s = s} l)) f) w =
-    let k = line_off l (λ h. f (slashes_end s ∙ h)) w in
-    record { rest = k.rest; piece = line_end (u ++ w); item = ItemEnd.line (Break.comment (a_line k.is)); is = Terminator.comment (a_line k.is); off = k.off }
+end_off {u} (ended b f) w =
+    let k = newline_off (break_newline b f) w in let m = break_at b w k.rest k.is in
+    record { rest = k.rest; piece = line_end (u ++ w); item = ItemEnd.line m; is = break_terminator m; off = k.off }
 
 -- a dropped node with its terminator
 record Dropped (b u : Text) : Type 0 where
@@ -249,35 +229,15 @@ module _ {b u v e : Text} {k : Token} (p : NodePasses (at node_slashdash []) b b
   node_through : HasOpenEnd u v false → Through (47 ∷ 45 ∷ b) v
   node_through o = record { on = node_on; back = node_back; adds = node_adds o; off = node_off o }
 
-no_line_newline : (u : Text) → line_end u ≡ [] → starts is_newline_char u ≡ true → ⊥
-no_line_newline [] e h = cc
-no_line_newline (c ∷ s) e h = let x = rw h at e in cc
-
--- the line comment after it has no newline
-comment_lf : {u v : Text} → Break u v → line_end u ≡ [] → (w : Text) → LineComment (u ++ (10 ∷ w)) w
-comment_lf {u = u} (Break.comment l) e w = comment_line u (10 ∷ w) w (line_comment_begins l) (subst (λ (z : Text). Newline (z ++ (10 ∷ w)) w) (sym e) (lf w))
-comment_lf {u = u} (Break.newline n) e w = absurd (no_line_newline u e (newline_begins n))
-
 -- after a line comment without a newline nothing is left
-line_all : {s r : Text} → Line s r → line_end s ≡ [] → r ≡ []
-line_all Line.ends e = refl
-line_all (Line.newline n) e = absurd (go n e)
-  where
-    go : {s r : Text} → Newline s r → line_end s ≡ [] → ⊥
-    go {s = []} n e = elim n [ ]
-    go {s = c ∷ s} n e = let h = newline_begins n in let x = rw h at e in cc
-line_all (Line.other {c = c} {s = s} x l) e = let f : line_end s ≡ [] = rw x at e in line_all l f
-
 open_all : {u v : Text} → HasOpenEnd u v true → v ≡ []
-open_all (unended (Break.newline n) e) = line_all (Line.newline n) e
-open_all (unended (Break.comment (a_line {s = s} l)) e) = line_all l (sym (slashes_end s) ∙ e)
+open_all (unended b e) = break_det b (break_ends b e)
 
-comment_letter : {u v : Text} → HasOpenEnd u v true → LineComment (u ++ letter) []
-comment_letter {u = u} (unended (Break.comment l) e) = comment_open u letter (line_comment_begins l) e letter_line
-comment_letter {u = u} (unended (Break.newline n) e) = absurd (no_line_newline u e (newline_begins n))
+open_lf : {u v : Text} → HasOpenEnd u v true → (w : Text) → Break (u ++ (10 ∷ w)) w
+open_lf (unended b e) w = break_at b (10 ∷ w) w (subst (λ (z : Text). Newline (z ++ (10 ∷ w)) w) (sym e) (lf w))
 
-open_lf : {u v : Text} → HasOpenEnd u v true → (w : Text) → LineComment (u ++ (10 ∷ w)) w
-open_lf (unended b e) w = comment_lf b e w
+swallows_letter : {u v : Text} → HasOpenEnd u v true → Break (u ++ letter) []
+swallows_letter (unended b e) = break_open b e letter letter_line
 
 -- newlines after a text
 one_newline : (s : Text) → ((r z : Text) (xs : Nodes) → NodesEnd z → AreNodes true r z xs → AreNodes true (s ++ (10 ∷ r)) z xs) → AddsNothing (s ++ newlines 1)
@@ -296,7 +256,7 @@ module _ {b u v e : Text} {k : Token} (p : NodePasses (at node_slashdash []) b b
   open_adds : AddsNothing ((47 ∷ 45 ∷ b) ++ newlines 1)
   open_adds = one_newline (47 ∷ 45 ∷ b) (λ r z xs f ds.
       let d = the_node p i (gap_has nothing_behind) in
-      let m = Terminator.comment (open_lf o r) in
+      let m = break_terminator (open_lf o r) in
       let n = node_before d.dash d.is (some_end o) (10 ∷ r) (terminator_end m) in
       in_front (dropped_node n.0 n.1 m no_gap) ds)
 
@@ -305,9 +265,9 @@ module _ {b u v e : Text} {k : Token} (p : NodePasses (at node_slashdash []) b b
   open_letter : (xs : Nodes) → AreNodes true ((47 ∷ 45 ∷ b) ++ letter) [] xs → xs ≡ nodes'.none
   open_letter xs ds =
       let d = the_node p i (gap_has (nothing_behind p i o)) in
-      let l = comment_letter o in
-      let n = node_before d.dash d.is (some_end o) letter (terminator_end (Terminator.comment l)) in
-      no_nodes (nodes_off_node n.0 n.1 (ItemEnd.line (Break.comment l)) ds)
+      let l = swallows_letter o in
+      let n = node_before d.dash d.is (some_end o) letter (terminator_end (break_terminator l)) in
+      no_nodes (nodes_off_node n.0 n.1 (ItemEnd.line l) ds)
 
   open_fewest : Fewest (47 ∷ 45 ∷ b) 1
   open_fewest = fewest_at (47 ∷ 45 ∷ b) 1 0 refl (λ xs ds. open_letter xs (subst (λ (y : Text). AreNodes true (y ++ letter) [] xs) (append-nil (47 ∷ 45 ∷ b)) ds))

@@ -1,7 +1,7 @@
 -- What the first piece of a place takes from what follows it.
 use Rattle.std.proofs.Common.{◌≡◌, ℕ, ◌<◌, Bool, true, false, List, [], ◌∷◌, ◌++◌, length, Option, Some, None, option_map, Bor, refl, sym, ap, subst, ◌∙◌, arith, append_assoc, append-nil, length-append}
 use Rattle.std.specs.Str.{chars}
-use Rattle.kdl_text.specs.Chars.{Text, begins_two, Star, none, more, Plus, plus}
+use Rattle.kdl_text.specs.Chars.{Text, Star, none, more, Plus, plus}
 use Rattle.kdl_text.specs.Internal.Here.{first}
 use Rattle.kdl_text.specs.Spans.{bytes}
 use Rattle.kdl_text.specs.Trivia.{NodeSpace, Slashdash, slashdash, ValueEnd}
@@ -18,7 +18,7 @@ use Rattle.kdl_grammar.specs.Places.{after, before}
 use Rattle.kdl_grammar.proofs.Moving.Moves.{before_end, terminator_end}
 use Rattle.kdl_comments.specs.Items.{Item, Place, before_entry, before_block, behind_block, may_end, takes_entries, takes_blocks, spaced, PlaceItems, ends, dropped_entry, dropped_block}
 use Rattle.kdl_comments.specs.Lacks.{newlines, Lacks, InPlace, BeforeEach, PlaceLacks}
-use Rattle.kdl_comments.specs.Internal.Lacking.{letter, EndsAs, PlaceThrough, PlaceGoes, PlacePieceEnds}
+use Rattle.kdl_comments.specs.Internal.Lacking.{letter, EndsAs, PlaceThrough, PlacePieceEnds}
 use Rattle.kdl_comments.specs.Internal.Passed.{Before, AnswersDroppedPart, BehindPart}
 use Rattle.kdl_comments.specs.Internal.Passing.{PartPasses, slashdash_phase, slashdash_in}
 use Rattle.kdl_comments.specs.Internal.Reading.{place_view}
@@ -32,6 +32,7 @@ use Rattle.kdl_comments.proofs.Dropping.NoEquals.{passes_det, place_quiet}
 use Rattle.kdl_comments.proofs.Lacking.Fewest.{letter_end}
 use Rattle.kdl_comments.proofs.Lacking.Keeping.{put_more, alone}
 use Rattle.kdl_comments.proofs.Lacking.PlaceFewest.{not_each}
+use Rattle.kdl_comments.proofs.Listing.PlaceReads.{place_none}
 use Rattle.kdl_comments.proofs.Listing.PlaceTexts.{Has, before_block_items, after_block_items}
 use Rattle.kdl_comments.proofs.Listing.SpaceItems.{space_of, space_items, place_space}
 use Rattle.kdl_comments.proofs.Rewriting.BeforeNewlines.{closed_braces}
@@ -117,14 +118,8 @@ spaces_in_escline p s InReturn g k = (
 )
 spaces_in_escline p s Open g k = (on_space (place_view p) k.alone ([], ends (ends_spaced (place_view p))), λ z. one_space (place_view p) (k.ended z))
 
-pub no_place_piece : (p : held.Place) (s : Text) → (s ≡ [] → ⊥) → begins_two 47 45 s ≡ false → EndsAs NodeSpace s None → PlacePieceEnds p s None
-no_place_piece p s f h k = λ is d. go d f h k
-  where
-    go : {p : Place} {s : Text} {is : List Item} → PlaceItems p s is → (s ≡ [] → ⊥) → begins_two 47 45 s ≡ false → ((r : Text) → NodeSpace s r → ⊥) → ⊥
-    go (ends e) f h k = f refl
-    go (PlaceItems.space d g) f h k = k _ (space_of d)
-    go (dropped_entry e (slashdash ls) i g) f h k = cc
-    go (dropped_block e (slashdash ls) b g) f h k = cc
+pub no_place_piece : (p : held.Place) (s : Text) → (s ≡ [] → ⊥) → ((t : Text) → s ≡ 47 ∷ 45 ∷ t → ⊥) → EndsAs NodeSpace s None → PlacePieceEnds p s None
+no_place_piece p s f h k = place_none f (λ r is d. k r (space_of d)) h
 
 -- a dropped entry, and a dropped block
 data DropsEntry (b u : Text) : Type 0 where
@@ -207,12 +202,12 @@ pub part_cut : (p : held.Place) (b : Text) (e : PartEnd) → AnswersDroppedPart 
 part_cut p b e (u, x, c) = (u, c)
 
 pub part_goes : (p q : held.Place) (s b y : Text) (rest : Bor (List ℕ)) (e : PartEnd) (o : Option held.Place) → s ≡ 47 ∷ 45 ∷ b → AnswersDroppedPart (place_view p) b (Some e) → BehindPart (place_view p) e.is_block (option_map place_view o) → o ≡ Some q
-    → ((a r : Text) → b ≡ a ++ r → bytes a ≡ e.at → (y ≡ a) × (chars rest.now ≡ r)) → PlaceGoes p s (Some (q, rest))
+    → ((a r : Text) → b ≡ a ++ r → bytes a ≡ e.at → (y ≡ a) × (chars rest.now ≡ r)) → PlacePieceEnds p s (Some (Onward q rest))
 part_goes p q s b y rest e o f (u, x, c) g h k =
     let i : chars rest.now ≡ u = (k c.0 u c.1 c.2).1 in
     rw (f, i) (part_through (place_view p) (place_view q) b u e.is_block (option_map place_view o) x g (ap (option_map place_view) h), before_length (47 ∷ 45 ∷ b) b u e.at refl c)
 
-pub part_none : (p : held.Place) (s b : Text) → s ≡ 47 ∷ 45 ∷ b → AnswersDroppedPart (place_view p) b None → PlaceGoes p s None
+pub part_none : (p : held.Place) (s b : Text) → s ≡ 47 ∷ 45 ∷ b → AnswersDroppedPart (place_view p) b None → PlacePieceEnds p s None
 part_none p s b f k = λ is d. part_refused k is (subst (λ (y : Text). PlaceItems (place_view p) y is) f d)
 
 nowhere : (p : Place) (b u : Text) (is_block : Bool) (o : Option Place) → PartPasses (slashdash_in p) b b is_block u → BehindPart p is_block o → o ≡ None → (is : List Item) → PlaceItems p (47 ∷ 45 ∷ b) is → ⊥
@@ -220,7 +215,7 @@ nowhere p b u false o x f e = absurd cc
 nowhere p b u true None x f e = part_no_block x f
 nowhere p b u true (Some q) x f e = absurd cc
 
-pub part_nowhere : (p : held.Place) (s b : Text) (e : PartEnd) (o : Option held.Place) → s ≡ 47 ∷ 45 ∷ b → AnswersDroppedPart (place_view p) b (Some e) → BehindPart (place_view p) e.is_block (option_map place_view o) → o ≡ None → PlaceGoes p s None
+pub part_nowhere : (p : held.Place) (s b : Text) (e : PartEnd) (o : Option held.Place) → s ≡ 47 ∷ 45 ∷ b → AnswersDroppedPart (place_view p) b (Some e) → BehindPart (place_view p) e.is_block (option_map place_view o) → o ≡ None → PlacePieceEnds p s None
 part_nowhere p s b e o f (u, x, c) g h = λ is d. nowhere (place_view p) b u e.is_block (option_map place_view o) x g (ap (option_map place_view) h) is (subst (λ (y : Text). PlaceItems (place_view p) y is) f d)
 
 no_blocks_end : (q : Place) → takes_blocks q ≡ true → may_end q ≡ true

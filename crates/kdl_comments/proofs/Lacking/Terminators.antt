@@ -1,9 +1,9 @@
 -- A terminator and the gap after it.
-use Rattle.std.proofs.Common.{◌≡◌, inl, ℕ, suc, ◌<◌, arith, Bool, true, false, [], ◌∷◌, ◌++◌, Option, Some, None, List, Bor, refl, sym, subst, ◌∙◌, append_assoc, append-nil, if◌then◌else◌}
+use Rattle.std.proofs.Common.{◌≡◌, inl, ℕ, suc, ◌<◌, arith, Bool, true, false, [], ◌∷◌, ◌++◌, Option, Some, None, List, Bor, refl, sym, subst, ◌∙◌, append_assoc, append-nil}
 use Rattle.std.specs.Str.{chars}
-use Rattle.kdl_text.specs.Chars.{Text, is_newline_char, begins, begins_two, Newline, crlf}
-use Rattle.kdl_text.specs.Trivia.{Line, LineComment, Break}
-use Rattle.kdl_text.proofs.Spacing.SpaceUnique.{newline_begins, no_line_comment, break_det}
+use Rattle.kdl_text.specs.Chars.{Text, is_newline_char, begins, Newline, crlf}
+use Rattle.kdl_text.specs.Trivia.{Break}
+use Rattle.kdl_text.proofs.Spacing.SpaceUnique.{newline_begins, break_det}
 use Rattle.kdl_grammar.specs.Data.{Nodes, none, first}
 use Rattle.kdl_grammar.specs.Grammar.{Terminator, Gap, no_gap, AreNodes}
 use Rattle.kdl_grammar.specs.ReadsBack.{NodesEnd, Anything, Terminates}
@@ -14,9 +14,9 @@ use Rattle.kdl_comments.specs.declared.ends.Ending.TheVariants.{Before, InReturn
 use Rattle.kdl_comments.proofs.Dropping.Paths.{at_brace, halts}
 use Rattle.kdl_comments.proofs.Lacking.Fewest.{a, letter_node, some_nodes, no_nodes, fewer_not, ends_more}
 use Rattle.kdl_grammar.proofs.ReadingBack.Closing.{behind_lf}
-use Rattle.kdl_comments.proofs.Lacking.GapPieces.{begins_lf}
+use Rattle.kdl_comments.proofs.Lacking.GapPieces.{begins_lf, break_terminator}
 use Rattle.kdl_comments.proofs.Lacking.Keeping.{alone}
-use Rattle.kdl_comments.proofs.Lacking.SpaceEnds.{Rest, rest_is, lf, cr, break_at, comment_open, letter_line, space_no_newline, no_line_end}
+use Rattle.kdl_comments.proofs.Lacking.SpaceEnds.{lf, cr, break_at, break_open, break_ends, letter_line, space_no_newline}
 
 semicolon_no_newline : is_newline_char 59 ≡ false
 unfolding is_newline_char
@@ -51,10 +51,6 @@ pub semicolon_gap : (t r : Text) (o : Option ℕ) → t ≡ 59 ∷ r → GapAnsw
 semicolon_gap t r o e g = subst (λ (y : Text). TerminatorLacks y o) (sym e) (semicolon_lacks r o g)
 
 -- after a break
-break_terminator : {s r : Text} → Break s r → Terminator s r
-break_terminator (Break.newline n) = Terminator.newline n
-break_terminator (Break.comment l) = Terminator.comment l
-
 empty_break : {r : Text} → Break [] r → ⊥
 empty_break (Break.newline n) = elim n [ ]
 empty_break (Break.comment l) = elim l [ ]
@@ -91,12 +87,12 @@ break_lacks t r (Some k) b (bound, g, f, few) = (
   ),
 )
 
-pub line_gap : (t e : Text) (r : Bor (List ℕ)) (o : Option ℕ) → e ≡ (if begins_two 47 47 t then line_end t else t) → LineEnds e (Some (Before r)) → GapAnswer (chars r.now) o → TerminatorLacks t o
-line_gap t e r o x n g = break_lacks t (chars r.now) o (λ w. break_at (begins_two 47 47 t) t e refl (rest_is t e x) w (chars r.now ++ w) (n w)) g
+pub line_gap : {t u : Text} (r : Bor (List ℕ)) (o : Option ℕ) → Break t u → LineEnds (line_end t) (Before r) → GapAnswer (chars r.now) o → TerminatorLacks t o
+line_gap {t = t} r o b n g = break_lacks t (chars r.now) o (λ w. break_at b w (chars r.now ++ w) (n w)) g
 
-pub return_alone : (t e : Text) → e ≡ (if begins_two 47 47 t then line_end t else t) → LineEnds e (Some InReturn) → TerminatorLacks t (Some 0)
-return_alone t e x n =
-    let at = break_at (begins_two 47 47 t) t e refl (rest_is t e x) in
+pub return_alone : {t u : Text} → Break t u → LineEnds (line_end t) InReturn → TerminatorLacks t (Some 0)
+return_alone {t = t} b n =
+    let at = break_at b in
     let at_cr = λ (w : Text) (h : begins 10 w ≡ false). at w w (subst (λ (y : Text). Newline (y ++ w) w) (sym n) (cr w h)) in
     let at_crlf = λ (w : Text). at (10 ∷ w) w (subst (λ (y : Text). Newline (y ++ (10 ∷ w)) w) (sym n) crlf) in (
       omega arith,
@@ -114,10 +110,6 @@ return_alone t e x n =
         )
     go w z xs e ds f g false h = (w, subst (λ (y : Text). Terminator (y ++ w) w) (sym (append-nil t)) (break_terminator (f w h)), ds)
 
-open_terminator : (b : Bool) (t e : Text) → begins_two 47 47 t ≡ b → e ≡ Rest b t → e ≡ [] → Terminator t []
-open_terminator true t e h x y = Terminator.comment (subst (λ (z : Text). LineComment z []) (append-nil t) (comment_open t [] h (sym x ∙ y) Line.ends))
-open_terminator false t e h x y = subst (λ (z : Text). Terminator z []) (sym (sym x ∙ y)) Terminator.at_end
-
 letter_break : {r : Text} → Break letter r → ⊥
 letter_break (Break.newline n) = let x = newline_begins n in let y = space_no_newline in cc
 letter_break (Break.comment l) = elim l [ ]
@@ -126,34 +118,36 @@ letter_terminator : {v : Text} → Terminator letter v → ⊥
 letter_terminator (Terminator.newline n) = letter_break (Break.newline n)
 letter_terminator (Terminator.comment l) = letter_break (Break.comment l)
 
-open_letter : (b : Bool) (t e : Text) → begins_two 47 47 t ≡ b → e ≡ Rest b t → e ≡ [] → {v : Text} {xs : Nodes} → Terminator (t ++ letter) v → AreNodes true v [] xs → xs ≡ none
-open_letter true t e h x y {v} {xs} m ds = no_nodes (subst (λ (z : Text). AreNodes true z [] xs) (break_only (Break.comment (comment_open t letter h (sym x ∙ y) letter_line)) m) ds)
-open_letter false t e h x y {v} m ds = absurd (letter_terminator (subst (λ (z : Text). Terminator (z ++ letter) v) (sym x ∙ y) m))
+at_end_letter : {t v : Text} {xs : Nodes} → t ≡ [] → Terminator (t ++ letter) v → AreNodes true v [] xs → xs ≡ none
+at_end_letter {v = v} e m ds = absurd (letter_terminator (subst (λ (z : Text). Terminator (z ++ letter) v) e m))
 
-pub open_alone : (t e : Text) → e ≡ (if begins_two 47 47 t then line_end t else t) → LineEnds e (Some Open) → TerminatorLacks t (Some 1)
-open_alone t e x n =
-    let b = begins_two 47 47 t in let h = rest_is t e x in (
-      omega arith,
-      ([], open_terminator b t e refl h n, no_gap),
-      (
-        λ w z xs i f ds. (
-          w,
-          subst (λ (y : Text). Terminator y w) (sym (append_assoc t (10 ∷ []) w)) (break_terminator (break_at b t e refl h (10 ∷ w) w (subst (λ (y : Text). Newline (y ++ (10 ∷ w)) w) (sym n) (lf w)))),
-          ds,
-        ),
-        fewer t 1 (λ j i v m ds.
-            let k : j ≡ 0 = omega (arith, i) in
-            open_letter b t e refl h n (subst (λ (y : Text). Terminator (y ++ letter) v) (append-nil t) (subst (λ (c : ℕ). Terminator ((t ++ newlines c) ++ letter) v) k m)) ds),
-      ),
-    )
+open_letter : {t u v : Text} {xs : Nodes} → Break t u → line_end t ≡ [] → Terminator (t ++ letter) v → AreNodes true v [] xs → xs ≡ none
+open_letter {xs = xs} b e m ds = no_nodes (subst (λ (z : Text). AreNodes true z [] xs) (break_only (break_open b e letter letter_line) m) ds)
 
-not_terminating : (b : Bool) (t e v : Text) → ((r : Text) → t ≡ 59 ∷ r → ⊥) → begins_two 47 47 t ≡ b → e ≡ Rest b t → (e ≡ [] → ⊥) → ((u : Text) → Newline e u → ⊥) → Terminator t v → Gap true v [] → ⊥
-not_terminating true t e v f h x y k m g = no_line_end t (λ z. y (x ∙ z)) (λ u n. k u (subst (λ (z : Text). Newline z u) (sym x) n))
-not_terminating false t e v f h x y k (Terminator.semicolon {r = r}) g = f r refl
-not_terminating false t e v f h x y k (Terminator.newline n) g = k v (subst (λ (z : Text). Newline z v) (sym x) n)
-not_terminating false t e v f h x y k (Terminator.comment l) g = no_line_comment h l
-not_terminating false t e v f h x y k Terminator.at_end g = y x
-not_terminating false t e v f h x y k Terminator.at_close g = let z = halts at_brace g in cc
+lacks_lf : (t : Text) → Terminator t [] → ((w : Text) → Break (t ++ (10 ∷ w)) w) → ((v : Text) (xs : Nodes) → Terminator (t ++ letter) v → AreNodes true v [] xs → xs ≡ none) → TerminatorLacks t (Some 1)
+lacks_lf t m b f = (
+  omega arith,
+  ([], m, no_gap),
+  (
+    λ w z xs i e ds. (w, subst (λ (y : Text). Terminator y w) (sym (append_assoc t (10 ∷ []) w)) (break_terminator (b w)), ds),
+    fewer t 1 (λ j i v m ds.
+        let k : j ≡ 0 = omega (arith, i) in
+        f v (first a none) (subst (λ (y : Text). Terminator (y ++ letter) v) (append-nil t) (subst (λ (c : ℕ). Terminator ((t ++ newlines c) ++ letter) v) k m)) ds),
+  ),
+)
 
-pub no_terminator : (t e : Text) → ((r : Text) → t ≡ 59 ∷ r → ⊥) → e ≡ (if begins_two 47 47 t then line_end t else t) → LineEnds e None → TerminatorLacks t None
-no_terminator t e f x (y, k) = λ (v, m, g). not_terminating (begins_two 47 47 t) t e v f refl (rest_is t e x) y k m g
+pub open_alone : {t u : Text} → Break t u → LineEnds (line_end t) Open → TerminatorLacks t (Some 1)
+open_alone {t = t} b n = lacks_lf t (break_terminator (break_ends b n)) (λ w. break_at b (10 ∷ w) w (subst (λ (y : Text). Newline (y ++ (10 ∷ w)) w) (sym n) (lf w))) (λ v xs. open_letter b n)
+
+pub end_alone : (t : Text) → t ≡ [] → TerminatorLacks t (Some 1)
+end_alone t e = lacks_lf t (subst (λ (z : Text). Terminator z []) (sym e) Terminator.at_end) (λ w. Break.newline (subst (λ (z : Text). Newline (z ++ (10 ∷ w)) w) (sym e) (lf w))) (λ v xs. at_end_letter e)
+
+pub no_terminator : (t : Text) → ((r : Text) → t ≡ 59 ∷ r → ⊥) → ((r : Text) → Break t r → ⊥) → (t ≡ [] → ⊥) → TerminatorLacks t None
+no_terminator t f g h = λ (v, m, x). none f g h m x
+  where
+    none : {t v : Text} → ((r : Text) → t ≡ 59 ∷ r → ⊥) → ((r : Text) → Break t r → ⊥) → (t ≡ [] → ⊥) → Terminator t v → Gap true v [] → ⊥
+    none f g h (Terminator.semicolon {r = r}) x = f r refl
+    none f g h (Terminator.newline n) x = g _ (Break.newline n)
+    none f g h (Terminator.comment l) x = g _ (Break.comment l)
+    none f g h Terminator.at_end x = h refl
+    none f g h Terminator.at_close x = let z = halts at_brace x in cc

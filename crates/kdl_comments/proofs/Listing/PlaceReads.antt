@@ -1,6 +1,7 @@
 -- The items of a gap and of a place, piece by piece.
 use Rattle.std.proofs.Common.{◌≡◌, ◌↔◌, ◌<◌, true, false, List, [], ◌∷◌, ◌++◌, length, Option, Some, None, refl, sym, ap, subst, ◌∙◌, arith, append_assoc, append-nil}
-use Rattle.kdl_text.specs.Chars.{Text, begins_two}
+use Rattle.kdl_text.specs.Chars.{Text}
+use Rattle.kdl_text.specs.Trivia.{slashdash}
 use Rattle.kdl_comments.specs.Items.{Item, SpaceItems, LineSpaceItems, GapItems, Place, before_entry, before_block, behind_block, may_end, spaced, PlaceItems}
 use Rattle.kdl_comments.specs.Internal.Passed.{PlaceTakes}
 use Rattle.kdl_comments.specs.Internal.Reading.{Run, Adds, Takes}
@@ -29,17 +30,14 @@ leaves_all X Y is l y = (l is).1 ([], sym (append-nil is), y)
 leaves_none : (X Y : List Item → Type 0) (is : List Item) → Leaves X Y is → ((js : List Item) → Y js → ⊥) → (all : List Item) → X all → ⊥
 leaves_none X Y is l n all x = let (js, e, y) = (l all).0 x in n js y
 
-no_dash : (s t : Text) → begins_two 47 45 s ≡ false → s ≡ 47 ∷ 45 ∷ t → ⊥
-no_dash s t b e = let x = rw e at b in cc
-
 -- line-spaces in a gap
 run_leaves : {s r : Text} {is : List Item} → Run LineSpaceItems s r is → Leaves (GapItems s) (GapItems r) is
 run_leaves {s = s} none = leaves_start (GapItems s)
 run_leaves {s = s} {r = r} (more {t = t} {is = is} {js = js} d ds) = leaves_then (GapItems s) (GapItems t) (GapItems r) is js (gap_space d) (run_leaves ds)
 
-pub gap_spaces : (s : Text) (old new : List Item) → (s ≡ [] → ⊥) → begins_two 47 45 s ≡ false → (o : Option Text) → Adds LineSpaceItems s o old new → Takes GapItems GapItems s o old new
+pub gap_spaces : (s : Text) (old new : List Item) → (s ≡ [] → ⊥) → ((t : Text) → s ≡ 47 ∷ 45 ∷ t → ⊥) → (o : Option Text) → Adds LineSpaceItems s o old new → Takes GapItems GapItems s o old new
 gap_spaces s old new n b (Some r) (is, run, e, h) = (is, e, h, run_leaves run)
-gap_spaces s old new n b None f = gap_none n (λ r p. let d = line_space_items p in f r d.0 d.1) (λ t. no_dash s t b)
+gap_spaces s old new n b None f = gap_none n (λ r p. let d = line_space_items p in f r d.0 d.1) b
 
 -- the gap so far
 pub gap_turn : (s t u v : Text) (old new : List Item) → Leaves (GapItems s) (GapItems t) old → Takes GapItems GapItems t (Some u) old new → v ≡ u → Leaves (GapItems s) (GapItems v) new
@@ -75,6 +73,12 @@ first_places p {s = s} {r = r} h (more {t = t} {is = is} {js = js} d ds) =
 
 pub place_spaces : (p q : Place) (s r : Text) (old new : List Item) → q ≡ spaced true p → Adds SpaceItems s (Some r) old new → PlaceTakes p s (Some (q, r)) old new
 place_spaces p q s r old new x (is, run, e, h) = (is, e, h, subst (λ (z : Place). Leaves (PlaceItems p s) (PlaceItems z r) is) (sym x) (first_places p h run))
+
+pub place_none : {p : Place} {s : Text} → (s ≡ [] → ⊥) → ((r : Text) (is : List Item) → SpaceItems s r is → ⊥) → ((t : Text) → s ≡ 47 ∷ 45 ∷ t → ⊥) → (all : List Item) → PlaceItems p s all → ⊥
+place_none a b c all (PlaceItems.ends e) = a refl
+place_none a b c all (PlaceItems.space d g) = b _ _ d
+place_none a b c all (PlaceItems.dropped_entry e (slashdash ls) i g) = c _ refl
+place_none a b c all (PlaceItems.dropped_block e (slashdash ls) x g) = c _ refl
 
 -- the place so far
 pub place_turn : (p q w : Place) (s t u v : Text) (old new : List Item) → Leaves (PlaceItems p s) (PlaceItems q t) old → PlaceTakes q t (Some (w, u)) old new → v ≡ u → Leaves (PlaceItems p s) (PlaceItems w v) new

@@ -1,5 +1,4 @@
 -- How the results of the readers of what a text lacks relate to the text.
-use Rattle.std.specs.Borrow.{Bor}
 use Rattle.std.specs.Prelude.{◌≡◌, ◌⊎◌, ℕ, suc, ◌<◌, ◌≤◌, Bool, true, false, List, [], ◌∷◌, ◌++◌, Option, Some, None, length}
 use Rattle.std.specs.Str.{chars}
 use Rattle.kdl_text.specs.Chars.{Text, begins, Newline, Star, Plus}
@@ -19,12 +18,11 @@ use Rattle.kdl_comments.specs.declared.lacks.GapPiece.TheVariants.{Until, Last}
 use Rattle.kdl_comments.specs.declared.lacks.PlacePiece.{PlacePiece}
 use Rattle.kdl_comments.specs.declared.lacks.PlacePiece.TheVariants.{Onward, InEscline}
 
--- how a line ends: before a rest, in a CR, or at the end of the text; none if neither a newline nor the end is here
-abbrev pub LineEnds : Text → Option Ending → Type 0
-LineEnds e (Some (Before r)) = (w : Text) → Newline (e ++ w) (chars r.now ++ w)
-LineEnds e (Some InReturn) = e ≡ 13 ∷ []
-LineEnds e (Some Open) = e ≡ []
-LineEnds e None = (e ≡ [] → ⊥) × ((r : Text) → Newline e r → ⊥)
+-- how a line ends: before a rest, in a CR, or at the end of the text
+abbrev pub LineEnds : Text → Ending → Type 0
+LineEnds e (Before r) = (w : Text) → Newline (e ++ w) (chars r.now ++ w)
+LineEnds e InReturn = e ≡ 13 ∷ []
+LineEnds e Open = e ≡ []
 
 -- the piece ends in a CR: an LF after it is part of its newline
 pub record EndsInReturn (X : Text → Text → Type 0) (s : Text) : Type 0 where
@@ -91,11 +89,6 @@ pub record PlaceThrough (p : Place) (s : Text) (q : Place) (r : Text) : Type 0 w
   pub back : (js : List Item) → PlaceItems q r js → (is : List Item) × PlaceItems p s is
   pub adds : (js : List Item) → PlaceItems q r js → (w z : Text) → ValueEnd true z → InPlace q (r ++ w) z → InPlace p (s ++ w) z
   pub blocks : takes_blocks p ≡ true → takes_blocks q ≡ true
-
--- the first piece of a place ends before a rest, in the place there; or the text may not be in the place
-abbrev pub PlaceGoes : held.Place → Text → Option (held.Place × Bor (List ℕ)) → Type 0
-PlaceGoes p s (Some (q, r)) = PlaceThrough (place_view p) s (place_view q) (chars r.now) × (length (chars r.now) < length s)
-PlaceGoes p s None = (is : List Item) → PlaceItems (place_view p) s is → ⊥
 
 -- the first piece ends before a rest; or it is the whole text, and ends in an escline that lacks a newline; or the text may not be in the place
 abbrev pub PlacePieceEnds : held.Place → Text → Option PlacePiece → Type 0

@@ -1,15 +1,20 @@
 -- How the results of the readers of items relate to the text.
 use Rattle.std.specs.Borrow.{Bor}
-use Rattle.std.specs.Prelude.{◌≡◌, ◌↔◌, ℕ, ◌<◌, List, [], ◌++◌, Option, Some, None, map, length, option_map}
+use Rattle.std.specs.Prelude.{◌≡◌, ◌↔◌, ℕ, ◌<◌, Bool, true, false, List, [], ◌∷◌, ◌++◌, Option, Some, None, map, length, option_map}
 use Rattle.std.specs.Str.{chars}
-use Rattle.kdl_text.specs.Chars.{Text}
+use Rattle.kdl_text.specs.Chars.{Text, Newline as IsNewline, Space as IsSpace, Plus}
 use Rattle.kdl_text.specs.Spans.{bytes}
+use Rattle.kdl_text.specs.Trivia.{BlockComment, LineComment}
+use Rattle.kdl_lexer.specs.Tokens.{Token, BeginsToken, space, newline, slashdash}
+use Rattle.kdl_entry.specs.Places.{between}
 use Rattle.kdl_comments.specs.Items as items
-use Rattle.kdl_comments.specs.Items.{GapItems, PlaceItems, before_entry, before_block, behind_block}
+use Rattle.kdl_comments.specs.Items.{line_end, GapItems, PlaceItems, before_entry, before_block, behind_block}
 use Rattle.kdl_comments.specs.declared.item.Item.{Item}
 use Rattle.kdl_comments.specs.declared.item.Item.TheVariants.{Comment, Piece}
 use Rattle.kdl_comments.specs.declared.item.Place.{Place}
 use Rattle.kdl_comments.specs.declared.item.Place.TheVariants.{BeforeEntry, BeforeBlock, BehindBlock}
+use Rattle.kdl_comments.specs.declared.spaces.Start.{Start}
+use Rattle.kdl_comments.specs.declared.spaces.Start.TheVariants.{Space, Break, Backslash, Slashdash, End, Other}
 
 -- the item in memory, with its text as characters
 abbrev pub item_view : Item → items.Item
@@ -27,6 +32,29 @@ place_view BehindBlock = behind_block
 -- a piece of n bytes begins the text
 abbrev pub Cut : Text → ℕ → Type 0
 Cut s n = (p : Text) × (r : Text) × (s ≡ p ++ r) × (bytes p ≡ n)
+
+-- a token that may be in a gap or a place
+abbrev pub is_piece : Token → Bool
+is_piece space = true
+is_piece newline = true
+is_piece slashdash = true
+is_piece _ = false
+
+-- what begins the text
+abbrev pub Starts : Text → Start → Type 0
+Starts s (Space None r) = Plus IsSpace s (chars r.now)
+Starts s (Space (Some i) r) = BlockComment s (chars r.now) × (item_view i ≡ items.piece (between s (chars r.now)))
+Starts s (Break None r) = IsNewline s (chars r.now)
+Starts s (Break (Some i) r) = LineComment s (chars r.now) × (item_view i ≡ items.comment (between s (line_end s)))
+Starts s (Backslash r) = s ≡ 92 ∷ chars r.now
+Starts s Slashdash = (t : Text) × (s ≡ 47 ∷ 45 ∷ t)
+Starts s End = s ≡ []
+Starts s Other = (s ≡ [] → ⊥) × ((r : Text) (k : Token) → BeginsToken s k r → is_piece k ≡ false)
+
+-- the item that was found, if one was
+abbrev pub found : Option Item → List items.Item
+found None = []
+found (Some i) = item_view i ∷ []
 
 -- pieces of a kind in a row, with their items
 pub data Run (X : Text → Text → List items.Item → Type 0) : Text → Text → List items.Item → Type 0 where

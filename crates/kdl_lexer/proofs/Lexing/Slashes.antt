@@ -12,8 +12,8 @@ use Rattle.kdl_text.specs.Trivia.{BlockComment, LineComment}
 use Rattle.kdl_text.specs.declared.span.SourceSpan.{SourceSpan}
 use Rattle.kdl_text.specs.declared.trivia.SlashRead.{SlashRead}
 use Rattle.kdl_text.specs.declared.trivia.SlashRead.TheVariants.{Block, Line, Dash, Unclosed, Other}
-use Rattle.kdl_lexer.specs.Internal.Handed.{Cuts, HandsOver, Lexed, LexedNext, NextCosts, ReturnsApart, IsAfterSlash, IsFaultAt, begins_apart}
-use Rattle.kdl_lexer.specs.Tokens.{Token, NoToken, space, newline, slashdash}
+use Rattle.kdl_lexer.specs.Internal.Handed.{Alone, AloneNext, Cuts, one, HandsOver, Lexed, LexedNext, NextCosts, ReturnsApart, IsAfterSlash, IsFaultAt, begins_apart}
+use Rattle.kdl_lexer.specs.Tokens.{Token, BeginsToken, NoToken, space, newline, slashdash}
 use Rattle.kdl_lexer.specs.declared.lexer.LexFailure.{LexFailure}
 use Rattle.kdl_lexer.specs.declared.lexer.LexFailure.TheVariants.{Faulty}
 use Rattle.kdl_lexer.specs.declared.lexer.NextToken.{NextToken}
@@ -44,11 +44,21 @@ module _ (a b e : Here) (l : b ≡ looked a) where
 
   -- at a slash
   pub slash_next : (x : SlashRead) (span : TokenSpan) (r : Result NextToken LexFailure) → first b.rest ≡ Some 47 → ReadsSlash x b e → span.start.rest ≡ a.rest → span.start.at ≡ a.at → span.end.rest ≡ e.rest → span.end.at ≡ e.at → IsAfterSlash x span r → LexedNext a r e
-  slash_next Block span r f h s t u v i = rw i (over space span s t u v (a_block_here b.rest e.rest h))
-  slash_next Line span r f h s t u v i = rw i (over newline span s t u v (a_line_here b.rest e.rest h))
-  slash_next Dash span r f h s t u v i = rw i (over slashdash span s t u v (a_dash_here b.rest e.rest h))
+  slash_next Block span r f h s t u v i = rw i (over space span s t u v (one (a_block_here b.rest e.rest h)))
+  slash_next Line span r f h s t u v i = rw i (over newline span s t u v (one (a_line_here b.rest e.rest h)))
+  slash_next Dash span r f h s t u v i = rw i (over slashdash span s t u v (one (a_dash_here b.rest e.rest h)))
   slash_next Unclosed span r f h s t u v i = rw (i.1) (none span.start i.0 s t (unclosed_here b.rest e.rest f h.0) i.2)
   slash_next Other span r f h s t u v i = rw (i.1) (none span.start i.0 s t (no_slash_here b.rest e.rest f h.0 h.1 h.2) i.2)
+
+  read : (k : Token) → BeginsToken b.rest k e.rest → Alone a.rest k e.rest
+  read k t = subst (λ (z : Text). Alone z k e.rest) here (Alone.token t)
+
+  pub slash_alone : (x : SlashRead) (span : TokenSpan) (r : Result NextToken LexFailure) → ReadsSlash x b e → IsAfterSlash x span r → AloneNext a r e
+  slash_alone Block span r h i = rw i (read space (a_block_here b.rest e.rest h))
+  slash_alone Line span r h i = rw i (read newline (a_line_here b.rest e.rest h))
+  slash_alone Dash span r h i = rw i (read slashdash (a_dash_here b.rest e.rest h))
+  slash_alone Unclosed span r h i = rw (i.1) tt
+  slash_alone Other span r h i = rw (i.1) tt
 
   pub slash_returned : (x : SlashRead) (span : TokenSpan) (r : Result NextToken LexFailure) → ReadsSlash x b e → IsAfterSlash x span r → ReturnsApart a r e
   slash_returned Block span r h i = rw i (inr (subst (λ (z : Text). BlockComment z e.rest) here ((h e.rest).1 refl)))

@@ -10,7 +10,7 @@ use Rattle.std.specs.Prelude.{Some, None, Option, Result, Ok, Err, IfOk, string_
 use Rattle.std.specs.List.{list_all}
 use Rattle.std.specs.Str.{chars, IsAscii}
 use Rattle.std.specs.declared.alloc.Global.{Global}
-use Rattle.kdl_text.specs.Chars.{Text, Newline, Star, Plus, is_space, is_newline_char, is_identifier_char, is_banned, is_punctuation, begins_two, starts, times, is_digit, is_sign}
+use Rattle.kdl_text.specs.Chars.{Text, Newline, Star, Plus, Space, is_space, is_newline_char, is_identifier_char, is_banned, is_punctuation, begins_two, starts, times, is_digit, is_sign}
 use Rattle.kdl_text.specs.Chars.Star.{none, more}
 use Rattle.kdl_text.specs.Chars.Newline.{one as newline_one}
 use Rattle.kdl_text.specs.Chars.Plus.{plus}
@@ -23,7 +23,7 @@ use Rattle.kdl_text.specs.Internal.NumberReading.{ReadsNumber, ReadsKeyword, num
 use Rattle.kdl_text.specs.Numbers.{IsNumber, is_whole, is_decimal, NumberValue, whole_value, decimal_text, IsKeyword, begins_number, Decimal, FloatText}
 use Rattle.kdl_text.specs.Raw.{IsRaw}
 use Rattle.kdl_text.specs.Internal.Reading.{Moves, Costs, Reads, ReadsNewline}
-use Rattle.kdl_text.specs.Trivia.{NodeSpace, BlockComment, LineComment, Escline}
+use Rattle.kdl_text.specs.Trivia.{BlockComment, LineComment, Escline}
 use Rattle.kdl_text.specs.Trivia.LineComment.{line}
 use Rattle.kdl_text.specs.Trivia.Ws.{space as ws_space, comment as ws_comment}
 use Rattle.kdl_text.specs.Trivia.NodeSpace.{ws, escline as node_escline}
@@ -34,6 +34,7 @@ use Rattle.kdl_text.specs.declared.numbers.Number.{Number}
 use Rattle.kdl_text.specs.declared.numbers.Number.TheVariants.{Integer as IntegerNumber, Decimal as DecimalNumber}
 use Rattle.kdl_text.specs.declared.strings.StringFailure.{StringFailure}
 use Rattle.kdl_text.specs.declared.strings.StringFailure.TheVariants.{Fault as StringFaulty, Memory as StringMemory}
+use Rattle.kdl_text.proofs.Looking.Stars.{star_map}
 use Rattle.kdl_text.proofs.Looking.MovesJoin.{moves_one, bytes-append, fewer_bytes}
 use Rattle.kdl_text.proofs.Numeric.KeywordUnique.{keyword_begins}
 use Rattle.kdl_text.proofs.Quoted.BareReads.{bare_begins, letter_no_digit, letter_no_sign, letter_word}
@@ -49,8 +50,8 @@ use Rattle.kdl_value.specs.Tree.{value_tree}
 use Rattle.kdl_value.specs.declared.value.KdlValue.{KdlValue}
 use Rattle.kdl_lexer.specs.Pieces.{StringPiece, bare, quoted, raw, PlainPiece, number, keyword, keyword_value}
 use Rattle.kdl_lexer.specs.Pieces as entries
-use Rattle.kdl_lexer.specs.Internal.Handed.{Cuts, one, spaces, ReadsKind, KindCosts, Passes, IsPunctuation, is_single, kind_view, begins_apart}
-use Rattle.kdl_lexer.specs.Tokens.{space, newline, slashdash, string, value, t_space, t_newline, t_slashdash, t_string, t_value, NoToken}
+use Rattle.kdl_lexer.specs.Internal.Handed.{Alone, Cuts, one, spaces, ReadsKind, KindCosts, Passes, IsPunctuation, is_single, kind_view, begins_apart}
+use Rattle.kdl_lexer.specs.Tokens.{Token, BeginsToken, space, newline, slashdash, string, value, t_space, t_newline, t_slashdash, t_string, t_value, NoToken}
 use Rattle.kdl_lexer.specs.declared.lexer.KindFailure.{KindFailure}
 use Rattle.kdl_lexer.specs.declared.lexer.KindFailure.TheVariants.{Absent, Memory as NoMemory}
 use Rattle.kdl_lexer.specs.declared.lexer.TokenKind.{TokenKind}
@@ -65,9 +66,17 @@ alone : (s : Text) → starts begins_piece s ≡ true → ((r v : Text) → Stri
 alone [] h f g = cc
 alone (c ∷ s) h f g = record { begun = λ e. cc; none = no_piece c s h f g }
 
+-- a token that is read alone, or a run of spaces
+pub read_alone : (s r : Text) (k : Token) → BeginsToken s k r → Alone s k r
+read_alone s r k t = Alone.token t
+
+pub cut_alone : (s r : Text) (k : Token) → Alone s k r → Cuts s k r
+cut_alone s r k (Alone.token t) = one t
+cut_alone s r k (Alone.run (plus p ps)) = spaces (plus (ws (ws_space p)) (star_map (λ u v q. ws (ws_space q)) ps))
+
 -- bare strings
-pub a_bare_here : (s r p v : Text) → BareString s r p → v ≡ p → Cuts s (string v) r
-a_bare_here s r p v b e = one (t_string (bare (rw e b)))
+pub a_bare_here : (s r p v : Text) → BareString s r p → v ≡ p → BeginsToken s (string v) r
+a_bare_here s r p v b e = t_string (bare (rw e b))
 
 no_bare : (s : Text) → starts is_identifier_char s ≡ true → begins_number s ≡ false → ((r v : Text) → BareString s r v → ⊥) → NoToken s
 no_bare s h k n = alone s (at_identifier s h) strings plains
@@ -85,8 +94,8 @@ pub no_bare_here : (s r : Text) → starts is_identifier_char s ≡ true → beg
 no_bare_here s r h k n = no_bare s h k n
 
 -- quoted strings
-pub a_quoted_here : (s r v : Text) → IsQuoted s r v → Cuts s (string v) r
-a_quoted_here s r v q = one (t_string (quoted q))
+pub a_quoted_here : (s r v : Text) → IsQuoted s r v → BeginsToken s (string v) r
+a_quoted_here s r v q = t_string (quoted q)
 
 at_quote : (s : Text) → first s ≡ Some 34 → starts begins_piece s ≡ true
 unfolding is_identifier_char is_space is_newline_char is_banned is_punctuation
@@ -119,8 +128,8 @@ no_quoted_here s r f NoMemory h n x = tt
 abbrev pub looks_raw : Text → Bool
 looks_raw s = starts (λ c. c == 34 || c == 35) (tail s)
 
-pub a_raw_here : (s r v : Text) → IsRaw s r v → Cuts s (string v) r
-a_raw_here s r v q = one (t_string (raw q))
+pub a_raw_here : (s r v : Text) → IsRaw s r v → BeginsToken s (string v) r
+a_raw_here s r v q = t_string (raw q)
 
 at_sign : (s : Text) → first s ≡ Some 35 → starts begins_piece s ≡ true
 unfolding is_identifier_char is_space is_newline_char is_banned is_punctuation
@@ -165,8 +174,8 @@ no_raw_here s r (StringFaulty f) Absent h k n x = no_sign s h (λ r v q. let z =
 no_raw_here s r StringMemory Absent h k n x = cc
 no_raw_here s r f NoMemory h k n x = tt
 
-pub a_keyword_here : (s r : Text) (k : Keyword) (v : Value) → ReadsKeyword (Some k) s r → v ≡ keyword_value k → Cuts s (value v) r
-a_keyword_here s r k v h e = one (t_value (keyword ((h r k).1 (refl, refl)) e))
+pub a_keyword_here : (s r : Text) (k : Keyword) (v : Value) → ReadsKeyword (Some k) s r → v ≡ keyword_value k → BeginsToken s (value v) r
+a_keyword_here s r k v h e = t_value (keyword ((h r k).1 (refl, refl)) e)
 
 pub no_keyword_here : (s t r : Text) → first s ≡ Some 35 → looks_raw s ≡ false → ReadsKeyword None s t → ReadsKind s (Err Absent) r
 no_keyword_here s t r h k n = no_sign s h (λ r v q. clash (looks_raw s) (raw_looks s r v q) k) n
@@ -178,8 +187,8 @@ keyword_costs k a b h m c = more_costs a b (plain_costs a b (keyword_value k) (k
 int_fits : (s r : Text) (n : ℤ) → IsNumber s r (whole_value n) → to_z w128 (of_z w128 n) ≡ n
 int_fits s r n (is_whole w) = number_fits s r n w
 
-pub integer_here : (s r : Text) (n : ℤ) → ReadsNumber (Ok (IntegerNumber n)) s r → Cuts s (value (integer (to_z w128 (of_z w128 n)))) r
-integer_here s r n h = let x : IsNumber s r (whole_value n) = (h r (whole_value n)).1 (refl, refl) in one (t_value (number x (ap integer (int_fits s r n x))))
+pub integer_here : (s r : Text) (n : ℤ) → ReadsNumber (Ok (IntegerNumber n)) s r → BeginsToken s (value (integer (to_z w128 (of_z w128 n)))) r
+integer_here s r n h = let x : IsNumber s r (whole_value n) = (h r (whole_value n)).1 (refl, refl) in t_value (number x (ap integer (int_fits s r n x)))
 
 decimal_of : (s r w : Text) → IsNumber s r (decimal_text w) → Decimal s r w
 decimal_of s r w (is_decimal d) = d
@@ -187,8 +196,8 @@ decimal_of s r w (is_decimal d) = d
 pub decimal_float : (s r : Text) (x : String Global) → ReadsNumber (Ok (DecimalNumber x)) s r → FloatText (chars (string_bytes x))
 decimal_float s r x h = read_float (decimal_of s r (chars (string_bytes x)) ((h r (decimal_text (chars (string_bytes x)))).1 (refl, refl)))
 
-pub decimal_here : (s r w : Text) (x : String Global) → ReadsNumber (Ok (DecimalNumber x)) s r → w ≡ chars (string_bytes x) → Cuts s (value (float w)) r
-decimal_here s r w x h e = one (t_value (number ((h r (decimal_text (chars (string_bytes x)))).1 (refl, refl)) (ap float e)))
+pub decimal_here : (s r w : Text) (x : String Global) → ReadsNumber (Ok (DecimalNumber x)) s r → w ≡ chars (string_bytes x) → BeginsToken s (value (float w)) r
+decimal_here s r w x h e = t_value (number ((h r (decimal_text (chars (string_bytes x)))).1 (refl, refl)) (ap float e))
 
 no_number : (s : Text) → begins_number s ≡ true → ((r : Text) (v : NumberValue) → IsNumber s r v → ⊥) → NoToken s
 no_number s h n = alone s (at_identifier s (number_front s h)) strings plains
@@ -209,14 +218,14 @@ pub number_costs : (x : Number) (a b : Here) → ReadsNumber (Ok x) a.rest b.res
 number_costs x a b h m c = plain_costs a b (entries.number_value (number_value x)) (number ((h b.rest (number_value x)).1 (refl, refl)) refl) m c
 
 -- slashes
-pub a_block_here : (s r : Text) → Reads BlockComment true s r → Cuts s space r
-a_block_here s r h = one (t_space (ws (ws_comment ((h r).1 refl))))
+pub a_block_here : (s r : Text) → Reads BlockComment true s r → BeginsToken s space r
+a_block_here s r h = t_space (ws (ws_comment ((h r).1 refl)))
 
-pub a_line_here : (s r : Text) → Reads LineComment true s r → Cuts s newline r
-a_line_here s r h = one (t_newline (break_comment ((h r).1 refl)))
+pub a_line_here : (s r : Text) → Reads LineComment true s r → BeginsToken s newline r
+a_line_here s r h = t_newline (break_comment ((h r).1 refl))
 
-pub a_dash_here : (s r : Text) → s ≡ 47 ∷ 45 ∷ r → Cuts s slashdash r
-a_dash_here s r e = rw e (one t_slashdash)
+pub a_dash_here : (s r : Text) → s ≡ 47 ∷ 45 ∷ r → BeginsToken s slashdash r
+a_dash_here s r e = rw e t_slashdash
 
 no_slash_at : (s : Text) → first s ≡ Some 47 → ((r : Text) → BlockComment s r → ⊥) → ((r : Text) → LineComment s r → ⊥) → begins_two 47 45 s ≡ false → NoToken s
 no_slash_at [] h f g k = cc
@@ -242,8 +251,8 @@ pub no_slash_here : (s r : Text) → first s ≡ Some 47 → begins_two 47 42 s 
 no_slash_here s r h a b c = no_slash_at s h (λ r. no_block_at s r a) (λ r. no_line_at s r b) c
 
 -- esclines
-pub an_escline_here : (s r : Text) → Reads Escline true s r → Cuts s space r
-an_escline_here s r h = one (t_space (node_escline ((h r).1 refl)))
+pub an_escline_here : (s r : Text) → Reads Escline true s r → BeginsToken s space r
+an_escline_here s r h = t_space (node_escline ((h r).1 refl))
 
 pub no_escline_here : (s t r : Text) → first s ≡ Some 92 → Reads Escline false s t → ReadsKind s (Err Absent) r
 no_escline_here s t r h n = rw (first_is s 92 h) (record { begun = λ y. cc; none = no_backslash (tail s) (subst (λ (z : Text). (r : Text) → Escline z r → ⊥) (first_is s 92 h) n) })
@@ -270,16 +279,16 @@ few_costs (Ok x) a b v p = record { fewer = p.fewer; costs = record { most = ome
 few_costs (Err Absent) a b v p = record { most = omega (arith, p.most, fewer_bytes v); least = p.least }
 few_costs (Err NoMemory) a b v p = tt
 
-spaces_of : (p r : Text) → list_all is_space p ≡ true → Star NodeSpace (p ++ r) r
+spaces_of : (p r : Text) → list_all is_space p ≡ true → Star Space (p ++ r) r
 spaces_of [] r h = none
-spaces_of (c ∷ p) r h = let k = and_parts (is_space c) _ h in more (ws (ws_space (space_char k.0))) (spaces_of p r k.1)
+spaces_of (c ∷ p) r h = let k = and_parts (is_space c) _ h in more (space_char k.0) (spaces_of p r k.1)
 
-some_spaces : (c : ℕ) (p s r : Text) → c ∷ s ≡ p ++ r → is_space c ≡ true → list_all is_space p ≡ true → starts is_space r ≡ false → Plus NodeSpace (c ∷ s) r
+some_spaces : (c : ℕ) (p s r : Text) → c ∷ s ≡ p ++ r → is_space c ≡ true → list_all is_space p ≡ true → starts is_space r ≡ false → Plus Space (c ∷ s) r
 some_spaces c [] s r e h k n = absurd (clash (starts is_space r) (rw (← e) h) n)
-some_spaces c (d ∷ p) s r e h k n = rw e (let x = and_parts (is_space d) _ k in plus (ws (ws_space (space_char x.0))) (spaces_of p r x.1))
+some_spaces c (d ∷ p) s r e h k n = rw e (let x = and_parts (is_space d) _ k in plus (space_char x.0) (spaces_of p r x.1))
 
-pub spaces_here : (c : ℕ) (a b : Here) → first a.rest ≡ Some c → is_space c ≡ true → Skips is_space a b → Cuts a.rest space b.rest
-spaces_here c a b h w (u, k) = let f = first_is a.rest c h in rw f (spaces (some_spaces c u (tail a.rest) b.rest (sym f ∙ k.text) w k.all k.stops))
+pub spaces_alone : (c : ℕ) (a b : Here) → first a.rest ≡ Some c → is_space c ≡ true → Skips is_space a b → Alone a.rest space b.rest
+spaces_alone c a b h w (u, k) = let f = first_is a.rest c h in rw f (Alone.run (some_spaces c u (tail a.rest) b.rest (sym f ∙ k.text) w k.all k.stops))
 
 some_run : (c : ℕ) (u s r : Text) → c ∷ s ≡ u ++ r → is_space c ≡ true → starts is_space r ≡ false → 1 ≤ length u
 some_run c [] s r e h n = absurd (clash (starts is_space r) (rw (← e) h) n)
@@ -309,8 +318,8 @@ read_newline : (v : Bool) (c : ℕ) (s : Text) (a b : Here) → a.rest ≡ c ∷
 read_newline true c s a b f w n = n
 read_newline false c s a b f w n = let t = newline_there c s w in absurd (n.1 t.0 (subst (λ (z : Text). Newline z t.0) (sym f) t.1))
 
-pub newline_here : (c : ℕ) (v : Bool) (a b : Here) → first a.rest ≡ Some c → is_newline_char c ≡ true → ReadsNewline v a b → Cuts a.rest newline b.rest
-newline_here c v a b h w n = one (t_newline (break_newline (read_newline v c (tail a.rest) a b (first_is a.rest c h) w n)))
+pub newline_here : (c : ℕ) (v : Bool) (a b : Here) → first a.rest ≡ Some c → is_newline_char c ≡ true → ReadsNewline v a b → BeginsToken a.rest newline b.rest
+newline_here c v a b h w n = t_newline (break_newline (read_newline v c (tail a.rest) a b (first_is a.rest c h) w n))
 
 pub newline_costs : (c : ℕ) (v : Bool) (a b : Here) → first a.rest ≡ Some c → is_newline_char c ≡ true → ReadsNewline v a b → Moves a b → Costs 2 1 a b → PieceCosts 22 a b
 newline_costs c v a b h w n m k =
@@ -321,15 +330,15 @@ took_here : (c : ℕ) (o : Option ℕ) (a b : Here) → first a.rest ≡ Some c 
 took_here c None a b h (x, y) = let z : first a.rest ≡ None = ap first x in cc
 took_here c (Some d) a b h (x, y, z) = let e : d ≡ c = let f : first a.rest ≡ Some d = ap first x in cc in subst (λ (v : ℕ). Took (Some v) a b) e (x, y, z)
 
-pub punctuation_here : (c : ℕ) (k : TokenKind) (o : Option ℕ) (a b : Here) → first a.rest ≡ Some c → IsPunctuation c (Some k) → Took o a b → Cuts a.rest (kind_view k) b.rest
-punctuation_here c k o a b h i t = rw (took_here c o a b h t).0 (one (i b.rest))
+pub punctuation_here : (c : ℕ) (k : TokenKind) (o : Option ℕ) (a b : Here) → first a.rest ≡ Some c → IsPunctuation c (Some k) → Took o a b → BeginsToken a.rest (kind_view k) b.rest
+punctuation_here c k o a b h i t = rw (took_here c o a b h t).0 (i b.rest)
 
 line_feed : (s : Text) → Newline (10 ∷ s) s
 unfolding is_newline_char
 line_feed s = newline_one refl refl
 
-pub line_feed_here : (c : ℕ) (o : Option ℕ) (a b : Here) → first a.rest ≡ Some c → c ≡ 10 → Took o a b → Cuts a.rest newline b.rest
-line_feed_here c o a b h e t = rw ((took_here c o a b h t).0, e) (one (t_newline (break_newline (line_feed b.rest))))
+pub line_feed_here : (c : ℕ) (o : Option ℕ) (a b : Here) → first a.rest ≡ Some c → c ≡ 10 → Took o a b → BeginsToken a.rest newline b.rest
+line_feed_here c o a b h e t = rw ((took_here c o a b h t).0, e) (t_newline (break_newline (line_feed b.rest)))
 
 pub take_moves : (c : ℕ) (o : Option ℕ) (a b : Here) → first a.rest ≡ Some c → Took o a b → Moves a b
 take_moves c o a b h t = moves_one (took_here c o a b h t)

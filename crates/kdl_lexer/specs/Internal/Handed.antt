@@ -1,7 +1,7 @@
 -- What the lexer returns.
 use Rattle.std.specs.Char.{is_ascii_alphabetic}
 use Rattle.std.specs.Prelude.{◌≡◌, ◌⊎◌, ℕ, Bool, true, false, ◌||◌, ◌==◌, [], ◌∷◌, ◌++◌, Option, Some, None, Result, Ok, Err}
-use Rattle.kdl_text.specs.Chars.{Text, Plus, starts, begins_two, is_digit, is_space}
+use Rattle.kdl_text.specs.Chars.{Text, Space as SpaceChar, Plus, starts, begins_two, is_digit, is_space}
 use Rattle.kdl_text.specs.Internal.Here.{Here, Position, first_len}
 use Rattle.kdl_text.specs.Internal.Reading.{Costs}
 use Rattle.kdl_text.specs.Trivia.{NodeSpace, BlockComment, LineComment}
@@ -30,6 +30,11 @@ pub data Cuts : Text → tokens.Token → Text → Type 0 where
   one : {s r : Text} {k : tokens.Token} → BeginsToken s k r → Cuts s k r
   spaces : {s r : Text} → Plus NodeSpace s r → Cuts s tokens.space r
 
+-- the token k begins the text; a run of spaces is read as one token
+pub data Alone : Text → tokens.Token → Text → Type 0 where
+  token : {s r : Text} {k : tokens.Token} → BeginsToken s k r → Alone s k r
+  run : {s r : Text} → Plus SpaceChar s r → Alone s tokens.space r
+
 -- the token that a kind represents
 abbrev pub kind_view : TokenKind → tokens.Token
 kind_view Space = tokens.space
@@ -52,7 +57,7 @@ pub record IsFaultAt (place : Position) (span : SourceSpan) : Type 0 where
 
 -- the kind of the token that was read at s, before r
 abbrev pub ReadsKind : Text → Result TokenKind KindFailure → Text → Type 0
-ReadsKind s (Ok k) r = Cuts s (kind_view k) r
+ReadsKind s (Ok k) r = BeginsToken s (kind_view k) r
 ReadsKind s (Err Absent) r = NoToken s
 ReadsKind s (Err NoMemory) r = Unit {0}
 
@@ -115,6 +120,12 @@ LexCosts (Ok None) old new = Costs 24 1 old new
 LexCosts (Err (Faulty span)) old new = Costs 24 24 old new
 LexCosts (Err Memory) old new = Unit {0}
 
+-- a token is read alone, or is a run of spaces
+abbrev pub ReadsAlone : Here → Result (Option Token) LexFailure → Here → Type 0
+ReadsAlone old (Ok (Some t)) new = Alone old.rest (kind_view t.kind) new.rest
+ReadsAlone old (Ok None) new = Unit {0}
+ReadsAlone old (Err f) new = Unit {0}
+
 -- what a call returns that returns common tokens apart; a bare string is as it is in the text
 abbrev pub LexedNext : Here → Result NextToken LexFailure → Here → Type 0
 LexedNext old (Ok (Spaces span)) new = HandsOver old tokens.space span new
@@ -123,6 +134,15 @@ LexedNext old (Ok (Word w span)) new = HandsOver old (tokens.string w) span new 
 LexedNext old (Ok (Other t)) new = HandsOut old t new
 LexedNext old (Ok End) new = old.rest ≡ []
 LexedNext old (Err f) new = Lexed old (Err f) new
+
+-- the same: a token is read alone, or is a run of spaces
+abbrev pub AloneNext : Here → Result NextToken LexFailure → Here → Type 0
+AloneNext old (Ok (Spaces span)) new = Alone old.rest tokens.space new.rest
+AloneNext old (Ok (Lines span)) new = Alone old.rest tokens.newline new.rest
+AloneNext old (Ok (Word w span)) new = Alone old.rest (tokens.string w) new.rest
+AloneNext old (Ok (Other t)) new = Alone old.rest (kind_view t.kind) new.rest
+AloneNext old (Ok End) new = Unit {0}
+AloneNext old (Err f) new = Unit {0}
 
 -- what is next, by what was read at the slash where the span begins
 abbrev pub IsAfterSlash : SlashRead → TokenSpan → Result NextToken LexFailure → Type 0

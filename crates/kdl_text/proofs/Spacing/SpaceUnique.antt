@@ -1,10 +1,8 @@
 -- Comments and spaces: what each begins with, and that a text begins with one of each at most.
-use Rattle.std.proofs.Common.{◌≡◌, ℕ, [], ◌∷◌, true, false, refl, sym, subst, arith}
+use Rattle.std.proofs.Common.{◌≡◌, ℕ, ◌∷◌, true, false, refl, sym, subst, arith}
 use Rattle.std.proofs.lemmas.Bool.Decides.{nat_tests}
-use Rattle.kdl_text.specs.Chars.{Text, is_space, is_newline_char, begins, begins_two, starts, Newline, crlf, one, Star, Plus, plus, Space}
-use Rattle.kdl_text.specs.Chars.Star.{none, more}
+use Rattle.kdl_text.specs.Chars.{Text, is_space, is_newline_char, begins, begins_two, starts, Newline, crlf, one, Star, Space}
 use Rattle.kdl_text.specs.Chars.Space.{space}
-use Rattle.kdl_text.specs.Internal.Reading.{Longest}
 use Rattle.kdl_text.specs.Trivia.{Parts, BlockComment, Line, LineComment, Ws, EscEnd, Escline, NodeSpace, Break, LineSpace}
 use Rattle.kdl_text.specs.Trivia.Parts.{close, nested, other}
 use Rattle.kdl_text.specs.Trivia.BlockComment.{block}
@@ -190,9 +188,3 @@ node_space_dets s r t p q = node_space_det p q
 
 pub line_space_dets : Det LineSpace
 line_space_dets s r t p q = line_space_det p q
-
--- the longest run of spaces has one, if one begins there
-pub spaces_plus : {s r : Text} → starts is_space s ≡ true → Longest Space s r → Plus Space s r
-spaces_plus {s = []} x l = cc
-spaces_plus {s = c ∷ s} x (none, stuck) = absurd (stuck s (space x))
-spaces_plus {s = c ∷ s} x (more p ps, stuck) = plus p ps

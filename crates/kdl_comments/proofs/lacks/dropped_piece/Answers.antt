@@ -27,16 +27,16 @@ returns-else-end c =
     let b = chars c.cut.result.1.now in
     node_until text b (chars c.cut-2.result.0.now) c.cut-2.result.1 c.in-Some.end (behind_dash text c.requires.0 (chars c.cut.result.0.now) b c.requires.1 c.cut.ensures.parts) (rw c.in-Some.is at c.in_ok-end.ensures) c.cut-2.ensures.parts c.if-end.false
 
-pub returns-then-spaces_lack : goal.returns-then-spaces_lack
-returns-then-spaces_lack c =
+pub returns-then-branch : goal.returns-then-branch
+returns-then-branch c =
     let text = chars c.args.text.now in
     let b = chars c.cut.result.1.now in
     node_open text b (chars c.cut-2.result.0.now) (chars c.cut-2.result.1.now) c.in-Some.end true (behind_dash text c.requires.0 (chars c.cut.result.0.now) b c.requires.1 c.cut.ensures.parts) (rw c.in-Some.is at c.in_ok-end.ensures)
-    c.cut-2.ensures.parts c.if-end.true (subst (λ (y : Bool). SpacesLack (chars c.cut-2.result.1.now) y) c.if-spaces_lack.true c.spaces_lack.ensures)
+    c.cut-2.ensures.parts c.if-end.true (subst (λ (y : Bool). SpacesLack (chars c.cut-2.result.1.now) y) c.if-branch.true c.in_ok-spaces_lack.ensures)
 
-pub returns-else-spaces_lack : goal.returns-else-spaces_lack
-returns-else-spaces_lack c =
+pub returns-else-branch : goal.returns-else-branch
+returns-else-branch c =
     let text = chars c.args.text.now in
     let b = chars c.cut.result.1.now in
     node_open text b (chars c.cut-2.result.0.now) (chars c.cut-2.result.1.now) c.in-Some.end false (behind_dash text c.requires.0 (chars c.cut.result.0.now) b c.requires.1 c.cut.ensures.parts) (rw c.in-Some.is at c.in_ok-end.ensures)
-    c.cut-2.ensures.parts c.if-end.true (subst (λ (y : Bool). SpacesLack (chars c.cut-2.result.1.now) y) c.if-spaces_lack.false c.spaces_lack.ensures)
+    c.cut-2.ensures.parts c.if-end.true (subst (λ (y : Bool). SpacesLack (chars c.cut-2.result.1.now) y) c.if-branch.false c.in_ok-spaces_lack.ensures)

@@ -1,21 +1,30 @@
 use Rattle.std.proofs.lemmas.Result.{IfOk-weaker}
 use Rattle.std.specs.Str.{chars}
-use Rattle.kdl_comments.proofs.Lacking.Terminators.{semicolon_gap, line_gap, return_alone, open_alone, no_terminator}
+use Rattle.kdl_comments.proofs.Lacking.Terminators.{semicolon_gap, line_gap, return_alone, open_alone, end_alone, no_terminator}
+use Rattle.kdl_comments.proofs.Listing.Starts.{break_of, no_break, begun}
 use Rattle.kdl_comments.proofs.lacks.terminator_lacks.Goals as goal
 
 pub returns-in-Some : goal.returns-in-Some
 returns-in-Some c = IfOk-weaker c.gap_newlines.result _ _ (λ o. semicolon_gap (chars c.args.text.now) (chars c.in-Some.gap.now) o c.in-Some.ensures) c.gap_newlines.ensures
 
-pub returns-in-Some-Before : goal.returns-in-Some-Before
-returns-in-Some-Before c =
-    IfOk-weaker c.gap_newlines-in-Some-Before.result _ _
-    (λ o. line_gap (chars c.args.text.now) (chars c.behind_comment.result.now) c.in-Some-Before.gap o c.behind_comment.ensures (rw c.in-Some-Before.field-0-is at c.in-Some-Before.ensures)) c.gap_newlines-in-Some-Before.ensures
+pub break_ending-requires : goal.break_ending-requires
+break_ending-requires c = break_of (chars c.args.text.now) c.in-Break.field-0 c.in-Break.rest (rw c.in-Break.is at c.in_ok-rest.ensures)
 
-pub returns-in-Some-InReturn : goal.returns-in-Some-InReturn
-returns-in-Some-InReturn c = return_alone (chars c.args.text.now) (chars c.behind_comment.result.now) c.behind_comment.ensures (rw c.in-Some-InReturn.field-0-is at c.in-Some-InReturn.ensures)
+pub returns-in-Before : goal.returns-in-Before
+returns-in-Before c =
+    let b = break_of (chars c.args.text.now) c.in-Break.field-0 c.in-Break.rest (rw c.in-Break.is at c.in_ok-rest.ensures) in
+    IfOk-weaker c.gap_newlines-in-Before.result _ _ (λ o. line_gap c.in-Before.gap o b (rw c.in-Before.is at c.break_ending.ensures)) c.gap_newlines-in-Before.ensures
 
-pub returns-in-Some-Open : goal.returns-in-Some-Open
-returns-in-Some-Open c = open_alone (chars c.args.text.now) (chars c.behind_comment.result.now) c.behind_comment.ensures (rw c.in-Some-Open.field-0-is at c.in-Some-Open.ensures)
+pub returns-in-InReturn : goal.returns-in-InReturn
+returns-in-InReturn c = return_alone (break_of (chars c.args.text.now) c.in-Break.field-0 c.in-Break.rest (rw c.in-Break.is at c.in_ok-rest.ensures)) (rw c.in-InReturn.is at c.break_ending.ensures)
 
-pub returns-in-None : goal.returns-in-None
-returns-in-None c = no_terminator (chars c.args.text.now) (chars c.behind_comment.result.now) c.in_default.ensures c.behind_comment.ensures c.in-None.ensures
+pub returns-in-Open : goal.returns-in-Open
+returns-in-Open c = open_alone (break_of (chars c.args.text.now) c.in-Break.field-0 c.in-Break.rest (rw c.in-Break.is at c.in_ok-rest.ensures)) (rw c.in-Open.is at c.break_ending.ensures)
+
+pub returns-in-End : goal.returns-in-End
+returns-in-End c = end_alone (chars c.args.text.now) (rw c.in-End.is at c.in_ok-rest.ensures)
+
+pub returns-in_default-2 : goal.returns-in_default-2
+returns-in_default-2 c =
+    let text = chars c.args.text.now in
+    no_terminator text c.in_default.ensures (no_break text _ c.in_ok-rest.ensures c.in_default-2.not-Break) (begun text _ c.in_ok-rest.ensures c.in_default-2.not-End)

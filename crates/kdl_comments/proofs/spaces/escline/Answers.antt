@@ -1,36 +1,25 @@
-use Rattle.std.proofs.Common.{sym, ◌∙◌}
 use Rattle.std.specs.Str.{chars}
 use Rattle.kdl_comments.specs.Internal.Reading.{items_view}
-use Rattle.kdl_comments.specs.declared.item.Item.TheVariants.{Comment, Piece}
-use Rattle.kdl_comments.proofs.Listing.SpaceReads.{no_chars, some_chars, item_added, sofar_start, sofar_turn, turn_shorter, escline_comment, escline_ends, escline_last}
+use Rattle.kdl_comments.proofs.Listing.SpaceReads.{starts_shorter, sofar_space, escline_break, escline_ends, escline_none}
+use Rattle.kdl_comments.proofs.Listing.Starts.{no_ws, no_escline_end}
 use Rattle.kdl_comments.proofs.spaces.escline.Goals as goal
 
-pub comments-init : goal.comments-init
-comments-init c = (c.behind_spaces-rest.utf8, sofar_start (chars c.args.text.now) (chars c.behind_spaces-rest.result.now) (items_view c.args.items.now.items) c.behind_spaces-rest.ensures)
-
 pub comments-smaller : goal.comments-smaller
-comments-smaller c = turn_shorter c.in-Some.ensures.0 c.behind_spaces-rest-in-Some.ensures
+comments-smaller c = rw c.same-rest.ensures (starts_shorter (chars c.comments.rest.now) c.in-Space.item c.in-Space.behind (rw c.in-Space.is at c.in_ok-item.ensures))
 
 pub comments-preserved : goal.comments-preserved
 comments-preserved c = (
-  c.behind_spaces-rest-in-Some.utf8,
-  sofar_turn (chars c.in-Some.comment.now) (chars c.args.text.now) (chars c.comments.rest.now) (chars c.in-Some.behind.now) (chars c.behind_spaces-rest-in-Some.result.now)
-      (items_view c.args.items.now.items) (items_view c.comments.items.items) (items_view c.push.new.self.items) c.comments.invariant.1 c.in-Some.ensures.0 c.in-Some.ensures.1
-      (item_added c.comments.items.items c.push.new.self.items (Piece c.in-Some.comment) c.in_ok-push.ensures.items) c.behind_spaces-rest-in-Some.ensures,
+  c.same-rest.utf8,
+  rw c.same-rest.ensures (sofar_space (chars c.args.text.now) (chars c.comments.rest.now) c.in-Space.item c.in-Space.behind (items_view c.args.items.now.items) (items_view c.comments.items.items) (items_view c.add.new.items.items) c.comments.invariant.1 (rw c.in-Space.is at c.in_ok-item.ensures) c.in_ok-add-in-Space.ensures),
 )
 
-pub returns-in-Some-comment : goal.returns-in-Some-comment
-returns-in-Some-comment c =
-    escline_comment (chars c.in-Some-comment.comment.now) (chars c.args.text.now) (chars c.comments.rest.now) (chars c.in-Some-comment.behind.now)
-    (items_view c.args.items.now.items) (items_view c.comments.items.items) (items_view c.push-in-Some-comment.new.self.items) c.comments.invariant.1 c.in-Some-comment.ensures.0 c.in-Some-comment.ensures.1
-    (item_added c.comments.items.items c.push-in-Some-comment.new.self.items (Comment c.in-Some-comment.comment) c.in_ok-push-2.ensures.items)
+pub returns-in-Break : goal.returns-in-Break
+returns-in-Break c = escline_break (chars c.args.text.now) (chars c.comments.rest.now) c.in-Break.item c.in-Break.behind (items_view c.args.items.now.items) (items_view c.comments.items.items) (items_view c.add-in-Break.new.items.items) c.comments.invariant.1 (rw c.in-Break.is at c.in_ok-item.ensures) c.in_ok-add-in-Break.ensures
 
-pub returns-then-is_empty : goal.returns-then-is_empty
-returns-then-is_empty c =
-    escline_ends (chars c.args.text.now) (chars c.comments.rest.now) (items_view c.args.items.now.items) (items_view c.comments.items.items) c.comments.invariant.1
-    (no_chars c.comments.rest.now (sym c.is_empty.ensures ∙ c.if-is_empty.true))
+pub returns-in-End : goal.returns-in-End
+returns-in-End c = escline_ends (chars c.args.text.now) (chars c.comments.rest.now) (items_view c.args.items.now.items) (items_view c.comments.items.items) c.comments.invariant.1 (rw c.in-End.is at c.in_ok-item.ensures)
 
-pub returns : goal.returns
-returns c =
-    escline_last (chars c.args.text.now) (chars c.comments.rest.now) (items_view c.args.items.now.items) (items_view c.comments.items.items) c.comments.invariant.1
-    c.in_default.ensures c.in_default-comment.ensures (some_chars c.comments.rest.now c.comments.invariant.0 (sym c.is_empty.ensures ∙ c.if-is_empty.false)) c.behind_newline.result c.behind_newline.ensures
+pub returns-in_default : goal.returns-in_default
+returns-in_default c =
+    let rest = chars c.comments.rest.now in
+    escline_none (chars c.args.text.now) (chars c.comments.rest.now) (items_view c.args.items.now.items) (items_view c.comments.items.items) c.comments.invariant.1 (no_ws rest _ c.in_ok-item.ensures c.in_default.not-Space) (no_escline_end rest _ c.in_ok-item.ensures c.in_default.not-Break c.in_default.not-End)

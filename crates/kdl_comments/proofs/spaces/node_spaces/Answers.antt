@@ -1,14 +1,19 @@
-use Rattle.std.proofs.Common.{sym, ◌∙◌}
-use Rattle.std.specs.Str.{chars}
-use Rattle.kdl_comments.specs.Internal.Reading.{items_view}
-use Rattle.kdl_comments.specs.declared.item.Item.TheVariants.{Piece}
-use Rattle.kdl_comments.proofs.Listing.SpaceReads.{item_added, adds_block, adds_spaces}
+use Rattle.std.proofs.Common.{sym, subst}
+use Rattle.std.proofs.lemmas.Result.{IfOk-weaker}
+use Rattle.kdl_text.specs.Chars.{Text}
+use Rattle.kdl_comments.specs.Items.{SpaceItems}
+use Rattle.kdl_comments.specs.Internal.Reading.{AddsHeld, items_view}
+use Rattle.kdl_comments.proofs.Listing.SpaceItems.{space_of}
+use Rattle.kdl_comments.proofs.Listing.SpaceReads.{adds_space}
+use Rattle.kdl_comments.proofs.Listing.Starts.{no_node_space}
 use Rattle.kdl_comments.proofs.spaces.node_spaces.Goals as goal
 
-pub returns-in-Some-block : goal.returns-in-Some-block
-returns-in-Some-block c =
-    adds_block (chars c.in-Some-block.comment.now) (chars c.args.text.now) (chars c.in-Some-block.behind.now) (items_view c.args.items.now.items) (items_view c.push.new.self.items) c.in-Some-block.ensures.0 c.in-Some-block.ensures.1
-    (item_added c.args.items.now.items c.push.new.self.items (Piece c.in-Some-block.comment) c.in_ok-push.ensures.items)
+pub returns-in_ok-add-in-Space : goal.returns-in_ok-add-in-Space
+returns-in_ok-add-in-Space c = λ s h. adds_space s c.in-Space.item c.in-Space.rest (items_view c.args.items.now.items) (items_view c.add.new.items.items) (rw c.in-Space.is at h) c.in_ok-add-in-Space.ensures
 
-pub returns-then-begins_space : goal.returns-then-begins_space
-returns-then-begins_space c = adds_spaces (chars c.args.text.now) (chars c.behind_spaces.result.now) (items_view c.args.items.now.items) (sym c.begins_space.ensures ∙ c.if-begins_space.true) c.behind_spaces.ensures
+pub returns-in-Backslash : goal.returns-in-Backslash
+returns-in-Backslash c =
+    IfOk-weaker c.escline.result _ _ (λ o a. λ s h. subst (λ (z : Text). AddsHeld SpaceItems z o c.args.items.now.items c.escline.new.items.items) (sym (rw c.in-Backslash.is at h)) a) c.escline.ensures
+
+pub returns-in_default : goal.returns-in_default
+returns-in_default c = λ s h r is d. no_node_space s c.args.first h c.in_default.not-Space c.in_default.not-Backslash r (space_of d)

@@ -2,15 +2,15 @@ use Rattle.std.proofs.Common.{sym, ap, ◌∷◌, ◌∙◌}
 use Rattle.std.specs.Str.{chars}
 use Rattle.kdl_text.specs.Chars.{Text}
 use Rattle.kdl_comments.proofs.Listing.SpaceReads.{ate_moves, cut_at, parts_at}
-use Rattle.kdl_comments.proofs.spaces.behind_semicolon.Goals as goal
+use Rattle.kdl_comments.proofs.spaces.behind_char.Goals as goal
 
 pub cut-requires : goal.cut-requires
 cut-requires c =
-    let m = ate_moves (chars c.args.text.now) 59 c.eat.result c.new-cursor.result c.eat.new.self (c.new.result, c.new-cursor.ensures) c.eat.ensures c.if-eat.true in
+    let m = ate_moves (chars c.args.text.now) c.args.c c.eat.result c.new-cursor.result c.eat.new.self (c.new.result, c.new-cursor.ensures) c.eat.ensures c.if-eat.true in
     cut_at (chars c.args.text.now) c.at.result c.new-cursor.result c.eat.new.self (c.new.result, c.new-cursor.ensures) m.0 c.at.ensures
 
 pub returns-then-eat : goal.returns-then-eat
 returns-then-eat c =
-    let m = ate_moves (chars c.args.text.now) 59 c.eat.result c.new-cursor.result c.eat.new.self (c.new.result, c.new-cursor.ensures) c.eat.ensures c.if-eat.true in
+    let m = ate_moves (chars c.args.text.now) c.args.c c.eat.result c.new-cursor.result c.eat.new.self (c.new.result, c.new-cursor.ensures) c.eat.ensures c.if-eat.true in
     let p = parts_at (chars c.args.text.now) (chars c.cut.result.0.now) (chars c.cut.result.1.now) c.at.result c.new-cursor.result c.eat.new.self (c.new.result, c.new-cursor.ensures) m.0 c.at.ensures c.cut.ensures.parts in
-    m.1 ∙ ap (λ (z : Text). 59 ∷ z) (sym p.0)
+    m.1 ∙ ap (λ (z : Text). c.args.c ∷ z) (sym p.0)

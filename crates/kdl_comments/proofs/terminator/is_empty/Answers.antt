@@ -1,5 +1,0 @@
-use Rattle.kdl_comments.proofs.Rewriting.Pushing.{no_bytes}
-use Rattle.kdl_comments.proofs.terminator.is_empty.Goals as goal
-
-pub returns : goal.returns
-returns c = no_bytes c.is_empty.result c.args.text.now c.utf8.text c.is_empty.ensures
