@@ -1,0 +1,47 @@
+//! Formats documents, with their comments and groups.
+
+ghost use Rattle.kdl.specs.Words.{IsDocument, IsSyntax, Nodes, TellsOnSyntax, text_of};
+ghost use Rattle.kdl_laws.specs.ClientWords.{IsSpacedOut};
+ghost use Rattle.std.specs.Prelude.{IfOk, chars, true};
+
+use crate::faults::report;
+use kdl::{FormatConfig, KdlDocument, Layout, ParseFailure};
+use kdl_laws::layout::{defaults_indent_by_spaces, texts_are_spaced_out};
+use kdl_laws::reading_back::printed_reads_once;
+use std::alloc::Global;
+use std::io;
+
+/// Returns the document of the text, formatted.
+fn laid_out(alloc: Global, text: &str) -> Result<String, ParseFailure>
+    // The output is a document with the data of the text.
+    ensures says { IfOk result (λ out. (x : Nodes) → IsDocument true (chars text.now) x
+        → IsDocument true (text_of out) x) }
+    // It is the text laid out, with at most one blank line between two nodes or comments: its comments are kept, and a
+    // second layout changes nothing.
+    ensures laid_out { IfOk result (λ out. IsSpacedOut 1 (chars text.now) (text_of out)) }
+    // A refused text is not a document, and the error has its faults.
+    ensures refused { IsSyntax result → (x : Nodes) → IsDocument true (chars text.now) x → ⊥ }
+    ensures told { TellsOnSyntax text.now result }
+{
+    defaults_indent_by_spaces();
+    texts_are_spaced_out();
+    printed_reads_once();
+    let mut document = KdlDocument::parse(alloc, text)?;
+    let layout = Layout {
+        config: FormatConfig::builder().build(),
+        blank_lines: 1,
+    };
+    document.autoformat_layout(&layout)?;
+    Ok(document.to_string(alloc)?)
+}
+
+/// Writes the text of the file, formatted, or reports its faults, and returns whether it has none.
+pub fn show(rt: &HostRuntime, file: &str, text: &str) -> io::Result<bool> {
+    match laid_out(rt.alloc(), text) {
+        Ok(text) => {
+            print!(rt; "{text}")?;
+            Ok(true)
+        }
+        Err(failure) => report(rt, file, &failure),
+    }
+}

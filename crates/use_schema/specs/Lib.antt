@@ -1,2 +1,0 @@
--- Which rule is breached where in a document.
-pub mod Breaches

@@ -1,2 +1,0 @@
--- Settings, and what is wrong with them, given the data of a document.
-pub mod Settings
