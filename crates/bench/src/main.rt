@@ -4,11 +4,17 @@
 //! Without arguments it generates texts of five kinds and writes two tables to standard output: the speeds on 1 MB of
 //! each, and on longer and longer ones. With file names as arguments it writes the first table for these files. `write
 //! KIND BYTES` writes such a text; `check BYTES` makes each call on a text of each kind, and writes the results without
-//! times.
+//! times, and then does what `refused` does.
+//!
+//! `refused` makes each call that allocates on two short texts, and writes the results. `items` creates what the calls
+//! that do not allocate are made on. `calls` also makes these calls. `checks/refused` runs the three.
 #![tactic(auto)]
 
+mod calls;
+mod free;
 mod measure;
 mod memory;
+mod refused;
 mod table;
 mod texts;
 
@@ -28,12 +34,12 @@ fn write(rt: &HostRuntime, name: &str, bytes: usize) -> io::Result<()> {
     Err(io::Error::from(ErrorKind::InvalidInput))
 }
 
-/// Makes each call on a text of each kind.
+/// Makes each call on a text of each kind, and then each call that allocates on two short texts.
 fn check(rt: &HostRuntime, bytes: usize) -> io::Result<()> {
     for kind in &KINDS {
         check_text(rt, kind.name, &kind.text(rt.alloc(), bytes)?)?;
     }
-    Ok(())
+    refused::take_some(rt)
 }
 
 /// Makes each call on the text, and writes the results.
@@ -77,6 +83,9 @@ fn perform(rt: &HostRuntime, words: &[&str]) -> io::Result<()> {
     match words {
         ["write", name, bytes] => write(rt, name, bytes.parse().unwrap_or(0)),
         ["check", bytes] => check(rt, bytes.parse().unwrap_or(0)),
+        ["refused"] => refused::take_some(rt),
+        ["calls"] => refused::take_none(rt, true),
+        ["items"] => refused::take_none(rt, false),
         [] => tables(rt),
         names => table_of(rt, names),
     }

@@ -1,16 +1,12 @@
-//! Makes each call that allocates on two texts, and prints what it returns and what the item is afterwards.
+//! What `checks/refused` runs: the calls that allocate, and those that do not.
 //!
-//! If an allocation fails, the call is made again, provided that the item is unchanged. So a run in which any one
-//! allocation fails prints the same as a run in which none does. If all calls for a line failed, `refused` is written
-//! to standard error.
-#![tactic(auto)]
-
-mod calls;
-mod free;
+//! If an allocation fails, a call that allocates is made again, provided that the item is unchanged. So a run in which
+//! any one allocation fails prints the same as a run in which none does. If all calls for a line failed, `refused` is
+//! written to standard error.
 
 use crate::calls::{CALLS, Call, answer};
 use crate::free::{calls, prepare};
-use std::{env, io};
+use std::io;
 
 /// Nodes, a comment, a property and children.
 const HELLO: &str =
@@ -20,8 +16,9 @@ const HELLO: &str =
 const FORMS: &str =
     "\u{feff}/* c */ (t)\"a\\tb\" 1 -0x1F 0b1_0 0o17 1.5e-3 #true #null #-inf k=(u)#\"raw\"# \\ // e\n /-dropped \"\"\"\n  one\n   two\n  \"\"\" #\"\"\"\n x\n \"\"\"# /-{ x; } { b 2 /* d */; /-c; } /-{} // end\n";
 
-/// Creates what the calls that do not allocate are made on, and then, if requested, makes these calls.
-fn take_none(rt: &HostRuntime, with_calls: bool) -> io::Result<()> {
+/// Creates what the calls that do not allocate are made on, and then, if requested, makes these calls. Writes whether
+/// each returned what it should.
+pub fn take_none(rt: &HostRuntime, with_calls: bool) -> io::Result<()> {
     let alloc = rt.alloc();
     let mut subjects = prepare(alloc)?;
     let answer = !with_calls || calls(alloc, &mut subjects);
@@ -39,19 +36,12 @@ fn print_answer(rt: &HostRuntime, text: &str, call: &Call) -> io::Result<()> {
     }
 }
 
-/// Makes each call that allocates.
-fn take_some(rt: &HostRuntime) -> io::Result<()> {
+/// Makes each call that allocates on two texts, and writes what it returns and what the item is afterwards.
+pub fn take_some(rt: &HostRuntime) -> io::Result<()> {
     for text in &[HELLO, FORMS] {
         for call in &CALLS {
             print_answer(rt, text, call)?;
         }
     }
     Ok(())
-}
-
-fn main(rt: HostRuntime) -> io::Result<()> {
-    match env::args(&rt)?.nth(1) {
-        Some(word) => take_none(&rt, word.as_str() == "calls"),
-        None => take_some(&rt),
-    }
 }
