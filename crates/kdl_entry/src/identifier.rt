@@ -227,6 +227,34 @@ pub fn sliced_identifier(
     Ok(KdlIdentifier { value, repr, span })
 }
 
+/// Creates the identifier that a bare string is, as it was read: the piece of the text is its string and its spelling,
+/// and is in memory once. Returns an error if an allocation fails.
+///
+/// ```
+/// let mut lexer = Lexer::new("ab=1", Steps::new());
+/// let whole = lexer.checkpoint();
+/// let token = lexer.next(alloc)?; // the string `ab`
+/// let mut slices = Slices::new(alloc, whole.copied());
+/// let piece = slices.piece(&whole, &lexer.checkpoint());
+/// let name = bare_identifier(alloc, &piece, SourceSpan { offset: 0, len: 2 })?; // prints "ab"
+/// ```
+#[inline(always)]
+pub fn bare_identifier(
+    alloc: Global,
+    piece: &Piece,
+    span: SourceSpan,
+) -> Result<KdlIdentifier, AllocError>
+    ensures { IfOk result (λ i. identifier_tree i
+        ≡ record { value = piece.now; repr = Some piece.now; span = span }) }
+{
+    let value = piece.to_string(alloc)?;
+    Ok(KdlIdentifier {
+        value,
+        repr: Spelling::AsValue,
+        span,
+    })
+}
+
 /// Returns the allocator of the identifier's string.
 ///
 /// ```

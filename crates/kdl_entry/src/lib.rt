@@ -8,6 +8,6 @@ mod print;
 pub mod refusal;
 
 pub use entry::{KdlEntry, KdlEntryFormat};
-pub use identifier::{KdlIdentifier, identifier_allocator, sliced_identifier};
+pub use identifier::{KdlIdentifier, bare_identifier, identifier_allocator, sliced_identifier};
 pub use kdl_value::{KdlFloat, KdlValue, write_char, write_text};
 pub use print::write_type;

@@ -538,7 +538,7 @@ impl<'a> Lexer<'a> {
     }
 
     /// Advances as `next` does, at the same cost, and returns the most common tokens apart: a run of spaces, a line feed,
-    /// and a bare string that begins with an ASCII letter. Fails as `next` does.
+    /// a comment, and a bare string that begins with an ASCII letter. Fails as `next` does.
     ///
     /// ```
     /// let mut lexer = Lexer::new("a }", Steps::new());

@@ -8,13 +8,13 @@ ghost use Rattle.kdl_parser.specs.Internal.Answered.{Finished};
 ghost use Rattle.kdl_parser.specs.Internal.Building.{state_view, under_view, EndsIn, Placed};
 ghost use Rattle.kdl_parser.specs.Internal.Counted.{unsliced, SlicedOn};
 ghost use Rattle.kdl_parser.specs.Internal.Events.{Acts, PartsAhead, is_building, mark_step, string_step, value_step};
-ghost use Rattle.kdl_parser.specs.Internal.States.{document_now, document_of_nodes, Steps, Takes, step_at, token_step};
+ghost use Rattle.kdl_parser.specs.Internal.States.{document_now, document_of_nodes, Steps, Takes, TakesToken, step_at, token_step};
 ghost use Rattle.kdl_parser.specs.declared.builder.TakeFailure.TheVariants.{Memory};
 ghost use Rattle.kdl_parser.specs.declared.builder.dropping.Dropped.TheVariants.{Nothing};
 ghost use Rattle.kdl_text.specs.Internal.Here.{Ahead};
 ghost use Rattle.kdl_text.specs.Spans.{bytes};
 ghost use Rattle.kdl_value.specs.Tree.{text_of, value_tree};
-ghost use Rattle.std.specs.Prelude.{◌≡◌, ◌+◌, [], None, true};
+ghost use Rattle.std.specs.Prelude.{◌≡◌, ◌+◌, ◌++◌, [], None, true};
 
 mod content;
 mod dropping;
@@ -278,6 +278,21 @@ impl<'a, N: ParsedNode> Builder<'a, N> {
         }
     }
 
+    /// Takes a bare string outside of what is slashdashed.
+    #[inline(always)]
+    fn take_bare(&mut self, word: &Piece<'a>, at: &TokenSpan<'a>) -> Result<(), TakeFailure>
+        requires building { is_building self.old.dropped self.old.phase ≡ true }
+        requires placed { Placed (state_view N.tree self.old) at.now.start.rest }
+        requires reads { at.now.start.rest ≡ word.now ++ at.now.end.rest }
+        ensures { TakesToken N.tree self.old (string word.now) at.now result self.new }
+    {
+        if let Phase::Gap = self.phase {
+            return self.name_bare(at);
+        }
+        let text = word.to_string(self.slices.alloc())?;
+        self.take_live(TokenKind::String(text), at)
+    }
+
     /// Takes the token of this kind at the place. Fails if the token may not be here, or if an allocation fails; the
     /// builder is then in an unspecified state.
     #[inline(always)]
@@ -302,13 +317,13 @@ impl<'a, N: ParsedNode> Builder<'a, N> {
         at: &TokenSpan<'a>,
     ) -> Result<(), TakeFailure>
         requires placed { Placed (state_view N.tree self.old) at.now.start.rest }
+        requires reads { at.now.start.rest ≡ word.now ++ at.now.end.rest }
         ensures { Steps N.tree (step_at N.tree self.old (string word.now) at.now) (unsliced self.old + 1)
             self.old result self.new }
     {
         self.slices.count_look();
         if self.is_building() {
-            let text = word.to_string(self.slices.alloc())?;
-            self.take_live(TokenKind::String(text), at)
+            self.take_bare(word, at)
         } else {
             self.drop_bare(word, at)
         }

@@ -1,6 +1,6 @@
 //! Documents, read from the tokens of a text one by one.
 
-ghost use Rattle.kdl_parser.specs.Internal.Answered.{AnswersParts, FailsAt};
+ghost use Rattle.kdl_parser.specs.Internal.Answered.{AnswersParts, TakeFailsAt};
 ghost use Rattle.kdl_grammar.specs.Internal.Machine.{initial};
 ghost use Rattle.kdl_parser.specs.Internal.Building.{EndsIn, state_view};
 ghost use Rattle.kdl_parser.specs.Internal.Counted.{ReadOn, unsliced};
@@ -15,7 +15,7 @@ use std::alloc::Global;
 
 /// Returns the failure of the builder, at the place.
 fn failure_at(failure: TakeFailure, place: &Checkpoint) -> LexFailure
-    ensures { FailsAt place.now failure result }
+    ensures { TakeFailsAt place.now failure result }
 {
     match failure {
         TakeFailure::Unexpected => LexFailure::Faulty(fault_at(place)),

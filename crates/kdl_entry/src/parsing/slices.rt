@@ -10,7 +10,7 @@ ghost use Rattle.kdl_value.specs.Tree.{text_of};
 ghost use Rattle.std.specs.Prelude.{◌≡◌, [], ◌↔◌, IfOk, IsTrue};
 
 use super::parts::empty;
-use crate::identifier::{KdlIdentifier, sliced_identifier};
+use crate::identifier::{KdlIdentifier, bare_identifier, sliced_identifier};
 use kdl_lexer::TokenSpan;
 use kdl_text::cursor::{Checkpoint, Piece, Steps, count_look, slice_between};
 use kdl_text::span::SourceSpan;
@@ -199,5 +199,33 @@ impl<'a> Slices<'a> {
         let piece = self.piece(&at.start, &at.end);
         let span = self.span(&at.start, &at.end);
         sliced_identifier(self.alloc, value, &piece, span)
+    }
+
+    /// Returns the identifier that a token is, which is a bare string. `identifier` does the same, but compares the
+    /// string with the text of the token.
+    ///
+    /// ```
+    /// let mut lexer = Lexer::new("ab=1", Steps::new());
+    /// let mut slices = Slices::new(alloc, lexer.checkpoint());
+    /// if let Some(Token { at, .. }) = lexer.next(alloc)? {
+    ///     let name = slices.bare_identifier(&at)?; // prints "ab"
+    /// }
+    /// ```
+    #[inline(always)]
+    #[tactic(auto, using(kdl_lexer::proofs::Order::ahead))]
+    pub fn bare_identifier(&mut self, at: &TokenSpan<'a>) -> Result<KdlIdentifier, AllocError>
+        ensures is { IfOk result
+            (λ i. identifier_tree i ≡ identifier_at self.old.whole.rest
+            (between at.now.start.rest at.now.end.rest) at.now.start.rest at.now.end.rest) }
+        ensures counted { self.new ≡ record self.old {
+          steps = raise self.old.steps (bytes (between at.now.start.rest at.now.end.rest));
+        } }
+        ensures whole { self.new.whole ≡ self.old.whole }
+        ensures sliced { Sliced (bytes at.now.start.rest) (bytes at.now.end.rest) self.old.steps
+            self.new.steps }
+    {
+        let piece = self.piece(&at.start, &at.end);
+        let span = self.span(&at.start, &at.end);
+        bare_identifier(self.alloc, &piece, span)
     }
 }

@@ -96,6 +96,7 @@ pub record HandsOver (old : Here) (k : tokens.Token) (span : TokenSpan) (new : H
   pub end_rest : span.end.rest ≡ new.rest
   pub end_at : span.end.at ≡ new.at
 
+-- the token with its span
 abbrev pub HandsOut : Here → Token → Here → Type 0
 HandsOut old t new = HandsOver old (kind_view t.kind) t.at new
 

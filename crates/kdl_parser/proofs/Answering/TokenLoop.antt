@@ -18,7 +18,7 @@ use Rattle.kdl_control.specs.Control as control
 use Rattle.kdl_grammar.specs.Going.{Goes}
 use Rattle.kdl_grammar.specs.Going as going
 use Rattle.kdl_grammar.proofs.Reading.Erased.{a_state}
-use Rattle.kdl_parser.specs.Internal.Answered.{AnswersParts, Finished, FailsAt}
+use Rattle.kdl_parser.specs.Internal.Answered.{AnswersParts, Finished, TakeFailsAt}
 use Rattle.kdl_grammar.specs.Internal.Machine.{State, step, finish, initial, Runs}
 use Rattle.kdl_parser.specs.Internal.Building.{state_view, held, Did, EndsIn, Placed}
 use Rattle.kdl_grammar.specs.Tree.{Node, Document}
@@ -146,7 +146,7 @@ lexer_told tree b before after t u (Faulty span) g x = (no_reading tree b before
 lexer_told tree b before after t u LexMemory g x = tt
 
 pub take_told : {N : Type 0} (tree : N → Node) (b b' : Builder N) (before mid : Here) (t u : Text) (k : Token) (ts : TokenSpan) (f : TakeFailure) (e : LexFailure) → Going tree b before t u → HandsOver before k ts mid
-    → Did {A = Unit {0}} (step b.slices.whole.rest (state_view tree b) k ts.start.rest ts.end.rest) (Err f) (state_view tree b') → FailsAt ts.start f e → AnswersParts tree t u (Err e)
+    → Did {A = Unit {0}} (step b.slices.whole.rest (state_view tree b) k ts.start.rest ts.end.rest) (Err f) (state_view tree b') → TakeFailsAt ts.start f e → AnswersParts tree t u (Err e)
 take_told tree b b' before mid t u k ts Unexpected (Faulty span) g h x y =
     (no_turn tree b before mid t u k ts g h x, told tree b before t u ts.start span g h.start_rest h.start_at y, stops_there tree b before t u span g (y.offset ∙ h.start_at) (stuck_turn tree b before mid k ts h x))
 take_told tree b b' before mid t u k ts Unexpected LexMemory g h x y = absurd y
@@ -196,7 +196,7 @@ no_end tree b here t u g e f =
     no_run_there t u here.rest (state_view tree b) g.same e f'
 
 pub finish_told : {N : Type 0} (tree : N → Node) (b : Builder N) (here : Here) (t u : Text) (place : Position) (f : TakeFailure) (e : LexFailure) → Going tree b here t u → here.rest ≡ [] → place.rest ≡ here.rest → place.at ≡ here.at
-    → Finished tree (finish b.slices.whole.rest (state_view tree b)) (Err f) → FailsAt place f e → AnswersParts tree t u (Err e)
+    → Finished tree (finish b.slices.whole.rest (state_view tree b)) (Err f) → TakeFailsAt place f e → AnswersParts tree t u (Err e)
 finish_told tree b here t u place Unexpected (Faulty span) g e f n x y = (no_end tree b here t u g e x, told tree b here t u place span g f n y, stops_there tree b here t u span g (y.offset ∙ n) (stuck_end tree b here e))
 finish_told tree b here t u place Unexpected LexMemory g e f n x y = absurd y
 finish_told tree b here t u place Memory (Faulty span) g e f n x y = absurd y

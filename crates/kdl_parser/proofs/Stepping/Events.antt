@@ -1,20 +1,23 @@
 -- A token's event brings the builder where the machine's step does.
-use Rattle.std.proofs.Common.{◌≡◌, ℕ, true, Option, Some, None, Result, refl, sym, ap, subst, ◌∙◌}
+use Rattle.std.proofs.Common.{◌≡◌, ℕ, true, ◌++◌, Option, Some, None, Result, refl, sym, ap, subst, ◌∙◌}
 use Rattle.kdl_text.specs.Chars.{Text}
 use Rattle.kdl_text.specs.Internal.Here.{Position}
 use Rattle.kdl_text.specs.Spans.{bytes}
 use Rattle.kdl_control.specs.Internal.Events.{event_of}
 use Rattle.kdl_control.specs.declared.control.Owner.TheVariants.{Name, Value}
 use Rattle.kdl_control.specs.declared.control.Phase.{Phase}
-use Rattle.kdl_control.specs.declared.control.Phase.TheVariants.{NodeSlashdash, TypeOpen, TypeName, TypeDone, InNode, EntrySlashdash, BlockSlashdash, KeptSlashdash}
+use Rattle.kdl_control.specs.declared.control.Phase.TheVariants.{Gap, NodeSlashdash, TypeOpen, TypeName, TypeDone, InNode, EntrySlashdash, BlockSlashdash, KeptSlashdash}
 use Rattle.kdl_control.specs.declared.control.Spot.TheVariants.{Fresh, Spaced, Later}
 use Rattle.kdl_control.specs.declared.control.Word.TheVariants.{MayBeKey, NoKey}
 use Rattle.kdl_control.specs.declared.events.Event.{Event}
+use Rattle.kdl_control.specs.declared.events.Event.TheVariants.{Name as NodeName}
+use Rattle.kdl_entry.proofs.Slicing.Between.{is_between}
+use Rattle.kdl_entry.specs.Places.{between}
 use Rattle.kdl_grammar.specs.Internal.Machine as machine
 use Rattle.kdl_grammar.specs.Internal.Machine.{State, step, Pending, pending, value_from, stay}
 use Rattle.kdl_grammar.specs.Tree.{Node}
 use Rattle.kdl_lexer.specs.Internal.Handed.{kind_view}
-use Rattle.kdl_lexer.specs.Tokens.{Token, space, equals}
+use Rattle.kdl_lexer.specs.Tokens.{Token, space, equals, string}
 use Rattle.kdl_parser.specs.declared.builder.TakeFailure.{TakeFailure}
 use Rattle.kdl_lexer.specs.declared.lexer.TokenKind.{TokenKind}
 use Rattle.kdl_lexer.specs.declared.lexer.TokenKind.TheVariants.{String as StringKind, Value as ValueKind}
@@ -22,10 +25,12 @@ use Rattle.kdl_lexer.specs.declared.token_span.TokenSpan.{TokenSpan}
 use Rattle.kdl_parser.specs.Internal.Building.{in_phase, phase_now, under_view, pending_now, nodes_now, frames_view, state_view, state_by, reading_view, Did}
 use Rattle.kdl_parser.specs.Internal.Counted.{unsliced, unsliced_at, unsliced_in, SlicedOn}
 use Rattle.kdl_parser.specs.Internal.Events.{event_step, mark_step, is_building, is_live, unsliced_before, Acts}
-use Rattle.kdl_parser.specs.Internal.States.{token_step, Takes}
+use Rattle.kdl_parser.specs.Internal.States.{given_at, name_slot, step_at, Reaches, Takes, TakesToken}
 use Rattle.kdl_parser.specs.declared.builder.Builder.{Builder}
 use Rattle.kdl_parser.specs.declared.builder.dropping.Dropped.{Dropped}
 use Rattle.kdl_parser.specs.declared.builder.dropping.Dropped.TheVariants.{Nothing}
+use Rattle.kdl_parser.proofs.Stepping.StepsDone.{does_did}
+use Rattle.kdl_value.specs.Data.{text}
 
 -- the state after the event, if there is one
 abbrev pub stepped_by : {N : Type 0} → (N → Node) → Builder N → Option Event → Token → Position → Position → Option State
@@ -102,17 +107,17 @@ is_phase_live d p e = absurd cc
 
 module _ {N : Type 0} (tree : N → Node) (b b' : Builder N) (span : TokenSpan) (e : Event) (result : Result (Unit {0}) TakeFailure) where
   -- the machine's step at the token
-  token_is : (k : TokenKind) (o : Option Event) → b.dropped ≡ Nothing → is_live b.phase ≡ true → o ≡ event_of b.phase (kind_view k) → token_step tree b k span ≡ stepped_by tree b o (kind_view k) span.start span.end
+  token_is : (k : Token) (o : Option Event) → b.dropped ≡ Nothing → is_live b.phase ≡ true → o ≡ event_of b.phase k → step_at tree b k span ≡ stepped_by tree b o k span.start span.end
   token_is k o d l f =
-      ap (λ (z : Dropped). step b.slices.whole.rest (state_by tree b (reading_view z)) (kind_view k) span.start.rest span.end.rest) d ∙ in_live tree b span.start span.end (kind_view k) b.phase l ∙ ap (λ (z : Option Event). stepped_by tree b z (kind_view k) span.start span.end) (sym f)
+      ap (λ (z : Dropped). step b.slices.whole.rest (state_by tree b (reading_view z)) k span.start.rest span.end.rest) d ∙ in_live tree b span.start span.end k b.phase l ∙ ap (λ (z : Option Event). stepped_by tree b z k span.start span.end) (sym f)
 
-  unsliced_is : (k : TokenKind) → b.dropped ≡ Nothing → Some e ≡ event_of b.phase (kind_view k) → unsliced_before e (bytes b.from.rest) (bytes b.parts.from.rest) ≡ unsliced b
+  unsliced_is : (k : Token) → b.dropped ≡ Nothing → Some e ≡ event_of b.phase k → unsliced_before e (bytes b.from.rest) (bytes b.parts.from.rest) ≡ unsliced b
   unsliced_is k d f =
-      ap (λ (z : Option Event). unsliced_by z b.phase (bytes b.from.rest) (bytes b.parts.from.rest)) f ∙ same_unsliced (bytes b.from.rest) (bytes b.parts.from.rest) (kind_view k) b.phase
+      ap (λ (z : Option Event). unsliced_by z b.phase (bytes b.from.rest) (bytes b.parts.from.rest)) f ∙ same_unsliced (bytes b.from.rest) (bytes b.parts.from.rest) k b.phase
       ∙ ap (λ (z : Dropped). unsliced_at z b.phase (bytes b.from.rest) (bytes b.parts.from.rest)) (sym d)
 
   -- what a token of an event does
-  takes : (k : TokenKind) → is_building b.dropped b.phase ≡ true → Some e ≡ event_of b.phase (kind_view k) → Acts tree e (event_step tree b e (kind_view k) span.start span.end) b result b' → Takes tree b k span result b'
+  takes : (k : Token) → is_building b.dropped b.phase ≡ true → Some e ≡ event_of b.phase k → Acts tree e (event_step tree b e k span.start span.end) b result b' → TakesToken tree b k span result b'
   takes k i f x = let d = is_nothing b.dropped b.phase i in record {
     did = subst (λ (o : Option State). Did o result (state_view tree b')) (sym (token_is k (Some e) d (is_phase_live b.dropped b.phase i) f)) x.did;
     whole = x.whole;
@@ -120,7 +125,18 @@ module _ {N : Type 0} (tree : N → Node) (b b' : Builder N) (span : TokenSpan) 
   }
 
   pub takes_as : (k k' : TokenKind) (o : Option State) → is_building b.dropped b.phase ≡ true → Some e ≡ event_of b.phase (kind_view k) → k ≡ k' → o ≡ event_step tree b e (kind_view k') span.start span.end → Acts tree e o b result b' → Takes tree b k span result b'
-  takes_as k k' o h f i j x = takes k h f (subst (λ (z : TokenKind). Acts tree e (event_step tree b e (kind_view z) span.start span.end) b result b') (sym i) (subst (λ (z : Option State). Acts tree e z b result b') j x))
+  takes_as k k' o h f i j x = takes (kind_view k) h f (subst (λ (z : TokenKind). Acts tree e (event_step tree b e (kind_view z) span.start span.end) b result b') (sym i) (subst (λ (z : Option State). Acts tree e z b result b') j x))
+
+-- a bare string between nodes is the name of a node
+pub takes_name : {N : Type 0} (tree : N → Node) (b b' : Builder N) (span : TokenSpan) (result : Result (Unit {0}) TakeFailure) (w : Text) → is_building b.dropped b.phase ≡ true → b.phase ≡ Gap → span.start.rest ≡ w ++ span.end.rest
+    → Reaches tree (given_at tree b (name_slot b span.start) None (text (between span.start.rest span.end.rest)) span.start span.end) (bytes b.from.rest) b result b' → TakesToken tree b (string w) span result b'
+takes_name tree b b' span result w i p e x =
+    takes tree b b' span NodeName result (string w) i (sym (ap (λ (z : Phase). event_of z (string w)) p)) (record {
+      did = does_did (event_step tree b NodeName (string w) span.start span.end) (given_at tree b (name_slot b span.start) None (text (between span.start.rest span.end.rest)) span.start span.end) (state_view tree b') result x.did
+          (ap (λ (v : Text). Some (given_at tree b (name_slot b span.start) None (text v) span.start span.end)) (is_between span.start.rest span.end.rest w e));
+      whole = x.whole;
+      sliced = x.sliced;
+    })
 
 -- a token that is neither a string nor a value
 pub is_mark : {N : Type 0} (tree : N → Node) (b : Builder N) (e : Event) (s r : Position) (k : TokenKind) → ((x : _) → k ≡ StringKind x → ⊥) → ((x : _) → k ≡ ValueKind x → ⊥) → mark_step tree b e s r ≡ event_step tree b e (kind_view k) s r

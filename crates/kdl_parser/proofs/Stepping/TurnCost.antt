@@ -14,7 +14,7 @@ use Rattle.kdl_lexer.specs.declared.lexer.LexFailure.{LexFailure}
 use Rattle.kdl_lexer.specs.declared.lexer.LexFailure.TheVariants.{Faulty, Memory as LexMemory}
 use Rattle.kdl_lexer.specs.declared.token_span.TokenSpan.{TokenSpan}
 use Rattle.kdl_entry.proofs.Slicing.SliceCost.{ahead_fewer}
-use Rattle.kdl_parser.specs.Internal.Answered.{FailsAt}
+use Rattle.kdl_parser.specs.Internal.Answered.{TakeFailsAt}
 use Rattle.kdl_parser.specs.Internal.Counted.{SlicedOn, ReadOn, ReadThrough}
 use Rattle.kdl_parser.specs.declared.builder.TakeFailure.{TakeFailure}
 use Rattle.kdl_parser.specs.declared.builder.TakeFailure.TheVariants.{Unexpected, Memory}
@@ -47,7 +47,7 @@ counting_ends x start before after i j n g e v c d = record {
 }
 
 -- a token that is not taken, or an end that may not be there
-pub counting_fails : (A B : Type 0) (start before mid : Here) (i j n k : ℕ) (place : Position) (f : TakeFailure) (e : LexFailure) → Counting start before i n → Costs 24 1 before mid → SlicedOn {A = A} (Err f) (n + 1) k i j → FailsAt place f e → ReadOn {A = B} (Err e) start (mid.steps + j)
+pub counting_fails : (A B : Type 0) (start before mid : Here) (i j n k : ℕ) (place : Position) (f : TakeFailure) (e : LexFailure) → Counting start before i n → Costs 24 1 before mid → SlicedOn {A = A} (Err f) (n + 1) k i j → TakeFailsAt place f e → ReadOn {A = B} (Err e) start (mid.steps + j)
 counting_fails A B start before mid i j n k place Unexpected (Faulty span) g c d x = omega (arith, g.most, c.most, d.most)
 counting_fails A B start before mid i j n k place Unexpected LexMemory g c d x = absurd x
 counting_fails A B start before mid i j n k place Memory (Faulty span) g c d x = absurd x

@@ -27,7 +27,7 @@ Finished tree o (Err Unexpected) = o ≡ None
 Finished tree o (Err Memory) = Unit {0}
 
 -- the builder's failure, at the place
-abbrev pub FailsAt : Position → TakeFailure → LexFailure → Type 0
-FailsAt place Unexpected (Faulty span) = IsFaultAt place span
-FailsAt place Memory LexMemory = Unit {0}
-FailsAt place _ _ = ⊥
+abbrev pub TakeFailsAt : Position → TakeFailure → LexFailure → Type 0
+TakeFailsAt place Unexpected (Faulty span) = IsFaultAt place span
+TakeFailsAt place Memory LexMemory = Unit {0}
+TakeFailsAt place _ _ = ⊥

@@ -30,6 +30,7 @@ ghost use Rattle.kdl_parser.specs.Internal.States.{
 ghost use Rattle.kdl_control.specs.declared.control.Phase.TheVariants.{InNode};
 ghost use Rattle.kdl_control.specs.declared.control.Spot.TheVariants.{Fresh};
 ghost use Rattle.kdl_control.specs.declared.control.Word.TheVariants.{NoKey};
+ghost use Rattle.kdl_entry.specs.Places.{between};
 ghost use Rattle.kdl_entry.specs.Tree.{identifier_tree, plain_identifier};
 ghost use Rattle.kdl_grammar.specs.Internal.Machine as machine;
 ghost use Rattle.kdl_parser.specs.declared.builder.dropping.Dropped.TheVariants.{Nothing};
@@ -255,13 +256,13 @@ impl<'a, N: ParsedNode> Builder<'a, N> {
         ensures { self.new ≡ record self.old { waiting = None } }
     {
         if self.waiting.is_some() {
-            self.drop_word();
+            self.clear_waiting();
         }
     }
 
     /// Drops the pending string. It is rarely there, so this stays out of `forget_word`, which is inlined.
     #[inline(never)]
-    fn drop_word(&mut self)
+    fn clear_waiting(&mut self)
         ensures { self.new ≡ record self.old { waiting = None } }
     {
         put(&mut self.waiting, None);
@@ -529,6 +530,25 @@ impl<'a, N: ParsedNode> Builder<'a, N> {
             start: at.start.copied(),
         };
         let name = self.slices.identifier(name, at)?;
+        self.begin_node(slot, None, name, at);
+        Ok(())
+    }
+
+    /// Takes a bare string that is a node's name.
+    #[tactic(auto, using(crate::proofs::Stepping::TurnCost::fewer, crate::proofs::Stepping::TurnCost::token_fewer, kdl_lexer::proofs::Order::ahead))]
+    pub(super) fn name_bare(&mut self, at: &TokenSpan<'a>) -> Result<(), TakeFailure>
+        requires live { self.old.dropped ≡ Nothing }
+        requires from { Ahead self.old.from at.now.start }
+        ensures { Reaches N.tree (given_at N.tree self.old (name_slot self.old at.now.start) None
+            (text (between at.now.start.rest at.now.end.rest)) at.now.start at.now.end) (bytes
+            self.old.from.rest) self.old result self.new }
+    {
+        let leading = self.slices.text(&self.from, &at.start)?;
+        let slot = Slot {
+            leading,
+            start: at.start.copied(),
+        };
+        let name = self.slices.bare_identifier(at)?;
         self.begin_node(slot, None, name, at);
         Ok(())
     }

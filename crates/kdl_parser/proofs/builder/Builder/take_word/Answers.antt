@@ -2,8 +2,8 @@ use Rattle.kdl_lexer.specs.Tokens.{string}
 use Rattle.kdl_parser.proofs.Stepping.StepsDone.{looked_takes}
 use Rattle.kdl_parser.proofs.builder.Builder.take_word.Goals as goal
 
-pub returns-in_ok-text : goal.returns-in_ok-text
-returns-in_ok-text g c = looked_takes g.N.ParsedNode.tree c.args.self.now c.take_live.new.self c.count_look.new.self (string c.args.word.now) c.args.at.now c.take_live.result c.count_look.ensures (rw c.in_ok-text.ensures at c.take_live.ensures)
+pub returns-then-is_building : goal.returns-then-is_building
+returns-then-is_building g c = looked_takes g.N.ParsedNode.tree c.args.self.now c.take_bare.new.self c.count_look.new.self (string c.args.word.now) c.args.at.now c.take_bare.result c.count_look.ensures c.take_bare.ensures
 
 pub returns-else-is_building : goal.returns-else-is_building
 returns-else-is_building g c = looked_takes g.N.ParsedNode.tree c.args.self.now c.drop_bare.new.self c.count_look.new.self (string c.args.word.now) c.args.at.now c.drop_bare.result c.count_look.ensures c.drop_bare.ensures
