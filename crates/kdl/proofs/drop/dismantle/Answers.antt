@@ -19,5 +19,6 @@ loop-up-smaller c =
     let gone : count_nodes c.if-is_empty.nodes.items ≡ count_nodes c.pop.new.self.items + (1 + count_option (out-KdlNode n).children) =
     left c.if-is_empty.nodes.items c.pop.new.self.items n (search rules) in
     let has : count_option c.into_children-up.result ≡ count_option (out-KdlNode n).children = ap count_option c.into_children-up.ensures in
-    goes_down (count_nodes l.nodes.items + count_option l.up) (count_nodes l.nodes.items) (count_nodes c.pop.new.self.items + count_option c.into_children-up.result) (count_nodes c.pop.new.self.items)
-    (omega (arith, at, gone, has)) (omega arith)
+    let same : count_nodes c.give_back-dropped.new.nodes.items ≡ count_nodes c.pop.new.self.items = ap count_nodes c.give_back-dropped.ensures in
+    goes_down (count_nodes l.nodes.items + count_option l.up) (count_nodes l.nodes.items) (count_nodes c.give_back-dropped.new.nodes.items + count_option c.into_children-up.result) (count_nodes c.give_back-dropped.new.nodes.items)
+    (omega (arith, at, gone, has, same)) (omega arith)
