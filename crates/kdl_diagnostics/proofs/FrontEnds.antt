@@ -35,7 +35,7 @@ not_empty (x ∷ xs) h = omega arith
 pub pushed : {A : Type 0} (old new : List A) (x : A) → new ≡ old ++ (x ∷ []) → length new ≡ length old + 1
 pushed old new x e = ap length e ∙ length_push old x
 
--- a front that ends behind no string, number or keyword
+-- a front that ends after no string, number or keyword
 pub ends_at : (rest : Text) (f : Front) → f.place.rest ≡ rest → f.from.rest ≡ rest → (text_finish (text_view f.control) ≡ false → LacksAt f.control.whole (depth (text_view f.control)) f.before) → Matched f → EndsBefore rest f
 ends_at rest f p q h m = record { place = p; from = λ e. (sym q ∙ e, λ x. subst (λ (n : ℕ). LacksAt f.control.whole n f.before) (sym m.0) (h x)); matched = m }
 

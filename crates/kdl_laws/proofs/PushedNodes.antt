@@ -47,7 +47,7 @@ content_pushed o l t (n ∷ ns) put s e p (with_nodes a x g) =
     let here : EndsBefore o (slice_get (n ∷ ns) (length ns)) = subst (λ (k : ℕ). EndsBefore o (slice_get (n ∷ ns) k)) at e in
     with_nodes a (nodes_pushed n ns put (λ y h. last_ends o (slice_get (n ∷ ns) (length ns)) y h here) (ends_before (last_rests t TextEnd) p) x) g
 
--- U+FEFF begins no gap, and is not of the text behind it
+-- U+FEFF begins no gap, and is not of the text after it
 gap_alone : (t : Text) → Gap true t [] → without_bom t ≡ t
 gap_alone t g = gap_without_bom t ((gap_items t).0 g).1
 

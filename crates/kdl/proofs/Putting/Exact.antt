@@ -141,7 +141,7 @@ leads_exactly o f t zero h l m e says x = absurd (omega arith)
 leads_exactly o f t (suc k) h l m e says x =
     subst (λ (p : Option DocumentFormat). LeadsExactly p (Some t)) (sym h) (suc k, m, (f, refl, ap (λ (z : Text). Some (record f { leading = z })) e), says, x)
 
--- a node put behind another one
+-- a node put after another one
 pub behind_put_exactly : (d p : KdlDocument) (i : ℕ) (n b m x : KdlNode) (o : Option KdlNodeFormat) → i < length (nodes_of d) → get_or (nodes_of d) i b ≡ b
     → IsEnded (format_or_printed (head_tree (out-KdlNode b))) (node_texts o) → EndsAs Rest.Text b (end_with o b) → EndsExactly Rest.Text b o → nodes_of p ≡ insert (nodes_of d) (i + 1) n
     → p ≡ with_nodes d (out-KdlDocument p).nodes → get_or (nodes_of p) i m ≡ m → x ≡ end_with o m → PutBehindExactly i n d (with_nodes p (with_item (out-KdlDocument p).nodes i x))

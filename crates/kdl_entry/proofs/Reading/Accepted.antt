@@ -25,7 +25,7 @@ over_entry (text.takes {d = d} {k = k} b e a) p q =
 pub accepted_entry : (t : Text) → Takes (in_entry ahead) t → DerivedEntry t
 accepted_entry t a = accepts_derived (over_entry a ahead refl)
 
--- behind the string of an identifier text nothing comes
+-- nothing comes after the string of an identifier text
 nothing_behind : {c : TextControl} {t : Text} → Takes c t → c ≡ in_identifier true → t ≡ []
 nothing_behind (text.ends f) q = refl
 nothing_behind (text.takes {k = k} b e a) q = let x = ap (λ z. text_step z k) (sym q) ∙ e in absurd cc

@@ -89,7 +89,7 @@ accepts_derived {t = t} a = let x = runs t machine.ahead tt a refl in derived t 
 pub derived_accepts : {t : Text} → DerivedEntry t → Accepts ahead t
 derived_accepts (x, i) = accepted {st = machine.ahead} tt (built i).answers
 
--- what is accepted behind what it goes over, and the whole
+-- what is accepted after what it goes over, and the whole
 pub behind : {c d : EntryControl} {s r : Text} → GoesBy entry_step c s d r → Accepts d r → Accepts c s
 behind here a = a
 behind (goes b e g) a = takes b e (behind g a)

@@ -108,7 +108,7 @@ pub refused_other : (t r : Text) (k : Token) → Cuts t k r → ((v : Text) → 
 refused_other t r k (one b) n = at_token (dead_start t r k b n)
 refused_other t r k (spaces (plus {t = w} x m)) n = at_token (dead_start t w tokens.space (t_space x) (λ v e. cc))
 
--- behind the string
+-- after the string
 dead_behind : {t r v : Text} → StringPiece t r v → r ≢ [] → (p : Text) → t ≡ p ++ r → BeginsNoOther DerivedIdentifier (p ++ take 2 r)
 dead_behind {r = r} x some p h u (v', string y e) =
     let m = move_piece_first x in

@@ -40,7 +40,7 @@ only_close : {s r : Text} {k : Token} → Closed s → BeginsToken s k r → k �
 only_close at_end b = absurd (no_token b)
 only_close at_close b = (token_det b t_closing).1
 
--- where nodes may end, or go on behind a terminator
+-- where nodes may end, or go on after a terminator
 pub data Stands : Phase → Text → Type 0 where
   between : {v : Text} → Stands gap v
   in_open : {p : Spot} {v : Text} → Closed v → Stands (in_node p) v
