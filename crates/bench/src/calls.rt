@@ -142,7 +142,7 @@ fn is_done<T: Drop, E: Drop>(given: Result<T, E>) -> bool {
 }
 
 /// The document of the text, or an empty one if the text is not a document.
-fn read(alloc: Global, text: &str) -> Result<KdlDocument, AllocError> {
+pub fn read(alloc: Global, text: &str) -> Result<KdlDocument, AllocError> {
     match KdlDocument::parse(alloc, text) {
         Ok(document) => Ok(document),
         Err(ParseFailure::Memory) => Err(AllocError),

@@ -1,8 +1,9 @@
 //! The calls that do not allocate. What they are made on is created before.
 
+use crate::calls::read;
 use kdl::{
     FormatConfig, KdlDocument, KdlDocumentFormat, KdlEntry, KdlEntryFormat, KdlIdentifier, KdlNode,
-    KdlNodeFormat, KdlValue, NodeKey, ParseFailure, SourceSpan, Steps, is_kdl_space,
+    KdlNodeFormat, KdlValue, NodeKey, SourceSpan, Steps, is_kdl_space,
 };
 use std::alloc::{AllocError, Global};
 
@@ -21,15 +22,6 @@ pub struct Subjects {
     names: Vec<String>,
 }
 
-/// The document of the text.
-fn document(alloc: Global) -> Result<KdlDocument, AllocError> {
-    match KdlDocument::parse(alloc, TEXT) {
-        Ok(document) => Ok(document),
-        Err(ParseFailure::Memory) => Err(AllocError),
-        Err(ParseFailure::Syntax(_)) => Ok(KdlDocument::new(alloc)),
-    }
-}
-
 /// The names.
 fn names(alloc: Global) -> Result<Vec<String>, AllocError> {
     let mut names = Vec::new(alloc);
@@ -41,8 +33,8 @@ fn names(alloc: Global) -> Result<Vec<String>, AllocError> {
 
 /// Creates the subjects. This allocates.
 pub fn prepare(alloc: Global) -> Result<Subjects, AllocError> {
-    let document = document(alloc)?;
-    let other = self::document(alloc)?;
+    let document = read(alloc, TEXT)?;
+    let other = read(alloc, TEXT)?;
     let names = names(alloc)?;
     Ok(Subjects {
         document,
