@@ -5,11 +5,6 @@ pub use Rattle.kdl_text.specs.Chars.{Text, is_space}
 pub use Rattle.kdl_text.specs.Spans.{InText, bytes}
 -- A refused text, and its errors.
 pub use Rattle.kdl_text.specs.Failures.{IsSyntax, IsToldOf, Tells, TellsOnSyntax}
--- Where the first fault of a refused text is.
-pub use Rattle.kdl_lexer.specs.Earliest.{AnswersEarliest, BeginsNoOther, BeginsNone, BeginsNoToken, BeginsSome, FailsEarliest, IsCut, IsEarliest, IsNear, IsRefusedAt, ReportsEarliest, StopsAt}
-pub use Rattle.kdl_parser.specs.Earliest.{EarliestOnSyntax, NodeEarliestOnSyntax}
-pub use Rattle.kdl_entry.specs.EarliestEntry.{DerivedEntry, EarliestEntryOnSyntax}
-pub use Rattle.kdl_entry.specs.EarliestIdentifier.{DerivedIdentifier, EarliestIdentifierOnSyntax}
 -- A count of steps.
 pub use Rattle.kdl_text.specs.Spans.{raise}
 -- Values: their data, what they print, and their order.

@@ -8,7 +8,6 @@ ghost use Rattle.kdl_grammar.specs.Data.{Nodes};
 ghost use Rattle.kdl_grammar.specs.Grammar.{IsDocument, IsNodeText};
 ghost use Rattle.kdl_grammar.specs.Laid.{LaidNodeText};
 ghost use Rattle.kdl_grammar.specs.Internal.Machine.{AnswersDocument};
-ghost use Rattle.kdl_parser.specs.Earliest.{EarliestOnSyntax, NodeEarliestOnSyntax};
 ghost use Rattle.kdl_parser.specs.Internal.Steps.{Parses, ParsesNode};
 ghost use Rattle.kdl_text.specs.Failures.{IsSyntax, TellsOnSyntax};
 ghost use Rattle.kdl_text.specs.Spans.{raise};
@@ -54,8 +53,8 @@ impl KdlDocument {
     /// Parses a document, and keeps every byte of its form (KDL 2.0.0, Document).
     ///
     /// Returns `Syntax` if the text is not a document. Faults are reported in the order in which reading meets them, an
-    /// unclosed block when the text ends; reading continues after a fault. There is at least one diagnostic; the first
-    /// one is near the earliest fault that the text can have. Returns `Memory` if an allocation fails.
+    /// unclosed block when the text ends; reading continues after a fault. There is at least one diagnostic. Returns
+    /// `Memory` if an allocation fails.
     ///
     /// ```
     /// let text = "host localhost // here\nport 0x1F90\n";
@@ -77,8 +76,6 @@ impl KdlDocument {
         // A refused text is not derived, and the error has the spans of its faults.
         ensures refused { IsSyntax result → (x : Nodes) → IsDocument true (chars text.now) x → ⊥ }
         ensures told { TellsOnSyntax text.now result }
-        // The first diagnostic is near the place where the text is refused: what is before that place begins a document.
-        ensures earliest { EarliestOnSyntax text.now result }
         // A text of the former language is not refused, and is read as before.
         ensures kept { (x : Nodes) → IsFormerDocument (chars text.now) x → IsSyntax result → ⊥ }
         ensures former { (x : Nodes) → IsFormerDocument (chars text.now) x
@@ -120,7 +117,6 @@ impl KdlDocument {
         ensures keeps_none { IfOk result (λ d. DocumentKeepsNoForm d) }
         ensures refused { IsSyntax result → (x : Nodes) → IsDocument true (chars text.now) x → ⊥ }
         ensures told { TellsOnSyntax text.now result }
-        ensures earliest { EarliestOnSyntax text.now result }
         ensures kept { (x : Nodes) → IsFormerDocument (chars text.now) x → IsSyntax result → ⊥ }
         ensures former { (x : Nodes) → IsFormerDocument (chars text.now) x
             → IfOk result (λ d. document_says d ≡ x) }
@@ -153,7 +149,6 @@ impl KdlDocument {
         ensures keeps_none { IfOk result (λ d. DocumentKeepsNoForm d) }
         ensures refused { IsSyntax result → (x : Nodes) → IsDocument true (chars text.now) x → ⊥ }
         ensures told { TellsOnSyntax text.now result }
-        ensures earliest { EarliestOnSyntax text.now result }
         ensures kept { (x : Nodes) → IsFormerDocument (chars text.now) x → IsSyntax result → ⊥ }
         ensures former { (x : Nodes) → IsFormerDocument (chars text.now) x
             → IfOk result (λ d. document_says d ≡ x) }
@@ -174,8 +169,8 @@ impl KdlNode {
     /// have only line-spaces, which are its trailing text. The span is the whole text, in bytes.
     ///
     /// Returns `Syntax` if the text is not a node. The error has a diagnostic for each fault, and at least one: a
-    /// second node, where reading ends, and the end of a text that has no node, are reported too. The first diagnostic
-    /// is near the earliest fault that the text can have. Returns `Memory` if an allocation fails.
+    /// second node, where reading ends, and the end of a text that has no node, are reported too. Returns `Memory` if an
+    /// allocation fails.
     ///
     /// ```
     /// let node = KdlNode::parse(alloc, "// the port\nport 8080\n")?;
@@ -198,9 +193,6 @@ impl KdlNode {
         ensures refused { IsSyntax result → (x : data'.Node)
             → IsNodeText true (chars text.now) x → ⊥ }
         ensures told { TellsOnSyntax text.now result }
-        // The first diagnostic is near the place where the text is refused: what is before that place begins a node
-        // text.
-        ensures earliest { NodeEarliestOnSyntax text.now result }
         // A text of the former language is not refused, and is read as before.
         ensures kept { (x : data'.Node) → IsFormerNodeText (chars text.now) x
             → IsSyntax result → ⊥ }

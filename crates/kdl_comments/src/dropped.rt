@@ -151,7 +151,7 @@ pub(crate) fn pass_node(alloc: Global, text: &str) -> Result<Option<NodeEnd>, Al
         let token = match lexer.next(alloc) {
             Ok(Some(token)) => token,
             Ok(None) => return Ok(last_end(&control, last)),
-            Err(LexFailure::Faulty(_)) => return Ok(None),
+            Err(LexFailure::Faulty) => return Ok(None),
             Err(LexFailure::Memory) => return Err(AllocError),
         };
         if !control.take(&token.kind)? {
@@ -222,7 +222,7 @@ pub(crate) fn pass_part(
         let token = match lexer.next(alloc) {
             Ok(Some(token)) => token,
             Ok(None) => return Ok(word_end(&control, last)),
-            Err(LexFailure::Faulty(_)) => return Ok(None),
+            Err(LexFailure::Faulty) => return Ok(None),
             Err(LexFailure::Memory) => return Err(AllocError),
         };
         if ends_word(&control, &token.kind) {

@@ -102,7 +102,7 @@ pub(crate) fn start_of(alloc: Global, text: &str) -> Result<Start<'_>, AllocErro
     match lexer.next(alloc) {
         Ok(Some(token)) => Ok(token_start(text, &token)),
         Ok(None) => Ok(Start::End),
-        Err(LexFailure::Faulty(_)) => Ok(Start::Other),
+        Err(LexFailure::Faulty) => Ok(Start::Other),
         Err(LexFailure::Memory) => Err(AllocError),
     }
 }

@@ -92,7 +92,7 @@ impl<'a> Front<'a> {
                     self.is_accepted = self.control.may_end();
                     return Ok(());
                 }
-                Err(LexFailure::Faulty(_)) => return Ok(()),
+                Err(LexFailure::Faulty) => return Ok(()),
                 Err(LexFailure::Memory) => return Err(AllocError),
             };
             let is_taken = self.take(&token)?;

@@ -6,8 +6,6 @@ pub mod Moving
 pub mod Laying
 -- Entry and identifier texts, read token by token.
 pub mod Reading
--- The first diagnostic of a refused text.
-pub mod FirstFault
 -- What `==` of identifiers and entries means, on trees.
 pub mod Equality
 -- The strings of identifiers in memory are of Unicode scalar values.

@@ -14,19 +14,9 @@ pub mod EntryLaws
 pub mod IdentifierToken
 -- What an identifier laid in a text says of the grammar.
 pub mod IdentifierAnswers
--- What a machine without data goes over, it goes over before another rest too.
-pub mod Going
 -- The phases that the control of entry texts reaches.
 pub mod Placed
--- The control of entry texts accepts what the grammar derives.
+-- What the control of entry texts accepts, the grammar derives.
 pub mod EntryErased
--- What the control of entry texts goes over begins an entry text.
-pub mod EntryViable
--- After a token that it refuses no entry text goes on.
-pub mod EntryRefusing
--- Where an entry text is refused.
-pub mod EntryRefused
--- Where an identifier text is refused.
-pub mod IdentifierRefused
 -- An accepted entry text is derived, and so is an accepted identifier text.
 pub mod Accepted

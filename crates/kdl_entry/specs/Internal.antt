@@ -8,13 +8,9 @@ pub mod Counted
 pub mod EntryMachine
 -- The machine's state that a reader of an entry holds, and what its steps return.
 pub mod EntryReading
--- How far a machine without data reads in a text, and the control of an entry text.
-pub mod Going
 -- What the reader of identifier texts returns.
 pub mod IdentifierReading
 -- The parts of an entry, or of a node's name, that is being read: its type and its key.
 pub mod Parts
 -- What is proved of the machine that reads entry texts.
 pub mod MachineLaws
--- Where the first diagnostic of an error is.
-pub mod Near

@@ -1,9 +1,5 @@
 -- What an entry says, whatever its form.
 pub mod Data
--- Where the first fault of a refused entry text is.
-pub mod EarliestEntry
--- Where the first fault of a refused identifier text is.
-pub mod EarliestIdentifier
 -- Strings, types, values and entries as they are written (KDL 2.0.0, String, Value, Type Annotation, Argument, Property).
 pub mod Entries
 -- The fields of an identifier or an entry in memory, and an entry with one field changed.

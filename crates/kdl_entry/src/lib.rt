@@ -5,7 +5,6 @@ mod entry;
 mod identifier;
 pub mod parsing;
 mod print;
-pub mod refusal;
 
 pub use entry::{KdlEntry, KdlEntryFormat};
 pub use identifier::{KdlIdentifier, bare_identifier, identifier_allocator, sliced_identifier};

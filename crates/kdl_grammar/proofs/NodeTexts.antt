@@ -1,15 +1,14 @@
 -- Which texts begin a node text.
 use Rattle.std.proofs.Common.{◌≡◌, ◌≢◌, Bool, true, false, List, [], ◌∷◌, ◌++◌, take, Some, None, refl, sym, ap, subst, ◌∙◌, append_assoc}
-use Rattle.std.proofs.lemmas.List.{append_cancel_right, append-nil}
+use Rattle.std.proofs.lemmas.List.{append_cancel_right}
 use Rattle.kdl_text.specs.Chars.{Text, Star, begins, starts, is_identifier_char}
 use Rattle.kdl_text.specs.Chars.Star.{none as no_star, more}
 use Rattle.kdl_text.specs.Trivia.{LineSpace}
 use Rattle.kdl_lexer.specs.Tokens.{Token, space, newline, slashdash, string, value, left, right, opening, closing, equals, semicolon, bom, BeginsToken, t_space, t_newline, t_right, t_opening, t_closing, t_semicolon, done}
 use Rattle.kdl_lexer.proofs.Lexing.TokenUnique.{token_det, no_token}
-use Rattle.kdl_lexer.proofs.Moving.Puts.{front_first, more_first, two_parts, two_some}
+use Rattle.kdl_lexer.proofs.Moving.Puts.{front_first, two_parts, two_some}
 use Rattle.kdl_grammar.specs.Data.{Nodes}
-use Rattle.kdl_lexer.specs.Earliest.{BeginsNoOther, BeginsSome}
-use Rattle.kdl_grammar.specs.GoingOn.{DerivedNode, NodeAlive, NodeDeadAtToken}
+use Rattle.kdl_grammar.specs.GoingOn.{BeginsNoOther, DerivedNode, NodeAlive, NodeDeadAtToken}
 use Rattle.kdl_grammar.specs.Grammar.{AreNodes, last_gap, node_then, node_text}
 use Rattle.kdl_control.specs.Control.{fresh, spaced, later, Phase, gap, node_slashdash, type_open, type_name, type_done, in_node, property, entry_slashdash, block_slashdash, kept, kept_slashdash, Frame, in_block, in_dropped, in_later, Control, at, step, finish}
 use Rattle.kdl_grammar.specs.Going.{Goes, here, goes}
@@ -275,12 +274,3 @@ node_dead_at_token p r s n k g b e =
     let (q, f) = two_parts r in
     let some : r ≢ [] = λ x. no_token (subst (λ (z : Text). BeginsToken z k s) x b) in
     node_dead_at_front p (take 2 r) q n (two_some r some) (subst (λ (z : Text). NodeReaches (p ++ z) n z) f g) (refuses_two n b e)
-
--- where a token goes on that it takes, so does some node text
-pub node_alive_in_token : (p r u : Text) (n m : NodeControl) (k : Token) → r ≢ [] → NodeReaches (p ++ r) n r → BeginsToken (r ++ u) k [] → node_step n k ≡ Some m → BeginsSome DerivedNode (p ++ r)
-node_alive_in_token p r u n m k some g b e =
-    let y = near_goes (r ++ u) (more_first r u some) g in
-    let same : y.at.piece ≡ p = append_cancel_right y.at.piece p r (sym (y.at.here ∙ y.at.text r)) in
-    let text : y.at.put (r ++ u) ≡ (p ++ (r ++ u)) ++ [] = y.at.text (r ++ u) ∙ ap (λ (z : Text). z ++ (r ++ u)) same ∙ sym (append-nil (p ++ (r ++ u))) in
-    let (w, x) = node_alive (p ++ (r ++ u)) [] m (subst (λ (z : Text). NodeReaches z m []) text (and_then y.there (goes b e here))) in
-    (u ++ w, subst (λ (z : Text). DerivedNode z) (ap (λ (z : Text). z ++ w) (sym (append_assoc p r u)) ∙ append_assoc (p ++ r) u w) x)

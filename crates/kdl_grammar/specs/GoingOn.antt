@@ -1,13 +1,20 @@
--- Which texts begin a document or a node text, and what is proved of that.
+-- Which texts begin a document or a node text, and what is proved of that. `derived` says which texts the grammar derives: documents, or node texts.
 use Rattle.std.specs.Prelude.{◌≡◌, ◌≢◌, ◌↔◌, IsTrue, true, [], ◌++◌, Some, None, take}
 use Rattle.kdl_text.specs.Chars.{Text}
-use Rattle.kdl_lexer.specs.Earliest.{BeginsSome, BeginsNoOther}
 use Rattle.kdl_lexer.specs.Tokens.{Token, BeginsToken, NoToken}
 use Rattle.kdl_grammar.specs.Data.{Node, Nodes}
 use Rattle.kdl_grammar.specs.Grammar.{IsDocument, IsNodeText}
 use Rattle.kdl_control.specs.Control.{Control, step, finish}
 use Rattle.kdl_grammar.specs.Going.{Reaches, RefusesFront}
 use Rattle.kdl_grammar.specs.NodeControl.{NodeControl, node_step, NodeReaches}
+
+-- some derived text begins with the text
+abbrev pub BeginsSome : (Text → Type 0) → Text → Type 0
+BeginsSome derived t = (u : Text) × derived (t ++ u)
+
+-- no derived text begins with the text
+abbrev pub BeginsNoOther : (Text → Type 0) → Text → Type 0
+BeginsNoOther derived t = (u : Text) → derived (t ++ u) → ⊥
 
 -- the text is a document
 abbrev pub Derived : Text → Type 0

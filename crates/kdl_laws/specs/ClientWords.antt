@@ -3,7 +3,7 @@
 -- Laws of the written grammar of documents and nodes.
 pub use Rattle.kdl_grammar.specs.Laws.{EditedIsLaid, FormerIsKept, LaidIsDerived, LaidNodeIsDerived, NodesAreLaid, OneDocument, OneLaidDocument, OneLaidNode, OneNode, ReadsBack}
 -- Which texts begin a document.
-pub use Rattle.kdl_grammar.specs.GoingOn.{Alive, AliveInToken, Dead, DeadAtFront, DeadAtToken, Derived, DerivedAtEnd, DerivedNode, NodeAlive, NodeDeadAtToken, RefusedAtPiece, Viable}
+pub use Rattle.kdl_grammar.specs.GoingOn.{Alive, AliveInToken, BeginsNoOther, BeginsSome, Dead, DeadAtFront, DeadAtToken, Derived, DerivedAtEnd, DerivedNode, NodeAlive, NodeDeadAtToken, RefusedAtPiece, Viable}
 -- Laws of the written grammar of identifiers and entries.
 pub use Rattle.kdl_entry.specs.Laws.{LaidEntryIsDerived, LaidIdentifierIsDerived, OneEntry, OneIdentifier, OneLaidEntry, OneLaidIdentifier, TextsAreLaid}
 -- Laws of what is printed: strings, floats, entries without form.

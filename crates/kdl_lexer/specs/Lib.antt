@@ -1,5 +1,3 @@
--- Where the first fault of a refused text is.
-pub mod Earliest
 -- Strings, numbers and keywords as they are written.
 pub mod Pieces
 -- Tokens, and the cut of a text into tokens.

@@ -4,7 +4,7 @@
 
 ghost use Rattle.kdl_value.specs.Data as data';
 ghost use Rattle.kdl_lexer.specs.Pieces as spec;
-ghost use Rattle.kdl_lexer.specs.Internal.Handed.{Lexed, LexCosts, LexedNext, NextCosts, ReadsAlone, AloneNext, ReturnsApart, ReadsKind, KindCosts, FailsAt, IsAfterSlash, IsFaultAt, IsOther, Passes, IsPunctuation};
+ghost use Rattle.kdl_lexer.specs.Internal.Handed.{Lexed, LexCosts, LexedNext, NextCosts, ReadsAlone, AloneNext, ReturnsApart, ReadsKind, KindCosts, FailsAs, IsAfterSlash, IsOther, Passes, IsPunctuation};
 ghost use Rattle.kdl_value.specs.Tree.{value_tree};
 ghost use Rattle.kdl_lexer.specs.declared.lexer.KindFailure.TheVariants.{Memory as NoMemory};
 ghost use Rattle.kdl_lexer.specs.declared.lexer.LexFailure.TheVariants.{Memory};
@@ -21,7 +21,6 @@ use crate::token_span::TokenSpan;
 use kdl_text::chars::{Class, is_digit, is_identifier_char, is_newline_char, is_sign, is_space};
 use kdl_text::cursor::{Checkpoint, Cursor, Piece, Steps, newline};
 use kdl_text::numbers::{Keyword, Number, NumberFailure, begins_number, read_keyword, read_number};
-use kdl_text::span::SourceSpan;
 use kdl_text::strings::{StringFailure, bare_string, letter_string, quoted_string, raw_string};
 use kdl_text::trivia::{SlashRead, escline, slash};
 use kdl_value::{KdlValue, parsed_float};
@@ -31,8 +30,8 @@ use std::marker::Model;
 /// Why no token was returned.
 #[derive(Clone, Copy)]
 pub enum LexFailure {
-    /// No token begins here. The span is that of the character here.
-    Faulty(SourceSpan),
+    /// No token begins here.
+    Faulty,
     /// An allocation failed.
     Memory,
 }
@@ -129,17 +128,6 @@ pub enum NextToken<'a> {
     End,
 }
 
-/// Returns the span of a fault at the place: the character there, or nothing at the end of the text.
-///
-/// ```
-/// let span = fault_at(&Lexer::new("é", Steps::new()).checkpoint()); // offset 0 and length 2
-/// ```
-pub fn fault_at(place: &Checkpoint) -> SourceSpan
-    ensures { IsFaultAt place.now result }
-{
-    place.char_span()
-}
-
 /// The failure of a token that is a string.
 fn kind_failure(failure: StringFailure) -> KindFailure
     ensures { Passes failure result }
@@ -150,12 +138,12 @@ fn kind_failure(failure: StringFailure) -> KindFailure
     }
 }
 
-/// The failure of the lexer where no token was read at the place.
-fn lex_failure(failure: KindFailure, place: &Checkpoint) -> LexFailure
-    ensures { FailsAt place.now failure result }
+/// The failure of the lexer where no token was read.
+fn lex_failure(failure: KindFailure) -> LexFailure
+    ensures { FailsAs failure result }
 {
     match failure {
-        KindFailure::Absent => LexFailure::Faulty(fault_at(place)),
+        KindFailure::Absent => LexFailure::Faulty,
         KindFailure::Memory => LexFailure::Memory,
     }
 }
@@ -322,7 +310,7 @@ fn after_slash<'a>(read: SlashRead, at: TokenSpan<'a>) -> Result<NextToken<'a>, 
             kind: TokenKind::Slashdash,
             at,
         })),
-        SlashRead::Unclosed | SlashRead::Other => Err(LexFailure::Faulty(fault_at(&at.start))),
+        SlashRead::Unclosed | SlashRead::Other => Err(LexFailure::Faulty),
     }
 }
 
@@ -501,8 +489,7 @@ impl<'a> Lexer<'a> {
 
     /// Returns the token here and advances past it, or returns `None` at the end of the text.
     ///
-    /// Returns `Faulty`, with the span of the character here, if no token begins here, and `Memory` if the allocation
-    /// for the token's value fails. A token costs at most 24 steps for each of its bytes, and the end of the text one.
+    /// Returns `Faulty` if no token begins here, and `Memory` if the allocation for the token's value fails. A token costs at most 24 steps for each of its bytes, and the end of the text one.
     /// If no token begins here, each byte that was read costs at most 24, and the fault itself 24.
     ///
     /// ```
@@ -569,7 +556,7 @@ impl<'a> Lexer<'a> {
         }
         if c.is_ascii_alphabetic() {
             let Some(word) = letter_string(c, &mut self.cursor) else {
-                return Err(LexFailure::Faulty(fault_at(&start)));
+                return Err(LexFailure::Faulty);
             };
             return Ok(NextToken::Word(word, TokenSpan::new(start, self.cursor.checkpoint())));
         }
@@ -579,7 +566,7 @@ impl<'a> Lexer<'a> {
         }
         let kind = match token_kind(c, &mut self.cursor, alloc) {
             Ok(kind) => kind,
-            Err(failure) => return Err(lex_failure(failure, &start)),
+            Err(failure) => return Err(lex_failure(failure)),
         };
         Ok(NextToken::Other(Token {
             kind,

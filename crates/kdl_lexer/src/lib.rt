@@ -4,5 +4,5 @@
 mod lexer;
 mod token_span;
 
-pub use lexer::{LexFailure, Lexer, NextToken, Token, TokenKind, fault_at};
+pub use lexer::{LexFailure, Lexer, NextToken, Token, TokenKind};
 pub use token_span::TokenSpan;

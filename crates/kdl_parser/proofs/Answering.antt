@@ -14,7 +14,5 @@ pub mod LeadingBom
 pub mod LineSpaceReads
 -- Nodes that are a whole text.
 pub mod NodeTexts
--- The place where a text is refused as a node.
-pub mod NodePlaces
 -- An accepted document is derived, and so is an accepted node text.
 pub mod Accepted

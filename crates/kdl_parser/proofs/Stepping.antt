@@ -20,7 +20,5 @@ pub mod MachineSteps
 pub mod Origins
 -- The places that the builder holds lie before the text that is left.
 pub mod PlacesAhead
--- What a token does to the machine without data.
-pub mod WithoutData
 -- One more entry, one more node.
 pub mod Views

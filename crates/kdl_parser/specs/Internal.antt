@@ -14,15 +14,11 @@ pub mod Dropping
 pub mod Events
 -- Only line-spaces, up to the end of a text.
 pub mod LineSpaces
--- The place where a text is refused as a node.
-pub mod NodePlace
 -- Nodes that are a whole text, and what is returned on one.
 pub mod NodeText
 -- The trees of nodes and documents from their parts, for a given tree of a node.
 pub mod Parts
 -- What the readers of whole texts promise, and the steps of a parse.
 pub mod Steps
--- Where the machine without data stops in a text.
-pub mod Stopping
 -- Documents that are a whole text.
 pub mod Whole

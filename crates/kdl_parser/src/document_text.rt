@@ -4,13 +4,12 @@ ghost use Rattle.kdl_grammar.specs.Internal.Machine.{AnswersDocument};
 ghost use Rattle.kdl_parser.specs.Internal.Steps.{CountedOn, Parses};
 ghost use Rattle.kdl_parser.specs.Internal.Whole.{AnswersDocumentText, whole_by};
 ghost use Rattle.kdl_text.specs.Spans.{raise};
-ghost use Rattle.std.specs.Prelude.{◌≡◌, ◌≤◌, IfOk};
+ghost use Rattle.std.specs.Prelude.{◌≤◌, IfOk};
 ghost use Rattle.std.specs.Str.{chars};
 
 use crate::node_parts::{DocumentParts, ParsedNode};
 use crate::token_loop::build;
-use kdl_diagnostics::Whole;
-use kdl_entry::refusal::refusal;
+use kdl_diagnostics::{Whole, failure};
 use kdl_lexer::{LexFailure, Lexer};
 use kdl_text::cursor::Steps;
 use kdl_text::error::ParseFailure;
@@ -27,12 +26,11 @@ pub struct DocumentText<N> {
 }
 
 /// Returns the machine's result on the text; the lexer is at its start.
-#[tactic(auto, using(crate::proofs::Answering::LeadingBom::bom_ends, crate::proofs::Answering::LeadingBom::bom_at, crate::proofs::Answering::LeadingBom::whole_answer))]
+#[tactic(auto, using(crate::proofs::Answering::LeadingBom::whole_answer))]
 fn read_all<'a, N: ParsedNode>(
     alloc: Global,
     lexer: &mut Lexer<'a>,
 ) -> Result<DocumentText<N>, LexFailure>
-    requires { lexer.old.at ≡ 0 }
     ensures answers { AnswersDocumentText N.tree lexer.old.rest result }
     ensures counted { CountedOn result lexer.old.rest lexer.old.steps lexer.new.steps }
     ensures raised { raise lexer.old.steps 1 ≤ lexer.new.steps }
@@ -77,7 +75,7 @@ pub fn read_document<N: ParsedNode>(
 {
     match read_counted(alloc, text, steps) {
         Ok(document) => Ok(document),
-        Err(LexFailure::Faulty(span)) => Err(refusal(alloc, text, Whole::Document, span, steps)),
+        Err(LexFailure::Faulty) => Err(failure(alloc, text, Whole::Document, steps)),
         Err(LexFailure::Memory) => Err(ParseFailure::Memory),
     }
 }

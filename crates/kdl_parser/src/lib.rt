@@ -6,7 +6,6 @@ mod builder;
 mod document_text;
 mod line_spaces;
 mod node_parts;
-mod node_place;
 mod node_text;
 mod token_loop;
 

@@ -1,24 +1,17 @@
 //! Nodes that are a whole text.
 
-ghost use Rattle.kdl_diagnostics.specs.TextControl.{Accepts};
-ghost use Rattle.kdl_diagnostics.specs.declared.whole.Whole.TheVariants.{Node};
-ghost use Rattle.kdl_grammar.specs.GoingOn.{DerivedNode};
 ghost use Rattle.kdl_grammar.specs.Laid.{LaidNodeText};
-ghost use Rattle.kdl_lexer.specs.Earliest.{FailsEarliest};
-ghost use Rattle.kdl_parser.specs.Internal.NodeText.{RunsOnText, ReadsSome, ReadsOne, IsOnly, AnswersNodeText, text_by};
-ghost use Rattle.kdl_parser.specs.Internal.Parts.{document_by, nodes_tree};
+ghost use Rattle.kdl_parser.specs.Internal.NodeText.{RunsOnText, ReadsOne, IsOnly, AnswersNodeText, text_by};
+ghost use Rattle.kdl_parser.specs.Internal.Parts.{document_by};
 ghost use Rattle.kdl_parser.specs.Internal.Steps.{ParsesNode};
-ghost use Rattle.kdl_text.specs.Failures.{TellsOf};
 ghost use Rattle.kdl_value.specs.Tree.{text_of};
 ghost use Rattle.std.specs.Prelude.{IfOk, true};
 ghost use Rattle.std.specs.Str.{chars};
 
-use crate::line_spaces::trailing_line_spaces;
+use crate::line_spaces::line_spaces;
 use crate::node_parts::{DocumentParts, ParsedNode};
-use crate::node_place::refused_place;
 use crate::token_loop::build;
-use kdl_diagnostics::Whole;
-use kdl_entry::refusal::refusal;
+use kdl_diagnostics::{Whole, failure};
 use kdl_lexer::{LexFailure, Lexer};
 use kdl_text::cursor::Steps;
 use kdl_text::error::ParseFailure;
@@ -36,28 +29,22 @@ pub struct NodeText<N> {
     pub span: SourceSpan,
 }
 
-/// Returns the only node of a text. Fails at the second node, or at the end of the text if there is no node.
-fn only_node<N: ParsedNode>(text: &str, nodes: Vec<N>) -> Result<N, LexFailure>
-    requires { ReadsSome (chars text.now) (nodes_tree N.tree nodes.items) }
-    ensures { IsOnly (chars text.now) nodes.items result }
+/// Returns the only node, or `None` if there are more or none.
+fn only_node<N: Drop>(nodes: Vec<N>) -> Option<N>
+    ensures { IsOnly nodes.items result }
 {
-    let end = text.len();
     let mut rest = nodes.into_iter();
     let Some(node) = rest.next() else {
-        return Err(LexFailure::Faulty(SourceSpan {
-            offset: end,
-            len: 0,
-        }));
+        return None;
     };
     if let Some(second) = rest.next() {
-        let span = second.span();
         drop(second);
         drop(node);
         drop(rest);
-        return Err(LexFailure::Faulty(span));
+        return None;
     }
     drop(rest);
-    Ok(node)
+    Some(node)
 }
 
 /// Returns the only node of a text if only line-spaces come after it. Fails at anything else.
@@ -70,7 +57,7 @@ fn with_line_spaces<N: ParsedNode>(
     requires { ReadsOne (chars text.now) (N.tree node) (text_of trailing) }
     ensures { AnswersNodeText N.tree (chars text.now) result }
 {
-    match trailing_line_spaces(alloc, text, trailing.as_str()) {
+    match line_spaces(alloc, trailing.as_str()) {
         Ok(()) => {
             let len = text.len();
             Ok(NodeText {
@@ -88,7 +75,7 @@ fn with_line_spaces<N: ParsedNode>(
 }
 
 /// Returns the node that the text is, from the document that the text is.
-#[tactic(auto, using(crate::proofs::Answering::NodeTexts::some_read, crate::proofs::Answering::NodeTexts::one_read))]
+#[tactic(auto, using(crate::proofs::Answering::NodeTexts::one_read, crate::proofs::Answering::NodeTexts::not_one))]
 fn node_of<N: ParsedNode>(
     alloc: Global,
     text: &str,
@@ -97,14 +84,14 @@ fn node_of<N: ParsedNode>(
     requires { RunsOnText (chars text.now) (document_by N.tree document) }
     ensures { AnswersNodeText N.tree (chars text.now) result }
 {
-    match only_node(text, document.nodes) {
-        Ok(node) => with_line_spaces(alloc, text, node, document.trailing),
-        Err(failure) => Err(failure),
+    match only_node(document.nodes) {
+        Some(node) => with_line_spaces(alloc, text, node, document.trailing),
+        None => Err(LexFailure::Faulty),
     }
 }
 
 /// Reads the node that the text is.
-#[tactic(auto, using(crate::proofs::Answering::NodeTexts::whole_ends, crate::proofs::Answering::NodeTexts::whole_at, crate::proofs::Answering::NodeTexts::whole_read))]
+#[tactic(auto, using(crate::proofs::Answering::NodeTexts::whole_read))]
 fn read_whole<N: ParsedNode>(alloc: Global, text: &str) -> Result<NodeText<N>, LexFailure>
     ensures { AnswersNodeText N.tree (chars text.now) result }
 {
@@ -113,18 +100,6 @@ fn read_whole<N: ParsedNode>(alloc: Global, text: &str) -> Result<NodeText<N>, L
     match build(alloc, whole, &mut lexer) {
         Ok(document) => node_of(alloc, text, document),
         Err(failure) => Err(failure),
-    }
-}
-
-/// The failure of a text that is refused as a node, or of memory that ran out.
-fn node_refusal(alloc: Global, text: &str) -> ParseFailure
-    requires { Accepts Node (chars text.now) → ⊥ }
-    ensures told { TellsOf text.now result }
-    ensures earliest { FailsEarliest DerivedNode text.now result }
-{
-    match refused_place(alloc, text) {
-        Ok(span) => refusal(alloc, text, Whole::Node, span, &mut Steps::new()),
-        Err(_) => ParseFailure::Memory,
     }
 }
 
@@ -138,7 +113,7 @@ pub fn read_node_text<N: ParsedNode>(alloc: Global, text: &str) -> Result<NodeTe
 {
     match read_whole(alloc, text) {
         Ok(node) => Ok(node),
-        Err(LexFailure::Faulty(_)) => Err(node_refusal(alloc, text)),
+        Err(LexFailure::Faulty) => Err(failure(alloc, text, Whole::Node, &mut Steps::new())),
         Err(LexFailure::Memory) => Err(ParseFailure::Memory),
     }
 }

@@ -1,24 +1,24 @@
 //! Documents, read from the tokens of a text one by one.
 
-ghost use Rattle.kdl_parser.specs.Internal.Answered.{AnswersParts, TakeFailsAt};
+ghost use Rattle.kdl_parser.specs.Internal.Answered.{AnswersParts, TakeFailsAs};
 ghost use Rattle.kdl_grammar.specs.Internal.Machine.{initial};
-ghost use Rattle.kdl_parser.specs.Internal.Building.{EndsIn, state_view};
+ghost use Rattle.kdl_parser.specs.Internal.Building.{state_view};
 ghost use Rattle.kdl_parser.specs.Internal.Counted.{ReadOn, unsliced};
 ghost use Rattle.kdl_text.specs.Spans.{bytes, raise};
 ghost use Rattle.std.specs.Prelude.{◌≡◌, ◌+◌, ◌≤◌};
 
 use crate::builder::{Builder, TakeFailure};
 use crate::node_parts::{DocumentParts, ParsedNode};
-use kdl_lexer::{LexFailure, Lexer, NextToken, Token, TokenKind, fault_at};
+use kdl_lexer::{LexFailure, Lexer, NextToken, Token, TokenKind};
 use kdl_text::cursor::Checkpoint;
 use std::alloc::Global;
 
-/// Returns the failure of the builder, at the place.
-fn failure_at(failure: TakeFailure, place: &Checkpoint) -> LexFailure
-    ensures { TakeFailsAt place.now failure result }
+/// Returns the failure of a text, for one of the builder.
+fn lex_failure(failure: TakeFailure) -> LexFailure
+    ensures { TakeFailsAs failure result }
 {
     match failure {
-        TakeFailure::Unexpected => LexFailure::Faulty(fault_at(place)),
+        TakeFailure::Unexpected => LexFailure::Faulty,
         TakeFailure::Memory => LexFailure::Memory,
     }
 }
@@ -33,8 +33,6 @@ fn build_with<'a, N: ParsedNode>(
     requires state { state_view N.tree builder.old ≡ initial lexer.old.rest }
     requires unsliced { unsliced builder.old ≡ bytes lexer.old.rest }
     requires steps { builder.old.slices.steps ≡ 0 }
-    requires text { EndsIn builder.old.slices.whole.rest lexer.old.rest }
-    requires at { lexer.old.at + bytes lexer.old.rest ≡ bytes builder.old.slices.whole.rest }
     ensures answers { AnswersParts N.tree builder.old.slices.whole.rest lexer.old.rest result }
     ensures counted { ReadOn result lexer.old (lexer.new.steps + builder.new.slices.steps) }
     ensures counts { raise lexer.old.steps 0 ≤ raise lexer.new.steps 0 }
@@ -43,21 +41,21 @@ fn build_with<'a, N: ParsedNode>(
         match lexer.next_token(alloc)? {
             NextToken::Space(at) => match builder.take_space(&at) {
                 Ok(()) => {}
-                Err(failure) => return Err(failure_at(failure, &at.start)),
+                Err(failure) => return Err(lex_failure(failure)),
             },
             NextToken::Newline(at) => match builder.take(TokenKind::Newline, &at) {
                 Ok(()) => {}
-                Err(failure) => return Err(failure_at(failure, &at.start)),
+                Err(failure) => return Err(lex_failure(failure)),
             },
             NextToken::Word(word, at) => match builder.take_word(&word, &at) {
                 Ok(()) => {}
-                Err(failure) => return Err(failure_at(failure, &at.start)),
+                Err(failure) => return Err(lex_failure(failure)),
             },
             NextToken::Other(token) => {
                 let Token { kind, at } = token;
                 match builder.take(kind, &at) {
                     Ok(()) => {}
-                    Err(failure) => return Err(failure_at(failure, &at.start)),
+                    Err(failure) => return Err(lex_failure(failure)),
                 }
             }
             NextToken::End => break 'tokens,
@@ -66,13 +64,13 @@ fn build_with<'a, N: ParsedNode>(
     let end = lexer.checkpoint();
     match builder.finish(&end) {
         Ok(document) => Ok(document),
-        Err(failure) => Err(failure_at(failure, &end)),
+        Err(failure) => Err(lex_failure(failure)),
     }
 }
 
-/// Reads the document before the lexer: the text `whole`, or what follows its U+FEFF. Fails at the first token that may
-/// not be where it is, or at the first character with which no token begins; the span of the fault is in the text.
-/// Returns `Memory` if an allocation fails.
+/// Reads the document before the lexer: the text `whole`, or what follows its U+FEFF. Returns `Faulty` at the first token
+/// that may not be where it is, or at the first character with which no token begins, and `Memory` if an allocation
+/// fails.
 ///
 /// The builder slices each place and each spelling that the document keeps once. It does not slice what is slashdashed
 /// by itself: that text is part of the place around it.
@@ -82,8 +80,6 @@ pub fn build<'a, N: ParsedNode>(
     whole: Checkpoint<'a>,
     lexer: &mut Lexer<'a>,
 ) -> Result<DocumentParts<N>, LexFailure>
-    requires text { EndsIn whole.rest lexer.old.rest }
-    requires at { lexer.old.at + bytes lexer.old.rest ≡ bytes whole.rest }
     ensures answers { AnswersParts N.tree whole.entry.rest lexer.old.rest result }
     ensures counted { ReadOn result lexer.old lexer.new.steps }
     ensures counts { raise lexer.old.steps 0 ≤ raise lexer.new.steps 0 }

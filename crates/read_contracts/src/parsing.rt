@@ -1,7 +1,6 @@
 //! Parsed texts.
 
 ghost use Rattle.kdl.specs.Tree.{document_says, document_tree, node_says};
-ghost use Rattle.kdl.specs.Words.{EarliestOnSyntax};
 ghost use Rattle.kdl_entry.specs.Data as entries;
 ghost use Rattle.kdl_entry.specs.Entries.{IsEntryText, IsIdentifierText};
 ghost use Rattle.kdl_entry.specs.Tree.{entry_data, entry_tree, identifier_tree};
@@ -19,13 +18,12 @@ use kdl::{KdlDocument, KdlEntry, KdlIdentifier, KdlNode, ParseFailure, Steps};
 use std::alloc::Global;
 
 /// `KdlDocument::parse`: what it returns is derived and located in the text; what it refuses is not derived, and the
-/// error has its faults, the earliest first.
+/// error has its faults.
 pub fn parse(alloc: Global, text: &str) -> Result<KdlDocument, ParseFailure>
     ensures found { IfOk result (λ d. IsDocument true (chars text.now) (document_says d)) }
     ensures laid { IfOk result (λ d. LaidDocument true (document_tree d) (chars text.now)) }
     ensures refused { IsSyntax result → (x : Nodes) → IsDocument true (chars text.now) x → ⊥ }
     ensures told { TellsOnSyntax text.now result }
-    ensures earliest { EarliestOnSyntax text.now result }
 {
     KdlDocument::parse(alloc, text)
 }

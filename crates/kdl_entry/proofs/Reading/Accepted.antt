@@ -7,9 +7,9 @@ use Rattle.kdl_lexer.specs.Tokens.{Token, string, BeginsToken, t_string}
 use Rattle.kdl_control.specs.EntryControl.{EntryControl, ahead, entry_step}
 use Rattle.kdl_diagnostics.specs.TextControl.{TextControl, in_entry, in_identifier, text_step, text_finish, Takes}
 use Rattle.kdl_diagnostics.specs.TextControl as text
-use Rattle.kdl_entry.specs.EarliestEntry.{DerivedEntry}
-use Rattle.kdl_entry.specs.EarliestIdentifier.{DerivedIdentifier}
+use Rattle.kdl_entry.specs.Data.{Entry}
 use Rattle.kdl_entry.specs.Entries as entries
+use Rattle.kdl_entry.specs.Entries.{IsEntryText, IsIdentifierText}
 use Rattle.kdl_entry.proofs.Reading.EntryErased.{Accepts, ends, takes, accepts_derived}
 
 stepped : (o : Option EntryControl) (d : TextControl) → option_map in_entry o ≡ Some d → (p : EntryControl) × (o ≡ Some p) × (d ≡ in_entry p)
@@ -22,7 +22,7 @@ over_entry (text.takes {d = d} {k = k} b e a) p q =
     let (r, f, g) = stepped (entry_step p k) d (ap (λ z. text_step z k) (sym q) ∙ e) in
     takes b f (over_entry a r g)
 
-pub accepted_entry : (t : Text) → Takes (in_entry ahead) t → DerivedEntry t
+pub accepted_entry : (t : Text) → Takes (in_entry ahead) t → (x : Entry) × IsEntryText true t x
 accepted_entry t a = accepts_derived (over_entry a ahead refl)
 
 -- nothing comes after the string of an identifier text
@@ -34,12 +34,12 @@ the_string : {c d : TextControl} {s r : Text} {k : Token} → BeginsToken s k r 
 the_string {k = string v} (t_string p) e q = let x = ap (λ z. text_step z (string v)) (sym q) ∙ e in (v, p, cc)
 the_string {k = k} _ e q = let x = ap (λ z. text_step z k) (sym q) ∙ e in absurd cc
 
-over_identifier : {c : TextControl} {t : Text} → Takes c t → c ≡ in_identifier false → DerivedIdentifier t
+over_identifier : {c : TextControl} {t : Text} → Takes c t → c ≡ in_identifier false → (v : Text) × IsIdentifierText true t v
 over_identifier (text.ends f) q = let x = ap text_finish (sym q) ∙ f in absurd cc
 over_identifier (text.takes {s = s} b e a) q =
     let (v, p, g) = the_string b e q in
     let n = nothing_behind a g in
     (v, entries.string (subst (λ (z : Text). StringPiece s z v) n p) nothing)
 
-pub accepted_identifier : (t : Text) → Takes (in_identifier false) t → DerivedIdentifier t
+pub accepted_identifier : (t : Text) → Takes (in_identifier false) t → (v : Text) × IsIdentifierText true t v
 accepted_identifier t a = over_identifier a refl

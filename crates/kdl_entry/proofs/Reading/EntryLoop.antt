@@ -1,23 +1,17 @@
 -- The turns of the loop that reads an entry text, token by token.
-use Rattle.std.proofs.Common.{◌≡◌, ◌↔◌, ℕ, ◌+◌, ◌<◌, length, [], ◌∷◌, ◌++◌, Option, Some, None, option_map, Ok, Err, refl, sym, ap, subst, ◌∙◌, arith, append_assoc, append-nil}
+use Rattle.std.proofs.Common.{◌≡◌, ◌↔◌, ◌+◌, ◌<◌, length, [], ◌∷◌, ◌++◌, Option, Some, None, option_map, Ok, Err, refl, sym, ap, subst, ◌∙◌, arith, append_assoc}
 use Rattle.kdl_text.specs.Chars.{Text, Star, plus}
 use Rattle.kdl_text.specs.Chars.Star.{none as no_star, more}
-use Rattle.kdl_text.specs.Internal.Here.{Here, Position, Ahead, first_len}
+use Rattle.kdl_text.specs.Internal.Here.{Here, Position, Ahead}
 use Rattle.kdl_text.specs.Internal.Reading.{Moves}
-use Rattle.kdl_text.specs.Spans.{InText, bytes}
 use Rattle.kdl_text.specs.Trivia.{NodeSpace}
-use Rattle.kdl_text.specs.declared.span.SourceSpan.{SourceSpan}
-use Rattle.kdl_text.proofs.Looking.MovesJoin.{bytes-append}
 use Rattle.kdl_control.specs.Control.{Phase, fresh, spaced, type_open, type_name, in_node, property}
 use Rattle.kdl_control.specs.EntryControl as control
 use Rattle.kdl_control.specs.EntryControl.{EntryControl, entry_step}
-use Rattle.kdl_entry.specs.EarliestEntry.{DerivedEntry}
 use Rattle.kdl_entry.specs.Internal.EntryMachine.{Word, State, ahead, dropping, under, word, done, phase_of, valued, begin_to, value_of, under_to, word_to, go_to, if_taken, step, finish, Runs, stops, reads, AnswersEntry}
 use Rattle.kdl_entry.specs.Internal.EntryReading.{AnswersEntryText, EndsIn, Ended, Same, Stands, Stepped}
 use Rattle.kdl_value.specs.Data.{Value}
-use Rattle.kdl_lexer.specs.Earliest.{IsRefusedAt}
-use Rattle.kdl_lexer.specs.Internal.Handed.{Cuts, one, spaces, IsFaultAt, HandsOut, Lexed, kind_view}
-use Rattle.kdl_entry.specs.Internal.Going.{GoesBy, EntryReaches, EntryStuck}
+use Rattle.kdl_lexer.specs.Internal.Handed.{Cuts, one, spaces, HandsOut, Lexed, kind_view}
 use Rattle.kdl_entry.specs.Internal.Parts.{Parts, taken}
 use Rattle.kdl_lexer.specs.Tokens.{Token, space, string, value, left, right, BeginsToken, t_space, NoToken}
 use Rattle.kdl_entry.specs.Tree.{Entry, entry_tree}
@@ -26,10 +20,7 @@ use Rattle.kdl_lexer.specs.declared.lexer.LexFailure.{LexFailure}
 use Rattle.kdl_lexer.specs.declared.lexer.LexFailure.TheVariants.{Faulty, Memory}
 use Rattle.kdl_lexer.specs.declared.lexer.Token.{Token as CodeToken}
 use Rattle.kdl_lexer.proofs.Lexing.TokenUnique.{no_token, token_shorter}
-use Rattle.kdl_entry.proofs.Reading.EntryErased.{turned, not_turned}
 use Rattle.kdl_entry.proofs.Reading.EntryLaws.{goes_on}
-use Rattle.kdl_entry.proofs.Reading.EntryRefused.{goes_over, refused_at, stuck_at, stuck_end, stuck_no_token}
-use Rattle.kdl_entry.proofs.Reading.Placed.{Placed, placed}
 
 module _ (whole : Text) where
   -- the place of a space does not matter
@@ -150,25 +141,14 @@ module _ (whole s r : Text) (b : EndsIn s r) where
       go None e = absurd cc
       go (Some c) e = go_stands x st c k e a
 
--- the lexer is in the text, the machine goes on from here as from the start, and it goes over the text up to here
+-- the lexer is in the text, and the machine goes on from here as from the start
 pub record Going (st : State) (here : Here) (t : Text) : Type 0 where
   pub same : Same st here.rest t
   pub from : Stands st here.rest
-  pub reached : EntryReaches t (phase_of st) here.rest
   pub text : EndsIn t here.rest
-  pub at : here.at + bytes here.rest ≡ bytes t
 
-is_placed : {st : State} {here : Here} {t : Text} → Going st here t → Placed (phase_of st)
-is_placed g = placed {c = control.ahead} tt g.reached
-
-pub starts_going : (t : Text) (here : Here) → here.rest ≡ t → here.at ≡ 0 → Going ahead here t
-starts_going t here e f = record {
-  same = λ d. rw e (λ a. a, λ a. a);
-  from = tt;
-  reached = subst (λ (z : Text). EntryReaches z (phase_of ahead) here.rest) e GoesBy.here;
-  text = ([], sym e);
-  at = omega (arith, ap bytes e);
-}
+pub starts_going : (t : Text) (here : Here) → here.rest ≡ t → Going ahead here t
+starts_going t here e = record { same = λ d. rw e (λ a. a, λ a. a); from = tt; text = ([], sym e) }
 
 -- the text that is read is w, which is t
 pub next_going : (st st' : State) (old mid : Here) (w t : Text) (k : CodeToken) → w ≡ t → Going st old t → HandsOut old k mid → Moves old mid
@@ -179,9 +159,7 @@ next_going st st' old mid w t k i g h m e =
     record {
       same = λ d. let a = read_cut t d st st' old.rest mid.rest (kind_view k.kind) h.cuts e' in let b = g.same d in (λ x. b.0 (a.0 x), λ x. a.1 (b.1 x));
       from = step_stands t old.rest mid.rest piece st st' (kind_view k.kind) e' g.from;
-      reached = goes_over g.reached h.cuts (turned t st st' (kind_view k.kind) old.rest mid.rest (is_placed g) e');
       text = then_ends g.text piece;
-      at = m.at ∙ g.at;
     }
 
 -- what a step asks of the places
@@ -191,22 +169,6 @@ whole_start st old mid place whole k i g h = rw (i, h.start_rest) g.text
 pub from_start : (st : State) (old mid : Here) (t : Text) (k : CodeToken) → Going st old t → HandsOut old k mid → Stands st k.at.start.rest
 from_start st old mid t k g h = rw h.start_rest g.from
 
-pub bytes_before : (p s t : Text) (at : ℕ) → t ≡ p ++ s → at + bytes s ≡ bytes t → at ≡ bytes p
-bytes_before p s t at e f = omega (arith, ap bytes e, bytes-append p s, f)
-
--- the character at a place of the text
-pub char_in : (s p t : Text) (span : SourceSpan) → t ≡ p ++ s → span.offset ≡ bytes p → span.len ≡ first_len s → InText t span
-char_in [] p t span e f g = (p, [], [], e ∙ simp append-nil, f, g)
-char_in (c ∷ s) p t span e f g = (p, c ∷ [], s, e ∙ sym (append_assoc p (c ∷ []) s), f, omega (arith, g))
-
-told : (st : State) (here : Here) (t : Text) (place : Position) (span : SourceSpan) → Going st here t → place.rest ≡ here.rest → place.at ≡ here.at → IsFaultAt place span → InText t span
-told st here t place span g e f x =
-    char_in here.rest g.text.0 t span g.text.1 (x.offset ∙ f ∙ bytes_before g.text.0 here.rest t here.at g.text.1 g.at) (x.len ∙ ap first_len e)
-
--- where the machine is stuck the text is refused
-refused_here : (st : State) (here : Here) (t : Text) (place : Position) (span : SourceSpan) → Going st here t → place.at ≡ here.at → IsFaultAt place span → EntryStuck (phase_of st) here.rest → IsRefusedAt DerivedEntry t span.offset
-refused_here st here t place span g f x s = refused_at t span.offset (phase_of st) here.rest g.reached g.text (omega (arith, x.offset, f, g.at)) s
-
 no_turn : (st : State) (old mid : Here) (t : Text) (k : CodeToken) → Going st old t → HandsOut old k mid → step t st (kind_view k.kind) k.at.start.rest k.at.end.rest ≡ None
     → (e : Entry) → AnswersEntry t e → ⊥
 no_turn st old mid t k g h e d a =
@@ -215,17 +177,15 @@ no_turn st old mid t k g h e d a =
 
 -- the lexer's failure, and that of a step
 pub lexer_told : (st : State) (old new : Here) (t : Text) (e : LexFailure) → Going st old t → Lexed old (Err e) new → AnswersEntryText t (Err e)
-lexer_told st old new t (Faulty span) g x = (λ d a. faults t d st old.rest x.0 ((g.same d).1 a), told st old t (record { rest = old.rest; at = old.at }) span g refl refl x.1, refused_here st old t (record { rest = old.rest; at = old.at }) span g refl x.1 (stuck_no_token (phase_of st) old.rest x.0))
+lexer_told st old new t Faulty g x = λ d a. faults t d st old.rest x ((g.same d).1 a)
 lexer_told st old new t Memory g x = tt
 
-told_turn : (st : State) (old mid : Here) (t : Text) (k : CodeToken) (e : LexFailure) → Going st old t → HandsOut old k mid → Stepped (step t st (kind_view k.kind) k.at.start.rest k.at.end.rest) k.at.start (Err e) → AnswersEntryText t (Err e)
-told_turn st old mid t k (Faulty span) g h x =
-    let e : step t st (kind_view k.kind) old.rest mid.rest ≡ None = rw (h.start_rest, h.end_rest) at x.0 in
-    (no_turn st old mid t k g h x.0, told st old t k.at.start span g h.start_rest h.start_at x.1, refused_here st old t k.at.start span g h.start_at x.1 (stuck_at (phase_of st) old.rest mid.rest (kind_view k.kind) h.cuts (not_turned t st (kind_view k.kind) old.rest mid.rest (is_placed g) e)))
+told_turn : (st : State) (old mid : Here) (t : Text) (k : CodeToken) (e : LexFailure) → Going st old t → HandsOut old k mid → Stepped (step t st (kind_view k.kind) k.at.start.rest k.at.end.rest) (Err e) → AnswersEntryText t (Err e)
+told_turn st old mid t k Faulty g h x = no_turn st old mid t k g h x
 told_turn st old mid t k Memory g h x = tt
 
-pub take_told : (st : State) (old mid : Here) (w t : Text) (k : CodeToken) (e : LexFailure) → w ≡ t → Going st old t → HandsOut old k mid → Stepped (step w st (kind_view k.kind) k.at.start.rest k.at.end.rest) k.at.start (Err e) → AnswersEntryText t (Err e)
-take_told st old mid w t k e i g h x = told_turn st old mid t k e g h (subst (λ (z : Text). Stepped (step z st (kind_view k.kind) k.at.start.rest k.at.end.rest) k.at.start (Err e)) i x)
+pub take_told : (st : State) (old mid : Here) (w t : Text) (k : CodeToken) (e : LexFailure) → w ≡ t → Going st old t → HandsOut old k mid → Stepped (step w st (kind_view k.kind) k.at.start.rest k.at.end.rest) (Err e) → AnswersEntryText t (Err e)
+take_told st old mid w t k e i g h x = told_turn st old mid t k e g h (subst (λ (z : Text). Stepped (step z st (kind_view k.kind) k.at.start.rest k.at.end.rest) (Err e)) i x)
 
 -- a turn comes nearer to the end
 spaces_shorter : {s r : Text} → Star NodeSpace s r → length r < length s + 1
@@ -254,12 +214,8 @@ pub at_the_end : (st : State) (here : Here) (w t : Text) (e : KdlEntry) → w �
 at_the_end st here w t e i g x f' =
     let f : Ended (finish t st) (Some e) = subst (λ (z : Text). Ended (finish z st) (Some e)) i f' in (g.same (entry_tree e)).0 (subst (λ (z : Text). Runs t (entry_tree e) st z) (sym x) ((at_stop t (entry_tree e) st).1 f))
 
-pub no_end : (st : State) (old new : Here) (w t : Text) (place : Position) (span : SourceSpan) → w ≡ t → Going st old t → old.rest ≡ [] → Moves old new → place.rest ≡ new.rest → place.at ≡ new.at → Ended (finish w st) None → IsFaultAt place span → AnswersEntryText t (Err (Faulty span))
-no_end st old new w t place span i g x m p q f z = (
-  λ d a. (let f' : finish t st ≡ None = rw i at f in let b = (at_stop t d st).0 (subst (λ (z : Text). Runs t d st z) x ((g.same d).1 a)) in cc),
-  char_in [] t t span (simp append-nil) (z.offset ∙ q ∙ all_before) (z.len ∙ ap first_len (p ∙ all_read old new x m)),
-  refused_at t span.offset (phase_of st) [] (subst (λ (z : Text). EntryReaches t (phase_of st) z) x g.reached) (t, simp append-nil) (omega (arith, z.offset, q, all_before)) (stuck_end (phase_of st)),
-)
-  where
-    all_before : new.at ≡ bytes t
-    all_before = omega (arith, m.at, g.at, ap bytes (all_read old new x m))
+pub no_end : (st : State) (old : Here) (w t : Text) → w ≡ t → Going st old t → old.rest ≡ [] → Ended (finish w st) None → AnswersEntryText t (Err Faulty)
+no_end st old w t i g x f d a =
+    let f' : finish t st ≡ None = rw i at f in
+    let b = (at_stop t d st).0 (subst (λ (z : Text). Runs t d st z) x ((g.same d).1 a)) in
+    cc

@@ -1,17 +1,14 @@
 -- What the first token of a text says of it as an identifier.
-use Rattle.std.proofs.Common.{◌≡◌, ◌+◌, true, [], ◌++◌, Err, refl, sym, ap, subst, ◌∙◌, arith}
+use Rattle.std.proofs.Common.{◌≡◌, true, [], Err, refl, sym, ap, subst, ◌∙◌}
 use Rattle.std.specs.Prelude.{String}
 use Rattle.std.specs.declared.alloc.Global.{Global}
 use Rattle.kdl_text.specs.Chars.{Text, plus}
-use Rattle.kdl_text.specs.Internal.Here.{Here, Position}
-use Rattle.kdl_text.specs.Internal.Reading.{Moves}
-use Rattle.kdl_text.specs.Spans.{InText, bytes}
+use Rattle.kdl_text.specs.Internal.Here.{Here}
 use Rattle.kdl_text.specs.Trivia.{ValueEnd}
 use Rattle.kdl_text.specs.Trivia.ValueEnd.{nothing}
-use Rattle.kdl_lexer.specs.Earliest.{BeginsNone}
 use Rattle.kdl_lexer.specs.Pieces.{StringPiece}
 use Rattle.kdl_entry.specs.Entries.{IsString, string, IsIdentifierText}
-use Rattle.kdl_lexer.specs.Internal.Handed.{Cuts, one, spaces, IsFaultAt, HandsOut, Lexed, kind_view}
+use Rattle.kdl_lexer.specs.Internal.Handed.{Cuts, one, spaces, HandsOut, Lexed, kind_view}
 use Rattle.kdl_entry.specs.Internal.IdentifierReading.{AnswersIdentifierText}
 use Rattle.kdl_entry.specs.Internal.Parts.{identifier_at}
 use Rattle.kdl_entry.specs.Laid.{LaidIdentifier, LaidIdentifierText, spelled}
@@ -20,15 +17,12 @@ use Rattle.kdl_lexer.specs.Tokens as tokens
 use Rattle.kdl_lexer.specs.Tokens.{t_space, t_string}
 use Rattle.kdl_value.specs.Tree.{text_of}
 use Rattle.kdl_entry.specs.Tree.{Identifier}
-use Rattle.kdl_text.specs.declared.span.SourceSpan.{SourceSpan}
 use Rattle.kdl_lexer.specs.declared.lexer.LexFailure.{LexFailure}
 use Rattle.kdl_lexer.specs.declared.lexer.LexFailure.TheVariants.{Faulty, Memory}
 use Rattle.kdl_lexer.specs.declared.lexer.Token.{Token as CodeToken}
 use Rattle.kdl_lexer.specs.declared.lexer.TokenKind.{TokenKind}
 use Rattle.kdl_lexer.specs.declared.lexer.TokenKind.TheVariants.{String as StringKind}
 use Rattle.kdl_lexer.proofs.Lexing.TokenUnique.{no_token, token_det}
-use Rattle.kdl_entry.proofs.Reading.EntryLoop.{bytes_before, char_in}
-use Rattle.kdl_entry.proofs.Reading.IdentifierRefused.{refused_behind, refused_empty, refused_none, refused_other, refused_start}
 use Rattle.kdl_entry.proofs.Slicing.Placing.{place}
 use Rattle.kdl_lexer.proofs.Lexing.StringUnique.{string_end}
 
@@ -43,21 +37,17 @@ laid_whole {t = t} {r = r} {v = v} (one (t_string p)) e = subst (λ (z : Text). 
     at_end : (r : Text) → StringPiece t r v → r ≡ [] → Is (λ s q. IsString true s q v) (between t r) t r
     at_end r p e = place (string p (subst (λ (z : Text). ValueEnd true z) (sym e) nothing)) (string_end p)
 
--- a place that was reported is in the text
-place_told : (t : Text) (place : Position) (span : SourceSpan) (p : Text) → t ≡ p ++ place.rest → place.at + bytes place.rest ≡ bytes t → IsFaultAt place span → InText t span
-place_told t place span p e f x = char_in place.rest p t span e (x.offset ∙ bytes_before p place.rest t place.at e f) x.len
-
 -- where no token begins
-pub no_token_told : (t : Text) (old new : Here) (e : LexFailure) → old.rest ≡ t → old.at ≡ 0 → Lexed old (Err e) new → AnswersIdentifierText t (Err e)
-no_token_told t old new (Faulty span) e f x = (λ v d. none v (subst (λ (z : Text). IsIdentifierText true z v) (sym e) d), place_told t (record { rest = old.rest; at = old.at }) span [] (sym e) (omega (arith, ap bytes e, f)) x.1, refused_start t span.offset (x.1.offset ∙ f) (refused_none t (subst BeginsNone e x.0.none)))
+pub no_token_told : (t : Text) (old new : Here) (e : LexFailure) → old.rest ≡ t → Lexed old (Err e) new → AnswersIdentifierText t (Err e)
+no_token_told t old new Faulty e x = λ v d. none v (subst (λ (z : Text). IsIdentifierText true z v) (sym e) d)
   where
     none : (v : Text) → IsIdentifierText true old.rest v → ⊥
-    none v (string p q) = x.0.none _ _ (t_string p)
-no_token_told t old new Memory e f x = tt
+    none v (string p q) = x.none _ _ (t_string p)
+no_token_told t old new Memory e x = tt
 
 -- where the text is empty
-pub empty_told : (t : Text) (old : Here) (place : Position) (span : SourceSpan) → old.rest ≡ t → old.rest ≡ [] → place.rest ≡ t → place.at ≡ 0 → IsFaultAt place span → AnswersIdentifierText t (Err (Faulty span))
-empty_told t old place span e n f g x = (λ v d. none v (subst (λ (z : Text). IsIdentifierText true z v) (sym e ∙ n) d), place_told t place span [] (sym f) (omega (arith, ap bytes f, g)) x, refused_start t span.offset (x.offset ∙ g) (refused_none t (subst BeginsNone (sym n ∙ e) refused_empty)))
+pub empty_told : (t : Text) (old : Here) → old.rest ≡ t → old.rest ≡ [] → AnswersIdentifierText t (Err Faulty)
+empty_told t old e n = λ v d. none v (subst (λ (z : Text). IsIdentifierText true z v) (sym e ∙ n) d)
   where
     none : (v : Text) → IsIdentifierText true [] v → ⊥
     none v (string p q) = no_token (t_string p)
@@ -67,20 +57,12 @@ string_kind (StringKind s) v e n = n s refl
 string_kind _ v e n = cc
 
 -- where the first token is no string
-pub other_told : (t : Text) (old mid : Here) (k : CodeToken) (span : SourceSpan) → old.rest ≡ t → old.at ≡ 0 → HandsOut old k mid → ((s : String Global) → k.kind ≡ StringKind s → ⊥) → IsFaultAt k.at.start span → AnswersIdentifierText t (Err (Faulty span))
-other_told t old mid k span e f h n x = (
-  λ v d. string_kind k.kind v (is_string (rw e at h.cuts) d).1 n,
-  place_told t k.at.start span [] (sym (h.start_rest ∙ e)) (omega (arith, ap bytes (h.start_rest ∙ e), h.start_at, f)) x,
-  refused_start t span.offset (x.offset ∙ h.start_at ∙ f) (refused_other t mid.rest (kind_view k.kind) (rw e at h.cuts) (λ v q. string_kind k.kind v q n)),
-)
+pub other_told : (t : Text) (old mid : Here) (k : CodeToken) → old.rest ≡ t → HandsOut old k mid → ((s : String Global) → k.kind ≡ StringKind s → ⊥) → AnswersIdentifierText t (Err Faulty)
+other_told t old mid k e h n = λ v d. string_kind k.kind v (is_string (rw e at h.cuts) d).1 n
 
 -- where the text goes on after the first token
-pub more_told : (t : Text) (old mid : Here) (k : CodeToken) (s : String Global) (span : SourceSpan) → old.rest ≡ t → old.at ≡ 0 → HandsOut old k mid → k.kind ≡ StringKind s → Moves old mid → (k.at.end.rest ≡ [] → ⊥) → IsFaultAt k.at.end span → AnswersIdentifierText t (Err (Faulty span))
-more_told t old mid k s span e f h y m n x = (
-  λ v d. n (h.end_rest ∙ (is_string (rw e at h.cuts) d).0),
-  place_told t k.at.end span m.piece.0 (sym e ∙ m.piece.1 ∙ ap (λ (z : Text). m.piece.0 ++ z) (sym h.end_rest)) (omega (arith, ap bytes h.end_rest, h.end_at, m.at, f, ap bytes e)) x,
-  refused_behind t mid.rest (text_of s) span.offset (subst (λ (z : Text). Cuts z (tokens.string (text_of s)) mid.rest) e (subst (λ (z : tokens.Token). Cuts old.rest z mid.rest) (ap kind_view y) h.cuts)) (λ q. n (h.end_rest ∙ q)) (omega (arith, x.offset, h.end_at, m.at, f, ap bytes e)),
-)
+pub more_told : (t : Text) (old mid : Here) (k : CodeToken) → old.rest ≡ t → HandsOut old k mid → (k.at.end.rest ≡ [] → ⊥) → AnswersIdentifierText t (Err Faulty)
+more_told t old mid k e h n = λ v d. n (h.end_rest ∙ (is_string (rw e at h.cuts) d).0)
 
 -- where the first token is a string, and the text ends after it
 pub whole_laid : (t : Text) (old mid : Here) (k : CodeToken) (s : String Global) (i : Identifier) → old.rest ≡ t → HandsOut old k mid → k.kind ≡ StringKind s → k.at.end.rest ≡ []

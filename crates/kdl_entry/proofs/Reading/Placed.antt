@@ -1,11 +1,9 @@
 -- The phases that the control of entry texts reaches.
 use Rattle.std.proofs.Common.{◌≡◌, Bool, true, false, Option, Some, None, option_map, refl, subst}
-use Rattle.kdl_text.specs.Chars.{Text}
 use Rattle.kdl_lexer.specs.Tokens.{Token, space, newline, slashdash, string, value, left, right, equals}
 use Rattle.kdl_control.specs.Control as control
 use Rattle.kdl_control.specs.Control.{fresh, spaced, type_open, type_name, type_done, in_node, property, entry_slashdash}
 use Rattle.kdl_control.specs.EntryControl.{EntryControl, ahead, dropping, under, word, done, entry_step, dropped_turn}
-use Rattle.kdl_entry.specs.Internal.Going.{GoesBy, here, goes}
 
 -- the phases from a slashdash on
 abbrev pub in_dropped : control.Phase → Bool
@@ -101,7 +99,3 @@ turn_placed word equals d h e = to_placed (under property) d e refl
 turn_placed done space d h e = to_placed done d e tt
 turn_placed done newline d h e = to_placed done d e tt
 turn_placed _ _ d h e = absurd cc
-
-pub placed : {c d : EntryControl} {s r : Text} → Placed c → GoesBy entry_step c s d r → Placed d
-placed h here = h
-placed h (goes {c = c} {c' = c'} {k = k} b e g) = placed (turn_placed c k c' h e) g

@@ -1,15 +1,10 @@
 -- The machine's state that a reader of an entry holds, and what its steps return.
 use Rattle.std.specs.Prelude.{◌≡◌, ◌↔◌, ◌++◌, Option, Some, None, Result, Ok, Err}
 use Rattle.kdl_text.specs.Chars.{Text}
-use Rattle.kdl_text.specs.Internal.Here.{Position}
-use Rattle.kdl_text.specs.Spans.{InText}
 use Rattle.kdl_control.specs.Internal.Views.{phase_view}
 use Rattle.kdl_entry.specs.Internal.Building.{parts_view}
 use Rattle.kdl_entry.specs.Internal.EntryMachine as machine
 use Rattle.kdl_entry.specs.Internal.EntryMachine.{AnswersEntry, Runs, under, word, done}
-use Rattle.kdl_entry.specs.EarliestEntry.{DerivedEntry}
-use Rattle.kdl_lexer.specs.Earliest.{IsRefusedAt}
-use Rattle.kdl_lexer.specs.Internal.Handed.{IsFaultAt}
 use Rattle.kdl_value.specs.Tree.{text_of}
 use Rattle.kdl_entry.specs.Tree.{entry_tree}
 use Rattle.kdl_entry.specs.Tree as tree
@@ -43,21 +38,21 @@ Stands (word w from) s = EndsIn from s
 Stands (done e from) s = EndsIn from s
 Stands _ s = Unit {0}
 
--- what a step did, by the machine's; for a refused token its first character is reported; an allocation failure says nothing
-abbrev pub Stepped : Option machine.State → Position → Result State LexFailure → Type 0
-Stepped o place (Ok st) = o ≡ Some (state_view st)
-Stepped o place (Err (Faulty span)) = (o ≡ None) × IsFaultAt place span
-Stepped o place (Err Memory) = Unit {0}
+-- what a step did, by the machine's; an allocation failure says nothing
+abbrev pub Stepped : Option machine.State → Result State LexFailure → Type 0
+Stepped o (Ok st) = o ≡ Some (state_view st)
+Stepped o (Err Faulty) = o ≡ None
+Stepped o (Err Memory) = Unit {0}
 
 -- what is read at the end of the text: the entry, or none yet
 abbrev pub Ended : Option tree.Entry → Option KdlEntry → Type 0
 Ended o None = o ≡ None
 Ended o (Some e) = o ≡ Some (entry_tree e)
 
--- the machine's result on a text; for a refused text the place where it is refused is reported
+-- the machine's result on a text; an allocation failure says nothing
 abbrev pub AnswersEntryText : Text → Result KdlEntry LexFailure → Type 0
 AnswersEntryText t (Ok e) = AnswersEntry t (entry_tree e)
-AnswersEntryText t (Err (Faulty span)) = ((e : tree.Entry) → AnswersEntry t e → ⊥) × InText t span × IsRefusedAt DerivedEntry t span.offset
+AnswersEntryText t (Err Faulty) = (e : tree.Entry) → AnswersEntry t e → ⊥
 AnswersEntryText t (Err Memory) = Unit {0}
 
 -- the machine returns from here on what it returns on the whole text

@@ -1,9 +1,6 @@
 -- What the reader of identifier texts returns.
 use Rattle.std.specs.Prelude.{true, Result, Ok, Err}
 use Rattle.kdl_text.specs.Chars.{Text}
-use Rattle.kdl_text.specs.Spans.{InText}
-use Rattle.kdl_lexer.specs.Earliest.{IsRefusedAt}
-use Rattle.kdl_entry.specs.EarliestIdentifier.{DerivedIdentifier}
 use Rattle.kdl_entry.specs.Entries.{IsIdentifierText}
 use Rattle.kdl_entry.specs.Laid.{LaidIdentifierText}
 use Rattle.kdl_entry.specs.Tree.{identifier_tree}
@@ -11,8 +8,8 @@ use Rattle.kdl_entry.specs.declared.identifier.KdlIdentifier.{KdlIdentifier}
 use Rattle.kdl_lexer.specs.declared.lexer.LexFailure.{LexFailure}
 use Rattle.kdl_lexer.specs.declared.lexer.LexFailure.TheVariants.{Faulty, Memory}
 
--- the identifier, located in the text; for a refused text the place where it is refused is reported
+-- the identifier, located in the text; a refused text is none, and an allocation failure says nothing
 abbrev pub AnswersIdentifierText : Text → Result KdlIdentifier LexFailure → Type 0
 AnswersIdentifierText t (Ok i) = LaidIdentifierText true (identifier_tree i) t
-AnswersIdentifierText t (Err (Faulty span)) = ((v : Text) → IsIdentifierText true t v → ⊥) × InText t span × IsRefusedAt DerivedIdentifier t span.offset
+AnswersIdentifierText t (Err Faulty) = (v : Text) → IsIdentifierText true t v → ⊥
 AnswersIdentifierText t (Err Memory) = Unit {0}

@@ -18,10 +18,9 @@ use super::parts::{Given, Key, Parts, entry_from};
 use super::slices::Slices;
 use crate::entry::KdlEntry;
 use crate::identifier::sliced_identifier;
-use crate::refusal::refusal;
 use kdl_control::{EntryControl, Phase};
-use kdl_diagnostics::Whole;
-use kdl_lexer::{LexFailure, Lexer, Token, TokenKind, TokenSpan, fault_at};
+use kdl_diagnostics::{Whole, failure};
+use kdl_lexer::{LexFailure, Lexer, Token, TokenKind, TokenSpan};
 use kdl_text::cursor::{Checkpoint, Piece, Steps};
 use kdl_text::error::ParseFailure;
 use kdl_text::span::SourceSpan;
@@ -157,7 +156,7 @@ fn begin_to<'a>(
     requires leading { Ahead slices.old.whole token.at.start }
     ensures did { Stepped (begin_to slices.old.whole.rest (entry_view next)
         (kind_view token.entry.kind) token.entry.at.start.rest token.entry.at.end.rest)
-        token.entry.at.start result }
+        result }
     ensures whole { slices.new.whole ≡ slices.old.whole }
 {
     let Token { kind, at } = token;
@@ -176,7 +175,7 @@ fn begin_to<'a>(
             let entry = argument_between(slices, value, &at)?;
             Ok(State::Done(entry, at.end))
         }
-        _ => Err(LexFailure::Faulty(fault_at(&at.start))),
+        _ => Err(LexFailure::Faulty),
     }
 }
 
@@ -202,12 +201,12 @@ fn at_value<'a>(
     requires from { Ahead parts.from token.at.start }
     ensures did { Stepped (value_to (phase_view phase) (parts_view parts.entry)
         (kind_view token.entry.kind) token.entry.at.start.rest token.entry.at.end.rest)
-        token.entry.at.start result }
+        result }
     ensures whole { slices.new.whole ≡ slices.old.whole }
 {
     let Token { kind, at } = token;
     let Some(value) = value_of(kind) else {
-        return Err(LexFailure::Faulty(fault_at(&at.start)));
+        return Err(LexFailure::Faulty);
     };
     let given = parts.give(phase, slices, value, &at.start)?;
     let repr = slices.text(&at.start, &at.end)?;
@@ -290,11 +289,11 @@ impl<'a> State<'a> {
         requires from { Stands (state_view self) token.at.start.rest }
         ensures did { Stepped (step slices.old.whole.rest (state_view self.entry)
             (kind_view token.entry.kind) token.entry.at.start.rest token.entry.at.end.rest)
-            token.entry.at.start result }
+            result }
         ensures whole { slices.new.whole ≡ slices.old.whole }
     {
         let Some(next) = self.control().after(&token.kind) else {
-            return Err(LexFailure::Faulty(fault_at(&token.at.start)));
+            return Err(LexFailure::Faulty);
         };
         match self {
             State::Start | State::Dropping(_) => begin_to(next, slices, token),
@@ -337,7 +336,6 @@ impl<'a> State<'a> {
 #[tactic(auto, using(crate::proofs::Reading::EntryLoop::starts_going, crate::proofs::Reading::EntryLoop::next_going, crate::proofs::Reading::EntryLoop::whole_start, crate::proofs::Reading::EntryLoop::from_start, crate::proofs::Reading::EntryLoop::lexer_told, crate::proofs::Reading::EntryLoop::take_told, crate::proofs::Reading::EntryLoop::all_read, crate::proofs::Reading::EntryLoop::from_end, crate::proofs::Reading::EntryLoop::at_the_end, crate::proofs::Reading::EntryLoop::no_end))]
 fn read_tokens<'a>(lexer: &mut Lexer<'a>, slices: &mut Slices<'a>) -> Result<KdlEntry, LexFailure>
     requires rest { lexer.old.rest ≡ slices.old.whole.rest }
-    requires at { lexer.old.at ≡ 0 }
     ensures { AnswersEntryText slices.old.whole.rest result }
 {
     let alloc = slices.alloc();
@@ -348,7 +346,7 @@ fn read_tokens<'a>(lexer: &mut Lexer<'a>, slices: &mut Slices<'a>) -> Result<Kdl
     let here = lexer.checkpoint();
     match state.finish(slices, &here)? {
         Some(entry) => Ok(entry),
-        None => Err(LexFailure::Faulty(fault_at(&here))),
+        None => Err(LexFailure::Faulty),
     }
 }
 
@@ -363,7 +361,6 @@ fn read_entry(alloc: Global, text: &str) -> Result<KdlEntry, LexFailure>
 
 impl KdlEntry {
     ghost use Rattle.kdl_entry.specs.Data as data';
-    ghost use Rattle.kdl_entry.specs.EarliestEntry.{EarliestEntryOnSyntax};
     ghost use Rattle.kdl_entry.specs.Entries.{IsEntryText};
     ghost use Rattle.kdl_entry.specs.Laid.{LaidEntryText};
     ghost use Rattle.kdl_entry.specs.Print.{print_entry};
@@ -373,8 +370,7 @@ impl KdlEntry {
     /// Parses a text that is exactly one entry, and keeps every byte of its form: line-spaces and slashdashed entries
     /// before it, and line-spaces after it (KDL 2.0.0, Argument, Property). The span of the entry is the whole text.
     /// Returns `Syntax` if the text is not an entry; its error has a diagnostic for each fault, up to the first piece
-    /// that no entry can contain, and at least one; the first one is near the earliest fault that the text can have.
-    /// Returns `Memory` if an allocation fails.
+    /// that no entry can contain, and at least one. Returns `Memory` if an allocation fails.
     ///
     /// ```
     /// let entry = KdlEntry::parse(alloc, "port=(u16)0x1F90")?; // prints the text
@@ -393,22 +389,16 @@ impl KdlEntry {
         // text.
         ensures laid { IfOk result (λ e. LaidEntryText true (chars text.now) (entry_tree e)) }
         ensures prints { IfOk result (λ e. print_entry (entry_tree e) ≡ chars text.now) }
-        // A refused text is not derived, and the error reports where: its first diagnostic is near the earliest fault that
-        // the text can have.
+        // A refused text is not derived, and the error has the spans of its faults.
         ensures refused { IsSyntax result → (x : data'.Entry) → IsEntryText true (chars text.now) x
             → ⊥ }
         ensures told { TellsOnSyntax text.now result }
-        ensures earliest { EarliestEntryOnSyntax text.now result }
     {
         match read_entry(alloc, text) {
             Ok(entry) => Ok(entry),
-            Err(LexFailure::Faulty(span)) => Err(refusal(
-                alloc,
-                text,
-                Whole::Entry,
-                span,
-                &mut Steps::new(),
-            )),
+            Err(LexFailure::Faulty) => {
+                Err(failure(alloc, text, Whole::Entry, &mut Steps::new()))
+            }
             Err(LexFailure::Memory) => Err(ParseFailure::Memory),
         }
     }

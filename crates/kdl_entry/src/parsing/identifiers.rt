@@ -6,9 +6,8 @@ ghost use Rattle.std.specs.Str.{chars};
 
 use super::slices::Slices;
 use crate::identifier::KdlIdentifier;
-use crate::refusal::refusal;
-use kdl_diagnostics::Whole;
-use kdl_lexer::{LexFailure, Lexer, Token, TokenKind, fault_at};
+use kdl_diagnostics::{Whole, failure};
+use kdl_lexer::{LexFailure, Lexer, Token, TokenKind};
 use kdl_text::cursor::{Checkpoint, Steps};
 use kdl_text::error::ParseFailure;
 use std::alloc::Global;
@@ -28,21 +27,19 @@ fn read_token<'a>(
     lexer: &mut Lexer<'a>,
     whole: &Checkpoint<'a>,
 ) -> Result<KdlIdentifier, LexFailure>
-    requires rest { lexer.old.rest ≡ whole.now.rest }
-    requires at { lexer.old.at ≡ 0 }
-    requires start { whole.now.at ≡ 0 }
+    requires { lexer.old.rest ≡ whole.now.rest }
     ensures { AnswersIdentifierText whole.now.rest result }
 {
     let Token { kind, at } = match lexer.next(alloc) {
         Ok(Some(token)) => token,
-        Ok(None) => return Err(LexFailure::Faulty(fault_at(whole))),
+        Ok(None) => return Err(LexFailure::Faulty),
         Err(failure) => return Err(failure),
     };
     let TokenKind::String(value) = kind else {
-        return Err(LexFailure::Faulty(fault_at(&at.start)));
+        return Err(LexFailure::Faulty);
     };
     if !is_end(&at.end) {
-        return Err(LexFailure::Faulty(fault_at(&at.end)));
+        return Err(LexFailure::Faulty);
     }
     let mut slices = Slices::new(alloc, whole.copied());
     Ok(slices.identifier(value, &at)?)
@@ -58,7 +55,6 @@ fn read_identifier(alloc: Global, text: &str) -> Result<KdlIdentifier, LexFailur
 }
 
 impl KdlIdentifier {
-    ghost use Rattle.kdl_entry.specs.EarliestIdentifier.{EarliestIdentifierOnSyntax};
     ghost use Rattle.kdl_entry.specs.Entries.{IsIdentifierText};
     ghost use Rattle.kdl_entry.specs.Laid.{LaidIdentifierText};
     ghost use Rattle.kdl_entry.specs.Print.{print_identifier};
@@ -89,22 +85,16 @@ impl KdlIdentifier {
         ensures laid { IfOk result
             (λ i. LaidIdentifierText true (identifier_tree i) (chars text.now)) }
         ensures prints { IfOk result (λ i. print_identifier (identifier_tree i) ≡ chars text.now) }
-        // A refused text is not derived, and the error reports where: its first diagnostic is near the earliest fault that
-        // the text can have.
+        // A refused text is not derived, and the error has the spans of its faults.
         ensures refused { IsSyntax result → (v : Text) → IsIdentifierText true (chars text.now) v
             → ⊥ }
         ensures told { TellsOnSyntax text.now result }
-        ensures earliest { EarliestIdentifierOnSyntax text.now result }
     {
         match read_identifier(alloc, text) {
             Ok(identifier) => Ok(identifier),
-            Err(LexFailure::Faulty(span)) => Err(refusal(
-                alloc,
-                text,
-                Whole::Identifier,
-                span,
-                &mut Steps::new(),
-            )),
+            Err(LexFailure::Faulty) => {
+                Err(failure(alloc, text, Whole::Identifier, &mut Steps::new()))
+            }
             Err(LexFailure::Memory) => Err(ParseFailure::Memory),
         }
     }

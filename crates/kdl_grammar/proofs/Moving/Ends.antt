@@ -6,8 +6,8 @@ use Rattle.kdl_text.proofs.Spacing.SpacePieces.{line_comment_end}
 use Rattle.kdl_entry.specs.Data.{Entry}
 use Rattle.kdl_lexer.proofs.Lexing.TokenUnique.{end_of}
 use Rattle.kdl_entry.proofs.Moving.EntryEnds.{end_line_space, end_spaces, end_some, end_slashdash, end_string, end_type, end_entry}
-use Rattle.kdl_grammar.specs.Data.{Node, Children, Nodes}
-use Rattle.kdl_grammar.specs.Grammar.{Terminator, IsNode, named, AfterName, kept_entry, dropped_entry, Blocks, dropped_block, block, no_block, AfterBlock, dropped_later, no_more, Gap, no_gap, line_space, dropped_node, AreNodes, last_gap, node_then, IsBlock, braces}
+use Rattle.kdl_grammar.specs.Data.{Children, Nodes}
+use Rattle.kdl_grammar.specs.Grammar.{Terminator, named, AfterName, kept_entry, dropped_entry, Blocks, dropped_block, block, no_block, AfterBlock, dropped_later, no_more, Gap, no_gap, line_space, dropped_node, AreNodes, last_gap, node_then, IsBlock, braces}
 use Rattle.kdl_grammar.specs.Places.{DroppedBlock}
 
 pub end_terminator : {s r : Text} → Terminator s r → End s r
@@ -43,9 +43,6 @@ mutual
 
   pub end_block : {s r : Text} {xs : Nodes} → IsBlock true s r xs → End s r
   end_block (braces ns) = also 123 (past (end_nodes ns))
-
-pub end_node : {s r : Text} {x : Node} → IsNode true s r x → End s r
-end_node (named y w d) = then (end_type y) (then (end_string w) (end_name d))
 
 pub end_dropped_block : {s r : Text} → DroppedBlock s r → End s r
 end_dropped_block (DroppedBlock.dropped ss m b) = then (end_spaces ss) (then (end_slashdash m) (end_block b))

@@ -4,7 +4,7 @@ use Rattle.std.proofs.Math.Nat.{add-mul, mul-le-mul_left}
 use Rattle.std.specs.Prelude.{Some, Result, Ok, Err}
 use Rattle.kdl_text.specs.Chars.{Text}
 use Rattle.kdl_text.specs.Bare.{BareString}
-use Rattle.kdl_text.specs.Internal.Here.{Here, Position, Stayed, looked, first, tail}
+use Rattle.kdl_text.specs.Internal.Here.{Here, Stayed, looked, first, tail}
 use Rattle.kdl_text.specs.Spans.{bytes}
 use Rattle.kdl_text.specs.MultiLine.{IsQuoted}
 use Rattle.kdl_text.specs.Raw.{IsRaw}
@@ -16,11 +16,10 @@ use Rattle.kdl_text.proofs.Quoted.StringUnique.{is_quoted_shorter, is_raw_shorte
 use Rattle.kdl_text.proofs.Looking.Runs.{length-bytes}
 use Rattle.kdl_value.specs.Data.{Value}
 use Rattle.kdl_lexer.specs.Pieces.{PlainPiece}
-use Rattle.kdl_lexer.specs.Internal.Handed.{KindCosts, LexCosts, FailsAt}
+use Rattle.kdl_lexer.specs.Internal.Handed.{KindCosts, LexCosts, FailsAs}
 use Rattle.kdl_lexer.specs.declared.lexer.KindFailure.{KindFailure}
 use Rattle.kdl_lexer.specs.declared.lexer.KindFailure.TheVariants.{Absent, Memory as NoMemory}
 use Rattle.kdl_lexer.specs.declared.lexer.LexFailure.{LexFailure}
-use Rattle.kdl_lexer.specs.declared.lexer.LexFailure.TheVariants.{Faulty, Memory}
 use Rattle.kdl_lexer.specs.declared.lexer.TokenKind.{TokenKind}
 use Rattle.kdl_lexer.proofs.Lexing.StringUnique.{plain_shorter}
 
@@ -85,7 +84,6 @@ token_costs a b e x p =
     let y = ap (λ (h : Here). h.steps) x in let z = ap (λ (h : Here). bytes h.rest) x in let w = ap (λ (h : Here). length h.rest) x in
     record { most = omega (arith, y, z, p.costs.most, p.fewer); least = omega (arith, y, w, p.costs.least) }
 
-pub failure_costs : (A : Type 0) (a b e : Here) (p : Position) (f : KindFailure) (g : LexFailure) → b ≡ looked a → Moves b e → KindCosts {A = A} 22 (Err f) b e → FailsAt p f g → LexCosts (Err g) a e
-failure_costs A a b e p Absent (Faulty span) x v k i = no_token_costs a b e x v k
-failure_costs A a b e p Absent Memory x v k i = tt
-failure_costs A a b e p NoMemory g x v k i = rw i tt
+pub failure_costs : (A : Type 0) (a b e : Here) (f : KindFailure) (g : LexFailure) → b ≡ looked a → Moves b e → KindCosts {A = A} 22 (Err f) b e → FailsAs f g → LexCosts (Err g) a e
+failure_costs A a b e Absent g x v k i = rw i (no_token_costs a b e x v k)
+failure_costs A a b e NoMemory g x v k i = rw i tt

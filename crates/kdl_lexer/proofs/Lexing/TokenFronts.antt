@@ -8,15 +8,12 @@ use Rattle.kdl_text.proofs.Numeric.KeywordUnique.{keyword_begins}
 use Rattle.kdl_text.proofs.Numeric.NumberUnique.{number_not_bare}
 use Rattle.kdl_text.proofs.Quoted.BareReads.{bare_begins}
 use Rattle.kdl_text.proofs.Quoted.StringUnique.{is_quoted_begins, is_raw_begins, is_raw_front}
-use Rattle.kdl_text.specs.Trivia.{BlockComment, LineComment}
-use Rattle.kdl_text.proofs.Spacing.SpaceUnique.{block_begins, line_comment_begins}
 use Rattle.kdl_value.specs.Data.{Value}
-use Rattle.kdl_lexer.specs.Earliest.{BeginsNoToken}
 use Rattle.kdl_lexer.specs.Pieces.{StringPiece, bare, quoted, raw, PlainPiece, number, keyword}
 use Rattle.kdl_lexer.specs.Tokens.{Token, space, newline, slashdash, string, value, left, right, opening, closing, equals, semicolon, bom, BeginsToken, t_string, t_value}
 use Rattle.kdl_lexer.proofs.Lexing.FirstCharacters.{number_identifier}
 use Rattle.kdl_lexer.proofs.Lexing.StringUnique.{quote_identifier, sign_identifier, quote_sign, raw_second}
-use Rattle.kdl_lexer.proofs.Lexing.TokenUnique.{kind_of, kind_is, kind_front, kind_first, no_token, no_slash, Alien, no_alien}
+use Rattle.kdl_lexer.proofs.Lexing.TokenUnique.{kind_of, kind_is, kind_front, kind_first, no_token, no_slash}
 
 -- where the first token may not come, nor may the second: it is of the same kind, or a number or keyword in place of a string
 abbrev pub RefusedWith : Token → Token → Type 0
@@ -104,21 +101,3 @@ pub refused_with : (s u : Text) {r t : Text} {k j : Token} → BeginsToken s k r
 refused_with [] u b b' = absurd (no_token b)
 refused_with (c ∷ []) u {k = k} {j = j} b b' = of_kind k j (sym (kind_is b) ∙ kind_first c [] u (slash_alone c b) ∙ kind_is b') (one_fill b b')
 refused_with (c ∷ d ∷ s) u {k = k} {j = j} b b' = of_kind k j (sym (kind_is b) ∙ kind_front c d s u ∙ kind_is b') (two_fill b b')
-
--- so is each that begins with the same character, if that is no slash
-pub refused_first : (c : ℕ) (s u : Text) {r t : Text} {k j : Token} → (c == 47) ≡ false → Fills k j → BeginsToken (c ∷ s) k r → BeginsToken (c ∷ u) j t → RefusedWith k j
-refused_first c s u {k = k} {j = j} h f b b' = of_kind k j (sym (kind_is b) ∙ kind_first c s u h ∙ kind_is b') f
-
--- a character with which no token begins
-pub alien_front : (c : ℕ) → Alien c → BeginsNoToken (c ∷ [])
-alien_front c a u r k b = no_alien c u a r k b
-
--- a slash before a character with which it begins no comment and no slashdash
-pub slash_front : (c : ℕ) → (c == 42) ≡ false → (c == 47) ≡ false → (c == 45) ≡ false → BeginsNoToken (47 ∷ c ∷ [])
-slash_front c x y z u r k b = no_slash (c ∷ u) (λ v p. no_block v p) (λ v p. no_line v p) z r k b
-  where
-    no_block : (v : Text) → BlockComment (47 ∷ c ∷ u) v → ⊥
-    no_block v p = let h = block_begins p in cc
-
-    no_line : (v : Text) → LineComment (47 ∷ c ∷ u) v → ⊥
-    no_line v p = let h = line_comment_begins p in cc

@@ -40,10 +40,6 @@ pub more_first : (r u : Text) → r ≢ [] → first (r ++ u) ≡ first r
 more_first [] u some = absurd (some refl)
 more_first (c ∷ r) u some = refl
 
-pub more_some : (f u : Text) → f ≢ [] → f ++ u ≢ []
-more_some [] u some e = some refl
-more_some (c ∷ f) u some e = cc
-
 -- the first two characters of a text, and the rest
 pub two_parts : (r : Text) → (q : Text) × (r ≡ take 2 r ++ q)
 two_parts [] = ([], refl)

@@ -2,11 +2,10 @@
 use Rattle.std.specs.Char.{is_ascii_alphabetic}
 use Rattle.std.specs.Prelude.{◌≡◌, ◌⊎◌, ℕ, Bool, true, false, ◌||◌, ◌==◌, [], ◌∷◌, ◌++◌, Option, Some, None, Result, Ok, Err}
 use Rattle.kdl_text.specs.Chars.{Text, Space as SpaceChar, Plus, starts, begins_two, is_digit, is_space}
-use Rattle.kdl_text.specs.Internal.Here.{Here, Position, first_len}
+use Rattle.kdl_text.specs.Internal.Here.{Here}
 use Rattle.kdl_text.specs.Internal.Reading.{Costs}
 use Rattle.kdl_text.specs.Trivia.{NodeSpace, BlockComment, LineComment}
 use Rattle.kdl_text.specs.Internal.TriviaReading.{PieceCosts}
-use Rattle.kdl_text.specs.declared.span.SourceSpan.{SourceSpan}
 use Rattle.kdl_text.specs.declared.trivia.SlashRead.{SlashRead}
 use Rattle.kdl_text.specs.declared.trivia.SlashRead.TheVariants.{Block, Line, Dash, Unclosed, Other as NoSlash}
 use Rattle.kdl_text.specs.declared.strings.StringFailure.{StringFailure}
@@ -49,11 +48,6 @@ kind_view Closing = tokens.closing
 kind_view Equals = tokens.equals
 kind_view Semicolon = tokens.semicolon
 kind_view Bom = tokens.bom
-
--- the span of a fault at the place, which is the character there
-pub record IsFaultAt (place : Position) (span : SourceSpan) : Type 0 where
-  pub offset : span.offset ≡ place.at
-  pub len : span.len ≡ first_len place.rest
 
 -- the kind of the token that was read at s, before r
 abbrev pub ReadsKind : Text → Result TokenKind KindFailure → Text → Type 0
@@ -100,17 +94,16 @@ pub record HandsOver (old : Here) (k : tokens.Token) (span : TokenSpan) (new : H
 abbrev pub HandsOut : Here → Token → Here → Type 0
 HandsOut old t new = HandsOver old (kind_view t.kind) t.at new
 
--- the failure of the lexer at the place, after that of a reader
-abbrev pub FailsAt : Position → KindFailure → LexFailure → Type 0
-FailsAt place Absent (Faulty span) = IsFaultAt place span
-FailsAt place Absent Memory = ⊥
-FailsAt place NoMemory f = f ≡ Memory
+-- the failure of the lexer, after that of a reader
+abbrev pub FailsAs : KindFailure → LexFailure → Type 0
+FailsAs Absent f = f ≡ Faulty
+FailsAs NoMemory f = f ≡ Memory
 
 -- what a call returns
 abbrev pub Lexed : Here → Result (Option Token) LexFailure → Here → Type 0
 Lexed old (Ok (Some t)) new = HandsOut old t new
 Lexed old (Ok None) new = old.rest ≡ []
-Lexed old (Err (Faulty span)) new = NoToken old.rest × IsFaultAt (record { rest = old.rest; at = old.at }) span
+Lexed old (Err Faulty) new = NoToken old.rest
 Lexed old (Err Memory) new = Unit {0}
 
 -- a token costs at most 24 steps for each byte, and at least one for each character; the end of the text costs one;
@@ -118,7 +111,7 @@ Lexed old (Err Memory) new = Unit {0}
 abbrev pub LexCosts : Result (Option Token) LexFailure → Here → Here → Type 0
 LexCosts (Ok (Some t)) old new = Costs 24 0 old new
 LexCosts (Ok None) old new = Costs 24 1 old new
-LexCosts (Err (Faulty span)) old new = Costs 24 24 old new
+LexCosts (Err Faulty) old new = Costs 24 24 old new
 LexCosts (Err Memory) old new = Unit {0}
 
 -- a token is read alone, or is a run of spaces
@@ -150,8 +143,8 @@ abbrev pub IsAfterSlash : SlashRead → TokenSpan → Result NextToken LexFailur
 IsAfterSlash Block span r = r ≡ Ok (Spaces span)
 IsAfterSlash Line span r = r ≡ Ok (Lines span)
 IsAfterSlash Dash span r = r ≡ Ok (Other (record { kind = Slashdash; at = span }))
-IsAfterSlash Unclosed span r = (f : SourceSpan) × (r ≡ Err (Faulty f)) × IsFaultAt span.start f
-IsAfterSlash NoSlash span r = (f : SourceSpan) × (r ≡ Err (Faulty f)) × IsFaultAt span.start f
+IsAfterSlash Unclosed span r = r ≡ Err Faulty
+IsAfterSlash NoSlash span r = r ≡ Err Faulty
 
 -- the same cost
 abbrev pub NextCosts : Result NextToken LexFailure → Here → Here → Type 0

@@ -1,24 +1,13 @@
 -- A text with U+FEFF before it, or without.
-use Rattle.std.proofs.Common.{◌≡◌, ◌+◌, Bool, true, false, [], ◌∷◌, Ok, Err, sym, ap, subst, ◌∙◌, arith}
+use Rattle.std.proofs.Common.{◌≡◌, Bool, true, false, Ok, Err, sym, ap, subst, ◌∙◌}
 use Rattle.kdl_text.specs.Chars.{Text, begins}
 use Rattle.kdl_text.specs.Internal.Here.{Here, Ate}
-use Rattle.kdl_text.specs.Spans.{bytes}
 use Rattle.kdl_lexer.specs.declared.lexer.LexFailure.{LexFailure}
 use Rattle.kdl_grammar.specs.Tree.{Node}
 use Rattle.kdl_parser.specs.Internal.Answered.{AnswersParts}
-use Rattle.kdl_parser.specs.Internal.Building.{EndsIn}
 use Rattle.kdl_parser.specs.Internal.Whole.{AnswersDocumentText}
 use Rattle.kdl_parser.specs.declared.node_parts.DocumentParts.{DocumentParts}
 use Rattle.kdl_parser.proofs.Answering.Outcomes.{plain_answer, plain_failure, bom_answer, bom_failure}
-
--- what is left after the U+FEFF, or where there is none
-pub bom_ends : (w : Text) (eaten : Bool) (old new : Here) → w ≡ old.rest → Ate 0xFEFF eaten old new → EndsIn w new.rest
-bom_ends w true old new e a = (0xFEFF ∷ [], e ∙ a.0)
-bom_ends w false old new e a = ([], e ∙ ap (λ (h : Here). h.rest) (sym a.1))
-
-pub bom_at : (w : Text) (eaten : Bool) (old new : Here) → w ≡ old.rest → old.at ≡ 0 → Ate 0xFEFF eaten old new → new.at + bytes new.rest ≡ bytes w
-bom_at w true old new e n a = omega (arith, ap bytes e, ap bytes a.0, a.1, n)
-bom_at w false old new e n a = let x = ap (λ (h : Here). h.rest) a.1 in let y = ap (λ (h : Here). h.at) a.1 in omega (arith, ap bytes e, ap bytes x, y, n)
 
 -- the result on the whole text
 pub whole_answer : {N : Type 0} (tree : N → Node) (t w : Text) (has_bom : Bool) (old new : Here) (p : DocumentParts N) → w ≡ t → old.rest ≡ t → Ate 0xFEFF has_bom old new → AnswersParts tree w new.rest (Ok p)

@@ -1,16 +1,10 @@
 -- Line-spaces, read token by token to the end of a text.
-use Rattle.std.proofs.Common.{◌≡◌, ◌↔◌, ℕ, ◌+◌, ◌-◌, ◌<◌, ◌≤◌, length, Bool, true, false, List, [], ◌++◌, None, Ok, Err, refl, sym, ap, subst, ◌∙◌, arith, append_assoc}
+use Rattle.std.proofs.Common.{◌≡◌, ◌↔◌, ◌<◌, length, Bool, true, false, [], None, Ok, Err, refl, sym, subst, ◌∙◌}
 use Rattle.kdl_text.specs.Chars.{Text, Star, plus}
 use Rattle.kdl_text.specs.Chars.Star.{none as no_star, more}
-use Rattle.kdl_text.specs.Internal.Here.{Here, Position, first_len}
-use Rattle.kdl_text.specs.Internal.Reading.{Moves}
-use Rattle.kdl_text.specs.Spans.{InText, bytes}
+use Rattle.kdl_text.specs.Internal.Here.{Here}
 use Rattle.kdl_text.specs.Trivia.{NodeSpace, LineSpace}
-use Rattle.kdl_text.specs.declared.span.SourceSpan.{SourceSpan}
-use Rattle.std.specs.Str.{chars, IsUtf8}
-use Rattle.kdl_text.proofs.Looking.MovesJoin.{bytes-append}
-use Rattle.kdl_text.proofs.Looking.Texts.{chars_bytes}
-use Rattle.kdl_lexer.specs.Internal.Handed.{Cuts, one, spaces, IsFaultAt, kind_view, HandsOut, Lexed}
+use Rattle.kdl_lexer.specs.Internal.Handed.{Cuts, one, spaces, kind_view, HandsOut, Lexed}
 use Rattle.kdl_lexer.specs.Tokens.{Token, space, newline, t_space, t_newline, BeginsToken, NoToken}
 use Rattle.kdl_lexer.specs.declared.lexer.LexFailure.{LexFailure}
 use Rattle.kdl_lexer.specs.declared.lexer.LexFailure.TheVariants.{Faulty, Memory}
@@ -18,10 +12,7 @@ use Rattle.kdl_lexer.specs.declared.lexer.Token.{Token as CodeToken}
 use Rattle.kdl_lexer.specs.declared.lexer.TokenKind.{TokenKind}
 use Rattle.kdl_lexer.specs.declared.lexer.TokenKind.TheVariants.{Space, Newline, Slashdash, String, Value, Left, Right, Opening, Closing, Equals, Semicolon, Bom}
 use Rattle.kdl_lexer.proofs.Lexing.TokenUnique.{token_det, no_token}
-use Rattle.kdl_entry.proofs.Reading.EntryLoop.{bytes_before, char_in}
-use Rattle.kdl_parser.specs.Internal.Building.{EndsIn}
 use Rattle.kdl_parser.specs.Internal.LineSpaces.{is_line_space, AreLineSpaces}
-use Rattle.kdl_parser.proofs.Stepping.PlacesAhead.{then_ends}
 use Rattle.kdl_parser.proofs.Answering.TokenLoop.{cut_shorter}
 
 -- whether the token is made of line-spaces
@@ -77,71 +68,35 @@ behind_cut : {s r : Text} {k : Token} → Cuts s k r → Star LineSpace s [] →
 behind_cut (one t) a = after_lines t a
 behind_cut (spaces (plus n m)) a = (refl, after_spaces m (after_lines (t_space n) a).1)
 
--- the lexer is in the text t, which is line-spaces where what is left is
-pub record Lines (here : Here) (t : Text) : Type 0 where
-  pub same : Star LineSpace here.rest [] ↔ Star LineSpace t []
-  pub text : EndsIn t here.rest
-  pub at : here.at + bytes here.rest ≡ bytes t
+-- the text t is line-spaces where what is left before the lexer is
+abbrev pub Lines : Here → Text → Type 0
+Lines here t = Star LineSpace here.rest [] ↔ Star LineSpace t []
 
-pub lines_start : (t : Text) (here : Here) → here.rest ≡ t → here.at ≡ 0 → Lines here t
-lines_start t here e n = record {
-  same = rw e (λ a. a, λ a. a);
-  text = ([], sym e);
-  at = omega (arith, n, ap bytes e);
-}
+pub lines_start : (t : Text) (here : Here) → here.rest ≡ t → Lines here t
+lines_start t here e = rw e (λ a. a, λ a. a)
 
-pub lines_go_on : (t : Text) (old new : Here) (k : CodeToken) → Lines old t → HandsOut old k new → Moves old new → is_line_space k.kind ≡ true → Lines new t
-lines_go_on t old new k g h m e =
+pub lines_go_on : (t : Text) (old new : Here) (k : CodeToken) → Lines old t → HandsOut old k new → is_line_space k.kind ≡ true → Lines new t
+lines_go_on t old new k g h e =
     let f : of_lines (kind_view k.kind) ≡ true = sym (lines_kind k.kind) ∙ e in
-    record {
-      same = (λ a. g.same.0 (cut_lines h.cuts f a), λ a. (behind_cut h.cuts (g.same.1 a)).1);
-      text = then_ends g.text m.piece;
-      at = m.at ∙ g.at;
-    }
+    (λ a. g.0 (cut_lines h.cuts f a), λ a. (behind_cut h.cuts (g.1 a)).1)
 
 pub lines_nearer : (old new : Here) (k : CodeToken) → HandsOut old k new → length new.rest < length old.rest
 lines_nearer old new k h = cut_shorter h.cuts
 
-lines_told : (t : Text) (here : Here) (place : Position) (span : SourceSpan) → Lines here t → place.rest ≡ here.rest → place.at ≡ here.at → IsFaultAt place span → InText t span
-lines_told t here place span g e f x =
-    char_in here.rest g.text.0 t span g.text.1 (x.offset ∙ f ∙ bytes_before g.text.0 here.rest t here.at g.text.1 g.at) (x.len ∙ ap first_len e)
-
 -- a token that is none, a failure of the lexer, and the end
-pub no_line_space : (t : Text) (old new : Here) (k : CodeToken) (span : SourceSpan) → Lines old t → HandsOut old k new → is_line_space k.kind ≡ false → IsFaultAt k.at.start span → AreLineSpaces t (Err (Faulty span))
-no_line_space t old new k span g h e x =
-    (λ a. (let f : of_lines (kind_view k.kind) ≡ true = (behind_cut h.cuts (g.same.1 a)).0 in let l = lines_kind k.kind in cc), lines_told t old k.at.start span g h.start_rest h.start_at x)
+pub no_line_space : (t : Text) (old new : Here) (k : CodeToken) → Lines old t → HandsOut old k new → is_line_space k.kind ≡ false → AreLineSpaces t (Err Faulty)
+no_line_space t old new k g h e a =
+    let f : of_lines (kind_view k.kind) ≡ true = (behind_cut h.cuts (g.1 a)).0 in
+    let l = lines_kind k.kind in
+    cc
 
 no_lines : (s : Text) → NoToken s → Star LineSpace s [] → ⊥
 no_lines s n no_star = n.begun refl
 no_lines s n (more x m) = let u = token_of x in n.none _ u.0 u.1
 
 pub lines_fail : (t : Text) (old new : Here) (e : LexFailure) → Lines old t → Lexed old (Err e) new → AreLineSpaces t (Err e)
-lines_fail t old new (Faulty span) g x = (λ a. no_lines old.rest x.0 (g.same.1 a), lines_told t old (record { rest = old.rest; at = old.at }) span g refl refl x.1)
+lines_fail t old new Faulty g x = λ a. no_lines old.rest x (g.1 a)
 lines_fail t old new Memory g x = tt
 
 pub lines_end : (t : Text) (old new : Here) → Lines old t → Lexed old (Ok None) new → Star LineSpace t []
-lines_end t old new g e = let f : old.rest ≡ [] = e in g.same.0 (subst (λ (z : Text). Star LineSpace z []) (sym f) no_star)
-
--- a place that was reported for an end of the text, in the text
-end_len : (bs : List ℕ) (u : Text) (span : SourceSpan) → IsUtf8 bs → chars bs ≡ u → InText u span → span.offset ≤ length bs
-end_len bs u span v e (b, m, a, x, o, l) = omega (arith, chars_bytes bs v, ap bytes e, ap bytes x, bytes-append (b ++ m) a, bytes-append b m, o)
-
-pub offset_fits : (end : List ℕ) (span : SourceSpan) → IsUtf8 end → InText (chars end) span → span.offset ≤ length end
-offset_fits end span v i = end_len end (chars end) span v refl i
-
-four : (p b m a : Text) → p ++ ((b ++ m) ++ a) ≡ ((p ++ b) ++ m) ++ a
-four p b m a = simp append_assoc
-
-text_len : (text end : List ℕ) → IsUtf8 text → IsUtf8 end → EndsIn (chars text) (chars end) → (p : Text) × (chars text ≡ p ++ chars end) × (length text ≡ bytes p + length end)
-text_len text end v w (p, e) = (p, e, omega (arith, chars_bytes text v, chars_bytes end w, ap bytes e, bytes-append p (chars end)))
-
-pub end_fits : (text end : List ℕ) (k : ℕ) → IsUtf8 text → IsUtf8 end → EndsIn (chars text) (chars end) → length end - k ≤ length text
-end_fits text end k v w x = omega (arith, (text_len text end v w x).2)
-
-pub told_behind : (text end : List ℕ) (span : SourceSpan) → IsUtf8 text → IsUtf8 end → EndsIn (chars text) (chars end) → InText (chars end) span
-    → InText (chars text) (record { offset = length text - (length end - span.offset); len = span.len })
-told_behind text end span v w x (b, m, a, e, o, l) =
-    let t = text_len text end v w x in
-    let p = t.0 in
-    let at : length text - (length end - span.offset) ≡ bytes (p ++ b) = omega (arith, t.2, bytes-append p b, o, chars_bytes end w, ap bytes e, bytes-append (b ++ m) a, bytes-append b m) in
-    (p ++ b, m, a, t.1 ∙ ap (λ (z : Text). p ++ z) e ∙ four p b m a, at, l)
+lines_end t old new g e = let f : old.rest ≡ [] = e in g.0 (subst (λ (z : Text). Star LineSpace z []) (sym f) no_star)

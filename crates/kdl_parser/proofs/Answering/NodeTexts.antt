@@ -1,13 +1,11 @@
 -- Nodes that are a whole text: a document with that node alone, and line-spaces after its terminator.
-use Rattle.std.proofs.Common.{◌≡◌, ℕ, ◌+◌, ◌-◌, length, Bool, true, false, List, [], ◌∷◌, ◌++◌, Option, Some, Ok, Err, refl, sym, ap, subst, ◌∙◌, arith, append_assoc, append-nil}
+use Rattle.std.proofs.Common.{◌≡◌, ℕ, ◌-◌, length, true, false, List, [], ◌∷◌, Option, Some, Ok, Err, refl, sym, ap, subst, ◌∙◌, arith, append-nil}
 use Rattle.std.specs.Str.{chars, IsUtf8}
 use Rattle.kdl_text.specs.Chars.{Text, Star}
 use Rattle.kdl_text.specs.Internal.Here.{Here}
-use Rattle.kdl_text.specs.Spans.{InText, bytes}
+use Rattle.kdl_text.specs.Spans.{bytes}
 use Rattle.kdl_text.specs.Trivia.{LineSpace}
 use Rattle.kdl_text.specs.declared.span.SourceSpan.{SourceSpan}
-use Rattle.kdl_text.proofs.Looking.Ends.{End, here, then}
-use Rattle.kdl_text.proofs.Looking.MovesJoin.{bytes-append}
 use Rattle.kdl_text.proofs.Looking.Texts.{chars_bytes}
 use Rattle.kdl_entry.specs.Places.{span_of}
 use Rattle.kdl_lexer.specs.declared.lexer.LexFailure.{LexFailure}
@@ -15,20 +13,18 @@ use Rattle.kdl_lexer.specs.declared.lexer.LexFailure.TheVariants.{Faulty, Memory
 use Rattle.kdl_grammar.specs.Data as data'
 use Rattle.kdl_grammar.specs.Former.{IsFormerNodeText}
 use Rattle.kdl_grammar.specs.Grammar.{IsNodeText}
-use Rattle.kdl_grammar.specs.Laid.{node_span, LaidNode, laid_node, LaidNodes, no_node, a_node, LaidContent, with_nodes, LaidNodeText, laid_node_text}
+use Rattle.kdl_grammar.specs.Laid.{LaidNode, laid_node, no_node, a_node, LaidContent, with_nodes, LaidNodeText, laid_node_text}
 use Rattle.kdl_grammar.specs.Internal.Machine.{initial, Runs}
 use Rattle.kdl_grammar.specs.Print.{format_of, trailing_text, print_node}
 use Rattle.kdl_grammar.specs.Tree.{DocumentFormat, Node, Document, document, Nodes, none, first, node_data}
 use Rattle.kdl_grammar.proofs.Reading.Complete.{runs_det, only_node}
-use Rattle.kdl_grammar.proofs.Laying.LaidIsDerived.{node_of, node_text_of}
-use Rattle.kdl_grammar.proofs.Moving.Ends.{end_gap, end_terminator, end_node}
+use Rattle.kdl_grammar.proofs.Laying.LaidIsDerived.{node_text_of}
 use Rattle.kdl_grammar.proofs.Reading.Erased.{sound_runs}
 use Rattle.kdl_grammar.proofs.Laying.LaidPrints.{node_text_printed}
 use Rattle.kdl_grammar.proofs.LawProofs.{one_node}
 use Rattle.kdl_value.specs.Tree.{text_of}
 use Rattle.kdl_parser.specs.Internal.Answered.{AnswersParts}
-use Rattle.kdl_parser.specs.Internal.Building.{EndsIn}
-use Rattle.kdl_parser.specs.Internal.LineSpaces.{EndInLineSpaces}
+use Rattle.kdl_parser.specs.Internal.LineSpaces.{AreLineSpaces}
 use Rattle.kdl_parser.specs.Internal.NodeText.{with_text_behind, text_by, RunsOnText, RunsToNodes, NoNode}
 use Rattle.kdl_parser.specs.Internal.Parts.{document_by, nodes_tree}
 use Rattle.kdl_parser.specs.declared.node_text.NodeText.{NodeText}
@@ -46,57 +42,10 @@ one_there t f ns x (at, a) i =
     let e = runs_det o.runs a in
     (o.tree, sym (ap nodes_in e), subst (λ (z : Text). Star LineSpace z []) (ap (λ (d : Document). trailing_text (format_of d)) e) o.line_spaces)
 
-pub without_nodes : (t : Text) (f : Option DocumentFormat) → RunsToNodes t f none → (x : data'.Node) → IsNodeText true t x → ⊥
-without_nodes t f a x i = let o = one_there t f none x a i in let e = o.1 in cc
-
-pub two_nodes : (t : Text) (f : Option DocumentFormat) (n m : Node) (ns : Nodes) → RunsToNodes t f (first n (first m ns)) → (x : data'.Node) → IsNodeText true t x → ⊥
-two_nodes t f n m ns a x i = let o = one_there t f (first n (first m ns)) x a i in let e = o.1 in cc
-
 pub no_lines : (t : Text) (f : Option DocumentFormat) (ns : Nodes) → RunsToNodes t f ns → (Star LineSpace (trailing_text f) [] → ⊥) → (x : data'.Node) → IsNodeText true t x → ⊥
 no_lines t f ns a n x i = n (one_there t f ns x a i).2
 
--- the span of a node that is laid
-laid_span : {exact : Bool} {whole q z w s r : Text} {at : SourceSpan} {x : Node} → LaidNode exact whole q z w at x s r → node_span x ≡ at
-laid_span (laid_node y i es k) = refl
-
-laid_end : {whole q z w s r : Text} {at : SourceSpan} {x : Node} → LaidNode true whole q z w at x s r → End s r
-laid_end {whole = whole} x = end_node (node_of true whole x)
-
-piece_in : (t s r : Text) → End t s → End s r → InText t (span_of t s r)
-unfolding span_of
-piece_in t s r a b = (
-  a.piece,
-  b.piece,
-  r,
-  a.text ∙ ap (λ (z : Text). a.piece ++ z) b.text ∙ sym (append_assoc a.piece b.piece r),
-  omega (arith, ap bytes a.text, bytes-append a.piece s),
-  omega (arith, ap bytes b.text, bytes-append b.piece r),
-)
-
-second_in : {t s r : Text} {n m : Node} {ns : Nodes} → End t s → LaidNodes true t (first n (first m ns)) s r → InText t (node_span m)
-second_in {t = t} e (a_node g x z at (a_node {t = v} {u = w} h y k l ds)) =
-    let to = then e (then (end_gap g.is) (then (laid_end x) (then (end_terminator z.is) (end_gap h.is)))) in
-    subst (λ (p : SourceSpan). InText t p) (sym (laid_span y ∙ l)) (piece_in t v w to (laid_end y))
-
-second_laid : {t : Text} {f : Option DocumentFormat} {at : SourceSpan} {n m : Node} {ns : Nodes} → LaidContent true t (document f at (first n (first m ns))) t [] → InText t (node_span m)
-second_laid (with_nodes ds g x) = second_in here ds
-
-pub second_told : (t : Text) (f : Option DocumentFormat) (n m : Node) (ns : Nodes) → RunsToNodes t f (first n (first m ns)) → InText t (node_span m)
-second_told t f n m ns (at, a) = second_laid (sound_runs t a).0
-
--- the text's end
-pub end_told : (bs : List ℕ) → IsUtf8 bs → InText (chars bs) (record { offset = length bs; len = 0 })
-end_told bs v = (chars bs, [], [], simp append-nil, sym (chars_bytes bs v), refl)
-
 -- the one node, laid as a text of its own
-trailing_laid : {t : Text} {f : Option DocumentFormat} {at : SourceSpan} {n : Node} → LaidContent true t (document f at (first n none)) t [] → EndsIn t (trailing_text f)
-trailing_laid {t = t} (with_nodes {trailing = w} {t = s} (a_node g x z l no_node) k y) =
-    let e : End t s = then (end_gap g.is) (then (laid_end x) (end_terminator z.is)) in
-    (e.piece, e.text ∙ ap (λ (u : Text). e.piece ++ u) (k.text ∙ append-nil w))
-
-trailing_ends : (t : Text) (f : Option DocumentFormat) (n : Node) → RunsToNodes t f (first n none) → EndsIn t (trailing_text f)
-trailing_ends t f n (at, a) = trailing_laid (sound_runs t a).0
-
 node_laid : {t q z w s r : Text} {at : SourceSpan} {n : Node} → (v : Text) (place : SourceSpan) → LaidNode true t q z w at n s r → LaidNode true t q z v place (with_text_behind n v place) s r
 node_laid v place (laid_node y i es k) = laid_node y i es k
 
@@ -129,34 +78,29 @@ prints t n l = node_text_printed true n t l
 pub former : (t : Text) (n : Node) → LaidNodeText true t n → (x : data'.Node) → IsFormerNodeText t x → node_data n ≡ x
 former t n l x i = sym (only t n l x (wider_node false i))
 
--- the nodes of a document, one by one
-pub none_told : {N : Type 0} (tree : N → Node) (bs : List ℕ) (f : Option DocumentFormat) (ns : List N) (span : SourceSpan) → IsUtf8 bs → RunsToNodes (chars bs) f (nodes_tree tree ns) → length ns ≡ 0
-    → span ≡ record { offset = length bs; len = 0 } → NoNode (chars bs) (Faulty span)
-none_told tree bs f [] span v a n e = (λ x i. without_nodes (chars bs) f a x i, subst (λ (p : SourceSpan). InText (chars bs) p) (sym e) (end_told bs v))
-none_told tree bs f (x ∷ ns) span v a n e = absurd (omega (arith, n))
-
-pub two_told : {N : Type 0} (tree : N → Node) (t : Text) (f : Option DocumentFormat) (ns ms : List N) (n m : N) (span : SourceSpan) → RunsToNodes t f (nodes_tree tree ns) → ns ≡ n ∷ m ∷ ms → span ≡ node_span (tree m)
-    → NoNode t (Faulty span)
-two_told tree t f ns ms n m span a e h =
-    let b : RunsToNodes t f (first (tree n) (first (tree m) (nodes_tree tree ms))) = subst (λ z. RunsToNodes t f (nodes_tree tree z)) e a in
-    (λ x i. two_nodes t f (tree n) (tree m) (nodes_tree tree ms) b x i, subst (λ (p : SourceSpan). InText t p) (sym h) (second_told t f (tree n) (tree m) (nodes_tree tree ms) b))
-
+-- the nodes of a document
 pub one_left : {N : Type 0} (ns ms : List N) (n : N) → ns ≡ n ∷ ms → length ns ≡ 1 → ns ≡ n ∷ []
 one_left ns [] n e k = e
 one_left ns (m ∷ ms) n e k = absurd (omega (arith, k, ap length e))
 
-pub some_read : {N : Type 0} (tree : N → Node) (t : Text) (d : DocumentParts N) → RunsOnText t (document_by tree d) → (f : Option DocumentFormat) × RunsToNodes t f (nodes_tree tree d.nodes.items)
-some_read tree t d a = (Some (record { leading = text_of d.leading; trailing = text_of d.trailing }), (d.span, a))
+one_of : {N : Type 0} (tree : N → Node) (ns : List N) (m : Node) → nodes_tree tree ns ≡ first m none → (n : N) × (ns ≡ n ∷ [])
+one_of tree [] m e = absurd cc
+one_of tree (n ∷ []) m e = (n, refl)
+one_of tree (n ∷ k ∷ ns) m e = absurd cc
+
+-- where they are not one, the text is not a node
+pub not_one : {N : Type 0} (tree : N → Node) (t : Text) (d : DocumentParts N) → RunsOnText t (document_by tree d) → ((n : N) → d.nodes.items ≡ n ∷ [] → ⊥) → NoNode t Faulty
+not_one tree t d a n x i =
+    let (m, e, ls) = one_there t (Some (record { leading = text_of d.leading; trailing = text_of d.trailing })) (nodes_tree tree d.nodes.items) x (d.span, a) i in
+    let (k, f) = one_of tree d.nodes.items m e in
+    n k f
 
 pub one_read : {N : Type 0} (tree : N → Node) (t : Text) (d : DocumentParts N) (n : N) → RunsOnText t (document_by tree d) → d.nodes.items ≡ n ∷ []
     → (leading : Text) × RunsToNodes t (Some (record { leading = leading; trailing = text_of d.trailing })) (first (tree n) none)
 one_read tree t d n a e =
     (text_of d.leading, subst (λ z. RunsToNodes t (Some (record { leading = text_of d.leading; trailing = text_of d.trailing })) (nodes_tree tree z)) e (d.span, a))
 
--- the text after the one node
-pub ends_there : (t u : Text) (f : Option DocumentFormat) (n : Node) → RunsToNodes t f (first n none) → u ≡ trailing_text f → EndsIn t u
-ends_there t u f n a e = subst (λ (z : Text). EndsIn t z) (sym e) (trailing_ends t f n a)
-
+-- the one node, with the text after it
 pub laid_there : {N : Type 0} (tree : N → Node) (bs : List ℕ) (u : Text) (f : Option DocumentFormat) (n : NodeText N) → IsUtf8 bs → RunsToNodes (chars bs) f (first (tree n.node) none) → text_of n.trailing ≡ trailing_text f
     → u ≡ trailing_text f → Star LineSpace u [] → n.span ≡ record { offset = 0; len = length bs } → LaidNodeText true (chars bs) (text_by tree n)
 laid_there tree bs u f n v a w e ls g =
@@ -164,22 +108,16 @@ laid_there tree bs u f n v a w e ls g =
     let h : text_by tree n ≡ with_text_behind (tree n.node) (trailing_text f) (record { offset = 0; len = length bs }) = ap (λ (p : SourceSpan). with_text_behind (tree n.node) (text_of n.trailing) p) g ∙ ap (λ (z : Text). with_text_behind (tree n.node) z (record { offset = 0; len = length bs })) w in
     subst (λ (z : Node). LaidNodeText true (chars bs) z) (sym h) (is_alone bs f (tree n.node) v a ls')
 
-pub none_there : (t u : Text) (f : Option DocumentFormat) (n : Node) (e : LexFailure) → RunsToNodes t f (first n none) → u ≡ trailing_text f → EndInLineSpaces t u (Err e) → NoNode t e
-none_there t u f n (Faulty span) a e x = (no_lines t f (first n none) a (λ ls. x.0 (subst (λ (z : Text). Star LineSpace z []) (sym e) ls)), x.1)
+pub none_there : (t u : Text) (f : Option DocumentFormat) (n : Node) (e : LexFailure) → RunsToNodes t f (first n none) → u ≡ trailing_text f → AreLineSpaces u (Err e) → NoNode t e
+none_there t u f n Faulty a e x = no_lines t f (first n none) a (λ ls. x (subst (λ (z : Text). Star LineSpace z []) (sym e) ls))
 none_there t u f n Memory a e x = tt
 
 -- the builder's result on the whole text
-pub whole_ends : (w : Text) (l : Here) → w ≡ l.rest → EndsIn w l.rest
-whole_ends w l e = ([], e)
-
-pub whole_at : (w : Text) (l : Here) → w ≡ l.rest → l.at ≡ 0 → l.at + bytes l.rest ≡ bytes w
-whole_at w l e n = omega (arith, n, ap bytes e)
-
 pub whole_read : {N : Type 0} (tree : N → Node) (t w : Text) (l : Here) (d : DocumentParts N) → w ≡ l.rest → l.rest ≡ t → AnswersParts tree w l.rest (Ok d) → RunsOnText t (document_by tree d)
 whole_read tree t w l d e f a = subst (λ (z : Text). Runs z (document_by tree d) (initial t) t) (e ∙ f) (subst (λ (z : Text). Runs w (document_by tree d) (initial z) z) f a)
 
 pub nothing_read : {N : Type 0} (tree : N → Node) (t w : Text) (l : Here) (e : LexFailure) → w ≡ l.rest → l.rest ≡ t → AnswersParts tree w l.rest (Err e) → NoNode t e
-nothing_read tree t w l (Faulty span) p q a =
-    let b : AnswersParts tree t t (Err (Faulty span)) = subst (λ (z : Text). AnswersParts tree z t (Err (Faulty span))) (p ∙ q) (subst (λ (z : Text). AnswersParts tree w z (Err (Faulty span))) q a) in
-    (λ x i. (let o = only_node i in b.0 (document (Some (record { leading = []; trailing = o.trailing })) o.span (first o.tree none)) o.runs), b.1)
+nothing_read tree t w l Faulty p q a =
+    let b : AnswersParts tree t t (Err Faulty) = subst (λ (z : Text). AnswersParts tree z t (Err Faulty)) (p ∙ q) (subst (λ (z : Text). AnswersParts tree w z (Err Faulty)) q a) in
+    λ x i. let o = only_node i in b (document (Some (record { leading = []; trailing = o.trailing })) o.span (first o.tree none)) o.runs
 nothing_read tree t w l Memory p q a = tt

@@ -1,9 +1,9 @@
 -- What the result on a whole text says of the grammar.
-use Rattle.std.proofs.Common.{◌≡◌, ◌≢◌, inl, inr, ℕ, List, Option, None, ◌+◌, ◌*◌, ◌≤◌, length, [], arith, true, false, ◌∷◌, ◌++◌, Ok, Err, refl, sym, ap, subst, ◌∙◌}
+use Rattle.std.proofs.Common.{◌≡◌, ℕ, List, ◌+◌, ◌*◌, ◌≤◌, length, arith, true, false, ◌∷◌, Ok, Err, refl, sym, ap, subst, ◌∙◌}
 use Rattle.std.specs.Str.{chars, IsUtf8}
 use Rattle.kdl_text.specs.Chars.{Text, begins}
 use Rattle.kdl_text.specs.Spans.{bytes}
-use Rattle.kdl_lexer.specs.Tokens.{Token, BeginsToken, t_bom}
+use Rattle.kdl_lexer.specs.Tokens.{Token, t_bom}
 use Rattle.kdl_lexer.specs.declared.lexer.LexFailure.{LexFailure}
 use Rattle.kdl_lexer.specs.declared.lexer.LexFailure.TheVariants.{Faulty, Memory}
 use Rattle.kdl_text.specs.Failures.{IsSyntax}
@@ -11,29 +11,19 @@ use Rattle.kdl_text.specs.declared.error.ParseFailure.{ParseFailure}
 use Rattle.kdl_text.specs.declared.error.ParseFailure.TheVariants.{Syntax, Memory as NoMemory}
 use Rattle.kdl_diagnostics.specs.Internal.Noted.{OnRefused}
 use Rattle.kdl_lexer.proofs.Lexing.TokenUnique.{token_det}
-use Rattle.kdl_lexer.proofs.Stopping.{stops_there}
 use Rattle.kdl_text.proofs.Looking.Texts.{bytes-chars}
-use Rattle.kdl_text.proofs.Looking.MovesJoin.{bytes-append}
-use Rattle.kdl_control.specs.Control.{Control, step as step_control}
 use Rattle.kdl_grammar.specs.Data.{Nodes}
-use Rattle.kdl_grammar.specs.GoingOn.{Derived, Dead}
-use Rattle.kdl_grammar.specs.Going.{GoesBy, here, goes, Reaches, no_bom, behind_bom}
 use Rattle.kdl_grammar.specs.Former.{IsFormerDocument}
 use Rattle.kdl_grammar.specs.Grammar.{IsDocument}
 use Rattle.kdl_grammar.specs.Laid.{LaidDocument, with_bom}
 use Rattle.kdl_grammar.specs.Internal.Machine.{step, initial, Runs, reads, AnswersDocument}
 use Rattle.kdl_grammar.specs.Print.{print_document}
 use Rattle.kdl_grammar.specs.Tree.{Node, Document, document_data}
-use Rattle.kdl_lexer.specs.Earliest.{IsCut, up_to_here, token, StopsAt, at_token, IsRefusedAt}
 use Rattle.kdl_parser.specs.Internal.Answered.{AnswersParts}
-use Rattle.kdl_parser.specs.Internal.Building.{EndsIn}
 use Rattle.kdl_parser.specs.Internal.Parts.{document_by}
 use Rattle.kdl_parser.specs.Internal.Steps.{Counted}
-use Rattle.kdl_parser.specs.Internal.Stopping.{Stuck}
 use Rattle.kdl_parser.specs.Internal.Whole.{AnswersDocumentText}
 use Rattle.kdl_parser.specs.declared.node_parts.DocumentParts.{DocumentParts}
-use Rattle.kdl_grammar.proofs.GoingOn.{alive, alive_in_token, dead_at_front, dead_at_token}
-use Rattle.kdl_grammar.proofs.Reading.Refusing.{refused_too}
 use Rattle.kdl_grammar.proofs.Reading.Erased.{sound, answered, one_document}
 use Rattle.kdl_grammar.proofs.Laying.LaidPrints.{printed}
 use Rattle.kdl_grammar.proofs.Moving.FormerIsPresent.{wider}
@@ -44,29 +34,6 @@ no_bom_here whole s d (reads {r = r} t e a) =
     let k = (token_det t t_bom).1 in
     let f = ap (λ (j : Token). step whole (initial (0xFEFF ∷ s)) j (0xFEFF ∷ s) r) (sym k) ∙ e in
     cc
-
--- what the machine without data goes over is cut into tokens
-pub cut : {S : Type 0} {turn : S → Token → Option S} {c d : S} {s r : Text} → GoesBy turn c s d r → IsCut s r
-cut here = up_to_here
-cut (goes b f g) = token b (cut g)
-
-cut_up_to : {t : Text} {c : Control} {r : Text} → Reaches t c r → IsCut t r
-cut_up_to (no_bom h g) = cut g
-cut_up_to (behind_bom g) = token t_bom (cut g)
-
--- where the machine without data is stuck the text is refused
-refused_at : (t : Text) (n : ℕ) {c : Control} {r : Text} → Reaches t c r → EndsIn t r → n + bytes r ≡ bytes t → Stuck c r → IsRefusedAt Derived t n
-refused_at t n {c = c} {r = r} g (p, e) m s = record { before = p; rest = r; text = e; place = omega (arith, ap bytes e, bytes-append p r, m); cut = cut_up_to g; alive = alive p r c h; stops = stops s }
-  where
-    h : Reaches (p ++ r) c r
-    h = subst (λ (z : Text). Reaches z c r) e g
-
-    gone : (f q : Text) → f ≢ [] → r ≡ f ++ q → ((u v : Text) (j : Token) → BeginsToken (f ++ u) j v → step_control c j ≡ None) → Dead (p ++ f)
-    gone f q some i n = dead_at_front p f q c some (subst (λ (z : Text). Reaches (p ++ z) c z) i h) n
-
-    stops : Stuck c r → StopsAt Derived p r
-    stops (inl x) = stops_there (step_control c) Derived p r (refused_too c) gone (λ u k d some b i. alive_in_token p r u c d k some h b i) (alive p r c h) x
-    stops (inr (k, v, b, f)) = at_token (dead_at_token p r v c k h b f)
 
 -- a text that does not begin with U+FEFF
 not_begins : (t : Text) → begins 0xFEFF t ≡ false → (u : Text) → t ≡ 0xFEFF ∷ u → ⊥
@@ -80,7 +47,7 @@ pub plain_answer : {N : Type 0} (tree : N → Node) (t : Text) (p : DocumentPart
 plain_answer tree t p a = AnswersDocument.no_bom a
 
 pub plain_failure : {N : Type 0} (tree : N → Node) (t : Text) (e : LexFailure) → begins 0xFEFF t ≡ false → AnswersParts tree t t (Err e) → AnswersDocumentText tree t (Err e)
-plain_failure tree t (Faulty span) n a = (λ d x. refused_plain x (not_begins t n) a.0, a.1, refused_at t span.offset (no_bom n a.2.goes) a.2.text a.2.place a.2.stuck)
+plain_failure tree t Faulty n a = λ d x. refused_plain x (not_begins t n) a
 plain_failure tree t Memory n a = tt
 
 -- a text that begins with U+FEFF
@@ -94,9 +61,7 @@ bom_answer tree t u p e a =
     subst (λ (z : Text). AnswersDocument z (with_bom (document_by tree p))) (sym e) (AnswersDocument.behind_bom b)
 
 pub bom_failure : {N : Type 0} (tree : N → Node) (t u : Text) (e : LexFailure) → t ≡ 0xFEFF ∷ u → AnswersParts tree t u (Err e) → AnswersDocumentText tree t (Err e)
-bom_failure tree t u (Faulty span) e a =
-    let g : Reaches t a.2.control a.2.rest = subst (λ (z : Text). Reaches z a.2.control a.2.rest) (sym e) (behind_bom a.2.goes) in
-    (λ d x. refused_behind_bom x u e a.0, a.1, refused_at t span.offset g a.2.text a.2.place a.2.stuck)
+bom_failure tree t u Faulty e a = λ d x. refused_behind_bom x u e a
 bom_failure tree t u Memory e a = tt
 
 -- what is returned is what the grammar derives, laid in the text, and prints it

@@ -1,24 +1,17 @@
 -- The turns of the loop over the tokens of a text, and what they return.
-use Rattle.std.proofs.Common.{◌≡◌, ◌↔◌, ◌+◌, ◌<◌, ◌≤◌, length, [], ◌∷◌, ◌++◌, Some, None, option_map, Ok, Err, inl, refl, sym, ap, subst, ◌∙◌, arith}
+use Rattle.std.proofs.Common.{◌≡◌, ◌↔◌, ◌+◌, ◌<◌, ◌≤◌, length, [], ◌∷◌, ◌++◌, Some, None, option_map, Ok, Err, sym, ap, subst, ◌∙◌, arith}
 use Rattle.kdl_text.specs.Chars.{Text, Star, plus}
 use Rattle.kdl_text.specs.Chars.Star.{none as no_star, more}
-use Rattle.kdl_text.specs.Internal.Here.{Here, Position, first_len}
+use Rattle.kdl_text.specs.Internal.Here.{Here, Position}
 use Rattle.kdl_text.specs.Internal.Reading.{Moves}
-use Rattle.kdl_text.specs.Spans.{InText, bytes}
 use Rattle.kdl_text.specs.Trivia.{NodeSpace}
-use Rattle.kdl_text.specs.declared.span.SourceSpan.{SourceSpan}
-use Rattle.kdl_entry.proofs.Reading.EntryLoop.{bytes_before, char_in}
-use Rattle.kdl_lexer.specs.Internal.Handed.{Cuts, one, spaces, IsFaultAt, HandsOver, Lexed}
+use Rattle.kdl_lexer.specs.Internal.Handed.{Cuts, one, spaces, HandsOver, Lexed}
 use Rattle.kdl_lexer.specs.Tokens.{Token, t_space, NoToken}
 use Rattle.kdl_lexer.specs.declared.lexer.LexFailure.{LexFailure}
 use Rattle.kdl_lexer.specs.declared.lexer.LexFailure.TheVariants.{Faulty, Memory as LexMemory}
 use Rattle.kdl_lexer.specs.declared.token_span.TokenSpan.{TokenSpan}
-use Rattle.kdl_lexer.proofs.Lexing.TokenUnique.{token_shorter, no_token}
-use Rattle.kdl_control.specs.Control as control
-use Rattle.kdl_grammar.specs.Going.{Goes}
-use Rattle.kdl_grammar.specs.Going as going
-use Rattle.kdl_grammar.proofs.Reading.Erased.{a_state}
-use Rattle.kdl_parser.specs.Internal.Answered.{AnswersParts, Finished, TakeFailsAt}
+use Rattle.kdl_lexer.proofs.Lexing.TokenUnique.{token_shorter}
+use Rattle.kdl_parser.specs.Internal.Answered.{AnswersParts, Finished, TakeFailsAs}
 use Rattle.kdl_grammar.specs.Internal.Machine.{State, step, finish, initial, Runs}
 use Rattle.kdl_parser.specs.Internal.Building.{state_view, held, Did, EndsIn, Placed}
 use Rattle.kdl_grammar.specs.Tree.{Node, Document}
@@ -27,11 +20,8 @@ use Rattle.kdl_parser.specs.declared.builder.Builder.{Builder}
 use Rattle.kdl_parser.specs.declared.builder.TakeFailure.{TakeFailure}
 use Rattle.kdl_parser.specs.declared.builder.TakeFailure.TheVariants.{Unexpected, Memory}
 use Rattle.kdl_parser.specs.declared.node_parts.DocumentParts.{DocumentParts}
-use Rattle.kdl_parser.proofs.Stepping.PlacesAhead.{placed_step, state_from, then_ends}
-use Rattle.kdl_lexer.specs.Earliest.{BeginsNone}
-use Rattle.kdl_parser.specs.Internal.Stopping.{Stops, Stuck}
+use Rattle.kdl_parser.proofs.Stepping.PlacesAhead.{placed_step, state_from}
 use Rattle.kdl_parser.proofs.Stepping.MachineSteps.{read_cut, refuses, faults, at_stop}
-use Rattle.kdl_parser.proofs.Stepping.WithoutData.{stepped, refused_step, over_cut, stuck_cut}
 
 -- the machine returns from here on what it returns on u
 abbrev pub Same : Text → Text → State → Text → Type 0
@@ -42,9 +32,6 @@ pub record Going {N : Type 0} (tree : N → Node) (b : Builder N) (here : Here) 
   pub same : Same t u (state_view tree b) here.rest
   pub whole : b.slices.whole.rest ≡ t
   pub placed : Placed (state_view tree b) here.rest
-  pub went : Goes (control.at control.gap []) u (a_state (state_view tree b)) here.rest
-  pub text : EndsIn t here.rest
-  pub at : here.at + bytes here.rest ≡ bytes t
 
 -- the same of a state and of texts
 start_same : (t u s : Text) (st : State) → st ≡ initial u → s ≡ u → Same t u st s
@@ -52,9 +39,6 @@ start_same t u s st e f d = rw (e, f) (λ a. a, λ a. a)
 
 start_placed : (u s : Text) (st : State) → st ≡ initial u → s ≡ u → Placed st s
 start_placed u s st e f = subst (λ (z : State). Placed z s) (sym e) (([], sym f), tt)
-
-start_went : (u s : Text) (st : State) → st ≡ initial u → s ≡ u → Goes (control.at control.gap []) u (a_state st) s
-start_went u s st e f = subst (λ (z : Text). Goes (control.at control.gap []) u (a_state st) z) (sym f) (subst (λ (z : State). Goes (control.at control.gap []) u (a_state z) u) (sym e) going.here)
 
 told_step : (w t s r s' r' : Text) (st st' : State) (k : Token) → w ≡ t → s' ≡ s → r' ≡ r → option_map held (step w st k s' r') ≡ Some (held st') → option_map held (step t st k s r) ≡ Some (held st')
 told_step w t s r s' r' st st' k e f g h = rw (e, f, g) at h
@@ -69,14 +53,11 @@ same_at : (t u s r : Text) (st : State) → r ≡ s → Same t u st s → Same t
 same_at t u s r st e a = rw e a
 
 -- the start of a text, or after its U+FEFF
-pub starts : {N : Type 0} (tree : N → Node) (t u : Text) (b : Builder N) (here : Here) → state_view tree b ≡ initial u → b.slices.whole.rest ≡ t → here.rest ≡ u → EndsIn t u → here.at + bytes u ≡ bytes t → Going tree b here t u
-starts tree t u b here e w f x n = record {
+pub starts : {N : Type 0} (tree : N → Node) (t u : Text) (b : Builder N) (here : Here) → state_view tree b ≡ initial u → b.slices.whole.rest ≡ t → here.rest ≡ u → Going tree b here t u
+starts tree t u b here e w f = record {
   same = start_same t u here.rest (state_view tree b) e f;
   whole = w;
   placed = start_placed u here.rest (state_view tree b) e f;
-  went = start_went u here.rest (state_view tree b) e f;
-  text = subst (λ (z : Text). EndsIn t z) (sym f) x;
-  at = ap (λ (z : Text). here.at + bytes z) f ∙ n;
 }
 
 -- a token's turn
@@ -89,9 +70,6 @@ goes_on tree b b' before mid t u k ts g h m e w =
       same = turn_same t u before.rest mid.rest (state_view tree b) (state_view tree b') k g.same h.cuts e';
       whole = ap (λ (z : Position). z.rest) w ∙ g.whole;
       placed = placed_step t (state_view tree b) (state_view tree b') k before.rest mid.rest e' g.placed piece;
-      went = over_cut g.went h.cuts (stepped t (state_view tree b) (state_view tree b') k before.rest mid.rest e');
-      text = then_ends g.text piece;
-      at = m.at ∙ g.at;
     }
 
 -- what the builder asks of the places
@@ -110,10 +88,6 @@ cut_shorter (spaces (plus n m)) = omega (arith, token_shorter (t_space n), space
 pub nearer : (before mid : Here) (k : Token) (ts : TokenSpan) → HandsOver before k ts mid → length mid.rest < length before.rest
 nearer before mid k ts h = cut_shorter h.cuts
 
-pub told : {N : Type 0} (tree : N → Node) (b : Builder N) (here : Here) (t u : Text) (place : Position) (span : SourceSpan) → Going tree b here t u → place.rest ≡ here.rest → place.at ≡ here.at → IsFaultAt place span → InText t span
-told tree b here t u place span g e f x =
-    char_in here.rest g.text.0 t span g.text.1 (x.offset ∙ f ∙ bytes_before g.text.0 here.rest t here.at g.text.1 g.at) (x.len ∙ ap first_len e)
-
 no_reading : {N : Type 0} (tree : N → Node) (b : Builder N) (here : Here) (t u : Text) → Going tree b here t u → NoToken here.rest → (d : Document) → Runs t d (initial u) u → ⊥
 no_reading tree b here t u g n d a = faults t d (state_view tree b) here.rest n.begun n.none ((g.same d).1 a)
 
@@ -123,35 +97,15 @@ no_turn tree b before mid t u k ts g h e d a =
     let e' = told_none b.slices.whole.rest t before.rest mid.rest ts.start.rest ts.end.rest (state_view tree b) k g.whole h.start_rest h.end_rest e in
     refuses t d (state_view tree b) before.rest mid.rest k h.cuts e' ((g.same d).1 a)
 
--- the machine without data stops there
-stops_there : {N : Type 0} (tree : N → Node) (b : Builder N) (before : Here) (t u : Text) (span : SourceSpan) → Going tree b before t u → span.offset ≡ before.at → Stuck (a_state (state_view tree b)) before.rest → Stops t u span
-stops_there tree b before t u span g e s = record {
-  control = a_state (state_view tree b);
-  rest = before.rest;
-  goes = g.went;
-  text = g.text;
-  place = omega (arith, e, g.at);
-  stuck = s;
-}
-
-stuck_turn : {N : Type 0} (tree : N → Node) (b : Builder N) (before mid : Here) (k : Token) (ts : TokenSpan) → HandsOver before k ts mid → step b.slices.whole.rest (state_view tree b) k ts.start.rest ts.end.rest ≡ None → Stuck (a_state (state_view tree b)) before.rest
-stuck_turn tree b before mid k ts h e = stuck_cut control.step (a_state (state_view tree b)) h.cuts (refused_step b.slices.whole.rest (state_view tree b) k ts.start.rest ts.end.rest e)
-
-stuck_end : {N : Type 0} (tree : N → Node) (b : Builder N) (here : Here) → here.rest ≡ [] → Stuck (a_state (state_view tree b)) here.rest
-stuck_end tree b here e = inl (subst BeginsNone (sym e) (λ r k x. no_token x))
-
 -- the lexer's failure, and a token that is refused
 pub lexer_told : {N : Type 0} (tree : N → Node) (b : Builder N) (before after : Here) (t u : Text) (e : LexFailure) → Going tree b before t u → Lexed before (Err e) after → AnswersParts tree t u (Err e)
-lexer_told tree b before after t u (Faulty span) g x = (no_reading tree b before t u g x.0, told tree b before t u (record { rest = before.rest; at = before.at }) span g refl refl x.1, stops_there tree b before t u span g x.1.offset (inl x.0.none))
+lexer_told tree b before after t u Faulty g x = no_reading tree b before t u g x
 lexer_told tree b before after t u LexMemory g x = tt
 
 pub take_told : {N : Type 0} (tree : N → Node) (b b' : Builder N) (before mid : Here) (t u : Text) (k : Token) (ts : TokenSpan) (f : TakeFailure) (e : LexFailure) → Going tree b before t u → HandsOver before k ts mid
-    → Did {A = Unit {0}} (step b.slices.whole.rest (state_view tree b) k ts.start.rest ts.end.rest) (Err f) (state_view tree b') → TakeFailsAt ts.start f e → AnswersParts tree t u (Err e)
-take_told tree b b' before mid t u k ts Unexpected (Faulty span) g h x y =
-    (no_turn tree b before mid t u k ts g h x, told tree b before t u ts.start span g h.start_rest h.start_at y, stops_there tree b before t u span g (y.offset ∙ h.start_at) (stuck_turn tree b before mid k ts h x))
-take_told tree b b' before mid t u k ts Unexpected LexMemory g h x y = absurd y
-take_told tree b b' before mid t u k ts Memory (Faulty span) g h x y = absurd y
-take_told tree b b' before mid t u k ts Memory LexMemory g h x y = tt
+    → Did {A = Unit {0}} (step b.slices.whole.rest (state_view tree b) k ts.start.rest ts.end.rest) (Err f) (state_view tree b') → TakeFailsAs f e → AnswersParts tree t u (Err e)
+take_told tree b b' before mid t u k ts Unexpected e g h x y = rw y (no_turn tree b before mid t u k ts g h x)
+take_told tree b b' before mid t u k ts Memory e g h x y = rw y tt
 
 -- the end of the text
 nothing_left : (p r : Text) → [] ≡ p ++ r → r ≡ []
@@ -168,9 +122,6 @@ stops_going tree b before after t u g e m =
       same = same_at t u before.rest after.rest (state_view tree b) f g.same;
       whole = g.whole;
       placed = subst (λ (z : Text). Placed (state_view tree b) z) (sym f) g.placed;
-      went = subst (λ (z : Text). Goes (control.at control.gap []) u (a_state (state_view tree b)) z) (sym f) g.went;
-      text = subst (λ (z : Text). EndsIn t z) (sym f) g.text;
-      at = m.at ∙ g.at;
     }
 
 pub from_now : {N : Type 0} (tree : N → Node) (b : Builder N) (here : Here) (t u : Text) → Going tree b here t u → EndsIn b.from.rest here.rest
@@ -195,9 +146,7 @@ no_end tree b here t u g e f =
     let f' = subst (λ (w : Text). finish w (state_view tree b) ≡ None) g.whole f in
     no_run_there t u here.rest (state_view tree b) g.same e f'
 
-pub finish_told : {N : Type 0} (tree : N → Node) (b : Builder N) (here : Here) (t u : Text) (place : Position) (f : TakeFailure) (e : LexFailure) → Going tree b here t u → here.rest ≡ [] → place.rest ≡ here.rest → place.at ≡ here.at
-    → Finished tree (finish b.slices.whole.rest (state_view tree b)) (Err f) → TakeFailsAt place f e → AnswersParts tree t u (Err e)
-finish_told tree b here t u place Unexpected (Faulty span) g e f n x y = (no_end tree b here t u g e x, told tree b here t u place span g f n y, stops_there tree b here t u span g (y.offset ∙ n) (stuck_end tree b here e))
-finish_told tree b here t u place Unexpected LexMemory g e f n x y = absurd y
-finish_told tree b here t u place Memory (Faulty span) g e f n x y = absurd y
-finish_told tree b here t u place Memory LexMemory g e f n x y = tt
+pub finish_told : {N : Type 0} (tree : N → Node) (b : Builder N) (here : Here) (t u : Text) (f : TakeFailure) (e : LexFailure) → Going tree b here t u → here.rest ≡ []
+    → Finished tree (finish b.slices.whole.rest (state_view tree b)) (Err f) → TakeFailsAs f e → AnswersParts tree t u (Err e)
+finish_told tree b here t u Unexpected e g n x y = rw y (no_end tree b here t u g n x)
+finish_told tree b here t u Memory e g n x y = rw y tt

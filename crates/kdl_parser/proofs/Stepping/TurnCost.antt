@@ -14,7 +14,7 @@ use Rattle.kdl_lexer.specs.declared.lexer.LexFailure.{LexFailure}
 use Rattle.kdl_lexer.specs.declared.lexer.LexFailure.TheVariants.{Faulty, Memory as LexMemory}
 use Rattle.kdl_lexer.specs.declared.token_span.TokenSpan.{TokenSpan}
 use Rattle.kdl_entry.proofs.Slicing.SliceCost.{ahead_fewer}
-use Rattle.kdl_parser.specs.Internal.Answered.{TakeFailsAt}
+use Rattle.kdl_parser.specs.Internal.Answered.{TakeFailsAs}
 use Rattle.kdl_parser.specs.Internal.Counted.{SlicedOn, ReadOn, ReadThrough}
 use Rattle.kdl_parser.specs.declared.builder.TakeFailure.{TakeFailure}
 use Rattle.kdl_parser.specs.declared.builder.TakeFailure.TheVariants.{Unexpected, Memory}
@@ -47,16 +47,14 @@ counting_ends x start before after i j n g e v c d = record {
 }
 
 -- a token that is not taken, or an end that may not be there
-pub counting_fails : (A B : Type 0) (start before mid : Here) (i j n k : ℕ) (place : Position) (f : TakeFailure) (e : LexFailure) → Counting start before i n → Costs 24 1 before mid → SlicedOn {A = A} (Err f) (n + 1) k i j → TakeFailsAt place f e → ReadOn {A = B} (Err e) start (mid.steps + j)
-counting_fails A B start before mid i j n k place Unexpected (Faulty span) g c d x = omega (arith, g.most, c.most, d.most)
-counting_fails A B start before mid i j n k place Unexpected LexMemory g c d x = absurd x
-counting_fails A B start before mid i j n k place Memory (Faulty span) g c d x = absurd x
-counting_fails A B start before mid i j n k place Memory LexMemory g c d x = tt
+pub counting_fails : (A B : Type 0) (start before mid : Here) (i j n k : ℕ) (f : TakeFailure) (e : LexFailure) → Counting start before i n → Costs 24 1 before mid → SlicedOn {A = A} (Err f) (n + 1) k i j → TakeFailsAs f e → ReadOn {A = B} (Err e) start (mid.steps + j)
+counting_fails A B start before mid i j n k Unexpected e g c d x = rw x (omega (arith, g.most, c.most, d.most))
+counting_fails A B start before mid i j n k Memory e g c d x = rw x tt
 
 -- the count of the slices is added to that of the lexer
 pub counted_up : {A : Type 0} (result : Result A LexFailure) (start : Here) (m k n : ℕ) → n ≡ raise m k → ReadOn result start (m + k) → ReadOn result start n
 counted_up (Ok x) start m k n e r = record { least = omega (arith, e, r.least); most = omega (arith, e, r.most) }
-counted_up (Err (Faulty span)) start m k n e r = omega (arith, e, r)
+counted_up (Err Faulty) start m k n e r = omega (arith, e, r)
 counted_up (Err LexMemory) start m k n e r = tt
 
 -- what is ahead has fewer bytes

@@ -1,23 +1,19 @@
 -- What is returned for the text before the lexer, in terms of the tree of a node.
 use Rattle.std.specs.Prelude.{◌≡◌, Option, Some, None, Result, Ok, Err}
 use Rattle.kdl_text.specs.Chars.{Text}
-use Rattle.kdl_text.specs.Internal.Here.{Position}
-use Rattle.kdl_text.specs.Spans.{InText}
-use Rattle.kdl_lexer.specs.Internal.Handed.{IsFaultAt}
 use Rattle.kdl_lexer.specs.declared.lexer.LexFailure.{LexFailure}
 use Rattle.kdl_lexer.specs.declared.lexer.LexFailure.TheVariants.{Faulty, Memory as LexMemory}
 use Rattle.kdl_grammar.specs.Internal.Machine.{initial, Runs}
 use Rattle.kdl_grammar.specs.Tree.{Node, Document}
 use Rattle.kdl_parser.specs.Internal.Parts.{document_by}
-use Rattle.kdl_parser.specs.Internal.Stopping.{Stops}
 use Rattle.kdl_parser.specs.declared.builder.TakeFailure.{TakeFailure}
 use Rattle.kdl_parser.specs.declared.builder.TakeFailure.TheVariants.{Unexpected, Memory}
 use Rattle.kdl_parser.specs.declared.node_parts.DocumentParts.{DocumentParts}
 
--- what the machine returns on u, which is the text t or what follows its U+FEFF; for a refused text the place where it is refused is reported
+-- what the machine returns on u, which is the text t or what follows its U+FEFF; an allocation failure says nothing
 abbrev pub AnswersParts : {N : Type 0} → (N → Node) → Text → Text → Result (DocumentParts N) LexFailure → Type 0
 AnswersParts tree t u (Ok d) = Runs t (document_by tree d) (initial u) u
-AnswersParts tree t u (Err (Faulty span)) = ((d : Document) → Runs t d (initial u) u → ⊥) × InText t span × Stops t u span
+AnswersParts tree t u (Err Faulty) = (d : Document) → Runs t d (initial u) u → ⊥
 AnswersParts tree t u (Err LexMemory) = Unit {0}
 
 -- what is returned at the end of the text, given what the machine returns
@@ -26,8 +22,7 @@ Finished tree o (Ok d) = o ≡ Some (document_by tree d)
 Finished tree o (Err Unexpected) = o ≡ None
 Finished tree o (Err Memory) = Unit {0}
 
--- the builder's failure, at the place
-abbrev pub TakeFailsAt : Position → TakeFailure → LexFailure → Type 0
-TakeFailsAt place Unexpected (Faulty span) = IsFaultAt place span
-TakeFailsAt place Memory LexMemory = Unit {0}
-TakeFailsAt place _ _ = ⊥
+-- the failure of a text, for one of the builder
+abbrev pub TakeFailsAs : TakeFailure → LexFailure → Type 0
+TakeFailsAs Unexpected e = e ≡ Faulty
+TakeFailsAs Memory e = e ≡ LexMemory

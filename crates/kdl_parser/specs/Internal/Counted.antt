@@ -44,5 +44,5 @@ pub record ReadThrough (old : Here) (steps : ℕ) : Type 0 where
 -- it was read to its end, or up to where it is refused: at most 26 steps for each byte, and 24 more
 abbrev pub ReadOn : {A : Type 0} → Result A LexFailure → Here → ℕ → Type 0
 ReadOn (Ok x) old steps = ReadThrough old steps
-ReadOn (Err (Faulty span)) old steps = steps ≤ old.steps + 26 * bytes old.rest + 24
+ReadOn (Err Faulty) old steps = steps ≤ old.steps + 26 * bytes old.rest + 24
 ReadOn (Err LexMemory) old steps = Unit {0}

@@ -1,7 +1,6 @@
 -- Only line-spaces, up to the end of a text.
 use Rattle.std.specs.Prelude.{Bool, true, false, [], Result, Ok, Err}
 use Rattle.kdl_text.specs.Chars.{Text, Star}
-use Rattle.kdl_text.specs.Spans.{InText}
 use Rattle.kdl_text.specs.Trivia.{LineSpace}
 use Rattle.kdl_lexer.specs.declared.lexer.LexFailure.{LexFailure}
 use Rattle.kdl_lexer.specs.declared.lexer.LexFailure.TheVariants.{Faulty, Memory}
@@ -14,14 +13,8 @@ is_line_space Space = true
 is_line_space Newline = true
 is_line_space _ = false
 
--- whether the text t is only line-spaces; else a place in it is reported
+-- whether the text t is only line-spaces; an allocation failure says nothing
 abbrev pub AreLineSpaces : Text → Result (Unit {0}) LexFailure → Type 0
 AreLineSpaces t (Ok _) = Star LineSpace t []
-AreLineSpaces t (Err (Faulty span)) = (Star LineSpace t [] → ⊥) × InText t span
+AreLineSpaces t (Err Faulty) = Star LineSpace t [] → ⊥
 AreLineSpaces t (Err Memory) = Unit {0}
-
--- the same of an end u of the text t, in which the place is reported
-abbrev pub EndInLineSpaces : Text → Text → Result (Unit {0}) LexFailure → Type 0
-EndInLineSpaces t u (Ok _) = Star LineSpace u []
-EndInLineSpaces t u (Err (Faulty span)) = (Star LineSpace u [] → ⊥) × InText t span
-EndInLineSpaces t u (Err Memory) = Unit {0}

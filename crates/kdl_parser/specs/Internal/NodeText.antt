@@ -1,7 +1,6 @@
 -- Nodes that are a whole text, and what is returned on one.
 use Rattle.std.specs.Prelude.{◌≡◌, true, List, [], ◌∷◌, Option, Some, None, Result, Ok, Err}
 use Rattle.kdl_text.specs.Chars.{Text}
-use Rattle.kdl_text.specs.Spans.{InText}
 use Rattle.kdl_text.specs.declared.span.SourceSpan.{SourceSpan}
 use Rattle.kdl_value.specs.Tree.{text_of}
 use Rattle.kdl_lexer.specs.declared.lexer.LexFailure.{LexFailure}
@@ -33,23 +32,19 @@ RunsOnText t d = Runs t d (initial t) t
 abbrev pub RunsToNodes : Text → Option DocumentFormat → Nodes → Type 0
 RunsToNodes t f ns = (at : SourceSpan) × RunsOnText t (document f at ns)
 
--- the machine returns a document of these nodes
-abbrev pub ReadsSome : Text → Nodes → Type 0
-ReadsSome t ns = (f : Option DocumentFormat) × RunsToNodes t f ns
-
 -- the machine returns a document of the one node, with this text after it
 abbrev pub ReadsOne : Text → Node → Text → Type 0
 ReadsOne t x trailing = (leading : Text) × RunsToNodes t (Some (record { leading = leading; trailing = trailing })) (first x none)
 
--- the text is not a node, and a place in it is reported
+-- the text is not a node; an allocation failure says nothing
 abbrev pub NoNode : Text → LexFailure → Type 0
-NoNode t (Faulty span) = ((x : data'.Node) → IsNodeText true t x → ⊥) × InText t span
+NoNode t Faulty = (x : data'.Node) → IsNodeText true t x → ⊥
 NoNode t Memory = Unit {0}
 
--- the only node; or the text is not a node
-abbrev pub IsOnly : {N : Type 0} → Text → List N → Result N LexFailure → Type 0
-IsOnly t ns (Ok n) = ns ≡ n ∷ []
-IsOnly t ns (Err e) = NoNode t e
+-- the only node, or none if there are more or none
+abbrev pub IsOnly : {N : Type 0} → List N → Option N → Type 0
+IsOnly ns (Some n) = ns ≡ n ∷ []
+IsOnly {N = N} ns None = (n : N) → ns ≡ n ∷ [] → ⊥
 
 -- the node that the text is, located in it; or the text is not a node
 abbrev pub AnswersNodeText : {N : Type 0} → (N → Node) → Text → Result (NodeText N) LexFailure → Type 0

@@ -10,7 +10,6 @@ use Rattle.kdl_grammar.specs.Data.{Nodes}
 use Rattle.kdl_grammar.specs.Grammar.{IsDocument, IsNodeText}
 use Rattle.kdl_lexer.specs.declared.lexer.LexFailure.{LexFailure}
 use Rattle.kdl_lexer.specs.declared.lexer.LexFailure.TheVariants.{Faulty, Memory}
-use Rattle.kdl_parser.specs.Earliest.{EarliestOnSyntax, NodeEarliestOnSyntax}
 
 -- at least a step for each character of the text, up to the greatest count, and at most 32 for each byte and 32 more
 pub record Counted (t : Text) (old new : ℕ) : Type 0 where
@@ -20,14 +19,13 @@ pub record Counted (t : Text) (old new : ℕ) : Type 0 where
 -- what reading the text costs; if it is refused, no more than that
 abbrev pub CountedOn : {A : Type 0} → Result A LexFailure → Text → ℕ → ℕ → Type 0
 CountedOn (Ok x) t old new = Counted t old new
-CountedOn (Err (Faulty span)) t old new = new ≤ old + 32 * (bytes t + 1)
+CountedOn (Err Faulty) t old new = new ≤ old + 32 * (bytes t + 1)
 CountedOn (Err Memory) t old new = Unit {0}
 
--- what each reader of a document promises beside its result: a refused text is not derived, and its error reports where, the earliest fault first; the bounds on the steps
+-- what each reader of a document promises beside its result: a refused text is not derived, and its error has the spans of its faults; the bounds on the steps
 pub record Parses {A : Type 0} (text : List ℕ) (result : Result A ParseFailure) (old new : ℕ) : Type 0 where
   pub refused : IsSyntax result → (x : Nodes) → IsDocument true (chars text) x → ⊥
   pub told : TellsOnSyntax text result
-  pub earliest : EarliestOnSyntax text result
   pub least : OnOk result (raise old (length (chars text)) ≤ new)
   pub most : OnOk result (new ≤ old + 32 * (length text + 1))
   pub told_most : IsSyntax result → new ≤ old + 184 * (length text + 1)
@@ -37,4 +35,3 @@ pub record Parses {A : Type 0} (text : List ℕ) (result : Result A ParseFailure
 pub record ParsesNode {A : Type 0} (text : List ℕ) (result : Result A ParseFailure) : Type 0 where
   pub refused : IsSyntax result → (x : data'.Node) → IsNodeText true (chars text) x → ⊥
   pub told : TellsOnSyntax text result
-  pub earliest : NodeEarliestOnSyntax text result

@@ -16,7 +16,7 @@ returns-in-Ok-None c =
 pub returns-in-Err-Faulty : goal.returns-in-Err-Faulty
 returns-in-Err-Faulty c =
     let x = rw c.in-Err-Faulty.field-0-is at c.in-Err-Faulty.ensures.lexed in
-    node_faulty (chars c.args.text.now) c.tokens.lexer (control_view c.tokens.control) c.tokens.last c.tokens.invariant x.0
+    node_faulty (chars c.args.text.now) c.tokens.lexer (control_view c.tokens.control) c.tokens.last c.tokens.invariant x
 
 pub returns-then-not-branch : goal.returns-then-not-branch
 returns-then-not-branch c =

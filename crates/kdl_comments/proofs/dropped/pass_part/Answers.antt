@@ -18,7 +18,7 @@ returns-in-Ok-None c =
 pub returns-in-Err-Faulty : goal.returns-in-Err-Faulty
 returns-in-Err-Faulty c =
     let x = rw c.in-Err-Faulty.field-0-is at c.in-Err-Faulty.ensures.lexed in
-    part_faulty (place_view c.args.place) (chars c.args.text.now) c.tokens.lexer (control_view c.tokens.control) c.tokens.last c.tokens.invariant x.0
+    part_faulty (place_view c.args.place) (chars c.args.text.now) c.tokens.lexer (control_view c.tokens.control) c.tokens.last c.tokens.invariant x
 
 pub returns-then-ends_word : goal.returns-then-ends_word
 returns-then-ends_word c =

@@ -3,12 +3,8 @@ use Rattle.std.specs.Str.{chars}
 use Rattle.kdl_value.specs.Tree.{text_of}
 use Rattle.kdl_text.specs.Chars.{Text, Star}
 use Rattle.kdl_text.specs.Trivia.{LineSpace}
-use Rattle.kdl_parser.proofs.Answering.NodeTexts.{ends_there, laid_there, none_there}
+use Rattle.kdl_parser.proofs.Answering.NodeTexts.{laid_there, none_there}
 use Rattle.kdl_parser.proofs.node_text.with_line_spaces.Goals as goal
-
-pub trailing_line_spaces-requires : goal.trailing_line_spaces-requires
-trailing_line_spaces-requires g c =
-    ends_there (chars c.args.text.now) (chars c.as_str.result.now) _ (g.N.ParsedNode.tree c.args.node) c.requires.1 (ap chars c.as_str.ensures.value)
 
 pub returns-in-Ok : goal.returns-in-Ok
 returns-in-Ok g c =

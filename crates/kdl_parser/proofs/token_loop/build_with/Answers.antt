@@ -8,7 +8,7 @@ use Rattle.kdl_parser.proofs.token_loop.build_with.Goals as goal
 
 pub tokens-init : goal.tokens-init
 tokens-init g c = (
-  starts g.N.ParsedNode.tree c.args.builder.now.slices.whole.rest c.args.lexer.now.rest c.args.builder.now c.args.lexer.now c.requires.state refl refl c.requires.text c.requires.at,
+  starts g.N.ParsedNode.tree c.args.builder.now.slices.whole.rest c.args.lexer.now.rest c.args.builder.now c.args.lexer.now c.requires.state refl refl,
   counting_starts c.args.lexer.now c.args.builder.now.slices.steps (unsliced c.args.builder.now) c.requires.steps c.requires.unsliced,
 )
 
@@ -57,10 +57,10 @@ pub tokens-smaller : goal.tokens-smaller
 tokens-smaller g c = nearer c.tokens.lexer c.next_token.new.self (kind_view c.in-Other.token.kind) c.in-Other.token.at (rw c.in-Other.is at c.in_ok-at.ensures.lexed)
 
 pub returns-in-Err-take-clause-answers : goal.returns-in-Err-take-clause-answers
-returns-in-Err-take-clause-answers g c = take_told g.N.ParsedNode.tree c.tokens.builder c.take.new.self c.tokens.lexer c.next_token.new.self _ _ newline c.in-Newline.at c.in-Err-take.failure c.failure_at-in-Err-take.result c.tokens.invariant.0 (rw c.in-Newline.is at c.in_ok-at.ensures.lexed) (rw c.in-Err-take.is at c.take.ensures.did) c.failure_at-in-Err-take.ensures
+returns-in-Err-take-clause-answers g c = take_told g.N.ParsedNode.tree c.tokens.builder c.take.new.self c.tokens.lexer c.next_token.new.self _ _ newline c.in-Newline.at c.in-Err-take.failure c.lex_failure-in-Err-take.result c.tokens.invariant.0 (rw c.in-Newline.is at c.in_ok-at.ensures.lexed) (rw c.in-Err-take.is at c.take.ensures.did) c.lex_failure-in-Err-take.ensures
 
 pub returns-in-Err-take_word-clause-answers : goal.returns-in-Err-take_word-clause-answers
-returns-in-Err-take_word-clause-answers g c = take_told g.N.ParsedNode.tree c.tokens.builder c.take_word.new.self c.tokens.lexer c.next_token.new.self _ _ (string c.in-Word.word) c.in-Word.at c.in-Err-take_word.failure c.failure_at-in-Err-take_word.result c.tokens.invariant.0 (rw c.in-Word.is at c.in_ok-at.ensures.lexed).0 (rw c.in-Err-take_word.is at c.take_word.ensures.did) c.failure_at-in-Err-take_word.ensures
+returns-in-Err-take_word-clause-answers g c = take_told g.N.ParsedNode.tree c.tokens.builder c.take_word.new.self c.tokens.lexer c.next_token.new.self _ _ (string c.in-Word.word) c.in-Word.at c.in-Err-take_word.failure c.lex_failure-in-Err-take_word.result c.tokens.invariant.0 (rw c.in-Word.is at c.in_ok-at.ensures.lexed).0 (rw c.in-Err-take_word.is at c.take_word.ensures.did) c.lex_failure-in-Err-take_word.ensures
 
 pub finish-requires-clause-from : goal.finish-requires-clause-from
 finish-requires-clause-from g c =

@@ -99,7 +99,7 @@ returns-in-Ok-None-clause-stopped c x =
     stopped_at_end c.tokens.lexer.rest _ (record { place = e.place; from = e.from; matched = e.matched }) (sym c.may_end-self.ensures ∙ x)
 
 pub returns-in-Err-Faulty-clause-exact : goal.returns-in-Err-Faulty-clause-exact
-returns-in-Err-Faulty-clause-exact c = no_token_here c.tokens.self.is_accepted c.tokens.lexer (text_view c.tokens.self.control) (rw c.in-Err-Faulty.field-0-is at c.in-Err-Faulty.ensures.lexed).0 c.tokens.invariant.accepted c.tokens.invariant.exact
+returns-in-Err-Faulty-clause-exact c = no_token_here c.tokens.self.is_accepted c.tokens.lexer (text_view c.tokens.self.control) (rw c.in-Err-Faulty.field-0-is at c.in-Err-Faulty.ensures.lexed) c.tokens.invariant.accepted c.tokens.invariant.exact
 
 pub returns-in-Err-Faulty-clause-stopped : goal.returns-in-Err-Faulty-clause-stopped
-returns-in-Err-Faulty-clause-stopped c x = stopped_before c.tokens.lexer.rest c.tokens.self c.tokens.self c.tokens.invariant.ends (rw c.in-Err-Faulty.field-0-is at c.in-Err-Faulty.ensures.lexed).0.begun refl refl
+returns-in-Err-Faulty-clause-stopped c x = stopped_before c.tokens.lexer.rest c.tokens.self c.tokens.self c.tokens.invariant.ends (rw c.in-Err-Faulty.field-0-is at c.in-Err-Faulty.ensures.lexed).begun refl refl

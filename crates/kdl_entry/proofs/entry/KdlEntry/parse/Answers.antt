@@ -1,17 +1,10 @@
-use Rattle.kdl_entry.specs.EarliestEntry.{DerivedEntry}
 use Rattle.std.specs.Str.{chars}
-use Rattle.kdl_entry.proofs.FirstFault.{earliest}
 use Rattle.kdl_entry.proofs.Reading.Accepted.{accepted_entry}
 use Rattle.kdl_entry.proofs.Reading.EntryAnswers.{refused}
 use Rattle.kdl_entry.proofs.entry.KdlEntry.parse.Goals as goal
 
-pub returns-in-Err-Faulty-clause-earliest : goal.returns-in-Err-Faulty-clause-earliest
-returns-in-Err-Faulty-clause-earliest c =
-    let a = rw (c.in-Err-Faulty.is, c.in-Err-Faulty.field-0-is) at c.read_entry.ensures in
-    earliest DerivedEntry c.args.text.now c.in-Err-Faulty.span.offset c.refusal.result c.utf8.text a.2 c.refusal.ensures.near
-
-pub refusal-requires-clause-refused : goal.refusal-requires-clause-refused
-refusal-requires-clause-refused c x =
+pub failure-requires : goal.failure-requires
+failure-requires c x =
     let a = rw (c.in-Err-Faulty.is, c.in-Err-Faulty.field-0-is) at c.read_entry.ensures in
     let d = accepted_entry (chars c.args.text.now) x in
-    refused (chars c.args.text.now) a.0 d.0 d.1
+    refused (chars c.args.text.now) a d.0 d.1

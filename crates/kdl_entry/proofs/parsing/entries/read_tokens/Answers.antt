@@ -14,5 +14,4 @@ tokens-smaller c = nearer c.tokens.lexer c.next.new.self c.in-Some.token (rw c.i
 
 pub returns-in-None : goal.returns-in-None
 returns-in-None c =
-    no_end _ c.tokens.lexer c.next.new.self c.tokens.slices.whole.rest _ c.checkpoint-here.result c.fault_at.result (ap (λ (z : Position). z.rest) c.tokens.invariant.1) c.tokens.invariant.0 (rw c.in_default.is at c.in_ok-token.ensures.lexed) c.next.ensures.moves c.checkpoint-here.ensures.rest c.checkpoint-here.ensures.at (rw c.in-None.is at c.in_ok-entry.ensures)
-    (record { offset = c.fault_at.ensures.offset; len = c.fault_at.ensures.len })
+    no_end _ c.tokens.lexer c.tokens.slices.whole.rest _ (ap (λ (z : Position). z.rest) c.tokens.invariant.1) c.tokens.invariant.0 (rw c.in_default.is at c.in_ok-token.ensures.lexed) (rw c.in-None.is at c.in_ok-entry.ensures)
