@@ -56,7 +56,7 @@ pub token_end_lies : (text : Text) (f a b : Here) (k : CodeToken) → Fronting f
 token_end_lies text f a b k x e h = front_lies text f b k.at.end x e h.end_rest
 
 -- the steps over a whole text
-pub front_bounded : (text : List ℕ) (a b : Here) (before after : ℕ) → IsUtf8 text → b.steps ≤ a.steps + (24 * bytes a.rest + 25) → a ≡ record { rest = chars text; at = 0; steps = before } → after ≡ b.steps → after ≤ before + (24 * length text + 25)
+pub front_bounded : (text : List ℕ) (a b : Here) (before after : ℕ) → IsUtf8 text → b.steps ≤ a.steps + (24 * bytes a.rest + 25) → a ≡ record { text = chars text; rest = chars text; at = 0; steps = before } → after ≡ b.steps → after ≤ before + (24 * length text + 25)
 front_bounded text a b before after u x e g = omega (arith, x, ap (λ (z : Here). bytes z.rest) e, ap (λ (z : Here). z.steps) e, bytes-chars text u, g)
 
 -- a token begins before the end of a text

@@ -52,7 +52,7 @@ found_in_role s a f g here on also = also (gone s.place a) a on (record { before
 
 -- from the start of a lexeme to after its first character
 pub begun : (s : Start) (a b : Here) → Spans s → b ≡ gone s.next a → Moves (gone s.place a) b
-begun s a b spans e = rw e (record { piece = spans.next; at = spans.at; counts = omega arith })
+begun s a b spans e = rw e (record { piece = spans.next; at = spans.at; counts = omega arith; same = refl })
 
 pub begins_took : (c : ℕ) (a b : Here) (s : Start) → Took (Some c) a b → s.place.rest ≡ a.rest → s.place.at ≡ a.at → s.next.rest ≡ b.rest → s.next.at ≡ b.at → Begins s
 begins_took c a b s took pr pa nr na = record {

@@ -3,12 +3,12 @@ use Rattle.std.proofs.Common.{◌≡◌, List, [], ◌∷◌, ◌++◌, ◌⊎�
 use Rattle.std.specs.Option.{IfSome, option_to_list}
 use Rattle.std.proofs.lemmas.List.Elements.{All-push, All-pop, All-same}
 use Rattle.kdl_text.specs.Chars.{Text}
-use Rattle.kdl_text.specs.Internal.Here.{Here, Position}
+use Rattle.kdl_text.specs.Internal.Here.{Here, IsPart, Position}
 use Rattle.kdl_text.specs.Internal.Reading.{Moves}
 use Rattle.kdl_text.specs.Spans.{InText, span_between, bytes}
 use Rattle.kdl_text.specs.declared.span.SourceSpan.{SourceSpan}
 use Rattle.kdl_text.proofs.Looking.MovesJoin.{bytes-append}
-use Rattle.kdl_diagnostics.specs.Internal.Noted.{LiesIn, Noted, Opened, Candidates, IsReaderOf}
+use Rattle.kdl_diagnostics.specs.Internal.Noted.{LiesIn, ReadsIn, Noted, Opened, Candidates, IsReaderOf}
 use Rattle.kdl_diagnostics.specs.Internal.Reading.{Stands}
 use Rattle.kdl_diagnostics.specs.declared.ends.Unclosed.{Unclosed}
 use Rattle.kdl_diagnostics.specs.declared.esclines.Candidate.{Candidate}
@@ -43,8 +43,12 @@ span_in text r a b s x u v e = subst (λ (z : SourceSpan). InText text z) (sym (
 pub then_ends : (t s r : Text) → ((p : Text) × (t ≡ p ++ s)) → ((p : Text) × (s ≡ p ++ r)) → (p : Text) × (t ≡ p ++ r)
 then_ends t s r x y = (x.0 ++ y.0, x.1 ∙ ap (λ (z : Text). x.0 ++ z) y.1 ∙ sym (append_assoc x.0 y.0 r))
 
-pub moved_here : (text : Text) (a b : Here) → ((p : Text) × (text ≡ p ++ a.rest)) → Moves a b → (p : Text) × (text ≡ p ++ b.rest)
-moved_here text a b x m = then_ends text a.rest b.rest x m.piece
+pub moved_here : (text : Text) (a b : Here) → ReadsIn text a → Moves a b → ReadsIn text b
+moved_here text a b x m = let y = then_ends text a.rest b.rest (x.0, x.1) m.piece in (y.0, y.1, m.same ∙ x.2)
+
+-- a place in the text is a part of the text that the cursor was created over
+pub lies_part : (text : Text) (whole rest : Text) → whole ≡ text → ((p : Text) × (text ≡ p ++ rest)) → IsPart whole rest
+lies_part text whole rest e x = record { before = x.0; after = []; whole = e ∙ x.1 ∙ ap (λ (z : Text). x.0 ++ z) (sym (append-nil rest)) }
 
 -- the places of a lexeme of the text
 pub next_lies : (text : Text) (p : Lexeme) → Stands text p → LiesIn text p.next

@@ -31,7 +31,7 @@ stepped_past c a b h e =
     let t : bytes b.rest ≡ bytes (tail a.rest) = ap bytes r in
     let u : b.steps ≡ a.steps = ap (λ z. z.steps) e in
     record {
-      moves = record { piece = (c ∷ [], h ∙ ap (λ z. c ∷ z) (sym r)); at = omega arith; counts = omega arith };
+      moves = record { piece = (c ∷ [], h ∙ ap (λ z. c ∷ z) (sym r)); at = omega arith; counts = omega arith; same = ap (λ z. z.text) e };
       fewer = omega (arith, (len_utf8_bounds c).0);
       steps = u;
     }

@@ -8,8 +8,8 @@ use Rattle.kdl_text.specs.Spans.{bytes, raise}
 use Rattle.kdl_text.specs.Internal.Reading.{Moves}
 use Rattle.kdl_text.proofs.Looking.MovesJoin.{bytes-append, fewer_bytes}
 use Rattle.kdl_text.proofs.Looking.Texts.{bytes-chars}
-use Rattle.kdl_diagnostics.specs.Internal.Noted.{Bounded, IsReaderOf, LiesIn, ReadsAgain, Recovers}
-use Rattle.kdl_diagnostics.specs.Internal.Reading.{Most, WentPast, Turning, turns_left}
+use Rattle.kdl_diagnostics.specs.Internal.Noted.{Bounded, IsReaderOf, LiesIn, ReadsAgain, ReadsIn, Recovers}
+use Rattle.kdl_diagnostics.specs.Internal.Reading.{Most, WentPast, Turning, gone, turns_left}
 use Rattle.kdl_diagnostics.specs.declared.lexemes.LexemeKind.{LexemeKind}
 use Rattle.kdl_diagnostics.specs.declared.lexemes.LexemeKind.TheVariants.{End}
 use Rattle.kdl_diagnostics.specs.declared.reader.Reader.{Reader}
@@ -25,6 +25,10 @@ same_rest text s r e x = (x.0, x.1 ∙ ap (λ (t : Text). x.0 ++ t) (sym e))
 pub took_lies : (text : Text) (c : Option ℕ) (a b : Here) → ((p : Text) × (text ≡ p ++ a.rest)) → Took c a b → (p : Text) × (text ≡ p ++ b.rest)
 took_lies text None a b x t = same_rest text a.rest b.rest (ap (λ (z : Here). z.rest) t.1) x
 took_lies text (Some c) a b x t = (x.0 ++ (c ∷ []), x.1 ∙ ap (λ (z : Text). x.0 ++ z) t.0 ∙ sym (append_assoc x.0 (c ∷ []) b.rest))
+
+pub took_same : (c : Option ℕ) (a b : Here) → Took c a b → b.text ≡ a.text
+took_same None a b t = ap (λ (z : Here). z.text) t.1
+took_same (Some c) a b t = t.3
 
 pub place_lies : (text : Text) (a : Here) (place : Position) → ((p : Text) × (text ≡ p ++ a.rest)) → place.rest ≡ a.rest → LiesIn text place
 place_lies text a place x e = same_rest text a.rest place.rest e x
@@ -82,25 +86,25 @@ pub turning_stops : (f a b e : Here) (over : Bool) → over ≡ false → Turnin
 turning_stops f a b e over n t m x m' x' = record { most = omega (arith, t.most, still_left over n, fewer_bytes m, fewer_bytes m'); counts = omega (arith, t.counts, m.counts, m'.counts) }
 
 -- the text of a reader, read again from its start
-pub read_again : (old new : Reader) (a b : Here) → a ≡ record { rest = old.whole.rest; at = old.whole.at; steps = old.cursor.steps } → Moves a b → Most 4 1 a b → new.cursor ≡ b → ReadsAgain 4 old new
+pub read_again : (old new : Reader) (a b : Here) → a ≡ gone old.whole old.cursor → Moves a b → Most 4 1 a b → new.cursor ≡ b → ReadsAgain 4 old new
 read_again old new a b e m k f =
     let s : a.steps ≡ old.cursor.steps = ap (λ (z : Here). z.steps) e in
     let r : bytes a.rest ≡ bytes old.whole.rest = ap (λ (z : Here). bytes z.rest) e in
     let t : new.cursor.steps ≡ b.steps = ap (λ (z : Here). z.steps) f in
     record { most = omega (arith, s, r, t, k); counts = omega (arith, s, t, m.counts) }
 
-pub again_lies : (text : Text) (r : Reader) (a b : Here) → IsReaderOf text r → a ≡ record { rest = r.whole.rest; at = r.whole.at; steps = r.cursor.steps } → Moves a b → (p : Text) × (text ≡ p ++ b.rest)
-again_lies text r a b x e m = (m.piece.0, sym x.whole ∙ sym (ap (λ (z : Here). z.rest) e) ∙ m.piece.1)
+pub again_lies : (text : Text) (r : Reader) (a b : Here) → IsReaderOf text r → a ≡ gone r.whole r.cursor → Moves a b → ReadsIn text b
+again_lies text r a b x e m = (m.piece.0, sym x.whole ∙ sym (ap (λ (z : Here). z.rest) e) ∙ m.piece.1, m.same ∙ ap (λ (z : Here). z.text) e ∙ x.here.2)
 
 -- a text that is read, and then read again
 bytes_in : (text rest : Text) → ((p : Text) × (text ≡ p ++ rest)) → bytes rest ≤ bytes text
 bytes_in text rest x = omega (arith, ap bytes x.1, bytes-append x.0 rest)
 
 pub read_twice : (text : Text) (old mid new : Reader) → IsReaderOf text old → IsReaderOf text mid → Bounded 124 old.cursor mid.cursor → ReadsAgain 4 mid new → Recovers text old.cursor new.cursor
-read_twice text old mid new x y a b = record { most = omega (arith, ap bytes y.whole, bytes_in text old.cursor.rest x.here, a.most, b.most); counts = omega (arith, a.counts, b.counts) }
+read_twice text old mid new x y a b = record { most = omega (arith, ap bytes y.whole, bytes_in text old.cursor.rest (x.here.0, x.here.1), a.most, b.most); counts = omega (arith, a.counts, b.counts) }
 
 pub read_once : (text : Text) (old : Reader) (b : Here) → IsReaderOf text old → Bounded 124 old.cursor b → Recovers text old.cursor b
-read_once text old b x a = record { most = omega (arith, bytes_in text old.cursor.rest x.here, a.most); counts = a.counts }
+read_once text old b x a = record { most = omega (arith, bytes_in text old.cursor.rest (x.here.0, x.here.1), a.most); counts = a.counts }
 
 -- the steps over a whole text
 pub steps_bounded : (text : List ℕ) (a b : Here) (before after : ℕ) → IsUtf8 text → Recovers (chars text) a b → a.steps ≤ before + 7 → after ≡ b.steps → after ≤ before + (128 * length text + 111)

@@ -40,6 +40,6 @@ at_unit k c f a b e kept p i (run, r) l =
     }
 
 -- a string that is read once more, in a segment of the text from the place on
-pub read_once_more : (c : ℕ) (s : Position) (a i o e : Here) (place : Position) (x : Text) → s.rest ≡ x ++ a.rest → i ≡ record { rest = x; at = 0; steps = a.steps } → Costs 4 c i o → e ≡ record { rest = place.rest; at = place.at; steps = o.steps }
+pub read_once_more : (c : ℕ) (s : Position) (a i o e : Here) (place : Position) (x : Text) → s.rest ≡ x ++ a.rest → i ≡ record a { rest = x; at = 0 } → Costs 4 c i o → e ≡ record o { rest = place.rest; at = place.at }
     → e.steps ≤ a.steps + 5 * (bytes s.rest - bytes a.rest) + c
 read_once_more c s a i o e place x t is k back = omega (arith, ap bytes t, bytes-append x a.rest, ap (λ y. y.steps) is, ap (λ y. bytes y.rest) is, k.most, ap (λ y. y.steps) back)

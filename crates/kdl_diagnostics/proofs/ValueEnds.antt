@@ -21,7 +21,7 @@ end_from a m b e v i = record { place = passed_from a m b e.place v i.place; com
 pub stayed_more : (k : ℕ) (b e m : Here) → e ≡ looked b → k ≤ 6 → Stayed k e m → (j : ℕ) × (j ≤ 7) × Stayed j b m
 stayed_more k b e m l few s =
     let t = stayed_looked b e l in
-    (k + 1, omega (arith, few), record { rest = s.rest ∙ t.rest; at = s.at ∙ t.at; steps = omega (arith, s.steps, t.steps) })
+    (k + 1, omega (arith, few), record { rest = s.rest ∙ t.rest; at = s.at ∙ t.at; steps = omega (arith, s.steps, t.steps); same = s.same ∙ t.same })
 
 pub stayed_one : (b e : Here) → e ≡ looked b → (j : ℕ) × (j ≤ 7) × Stayed j b e
 stayed_one b e l = (1, omega arith, stayed_looked b e l)

@@ -2,9 +2,9 @@
 //!
 //! Nothing is built: the reader finds where a string, a number or a keyword ends, and its fault.
 
-ghost use Rattle.kdl_diagnostics.specs.Internal.Reading.{Begins, FindsAlso, IsLexeme, Most, MostFrom, NoEarlier, OnFound, Spans, Stands, WentPast, gone};
+ghost use Rattle.kdl_diagnostics.specs.Internal.Reading.{Begins, FindsAlso, Follows, IsLexeme, Most, MostFrom, NoEarlier, OnFound, Spans, Stands, WentPast, gone};
 ghost use Rattle.kdl_text.specs.Chars.{Text, is_identifier_char, is_number_sign, starts};
-ghost use Rattle.kdl_text.specs.Internal.Here.{Ahead, Behind as Follows, Returned, Position, first};
+ghost use Rattle.kdl_text.specs.Internal.Here.{Ahead, IsPart, Returned, Position, first};
 ghost use Rattle.kdl_text.specs.Spans.{bytes};
 ghost use Rattle.kdl_text.specs.Internal.Reading.{Moves};
 ghost use Rattle.std.specs.Prelude.{◌≡◌, ◌+◌, ◌*◌, ◌≤◌, ◌++◌, [], true, IfOk, IfSome};
@@ -129,7 +129,8 @@ fn unclosed<'a>(comment: Unclosed<'a>) -> Lexeme<'a>
 
 /// Advances past a character with which no lexeme begins, and on to the next value end.
 fn other<'a>(cursor: &mut Cursor<'a>, start: Start<'a>) -> Lexeme<'a>
-    requires { Begins start }
+    requires start { Begins start }
+    requires part { IsPart cursor.old.text start.place.rest }
     ensures lexeme { IsLexeme start.entry.place result cursor.new }
     ensures moves { Moves (gone start.entry.place cursor.old) cursor.new }
     ensures most { Most 24 12 (gone start.entry.place cursor.old) cursor.new }
@@ -152,6 +153,7 @@ fn other<'a>(cursor: &mut Cursor<'a>, start: Start<'a>) -> Lexeme<'a>
 fn slash_lexeme<'a>(cursor: &mut Cursor<'a>, start: Start<'a>) -> Lexeme<'a>
     requires start { Begins start }
     requires here { cursor.old ≡ gone start.place cursor.old }
+    requires part { IsPart cursor.old.text start.place.rest }
     ensures lexeme { IsLexeme start.entry.place result cursor.new }
     ensures moves { Moves (gone start.entry.place cursor.old) cursor.new }
     ensures most { Most 24 18 (gone start.entry.place cursor.old) cursor.new }
@@ -171,6 +173,7 @@ fn slash_lexeme<'a>(cursor: &mut Cursor<'a>, start: Start<'a>) -> Lexeme<'a>
 /// Advances past what begins with the backslash here.
 fn backslash_lexeme<'a>(cursor: &mut Cursor<'a>, start: Start<'a>) -> Lexeme<'a>
     requires start { Begins start }
+    requires part { IsPart cursor.old.text start.place.rest }
     ensures lexeme { IsLexeme start.entry.place result cursor.new }
     ensures moves { Moves (gone start.entry.place cursor.old) cursor.new }
     ensures most { Most 24 24 (gone start.entry.place cursor.old) cursor.new }
@@ -256,7 +259,8 @@ struct EndWithin<'a> {
 
 /// The first value end from the place on in the part of the text up to here, or its end.
 fn end_within<'a>(cursor: &mut Cursor<'a>, from: &Checkpoint<'a>) -> EndWithin<'a>
-    requires { Follows from.now cursor.old }
+    requires here { Follows from.now cursor.old }
+    requires part { IsPart cursor.old.text from.now.rest }
     ensures place { Ahead from.now result.place }
     ensures backslash { IfSome result.backslash (λ b. Ahead from.now b) }
     ensures rest { cursor.new.rest ≡ cursor.old.rest }
@@ -330,6 +334,7 @@ fn string<'a>(
 ) -> Lexeme<'a>
     requires start { Spans start }
     requires here { Follows start.place cursor.old }
+    requires part { IsPart cursor.old.text start.place.rest }
     requires fault { OnFound (gone start.place cursor.old) scan.fault cursor.old }
     ensures stands { Stands start.entry.place.rest result }
     ensures kind { result.kind ≡ LexemeKind.String }
@@ -357,6 +362,7 @@ fn string<'a>(
 
 /// The form of the whole number that the segment begins with, by its prefix.
 fn form_of<'a>(number: &Segment<'a>, cursor: &mut Cursor<'a>) -> Form
+    requires { IsPart cursor.old.text number.now }
     ensures { Returned 4 cursor.old cursor.new }
 {
     let place = cursor.enter(number);
@@ -378,6 +384,7 @@ fn number_fault<'a>(
     cursor: &mut Cursor<'a>,
     number: &Segment<'a>,
 ) -> Result<(Option<Kind>, Form), AllocError>
+    requires { IsPart cursor.old.text number.now }
     ensures { Returned (4 * bytes number.now + 16) cursor.old cursor.new }
 {
     let place = cursor.enter(number);
@@ -399,6 +406,7 @@ fn number_lexeme<'a>(
 ) -> Result<Lexeme<'a>, AllocError>
     requires start { Spans start }
     requires here { cursor.old ≡ gone start.place cursor.old }
+    requires part { IsPart cursor.old.text start.place.rest }
     requires number { starts is_identifier_char cursor.old.rest ≡ true }
     ensures lexeme { IfOk result (λ p. IsLexeme start.entry.place p cursor.new) }
     ensures moves { Moves cursor.old cursor.new }
@@ -429,6 +437,7 @@ fn bare_lexeme<'a>(cursor: &mut Cursor<'a>, start: Start<'a>) -> Lexeme<'a>
 
 /// The fault of a keyword, by its number signs and all identifier characters after them.
 fn keyword_fault<'a>(cursor: &mut Cursor<'a>, word: &Segment<'a>) -> Option<Kind>
+    requires { IsPart cursor.old.text word.now }
     ensures { Returned (4 * bytes word.now + 4) cursor.old cursor.new }
 {
     let place = cursor.enter(word);
@@ -444,6 +453,7 @@ fn keyword_fault<'a>(cursor: &mut Cursor<'a>, word: &Segment<'a>) -> Option<Kind
 fn keyword_lexeme<'a>(cursor: &mut Cursor<'a>, start: Start<'a>) -> Lexeme<'a>
     requires start { Spans start }
     requires here { Follows start.place cursor.old }
+    requires part { IsPart cursor.old.text start.place.rest }
     ensures stands { Stands start.entry.place.rest result }
     ensures kind { result.kind ≡ LexemeKind.Value }
     ensures moves { Moves cursor.old cursor.new }
@@ -464,6 +474,7 @@ fn sign_lexeme<'a>(
 ) -> Result<Lexeme<'a>, AllocError>
     requires start { Spans start }
     requires here { cursor.old ≡ gone start.place cursor.old }
+    requires part { IsPart cursor.old.text start.place.rest }
     requires sign { starts is_number_sign cursor.old.rest ≡ true }
     ensures lexeme { IfOk result (λ p. IsLexeme start.entry.place p cursor.new) }
     ensures moves { Moves cursor.old cursor.new }
@@ -499,6 +510,7 @@ fn sign_kind(c: char) -> Option<LexemeKind>
 fn plain_lexeme<'a>(c: char, cursor: &mut Cursor<'a>, start: Start<'a>) -> Lexeme<'a>
     requires start { Begins start }
     requires here { cursor.old ≡ gone start.place cursor.old }
+    requires part { IsPart cursor.old.text start.place.rest }
     requires first { first cursor.old.rest ≡ Some c }
     ensures lexeme { IsLexeme start.entry.place result cursor.new }
     ensures moves { Moves cursor.old cursor.new }
@@ -531,6 +543,7 @@ fn lexeme_of<'a>(
 ) -> Result<Lexeme<'a>, AllocError>
     requires start { Begins start }
     requires here { cursor.old ≡ gone start.place cursor.old }
+    requires part { IsPart cursor.old.text start.place.rest }
     requires first { first cursor.old.rest ≡ Some c }
     ensures lexeme { IfOk result (λ p. IsLexeme start.entry.place p cursor.new) }
     ensures moves { Moves cursor.old cursor.new }

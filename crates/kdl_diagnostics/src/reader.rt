@@ -1,12 +1,14 @@
 //! The reader of faults: it reads a refused text, and notes each fault.
 
-ghost use Rattle.kdl_diagnostics.specs.Internal.Noted.{Bounded, IsFrontOf, Keeps, KeepsBetween, IsReaderOf, Recovers};
+ghost use Rattle.kdl_diagnostics.specs.Internal.Noted.{Bounded, IsFrontOf, Keeps, KeepsBetween, IsReader, IsReaderOf, Recovers};
 ghost use Rattle.kdl_diagnostics.specs.Internal.Outsets.{BeginsAt, Enters, Grows, HasFault, IsReady, IsReadyAt, IsStopped};
 ghost use Rattle.kdl_diagnostics.specs.Internal.Reading.{Most, Stands, Turning, WentPast};
+ghost use Rattle.kdl_text.specs.Internal.Here.{IsPart};
 ghost use Rattle.kdl_text.specs.Internal.Reading.{Moves};
 ghost use Rattle.kdl_text.specs.Chars.{Text};
 ghost use Rattle.kdl_text.specs.Spans.{raise};
 ghost use Rattle.std.specs.Prelude.{◌≡◌, ◌+◌, ◌≤◌, IfOk};
+ghost use Rattle.std.specs.Str.{chars};
 
 mod moves;
 mod notes;
@@ -75,7 +77,8 @@ impl<'a> Reader<'a> {
     /// Creates a reader that continues after the front of the text, and adds to the given count of steps. If no value
     /// end is there, it begins at the string, number or keyword that ends there.
     pub(crate) fn new(text: &'a str, front: Front<'a>, steps: Steps) -> Self
-        ensures reads { (t : Text) → IsFrontOf t front.entry → IsReaderOf t result }
+        requires { IsFrontOf (chars text.now) front }
+        ensures reads { IsReaderOf (chars text.now) result }
         ensures ready { IsStopped front.entry → IsReady result }
         ensures most { result.cursor.steps ≤ steps + 7 }
         ensures counts { raise steps 0 ≤ raise result.cursor.steps 0 }
@@ -119,6 +122,7 @@ impl<'a> Reader<'a> {
 
     /// Begins here if a value end is here, and else at the earlier place. An identifier is read again from its start.
     fn begin_at(&mut self, here: Outset, from: &Checkpoint<'a>, before: Outset)
+        requires { IsPart self.old.cursor.text from.now.rest }
         ensures keeps { KeepsBetween from.now from.now self.old self.new }
         ensures begins { BeginsAt from.now here before self.old self.new }
         ensures most { self.new.cursor.steps ≤ self.old.cursor.steps + 7 }
@@ -221,6 +225,7 @@ impl<'a> Reader<'a> {
 
     /// Notes the faults of the text.
     pub(crate) fn find(&mut self) -> Result<(), AllocError>
+        requires { IsReader self.old }
         ensures keeps { Keeps self.old self.new }
         ensures grows { Grows self.old self.new }
         ensures noted { IfOk result (λ _. IsReady self.old → HasFault self.new) }

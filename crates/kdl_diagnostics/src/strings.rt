@@ -1,8 +1,8 @@
 //! Quoted and raw strings, faulty or not, and the first fault in them.
 
-ghost use Rattle.kdl_diagnostics.specs.Internal.Reading.{FindsAlso, FindsOn, Most, MostFrom, OnFound};
+ghost use Rattle.kdl_diagnostics.specs.Internal.Reading.{FindsAlso, FindsOn, Follows, Most, MostFrom, OnFound};
 ghost use Rattle.kdl_text.specs.Chars.{begins};
-ghost use Rattle.kdl_text.specs.Internal.Here.{Behind, first};
+ghost use Rattle.kdl_text.specs.Internal.Here.{IsPart, first};
 ghost use Rattle.kdl_text.specs.Spans.{bytes};
 ghost use Rattle.kdl_text.specs.Internal.Reading.{Moves};
 ghost use Rattle.std.specs.Prelude.{◌≡◌, ◌<◌, Some, true, IfOk};
@@ -150,7 +150,8 @@ fn fault_of_lines<'a>(
     cursor: &mut Cursor<'a>,
     start: &Checkpoint<'a>,
 ) -> Result<Option<Found<'a>>, AllocError>
-    requires { Behind start.now cursor.old }
+    requires here { Follows start.now cursor.old }
+    requires part { IsPart cursor.old.text start.now.rest }
     ensures fault { IfOk result (λ f. OnFound cursor.old f cursor.new) }
     ensures rest { cursor.new.rest ≡ cursor.old.rest }
     ensures moves { Moves cursor.old cursor.new }
@@ -286,7 +287,8 @@ fn fault_of_raw_lines<'a>(
     cursor: &mut Cursor<'a>,
     start: &Checkpoint<'a>,
 ) -> Result<Option<Found<'a>>, AllocError>
-    requires { Behind start.now cursor.old }
+    requires here { Follows start.now cursor.old }
+    requires part { IsPart cursor.old.text start.now.rest }
     ensures fault { IfOk result (λ f. OnFound cursor.old f cursor.new) }
     ensures rest { cursor.new.rest ≡ cursor.old.rest }
     ensures moves { Moves cursor.old cursor.new }
@@ -332,7 +334,8 @@ pub(crate) fn scan_raw<'a>(
     signs: usize,
 ) -> Result<Scan<'a>, AllocError>
     requires quote { begins 34 cursor.old.rest ≡ true }
-    requires start { Behind start.now cursor.old }
+    requires start { Follows start.now cursor.old }
+    requires part { IsPart cursor.old.text start.now.rest }
     ensures fault { IfOk result (λ s. OnFound cursor.old s.fault cursor.new) }
     ensures moves { Moves cursor.old cursor.new }
     ensures went { bytes cursor.new.rest < bytes cursor.old.rest }

@@ -2,7 +2,7 @@
 
 -- What the fields of a type, of a key, and of the parts of an entry represent.
 pub mod Building
--- What a call costs for the texts that it slices: at most a step for each of their bytes.
+-- What a call that slices asks of the places, and what it costs.
 pub mod Counted
 -- The machine that reads a text that is one entry: it reads the tokens once. The token k is in the text s before r, in the text `whole`.
 pub mod EntryMachine

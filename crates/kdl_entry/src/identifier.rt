@@ -201,11 +201,9 @@ impl KdlIdentifier {
 /// an allocation fails.
 ///
 /// ```
-/// let mut lexer = Lexer::new("ab=1", Steps::new());
-/// let whole = lexer.checkpoint();
-/// let token = lexer.next(alloc)?; // the string `ab`
-/// let mut slices = Slices::new(alloc, whole.copied());
-/// let piece = slices.piece(&whole, &lexer.checkpoint());
+/// let mut source = Source::new(alloc, "ab=1", Steps::new());
+/// let token = source.next()?; // the string `ab`
+/// let piece = source.piece(&source.start(), &source.checkpoint());
 /// let span = SourceSpan { offset: 0, len: 2 };
 /// let name = sliced_identifier(alloc, String::from_str(alloc, "ab")?, &piece, span)?; // prints "ab"
 /// ```
@@ -231,11 +229,9 @@ pub fn sliced_identifier(
 /// and is in memory once. Returns an error if an allocation fails.
 ///
 /// ```
-/// let mut lexer = Lexer::new("ab=1", Steps::new());
-/// let whole = lexer.checkpoint();
-/// let token = lexer.next(alloc)?; // the string `ab`
-/// let mut slices = Slices::new(alloc, whole.copied());
-/// let piece = slices.piece(&whole, &lexer.checkpoint());
+/// let mut source = Source::new(alloc, "ab=1", Steps::new());
+/// let token = source.next()?; // the string `ab`
+/// let piece = source.piece(&source.start(), &source.checkpoint());
 /// let name = bare_identifier(alloc, &piece, SourceSpan { offset: 0, len: 2 })?; // prints "ab"
 /// ```
 #[inline(always)]

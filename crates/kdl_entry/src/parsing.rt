@@ -3,4 +3,4 @@
 mod entries;
 mod identifiers;
 pub mod parts;
-pub mod slices;
+pub mod source;

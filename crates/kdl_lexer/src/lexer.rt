@@ -11,10 +11,9 @@ ghost use Rattle.kdl_lexer.specs.declared.lexer.LexFailure.TheVariants.{Memory};
 ghost use Rattle.kdl_text.specs.Chars.{starts, is_digit, is_identifier_char, is_space};
 ghost use Rattle.kdl_text.specs.Numbers as numbers;
 ghost use Rattle.kdl_text.specs.Numbers.{FloatText};
-ghost use Rattle.kdl_text.specs.Internal.Here.{Ate, Stayed, first, tail};
+ghost use Rattle.kdl_text.specs.Internal.Here.{Ahead, Ate, IsPart, Stayed, first, looked, sliced, tail};
 ghost use Rattle.kdl_text.specs.Internal.Reading.{Moves};
-ghost use Rattle.kdl_text.specs.Spans.{raise};
-ghost use Rattle.std.specs.Prelude.{◌≡◌, ◌==◌, ◌||◌, true, false, Some, None, IfOk};
+ghost use Rattle.std.specs.Prelude.{◌≡◌, ◌==◌, ◌||◌, ◌++◌, true, false, Some, None, IfOk};
 ghost use Rattle.std.specs.Str.{chars};
 
 use crate::token_span::TokenSpan;
@@ -429,7 +428,12 @@ impl<'a> Lexer<'a> {
     /// }
     /// ```
     pub fn new(text: &'a str, steps: Steps) -> Self
-        ensures { result ≡ record { rest = chars text.now; at = 0; steps = steps } }
+        ensures { result ≡ record {
+          text = chars text.now;
+          rest = chars text.now;
+          at = 0;
+          steps = steps;
+        } }
     {
         Lexer {
             cursor: Cursor::new(text, steps),
@@ -459,6 +463,7 @@ impl<'a> Lexer<'a> {
     pub fn checkpoint(&self) -> Checkpoint<'a>
         ensures rest { result.rest ≡ self.now.rest }
         ensures at { result.at ≡ self.now.at }
+        ensures part { IsPart self.now.text result.rest }
     {
         self.cursor.checkpoint()
     }
@@ -475,16 +480,37 @@ impl<'a> Lexer<'a> {
         self.cursor.eat('\u{feff}')
     }
 
-    /// Adds the steps of another count.
+    /// Returns the piece of the lexer's text between two places. Costs a step for each of its bytes.
+    ///
+    /// ```
+    /// let mut lexer = Lexer::new("ab=1", Steps::new());
+    /// let from = lexer.checkpoint();
+    /// let token = lexer.next(alloc)?; // the string `ab`
+    /// let to = lexer.checkpoint();
+    /// let text = lexer.slice_between(&from, &to).to_string(alloc)?; // "ab"
+    /// ```
+    #[inline]
+    pub fn slice_between(&mut self, from: &Checkpoint<'a>, to: &Checkpoint<'a>) -> Piece<'a>
+        requires order { Ahead from.now to.now }
+        requires part { IsPart self.old.text from.now.rest }
+        ensures result { from.now.rest ≡ result ++ to.now.rest }
+        ensures moved { self.new ≡ sliced result self.old }
+    {
+        self.cursor.slice_between(from, to)
+    }
+
+    /// Counts a look at a token. Costs a step.
     ///
     /// ```
     /// let mut lexer = Lexer::new("a", Steps::new());
-    /// lexer.add_steps(steps); // the count of the lexer's steps and of those
+    /// lexer.count_look();
+    /// let count = lexer.into_steps().count(); // 1
     /// ```
-    pub fn add_steps(&mut self, steps: Steps)
-        ensures { self.new ≡ record self.old { steps = raise self.old.steps steps } }
+    #[inline]
+    pub fn count_look(&mut self)
+        ensures { self.new ≡ looked self.old }
     {
-        self.cursor.add_steps(steps);
+        let _ = self.cursor.look();
     }
 
     /// Returns the token here and advances past it, or returns `None` at the end of the text.

@@ -2,6 +2,8 @@
 
 -- The loop over the tokens of a text.
 pub mod TokenLoop
+-- What holds between the turns of the loop, and what is returned in a turn.
+pub mod Turns
 -- What the result on a whole text says of the grammar.
 pub mod Outcomes
 -- What each reader of a whole text promises beside its result.

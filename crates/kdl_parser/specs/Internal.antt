@@ -6,7 +6,7 @@ pub mod Answered
 pub mod States
 -- The machine's state that the builder's fields represent, and what its steps return.
 pub mod Building
--- The steps of a parse: for the texts that the builder slices, and for the text before the lexer.
+-- The steps of a parse: for the tokens, and for the texts that the builder slices.
 pub mod Counted
 -- The machine's states inside what is slashdashed, by those of the machine without data.
 pub mod Dropping

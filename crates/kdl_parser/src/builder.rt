@@ -1,17 +1,19 @@
 //! The builder: a document being read, token by token.
 
+ghost use Rattle.kdl_entry.specs.Internal.Counted.{Recounted, Within};
 ghost use Rattle.kdl_entry.specs.Tree.{plain_identifier};
 ghost use Rattle.kdl_grammar.specs.Internal.Machine.{initial};
+ghost use Rattle.kdl_lexer.specs.Internal.Handed.{LexedNext, NextCosts};
 ghost use Rattle.kdl_lexer.specs.Tokens.{string};
 ghost use Rattle.kdl_lexer.specs.declared.lexer.TokenKind.TheVariants.{Space};
 ghost use Rattle.kdl_parser.specs.Internal.Answered.{Finished};
-ghost use Rattle.kdl_parser.specs.Internal.Building.{state_view, under_view, EndsIn, Placed};
+ghost use Rattle.kdl_parser.specs.Internal.Building.{state_view, under_view, Placed};
 ghost use Rattle.kdl_parser.specs.Internal.Counted.{unsliced, SlicedOn};
 ghost use Rattle.kdl_parser.specs.Internal.Events.{Acts, PartsAhead, is_building, mark_step, string_step, value_step};
-ghost use Rattle.kdl_parser.specs.Internal.States.{document_now, document_of_nodes, Steps, Takes, TakesToken, step_at, token_step};
+ghost use Rattle.kdl_parser.specs.Internal.States.{document_now, document_of_nodes, Stays, Steps, Takes, TakesToken, step_at, token_step};
 ghost use Rattle.kdl_parser.specs.declared.builder.TakeFailure.TheVariants.{Memory};
 ghost use Rattle.kdl_parser.specs.declared.builder.dropping.Dropped.TheVariants.{Nothing};
-ghost use Rattle.kdl_text.specs.Internal.Here.{Ahead};
+ghost use Rattle.kdl_text.specs.Internal.Reading.{Moves};
 ghost use Rattle.kdl_text.specs.Spans.{bytes};
 ghost use Rattle.kdl_value.specs.Tree.{text_of, value_tree};
 ghost use Rattle.std.specs.Prelude.{◌≡◌, ◌+◌, ◌++◌, [], None, true};
@@ -27,10 +29,10 @@ use self::growing::Growing;
 use crate::node_parts::{DocumentParts, ParsedNode};
 use kdl_control::{Event, Phase};
 use kdl_entry::parsing::parts::{Parts, TypeParts, empty};
-use kdl_entry::parsing::slices::Slices;
+use kdl_entry::parsing::source::Source;
 use kdl_entry::{KdlEntry, KdlIdentifier, KdlValue};
-use kdl_lexer::{TokenKind, TokenSpan};
-use kdl_text::cursor::{self, Checkpoint, Piece};
+use kdl_lexer::{LexFailure, NextToken, TokenKind, TokenSpan};
+use kdl_text::cursor::{Checkpoint, Piece};
 use std::alloc::{AllocError, AllocFailed, Global};
 
 /// Why the builder does not take a token, or returns no document.
@@ -98,7 +100,7 @@ struct Slot<'a> {
 #[derive(Drop)]
 pub(crate) struct Builder<'a, N> {
     /// The text, of which each place and each spelling that the document keeps is sliced once.
-    slices: Slices<'a>,
+    pub(crate) source: Source<'a>,
     /// The phase of the grammar, outside of what is slashdashed.
     phase: Phase,
     /// What is slashdashed and being read.
@@ -145,14 +147,15 @@ impl<'a> Under<'a> {
 
 impl<'a, N: ParsedNode> Builder<'a, N> {
     /// Creates a builder at the start of a text, or after its U+FEFF.
-    pub(crate) fn new(alloc: Global, whole: Checkpoint<'a>, start: Checkpoint<'a>) -> Self
-        ensures state { state_view N.tree result ≡ initial start.entry.rest }
-        ensures unsliced { unsliced result ≡ bytes start.entry.rest }
-        ensures whole { result.slices.whole ≡ whole.entry }
-        ensures steps { result.slices.steps ≡ 0 }
+    pub(crate) fn new(source: Source<'a>) -> Self
+        ensures state { state_view N.tree result ≡ initial source.entry.rest }
+        ensures unsliced { unsliced result ≡ bytes source.entry.rest }
+        ensures source { result.source ≡ source.entry }
     {
+        let alloc = source.alloc();
+        let start = source.checkpoint();
         Builder {
-            slices: Slices::new(alloc, whole),
+            source,
             phase: Phase::Gap,
             dropped: Dropped::Nothing,
             parts: Parts::new(alloc, &start),
@@ -176,8 +179,8 @@ impl<'a, N: ParsedNode> Builder<'a, N> {
         at: &TokenSpan<'a>,
     ) -> Result<(), TakeFailure>
         requires live { self.old.dropped ≡ Nothing }
-        requires from { Ahead self.old.from at.now.start }
-        requires parts { PartsAhead event self.old.parts.from at.now.start }
+        requires from { Within self.old.source self.old.from at.now.start }
+        requires parts { PartsAhead event self.old.source self.old.parts.from at.now.start }
         ensures { Acts N.tree event (value_step N.tree self.old event (value_tree value) at.now.start at.now.end)
             self.old result self.new }
     {
@@ -199,8 +202,8 @@ impl<'a, N: ParsedNode> Builder<'a, N> {
         at: &TokenSpan<'a>,
     ) -> Result<(), TakeFailure>
         requires live { self.old.dropped ≡ Nothing }
-        requires from { Ahead self.old.from at.now.start }
-        requires parts { PartsAhead event self.old.parts.from at.now.start }
+        requires from { Within self.old.source self.old.from at.now.start }
+        requires parts { PartsAhead event self.old.source self.old.parts.from at.now.start }
         ensures { Acts N.tree event (string_step N.tree self.old event (text_of text) at.now.start at.now.end)
             self.old result self.new }
     {
@@ -218,8 +221,8 @@ impl<'a, N: ParsedNode> Builder<'a, N> {
     #[tactic(auto, using(crate::proofs::Stepping::StepsDone::does_did, crate::proofs::Stepping::StepsDone::none_sliced, crate::proofs::Stepping::StepsDone::does_sliced))]
     fn take_mark(&mut self, event: Event, at: &TokenSpan<'a>) -> Result<(), TakeFailure>
         requires live { self.old.dropped ≡ Nothing }
-        requires from { Ahead self.old.from at.now.start }
-        requires parts { PartsAhead event self.old.parts.from at.now.start }
+        requires from { Within self.old.source self.old.from at.now.start }
+        requires parts { PartsAhead event self.old.source self.old.parts.from at.now.start }
         ensures { Acts N.tree event (mark_step N.tree self.old event at.now.start at.now.end)
             self.old result self.new }
     {
@@ -265,7 +268,7 @@ impl<'a, N: ParsedNode> Builder<'a, N> {
     #[inline(always)]
     fn take_live(&mut self, kind: TokenKind, at: &TokenSpan<'a>) -> Result<(), TakeFailure>
         requires building { is_building self.old.dropped self.old.phase ≡ true }
-        requires placed { Placed (state_view N.tree self.old) at.now.start.rest }
+        requires placed { Placed self.old.source.text (state_view N.tree self.old) at.now.start.rest }
         ensures { Takes N.tree self.old kind at.now result self.new }
     {
         let Some(event) = self.phase.event(&kind) else {
@@ -282,14 +285,14 @@ impl<'a, N: ParsedNode> Builder<'a, N> {
     #[inline(always)]
     fn take_bare(&mut self, word: &Piece<'a>, at: &TokenSpan<'a>) -> Result<(), TakeFailure>
         requires building { is_building self.old.dropped self.old.phase ≡ true }
-        requires placed { Placed (state_view N.tree self.old) at.now.start.rest }
+        requires placed { Placed self.old.source.text (state_view N.tree self.old) at.now.start.rest }
         requires reads { at.now.start.rest ≡ word.now ++ at.now.end.rest }
         ensures { TakesToken N.tree self.old (string word.now) at.now result self.new }
     {
         if let Phase::Gap = self.phase {
             return self.name_bare(at);
         }
-        let text = word.to_string(self.slices.alloc())?;
+        let text = word.to_string(self.source.alloc())?;
         self.take_live(TokenKind::String(text), at)
     }
 
@@ -297,11 +300,11 @@ impl<'a, N: ParsedNode> Builder<'a, N> {
     /// builder is then in an unspecified state.
     #[inline(always)]
     pub(crate) fn take(&mut self, kind: TokenKind, at: &TokenSpan<'a>) -> Result<(), TakeFailure>
-        requires placed { Placed (state_view N.tree self.old) at.now.start.rest }
+        requires placed { Placed self.old.source.text (state_view N.tree self.old) at.now.start.rest }
         ensures { Steps N.tree (token_step N.tree self.old kind at.now) (unsliced self.old + 1)
             self.old result self.new }
     {
-        self.slices.count_look();
+        self.source.count_look();
         if self.is_building() {
             self.take_live(kind, at)
         } else {
@@ -316,12 +319,12 @@ impl<'a, N: ParsedNode> Builder<'a, N> {
         word: &Piece<'a>,
         at: &TokenSpan<'a>,
     ) -> Result<(), TakeFailure>
-        requires placed { Placed (state_view N.tree self.old) at.now.start.rest }
+        requires placed { Placed self.old.source.text (state_view N.tree self.old) at.now.start.rest }
         requires reads { at.now.start.rest ≡ word.now ++ at.now.end.rest }
         ensures { Steps N.tree (step_at N.tree self.old (string word.now) at.now) (unsliced self.old + 1)
             self.old result self.new }
     {
-        self.slices.count_look();
+        self.source.count_look();
         if self.is_building() {
             self.take_bare(word, at)
         } else {
@@ -332,11 +335,11 @@ impl<'a, N: ParsedNode> Builder<'a, N> {
     /// Takes the token at the place, which is a run of spaces. It does what `take` does at such a token.
     #[inline(always)]
     pub(crate) fn take_space(&mut self, at: &TokenSpan<'a>) -> Result<(), TakeFailure>
-        requires placed { Placed (state_view N.tree self.old) at.now.start.rest }
+        requires placed { Placed self.old.source.text (state_view N.tree self.old) at.now.start.rest }
         ensures { Steps N.tree (token_step N.tree self.old Space at.now) (unsliced self.old + 1)
             self.old result self.new }
     {
-        self.slices.count_look();
+        self.source.count_look();
         if self.is_building() {
             self.phase = self.phase.spaced();
             Ok(())
@@ -345,21 +348,26 @@ impl<'a, N: ParsedNode> Builder<'a, N> {
         }
     }
 
-    /// Returns the count of the builder's steps, and continues with a count of 0.
-    pub(crate) fn take_steps(&mut self) -> cursor::Steps
-        ensures { result ≡ self.old.slices.steps }
+    /// Returns the token here and advances past it, as `Source::next_token` does.
+    #[inline(always)]
+    #[tactic(auto, using(crate::proofs::Stepping::StepsDone::same_state))]
+    pub(crate) fn next_token(&mut self) -> Result<NextToken<'a>, LexFailure>
+        ensures lexed { LexedNext self.old.source result self.new.source }
+        ensures moves { Moves self.old.source self.new.source }
+        ensures costs { NextCosts result self.old.source self.new.source }
+        ensures stays { Stays N.tree self.old self.new }
     {
-        self.slices.take_steps()
+        self.source.next_token()
     }
 
     /// Returns the document at the end of the text, which is here. Fails if something open is not closed. The builder
     /// can't be used afterwards.
     pub(crate) fn finish(&mut self, here: &Checkpoint<'a>) -> Result<DocumentParts<N>, TakeFailure>
         requires end { here.now.rest ≡ [] }
-        requires from { EndsIn self.old.from.rest here.now.rest }
+        requires from { Within self.old.source self.old.from here.now }
         ensures finished { Finished N.tree (document_now N.tree self.old) result }
-        ensures sliced { SlicedOn result (unsliced self.old) 0 self.old.slices.steps
-            self.new.slices.steps }
+        ensures same { Recounted self.old.source self.new.source }
+        ensures sliced { SlicedOn result (unsliced self.old) 0 self.old.source.steps self.new.source.steps }
     {
         match self.dropped {
             Dropped::Nothing => self.finish_at(here),
@@ -371,9 +379,10 @@ impl<'a, N: ParsedNode> Builder<'a, N> {
     fn finish_at(&mut self, here: &Checkpoint<'a>) -> Result<DocumentParts<N>, TakeFailure>
         requires live { self.old.dropped ≡ Nothing }
         requires end { here.now.rest ≡ [] }
-        requires from { Ahead self.old.from here.now }
+        requires from { Within self.old.source self.old.from here.now }
         ensures finished { Finished N.tree (document_now N.tree self.old) result }
-        ensures sliced { SlicedOn result (unsliced self.old) 0 self.old.slices.steps self.new.slices.steps }
+        ensures same { Recounted self.old.source self.new.source }
+        ensures sliced { SlicedOn result (unsliced self.old) 0 self.old.source.steps self.new.source.steps }
     {
         match self.phase {
             Phase::Gap => self.finish_nodes(here),
@@ -392,16 +401,17 @@ impl<'a, N: ParsedNode> Builder<'a, N> {
     /// Returns the document of the nodes, if no block is open.
     #[tactic(auto, using(crate::proofs::Stepping::Views::one_open, crate::proofs::Stepping::Views::all_closed))]
     fn finish_nodes(&mut self, here: &Checkpoint<'a>) -> Result<DocumentParts<N>, TakeFailure>
-        requires from { Ahead self.old.from here.now }
+        requires from { Within self.old.source self.old.from here.now }
         requires end { here.now.rest ≡ [] }
         ensures finished { Finished N.tree (document_of_nodes N.tree self.old) result }
-        ensures sliced { SlicedOn result (bytes self.old.from.rest) 0 self.old.slices.steps self.new.slices.steps }
+        ensures same { Recounted self.old.source self.new.source }
+        ensures sliced { SlicedOn result (bytes self.old.from.rest) 0 self.old.source.steps self.new.source.steps }
     {
         if !self.levels.is_empty() {
             return Err(TakeFailure::Unexpected);
         }
         self.nodes.fit()?;
-        let nodes = self.nodes.replace(Vec::new(self.slices.alloc()));
+        let nodes = self.nodes.replace(Vec::new(self.source.alloc()));
         let document = self.content_up_to(nodes, here)?;
         Ok(document)
     }

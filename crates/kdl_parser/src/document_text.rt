@@ -10,7 +10,8 @@ ghost use Rattle.std.specs.Str.{chars};
 use crate::node_parts::{DocumentParts, ParsedNode};
 use crate::token_loop::build;
 use kdl_diagnostics::{Whole, failure};
-use kdl_lexer::{LexFailure, Lexer};
+use kdl_entry::parsing::source::Source;
+use kdl_lexer::LexFailure;
 use kdl_text::cursor::Steps;
 use kdl_text::error::ParseFailure;
 use std::alloc::Global;
@@ -25,25 +26,8 @@ pub struct DocumentText<N> {
     pub has_bom: bool,
 }
 
-/// Returns the machine's result on the text; the lexer is at its start.
-#[tactic(auto, using(crate::proofs::Answering::LeadingBom::whole_answer))]
-fn read_all<'a, N: ParsedNode>(
-    alloc: Global,
-    lexer: &mut Lexer<'a>,
-) -> Result<DocumentText<N>, LexFailure>
-    ensures answers { AnswersDocumentText N.tree lexer.old.rest result }
-    ensures counted { CountedOn result lexer.old.rest lexer.old.steps lexer.new.steps }
-    ensures raised { raise lexer.old.steps 1 ≤ lexer.new.steps }
-{
-    let whole = lexer.checkpoint();
-    let has_bom = lexer.eat_bom();
-    match build(alloc, whole, lexer) {
-        Ok(parts) => Ok(DocumentText { parts, has_bom }),
-        Err(failure) => Err(failure),
-    }
-}
-
 /// Returns the machine's result on the text, and adds the steps to the count.
+#[tactic(auto, using(crate::proofs::Answering::LeadingBom::bom_ends, crate::proofs::Answering::LeadingBom::whole_answer))]
 fn read_counted<N: ParsedNode>(
     alloc: Global,
     text: &str,
@@ -53,10 +37,12 @@ fn read_counted<N: ParsedNode>(
     ensures counted { CountedOn result (chars text.now) steps.old steps.new }
     ensures raised { raise steps.old 1 ≤ steps.new }
 {
-    let mut lexer = Lexer::new(text, mem::replace(steps, Steps::new()));
-    let answer = read_all(alloc, &mut lexer);
-    *steps = lexer.into_steps();
-    answer
+    let mut source = Source::new(alloc, text, mem::replace(steps, Steps::new()));
+    let has_bom = source.eat_bom();
+    match build(source, steps) {
+        Ok(parts) => Ok(DocumentText { parts, has_bom }),
+        Err(failure) => Err(failure),
+    }
 }
 
 /// Parses a document (KDL 2.0.0, Document), and adds the steps of parsing to the count, which saturates at `u64::MAX`.

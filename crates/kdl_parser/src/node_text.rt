@@ -12,7 +12,8 @@ use crate::line_spaces::line_spaces;
 use crate::node_parts::{DocumentParts, ParsedNode};
 use crate::token_loop::build;
 use kdl_diagnostics::{Whole, failure};
-use kdl_lexer::{LexFailure, Lexer};
+use kdl_entry::parsing::source::Source;
+use kdl_lexer::LexFailure;
 use kdl_text::cursor::Steps;
 use kdl_text::error::ParseFailure;
 use kdl_text::span::SourceSpan;
@@ -95,9 +96,8 @@ fn node_of<N: ParsedNode>(
 fn read_whole<N: ParsedNode>(alloc: Global, text: &str) -> Result<NodeText<N>, LexFailure>
     ensures { AnswersNodeText N.tree (chars text.now) result }
 {
-    let mut lexer = Lexer::new(text, Steps::new());
-    let whole = lexer.checkpoint();
-    match build(alloc, whole, &mut lexer) {
+    let source = Source::new(alloc, text, Steps::new());
+    match build(source, &mut Steps::new()) {
         Ok(document) => node_of(alloc, text, document),
         Err(failure) => Err(failure),
     }

@@ -14,6 +14,8 @@ pub mod Runs
 pub mod SliceCost
 -- Moves and costs, one after another.
 pub mod MovesJoin
+-- Parts of a text.
+pub mod Parts
 -- How a reader of a value goes on.
 pub mod ValueGoes
 -- What a reader costs, whether or not it finds a fault.

@@ -6,6 +6,8 @@ pub mod LinesUnique
 pub mod EscapedLineLoop
 -- The loop over characters that represent themselves.
 pub mod PlainLoop
+-- The characters of lines are parts of the text.
+pub mod LineParts
 -- Lines, one after another.
 pub mod LinesJoin
 -- What lines represent under a prefix.

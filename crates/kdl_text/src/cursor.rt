@@ -2,14 +2,18 @@
 //! text.
 //!
 //! Readers look at a text only through a `Cursor`, which counts each look and each byte of a slice.
-//! A slice is a `Piece`, which can be copied, or compared as a whole, or read by its `Characters`, each
-//! of which is counted again (`count_looks`).
+//! A slice is a `Piece`, which can be copied, or compared as a whole, or read again by the cursor, which
+//! counts each look (`take_of`).
 //! Text that is read again is a `Segment`: a cursor enters it and counts each look in it, or counts
 //! its bytes at once and returns its `Characters`.
+//!
+//! A cursor has the text that it was created over, which no call changes. A place that it goes to, a
+//! segment that it enters, and the place where a slice begins are parts of that text (`IsPart`). So a
+//! cursor over another text can't read it, and what is read of a text is counted by its own cursor.
 
 ghost use Rattle.kdl_text.specs.Chars as class;
 ghost use Rattle.kdl_text.specs.Chars.{Text};
-ghost use Rattle.kdl_text.specs.Internal.Here.{Ahead, Behind, Skips, Took, TookAfter, Ate, AteTwo, Stayed, first, first_len, tail, looked, stepped, sliced, in_class};
+ghost use Rattle.kdl_text.specs.Internal.Here.{Ahead, Behind, IsPart, Skips, Took, TookAfter, Ate, AteTwo, Stayed, first, first_len, tail, looked, stepped, sliced, in_class};
 ghost use Rattle.kdl_text.specs.Spans.{bytes, raise};
 ghost use Rattle.kdl_text.specs.Internal.DigitRuns.{SkipsDigits};
 ghost use Rattle.kdl_text.specs.Internal.Reading.{Moves, Costs, ReadsNewline};
@@ -190,8 +194,8 @@ impl<'a> Checkpoint<'a> {
     }
 }
 
-/// A segment of a text, which a cursor enters to read it again. The text can't be read through the
-/// segment itself.
+/// A segment of a text, which a cursor over this text enters to read it again. The text can't be read
+/// through the segment itself.
 #[derive(Drop)]
 pub struct Segment<'a> {
     text: &'a str,
@@ -216,7 +220,7 @@ impl<'a> Segment<'a> {
     }
 }
 
-/// The characters of a segment or a piece, whose bytes were counted. Each character is read once.
+/// The characters of a segment, whose bytes were counted. Each character is read once.
 #[derive(Drop)]
 pub struct Characters<'a> {
     text: &'a str,
@@ -263,7 +267,7 @@ impl<'a> Characters<'a> {
     }
 }
 
-/// A piece of a text, whose slice was counted. It can be copied, or compared as a whole, or read by
+/// A piece of a text, whose slice was counted. It can be copied, or compared as a whole. A cursor reads
 /// its characters.
 #[derive(Drop)]
 pub struct Piece<'a> {
@@ -280,12 +284,12 @@ impl<'a> Model for Piece<'a> {
 }
 
 impl<'a> Piece<'a> {
-    /// Returns the characters of the piece.
+    /// Returns the same piece, for a cursor to read.
     #[inline]
-    pub(crate) fn characters(&self) -> Characters<'a>
+    pub(crate) fn copied(&self) -> Piece<'a>
         ensures { result ≡ self.now }
     {
-        Characters { text: self.text }
+        Piece { text: self.text }
     }
 
     /// Returns a copy of the piece. An empty piece does not allocate.
@@ -313,73 +317,60 @@ impl<'a> Piece<'a> {
     }
 }
 
-/// Returns the text from one checkpoint to a later one. Costs a step for each of its bytes.
-#[inline]
-pub fn slice_between<'a>(steps: &mut Steps, from: &Checkpoint<'a>, to: &Checkpoint<'a>) -> Piece<'a>
-    requires { Ahead from.now to.now }
-    ensures result { from.now.rest ≡ result ++ to.now.rest }
-    ensures counted { steps.new ≡ raise steps.old (bytes result) }
-{
-    let text = cut(from.rest, to.rest);
-    steps.raise(text.len() as u64);
-    Piece { text }
-}
-
-/// Counts a look at a token that was read. Costs a step.
-#[inline]
-pub fn count_look(steps: &mut Steps)
-    ensures { steps.new ≡ raise steps.old 1 }
-{
-    steps.raise(1);
-}
-
 /// A reader of a text, character by character. Each look costs a step, and each byte of a slice
-/// does.
+/// does. The text stays the one that the cursor was created over.
 #[derive(Drop)]
 pub struct Cursor<'a> {
+    text: &'a str,
     rest: &'a str,
     at: usize,
     steps: Steps,
 }
 
 impl<'a> Model for Cursor<'a> {
-    ghost use Rattle.kdl_text.specs.Internal.Here.{Here};
+    ghost use Rattle.kdl_text.specs.Internal.Here.{Here, IsPart};
     ghost use Rattle.std.specs.Prelude.{◌+◌, ◌<◌, ◌^◌, length};
     ghost use Rattle.std.specs.Str.{chars};
 
     ghost Value = { Here };
 
-    ghost view = { λ c. record { rest = chars c.rest.now; at = c.at; steps = c.steps } };
+    ghost view = { λ c. record {
+      text = chars c.text.now;
+      rest = chars c.rest.now;
+      at = c.at;
+      steps = c.steps;
+    } };
 
-    ghost invariant = { λ c. c.at + length c.rest.now < 2 ^ 64 };
+    ghost invariant = { λ c. (c.at + length c.rest.now < 2 ^ 64) × IsPart (chars c.text.now) (chars c.rest.now) };
 }
 
 impl<'a> Cursor<'a> {
     /// Creates a cursor at the start of the text, which adds to the given count.
     pub fn new(text: &'a str, steps: Steps) -> Self
-        ensures { result ≡ record { rest = chars text.now; at = 0; steps = steps } }
+        ensures { result ≡ record {
+          text = chars text.now;
+          rest = chars text.now;
+          at = 0;
+          steps = steps;
+        } }
     {
         let _len = text.len();
         Cursor {
+            text,
             rest: text,
             at: 0,
             steps,
         }
     }
 
-    /// Returns a copy of the cursor, with its count of steps. A function that advances a copy and then
-    /// assigns it can keep it in registers.
-    #[inline]
-    pub(crate) fn copied(&self) -> Cursor<'a>
-        ensures { result ≡ self.now }
+    /// Moves the cursor out, and leaves one over the empty text, with a count of 0. A function that
+    /// advances the cursor and then assigns it back can keep it in registers.
+    #[inline(always)]
+    pub(crate) fn take_over(&mut self) -> Cursor<'a>
+        ensures result { result ≡ self.old }
+        ensures left { self.new ≡ record { text = []; rest = []; at = 0; steps = 0 } }
     {
-        Cursor {
-            rest: self.rest,
-            at: self.at,
-            steps: Steps {
-                count: self.steps.count,
-            },
-        }
+        std::mem::replace(self, Cursor::new("", Steps::new()))
     }
 
     /// Consumes the cursor and returns its count of steps.
@@ -397,26 +388,12 @@ impl<'a> Cursor<'a> {
         self.at
     }
 
-    /// Adds the steps of another count.
-    pub fn add_steps(&mut self, steps: Steps)
-        ensures { self.new ≡ record self.old { steps = raise self.old.steps steps } }
-    {
-        self.steps.raise(steps.count);
-    }
-
-    /// Counts looks at characters of a piece. Costs as many steps.
-    #[inline]
-    pub(crate) fn count_looks(&mut self, looks: u64)
-        ensures { self.new ≡ record self.old { steps = raise self.old.steps looks } }
-    {
-        self.steps.raise(looks);
-    }
-
     /// Returns the place of the cursor, to slice from later.
     #[inline]
     pub fn checkpoint(&self) -> Checkpoint<'a>
         ensures rest { result.rest ≡ self.now.rest }
         ensures at { result.at ≡ self.now.at }
+        ensures part { IsPart self.now.text result.rest }
     {
         Checkpoint {
             rest: self.rest,
@@ -424,25 +401,24 @@ impl<'a> Cursor<'a> {
         }
     }
 
-    /// Moves the cursor back or forward to a place in the text. Costs no step.
+    /// Moves the cursor back or forward to a place in its text. Costs no step.
     pub fn go_to(&mut self, place: &Checkpoint<'a>)
-        ensures { self.new ≡ record {
-          rest = place.now.rest;
-          at = place.now.at;
-          steps = self.old.steps;
-        } }
+        requires { IsPart self.old.text place.now.rest }
+        ensures { self.new ≡ record self.old { rest = place.now.rest; at = place.now.at } }
     {
         self.rest = place.rest;
         self.at = place.at;
     }
 
-    /// Moves the cursor to the start of a segment; for the cursor the text then ends at the
+    /// Moves the cursor to the start of a segment of its text; what is to come then ends at the
     /// segment's end. Returns the place where the cursor was, for `go_to` to go back there. Costs
     /// no step.
     pub fn enter(&mut self, segment: &Segment<'a>) -> Checkpoint<'a>
-        ensures inside { self.new ≡ record { rest = segment.now; at = 0; steps = self.old.steps } }
+        requires { IsPart self.old.text segment.now }
+        ensures inside { self.new ≡ record self.old { rest = segment.now; at = 0 } }
         ensures rest { result.rest ≡ self.old.rest }
         ensures at { result.at ≡ self.old.at }
+        ensures part { IsPart self.old.text result.rest }
     {
         let _len = segment.text.len();
         let place = self.checkpoint();
@@ -608,21 +584,41 @@ impl<'a> Cursor<'a> {
     /// Returns the text from one checkpoint to a later one. Costs a step for each of its bytes.
     #[inline]
     pub fn slice_between(&mut self, from: &Checkpoint<'a>, to: &Checkpoint<'a>) -> Piece<'a>
-        requires { Ahead from.now to.now }
+        requires order { Ahead from.now to.now }
+        requires part { IsPart self.old.text from.now.rest }
         ensures result { from.now.rest ≡ result ++ to.now.rest }
         ensures moved { self.new ≡ sliced result self.old }
     {
-        slice_between(&mut self.steps, from, to)
+        let text = cut(from.rest, to.rest);
+        self.steps.raise(text.len() as u64);
+        Piece { text }
     }
 
     /// Returns the characters of the segment. Costs a step for each of its bytes.
     #[inline]
     pub fn characters(&mut self, segment: &Segment<'a>) -> Characters<'a>
+        requires { IsPart self.old.text segment.now }
         ensures result { result ≡ segment.now }
         ensures moved { self.new ≡ sliced segment.now self.old }
     {
         self.steps.raise(byte_len(segment.text) as u64);
         Characters { text: segment.text }
+    }
+
+    /// Takes the first character of the piece, if there is one. Costs a step.
+    #[inline]
+    pub(crate) fn take_of(&mut self, piece: &mut Piece<'a>) -> Option<char>
+        ensures result { MatchOption result (piece.old ≡ []) (λ c. piece.old ≡ c ∷ piece.new) }
+        ensures moved { self.new ≡ looked self.old }
+    {
+        self.steps.raise(1);
+        match split_first(piece.text) {
+            Some((c, rest)) => {
+                piece.text = rest;
+                Some(c)
+            }
+            None => None,
+        }
     }
 }
 

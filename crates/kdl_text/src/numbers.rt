@@ -2,7 +2,7 @@
 
 ghost use Rattle.kdl_text.specs.Chars.{starts};
 ghost use Rattle.kdl_text.specs.Chars as class;
-ghost use Rattle.kdl_text.specs.Internal.Here.{Returned, Stayed};
+ghost use Rattle.kdl_text.specs.Internal.Here.{IsPart, Looked, Returned, Stayed};
 ghost use Rattle.kdl_text.specs.Internal.NumberReading.{radix_of, IsBase, LooksBasePrefix, Counts, IsDigit, ReadsDigits, ReadsInteger, ReadsFront, IsFault, IsPartFault, IsPowerFault, IsNumberFault, ReadsFraction, ReadsExponent, ReadsPart, ReadsNumber, ReadsKeyword, AteExponentLetter, WordOf, is_of_number};
 ghost use Rattle.kdl_text.specs.Numbers as spec;
 ghost use Rattle.kdl_text.specs.declared.numbers.Magnitude.TheVariants.{Small};
@@ -278,7 +278,7 @@ fn digits<'a>(cursor: &mut Cursor<'a>, radix: u32, before: u64) -> Magnitude
     ensures moves { Moves cursor.old cursor.new }
     ensures costs { Costs 2 1 cursor.old cursor.new }
 {
-    let mut here = cursor.copied();
+    let mut here = cursor.take_over();
     let mut small = before;
     'digits: while small < 1 << 59 {
         match here.look() {
@@ -388,7 +388,7 @@ fn is_end(cursor: &mut Cursor) -> bool
 /// Returns whether a number begins here: a digit, or a sign and a digit.
 pub fn begins_number(cursor: &mut Cursor) -> bool
     ensures result { result ≡ spec.begins_number cursor.old.rest }
-    ensures stayed { (k : ℕ) × (k ≤ 2) × Stayed k cursor.old cursor.new }
+    ensures stayed { Looked 2 cursor.old cursor.new }
 {
     match cursor.look() {
         Some(c) if is_digit(c) => true,
@@ -541,7 +541,8 @@ fn without_underscores<'a>(
     plain: bool,
     cursor: &mut Cursor<'a>,
 ) -> Result<String, AllocError>
-    requires { plain ≡ true → list_all (λ c. not (c == 95)) segment.now ≡ true }
+    requires plain { plain ≡ true → list_all (λ c. not (c == 95)) segment.now ≡ true }
+    requires part { IsPart cursor.old.text segment.now }
     ensures plain { IfOk result (λ s. chars (string_bytes s) ≡ spec.plain segment.now) }
     ensures returned { Returned (2 * bytes segment.now + 1) cursor.old cursor.new }
 {

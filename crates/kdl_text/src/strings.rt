@@ -6,7 +6,7 @@
 ghost use Rattle.kdl_text.specs.Bare as bare;
 ghost use Rattle.kdl_text.specs.Bare.{BareString};
 ghost use Rattle.kdl_text.specs.Chars.{Text, is_digit, is_identifier_char, is_newline_char, within};
-ghost use Rattle.kdl_text.specs.Internal.Here.{first, in_class};
+ghost use Rattle.kdl_text.specs.Internal.Here.{Looked, Stayed, first, in_class};
 ghost use Rattle.kdl_text.specs.MultiLine.{IsQuoted};
 ghost use Rattle.kdl_text.specs.Internal.Reading.{Moves, Costs};
 ghost use Rattle.kdl_text.specs.Strings as spec;
@@ -20,7 +20,7 @@ ghost use Rattle.std.specs.Str.{chars, bytes_eq};
 
 use self::multiline::many_lines;
 use crate::chars::{Class, is_digit, is_newline_char, is_space};
-use crate::cursor::{Characters, Cursor, Piece};
+use crate::cursor::{Cursor, Piece};
 use std::alloc::{AllocError, Global};
 
 mod dedent;
@@ -114,22 +114,24 @@ fn is_excluded(c: char, piece: &Piece) -> bool
     }
 }
 
-/// Whether the next character may follow a point in a bare string.
-fn follows_point(characters: &mut Characters) -> bool
-    ensures { result ≡ bare.after_point characters.old }
+/// Whether the next character of the piece may follow a point in a bare string.
+fn follows_point<'a>(unread: &mut Piece<'a>, cursor: &mut Cursor<'a>) -> bool
+    ensures result { result ≡ bare.after_point unread.old }
+    ensures stayed { Stayed 1 cursor.old cursor.new }
 {
-    match characters.next() {
+    match cursor.take_of(unread) {
         Some(c) => !is_digit(c),
         None => true,
     }
 }
 
-/// Whether the next characters may follow a sign in a bare string.
-fn follows_sign(characters: &mut Characters) -> bool
-    ensures { result ≡ bare.after_sign characters.old }
+/// Whether the next characters of the piece may follow a sign in a bare string.
+fn follows_sign<'a>(unread: &mut Piece<'a>, cursor: &mut Cursor<'a>) -> bool
+    ensures result { result ≡ bare.after_sign unread.old }
+    ensures looked { Looked 2 cursor.old cursor.new }
 {
-    match characters.next() {
-        Some('.') => follows_point(characters),
+    match cursor.take_of(unread) {
+        Some('.') => follows_point(unread, cursor),
         Some(c) => !is_digit(c),
         None => true,
     }
@@ -137,13 +139,14 @@ fn follows_sign(characters: &mut Characters) -> bool
 
 /// Whether identifier characters are a bare string. Looks at three of them at most.
 #[inline(always)]
-fn has_bare_form(word: &Piece) -> bool
-    ensures { result ≡ bare.bare_form word.now }
+fn has_bare_form<'a>(word: &Piece<'a>, cursor: &mut Cursor<'a>) -> bool
+    ensures result { result ≡ bare.bare_form word.now }
+    ensures looked { Looked 3 cursor.old cursor.new }
 {
-    let mut characters = word.characters();
-    match characters.next() {
-        Some('+' | '-') => follows_sign(&mut characters),
-        Some('.') => follows_point(&mut characters),
+    let mut unread = word.copied();
+    match cursor.take_of(&mut unread) {
+        Some('+' | '-') => follows_sign(&mut unread, cursor),
+        Some('.') => follows_point(&mut unread, cursor),
         Some(c) => !is_digit(c) && !is_excluded(c, word),
         None => false,
     }
@@ -162,8 +165,7 @@ pub fn bare_string<'a>(cursor: &mut Cursor<'a>) -> Option<Piece<'a>>
     ensures cost { IfSome result (λ _. Costs 24 0 cursor.old cursor.new) }
 {
     let word = run_of(Class::Identifier, cursor);
-    cursor.count_looks(3);
-    let is_bare = has_bare_form(&word);
+    let is_bare = has_bare_form(&word, cursor);
     if is_bare { Some(word) } else { None }
 }
 
@@ -191,7 +193,6 @@ pub fn letter_string<'a>(c: char, cursor: &mut Cursor<'a>) -> Option<Piece<'a>>
     ensures costs { Costs 2 4 cursor.old cursor.new }
 {
     let word = run_of(Class::Identifier, cursor);
-    cursor.count_looks(3);
     let is_bare = has_letter_form(c, &word);
     if is_bare { Some(word) } else { None }
 }

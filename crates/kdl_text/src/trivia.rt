@@ -34,7 +34,7 @@ fn block_end(cursor: &mut Cursor) -> bool
     ensures moves { Moves cursor.old cursor.new }
     ensures costs { Costs 2 1 cursor.old cursor.new }
 {
-    let mut here = cursor.copied();
+    let mut here = cursor.take_over();
     let mut depth: u64 = 1;
     'parts: loop {
         match here.take_at(Marks::Comment) {
@@ -187,7 +187,7 @@ pub fn slash<'a>(cursor: &mut Cursor<'a>) -> SlashRead
     ensures moves { Moves cursor.old cursor.new }
     ensures costs { SlashCosts result cursor.old cursor.new }
 {
-    let mut here = cursor.copied();
+    let mut here = cursor.take_over();
     if here.eat_two('/', '*') {
         *cursor = here;
         if block_end(cursor) {

@@ -31,7 +31,7 @@ use Rattle.kdl_comments.proofs.Listing.SpaceItems.{space_of, line_space_of, escl
 
 -- a cursor at the start of the text s
 abbrev pub Began : Text → Here → Type 0
-Began s a = (k : ℕ) × (a ≡ record { rest = s; at = 0; steps = k })
+Began s a = (k : ℕ) × (a ≡ record { text = s; rest = s; at = 0; steps = k })
 
 pub began_rest : (s : Text) (a : Here) → Began s a → a.rest ≡ s
 began_rest s a (k, e) = ap (λ (h : Here). h.rest) e

@@ -17,6 +17,10 @@ use Rattle.kdl_diagnostics.specs.declared.reader.Reader.{Reader}
 abbrev pub LiesIn : Text → Position → Type 0
 LiesIn text place = (p : Text) × (text ≡ p ++ place.rest)
 
+-- the cursor was created over the text, and is in it
+abbrev pub ReadsIn : Text → Here → Type 0
+ReadsIn text here = (p : Text) × (text ≡ p ++ here.rest) × (here.text ≡ text)
+
 -- each fault has a span in the text
 abbrev pub Noted : Text → List Fault → Type 0
 Noted text faults = All (λ (f : Fault). InText text f.span) faults
@@ -32,11 +36,15 @@ Candidates text candidates = All (λ (c : Candidate). InText text c.fault.span) 
 -- a reader of the text: all its places and all its spans are in the text
 pub record IsReaderOf (text : Text) (r : Reader) : Type 0 where
   pub whole : r.whole.rest ≡ text
-  pub here : (p : Text) × (text ≡ p ++ r.cursor.rest)
+  pub here : ReadsIn text r.cursor
   pub left : LiesIn text r.left
   pub faults : Noted text r.faults.items
   pub blocks : Opened text r.blocks.items
   pub candidates : Candidates text r.candidates.items
+
+-- the reader of some text
+abbrev pub IsReader : Reader → Type 0
+IsReader r = (text : Text) × IsReaderOf text r
 
 -- a front of the text: all its places and all its spans are in the text
 pub record IsFrontOf (text : Text) (f : Front) : Type 0 where

@@ -23,6 +23,10 @@ Most k c old new = new.steps + k * bytes new.rest ≤ old.steps + k * bytes old.
 abbrev pub MostFrom : ℕ → ℕ → Position → Here → Here → Here → Type 0
 MostFrom k c from to old new = new.steps ≤ old.steps + k * (bytes from.rest - bytes to.rest) + c
 
+-- some piece lies between the place and the cursor
+abbrev pub Follows : Position → Here → Type 0
+Follows place here = (p : Text) × (place.rest ≡ p ++ here.rest)
+
 -- the place is after each place that all three are after, or is that place
 abbrev pub NoEarlier : Position → Position → Position → Position → Type 0
 NoEarlier a b c place = (from : Position) → Ahead from a → Ahead from b → Ahead from c → Ahead from place

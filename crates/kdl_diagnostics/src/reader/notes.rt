@@ -1,8 +1,9 @@
 //! Notes faults, each with its span.
 
-ghost use Rattle.kdl_diagnostics.specs.Internal.Noted.{IsPlaceAt, Keeps, KeepsAt, KeepsBetween, KeepsUpTo, ReadsAgain};
+ghost use Rattle.kdl_diagnostics.specs.Internal.Noted.{IsPlaceAt, IsReader, Keeps, KeepsAt, KeepsBetween, KeepsUpTo, ReadsAgain};
 ghost use Rattle.kdl_diagnostics.specs.Internal.Outsets.{Grows, HasFault, Untold};
 ghost use Rattle.kdl_diagnostics.specs.Internal.Reading.{Most};
+ghost use Rattle.kdl_text.specs.Internal.Here.{IsPart};
 ghost use Rattle.kdl_text.specs.Internal.Reading.{Moves};
 ghost use Rattle.kdl_text.specs.Spans.{raise};
 ghost use Rattle.std.specs.Prelude.{◌≡◌, ◌<◌, length, IfOk};
@@ -145,6 +146,7 @@ impl<'a> Reader<'a> {
 
     /// Notes that the character at the place can't be there, or that something is expected where the text ends.
     pub(super) fn note_character(&mut self, from: &Checkpoint<'a>) -> Result<(), AllocError>
+        requires { IsPart self.old.cursor.text from.now.rest }
         ensures keeps { KeepsBetween from.now from.now self.old self.new }
         ensures grows { Grows self.old self.new }
         ensures noted { IfOk result (λ _. HasFault self.new) }
@@ -173,6 +175,7 @@ impl<'a> Reader<'a> {
 
     /// Ends the faults of all candidates that begin an escline at their backslashes.
     pub(super) fn settle_all(&mut self) -> Result<(), AllocError>
+        requires { IsReader self.old }
         ensures keeps { Keeps self.old self.new }
         ensures grows { Grows self.old self.new }
         ensures bounded { ReadsAgain 4 self.old self.new }

@@ -1,15 +1,16 @@
 -- The turns of the loop that reads an entry text, token by token.
-use Rattle.std.proofs.Common.{◌≡◌, ◌↔◌, ◌+◌, ◌<◌, length, [], ◌∷◌, ◌++◌, Option, Some, None, option_map, Ok, Err, refl, sym, ap, subst, ◌∙◌, arith, append_assoc}
+use Rattle.std.proofs.Common.{◌≡◌, ◌↔◌, ◌+◌, ◌<◌, length, [], ◌∷◌, ◌++◌, Option, Some, None, option_map, Ok, Err, refl, sym, subst, ◌∙◌, arith}
 use Rattle.kdl_text.specs.Chars.{Text, Star, plus}
 use Rattle.kdl_text.specs.Chars.Star.{none as no_star, more}
-use Rattle.kdl_text.specs.Internal.Here.{Here, Position, Ahead}
+use Rattle.kdl_text.specs.Internal.Here.{Here}
 use Rattle.kdl_text.specs.Internal.Reading.{Moves}
 use Rattle.kdl_text.specs.Trivia.{NodeSpace}
 use Rattle.kdl_control.specs.Control.{Phase, fresh, spaced, type_open, type_name, in_node, property}
 use Rattle.kdl_control.specs.EntryControl as control
 use Rattle.kdl_control.specs.EntryControl.{EntryControl, entry_step}
 use Rattle.kdl_entry.specs.Internal.EntryMachine.{Word, State, ahead, dropping, under, word, done, phase_of, valued, begin_to, value_of, under_to, word_to, go_to, if_taken, step, finish, Runs, stops, reads, AnswersEntry}
-use Rattle.kdl_entry.specs.Internal.EntryReading.{AnswersEntryText, EndsIn, Ended, Same, Stands, Stepped}
+use Rattle.kdl_entry.specs.Internal.Counted.{EndsIn, InOrder, Recounted}
+use Rattle.kdl_entry.specs.Internal.EntryReading.{AnswersEntryText, Ended, Same, Stands, Stepped}
 use Rattle.kdl_value.specs.Data.{Value}
 use Rattle.kdl_lexer.specs.Internal.Handed.{Cuts, one, spaces, HandsOut, Lexed, kind_view}
 use Rattle.kdl_entry.specs.Internal.Parts.{Parts, taken}
@@ -21,6 +22,7 @@ use Rattle.kdl_lexer.specs.declared.lexer.LexFailure.TheVariants.{Faulty, Memory
 use Rattle.kdl_lexer.specs.declared.lexer.Token.{Token as CodeToken}
 use Rattle.kdl_lexer.proofs.Lexing.TokenUnique.{no_token, token_shorter}
 use Rattle.kdl_entry.proofs.Reading.EntryLaws.{goes_on}
+use Rattle.kdl_entry.proofs.Slicing.Between.{in_order_here, in_order_on, then_ends}
 
 module _ (whole : Text) where
   -- the place of a space does not matter
@@ -89,62 +91,59 @@ module _ (whole : Text) where
       go (stops e) q = e
       go (reads {r = r} {k = k} t e a) q = absurd (no_token (subst (λ (z : Text). BeginsToken z k r) q t))
 
-ends_here : (t : Text) → EndsIn t t
-ends_here t = ([], refl)
-
-then_ends : {t s r : Text} → EndsIn t s → EndsIn s r → EndsIn t r
-then_ends {r = r} a b = (a.0 ++ b.0, a.1 ∙ ap (λ (z : Text). a.0 ++ z) b.1 ∙ sym (append_assoc a.0 b.0 r))
-
 -- a step leaves the place under way where it began, or begins it after the token
-module _ (whole s r : Text) (b : EndsIn s r) where
-  to : (x y : State) → Some x ≡ Some y → Stands x r → Stands y r
-  to x y e a = let q : x ≡ y = cc in subst (λ (z : State). Stands z r) q a
+module _ (whole s r : Text) (w : EndsIn whole s) (b : EndsIn s r) where
+  to : (x y : State) → Some x ≡ Some y → Stands whole x r → Stands whole y r
+  to x y e a = let q : x ≡ y = cc in subst (λ (z : State). Stands whole z r) q a
 
-  begin_stands : (c : EntryControl) (st : State) (k : Token) → begin_to whole c k s r ≡ Some st → Stands st r
+  ends_here : InOrder whole r r
+  ends_here = in_order_here (then_ends w b)
+
+  begin_stands : (c : EntryControl) (st : State) (k : Token) → begin_to whole c k s r ≡ Some st → Stands whole st r
   begin_stands control.ahead st k e = to ahead st e tt
   begin_stands (control.dropping p) st k e = to (dropping p) st e tt
-  begin_stands (control.under p) st k e = to _ st e (ends_here r)
-  begin_stands control.word st (string v) e = to _ st e (ends_here r)
-  begin_stands control.done st (value v) e = to _ st e (ends_here r)
+  begin_stands (control.under p) st k e = to _ st e ends_here
+  begin_stands control.word st (string v) e = to _ st e ends_here
+  begin_stands control.done st (value v) e = to _ st e ends_here
   begin_stands _ st k e = absurd cc
 
-  item_stands : (p : Phase) (it : Parts) (k : Token) → EndsIn it.from s → EndsIn (taken p whole it k s r).from r
-  item_stands (type_open c) it (string v) a = ends_here r
-  item_stands (type_name c) it right a = ends_here r
-  item_stands property it left a = ends_here r
-  item_stands p it k a = then_ends a b
+  item_stands : (p : Phase) (it : Parts) (k : Token) → InOrder whole it.from s → InOrder whole (taken p whole it k s r).from r
+  item_stands (type_open c) it (string v) a = ends_here
+  item_stands (type_name c) it right a = ends_here
+  item_stands property it left a = ends_here
+  item_stands p it k a = in_order_on a b
 
-  value_stands : (p : Phase) (it : Parts) (o : Option Value) (st : State) → option_map (λ v. done (valued p it v s r) r) o ≡ Some st → Stands st r
+  value_stands : (p : Phase) (it : Parts) (o : Option Value) (st : State) → option_map (λ v. done (valued p it v s r) r) o ≡ Some st → Stands whole st r
   value_stands p it None st e = absurd cc
-  value_stands p it (Some v) st e = to _ st e (ends_here r)
+  value_stands p it (Some v) st e = to _ st e ends_here
 
-  under_stands : (p : Phase) (it : Parts) (c : EntryControl) (k : Token) (st : State) → under_to whole p it c k s r ≡ Some st → EndsIn it.from s → Stands st r
+  under_stands : (p : Phase) (it : Parts) (c : EntryControl) (k : Token) (st : State) → under_to whole p it c k s r ≡ Some st → InOrder whole it.from s → Stands whole st r
   under_stands p it (control.under q) k st e a = to _ st e (item_stands p it k a)
   under_stands p it c k st e a = value_stands p it (value_of k) st e
 
-  word_stands : (w : Word) (f : Text) (c : EntryControl) → EndsIn f s → Stands (word_to whole w f c s r) r
-  word_stands w f control.word a = then_ends a b
-  word_stands w f (control.under p) a = ends_here r
-  word_stands w f c a = then_ends a b
+  word_stands : (w : Word) (f : Text) (c : EntryControl) → InOrder whole f s → Stands whole (word_to whole w f c s r) r
+  word_stands w f control.word a = in_order_on a b
+  word_stands w f (control.under p) a = ends_here
+  word_stands w f c a = in_order_on a b
 
-  go_stands : (x st : State) (c : EntryControl) (k : Token) → go_to whole x c k s r ≡ Some st → Stands x s → Stands st r
+  go_stands : (x st : State) (c : EntryControl) (k : Token) → go_to whole x c k s r ≡ Some st → Stands whole x s → Stands whole st r
   go_stands ahead st c k e a = begin_stands c st k e
   go_stands (dropping p) st c k e a = begin_stands c st k e
   go_stands (under p it) st c k e a = under_stands p it c k st e a
   go_stands (word w f) st c k e a = to _ st e (word_stands w f c a)
-  go_stands (done x f) st c k e a = to (done x f) st e (then_ends a b)
+  go_stands (done x f) st c k e a = to (done x f) st e (in_order_on a b)
 
-  step_stands : (x st : State) (k : Token) → step whole x k s r ≡ Some st → Stands x s → Stands st r
+  step_stands : (x st : State) (k : Token) → step whole x k s r ≡ Some st → Stands whole x s → Stands whole st r
   step_stands x st k e a = go (entry_step (phase_of x) k) e
     where
-      go : (o : Option EntryControl) → if_taken o (λ c. go_to whole x c k s r) ≡ Some st → Stands st r
+      go : (o : Option EntryControl) → if_taken o (λ c. go_to whole x c k s r) ≡ Some st → Stands whole st r
       go None e = absurd cc
       go (Some c) e = go_stands x st c k e a
 
 -- the lexer is in the text, and the machine goes on from here as from the start
 pub record Going (st : State) (here : Here) (t : Text) : Type 0 where
   pub same : Same st here.rest t
-  pub from : Stands st here.rest
+  pub from : Stands t st here.rest
   pub text : EndsIn t here.rest
 
 pub starts_going : (t : Text) (here : Here) → here.rest ≡ t → Going ahead here t
@@ -158,16 +157,20 @@ next_going st st' old mid w t k i g h m e =
     let piece : EndsIn old.rest mid.rest = m.piece in
     record {
       same = λ d. let a = read_cut t d st st' old.rest mid.rest (kind_view k.kind) h.cuts e' in let b = g.same d in (λ x. b.0 (a.0 x), λ x. a.1 (b.1 x));
-      from = step_stands t old.rest mid.rest piece st st' (kind_view k.kind) e' g.from;
+      from = step_stands t old.rest mid.rest g.text piece st st' (kind_view k.kind) e' g.from;
       text = then_ends g.text piece;
     }
 
--- what a step asks of the places
-pub whole_start : (st : State) (old mid : Here) (place whole : Position) (k : CodeToken) → place ≡ whole → Going st old whole.rest → HandsOut old k mid → Ahead place k.at.start
-whole_start st old mid place whole k i g h = rw (i, h.start_rest) g.text
+-- slices leave the lexer where it is
+pub recounted : (st : State) (old new : Here) (t : Text) → Recounted old new → Going st old t → Going st new t
+recounted st old new t r g = record { same = λ d. rw r.rest (g.same d); from = rw r.rest g.from; text = rw r.rest g.text }
 
-pub from_start : (st : State) (old mid : Here) (t : Text) (k : CodeToken) → Going st old t → HandsOut old k mid → Stands st k.at.start.rest
-from_start st old mid t k g h = rw h.start_rest g.from
+-- what a step asks of the places
+pub whole_start : (st : State) (old mid : Here) (w t : Text) (k : CodeToken) → w ≡ t → Going st old t → HandsOut old k mid → EndsIn w k.at.start.rest
+whole_start st old mid w t k i g h = rw (i, h.start_rest) g.text
+
+pub from_start : (st : State) (old mid : Here) (w t : Text) (k : CodeToken) → w ≡ t → Going st old t → HandsOut old k mid → Stands w st k.at.start.rest
+from_start st old mid w t k i g h = rw (i, h.start_rest) g.from
 
 no_turn : (st : State) (old mid : Here) (t : Text) (k : CodeToken) → Going st old t → HandsOut old k mid → step t st (kind_view k.kind) k.at.start.rest k.at.end.rest ≡ None
     → (e : Entry) → AnswersEntry t e → ⊥
@@ -206,8 +209,8 @@ nothing_left (c ∷ p) r e = cc
 pub all_read : (old new : Here) → old.rest ≡ [] → Moves old new → new.rest ≡ []
 all_read old new e m = nothing_left m.piece.0 new.rest (sym e ∙ m.piece.1)
 
-pub from_end : (st : State) (old new : Here) (t : Text) → Going st old t → old.rest ≡ [] → Moves old new → Stands st new.rest
-from_end st old new t g e m = rw (all_read old new e m) (rw e at g.from)
+pub from_end : (st : State) (old new : Here) (w t : Text) → w ≡ t → Going st old t → old.rest ≡ [] → Moves old new → Stands w st new.rest
+from_end st old new w t i g e m = rw (i, all_read old new e m) (rw e at g.from)
 
 -- where the text ends, the machine's entry is the result, or there is none
 pub at_the_end : (st : State) (here : Here) (w t : Text) (e : KdlEntry) → w ≡ t → Going st here t → here.rest ≡ [] → Ended (finish w st) (Some e) → AnswersEntryText t (Ok e)

@@ -1,5 +1,27 @@
--- What a call costs for the texts that it slices: at most a step for each of their bytes.
-use Rattle.std.specs.Prelude.{ℕ, ◌+◌, ◌≤◌}
+-- What a call that slices asks of the places, and what it costs: at most a step for each byte of the slices.
+use Rattle.std.specs.Prelude.{◌≡◌, ℕ, ◌+◌, ◌≤◌, ◌++◌}
+use Rattle.kdl_text.specs.Chars.{Text}
+use Rattle.kdl_text.specs.Internal.Here.{Here, Position}
+use Rattle.kdl_text.specs.Spans.{raise}
+
+-- the second text is an end of the first
+abbrev pub EndsIn : Text → Text → Type 0
+EndsIn t s = (p : Text) × (t ≡ p ++ s)
+
+-- both are ends of the text t, the third text of the second
+abbrev pub InOrder : Text → Text → Text → Type 0
+InOrder t from s = EndsIn t from × EndsIn t s × EndsIn from s
+
+-- the places are in the source's text, in this order
+abbrev pub Within : Here → Position → Position → Type 0
+Within z from to = InOrder z.text from.rest to.rest
+
+-- the source is the same but for its count, which did not fall
+pub record Recounted (old new : Here) : Type 0 where
+  pub text : new.text ≡ old.text
+  pub rest : new.rest ≡ old.rest
+  pub at : new.at ≡ old.at
+  pub counts : raise old.steps 0 ≤ raise new.steps 0
 
 -- of the m bytes before the end of the text that were not sliced yet, all but the last n may have been
 pub record Sliced (m n : ℕ) (old new : ℕ) : Type 0 where

@@ -1,8 +1,9 @@
 -- The machine's state that a reader of an entry holds, and what its steps return.
-use Rattle.std.specs.Prelude.{◌≡◌, ◌↔◌, ◌++◌, Option, Some, None, Result, Ok, Err}
+use Rattle.std.specs.Prelude.{◌≡◌, ◌↔◌, Option, Some, None, Result, Ok, Err}
 use Rattle.kdl_text.specs.Chars.{Text}
 use Rattle.kdl_control.specs.Internal.Views.{phase_view}
 use Rattle.kdl_entry.specs.Internal.Building.{parts_view}
+use Rattle.kdl_entry.specs.Internal.Counted.{InOrder}
 use Rattle.kdl_entry.specs.Internal.EntryMachine as machine
 use Rattle.kdl_entry.specs.Internal.EntryMachine.{AnswersEntry, Runs, under, word, done}
 use Rattle.kdl_value.specs.Tree.{text_of}
@@ -27,16 +28,12 @@ state_view (Under p it) = under (phase_view p) (parts_view it)
 state_view (Pending w) = word (word_view w) w.end.rest
 state_view (Done e from) = done (entry_tree e) from.rest
 
--- the second text is an end of the first
-abbrev pub EndsIn : Text → Text → Type 0
-EndsIn t s = (p : Text) × (t ≡ p ++ s)
-
--- the current place began before s
-abbrev pub Stands : machine.State → Text → Type 0
-Stands (under p it) s = EndsIn it.from s
-Stands (word w from) s = EndsIn from s
-Stands (done e from) s = EndsIn from s
-Stands _ s = Unit {0}
+-- the current place is in the text t, and began before s
+abbrev pub Stands : Text → machine.State → Text → Type 0
+Stands t (under p it) s = InOrder t it.from s
+Stands t (word w from) s = InOrder t from s
+Stands t (done e from) s = InOrder t from s
+Stands t _ s = Unit {0}
 
 -- what a step did, by the machine's; an allocation failure says nothing
 abbrev pub Stepped : Option machine.State → Result State LexFailure → Type 0

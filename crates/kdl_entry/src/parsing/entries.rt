@@ -5,22 +5,22 @@ ghost use Rattle.kdl_control.specs.Internal.Views.{phase_view};
 ghost use Rattle.kdl_entry.specs.Internal.Building.{parts_view};
 ghost use Rattle.kdl_entry.specs.Internal.EntryMachine as machine;
 ghost use Rattle.kdl_entry.specs.Internal.EntryMachine.{argument_of, begin_to, ended, entry_by, finish, keyed_parts, opened_parts, phase_of, step, value_of, value_to, word_at, word_to};
+ghost use Rattle.kdl_entry.specs.Internal.Counted.{EndsIn, Recounted, Within};
 ghost use Rattle.kdl_entry.specs.Internal.EntryReading.{word_view, state_view, AnswersEntryText, Stands, Stepped, Ended};
 ghost use Rattle.kdl_lexer.specs.Internal.Handed.{kind_view};
 ghost use Rattle.kdl_entry.specs.Places.{between};
 ghost use Rattle.kdl_value.specs.Tree.{text_of, value_tree};
 ghost use Rattle.kdl_entry.specs.Tree.{entry_tree, identifier_tree};
-ghost use Rattle.kdl_text.specs.Internal.Here.{Ahead};
 ghost use Rattle.std.specs.Prelude.{◌≡◌, [], None, Some, true, IfOk, option_map};
 ghost use Rattle.std.specs.Str.{chars};
 
 use super::parts::{Given, Key, Parts, entry_from};
-use super::slices::Slices;
+use super::source::Source;
 use crate::entry::KdlEntry;
 use crate::identifier::sliced_identifier;
 use kdl_control::{EntryControl, Phase};
 use kdl_diagnostics::{Whole, failure};
-use kdl_lexer::{LexFailure, Lexer, Token, TokenKind, TokenSpan};
+use kdl_lexer::{LexFailure, Token, TokenKind, TokenSpan};
 use kdl_text::cursor::{Checkpoint, Piece, Steps};
 use kdl_text::error::ParseFailure;
 use kdl_text::span::SourceSpan;
@@ -69,13 +69,13 @@ fn opened<'a>(alloc: Global, leading: String, at: &TokenSpan<'a>) -> Parts<'a>
 }
 
 /// Begins an entry after the `=` of its key.
-fn keyed<'a>(slices: &Slices<'a>, leading: String, key: Key, end: &Checkpoint<'a>) -> Parts<'a>
+fn keyed<'a>(source: &Source<'a>, leading: String, key: Key, end: &Checkpoint<'a>) -> Parts<'a>
     ensures { parts_view result
-        ≡ keyed_parts slices.now.whole.rest (text_of leading) (identifier_tree key.name)
+        ≡ keyed_parts source.now.text (text_of leading) (identifier_tree key.name)
         (text_of key.before) end.now.rest }
 {
-    let start = slices.start();
-    let mut parts = Parts::new(slices.alloc(), &start);
+    let start = source.start();
+    let mut parts = Parts::new(source.alloc(), &start);
     parts.open_keyed(leading, &start, key, end);
     parts
 }
@@ -83,23 +83,23 @@ fn keyed<'a>(slices: &Slices<'a>, leading: String, key: Key, end: &Checkpoint<'a
 /// The string that the token is, and the text before it.
 #[tactic(auto, using(kdl_lexer::proofs::Order::ahead))]
 fn word_between<'a>(
-    slices: &mut Slices<'a>,
+    source: &mut Source<'a>,
     value: String,
     at: TokenSpan<'a>,
 ) -> Result<Word<'a>, AllocError>
-    requires leading { Ahead slices.old.whole at.start }
+    requires leading { EndsIn source.old.text at.start.rest }
     ensures is { IfOk result
         (λ w. word_view w
-        ≡ word_at slices.old.whole.rest (text_of value) at.entry.start.rest at.entry.end.rest) }
+        ≡ word_at source.old.text (text_of value) at.entry.start.rest at.entry.end.rest) }
     ensures end { IfOk result (λ w. w.end ≡ at.entry.end) }
-    ensures whole { slices.new.whole ≡ slices.old.whole }
+    ensures same { Recounted source.old source.new }
 {
-    let leading = slices.text(&slices.start(), &at.start)?;
+    let leading = source.text(&source.start(), &at.start)?;
     Ok(Word {
         leading,
         value,
-        repr: slices.piece(&at.start, &at.end),
-        span: slices.span(&at.start, &at.end),
+        repr: source.piece(&at.start, &at.end),
+        span: source.span(&at.start, &at.end),
         end: at.end,
     })
 }
@@ -107,24 +107,24 @@ fn word_between<'a>(
 /// The value that the token is, as an argument, and the text before it.
 #[tactic(auto, using(kdl_lexer::proofs::Order::ahead))]
 fn argument_between<'a>(
-    slices: &mut Slices<'a>,
+    source: &mut Source<'a>,
     value: KdlValue,
     at: &TokenSpan<'a>,
 ) -> Result<KdlEntry, AllocError>
-    requires leading { Ahead slices.old.whole at.now.start }
+    requires leading { EndsIn source.old.text at.now.start.rest }
     ensures is { IfOk result
-        (λ e. entry_tree e ≡ entry_by (between slices.old.whole.rest at.now.start.rest) None None
+        (λ e. entry_tree e ≡ entry_by (between source.old.text at.now.start.rest) None None
         (value_tree value) (between at.now.start.rest at.now.end.rest)) }
-    ensures whole { slices.new.whole ≡ slices.old.whole }
+    ensures same { Recounted source.old source.new }
 {
-    let leading = slices.text(&slices.start(), &at.start)?;
-    let repr = slices.text(&at.start, &at.end)?;
+    let leading = source.text(&source.start(), &at.start)?;
+    let repr = source.text(&at.start, &at.end)?;
     let given = Given {
         key: None,
         ty: None,
         value,
     };
-    Ok(entry_from(slices.alloc(), UNPLACED, leading, given, repr))
+    Ok(entry_from(source.alloc(), UNPLACED, leading, given, repr))
 }
 
 /// The word as an argument.
@@ -150,29 +150,29 @@ fn argument(alloc: Global, word: Word) -> Result<KdlEntry, AllocError>
 /// Takes a token before the entry. The control goes to `next`.
 fn begin_to<'a>(
     next: EntryControl,
-    slices: &mut Slices<'a>,
+    source: &mut Source<'a>,
     token: Token<'a>,
 ) -> Result<State<'a>, LexFailure>
-    requires leading { Ahead slices.old.whole token.at.start }
-    ensures did { Stepped (begin_to slices.old.whole.rest (entry_view next)
+    requires leading { EndsIn source.old.text token.at.start.rest }
+    ensures did { Stepped (begin_to source.old.text (entry_view next)
         (kind_view token.entry.kind) token.entry.at.start.rest token.entry.at.end.rest)
         result }
-    ensures whole { slices.new.whole ≡ slices.old.whole }
+    ensures same { Recounted source.old source.new }
 {
     let Token { kind, at } = token;
     match (next, kind) {
         (EntryControl::Ahead, _) => Ok(State::Start),
         (EntryControl::Dropping(phase), _) => Ok(State::Dropping(phase)),
         (EntryControl::Under(phase), _) => {
-            let leading = slices.text(&slices.start(), &at.start)?;
-            Ok(State::Under(phase, opened(slices.alloc(), leading, &at)))
+            let leading = source.text(&source.start(), &at.start)?;
+            Ok(State::Under(phase, opened(source.alloc(), leading, &at)))
         }
         (EntryControl::Word, TokenKind::String(value)) => {
-            let word = word_between(slices, value, at)?;
+            let word = word_between(source, value, at)?;
             Ok(State::Pending(word))
         }
         (EntryControl::Done, TokenKind::Value(value)) => {
-            let entry = argument_between(slices, value, &at)?;
+            let entry = argument_between(source, value, &at)?;
             Ok(State::Done(entry, at.end))
         }
         _ => Err(LexFailure::Faulty),
@@ -195,21 +195,21 @@ fn value_of(kind: TokenKind) -> Option<KdlValue>
 fn at_value<'a>(
     phase: Phase,
     mut parts: Parts<'a>,
-    slices: &mut Slices<'a>,
+    source: &mut Source<'a>,
     token: Token<'a>,
 ) -> Result<State<'a>, LexFailure>
-    requires from { Ahead parts.from token.at.start }
+    requires from { Within source.old parts.from token.at.start }
     ensures did { Stepped (value_to (phase_view phase) (parts_view parts.entry)
         (kind_view token.entry.kind) token.entry.at.start.rest token.entry.at.end.rest)
         result }
-    ensures whole { slices.new.whole ≡ slices.old.whole }
+    ensures same { Recounted source.old source.new }
 {
     let Token { kind, at } = token;
     let Some(value) = value_of(kind) else {
         return Err(LexFailure::Faulty);
     };
-    let given = parts.give(phase, slices, value, &at.start)?;
-    let repr = slices.text(&at.start, &at.end)?;
+    let given = parts.give(phase, source, value, &at.start)?;
+    let repr = source.token(&at)?;
     let entry = entry_from(parts.alloc, UNPLACED, parts.leading, given, repr);
     Ok(State::Done(entry, at.end))
 }
@@ -218,19 +218,19 @@ fn at_value<'a>(
 fn word_to<'a>(
     next: EntryControl,
     word: Word<'a>,
-    slices: &mut Slices<'a>,
+    source: &mut Source<'a>,
     at: &TokenSpan<'a>,
 ) -> Result<State<'a>, AllocError>
-    requires { Ahead word.end at.now.start }
+    requires { Within source.old word.end at.now.start }
     ensures is { IfOk result (λ st. state_view st
-        ≡ word_to slices.old.whole.rest (word_view word.entry) word.entry.end.rest (entry_view next)
+        ≡ word_to source.old.text (word_view word.entry) word.entry.end.rest (entry_view next)
         at.now.start.rest at.now.end.rest) }
-    ensures whole { slices.new.whole ≡ slices.old.whole }
+    ensures same { Recounted source.old source.new }
 {
     match next {
         EntryControl::Word => Ok(State::Pending(word)),
         EntryControl::Under(phase) => {
-            let before = slices.text(&word.end, &at.start)?;
+            let before = source.text(&word.end, &at.start)?;
             let Word {
                 leading,
                 value,
@@ -238,13 +238,13 @@ fn word_to<'a>(
                 span,
                 end: _,
             } = word;
-            let name = sliced_identifier(slices.alloc(), value, &repr, span)?;
+            let name = sliced_identifier(source.alloc(), value, &repr, span)?;
             let key = Key { name, before };
-            Ok(State::Under(phase, keyed(slices, leading, key, &at.end)))
+            Ok(State::Under(phase, keyed(source, leading, key, &at.end)))
         }
         _ => {
             let end = word.end.copied();
-            Ok(State::Done(argument(slices.alloc(), word)?, end))
+            Ok(State::Done(argument(source.alloc(), word)?, end))
         }
     }
 }
@@ -252,20 +252,20 @@ fn word_to<'a>(
 /// The entry, whose span is the whole text, with the text after it, which ends here.
 fn ended<'a>(
     mut entry: KdlEntry,
-    slices: &mut Slices<'a>,
+    source: &mut Source<'a>,
     from: &Checkpoint<'a>,
     here: &Checkpoint<'a>,
 ) -> Result<KdlEntry, AllocError>
     requires end { here.now.rest ≡ [] }
-    requires from { Ahead from.now here.now }
+    requires from { Within source.old from.now here.now }
     ensures { IfOk result (λ e. entry_tree e
-        ≡ machine.ended slices.old.whole.rest (between from.now.rest []) (entry_tree entry)) }
+        ≡ machine.ended source.old.text (between from.now.rest []) (entry_tree entry)) }
 {
-    let trailing = slices.text(from, here)?;
+    let trailing = source.text(from, here)?;
     if let Some(format) = entry.format_mut() {
         format.trailing = trailing;
     }
-    entry.set_span(slices.span(&slices.start(), here));
+    entry.set_span(source.span(&source.start(), here));
     Ok(entry)
 }
 
@@ -284,27 +284,27 @@ impl<'a> State<'a> {
     }
 
     /// Takes a token. Fails if the token may not be here.
-    fn take(self, slices: &mut Slices<'a>, token: Token<'a>) -> Result<State<'a>, LexFailure>
-        requires leading { Ahead slices.old.whole token.at.start }
-        requires from { Stands (state_view self) token.at.start.rest }
-        ensures did { Stepped (step slices.old.whole.rest (state_view self.entry)
+    fn take(self, source: &mut Source<'a>, token: Token<'a>) -> Result<State<'a>, LexFailure>
+        requires leading { EndsIn source.old.text token.at.start.rest }
+        requires from { Stands source.old.text (state_view self) token.at.start.rest }
+        ensures did { Stepped (step source.old.text (state_view self.entry)
             (kind_view token.entry.kind) token.entry.at.start.rest token.entry.at.end.rest)
             result }
-        ensures whole { slices.new.whole ≡ slices.old.whole }
+        ensures same { Recounted source.old source.new }
     {
         let Some(next) = self.control().after(&token.kind) else {
             return Err(LexFailure::Faulty);
         };
         match self {
-            State::Start | State::Dropping(_) => begin_to(next, slices, token),
+            State::Start | State::Dropping(_) => begin_to(next, source, token),
             State::Under(phase, mut parts) => match next {
                 EntryControl::Under(next) => {
-                    parts.take(phase, slices, token)?;
+                    parts.take(phase, source, token)?;
                     Ok(State::Under(next, parts))
                 }
-                _ => at_value(phase, parts, slices, token),
+                _ => at_value(phase, parts, source, token),
             },
-            State::Pending(word) => Ok(word_to(next, word, slices, &token.at)?),
+            State::Pending(word) => Ok(word_to(next, word, source, &token.at)?),
             State::Done(entry, from) => Ok(State::Done(entry, from)),
         }
     }
@@ -312,39 +312,38 @@ impl<'a> State<'a> {
     /// Returns the entry at the end of the text, or `None` if there is none.
     fn finish(
         self,
-        slices: &mut Slices<'a>,
+        source: &mut Source<'a>,
         here: &Checkpoint<'a>,
     ) -> Result<Option<KdlEntry>, AllocError>
         requires end { here.now.rest ≡ [] }
-        requires from { Stands (state_view self) here.now.rest }
+        requires from { Stands source.old.text (state_view self) here.now.rest }
         ensures { IfOk result (λ e. Ended
-            (finish slices.old.whole.rest (state_view self.entry)) e) }
+            (finish source.old.text (state_view self.entry)) e) }
     {
         match self {
             State::Pending(word) => {
                 let end = word.end.copied();
-                let entry = argument(slices.alloc(), word)?;
-                Ok(Some(ended(entry, slices, &end, here)?))
+                let entry = argument(source.alloc(), word)?;
+                Ok(Some(ended(entry, source, &end, here)?))
             }
-            State::Done(entry, from) => Ok(Some(ended(entry, slices, &from, here)?)),
+            State::Done(entry, from) => Ok(Some(ended(entry, source, &from, here)?)),
             _ => Ok(None),
         }
     }
 }
 
-/// Reads the entry that the text is; the lexer is at its start.
+/// Reads the entry that the text is; the source is at its start.
 #[tactic(auto, using(crate::proofs::Reading::EntryLoop::starts_going, crate::proofs::Reading::EntryLoop::next_going, crate::proofs::Reading::EntryLoop::whole_start, crate::proofs::Reading::EntryLoop::from_start, crate::proofs::Reading::EntryLoop::lexer_told, crate::proofs::Reading::EntryLoop::take_told, crate::proofs::Reading::EntryLoop::all_read, crate::proofs::Reading::EntryLoop::from_end, crate::proofs::Reading::EntryLoop::at_the_end, crate::proofs::Reading::EntryLoop::no_end))]
-fn read_tokens<'a>(lexer: &mut Lexer<'a>, slices: &mut Slices<'a>) -> Result<KdlEntry, LexFailure>
-    requires rest { lexer.old.rest ≡ slices.old.whole.rest }
-    ensures { AnswersEntryText slices.old.whole.rest result }
+fn read_tokens(source: &mut Source) -> Result<KdlEntry, LexFailure>
+    requires rest { source.old.rest ≡ source.old.text }
+    ensures { AnswersEntryText source.old.text result }
 {
-    let alloc = slices.alloc();
     let mut state = State::Start;
-    'tokens: while let Some(token) = lexer.next(alloc)? {
-        state = state.take(slices, token)?;
+    'tokens: while let Some(token) = source.next()? {
+        state = state.take(source, token)?;
     }
-    let here = lexer.checkpoint();
-    match state.finish(slices, &here)? {
+    let here = source.checkpoint();
+    match state.finish(source, &here)? {
         Some(entry) => Ok(entry),
         None => Err(LexFailure::Faulty),
     }
@@ -354,9 +353,8 @@ fn read_tokens<'a>(lexer: &mut Lexer<'a>, slices: &mut Slices<'a>) -> Result<Kdl
 fn read_entry(alloc: Global, text: &str) -> Result<KdlEntry, LexFailure>
     ensures { AnswersEntryText (chars text.now) result }
 {
-    let mut lexer = Lexer::new(text, Steps::new());
-    let mut slices = Slices::new(alloc, lexer.checkpoint());
-    read_tokens(&mut lexer, &mut slices)
+    let mut source = Source::new(alloc, text, Steps::new());
+    read_tokens(&mut source)
 }
 
 impl KdlEntry {

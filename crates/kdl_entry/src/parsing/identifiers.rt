@@ -4,10 +4,10 @@ ghost use Rattle.kdl_entry.specs.Internal.IdentifierReading.{AnswersIdentifierTe
 ghost use Rattle.std.specs.Prelude.{◌≡◌, ◌↔◌, IsTrue, []};
 ghost use Rattle.std.specs.Str.{chars};
 
-use super::slices::Slices;
+use super::source::Source;
 use crate::identifier::KdlIdentifier;
 use kdl_diagnostics::{Whole, failure};
-use kdl_lexer::{LexFailure, Lexer, Token, TokenKind};
+use kdl_lexer::{LexFailure, Token, TokenKind};
 use kdl_text::cursor::{Checkpoint, Steps};
 use kdl_text::error::ParseFailure;
 use std::alloc::Global;
@@ -20,17 +20,13 @@ fn is_end(place: &Checkpoint) -> bool
     place.char_span().len == 0
 }
 
-/// Reads the identifier that the text is; the lexer is at its start.
+/// Reads the identifier that the text is; the source is at its start.
 #[tactic(auto)]
-fn read_token<'a>(
-    alloc: Global,
-    lexer: &mut Lexer<'a>,
-    whole: &Checkpoint<'a>,
-) -> Result<KdlIdentifier, LexFailure>
-    requires { lexer.old.rest ≡ whole.now.rest }
-    ensures { AnswersIdentifierText whole.now.rest result }
+fn read_token(source: &mut Source) -> Result<KdlIdentifier, LexFailure>
+    requires { source.old.rest ≡ source.old.text }
+    ensures { AnswersIdentifierText source.old.text result }
 {
-    let Token { kind, at } = match lexer.next(alloc) {
+    let Token { kind, at } = match source.next() {
         Ok(Some(token)) => token,
         Ok(None) => return Err(LexFailure::Faulty),
         Err(failure) => return Err(failure),
@@ -41,17 +37,14 @@ fn read_token<'a>(
     if !is_end(&at.end) {
         return Err(LexFailure::Faulty);
     }
-    let mut slices = Slices::new(alloc, whole.copied());
-    Ok(slices.identifier(value, &at)?)
+    Ok(source.identifier(value, &at)?)
 }
 
 /// Reads the identifier that the text is.
 fn read_identifier(alloc: Global, text: &str) -> Result<KdlIdentifier, LexFailure>
     ensures { AnswersIdentifierText (chars text.now) result }
 {
-    let mut lexer = Lexer::new(text, Steps::new());
-    let whole = lexer.checkpoint();
-    read_token(alloc, &mut lexer, &whole)
+    read_token(&mut Source::new(alloc, text, Steps::new()))
 }
 
 impl KdlIdentifier {

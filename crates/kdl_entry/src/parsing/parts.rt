@@ -4,7 +4,7 @@
 
 ghost use Rattle.kdl_control.specs.Internal.Views.{phase_view};
 ghost use Rattle.kdl_entry.specs.Internal.Building.{key_view, type_view, parts_view, Holds};
-ghost use Rattle.kdl_entry.specs.Internal.Counted.{Sliced};
+ghost use Rattle.kdl_entry.specs.Internal.Counted.{Recounted, Sliced, Within};
 ghost use Rattle.kdl_lexer.specs.Internal.Handed.{kind_view};
 ghost use Rattle.kdl_entry.specs.Internal.Parts as spec;
 ghost use Rattle.kdl_entry.specs.Internal.Parts.{entry_at, identifier_at};
@@ -15,7 +15,7 @@ ghost use Rattle.kdl_text.specs.Internal.Here.{Ahead};
 ghost use Rattle.kdl_text.specs.Spans.{bytes};
 ghost use Rattle.std.specs.Prelude.{◌≡◌, [], Some, None, IfOk, OnOk, option_map};
 
-use super::slices::Slices;
+use super::source::Source;
 use crate::entry::{KdlEntry, KdlEntryFormat};
 use crate::identifier::KdlIdentifier;
 use kdl_control::Phase;
@@ -233,8 +233,8 @@ impl<'a> Parts<'a> {
     /// Creates empty parts at the place. Does not allocate.
     ///
     /// ```
-    /// let lexer = Lexer::new("(u8)1", Steps::new());
-    /// let parts = Parts::new(alloc, &lexer.checkpoint()); // `open` and `open_keyed` begin an entry in them
+    /// let source = Source::new(alloc, "(u8)1", Steps::new());
+    /// let parts = Parts::new(alloc, &source.start()); // `open` and `open_keyed` begin an entry in them
     /// ```
     pub fn new(alloc: Global, place: &Checkpoint<'a>) -> Parts<'a>
         ensures is { parts_view result ≡ spec.no_parts place.now.rest }
@@ -256,9 +256,9 @@ impl<'a> Parts<'a> {
     /// Begins an entry, or a node's name, at the `(` of its type.
     ///
     /// ```
-    /// let mut lexer = Lexer::new("(u8)1", Steps::new());
-    /// let mut parts = Parts::new(alloc, &lexer.checkpoint());
-    /// if let Some(left) = lexer.next(alloc)? {
+    /// let mut source = Source::new(alloc, "(u8)1", Steps::new());
+    /// let mut parts = Parts::new(alloc, &source.start());
+    /// if let Some(left) = source.next()? {
     ///     parts.open(empty(alloc), &left.at); // the type's name is expected
     /// }
     /// ```
@@ -283,12 +283,12 @@ impl<'a> Parts<'a> {
     /// Begins a property whose key is at `start`, after the `=` that ends at `end`.
     ///
     /// ```
-    /// let mut lexer = Lexer::new("a=1", Steps::new());
-    /// let start = lexer.checkpoint();
-    /// let tokens = (lexer.next(alloc)?, lexer.next(alloc)?); // `a` and `=`
+    /// let mut source = Source::new(alloc, "a=1", Steps::new());
+    /// let start = source.start();
+    /// let tokens = (source.next()?, source.next()?); // `a` and `=`
     /// let key = Key { name: KdlIdentifier::from_text(alloc, "a")?, before: empty(alloc) };
     /// let mut parts = Parts::new(alloc, &start);
-    /// parts.open_keyed(empty(alloc), &start, key, &lexer.checkpoint()); // its value is expected
+    /// parts.open_keyed(empty(alloc), &start, key, &source.checkpoint()); // its value is expected
     /// ```
     #[inline(always)]
     pub fn open_keyed(
@@ -323,39 +323,39 @@ impl<'a> Parts<'a> {
     /// Continues after the string that is the type's name.
     pub fn take_name(
         &mut self,
-        slices: &mut Slices<'a>,
+        source: &mut Source<'a>,
         value: String,
         at: &TokenSpan<'a>,
     ) -> Result<(), AllocError>
-        requires from { Ahead self.old.from at.now.start }
+        requires from { Within source.old self.old.from at.now.start }
         ensures named { OnOk result
             (parts_view self.new ≡ spec.named_at
-            (identifier_at slices.old.whole.rest (text_of value) at.now.start.rest at.now.end.rest)
+            (identifier_at source.old.text (text_of value) at.now.start.rest at.now.end.rest)
             (between self.old.from.rest at.now.start.rest) at.now.end.rest (parts_view self.old)) }
-        ensures whole { slices.new.whole ≡ slices.old.whole }
+        ensures same { Recounted source.old source.new }
         ensures sliced { OnOk result
-            (Sliced (bytes self.old.from.rest) (bytes self.new.from.rest) slices.old.steps slices.new.steps) }
+            (Sliced (bytes self.old.from.rest) (bytes self.new.from.rest) source.old.steps source.new.steps) }
         ensures from { OnOk result (Ahead self.new.from at.now.end) }
     {
-        self.before = slices.text(&self.from, &at.start)?;
-        self.name = slices.identifier(value, at)?;
+        self.before = source.text(&self.from, &at.start)?;
+        self.name = source.identifier(value, at)?;
         self.from = at.end.copied();
         Ok(())
     }
 
     /// Continues after the `)` of the type.
     #[tactic(auto, using(crate::proofs::Slicing::SliceCost::token_fewer))]
-    pub fn close(&mut self, slices: &mut Slices<'a>, at: &TokenSpan<'a>) -> Result<(), AllocError>
-        requires from { Ahead self.old.from at.now.start }
+    pub fn close(&mut self, source: &mut Source<'a>, at: &TokenSpan<'a>) -> Result<(), AllocError>
+        requires from { Within source.old self.old.from at.now.start }
         ensures closed { OnOk result
             (parts_view self.new ≡ spec.closed_at
             (between self.old.from.rest at.now.start.rest) at.now.end.rest (parts_view self.old)) }
-        ensures whole { slices.new.whole ≡ slices.old.whole }
+        ensures same { Recounted source.old source.new }
         ensures sliced { OnOk result
-            (Sliced (bytes self.old.from.rest) (bytes self.new.from.rest) slices.old.steps slices.new.steps) }
+            (Sliced (bytes self.old.from.rest) (bytes self.new.from.rest) source.old.steps source.new.steps) }
         ensures from { OnOk result (Ahead self.new.from at.now.end) }
     {
-        self.after = slices.text(&self.from, &at.start)?;
+        self.after = source.text(&self.from, &at.start)?;
         self.from = at.end.copied();
         Ok(())
     }
@@ -363,20 +363,20 @@ impl<'a> Parts<'a> {
     /// The type, at the start of the value.
     pub fn type_parts(
         &mut self,
-        slices: &mut Slices<'a>,
+        source: &mut Source<'a>,
         start: &Checkpoint<'a>,
     ) -> Result<TypeParts, AllocError>
-        requires from { Ahead self.old.from start.now }
+        requires from { Within source.old self.old.from start.now }
         ensures is { IfOk result
             (λ y. type_view y ≡ spec.type_at (parts_view self.old) start.now.rest) }
         ensures key { option_map key_view self.new.key ≡ option_map key_view self.old.key }
         ensures holds { OnOk result (Holds (parts_view self.old) (parts_view self.new)) }
         ensures from { self.new.from ≡ self.old.from }
-        ensures whole { slices.new.whole ≡ slices.old.whole }
+        ensures same { Recounted source.old source.new }
         ensures sliced { OnOk result
-            (Sliced (bytes self.old.from.rest) (bytes start.now.rest) slices.old.steps slices.new.steps) }
+            (Sliced (bytes self.old.from.rest) (bytes start.now.rest) source.old.steps source.new.steps) }
     {
-        let behind = slices.text(&self.from, start)?;
+        let behind = source.text(&self.from, start)?;
         let name = mem::replace(&mut self.name, KdlIdentifier::from(empty(self.alloc)));
         let before = mem::replace(&mut self.before, empty(self.alloc));
         let after = mem::replace(&mut self.after, empty(self.alloc));
@@ -392,19 +392,19 @@ impl<'a> Parts<'a> {
     #[inline(always)]
     pub fn key_parts(
         &mut self,
-        slices: &mut Slices<'a>,
+        source: &mut Source<'a>,
         start: &Checkpoint<'a>,
     ) -> Result<KeyParts, AllocError>
-        requires from { Ahead self.old.from start.now }
+        requires from { Within source.old self.old.from start.now }
         ensures is { IfOk result
             (λ k. key_view k ≡ spec.key_at (parts_view self.old) start.now.rest) }
         ensures taken { OnOk result (parts_view self.new ≡ spec.emptied (parts_view self.old)) }
         ensures from { self.new.from ≡ self.old.from }
-        ensures whole { slices.new.whole ≡ slices.old.whole }
+        ensures same { Recounted source.old source.new }
         ensures sliced { OnOk result
-            (Sliced (bytes self.old.from.rest) (bytes start.now.rest) slices.old.steps slices.new.steps) }
+            (Sliced (bytes self.old.from.rest) (bytes start.now.rest) source.old.steps source.new.steps) }
     {
-        let behind = slices.text(&self.from, start)?;
+        let behind = source.text(&self.from, start)?;
         let name = mem::replace(&mut self.name, KdlIdentifier::from(empty(self.alloc)));
         let before = mem::replace(&mut self.before, empty(self.alloc));
         Ok(KeyParts {
@@ -418,19 +418,19 @@ impl<'a> Parts<'a> {
     #[tactic(auto, using(crate::proofs::Slicing::SliceCost::token_fewer))]
     pub fn open_typed(
         &mut self,
-        slices: &mut Slices<'a>,
+        source: &mut Source<'a>,
         at: &TokenSpan<'a>,
     ) -> Result<(), AllocError>
-        requires from { Ahead self.old.from at.now.start }
+        requires from { Within source.old self.old.from at.now.start }
         ensures is { OnOk result (parts_view self.new ≡ spec.reopened
             (spec.key_at (parts_view self.old) at.now.start.rest) at.now.end.rest
             (parts_view self.old)) }
         ensures from { OnOk result (self.new.from ≡ at.now.end) }
-        ensures whole { slices.new.whole ≡ slices.old.whole }
+        ensures same { Recounted source.old source.new }
         ensures sliced { OnOk result
-            (Sliced (bytes self.old.from.rest) (bytes self.new.from.rest) slices.old.steps slices.new.steps) }
+            (Sliced (bytes self.old.from.rest) (bytes self.new.from.rest) source.old.steps source.new.steps) }
     {
-        let key = self.key_parts(slices, &at.start)?;
+        let key = self.key_parts(source, &at.start)?;
         self.key = Some(key);
         self.from = at.end.copied();
         Ok(())
@@ -439,26 +439,26 @@ impl<'a> Parts<'a> {
     /// Continues after a token that may come in the phase and is not the entry's value.
     ///
     /// ```
-    /// parts.take(Phase::TypeOpen(Owner::Value), &mut slices, name)?; // the type has its name
-    /// parts.take(Phase::TypeName(Owner::Value), &mut slices, right)?; // the type has ended
+    /// parts.take(Phase::TypeOpen(Owner::Value), &mut source, name)?; // the type has its name
+    /// parts.take(Phase::TypeName(Owner::Value), &mut source, right)?; // the type has ended
     /// ```
     pub fn take(
         &mut self,
         phase: Phase,
-        slices: &mut Slices<'a>,
+        source: &mut Source<'a>,
         token: Token<'a>,
     ) -> Result<(), AllocError>
-        requires from { Ahead self.old.from token.at.start }
+        requires from { Within source.old self.old.from token.at.start }
         ensures is { OnOk result
-            (parts_view self.new ≡ spec.taken (phase_view phase) slices.old.whole.rest (parts_view self.old)
+            (parts_view self.new ≡ spec.taken (phase_view phase) source.old.text (parts_view self.old)
             (kind_view token.entry.kind) token.entry.at.start.rest token.entry.at.end.rest) }
-        ensures whole { slices.new.whole ≡ slices.old.whole }
+        ensures same { Recounted source.old source.new }
     {
         let Token { kind, at } = token;
         match (phase, kind) {
-            (Phase::TypeOpen(_), TokenKind::String(value)) => { self.take_name(slices, value, &at) }
-            (Phase::TypeName(_), TokenKind::Right) => self.close(slices, &at),
-            (Phase::Property, TokenKind::Left) => self.open_typed(slices, &at),
+            (Phase::TypeOpen(_), TokenKind::String(value)) => { self.take_name(source, value, &at) }
+            (Phase::TypeName(_), TokenKind::Right) => self.close(source, &at),
+            (Phase::Property, TokenKind::Left) => self.open_typed(source, &at),
             _ => Ok(()),
         }
     }
@@ -466,16 +466,16 @@ impl<'a> Parts<'a> {
     /// Ends the entry in the phase, with its value, which begins at `start`. Returns its key, its type and the value.
     ///
     /// ```
-    /// let given = parts.give(Phase::Property, &mut slices, value, &at.start)?; // no type
+    /// let given = parts.give(Phase::Property, &mut source, value, &at.start)?; // no type
     /// ```
     pub fn give(
         &mut self,
         phase: Phase,
-        slices: &mut Slices<'a>,
+        source: &mut Source<'a>,
         value: KdlValue,
         start: &Checkpoint<'a>,
     ) -> Result<Given, AllocError>
-        requires from { Ahead self.old.from start.now }
+        requires from { Within source.old self.old.from start.now }
         ensures key { IfOk result
             (λ g. option_map key_view g.key
             ≡ spec.key_given (phase_view phase) (parts_view self.old) start.now.rest) }
@@ -484,17 +484,17 @@ impl<'a> Parts<'a> {
             ≡ spec.type_given (phase_view phase) (parts_view self.old) start.now.rest) }
         ensures value { IfOk result (λ g. g.value ≡ value) }
         ensures leading { OnOk result (text_of self.new.leading ≡ text_of self.old.leading) }
-        ensures whole { slices.new.whole ≡ slices.old.whole }
+        ensures same { Recounted source.old source.new }
     {
         if let Phase::Property = phase {
-            let key = self.key_parts(slices, start)?;
+            let key = self.key_parts(source, start)?;
             return Ok(Given {
                 key: Some(key),
                 ty: None,
                 value,
             });
         }
-        let ty = self.type_parts(slices, start)?;
+        let ty = self.type_parts(source, start)?;
         Ok(Given {
             key: self.key.take(),
             ty: Some(ty),

@@ -328,7 +328,7 @@ newline_costs c v a b h w n m k =
 
 took_here : (c : ℕ) (o : Option ℕ) (a b : Here) → first a.rest ≡ Some c → Took o a b → Took (Some c) a b
 took_here c None a b h (x, y) = let z : first a.rest ≡ None = ap first x in cc
-took_here c (Some d) a b h (x, y, z) = let e : d ≡ c = let f : first a.rest ≡ Some d = ap first x in cc in subst (λ (v : ℕ). Took (Some v) a b) e (x, y, z)
+took_here c (Some d) a b h (x, y, z, w) = let e : d ≡ c = let f : first a.rest ≡ Some d = ap first x in cc in subst (λ (v : ℕ). Took (Some v) a b) e (x, y, z, w)
 
 pub punctuation_here : (c : ℕ) (k : TokenKind) (o : Option ℕ) (a b : Here) → first a.rest ≡ Some c → IsPunctuation c (Some k) → Took o a b → BeginsToken a.rest (kind_view k) b.rest
 punctuation_here c k o a b h i t = rw (took_here c o a b h t).0 (i b.rest)
@@ -345,7 +345,7 @@ take_moves c o a b h t = moves_one (took_here c o a b h t)
 
 pub punctuation_costs : (c : ℕ) (o : Option ℕ) (a b : Here) → first a.rest ≡ Some c → Took o a b → PieceCosts 22 a b
 punctuation_costs c o a b h t =
-    let (x, y, z) = took_here c o a b h t in
+    let (x, y, z, w) = took_here c o a b h t in
     let one = (len_utf8_bounds c).0 in
     record { fewer = omega (arith, ap bytes x, one); costs = record { most = omega (arith, ap bytes x, one, z); least = omega (arith, ap length x, z) } }
 

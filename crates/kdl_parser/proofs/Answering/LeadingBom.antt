@@ -1,26 +1,37 @@
 -- A text with U+FEFF before it, or without.
-use Rattle.std.proofs.Common.{◌≡◌, Bool, true, false, Ok, Err, sym, ap, subst, ◌∙◌}
+use Rattle.std.proofs.Common.{◌≡◌, Bool, true, false, [], ◌∷◌, Ok, Err, sym, ap, subst, ◌∙◌}
 use Rattle.kdl_text.specs.Chars.{Text, begins}
 use Rattle.kdl_text.specs.Internal.Here.{Here, Ate}
 use Rattle.kdl_lexer.specs.declared.lexer.LexFailure.{LexFailure}
 use Rattle.kdl_grammar.specs.Tree.{Node}
 use Rattle.kdl_parser.specs.Internal.Answered.{AnswersParts}
+use Rattle.kdl_parser.specs.Internal.Building.{EndsIn}
 use Rattle.kdl_parser.specs.Internal.Whole.{AnswersDocumentText}
 use Rattle.kdl_parser.specs.declared.node_parts.DocumentParts.{DocumentParts}
 use Rattle.kdl_parser.proofs.Answering.Outcomes.{plain_answer, plain_failure, bom_answer, bom_failure}
 
--- the result on the whole text
-pub whole_answer : {N : Type 0} (tree : N → Node) (t w : Text) (has_bom : Bool) (old new : Here) (p : DocumentParts N) → w ≡ t → old.rest ≡ t → Ate 0xFEFF has_bom old new → AnswersParts tree w new.rest (Ok p)
-    → AnswersDocumentText tree t (Ok (record { parts = p; has_bom = has_bom }))
-whole_answer tree t w true old new p e f a x = bom_answer tree t new.rest p (sym f ∙ a.0) (subst (λ (z : Text). AnswersParts tree z new.rest (Ok p)) e x)
-whole_answer tree t w false old new p e f a x =
-    let u : new.rest ≡ t = ap (λ (h : Here). h.rest) a.1 ∙ f in
-    plain_answer tree t p (subst (λ (z : Text). AnswersParts tree t z (Ok p)) u (subst (λ (z : Text). AnswersParts tree z new.rest (Ok p)) e x))
+-- the text stays
+same_text : (t : Text) (eaten : Bool) (old new : Here) → old.text ≡ t → Ate 0xFEFF eaten old new → new.text ≡ t
+same_text t true old new e a = a.3 ∙ e
+same_text t false old new e a = ap (λ (h : Here). h.text) a.1 ∙ e
 
-pub whole_failure : {N : Type 0} (tree : N → Node) (t w : Text) (has_bom : Bool) (old new : Here) (failure : LexFailure) → w ≡ t → old.rest ≡ t → Ate 0xFEFF has_bom old new → AnswersParts tree w new.rest (Err failure)
-    → AnswersDocumentText tree t (Err failure)
-whole_failure tree t w true old new failure e f a x =
-    bom_failure tree t new.rest failure (sym f ∙ a.0) (subst (λ (z : Text). AnswersParts tree z new.rest (Err failure)) e x)
-whole_failure tree t w false old new failure e f a x =
+-- what is left after the U+FEFF, or where there is none
+pub bom_ends : (t : Text) (eaten : Bool) (old new : Here) → old.text ≡ t → old.rest ≡ t → Ate 0xFEFF eaten old new → EndsIn new.text new.rest
+bom_ends t true old new e f a = (0xFEFF ∷ [], same_text t true old new e a ∙ sym f ∙ a.0)
+bom_ends t false old new e f a = ([], same_text t false old new e a ∙ sym f ∙ ap (λ (h : Here). h.rest) (sym a.1))
+
+-- the result on the whole text
+pub whole_answer : {N : Type 0} (tree : N → Node) (t : Text) (has_bom : Bool) (old new : Here) (p : DocumentParts N) → old.text ≡ t → old.rest ≡ t → Ate 0xFEFF has_bom old new → AnswersParts tree new.text new.rest (Ok p)
+    → AnswersDocumentText tree t (Ok (record { parts = p; has_bom = has_bom }))
+whole_answer tree t true old new p e f a x = bom_answer tree t new.rest p (sym f ∙ a.0) (subst (λ (z : Text). AnswersParts tree z new.rest (Ok p)) (same_text t true old new e a) x)
+whole_answer tree t false old new p e f a x =
     let u : new.rest ≡ t = ap (λ (h : Here). h.rest) a.1 ∙ f in
-    plain_failure tree t failure (ap (begins 0xFEFF) (sym f) ∙ a.0) (subst (λ (z : Text). AnswersParts tree t z (Err failure)) u (subst (λ (z : Text). AnswersParts tree z new.rest (Err failure)) e x))
+    plain_answer tree t p (subst (λ (z : Text). AnswersParts tree t z (Ok p)) u (subst (λ (z : Text). AnswersParts tree z new.rest (Ok p)) (same_text t false old new e a) x))
+
+pub whole_failure : {N : Type 0} (tree : N → Node) (t : Text) (has_bom : Bool) (old new : Here) (failure : LexFailure) → old.text ≡ t → old.rest ≡ t → Ate 0xFEFF has_bom old new → AnswersParts tree new.text new.rest (Err failure)
+    → AnswersDocumentText tree t (Err failure)
+whole_failure tree t true old new failure e f a x =
+    bom_failure tree t new.rest failure (sym f ∙ a.0) (subst (λ (z : Text). AnswersParts tree z new.rest (Err failure)) (same_text t true old new e a) x)
+whole_failure tree t false old new failure e f a x =
+    let u : new.rest ≡ t = ap (λ (h : Here). h.rest) a.1 ∙ f in
+    plain_failure tree t failure (ap (begins 0xFEFF) (sym f) ∙ a.0) (subst (λ (z : Text). AnswersParts tree t z (Err failure)) u (subst (λ (z : Text). AnswersParts tree z new.rest (Err failure)) (same_text t false old new e a) x))

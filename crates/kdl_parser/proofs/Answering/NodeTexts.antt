@@ -113,11 +113,11 @@ none_there t u f n Faulty a e x = no_lines t f (first n none) a (λ ls. x (subst
 none_there t u f n Memory a e x = tt
 
 -- the builder's result on the whole text
-pub whole_read : {N : Type 0} (tree : N → Node) (t w : Text) (l : Here) (d : DocumentParts N) → w ≡ l.rest → l.rest ≡ t → AnswersParts tree w l.rest (Ok d) → RunsOnText t (document_by tree d)
-whole_read tree t w l d e f a = subst (λ (z : Text). Runs z (document_by tree d) (initial t) t) (e ∙ f) (subst (λ (z : Text). Runs w (document_by tree d) (initial z) z) f a)
+pub whole_read : {N : Type 0} (tree : N → Node) (t : Text) (l : Here) (d : DocumentParts N) → l.text ≡ t → l.rest ≡ t → AnswersParts tree l.text l.rest (Ok d) → RunsOnText t (document_by tree d)
+whole_read tree t l d e f a = subst (λ (z : Text). Runs z (document_by tree d) (initial t) t) e (subst (λ (z : Text). Runs l.text (document_by tree d) (initial z) z) f a)
 
-pub nothing_read : {N : Type 0} (tree : N → Node) (t w : Text) (l : Here) (e : LexFailure) → w ≡ l.rest → l.rest ≡ t → AnswersParts tree w l.rest (Err e) → NoNode t e
-nothing_read tree t w l Faulty p q a =
-    let b : AnswersParts tree t t (Err Faulty) = subst (λ (z : Text). AnswersParts tree z t (Err Faulty)) (p ∙ q) (subst (λ (z : Text). AnswersParts tree w z (Err Faulty)) q a) in
+pub nothing_read : {N : Type 0} (tree : N → Node) (t : Text) (l : Here) (e : LexFailure) → l.text ≡ t → l.rest ≡ t → AnswersParts tree l.text l.rest (Err e) → NoNode t e
+nothing_read tree t l Faulty p q a =
+    let b : AnswersParts tree t t (Err Faulty) = subst (λ (z : Text). AnswersParts tree z t (Err Faulty)) p (subst (λ (z : Text). AnswersParts tree l.text z (Err Faulty)) q a) in
     λ x i. let o = only_node i in b (document (Some (record { leading = []; trailing = o.trailing })) o.span (first o.tree none)) o.runs
-nothing_read tree t w l Memory p q a = tt
+nothing_read tree t l Memory p q a = tt

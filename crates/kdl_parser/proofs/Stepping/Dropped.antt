@@ -23,7 +23,7 @@ use Rattle.kdl_text.specs.Spans.{bytes}
 use Rattle.kdl_parser.specs.declared.builder.dropping.Dropped.{Dropped}
 use Rattle.kdl_parser.specs.declared.builder.dropping.Dropped.TheVariants.{Nothing, Node as DroppedNode, Part as DroppedPart}
 use Rattle.kdl_parser.proofs.Stepping.Held.{not_reached}
-use Rattle.kdl_parser.proofs.Stepping.StepsDone.{none_sliced}
+use Rattle.kdl_parser.proofs.Stepping.StepsDone.{none_sliced, unmoved}
 use Rattle.kdl_parser.specs.Internal.Dropping.{inside, is_node_over, is_before_node, Reading, nothing, node, part, is_reading, is_over, next, reading_state, after_slashdash, Begun}
 
 -- the step inside is the step without data
@@ -217,25 +217,25 @@ module _ {N : Type 0} (tree : N → Node) (b : Builder N) (d : Dropped) (k : Tok
   -- a token of what is slashdashed
   drops : is_reading (reading_view b.dropped) ≡ true → is_over k (reading_view b.dropped) ≡ false → next k (reading_view b.dropped) ≡ Some (reading_view d) → TakesToken tree b k span (Ok tt) (record b { dropped = d })
   drops a e f = record {
-    did = reads_on b.slices.whole.rest (nodes_now tree b) (frames_view tree b) b.from.rest (node_now b) (kept_now tree b) (in_phase tree b (phase_now tree b b.phase)) (reading_view b.dropped) (reading_view d) k span.start.rest span.end.rest a e (begun b.dropped) (sym f);
-    whole = refl;
+    did = reads_on b.source.text (nodes_now tree b) (frames_view tree b) b.from.rest (node_now b) (kept_now tree b) (in_phase tree b (phase_now tree b b.phase)) (reading_view b.dropped) (reading_view d) k span.start.rest span.end.rest a e (begun b.dropped) (sym f);
+    same = unmoved b.source;
     sliced = none_sliced {A = Unit {0}} (bytes b.from.rest) _ _ _ (Ok tt) (still_dropped (reading_view b.dropped) d k b.phase _ _ (sym f)) (unsliced_read b.dropped b.phase _ _ a);
   }
 
   -- a token that may not be there
   drop_refused : is_reading (reading_view b.dropped) ≡ true → is_over k (reading_view b.dropped) ≡ false → next k (reading_view b.dropped) ≡ None → TakesToken tree b k span (Err Unexpected) (record b { dropped = d })
   drop_refused a e f = record {
-    did = refuses b.slices.whole.rest (nodes_now tree b) (frames_view tree b) b.from.rest (node_now b) (kept_now tree b) (in_phase tree b (phase_now tree b b.phase)) (reading_view b.dropped) k span.start.rest span.end.rest a e (begun b.dropped) (sym f);
-    whole = refl;
+    did = refuses b.source.text (nodes_now tree b) (frames_view tree b) b.from.rest (node_now b) (kept_now tree b) (in_phase tree b (phase_now tree b b.phase)) (reading_view b.dropped) k span.start.rest span.end.rest a e (begun b.dropped) (sym f);
+    same = unmoved b.source;
     sliced = none_sliced {A = Unit {0}} (bytes b.from.rest) (bytes b.from.rest) _ _ (Err Unexpected) tt (unsliced_read b.dropped b.phase _ _ a);
   }
 
   -- the first token after a `/-`
   first_drops : (result : Result (Unit {0}) TakeFailure) (new : Builder N) → b.dropped ≡ Nothing → is_live b.phase ≡ false → reading_view d ≡ after_slashdash (phase_view b.phase) → TakesToken tree (record b { dropped = d }) k span result new → TakesToken tree b k span result new
   first_drops result new f l i x = record {
-    did = subst (λ (st : State). Did (step b.slices.whole.rest st k span.start.rest span.end.rest) result (state_view tree new)) (ap (state_by tree b) i ∙ same_state b.phase l ∙ ap (λ (z : Dropped). state_by tree b (reading_view z)) (sym f)) x.did;
-    whole = x.whole;
-    sliced = subst (λ (n : ℕ). SlicedOn result n (unsliced new) b.slices.steps new.slices.steps) (same_count d b.phase _ _ l i ∙ ap (λ (z : Dropped). unsliced_at z b.phase (bytes b.from.rest) (bytes b.parts.from.rest)) (sym f)) x.sliced;
+    did = subst (λ (st : State). Did (step b.source.text st k span.start.rest span.end.rest) result (state_view tree new)) (ap (state_by tree b) i ∙ same_state b.phase l ∙ ap (λ (z : Dropped). state_by tree b (reading_view z)) (sym f)) x.did;
+    same = x.same;
+    sliced = subst (λ (n : ℕ). SlicedOn result n (unsliced new) b.source.steps new.source.steps) (same_count d b.phase _ _ l i ∙ ap (λ (z : Dropped). unsliced_at z b.phase (bytes b.from.rest) (bytes b.parts.from.rest)) (sym f)) x.sliced;
   }
     where
       same_state : (p : Phase) → is_live p ≡ false → state_by tree b (after_slashdash (phase_view p)) ≡ in_phase tree b (phase_now tree b p)
@@ -307,7 +307,7 @@ module _ {N : Type 0} (tree : N → Node) (b : Builder N) (u : CodeUnder) (f : u
   -- spaces after it
   pub space_ends : (p : Phase) (span : TokenSpan) (result : Result (Unit {0}) TakeFailure) (new : Builder N) → is_over space (reading_view b.dropped) ≡ true → p ≡ phase_after b.dropped → TakesToken tree (ended p) space span result new → TakesToken tree b space span result new
   space_ends p span result new e g x = record {
-    did = subst (λ (st : State). Did (step b.slices.whole.rest st space span.start.rest span.end.rest) result (state_view tree new)) (ap (λ (q : Phase). in_phase tree (ended q) (phase_now tree (ended q) q)) g ∙ same_end b.dropped e) x.did;
-    whole = x.whole;
-    sliced = subst (λ (n : ℕ). SlicedOn result n (unsliced new) b.slices.steps new.slices.steps) (ap (λ (q : Phase). unsliced_in q (bytes b.from.rest) (bytes b.parts.from.rest)) g ∙ counted_end b.dropped (bytes b.from.rest) (bytes b.parts.from.rest) e) x.sliced;
+    did = subst (λ (st : State). Did (step b.source.text st space span.start.rest span.end.rest) result (state_view tree new)) (ap (λ (q : Phase). in_phase tree (ended q) (phase_now tree (ended q) q)) g ∙ same_end b.dropped e) x.did;
+    same = x.same;
+    sliced = subst (λ (n : ℕ). SlicedOn result n (unsliced new) b.source.steps new.source.steps) (ap (λ (q : Phase). unsliced_in q (bytes b.from.rest) (bytes b.parts.from.rest)) g ∙ counted_end b.dropped (bytes b.from.rest) (bytes b.parts.from.rest) e) x.sliced;
   }

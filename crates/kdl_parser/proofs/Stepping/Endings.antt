@@ -22,8 +22,8 @@ use Rattle.kdl_parser.proofs.Stepping.Origins.{between_none}
 abbrev nodes_of : Text → State → Option Document
 nodes_of whole (at p l fs from) = at_end whole l fs from
 
-of_state : {N : Type 0} (tree : N → Node) (m : Builder N) → m.dropped ≡ Nothing → document_of_nodes tree m ≡ nodes_of m.slices.whole.rest (state_view tree m)
-of_state tree m e = ap (λ (z : Dropped). nodes_of m.slices.whole.rest (state_by tree m (reading_view z))) (sym e)
+of_state : {N : Type 0} (tree : N → Node) (m : Builder N) → m.dropped ≡ Nothing → document_of_nodes tree m ≡ nodes_of m.source.text (state_view tree m)
+of_state tree m e = ap (λ (z : Dropped). nodes_of m.source.text (state_by tree m (reading_view z))) (sym e)
 
 -- a node without a block ends with the text
 ends_at : (whole from here : Text) (u : Under) (l : Option Nodes) (fs : List Frame) → here ≡ []
@@ -39,28 +39,28 @@ kept_ends_at whole from here x l fs e =
     ∙ ap (λ (q : Text). at_end whole (ended (closed_kept whole (Some x) (between from []) q []) l) fs []) (between_none [])
 
 in_node_ends : {N : Type 0} (tree : N → Node) (b : Builder N) (spot : Spot)
-    → finish b.slices.whole.rest (in_phase tree b (phase_now tree b (InNode spot))) ≡ at_end b.slices.whole.rest (ended (closed b.slices.whole.rest (Some (node_now b)) no_children [] (between b.from.rest []) [] []) (nodes_now tree b)) (frames_view tree b) []
+    → finish b.source.text (in_phase tree b (phase_now tree b (InNode spot))) ≡ at_end b.source.text (ended (closed b.source.text (Some (node_now b)) no_children [] (between b.from.rest []) [] []) (nodes_now tree b)) (frames_view tree b) []
 in_node_ends tree b (Fresh w) = refl
 in_node_ends tree b (Spaced w) = refl
 in_node_ends tree b Later = refl
 
-now_is : {N : Type 0} (tree : N → Node) (b : Builder N) → b.dropped ≡ Nothing → document_now tree b ≡ finish b.slices.whole.rest (in_phase tree b (phase_now tree b b.phase))
-now_is tree b e = ap (λ (z : Dropped). finish b.slices.whole.rest (state_by tree b (reading_view z))) e
+now_is : {N : Type 0} (tree : N → Node) (b : Builder N) → b.dropped ≡ Nothing → document_now tree b ≡ finish b.source.text (in_phase tree b (phase_now tree b b.phase))
+now_is tree b e = ap (λ (z : Dropped). finish b.source.text (state_by tree b (reading_view z))) e
 
 pub node_finishes : {N : Type 0} (tree : N → Node) (b m : Builder N) (spot : Spot) (here : Position) (result : Result (DocumentParts N) TakeFailure)
-    → b.dropped ≡ Nothing → b.phase ≡ InNode spot → here.rest ≡ [] → state_view tree m ≡ node_ended tree b here here → m.dropped ≡ Nothing → m.slices.whole ≡ b.slices.whole
+    → b.dropped ≡ Nothing → b.phase ≡ InNode spot → here.rest ≡ [] → state_view tree m ≡ node_ended tree b here here → m.dropped ≡ Nothing → m.source.text ≡ b.source.text
     → Finished tree (document_of_nodes tree m) result → Finished tree (document_now tree b) result
 node_finishes tree b m spot here result d p e s d' w f =
-    let x : document_of_nodes tree m ≡ nodes_of b.slices.whole.rest (node_ended tree b here here) = of_state tree m d' ∙ ap (λ z. nodes_of z.rest (state_view tree m)) w ∙ ap (nodes_of b.slices.whole.rest) s in
-    let y = ends_at b.slices.whole.rest b.from.rest here.rest (node_now b) (nodes_now tree b) (frames_view tree b) e in
-    let z : document_now tree b ≡ _ = now_is tree b d ∙ ap (λ q. finish b.slices.whole.rest (in_phase tree b (phase_now tree b q))) p ∙ in_node_ends tree b spot in
+    let x : document_of_nodes tree m ≡ nodes_of b.source.text (node_ended tree b here here) = of_state tree m d' ∙ ap (λ z. nodes_of z (state_view tree m)) w ∙ ap (nodes_of b.source.text) s in
+    let y = ends_at b.source.text b.from.rest here.rest (node_now b) (nodes_now tree b) (frames_view tree b) e in
+    let z : document_now tree b ≡ _ = now_is tree b d ∙ ap (λ q. finish b.source.text (in_phase tree b (phase_now tree b q))) p ∙ in_node_ends tree b spot in
     subst (λ o. Finished tree o result) (x ∙ y ∙ sym z) f
 
 pub kept_finishes : {N : Type 0} (tree : N → Node) (b m : Builder N) (here : Position) (result : Result (DocumentParts N) TakeFailure)
-    → b.dropped ≡ Nothing → b.phase ≡ KeptPhase → here.rest ≡ [] → state_view tree m ≡ kept_ended tree b here here → m.dropped ≡ Nothing → m.slices.whole ≡ b.slices.whole
+    → b.dropped ≡ Nothing → b.phase ≡ KeptPhase → here.rest ≡ [] → state_view tree m ≡ kept_ended tree b here here → m.dropped ≡ Nothing → m.source.text ≡ b.source.text
     → Finished tree (document_of_nodes tree m) result → Finished tree (document_now tree b) result
 kept_finishes tree b m here result d p e s d' w f =
-    let x : document_of_nodes tree m ≡ nodes_of b.slices.whole.rest (kept_ended tree b here here) = of_state tree m d' ∙ ap (λ z. nodes_of z.rest (state_view tree m)) w ∙ ap (nodes_of b.slices.whole.rest) s in
-    let y = kept_ends_at b.slices.whole.rest b.from.rest here.rest (kept_now tree b) (nodes_now tree b) (frames_view tree b) e in
-    let z : document_now tree b ≡ _ = now_is tree b d ∙ ap (λ q. finish b.slices.whole.rest (in_phase tree b (phase_now tree b q))) p in
+    let x : document_of_nodes tree m ≡ nodes_of b.source.text (kept_ended tree b here here) = of_state tree m d' ∙ ap (λ z. nodes_of z (state_view tree m)) w ∙ ap (nodes_of b.source.text) s in
+    let y = kept_ends_at b.source.text b.from.rest here.rest (kept_now tree b) (nodes_now tree b) (frames_view tree b) e in
+    let z : document_now tree b ≡ _ = now_is tree b d ∙ ap (λ q. finish b.source.text (in_phase tree b (phase_now tree b q))) p in
     subst (λ o. Finished tree o result) (x ∙ y ∙ sym z) f

@@ -43,7 +43,7 @@ same_from None s r = refl
 same_from (Some (pending c k a)) s r = refl
 
 module _ {N : Type 0} (tree : N → Node) (b : Builder N) (s r : Position) where
-  in_live : (k : Token) (p : Phase) → is_live p ≡ true → step b.slices.whole.rest (in_phase tree b (phase_now tree b p)) k s.rest r.rest ≡ stepped_by tree b (event_of p k) k s r
+  in_live : (k : Token) (p : Phase) → is_live p ≡ true → step b.source.text (in_phase tree b (phase_now tree b p)) k s.rest r.rest ≡ stepped_by tree b (event_of p k) k s r
   in_live k NodeSlashdash e = absurd cc
   in_live k EntrySlashdash e = absurd cc
   in_live k BlockSlashdash e = absurd cc
@@ -60,7 +60,7 @@ module _ {N : Type 0} (tree : N → Node) (b : Builder N) (s r : Position) where
   in_live space (InNode (Spaced NoKey)) e = refl
   in_live space (InNode Later) e = refl
   in_live space p e = refl
-  in_live equals (InNode (Spaced MayBeKey)) e = ap (stay (nodes_now tree b) (frames_view tree b) b.from.rest) (same_from (pending_now MayBeKey b.slices.whole.rest b.from.rest b.waiting (under_view b.under)) s.rest r.rest)
+  in_live equals (InNode (Spaced MayBeKey)) e = ap (stay (nodes_now tree b) (frames_view tree b) b.from.rest) (same_from (pending_now MayBeKey b.source.text b.from.rest b.waiting (under_view b.under)) s.rest r.rest)
   in_live equals (InNode (Fresh MayBeKey)) e = refl
   in_live k (TypeOpen Name) e = refl
   in_live k (TypeOpen Value) e = refl
@@ -109,7 +109,7 @@ module _ {N : Type 0} (tree : N → Node) (b b' : Builder N) (span : TokenSpan) 
   -- the machine's step at the token
   token_is : (k : Token) (o : Option Event) → b.dropped ≡ Nothing → is_live b.phase ≡ true → o ≡ event_of b.phase k → step_at tree b k span ≡ stepped_by tree b o k span.start span.end
   token_is k o d l f =
-      ap (λ (z : Dropped). step b.slices.whole.rest (state_by tree b (reading_view z)) k span.start.rest span.end.rest) d ∙ in_live tree b span.start span.end k b.phase l ∙ ap (λ (z : Option Event). stepped_by tree b z k span.start span.end) (sym f)
+      ap (λ (z : Dropped). step b.source.text (state_by tree b (reading_view z)) k span.start.rest span.end.rest) d ∙ in_live tree b span.start span.end k b.phase l ∙ ap (λ (z : Option Event). stepped_by tree b z k span.start span.end) (sym f)
 
   unsliced_is : (k : Token) → b.dropped ≡ Nothing → Some e ≡ event_of b.phase k → unsliced_before e (bytes b.from.rest) (bytes b.parts.from.rest) ≡ unsliced b
   unsliced_is k d f =
@@ -120,8 +120,8 @@ module _ {N : Type 0} (tree : N → Node) (b b' : Builder N) (span : TokenSpan) 
   takes : (k : Token) → is_building b.dropped b.phase ≡ true → Some e ≡ event_of b.phase k → Acts tree e (event_step tree b e k span.start span.end) b result b' → TakesToken tree b k span result b'
   takes k i f x = let d = is_nothing b.dropped b.phase i in record {
     did = subst (λ (o : Option State). Did o result (state_view tree b')) (sym (token_is k (Some e) d (is_phase_live b.dropped b.phase i) f)) x.did;
-    whole = x.whole;
-    sliced = subst (λ (n : ℕ). SlicedOn result n (unsliced b') b.slices.steps b'.slices.steps) (unsliced_is k d f) x.sliced;
+    same = x.same;
+    sliced = subst (λ (n : ℕ). SlicedOn result n (unsliced b') b.source.steps b'.source.steps) (unsliced_is k d f) x.sliced;
   }
 
   pub takes_as : (k k' : TokenKind) (o : Option State) → is_building b.dropped b.phase ≡ true → Some e ≡ event_of b.phase (kind_view k) → k ≡ k' → o ≡ event_step tree b e (kind_view k') span.start span.end → Acts tree e o b result b' → Takes tree b k span result b'
@@ -134,7 +134,7 @@ takes_name tree b b' span result w i p e x =
     takes tree b b' span NodeName result (string w) i (sym (ap (λ (z : Phase). event_of z (string w)) p)) (record {
       did = does_did (event_step tree b NodeName (string w) span.start span.end) (given_at tree b (name_slot b span.start) None (text (between span.start.rest span.end.rest)) span.start span.end) (state_view tree b') result x.did
           (ap (λ (v : Text). Some (given_at tree b (name_slot b span.start) None (text v) span.start span.end)) (is_between span.start.rest span.end.rest w e));
-      whole = x.whole;
+      same = x.same;
       sliced = x.sliced;
     })
 

@@ -1,14 +1,16 @@
 -- What a step did that is refused at no token.
-use Rattle.std.proofs.Common.{◌≡◌, ℕ, ◌+◌, Option, Some, option_map, Result, Ok, Err, OnOk, sym, ap, subst, ◌∙◌, arith}
+use Rattle.std.proofs.Common.{◌≡◌, ℕ, ◌+◌, Option, Some, option_map, Result, Ok, Err, OnOk, refl, sym, ap, subst, ◌∙◌, arith}
+use Rattle.kdl_text.specs.Chars.{Text}
 use Rattle.kdl_text.specs.Spans.{raise}
-use Rattle.kdl_entry.specs.declared.parsing.slices.Slices.{Slices}
+use Rattle.kdl_entry.specs.Internal.Counted.{Recounted}
+use Rattle.kdl_text.specs.Internal.Here.{Here, looked}
 use Rattle.kdl_parser.specs.declared.builder.TakeFailure.{TakeFailure}
 use Rattle.kdl_parser.specs.declared.builder.TakeFailure.TheVariants.{Unexpected, Memory}
 use Rattle.kdl_lexer.specs.Tokens.{Token}
 use Rattle.kdl_lexer.specs.declared.token_span.TokenSpan.{TokenSpan}
 use Rattle.kdl_grammar.specs.Internal.Machine.{State}
 use Rattle.kdl_grammar.specs.Tree.{Node}
-use Rattle.kdl_parser.specs.Internal.Building.{held, Did, Does}
+use Rattle.kdl_parser.specs.Internal.Building.{held, state_view, Did, Does}
 use Rattle.kdl_parser.specs.Internal.Counted.{SlicedOn, unsliced}
 use Rattle.kdl_parser.specs.Internal.States.{Steps, TakesToken, step_at}
 use Rattle.kdl_parser.specs.declared.builder.Builder.{Builder}
@@ -41,9 +43,21 @@ more_sliced m k s t (Ok x) d = record { most = omega (arith, d.most) }
 more_sliced m k s t (Err Unexpected) d = record { most = omega (arith, d.most) }
 more_sliced m k s t (Err Memory) d = tt
 
+-- a source is the same as itself
+pub unmoved : (z : Here) → Recounted z z
+unmoved z = record { text = refl; rest = refl; at = refl; counts = omega arith }
+
+-- where the source is makes no difference
+pub same_state : {N : Type 0} (tree : N → Node) (b : Builder N) (z : Here) → z.text ≡ b.source.text → state_view tree (record b { source = z }) ≡ state_view tree b
+same_state tree b z e = ap (λ (t : Text). state_view tree (record b { source = record z { text = t } })) e
+
 -- a step after a look that is counted
-pub looked_takes : {N : Type 0} (tree : N → Node) (b new : Builder N) (z : Slices) (k : Token) (span : TokenSpan) (result : Result (Unit {0}) TakeFailure) → z ≡ record b.slices { steps = raise b.slices.steps 1 } → TakesToken tree (record b { slices = z }) k span result new
+pub looked_takes : {N : Type 0} (tree : N → Node) (b new : Builder N) (z : Here) (k : Token) (span : TokenSpan) (result : Result (Unit {0}) TakeFailure) → z ≡ looked b.source → TakesToken tree (record b { source = z }) k span result new
     → Steps tree (step_at tree b k span) (unsliced b + 1) b result new
 looked_takes tree b new z k span result e x =
-    let y : TakesToken tree (record b { slices = record b.slices { steps = raise b.slices.steps 1 } }) k span result new = subst (λ (s : Slices). TakesToken tree (record b { slices = s }) k span result new) e x in
-    record { did = y.did; whole = y.whole; sliced = more_sliced (unsliced b) (unsliced new) b.slices.steps new.slices.steps result y.sliced }
+    let y : TakesToken tree (record b { source = looked b.source }) k span result new = subst (λ (s : Here). TakesToken tree (record b { source = s }) k span result new) e x in
+    record {
+      did = y.did;
+      same = record { text = y.same.text; rest = y.same.rest; at = y.same.at; counts = omega (arith, y.same.counts) };
+      sliced = more_sliced (unsliced b) (unsliced new) b.source.steps new.source.steps result y.sliced;
+    }

@@ -13,7 +13,7 @@ use Rattle.kdl_control.specs.declared.control.Word.TheVariants.{MayBeKey, NoKey}
 use Rattle.kdl_entry.specs.Internal.Building.{type_view, parts_view}
 use Rattle.kdl_entry.specs.declared.parsing.parts.TypeParts.{TypeParts}
 use Rattle.kdl_value.specs.Data.{text}
-pub use Rattle.kdl_entry.specs.Internal.EntryReading.{EndsIn}
+pub use Rattle.kdl_entry.specs.Internal.Counted.{EndsIn, InOrder}
 use Rattle.kdl_entry.specs.Internal.Parts as under_way
 use Rattle.kdl_entry.specs.Internal.Parts.{entry_at}
 use Rattle.kdl_entry.specs.Places.{span_of}
@@ -80,7 +80,7 @@ slot_of Value u it = for_value u it.leading it.start it.key
 
 -- the current node, with the pending string
 abbrev pub node_now : {N : Type 0} → Builder N → machine.Under
-node_now b = under_now b.slices.whole.rest b.from.rest b.waiting (under_view b.under)
+node_now b = under_now b.source.text b.from.rest b.waiting (under_view b.under)
 
 -- the current node with its block, without the pending string
 abbrev pub kept_by : {N : Type 0} → (N → Node) → Builder N → machine.Kept
@@ -96,8 +96,8 @@ phase_now tree b NodeSlashdash = machine.node_slashdash
 phase_now tree b (TypeOpen o) = machine.type_open (owner_view o) (slot_of o (under_view b.under) (parts_view b.parts)) b.parts.from.rest
 phase_now tree b (TypeName o) = machine.type_name (owner_view o) (slot_of o (under_view b.under) (parts_view b.parts)) (text_of b.parts.before) (identifier_tree b.parts.name) b.parts.from.rest
 phase_now tree b (TypeDone o) = machine.type_done (owner_view o) (slot_of o (under_view b.under) (parts_view b.parts)) (text_of b.parts.before) (identifier_tree b.parts.name) (text_of b.parts.after) b.parts.from.rest
-phase_now tree b (InNode (Fresh w)) = machine.in_node (Some (node_now b)) (machine.fresh (pending_now w b.slices.whole.rest b.from.rest b.waiting (under_view b.under)))
-phase_now tree b (InNode (Spaced w)) = machine.in_node (Some (node_now b)) (machine.spaced (pending_now w b.slices.whole.rest b.from.rest b.waiting (under_view b.under)))
+phase_now tree b (InNode (Fresh w)) = machine.in_node (Some (node_now b)) (machine.fresh (pending_now w b.source.text b.from.rest b.waiting (under_view b.under)))
+phase_now tree b (InNode (Spaced w)) = machine.in_node (Some (node_now b)) (machine.spaced (pending_now w b.source.text b.from.rest b.waiting (under_view b.under)))
 phase_now tree b (InNode Later) = machine.in_node (Some (node_now b)) machine.later
 phase_now tree b Property = machine.property (for_value (under_view b.under) (text_of b.parts.leading) b.parts.start.rest None) (identifier_tree b.parts.name) (text_of b.parts.before) b.parts.from.rest
 phase_now tree b EntrySlashdash = machine.entry_slashdash (Some (node_now b))
@@ -177,20 +177,20 @@ Does want (Ok x) st = st ≡ want
 Does want (Err Unexpected) st = ⊥
 Does want (Err Memory) st = Unit {0}
 
--- the place a begins before s, if it is kept
-abbrev pub place_placed : Slot → Text → Text → Type 0
-place_placed no_name a s = Unit {0}
-place_placed (for_name leading start) a s = EndsIn a s
-place_placed (no_value u) a s = Unit {0}
-place_placed (for_value u leading start k) a s = EndsIn a s
+-- the place a is in the text t, and begins before s, if it is kept
+abbrev pub place_placed : Text → Slot → Text → Text → Type 0
+place_placed t no_name a s = Unit {0}
+place_placed t (for_name leading start) a s = InOrder t a s
+place_placed t (no_value u) a s = Unit {0}
+place_placed t (for_value u leading start k) a s = InOrder t a s
 
--- the current places begin before s
-abbrev pub phase_placed : machine.Phase → Text → Type 0
-phase_placed (machine.type_open b c a) s = place_placed c a s
-phase_placed (machine.type_name b c q i a) s = place_placed c a s
-phase_placed (machine.type_done b c q i d a) s = place_placed c a s
-phase_placed (machine.property c k b a) s = place_placed c a s
-phase_placed p s = Unit {0}
+-- the current places are in the text t, and begin before s
+abbrev pub phase_placed : Text → machine.Phase → Text → Type 0
+phase_placed t (machine.type_open b c a) s = place_placed t c a s
+phase_placed t (machine.type_name b c q i a) s = place_placed t c a s
+phase_placed t (machine.type_done b c q i d a) s = place_placed t c a s
+phase_placed t (machine.property c k b a) s = place_placed t c a s
+phase_placed t p s = Unit {0}
 
-abbrev pub Placed : State → Text → Type 0
-Placed (at p l fs from) s = EndsIn from s × phase_placed p s
+abbrev pub Placed : Text → State → Text → Type 0
+Placed t (at p l fs from) s = InOrder t from s × phase_placed t p s

@@ -1,4 +1,4 @@
--- The steps of a parse: for the texts that the builder slices, and for the text before the lexer.
+-- The steps of a parse: for the tokens, and for the texts that the builder slices.
 use Rattle.std.specs.Prelude.{ℕ, ◌+◌, ◌*◌, ◌≤◌, length, Result, Ok, Err}
 use Rattle.kdl_text.specs.Internal.Here.{Here}
 use Rattle.kdl_text.specs.Spans.{bytes, raise}

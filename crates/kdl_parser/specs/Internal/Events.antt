@@ -2,7 +2,7 @@
 -- The token is at s and ends at r.
 use Rattle.std.specs.Prelude.{ℕ, Bool, true, false, Option, Some, None, option_map, Result}
 use Rattle.kdl_text.specs.Chars.{Text}
-use Rattle.kdl_text.specs.Internal.Here.{Position, Ahead}
+use Rattle.kdl_text.specs.Internal.Here.{Here, Position}
 use Rattle.kdl_text.specs.Spans.{bytes}
 use Rattle.kdl_control.specs.Internal.Views.{owner_view}
 use Rattle.kdl_control.specs.declared.control.Owner.{Owner}
@@ -11,6 +11,7 @@ use Rattle.kdl_control.specs.declared.control.Phase.TheVariants.{NodeSlashdash, 
 use Rattle.kdl_control.specs.declared.events.Event.{Event}
 use Rattle.kdl_control.specs.declared.events.Event.TheVariants.{Skip, Name, TypedName, NameType, ValueType, KeyedType, TypeName, TypeEnd, Word, Argument, TypedValue, KeyedValue, Equals, EntrySlashdash, NodeEnd, KeptEnd, Opening, GapClosing, NodeClosing, KeptClosing}
 use Rattle.kdl_entry.specs.Internal.Building.{key_view, parts_view}
+use Rattle.kdl_entry.specs.Internal.Counted.{Within}
 use Rattle.kdl_entry.specs.Internal.Parts.{identifier_at, key_at}
 use Rattle.kdl_entry.specs.Places.{between}
 use Rattle.kdl_grammar.specs.Internal.Machine as machine
@@ -32,7 +33,7 @@ use Rattle.kdl_entry.specs.Tree.{identifier_tree}
 -- after the name of a type
 abbrev pub type_named : {N : Type 0} → (N → Node) → Builder N → Owner → Text → Position → Position → State
 type_named tree b o v s r =
-    in_phase tree b (machine.type_name (owner_view o) (slot_of o (under_view b.under) (parts_view b.parts)) (between b.parts.from.rest s.rest) (identifier_at b.slices.whole.rest v s.rest r.rest) r.rest)
+    in_phase tree b (machine.type_name (owner_view o) (slot_of o (under_view b.under) (parts_view b.parts)) (between b.parts.from.rest s.rest) (identifier_at b.source.text v s.rest r.rest) r.rest)
 
 -- after the `)` of a type
 abbrev pub type_ended : {N : Type 0} → (N → Node) → Builder N → Owner → Position → Position → State
@@ -79,14 +80,14 @@ event_step tree b e (token.value v) s r = value_step tree b e v s r
 event_step tree b e k s r = mark_step tree b e s r
 
 -- whether the token belongs to what has a type or a key
-abbrev pub PartsAhead : Event → Position → Position → Type 0
-PartsAhead TypedName from s = Ahead from s
-PartsAhead (TypeName o) from s = Ahead from s
-PartsAhead (TypeEnd o) from s = Ahead from s
-PartsAhead TypedValue from s = Ahead from s
-PartsAhead KeyedValue from s = Ahead from s
-PartsAhead KeyedType from s = Ahead from s
-PartsAhead _ from s = Unit {0}
+abbrev pub PartsAhead : Event → Here → Position → Position → Type 0
+PartsAhead TypedName z from s = Within z from s
+PartsAhead (TypeName o) z from s = Within z from s
+PartsAhead (TypeEnd o) z from s = Within z from s
+PartsAhead TypedValue z from s = Within z from s
+PartsAhead KeyedValue z from s = Within z from s
+PartsAhead KeyedType z from s = Within z from s
+PartsAhead _ z from s = Unit {0}
 
 -- the bytes that were not sliced before the token, from the start of the entry's current place, or of the builder's
 abbrev pub unsliced_before : Event → ℕ → ℕ → ℕ

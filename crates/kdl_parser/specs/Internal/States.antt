@@ -7,6 +7,7 @@ use Rattle.kdl_control.specs.declared.control.Word.TheVariants.{MayBeKey}
 use Rattle.kdl_value.specs.Data.{Value}
 use Rattle.kdl_value.specs.Tree.{text_of}
 use Rattle.kdl_entry.specs.Internal.Building.{parts_view}
+use Rattle.kdl_entry.specs.Internal.Counted.{Recounted}
 use Rattle.kdl_lexer.specs.Internal.Handed.{kind_view}
 use Rattle.kdl_lexer.specs.Tokens.{Token, string}
 use Rattle.kdl_entry.specs.Internal.Parts as under_way
@@ -26,18 +27,18 @@ use Rattle.kdl_parser.specs.declared.builder.Slot.{Slot}
 
 -- the machine's step at the token k, and at a token of the kind
 abbrev pub step_at : {N : Type 0} → (N → Node) → Builder N → Token → TokenSpan → Option State
-step_at tree b k span = machine.step b.slices.whole.rest (state_view tree b) k span.start.rest span.end.rest
+step_at tree b k span = machine.step b.source.text (state_view tree b) k span.start.rest span.end.rest
 
 abbrev pub token_step : {N : Type 0} → (N → Node) → Builder N → TokenKind → TokenSpan → Option State
 token_step tree b kind span = step_at tree b (kind_view kind) span
 
 -- the nodes, and after them the current node: it has no block, and ends at s with the terminator
 abbrev pub nodes_and : {N : Type 0} → (N → Node) → Builder N → Position → Text → Option Nodes
-nodes_and tree b s terminator = machine.ended (machine.closed b.slices.whole.rest (Some (node_now b)) no_children [] (between b.from.rest s.rest) terminator s.rest) (nodes_now tree b)
+nodes_and tree b s terminator = machine.ended (machine.closed b.source.text (Some (node_now b)) no_children [] (between b.from.rest s.rest) terminator s.rest) (nodes_now tree b)
 
 -- the same of the node with its block
 abbrev pub nodes_and_kept : {N : Type 0} → (N → Node) → Builder N → Position → Text → Option Nodes
-nodes_and_kept tree b s terminator = machine.ended (machine.closed_kept b.slices.whole.rest (Some (kept_now tree b)) (between b.from.rest s.rest) terminator s.rest) (nodes_now tree b)
+nodes_and_kept tree b s terminator = machine.ended (machine.closed_kept b.source.text (Some (kept_now tree b)) (between b.from.rest s.rest) terminator s.rest) (nodes_now tree b)
 
 -- after a node without a block, of which the token is the terminator
 abbrev pub node_ended : {N : Type 0} → (N → Node) → Builder N → Position → Position → State
@@ -49,15 +50,15 @@ kept_ended tree b s r = at machine.gap (nodes_and_kept tree b s (between s.rest 
 
 -- after the `}` that ends the block around the builder's nodes
 abbrev pub around : {N : Type 0} → (N → Node) → Builder N → Position → Position → Option State
-around tree b s r = machine.popped b.slices.whole.rest (nodes_now tree b) (frames_view tree b) b.from.rest s.rest r.rest
+around tree b s r = machine.popped b.source.text (nodes_now tree b) (frames_view tree b) b.from.rest s.rest r.rest
 
 -- after the `}` that ends a node without a block, and the block around it
 abbrev pub around_node : {N : Type 0} → (N → Node) → Builder N → Position → Position → Option State
-around_node tree b s r = machine.popped b.slices.whole.rest (nodes_and tree b s []) (frames_view tree b) s.rest s.rest r.rest
+around_node tree b s r = machine.popped b.source.text (nodes_and tree b s []) (frames_view tree b) s.rest s.rest r.rest
 
 -- after the `}` that ends a node with a block, and the block around it
 abbrev pub around_kept : {N : Type 0} → (N → Node) → Builder N → Position → Position → Option State
-around_kept tree b s r = machine.popped b.slices.whole.rest (nodes_and_kept tree b s []) (frames_view tree b) s.rest s.rest r.rest
+around_kept tree b s r = machine.popped b.source.text (nodes_and_kept tree b s []) (frames_view tree b) s.rest s.rest r.rest
 
 -- in the block of the current node, which the token opens
 abbrev pub block_opened : {N : Type 0} → (N → Node) → Builder N → Position → Position → State
@@ -66,7 +67,7 @@ block_opened tree b s r =
 
 -- after a name or a value, with its type
 abbrev pub given_at : {N : Type 0} → (N → Node) → Builder N → machine.Slot → Option TypeParts → Value → Position → Position → State
-given_at tree b slot ty value s r = machine.given b.slices.whole.rest slot ty value None (nodes_now tree b) (frames_view tree b) b.from.rest s.rest r.rest
+given_at tree b slot ty value s r = machine.given b.source.text slot ty value None (nodes_now tree b) (frames_view tree b) b.from.rest s.rest r.rest
 
 -- the slot of a name that begins here, and that of an argument of the current node
 abbrev pub name_slot : {N : Type 0} → Builder N → Position → machine.Slot
@@ -102,11 +103,11 @@ key_now b s = Some (under_way.key_at (parts_view b.parts) s.rest)
 abbrev pub property_opened : {N : Type 0} → (N → Node) → Builder N → Position → Position → Option State
 property_opened tree b s r =
     machine.stay (nodes_now tree b) (frames_view tree b) b.from.rest
-    (machine.value_from (machine.fresh (pending_now MayBeKey b.slices.whole.rest b.from.rest b.waiting (under_view b.under))) s.rest r.rest)
+    (machine.value_from (machine.fresh (pending_now MayBeKey b.source.text b.from.rest b.waiting (under_view b.under))) s.rest r.rest)
 
 -- after a string that may be a key
 abbrev pub worded : {N : Type 0} → (N → Node) → Builder N → Text → Position → Position → State
-worded tree b value s r = machine.worded b.slices.whole.rest (argument_slot b s) value (nodes_now tree b) (frames_view tree b) b.from.rest s.rest r.rest
+worded tree b value s r = machine.worded b.source.text (argument_slot b s) value (nodes_now tree b) (frames_view tree b) b.from.rest s.rest r.rest
 
 -- inside the `(` of a type before the name of a node
 abbrev pub name_opened : {N : Type 0} → (N → Node) → Builder N → Position → Position → State
@@ -118,23 +119,29 @@ value_opened tree b s r = in_phase tree b (machine.type_open true (argument_slot
 
 -- the document if the text ends here
 abbrev pub document_now : {N : Type 0} → (N → Node) → Builder N → Option Document
-document_now tree b = machine.finish b.slices.whole.rest (state_view tree b)
+document_now tree b = machine.finish b.source.text (state_view tree b)
 
 -- the document of the nodes, if no block is open
 abbrev pub document_of_nodes : {N : Type 0} → (N → Node) → Builder N → Option Document
-document_of_nodes tree b = machine.at_end b.slices.whole.rest (nodes_now tree b) (frames_view tree b) b.from.rest
+document_of_nodes tree b = machine.at_end b.source.text (nodes_now tree b) (frames_view tree b) b.from.rest
 
--- a step at a token, given the machine's result o: the text stays, and of the n bytes that were not sliced yet all may have been sliced but those that are still not
+-- a step at a token, given the machine's result o: the source stays, and of the n bytes that were not sliced yet all may have been sliced but those that are still not
 pub record Steps {N : Type 0} (tree : N → Node) (o : Option State) (n : ℕ) (old : Builder N) (result : Result (Unit {0}) TakeFailure) (new : Builder N) : Type 0 where
   pub did : Did o result (state_view tree new)
-  pub whole : new.slices.whole ≡ old.slices.whole
-  pub sliced : SlicedOn result n (unsliced new) old.slices.steps new.slices.steps
+  pub same : Recounted old.source new.source
+  pub sliced : SlicedOn result n (unsliced new) old.source.steps new.source.steps
 
 -- a step that never refuses a token, to the state want
 pub record Reaches {N : Type 0} (tree : N → Node) (want : State) (n : ℕ) (old : Builder N) (result : Result (Unit {0}) TakeFailure) (new : Builder N) : Type 0 where
   pub did : Does want result (state_view tree new)
-  pub whole : new.slices.whole ≡ old.slices.whole
-  pub sliced : SlicedOn result n (unsliced new) old.slices.steps new.slices.steps
+  pub same : Recounted old.source new.source
+  pub sliced : SlicedOn result n (unsliced new) old.source.steps new.source.steps
+
+-- the builder is the same but for where its source is
+pub record Stays {N : Type 0} (tree : N → Node) (old new : Builder N) : Type 0 where
+  pub text : new.source.text ≡ old.source.text
+  pub state : state_view tree new ≡ state_view tree old
+  pub unsliced : unsliced new ≡ unsliced old
 
 -- what the token k did, and what a token of the kind did, given the machine's step
 abbrev pub TakesToken : {N : Type 0} → (N → Node) → Builder N → Token → TokenSpan → Result (Unit {0}) TakeFailure → Builder N → Type 0

@@ -1,7 +1,7 @@
 //! Nodes, blocks and documents, from their parts.
 
 ghost use Rattle.kdl_entry.specs.Internal.Building.{key_view, type_view};
-ghost use Rattle.kdl_entry.specs.Internal.Counted.{Sliced};
+ghost use Rattle.kdl_entry.specs.Internal.Counted.{EndsIn, Recounted, Sliced, Within};
 ghost use Rattle.kdl_entry.specs.Internal.Parts.{entry_at};
 ghost use Rattle.kdl_entry.specs.Places.{span_of, between};
 ghost use Rattle.kdl_entry.specs.Tree.{entry_tree};
@@ -10,7 +10,6 @@ ghost use Rattle.kdl_grammar.specs.Laid as laid;
 ghost use Rattle.kdl_grammar.specs.Tree.{document, no_children, none};
 ghost use Rattle.kdl_parser.specs.Internal.Building.{boxed_type, under_view, under_now, kept_by, nodes_now};
 ghost use Rattle.kdl_parser.specs.Internal.Parts.{nodes_tree, document_by, node_by};
-ghost use Rattle.kdl_text.specs.Internal.Here.{Ahead};
 ghost use Rattle.kdl_text.specs.Spans.{bytes};
 ghost use Rattle.kdl_value.specs.Tree.{value_tree, text_of};
 ghost use Rattle.std.specs.Prelude.{◌≡◌, [], Some, None, IfOk, OnOk, option_map};
@@ -18,7 +17,7 @@ ghost use Rattle.std.specs.Prelude.{◌≡◌, [], Some, None, IfOk, OnOk, optio
 use super::{Builder, Slot, Under, WaitingWord};
 use crate::node_parts::{DocumentParts, NodeParts, ParsedNode};
 use kdl_entry::parsing::parts::{Given, TypeParts, argument_from, empty, entry_from};
-use kdl_entry::parsing::slices::Slices;
+use kdl_entry::parsing::source::Source;
 use kdl_entry::{KdlEntry, KdlIdentifier, KdlValue};
 use kdl_lexer::TokenSpan;
 use kdl_text::cursor::Checkpoint;
@@ -38,13 +37,13 @@ pub(super) fn put<T: Drop>(place: &mut T, value: T)
 /// Adds the pending string to the current node, as an argument.
 #[tactic(auto, using(crate::proofs::Stepping::Views::entry_pushed))]
 pub(super) fn settle<'a>(
-    slices: &Slices<'a>,
+    source: &Source<'a>,
     from: &Checkpoint<'a>,
     word: WaitingWord<'a>,
     under: &mut Under<'a>,
 ) -> Result<(), AllocError>
     ensures { OnOk result (under_view under.new ≡
-        under_now slices.now.whole.rest from.now.rest (Some word.entry) (under_view under.old)) }
+        under_now source.now.text from.now.rest (Some word.entry) (under_view under.old)) }
 {
     let WaitingWord {
         leading,
@@ -52,11 +51,11 @@ pub(super) fn settle<'a>(
         value,
         repr,
     } = word;
-    let repr = repr.to_string(slices.alloc())?;
-    let span = slices.span(&start, from);
+    let repr = repr.to_string(source.alloc())?;
+    let span = source.span(&start, from);
     under.entries.make_room()?;
     let value = KdlValue::String(value);
-    let entry = argument_from(slices.alloc(), span, leading, value, repr);
+    let entry = argument_from(source.alloc(), span, leading, value, repr);
     under.entries.push_reserved(entry);
     Ok(())
 }
@@ -91,26 +90,26 @@ pub(super) fn content_span<N: ParsedNode>(nodes: &[N], place: SourceSpan) -> Sou
 /// The nodes, and the text after them, up to `end`; without nodes it is the leading text.
 #[tactic(auto, using(crate::proofs::Stepping::NodeSpans::without, crate::proofs::Stepping::NodeSpans::within))]
 pub(super) fn content<N: ParsedNode>(
-    slices: &Slices,
+    source: &Source,
     nodes: Vec<N>,
     place: String,
     end: &Checkpoint,
 ) -> DocumentParts<N>
     ensures { document_by N.tree result ≡ machine.content_at
-        slices.now.whole.rest (nodes_tree N.tree nodes.items) (text_of place) end.now.rest }
+        source.now.text (nodes_tree N.tree nodes.items) (text_of place) end.now.rest }
 {
-    let here = slices.span(end, &end.copied());
+    let here = source.span(end, &end.copied());
     let span = content_span(&nodes, here);
     if nodes.is_empty() {
         return DocumentParts {
             leading: place,
             nodes,
-            trailing: empty(slices.alloc()),
+            trailing: empty(source.alloc()),
             span,
         };
     }
     DocumentParts {
-        leading: empty(slices.alloc()),
+        leading: empty(source.alloc()),
         nodes,
         trailing: place,
         span,
@@ -140,16 +139,17 @@ impl<'a, N: ParsedNode> Builder<'a, N> {
         given: Given,
         at: &TokenSpan<'a>,
     ) -> Result<KdlEntry, AllocError>
+        requires inside { EndsIn self.old.source.text at.now.start.rest }
         ensures is { IfOk result (λ e. entry_tree e ≡ entry_at
-            (span_of self.old.slices.whole.rest slot.entry.start.rest at.now.end.rest)
+            (span_of self.old.source.text slot.entry.start.rest at.now.end.rest)
             (text_of slot.entry.leading) (option_map key_view given.key)
             (option_map type_view given.ty) (value_tree given.value)
             (between at.now.start.rest at.now.end.rest)) }
-        ensures rest { self.new ≡ record self.old { slices = self.new.slices } }
-        ensures whole { self.new.slices.whole ≡ self.old.slices.whole }
-        ensures sliced { Sliced (bytes at.now.start.rest) (bytes at.now.end.rest) self.old.slices.steps self.new.slices.steps }
+        ensures rest { self.new ≡ record self.old { source = self.new.source } }
+        ensures same { Recounted self.old.source self.new.source }
+        ensures sliced { Sliced (bytes at.now.start.rest) (bytes at.now.end.rest) self.old.source.steps self.new.source.steps }
     {
-        let repr = match self.slices.token(at) {
+        let repr = match self.source.token(at) {
             Ok(repr) => repr,
             Err(e) => {
                 drop(slot);
@@ -157,8 +157,8 @@ impl<'a, N: ParsedNode> Builder<'a, N> {
                 return Err(e);
             }
         };
-        let span = self.slices.span(&slot.start, &at.end);
-        Ok(entry_from(self.slices.alloc(), span, slot.leading, given, repr))
+        let span = self.source.span(&slot.start, &at.end);
+        Ok(entry_from(self.source.alloc(), span, slot.leading, given, repr))
     }
 
     /// The nodes, with the text of the current place, which ends here.
@@ -168,16 +168,16 @@ impl<'a, N: ParsedNode> Builder<'a, N> {
         nodes: Vec<N>,
         end: &Checkpoint<'a>,
     ) -> Result<DocumentParts<N>, AllocError>
-        requires { Ahead self.old.from end.now }
+        requires { Within self.old.source self.old.from end.now }
         ensures is { IfOk result (λ d. document_by N.tree d ≡ machine.content_at
-            self.old.slices.whole.rest (nodes_tree N.tree nodes.items)
+            self.old.source.text (nodes_tree N.tree nodes.items)
             (between self.old.from.rest end.now.rest) end.now.rest) }
-        ensures rest { self.new ≡ record self.old { slices = self.new.slices } }
-        ensures whole { self.new.slices.whole ≡ self.old.slices.whole }
-        ensures sliced { Sliced (bytes self.old.from.rest) (bytes end.now.rest) self.old.slices.steps self.new.slices.steps }
+        ensures rest { self.new ≡ record self.old { source = self.new.source } }
+        ensures same { Recounted self.old.source self.new.source }
+        ensures sliced { Sliced (bytes self.old.from.rest) (bytes end.now.rest) self.old.source.steps self.new.source.steps }
     {
-        match self.slices.text(&self.from, end) {
-            Ok(place) => Ok(content(&self.slices, nodes, place, end)),
+        match self.source.text(&self.from, end) {
+            Ok(place) => Ok(content(&self.source, nodes, place, end)),
             Err(e) => {
                 drop(nodes);
                 Err(e)
@@ -189,21 +189,21 @@ impl<'a, N: ParsedNode> Builder<'a, N> {
     #[inline(always)]
     #[tactic(auto, using(kdl_lexer::proofs::Order::ahead))]
     fn node_end(&mut self, at: &TokenSpan<'a>) -> Result<NodeEnd, AllocError>
-        requires from { Ahead self.old.from at.now.start }
+        requires from { Within self.old.source self.old.from at.now.start }
         ensures before { IfOk result
             (λ n. text_of n.before ≡ between self.old.from.rest at.now.start.rest) }
         ensures terminator { IfOk result
             (λ n. text_of n.terminator ≡ between at.now.start.rest at.now.end.rest) }
         ensures span { IfOk result
-            (λ n. n.span ≡ span_of self.old.slices.whole.rest self.old.under.start.rest at.now.start.rest) }
-        ensures rest { self.new ≡ record self.old { slices = self.new.slices } }
-        ensures whole { self.new.slices.whole ≡ self.old.slices.whole }
+            (λ n. n.span ≡ span_of self.old.source.text self.old.under.start.rest at.now.start.rest) }
+        ensures rest { self.new ≡ record self.old { source = self.new.source } }
+        ensures same { Recounted self.old.source self.new.source }
         ensures sliced { OnOk result
-            (Sliced (bytes self.old.from.rest) (bytes at.now.end.rest) self.old.slices.steps self.new.slices.steps) }
+            (Sliced (bytes self.old.from.rest) (bytes at.now.end.rest) self.old.source.steps self.new.source.steps) }
     {
-        let before = self.slices.text(&self.from, &at.start)?;
-        let terminator = self.slices.token(at)?;
-        let span = self.slices.span(&self.under.start, &at.start);
+        let before = self.source.text(&self.from, &at.start)?;
+        let terminator = self.source.token(at)?;
+        let span = self.source.span(&self.under.start, &at.start);
         Ok(NodeEnd {
             before,
             terminator,
@@ -233,7 +233,7 @@ impl<'a, N: ParsedNode> Builder<'a, N> {
         }) }
         ensures rest { self.new ≡ record self.old { under = self.new.under } }
     {
-        let alloc = self.slices.alloc();
+        let alloc = self.source.alloc();
         let entries = self.under.entries.replace(Vec::new(alloc));
         let NodeEnd {
             before: before_terminator,
@@ -267,17 +267,17 @@ impl<'a, N: ParsedNode> Builder<'a, N> {
 
     /// Takes the current node, whose terminator is the token, and appends it to the nodes.
     pub(super) fn push_ended(&mut self, at: &TokenSpan<'a>) -> Result<(), AllocError>
-        requires from { Ahead self.old.from at.now.start }
+        requires from { Within self.old.source self.old.from at.now.start }
         ensures is { OnOk result (nodes_now N.tree self.new ≡ machine.ended
-            (machine.closed self.old.slices.whole.rest (Some (under_view self.old.under)) no_children []
+            (machine.closed self.old.source.text (Some (under_view self.old.under)) no_children []
             (between self.old.from.rest at.now.start.rest) (between at.now.start.rest at.now.end.rest)
             at.now.start.rest)
             (nodes_now N.tree self.old)) }
         ensures rest { OnOk result (self.new ≡
-            record self.old { slices = self.new.slices; under = self.new.under; nodes = self.new.nodes }) }
-        ensures whole { self.new.slices.whole ≡ self.old.slices.whole }
+            record self.old { source = self.new.source; under = self.new.under; nodes = self.new.nodes }) }
+        ensures same { Recounted self.old.source self.new.source }
         ensures sliced { OnOk result
-            (Sliced (bytes self.old.from.rest) (bytes at.now.end.rest) self.old.slices.steps self.new.slices.steps) }
+            (Sliced (bytes self.old.from.rest) (bytes at.now.end.rest) self.old.source.steps self.new.source.steps) }
     {
         if self.under.ty.is_none() {
             return self.push_of_type(None, at);
@@ -288,17 +288,17 @@ impl<'a, N: ParsedNode> Builder<'a, N> {
     /// Does what `push_ended` does. Few nodes have a type, so this stays out of it.
     #[inline(never)]
     fn push_typed(&mut self, at: &TokenSpan<'a>) -> Result<(), AllocError>
-        requires from { Ahead self.old.from at.now.start }
+        requires from { Within self.old.source self.old.from at.now.start }
         ensures is { OnOk result (nodes_now N.tree self.new ≡ machine.ended
-            (machine.closed self.old.slices.whole.rest (Some (under_view self.old.under)) no_children []
+            (machine.closed self.old.source.text (Some (under_view self.old.under)) no_children []
             (between self.old.from.rest at.now.start.rest) (between at.now.start.rest at.now.end.rest)
             at.now.start.rest)
             (nodes_now N.tree self.old)) }
         ensures rest { OnOk result (self.new ≡
-            record self.old { slices = self.new.slices; under = self.new.under; nodes = self.new.nodes }) }
-        ensures whole { self.new.slices.whole ≡ self.old.slices.whole }
+            record self.old { source = self.new.source; under = self.new.under; nodes = self.new.nodes }) }
+        ensures same { Recounted self.old.source self.new.source }
         ensures sliced { OnOk result
-            (Sliced (bytes self.old.from.rest) (bytes at.now.end.rest) self.old.slices.steps self.new.slices.steps) }
+            (Sliced (bytes self.old.from.rest) (bytes at.now.end.rest) self.old.source.steps self.new.source.steps) }
     {
         let ty = self.take_type();
         self.push_of_type(ty, at)
@@ -308,23 +308,23 @@ impl<'a, N: ParsedNode> Builder<'a, N> {
     #[inline(always)]
     #[tactic(auto, using(crate::proofs::Stepping::Views::node_pushed))]
     fn push_of_type(&mut self, ty: Option<TypeParts>, at: &TokenSpan<'a>) -> Result<(), AllocError>
-        requires from { Ahead self.old.from at.now.start }
+        requires from { Within self.old.source self.old.from at.now.start }
         ensures is { OnOk result (nodes_now N.tree self.new ≡ machine.ended
-            (machine.closed self.old.slices.whole.rest
+            (machine.closed self.old.source.text
             (Some (record (under_view self.old.under) { ty = option_map type_view ty })) no_children []
             (between self.old.from.rest at.now.start.rest) (between at.now.start.rest at.now.end.rest)
             at.now.start.rest)
             (nodes_now N.tree self.old)) }
         ensures rest { OnOk result (self.new ≡
-            record self.old { slices = self.new.slices; under = self.new.under; nodes = self.new.nodes }) }
-        ensures whole { self.new.slices.whole ≡ self.old.slices.whole }
+            record self.old { source = self.new.source; under = self.new.under; nodes = self.new.nodes }) }
+        ensures same { Recounted self.old.source self.new.source }
         ensures sliced { OnOk result
-            (Sliced (bytes self.old.from.rest) (bytes at.now.end.rest) self.old.slices.steps self.new.slices.steps) }
+            (Sliced (bytes self.old.from.rest) (bytes at.now.end.rest) self.old.source.steps self.new.source.steps) }
     {
         let ending = self.node_end(at)?;
         self.under.entries.fit()?;
         self.nodes.make_room()?;
-        let before = empty(self.slices.alloc());
+        let before = empty(self.source.alloc());
         let node = self.take_node(ty, before, None, ending);
         self.nodes.push_reserved(node);
         Ok(())
@@ -333,17 +333,17 @@ impl<'a, N: ParsedNode> Builder<'a, N> {
     /// Takes the node with its block, whose terminator is the token, and appends it to the nodes.
     #[inline(always)]
     pub(super) fn push_kept(&mut self, at: &TokenSpan<'a>) -> Result<(), AllocError>
-        requires from { Ahead self.old.from at.now.start }
+        requires from { Within self.old.source self.old.from at.now.start }
         ensures is { OnOk result (nodes_now N.tree self.new ≡ machine.ended
-            (machine.closed_kept self.old.slices.whole.rest (Some (kept_by N.tree self.old))
+            (machine.closed_kept self.old.source.text (Some (kept_by N.tree self.old))
             (between self.old.from.rest at.now.start.rest) (between at.now.start.rest at.now.end.rest)
             at.now.start.rest)
             (nodes_now N.tree self.old)) }
         ensures rest { OnOk result (self.new ≡
-            record self.old { slices = self.new.slices; under = self.new.under; before = self.new.before; block = self.new.block; nodes = self.new.nodes }) }
-        ensures whole { self.new.slices.whole ≡ self.old.slices.whole }
+            record self.old { source = self.new.source; under = self.new.under; before = self.new.before; block = self.new.block; nodes = self.new.nodes }) }
+        ensures same { Recounted self.old.source self.new.source }
         ensures sliced { OnOk result
-            (Sliced (bytes self.old.from.rest) (bytes at.now.end.rest) self.old.slices.steps self.new.slices.steps) }
+            (Sliced (bytes self.old.from.rest) (bytes at.now.end.rest) self.old.source.steps self.new.source.steps) }
     {
         if self.under.ty.is_none() {
             return self.push_kept_of_type(None, at);
@@ -354,17 +354,17 @@ impl<'a, N: ParsedNode> Builder<'a, N> {
     /// Does what `push_kept` does. Few nodes have a type, so this stays out of it.
     #[inline(never)]
     fn push_kept_typed(&mut self, at: &TokenSpan<'a>) -> Result<(), AllocError>
-        requires from { Ahead self.old.from at.now.start }
+        requires from { Within self.old.source self.old.from at.now.start }
         ensures is { OnOk result (nodes_now N.tree self.new ≡ machine.ended
-            (machine.closed_kept self.old.slices.whole.rest (Some (kept_by N.tree self.old))
+            (machine.closed_kept self.old.source.text (Some (kept_by N.tree self.old))
             (between self.old.from.rest at.now.start.rest) (between at.now.start.rest at.now.end.rest)
             at.now.start.rest)
             (nodes_now N.tree self.old)) }
         ensures rest { OnOk result (self.new ≡
-            record self.old { slices = self.new.slices; under = self.new.under; before = self.new.before; block = self.new.block; nodes = self.new.nodes }) }
-        ensures whole { self.new.slices.whole ≡ self.old.slices.whole }
+            record self.old { source = self.new.source; under = self.new.under; before = self.new.before; block = self.new.block; nodes = self.new.nodes }) }
+        ensures same { Recounted self.old.source self.new.source }
         ensures sliced { OnOk result
-            (Sliced (bytes self.old.from.rest) (bytes at.now.end.rest) self.old.slices.steps self.new.slices.steps) }
+            (Sliced (bytes self.old.from.rest) (bytes at.now.end.rest) self.old.source.steps self.new.source.steps) }
     {
         let ty = self.take_type();
         self.push_kept_of_type(ty, at)
@@ -378,9 +378,9 @@ impl<'a, N: ParsedNode> Builder<'a, N> {
         ty: Option<TypeParts>,
         at: &TokenSpan<'a>,
     ) -> Result<(), AllocError>
-        requires from { Ahead self.old.from at.now.start }
+        requires from { Within self.old.source self.old.from at.now.start }
         ensures is { OnOk result (nodes_now N.tree self.new ≡ machine.ended
-            (machine.closed_kept self.old.slices.whole.rest
+            (machine.closed_kept self.old.source.text
             (Some (record (kept_by N.tree self.old) {
               under =
                   record (under_view self.old.under) { ty = option_map type_view ty };
@@ -389,15 +389,15 @@ impl<'a, N: ParsedNode> Builder<'a, N> {
             at.now.start.rest)
             (nodes_now N.tree self.old)) }
         ensures rest { OnOk result (self.new ≡
-            record self.old { slices = self.new.slices; under = self.new.under; before = self.new.before; block = self.new.block; nodes = self.new.nodes }) }
-        ensures whole { self.new.slices.whole ≡ self.old.slices.whole }
+            record self.old { source = self.new.source; under = self.new.under; before = self.new.before; block = self.new.block; nodes = self.new.nodes }) }
+        ensures same { Recounted self.old.source self.new.source }
         ensures sliced { OnOk result
-            (Sliced (bytes self.old.from.rest) (bytes at.now.end.rest) self.old.slices.steps self.new.slices.steps) }
+            (Sliced (bytes self.old.from.rest) (bytes at.now.end.rest) self.old.source.steps self.new.source.steps) }
     {
         let ending = self.node_end(at)?;
         self.nodes.make_room()?;
-        let before = mem::replace(&mut self.before, empty(self.slices.alloc()));
-        let block = mem::replace(&mut self.block, no_content(self.slices.alloc()));
+        let before = mem::replace(&mut self.before, empty(self.source.alloc()));
+        let block = mem::replace(&mut self.block, no_content(self.source.alloc()));
         let node = self.take_node(ty, before, Some(block), ending);
         self.nodes.push_reserved(node);
         Ok(())

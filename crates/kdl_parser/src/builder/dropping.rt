@@ -143,6 +143,7 @@ impl Dropped {
 }
 
 impl<'a, N: ParsedNode> Builder<'a, N> {
+    ghost use Rattle.kdl_entry.specs.Internal.Counted.{Recounted, Within};
     ghost use Rattle.kdl_lexer.specs.Internal.Handed.{kind_view};
     ghost use Rattle.kdl_lexer.specs.declared.lexer.TokenKind.TheVariants.{Space};
     ghost use Rattle.kdl_parser.specs.Internal.Building.{reading_view, state_view, Placed};
@@ -153,8 +154,7 @@ impl<'a, N: ParsedNode> Builder<'a, N> {
     ghost use Rattle.kdl_lexer.specs.Tokens.{string};
     ghost use Rattle.kdl_parser.specs.Internal.States.{document_now, DropsLike, Takes, TakesToken};
     ghost use Rattle.kdl_parser.specs.declared.builder.dropping.Dropped.TheVariants.{Nothing};
-    ghost use Rattle.kdl_text.specs.Internal.Here.{Ahead};
-    ghost use Rattle.std.specs.Prelude.{[], true};
+        ghost use Rattle.std.specs.Prelude.{[], true};
 
     /// Takes a token of what is slashdashed. The text of a string makes no difference.
     #[inline(always)]
@@ -179,7 +179,7 @@ impl<'a, N: ParsedNode> Builder<'a, N> {
         requires phase { is_live self.old.phase ≡ false }
         ensures { DropsLike N.tree self.old (kind_view kind) at.now result self.new }
     {
-        let dropped = Dropped::after_slashdash(self.slices.alloc(), self.phase);
+        let dropped = Dropped::after_slashdash(self.source.alloc(), self.phase);
         put(&mut self.dropped, dropped);
         self.drop_token(kind, at)
     }
@@ -188,7 +188,7 @@ impl<'a, N: ParsedNode> Builder<'a, N> {
     #[inline(always)]
     fn take_kept(&mut self, kind: TokenKind, at: &TokenSpan<'a>) -> Result<(), TakeFailure>
         requires live { self.old.dropped ≡ Nothing }
-        requires placed { Placed (state_view N.tree self.old) at.now.start.rest }
+        requires placed { Placed self.old.source.text (state_view N.tree self.old) at.now.start.rest }
         ensures { Takes N.tree self.old kind at.now result self.new }
     {
         if self.is_building() {
@@ -202,7 +202,7 @@ impl<'a, N: ParsedNode> Builder<'a, N> {
     #[inline(always)]
     fn space_kept(&mut self, at: &TokenSpan<'a>) -> Result<(), TakeFailure>
         requires live { self.old.dropped ≡ Nothing }
-        requires placed { Placed (state_view N.tree self.old) at.now.start.rest }
+        requires placed { Placed self.old.source.text (state_view N.tree self.old) at.now.start.rest }
         ensures { Takes N.tree self.old Space at.now result self.new }
     {
         if self.is_building() {
@@ -221,7 +221,7 @@ impl<'a, N: ParsedNode> Builder<'a, N> {
         at: &TokenSpan<'a>,
     ) -> Result<(), TakeFailure>
         requires dropping { is_building self.old.dropped self.old.phase ≡ false }
-        requires placed { Placed (state_view N.tree self.old) at.now.start.rest }
+        requires placed { Placed self.old.source.text (state_view N.tree self.old) at.now.start.rest }
         ensures { Takes N.tree self.old kind at.now result self.new }
     {
         if let Dropped::Nothing = self.dropped {
@@ -246,16 +246,16 @@ impl<'a, N: ParsedNode> Builder<'a, N> {
         at: &TokenSpan<'a>,
     ) -> Result<(), TakeFailure>
         requires dropping { is_building self.old.dropped self.old.phase ≡ false }
-        requires placed { Placed (state_view N.tree self.old) at.now.start.rest }
+        requires placed { Placed self.old.source.text (state_view N.tree self.old) at.now.start.rest }
         ensures { TakesToken N.tree self.old (string word.now) at.now result self.new }
     {
-        let dropped = TokenKind::String(empty(self.slices.alloc()));
+        let dropped = TokenKind::String(empty(self.source.alloc()));
         if let Dropped::Nothing = self.dropped {
             return self.drop_first(dropped, at);
         }
         match self.dropped.phase_at(&dropped) {
             Some(_) => {
-                let text = word.to_string(self.slices.alloc())?;
+                let text = word.to_string(self.source.alloc())?;
                 self.take_dropped(TokenKind::String(text), at)
             }
             None => self.drop_token(dropped, at),
@@ -266,7 +266,7 @@ impl<'a, N: ParsedNode> Builder<'a, N> {
     #[inline(never)]
     pub(super) fn drop_space(&mut self, at: &TokenSpan<'a>) -> Result<(), TakeFailure>
         requires dropping { is_building self.old.dropped self.old.phase ≡ false }
-        requires placed { Placed (state_view N.tree self.old) at.now.start.rest }
+        requires placed { Placed self.old.source.text (state_view N.tree self.old) at.now.start.rest }
         ensures { Takes N.tree self.old Space at.now result self.new }
     {
         if let Dropped::Nothing = self.dropped {
@@ -290,9 +290,10 @@ impl<'a, N: ParsedNode> Builder<'a, N> {
     ) -> Result<DocumentParts<N>, TakeFailure>
         requires reading { is_reading (reading_view self.old.dropped) ≡ true }
         requires end { here.now.rest ≡ [] }
-        requires from { Ahead self.old.from here.now }
+        requires from { Within self.old.source self.old.from here.now }
         ensures finished { Finished N.tree (document_now N.tree self.old) result }
-        ensures sliced { SlicedOn result (unsliced self.old) 0 self.old.slices.steps self.new.slices.steps }
+        ensures same { Recounted self.old.source self.new.source }
+        ensures sliced { SlicedOn result (unsliced self.old) 0 self.old.source.steps self.new.source.steps }
     {
         match self.dropped.phase_at_end() {
             Some(phase) => {

@@ -1,6 +1,7 @@
 //! What the builder does at a token: nodes begin and end, blocks open and close, entries are added.
 
 ghost use Rattle.kdl_entry.specs.Internal.Building.{key_view, type_view};
+ghost use Rattle.kdl_entry.specs.Internal.Counted.{EndsIn, Recounted, Within};
 ghost use Rattle.kdl_parser.specs.Internal.Building.{boxed_type, in_phase, node_now, state_view, under_view, Does};
 ghost use Rattle.kdl_parser.specs.Internal.Counted.{unsliced};
 ghost use Rattle.kdl_parser.specs.Internal.Events.{keyed_opened, type_ended, type_named};
@@ -34,7 +35,6 @@ ghost use Rattle.kdl_entry.specs.Places.{between};
 ghost use Rattle.kdl_entry.specs.Tree.{identifier_tree, plain_identifier};
 ghost use Rattle.kdl_grammar.specs.Internal.Machine as machine;
 ghost use Rattle.kdl_parser.specs.declared.builder.dropping.Dropped.TheVariants.{Nothing};
-ghost use Rattle.kdl_text.specs.Internal.Here.{Ahead};
 ghost use Rattle.kdl_text.specs.Spans.{bytes};
 ghost use Rattle.kdl_value.specs.Data.{text};
 ghost use Rattle.kdl_value.specs.Tree.{value_tree, text_of};
@@ -64,7 +64,7 @@ impl<'a, N: ParsedNode> Builder<'a, N> {
           waiting =
               None;
         }) }
-        ensures whole { self.new.slices.whole ≡ self.old.slices.whole }
+        ensures same { Recounted self.old.source self.new.source }
     {
         if self.waiting.is_none() {
             return Ok(());
@@ -80,10 +80,10 @@ impl<'a, N: ParsedNode> Builder<'a, N> {
           waiting =
               None;
         }) }
-        ensures whole { self.new.slices.whole ≡ self.old.slices.whole }
+        ensures same { Recounted self.old.source self.new.source }
     {
         match self.waiting.take() {
-            Some(word) => settle(&self.slices, &self.from, word, &mut self.under),
+            Some(word) => settle(&self.source, &self.from, word, &mut self.under),
             None => Ok(()),
         }
     }
@@ -91,7 +91,7 @@ impl<'a, N: ParsedNode> Builder<'a, N> {
     /// Ends the current node, which has no block.
     pub(super) fn end_node(&mut self, at: &TokenSpan<'a>) -> Result<(), TakeFailure>
         requires live { self.old.dropped ≡ Nothing }
-        requires from { Ahead self.old.from at.now.start }
+        requires from { Within self.old.source self.old.from at.now.start }
         ensures ended { Reaches N.tree (node_ended N.tree self.old at.now.start at.now.end) (bytes
             self.old.from.rest) self.old result self.new }
         ensures live { OnOk result (self.new.dropped ≡ Nothing) }
@@ -108,7 +108,7 @@ impl<'a, N: ParsedNode> Builder<'a, N> {
     /// Ends the current node, which has a block.
     pub(super) fn end_kept(&mut self, at: &TokenSpan<'a>) -> Result<(), TakeFailure>
         requires live { self.old.dropped ≡ Nothing }
-        requires from { Ahead self.old.from at.now.start }
+        requires from { Within self.old.source self.old.from at.now.start }
         ensures ended { Reaches N.tree (kept_ended N.tree self.old at.now.start at.now.end) (bytes
             self.old.from.rest) self.old result self.new }
         ensures live { OnOk result (self.new.dropped ≡ Nothing) }
@@ -126,16 +126,16 @@ impl<'a, N: ParsedNode> Builder<'a, N> {
     #[tactic(auto, using(crate::proofs::Stepping::TurnCost::fewer, crate::proofs::Stepping::TurnCost::token_fewer, crate::proofs::Stepping::Views::level_pushed))]
     pub(super) fn open_block(&mut self, at: &TokenSpan<'a>) -> Result<(), TakeFailure>
         requires live { self.old.dropped ≡ Nothing }
-        requires from { Ahead self.old.from at.now.start }
+        requires from { Within self.old.source self.old.from at.now.start }
         ensures { Reaches N.tree (block_opened N.tree self.old at.now.start at.now.end) (bytes
             self.old.from.rest) self.old result self.new }
     {
         self.settle_word()?;
-        let before = self.slices.text(&self.from, &at.start)?;
+        let before = self.source.text(&self.from, &at.start)?;
         self.levels.reserve(1)?;
         self.under.entries.fit()?;
         let under = self.take_under();
-        let nodes = self.nodes.replace(Vec::new(self.slices.alloc()));
+        let nodes = self.nodes.replace(Vec::new(self.source.alloc()));
         self.levels.push_reserved(Level {
             under,
             before,
@@ -150,7 +150,7 @@ impl<'a, N: ParsedNode> Builder<'a, N> {
     #[tactic(auto, using(crate::proofs::Stepping::TurnCost::fewer, crate::proofs::Stepping::TurnCost::token_fewer, crate::proofs::Stepping::Views::level_pushed))]
     pub(super) fn close(&mut self, at: &TokenSpan<'a>) -> Result<(), TakeFailure>
         requires live { self.old.dropped ≡ Nothing }
-        requires from { Ahead self.old.from at.now.start }
+        requires from { Within self.old.source self.old.from at.now.start }
         ensures { Steps N.tree (around N.tree self.old at.now.start at.now.end) (bytes
             self.old.from.rest) self.old result self.new }
     {
@@ -190,7 +190,7 @@ impl<'a, N: ParsedNode> Builder<'a, N> {
         } }
         ensures rest { self.new ≡ record self.old { under = self.new.under } }
     {
-        let alloc = self.slices.alloc();
+        let alloc = self.source.alloc();
         let mut entries = Growing::new(alloc);
         entries.items = self.under.entries.replace(Vec::new(alloc));
         Under {
@@ -234,7 +234,7 @@ impl<'a, N: ParsedNode> Builder<'a, N> {
         requires live { self.old.dropped ≡ Nothing }
         ensures state { state_view N.tree self.new
             ≡ node_begun N.tree self.old slot.entry (option_map boxed_type ty) (identifier_tree name) at.now.end }
-        ensures slices { self.new.slices ≡ self.old.slices }
+        ensures source { self.new.source ≡ self.old.source }
         ensures unsliced { unsliced self.new ≡ bytes at.now.end.rest }
     {
         let Slot { leading, start } = slot;
@@ -243,7 +243,7 @@ impl<'a, N: ParsedNode> Builder<'a, N> {
         self.under.ty = ty;
         self.under.name = name;
         if !self.under.entries.items.is_empty() {
-            self.under.entries.items = Vec::new(self.slices.alloc());
+            self.under.entries.items = Vec::new(self.source.alloc());
         }
         self.forget_word();
         self.from = at.end.copied();
@@ -291,6 +291,7 @@ impl<'a, N: ParsedNode> Builder<'a, N> {
         at: &TokenSpan<'a>,
     ) -> Result<(), TakeFailure>
         requires live { self.old.dropped ≡ Nothing }
+        requires inside { EndsIn self.old.source.text at.now.start.rest }
         ensures { Reaches N.tree (given_at N.tree self.old (valued_slot self.old slot.entry
             (option_map key_view given.key)) (option_map type_view given.ty) (value_tree
             given.value) at.now.start at.now.end) (bytes at.now.start.rest) self.old result
@@ -307,20 +308,20 @@ impl<'a, N: ParsedNode> Builder<'a, N> {
     #[tactic(auto, using(kdl_lexer::proofs::Order::ahead))]
     pub(super) fn wait(&mut self, value: String, at: &TokenSpan<'a>) -> Result<(), TakeFailure>
         requires live { self.old.dropped ≡ Nothing }
-        requires from { Ahead self.old.from at.now.start }
+        requires from { Within self.old.source self.old.from at.now.start }
         ensures { Reaches N.tree (worded N.tree self.old (text_of value) at.now.start at.now.end)
             (bytes self.old.from.rest) self.old result self.new }
     {
         self.settle_word()?;
-        // There is a space before it at least, so here and before an argument `Slices::text` would look in vain whether
+        // There is a space before it at least, so here and before an argument `Source::text` would look in vain whether
         // there is any text.
-        let place = self.slices.piece(&self.from, &at.start);
-        let leading = place.to_string(self.slices.alloc())?;
+        let place = self.source.piece(&self.from, &at.start);
+        let leading = place.to_string(self.source.alloc())?;
         let word = WaitingWord {
             leading,
             start: at.start.copied(),
             value,
-            repr: self.slices.piece(&at.start, &at.end),
+            repr: self.source.piece(&at.start, &at.end),
         };
         put(&mut self.waiting, Some(word));
         self.from = at.end.copied();
@@ -332,25 +333,25 @@ impl<'a, N: ParsedNode> Builder<'a, N> {
     #[tactic(auto, using(crate::proofs::Stepping::TurnCost::fewer, crate::proofs::Stepping::TurnCost::token_fewer))]
     pub(super) fn open_property(&mut self, at: &TokenSpan<'a>) -> Result<(), TakeFailure>
         requires live { self.old.dropped ≡ Nothing }
-        requires from { Ahead self.old.from at.now.start }
+        requires from { Within self.old.source self.old.from at.now.start }
         ensures { Steps N.tree (property_opened N.tree self.old at.now.start at.now.end) (bytes self.old.from.rest) self.old result self.new }
     {
         let Some(word) = self.waiting.take() else {
             put(
                 &mut self.dropped,
-                Dropped::part(self.slices.alloc(), Phase::Property),
+                Dropped::part(self.source.alloc(), Phase::Property),
             );
             return Ok(());
         };
-        let before = self.slices.text(&self.from, &at.start)?;
+        let before = self.source.text(&self.from, &at.start)?;
         let WaitingWord {
             leading,
             start: word_start,
             value,
             repr,
         } = word;
-        let span = self.slices.span(&word_start, &self.from);
-        let name = sliced_identifier(self.slices.alloc(), value, &repr, span)?;
+        let span = self.source.span(&word_start, &self.from);
+        let name = sliced_identifier(self.source.alloc(), value, &repr, span)?;
         self.parts
             .open_keyed(leading, &word_start, Key { name, before }, &at.end);
         self.phase = Phase::Property;
@@ -361,11 +362,11 @@ impl<'a, N: ParsedNode> Builder<'a, N> {
     #[tactic(auto, using(crate::proofs::Stepping::TurnCost::fewer, crate::proofs::Stepping::TurnCost::token_fewer))]
     pub(super) fn open_name(&mut self, at: &TokenSpan<'a>) -> Result<(), TakeFailure>
         requires live { self.old.dropped ≡ Nothing }
-        requires from { Ahead self.old.from at.now.start }
+        requires from { Within self.old.source self.old.from at.now.start }
         ensures { Reaches N.tree (name_opened N.tree self.old at.now.start at.now.end) (bytes
             self.old.from.rest) self.old result self.new }
     {
-        let leading = self.slices.text(&self.from, &at.start)?;
+        let leading = self.source.text(&self.from, &at.start)?;
         self.parts.open(leading, at);
         self.phase = Phase::TypeOpen(Owner::Name);
         Ok(())
@@ -379,11 +380,11 @@ impl<'a, N: ParsedNode> Builder<'a, N> {
         at: &TokenSpan<'a>,
     ) -> Result<(), TakeFailure>
         requires live { self.old.dropped ≡ Nothing }
-        requires from { Ahead self.old.parts.from at.now.start }
+        requires from { Within self.old.source self.old.parts.from at.now.start }
         ensures { Reaches N.tree (type_named N.tree self.old owner (text_of name) at.now.start at.now.end)
             (bytes self.old.parts.from.rest) self.old result self.new }
     {
-        self.parts.take_name(&mut self.slices, name, at)?;
+        self.parts.take_name(&mut self.source, name, at)?;
         self.phase = Phase::TypeName(owner);
         Ok(())
     }
@@ -391,11 +392,11 @@ impl<'a, N: ParsedNode> Builder<'a, N> {
     /// Takes the `)` of a type.
     pub(super) fn end_type(&mut self, owner: Owner, at: &TokenSpan<'a>) -> Result<(), TakeFailure>
         requires live { self.old.dropped ≡ Nothing }
-        requires from { Ahead self.old.parts.from at.now.start }
+        requires from { Within self.old.source self.old.parts.from at.now.start }
         ensures { Reaches N.tree (type_ended N.tree self.old owner at.now.start at.now.end)
             (bytes self.old.parts.from.rest) self.old result self.new }
     {
-        self.parts.close(&mut self.slices, at)?;
+        self.parts.close(&mut self.source, at)?;
         self.phase = Phase::TypeDone(owner);
         Ok(())
     }
@@ -403,11 +404,11 @@ impl<'a, N: ParsedNode> Builder<'a, N> {
     /// Begins the type of a value at its `(`, after a key.
     pub(super) fn open_keyed_type(&mut self, at: &TokenSpan<'a>) -> Result<(), TakeFailure>
         requires live { self.old.dropped ≡ Nothing }
-        requires from { Ahead self.old.parts.from at.now.start }
+        requires from { Within self.old.source self.old.parts.from at.now.start }
         ensures { Reaches N.tree (keyed_opened N.tree self.old at.now.start at.now.end)
             (bytes self.old.parts.from.rest) self.old result self.new }
     {
-        self.parts.open_typed(&mut self.slices, at)?;
+        self.parts.open_typed(&mut self.source, at)?;
         self.phase = Phase::TypeOpen(Owner::Value);
         Ok(())
     }
@@ -416,12 +417,12 @@ impl<'a, N: ParsedNode> Builder<'a, N> {
     #[tactic(auto, using(crate::proofs::Stepping::TurnCost::fewer, crate::proofs::Stepping::TurnCost::token_fewer))]
     pub(super) fn open_value(&mut self, at: &TokenSpan<'a>) -> Result<(), TakeFailure>
         requires live { self.old.dropped ≡ Nothing }
-        requires from { Ahead self.old.from at.now.start }
+        requires from { Within self.old.source self.old.from at.now.start }
         ensures { Reaches N.tree (value_opened N.tree self.old at.now.start at.now.end) (bytes
             self.old.from.rest) self.old result self.new }
     {
         self.settle_word()?;
-        let leading = self.slices.text(&self.from, &at.start)?;
+        let leading = self.source.text(&self.from, &at.start)?;
         self.parts.open(leading, at);
         self.phase = Phase::TypeOpen(Owner::Value);
         Ok(())
@@ -435,18 +436,18 @@ impl<'a, N: ParsedNode> Builder<'a, N> {
         at: &TokenSpan<'a>,
     ) -> Result<(), TakeFailure>
         requires live { self.old.dropped ≡ Nothing }
-        requires from { Ahead self.old.from at.now.start }
+        requires from { Within self.old.source self.old.from at.now.start }
         ensures { Reaches N.tree (given_at N.tree self.old (argument_slot self.old at.now.start)
             None (value_tree value) at.now.start at.now.end) (bytes self.old.from.rest) self.old
             result self.new }
     {
         self.settle_word()?;
-        let place = self.slices.piece(&self.from, &at.start);
-        let leading = place.to_string(self.slices.alloc())?;
-        let repr = self.slices.token(at)?;
-        let span = self.slices.span(&at.start, &at.end);
+        let place = self.source.piece(&self.from, &at.start);
+        let leading = place.to_string(self.source.alloc())?;
+        let repr = self.source.token(at)?;
+        let span = self.source.span(&at.start, &at.end);
         self.under.entries.make_room()?;
-        let entry = argument_from(self.slices.alloc(), span, leading, value, repr);
+        let entry = argument_from(self.source.alloc(), span, leading, value, repr);
         self.under.entries.push_reserved(entry);
         self.end_entry(at);
         Ok(())
@@ -459,7 +460,7 @@ impl<'a, N: ParsedNode> Builder<'a, N> {
         ensures rest { self.new ≡ record self.old { parts = self.new.parts } }
     {
         Slot {
-            leading: mem::replace(&mut self.parts.leading, empty(self.slices.alloc())),
+            leading: mem::replace(&mut self.parts.leading, empty(self.source.alloc())),
             start: self.parts.start.copied(),
         }
     }
@@ -471,12 +472,12 @@ impl<'a, N: ParsedNode> Builder<'a, N> {
         at: &TokenSpan<'a>,
     ) -> Result<(), TakeFailure>
         requires live { self.old.dropped ≡ Nothing }
-        requires from { Ahead self.old.parts.from at.now.start }
+        requires from { Within self.old.source self.old.parts.from at.now.start }
         ensures { Reaches N.tree (given_at N.tree self.old (parts_value_slot self.old (option_map
             key_view self.old.parts.key)) (type_now self.old at.now.start) (value_tree value)
             at.now.start at.now.end) (bytes self.old.parts.from.rest) self.old result self.new }
     {
-        let ty = self.parts.type_parts(&mut self.slices, &at.start)?;
+        let ty = self.parts.type_parts(&mut self.source, &at.start)?;
         let key = self.parts.key.take();
         let slot = self.parts_slot();
         self.add_entry(
@@ -498,18 +499,18 @@ impl<'a, N: ParsedNode> Builder<'a, N> {
         at: &TokenSpan<'a>,
     ) -> Result<(), TakeFailure>
         requires live { self.old.dropped ≡ Nothing }
-        requires from { Ahead self.old.parts.from at.now.start }
+        requires from { Within self.old.source self.old.parts.from at.now.start }
         ensures { Reaches N.tree (given_at N.tree self.old (parts_value_slot self.old (key_now
             self.old at.now.start)) None (value_tree value) at.now.start at.now.end) (bytes
             self.old.parts.from.rest) self.old result self.new }
     {
-        let key = self.parts.key_parts(&mut self.slices, &at.start)?;
+        let key = self.parts.key_parts(&mut self.source, &at.start)?;
         let Slot { leading, start } = self.parts_slot();
-        let repr = self.slices.token(at)?;
-        let span = self.slices.span(&start, &at.end);
+        let repr = self.source.token(at)?;
+        let span = self.source.span(&start, &at.end);
         self.under.entries.make_room()?;
         let value = ValueParts { value, repr };
-        let entry = property_from(self.slices.alloc(), span, leading, key, value);
+        let entry = property_from(self.source.alloc(), span, leading, key, value);
         self.under.entries.push_reserved(entry);
         self.end_entry(at);
         Ok(())
@@ -519,17 +520,17 @@ impl<'a, N: ParsedNode> Builder<'a, N> {
     #[tactic(auto, using(crate::proofs::Stepping::TurnCost::fewer, crate::proofs::Stepping::TurnCost::token_fewer, kdl_lexer::proofs::Order::ahead))]
     pub(super) fn name_node(&mut self, name: String, at: &TokenSpan<'a>) -> Result<(), TakeFailure>
         requires live { self.old.dropped ≡ Nothing }
-        requires from { Ahead self.old.from at.now.start }
+        requires from { Within self.old.source self.old.from at.now.start }
         ensures { Reaches N.tree (given_at N.tree self.old (name_slot self.old at.now.start) None
             (text (text_of name)) at.now.start at.now.end) (bytes self.old.from.rest) self.old
             result self.new }
     {
-        let leading = self.slices.text(&self.from, &at.start)?;
+        let leading = self.source.text(&self.from, &at.start)?;
         let slot = Slot {
             leading,
             start: at.start.copied(),
         };
-        let name = self.slices.identifier(name, at)?;
+        let name = self.source.identifier(name, at)?;
         self.begin_node(slot, None, name, at);
         Ok(())
     }
@@ -538,17 +539,17 @@ impl<'a, N: ParsedNode> Builder<'a, N> {
     #[tactic(auto, using(crate::proofs::Stepping::TurnCost::fewer, crate::proofs::Stepping::TurnCost::token_fewer, kdl_lexer::proofs::Order::ahead))]
     pub(super) fn name_bare(&mut self, at: &TokenSpan<'a>) -> Result<(), TakeFailure>
         requires live { self.old.dropped ≡ Nothing }
-        requires from { Ahead self.old.from at.now.start }
+        requires from { Within self.old.source self.old.from at.now.start }
         ensures { Reaches N.tree (given_at N.tree self.old (name_slot self.old at.now.start) None
             (text (between at.now.start.rest at.now.end.rest)) at.now.start at.now.end) (bytes
             self.old.from.rest) self.old result self.new }
     {
-        let leading = self.slices.text(&self.from, &at.start)?;
+        let leading = self.source.text(&self.from, &at.start)?;
         let slot = Slot {
             leading,
             start: at.start.copied(),
         };
-        let name = self.slices.bare_identifier(at)?;
+        let name = self.source.bare_identifier(at)?;
         self.begin_node(slot, None, name, at);
         Ok(())
     }
@@ -557,15 +558,15 @@ impl<'a, N: ParsedNode> Builder<'a, N> {
     #[tactic(auto, using(crate::proofs::Stepping::TurnCost::fewer, crate::proofs::Stepping::TurnCost::token_fewer, kdl_lexer::proofs::Order::ahead))]
     pub(super) fn name_typed(&mut self, name: String, at: &TokenSpan<'a>) -> Result<(), TakeFailure>
         requires live { self.old.dropped ≡ Nothing }
-        requires from { Ahead self.old.parts.from at.now.start }
+        requires from { Within self.old.source self.old.parts.from at.now.start }
         ensures { Reaches N.tree (given_at N.tree self.old (parts_name_slot self.old) (type_now
             self.old at.now.start) (text (text_of name)) at.now.start at.now.end) (bytes
             self.old.parts.from.rest) self.old result self.new }
     {
-        let ty = self.parts.type_parts(&mut self.slices, &at.start)?;
+        let ty = self.parts.type_parts(&mut self.source, &at.start)?;
         let slot = self.parts_slot();
-        let name = self.slices.identifier(name, at)?;
-        let ty = Box::new(self.slices.alloc(), ty)?;
+        let name = self.source.identifier(name, at)?;
+        let ty = Box::new(self.source.alloc(), ty)?;
         self.begin_node(slot, Some(ty), name, at);
         Ok(())
     }
@@ -575,8 +576,8 @@ impl<'a, N: ParsedNode> Builder<'a, N> {
         requires live { self.old.dropped ≡ Nothing }
         ensures did { Does (in_phase N.tree self.old (machine.entry_slashdash (Some (node_now
             self.old)))) result (state_view N.tree self.new) }
-        ensures whole { self.new.slices.whole ≡ self.old.slices.whole }
-        ensures steps { OnOk result (self.new.slices.steps ≡ self.old.slices.steps) }
+        ensures same { Recounted self.old.source self.new.source }
+        ensures steps { OnOk result (self.new.source.steps ≡ self.old.source.steps) }
         ensures unsliced { OnOk result (unsliced self.new ≡ bytes self.old.from.rest) }
     {
         self.settle_word()?;
@@ -588,7 +589,7 @@ impl<'a, N: ParsedNode> Builder<'a, N> {
     #[tactic(auto, using(crate::proofs::Stepping::Origins::between_none, crate::proofs::Stepping::Origins::origin_ends, crate::proofs::Stepping::StepsDone::failed))]
     pub(super) fn close_node(&mut self, at: &TokenSpan<'a>) -> Result<(), TakeFailure>
         requires live { self.old.dropped ≡ Nothing }
-        requires from { Ahead self.old.from at.now.start }
+        requires from { Within self.old.source self.old.from at.now.start }
         ensures { Steps N.tree (around_node N.tree self.old at.now.start at.now.end) (bytes self.old.from.rest) self.old result self.new }
     {
         self.end_node(&nothing_at(&at.start))?;
@@ -599,7 +600,7 @@ impl<'a, N: ParsedNode> Builder<'a, N> {
     #[tactic(auto, using(crate::proofs::Stepping::Origins::between_none, crate::proofs::Stepping::Origins::origin_ends, crate::proofs::Stepping::StepsDone::failed))]
     pub(super) fn close_kept(&mut self, at: &TokenSpan<'a>) -> Result<(), TakeFailure>
         requires live { self.old.dropped ≡ Nothing }
-        requires from { Ahead self.old.from at.now.start }
+        requires from { Within self.old.source self.old.from at.now.start }
         ensures { Steps N.tree (around_kept N.tree self.old at.now.start at.now.end) (bytes self.old.from.rest) self.old result self.new }
     {
         self.end_kept(&nothing_at(&at.start))?;

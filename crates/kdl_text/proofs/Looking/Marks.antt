@@ -95,20 +95,20 @@ pub unmarked_bytes : (p : ℕ → Bool) (s r : List ℕ) → Unmarked p s r → 
 unmarked_bytes p s r i e = omega (arith, ap bytes i.text, bytes-append i.run (chars r), e, i.len)
 
 -- a cursor that goes past the run, and past the character after it
-module _ (p : ℕ → Bool) (text rest : List ℕ) (a s t : ℕ) (i : Unmarked p text rest) (counted : t ≡ raise s (length text - length rest + 1)) where
+module _ (p : ℕ → Bool) (whole text rest : List ℕ) (a s t : ℕ) (i : Unmarked p text rest) (counted : t ≡ raise s (length text - length rest + 1)) where
   abbrev passed_to : Here
-  passed_to = record { rest = chars rest; at = a + (length text - length rest); steps = raise s (length text - length rest) }
+  passed_to = record { text = whole; rest = chars rest; at = a + (length text - length rest); steps = raise s (length text - length rest) }
 
-  passed : Passed p (record { rest = chars text; at = a; steps = s }) passed_to
+  passed : Passed p (record { text = whole; rest = chars text; at = a; steps = s }) passed_to
   passed =
       let n : length text - length rest ≡ bytes i.run = omega (arith, i.len) in
-      record { run = i.run; text = i.text; all = i.all; at = omega (arith, n); steps = ap (raise s) n }
+      record { run = i.run; text = i.text; all = i.all; at = omega (arith, n); steps = ap (raise s) n; same = refl }
 
   pub took_after : (next : List ℕ) (c : ℕ) → chars rest ≡ c ∷ chars next → length rest ≡ len_utf8 c + length next
-      → TookAfter p (Some c) (record { rest = chars text; at = a; steps = s }) (record { rest = chars next; at = a + (length text - length rest) + (length rest - length next); steps = t })
-  took_after next c e l = (passed_to, passed, (e, omega (arith, l), omega (arith, counted)))
+      → TookAfter p (Some c) (record { text = whole; rest = chars text; at = a; steps = s }) (record { text = whole; rest = chars next; at = a + (length text - length rest) + (length rest - length next); steps = t })
+  took_after next c e l = (passed_to, passed, (e, omega (arith, l), omega (arith, counted), refl))
 
-  pub took_none : chars rest ≡ [] → TookAfter p None (record { rest = chars text; at = a; steps = s }) (record { rest = chars rest; at = a + (length text - length rest); steps = t })
+  pub took_none : chars rest ≡ [] → TookAfter p None (record { text = whole; rest = chars text; at = a; steps = s }) (record { text = whole; rest = chars rest; at = a + (length text - length rest); steps = t })
   took_none e =
       let same : t ≡ raise (raise s (length text - length rest)) 1 = omega (arith, counted) in
-      (passed_to, passed, (e, ap (λ (z : ℕ). record { rest = chars rest; at = a + (length text - length rest); steps = z }) same))
+      (passed_to, passed, (e, ap (λ (z : ℕ). record { text = whole; rest = chars rest; at = a + (length text - length rest); steps = z }) same))

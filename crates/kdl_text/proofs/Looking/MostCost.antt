@@ -36,7 +36,7 @@ none_most a b e = record { most = omega (arith, ap (λ z. bytes z.rest) e, ap (�
 
 -- a number sign, a word and a slice of it
 pub word_most : (c : ℕ) (q : ℕ → Bool) (run p : Text) (a b d e : Here) → Took (Some c) a b → Ran q run b d → b.rest ≡ p ++ d.rest → e ≡ sliced p d → Costs 4 4 a e
-word_most c q run p a b d e (r, at, s) n h x = record {
+word_most c q run p a b d e (r, at, s, y) n h x = record {
   most = omega (arith, ap bytes r, s, ap bytes n.text, bytes-append run d.rest, length-bytes run, n.steps, ap bytes h, bytes-append p d.rest, ap (λ z. z.steps) x, ap (λ z. bytes z.rest) x);
   least = omega (arith, ap length r, s, ap length n.text, length-append run d.rest, n.steps, ap (λ z. z.steps) x, ap (λ z. length z.rest) x);
 }

@@ -6,10 +6,10 @@ use Rattle.kdl_text.specs.Internal.Reading.{Moves}
 use Rattle.kdl_text.specs.Spans.{bytes}
 
 pub moves_returned : {k : ℕ} {a b : Here} → Returned k a b → Moves a b
-moves_returned r = record { piece = ([], sym r.rest); at = omega (arith, r.at, ap bytes r.rest); counts = r.counts }
+moves_returned r = record { piece = ([], sym r.rest); at = omega (arith, r.at, ap bytes r.rest); counts = r.counts; same = r.same }
 
 pub returned_less : (j k : ℕ) (a b : Here) → j ≤ k → Returned j a b → Returned k a b
-returned_less j k a b h r = record { rest = r.rest; at = r.at; most = omega (arith, r.most, h); counts = r.counts }
+returned_less j k a b h r = record { rest = r.rest; at = r.at; most = omega (arith, r.most, h); counts = r.counts; same = r.same }
 
 pub returned_then : (j k : ℕ) (a b e : Here) → Returned j a b → Returned k b e → Returned (j + k) a e
 returned_then j k a b e r s = record {
@@ -17,10 +17,11 @@ returned_then j k a b e r s = record {
   at = s.at ∙ r.at;
   most = omega (arith, r.most, s.most);
   counts = omega (arith, r.counts, s.counts);
+  same = s.same ∙ r.same;
 }
 
 pub sliced_returned : (p : Text) (a b : Here) → b ≡ sliced p a → Returned (bytes p) a b
-sliced_returned p a b e = record { rest = ap (λ z. z.rest) e; at = ap (λ z. z.at) e; most = omega (arith, ap (λ z. z.steps) e); counts = omega (arith, ap (λ z. z.steps) e) }
+sliced_returned p a b e = record { rest = ap (λ z. z.rest) e; at = ap (λ z. z.at) e; most = omega (arith, ap (λ z. z.steps) e); counts = omega (arith, ap (λ z. z.steps) e); same = ap (λ z. z.text) e }
 
 pub returned_none : (a : Here) → Returned 0 a a
-returned_none a = record { rest = refl; at = refl; most = omega arith; counts = omega arith }
+returned_none a = record { rest = refl; at = refl; most = omega arith; counts = omega arith; same = refl }

@@ -15,7 +15,7 @@ use Rattle.kdl_text.proofs.Looking.Runs.{length-bytes}
 use Rattle.std.proofs.lemmas.Str.{len_utf8_bounds}
 
 pub moves_ran : {p : ℕ → Bool} {run : Text} {a b : Here} → Ran p run a b → Moves a b
-moves_ran {run = run} {b = b} r = record { piece = (run, r.text); at = omega (arith, ap bytes r.text, bytes-append run b.rest, r.at); counts = omega (arith, r.steps) }
+moves_ran {run = run} {b = b} r = record { piece = (run, r.text); at = omega (arith, ap bytes r.text, bytes-append run b.rest, r.at); counts = omega (arith, r.steps); same = r.same }
 
 pub costs_ran : {p : ℕ → Bool} {run : Text} {a b : Here} → Ran p run a b → Costs 1 1 a b
 costs_ran {run = run} {b = b} r = record {
@@ -24,13 +24,13 @@ costs_ran {run = run} {b = b} r = record {
 }
 
 pub moves_passed : {p : ℕ → Bool} {a b : Here} → Passed p a b → Moves a b
-moves_passed {b = b} r = record { piece = (r.run, r.text); at = omega (arith, ap bytes r.text, bytes-append r.run b.rest, r.at); counts = omega (arith, r.steps) }
+moves_passed {b = b} r = record { piece = (r.run, r.text); at = omega (arith, ap bytes r.text, bytes-append r.run b.rest, r.at); counts = omega (arith, r.steps); same = r.same }
 
 pub run_ran : {p : ℕ → Bool} {run : Text} {a b : Here} → Ran p run a b → Run p a.rest b.rest
 run_ran {run = run} r = record { run = run; text = r.text; all = r.all; stops = r.stops }
 
 pub moves_sliced : (x : Text) (f a b : Here) → b ≡ sliced x a → Moves f a → Moves f b
-moves_sliced x f a b e m = rw e (record { piece = m.piece; at = m.at; counts = omega (arith, m.counts) })
+moves_sliced x f a b e m = rw e (record { piece = m.piece; at = m.at; counts = omega (arith, m.counts); same = m.same })
 
 -- a slice of what was read since f
 pub costs_sliced : (c : ℕ) (x : Text) (f a b : Here) → b ≡ sliced x a → f.rest ≡ x ++ a.rest → Costs 1 c f a → Costs 2 c f b
@@ -42,7 +42,7 @@ costs_sliced c x f a b e t i =
     }
 
 pub costs_took : {c : ℕ} {a b : Here} → Took (Some c) a b → Costs 1 0 a b
-costs_took {c = c} (r, at, s) = record { most = omega (arith, ap bytes r, s, (len_utf8_bounds c).0); least = omega (arith, ap length r, s) }
+costs_took {c = c} (r, at, s, x) = record { most = omega (arith, ap bytes r, s, (len_utf8_bounds c).0); least = omega (arith, ap length r, s) }
 
 pub costs_looked : (a b : Here) → b ≡ looked a → Costs 1 1 a b
 costs_looked a b e = let s = ap (λ z. z.steps) e in let r = ap (λ z. z.rest) e in record { most = omega (arith, s, ap bytes r); least = omega (arith, s, ap length r) }

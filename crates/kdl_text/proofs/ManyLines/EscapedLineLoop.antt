@@ -5,9 +5,9 @@ use Rattle.std.proofs.lemmas.List.Folds.{list_all-append}
 use Rattle.std.specs.Prelude.{Option}
 use Rattle.kdl_text.specs.Chars.{Text, is_literal}
 use Rattle.kdl_text.specs.Dedent.{is_line_end}
-use Rattle.kdl_text.specs.Internal.Here.{Here}
+use Rattle.kdl_text.specs.Internal.Here.{Here, IsPart}
 use Rattle.kdl_text.specs.Spans.{bytes}
-use Rattle.kdl_text.specs.Internal.Lines.{CostsWith, escape_units, escapes_bytes, escapes_units, is_one_line, ReadsLine}
+use Rattle.kdl_text.specs.Internal.Lines.{CostsWith, EscapesIn, escape_units, escapes_bytes, escapes_units, is_one_line, ReadsLine}
 use Rattle.kdl_text.specs.MultiLine.{kept, unit, Content}
 use Rattle.kdl_text.specs.Raw.{literals}
 use Rattle.kdl_text.specs.Internal.Reading.{Moves, Costs, Goes}
@@ -19,6 +19,7 @@ use Rattle.kdl_text.proofs.Looking.ValueGoes.{goes_then}
 use Rattle.kdl_text.proofs.Looking.MovesJoin.{moves_then, fewer_bytes, bytes-append}
 use Rattle.kdl_text.proofs.Looking.Runs.{length-bytes}
 use Rattle.kdl_text.proofs.ManyLines.Escapes.{escapes_bytes-append, escapes_units-append}
+use Rattle.kdl_text.proofs.ManyLines.LineParts.{escapes_more, escapes_same}
 use Rattle.kdl_text.proofs.ManyLines.LinesJoin.{literals_inside}
 use Rattle.kdl_text.proofs.ManyLines.LinesUnique.{goes_content, slash_unit, content_unit}
 
@@ -29,6 +30,7 @@ pub record InEscaped (f a : Here) (es : List Escaped) : Type 0 where
   pub moves : Moves f a
   pub costs : Costs 2 0 f a
   pub leaves : CostsWith (2 * escapes_bytes es) f a
+  pub parts : EscapesIn a.text es
 
 kept_inside : (u : StringUnit) → is_one_line (kept u) ≡ true
 kept_inside (literal c) = refl
@@ -64,6 +66,7 @@ pub record EscapesRead (f d : Here) (es : List Escaped) (closed : Bool) : Type 0
   pub moves : Moves f d
   pub costs : Costs 2 0 f d
   pub leaves : CostsWith (2 * escapes_bytes es) f d
+  pub parts : EscapesIn d.text es
 
 module _ (f a : Here) (es : List Escaped) (i : InEscaped f a es) (o : Option ℕ) (b : Here) (unit_is : IsUnit (92 ∷ a.rest) b.rest (escape_of o)) (m : Moves a b) (k : Costs 1 1 a b) where
   few_read : bytes b.rest + 1 ≤ bytes a.rest
@@ -78,7 +81,7 @@ module _ (f a : Here) (es : List Escaped) (i : InEscaped f a es) (o : Option ℕ
   escape_inside : is_one_line (escapes_units es ++ kept (escape_of o)) ≡ true
   escape_inside = joins (escapes_units es) (kept (escape_of o)) i.inside (kept_inside (escape_of o))
 
-  module _ (e : Escaped) (d : Here) (new : List Escaped) (n : Moves b d) (l : Costs 2 0 b d) (s : bytes e.after + 1 + bytes d.rest ≤ bytes b.rest) (value : e.value ≡ o) (is : new ≡ es ++ (e ∷ [])) where
+  module _ (e : Escaped) (d : Here) (new : List Escaped) (n : Moves b d) (l : Costs 2 0 b d) (s : bytes e.after + 1 + bytes d.rest ≤ bytes b.rest) (value : e.value ≡ o) (is : new ≡ es ++ (e ∷ [])) (part : IsPart d.text e.after) where
     units_are : escapes_units new ≡ (escapes_units es ++ kept (escape_of o)) ++ literals e.after
     units_are =
         ap escapes_units is ∙ escapes_units-append es (e ∷ []) ∙ ap (λ z. escapes_units es ++ z) (append-nil (escape_units e))
@@ -92,6 +95,9 @@ module _ (f a : Here) (es : List Escaped) (i : InEscaped f a es) (o : Option ℕ
 
     all_inside : is_one_line (escapes_units new) ≡ true
     all_inside = ap is_one_line units_are ∙ joins (escapes_units es ++ kept (escape_of o)) (literals e.after) escape_inside (literals_inside e.after)
+
+    all_in : EscapesIn d.text new
+    all_in = subst (EscapesIn d.text) (sym is) (escapes_more d.text es e (escapes_same es i.parts (n.same ∙ m.same)) part)
 
     part_moves : Moves f d
     part_moves = moves_then i.moves (moves_then m n)
@@ -110,6 +116,7 @@ module _ (f a : Here) (es : List Escaped) (i : InEscaped f a es) (o : Option ℕ
       moves = part_moves;
       costs = part_costs;
       leaves = part_leaves;
+      parts = all_in;
     }
 
     -- up to a newline
@@ -120,6 +127,7 @@ module _ (f a : Here) (es : List Escaped) (i : InEscaped f a es) (o : Option ℕ
       moves = part_moves;
       costs = part_costs;
       leaves = part_leaves;
+      parts = all_in;
     }
 
     -- up to three quotes
@@ -130,6 +138,7 @@ module _ (f a : Here) (es : List Escaped) (i : InEscaped f a es) (o : Option ℕ
       moves = part_moves;
       costs = part_costs;
       leaves = part_leaves;
+      parts = all_in;
     }
 
   -- where what follows was not read, or the memory ended

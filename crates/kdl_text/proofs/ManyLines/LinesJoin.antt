@@ -8,7 +8,7 @@ use Rattle.std.specs.List.{list_all}
 use Rattle.kdl_text.specs.Chars.{Text, is_space}
 use Rattle.kdl_text.specs.Dedent.{is_blank_line, onto_first, lines_of}
 use Rattle.kdl_text.specs.Internal.Here.{Here}
-use Rattle.kdl_text.specs.Internal.Lines.{CostsWith, line_units, line_steps, lines_steps, is_one_line, ReadsLine}
+use Rattle.kdl_text.specs.Internal.Lines.{CostsWith, LineIn, LinesIn, line_units, line_steps, lines_steps, is_one_line, ReadsLine}
 use Rattle.kdl_text.specs.Raw.{literals}
 use Rattle.kdl_text.specs.Internal.Reading.{Moves, Goes}
 use Rattle.kdl_text.specs.declared.strings.dedent.Line.{Line}
@@ -16,6 +16,7 @@ use Rattle.kdl_text.specs.declared.strings.dedent.LineUnit.{LineUnit}
 use Rattle.kdl_text.specs.declared.strings.dedent.LineUnit.TheVariants.{Literal, Escape, LineEnd}
 use Rattle.kdl_text.proofs.Looking.ValueGoes.{goes_then}
 use Rattle.kdl_text.proofs.Looking.MovesJoin.{moves_then}
+use Rattle.kdl_text.proofs.ManyLines.LineParts.{lines_more, lines_same}
 
 cut_inside : (l : List LineUnit) → is_one_line l ≡ true → lines_of l ≡ l ∷ []
 cut_inside [] h = refl
@@ -64,13 +65,17 @@ pub record InLines (X : Text → Text → List LineUnit → Type 0) (f a : Here)
   pub inside : list_all is_one_line (map line_units ls) ≡ true
   pub moves : Moves f a
   pub costs : CostsWith (lines_steps ls) f a
+  pub parts : LinesIn a.text ls
 
-module _ (X : Text → Text → List LineUnit → Type 0) (f a b : Here) (ls : List Line) (l : Line) (i : InLines X f a ls) (m : Moves a b) (k : CostsWith (line_steps l) a b) where
+module _ (X : Text → Text → List LineUnit → Type 0) (f a b : Here) (ls : List Line) (l : Line) (i : InLines X f a ls) (m : Moves a b) (k : CostsWith (line_steps l) a b) (part : LineIn b.text l) where
   with_line : map line_units (ls ++ (l ∷ [])) ≡ map line_units ls ++ (line_units l ∷ [])
   with_line = map-append line_units ls (l ∷ [])
 
   costs_on : CostsWith (lines_steps (ls ++ (l ∷ []))) f b
   costs_on = record { most = omega (arith, i.costs.most, k.most, line_steps-more ls l); least = omega (arith, i.costs.least, k.least) }
+
+  all_in : LinesIn b.text (ls ++ (l ∷ []))
+  all_in = lines_more b.text ls l (lines_same ls i.parts m.same) part
 
   -- a line and its newline
   pub lines_turn : ReadsLine X false a.rest (line_units l) b.rest → (new : List Line) → new ≡ ls ++ (l ∷ []) → InLines X f b new
@@ -79,15 +84,17 @@ module _ (X : Text → Text → List LineUnit → Type 0) (f a b : Here) (ls : L
     inside = ap (list_all is_one_line) with_line ∙ all_more (map line_units ls) (line_units l) i.inside one;
     moves = moves_then i.moves m;
     costs = costs_on;
+    parts = all_in;
   })
 
   -- the last line, and what ends an X
   pub lines_close : ReadsLine X true a.rest (line_units l) b.rest → (new : List Line) → new ≡ ls ++ (l ∷ [])
-      → ((us : List LineUnit) × X f.rest b.rest us × (lines_of us ≡ map line_units new)) × Moves f b × CostsWith (lines_steps new) f b
+      → ((us : List LineUnit) × X f.rest b.rest us × (lines_of us ≡ map line_units new)) × Moves f b × CostsWith (lines_steps new) f b × LinesIn b.text new
   lines_close (one, x) new e = rw e (
     (ended (map line_units ls) ++ line_units l, i.goes.on b.rest (line_units l) x, lines_ended (map line_units ls) (line_units l) i.inside one ∙ sym with_line),
     moves_then i.moves m,
     costs_on,
+    all_in,
   )
 
 pub lines_steps_take : (ls : List Line) (n : ℕ) → lines_steps (take n ls) ≤ lines_steps ls

@@ -124,7 +124,7 @@ integer_on (c ∷ w) r q u l a d = integer (lt-ltb (digit_value c) 10 a.0) (digi
 
 module _ (run : Text) (n v : ℕ) (m : Bool) (a b : Here) (i : RanDigits run n v m a b) where
   pub run_moves : Moves a b
-  run_moves = record { piece = (run, i.text); at = omega (arith, ap bytes i.text, bytes-append run b.rest, i.bytes_is, i.at); counts = omega (arith, i.steps) }
+  run_moves = record { piece = (run, i.text); at = omega (arith, ap bytes i.text, bytes-append run b.rest, i.bytes_is, i.at); counts = omega (arith, i.steps); same = i.same }
 
   pub run_costs : Costs 2 1 a b
   run_costs = record {

@@ -159,7 +159,7 @@ keyword_here o p run a b d e t s x m w =
 
 pub keyword_moves : (p run : Text) (a b d e : Here) → Took (Some 35) a b → Ran is_identifier_char run b d → e ≡ sliced p d → Moves a e
 keyword_moves p run a b d e t s m =
-    moves_then (moves_one t) (rw m (record { piece = (run, s.text); at = omega (arith, s.at, ap bytes s.text, bytes-append run d.rest); counts = omega (arith, s.steps) }))
+    moves_then (moves_one t) (rw m (record { piece = (run, s.text); at = omega (arith, s.at, ap bytes s.text, bytes-append run d.rest); counts = omega (arith, s.steps); same = s.same }))
 
 -- the keyword of a number is the whole text
 float_to : (t : Text) (k : Keyword) → is_of_number k ≡ true → IsKeyword t [] k → FloatKeyword t

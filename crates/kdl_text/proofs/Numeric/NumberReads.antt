@@ -14,7 +14,7 @@ use Rattle.kdl_text.specs.Numbers.Digits.{stop, digit, underscore}
 use Rattle.kdl_text.specs.Internal.NumberReading.{Counts, IsDigit, ReadsDigits, ReadsInteger}
 use Rattle.kdl_text.specs.declared.numbers.Magnitude.{Magnitude}
 use Rattle.kdl_text.specs.declared.numbers.Magnitude.TheVariants.{Small}
-use Rattle.kdl_text.proofs.Looking.MovesJoin.{moves_then, moves_one, stayed_looked, took_from, fewer_bytes, bytes-append}
+use Rattle.kdl_text.proofs.Looking.MovesJoin.{stays, moves_then, moves_one, stayed_looked, took_from, fewer_bytes, bytes-append}
 use Rattle.kdl_text.proofs.Looking.Runs.{length-bytes}
 
 pub value_after : (k : ℕ) (ds es : Text) (n : ℕ) → digits_value_after k n (ds ++ es) ≡ digits_value_after k (digits_value_after k n ds) es
@@ -28,6 +28,9 @@ pub record InDigits (k : ℕ) (before now : Magnitude) (f a : Here) : Type 0 whe
   pub counts : (n : ℕ) → Counts before n → Counts now (digits_value_after k n read)
   pub moves : Moves f a
   pub costs : Costs 1 0 f a
+
+pub digits_start : (k : ℕ) (m : Magnitude) (f : Here) → InDigits k m m f f
+digits_start k m f = record { read = []; on = λ r w d. d; counts = λ n g. g; moves = stays f; costs = record { most = omega arith; least = omega arith } }
 
 module _ (k : ℕ) (before now : Magnitude) (f a b e : Here) (c : ℕ) (i : InDigits k before now f a) (h : Some c ≡ first a.rest) (x : b ≡ looked a) where
   pub digits_underscore : c ≡ 95 → e ≡ stepped b → InDigits k before now f e
@@ -122,10 +125,11 @@ base_other k a b m e h s x y =
     let w : a.rest ≡ c ∷ d ∷ e.rest = t ∙ ap (λ z. c ∷ d ∷ z) (sym r) in
     let at : e.at ≡ a.at + len_utf8 c + len_utf8 d =
     ap (λ z. z.at) y ∙ ap (λ z. m.at + first_len z) v ∙ ap (λ z. z + len_utf8 d) (ap (λ z. z.at) x ∙ ap (λ z. b.at + first_len z) u ∙ ap (λ z. z + len_utf8 c) s.at) in
+    let same : e.text ≡ a.text = ap (λ z. z.text) y ∙ ap (λ z. z.text) x ∙ s.same in
     let steps : e.steps ≡ raise a.steps 2 = ap (λ z. z.steps) y ∙ ap (λ z. z.steps) x ∙ s.steps in
     record {
       base = subst (λ q. BasePrefix q e.rest k) (sym w) (other (ap base_prefix (sym w) ∙ h));
-      moves = record { piece = (c ∷ d ∷ [], w); at = omega (arith, ap bytes w, at); counts = omega (arith, steps) };
+      moves = record { piece = (c ∷ d ∷ [], w); at = omega (arith, ap bytes w, at); counts = omega (arith, steps); same = same };
       costs = record { most = omega (arith, ap bytes w, steps, (len_utf8_bounds c).0, (len_utf8_bounds d).0); least = omega (arith, ap length w, steps) };
     }
 

@@ -7,8 +7,8 @@ use Rattle.std.specs.List.{list_all}
 use Rattle.std.specs.Prelude.{Some, not}
 use Rattle.kdl_text.specs.Chars.{Text, is_identifier_char, is_space, is_newline_char, is_banned, is_punctuation, is_digit, is_sign, starts}
 use Rattle.kdl_text.specs.Bare.{BareString, bare, is_bare, bare_form, is_excluded}
-use Rattle.kdl_text.specs.Internal.Here.{Here, first}
-use Rattle.kdl_text.specs.Spans.{bytes, raise}
+use Rattle.kdl_text.specs.Internal.Here.{Here, Looked, first}
+use Rattle.kdl_text.specs.Spans.{bytes}
 use Rattle.kdl_text.specs.Internal.Reading.{Costs}
 use Rattle.kdl_text.specs.Strings.{Run}
 use Rattle.kdl_text.proofs.Looking.MovesJoin.{bytes-append}
@@ -85,7 +85,17 @@ module _ (x t r : Text) (i : Run is_identifier_char t r) (e : t ≡ x ++ r) wher
       let (ends, same) = past_only s w (bare f h k) in
       false≢true (sym v ∙ ap bare_form (sym same) ∙ (bare_parts w h).1)
 
-pub past_cost : (x : Text) (a e d : Here) → a.rest ≡ x ++ e.rest → bare_form x ≡ true → Costs 2 1 a e → d ≡ record e { steps = raise e.steps 3 } → Costs 24 0 a d
-past_cost x a e d t v k f =
+-- what a run and at most three looks cost
+pub past_costs : (a e d : Here) → Costs 2 1 a e → Looked 3 e d → Costs 2 4 a d
+past_costs a e d k (n, few, s) = record { most = omega (arith, k.most, few, s.steps, ap bytes s.rest); least = omega (arith, k.least, s.steps, ap length s.rest) }
+
+pub past_run : (t : Text) (e d : Here) → Run is_identifier_char t e.rest → Looked 3 e d → Run is_identifier_char t d.rest
+past_run t e d r (n, few, s) = rw s.rest r
+
+pub past_cost : (x : Text) (a e d : Here) → a.rest ≡ x ++ e.rest → bare_form x ≡ true → Costs 2 1 a e → Looked 3 e d → Costs 24 0 a d
+past_cost x a e d t v k (m, few, s) =
     let n = some_form x v in
-    rw f (record { most = omega (arith, k.most, ap bytes t, bytes-append x e.rest, length-bytes x); least = omega (arith, k.least) })
+    record {
+      most = omega (arith, n, k.most, few, s.steps, ap bytes s.rest, ap bytes t, bytes-append x e.rest, length-bytes x);
+      least = omega (arith, k.least, s.steps, ap length s.rest);
+    }

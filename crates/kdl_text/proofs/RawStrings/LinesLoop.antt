@@ -34,12 +34,12 @@ one_behind n i o a b t h did e = go o did
     there = let m : n - i ≡ suc (n - (i + 1)) = omega arith in e ∙ ap (λ k. times k 34 ++ t) m
 
     go : (o : Bool) → Ate 34 o a b → b.rest ≡ times (n - (i + 1)) 34 ++ t
-    go true (r, at, s) = ap tail (sym r ∙ there)
+    go true (r, at, s, x) = ap tail (sym r ∙ there)
     go false (x, l) = absurd (false≢true (sym x ∙ ap (begins 34) there))
 
-pub one_look : (c : ℕ) (o : Bool) (a b : Here) → Ate c o a b → (b.steps ≤ a.steps + 1) × (raise a.steps 0 ≤ raise b.steps 0)
-one_look c true a b t = (omega (arith, t.2), omega (arith, t.2))
-one_look c false a b (n, e) = let s = ap (λ z. z.steps) e in (omega (arith, s), omega (arith, s))
+pub one_look : (c : ℕ) (o : Bool) (a b : Here) → Ate c o a b → (b.steps ≤ a.steps + 1) × (raise a.steps 0 ≤ raise b.steps 0) × (b.text ≡ a.text)
+one_look c true a b t = (omega (arith, t.2), omega (arith, t.2), t.3)
+one_look c false a b (n, e) = let s = ap (λ z. z.steps) e in (omega (arith, s), omega (arith, s), ap (λ z. z.text) e)
 
 pub no_more_behind : (n i : ℕ) (s t : Text) → n ≤ i → s ≡ times (n - i) 34 ++ t → s ≡ t
 no_more_behind n i s t h e = let m : n - i ≡ 0 = omega arith in e ∙ ap (λ k. times k 34 ++ t) m

@@ -65,9 +65,9 @@ module _ (f : Here) (n c : ℕ) (a b e : Here) (i : Inside f n a) (took : Took (
     costs = record { most = omega (arith, ap bytes took.0, took.2, i.costs.most, (len_utf8_bounds c).0); least = omega (arith, ap length took.0, took.2, i.costs.least) };
   }
 
-  looked_after : b.at ≡ e.at → b.rest ≡ e.rest → e.steps ≤ b.steps + 1 → b.steps ≤ e.steps → Moves f e × Costs 2 0 f e × (n + f.at ≤ e.at + 1)
-  looked_after x y z w = (
-    (let m = moves_took _ _ _ _ took i.moves in record { piece = (m.piece.0, m.piece.1 ∙ ap (λ x. m.piece.0 ++ x) y); at = omega (arith, m.at, x, ap bytes y); counts = omega (arith, i.moves.counts, took.2, z, w) }),
+  looked_after : b.at ≡ e.at → b.rest ≡ e.rest → e.steps ≤ b.steps + 1 → b.steps ≤ e.steps → e.text ≡ b.text → Moves f e × Costs 2 0 f e × (n + f.at ≤ e.at + 1)
+  looked_after x y z w q = (
+    (let m = moves_took _ _ _ _ took i.moves in record { piece = (m.piece.0, m.piece.1 ∙ ap (λ x. m.piece.0 ++ x) y); at = omega (arith, m.at, x, ap bytes y); counts = omega (arith, i.moves.counts, took.2, z, w); same = q ∙ m.same }),
     record { most = omega (arith, ap bytes took.0, ap bytes y, took.2, i.costs.most, (len_utf8_bounds c).0); least = omega (arith, ap length took.0, ap length y, took.2, i.costs.least) },
     omega (arith, took.1, i.few),
   )
@@ -75,7 +75,7 @@ module _ (f : Here) (n c : ℕ) (a b e : Here) (i : Inside f n a) (took : Took (
   pub after_slash : c ≡ 47 → Ate 42 false b e → Inside f n e
   after_slash is (other, to) =
       let y = ap (λ h. h.rest) (sym to) in
-      let l = looked_after (ap (λ h. h.at) (sym to)) y (omega (arith, ap (λ h. h.steps) to)) (omega (arith, ap (λ h. h.steps) to)) in
+      let l = looked_after (ap (λ h. h.at) (sym to)) y (omega (arith, ap (λ h. h.steps) to)) (omega (arith, ap (λ h. h.steps) to)) (ap (λ h. h.text) to) in
       record {
         inside = i.inside;
         few = l.2;
@@ -87,7 +87,7 @@ module _ (f : Here) (n c : ℕ) (a b e : Here) (i : Inside f n a) (took : Took (
   pub after_star : c ≡ 42 → Ate 47 false b e → Inside f n e
   after_star is (other, to) =
       let y = ap (λ h. h.rest) (sym to) in
-      let l = looked_after (ap (λ h. h.at) (sym to)) y (omega (arith, ap (λ h. h.steps) to)) (omega (arith, ap (λ h. h.steps) to)) in
+      let l = looked_after (ap (λ h. h.at) (sym to)) y (omega (arith, ap (λ h. h.steps) to)) (omega (arith, ap (λ h. h.steps) to)) (ap (λ h. h.text) to) in
       record {
         inside = i.inside;
         few = l.2;

@@ -26,7 +26,7 @@ pub reads_found : (R : Text → Text → Type 0) (s t : Text) → R s t → ((r 
 reads_found R s t found same r = (same r, λ x. subst (R s) (sym x) found)
 
 pub moves_ran : {p : ℕ → Bool} {run : Text} {a b : Here} → Ran p run a b → Moves a b
-moves_ran {run = run} {b = b} r = record { piece = (run, r.text); at = omega (arith, r.at, ap bytes r.text, bytes-append run b.rest); counts = omega (arith, r.steps) }
+moves_ran {run = run} {b = b} r = record { piece = (run, r.text); at = omega (arith, r.at, ap bytes r.text, bytes-append run b.rest); counts = omega (arith, r.steps); same = r.same }
 
 pub costs_ran : {p : ℕ → Bool} {run : Text} {a b : Here} → Ran p run a b → Costs 1 1 a b
 costs_ran {run = run} {b = b} r = record {

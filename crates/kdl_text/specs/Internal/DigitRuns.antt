@@ -40,6 +40,7 @@ pub record RanDigits (run : Text) (n v : ℕ) (more : Bool) (old new : Here) : T
   pub stops : more ≡ false → starts (is_part 10) new.rest ≡ false
   pub at : new.at ≡ old.at + n
   pub steps : new.steps ≡ raise old.steps (n + 1)
+  pub same : new.text ≡ old.text
 
 abbrev pub SkipsDigits : ℕ → ℕ → Bool → Here → Here → Type 0
 SkipsDigits n v more old new = (run : Text) × RanDigits run n v more old new

@@ -8,8 +8,9 @@ use Rattle.kdl_text.specs.Spans.{bytes, raise}
 use Rattle.kdl_text.specs.declared.chars.Class.{Class}
 use Rattle.kdl_text.specs.declared.chars.Class.TheVariants.{Space, Identifier, Literal, Line, Unquoted, NumberSign, Quote, Plain}
 
--- the state of a cursor: the characters to come, its offset in bytes, and the steps so far
+-- the state of a cursor: the whole text that it reads, the characters to come, its offset in bytes, and the steps so far
 pub record Here : Type 0 where
+  pub text : Text
   pub rest : Text
   pub at : ℕ
   pub steps : ℕ
@@ -18,6 +19,12 @@ pub record Here : Type 0 where
 pub record Position : Type 0 where
   pub rest : Text
   pub at : ℕ
+
+-- the piece is a part of the text
+pub record IsPart (text piece : Text) : Type 0 where
+  pub before : Text
+  pub after : Text
+  pub whole : text ≡ before ++ (piece ++ after)
 
 -- the first character
 abbrev pub first : Text → Option ℕ
@@ -40,15 +47,15 @@ looked h = record h { steps = raise h.steps 1 }
 
 -- past one character, if there is one
 abbrev pub stepped : Here → Here
-stepped h = record { rest = tail h.rest; at = h.at + first_len h.rest; steps = h.steps }
+stepped h = record h { rest = tail h.rest; at = h.at + first_len h.rest }
 
 -- after a slice of the piece p
 abbrev pub sliced : Text → Here → Here
 sliced p h = record h { steps = raise h.steps (bytes p) }
 
--- some piece lies between the two
+-- the place is in the cursor's text, and some piece lies between the two
 abbrev pub Behind : Position → Here → Type 0
-Behind old new = (p : Text) × (old.rest ≡ p ++ new.rest)
+Behind old new = (p : Text) × (old.rest ≡ p ++ new.rest) × IsPart new.text old.rest
 
 -- some piece lies between the two places
 abbrev pub Ahead : Position → Position → Type 0
@@ -57,7 +64,7 @@ Ahead from to = (p : Text) × (from.rest ≡ p ++ to.rest)
 -- a look at the character here, and a step past it
 abbrev pub Took : Option ℕ → Here → Here → Type 0
 Took None old new = (old.rest ≡ []) × (new ≡ looked old)
-Took (Some c) old new = (old.rest ≡ c ∷ new.rest) × (new.at ≡ old.at + len_utf8 c) × (new.steps ≡ raise old.steps 1)
+Took (Some c) old new = (old.rest ≡ c ∷ new.rest) × (new.at ≡ old.at + len_utf8 c) × (new.steps ≡ raise old.steps 1) × (new.text ≡ old.text)
 
 -- a look whether c is here, and a step past it if it is
 abbrev pub Ate : ℕ → Bool → Here → Here → Type 0
@@ -69,6 +76,11 @@ pub record Stayed (k : ℕ) (old new : Here) : Type 0 where
   pub rest : new.rest ≡ old.rest
   pub at : new.at ≡ old.at
   pub steps : new.steps ≡ raise old.steps k
+  pub same : new.text ≡ old.text
+
+-- the cursor has not moved, and at most k steps were counted
+abbrev pub Looked : ℕ → Here → Here → Type 0
+Looked most old new = (k : ℕ) × (k ≤ most) × Stayed k old new
 
 -- the cursor is back where it was, and at most k steps were counted
 pub record Returned (k : ℕ) (old new : Here) : Type 0 where
@@ -76,12 +88,14 @@ pub record Returned (k : ℕ) (old new : Here) : Type 0 where
   pub at : new.at ≡ old.at
   pub most : new.steps ≤ old.steps + k
   pub counts : raise old.steps 0 ≤ raise new.steps 0
+  pub same : new.text ≡ old.text
 
 -- past the characters a and b
 pub record TookTwo (a b : ℕ) (old new : Here) : Type 0 where
   pub rest : old.rest ≡ a ∷ b ∷ new.rest
   pub at : new.at ≡ old.at + len_utf8 a + len_utf8 b
   pub steps : new.steps ≡ raise old.steps 2
+  pub same : new.text ≡ old.text
 
 -- a look at two characters, and a step past them if they are a and b
 abbrev pub AteTwo : ℕ → ℕ → Bool → Here → Here → Type 0
@@ -110,6 +124,7 @@ pub record Ran (p : ℕ → Bool) (run : Text) (old new : Here) : Type 0 where
   pub stops : starts p new.rest ≡ false
   pub at : new.at ≡ old.at + bytes run
   pub steps : new.steps ≡ raise old.steps (length run + 1)
+  pub same : new.text ≡ old.text
 
 -- `count` ASCII characters of the class begin the UTF-8 text `old` and leave `new`, which begins with no other
 pub record AsciiOf (p : ℕ → Bool) (old new : List ℕ) (count : ℕ) : Type 0 where
@@ -162,6 +177,7 @@ pub record Passed (p : ℕ → Bool) (old new : Here) : Type 0 where
   pub all : list_all p run ≡ true
   pub at : new.at ≡ old.at + bytes run
   pub steps : new.steps ≡ raise old.steps (bytes run)
+  pub same : new.text ≡ old.text
 
 -- past a run of characters that pass p, and past the character c after them, or to the end of the text
 abbrev pub TookAfter : (ℕ → Bool) → Option ℕ → Here → Here → Type 0

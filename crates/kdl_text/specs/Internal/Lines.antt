@@ -4,7 +4,7 @@ use Rattle.std.specs.List.{list_all}
 use Rattle.kdl_text.specs.Chars.{Text}
 use Rattle.kdl_text.specs.Dedent.{is_line_end}
 use Rattle.kdl_text.specs.Spans.{bytes, raise}
-use Rattle.kdl_text.specs.Internal.Here.{Here}
+use Rattle.kdl_text.specs.Internal.Here.{Here, IsPart}
 use Rattle.kdl_text.specs.Raw.{literals}
 use Rattle.kdl_text.specs.Internal.Reading.{Goes}
 use Rattle.kdl_text.specs.MultiLine.{kept}
@@ -16,6 +16,21 @@ use Rattle.kdl_text.specs.declared.strings.dedent.LineUnit.{LineUnit}
 use Rattle.kdl_text.specs.declared.strings.dedent.LineUnit.TheVariants.{LineEnd}
 use Rattle.kdl_text.specs.declared.strings.multiline.Stop.{Stop}
 use Rattle.kdl_text.specs.declared.strings.multiline.Stop.TheVariants.{Newline as at_newline, Close, Escape}
+
+-- the characters after each escape are a part of the text
+abbrev pub EscapesIn : Text → List Escaped → Type 0
+EscapesIn text [] = Unit {0}
+EscapesIn text (e ∷ es) = IsPart text e.after × EscapesIn text es
+
+-- the characters of the line are parts of the text
+abbrev pub LineIn : Text → Line → Type 0
+LineIn text (Plain p) = IsPart text p
+LineIn text (WithEscapes p es) = IsPart text p × EscapesIn text es.items
+
+-- the characters of each line are parts of the text
+abbrev pub LinesIn : Text → List Line → Type 0
+LinesIn text [] = Unit {0}
+LinesIn text (line ∷ lines) = LineIn text line × LinesIn text lines
 
 -- the units of an escape and of the characters after it
 abbrev pub escape_units : Escaped → List LineUnit

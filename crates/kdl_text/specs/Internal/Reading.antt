@@ -14,6 +14,7 @@ pub record Moves (old new : Here) : Type 0 where
   pub piece : (p : Text) × (old.rest ≡ p ++ new.rest)
   pub at : new.at + bytes new.rest ≡ old.at + bytes old.rest
   pub counts : raise old.steps 0 ≤ raise new.steps 0
+  pub same : new.text ≡ old.text
 
 -- at most k steps for each byte that was read, and c more, and at least one for each character
 pub record Costs (k c : ℕ) (old new : Here) : Type 0 where

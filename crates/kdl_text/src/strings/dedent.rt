@@ -3,9 +3,9 @@
 ghost use Rattle.kdl_text.specs.Chars.{is_space, starts};
 ghost use Rattle.kdl_text.specs.Dedent as spec;
 ghost use Rattle.kdl_text.specs.Dedent.{Dedents, LineValue, LineValues, joined, lines_of};
-ghost use Rattle.kdl_text.specs.Internal.Here.{Returned};
+ghost use Rattle.kdl_text.specs.Internal.Here.{IsPart, Returned, Stayed};
 ghost use Rattle.kdl_text.specs.Internal.Lines as rooms;
-ghost use Rattle.kdl_text.specs.Internal.Lines.{EatsUnits, escapes_bytes, escapes_units, line_room, line_steps, line_units, lines_room, lines_steps};
+ghost use Rattle.kdl_text.specs.Internal.Lines.{EatsUnits, EscapesIn, LineIn, LinesIn, escapes_bytes, escapes_units, line_room, line_steps, line_units, lines_room, lines_steps};
 ghost use Rattle.kdl_text.specs.MultiLine.{kept};
 ghost use Rattle.kdl_text.specs.Raw.{literals};
 ghost use Rattle.kdl_text.specs.Spans.{bytes};
@@ -97,6 +97,7 @@ fn push_literals<'a>(
     segment: &Segment<'a>,
     cursor: &mut Cursor<'a>,
 ) -> Result<(), AllocError>
+    requires { IsPart cursor.old.text segment.now }
     ensures pushed { IfOk result
         (λ _. units.new.items ≡ units.old.items ++ literals segment.now) }
     ensures returned { Returned (bytes segment.now) cursor.old cursor.new }
@@ -120,6 +121,7 @@ fn push_escapes<'a>(
     escapes: &[Escaped<'a>],
     cursor: &mut Cursor<'a>,
 ) -> Result<(), AllocError>
+    requires { EscapesIn cursor.old.text escapes.now }
     ensures pushed { IfOk result
         (λ _. units.new.items ≡ units.old.items ++ escapes_units escapes.now) }
     ensures returned { Returned (escapes_bytes escapes.now) cursor.old cursor.new }
@@ -138,6 +140,8 @@ fn units_of<'a>(
     escapes: &[Escaped<'a>],
     cursor: &mut Cursor<'a>,
 ) -> Result<Vec<LineUnit>, AllocError>
+    requires part { IsPart cursor.old.text segment.now }
+    requires escapes { EscapesIn cursor.old.text escapes.now }
     ensures units { IfOk result
         (λ us. us.items ≡ literals segment.now ++ escapes_units escapes.now) }
     ensures returned { Returned
@@ -174,6 +178,7 @@ fn is_all_space(mut characters: Characters) -> bool
 
 /// Whether the segment is only spaces.
 fn is_space_segment<'a>(segment: &Segment<'a>, cursor: &mut Cursor<'a>) -> bool
+    requires { IsPart cursor.old.text segment.now }
     ensures result { result ≡ spec.is_blank_line (literals segment.now) }
     ensures returned { Returned (bytes segment.now) cursor.old cursor.new }
 {
@@ -193,6 +198,7 @@ fn plain_prefix<'a>(
     segment: &Segment<'a>,
     cursor: &mut Cursor<'a>,
 ) -> Result<Vec<LineUnit>, StringFailure>
+    requires { IsPart cursor.old.text segment.now }
     ensures units { IfOk result (λ us. us.items ≡ literals segment.now) }
     ensures blank { IfOk result (λ _. spec.is_blank_line (literals segment.now) ≡ true) }
     ensures failed { IfErr result
@@ -214,6 +220,8 @@ fn escaped_prefix<'a>(
     escapes: &[Escaped<'a>],
     cursor: &mut Cursor<'a>,
 ) -> Result<Vec<LineUnit>, StringFailure>
+    requires part { IsPart cursor.old.text segment.now }
+    requires escapes { EscapesIn cursor.old.text escapes.now }
     ensures units { IfOk result
         (λ us. us.items ≡ literals segment.now ++ escapes_units escapes.now) }
     ensures blank { IfOk result
@@ -238,6 +246,7 @@ fn prefix_of<'a>(
     line: &Line<'a>,
     cursor: &mut Cursor<'a>,
 ) -> Result<Vec<LineUnit>, StringFailure>
+    requires { LineIn cursor.old.text line.now }
     ensures units { IfOk result (λ us. us.items ≡ line_units line.now) }
     ensures blank { IfOk result (λ _. spec.is_blank_line (line_units line.now) ≡ true) }
     ensures failed { IfErr result
@@ -328,10 +337,11 @@ fn eat_prefix(prefix: &[LineUnit], characters: &mut Characters) -> bool
 }
 
 /// Whether the piece begins with a character that is not a space.
-fn begins_word(piece: &Piece) -> bool
-    ensures { result ≡ starts (λ c. not (is_space c)) piece.now }
+fn begins_word<'a>(piece: &Piece<'a>, cursor: &mut Cursor<'a>) -> bool
+    ensures result { result ≡ starts (λ c. not (is_space c)) piece.now }
+    ensures stayed { Stayed 1 cursor.old cursor.new }
 {
-    match piece.characters().next() {
+    match cursor.take_of(&mut piece.copied()) {
         Some(c) => !is_space(c),
         None => false,
     }
@@ -344,6 +354,7 @@ fn push_plain<'a>(
     segment: &Segment<'a>,
     cursor: &mut Cursor<'a>,
 ) -> Result<(), StringFailure>
+    requires { IsPart cursor.old.text segment.now }
     ensures done { OnOk result
         ((v : List ℕ) × LineValue prefix.now (literals segment.now) v
         × (chars (string_bytes out.new) ≡ chars (string_bytes out.old) ++ v)) }
@@ -359,8 +370,7 @@ fn push_plain<'a>(
         return Err(StringFailure::Fault(StringFault::NoPrefix));
     }
     let rest = characters.into_piece();
-    cursor.count_looks(1);
-    if !begins_word(&rest) && is_space_segment(segment, cursor) {
+    if !begins_word(&rest, cursor) && is_space_segment(segment, cursor) {
         return Ok(());
     }
     rest.push_to(out)?;
@@ -383,11 +393,12 @@ fn are_gaps(escapes: &[Escaped]) -> bool
 
 /// Whether the first character of the piece or one of the escapes shows that a line that ends in
 /// them is not only spaces.
-fn shows_text(piece: &Piece, escapes: &[Escaped]) -> bool
-    ensures { result ≡ true
+fn shows_text<'a>(piece: &Piece<'a>, escapes: &[Escaped<'a>], cursor: &mut Cursor<'a>) -> bool
+    ensures result { result ≡ true
         → spec.is_blank_line (literals piece.now ++ escapes_units escapes.now) ≡ false }
+    ensures stayed { Stayed 1 cursor.old cursor.new }
 {
-    begins_word(piece) || !are_gaps(escapes)
+    begins_word(piece, cursor) || !are_gaps(escapes)
 }
 
 /// Appends the text of an escape, if it has one.
@@ -407,6 +418,7 @@ fn push_values<'a>(
     escapes: &[Escaped<'a>],
     cursor: &mut Cursor<'a>,
 ) -> Result<(), AllocError>
+    requires { EscapesIn cursor.old.text escapes.now }
     ensures pushed { OnOk result (chars (string_bytes out.new)
         ≡ chars (string_bytes out.old) ++ spec.line_text (escapes_units escapes.now)) }
     ensures returned { Returned (escapes_bytes escapes.now) cursor.old cursor.new }
@@ -428,6 +440,8 @@ fn push_escaped<'a>(
     escapes: &[Escaped<'a>],
     cursor: &mut Cursor<'a>,
 ) -> Result<(), StringFailure>
+    requires part { IsPart cursor.old.text segment.now }
+    requires escapes { EscapesIn cursor.old.text escapes.now }
     ensures done { OnOk result ((v : List ℕ)
         × LineValue prefix.now (literals segment.now ++ escapes_units escapes.now) v
         × (chars (string_bytes out.new) ≡ chars (string_bytes out.old) ++ v)) }
@@ -439,10 +453,9 @@ fn push_escaped<'a>(
         cursor.new }
 {
     let mut characters = cursor.characters(segment);
-    cursor.count_looks(1);
     if eat_prefix(prefix, &mut characters) {
         let rest = characters.into_piece();
-        if shows_text(&rest, escapes) {
+        if shows_text(&rest, escapes, cursor) {
             rest.push_to(out)?;
             push_values(out, escapes, cursor)?;
             return Ok(());
@@ -460,6 +473,7 @@ fn push_line<'a>(
     line: &Line<'a>,
     cursor: &mut Cursor<'a>,
 ) -> Result<(), StringFailure>
+    requires { LineIn cursor.old.text line.now }
     ensures done { OnOk result
         ((v : List ℕ) × LineValue prefix.now (line_units line.now) v
         × (chars (string_bytes out.new) ≡ chars (string_bytes out.old) ++ v)) }
@@ -483,7 +497,8 @@ fn push_lines<'a>(
     lines: &[Line<'a>],
     cursor: &mut Cursor<'a>,
 ) -> Result<(), StringFailure>
-    requires { string_bytes out.old ≡ [] }
+    requires empty { string_bytes out.old ≡ [] }
+    requires part { LinesIn cursor.old.text lines.now }
     ensures found { OnOk result
         ((vs : List (List ℕ)) × LineValues prefix.now (map line_units lines.now) vs
         × (chars (string_bytes out.new) ≡ joined vs)) }
@@ -555,6 +570,7 @@ pub fn dedent<'a>(
     lines: &[Line<'a>],
     cursor: &mut Cursor<'a>,
 ) -> Result<String, StringFailure>
+    requires { LinesIn cursor.old.text lines.now }
     ensures found { (us : List LineUnit) → lines_of us ≡ map line_units lines.now
         → IfOk result (λ s. Dedents us (chars (string_bytes s))) }
     ensures only { (us : List LineUnit) (v : List ℕ) → lines_of us ≡ map line_units lines.now

@@ -3,7 +3,8 @@
 ghost use Rattle.kdl_text.specs.Chars.{Newline, Text, is_newline_char};
 ghost use Rattle.kdl_text.specs.Dedent.{lines_of};
 ghost use Rattle.kdl_text.specs.Spans.{bytes};
-ghost use Rattle.kdl_text.specs.Internal.Lines.{CostsWith, ReadsLine, ReadsPlain, escapes_bytes, escapes_units, line_steps, line_units, lines_steps};
+ghost use Rattle.kdl_text.specs.Internal.Here.{IsPart};
+ghost use Rattle.kdl_text.specs.Internal.Lines.{CostsWith, EscapesIn, LineIn, LinesIn, ReadsLine, ReadsPlain, escapes_bytes, escapes_units, line_steps, line_units, lines_steps};
 ghost use Rattle.kdl_text.specs.MultiLine.{Content, MultiLineBody};
 ghost use Rattle.kdl_text.specs.Internal.Reading.{Moves, Costs};
 ghost use Rattle.kdl_text.specs.declared.strings.StringFailure.TheVariants.{Memory};
@@ -49,6 +50,7 @@ fn plain_part<'a>(cursor: &mut Cursor<'a>) -> Result<(Segment<'a>, Stop), String
         (λ (p, _). bytes p + 1 + bytes cursor.new.rest ≤ bytes cursor.old.rest) }
     ensures only { (r : Text) (us : List LineUnit) → Content cursor.old.rest r us
         → IfErr result (λ _. ⊥) }
+    ensures part { IfOk result (λ (p, _). IsPart cursor.new.text p) }
     ensures moves { Moves cursor.old cursor.new }
     ensures costs { Costs 2 1 cursor.old cursor.new }
     ensures cost { IfOk result (λ _. Costs 2 0 cursor.old cursor.new) }
@@ -86,6 +88,7 @@ fn line_escapes<'a>(
     ensures shorter { IfOk result (λ _. bytes cursor.new.rest + 1 ≤ bytes cursor.old.rest) }
     ensures only { (r : Text) (us : List LineUnit) → Content (92 ∷ cursor.old.rest) r us
         → IfErr result (λ e. e ≡ Memory) }
+    ensures part { IfOk result (λ (es, _). EscapesIn cursor.new.text es.items) }
     ensures moves { Moves cursor.old cursor.new }
     ensures costs { Costs 2 1 cursor.old cursor.new }
     ensures cost { IfOk result
@@ -112,6 +115,7 @@ fn read_line<'a>(alloc: Global, cursor: &mut Cursor<'a>) -> Result<(Line<'a>, bo
     ensures shorter { IfOk result (λ _. bytes cursor.new.rest + 1 ≤ bytes cursor.old.rest) }
     ensures only { (r : Text) (us : List LineUnit) → Content cursor.old.rest r us
         → IfErr result (λ e. e ≡ Memory) }
+    ensures part { IfOk result (λ (line, _). LineIn cursor.new.text line) }
     ensures moves { Moves cursor.old cursor.new }
     ensures costs { Costs 2 1 cursor.old cursor.new }
     ensures cost { IfOk result (λ (line, _). CostsWith (line_steps line) cursor.old cursor.new) }
@@ -134,6 +138,7 @@ fn content<'a>(alloc: Global, cursor: &mut Cursor<'a>) -> Result<Vec<Line<'a>>, 
         × (lines_of us ≡ map line_units ls.items)) }
     ensures only { (r : Text) (us : List LineUnit) → Content cursor.old.rest r us
         → IfErr result (λ e. e ≡ Memory) }
+    ensures part { IfOk result (λ ls. LinesIn cursor.new.text ls.items) }
     ensures moves { Moves cursor.old cursor.new }
     ensures costs { Costs 4 1 cursor.old cursor.new }
     ensures cost { IfOk result (λ ls. CostsWith (lines_steps ls.items) cursor.old cursor.new) }

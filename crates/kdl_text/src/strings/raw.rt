@@ -3,8 +3,8 @@
 ghost use Rattle.kdl_text.specs.Chars.{Text, begins, times};
 ghost use Rattle.kdl_text.specs.Dedent.{lines_of};
 ghost use Rattle.kdl_text.specs.Spans.{bytes};
-ghost use Rattle.kdl_text.specs.Internal.Here.{Returned};
-ghost use Rattle.kdl_text.specs.Internal.Lines.{CostsWith, ReadsLine, line_units, lines_steps};
+ghost use Rattle.kdl_text.specs.Internal.Here.{IsPart, Returned};
+ghost use Rattle.kdl_text.specs.Internal.Lines.{CostsWith, LinesIn, ReadsLine, line_units, lines_steps};
 ghost use Rattle.kdl_text.specs.Raw.{IsRaw, RawUnits, RawContent, MultiLineRawBody, closing, literals};
 ghost use Rattle.kdl_text.specs.Internal.Reading.{Moves, Costs};
 ghost use Rattle.kdl_text.specs.declared.strings.StringFailure.TheVariants.{Memory};
@@ -93,6 +93,7 @@ fn behind_quotes<'a>(
     count: usize,
     cursor: &mut Cursor<'a>,
 ) -> Checkpoint<'a>
+    requires { IsPart cursor.old.text place.now.rest }
     ensures behind { (t : Text) → place.now.rest ≡ times count 34 ++ t → result.rest ≡ t }
     ensures returned { Returned count cursor.old cursor.new }
 {
@@ -115,6 +116,7 @@ fn closing_place<'a>(
 ) -> Option<Checkpoint<'a>>
     requires some { 0 < signs }
     requires quote { quote.now.rest ≡ 34 ∷ cursor.old.rest }
+    requires part { IsPart cursor.old.text quote.now.rest }
     ensures found { IfSome result
         (λ place. (p : Text) × (quote.now.rest ≡ p ++ place.rest)
         × RawUnits (closing 3 signs) quote.now.rest place.rest (literals p)
@@ -146,6 +148,7 @@ fn read_line<'a>(cursor: &mut Cursor<'a>, signs: usize) -> Result<(Segment<'a>, 
         (λ (p, _). bytes p + 1 + bytes cursor.new.rest ≤ bytes cursor.old.rest) }
     ensures only { (r : Text) (us : List LineUnit)
         → RawContent (closing 3 signs) cursor.old.rest r us → IfErr result (λ _. ⊥) }
+    ensures part { IfOk result (λ (p, _). IsPart cursor.new.text p) }
     ensures moves { Moves cursor.old cursor.new }
     ensures costs { Costs 2 1 cursor.old cursor.new }
     ensures cost { IfOk result (λ _. Costs 2 0 cursor.old cursor.new) }
@@ -184,6 +187,7 @@ fn lines_content<'a>(
         × (lines_of us ≡ map line_units ls.items)) }
     ensures only { (r : Text) (us : List LineUnit)
         → RawContent (closing 3 signs) cursor.old.rest r us → IfErr result (λ e. e ≡ Memory) }
+    ensures part { IfOk result (λ ls. LinesIn cursor.new.text ls.items) }
     ensures moves { Moves cursor.old cursor.new }
     ensures costs { Costs 4 1 cursor.old cursor.new }
     ensures cost { IfOk result (λ ls. CostsWith (lines_steps ls.items) cursor.old cursor.new) }

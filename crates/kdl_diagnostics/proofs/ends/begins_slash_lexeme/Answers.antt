@@ -10,6 +10,6 @@ returns-then-looks_two-2 c =
         | else-looks_two w ↦
             let a = c.looks_two.ensures.stayed in
             let b = w.looks_two-else-looks_two.ensures.stayed in
-            rw w.cursor-is (4, omega arith, record { rest = b.rest ∙ a.rest; at = b.at ∙ a.at; steps = omega (arith, a.steps, b.steps) })
+            rw w.cursor-is (4, omega arith, record { rest = b.rest ∙ a.rest; at = b.at ∙ a.at; steps = omega (arith, a.steps, b.steps); same = b.same ∙ a.same })
       ];
     }

@@ -102,6 +102,6 @@ ends-preserved c =
       | in-Some w ↦ stepped_first _ _ _ (first_same _ c.skip.new.self c.match-look.cursor w.in-Some.ensures.result stay.2.rest) c.step.ensures
     ] in
     record {
-      moves = moves_then c.ends.invariant.moves (moves_then r (moves_then (moves_stayed stay.2) step.moves));
+      moves = moves_then c.ends.invariant.moves (moves_then r (moves_then (moves_stayed {k = stay.0} stay.2) step.moves));
       most = omega (arith, c.ends.invariant.most, k.most, fewer_bytes r, stay.1, stay.2.steps, ap bytes stay.2.rest, step.fewer, step.steps);
     }

@@ -1,6 +1,7 @@
 use Rattle.std.proofs.Common.{refl, ap, ◌∙◌, sym, ◌++◌, arith}
 use Rattle.kdl_text.specs.Spans.{bytes}
 use Rattle.kdl_text.proofs.Looking.MovesJoin.{moves_then, fewer_bytes}
+use Rattle.kdl_text.proofs.Looking.Parts.{part_moved, part_past, part_same}
 use Rattle.kdl_diagnostics.proofs.Passing.{behind_then}
 use Rattle.kdl_diagnostics.proofs.LexemeMoves.{begun, stands_at}
 use Rattle.kdl_diagnostics.proofs.lexemes.backslash_lexeme.Goals as goal
@@ -51,3 +52,9 @@ pub returns-in-Other-2-clause-most : goal.returns-in-Other-2-clause-most
 returns-in-Other-2-clause-most c =
     let m = begun c.args.start c.args.cursor.now c.go_to.new.self c.requires.start.spans c.go_to.ensures in
     omega (arith, fewer_bytes m, ap (λ z. z.steps) c.go_to.ensures, c.after_backslash.ensures.most, fewer_bytes c.after_backslash.ensures.moves)
+
+pub go_to-requires : goal.go_to-requires
+go_to-requires c = let next = c.requires.start.spans.next in part_past _ _ next.0 _ c.requires.part next.1
+
+pub other-requires-clause-part : goal.other-requires-clause-part
+other-requires-clause-part c = part_moved (part_same c.requires.part (ap (λ z. z.text) c.go_to.ensures)) c.after_backslash.ensures.moves

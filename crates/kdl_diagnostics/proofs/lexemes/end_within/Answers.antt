@@ -1,6 +1,7 @@
 use Rattle.std.proofs.Common.{◌++◌, ap, ◌∙◌, arith}
 use Rattle.kdl_text.specs.Spans.{bytes}
 use Rattle.kdl_text.proofs.Looking.MovesJoin.{bytes-append}
+use Rattle.kdl_text.proofs.Looking.Parts.{part_front, part_moved, part_same}
 use Rattle.kdl_diagnostics.proofs.lexemes.end_within.Goals as goal
 
 pub returns-clause-most : goal.returns-clause-most
@@ -21,3 +22,14 @@ returns-clause-most c =
       c.go_on-last.ensures.most,
       ap (λ z. z.steps) c.go_to-2.ensures,
     )
+
+pub enter-here-requires : goal.enter-here-requires
+enter-here-requires c = part_front _ _ _ _ c.requires.part c.up_to.ensures
+
+pub go_to-requires : goal.go_to-requires
+go_to-requires c = part_moved (part_same c.requires.part (ap (λ z. z.text) c.enter-here.ensures.inside)) c.value_end-end.ensures.moves
+
+pub go_to-requires-2 : goal.go_to-requires-2
+go_to-requires-2 c =
+    let inside = part_moved (part_same c.enter-here.ensures.part (ap (λ z. z.text) c.enter-here.ensures.inside)) c.value_end-end.ensures.moves in
+    part_moved (part_same inside (ap (λ z. z.text) c.go_to.ensures)) c.go_on-last.ensures.moves

@@ -3,6 +3,7 @@ use Rattle.kdl_text.specs.Spans.{bytes}
 use Rattle.kdl_text.proofs.Looking.MovesJoin.{moves_then, fewer_bytes, bytes-append}
 use Rattle.kdl_text.proofs.Looking.Returns.{moves_returned}
 use Rattle.kdl_text.proofs.Looking.SliceCost.{moves_ran, costs_ran}
+use Rattle.kdl_text.proofs.Looking.Parts.{part_front, part_moved}
 use Rattle.kdl_diagnostics.proofs.Passing.{behind_then, behind_same, behind_bytes}
 use Rattle.kdl_diagnostics.proofs.lexemes.keyword_lexeme.Goals as goal
 
@@ -29,3 +30,6 @@ returns-clause-most c =
       fault.most,
       c.word.ensures.most,
     )
+
+pub keyword_fault-fault-requires : goal.keyword_fault-fault-requires
+keyword_fault-fault-requires c = part_moved (part_front _ _ _ _ c.requires.part c.up_to-text.ensures) (moves_ran c.skip.ensures.1)

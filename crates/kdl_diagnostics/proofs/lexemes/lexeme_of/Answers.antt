@@ -1,6 +1,7 @@
 use Rattle.std.proofs.Common.{ap, arith}
 use Rattle.kdl_text.specs.Spans.{bytes}
 use Rattle.kdl_text.proofs.Looking.MovesJoin.{moves_then, fewer_bytes}
+use Rattle.kdl_text.proofs.Looking.Parts.{part_moved, part_same}
 use Rattle.kdl_diagnostics.proofs.lexemes.lexeme_of.Goals as goal
 
 pub returns-in_ok-scan-in-34-clause-lexeme : goal.returns-in_ok-scan-in-34-clause-lexeme
@@ -29,3 +30,9 @@ pub returns-then-begins_number-clause-most : goal.returns-then-begins_number-cla
 returns-then-begins_number-clause-most c =
     let b = c.begins_number.ensures.stayed in
     omega (arith, b.1, b.2.steps, ap bytes b.2.rest, c.number_lexeme.ensures.most, fewer_bytes c.number_lexeme.ensures.moves)
+
+pub string-requires-clause-part : goal.string-requires-clause-part
+string-requires-clause-part c = part_moved c.requires.part c.scan_quoted.ensures.moves
+
+pub number_lexeme-requires-clause-part : goal.number_lexeme-requires-clause-part
+number_lexeme-requires-clause-part c = part_same c.requires.part c.begins_number.ensures.stayed.2.same

@@ -3,6 +3,7 @@ use Rattle.kdl_text.specs.Spans.{bytes}
 use Rattle.kdl_text.proofs.Looking.MovesJoin.{moves_then, fewer_bytes, bytes-append}
 use Rattle.kdl_text.proofs.Looking.Returns.{moves_returned}
 use Rattle.kdl_text.proofs.Looking.SliceCost.{moves_ran, costs_ran}
+use Rattle.kdl_text.proofs.Looking.Parts.{part_front, part_moved}
 use Rattle.kdl_diagnostics.proofs.Passing.{ran_fewer}
 use Rattle.kdl_diagnostics.proofs.lexemes.number_lexeme.Goals as goal
 
@@ -61,3 +62,6 @@ returns-clause-most c =
       fault.most,
       c.word.ensures.most,
     )
+
+pub number_fault-requires : goal.number_fault-requires
+number_fault-requires c = part_moved (part_front _ _ _ _ c.requires.part c.up_to-number.ensures) (moves_ran c.skip.ensures.1)

@@ -1,6 +1,7 @@
 use Rattle.std.proofs.Common.{ap, sym, ◌∙◌, arith}
 use Rattle.kdl_text.specs.Spans.{bytes}
 use Rattle.kdl_text.proofs.Looking.MovesJoin.{moves_then, fewer_bytes}
+use Rattle.kdl_text.proofs.Looking.Parts.{part_moved}
 use Rattle.kdl_diagnostics.proofs.Passing.{ended, ran_fewer, found_from, found_at}
 use Rattle.kdl_diagnostics.proofs.lexemes.sign_lexeme.Goals as goal
 
@@ -72,3 +73,12 @@ pub returns-clause-most : goal.returns-clause-most
 returns-clause-most c =
     let t = ended _ _ _ _ c.skip.ensures c.look.ensures.moved in
     omega (arith, t.most, fewer_bytes t.moves, ap (λ z. bytes z.rest) c.requires.here, c.keyword_lexeme.ensures.most, fewer_bytes c.keyword_lexeme.ensures.moves)
+
+pub scan_raw-requires-clause-part : goal.scan_raw-requires-clause-part
+scan_raw-requires-clause-part c = let t = ended _ _ _ _ c.skip.ensures c.look.ensures.moved in part_moved c.requires.part t.moves
+
+pub string-requires-clause-part : goal.string-requires-clause-part
+string-requires-clause-part c = let t = ended _ _ _ _ c.skip.ensures c.look.ensures.moved in part_moved c.requires.part (moves_then t.moves c.scan_raw.ensures.moves)
+
+pub keyword_lexeme-requires-clause-part : goal.keyword_lexeme-requires-clause-part
+keyword_lexeme-requires-clause-part c = let t = ended _ _ _ _ c.skip.ensures c.look.ensures.moved in part_moved c.requires.part t.moves

@@ -1,6 +1,7 @@
 use Rattle.std.proofs.Common.{refl, ap, arith}
 use Rattle.kdl_text.specs.Spans.{bytes}
 use Rattle.kdl_text.proofs.Looking.MovesJoin.{fewer_bytes}
+use Rattle.kdl_text.proofs.Looking.Parts.{part_past}
 use Rattle.kdl_diagnostics.proofs.Passing.{behind_then, behind_same, behind_bytes}
 use Rattle.kdl_diagnostics.proofs.LexemeMoves.{ahead_if, found_in_role, stands_at}
 use Rattle.kdl_diagnostics.proofs.lexemes.string.Goals as goal
@@ -26,3 +27,8 @@ returns-clause-most c =
     let first = behind_bytes c.args.start.place.rest c.in-Some.found.place.rest found.before in
     let last = behind_bytes c.in-Some.found.place.rest c.args.cursor.now.rest found.behind in
     omega (arith, first, last, c.end_within-inside.ensures.most, ap bytes c.end_within-inside.ensures.rest, c.value_end-end.ensures.most, fewer_bytes c.value_end-end.ensures.moves)
+
+pub end_within-inside-requires-clause-part : goal.end_within-inside-requires-clause-part
+end_within-inside-requires-clause-part c =
+    let found = rw c.in-Some.is at (found_in_role c.args.start c.args.cursor.now _ _ c.requires.here c.requires.fault c.fault_in_role.ensures) in
+    part_past _ _ found.before.0 _ c.requires.part found.before.1

@@ -1,5 +1,6 @@
 use Rattle.std.proofs.Common.{◌∙◌}
 use Rattle.kdl_text.proofs.Looking.MovesJoin.{moves_then}
+use Rattle.kdl_text.proofs.Looking.Parts.{part_moved}
 use Rattle.kdl_diagnostics.proofs.Passing.{opened, found_from}
 use Rattle.kdl_diagnostics.proofs.strings.scan_quoted.Goals as goal
 
@@ -23,8 +24,8 @@ returns-then-is_some-clause-moves c =
     let o = opened _ c.args.cursor.now _ _ c.requires c.step.ensures c.eat_two.ensures in
     moves_then o.moves c.quoted_lines-scan.ensures.moves
 
-pub fault_of_lines-requires : goal.fault_of_lines-requires
-fault_of_lines-requires c =
+pub fault_of_lines-requires-clause-here : goal.fault_of_lines-requires-clause-here
+fault_of_lines-requires-clause-here c =
     let o = opened _ c.args.cursor.now _ _ c.requires c.step.ensures c.eat_two.ensures in
     let m = moves_then o.moves c.quoted_lines-scan.ensures.moves in
     (m.piece.0, c.checkpoint-start.ensures.rest ∙ m.piece.1)
@@ -43,3 +44,8 @@ pub returns-clause-moves : goal.returns-clause-moves
 returns-clause-moves c =
     let o = opened _ c.args.cursor.now _ _ c.requires c.step.ensures c.eat_two.ensures in
     moves_then (moves_then o.moves c.quoted_lines-scan.ensures.moves) c.fault_of_lines.ensures.moves
+
+pub fault_of_lines-requires-clause-part : goal.fault_of_lines-requires-clause-part
+fault_of_lines-requires-clause-part c =
+    let o = opened _ c.args.cursor.now _ _ c.requires c.step.ensures c.eat_two.ensures in
+    part_moved c.checkpoint-start.ensures.part (moves_then o.moves c.quoted_lines-scan.ensures.moves)

@@ -1,6 +1,7 @@
 use Rattle.std.proofs.Common.{ap, arith}
 use Rattle.kdl_text.specs.Spans.{bytes}
 use Rattle.kdl_text.proofs.Looking.MovesJoin.{moves_then, fewer_bytes}
+use Rattle.kdl_text.proofs.Looking.Parts.{part_moved}
 use Rattle.kdl_diagnostics.proofs.Passing.{opened, found_from, behind_bytes, behind_then}
 use Rattle.kdl_diagnostics.proofs.strings.scan_raw.Goals as goal
 
@@ -52,8 +53,8 @@ returns-then-is_some-clause-most c =
     let back = behind_bytes c.args.start.now.rest c.args.cursor.now.rest c.requires.start in
     omega (arith, o.steps, o.fewer, back, c.raw_lines-scan.ensures.most, fewer_bytes c.raw_lines-scan.ensures.moves, c.newline.ensures.costs.most, fewer_bytes c.newline.ensures.moves)
 
-pub fault_of_raw_lines-requires : goal.fault_of_raw_lines-requires
-fault_of_raw_lines-requires c =
+pub fault_of_raw_lines-requires-clause-here : goal.fault_of_raw_lines-requires-clause-here
+fault_of_raw_lines-requires-clause-here c =
     let o = opened _ c.args.cursor.now _ _ c.requires.quote c.step.ensures c.eat_two.ensures in
     let m = moves_then o.moves (moves_then c.newline.ensures.moves c.raw_lines-scan.ensures.moves) in
     behind_then _ _ _ c.requires.start m.piece
@@ -84,3 +85,8 @@ returns-clause-most c =
     let o = opened _ c.args.cursor.now _ _ c.requires.quote c.step.ensures c.eat_two.ensures in
     let back = behind_bytes c.args.start.now.rest c.args.cursor.now.rest c.requires.start in
     omega (arith, o.steps, o.fewer, back, ap bytes c.fault_of_raw_lines.ensures.rest, c.fault_of_raw_lines.ensures.most, c.raw_lines-scan.ensures.most, fewer_bytes c.raw_lines-scan.ensures.moves, c.newline.ensures.costs.most, fewer_bytes c.newline.ensures.moves)
+
+pub fault_of_raw_lines-requires-clause-part : goal.fault_of_raw_lines-requires-clause-part
+fault_of_raw_lines-requires-clause-part c =
+    let o = opened _ c.args.cursor.now _ _ c.requires.quote c.step.ensures c.eat_two.ensures in
+    part_moved c.requires.part (moves_then o.moves (moves_then c.newline.ensures.moves c.raw_lines-scan.ensures.moves))

@@ -5,5 +5,4 @@ use Rattle.kdl_parser.proofs.Answering.NodeTexts.{nothing_read}
 use Rattle.kdl_parser.proofs.node_text.read_whole.Goals as goal
 
 pub returns-in-Err : goal.returns-in-Err
-returns-in-Err g c =
-    nothing_read g.N.ParsedNode.tree (chars c.args.text.now) c.checkpoint-whole.result.rest c.new-lexer.result c.in-Err.failure c.checkpoint-whole.ensures.rest (ap (λ (l : Here). l.rest) c.new-lexer.ensures) c.in-Err.ensures.answers
+returns-in-Err g c = nothing_read g.N.ParsedNode.tree (chars c.args.text.now) c.new-source.result c.in-Err.failure (ap (λ (h : Here). h.text) c.new-source.ensures) (ap (λ (h : Here). h.rest) c.new-source.ensures) c.in-Err.ensures.answers

@@ -1,8 +1,11 @@
 use Rattle.std.proofs.Common.{refl}
 use Rattle.kdl_text.specs.Numbers.{is_part}
 use Rattle.kdl_text.proofs.Looking.MovesJoin.{moves_then, moves_stayed, stayed_looked}
-use Rattle.kdl_text.proofs.Numeric.NumberReads.{digits_underscore, digits_digit, digits_end, digits_costs, digits_more, more_costs, not_part, none_here}
+use Rattle.kdl_text.proofs.Numeric.NumberReads.{digits_start, digits_underscore, digits_digit, digits_end, digits_costs, digits_more, more_costs, not_part, none_here}
 use Rattle.kdl_text.proofs.numbers.digits.Goals as goal
+
+pub digits-init : goal.digits-init
+digits-init c = rw c.take_over-here.ensures.result (digits_start _ _ _)
 
 pub digits-preserved-in-Some-eq95 : goal.digits-preserved-in-Some-eq95
 digits-preserved-in-Some-eq95 c = digits_underscore _ _ _ _ _ _ _ _ c.digits.invariant c.in-Some-eq95.ensures.result c.look.ensures.moved c.in-Some-eq95.field-0-test c.step.ensures

@@ -4,7 +4,7 @@ use Rattle.kdl_text.proofs.Numeric.NumberReads.{InDigits}
 use Rattle.kdl_text.proofs.numbers.digits.Given as goal
 
 abbrev pub invariant-digits : goal.invariant-digits
-invariant-digits l = InDigits l.radix (Small l.before) (Small l.small) l.initial.cursor l.here
+invariant-digits l = InDigits l.radix (Small l.before) (Small l.small) l.fn.cursor l.here
 
 abbrev pub decreases-digits : goal.decreases-digits
 decreases-digits l = length l.here.rest

@@ -1,6 +1,7 @@
 use Rattle.std.proofs.Common.{◌≡◌, ◌++◌, ap, sym, ◌∙◌, append-nil}
 use Rattle.std.specs.Str.{chars}
 use Rattle.kdl_text.proofs.Looking.MovesJoin.{moves_then}
+use Rattle.kdl_text.proofs.Looking.Parts.{part_front, part_moved, part_same}
 use Rattle.kdl_text.proofs.Numeric.DecimalReads.{plain_none, plain_other, plain_no_part, plain_rest, plain_whole, at_end, has_no_underscore}
 use Rattle.kdl_text.proofs.numbers.is_plain_decimal.Goals as goal
 
@@ -26,3 +27,7 @@ returns-then-is_none c =
 
 pub returns-else-is_none : goal.returns-else-is_none
 returns-else-is_none c = plain_rest _ _ _ _ (ap (λ h. h.rest) c.new-cursor.ensures) c.in-Ok.ensures.reads _ _ c.if-is_none.false (at_end _ _ _ c.look.ensures.result c.is_none.ensures) c.in-Ok-decimal_part.ensures.reads
+
+pub characters-requires : goal.characters-requires
+characters-requires c =
+    part_same (part_moved (part_front _ _ _ _ c.checkpoint-start.ensures.part c.up_to-segment.ensures) (moves_then c.read_front.ensures.moves c.decimal_part.ensures.moves)) (ap (λ h. h.text) c.look.ensures.moved)

@@ -4,6 +4,7 @@ use Rattle.kdl_text.specs.Numbers.{DecimalPart}
 use Rattle.kdl_text.specs.Internal.NumberReading.{radix_of}
 use Rattle.kdl_text.proofs.Numeric.DecimalReads.{front_trails, number_range, whole_costs, front_number, front_other, front_no_part, front_part, reads_number, not_ten, part_moves, part_costs}
 use Rattle.kdl_text.proofs.Looking.MovesJoin.{moves_then, moves_stayed}
+use Rattle.kdl_text.proofs.Looking.Parts.{part_front, part_moved}
 use Rattle.kdl_text.proofs.Looking.MostCost.{more, front_looked, front_all, copied_most}
 use Rattle.kdl_text.proofs.numbers.read_number.Goals as goal
 
@@ -68,9 +69,13 @@ returns-in-Err-without_underscores-clause-most c =
     copied_most c.up_to-segment.result _ _ _ (front_all _ _ _ _ c.read_front.ensures.costs c.is_end.ensures.stayed c.decimal_part.ensures.costs)
     (sym c.checkpoint-start.ensures.rest ∙ c.up_to-segment.ensures ∙ ap (λ z. c.up_to-segment.result ++ z) c.checkpoint.ensures.rest) c.without_underscores.ensures.returned
 
-pub without_underscores-requires : goal.without_underscores-requires
-without_underscores-requires c = λ e.
+pub without_underscores-requires-clause-plain : goal.without_underscores-requires-clause-plain
+without_underscores-requires-clause-plain c = λ e.
     let (f, k) = c.in_default-decimal_part.ensures.plain e in
     let (g, h) = c.in-Ok.ensures.plain f in
     bare_piece _ _ _ (sym c.checkpoint-start.ensures.rest ∙ c.up_to-segment.ensures ∙ ap (λ z. c.up_to-segment.result ++ z) c.checkpoint.ensures.rest)
     (bare_then _ _ _ h (bare_then _ _ _ (bare_same _ _ (sym c.is_end.ensures.stayed.rest)) k))
+
+pub without_underscores-requires-clause-part : goal.without_underscores-requires-clause-part
+without_underscores-requires-clause-part c =
+    part_moved (part_front _ _ _ _ c.checkpoint-start.ensures.part c.up_to-segment.ensures) (part_moves _ _ _ _ c.read_front.ensures.moves c.is_end.ensures.stayed c.decimal_part.ensures.moves)

@@ -19,4 +19,4 @@ returns-clause-plain c =
 pub returns-then-plain-clause-plain : goal.returns-then-plain-clause-plain
 returns-then-plain-clause-plain c =
     let segment = c.args.segment.now in
-    rw (plain_same segment (c.requires c.if-plain.true) ∙ sym (c.into_piece.ensures ∙ c.characters.ensures.result)) c.to_string.ensures
+    rw (plain_same segment (c.requires.plain c.if-plain.true) ∙ sym (c.into_piece.ensures ∙ c.characters.ensures.result)) c.to_string.ensures

@@ -1,4 +1,4 @@
-use Rattle.std.proofs.Common.{sym, ap, ◌∙◌}
+use Rattle.std.proofs.Common.{sym, ◌∙◌}
 use Rattle.kdl_text.proofs.Quoted.BareReads.{letter_first, past_found, past_only, past_none}
 use Rattle.kdl_text.proofs.strings.letter_string.Goals as goal
 
@@ -10,12 +10,12 @@ has_letter_form-is_bare-requires-clause-first c =
 pub returns-then-is_bare-clause-found : goal.returns-then-is_bare-clause-found
 returns-then-is_bare-clause-found c =
     let run = c.run_of-word.ensures in
-    rw (ap (λ z. z.rest) c.count_looks.ensures) (past_found _ _ _ run.run run.result (sym c.has_letter_form-is_bare.ensures ∙ c.if-is_bare.true))
+    past_found _ _ _ run.run run.result (sym c.has_letter_form-is_bare.ensures ∙ c.if-is_bare.true)
 
 pub returns-then-is_bare-clause-only : goal.returns-then-is_bare-clause-only
 returns-then-is_bare-clause-only c =
     let run = c.run_of-word.ensures in
-    rw (ap (λ z. z.rest) c.count_looks.ensures) (past_only _ _ _ run.run run.result)
+    past_only _ _ _ run.run run.result
 
 pub returns-else-is_bare-clause-only : goal.returns-else-is_bare-clause-only
 returns-else-is_bare-clause-only c =

@@ -1,5 +1,6 @@
 use Rattle.std.proofs.Common.{sym, ◌∙◌}
 use Rattle.kdl_text.specs.Internal.Here.{in_class}
+use Rattle.kdl_text.proofs.Looking.Parts.{part_same}
 use Rattle.kdl_text.proofs.Looking.SliceCost.{ran_sliced}
 use Rattle.kdl_text.proofs.strings.run_of.Goals as goal
 
@@ -11,3 +12,6 @@ returns-clause-moves c = (ran_sliced (in_class c.args.class) _ _ _ _ c.skip.ensu
 
 pub returns-clause-costs : goal.returns-clause-costs
 returns-clause-costs c = (ran_sliced (in_class c.args.class) _ _ _ _ c.skip.ensures (sym c.checkpoint-start.ensures.rest ∙ c.slice.ensures.result) c.slice.ensures.moved).costs
+
+pub slice-requires : goal.slice-requires
+slice-requires c = (c.skip.ensures.0, c.checkpoint-start.ensures.rest ∙ c.skip.ensures.1.text, part_same c.checkpoint-start.ensures.part c.skip.ensures.1.same)

@@ -4,7 +4,7 @@ use Rattle.kdl_text.proofs.Spacing.CommentLoop.{starts, depth_fits, after_passed
 use Rattle.kdl_text.proofs.trivia.block_end.Goals as goal
 
 pub parts-init : goal.parts-init
-parts-init c = rw c.copied-here.ensures (starts _)
+parts-init c = rw c.take_over-here.ensures.result (starts _)
 
 pub returns-in-None : goal.returns-in-None
 returns-in-None c =

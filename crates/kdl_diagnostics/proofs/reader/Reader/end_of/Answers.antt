@@ -2,7 +2,7 @@ use Rattle.kdl_diagnostics.proofs.NotedSpans.{moved_here, then_ends, end_lies, s
 use Rattle.kdl_diagnostics.proofs.reader.Reader.end_of.Goals as goal
 
 pub returns-in-Left-clause-end : goal.returns-in-Left-clause-end
-returns-in-Left-clause-end c text x s = then_ends text c.args.self.now.cursor.rest _ x.here c.value_end.ensures.end.place.before
+returns-in-Left-clause-end c text x s = then_ends text c.args.self.now.cursor.rest _ (x.here.0, x.here.1) c.value_end.ensures.end.place.before
 
 pub returns-in-Left-clause-keeps : goal.returns-in-Left-clause-keeps
 returns-in-Left-clause-keeps c text x = record {

@@ -9,3 +9,6 @@ returns-in_err-read-clause-bounded c text x = read_once text c.args.self.now _ x
 
 pub returns-clause-bounded : goal.returns-clause-bounded
 returns-clause-bounded c text x = read_twice text c.args.self.now c.read.new.self c.settle_all.new.self x (c.read.ensures.keeps text x) c.read.ensures.bounded c.settle_all.ensures.bounded
+
+pub settle_all-requires : goal.settle_all-requires
+settle_all-requires c = let (text, x) = c.requires in (text, c.read.ensures.keeps text x)

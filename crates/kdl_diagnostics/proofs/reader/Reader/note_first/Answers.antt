@@ -7,7 +7,7 @@ pub returns-in_err-lexeme-clause-bounded : goal.returns-in_err-lexeme-clause-bou
 returns-in_err-lexeme-clause-bounded c = lexeme_bounded _ _ c.next.ensures.moves c.next.ensures.most
 
 pub returns-clause-keeps : goal.returns-clause-keeps
-returns-clause-keeps c text x = c.take_refused.ensures.keeps text (c.next.ensures.keeps text x) (stands_in text c.args.self.now.cursor.rest c.in_ok-lexeme.lexeme x.here c.in_ok-lexeme.ensures.lexeme)
+returns-clause-keeps c text x = c.take_refused.ensures.keeps text (c.next.ensures.keeps text x) (stands_in text c.args.self.now.cursor.rest c.in_ok-lexeme.lexeme (x.here.0, x.here.1) c.in_ok-lexeme.ensures.lexeme)
 
 pub returns-clause-turning : goal.returns-clause-turning
 returns-clause-turning c = on_ok c.take_refused.result (turning_first c.args.self.now.cursor c.next.new.self.cursor c.take_refused.new.self.cursor c.in_ok-lexeme.lexeme.kind c.take_refused.new.self.is_over c.next.ensures.moves c.next.ensures.most c.in_ok-lexeme.ensures.went c.take_refused.ensures.moves c.take_refused.ensures.most c.take_refused.ensures.over)

@@ -28,7 +28,7 @@ pub lexemes-preserved : goal.lexemes-preserved
 lexemes-preserved c = record {
   keeps = λ text x.
       (let y = c.lexemes.invariant.keeps text x in
-      c.take.ensures.keeps text (c.next.ensures.keeps text y) (stands_in text c.lexemes.self.cursor.rest c.in_ok-lexeme.lexeme y.here c.in_ok-lexeme.ensures.lexeme));
+      c.take.ensures.keeps text (c.next.ensures.keeps text y) (stands_in text c.lexemes.self.cursor.rest c.in_ok-lexeme.lexeme (y.here.0, y.here.1) c.in_ok-lexeme.ensures.lexeme));
   grows = omega (arith, c.lexemes.invariant.grows, c.next.ensures.grows, c.take.ensures.grows);
   noted = λ s. omega (arith, c.lexemes.invariant.noted s, c.next.ensures.grows, c.take.ensures.grows);
   turning = turning_turn c.args.self.now.cursor c.lexemes.self.cursor c.next.new.self.cursor c.take.new.self.cursor c.in_ok-lexeme.lexeme.kind c.lexemes.self.is_over c.take.new.self.is_over c.lexemes-test.true c.lexemes.invariant.turning c.next.ensures.moves c.next.ensures.most c.in_ok-lexeme.ensures.went c.take.ensures.moves c.take.ensures.most c.take.ensures.over;
@@ -38,7 +38,7 @@ pub returns-in_err-take : goal.returns-in_err-take
 returns-in_err-take c = record {
   keeps = λ text x.
       (let y = c.lexemes.invariant.keeps text x in
-      c.take.ensures.keeps text (c.next.ensures.keeps text y) (stands_in text c.lexemes.self.cursor.rest c.in_ok-lexeme.lexeme y.here c.in_ok-lexeme.ensures.lexeme));
+      c.take.ensures.keeps text (c.next.ensures.keeps text y) (stands_in text c.lexemes.self.cursor.rest c.in_ok-lexeme.lexeme (y.here.0, y.here.1) c.in_ok-lexeme.ensures.lexeme));
   grows = omega (arith, c.lexemes.invariant.grows, c.next.ensures.grows, c.take.ensures.grows);
   noted = on_ok {P = IsReady c.args.self.now → HasFault c.take.new.self} c.from_residual-in_err-take.result (λ s. omega (arith, c.lexemes.invariant.noted s, c.next.ensures.grows, c.take.ensures.grows));
   bounded = turning_stops c.args.self.now.cursor c.lexemes.self.cursor c.next.new.self.cursor c.take.new.self.cursor c.lexemes.self.is_over c.lexemes-test.true c.lexemes.invariant.turning c.next.ensures.moves c.next.ensures.most c.take.ensures.moves c.take.ensures.most;

@@ -1,4 +1,5 @@
-use Rattle.std.proofs.Common.{refl, ◌∙◌, arith}
+use Rattle.std.proofs.Common.{[], refl, sym, ◌∙◌, arith}
+use Rattle.kdl_diagnostics.proofs.NotedSpans.{lies_part}
 use Rattle.kdl_diagnostics.proofs.ReaderCost.{again_lies, read_again}
 use Rattle.kdl_diagnostics.proofs.reader.Reader.settle_all.Goals as goal
 
@@ -25,3 +26,6 @@ loop-candidate-preserved c = record {
 
 pub returns-clause-bounded : goal.returns-clause-bounded
 returns-clause-bounded c = read_again c.args.self.now c.loop-candidate.self c.go_to.new.self c.esclines.new.cursor c.go_to.ensures c.esclines.ensures.moves c.esclines.ensures.most c.loop-candidate.invariant.cursor
+
+pub go_to-requires : goal.go_to-requires
+go_to-requires c = let (text, x) = c.requires in lies_part text _ _ x.here.2 ([], sym x.whole)

@@ -4,7 +4,7 @@ use Rattle.kdl_entry.proofs.Reading.EntryLoop.{Going}
 use Rattle.kdl_entry.proofs.parsing.entries.read_tokens.Given as goal
 
 abbrev pub invariant-tokens : goal.invariant-tokens
-invariant-tokens l = Going (state_view l.state) l.lexer l.fn.slices.whole.rest × (l.slices.whole ≡ l.fn.slices.whole)
+invariant-tokens l = Going (state_view l.state) l.source l.fn.source.text × (l.source.text ≡ l.fn.source.text)
 
 abbrev pub decreases-tokens : goal.decreases-tokens
-decreases-tokens l = length l.lexer.rest
+decreases-tokens l = length l.source.rest

@@ -10,7 +10,7 @@ returns-in_ok-end_node-in-InNode-clause-finished g c =
     let self = c.args.self.now in
     let there = c.in_ok-end_node-in-InNode.ensures in
     let s = there.ended.did ∙ ap (λ (z : Position). node_ended tree self z c.nothing_at.result.end) c.nothing_at.ensures.start ∙ ap (λ (z : Position). node_ended tree self c.args.here.now z) c.nothing_at.ensures.end in
-    node_finishes tree self c.end_node.new.self c.in-InNode.field-0 c.args.here.now c.finish_nodes-in-InNode.result c.requires.live c.in-InNode.is c.requires.end s there.live there.ended.whole c.finish_nodes-in-InNode.ensures.finished
+    node_finishes tree self c.end_node.new.self c.in-InNode.field-0 c.args.here.now c.finish_nodes-in-InNode.result c.requires.live c.in-InNode.is c.requires.end s there.live there.ended.same.text c.finish_nodes-in-InNode.ensures.finished
 
 pub returns-in_ok-end_kept-in-Kept-clause-finished : goal.returns-in_ok-end_kept-in-Kept-clause-finished
 returns-in_ok-end_kept-in-Kept-clause-finished g c =
@@ -18,4 +18,4 @@ returns-in_ok-end_kept-in-Kept-clause-finished g c =
     let self = c.args.self.now in
     let there = c.in_ok-end_kept-in-Kept.ensures in
     let s = there.ended.did ∙ ap (λ (z : Position). kept_ended tree self z c.nothing_at-in-Kept.result.end) c.nothing_at-in-Kept.ensures.start ∙ ap (λ (z : Position). kept_ended tree self c.args.here.now z) c.nothing_at-in-Kept.ensures.end in
-    kept_finishes tree self c.end_kept.new.self c.args.here.now c.finish_nodes-in-Kept.result c.requires.live c.in-Kept.is c.requires.end s there.live there.ended.whole c.finish_nodes-in-Kept.ensures.finished
+    kept_finishes tree self c.end_kept.new.self c.args.here.now c.finish_nodes-in-Kept.result c.requires.live c.in-Kept.is c.requires.end s there.live there.ended.same.text c.finish_nodes-in-Kept.ensures.finished

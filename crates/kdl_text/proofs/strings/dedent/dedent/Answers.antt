@@ -1,8 +1,10 @@
-use Rattle.std.proofs.Common.{◌∙◌, sym, ap, arith}
+use Rattle.std.proofs.Common.{◌∙◌, sym, ap, arith, subst}
 use Rattle.std.proofs.lemmas.List.{nil_from_length}
 use Rattle.std.proofs.lemmas.Bool.{false≢true}
 use Rattle.kdl_text.specs.Dedent.{joined}
 use Rattle.kdl_text.proofs.ManyLines.DedentReads.{some_lines, dedents_to, dedents_from, memory_if, values_same}
+use Rattle.kdl_text.specs.Internal.Lines.{LinesIn}
+use Rattle.kdl_text.proofs.ManyLines.LineParts.{lines_last, lines_same}
 use Rattle.kdl_text.proofs.ManyLines.LinesJoin.{last_steps}
 use Rattle.kdl_text.proofs.Looking.Returns.{returned_less, returned_then}
 use Rattle.kdl_text.proofs.strings.dedent.dedent.Goals as goal
@@ -49,3 +51,9 @@ returns-clause-only c us v e d =
 pub returns-clause-returned : goal.returns-clause-returned
 returns-clause-returned c =
     returned_less _ _ _ _ (omega (arith, last_steps c.args.lines.now _ _ c.in-Some.ensures.cases.0)) (returned_then _ _ _ _ _ c.prefix_of.ensures.returned c.push_lines.ensures.returned)
+
+pub prefix_of-requires : goal.prefix_of-requires
+prefix_of-requires c = (lines_last _ c.in-Some.front.now c.in-Some.last.now (subst (LinesIn c.args.cursor.now.text) c.in-Some.ensures.cases.0 c.requires)).1
+
+pub push_lines-requires-clause-part : goal.push_lines-requires-clause-part
+push_lines-requires-clause-part c = lines_same c.in-Some.front.now (lines_last _ c.in-Some.front.now c.in-Some.last.now (subst (LinesIn c.args.cursor.now.text) c.in-Some.ensures.cases.0 c.requires)).0 c.prefix_of.ensures.returned.same

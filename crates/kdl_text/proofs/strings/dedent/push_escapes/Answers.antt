@@ -5,6 +5,7 @@ use Rattle.kdl_text.specs.Raw.{literals}
 use Rattle.kdl_text.specs.Strings.{escape_of}
 use Rattle.kdl_text.proofs.Looking.Returns.{returned_less, returned_none, returned_then}
 use Rattle.kdl_text.proofs.ManyLines.Escapes.{bytes_more, bytes_whole, units_more, units_whole, written_more}
+use Rattle.kdl_text.proofs.ManyLines.LineParts.{escape_at, escapes_same}
 use Rattle.kdl_text.proofs.strings.dedent.push_escapes.Goals as goal
 
 pub loop-escape-init : goal.loop-escape-init
@@ -37,3 +38,6 @@ returns-clause-pushed c = c.loop-escape.invariant.written ∙ ap (λ z. c.args.u
 
 pub returns-clause-returned : goal.returns-clause-returned
 returns-clause-returned c = returned_less _ _ _ _ (bytes_whole c.args.escapes.now c.loop-escape.escape-index) c.loop-escape.invariant.returned
+
+pub push_literals-requires : goal.push_literals-requires
+push_literals-requires c = escape_at _ c.args.escapes.now c.loop-escape.escape-index c.escape-item.result (escapes_same c.args.escapes.now c.requires c.loop-escape.invariant.returned.same) c.loop-escape-test.true c.escape-item.is

@@ -3,19 +3,20 @@ use Rattle.std.specs.Str.{chars}
 use Rattle.std.proofs.lemmas.List.{nil_from_length}
 use Rattle.std.proofs.lemmas.Str.{IsUtf8-string_bytes, chars-nil}
 use Rattle.kdl_text.specs.Dedent.{LineValues, none}
-use Rattle.kdl_text.specs.Internal.Lines.{lines_steps, line_units}
+use Rattle.kdl_text.specs.Internal.Lines.{LinesIn, lines_steps, line_units}
 use Rattle.kdl_text.specs.declared.strings.dedent.Line.{Line}
 use Rattle.kdl_text.proofs.ManyLines.DedentReads.{Joined, joined_first, joined_line, value_of, memory_if}
 use Rattle.kdl_text.proofs.Quoted.EscapeReads.{char_pushed}
 use Rattle.kdl_text.proofs.ManyLines.LinesJoin.{first_of, next_of, line_there, all_of, lines_steps_take, lines_steps-append}
 use Rattle.kdl_text.proofs.Looking.Returns.{returned_less, returned_then}
+use Rattle.kdl_text.proofs.ManyLines.LineParts.{line_at, lines_same}
 use Rattle.kdl_text.proofs.strings.dedent.push_lines.Goals as goal
 use Rattle.std.proofs.Common.{List}
 
 pub returns-in_default-clause-found : goal.returns-in_default-clause-found
 returns-in_default-clause-found c =
     let P : List Line → Type 0 = λ z. LineValues c.args.prefix.now (map line_units z) [] in
-    ([], subst P (sym (nil_from_length c.args.lines.now c.in_default.ensures.cases)) none, ap chars c.requires ∙ chars-nil)
+    ([], subst P (sym (nil_from_length c.args.lines.now c.in_default.ensures.cases)) none, ap chars c.requires.empty ∙ chars-nil)
 
 pub returns-in-Err-clause-only : goal.returns-in-Err-clause-only
 returns-in-Err-clause-only c vs k =
@@ -27,7 +28,7 @@ loop-line-init c =
     let one = first_of c.args.lines.now c.in-Some.first.now c.in-Some.others.now c.in-Some.ensures.cases.0 in
     let (v, line, out) = c.in-Ok.ensures.done in
     record {
-      joined = rw one (joined_first c.args.prefix.now c.in-Some.first.now v _ line (out ∙ ap (λ z. z ++ v) (ap chars c.requires ∙ chars-nil)));
+      joined = rw one (joined_first c.args.prefix.now c.in-Some.first.now v _ line (out ∙ ap (λ z. z ++ v) (ap chars c.requires.empty ∙ chars-nil)));
       returned = returned_less _ _ _ _ (omega (arith, ap lines_steps one)) c.push_line.ensures.returned;
     }
 
@@ -70,3 +71,10 @@ returns-clause-found c =
 
 pub returns-clause-returned : goal.returns-clause-returned
 returns-clause-returned c = returned_less _ _ _ _ (lines_steps_take c.args.lines.now (c.loop-line.line-index + 1)) c.loop-line.invariant.returned
+
+pub push_line-requires : goal.push_line-requires
+push_line-requires c = (subst (LinesIn c.args.cursor.now.text) c.in-Some.ensures.cases.0 c.requires.part).0
+
+pub push_line-requires-in-loop-line : goal.push_line-requires-in-loop-line
+push_line-requires-in-loop-line c =
+    line_at _ c.in-Some.others.now c.loop-line.line-index c.line-item.result (lines_same c.in-Some.others.now (subst (LinesIn c.args.cursor.now.text) c.in-Some.ensures.cases.0 c.requires.part).1 c.loop-line.invariant.returned.same) c.loop-line-test.true c.line-item.is

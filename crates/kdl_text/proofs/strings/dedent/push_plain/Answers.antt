@@ -20,6 +20,6 @@ returns-clause-done c =
     let line = ap literals (sym c.characters-characters.ensures.result) ∙ c.if-not-eat_prefix.ensures ∙ ap (λ z. c.args.prefix.now ++ literals z) (sym c.into_piece-rest.ensures) in
     let is_blank : is_blank_line (literals c.args.segment.now) ≡ false = elim c.else-not-begins_word.branch [
       | else-not-begins_word-via-then-not-begins_word+else-is_space_segment-2 w ↦ sym w.is_space_segment-then-not-begins_word.ensures.result ∙ w.if-is_space_segment-2.false
-      | else-not-begins_word-via-else-not-begins_word w ↦ not_blank c.args.prefix.now c.args.segment.now rest line (sym c.begins_word.ensures ∙ w.if-not-begins_word.false)
+      | else-not-begins_word-via-else-not-begins_word w ↦ not_blank c.args.prefix.now c.args.segment.now rest line (sym c.begins_word.ensures.result ∙ w.if-not-begins_word.false)
     ] in
     (rest, dedented (literals rest) is_blank line (sym (literals_text rest)), c.in_ok-push_to.ensures)

@@ -18,8 +18,8 @@ returns-in_err-add_line-clause-costs c = lines_stop _ _ _ _ c.lines.invariant.co
 
 pub returns-then-closed : goal.returns-then-closed
 returns-then-closed c =
-    let (found, moved, cost) = lines_close Content _ _ _ _ _ c.lines.invariant c.read_line.ensures.moves c.in_ok-line.ensures.cost (rw c.if-closed.true at c.in_ok-line.ensures.found) _ c.in_ok-add_line.ensures in
-    record { found = found; only = λ r us x. tt; moves = moved; costs = lines_read _ _ _ cost; cost = cost }
+    let (found, moved, cost, part) = lines_close Content _ _ _ _ _ c.lines.invariant c.read_line.ensures.moves c.in_ok-line.ensures.cost c.in_ok-line.ensures.part (rw c.if-closed.true at c.in_ok-line.ensures.found) _ c.in_ok-add_line.ensures in
+    record { found = found; only = λ r us x. tt; part = part; moves = moved; costs = lines_read _ _ _ cost; cost = cost }
 
 pub lines-preserved : goal.lines-preserved
-lines-preserved c = lines_turn Content _ _ _ _ _ c.lines.invariant c.read_line.ensures.moves c.in_ok-line.ensures.cost (rw c.if-closed.false at c.in_ok-line.ensures.found) _ c.in_ok-add_line.ensures
+lines-preserved c = lines_turn Content _ _ _ _ _ c.lines.invariant c.read_line.ensures.moves c.in_ok-line.ensures.cost c.in_ok-line.ensures.part (rw c.if-closed.false at c.in_ok-line.ensures.found) _ c.in_ok-add_line.ensures

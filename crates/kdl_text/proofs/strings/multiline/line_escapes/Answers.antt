@@ -32,16 +32,16 @@ returns-in_err-add_escape-clause-costs c = (part_fails _ _ _ c.escapes.invariant
 pub returns-in-Newline : goal.returns-in-Newline
 returns-in-Newline c =
     let part = c.in_ok-after.ensures in
-    let read = escaped_ends _ _ _ c.escapes.invariant c.in_ok-value.value _ c.in_ok-value.ensures.found c.escaped_unit.ensures.moves c.escaped_unit.ensures.costs (record { value = c.in_ok-value.value; after = c.in_ok-after.after }) _ _ c.plain_part.ensures.moves part.cost part.shorter refl c.in_ok-add_escape.ensures (rw c.in-Newline.is at part.found) in
-    record { found = read.line; shorter = read.shorter; only = λ r us x. tt; moves = read.moves; costs = costs_less read.costs; cost = read.leaves }
+    let read = escaped_ends _ _ _ c.escapes.invariant c.in_ok-value.value _ c.in_ok-value.ensures.found c.escaped_unit.ensures.moves c.escaped_unit.ensures.costs (record { value = c.in_ok-value.value; after = c.in_ok-after.after }) _ _ c.plain_part.ensures.moves part.cost part.shorter refl c.in_ok-add_escape.ensures part.part (rw c.in-Newline.is at part.found) in
+    record { found = read.line; shorter = read.shorter; only = λ r us x. tt; part = read.parts; moves = read.moves; costs = costs_less read.costs; cost = read.leaves }
 
 pub returns-in-Close : goal.returns-in-Close
 returns-in-Close c =
     let part = c.in_ok-after.ensures in
-    let read = escaped_closes _ _ _ c.escapes.invariant c.in_ok-value.value _ c.in_ok-value.ensures.found c.escaped_unit.ensures.moves c.escaped_unit.ensures.costs (record { value = c.in_ok-value.value; after = c.in_ok-after.after }) _ _ c.plain_part.ensures.moves part.cost part.shorter refl c.in_ok-add_escape.ensures (rw c.in-Close.is at part.found) in
-    record { found = read.line; shorter = read.shorter; only = λ r us x. tt; moves = read.moves; costs = costs_less read.costs; cost = read.leaves }
+    let read = escaped_closes _ _ _ c.escapes.invariant c.in_ok-value.value _ c.in_ok-value.ensures.found c.escaped_unit.ensures.moves c.escaped_unit.ensures.costs (record { value = c.in_ok-value.value; after = c.in_ok-after.after }) _ _ c.plain_part.ensures.moves part.cost part.shorter refl c.in_ok-add_escape.ensures part.part (rw c.in-Close.is at part.found) in
+    record { found = read.line; shorter = read.shorter; only = λ r us x. tt; part = read.parts; moves = read.moves; costs = costs_less read.costs; cost = read.leaves }
 
 pub escapes-preserved : goal.escapes-preserved
 escapes-preserved c =
     let part = c.in_ok-after.ensures in
-    escaped_turn _ _ _ c.escapes.invariant c.in_ok-value.value _ c.in_ok-value.ensures.found c.escaped_unit.ensures.moves c.escaped_unit.ensures.costs (record { value = c.in_ok-value.value; after = c.in_ok-after.after }) _ _ c.plain_part.ensures.moves part.cost part.shorter refl c.in_ok-add_escape.ensures (rw c.in-Escape.is at part.found)
+    escaped_turn _ _ _ c.escapes.invariant c.in_ok-value.value _ c.in_ok-value.ensures.found c.escaped_unit.ensures.moves c.escaped_unit.ensures.costs (record { value = c.in_ok-value.value; after = c.in_ok-after.after }) _ _ c.plain_part.ensures.moves part.cost part.shorter refl c.in_ok-add_escape.ensures part.part (rw c.in-Escape.is at part.found)

@@ -1,5 +1,6 @@
 use Rattle.std.proofs.Common.{◌++◌, sym, ap, ◌∙◌}
 use Rattle.kdl_text.proofs.Looking.MovesJoin.{costs_less}
+use Rattle.kdl_text.proofs.Looking.Parts.{part_front, part_moved}
 use Rattle.kdl_text.proofs.ManyLines.PlainLoop.{plain_run, plain_quote, plain_quotes, plain_close, plain_escape, plain_newline, plain_stuck, plain_over}
 use Rattle.kdl_text.proofs.strings.multiline.plain_part.Goals as goal
 use Rattle.kdl_text.proofs.strings.multiline.plain_part.Goals.{else-eat-via-then-eat+else-eat-2, else-eat-via-else-eat}
@@ -8,7 +9,7 @@ pub returns-then-eat-2 : goal.returns-then-eat-2
 returns-then-eat-2 c =
     let text = sym c.checkpoint-start.ensures.rest ∙ c.up_to.ensures ∙ ap (λ z. c.up_to.result ++ z) c.checkpoint-end.ensures.rest in
     let (found, shorter, moved, cost) = plain_close _ _ c.runs.invariant _ _ c.in-Some-eq34.ensures.took _ _ c.up_to.result c.in-Some-eq34.field-0-test c.if-eat.ensures c.if-eat-2.ensures text in
-    record { found = found; shorter = shorter; only = λ r us x. tt; moves = moved; costs = costs_less cost; cost = cost }
+    record { found = found; shorter = shorter; only = λ r us x. tt; part = part_moved (part_front _ _ _ _ c.checkpoint-start.ensures.part c.up_to.ensures) moved; moves = moved; costs = costs_less cost; cost = cost }
 
 pub runs-preserved-else-eat : goal.runs-preserved-else-eat
 runs-preserved-else-eat c = elim c.else-eat.branch [
@@ -20,14 +21,14 @@ pub returns-in-Some-eq92 : goal.returns-in-Some-eq92
 returns-in-Some-eq92 c =
     let text = sym c.checkpoint-start.ensures.rest ∙ c.up_to-in-Some-eq92.ensures ∙ ap (λ z. c.up_to-in-Some-eq92.result ++ z) c.checkpoint-end.ensures.rest in
     let (found, shorter, moved, cost) = plain_escape _ _ c.runs.invariant _ _ c.in-Some-eq92.ensures.took c.up_to-in-Some-eq92.result c.in-Some-eq92.field-0-test text in
-    record { found = found; shorter = shorter; only = λ r us x. tt; moves = moved; costs = costs_less cost; cost = cost }
+    record { found = found; shorter = shorter; only = λ r us x. tt; part = part_moved (part_front _ _ _ _ c.checkpoint-start.ensures.part c.up_to-in-Some-eq92.ensures) moved; moves = moved; costs = costs_less cost; cost = cost }
 
 pub returns-in-Some : goal.returns-in-Some
 returns-in-Some c =
     let text = sym c.checkpoint-start.ensures.rest ∙ c.up_to-in-Some.ensures ∙ ap (λ z. c.up_to-in-Some.result ++ z) c.checkpoint-end.ensures.rest in
     let end = c.end_newline.ensures in
     let (found, shorter, moved, cost) = plain_newline _ _ c.runs.invariant _ _ c.in-Some.ensures.took _ c.up_to-in-Some.result end.newline end.moves end.costs text in
-    record { found = found; shorter = shorter; only = λ r us x. tt; moves = moved; costs = costs_less cost; cost = cost }
+    record { found = found; shorter = shorter; only = λ r us x. tt; part = part_moved (part_front _ _ _ _ c.checkpoint-start.ensures.part c.up_to-in-Some.ensures) moved; moves = moved; costs = costs_less cost; cost = cost }
 
 pub runs-preserved : goal.runs-preserved
 runs-preserved c = plain_run _ _ c.runs.invariant _ _ c.in-Some.ensures.took _ (sym c.is_literal.ensures ∙ c.if-is_literal.true) c.skip.ensures
@@ -44,4 +45,4 @@ returns-in-Some-3-clause-costs c = (plain_stuck _ _ c.runs.invariant _ _ c.in-So
 pub returns-in-None : goal.returns-in-None
 returns-in-None c =
     let (none, moved, cost) = plain_over _ _ _ c.runs.invariant c.in-None.ensures.took in
-    record { found = tt; shorter = tt; only = none; moves = moved; costs = cost; cost = tt }
+    record { found = tt; shorter = tt; only = none; part = tt; moves = moved; costs = cost; cost = tt }

@@ -1,6 +1,7 @@
 use Rattle.std.proofs.Common.{arith}
 use Rattle.kdl_text.specs.Internal.Lines.{escapes_bytes}
 use Rattle.kdl_text.proofs.Looking.MovesJoin.{fewer_bytes, moves_then}
+use Rattle.kdl_text.proofs.Looking.Parts.{part_moved}
 use Rattle.kdl_text.proofs.ManyLines.EscapedLineLoop.{escaped_costs, escaped_leaves, line_escaped}
 use Rattle.kdl_text.proofs.ManyLines.LinesCost.{plain_costs}
 use Rattle.kdl_text.proofs.strings.multiline.read_line.Goals as goal
@@ -25,6 +26,7 @@ returns-in_ok-escapes-in-Escape c =
       found = line_escaped _ _ _ c.in_ok-segment.segment _ c.in_ok-escapes-in-Escape.closed (rw c.in-Escape.is at part.found) line.found;
       shorter = omega (arith, line.shorter, fewer_bytes c.plain_part.ensures.moves);
       only = λ r us x. tt;
+      part = (part_moved part.part c.line_escapes.ensures.moves, line.part);
       moves = moves_then c.plain_part.ensures.moves c.line_escapes.ensures.moves;
       costs = escaped_costs _ _ _ part.cost c.line_escapes.ensures.costs;
       cost = escaped_leaves c.in_ok-segment.segment (escapes_bytes c.in_ok-escapes-in-Escape.escapes.items) _ _ _ part.cost part.shorter line.cost;

@@ -8,4 +8,5 @@ invariant-loop l = record {
   behind : (t : Text) → l.place.rest ≡ times l.count 34 ++ t → l.cursor.rest ≡ times (l.count - l.counter) 34 ++ t;
   most : l.cursor.steps ≤ l.fn.cursor.steps + l.counter;
   counts : raise l.fn.cursor.steps 0 ≤ raise l.cursor.steps 0;
+  same : l.cursor.text ≡ l.fn.cursor.text;
 }

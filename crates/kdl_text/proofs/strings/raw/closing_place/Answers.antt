@@ -1,5 +1,6 @@
 use Rattle.std.proofs.Common.{◌≡◌, ◌≤◌, arith}
 use Rattle.kdl_text.proofs.Looking.MovesJoin.{moves_then}
+use Rattle.kdl_text.proofs.Looking.Parts.{part_moved}
 use Rattle.kdl_text.proofs.RawStrings.LinesLoop.{few_quotes, closing_at, closed, open_still, signs_cost, closing_cost}
 use Rattle.kdl_text.proofs.Looking.Returns.{moves_returned}
 use Rattle.kdl_text.proofs.strings.raw.closing_place.Goals as goal
@@ -38,3 +39,6 @@ returns c =
       moves = moves_then q.moves (moves_then s.moves (moves_returned back));
       costs = closing_cost c.count_quotes-more.result _ _ _ _ q.text some q.costs s.moves s.costs back;
     }
+
+pub behind_quotes-requires : goal.behind_quotes-requires
+behind_quotes-requires c = part_moved c.requires.part (moves_then c.count_quotes-more.ensures.moves c.eat_signs.ensures.moves)

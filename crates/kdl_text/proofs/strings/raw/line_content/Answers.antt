@@ -1,5 +1,7 @@
 use Rattle.std.proofs.Common.{◌≡◌, ℕ, ◌<◌, ◌≤◌, sym, ◌∙◌, ap, ◌++◌, arith}
 use Rattle.kdl_text.specs.Chars.{times}
+use Rattle.kdl_text.proofs.Looking.MovesJoin.{moves_one, moves_then}
+use Rattle.kdl_text.proofs.Looking.Parts.{part_moved}
 use Rattle.kdl_text.proofs.RawStrings.LineLoop.{line_begins, line_ran, line_turn, line_ends, line_stuck, line_fails, line_over}
 use Rattle.kdl_text.proofs.strings.raw.line_content.Goals as goal
 
@@ -46,8 +48,8 @@ quotes-preserved c =
     let few : c.eat_signs.result < c.args.signs = fewer did.few c.if-eat_signs-signs.false in
     line_turn _ _ _ _ _ _ past c.in-Some-eq34.ensures.took c.eat_signs.result c.in-Some-eq34.field-0-test did.text few (did.stops few) did.moves did.costs
 
-pub slice_between-requires : goal.slice_between-requires
-slice_between-requires c =
+pub slice_between-requires-clause-order : goal.slice_between-requires-clause-order
+slice_between-requires-clause-order c =
     let past = line_ran _ _ _ _ c.quotes.invariant c.skip.ensures in
     (past.read, c.checkpoint-start.ensures.rest ∙ past.text ∙ ap (λ z. past.read ++ z) (sym c.checkpoint-end.ensures.rest))
 
@@ -86,3 +88,8 @@ returns-then-eat_signs-signs-clause-costs c =
     let whole = sym c.checkpoint-start.ensures.rest ∙ cut.result ∙ ap (λ z. c.slice_between.result ++ z) c.checkpoint-end.ensures.rest in
     let text = did.text ∙ ap (λ k. times k 35 ++ c.eat_signs.new.cursor.rest) c.if-eat_signs-signs.true in
     (line_ends _ _ _ _ _ _ past c.in-Some-eq34.ensures.took c.slice_between.result _ c.in-Some-eq34.field-0-test text did.moves did.costs whole cut.moved).3
+
+pub slice_between-requires-clause-part : goal.slice_between-requires-clause-part
+slice_between-requires-clause-part c =
+    let past = line_ran _ _ _ _ c.quotes.invariant c.skip.ensures in
+    part_moved c.checkpoint-start.ensures.part (moves_then past.moves (moves_then (moves_one c.in-Some-eq34.ensures.took) c.eat_signs.ensures.moves))

@@ -20,10 +20,10 @@ returns-in_err-add_line-clause-costs c = lines_stop _ _ _ _ c.lines.invariant.co
 pub returns-then-closed : goal.returns-then-closed
 returns-then-closed c =
     let line = plain_costs c.in_ok-segment.segment _ _ c.in_ok-segment.ensures.cost c.in_ok-segment.ensures.shorter in
-    let (found, moved, cost) = lines_close (RawContent (closing 3 c.args.signs)) _ _ _ _ (Plain c.in_ok-segment.segment) c.lines.invariant c.read_line.ensures.moves line (rw c.if-closed.true at c.in_ok-segment.ensures.found) _ c.in_ok-add_line.ensures in
-    record { found = found; only = λ r us x. tt; moves = moved; costs = lines_read _ _ _ cost; cost = cost }
+    let (found, moved, cost, part) = lines_close (RawContent (closing 3 c.args.signs)) _ _ _ _ (Plain c.in_ok-segment.segment) c.lines.invariant c.read_line.ensures.moves line c.in_ok-segment.ensures.part (rw c.if-closed.true at c.in_ok-segment.ensures.found) _ c.in_ok-add_line.ensures in
+    record { found = found; only = λ r us x. tt; part = part; moves = moved; costs = lines_read _ _ _ cost; cost = cost }
 
 pub lines-preserved : goal.lines-preserved
 lines-preserved c =
     let line = plain_costs c.in_ok-segment.segment _ _ c.in_ok-segment.ensures.cost c.in_ok-segment.ensures.shorter in
-    lines_turn (RawContent (closing 3 c.args.signs)) _ _ _ _ (Plain c.in_ok-segment.segment) c.lines.invariant c.read_line.ensures.moves line (rw c.if-closed.false at c.in_ok-segment.ensures.found) _ c.in_ok-add_line.ensures
+    lines_turn (RawContent (closing 3 c.args.signs)) _ _ _ _ (Plain c.in_ok-segment.segment) c.lines.invariant c.read_line.ensures.moves line c.in_ok-segment.ensures.part (rw c.if-closed.false at c.in_ok-segment.ensures.found) _ c.in_ok-add_line.ensures

@@ -1,7 +1,7 @@
-use Rattle.std.proofs.Common.{◌∙◌, map, sym, ap, arith, String, Global}
+use Rattle.std.proofs.Common.{◌∙◌, map, sym, ap, subst, arith, String, Global}
 use Rattle.std.specs.Prelude.{string_bytes}
 use Rattle.std.specs.Str.{chars}
-use Rattle.kdl_text.specs.Internal.Lines.{line_units, lines_steps}
+use Rattle.kdl_text.specs.Internal.Lines.{LinesIn, line_units, lines_steps}
 use Rattle.kdl_text.specs.declared.strings.StringFailure.{StringFailure}
 use Rattle.kdl_text.proofs.ManyLines.LinesCost.{lines_cost, lines_fail, dedent_moves}
 use Rattle.kdl_text.proofs.Looking.MovesJoin.{moves_then}
@@ -38,3 +38,6 @@ pub returns-clause-costs : goal.returns-clause-costs
 returns-clause-costs c =
     let dedent = rw (c.deref.ensures.value) at c.dedent.ensures.returned in
     lines_cost 5 (lines_steps c.in_ok-lines.lines.items) _ _ _ _ (omega arith) c.newline.ensures.moves c.newline.ensures.costs c.in_ok-lines.ensures.cost dedent
+
+pub dedent-requires : goal.dedent-requires
+dedent-requires c = subst (LinesIn c.lines_content.new.cursor.text) (sym c.deref.ensures.value) c.in_ok-lines.ensures.part

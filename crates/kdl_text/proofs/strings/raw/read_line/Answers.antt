@@ -1,5 +1,6 @@
 use Rattle.std.proofs.Common.{◌++◌, sym, ap, ◌∙◌}
 use Rattle.kdl_text.proofs.Looking.MovesJoin.{costs_less}
+use Rattle.kdl_text.proofs.Looking.Parts.{part_front, part_moved, part_same}
 use Rattle.kdl_text.proofs.RawStrings.LinesLoop.{raw_begins, raw_run, raw_open, raw_ahead, raw_close, raw_newline, raw_stuck, raw_runs_out}
 use Rattle.kdl_text.proofs.strings.raw.read_line.Goals as goal
 
@@ -17,14 +18,14 @@ returns-in-Some-closing_place c =
     let place = c.closing_place.ensures in
     let text = sym c.checkpoint-start.ensures.rest ∙ c.up_to.ensures in
     let (found, shorter, moved, cost) = raw_close c.args.signs _ _ c.parts.invariant _ _ c.in-Some-eq34.ensures.took c.checkpoint-end.result.rest _ _ c.checkpoint-end.ensures.rest place.moves place.costs c.in-Some-closing_place.ensures.found c.up_to.result text in
-    record { found = found; shorter = shorter; only = λ r us x. tt; moves = moved; costs = costs_less cost; cost = cost }
+    record { found = found; shorter = shorter; only = λ r us x. tt; part = part_moved (part_front _ _ _ _ c.checkpoint-start.ensures.part c.up_to.ensures) moved; moves = moved; costs = costs_less cost; cost = cost }
 
 pub returns-in-Some : goal.returns-in-Some
 returns-in-Some c =
     let text = sym c.checkpoint-start.ensures.rest ∙ c.up_to-in-Some.ensures ∙ ap (λ z. c.up_to-in-Some.result ++ z) c.checkpoint-end.ensures.rest in
     let end = c.end_newline.ensures in
     let (found, shorter, moved, cost) = raw_newline c.args.signs _ _ c.parts.invariant _ _ c.in-Some.ensures.took _ c.up_to-in-Some.result end.newline end.moves end.costs text in
-    record { found = found; shorter = shorter; only = λ r us x. tt; moves = moved; costs = costs_less cost; cost = cost }
+    record { found = found; shorter = shorter; only = λ r us x. tt; part = part_moved (part_front _ _ _ _ c.checkpoint-start.ensures.part c.up_to-in-Some.ensures) moved; moves = moved; costs = costs_less cost; cost = cost }
 
 pub parts-preserved-in_default : goal.parts-preserved-in_default
 parts-preserved-in_default c =
@@ -45,4 +46,7 @@ returns-in-Some-3-clause-costs c = (raw_stuck c.args.signs _ _ c.parts.invariant
 pub returns-in-None : goal.returns-in-None
 returns-in-None c =
     let (none, moved, cost) = raw_runs_out _ _ _ _ c.parts.invariant c.in-None.ensures.took in
-    record { found = tt; shorter = tt; only = none; moves = moved; costs = cost; cost = tt }
+    record { found = tt; shorter = tt; only = none; part = tt; moves = moved; costs = cost; cost = tt }
+
+pub closing_place-requires-clause-part : goal.closing_place-requires-clause-part
+closing_place-requires-clause-part c = part_same c.checkpoint-end.ensures.part c.in-Some-eq34.ensures.took.3
