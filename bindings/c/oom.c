@@ -82,6 +82,24 @@ static uint32_t call(int which, struct kdl_document *d) {
     }
 }
 
+/* Writes the canonical text of a text's data, and returns its length. */
+static size_t canonical(const uint8_t *of, size_t of_len, uint8_t *to, size_t room) {
+    struct kdl_document d = none();
+    size_t n;
+    CHECK(kdl_parse(of, of_len, &d) == KDL_OK && kdl_strip(&d) == KDL_OK);
+    CHECK(kdl_print(&d, to, room, &n) == KDL_OK);
+    kdl_free(&d);
+    return n;
+}
+
+/* Whether a text has the data of the one that is parsed here. */
+static bool has_the_data(const uint8_t *other, size_t other_len) {
+    static uint8_t expected[4096];
+    size_t n = canonical(T(text), expected, sizeof expected);
+    size_t m = canonical(other, other_len, s, sizeof s);
+    return is_text(s, m, expected, n);
+}
+
 /* Makes the call with the allocation of that number failing. Returns whether there was one. */
 static bool refuses(int which, long number) {
     bool has_faults = which >= 5 && which <= 7, lays_out = which == 2 || which == 3;
@@ -99,13 +117,10 @@ static bool refuses(int which, long number) {
     if (was_refused && !lays_out) {
         CHECK(held == before && is_text(out, n, T(text)));
     }
-    if (lays_out) { /* its data are what they were */
+    if (lays_out) { /* its data are what they were, and so are those of the text that it prints */
+        CHECK(has_the_data(out, n));
         CHECK(kdl_strip(&d) == KDL_OK && kdl_print(&d, out, sizeof out, &n) == KDL_OK);
-        struct kdl_document e = none();
-        CHECK(kdl_parse(T(text), &e) == KDL_OK && kdl_strip(&e) == KDL_OK);
-        size_t m;
-        CHECK(kdl_print(&e, s, sizeof s, &m) == KDL_OK && is_text(out, n, s, m));
-        kdl_free(&e);
+        CHECK(has_the_data(out, n));
     }
     kdl_free(&d);
     CHECK(held == 0);

@@ -88,10 +88,10 @@ fn on_document(
         Call::IsEmpty => emptiness(alloc, document),
         Call::PushNode => node_put(alloc, document, false),
         Call::InsertNode => node_put(alloc, document, true),
-        Call::Autoformat => laid_out(alloc, document),
-        Call::AutoformatNoComments => stripped(alloc, document),
-        Call::AutoformatLayout => spaced(alloc, document),
-        Call::AutoformatNodeLayout => node_spaced(alloc, document),
+        Call::Autoformat => laid_out(alloc, document, call),
+        Call::AutoformatNoComments => stripped(alloc, document, call),
+        Call::AutoformatLayout => laid_out(alloc, document, call),
+        Call::AutoformatNodeLayout => laid_out(alloc, document, call),
         _ => on_first(alloc, document, call),
     }
 }
@@ -343,19 +343,53 @@ fn sort(node: &mut KdlNode) -> Result<(), AllocError> {
     node.sort_by(|a, b| b.value().cmp(a.value()))
 }
 
-/// Formats the document with its comments.
-fn laid_out(alloc: Global, document: &mut KdlDocument) -> Result<String, AllocError> {
-    document.autoformat()?;
+/// The canonical text of the document's data.
+fn canonical(alloc: Global, document: &mut KdlDocument) -> Result<String, AllocError> {
+    document.autoformat_no_comments()?;
+    document.to_string(alloc)
+}
+
+/// Whether the text that the document prints is a document with its data.
+fn reads_back(alloc: Global, document: &KdlDocument) -> Result<bool, AllocError> {
+    let text = document.to_string(alloc)?;
+    let printed = canonical(alloc, &mut read(alloc, &text)?)?;
+    Ok(printed == canonical(alloc, &mut document.clone()?)?)
+}
+
+/// The text of a document that is laid out. If an allocation failed in that, lays it out again: until then it prints a
+/// text with the same data.
+fn laid_out(alloc: Global, document: &mut KdlDocument, call: &Call) -> Result<String, AllocError> {
+    if lay_out(document, call).is_err() {
+        if !reads_back(alloc, document)? {
+            return String::from_str(alloc, "the printed data changed");
+        }
+        lay_out(document, call)?;
+    }
     document.to_string(alloc)
 }
 
 /// The canonical text of the document, also after a layout in which an allocation failed.
-fn stripped(alloc: Global, document: &mut KdlDocument) -> Result<String, AllocError> {
+fn stripped(alloc: Global, document: &mut KdlDocument, call: &Call) -> Result<String, AllocError> {
     let _ = document.autoformat();
-    if document.autoformat_no_comments().is_err() {
-        document.autoformat_no_comments()?;
+    laid_out(alloc, document, call)
+}
+
+/// Formats the document with its comments, without them, or with its blank lines; or only its first node.
+fn lay_out(document: &mut KdlDocument, call: &Call) -> Result<(), AllocError> {
+    match call {
+        Call::Autoformat => document.autoformat(),
+        Call::AutoformatNoComments => document.autoformat_no_comments(),
+        Call::AutoformatLayout => document.autoformat_layout(&layout()),
+        _ => lay_out_first(document),
     }
-    document.to_string(alloc)
+}
+
+/// Formats the first node of the document with its comments and blank lines.
+fn lay_out_first(document: &mut KdlDocument) -> Result<(), AllocError> {
+    match document.nodes_mut().first_mut() {
+        Some(node) => node.autoformat_layout(&layout()),
+        None => Ok(()),
+    }
 }
 
 /// A layout that keeps one blank line.
@@ -364,20 +398,6 @@ fn layout() -> Layout<'static> {
         config: FormatConfig::builder().build(),
         blank_lines: 1,
     }
-}
-
-/// Formats the document with its comments and blank lines.
-fn spaced(alloc: Global, document: &mut KdlDocument) -> Result<String, AllocError> {
-    document.autoformat_layout(&layout())?;
-    document.to_string(alloc)
-}
-
-/// Formats the first node of the document with its comments and blank lines.
-fn node_spaced(alloc: Global, document: &mut KdlDocument) -> Result<String, AllocError> {
-    if let Some(node) = document.nodes_mut().first_mut() {
-        node.autoformat_layout(&layout())?;
-    }
-    document.to_string(alloc)
 }
 
 /// Creates a key, and then a name and a value of the text.

@@ -4,5 +4,7 @@
 pub mod BlockSteps
 -- Nodes and documents whose parts were laid out.
 pub mod PartsSpaced
+-- Nodes that still read back, after each step.
+pub mod StaysReading
 -- What the calls that lay out promise.
 pub mod LayoutCalls

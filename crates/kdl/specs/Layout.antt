@@ -6,6 +6,7 @@ use Rattle.kdl_fmt.specs.Config.{Settings, settings}
 use Rattle.kdl_fmt.specs.Spaced.{IsSpacedDocument, IsSpacedNode}
 use Rattle.kdl_fmt.specs.declared.config.Layout.{Layout}
 use Rattle.kdl_fmt.specs.Formatted.{DocumentKeepsNone, NodeKeepsNone, bare_document, bare_node, formatted_document, formatted_node}
+use Rattle.kdl_fmt.specs.KeptForm as kept'
 use Rattle.kdl_fmt.specs.WithComments.{IsFormattedDocument, IsFormattedNode}
 use Rattle.kdl_grammar.specs.Tree.{Document, Node}
 use Rattle.kdl.specs.Tree.{document_tree, node_tree}
@@ -25,6 +26,13 @@ NodeKeepsNoForm n = NodeKeepsNone (node_tree n)
 
 abbrev pub DocumentKeepsNoForm : KdlDocument → Type 0
 DocumentKeepsNoForm d = DocumentKeepsNone (document_tree d)
+
+-- each entry that keeps its form, at any depth, reads back in what it keeps
+abbrev pub NodeKeepsReading : Settings → KdlNode → Type 0
+NodeKeepsReading s n = kept'.NodeKeepsReading s (node_tree n)
+
+abbrev pub DocumentKeepsReading : Settings → KdlDocument → Type 0
+DocumentKeepsReading s d = kept'.DocumentKeepsReading s (document_tree d)
 
 -- m is n, laid out from the level of the settings on; for documents, e is d
 abbrev pub NodeLaidOut : Settings → KdlNode → KdlNode → Type 0

@@ -80,7 +80,7 @@ pub use Rattle.kdl_fmt.specs.Config.{IsPlain, Settings, defaults, settings, sett
 pub use Rattle.kdl.specs.Layout.{IndentsBySpaces}
 -- What it requires: no entry that keeps its form, levels that a machine can count.
 pub use Rattle.kdl_fmt.specs.Formatted.{DocumentKeepsNone, DocumentLevelsFit, NodeKeepsNone, NodeLevelsFit}
-pub use Rattle.kdl.specs.Layout.{DocumentKeepsNoForm, NodeKeepsNoForm}
+pub use Rattle.kdl.specs.Layout.{DocumentKeepsNoForm, DocumentKeepsReading, NodeKeepsNoForm, NodeKeepsReading}
 -- Its result, with comments and without, and what is unchanged.
 pub use Rattle.kdl_fmt.specs.WithComments.{IsFormattedDocument, IsFormattedNode}
 pub use Rattle.kdl.specs.Layout.{DocumentLaidOut, DocumentSpaced, NodeLaidOut, NodeSpaced}

@@ -1,8 +1,8 @@
 //! How nodes are laid out: with a stack on the heap and without recursion, however deep their blocks are.
 
-ghost use Rattle.kdl.specs.Internal.Spacing.{NodesAreSpaced, GoesOn, IsUnderWay, whole};
+ghost use Rattle.kdl.specs.Internal.Spacing.{NodesAreSpaced, GoesOn, IsUnderWay, StayAs, whole};
 ghost use Rattle.kdl.specs.Tree.{node_tree, nodes_tree};
-ghost use Rattle.kdl_fmt.specs.Config.{indentation, settings};
+ghost use Rattle.kdl_fmt.specs.Config.{IndentsBySpaces, indentation, settings};
 ghost use Rattle.kdl_fmt.specs.Formatted.{bare_node};
 ghost use Rattle.kdl_fmt.specs.Plain.{newline_if};
 ghost use Rattle.kdl_fmt.specs.Spaced.{PassesNodes};
@@ -16,12 +16,13 @@ ghost use Rattle.std.specs.Prelude.{◌≡◌, ◌+◌, ◌<◌, ◌≤◌, ◌+
 use crate::node::KdlNode;
 use kdl_fmt::layout::{further, indentation};
 use kdl_fmt::{Before, Layout};
+use kdl_parts::KdlDocumentFormat;
 use std::alloc::AllocError;
 use std::mem;
 
 /// The nodes of a block that is being laid out: those before `at` are laid out. In a block above, the node at `at` is
-/// laid out except for its own block, whose nodes are taken out. `next` is what comes before the next node, which is
-/// not laid out.
+/// laid out except for its own block, whose nodes are taken out: `braces` are the texts around these, which are set when
+/// they are laid out. `next` is what comes before the next node, which is not laid out.
 #[derive(Drop)]
 struct Block {
     nodes: Vec<KdlNode>,
@@ -29,6 +30,7 @@ struct Block {
     level: usize,
     before: String,
     next: Before,
+    braces: Option<KdlDocumentFormat>,
 }
 
 /// The blocks that are being laid out: the innermost one, and those above it.
@@ -62,6 +64,11 @@ impl Blocks {
     /// Lays out the next node, but not the nodes in its block. Those come next, or else what follows the node.
     fn lay_out_next(&mut self, layout: &Layout) -> Result<(), AllocError>
         requires { self.old.inner.at < vec_len self.old.inner.nodes }
+        ensures stays { IndentsBySpaces (settings layout.now.config)
+            → (level : ℕ) (c : Before) (olds : List Node)
+            → IsUnderWay layout.now level c olds self.old.above.items self.old.inner
+            → StayAs (settings layout.now.config) (whole self.old.above.items self.old.inner)
+            (whole self.new.above.items self.new.inner) }
         ensures kept { map bare_node (whole self.new.above.items self.new.inner) ≡
             map bare_node (whole self.old.above.items self.old.inner) }
         ensures goes_on { OnOk result (GoesOn layout.now
@@ -73,14 +80,17 @@ impl Blocks {
             level,
             before,
             next,
+            braces,
         } = &mut self.inner;
         let node = &mut nodes[*at];
-        let (behind, first) = node.lay_out_own(layout, *level, before.as_str(), *next)?;
+        let (behind, first, texts) = node.lay_out_own(layout, *level, before.as_str(), *next)?;
         *next = behind;
         if !node.has_nodes() {
+            node.set_braces(texts);
             *at += 1;
             return Ok(());
         }
+        *braces = texts;
         let (level, before) = self.next_level(layout)?;
         let alloc = *self.above.allocator();
         let at = self.inner.at;
@@ -91,31 +101,59 @@ impl Blocks {
             level,
             before,
             next: first,
+            braces: None,
         };
         let outer = mem::replace(&mut self.inner, block);
         self.above.push_reserved(outer);
         Ok(())
     }
 
-    /// Puts the nodes of the innermost block back into the node that it belongs to. What follows that node comes next.
+    /// Puts the nodes of the innermost block back into the node that it belongs to, and sets the texts around them. They
+    /// are laid out, so the node is laid out as well. What follows it comes next.
     fn leave(&mut self, outer: Block)
-        ensures whole { whole self.new.above.items self.new.inner ≡
-            whole (self.old.above.items ++ outer ∷ []) self.old.inner }
+        ensures kept { map bare_node (whole self.new.above.items self.new.inner) ≡
+            map bare_node (whole (self.old.above.items ++ outer ∷ []) self.old.inner) }
         ensures goes_on { vec_len self.old.inner.nodes ≤ self.old.inner.at → (l : Layout)
             → GoesOn l (self.old.above.items ++ outer ∷ []) self.old.inner
             self.new.above.items self.new.inner }
+        ensures stays { vec_len self.old.inner.nodes ≤ self.old.inner.at → (l : Layout)
+            → IndentsBySpaces (settings l.config) → (level : ℕ) (c : Before) (olds : List Node)
+            → IsUnderWay l level c olds (self.old.above.items ++ outer ∷ []) self.old.inner
+            → StayAs (settings l.config) (whole (self.old.above.items ++ outer ∷ []) self.old.inner)
+            (whole self.new.above.items self.new.inner) }
+        ensures above { self.new.above ≡ self.old.above }
+    {
+        let done = mem::replace(&mut self.inner, outer);
+        let at = self.inner.at;
+        let braces = self.inner.braces.take();
+        if let Some(node) = self.inner.nodes.get_mut(at) {
+            let _ = node.exchange_nodes(done.nodes);
+            node.set_braces(braces);
+            self.inner.at = at + 1;
+        }
+    }
+
+    /// Puts the nodes of the innermost block back into the node that it belongs to, laid out or not. The texts around
+    /// them do not change.
+    fn close(&mut self, outer: Block)
+        ensures whole { whole self.new.above.items self.new.inner ≡
+            whole (self.old.above.items ++ outer ∷ []) self.old.inner }
         ensures above { self.new.above ≡ self.old.above }
     {
         let done = mem::replace(&mut self.inner, outer);
         let at = self.inner.at;
         if let Some(node) = self.inner.nodes.get_mut(at) {
             let _ = node.exchange_nodes(done.nodes);
-            self.inner.at = at + 1;
         }
     }
 
     /// Lays out all that is left.
     fn lay_out(&mut self, layout: &Layout) -> Result<(), AllocError>
+        ensures stays { IndentsBySpaces (settings layout.now.config)
+            → (level : ℕ) (c : Before) (olds : List Node)
+            → IsUnderWay layout.now level c olds self.old.above.items self.old.inner
+            → StayAs (settings layout.now.config) (whole self.old.above.items self.old.inner)
+            (whole self.new.above.items self.new.inner) }
         ensures kept { map bare_node (whole self.new.above.items self.new.inner) ≡
             map bare_node (whole self.old.above.items self.old.inner) }
         ensures spaced { OnOk result ((level : ℕ) (c : Before) (olds : List Node)
@@ -139,7 +177,7 @@ impl Blocks {
         ensures { map node_tree result.items ≡ whole self.above.items self.inner }
     {
         'closing: while let Some(outer) = self.above.pop() {
-            self.leave(outer);
+            self.close(outer);
         }
         let Blocks { above: _, inner } = self;
         let Block {
@@ -148,6 +186,7 @@ impl Blocks {
             level: _,
             before: _,
             next: _,
+            braces: _,
         } = inner;
         nodes
     }
@@ -171,7 +210,7 @@ pub(crate) fn before_trailing(
 
 /// Lays out nodes at a level, the first one after what comes before it. The level does not matter if there are no
 /// nodes. Returns an error if an allocation fails, or if a level would exceed `usize::MAX`. Each node is then in its
-/// place, and some of them are laid out.
+/// place, and some of them are laid out: they still read back.
 pub(crate) fn lay_out_nodes(
     nodes: &mut Vec<KdlNode>,
     layout: &Layout,
@@ -180,6 +219,9 @@ pub(crate) fn lay_out_nodes(
 ) -> Result<(), AllocError>
     ensures kept { map bare_node (map node_tree nodes.new.items) ≡
         map bare_node (map node_tree nodes.old.items) }
+    ensures stays { IndentsBySpaces (settings layout.now.config)
+        → StayAs (settings layout.now.config)
+        (map node_tree nodes.old.items) (map node_tree nodes.new.items) }
     ensures spaced { OnOk result (NodesAreSpaced layout.now level first
         (map node_tree nodes.old.items) (map node_tree nodes.new.items)) }
 {
@@ -196,6 +238,7 @@ pub(crate) fn lay_out_nodes(
             level,
             before,
             next: first,
+            braces: None,
         },
     };
     let outcome = blocks.lay_out(layout);

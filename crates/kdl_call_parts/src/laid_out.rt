@@ -1,6 +1,6 @@
 //! Formatting of documents.
 
-ghost use Rattle.kdl.specs.Words.{CommentsStay, DocumentKeepsNoForm, DocumentLaidOut, IsDocument, Text, canonical_text, defaults, document_prints, document_says, document_tree};
+ghost use Rattle.kdl.specs.Words.{CommentsStay, DocumentKeepsNoForm, DocumentKeepsReading, DocumentLaidOut, DocumentReadsBack, IsDocument, Text, canonical_text, defaults, document_prints, document_says, document_tree, without_comments};
 ghost use Rattle.kdl_call_parts.specs.LaidOut.{IsLaidOut};
 ghost use Rattle.std.specs.Prelude.{◌≡◌, IfOk, string_bytes, true};
 ghost use Rattle.std.specs.Str.{encode_utf8_all};
@@ -12,9 +12,11 @@ use std::alloc::{AllocError, Global};
 /// Formats the document, with its comments, as `KdlDocument::autoformat` does.
 ///
 /// Returns `OUT_OF_MEMORY` if an allocation fails. The data of the document is then unchanged, and some of it may be
-/// formatted.
+/// formatted. It still prints a text with the same data if it did before.
 pub fn format(document: &mut KdlDocument) -> u32
     ensures data { document_says document.new ≡ document_says document.old }
+    ensures reads_back { DocumentKeepsReading defaults document.old
+        → DocumentReadsBack document.old → DocumentReadsBack document.new }
     ensures formatted { result ≡ 0 → DocumentLaidOut defaults document.old document.new }
     ensures derived { result ≡ 0 → DocumentKeepsNoForm document.old
         → IsDocument true (document_prints document.new) (document_says document.old) }
@@ -31,9 +33,11 @@ pub fn format(document: &mut KdlDocument) -> u32
 /// Formats the document, without its comments, as `KdlDocument::autoformat_no_comments` does.
 ///
 /// Returns `OUT_OF_MEMORY` if an allocation fails. The data of the document is then unchanged, and some of it may be
-/// formatted.
+/// formatted. It still prints a text with the same data if it did before.
 pub fn strip(document: &mut KdlDocument) -> u32
     ensures data { document_says document.new ≡ document_says document.old }
+    ensures reads_back { DocumentKeepsReading without_comments document.old
+        → DocumentReadsBack document.old → DocumentReadsBack document.new }
     ensures prints { result ≡ 0 → DocumentKeepsNoForm document.old
         → document_prints document.new ≡ canonical_text (document_says document.old) }
     ensures parses_nothing { result ≡ 1 → ⊥ }

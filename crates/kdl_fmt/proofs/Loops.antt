@@ -1,5 +1,5 @@
 -- A loop that changes the elements of a list one by one, as far as it has come: each that it has left is in a relation to what was there, and the others are as they were.
-use Rattle.std.proofs.Common.{◌≡◌, ℕ, zero, suc, ◌+◌, ◌<◌, ◌≤◌, List, [], ◌∷◌, ◌++◌, length, map, take, drop, set, get_or, refl, ap, subst, ◌∙◌, arith, add-one}
+use Rattle.std.proofs.Common.{◌≡◌, ℕ, zero, suc, ◌+◌, ◌<◌, ◌≤◌, List, [], ◌∷◌, ◌++◌, length, map, take, drop, set, get_or, refl, sym, ap, subst, ◌∙◌, arith, add-one}
 use Rattle.std.proofs.lemmas.List.{length-set}
 use Rattle.kdl_entry.specs.Tree.{Entry, entry_data}
 use Rattle.kdl_fmt.specs.Config.{Settings}
@@ -93,3 +93,31 @@ entries_fit s [] [] k = tt
 entries_fit s [] (e' ∷ es') k = absurd k
 entries_fit s (e ∷ es) [] k = absurd k
 entries_fit s (e ∷ es) (e' ∷ es') k = (k.0.1, entries_fit s es es' k.1)
+
+-- what R leads to holds of each element wherever the loop ends
+abbrev pub Each : {B : Type 0} → (B → Type 0) → List B → Type 0
+Each Q [] = Unit {0}
+Each Q (x ∷ xs) = Q x × Each Q xs
+
+module _ {A B : Type 0} (f : A → B) (R : B → B → Type 0) (Q : B → Type 0) (leads : (x y : B) → R x y → Q x → Q y) where
+  each_so_far : (xs : List A) (i : ℕ) (start : List B) → Turned f R xs i start → Each Q start → Each Q (map f xs)
+  each_so_far [] i [] k h = tt
+  each_so_far [] i (s ∷ start) k h = absurd k
+  each_so_far (x ∷ xs) zero [] k h = absurd k
+  each_so_far (x ∷ xs) (suc i) [] k h = absurd k
+  each_so_far (x ∷ xs) zero (s ∷ start) k h = (subst Q (sym k.0) h.0, each_so_far xs zero start k.1 h.1)
+  each_so_far (x ∷ xs) (suc i) (s ∷ start) k h = (leads s (f x) k.0 h.0, each_so_far xs i start k.1 h.1)
+
+  each_set : (xs : List A) (i : ℕ) (y d : A) → i < length xs → (Q (f (get_or xs i d)) → Q (f y)) → Each Q (map f xs) → Each Q (map f (set xs i y))
+  each_set [] i y d l g h = tt
+  each_set (x ∷ xs) zero y d l g h = (g h.0, h.1)
+  each_set (x ∷ xs) (suc i) y d l g h = (h.0, each_set xs i y d (omega arith) g h.1)
+
+  pub turned_each : (n i : ℕ) (xs zs ys : List A) → zs ≡ ys → length xs ≡ n → Turned f R xs i (map f zs) → Each Q (map f ys) → Each Q (map f (take n (xs ++ drop (length xs) ys)))
+  turned_each n i xs zs ys z h k e = rw (given_back n xs ys h) (each_so_far xs i (map f zs) k (subst (λ (w : List A). Each Q (map f w)) (sym z) e))
+
+  pub turned_each_set : (n i : ℕ) (xs zs ys : List A) (y d : A) → zs ≡ ys → length xs ≡ n → i < n → Turned f R xs i (map f zs) → (Q (f (get_or xs i d)) → Q (f y)) → Each Q (map f ys)
+      → Each Q (map f (take n (set xs i y ++ drop (length (set xs i y)) ys)))
+  turned_each_set n i xs zs ys y d z h l k g e =
+      let m : length (set xs i y) ≡ n = omega (arith, length-set {A = A}) in
+      rw (given_back n (set xs i y) ys m) (each_set xs i y d (omega arith) g (each_so_far xs i (map f zs) k (subst (λ (w : List A). Each Q (map f w)) (sym z) e)))

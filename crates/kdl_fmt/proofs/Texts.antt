@@ -1,5 +1,5 @@
 -- Texts of one or four characters, and the formats of lines and documents.
-use Rattle.std.proofs.Common.{◌≡◌, ◌≢◌, ℕ, Bool, zero, suc, true, false, List, [], ◌∷◌, ◌++◌, ◌==◌, lit<, refl, sym, ap, ◌∙◌, Some, String, string_bytes, string_len, Global, IfOk, MatchBool, Result, Ok, Err}
+use Rattle.std.proofs.Common.{◌≡◌, ◌≢◌, ℕ, Bool, zero, suc, true, false, List, [], ◌∷◌, ◌++◌, ◌==◌, lit<, refl, sym, ap, ◌∙◌, Option, None, Some, String, string_bytes, string_len, Global, IfOk, MatchBool, MatchOption, OnErr, Result, Ok, Err}
 use Rattle.std.proofs.lemmas.Bool.{and_parts, ltb-true, eqb-true}
 use Rattle.std.proofs.lemmas.Str.{chars-IsAscii, chars-nil, chars-append, chars_from_encodes, chars_past_char, encodes-chars, IsUtf8-string_bytes}
 use Rattle.std.specs.Char.{encode_utf8}
@@ -27,15 +27,8 @@ ascii (c ∷ s) h (suc i) = ascii s (and_parts (nat_lt c 128) (list_all (λ c. n
 pub ascii_text : (s : Text) → list_all (λ c. nat_lt c 128) s ≡ true → chars s ≡ s
 ascii_text s h = chars-IsAscii s (ascii s h)
 
-abbrev empty_line : NodeFormat
-empty_line = record { leading = []; before_ty_name = []; after_ty_name = []; after_ty = []; before_children = []; before_terminator = []; terminator = []; trailing = [] }
-
 pub no_text : (s : String Global) → string_bytes s ≡ [] → text_of s ≡ []
 no_text s e = ap chars e ∙ chars-nil
-
-pub ok_text : {E : Type 0} (r : Result (String Global) E) (t u : Text) → t ≡ u → IfOk r (λ s. text_of s ≡ t) → IfOk r (λ s. text_of s ≡ u)
-ok_text (Ok s) t u e h = h ∙ e
-ok_text (Err x) t u e h = tt
 
 pub newline_text : chars (10 ∷ []) ≡ 10 ∷ []
 newline_text = ascii_text (10 ∷ []) refl
@@ -43,13 +36,23 @@ newline_text = ascii_text (10 ∷ []) refl
 pub space_text : chars (32 ∷ []) ≡ 32 ∷ []
 space_text = ascii_text (32 ∷ []) refl
 
--- a format of empty texts with five others
-pub line_made : (f : KdlNodeFormat) (a b c d e : String Global) (k : NodeTexts) (before : Text) → node_format_tree f ≡ empty_line
-    → text_of a ≡ k.before ++ before → text_of b ≡ k.before_block ++ (32 ∷ []) → text_of c ≡ k.last ++ k.space → text_of d ≡ k.comment ++ (10 ∷ []) → text_of e ≡ k.behind
-    → node_format_tree (record f { leading = a; before_children = b; before_terminator = c; terminator = d; trailing = e }) ≡ line_of before k
-line_made f a b c d e k before h x y z u v =
-    ap (λ (t : NodeFormat). record t { leading = text_of a; before_children = text_of b; before_terminator = text_of c; terminator = text_of d; trailing = text_of e }) h
-    ∙ rw (x, y, z, u, v) refl
+-- a format with five other texts, and none around the type
+pub line_put : (f : NodeFormat) (a b c d e : Text) (k : NodeTexts) (before : Text) → a ≡ k.before ++ before → b ≡ k.before_block ++ (32 ∷ []) → c ≡ k.last ++ k.space → d ≡ k.comment ++ (10 ∷ []) → e ≡ k.behind
+    → record f { leading = a; before_children = b; before_terminator = c; terminator = d; trailing = e; before_ty_name = []; after_ty_name = []; after_ty = [] } ≡ line_of before k
+line_put f a b c d e k before x y z u v = rw (x, y, z, u, v) refl
+
+pub type_cleared : (f : KdlNodeFormat) (a b c : String Global) → text_of a ≡ [] → text_of b ≡ [] → text_of c ≡ []
+    → node_format_tree (record f { before_ty_name = a; after_ty_name = b; after_ty = c }) ≡ record (node_format_tree f) { before_ty_name = []; after_ty_name = []; after_ty = [] }
+type_cleared f a b c x y z = rw (x, y, z) refl
+
+-- a text that was made, or put in place of an old one
+pub put_text : (P : Type 0) (o : Option (String Global)) (a : String Global) (more t : Text) → MatchOption o (P × (more ≡ t)) (λ s. text_of s ≡ t) → MatchOption o (text_of a ≡ more) (λ s. text_of a ≡ text_of s) → text_of a ≡ t
+put_text P None a more t h p = p ∙ h.1
+put_text P (Some s) a more t h p = p ∙ h
+
+pub on_err : {A E P : Type 0} (r : Result A E) → P → OnErr r P
+on_err (Ok a) p = tt
+on_err (Err e) p = p
 
 -- the texts between braces
 pub braces_made : (l t : String Global) (a b before : Text) (ns : Nodes) → text_of l ≡ 10 ∷ a → text_of t ≡ (b ++ newline_if_none ns) ++ before

@@ -10,6 +10,8 @@ pub mod Config
 pub mod Formatted
 -- What layout keeps of the comments and slashdashed pieces in a place.
 pub mod Kept
+-- Entries whose kept form reads back.
+pub mod KeptForm
 -- The texts around nodes and documents if no comments are kept.
 pub mod Plain
 -- The result of layout if blank lines are kept.

@@ -1,8 +1,8 @@
 -- The result of layout, with the comments that it keeps.
-use Rattle.std.specs.Prelude.{◌≡◌, ℕ, ◌+◌, ◌<◌, ◌^◌, Bool, true, false, List, [], ◌∷◌, ◌++◌, Option, Some, option_map}
+use Rattle.std.specs.Prelude.{◌≡◌, ℕ, ◌+◌, ◌<◌, ◌^◌, Bool, true, false, List, [], ◌∷◌, ◌++◌, Option, None, Some, option_map}
 use Rattle.kdl_text.specs.Chars.{Text}
 use Rattle.kdl_value.specs.Print.{print_value}
-use Rattle.kdl_entry.specs.Tree.{Entry, empty_format, unspelled, autoformatted}
+use Rattle.kdl_entry.specs.Tree.{Entry, EntryFormat, empty_format, unspelled, autoformatted}
 use Rattle.kdl_grammar.specs.Tree.{NodeFormat, DocumentFormat, Head, Node, node, Children, no_children, children, Document, document, Nodes, none, first}
 use Rattle.kdl_fmt.specs.Config.{Settings, indentation}
 use Rattle.kdl_fmt.specs.Formatted.{with_keep_if, or_empty, or_empty_document, newline_if_none, in_braces}
@@ -12,6 +12,11 @@ use Rattle.kdl_fmt.specs.Kept.{KeptLines, KeptTail, KeptBeforeBlock, last_place,
 abbrev pub behind : Text → Entry → Entry
 behind [] e = e
 behind (c ∷ s) e = record e { format = Some (record empty_format { leading = (c ∷ s) ++ (32 ∷ []); value_repr = print_value e.value }) }
+
+-- an entry with a format, or unchanged if there is none
+abbrev pub put_format : Option EntryFormat → Entry → Entry
+put_format None e = e
+put_format (Some f) e = record e { format = Some f }
 
 -- the second entry is the first one, laid out
 abbrev pub IsFormattedEntry : Settings → Entry → Entry → Type 0

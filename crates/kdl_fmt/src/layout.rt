@@ -1,26 +1,28 @@
 //! Layout of the texts around nodes and documents, and of entries.
 
-ghost use Rattle.kdl_entry.specs.Tree.{cleared, entry_data, entry_tree, identifier_tree, unspelled};
+ghost use Rattle.kdl_entry.specs.Tree.{Entry, cleared, entry_data, entry_format_tree, entry_tree, identifier_tree, unspelled};
 ghost use Rattle.kdl_fmt.specs.Blank.{at_start, empty_lines, past_node};
 ghost use Rattle.kdl_fmt.specs.Config.{indentation, settings};
-ghost use Rattle.kdl_fmt.specs.Formatted.{newline_if_none, or_empty, or_empty_document};
+ghost use Rattle.kdl_fmt.specs.Formatted.{newline_if_none, or_empty, or_empty_document, with_keep_if};
 ghost use Rattle.kdl_fmt.specs.Kept.{KeptBefore, KeptBeforeBlock, KeptEnd, KeptLines, KeptTail, WrittenUnless, last_place, without_bom};
+ghost use Rattle.kdl_fmt.specs.KeptForm.{EntriesKeepReading};
 ghost use Rattle.kdl_fmt.specs.Plain.{newline_if};
 ghost use Rattle.kdl_fmt.specs.Spaced.{IsSpacedBraced, IsSpacedContent, IsSpacedLine, Passes, PassesFormat, PassesNodes, SpacedLines, Spaces, SpacesContent};
 ghost use Rattle.kdl_fmt.specs.WellFormed.{AreWellFormedEntries, IsWellFormedEntry};
-ghost use Rattle.kdl_fmt.specs.WithComments.{AreFormattedEntries, IsFormattedEntry, behind};
+ghost use Rattle.kdl_fmt.specs.WithComments.{AreFormattedEntries, IsFormattedEntry, behind, put_format};
+ghost use Rattle.kdl_grammar.specs.ReadsBack.{EntryReads};
 ghost use Rattle.kdl_grammar.specs.Tree.{Nodes};
 ghost use Rattle.kdl_comments.specs.Items.{GapItems};
 ghost use Rattle.kdl_comments.specs.Internal.Reading.{place_view};
 ghost use Rattle.kdl_comments.specs.Written.{lines};
-ghost use Rattle.kdl_parts.specs.Formats.{document_texts, node_format_tree, node_texts};
+ghost use Rattle.kdl_parts.specs.Formats.{document_format_tree, document_texts, node_format_tree, node_texts};
 ghost use Rattle.kdl_text.specs.Chars.{Text};
 ghost use Rattle.kdl_value.specs.Print.{print_value};
 ghost use Rattle.kdl_value.specs.Tree.{text_of, value_tree};
 ghost use Rattle.kdl_value.specs.WellFormed.{IsWellFormed};
 ghost use Rattle.std.specs.Int.{w128};
-ghost use Rattle.std.specs.List.{list_all, repeat};
-ghost use Rattle.std.specs.Prelude.{◌≡◌, ◌+◌, ◌==◌, ◌||◌, ◌++◌, ◌∷◌, [], ℕ, FitsSigned, IfOk, MatchOption, OnOk, Some, is_none, map, option_map, unwrap_or};
+ghost use Rattle.std.specs.List.{All, list_all, repeat};
+ghost use Rattle.std.specs.Prelude.{◌≡◌, ◌+◌, ◌==◌, ◌≤◌, ◌||◌, ◌++◌, ◌∷◌, [], ℕ, FitsSigned, IfOk, MatchOption, OnErr, OnOk, Some, is_none, length, map, option_map, string_capacity, unwrap_or};
 ghost use Rattle.std.specs.Str.{chars};
 
 use crate::blank::{
@@ -56,16 +58,21 @@ pub fn clear_spelling(identifier: &mut Option<KdlIdentifier>)
     }
 }
 
-/// Returns a copy of `by`, in the memory of `text` if it fits. Does not allocate if `by` is empty.
-fn replaced(alloc: Global, mut text: String, by: &str) -> Result<String, AllocError>
-    ensures { IfOk result (λ s. text_of s ≡ chars by.now) }
+/// Reserves room for `size` bytes in the memory of a text. The text does not change.
+fn make_room(text: &mut String, size: usize) -> Result<(), AllocError>
+    ensures same { text_of text.new ≡ text_of text.old }
+    ensures room { OnOk result (size ≤ string_capacity text.new) }
 {
-    if by.is_empty() {
-        return Ok(String::new(alloc));
-    }
+    text.reserve(size.saturating_sub(text.len()))
+}
+
+/// Puts `by` in place of a text, in the memory of that text.
+fn refill(text: &mut String, by: &str)
+    requires { length by.now ≤ string_capacity text.old }
+    ensures { text_of text.new ≡ chars by.now }
+{
     text.clear();
-    text.push_str(by)?;
-    Ok(text)
+    let _ = text.push_str(by);
 }
 
 /// Returns the text, repeated `times` times.
@@ -238,21 +245,34 @@ fn printed(alloc: Global, value: &KdlValue) -> Result<String, AllocError>
     value.to_string(alloc)
 }
 
-/// Sets the format of the entry, unless `kept` is empty: `kept` and a space before it, and its value as it is printed.
-fn put_behind(alloc: Global, entry: &mut KdlEntry, kept: String) -> Result<(), AllocError>
-    ensures same { cleared (entry_tree entry.new) ≡ cleared (entry_tree entry.old) }
-    ensures behind { OnOk result (entry_tree entry.new ≡
-        behind (text_of kept) (entry_tree entry.old)) }
+/// Returns the format of an entry after what is kept of the text before it: `kept` and a space, and the value as it is
+/// printed. If `kept` is empty, returns `None`.
+fn format_behind(
+    alloc: Global,
+    entry: &KdlEntry,
+    kept: String,
+) -> Result<Option<KdlEntryFormat>, AllocError>
+    ensures { IfOk result (λ o. (e : Entry) → e.value ≡ (entry_tree entry.now).value
+        → put_format (option_map entry_format_tree o) e ≡ behind (text_of kept) e) }
 {
     if kept.is_empty() {
-        return Ok(());
+        return Ok(None);
     }
     let mut format = KdlEntryFormat::new(alloc);
     format.value_repr = printed(alloc, entry.value())?;
     format.leading = kept;
     push_text(&mut format.leading, " ")?;
-    entry.set_format(format);
-    Ok(())
+    Ok(Some(format))
+}
+
+/// Sets the format of the entry, if there is one.
+fn put_format(entry: &mut KdlEntry, format: Option<KdlEntryFormat>)
+    ensures { entry_tree entry.new ≡
+        put_format (option_map entry_format_tree format) (entry_tree entry.old) }
+{
+    if let Some(format) = format {
+        entry.set_format(format);
+    }
 }
 
 /// Lays out an entry, as `lay_out_entries` lays out each one.
@@ -262,6 +282,8 @@ fn lay_out_entry(
     config: &FormatConfig,
 ) -> Result<(), AllocError>
     ensures same { cleared (entry_tree entry.new) ≡ cleared (entry_tree entry.old) }
+    ensures flagged { OnErr result (entry_tree entry.new ≡
+        with_keep_if config.now.entry_autoformate_keep (entry_tree entry.old)) }
     ensures formatted { OnOk result (IsFormattedEntry (settings config.now)
         (entry_tree entry.old) (entry_tree entry.new)) }
     ensures well_formed { IsWellFormedEntry (entry_data (entry_tree entry.old)) }
@@ -271,16 +293,22 @@ fn lay_out_entry(
         entry.keep_format();
     }
     let kept = kept_before(alloc, config, entry)?;
+    let format = format_behind(alloc, entry, kept)?;
     entry.autoformat();
-    put_behind(alloc, entry, kept)
+    put_format(entry, format);
+    Ok(())
 }
 
 /// Lays out each entry of a node. Keeps the comments and slashdashed pieces before an entry, unless the configuration
 /// removes them. An entry that is flagged to keep its form keeps the whole text before it. Allocates only for what is
-/// kept.
+/// kept. If an allocation fails, each entry is laid out or not, and still reads back.
 pub fn lay_out_entries(entries: &mut Vec<KdlEntry>, config: &FormatConfig) -> Result<(), AllocError>
     ensures same { map cleared (map entry_tree entries.new.items) ≡
         map cleared (map entry_tree entries.old.items) }
+    ensures reads { EntriesKeepReading (settings config.now) (map entry_tree entries.old.items)
+        → All EntryReads (map entry_tree entries.old.items)
+        → All EntryReads (map entry_tree entries.new.items)
+        × EntriesKeepReading (settings config.now) (map entry_tree entries.new.items) }
     ensures formatted { OnOk result (AreFormattedEntries (settings config.now)
         (map entry_tree entries.old.items) (map entry_tree entries.new.items)) }
     ensures well_formed { OnOk result
@@ -293,34 +321,50 @@ pub fn lay_out_entries(entries: &mut Vec<KdlEntry>, config: &FormatConfig) -> Re
     Ok(())
 }
 
-/// Returns `kept` with `more` appended. If `kept` is empty, reuses the memory of `old`.
-fn behind(alloc: Global, mut kept: String, old: String, more: &str) -> Result<String, AllocError>
-    ensures { IfOk result (λ s. text_of s ≡ text_of kept ++ chars more.now) }
+/// Returns `kept` with `more` appended. If `kept` is empty, reserves room for `more` in the memory of `old`, and returns
+/// `None`. The text `old` does not change.
+fn prepare(mut kept: String, old: &mut String, more: &str) -> Result<Option<String>, AllocError>
+    ensures same { text_of old.new ≡ text_of old.old }
+    ensures ready { IfOk result (λ o. MatchOption o
+        ((length more.now ≤ string_capacity old.new)
+        × (chars more.now ≡ text_of kept ++ chars more.now))
+        (λ s. text_of s ≡ text_of kept ++ chars more.now)) }
 {
     if kept.is_empty() {
-        return replaced(alloc, old, more);
+        make_room(old, more.len())?;
+        return Ok(None);
     }
     push_text(&mut kept, more)?;
-    Ok(kept)
+    Ok(Some(kept))
 }
 
-/// Returns what is kept of the text before the block of a node, and a space after it.
-fn before_children(
+/// Puts a new text in place of an old one. If it is `None`, puts `more` there, in the memory of the old text.
+fn put(old: &mut String, new: Option<String>, more: &str)
+    requires { MatchOption new (length more.now ≤ string_capacity old.old) (λ s. Unit {0}) }
+    ensures { MatchOption new (text_of old.new ≡ chars more.now)
+        (λ s. text_of old.new ≡ text_of s) }
+{
+    match new {
+        Some(new) => *old = new,
+        None => refill(old, more),
+    }
+}
+
+/// Returns what is kept of the text before the block of a node. Without a block, nothing is kept.
+fn kept_before_block(
     alloc: Global,
     config: &FormatConfig,
     has_block: bool,
-    old: String,
+    text: &str,
 ) -> Result<String, AllocError>
-    ensures { IfOk result (λ s. (t : Text)
-        × KeptBeforeBlock (settings config.now) has_block (text_of old) t
-        × (text_of s ≡ t ++ (32 ∷ []))) }
+    ensures { IfOk result (λ t.
+        KeptBeforeBlock (settings config.now) has_block (chars text.now) (text_of t)) }
 {
-    let kept = if has_block {
-        kept_tail(alloc, config, Place::BeforeBlock, old.as_str())?
+    if has_block {
+        kept_tail(alloc, config, Place::BeforeBlock, text)
     } else {
-        String::new(alloc)
-    };
-    behind(alloc, kept, old, " ")
+        Ok(String::new(alloc))
+    }
 }
 
 /// Returns the place before the terminator of a node.
@@ -346,25 +390,24 @@ fn kept_end<'a>(config: &FormatConfig, terminator: &'a str) -> Option<&'a str>
     line_comment(terminator)
 }
 
-/// Returns the text before the terminator of a node, and the terminator: a newline. `last` is what is kept of the text
-/// before the terminator. If the old terminator is a line comment that is kept, a space follows `last`, and the comment
-/// comes before the newline.
+/// Returns the text before the terminator of a node, and what comes before the newline that is its terminator. `last` is
+/// what is kept of the text before the terminator. If the old terminator is a line comment that is kept, a space follows
+/// `last`, and the comment comes before the newline.
 fn line_end(
     alloc: Global,
     config: &FormatConfig,
     mut last: String,
-    terminator: String,
+    terminator: &str,
 ) -> Result<(String, String), AllocError>
-    ensures { IfOk result (λ (l, e). (space : Text) × (comment : Text)
-        × KeptEnd config.now.no_comments (text_of terminator) space comment
-        × (text_of l ≡ text_of last ++ space) × (text_of e ≡ comment ++ (10 ∷ []))) }
+    ensures { IfOk result (λ (l, comment). (space : Text)
+        × KeptEnd config.now.no_comments (chars terminator.now) space (text_of comment)
+        × (text_of l ≡ text_of last ++ space)) }
 {
     let mut end = String::new(alloc);
-    if let Some(comment) = kept_end(config, terminator.as_str()) {
+    if let Some(comment) = kept_end(config, terminator) {
         push_text(&mut last, " ")?;
         push_text(&mut end, comment)?;
     }
-    let end = behind(alloc, end, terminator, "\n")?;
     Ok((last, end))
 }
 
@@ -400,55 +443,57 @@ fn after_end(layout: &Layout, terminator: &str) -> Before
     past_node(terminator)
 }
 
-/// Returns the texts around the parts of a node on its own line, and what comes before the next thing. Reuses the
-/// memory of the old texts.
+/// Removes the texts around the type of a node.
+fn clear_type(format: &mut KdlNodeFormat)
+    ensures { node_format_tree format.new ≡ record (node_format_tree format.old)
+        { before_ty_name = []; after_ty_name = []; after_ty = [] } }
+{
+    format.before_ty_name.clear();
+    format.after_ty_name.clear();
+    format.after_ty.clear();
+}
+
+/// Sets the texts around the parts of a node on its own line, in the memory of the old ones where nothing is kept.
+/// Returns what comes before the next thing. If an allocation fails, no text changes.
 fn line_format(
-    old: KdlNodeFormat,
+    format: &mut KdlNodeFormat,
     alloc: Global,
     layout: &Layout,
     margin: &str,
     has_block: bool,
     before: Before,
-) -> Result<(KdlNodeFormat, Before), AllocError>
-    ensures { IfOk result (λ (f, next). (level : ℕ)
+) -> Result<Before, AllocError>
+    ensures same { OnErr result (node_format_tree format.new ≡ node_format_tree format.old) }
+    ensures spaced { IfOk result (λ next. (level : ℕ)
         → chars margin.now ≡ indentation (settings layout.now.config) level
         → IsSpacedLine layout.now.blank_lines (settings layout.now.config) level has_block
-        before (node_format_tree old) (Some (node_format_tree f))
+        before (node_format_tree format.old) (Some (node_format_tree format.new))
         × PassesFormat layout.now.blank_lines (settings layout.now.config)
-        (node_format_tree old) next) }
+        (node_format_tree format.old) next) }
 {
     let config = &layout.config;
-    let mut format = KdlNodeFormat::new(alloc);
-    let kept = before_node(alloc, layout, margin, before, old.leading.as_str())?;
-    format.leading = behind(alloc, kept, old.leading, margin)?;
-    format.before_children = before_children(alloc, config, has_block, old.before_children)?;
-    let last = kept_tail(
-        alloc,
-        config,
-        last_place(has_block),
-        old.before_terminator.as_str(),
-    )?;
-    let mut next = after_end(layout, old.terminator.as_str());
-    let (last, end) = line_end(alloc, config, last, old.terminator)?;
+    let kept = before_node(alloc, layout, margin, before, format.leading.as_str())?;
+    let leading = prepare(kept, &mut format.leading, margin)?;
+    let kept = kept_before_block(alloc, config, has_block, format.before_children.as_str())?;
+    let before_children = prepare(kept, &mut format.before_children, " ")?;
+    let place = last_place(has_block);
+    let last = kept_tail(alloc, config, place, format.before_terminator.as_str())?;
+    let (last, comment) = line_end(alloc, config, last, format.terminator.as_str())?;
+    let mut next = after_end(layout, format.terminator.as_str());
+    let terminator = prepare(comment, &mut format.terminator, "\n")?;
+    let trailing = lines_between(alloc, layout, margin, &mut next, format.trailing.as_str())?;
+    put(&mut format.leading, leading, margin);
+    put(&mut format.before_children, before_children, " ");
+    put(&mut format.terminator, terminator, "\n");
     format.before_terminator = last;
-    format.terminator = end;
-    format.trailing = lines_between(alloc, layout, margin, &mut next, old.trailing.as_str())?;
-    Ok((format, next))
-}
-
-/// Takes the format out. If there is none, creates one whose texts are empty.
-fn taken(format: &mut Option<KdlNodeFormat>, alloc: Global) -> KdlNodeFormat
-    ensures { node_format_tree result ≡ or_empty (node_texts format.old) }
-{
-    match format.take() {
-        Some(old) => old,
-        None => KdlNodeFormat::new(alloc),
-    }
+    format.trailing = trailing;
+    clear_type(format);
+    Ok(next)
 }
 
 /// Sets the texts around the parts of a node on its own line: the blank lines and the indentation before it, a space
 /// before its children, and a newline after it. They contain the comments that are kept. Returns what comes before the
-/// next thing.
+/// next thing. If an allocation fails, no text changes.
 pub fn lay_out_line(
     format: &mut Option<KdlNodeFormat>,
     alloc: Global,
@@ -457,17 +502,23 @@ pub fn lay_out_line(
     has_block: bool,
     before: Before,
 ) -> Result<Before, AllocError>
-    ensures { IfOk result (λ next. (level : ℕ)
+    ensures same { OnErr result (node_texts format.new ≡ node_texts format.old) }
+    ensures spaced { IfOk result (λ next. (level : ℕ)
         → chars margin.now ≡ indentation (settings layout.now.config) level
         → IsSpacedLine layout.now.blank_lines (settings layout.now.config) level has_block
         before (or_empty (node_texts format.old)) (node_texts format.new)
         × PassesFormat layout.now.blank_lines (settings layout.now.config)
         (or_empty (node_texts format.old)) next) }
 {
-    let old = taken(format, alloc);
-    let (line, next) = line_format(old, alloc, layout, margin, has_block, before)?;
-    *format = Some(line);
-    Ok(next)
+    match format {
+        Some(format) => line_format(format, alloc, layout, margin, has_block, before),
+        None => {
+            let mut line = KdlNodeFormat::new(alloc);
+            let next = line_format(&mut line, alloc, layout, margin, has_block, before)?;
+            *format = Some(line);
+            Ok(next)
+        }
+    }
 }
 
 /// Returns what comes before the thing after a node that is not laid out. The result has no meaning if no blank lines
@@ -641,7 +692,7 @@ fn spaced_content(
 
 /// Sets the texts before and after the nodes of a document at a level: the comments that are kept, each after the
 /// indentation, and a newline if there are no nodes. `last` is what comes before the text after the last node, or
-/// `None` if there are no nodes. Returns what comes before the first node.
+/// `None` if there are no nodes. Returns what comes before the first node. If an allocation fails, no text changes.
 pub fn lay_out_content(
     format: &mut Option<KdlDocumentFormat>,
     alloc: Global,
@@ -649,7 +700,9 @@ pub fn lay_out_content(
     level: usize,
     last: Option<Before>,
 ) -> Result<Before, AllocError>
-    ensures { IfOk result (λ b. (ns : Nodes) → newline_if (is_none last) ≡ newline_if_none ns
+    ensures same { OnErr result (document_texts format.new ≡ document_texts format.old) }
+    ensures spaced { IfOk result (λ b. (ns : Nodes)
+        → newline_if (is_none last) ≡ newline_if_none ns
         → ((b : Before) → PassesNodes layout.now.blank_lines (settings layout.now.config) b ns
         (unwrap_or last b))
         → IsSpacedContent layout.now.blank_lines (settings layout.now.config) level ns
@@ -661,23 +714,24 @@ pub fn lay_out_content(
     Ok(first)
 }
 
-/// Sets the texts before and after the nodes between the braces of a node, like `lay_out_content`. Adds a newline after
-/// the `{`, and the indentation of the node, `margin`, before the `}`. `inner` is the level between the braces.
-pub fn lay_out_braces(
-    format: &mut Option<KdlDocumentFormat>,
+/// Returns the texts before and after the nodes between the braces of a node, like those that `lay_out_content` sets,
+/// with a newline after the `{`, and the indentation of the node, `margin`, before the `}`. `inner` is the level between
+/// the braces. Returns what comes before the first node as well. The old texts are `format`.
+pub fn braces(
+    format: &Option<KdlDocumentFormat>,
     alloc: Global,
     layout: &Layout,
     inner: usize,
     margin: &str,
     last: Option<Before>,
-) -> Result<Before, AllocError>
-    ensures { IfOk result (λ b. (level : ℕ) (ns : Nodes) → inner ≡ level + 1
+) -> Result<(KdlDocumentFormat, Before), AllocError>
+    ensures { IfOk result (λ (f, b). (level : ℕ) (ns : Nodes) → inner ≡ level + 1
         → chars margin.now ≡ indentation (settings layout.now.config) level
         → newline_if (is_none last) ≡ newline_if_none ns
         → ((b : Before) → PassesNodes layout.now.blank_lines (settings layout.now.config) b ns
         (unwrap_or last b))
         → IsSpacedBraced layout.now.blank_lines (settings layout.now.config) level ns
-        (or_empty_document (document_texts format.old)) b (document_texts format.new)) }
+        (or_empty_document (document_texts format.now)) b (Some (document_format_tree f))) }
 {
     let (kept, mut trailing, first) = spaced_content(alloc, layout, inner, format, last)?;
     let mut leading = String::new(alloc);
@@ -685,6 +739,5 @@ pub fn lay_out_braces(
     push_text(&mut leading, kept.as_str())?;
     newline_if(&mut trailing, last.is_none())?;
     push_text(&mut trailing, margin)?;
-    *format = Some(KdlDocumentFormat { leading, trailing });
-    Ok(first)
+    Ok((KdlDocumentFormat { leading, trailing }, first))
 }

@@ -40,3 +40,5 @@ pub mod ArgumentSet
 pub mod TextLaidOut
 -- Names and arguments in memory, by what they say.
 pub mod SaidInMemory
+-- Whether the entries of a document read back in the form that they keep.
+pub mod KeptForms

@@ -14,3 +14,5 @@ pub mod Pushed
 pub mod ArgumentSet
 -- What layout makes of a text.
 pub mod LaidOut
+-- Whether the entries of a document read back in the form that they keep.
+pub mod KeptForm

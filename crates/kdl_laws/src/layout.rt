@@ -13,6 +13,7 @@ ghost use Rattle.kdl_fmt.specs.WithComments.{IsFormattedDocument, IsFormattedNod
 ghost use Rattle.kdl_grammar.specs.Laid.{LaidDocument};
 ghost use Rattle.kdl_grammar.specs.Print.{print_document};
 ghost use Rattle.kdl_grammar.specs.Tree.{Document, Node, document_data};
+ghost use Rattle.kdl_laws.specs.KeptForm.{EmptyFormFails, UnflaggedKeepReading};
 ghost use Rattle.kdl_laws.specs.LaidOut.{IsLaidOut, IsSpacedOut};
 ghost use Rattle.kdl_text.specs.Chars.{Text, is_space};
 ghost use Rattle.kdl_value.specs.Tree.{text_of};
@@ -136,4 +137,15 @@ pub fn texts_are_spaced_out()
         → DocumentSpaced l d e → CommentsStay (document_tree d) (document_prints e)
         → string_bytes s ≡ encode_utf8_all (document_prints e)
         → IsSpacedOut l.blank_lines text (text_of s) }
+{}
+
+/// If no entry is flagged, each entry reads back in the form that it keeps, as clause `reads_back` of layout requires.
+#[tactic(auto, using(crate::proofs::KeptForms::unflagged_keep_reading))]
+pub fn unflagged_keeps_reading()
+    ensures { UnflaggedKeepReading }
+{}
+
+/// An entry that keeps a form of empty texts does not read back in it.
+pub fn empty_form_does_not_read()
+    ensures { EmptyFormFails }
 {}

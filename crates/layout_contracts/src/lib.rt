@@ -5,3 +5,4 @@
 pub mod kept;
 pub mod layout;
 pub mod lines;
+pub mod refused;

@@ -166,3 +166,10 @@ pub four_spaces_node : {A E : Type 0} (r : Result A E) (s : Settings) (x : data'
 four_spaces_node r s x e h =
     if_ok r (λ (f : list_all is_space without_comments.indent ≡ true → CanonicalNode without_comments.indent 0 x). f spaces_are)
     (subst (λ (z : Settings). IfOk r (λ _. list_all is_space z.indent ≡ true → CanonicalNode z.indent z.indent_level x)) e h)
+
+-- what still reads back
+pub default_back : (s : Settings) (P : Settings → Type 0) (Q : Type 0) → s ≡ defaults → (list_all is_space s.indent ≡ true → P s → Q) → P defaults → Q
+default_back s P Q e h = subst (λ (z : Settings). list_all is_space z.indent ≡ true → P z → Q) e h spaces_are
+
+pub plain_back : (s : Settings) (P : Settings → Type 0) (Q : Type 0) → s ≡ without_comments → (list_all is_space s.indent ≡ true → P s → Q) → P without_comments → Q
+plain_back s P Q e h = subst (λ (z : Settings). list_all is_space z.indent ≡ true → P z → Q) e h spaces_are

@@ -4,9 +4,9 @@ use Rattle.std.specs.Prelude.{is_some, slice_get, ◌-◌}
 use Rattle.kdl_value.proofs.WellFormed.{text_scalars}
 use Rattle.kdl_entry.specs.Tree.{identifier_tree, entry_tree, entry_data, unspelled}
 use Rattle.kdl_text.specs.declared.span.SourceSpan.{SourceSpan}
-use Rattle.kdl_grammar.specs.Tree.{NodeFormat, document_data, Node, Nodes, listed_nodes, Document, document, children_of, node_data, nodes_data, children_data, DocumentFormat}
+use Rattle.kdl_grammar.specs.Tree.{NodeFormat, document_data, Node, Children, Nodes, listed_nodes, Document, document, children_of, node_data, nodes_data, children_data, DocumentFormat}
 use Rattle.kdl_fmt.specs.Config.{Settings, settings}
-use Rattle.kdl_fmt.specs.Spaced.{IsSpacedLine, IsSpacedContent, IsSpacedBraced, IsSpacedNode, IsSpacedChildren, AreSpacedNodes, IsSpacedDocument, PassesFormat, PassesNodes}
+use Rattle.kdl_fmt.specs.Spaced.{IsSpacedLine, IsSpacedContent, IsSpacedNode, IsSpacedChildren, AreSpacedNodes, IsSpacedDocument, PassesFormat, PassesNodes}
 use Rattle.kdl_fmt.specs.declared.blank.Before.{Before}
 use Rattle.kdl_fmt.specs.declared.config.Layout.{Layout}
 use Rattle.kdl_parts.specs.declared.format.KdlNodeFormat.{KdlNodeFormat}
@@ -16,7 +16,7 @@ use Rattle.kdl_fmt.specs.WithComments.{AreFormattedEntries, has_block}
 use Rattle.kdl_fmt.proofs.Entries.{scalars}
 use Rattle.kdl_parts.specs.Formats.{node_format_tree, node_texts, document_format_tree}
 use Rattle.kdl.specs.Iterators.{child_nodes, nodes_in}
-use Rattle.kdl.specs.Internal.Spacing.{NodesAreSpaced, PassesAt, filled_block, filled}
+use Rattle.kdl.specs.Internal.Spacing.{NodesAreSpaced, PassesAt, filled_block, filled, with_braces, with_texts}
 use Rattle.kdl.specs.Tree.{node_tree, document_tree, nodes_tree}
 use Rattle.kdl.specs.declared.node.KdlNode.{KdlNode}
 use Rattle.kdl.specs.declared.document.KdlDocument.{KdlDocument}
@@ -49,7 +49,7 @@ bare_content : (f f' : Option DocumentFormat) (at at' : SourceSpan) (ns ns' : No
 bare_content f f' at at' ns ns' a b = rw (a, b) refl
 
 -- whether there is a block
-block_there : (o : Option KdlDocument) (b : Bool) → b ≡ is_some o → b ≡ has_block (children_of (option_map document_tree o))
+pub block_there : (o : Option KdlDocument) (b : Bool) → b ≡ is_some o → b ≡ has_block (children_of (option_map document_tree o))
 block_there None b e = e
 block_there (Some d) b e = e
 
@@ -61,12 +61,13 @@ module _ (m n : KdlNode) where
       → AreFormattedEntries s (map entry_tree (out-KdlNode n).entries.items) (map entry_tree (out-KdlNode m).entries.items)
       → (f : Option NodeFormat) → option_map node_format_tree (out-KdlNode m).format ≡ f → IsSpacedLine number s level b c (or_empty (option_map node_format_tree (out-KdlNode n).format)) f
       → (out-KdlNode m).span ≡ (out-KdlNode n).span
-      → (o : Option KdlDocument) → (out-KdlNode m).children ≡ o → IsSpacedChildren number s level (children_of (option_map document_tree (out-KdlNode n).children)) (filled_block o ms)
-      → IsSpacedNode number s level c (node_tree n) (filled m ms)
-  laid_node number s level c b ms e ty name entries f g line span o is k =
+      → (o : Option KdlDocument) → (out-KdlNode m).children ≡ o → (x : Option DocumentFormat) → IsSpacedChildren number s level (children_of (option_map document_tree (out-KdlNode n).children)) (with_texts x (filled_block o ms))
+      → IsSpacedNode number s level c (node_tree n) (with_braces x (filled m ms))
+  laid_node number s level c b ms e ty name entries f g line span o is x k =
       let own = subst (λ (x : Bool). IsSpacedLine number s level x c (or_empty (option_map node_format_tree (out-KdlNode n).format)) (option_map node_format_tree (out-KdlNode m).format))
       (block_there (out-KdlNode n).children b e) (rw g line) in
-      rw (node_tree_out n, is) (record { ty = ty; name = name; entries = entries; format = own; span = span }, k)
+      let k' = subst (λ (z : Option KdlDocument). IsSpacedChildren number s level (children_of (option_map document_tree (out-KdlNode n).children)) (with_texts x (filled_block z ms))) (sym is) k in
+      rw (node_tree_out n) (record { ty = ty; name = name; entries = entries; format = own; span = span }, k')
 
 -- and a document
 module _ (m d : KdlDocument) (span : (out-KdlDocument m).span ≡ (out-KdlDocument d).span) where
@@ -85,11 +86,6 @@ module _ (m d : KdlDocument) (span : (out-KdlDocument m).span ≡ (out-KdlDocume
         rw holds (nodes_laid l level b (map node_tree (out-KdlDocument d).nodes.items) (map node_tree v.items) k) in
         rw (document_tree_out d, document_tree_out m) (b, rw g c, span, k')
 
--- the texts around the nodes of a block
-pub same_braces : (m : KdlDocument) (number : ℕ) (s : Settings) (level : ℕ) (ns : Nodes) (f : DocumentFormat) (c : Before) (g : Option DocumentFormat) → option_map document_format_tree (out-KdlDocument m).format ≡ g
-    → IsSpacedBraced number s level ns f c g → IsSpacedBraced number s level ns f c (option_map document_format_tree (out-KdlDocument m).format)
-same_braces m number s level ns f c g e b = rw e b
-
 pub fitting_document : (d : KdlDocument) → AreWellFormed (nodes_data (nodes_tree (out-KdlDocument d).nodes.items)) → AreWellFormed (document_data (document_tree d))
 fitting_document d w = subst (λ (x : Document). AreWellFormed (document_data x)) (sym (document_tree_out d)) w
 
@@ -98,12 +94,12 @@ fitting_block None w = w
 fitting_block (Some d) w = fitting_document d w
 
 -- the block that the node has
-pub own_block : (number : ℕ) (s : Settings) (level : ℕ) (c : Before) (n : KdlNode) (o o' : Option KdlDocument) (ms : List Node)
-    → (AreSpacedNodes number s (level + 1) c (nodes_tree (nodes_in o)) (listed_nodes ms) → IsSpacedChildren number s level (children_of (option_map document_tree o)) (filled_block o' ms)) → o ≡ (out-KdlNode n).children
-    → AreSpacedNodes number s (level + 1) c (nodes_tree (child_nodes n)) (listed_nodes ms) → IsSpacedChildren number s level (children_of (option_map document_tree (out-KdlNode n).children)) (filled_block o' ms)
-own_block number s level c n o o' ms h e k =
-    subst (λ x. IsSpacedChildren number s level (children_of (option_map document_tree x)) (filled_block o' ms)) e
-    (h (subst (λ x. AreSpacedNodes number s (level + 1) c (nodes_tree (nodes_in x)) (listed_nodes ms)) (sym e) k))
+pub own_block : (number : ℕ) (s : Settings) (level : ℕ) (c : Before) (n : KdlNode) (o : Option KdlDocument) (k : Children) (ms : List Node)
+    → (AreSpacedNodes number s (level + 1) c (nodes_tree (nodes_in o)) (listed_nodes ms) → IsSpacedChildren number s level (children_of (option_map document_tree o)) k) → o ≡ (out-KdlNode n).children
+    → AreSpacedNodes number s (level + 1) c (nodes_tree (child_nodes n)) (listed_nodes ms) → IsSpacedChildren number s level (children_of (option_map document_tree (out-KdlNode n).children)) k
+own_block number s level c n o k ms h e d =
+    subst (λ x. IsSpacedChildren number s level (children_of (option_map document_tree x)) k) e
+    (h (subst (λ x. AreSpacedNodes number s (level + 1) c (nodes_tree (nodes_in x)) (listed_nodes ms)) (sym e) d))
 
 -- what comes before the thing after a node
 pub own_passes : (l : Layout) (n : KdlNode) (e : Before) (f : Option KdlNodeFormat) → f ≡ (out-KdlNode n).format → PassesFormat l.blank_lines (settings l.config) (or_empty (node_texts f)) e → PassesAt l (node_tree n) e

@@ -1,8 +1,12 @@
 -- How far layout has come while some blocks are open.
 use Rattle.std.specs.Prelude.{◌≡◌, ℕ, zero, suc, ◌+◌, ◌<◌, List, [], ◌∷◌, map, drop, Option, option_map}
 use Rattle.kdl_value.specs.Tree.{text_of}
-use Rattle.kdl_grammar.specs.Tree.{Node, node, node_data, Children, children_of}
-use Rattle.kdl_fmt.specs.Config.{indentation, settings}
+use Rattle.kdl_grammar.specs.ReadsBack.{Rests, NodeReads, NodesRead}
+use Rattle.kdl_grammar.specs.Tree.{DocumentFormat, Node, node, node_data, Children, no_children, children, children_of, document, listed_nodes}
+use Rattle.kdl_parts.specs.Formats.{document_format_tree}
+use Rattle.kdl_parts.specs.declared.format.KdlDocumentFormat.{KdlDocumentFormat}
+use Rattle.kdl_fmt.specs.Config.{Settings, indentation, settings}
+use Rattle.kdl_fmt.specs.KeptForm.{NodeKeepsReading, NodesKeepReading}
 use Rattle.kdl_fmt.specs.Spaced.{IsSpacedNode, PassesNode}
 use Rattle.kdl_fmt.specs.WellFormed.{IsWellFormedNode}
 use Rattle.kdl_fmt.specs.declared.blank.Before.{Before}
@@ -21,6 +25,15 @@ filled_block o ns = children_of (option_map (λ d. document_of d ns) o)
 -- a node, with other nodes in its block
 abbrev pub filled : KdlNode → List Node → Node
 filled n ns = node (head_tree (out-KdlNode n)) (filled_block (out-KdlNode n).children ns)
+
+-- children, with other texts around their nodes
+abbrev pub with_texts : Option DocumentFormat → Children → Children
+with_texts g no_children = no_children
+with_texts g (children (document f at ns)) = children (document g at ns)
+
+-- a node, with other texts around the nodes in its block
+abbrev pub with_braces : Option DocumentFormat → Node → Node
+with_braces g (node h k) = node h (with_texts g k)
 
 -- nodes, with another one in place of the one at a place
 abbrev pub with_at : (KdlNode → Node) → List KdlNode → ℕ → List Node
@@ -63,9 +76,9 @@ PartlyOpen l level b Open (o ∷ olds) (n ∷ ns) zero next = Open b o n × Pass
 PartlyOpen l level b Open (o ∷ olds) (n ∷ ns) (suc i) next = (b' : Before) × NodeIsSpaced l level b o (node_tree n) × PassesAt l o b' × PartlyOpen l level b' Open olds ns i next
 PartlyOpen l level b Open _ _ i next = ⊥
 
--- a node is laid out once the nodes in its block are, the first of them after `first`
-abbrev pub IsSpacedBut : Layout → ℕ → Before → Node → Before → List Node → KdlNode → Type 0
-IsSpacedBut l level b o first olds n = (ms : List Node) → NodesAreSpaced l (level + 1) first olds ms → NodeIsSpaced l level b o (filled n ms)
+-- a node is laid out once the nodes in its block are, the first of them after `first`, with the texts around them
+abbrev pub IsSpacedBut : Layout → ℕ → Before → Node → Before → Option KdlDocumentFormat → List Node → KdlNode → Type 0
+IsSpacedBut l level b o first g olds n = (ms : List Node) → NodesAreSpaced l (level + 1) first olds ms → NodeIsSpaced l level b o (with_braces (option_map document_format_tree g) (filled n ms))
 
 -- the level of a block, and the indentation there
 abbrev pub IsAtLevel : Layout → ℕ → Block → Type 0
@@ -76,7 +89,7 @@ abbrev pub IsUnderWay : Layout → ℕ → Before → List Node → List Block �
 IsUnderWay l level c olds [] inner = IsAtLevel l level inner × Partly l level c olds inner.nodes.items inner.at inner.next
 IsUnderWay l level c olds (b ∷ above) inner =
     IsAtLevel l level b
-    × PartlyOpen l level c (λ c o n. (first : Before) × (ns : List Node) × IsSpacedBut l level c o first ns n × IsUnderWay l (level + 1) first ns above inner) olds b.nodes.items b.at b.next
+    × PartlyOpen l level c (λ c o n. (first : Before) × (ns : List Node) × IsSpacedBut l level c o first b.braces ns n × IsUnderWay l (level + 1) first ns above inner) olds b.nodes.items b.at b.next
 
 -- how much is left to lay out
 abbrev pub left : List Block → Block → ℕ
@@ -86,3 +99,19 @@ left above inner = count_left (λ b. drop (b.at + 1) b.nodes.items) (drop inner.
 abbrev pub GoesOn : Layout → List Block → Block → List Block → Block → Type 0
 GoesOn l above inner above' inner' =
     ((level : ℕ) (c : Before) (olds : List Node) → IsUnderWay l level c olds above inner → IsUnderWay l level c olds above' inner') × (left above' inner' < left above inner)
+
+-- a node reads back before the rests P, and so does what its entries keep of their form
+abbrev pub NodeStays : Settings → Rests → Node → Type 0
+NodeStays s P n = NodeReads P n × NodeKeepsReading s n
+
+-- the same of nodes
+abbrev pub NodesStay : Settings → Rests → List Node → Type 0
+NodesStay s P ns = NodesRead P (listed_nodes ns) × NodesKeepReading s (listed_nodes ns)
+
+-- the second node does where the first one does
+abbrev pub StaysAs : Settings → Node → Node → Type 0
+StaysAs s n m = (P : Rests) → NodeStays s P n → NodeStays s P m
+
+-- the second nodes do where the first ones do, and there are none if there were none
+abbrev pub StayAs : Settings → List Node → List Node → Type 0
+StayAs s ns ms = (ns ≡ [] → ms ≡ []) × ((P : Rests) → NodesStay s P ns → NodesStay s P ms)

@@ -1,7 +1,9 @@
 //! Layout of documents.
 
+ghost use Rattle.kdl.specs.Change.{with_document_format};
 ghost use Rattle.kdl.specs.Finds.{FindsSame};
-ghost use Rattle.kdl.specs.Layout.{DocumentLaidOut, DocumentKeepsNoForm, DocumentSpaced, IndentsBySpaces, document_bare, plain_document};
+ghost use Rattle.kdl.specs.Layout.{DocumentLaidOut, DocumentKeepsNoForm, DocumentKeepsReading, DocumentSpaced, IndentsBySpaces, document_bare, plain_document};
+ghost use Rattle.kdl.specs.ReadsBack.{DocumentReadsBack};
 ghost use Rattle.kdl.specs.Tree.{document_prints, document_says, document_tree, nodes_tree};
 ghost use Rattle.kdl.specs.declared.document.KdlDocument.{out-KdlDocument};
 ghost use Rattle.kdl_fmt.specs.Canonical.{Canonical, canonical, canonical_text};
@@ -12,13 +14,14 @@ ghost use Rattle.kdl_fmt.specs.WellFormed.{AreWellFormed};
 ghost use Rattle.kdl_fmt.specs.Spaced.{IsSpacedBraced};
 ghost use Rattle.kdl_grammar.specs.Grammar.{IsDocument};
 ghost use Rattle.kdl_parts.specs.Formats.{document_format_tree};
-ghost use Rattle.std.specs.Prelude.{◌≡◌, ◌+◌, ◌<◌, ◌^◌, IfOk, OnOk, false, option_map, true};
+ghost use Rattle.std.specs.Prelude.{◌≡◌, ◌+◌, ◌<◌, ◌^◌, IfOk, OnOk, Some, false, option_map, true};
 ghost use Rattle.std.specs.Str.{chars};
 
 use crate::document::KdlDocument;
 use crate::layout::{before_trailing, lay_out_nodes};
-use kdl_fmt::layout::{lay_out_braces, lay_out_content};
+use kdl_fmt::layout::{braces, lay_out_content};
 use kdl_fmt::{Before, FormatConfig, Layout};
+use kdl_parts::KdlDocumentFormat;
 use std::alloc::AllocError;
 
 impl KdlDocument {
@@ -33,7 +36,8 @@ impl KdlDocument {
     /// If no entry is flagged, the printed text is a document with the same data, and a second call changes nothing.
     ///
     /// If an allocation fails, returns an error. The data of the document is then unchanged, and some of it may be
-    /// formatted.
+    /// formatted. It still prints a text with the same data if it did before, and if each entry that keeps its form
+    /// reads back in it.
     ///
     /// ```
     /// let mut document = KdlDocument::parse(alloc, "a  0x10 // one\n/- b 2;c /* two */ {  }")?;
@@ -43,6 +47,8 @@ impl KdlDocument {
         ensures data { document_says self.new ≡ document_says self.old }
         ensures finds { FindsSame self.old self.new }
         ensures kept { document_bare self.new ≡ document_bare self.old }
+        ensures reads_back { DocumentKeepsReading defaults self.old
+            → DocumentReadsBack self.old → DocumentReadsBack self.new }
         ensures formatted { OnOk result (DocumentLaidOut defaults self.old self.new) }
         ensures keeps_none { OnOk result (DocumentKeepsNoForm self.new) }
         ensures derived { OnOk result (DocumentKeepsNoForm self.old
@@ -59,7 +65,8 @@ impl KdlDocument {
     /// If no entry is flagged, two documents that are formatted so print equal texts exactly if their data are equal.
     ///
     /// If an allocation fails, returns an error. The data of the document is then unchanged, and some of it may be
-    /// formatted.
+    /// formatted. It still prints a text with the same data if it did before, and if each entry that keeps its form
+    /// reads back in it.
     ///
     /// ```
     /// let mut document = KdlDocument::parse(alloc, "a  0x10; /* b */ \"b\" { c }")?;
@@ -69,6 +76,8 @@ impl KdlDocument {
         ensures data { document_says self.new ≡ document_says self.old }
         ensures finds { FindsSame self.old self.new }
         ensures kept { document_bare self.new ≡ document_bare self.old }
+        ensures reads_back { DocumentKeepsReading without_comments self.old
+            → DocumentReadsBack self.old → DocumentReadsBack self.new }
         ensures formatted { OnOk result
             (document_tree self.new ≡ plain_document without_comments self.old) }
         ensures levels { OnOk result (DocumentLevelsFit 0 (document_tree self.old)) }
@@ -85,7 +94,8 @@ impl KdlDocument {
     /// without comments, and with all entries flagged or not.
     ///
     /// Returns an error if an allocation fails, or if the level of a child would exceed `usize::MAX`. The data of the
-    /// document is then unchanged, and some of it may be formatted.
+    /// document is then unchanged, and some of it may be formatted. If the indent is spaces, it still prints
+    /// a text with the same data, as after `autoformat`.
     ///
     /// ```
     /// let config = FormatConfig::builder().indent("\t").build();
@@ -96,6 +106,9 @@ impl KdlDocument {
         ensures data { document_says self.new ≡ document_says self.old }
         ensures finds { FindsSame self.old self.new }
         ensures kept { document_bare self.new ≡ document_bare self.old }
+        ensures reads_back { IndentsBySpaces (settings config.now)
+            → DocumentKeepsReading (settings config.now) self.old
+            → DocumentReadsBack self.old → DocumentReadsBack self.new }
         ensures formatted { OnOk result (DocumentLaidOut (settings config.now) self.old self.new) }
         ensures plain { OnOk result (config.now.no_comments ≡ true
             → document_tree self.new ≡ plain_document (settings config.now) self.old) }
@@ -128,7 +141,8 @@ impl KdlDocument {
     /// start and at the end of the document, and of a block.
     ///
     /// Returns an error if an allocation fails, or if the level of a child, or a number of newlines, would exceed
-    /// `usize::MAX`. The data of the document is then unchanged, and some of it may be formatted.
+    /// `usize::MAX`. The data of the document is then unchanged, and some of it may be formatted. If the
+    /// indent is spaces, it still prints a text with the same data, as after `autoformat`.
     ///
     /// ```
     /// let layout = Layout { config: FormatConfig::default(), blank_lines: 1 };
@@ -139,6 +153,9 @@ impl KdlDocument {
         ensures data { document_says self.new ≡ document_says self.old }
         ensures finds { FindsSame self.old self.new }
         ensures kept { document_bare self.new ≡ document_bare self.old }
+        ensures reads_back { IndentsBySpaces (settings layout.now.config)
+            → DocumentKeepsReading (settings layout.now.config) self.old
+            → DocumentReadsBack self.old → DocumentReadsBack self.new }
         ensures formatted { OnOk result (DocumentSpaced layout.now self.old self.new) }
         ensures unspaced { OnOk result (layout.now.blank_lines ≡ 0
             → DocumentLaidOut (settings layout.now.config) self.old self.new) }
@@ -169,6 +186,9 @@ impl KdlDocument {
     /// Lays out the document at the configuration's level.
     fn lay_out(&mut self, layout: &Layout) -> Result<(), AllocError>
         ensures kept { document_bare self.new ≡ document_bare self.old }
+        ensures reads_back { IndentsBySpaces (settings layout.now.config)
+            → DocumentKeepsReading (settings layout.now.config) self.old
+            → DocumentReadsBack self.old → DocumentReadsBack self.new }
         ensures formatted { OnOk result (DocumentSpaced layout.now self.old self.new) }
         ensures well_formed { OnOk result (AreWellFormed (document_says self.old)) }
     {
@@ -179,29 +199,34 @@ impl KdlDocument {
         lay_out_nodes(&mut self.nodes, layout, level, first)
     }
 
-    /// Lays out the document as the block of a node at a level, between braces, but not its nodes. Returns what comes
-    /// before the first of these.
-    pub(crate) fn lay_out_block(
-        &mut self,
+    /// Returns the texts around the nodes of the document, as the block of a node at a level, between braces, and what
+    /// comes before the first of these.
+    pub(crate) fn braces(
+        &self,
         layout: &Layout,
         level: usize,
         before: &str,
-    ) -> Result<Before, AllocError>
-        ensures nodes { (out-KdlDocument self.new).nodes ≡ (out-KdlDocument self.old).nodes }
-        ensures span { (out-KdlDocument self.new).span ≡ (out-KdlDocument self.old).span }
+    ) -> Result<(KdlDocumentFormat, Before), AllocError>
         ensures fits { OnOk result (level + 1 < 2 ^ 64) }
-        ensures formatted { IfOk result (λ first.
+        ensures formatted { IfOk result (λ (braces, first).
             chars before.now ≡ indentation (settings layout.now.config) level
             → IsSpacedBraced layout.now.blank_lines (settings layout.now.config) level
-            (nodes_tree (out-KdlDocument self.old).nodes.items)
-            (or_empty_document (option_map document_format_tree (out-KdlDocument self.old).format))
-            first (option_map document_format_tree (out-KdlDocument self.new).format)) }
+            (nodes_tree (out-KdlDocument self.now).nodes.items)
+            (or_empty_document (option_map document_format_tree (out-KdlDocument self.now).format))
+            first (Some (document_format_tree braces))) }
     {
         let Some(inner) = level.checked_add(1) else {
             return Err(AllocError);
         };
         let alloc = *self.nodes.allocator();
         let last = before_trailing(&self.nodes, layout)?;
-        lay_out_braces(&mut self.format, alloc, layout, inner, before, last)
+        braces(&self.format, alloc, layout, inner, before, last)
+    }
+
+    /// Sets the texts around the nodes of the document.
+    pub(crate) fn exchange_format(&mut self, format: Option<KdlDocumentFormat>)
+        ensures { self.new ≡ with_document_format self.old format }
+    {
+        self.format = format;
     }
 }

@@ -1,22 +1,24 @@
 //! Layout of nodes.
 
-ghost use Rattle.kdl.specs.Change.{with_nodes};
+ghost use Rattle.kdl.specs.Change.{with_document_format, with_nodes};
 ghost use Rattle.kdl.specs.Finds.{NodeFindsSame};
 ghost use Rattle.kdl.specs.Iterators.{child_nodes, nodes_in};
-ghost use Rattle.kdl.specs.Internal.Spacing.{NodesAreSpaced, IsSpacedBut, PassesAt, filled_block};
-ghost use Rattle.kdl.specs.Layout.{IndentsBySpaces, NodeCommentsStay, NodeLaidOut, NodeKeepsNoForm, NodeSpaced, node_bare, plain_node};
+ghost use Rattle.kdl.specs.Internal.Spacing.{NodesAreSpaced, IsSpacedBut, PassesAt, StayAs, StaysAs, filled_block, with_texts};
+ghost use Rattle.kdl.specs.Layout.{IndentsBySpaces, NodeCommentsStay, NodeLaidOut, NodeKeepsNoForm, NodeKeepsReading, NodeSpaced, node_bare, plain_node};
+ghost use Rattle.kdl.specs.ReadsBack.{ReadsAs};
 ghost use Rattle.kdl.specs.Tree.{document_tree, node_prints, node_says, node_tree, nodes_tree};
 ghost use Rattle.kdl.specs.declared.document.KdlDocument.{out-KdlDocument};
 ghost use Rattle.kdl.specs.declared.node.KdlNode.{out-KdlNode};
 ghost use Rattle.kdl_fmt.specs.Blank.{at_start};
 ghost use Rattle.kdl_fmt.specs.Canonical.{CanonicalNode, canonical_node};
 ghost use Rattle.kdl_fmt.specs.Config.{IsPlain, defaults, indentation, settings, without_comments};
-ghost use Rattle.kdl_fmt.specs.Formatted.{NodeLevelsFit, bare_children, bare_node};
+ghost use Rattle.kdl_fmt.specs.Formatted.{NodeLevelsFit, bare_node};
 ghost use Rattle.kdl_fmt.specs.WellFormed.{IsWellFormedNode};
 ghost use Rattle.kdl_fmt.specs.Spaced.{AreSpacedNodes, IsSpacedChildren, IsSpacedNode};
 ghost use Rattle.kdl_grammar.specs.Data as data';
 ghost use Rattle.kdl_grammar.specs.Grammar.{IsDocument};
 ghost use Rattle.kdl_grammar.specs.Tree.{Node, children_of, listed_nodes};
+ghost use Rattle.kdl_parts.specs.Formats.{document_format_tree};
 ghost use Rattle.std.specs.Prelude.{◌≡◌, ◌↔◌, ◌+◌, ◌<◌, IfOk, IsTrue, List, MatchOption, OnOk, false, length, map, option_map, true};
 ghost use Rattle.std.specs.Str.{chars};
 
@@ -25,6 +27,7 @@ use crate::layout::lay_out_nodes;
 use crate::node::KdlNode;
 use kdl_fmt::layout::{behind_line, clear_spelling, indentation, lay_out_entries, lay_out_line};
 use kdl_fmt::{Before, FormatConfig, Last, Layout};
+use kdl_parts::KdlDocumentFormat;
 use std::alloc::AllocError;
 use std::mem;
 
@@ -40,7 +43,8 @@ impl KdlNode {
     /// If no entry is flagged, the node prints a document of that one node, and a second call changes nothing.
     ///
     /// If an allocation fails, returns an error. The data of the node is then unchanged, and some of it may be
-    /// formatted.
+    /// formatted. It still prints a text with the same data if it did before, and if each entry that keeps its form
+    /// reads back in it.
     ///
     /// ```
     /// let mut node = KdlNode::parse(alloc, "\"a\"  /* b */ 0x10 // c")?;
@@ -50,6 +54,7 @@ impl KdlNode {
         ensures data { node_says self.new ≡ node_says self.old }
         ensures finds { NodeFindsSame self.old self.new }
         ensures kept { node_bare self.new ≡ node_bare self.old }
+        ensures reads_back { NodeKeepsReading defaults self.old → ReadsAs self.old self.new }
         ensures formatted { OnOk result (NodeLaidOut defaults self.old self.new) }
         ensures keeps_none { OnOk result (NodeKeepsNoForm self.new) }
         ensures derived { OnOk result (NodeKeepsNoForm self.old
@@ -65,7 +70,8 @@ impl KdlNode {
     /// Formats the node like `autoformat`, and removes its comments and slashdashed pieces.
     ///
     /// If an allocation fails, returns an error. The data of the node is then unchanged, and some of it may be
-    /// formatted.
+    /// formatted. It still prints a text with the same data if it did before, and if each entry that keeps its form
+    /// reads back in it.
     ///
     /// ```
     /// let mut node = KdlNode::parse(alloc, "\"a\"   0x10 { /* b */ b; }")?;
@@ -75,6 +81,7 @@ impl KdlNode {
         ensures data { node_says self.new ≡ node_says self.old }
         ensures finds { NodeFindsSame self.old self.new }
         ensures kept { node_bare self.new ≡ node_bare self.old }
+        ensures reads_back { NodeKeepsReading without_comments self.old → ReadsAs self.old self.new }
         ensures formatted { OnOk result
             (node_tree self.new ≡ plain_node without_comments self.old) }
         ensures levels { OnOk result (NodeLevelsFit 0 (node_tree self.old)) }
@@ -92,7 +99,8 @@ impl KdlNode {
     /// level, with or without comments, and with all entries flagged or not.
     ///
     /// Returns an error if an allocation fails, or if the level of a child would exceed `usize::MAX`. The data of the
-    /// node is then unchanged, and some of it may be formatted.
+    /// node is then unchanged, and some of it may be formatted. If the indent is spaces, it still prints
+    /// a text with the same data, as after `autoformat`.
     ///
     /// ```
     /// let config = FormatConfig::builder().indent("\t").indent_level(1).build();
@@ -103,6 +111,8 @@ impl KdlNode {
         ensures data { node_says self.new ≡ node_says self.old }
         ensures finds { NodeFindsSame self.old self.new }
         ensures kept { node_bare self.new ≡ node_bare self.old }
+        ensures reads_back { IndentsBySpaces (settings config.now)
+            → NodeKeepsReading (settings config.now) self.old → ReadsAs self.old self.new }
         ensures formatted { OnOk result (NodeLaidOut (settings config.now) self.old self.new) }
         ensures plain { OnOk result (config.now.no_comments ≡ true
             → node_tree self.new ≡ plain_node (settings config.now) self.old) }
@@ -136,7 +146,8 @@ impl KdlNode {
     /// none before the node, and none at the start and at the end of a block.
     ///
     /// Returns an error if an allocation fails, or if the level of a child, or a number of newlines, would exceed
-    /// `usize::MAX`. The data of the node is then unchanged, and some of it may be formatted.
+    /// `usize::MAX`. The data of the node is then unchanged, and some of it may be formatted. If the
+    /// indent is spaces, it still prints a text with the same data, as after `autoformat`.
     ///
     /// ```
     /// let layout = Layout { config: FormatConfig::default(), blank_lines: 1 };
@@ -147,6 +158,8 @@ impl KdlNode {
         ensures data { node_says self.new ≡ node_says self.old }
         ensures finds { NodeFindsSame self.old self.new }
         ensures kept { node_bare self.new ≡ node_bare self.old }
+        ensures reads_back { IndentsBySpaces (settings layout.now.config)
+            → NodeKeepsReading (settings layout.now.config) self.old → ReadsAs self.old self.new }
         ensures formatted { OnOk result (NodeSpaced layout.now self.old self.new) }
         ensures unspaced { OnOk result (layout.now.blank_lines ≡ 0
             → NodeLaidOut (settings layout.now.config) self.old self.new) }
@@ -178,6 +191,8 @@ impl KdlNode {
     /// Lays out the node at the configuration's level, and all below it. Nothing comes before it.
     fn lay_out_alone(&mut self, layout: &Layout) -> Result<(), AllocError>
         ensures kept { node_bare self.new ≡ node_bare self.old }
+        ensures stays { IndentsBySpaces (settings layout.now.config)
+            → StaysAs (settings layout.now.config) (node_tree self.old) (node_tree self.new) }
         ensures formatted { OnOk result (NodeSpaced layout.now self.old self.new) }
         ensures well_formed { OnOk result (IsWellFormedNode (node_says self.old)) }
     {
@@ -191,39 +206,58 @@ impl KdlNode {
     fn lay_out(&mut self, layout: &Layout, level: usize, before: &str) -> Result<(), AllocError>
         requires { chars before.now ≡ indentation (settings layout.now.config) level }
         ensures kept { node_bare self.new ≡ node_bare self.old }
+        ensures stays { IndentsBySpaces (settings layout.now.config)
+            → StaysAs (settings layout.now.config) (node_tree self.old) (node_tree self.new) }
         ensures formatted { OnOk result (IsSpacedNode layout.now.blank_lines
             (settings layout.now.config) level at_start (node_tree self.old) (node_tree self.new)) }
         ensures well_formed { OnOk result (IsWellFormedNode (node_says self.old)) }
     {
-        let (_, first) = self.lay_out_own(layout, level, before, Before::Nothing(Last::Other))?;
-        lay_out_below(&mut self.children, layout, level, first)
+        let next = Before::Nothing(Last::Other);
+        let (_, first, braces) = self.lay_out_own(layout, level, before, next)?;
+        lay_out_below(&mut self.children, layout, level, first)?;
+        self.set_braces(braces);
+        Ok(())
     }
 
-    /// Lays out the node at a level, after what comes before it and the indentation of that level, but not the nodes in
-    /// its block. Returns what comes before the node after it, and before the first node in its block.
+    /// Lays out the node at a level, after what comes before it and the indentation of that level, but not its block.
+    /// Returns what comes before the node after it, and before the first node in its block, and the texts around these,
+    /// for `set_braces`.
     pub(crate) fn lay_out_own(
         &mut self,
         layout: &Layout,
         level: usize,
         before: &str,
         next: Before,
-    ) -> Result<(Before, Before), AllocError>
+    ) -> Result<(Before, Before, Option<KdlDocumentFormat>), AllocError>
         ensures kept { node_bare self.new ≡ node_bare self.old }
         ensures block { child_nodes self.new ≡ child_nodes self.old }
-        ensures spaced { IfOk result (λ (behind, first).
+        ensures stays { IndentsBySpaces (settings layout.now.config)
+            → chars before.now ≡ indentation (settings layout.now.config) level
+            → StaysAs (settings layout.now.config) (node_tree self.old) (node_tree self.new) }
+        ensures spaced { IfOk result (λ (behind, first, braces).
             chars before.now ≡ indentation (settings layout.now.config) level
             → PassesAt layout.now (node_tree self.old) behind
-            × IsSpacedBut layout.now level next (node_tree self.old) first
+            × IsSpacedBut layout.now level next (node_tree self.old) first braces
             (map node_tree (child_nodes self.old)) self.new) }
     {
         let alloc = *self.entries.allocator();
         let has_block = self.children.is_some();
+        let (first, braces) = block_braces(&self.children, layout, level, before)?;
         let behind = lay_out_line(&mut self.format, alloc, layout, before, has_block, next)?;
         clear_spelling(&mut self.ty);
         self.name.clear_format();
         lay_out_entries(&mut self.entries, &layout.config)?;
-        let first = lay_out_children(&mut self.children, layout, level, before)?;
-        Ok((behind, first))
+        Ok((behind, first, braces))
+    }
+
+    /// Sets the texts around the nodes of the node's block, if there is one.
+    pub(crate) fn set_braces(&mut self, braces: Option<KdlDocumentFormat>)
+        ensures { out-KdlNode self.new ≡ record (out-KdlNode self.old) {
+          children =
+              option_map (λ d. with_document_format d braces) (out-KdlNode self.old).children;
+        } }
+    {
+        set_braces(&mut self.children, braces);
     }
 
     /// Returns what comes before whatever follows the node. That is not laid out.
@@ -257,27 +291,37 @@ impl KdlNode {
     }
 }
 
-/// Lays out the block of a node at a level, but not the nodes in it. Returns what comes before the first of these.
-fn lay_out_children(
-    children: &mut Option<KdlDocument>,
+/// Sets the texts around the nodes of a block, if there is one.
+fn set_braces(children: &mut Option<KdlDocument>, braces: Option<KdlDocumentFormat>)
+    ensures { children.new ≡ option_map (λ d. with_document_format d braces) children.old }
+{
+    if let Some(children) = children {
+        children.exchange_format(braces);
+    }
+}
+
+/// Returns what comes before the first node in the block of a node at a level, and the texts around the nodes in it.
+fn block_braces(
+    children: &Option<KdlDocument>,
     layout: &Layout,
     level: usize,
     before: &str,
-) -> Result<Before, AllocError>
-    ensures kept { bare_children (children_of (option_map document_tree children.new)) ≡
-        bare_children (children_of (option_map document_tree children.old)) }
-    ensures nodes { nodes_in children.new ≡ nodes_in children.old }
-    ensures formatted { IfOk result (λ first.
+) -> Result<(Before, Option<KdlDocumentFormat>), AllocError>
+    ensures { IfOk result (λ (first, braces).
         chars before.now ≡ indentation (settings layout.now.config) level
         → (ms : List Node)
         → AreSpacedNodes layout.now.blank_lines (settings layout.now.config) (level + 1) first
-        (nodes_tree (nodes_in children.old)) (listed_nodes ms)
+        (nodes_tree (nodes_in children.now)) (listed_nodes ms)
         → IsSpacedChildren layout.now.blank_lines (settings layout.now.config) level
-        (children_of (option_map document_tree children.old)) (filled_block children.new ms)) }
+        (children_of (option_map document_tree children.now))
+        (with_texts (option_map document_format_tree braces) (filled_block children.now ms))) }
 {
     match children {
-        Some(children) => children.lay_out_block(layout, level, before),
-        None => Ok(Before::Nothing(Last::Other)),
+        Some(children) => {
+            let (braces, first) = children.braces(layout, level, before)?;
+            Ok((first, Some(braces)))
+        }
+        None => Ok((Before::Nothing(Last::Other), None)),
     }
 }
 
@@ -291,6 +335,9 @@ fn lay_out_below(
     ensures block { (ms : List Node) → filled_block children.new ms ≡ filled_block children.old ms }
     ensures kept { map bare_node (map node_tree (nodes_in children.new)) ≡
         map bare_node (map node_tree (nodes_in children.old)) }
+    ensures stays { IndentsBySpaces (settings layout.now.config)
+        → StayAs (settings layout.now.config)
+        (map node_tree (nodes_in children.old)) (map node_tree (nodes_in children.new)) }
     ensures spaced { OnOk result (NodesAreSpaced layout.now (level + 1) first
         (map node_tree (nodes_in children.old)) (map node_tree (nodes_in children.new))) }
 {

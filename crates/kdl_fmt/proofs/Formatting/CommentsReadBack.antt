@@ -30,7 +30,7 @@ use Rattle.kdl_fmt.proofs.Spacing.Lines.{before_gap, lines_gap}
 use Rattle.kdl_fmt.proofs.EntryTexts.{name_of, type_text, key_text, type_joined, key_joined, no_format, piece_text}
 use Rattle.kdl_fmt.proofs.Keeping.KeptPlaces.{space_ends, newline_gap, gap_nodes, indentation_gap, Tail, tail_of, tail_ends, tail_spaced, LineEnd, line_end_of, line_terminator, last_text, last_ends}
 
-type_reads : (o : Option Identifier) (r : Text) → AreScalars (name_of o) → MaybeType true (type_text o ++ r) r (name_of o)
+pub type_reads : (o : Option Identifier) (r : Text) → AreScalars (name_of o) → MaybeType true (type_text o ++ r) r (name_of o)
 type_reads None r ok = untyped
 type_reads (Some i) r ok = typed (parens Star.none (rw (type_joined (spelled i.value) r) (printed_string i.value (41 ∷ r) ok (punctuation_end 41 refl))) Star.none) Star.none
 
@@ -80,7 +80,7 @@ module _ (h : Head) (before : Text) (k : NodeTexts) (line : h.format ≡ Some (l
       let end = k.last ++ k.space ++ (k.comment ++ (10 ∷ [])) ++ k.behind in
       rw (e, line, ← end_joined k.last k.space k.comment k.behind r) (block_joined k.before_block a (print_nodes ms (depth + 1)) b (newline_if_none ns) before end r)
 
-empty_gap : (ns : Nodes) {t r : Text} → Gap true t r → Gap true (newline_if_none ns ++ t) r
+pub empty_gap : (ns : Nodes) {t r : Text} → Gap true t r → Gap true (newline_if_none ns ++ t) r
 empty_gap none g = newline_gap g
 empty_gap (first n ns) g = g
 

@@ -115,7 +115,7 @@ document_left_out s level (document f span ns) (document f' span' ns') e d =
     λ i. document (a i) (d.1 i) (b i)
 
 -- of an entry all stays but formats and spellings
-cleared_behind : (t : Text) (e : Entry) → cleared (behind t e) ≡ cleared e
+pub cleared_behind : (t : Text) (e : Entry) → cleared (behind t e) ≡ cleared e
 cleared_behind [] e = refl
 cleared_behind (c ∷ t) e = refl
 

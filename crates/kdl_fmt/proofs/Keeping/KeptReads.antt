@@ -39,7 +39,7 @@ pub kept_flagged : (s : Settings) (f : Option EntryFormat) (t : Text) → is_kep
 kept_flagged s None t m e = absurd cc
 kept_flagged s (Some f) t m e = rw m e
 
-no_place : (is : List Item) → PlaceItems (before_entry false) [] is → ⊥
+pub no_place : (is : List Item) → PlaceItems (before_entry false) [] is → ⊥
 no_place is d = let h : false ≡ true = ((place_end (before_entry false) is).0 d).0 in absurd cc
 
 pub kept_bare : (b : Bool) (t : Text) → t ≡ [] → WrittenUnless b (PlaceItems (before_entry false) []) tail t

@@ -1,8 +1,9 @@
-use Rattle.std.proofs.Common.{arith}
+use Rattle.std.proofs.Common.{arith, map, subst, sym}
 use Rattle.kdl_entry.specs.Tree.{entry_tree, cleared}
 use Rattle.kdl_fmt.specs.Config.{settings}
 use Rattle.kdl_fmt.proofs.Formatting.FormattedUnique.{entry_stays}
-use Rattle.kdl_fmt.proofs.Loops.{LaidEntry, turned_start, turned_more, turned_all, turned_same, turned_exchanged, entries_laid, entries_fit}
+use Rattle.kdl_fmt.proofs.Formatting.EntriesRead.{Stays, all_stay, each_stays, flagged_stays, laid_stays}
+use Rattle.kdl_fmt.proofs.Loops.{LaidEntry, turned_start, turned_more, turned_all, turned_same, turned_exchanged, turned_each, turned_each_set, entries_laid, entries_fit}
 use Rattle.kdl_fmt.proofs.layout.lay_out_entries.Goals as goal
 
 pub loop-entry-init : goal.loop-entry-init
@@ -43,3 +44,20 @@ returns-clause-well_formed c =
     entries_fit s _ _
     (turned_all entry_tree (LaidEntry s) c.args.entries.now.len l.entry-index l.entry-items c.deref_mut-entry-items.result.now c.args.entries.now.items
     c.deref_mut-entry-items.ensures.value (omega arith) (omega arith) l.invariant)
+
+pub returns-in_err-lay_out_entry-clause-reads : goal.returns-in_err-lay_out_entry-clause-reads
+returns-in_err-lay_out_entry-clause-reads c k a =
+    let l = c.loop-entry in
+    let s = settings c.args.config.now in
+    each_stays s _
+    (turned_each_set entry_tree (LaidEntry s) (Stays s) (λ e e' d h. laid_stays s e e' d.0 d.1 h) c.args.entries.now.len l.entry-index l.entry-items c.deref_mut-entry-items.result.now c.args.entries.now.items
+    c.lay_out_entry.new.entry c.entry-item.result c.deref_mut-entry-items.ensures.value (omega arith) (omega arith) l.invariant
+    (λ h. subst (Stays s) (sym c.in_err-lay_out_entry.ensures.flagged) (flagged_stays s _ h)) (all_stay s (map entry_tree c.args.entries.now.items) a k))
+
+pub returns-clause-reads : goal.returns-clause-reads
+returns-clause-reads c k a =
+    let l = c.loop-entry in
+    let s = settings c.args.config.now in
+    each_stays s _
+    (turned_each entry_tree (LaidEntry s) (Stays s) (λ e e' d h. laid_stays s e e' d.0 d.1 h) c.args.entries.now.len l.entry-index l.entry-items c.deref_mut-entry-items.result.now c.args.entries.now.items
+    c.deref_mut-entry-items.ensures.value (omega arith) l.invariant (all_stay s (map entry_tree c.args.entries.now.items) a k))

@@ -1,4 +1,6 @@
 use Rattle.std.proofs.Common.{rules, true}
+use Rattle.kdl.specs.Layout.{DocumentKeepsReading}
+use Rattle.kdl.specs.ReadsBack.{DocumentReadsBack}
 use Rattle.kdl.specs.Tree.{document_tree}
 use Rattle.kdl_fmt.specs.Comments.{CommentsStay}
 use Rattle.kdl_fmt.specs.Config.{settings}
@@ -6,7 +8,7 @@ use Rattle.kdl_fmt.specs.Formatted.{DocumentKeepsNone}
 use Rattle.kdl_grammar.specs.Grammar.{IsDocument}
 use Rattle.kdl_grammar.specs.Print.{print_document}
 use Rattle.kdl_grammar.specs.Tree.{document_data}
-use Rattle.kdl.proofs.LayingOut.LayoutCalls.{default_formatted, default_derived, default_comments}
+use Rattle.kdl.proofs.LayingOut.LayoutCalls.{default_back, default_formatted, default_derived, default_comments}
 use Rattle.kdl.proofs.document.KdlDocument.autoformat.Goals as goal
 
 pub returns-clause-formatted : goal.returns-clause-formatted
@@ -22,3 +24,7 @@ pub returns-clause-comments : goal.returns-clause-comments
 returns-clause-comments c =
     default_comments c.autoformat_config.result (settings c.build-config.result) (DocumentKeepsNone (document_tree c.args.self.now))
     (CommentsStay (document_tree c.args.self.now) (print_document (document_tree c.autoformat_config.new.self) 0)) (search rules) c.autoformat_config.ensures.comments
+
+pub returns-clause-reads_back : goal.returns-clause-reads_back
+returns-clause-reads_back c =
+    default_back (settings c.build-config.result) (λ s. DocumentKeepsReading s c.args.self.now) (DocumentReadsBack c.args.self.now → DocumentReadsBack c.autoformat_config.new.self) (search rules) c.autoformat_config.ensures.reads_back

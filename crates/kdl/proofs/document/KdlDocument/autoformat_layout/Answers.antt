@@ -42,3 +42,6 @@ returns-clause-prints c =
 pub returns-clause-reads : goal.returns-clause-reads
 returns-clause-reads c =
     reads c.lay_out.result c.args.layout.now.blank_lines (settings c.args.layout.now.config) c.args.layout.now.config.indent_level (document_tree c.lay_out.new.self) (document_tree c.args.self.now) c.lay_out.ensures.well_formed
+
+pub returns-clause-reads_back : goal.returns-clause-reads_back
+returns-clause-reads_back c ok k x = c.lay_out.ensures.reads_back ok k x

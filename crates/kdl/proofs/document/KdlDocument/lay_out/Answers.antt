@@ -1,10 +1,12 @@
 use Rattle.std.proofs.Common.{rules, option_map, map, ap, subst, ◌∙◌}
+use Rattle.kdl_fmt.specs.Config.{settings}
 use Rattle.kdl_parts.specs.Formats.{document_format_tree}
-use Rattle.kdl.specs.Internal.Spacing.{NodesAreSpaced}
+use Rattle.kdl.specs.Internal.Spacing.{NodesAreSpaced, StayAs}
 use Rattle.kdl.specs.Tree.{node_tree, nodes_tree}
 use Rattle.kdl.specs.declared.document.KdlDocument.TheViews.{the_lemmas, out-KdlDocument, out-roll-KdlDocument}
 use Rattle.kdl_fmt.specs.Formatted.{bare_node}
 use Rattle.kdl.proofs.LayingOut.PartsSpaced.{if_ok, same_content, laid_content, nodes_fit, fitting_document}
+use Rattle.kdl.proofs.LayingOut.StaysReading.{document_stays}
 use Rattle.kdl.proofs.document.KdlDocument.lay_out.Goals as goal
 
 pub returns-clause-kept : goal.returns-clause-kept
@@ -24,7 +26,7 @@ returns-clause-formatted c =
     if_ok c.lay_out_nodes.result
     (λ h. laid_content _ c.args.self.now (search (rules, the_lemmas)) new (search (rules, the_lemmas)) l level first
     (option_map document_format_tree c.lay_out_content.new.format) (search (rules, the_lemmas))
-    (c.in_ok-first.ensures (nodes_tree d.nodes.items) (search (rules, the_lemmas)) (search (rules, the_lemmas)))
+    (c.in_ok-first.ensures.spaced (nodes_tree d.nodes.items) (search (rules, the_lemmas)) (search (rules, the_lemmas)))
     (subst (λ x. NodesAreSpaced l level first (map node_tree x.nodes.items) (map node_tree new.items)) (out-roll-KdlDocument fields) h))
     c.lay_out_nodes.ensures.spaced
 
@@ -40,3 +42,15 @@ returns-clause-well_formed c =
     (λ h. fitting_document c.args.self.now (nodes_fit l level first (map node_tree d.nodes.items) new
     (subst (λ x. NodesAreSpaced l level first (map node_tree x.nodes.items) new) (out-roll-KdlDocument fields) h)))
     c.lay_out_nodes.ensures.spaced
+
+pub returns-clause-reads_back : goal.returns-clause-reads_back
+returns-clause-reads_back c ok =
+    let d = out-KdlDocument c.args.self.now in
+    let l = c.args.layout.now in
+    let level = l.config.indent_level in
+    let first = c.in_ok-first.first in
+    let fields = record d { format = c.lay_out_content.new.format } in
+    let new = c.lay_out_nodes.new.nodes in
+    document_stays l ok level first c.args.self.now _ (search (rules, the_lemmas)) new (search (rules, the_lemmas)) (option_map document_format_tree c.lay_out_content.new.format) (search (rules, the_lemmas))
+    (c.in_ok-first.ensures.spaced (nodes_tree d.nodes.items) (search (rules, the_lemmas)) (search (rules, the_lemmas)))
+    (subst (λ x. StayAs (settings l.config) (map node_tree x.nodes.items) (map node_tree new.items)) (out-roll-KdlDocument fields) (c.lay_out_nodes.ensures.stays ok))

@@ -6,10 +6,10 @@ pub closing-init : goal.closing-init
 closing-init c = refl
 
 pub closing-smaller : goal.closing-smaller
-closing-smaller c = omega (arith, ap vec_len c.leave.ensures.above, c.in-Some.ensures.cases)
+closing-smaller c = omega (arith, ap vec_len c.close.ensures.above, c.in-Some.ensures.cases)
 
 pub closing-preserved : goal.closing-preserved
-closing-preserved c = c.leave.ensures.whole ∙ ap (λ z. whole z c.closing.self.inner) (sym c.in-Some.ensures.items) ∙ c.closing.invariant
+closing-preserved c = c.close.ensures.whole ∙ ap (λ z. whole z c.closing.self.inner) (sym c.in-Some.ensures.items) ∙ c.closing.invariant
 
 pub returns : goal.returns
 returns c =

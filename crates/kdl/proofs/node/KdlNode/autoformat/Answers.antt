@@ -1,4 +1,6 @@
 use Rattle.std.proofs.Common.{rules, true}
+use Rattle.kdl.specs.Layout.{NodeKeepsReading}
+use Rattle.kdl.specs.ReadsBack.{ReadsAs}
 use Rattle.kdl.specs.Tree.{node_tree}
 use Rattle.kdl.specs.Layout.{NodeCommentsStay}
 use Rattle.kdl_fmt.specs.Config.{settings}
@@ -7,7 +9,7 @@ use Rattle.kdl_grammar.specs.Data as data'
 use Rattle.kdl_grammar.specs.Grammar.{IsDocument}
 use Rattle.kdl_grammar.specs.Print.{print_node}
 use Rattle.kdl_grammar.specs.Tree.{node_data}
-use Rattle.kdl.proofs.LayingOut.LayoutCalls.{default_formatted_node, default_derived, default_comments}
+use Rattle.kdl.proofs.LayingOut.LayoutCalls.{default_back, default_formatted_node, default_derived, default_comments}
 use Rattle.kdl.proofs.node.KdlNode.autoformat.Goals as goal
 
 pub returns-clause-formatted : goal.returns-clause-formatted
@@ -23,3 +25,7 @@ pub returns-clause-comments : goal.returns-clause-comments
 returns-clause-comments c =
     default_comments c.autoformat_config.result (settings c.build-config.result) (NodeKeepsNone (node_tree c.args.self.now))
     (NodeCommentsStay (node_tree c.args.self.now) (print_node (node_tree c.autoformat_config.new.self) 0)) (search rules) c.autoformat_config.ensures.comments
+
+pub returns-clause-reads_back : goal.returns-clause-reads_back
+returns-clause-reads_back c =
+    default_back (settings c.build-config.result) (λ s. NodeKeepsReading s c.args.self.now) (ReadsAs c.args.self.now c.autoformat_config.new.self) (search rules) c.autoformat_config.ensures.reads_back

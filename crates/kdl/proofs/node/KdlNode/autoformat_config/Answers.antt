@@ -42,3 +42,6 @@ returns-clause-prints c =
 pub returns-clause-reads : goal.returns-clause-reads
 returns-clause-reads c =
     node_reads c.lay_out_alone.result 0 (settings c.args.config.now) c.args.config.now.indent_level (node_tree c.lay_out_alone.new.self) (node_tree c.args.self.now) c.lay_out_alone.ensures.well_formed
+
+pub returns-clause-reads_back : goal.returns-clause-reads_back
+returns-clause-reads_back c ok k P x = (c.lay_out_alone.ensures.stays ok P (x, k)).0

@@ -1,26 +1,43 @@
 use Rattle.std.proofs.Common.{rules, option_map, map, ◌+◌, refl}
 use Rattle.kdl.specs.Iterators.{child_nodes}
+use Rattle.kdl.specs.Internal.Spacing.{filled_block, with_texts}
 use Rattle.kdl.specs.Tree.{node_tree}
-use Rattle.kdl_parts.specs.Formats.{node_format_tree}
+use Rattle.kdl_entry.specs.Tree.{entry_tree}
+use Rattle.kdl_parts.specs.Formats.{document_format_tree, node_format_tree}
 use Rattle.kdl.specs.declared.document.KdlDocument.TheViews.{the_lemmas, out-KdlNode}
 use Rattle.kdl_fmt.specs.Config.{settings}
 use Rattle.kdl.proofs.LayingOut.PartsSpaced.{laid_node, own_block, own_passes, fitting_node, nodes_laid, nodes_fit}
+use Rattle.kdl.proofs.LayingOut.StaysReading.{own_stays}
 use Rattle.kdl.proofs.node.KdlNode.lay_out_own.Goals as goal
+
+pub returns-in_err-lay_out_entries-clause-stays : goal.returns-in_err-lay_out_entries-clause-stays
+returns-in_err-lay_out_entries-clause-stays c ok e =
+    own_stays c.args.layout.now ok c.args.level c.args.next c.args.self.now _ c.is_some-has_block.result (search (rules, the_lemmas)) (search (rules, the_lemmas)) (search (rules, the_lemmas))
+    (option_map node_format_tree c.lay_out_line.new.format) (search (rules, the_lemmas)) (c.in_ok-behind.ensures.spaced c.args.level e).0
+    _ (map entry_tree c.lay_out_entries.new.entries.items) (search (rules, the_lemmas)) (search (rules, the_lemmas)) c.lay_out_entries.ensures.reads (search (rules, the_lemmas))
+
+pub returns-clause-stays : goal.returns-clause-stays
+returns-clause-stays c ok e =
+    own_stays c.args.layout.now ok c.args.level c.args.next c.args.self.now _ c.is_some-has_block.result (search (rules, the_lemmas)) (search (rules, the_lemmas)) (search (rules, the_lemmas))
+    (option_map node_format_tree c.lay_out_line.new.format) (search (rules, the_lemmas)) (c.in_ok-behind.ensures.spaced c.args.level e).0
+    _ (map entry_tree c.lay_out_entries.new.entries.items) (search (rules, the_lemmas)) (search (rules, the_lemmas)) c.lay_out_entries.ensures.reads (search (rules, the_lemmas))
 
 pub returns-clause-spaced : goal.returns-clause-spaced
 returns-clause-spaced c e =
     let l = c.args.layout.now in
     let s = settings l.config in
+    let n = c.args.self.now in
     let first = c.in_ok-first.first in
-    let olds = map node_tree (child_nodes c.args.self.now) in
-    let line = c.in_ok-behind.ensures c.args.level e in (
-      own_passes l c.args.self.now c.in_ok-behind.behind (out-KdlNode c.args.self.now).format refl line.1,
+    let texts = option_map document_format_tree c.in_ok-first.braces in
+    let olds = map node_tree (child_nodes n) in
+    let line = c.in_ok-behind.ensures.spaced c.args.level e in (
+      own_passes l n c.in_ok-behind.behind (out-KdlNode n).format refl line.1,
       λ ms z. (
-        laid_node _ c.args.self.now l.blank_lines s c.args.level c.args.next c.is_some-has_block.result ms (search (rules, the_lemmas))
+        laid_node _ n l.blank_lines s c.args.level c.args.next c.is_some-has_block.result ms (search (rules, the_lemmas))
             (search (rules, the_lemmas)) (search (rules, the_lemmas)) (search (rules, the_lemmas))
             (option_map node_format_tree c.lay_out_line.new.format) (search (rules, the_lemmas)) line.0
-            (search (rules, the_lemmas)) c.lay_out_children.new.children (search (rules, the_lemmas))
-            (own_block l.blank_lines s c.args.level first c.args.self.now _ c.lay_out_children.new.children ms (c.in_ok-first.ensures.formatted e ms) (search (rules, the_lemmas)) (nodes_laid l (c.args.level + 1) first olds ms z)),
-        fitting_node c.args.self.now (search (rules, the_lemmas)) (nodes_fit l (c.args.level + 1) first olds ms z),
+            (search (rules, the_lemmas)) (out-KdlNode n).children (search (rules, the_lemmas)) texts
+            (own_block l.blank_lines s c.args.level first n (out-KdlNode n).children (with_texts texts (filled_block (out-KdlNode n).children ms)) ms (c.in_ok-first.ensures e ms) refl (nodes_laid l (c.args.level + 1) first olds ms z)),
+        fitting_node n (search (rules, the_lemmas)) (nodes_fit l (c.args.level + 1) first olds ms z),
       ),
     )

@@ -7,7 +7,7 @@ use Rattle.kdl_fmt.specs.Formatted.{in_braces}
 use Rattle.kdl_fmt.specs.Plain.{newline_if}
 use Rattle.kdl_fmt.specs.WithComments.{content_of}
 use Rattle.kdl_fmt.proofs.Texts.{no_text, newline_text, braces_made}
-use Rattle.kdl_fmt.proofs.layout.lay_out_braces.Goals as goal
+use Rattle.kdl_fmt.proofs.layout.braces.Goals as goal
 
 pub returns : goal.returns
 returns c = λ level ns i b n p.

@@ -1,0 +1,207 @@
+-- A node or document of which a part is laid out reads back where it did before.
+use Rattle.std.proofs.Common.{◌≡◌, ℕ, zero, suc, ◌+◌, Bool, true, false, List, [], ◌∷◌, ◌++◌, refl, sym, ap, subst, ◌∙◌, Option, Some, None, option_map, append_assoc, append-nil}
+use Rattle.std.specs.List.{All, list_all}
+use Rattle.std.specs.Prelude.{if◌then◌else◌}
+use Rattle.kdl_text.specs.Chars.{Text, is_space}
+use Rattle.kdl_text.specs.Trivia.{ValueEnd}
+use Rattle.kdl_text.specs.declared.span.SourceSpan.{SourceSpan}
+use Rattle.kdl_value.specs.Spelled.{spelled}
+use Rattle.kdl_entry.specs.Data as data'
+use Rattle.kdl_entry.specs.Entries.{untyped}
+use Rattle.kdl_entry.specs.Tree.{Identifier, unspelled}
+use Rattle.kdl_entry.proofs.Laying.ValueReadsBack.{printed_string}
+use Rattle.kdl_grammar.specs.Data as nodes'
+use Rattle.kdl_grammar.specs.Grammar.{named, IsNode, AfterName, no_gap}
+use Rattle.kdl_grammar.specs.Places.{BeforeChildren}
+use Rattle.kdl_grammar.specs.Print.{trailing_text}
+use Rattle.kdl_grammar.specs.ReadsBack.{Rests, Anything, TextEnd, EntryReads, name_text, HeadReads, AddsNothing, IsGapBefore, BeforeTerminator, EndReads, last_rests, NodeReads, reads, ChildrenRead, no_block, a_block, NodesRead, no_node, last_node, next_node, ContentReads, two_texts, with_nodes, BlockReads, block, DocumentReads}
+use Rattle.kdl_grammar.specs.Tree.{NodeFormat, DocumentFormat, Head, Node, node, Children, no_children, children, document, Nodes, none, first}
+use Rattle.kdl_grammar.proofs.ReadingBack.Composing.{block_reads, ends_before, with_block}
+use Rattle.kdl_comments.specs.Items.{Item, GapItems, before_block}
+use Rattle.kdl_comments.specs.Written.{lines}
+use Rattle.kdl_comments.proofs.Listing.ItemsUnique.{gap_items_det}
+use Rattle.kdl_fmt.specs.Blank.{at_start, past_node, spaced_lines}
+use Rattle.kdl_fmt.specs.Config.{Settings, indentation}
+use Rattle.kdl_fmt.specs.Formatted.{or_empty, or_empty_document, newline_if_none}
+use Rattle.kdl_fmt.specs.Kept.{KeptBeforeBlock, Written, WrittenUnless, last_place, without_bom}
+use Rattle.kdl_fmt.specs.WellFormed.{AreScalars}
+use Rattle.kdl_fmt.specs.Spaced.{Spaces, SpacedLines, SpacesTexts, IsSpacedLine, IsSpacedContent, IsSpacedBraced, IsSpacedNode, IsSpacedChildren, AreSpacedNodes}
+use Rattle.kdl_fmt.specs.WithComments.{NodeTexts, line_of, has_block}
+use Rattle.kdl_fmt.specs.declared.blank.Before.{Before}
+use Rattle.kdl_fmt.proofs.EntryTexts.{name_of, type_text}
+use Rattle.kdl_fmt.proofs.Formatting.CommentsReadBack.{type_reads, empty_gap}
+use Rattle.kdl_fmt.proofs.Keeping.KeptPlaces.{newline_gap, gap_nodes, indentation_gap, Tail, tail_of, tail_spaced, LineEnd, line_end_of, line_terminator, last_text}
+use Rattle.kdl_fmt.proofs.Spacing.Lines.{before_gap, lines_gap}
+
+-- nodes that end by themselves, before any rests
+pub all_end : (P : Rests) {ns : Nodes} → NodesRead Anything ns → NodesRead P ns
+all_end P no_node = no_node
+all_end P (last_node x) = last_node (ends_before P x)
+all_end P (next_node x xs) = next_node x (all_end P xs)
+
+-- a name and its type, without spelling
+name_joined : (t n r : Text) → (t ++ [] ++ n) ++ r ≡ t ++ (n ++ r)
+name_joined t n r = simp (append_assoc, append-nil)
+
+named_reads : (y : Option Identifier) (i : Identifier) → AreScalars (name_of y) → AreScalars (Some i.value) → {r t : Text} {es : List data'.Entry} {k : nodes'.Children} → ValueEnd true r → AfterName true r t es k
+    → IsNode true ((type_text y ++ [] ++ spelled i.value) ++ r) t (nodes'.node (name_of (option_map unspelled y)) i.value es k)
+named_reads None i a n {r = r} e d = rw (name_joined (type_text None) (spelled i.value) r) (named untyped (printed_string i.value _ n e) d)
+named_reads (Some y) i a n {r = r} e d = rw (name_joined (type_text (Some y)) (spelled i.value) r) (named (type_reads (Some y) _ a) (printed_string i.value _ n e) d)
+
+end_joined : (c b r : Text) → ((c ++ (10 ∷ [])) ++ b) ++ r ≡ c ++ (10 ∷ (b ++ r))
+end_joined c b r = simp append_assoc
+
+place_joined : (l s c b r : Text) → (l ++ s) ++ (((c ++ (10 ∷ [])) ++ b) ++ r) ≡ l ++ (s ++ (c ++ (10 ∷ (b ++ r))))
+place_joined l s c b r = simp append_assoc
+
+-- the place before the terminator
+before_end : (k : Children) {l space c : Text} → Tail (last_place (has_block k)) l → LineEnd space c → (r : Text) → BeforeTerminator k (l ++ (space ++ (c ++ (10 ∷ r)))) (c ++ (10 ∷ r))
+before_end no_children t e r = last_text false t e r
+before_end (children d) t e r = last_text true t e r
+
+content_with : {P : Rests} {l t : Text} (ns : Nodes) → AddsNothing l → NodesRead (last_rests t P) ns → IsGapBefore P t → ContentReads P l t ns
+content_with none a x g = two_texts a g
+content_with (first n ns) a x g = with_nodes a x g
+
+trailing_joined : (b e i r : Text) → ((b ++ e) ++ i) ++ r ≡ b ++ (e ++ (i ++ r))
+trailing_joined b e i r = simp append_assoc
+
+module _ (number : ℕ) (s : Settings) (ok : list_all is_space s.indent ≡ true) where
+  -- what is kept between nodes adds nothing
+  lines_add : (level : ℕ) (b b' : Before) (place t : Text) → SpacedLines number s level b place t b' → AddsNothing t
+  lines_add level b b' place t k r v xs e d = gap_nodes (lines_gap s ok number level b b' place t k no_gap) d
+
+  -- the line of a node
+  module _ (level : ℕ) (has : Bool) (b : Before) (f : NodeFormat) (t : NodeTexts) (kept : SpacesTexts number s level has b f t) where
+    line_head : (h : Head) (y : Option Identifier) (i : Identifier) → h.ty ≡ option_map unspelled y → h.name ≡ unspelled i → AreScalars (name_of y) → AreScalars (Some i.value) → All EntryReads h.entries
+        → HeadReads h (line_of (indentation s level) t)
+    line_head h y i e g a n es = record {
+      leading = λ r.
+          let rest = name_text h (line_of (indentation s level) t) ++ r in
+          rw (append_assoc t.before (indentation s level) rest) (before_gap s ok number level has b f t kept (indentation_gap s ok level no_gap));
+      name = λ v d. rw (e, g) (named_reads y i a n v d);
+      entries = es;
+    }
+
+    line_end : (k : Children) → has ≡ has_block k → (Q : Rests) → EndReads Q k (line_of (indentation s level) t)
+    line_end k same Q =
+        let tail : Tail (last_place (has_block k)) t.last = subst (λ (x : Bool). Tail (last_place x) t.last) same (tail_of s.no_comments (last_place has) f.before_terminator t.last kept.last) in
+        let end = line_end_of s.no_comments f.terminator t.space t.comment kept.end in
+        record {
+          place = λ r p x. rw (place_joined t.last t.space t.comment t.behind r, end_joined t.comment t.behind r) (before_end k tail end (t.behind ++ r));
+          terminator = λ r v xs p z d. (
+            t.behind ++ r,
+            rw (end_joined t.comment t.behind r) (line_terminator end (t.behind ++ r)),
+            lines_add level (past_node f.terminator) kept.behind_it f.trailing t.behind kept.behind r v xs z d,
+          );
+        }
+
+    line_block : has ≡ true → (u : Text) → BeforeChildren ((t.before_block ++ (32 ∷ [])) ++ (123 ∷ u)) (123 ∷ u)
+    line_block same u =
+        let k : KeptBeforeBlock s true f.before_children t.before_block = subst (λ (x : Bool). KeptBeforeBlock s x f.before_children t.before_block) same kept.before_block in
+        rw (append_assoc t.before_block (32 ∷ []) (123 ∷ u)) (tail_spaced before_block (tail_of s.no_comments before_block f.before_children t.before_block k) (123 ∷ u))
+
+  line_children : (level : ℕ) (k : Children) (b : Before) (f : NodeFormat) (t : NodeTexts) (kept : SpacesTexts number s level (has_block k) b f t) {h : Head} {P : Rests} → NodeReads P (node h k)
+      → ChildrenRead (line_of (indentation s level) t) k
+  line_children level no_children b f t kept x = no_block
+  line_children level (children d) b f t kept x = a_block (line_block level true b f t kept refl) (block_reads x)
+
+  -- a node whose own texts are laid out
+  pub own_reads : (level : ℕ) (b : Before) (h h' : Head) (f : NodeFormat) (k : Children) (y : Option Identifier) (i : Identifier) → h'.ty ≡ option_map unspelled y → h'.name ≡ unspelled i → AreScalars (name_of y) → AreScalars (Some i.value)
+      → All EntryReads h'.entries → IsSpacedLine number s level (has_block k) b f h'.format → {P Q : Rests} → NodeReads P (node h k) → NodeReads Q (node h' k)
+  own_reads level b h h' f k y i e g a n es line {Q = Q} x =
+      reads line.2 (line_head level (has_block k) b f line.0 line.1 h' y i e g a n es) (line_children level k b f line.0 line.1 x) (line_end level (has_block k) b f line.0 line.1 k refl Q)
+
+  -- a node that is laid out ends by itself
+  spaced_ends : {P Q : Rests} (level : ℕ) (b : Before) (n n' : Node) → IsSpacedNode number s level b n n' → NodeReads P n' → NodeReads Q n'
+  spaced_ends {Q = Q} level b (node h k) (node h' k') f (reads {f = g} e head kids end) =
+      let line = f.0.format in
+      let same : g ≡ line_of (indentation s level) line.0 = ap or_empty (sym e ∙ line.2) in
+      reads e head kids (subst (λ (z : NodeFormat). EndReads Q k' z) (sym same) (line_end level (has_block k) b (or_empty h.format) line.0 line.1 k' (same_block level k k' f.1) Q))
+    where
+      same_block : (level : ℕ) (k k' : Children) → IsSpacedChildren number s level k k' → has_block k ≡ has_block k'
+      same_block level no_children no_children c = refl
+      same_block level (children (document f span ns)) (children (document f' span' ns')) c = refl
+      same_block level no_children (children d) c = absurd c
+      same_block level (children (document f span ns)) no_children c = absurd c
+
+  nodes_end : {P Q : Rests} (level : ℕ) (b : Before) (ns ns' : Nodes) → AreSpacedNodes number s level b ns ns' → NodesRead P ns' → NodesRead Q ns'
+  nodes_end level b none none f x = no_node
+  nodes_end level b none (first n' ns') f x = absurd f
+  nodes_end level b (first n ns) none f x = absurd f
+  nodes_end level b (first n ns) (first n' none) f (last_node x) = last_node (spaced_ends level b n n' f.1 x)
+  nodes_end level b (first n ns) (first n' (first m ms)) f (next_node x xs) = next_node x (nodes_end level f.0 ns (first m ms) f.3 xs)
+
+  content_nodes : {P : Rests} {l t : Text} (level : ℕ) (b : Before) (ns ns' : Nodes) → AreSpacedNodes number s level b ns ns' → ContentReads P l t ns' → NodesRead Anything ns'
+  content_nodes level b ns none f x = no_node
+  content_nodes level b ns (first n ms) f (with_nodes a x g) = nodes_end level b ns (first n ms) f x
+
+  -- a block whose nodes end by themselves
+  braced_reads : (level : ℕ) (olds : Nodes) (f : DocumentFormat) (b : Before) (g : Option DocumentFormat) (at : SourceSpan) (ms : Nodes) → IsSpacedBraced number s level olds f b g → NodesRead Anything ms → BlockReads (document g at ms)
+  braced_reads level olds f b g at ms (x, y, c, e) d =
+      let ind = indentation s level in
+      subst (λ (z : Option DocumentFormat). BlockReads (document z at ms)) (sym e)
+      (block (content_with ms
+      (λ r v xs z d. gap_nodes (newline_gap (lines_gap s ok number (level + 1) at_start b (without_bom f.leading) x c.leading no_gap)) d)
+      (all_end _ d)
+      (λ r p. rw (trailing_joined y (newline_if_none olds) ind r) (lines_gap s ok number (level + 1) c.last c.behind_it f.trailing y c.trailing (empty_gap olds (indentation_gap s ok level no_gap))))))
+
+  -- a node of which the block is laid out, when the nodes in it are
+  pub closed_reads : (level : ℕ) (b : Before) (o : Node) (h : Head) (f g : Option DocumentFormat) (at : SourceSpan) (ms : Nodes) → IsSpacedNode number s level b o (node h (children (document g at ms)))
+      → {P : Rests} → NodeReads P (node h (children (document f at ms))) → NodeReads P (node h (children (document g at ms)))
+  closed_reads level b (node h' no_children) h f g at ms w x = absurd w.1
+  closed_reads level b (node h' (children (document f' at' ns))) h f g at ms (w, (b', c, same, nodes, fits)) x =
+      with_block (document g at ms) x (braced_reads level ns (or_empty_document f') b' g at ms c (inner (block_reads x)))
+    where
+      inner : BlockReads (document f at ms) → NodesRead Anything ms
+      inner (block y) = content_nodes (level + 1) b' ns ms nodes y
+
+  -- what is kept of an empty text
+  written_nothing : (level : ℕ) (t : Text) → Written (GapItems []) (lines (indentation s level)) t → t ≡ []
+  written_nothing level _ (Written.items d) = ap (lines (indentation s level)) (gap_items_det d GapItems.none)
+  written_nothing level _ (Written.none h) = refl
+
+  lines_nothing : (level : ℕ) (no : Bool) (t : Text) → WrittenUnless no (GapItems []) (lines (indentation s level)) t → t ≡ []
+  lines_nothing level true t k = k
+  lines_nothing level false t k = written_nothing level t k
+
+  items_nothing : (level m : ℕ) (b : Before) (no : Bool) (is : List Item) → is ≡ [] → (if no then [] else spaced_lines m (indentation s level) b [] is) ≡ []
+  items_nothing level m b true is e = refl
+  items_nothing level m b false is e = ap (spaced_lines m (indentation s level) b []) e
+
+  spaces_nothing : (level m : ℕ) (b b' : Before) (t : Text) → Spaces m s level b [] t b' → t ≡ []
+  spaces_nothing level m b b' _ (Spaces.items {is = is} d) = items_nothing level m b s.no_comments is (gap_items_det d GapItems.none)
+  spaces_nothing level m b b' _ (Spaces.no_gap h) = refl
+
+  nothing_kept : (level m : ℕ) (b b' : Before) (t : Text) → SpacedLines m s level b [] t b' → t ≡ []
+  nothing_kept level zero b b' t k = lines_nothing level s.no_comments t k
+  nothing_kept level (suc m) b b' t k = spaces_nothing level (suc m) b b' t k
+
+  -- a document whose own texts are laid out
+  content_last : {ns : Nodes} (q y : Text) → (q ≡ [] → y ≡ []) → NodesRead (last_rests q TextEnd) ns → NodesRead (last_rests (y ++ []) TextEnd) ns
+  content_last {ns} [] y h x = subst (λ (z : Text). NodesRead (last_rests (z ++ []) TextEnd) ns) (sym (h refl)) x
+  content_last (c ∷ q) y h x = all_end _ x
+
+  content_laid : (level : ℕ) (b last after : Before) (q' q x y : Text) → SpacedLines number s level at_start q' x b → SpacedLines number s level last q y after → {l : Text} (ns : Nodes) → ContentReads TextEnd l q ns
+      → ContentReads TextEnd x (y ++ newline_if_none ns) ns
+  content_laid level b last after q' q x y k m none d =
+      two_texts (lines_add level at_start b q' x k) (λ r p. rw (append_assoc y (10 ∷ []) r) (lines_gap s ok number level last after q y m (newline_gap no_gap)))
+  content_laid level b last after q' q x y k m (first n ns) (with_nodes a z g) =
+      with_nodes (lines_add level at_start b q' x k)
+      (content_last q y (λ e. nothing_kept level number last after y (subst (λ (u : Text). SpacedLines number s level last u y after) e m)) z)
+      (λ r p. rw (append_assoc y [] r) (lines_gap s ok number level last after q y m no_gap))
+
+  trailing_is : (o : Option DocumentFormat) → (or_empty_document o).trailing ≡ trailing_text o
+  trailing_is None = refl
+  trailing_is (Some f) = refl
+
+  pub document_reads : (level : ℕ) (b : Before) (o g : Option DocumentFormat) (at : SourceSpan) (ns : Nodes) → IsSpacedContent number s level ns (or_empty_document o) b g → DocumentReads (document o at ns) → DocumentReads (document g at ns)
+  document_reads level b o g at ns (x, y, c, e) d =
+      subst (λ (z : Option DocumentFormat). DocumentReads (document z at ns)) (sym e) (DocumentReads.no_bom (of_old d))
+    where
+      trailing : SpacedLines number s level c.last (trailing_text o) y c.behind_it
+      trailing = subst (λ (u : Text). SpacedLines number s level c.last u y c.behind_it) (trailing_is o) c.trailing
+
+      of_old : DocumentReads (document o at ns) → ContentReads TextEnd x (y ++ newline_if_none ns) ns
+      of_old (DocumentReads.no_bom d) = content_laid level b c.last c.behind_it (without_bom (or_empty_document o).leading) (trailing_text o) x y c.leading trailing ns d
+      of_old (DocumentReads.behind_bom e d) = content_laid level b c.last c.behind_it (without_bom (or_empty_document o).leading) (trailing_text o) x y c.leading trailing ns d
