@@ -108,18 +108,24 @@ impl Write for Sink {
     }
 }
 
-/// An error with two diagnostics, the second of which has no message.
-fn two_faults(alloc: Global) -> Result<KdlError, AllocError> {
+/// An error with these diagnostics: offset, length and message.
+fn error_of(
+    alloc: Global,
+    faults: &[(usize, usize, Option<&str>)],
+) -> Result<KdlError, AllocError> {
     let input = RcStr::from_str(alloc, "a }\n;")?;
     let mut diagnostics = Vec::new(alloc);
-    for (offset, len, message) in [(2, 1, Some("Unexpected `}`")), (4, 0, None)] {
+    for (offset, len, message) in faults {
         let message = match message {
             Some(text) => Some(String::from_str(alloc, text)?),
             None => None,
         };
         diagnostics.push(KdlDiagnostic {
             input: input.clone()?,
-            span: SourceSpan { offset, len },
+            span: SourceSpan {
+                offset: *offset,
+                len: *len,
+            },
             message,
             label: None,
             help: None,
@@ -127,6 +133,11 @@ fn two_faults(alloc: Global) -> Result<KdlError, AllocError> {
         })?;
     }
     Ok(KdlError { input, diagnostics })
+}
+
+/// An error with two diagnostics, the second of which has no message.
+fn two_faults(alloc: Global) -> Result<KdlError, AllocError> {
+    error_of(alloc, &[(2, 1, Some("Unexpected `}`")), (4, 0, None)])
 }
 
 /// Asserts that the outcome has this status and this report. A writer that takes nothing, or fails, gets a prefix of
@@ -163,6 +174,42 @@ fn report_of_a_refused_input(rt: HostRuntime) -> Result<(), Fail> {
     let text = "2..3 Unexpected `}`\n4..4 Unexpected error\n";
     reported(&rt, rt.alloc(), &refused, 1, text);
     broken_off(&rt, rt.alloc(), &refused, text);
+    Ok(())
+}
+
+/// Asserts that a writer that takes all it gets has this report after so many writes.
+fn written_by(rt: &impl Abort, alloc: Global, outcome: &Outcome, writes: u32, text: &str) {
+    let mut sink = Sink::new(alloc, usize::MAX, NEVER);
+    holds(rt, outcome.report(&mut Watched::new(&mut sink)), text);
+    equal(rt, &sink.bytes.as_slice(), &text.as_bytes(), &text);
+    equal(rt, &sink.writes, &writes, &text);
+}
+
+#[test]
+fn a_write_for_each_line(rt: HostRuntime) -> Result<(), Fail> {
+    let refused = Outcome::Refused(two_faults(rt.alloc())?);
+    let text = "2..3 Unexpected `}`\n4..4 Unexpected error\n";
+    written_by(&rt, rt.alloc(), &refused, 2, text);
+    for (number, _, text) in &REPORTS {
+        let writes = if text.is_empty() { 0 } else { 1 };
+        written_by(&rt, rt.alloc(), &outcome_of(*number), writes, text);
+    }
+    Ok(())
+}
+
+#[test]
+fn long_lines(rt: HostRuntime) -> Result<(), Fail> {
+    // The first line has 512 bytes with its newline, and is written at once.
+    for (length, writes) in [(506, 1), (507, 6), (70000, 6)] {
+        let message = "x".repeat(rt.alloc(), length)?;
+        let refused = Outcome::Refused(error_of(rt.alloc(), &[(0, 1, Some(&message))])?);
+        let mut line = String::from_str(rt.alloc(), "0..1 ")?;
+        line.push_str(&message)?;
+        line.push('\n')?;
+        written_by(&rt, rt.alloc(), &refused, writes, &line);
+        reported(&rt, rt.alloc(), &refused, 1, &line);
+        broken_off(&rt, rt.alloc(), &refused, &line);
+    }
     Ok(())
 }
 
@@ -212,12 +259,15 @@ fn flags_of_a_reader(rt: HostRuntime) {
     equal(&rt, &reader.read(&mut one).ok(), &Some(0), &"read");
     holds(&rt, reader.ended(), "the end");
     holds(&rt, !reader.failed(), "failed");
+    holds(&rt, !reader.went_on(), "went on");
     equal(&rt, &reader.read(&mut one).ok(), &None, &"read");
     holds(&rt, reader.failed(), "interrupted");
+    holds(&rt, !reader.went_on(), "the failed read is the last");
     holds(&rt, !reader.ended(), "the last read gave no answer");
     equal(&rt, &reader.read(&mut one).ok(), &Some(0), &"read");
     holds(&rt, reader.ended(), "ended");
     holds(&rt, reader.failed(), "the flag stays");
+    holds(&rt, reader.went_on(), "a read after the failed one");
 }
 
 #[test]
@@ -228,9 +278,11 @@ fn flags_of_a_writer(rt: HostRuntime) {
     holds(&rt, !writer.failed(), "no byte was there to take");
     equal(&rt, &writer.write(b"b").ok(), &None, &"write");
     holds(&rt, writer.failed(), "interrupted");
-    equal(&rt, &writer.write(b"b").ok(), &Some(1), &"write");
     holds(&rt, writer.flush().is_ok(), "flush");
+    holds(&rt, !writer.went_on(), "a flush is no write");
+    equal(&rt, &writer.write(b"b").ok(), &Some(1), &"write");
     holds(&rt, writer.failed(), "the flag stays");
+    holds(&rt, writer.went_on(), "a write after the failed one");
     holds(&rt, !writer.ended(), "ended");
 }
 
@@ -242,4 +294,7 @@ fn flags_of_a_full_writer(rt: HostRuntime) {
     holds(&rt, !full.failed(), "a flush is no write");
     equal(&rt, &full.write(b"a").ok(), &Some(0), &"write");
     holds(&rt, full.failed(), "no byte was taken");
+    holds(&rt, !full.went_on(), "went on");
+    equal(&rt, &full.write(b"").ok(), &Some(0), &"write");
+    holds(&rt, full.went_on(), "a write after the failed one");
 }

@@ -92,9 +92,20 @@ fn reports(rt: &impl Abort, alloc: Global, outcome: &Outcome, report: &str) {
     equal(rt, &outcome.status(), &status_of(name_of(outcome)), &report);
 }
 
+/// How often a run that is not `Usage` reads: up to the read that returns no byte, or that fails.
+fn reads_of(reads: Reads<'_>) -> u32 {
+    let mut left = reads.input.len();
+    let mut count: u32 = 0;
+    while left > 0 && count < reads.fails_at {
+        left = left.saturating_sub(reads.step);
+        count = count.saturating_add(1);
+    }
+    count.saturating_add(1)
+}
+
 /// Runs the tool, with a writer that takes `writes.0` bytes at a time and fails at the write numbered
-/// `writes.1`. Asserts that the result is the expected one, and that the flags of the reader and of the
-/// writer are those of the outcome.
+/// `writes.1`. Asserts that the result is the expected one, that the flags of the reader and of the
+/// writer are those of the outcome, and that no call came after one that failed.
 fn comes_of(
     rt: &impl Abort,
     alloc: Global,
@@ -111,6 +122,8 @@ fn comes_of(
     let outcome = run(alloc, &words, &mut reader, &mut writer);
     let name = name_of(&outcome);
     let flags = (reader.failed(), reader.ended(), writer.failed());
+    holds(rt, !reader.went_on(), "a read after a failed one");
+    holds(rt, !writer.went_on(), "a write after a failed one");
     equal(rt, &name, &wanted.outcome, &line);
     reports(rt, alloc, &outcome, wanted.report);
     drop(outcome);
@@ -118,8 +131,12 @@ fn comes_of(
     equal(rt, &flags.0, &(name == "ReadFailed"), &line);
     equal(rt, &flags.1, &(!(is_usage || name == "ReadFailed")), &line);
     equal(rt, &flags.2, &(name == "WriteFailed"), &line);
-    equal(rt, &(source.reads == 0), &is_usage, &line);
+    let expected = if is_usage { 0 } else { reads_of(reads) };
+    equal(rt, &source.reads, &expected, &line);
     equal(rt, &sink.bytes.as_slice(), &wanted.output, &line);
+    if name == "WriteFailed" && writes.1 != NEVER {
+        equal(rt, &sink.writes, &writes.1.saturating_add(1), &line);
+    }
     Ok(())
 }
 

@@ -1,5 +1,5 @@
 -- The steps of the loops, the test of the words, and what is written.
-use Rattle.std.proofs.Common.{◌≡◌, ℕ, suc, ◌+◌, ◌-◌, ◌<◌, ◌≤◌, Bool, true, List, [], ◌∷◌, ◌++◌, map, length, get_or, take, drop, refl, sym, ap, ◌∙◌, subst, arith, Option, Some, length-append, take-append-drop, drop-cons}
+use Rattle.std.proofs.Common.{◌≡◌, ℕ, suc, ◌+◌, ◌-◌, ◌<◌, ◌≤◌, Bool, true, false, List, [], ◌∷◌, ◌++◌, map, length, get_or, take, drop, refl, sym, ap, ◌∙◌, subst, arith, Option, Some, length-append, take-append-drop, drop-cons}
 use Rattle.std.specs.Prelude.{bytes_eq, chars, encode_utf8_all, flat_map, IsUtf8}
 use Rattle.std.specs.Io.KnownBytes.{Appends}
 use Rattle.std.proofs.KnownBytes.{Appends-trans}
@@ -16,6 +16,8 @@ use Rattle.kdl_fmt.specs.Config.{defaults}
 use Rattle.kdl_fmt.specs.WithComments.{IsFormattedDocument}
 use Rattle.tool.specs.Commands.{Asked, fmt, IsWritten, words_of}
 use Rattle.tool.specs.Runs.{Output}
+use Rattle.tool.specs.Writing.{Writes}
+use Rattle.tool.specs.declared.watched.Watched.{Watched}
 
 -- a write of some of the bytes that are left
 pub written_more : (a b c : Option (List ℕ)) (bytes : List ℕ) (done n : ℕ)
@@ -50,18 +52,36 @@ pub laid_out_is : (text : List ℕ) (x : Nodes) (out : Option (List ℕ)) (d e :
     → out ≡ Some (encode_utf8_all (print_document e 0)) → IsWritten fmt text x out
 laid_out_is text x out d e l f s p = (_, record { before = d; after = e; laid = l; formatted = f; prints = refl; says = s }, p)
 
--- the parts up to the i-th, and some of it
-pub stopped : {X : Type 0} (f : X → List ℕ) (xs : List X) (i : ℕ) (x : X) (held mid holds : Option (List ℕ)) → i < length xs → x ≡ get_or xs i x
-    → Appends held mid (flat_map f (take i xs)) → (n : ℕ) × (n < length (f x)) × Appends mid holds (take n (f x))
-    → (n : ℕ) × (n < length (flat_map f xs)) × Appends held holds (take n (flat_map f xs))
-stopped {X} f xs i x held mid holds within is before (n, few, part) =
+-- the parts up to the i-th, that one, and the others
+parts : {X : Type 0} (f : X → List ℕ) (xs : List X) (i : ℕ) (x : X) → i < length xs → x ≡ get_or xs i x
+    → flat_map f xs ≡ flat_map f (take i xs) ++ (f x ++ flat_map f (drop (suc i) xs))
+parts f xs i x within is =
+    ap (flat_map f) (sym (take-append-drop i xs) ∙ ap (λ l. take i xs ++ l) (drop-cons xs i x within ∙ ap (λ y. y ∷ drop (suc i) xs) (sym is)))
+    ∙ flat_map-append f (take i xs) (x ∷ drop (suc i) xs)
+
+-- how long these are together
+lengths : (front part rest whole : List ℕ) → whole ≡ front ++ (part ++ rest) → length whole ≡ length front + (length part + length rest)
+lengths front part rest whole is =
+    ap length is ∙ length-append front (part ++ rest) ∙ ap (λ k. length front + k) (length-append part rest)
+
+-- the parts up to the i-th are written, and then only a prefix of that one
+pub stopped : {W X : Type 0} (contents : W → Option (List ℕ)) (f : X → List ℕ) (xs : List X) (i : ℕ) (x : X) (old mid new : Watched W) → i < length xs → x ≡ get_or xs i x
+    → Writes contents old mid (flat_map f (take i xs)) true → Writes contents mid new (f x) false → Writes contents old new (flat_map f xs) false
+stopped {W} {X} contents f xs i x old mid new within is (before, same, first) ((n, few, part), fails, next) =
     let front = flat_map f (take i xs) in
     let rest = flat_map f (drop (suc i) xs) in
-    let cut : xs ≡ take i xs ++ (x ∷ drop (suc i) xs) =
-    sym (take-append-drop i xs) ∙ ap (λ l. take i xs ++ l) (drop-cons xs i x within ∙ ap (λ y. y ∷ drop (suc i) xs) (sym is)) in
-    let whole : flat_map f xs ≡ front ++ (f x ++ rest) = ap (flat_map f) cut ∙ flat_map-append f (take i xs) (x ∷ drop (suc i) xs) in
-    let size : length (flat_map f xs) ≡ length front + (length (f x) + length rest) =
-    ap length whole ∙ length-append front (f x ++ rest) ∙ ap (λ k. length front + k) (length-append (f x) rest) in
+    let whole = parts f xs i x within is in
+    let size = lengths front (f x) rest (flat_map f xs) whole in
     let begins : take (length front + n) (flat_map f xs) ≡ front ++ take n (f x) =
     ap (take (length front + n)) whole ∙ take-append-add front (f x ++ rest) n ∙ ap (λ l. front ++ l) (take-append-le n (f x) rest (omega arith)) in
-    (length front + n, omega (arith, few), subst (Appends held holds) (sym begins) (Appends-trans held mid holds front (take n (f x)) before part))
+    let held = contents old.inner in
+    let holds = contents new.inner in
+    let bytes = subst (Appends held holds) (sym begins) (Appends-trans held (contents mid.inner) holds front (take n (f x)) before part) in
+    ((length front + n, omega (arith, few, size), bytes), fails, λ fresh. next (same ∙ fresh) ∙ first fresh)
+
+-- the i-th part does not fit after those before it
+pub too_long : {X : Type 0} (f : X → List ℕ) (xs : List X) (i : ℕ) (x : X) (room : ℕ) → i < length xs → x ≡ get_or xs i x
+    → room - length (flat_map f (take i xs)) < length (f x) → length (flat_map f xs) ≤ room → ⊥
+too_long f xs i x room within is long fits =
+    let size = lengths (flat_map f (take i xs)) (f x) (flat_map f (drop (suc i) xs)) (flat_map f xs) (parts f xs i x within is) in
+    omega (arith, long, fits, size)

@@ -1,5 +1,6 @@
--- What one call of a reader or a writer does to the flags on it.
-use Rattle.std.specs.Prelude.{ℕ, Bool, true, false, not, ◌&&◌, ◌==◌, Result, Ok, Err}
+-- What calls of a reader or a writer do to the flags on it.
+use Rattle.std.specs.Prelude.{◌≡◌, ℕ, Bool, true, false, not, ◌&&◌, ◌==◌, Result, Ok, Err}
+use Rattle.tool.specs.declared.watched.Watched.{Watched}
 
 -- the read returned no byte
 abbrev pub gave_none : {E : Type 0} → Result ℕ E → Bool
@@ -10,3 +11,7 @@ gave_none (Err e) = false
 abbrev pub is_refused : {E : Type 0} → Result ℕ E → ℕ → Bool
 is_refused (Ok n) bytes = (n == 0) && not (bytes == 0)
 is_refused (Err e) bytes = true
+
+-- if no call on it had failed, no call came after one that failed
+abbrev pub StopsAtFailure : {T : Type 0} → Watched T → Watched T → Type 0
+StopsAtFailure old new = old.failed ≡ false → new.went_on ≡ old.went_on

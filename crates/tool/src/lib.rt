@@ -1,13 +1,14 @@
 //! The tool itself, over any reader and any writer.
 #![tactic(auto)]
 
-ghost use Rattle.std.specs.Prelude.{◌≡◌, ◌↔◌, ◌||◌, true, IfOk, IsTrue, MatchOption, OnOk, ◌≤◌, chars, length, map, take, flat_map, decimal, option_map, string_bytes};
+ghost use Rattle.std.specs.Prelude.{◌≡◌, ◌↔◌, ◌||◌, true, IfOk, IfSome, IsTrue, MatchOption, SomeIff, OnOk, ◌≤◌, chars, length, map, take, flat_map, decimal, option_map, string_bytes};
 ghost use Rattle.kdl_text.specs.Failures.{IsSyntax, TellsOnSyntax};
 ghost use Rattle.kdl.specs.Said.{said_arg};
 ghost use Rattle.kdl.specs.Tree.{document_says};
 ghost use Rattle.tool.specs.Commands.{AreOther, asked_by, value_line, words_of};
 ghost use Rattle.tool.specs.Runs.{IsUsage, IsInput, Output, Ran, WritesNothing, Flagged, Answered, AreNoDocument, IsDone, is_read_failed, is_write_failed, is_unread_failed};
 ghost use Rattle.tool.specs.Reports.{status_of, report_of, line, diagnostic_line, lines_of};
+ghost use Rattle.tool.specs.Flags.{StopsAtFailure};
 ghost use Rattle.tool.specs.Writing.{Writes};
 
 pub mod watched;
@@ -22,6 +23,9 @@ const READ_SIZE: usize = 65536;
 
 /// The greatest number of decimal digits of a `usize`.
 const MOST_DIGITS: usize = 20;
+
+/// The greatest size of a line that is written by one `write`.
+const LINE_SIZE: usize = 512;
 
 /// The outcome of a run.
 #[derive(Debug, Drop)]
@@ -76,7 +80,8 @@ enum Unread {
 /// For any other arguments returns `Usage`, and nothing is read.
 ///
 /// The whole input is read and parsed before the first byte is written. The first error of a `read` or a `write` ends
-/// the run, even an interrupted one. Nothing is flushed: the owner of a buffered writer has to do that.
+/// the run, even an interrupted one, and so does a `write` that writes no byte: no call comes after it. Nothing is
+/// flushed: the owner of a buffered writer has to do that.
 pub fn run<R: Read, W: Write>(
     alloc: Global,
     words: &[String],
@@ -91,6 +96,8 @@ pub fn run<R: Read, W: Write>(
     ensures flags { Flagged result reader.new.failed reader.new.ended writer.new.failed }
     ensures read_failed { reader.new.failed ≡ (is_read_failed result || reader.old.failed) }
     ensures write_failed { writer.new.failed ≡ (is_write_failed result || writer.old.failed) }
+    ensures stops_reading { StopsAtFailure reader.old reader.new }
+    ensures stops_writing { StopsAtFailure writer.old writer.new }
 {
     let Some(command) = command_of(words) else {
         return Outcome::Usage;
@@ -137,6 +144,7 @@ fn read_whole<R: Read>(alloc: Global, reader: &mut Watched<R>) -> Result<Vec<u8>
         (R.remaining reader.new.inner) input.items) }
     ensures ended { OnOk result (reader.new.ended ≡ true) }
     ensures failed { reader.new.failed ≡ (is_unread_failed result || reader.old.failed) }
+    ensures stops { StopsAtFailure reader.old reader.new }
 {
     let mut input = Vec::new(alloc);
     let mut buffer = [0u8; READ_SIZE];
@@ -165,6 +173,7 @@ fn answer<W: Write>(
         (W.contents writer.old.inner) (W.contents writer.new.inner) }
     ensures flags { Flagged result true true writer.new.failed }
     ensures write_failed { writer.new.failed ≡ (is_write_failed result || writer.old.failed) }
+    ensures stops { StopsAtFailure writer.old writer.new }
 {
     let Ok(text) = str::from_utf8(input) else {
         return Outcome::NotUtf8;
@@ -250,6 +259,38 @@ fn write_pieces<W: Write>(pieces: &[&[u8]], writer: &mut Watched<W>) -> bool
     true
 }
 
+/// Writes a line of these pieces, and returns whether all of it was written. A line of at most `LINE_SIZE` bytes is given
+/// to one `write`, so that it is not mixed with what others write there.
+fn write_line<W: Write>(pieces: &[&[u8]], writer: &mut Watched<W>) -> bool
+    ensures { Writes W.contents writer.old writer.new (flat_map (λ p. p.now) pieces.now) result }
+{
+    let mut line = [0u8; LINE_SIZE];
+    match put_pieces(pieces, &mut line) {
+        Some(end) => write_whole(&line[..end], writer),
+        None => write_pieces(pieces, writer),
+    }
+}
+
+/// Copies the pieces one after another to the front of the buffer, and returns where they end, or `None` if they do not
+/// fit.
+fn put_pieces(pieces: &[&[u8]], buffer: &mut [u8]) -> Option<usize>
+    ensures end { SomeIff result (length (flat_map (λ p. p.now) pieces.now) ≤ length buffer.old)
+        (length (flat_map (λ p. p.now) pieces.now)) }
+    ensures put { IfSome result
+        (λ end. take end buffer.new ≡ flat_map (λ p. p.now) pieces.now) }
+{
+    let mut end = 0;
+    for piece in pieces {
+        if piece.len() > buffer.len() - end {
+            return None;
+        }
+        let next = end + piece.len();
+        buffer[end..next].copy_from_slice(piece);
+        end = next;
+    }
+    Some(end)
+}
+
 /// Writes the decimal digits of the number to the front of the buffer, and returns how many there are.
 fn put_decimal(number: usize, buffer: &mut [u8]) -> usize
     requires { length (decimal number) ≤ length buffer.old }
@@ -282,7 +323,8 @@ impl Outcome {
     /// Writes a line for each fault, and returns whether all lines were written; if not, a write failed. Stops at the
     /// first error, even an interrupted one, and at the first write that writes no byte.
     ///
-    /// A line of a refused input is `offset..end message`, in bytes of the input.
+    /// A line of a refused input is `offset..end message`, in bytes of the input. Each line of up to 512 bytes is given to
+    /// one `write`.
     pub fn report<W: Write>(&self, writer: &mut Watched<W>) -> bool
         ensures written { Writes W.contents writer.old writer.new (report_of self.now) result }
         ensures done { IsDone self.now → (IsTrue result × writer.new ≡ writer.old) }
@@ -304,7 +346,7 @@ impl Outcome {
 fn report_line<W: Write>(text: &str, writer: &mut Watched<W>) -> bool
     ensures { Writes W.contents writer.old writer.new (line text.now) result }
 {
-    write_pieces(&[text.as_bytes(), b"\n"], writer)
+    write_line(&[text.as_bytes(), b"\n"], writer)
 }
 
 /// Writes a line for each diagnostic, and returns whether all were written.
@@ -341,5 +383,5 @@ fn report_diagnostic<W: Write>(diagnostic: &KdlDiagnostic, writer: &mut Watched<
         message.as_bytes(),
         b"\n",
     ];
-    write_pieces(&pieces, writer)
+    write_line(&pieces, writer)
 }

@@ -1,4 +1,5 @@
-//! A reader or a writer with two flags: whether a call on it failed, and whether it is read to its end.
+//! A reader or a writer with three flags: whether a call on it failed, whether it is read to its end, and whether a call
+//! came after one that failed.
 //!
 //! The flags are private to this module, and only `read` and `write` set them.
 
@@ -16,19 +17,22 @@ pub struct Watched<T> {
     inner: T,
     failed: bool,
     ended: bool,
+    went_on: bool,
 }
 
 impl<T> Watched<T> {
-    /// Wraps `inner`, with neither flag set.
+    /// Wraps `inner`, with no flag set.
     pub fn new(inner: T) -> Watched<T>
         ensures inner { result.inner ≡ inner }
         ensures failed { result.failed ≡ false }
         ensures ended { result.ended ≡ false }
+        ensures went_on { result.went_on ≡ false }
     {
         Watched {
             inner,
             failed: false,
             ended: false,
+            went_on: false,
         }
     }
 
@@ -46,6 +50,13 @@ impl<T> Watched<T> {
     {
         self.ended
     }
+
+    /// Returns whether a `read` or a `write` was called after one that failed, as `failed` counts them.
+    pub fn went_on(&self) -> bool
+        ensures { result ≡ self.now.went_on }
+    {
+        self.went_on
+    }
 }
 
 impl<R: Read> Read for Watched<R> {
@@ -59,12 +70,17 @@ impl<R: Read> Read for Watched<R> {
         ensures failed { self.new.failed ≡ (self.old.failed || is_err result) }
         ensures ended { self.new.ended
             ≡ (if length buf.old == 0 then self.old.ended else gave_none result) }
+        ensures went_on { self.new.went_on ≡ (self.old.went_on || self.old.failed) }
     {
         let Watched {
             inner,
             failed,
             ended,
+            went_on,
         } = self;
+        if *failed {
+            *went_on = true;
+        }
         let outcome = inner.read(buf);
         if outcome.is_err() {
             *failed = true;
@@ -86,8 +102,17 @@ impl<W: Write> Write for Watched<W> {
             (W.contents self.new.inner) result buf.now }
         ensures failed { self.new.failed ≡ (self.old.failed || is_refused result (length buf.now)) }
         ensures ended { self.new.ended ≡ self.old.ended }
+        ensures went_on { self.new.went_on ≡ (self.old.went_on || self.old.failed) }
     {
-        let Watched { inner, failed, .. } = self;
+        let Watched {
+            inner,
+            failed,
+            went_on,
+            ..
+        } = self;
+        if *failed {
+            *went_on = true;
+        }
         let outcome = inner.write(buf);
         match outcome {
             Ok(n) if n > 0 || buf.is_empty() => {}
@@ -101,6 +126,7 @@ impl<W: Write> Write for Watched<W> {
         ensures bytes { Keeps (W.contents self.old.inner) (W.contents self.new.inner) }
         ensures failed { self.new.failed ≡ self.old.failed }
         ensures ended { self.new.ended ≡ self.old.ended }
+        ensures went_on { self.new.went_on ≡ self.old.went_on }
     {
         self.inner.flush()
     }

@@ -25,4 +25,4 @@ returns g c =
     let d = c.args.diagnostic.now in
     let stop = c.put_decimal-ends_len.ensures.digits ∙ ap decimal c.saturating_add-end.ensures in
     let same = joined (decimal d.span.offset) (decimal (span_end d.span)) (message_of d.message) _ _ _ c.put_decimal-starts_len.ensures.digits stop (c.as_bytes.ensures.value ∙ told) in
-    rw same c.write_pieces.ensures
+    rw same c.write_line.ensures

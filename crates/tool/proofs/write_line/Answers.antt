@@ -1,0 +1,7 @@
+use Rattle.std.proofs.Common.{arith}
+use Rattle.tool.proofs.write_line.Goals as goal
+
+pub slice_bounds-line-end : goal.slice_bounds-line-end
+slice_bounds-line-end g c =
+    let (fits, end) = c.in-Some.ensures.end in
+    omega (arith, fits, end, c.put_pieces.auto.buffer)
