@@ -36,6 +36,7 @@ A text with faults raises a `KdlError`, which lists all of them:
 from __future__ import annotations
 
 import ctypes
+import errno
 import gc
 import operator
 import os
@@ -1112,8 +1113,8 @@ _USAGE = """usage: python -m kdl check FILE..       lists the faults of the file
        python -m kdl get NAME FILE      writes the first argument of the first node of that name, as
                                         KDL writes it
 A file - is standard input, and ./-w is the file of that name. The status is 0, or 1 if a file has
-faults, is not UTF-8, or has no such value, 2 for wrong usage, and 3 if a file cannot be read or
-written or memory runs out."""
+faults, is not UTF-8, or has no such value, 2 for wrong usage, as a NAME that is not UTF-8, and 3 if
+a file or standard output cannot be read or written as a whole, or memory runs out."""
 
 
 def _shown(text: str) -> str:
@@ -1133,8 +1134,52 @@ def _told(name: str, text: bytes, fault: Fault) -> str:
     return told + (f"help: {fault.help}\n" if fault.help else "")
 
 
+def _raw(stream: Any) -> Any:
+    """Returns the standard stream of bytes, without its buffer. Raises `OSError` if it is closed."""
+    if stream is None:
+        raise OSError(errno.EBADF, os.strerror(errno.EBADF))
+    return getattr(stream.buffer, "raw", stream.buffer)
+
+
+def _moved(count: Any) -> Any:
+    """Returns the result of a raw read or write. Raises `OSError` if the call would have to wait."""
+    if count is None:
+        raise BlockingIOError(errno.EAGAIN, os.strerror(errno.EAGAIN))
+    return count
+
+
 def _read(name: str) -> bytes:
-    return sys.stdin.buffer.read() if name == "-" else pathlib.Path(name).read_bytes()
+    if name != "-":
+        return pathlib.Path(name).read_bytes()
+    raw = _raw(sys.stdin)
+    return b"".join(iter(lambda: _moved(raw.read(1 << 20)), b""))
+
+
+def _write(stream: Any, text: bytes) -> None:
+    """Writes all of the text to the standard stream, or raises `OSError`. A raw write may take a part
+    of what it is given. Nothing is left in a buffer, so no later flush can fail."""
+    rest = memoryview(text)
+    while rest:
+        rest = rest[_moved(_raw(stream).write(rest)) :]
+
+
+def _tell(text: str) -> None:
+    """Writes to standard error. What cannot be written there is lost, and changes no status."""
+    try:
+        if sys.stderr is not None:
+            _write(sys.stderr, text.encode(sys.stderr.encoding, "backslashreplace"))
+    except OSError:
+        pass
+
+
+def _put(text: bytes) -> int:
+    """Writes to standard output. Returns the status, which is 3 if not all is written."""
+    try:
+        _write(sys.stdout, text)
+        return 0
+    except OSError as error:
+        _tell(f"standard output: {error.strerror}\n")
+        return 3
 
 
 def _rewrite(name: str, text: bytes) -> None:
@@ -1151,64 +1196,65 @@ def _rewrite(name: str, text: bytes) -> None:
         raise
 
 
-def _run_on(word: str, name: str, key: str, rewrites: bool) -> int:
-    """Runs the command of that word on one file, and returns the status."""
+def _run_on(word: str, name: str, key: str, rewrites: bool) -> Tuple[int, bytes]:
+    """Runs the command of that word on one file. Returns the status, and the text to write."""
     text = _read(name)
     try:
-        if word == "check":
-            Document(text).close()
-            return 0
         document = Document(text)
-        if word == "get":
-            missing = object()
-            value = document.get_arg(key, missing)
-            if value is missing:
-                print(f"{name}: no argument of a node {key}", file=sys.stderr)
-                return 1
-            # as kdl-tool prints a value: after the name of a node, in the library's spelling
-            out = dumps([Node("a", [value])])[2:].encode()
-        else:
-            document.autoformat(comments=word == "fmt")
-            out = bytes(document)
     except KdlError as error:
-        for fault in error.faults:
-            sys.stderr.write(_told(name, text, fault))
-        return 1
+        _tell("".join(_told(name, text, fault) for fault in error.faults))
+        return 1, b""
     except UnicodeDecodeError as error:
-        print(f"{name}: not UTF-8 at byte {error.start}", file=sys.stderr)
-        return 1
+        _tell(f"{name}: not UTF-8 at byte {error.start}\n")
+        return 1, b""
+    out = b""
+    if word == "get":
+        missing = object()
+        value = document.get_arg(key, missing)
+        if value is missing:
+            _tell(f"{name}: no argument of a node {key}\n")
+            return 1, b""
+        # as kdl-tool prints a value: after the name of a node, in the library's spelling
+        out = dumps([Node("a", [value])])[2:].encode()
+    elif word != "check":
+        document.autoformat(comments=word == "fmt")
+        out = bytes(document)
+    document.close()
     if not rewrites:
-        sys.stdout.buffer.write(out)
-    elif out != text:
+        return 0, out
+    if out != text:
         _rewrite(name, out)
-    return 0
+    return 0, b""
 
 
 def main(words: Sequence[str]) -> int:
     """Runs `python -m kdl` on these words, and returns the status."""
     word, *names = words or [""]
     if word in ("-h", "--help"):
-        print(_USAGE)
-        return 0
+        return _put(_USAGE.encode() + b"\n")
     rewrites = word == "fmt" and "-w" in names
     if rewrites:
         names = [it for it in names if it != "-w"]
     key = names.pop(0) if word == "get" and names else ""
     is_one = word in ("strip", "get") and len(names) == 1
-    if not (is_one or word in ("check", "fmt") and names) or rewrites and "-" in names:
-        print(_USAGE, file=sys.stderr)
+    # A word that is not UTF-8 has surrogates, and no node has such a name.
+    is_command = is_one or word in ("check", "fmt") and names
+    if not is_command or re.search("[\ud800-\udfff]", key) or rewrites and "-" in names:
+        _tell(_USAGE + "\n")
         return 2
     status = 0
     for name in names:
         try:
-            status = max(status, _run_on(word, name, key, rewrites))
-            sys.stdout.flush()
+            done, out = _run_on(word, name, key, rewrites)
         except MemoryError:
-            print("out of memory", file=sys.stderr)
-            status = 3
+            _tell("out of memory\n")
+            done, out = 3, b""
         except OSError as error:
-            print(f"{name}: {error.strerror}", file=sys.stderr)
-            status = 3
+            _tell(f"{name}: {error.strerror}\n")
+            done, out = 3, b""
+        status = max(status, done)
+        if _put(out):
+            return 3
     return status
 
 

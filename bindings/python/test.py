@@ -1,10 +1,12 @@
 """The module kdl on all rows of crates/rows/data that are documents, nodes and entries, on the
 examples, and from the command line. Prints nothing if all is well."""
 import copy
+import io
 import os
 import pathlib
 import pickle
 import re
+import resource
 import subprocess
 import sys
 import tempfile
@@ -487,10 +489,36 @@ def threads():
 # The command line
 
 
-def ran(*words, given=b""):
-    environment = {**os.environ, "PYTHONPATH": str(HERE), "PYTHONIOENCODING": "utf-8"}
-    it = subprocess.run([sys.executable, "-m", "kdl", *words], input=given, capture_output=True, env=environment)
+#: A text in its layout, larger than a pipe and its buffers.
+LARGE = "a \"x y\" k=1 {\n    b é\n}\n" * 20000
+ENVIRONMENT = {**os.environ, "PYTHONPATH": str(HERE), "PYTHONIOENCODING": "utf-8"}
+
+
+def command(*words, raw=False):
+    """The command line, with raw standard output and error or with buffers."""
+    return [sys.executable, *(["-u"] if raw else []), "-m", "kdl", *words]
+
+
+def ran(*words, given=b"", raw=False):
+    it = subprocess.run(command(*words, raw=raw), input=given, capture_output=True, env=ENVIRONMENT)
     return it.returncode, it.stdout.decode(), it.stderr.decode()
+
+
+def redirected(how, *words, raw=False):
+    """Runs the command line with that redirection of a shell."""
+    shell = ["sh", "-c", f'exec "$@" {how}', "sh", *command(*words, raw=raw)]
+    it = subprocess.run(shell, input=b"", capture_output=True, env=ENVIRONMENT)
+    return it.returncode, it.stdout.decode(), it.stderr.decode()
+
+
+def piped(read, *words, raw=False):
+    """Runs the command line into a pipe that the function reads, and returns what that returns."""
+    with subprocess.Popen(command(*words, raw=raw), stdout=subprocess.PIPE, stderr=subprocess.PIPE,
+                          env=ENVIRONMENT, bufsize=0) as it:
+        given = read(it.stdout)
+        it.stdout.close()
+        told = it.stderr.read().decode()
+    return it.returncode, given, told
 
 
 def command_line():
@@ -538,6 +566,94 @@ def command_line():
         os.chdir("/")
 
 
+def slowly(pipe):
+    """Reads a pipe in small parts, with pauses."""
+    parts = []
+    while not parts or parts[-1]:
+        time.sleep(0.0002)
+        parts.append(pipe.read(3000))
+    return b"".join(parts)
+
+
+class Short(io.RawIOBase):
+    """A raw stream of which each write takes at most seven bytes."""
+
+    def __init__(self):
+        self.taken = bytearray()
+
+    def writable(self):
+        return True
+
+    def write(self, given):
+        self.taken += bytes(given[:7])
+        return min(len(given), 7)
+
+
+def unwritten():
+    """What is written to standard output is written as a whole, or the status says that it is not."""
+    large, room = LARGE.encode(), 100_000
+    for raw in (False, True):
+        for words in (("fmt", "large.kdl"), ("strip", "large.kdl"), ("get", "a", "large.kdl"), ("fmt", "b.kdl"), ("--help",)):
+            assert redirected("> /dev/full", *words, raw=raw) == (3, "", "standard output: No space left on device\n"), words
+        with open("cut.kdl", "wb") as cut:
+            limited = subprocess.run(
+                command("fmt", "large.kdl", "b.kdl", raw=raw), stdout=cut, stderr=subprocess.PIPE, env=ENVIRONMENT,
+                preexec_fn=lambda: resource.setrlimit(resource.RLIMIT_FSIZE, (room, room)))
+        assert (limited.returncode, limited.stderr) == (3, b"standard output: File too large\n"), limited
+        assert pathlib.Path("cut.kdl").read_bytes() == large[:room]
+        for read in (lambda pipe: pipe.read(10), lambda pipe: b""):
+            status, given, told = piped(read, "fmt", "large.kdl", "b.kdl", raw=raw)
+            assert (status, told) == (3, "standard output: Broken pipe\n") and large.startswith(given), (status, told)
+        assert piped(slowly, "fmt", "large.kdl", "b.kdl", raw=raw) == (0, large + b"a 1\n", "")
+        reader, writer = os.pipe()
+        os.set_blocking(writer, False)
+        it = subprocess.run(command("fmt", "large.kdl", raw=raw), stdout=writer, stderr=subprocess.PIPE, env=ENVIRONMENT)
+        assert (it.returncode, it.stderr) == (3, b"standard output: Resource temporarily unavailable\n"), it
+        os.close(reader), os.close(writer)
+        short, before = Short(), sys.stdout
+        sys.stdout = io.TextIOWrapper(short if raw else io.BufferedWriter(short))
+        status, sys.stdout = kdl.main(["fmt", "large.kdl", "b.kdl"]), before
+        assert status == 0 and short.taken == large + b"a 1\n"
+
+
+def closed():
+    """With a standard stream closed, the status is the one that the usage tells."""
+    bad = "Bad file descriptor\n"
+    for raw in (False, True):
+        for words in (("check", "-"), ("fmt", "-"), ("strip", "-"), ("get", "a", "-")):
+            assert redirected("<&-", *words, raw=raw) == (3, "", f"-: {bad}"), words
+        for words in (("fmt", "b.kdl"), ("strip", "b.kdl"), ("get", "a", "b.kdl"), ("--help",), ("fmt", "b.kdl", "b.kdl")):
+            assert redirected(">&-", *words, raw=raw) == (3, "", f"standard output: {bad}"), words
+            assert redirected("1< b.kdl", *words, raw=raw) == (3, "", f"standard output: {bad}"), words
+            assert redirected("<&- >&- 2>&-", *words, raw=raw)[0] == 3, words
+        for words in (("check", "b.kdl"), ("fmt", "-w", "b.kdl")):
+            assert redirected("<&- >&-", *words, raw=raw) == redirected("2>&-", *words, raw=raw) == (0, "", ""), words
+        # What standard error cannot take changes no status.
+        for how in ("2>&-", "2> /dev/full", "2< b.kdl"):
+            for status, words in ((1, ("check", "c.kdl")), (1, ("get", "x", "b.kdl")), (2, ()), (3, ("check", "none.kdl"))):
+                assert redirected(how, *words, raw=raw) == (status, "", ""), (how, words)
+        reader, writer = os.pipe()
+        os.set_blocking(reader, False)
+        it = subprocess.run(command("fmt", "-", raw=raw), stdin=reader, capture_output=True, env=ENVIRONMENT)
+        assert (it.returncode, it.stdout, it.stderr) == (3, b"", b"-: Resource temporarily unavailable\n"), it
+        os.close(reader), os.close(writer)
+        assert ran("fmt", "-", given=LARGE.encode(), raw=raw) == (0, LARGE, "")
+        for word in (b"\xff", b"a\xed\xa0\x80", b"\xc3"):
+            status, out, err = ran("get", os.fsdecode(word), "b.kdl", raw=raw)
+            assert (status, out) == (2, "") and err.startswith("usage: "), (word, err)
+        assert ran(os.fsdecode(b"\xff"), "b.kdl", raw=raw)[0] == 2
+
+
+def streams():
+    with tempfile.TemporaryDirectory() as room:
+        os.chdir(room)
+        for name, text in {"large.kdl": LARGE, "b.kdl": "a 1\n", "c.kdl": "a #treu\n"}.items():
+            pathlib.Path(name).write_text(text, encoding="utf-8")
+        unwritten()
+        closed()
+        os.chdir("/")
+
+
 def examples():
     for path in rows.examples():
         text = path.read_bytes()
@@ -551,5 +667,5 @@ def examples():
 
 
 if __name__ == "__main__":
-    for test in (data, floats, edits, same_nodes, sequences, places, errors, lives, threads, examples, command_line, all_rows):
+    for test in (data, floats, edits, same_nodes, sequences, places, errors, lives, threads, examples, command_line, streams, all_rows):
         test()
