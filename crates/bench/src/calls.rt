@@ -1,5 +1,6 @@
 //! The calls that allocate.
 
+use crate::parts;
 use kdl::{
     FloatFailure, FormatConfig, KdlDocument, KdlEntry, KdlFloat, KdlIdentifier, KdlNode, KdlValue,
     Layout, NodeKey, ParseFailure, Steps,
@@ -16,8 +17,11 @@ pub enum Call {
     ParseIdentifier,
     ParseRefused,
     CloneDocument,
+    CloneParts,
+    CloneError,
     Length,
     IsEmpty,
+    PartLengths,
     PushNode,
     InsertNode,
     PushChild,
@@ -28,6 +32,8 @@ pub enum Call {
     Sort,
     Autoformat,
     AutoformatNoComments,
+    AutoformatConfig,
+    AutoformatNodeConfig,
     AutoformatLayout,
     AutoformatNodeLayout,
     Texts,
@@ -35,7 +41,7 @@ pub enum Call {
 }
 
 /// All of them.
-pub static CALLS: [Call; 23] = [
+pub static CALLS: [Call; 28] = [
     Call::ParseDocument,
     Call::ParseCounted,
     Call::ParseNode,
@@ -43,8 +49,11 @@ pub static CALLS: [Call; 23] = [
     Call::ParseIdentifier,
     Call::ParseRefused,
     Call::CloneDocument,
+    Call::CloneParts,
+    Call::CloneError,
     Call::Length,
     Call::IsEmpty,
+    Call::PartLengths,
     Call::PushNode,
     Call::InsertNode,
     Call::PushChild,
@@ -55,6 +64,8 @@ pub static CALLS: [Call; 23] = [
     Call::Sort,
     Call::Autoformat,
     Call::AutoformatNoComments,
+    Call::AutoformatConfig,
+    Call::AutoformatNodeConfig,
     Call::AutoformatLayout,
     Call::AutoformatNodeLayout,
     Call::Texts,
@@ -70,6 +81,7 @@ pub fn answer(alloc: Global, text: &str, call: &Call) -> Result<String, AllocErr
         Call::ParseEntry => printed(alloc, KdlEntry::parse(alloc, " /-0 k = (t)\"\\u{e9}\" ")),
         Call::ParseIdentifier => printed(alloc, KdlIdentifier::parse(alloc, "#\"a b\"#")),
         Call::ParseRefused => refused(alloc),
+        Call::CloneError => parts::error_copied(alloc),
         Call::Texts => made(alloc, text),
         Call::Float => float(alloc),
         _ => on_document(alloc, &mut read(alloc, text)?, call),
@@ -84,12 +96,16 @@ fn on_document(
 ) -> Result<String, AllocError> {
     match call {
         Call::CloneDocument => cloned(alloc, document),
+        Call::CloneParts => parts::copied(alloc, document),
         Call::Length => length(alloc, document),
         Call::IsEmpty => emptiness(alloc, document),
+        Call::PartLengths => parts::lengths(alloc, document),
         Call::PushNode => node_put(alloc, document, false),
         Call::InsertNode => node_put(alloc, document, true),
         Call::Autoformat => laid_out(alloc, document, call),
         Call::AutoformatNoComments => stripped(alloc, document, call),
+        Call::AutoformatConfig => laid_out(alloc, document, call),
+        Call::AutoformatNodeConfig => laid_out(alloc, document, call),
         Call::AutoformatLayout => laid_out(alloc, document, call),
         Call::AutoformatNodeLayout => laid_out(alloc, document, call),
         _ => on_first(alloc, document, call),
@@ -179,7 +195,7 @@ fn numbered(alloc: Global, count: u64, what: &str) -> Result<String, AllocError>
 
 /// How many faults are found in a text with three.
 fn refused(alloc: Global) -> Result<String, AllocError> {
-    match KdlDocument::parse(alloc, "a #treu\nb 0x\nc {\n") {
+    match KdlDocument::parse(alloc, parts::FAULTS) {
         Ok(_) => String::from_str(alloc, "a document"),
         Err(ParseFailure::Memory) => Err(AllocError),
         Err(ParseFailure::Syntax(error)) => numbered(
@@ -374,22 +390,36 @@ fn stripped(alloc: Global, document: &mut KdlDocument, call: &Call) -> Result<St
     laid_out(alloc, document, call)
 }
 
-/// Formats the document with its comments, without them, or with its blank lines; or only its first node.
+/// Formats the document with its comments, without them, with tabs, or with its blank lines; or only its first node.
 fn lay_out(document: &mut KdlDocument, call: &Call) -> Result<(), AllocError> {
     match call {
         Call::Autoformat => document.autoformat(),
         Call::AutoformatNoComments => document.autoformat_no_comments(),
+        Call::AutoformatConfig => document.autoformat_config(&tabs()),
         Call::AutoformatLayout => document.autoformat_layout(&layout()),
-        _ => lay_out_first(document),
+        _ => lay_out_first(document, call),
     }
 }
 
-/// Formats the first node of the document with its comments and blank lines.
-fn lay_out_first(document: &mut KdlDocument) -> Result<(), AllocError> {
+/// Formats the first node of the document with its comments, and with tabs or with its blank lines.
+fn lay_out_first(document: &mut KdlDocument, call: &Call) -> Result<(), AllocError> {
     match document.nodes_mut().first_mut() {
-        Some(node) => node.autoformat_layout(&layout()),
+        Some(node) => lay_out_node(node, call),
         None => Ok(()),
     }
+}
+
+/// Formats the node with its comments, and with tabs or with its blank lines.
+fn lay_out_node(node: &mut KdlNode, call: &Call) -> Result<(), AllocError> {
+    match call {
+        Call::AutoformatNodeConfig => node.autoformat_config(&tabs()),
+        _ => node.autoformat_layout(&layout()),
+    }
+}
+
+/// A configuration with a tab for each level, from level 1 on.
+fn tabs() -> FormatConfig<'static> {
+    FormatConfig::builder().indent("\t").indent_level(1).build()
 }
 
 /// A layout that keeps one blank line.

@@ -6,6 +6,8 @@ use kdl::{
     KdlNodeFormat, KdlValue, NodeKey, SourceSpan, Steps, is_kdl_space,
 };
 use std::alloc::{AllocError, Global};
+use std::hash::{DefaultHasher, Hash, Hasher};
+use std::mem;
 
 /// A document with every call's subject in it.
 const TEXT: &str =
@@ -56,6 +58,33 @@ fn is_there<T: Drop>(taken: Option<T>) -> bool {
     taken.is_some()
 }
 
+/// The hash of an item.
+fn hash_of<T: Hash>(item: &T) -> u64 {
+    let mut state = DefaultHasher::new();
+    item.hash(&mut state);
+    state.finish()
+}
+
+/// Whether the parts of two equal nodes have equal hashes.
+fn have_one_hash(node: &KdlNode, other: &KdlNode) -> bool {
+    let mut all = (hash_of(node) == hash_of(other)) & (node == other);
+    all &= hash_of(node.name()) == hash_of(other.name());
+    for (one, two) in node.iter().zip(other.iter()) {
+        all &= (hash_of(one) == hash_of(two)) & (hash_of(one.value()) == hash_of(two.value()));
+    }
+    all
+}
+
+/// Whether the values by an index and a name are those that look-ups find.
+fn is_indexed(node: &KdlNode) -> bool {
+    let mut all = node.argument_count() == 5;
+    match node.get(NodeKey::Index(4)) {
+        Some(value) => all &= node[4] == *value,
+        None => all = false,
+    }
+    all & node.has_property("name") && node["name"].is_string()
+}
+
 /// Whether each test of a value's kind agrees with its look-up, and one of them is true.
 fn has_kind(value: &KdlValue) -> bool {
     let mut all = value.as_bool().is_some() == value.is_bool();
@@ -73,6 +102,7 @@ fn node_is_read(node: &KdlNode) -> bool {
     all &= (node.len() == 7) & !node.is_empty() & (node.span().len > 0);
     all &= node.has_property("name") & !node.has_property("five");
     all &= node.entry(NodeKey::Index(1)).is_some() & node.iter_children().next().is_some();
+    all &= is_indexed(node) & (node.entries().len() == 7);
     for entry in node.iter() {
         all &= entry_is_read(entry);
     }
@@ -87,7 +117,10 @@ fn entry_is_read(entry: &KdlEntry) -> bool {
 
 /// The calls that look at a document.
 fn document_is_read(document: &KdlDocument, other: &KdlDocument) -> bool {
-    let mut all = document == other;
+    let mut all = (document == other) & (hash_of(document) == hash_of(other));
+    for (node, same) in document.nodes().iter().zip(other.nodes().iter()) {
+        all &= have_one_hash(node, same);
+    }
     all &= document.format().is_some() & (document.span().len > 0);
     all &= document.get("server").is_some() & document.get("port").is_none();
     all &= document.get_arg("server").is_some();
@@ -125,6 +158,42 @@ fn entry_is_changed(alloc: Global, entry: &mut KdlEntry) -> bool {
     *entry.value_mut() = KdlValue::from(7);
     all &= *entry.value() < KdlValue::Null;
     all & entry.name().is_none() & entry.ty_mut().is_some()
+}
+
+/// The calls that lend the parts of a document, whose first node has an argument.
+fn document_is_lent(document: &mut KdlDocument) -> bool {
+    let mut all = false;
+    if let Some(value) = document.get_arg_mut("server") {
+        *value = KdlValue::from(7);
+        all = true;
+    }
+    if let Some(node) = document.nodes_mut().first_mut() {
+        all &= node_is_lent(node);
+    }
+    all
+}
+
+/// The calls that lend the entries of a node.
+fn node_is_lent(node: &mut KdlNode) -> bool {
+    if node.get(NodeKey::Index(0)).is_none() {
+        return false;
+    }
+    node[0] = KdlValue::from(8);
+    let all = node
+        .get(NodeKey::Index(0))
+        .is_some_and(|value| *value == KdlValue::from(8));
+    node.entries_mut().truncate(7);
+    all & (node.len() == 7)
+}
+
+/// The number of nodes that the document gives away.
+fn count_nodes(document: KdlDocument) -> usize {
+    let mut count: usize = 0;
+    for node in document {
+        count = count.saturating_add(1);
+        drop(node);
+    }
+    count
 }
 
 /// The calls that remove a node's properties of the name, which is taken from the list, and then all else that is in
@@ -168,7 +237,8 @@ pub fn calls(alloc: Global, subjects: &mut Subjects) -> bool {
         other,
         names,
     } = subjects;
-    let mut all = document_is_read(document, other);
+    let mut all = document_is_read(document, other) & document_is_lent(other);
+    all &= count_nodes(mem::replace(other, KdlDocument::new(alloc))) == 1;
     if let Some(server) = document.get_mut("server") {
         all &= node_is_read(server);
         all &= node_is_emptied(alloc, server, names);

@@ -14,6 +14,7 @@ mod calls;
 mod free;
 mod measure;
 mod memory;
+mod parts;
 mod refused;
 mod table;
 mod texts;
