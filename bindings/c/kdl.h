@@ -234,12 +234,15 @@ uint32_t kdl_get(struct kdl_document *document, const uint8_t *name, size_t name
 
 /* An edit changes what it describes, and no other byte of the text. After any status but KDL_OK,
  * the document is as it was. The status is KDL_FAULTS if the given text is not exactly one value,
- * entry or node. */
+ * entry or node. A value has nothing around it. An entry or a node may have spaces, newlines and
+ * comments around it, and `/-` pieces before it: kdl_insert_entry drops them, kdl_insert_node keeps
+ * them. */
 
 /* Sets the value of an entry, and its spelling, both from a text in KDL: "a b", 0x10, #true. The
- * text is only a value, without a key or a type. `path` is the node's own. An entry that
- * kdl_insert_entry inserted, or that kdl_format or kdl_strip laid out, is printed in the library's
- * spelling, whatever the text: only its value is set. */
+ * text is the value alone. With a key, a type, a space or a comment it is refused: the status is
+ * KDL_FAULTS. `path` is the node's own. An entry that kdl_insert_entry inserted, or that kdl_format
+ * or kdl_strip laid out, is printed in the library's spelling, whatever the text: only its value is
+ * set. */
 uint32_t kdl_set_value(struct kdl_document *document, const size_t *path, size_t path_len,
                        size_t index, const uint8_t *value, size_t value_len);
 
@@ -259,7 +262,8 @@ uint32_t kdl_set_name(struct kdl_document *document, const size_t *path, size_t 
 
 /* Inserts an entry, given in KDL as 8080 or port=(u16)8080, before the one at the index, or as the
  * last if `index` is the number of entries. `path` is the node's own. The entry is printed after
- * one space, in the library's spelling: 0x10 is inserted as 16. For another spelling, print the
+ * one space, in the library's spelling: 0x10 is inserted as 16. The spaces, newlines, comments and
+ * `/-` entries of the text are dropped, also those inside the entry. For another spelling, print the
  * document, parse that text, and then call kdl_set_value. */
 uint32_t kdl_insert_entry(struct kdl_document *document, const size_t *path, size_t path_len,
                           size_t index, const uint8_t *entry, size_t entry_len);

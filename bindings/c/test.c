@@ -71,6 +71,9 @@ static void faults(void) {
     CHECK(kdl_faults_of(KDL_AS_VALUE, T("k=1"), f, 4, &count, s, sizeof s, &len) == KDL_FAULTS);
     CHECK(count && f[0].start + f[0].len <= 3);
     CHECK(kdl_faults_of(KDL_AS_VALUE, T("(t)1"), f, 4, &count, s, sizeof s, &len) == KDL_FAULTS);
+    CHECK(kdl_faults_of(KDL_AS_VALUE, T("/*x*/0"), f, 4, &count, s, sizeof s, &len) == KDL_FAULTS);
+    CHECK(count == 1 && f[0].start == 0 && f[0].len == 6 && len);
+    CHECK(kdl_faults_of(KDL_AS_ENTRY, T("/*x*/0"), f, 4, &count, s, sizeof s, &len) == KDL_OK);
     CHECK(kdl_faults_of(4, T("a"), f, 4, &count, s, sizeof s, &len) == KDL_NOT_FOUND);
     CHECK(!count && !len);
 }
@@ -192,12 +195,18 @@ static void edits(void) {
     CHECK(kdl_set_value(&d, path, 1, 0, T("k=1")) == KDL_FAULTS);
     CHECK(kdl_set_value(&d, path, 1, 0, T("(t)1")) == KDL_FAULTS);
     CHECK(kdl_set_value(&d, path, 1, 0, (const uint8_t *)"\xff", 1) == KDL_NOT_UTF8);
+    /* nothing is around a value */
+    static const char *const more[] = {"/*x*/0", "0/*x*/", " 0", "0 ", "0\n", "\n0", "0 // x",
+                                       "/-1 0", "\\\n0", "\"a\" ", "0;", "0 1", "/-0"};
+    for (size_t i = 0; i < sizeof more / sizeof *more; i++) {
+        CHECK(kdl_set_value(&d, path, 1, 0, T(more[i])) == KDL_FAULTS);
+    }
     CHECK(kdl_insert_entry(&d, path, 1, 0, T("a b")) == KDL_FAULTS);
     CHECK(kdl_insert_node(&d, path, 0, 0, T("a; b")) == KDL_FAULTS);
     prints(&d, sample);
     CHECK(kdl_set_value(&d, path, 1, 0, T("0x11")) == KDL_OK);
     prints(&d, "(t)a  0x11 \"k\" = #true // c\nb { c 99999999999999999999; }\n");
-    CHECK(kdl_insert_entry(&d, path, 1, 1, T("/* x */ p=(u8)0x20")) == KDL_OK);
+    CHECK(kdl_insert_entry(&d, path, 1, 1, T("/-q=1 /* x */ p=(u8)/* y */0x20 // z")) == KDL_OK);
     prints(&d, "(t)a  0x11 p=(u8)32 \"k\" = #true // c\nb { c 99999999999999999999; }\n");
     CHECK(kdl_remove_entry(&d, path, 1, 0) == KDL_OK);
     prints(&d, "(t)a p=(u8)32 \"k\" = #true // c\nb { c 99999999999999999999; }\n");

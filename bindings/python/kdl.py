@@ -832,7 +832,8 @@ class Document:
     def set_spelling(self, path: Path, entry: Union[str, int], text: str) -> None:
         """Sets the value of an entry, and its spelling, both from a text in KDL. The entry is the
         property of that key, or the entry at that index among all entries of the node. Its key, its
-        type and what is around it stay.
+        type and what is around it stay. The text is the value alone: with a key, a type, a space or
+        a comment it raises `KdlError`.
 
         An entry that `insert_entry` or `set_prop` added, or that `autoformat` laid out, is printed
         in the library's spelling whatever the text: only its value is set.
@@ -899,8 +900,9 @@ class Document:
         last.
 
         It is printed after one space, in the library's spelling, even if a text is given: `0x10` is
-        inserted as `16`, and `k="x"` as `k=x`. For another spelling, parse the text of the document
-        anew, and then call `set_spelling`.
+        inserted as `16`, and `k="x"` as `k=x`. Spaces, comments and `/-` entries in the text are
+        dropped. For another spelling, parse the text of the document anew, and then call
+        `set_spelling`.
 
         >>> document = Document.parse("a 1 // c")
         >>> document.insert_entry("a", Entry("x y", "k"))

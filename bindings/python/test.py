@@ -428,7 +428,8 @@ def errors():
     assert isinstance(error, ValueError)
     document = Document("a 1")
     for call, given, start in ((document.insert_entry, ("a", "b c"), 1), (document.insert_node, ((), "b; c"), 1),
-                               (document.set_spelling, ("a", 0, "k=1"), 0), (document.set_spelling, ("a", 0, ""), 0)):
+                               (document.set_spelling, ("a", 0, "k=1"), 0), (document.set_spelling, ("a", 0, ""), 0),
+                               (document.set_spelling, ("a", 0, "/*x*/0"), 0), (document.set_spelling, ("a", 0, "0 "), 0)):
         fault = raises(KdlError, call, *given).faults[0]
         assert fault.line == 1 and fault.column == fault.start + 1 >= start + 1 and fault.message, fault
     assert str(document) == "a 1"

@@ -8,3 +8,5 @@ pub mod PositionSteps
 pub mod SaysSteps
 -- Strings put into a buffer one after another, as far as there is room.
 pub mod Fitting
+-- Texts that are values, and the entries that are laid in them.
+pub mod ValueSteps

@@ -1,14 +1,15 @@
 -- Entries of a node.
 use Rattle.std.specs.List.{remove}
-use Rattle.std.specs.Prelude.{◌≡◌, ◌<◌, ℕ, None, String, length}
+use Rattle.std.specs.Prelude.{◌≡◌, ◌<◌, ℕ, [], String, length, true}
 use Rattle.std.specs.declared.alloc.Global.{Global}
-use Rattle.kdl.specs.Words.{EntryData, EntryFormat, Value, entries_of, held_entries, with_entries}
+use Rattle.kdl.specs.Words.{EntryFormat, Text, Value, entries_of, held_entries, with_entries}
 use Rattle.kdl.specs.declared.node.KdlNode.{KdlNode}
+use Rattle.kdl_entry.specs.Entries.{IsPlainValue}
 use Rattle.kdl_value.specs.Tree.{text_of}
 
--- an entry with a value, but with neither a key nor a type
-abbrev pub plain_value : Value → EntryData
-plain_value v = record { key = None; ty = None; value = v }
+-- the whole text is one value: a string, a number or a keyword
+abbrev pub IsValueText : Text → Value → Type 0
+IsValueText t v = IsPlainValue true t [] v
 
 -- m is n without the entry at i
 pub record EntryRemoved (i : ℕ) (n m : KdlNode) : Type 0 where

@@ -2,3 +2,5 @@
 pub mod Opened
 -- Places in a text that is read character by character.
 pub mod Places
+-- Entries that are only a value.
+pub mod Values

@@ -9,3 +9,4 @@ pub mod place;
 pub mod row;
 pub mod status;
 pub mod text;
+pub mod value;

@@ -1,22 +1,21 @@
 -- Edits: from what the changes make to what the calls say.
-use Rattle.std.proofs.Common.{◌≡◌, ℕ, List, [], ◌∷◌, ◌++◌, Option, None, Some, IfErr, IfSome, IsSome, OnErr, OnOk, Result, Ok, Err, ap, ◌∙◌, sym, refl, subst, option_map, slice_get, String, Global, Bool, true, false, is_some}
+use Rattle.std.proofs.Common.{◌≡◌, ℕ, List, [], ◌∷◌, ◌++◌, Option, None, Some, IfErr, IfOk, IfSome, OnErr, OnOk, Result, Ok, Err, ap, ◌∙◌, sym, subst, option_map, slice_get, String, Global, true}
 use Rattle.std.specs.Prelude.{option_and_then}
 use Rattle.kdl_text.specs.Chars.{Text}
-use Rattle.kdl_entry.specs.Laid.{LaidEntryText, LaidItem, item, laid_entry_text}
+use Rattle.kdl_entry.specs.Laid.{LaidEntryText}
 use Rattle.kdl_entry.specs.Tree.{Entry, EntryFormat, entry_tree, identifier_tree, plain_identifier}
 use Rattle.kdl_entry.specs.declared.identifier.KdlIdentifier.{KdlIdentifier}
-use Rattle.kdl_text.specs.declared.span.SourceSpan.{SourceSpan}
-use Rattle.kdl_value.specs.Tree.{text_of}
+use Rattle.kdl_value.specs.Tree.{text_of, value_tree}
 use Rattle.kdl_value.specs.declared.value.KdlValue.{KdlValue}
 use Rattle.kdl.specs.Words.{document_tree, node_tree, nodes_of}
 use Rattle.kdl.specs.declared.document.KdlDocument.{KdlDocument}
 use Rattle.kdl.specs.declared.node.KdlNode.{KdlNode}
 use Rattle.kdl_call_parts.specs.Answers.{Each}
 use Rattle.kdl_call_parts.specs.Changes.{AtEntry, AtNode, changed_at}
-use Rattle.kdl_calls.specs.Edits.{NodeNamed, ValueSet, spelled_as}
-use Rattle.kdl_call_parts.specs.Entries.{respelled}
+use Rattle.kdl_calls.specs.Edits.{NodeNamed, ValueSet}
+use Rattle.kdl_call_parts.specs.Entries.{IsValueText}
 use Rattle.kdl_calls.specs.Internal.Done.{IsDone, IsDoneIn, changed_entry}
-use Rattle.kdl_calls.specs.Internal.Given.{IsSpelled}
+use Rattle.kdl_calls.specs.Internal.Given.{IsPlain, IsSpelled}
 use Rattle.kdl_call_parts.specs.Internal.Opened.{IsOpened, plugged}
 use Rattle.kdl_call_parts.specs.Paths.{node_at, nodes_at}
 use Rattle.kdl_calls.specs.declared.entry_change.EntryChange.{EntryChange}
@@ -24,6 +23,7 @@ use Rattle.kdl_calls.specs.declared.entry_change.EntryChange.TheVariants as chan
 use Rattle.kdl_calls.specs.declared.node_change.NodeChange.{NodeChange}
 use Rattle.kdl_calls.specs.declared.node_change.NodeChange.TheVariants.{ChangeEntry, SetName}
 use Rattle.kdl_call_parts.specs.declared.opened.Opened.{Opened}
+use Rattle.kdl_call_parts.proofs.ValueSteps.{value_laid}
 use Rattle.kdl_calls.proofs.PathSteps.{last_step}
 
 pub on_ok : {T E P Q : Type 0} (r : Result T E) → (P → Q) → OnOk r P → OnOk r Q
@@ -37,6 +37,10 @@ on_err (Err x) f h = f h
 pub if_err : {T E : Type 0} (r : Result T E) (P Q : E → Type 0) → ((e : E) → P e → Q e) → IfErr r P → IfErr r Q
 if_err (Ok x) P Q f h = h
 if_err (Err e) P Q f h = f e h
+
+pub if_ok : {T E : Type 0} (r : Result T E) (P Q : T → Type 0) → ((x : T) → P x → Q x) → IfOk r P → IfOk r Q
+if_ok (Ok x) P Q f h = f x h
+if_ok (Err e) P Q f h = h
 
 -- the node at a path is that in the block at the end of the path above it
 there_at : (path above : List ℕ) (i : ℕ) (d w : KdlDocument) → path ≡ above ++ i ∷ [] → w ≡ d → (o : Option (List KdlNode)) → nodes_at above (nodes_of w) ≡ o
@@ -87,34 +91,20 @@ each_entry : (path : List ℕ) (i : ℕ) (c : EntryChange) (S : Entry → Entry 
     → Each (AtNode path (IsDone (ChangeEntry i c))) x y → Each (AtNode path (AtEntry i S)) x y
 each_entry path i c S f = each_at path (IsDone (ChangeEntry i c)) (AtEntry i S) (entry_as i (λ e f. f ≡ changed_entry c e) S (λ e g h. subst (S e) (sym h) (f e)))
 
--- an entry that is laid in a text has a format
-item_formed : {exact : Bool} {whole leading trailing : Text} {at : SourceSpan} {e : Entry} {s r : Text} → LaidItem exact whole leading trailing at e s r → IsSome e.format
-item_formed (item k y v) = refl
-
-formed : {t : Text} {e : Entry} → LaidEntryText true t e → IsSome e.format
-formed (laid_entry_text l i r s) = item_formed i
-
-same_spelling : (o p : Option EntryFormat) (s : String Global) → IsSome o → IfSome o (λ f. text_of s ≡ f.value_repr) → option_map (respelled s) p ≡ spelled_as o p
-same_spelling None p s h e = absurd (cc)
-same_spelling (Some f) None s h e = refl
-same_spelling (Some f) (Some g) s h e = ap (λ t. Some (record g { value_repr = t })) e
-
 pub value_set : (path : List ℕ) (i : ℕ) (t : Text) (v : KdlValue) (s : String Global) → IsSpelled t v s → (x y : Option KdlDocument)
     → Each (AtNode path (IsDone (ChangeEntry i (change.SetValue v s)))) x y → Each (AtNode path (AtEntry i (ValueSet t))) x y
 value_set path i t v s h = each_entry path i (change.SetValue v s) (ValueSet t) (λ e. record {
+  value = value_tree v;
   given = h.0;
-  laid = h.1;
-  no_key = h.2.no_key;
-  no_type = h.2.no_type;
-  is = ap (λ x. record e { value = x; format = option_map (respelled s) e.format }) h.2.value
-      ∙ ap (λ f. record e { value = h.0.value; format = f }) (same_spelling h.0.format e.format s (formed h.1) h.2.spelling);
+  is = ap (λ (z : Text). record e { value = value_tree v; format = option_map (λ (g : EntryFormat). record g { value_repr = z }) e.format }) h.1;
 })
+
+-- an entry that is only a value, and is laid in a text
+pub spelled_value : (t : Text) (e : Entry) (v : KdlValue) (s : String Global) → LaidEntryText true t e → IsPlain e v s → IsSpelled t v s
+spelled_value t e v s l p =
+    let w = value_laid t e l p.alone in
+    (subst (IsValueText t) (sym p.value) w.0, w.1 (text_of s) p.spelling)
 
 pub node_named : (path : List ℕ) (t : Text) (w : KdlIdentifier) → identifier_tree w ≡ plain_identifier t → (x y : Option KdlDocument)
     → Each (AtNode path (IsDone (SetName w))) x y → Each (AtNode path (NodeNamed t)) x y
 node_named path t w h = each_at path (IsDone (SetName w)) (NodeNamed t) (λ n m r. (w, h, r))
-
--- what is not there has no tree
-pub nothing_there : {A B : Type 0} (f : A → B) (o : Option A) (p : Option B) → option_map f o ≡ p → is_some o ≡ false → p ≡ None
-nothing_there f None p e h = sym e
-nothing_there f (Some x) p e h = absurd (cc)

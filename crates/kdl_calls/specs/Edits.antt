@@ -1,7 +1,7 @@
 -- The result of each edit of a node, of an entry, or of a document.
 use Rattle.std.specs.List.{insert, remove}
 use Rattle.std.specs.Prelude.{◌≡◌, ◌<◌, ◌≤◌, ◌-◌, ◌^◌, ℕ, zero, suc, List, [], ◌∷◌, Option, None, Some, IfSome, length, option_map, slice_get, true}
-use Rattle.kdl.specs.Words.{ChildPut, Entry, EntryFormat, IsPut, PrintsPut, PrintsWithout, Text, cleared, plain_identifier, said_with, said_without}
+use Rattle.kdl.specs.Words.{ChildPut, Entry, EntryFormat, IsPut, PrintsPut, PrintsWithout, Text, Value, cleared, plain_identifier, said_with, said_without}
 use Rattle.kdl.specs.Words.{LaidEntryText, LaidNodeText, document_says, entry_tree, identifier_tree, node_says, node_tree}
 use Rattle.kdl.specs.Words.{block_of, child_nodes, entries_of, held_entries, held_nodes, nodes_of, with_children, with_entries, with_name, with_nodes, with_ty}
 use Rattle.kdl.specs.declared.document.KdlDocument.{KdlDocument}
@@ -9,6 +9,7 @@ use Rattle.kdl.specs.declared.node.KdlNode.{KdlNode}
 use Rattle.kdl_entry.specs.declared.entry.KdlEntry.{KdlEntry}
 use Rattle.kdl_entry.specs.declared.identifier.KdlIdentifier.{KdlIdentifier}
 use Rattle.kdl_call_parts.specs.Changes.{AtEntry, AtNode}
+use Rattle.kdl_call_parts.specs.Entries.{IsValueText}
 use Rattle.kdl_call_parts.specs.Paths.{node_at}
 
 -- the text if the flag is not 0, else none
@@ -16,19 +17,11 @@ abbrev pub text_if : ℕ → Text → Option Text
 text_if zero t = None
 text_if (suc _) t = Some t
 
--- the second format, if there is one, with the spelling of the value from the first, if there is one
-abbrev pub spelled_as : Option EntryFormat → Option EntryFormat → Option EntryFormat
-spelled_as (Some f) (Some g) = Some (record g { value_repr = f.value_repr })
-spelled_as None (Some g) = Some g
-spelled_as f None = None
-
--- f is e with the value of the text t, which has neither a key nor a type, and with its spelling if e has a format
+-- f is e with the value that the text t is, and, if e has a format, with t as the spelling of the value
 pub record ValueSet (t : Text) (e f : Entry) : Type 0 where
-  pub given : Entry
-  pub laid : LaidEntryText true t given
-  pub no_key : given.name ≡ None
-  pub no_type : given.ty ≡ None
-  pub is : f ≡ record e { value = given.value; format = spelled_as given.format e.format }
+  pub value : Value
+  pub given : IsValueText t value
+  pub is : f ≡ record e { value = value; format = option_map (λ (g : EntryFormat). record g { value_repr = t }) e.format }
 
 -- f is e with that key, in the library's spelling, or without a key
 abbrev pub KeySet : Option Text → Entry → Entry → Type 0

@@ -4,16 +4,18 @@
 //! `Unread::Faults` if the text is refused.
 
 ghost use Rattle.kdl.specs.Words.{EntryData, IsEntryText, IsNodeText, LaidEntryText, LaidNodeText, NodeData, Value, entry_data, entry_tree, identifier_tree, node_tree, plain_identifier, value_tree};
-ghost use Rattle.kdl_call_parts.specs.Entries.{plain_value};
+ghost use Rattle.kdl_call_parts.specs.Entries.{IsValueText};
+ghost use Rattle.kdl_call_parts.specs.Internal.Values.{is_value};
 ghost use Rattle.kdl_calls.specs.Edits.{text_if};
 ghost use Rattle.kdl_calls.specs.Internal.Given.{IsCleared, IsPlain, IsSpelled};
 ghost use Rattle.kdl_value.specs.Tree.{text_of};
 ghost use Rattle.kdl_call_parts.specs.declared.status.Unread.TheVariants.{Faults, NotUtf8};
-ghost use Rattle.std.specs.Prelude.{◌≡◌, IfErr, IfOk, IfSome, option_map, true};
+ghost use Rattle.std.specs.Prelude.{◌≡◌, IfErr, IfOk, IfSome, false, option_map, true};
 ghost use Rattle.std.specs.Str.{IsUtf8, chars};
 
 use kdl::{KdlEntry, KdlIdentifier, KdlNode, KdlValue, ParseFailure};
 use kdl_call_parts::status::Unread;
+use kdl_call_parts::value::is_value;
 use std::alloc::{AllocError, Global};
 
 /// Parses a text as a node.
@@ -64,13 +66,14 @@ pub fn plain_entry(alloc: Global, text: &[u8]) -> Result<KdlEntry, Unread>
     Ok(entry)
 }
 
-/// Parses a text as a value: an entry without a key and a type. Returns the value and its spelling.
+/// Parses a text as a value: an entry with neither a key nor a type, and with no space, comment or slashdashed entry
+/// around it. Returns the value and its spelling, which is the text.
 ///
-/// Returns `Unread::Faults` if the entry has a key or a type.
+/// Returns `Unread::Faults` if the entry is more than a value.
 pub fn value(alloc: Global, text: &[u8]) -> Result<(KdlValue, String), Unread>
     ensures spelled { IfOk result (λ v. IsSpelled (chars text.now) v.0 v.1) }
     ensures refused { IfErr result (λ r. r ≡ Faults → (v : Value)
-        → IsEntryText true (chars text.now) (plain_value v) → ⊥) }
+        → IsValueText (chars text.now) v → ⊥) }
     ensures utf8 { IfErr result (λ r. r ≡ NotUtf8 → IsUtf8 text.now → ⊥) }
 {
     let entry = entry(alloc, text)?;
@@ -79,14 +82,13 @@ pub fn value(alloc: Global, text: &[u8]) -> Result<(KdlValue, String), Unread>
     value
 }
 
-/// Returns the value of the entry and its spelling, or `Unread::Faults` if the entry has a key or a type.
+/// Returns the value of the entry and its spelling, or `Unread::Faults` if the entry is more than a value.
 fn plain(alloc: Global, entry: &KdlEntry) -> Result<(KdlValue, String), Unread>
     ensures plain { IfOk result (λ v. IsPlain (entry_tree entry.now) v.0 v.1) }
-    ensures refused { IfErr result (λ r. r ≡ Faults → (v : Value)
-        → plain_value v ≡ entry_data (entry_tree entry.now) → ⊥) }
+    ensures refused { IfErr result (λ r. r ≡ Faults → is_value (entry_tree entry.now) ≡ false) }
     ensures utf8 { IfErr result (λ r. r ≡ NotUtf8 → ⊥) }
 {
-    if entry.name().is_some() || entry.ty().is_some() {
+    if !is_value(entry) {
         return Err(Unread::Faults);
     }
     match spelled(alloc, entry) {

@@ -1,8 +1,8 @@
 -- Texts that are read as documents, nodes, entries or values.
-use Rattle.std.specs.Prelude.{◌≡◌, ◌&&◌, ◌⊎◌, ℕ, zero, suc, Bool, List, [], ◌∷◌, codes, is_none, length, true}
+use Rattle.std.specs.Prelude.{◌≡◌, ◌⊎◌, ℕ, zero, suc, List, [], ◌∷◌, codes, length, true}
 use Rattle.std.specs.Str.{chars}
-use Rattle.kdl.specs.Words.{Entry, EntryData, IsDocument, IsEntryText, IsNodeText, NodeData, Nodes, Tells, Text, Value}
-use Rattle.kdl_call_parts.specs.Entries.{plain_value}
+use Rattle.kdl.specs.Words.{EntryData, IsDocument, IsEntryText, IsNodeText, NodeData, Nodes, Tells, Text, Value}
+use Rattle.kdl_call_parts.specs.Entries.{IsValueText}
 use Rattle.kdl_rows.specs.Listed.{AreFaultsOf, Fault}
 use Rattle.kdl_rows.specs.declared.given_faults.Reading.{Reading}
 use Rattle.kdl_rows.specs.declared.given_faults.Reading.TheVariants.{Read, NotValue, Refused, Memory}
@@ -12,7 +12,7 @@ abbrev pub IsRead : ℕ → Text → Type 0
 IsRead zero t = (x : Nodes) × IsDocument true t x
 IsRead (suc zero) t = (x : NodeData) × IsNodeText true t x
 IsRead (suc (suc zero)) t = (x : EntryData) × IsEntryText true t x
-IsRead (suc (suc (suc zero))) t = (v : Value) × IsEntryText true t (plain_value v)
+IsRead (suc (suc (suc zero))) t = (v : Value) × IsValueText t v
 IsRead (suc (suc (suc (suc _)))) t = ⊥
 
 -- the result of reading the text as the kind: a text that is read is of the kind, and one that is refused is not; for a
@@ -23,16 +23,12 @@ Outcome kind s NotValue = (kind ≡ 3) × IsRead 2 (chars s) × (IsRead kind (ch
 Outcome kind s (Refused e) = Tells s e × (IsRead kind (chars s) → ⊥) × (kind ≡ 3 → IsRead 2 (chars s) → ⊥)
 Outcome kind s Memory = Unit {0}
 
--- the fault of an entry with a key or a type that is read as a value: it concerns the whole text
+-- the fault of an entry that is more than a value and is read as one: it concerns the whole text
 abbrev pub not_value : List ℕ → Fault
-not_value text = record { span = record { offset = 0; len = length text }; message = codes "Expected value without key or type"; label = []; help = [] }
+not_value text = record { span = record { offset = 0; len = length text }; message = codes "Expected value without key, type, space or comment"; label = []; help = [] }
 
 -- the faults of a text that is read as the kind: those of its error, or that of an entry that is not a value
 abbrev pub AreFaultsAs : ℕ → List ℕ → List Fault → Type 0
 AreFaultsAs kind text fs =
     (AreFaultsOf text fs × (kind ≡ 3 → IsRead 2 (chars text) → ⊥))
     ⊎ ((kind ≡ 3) × IsRead 2 (chars text) × (fs ≡ not_value text ∷ []))
-
--- the entry has neither a key nor a type
-abbrev pub is_alone : Entry → Bool
-is_alone e = is_none e.name && is_none e.ty

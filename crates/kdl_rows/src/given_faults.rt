@@ -1,14 +1,14 @@
 //! The faults of a text that is read as a document, a node, an entry or a value.
 
-ghost use Rattle.kdl.specs.Words.{entry_tree};
 ghost use Rattle.kdl_rows.specs.Listed.{AreListed};
-ghost use Rattle.kdl_rows.specs.Reading.{Outcome, is_alone, not_value};
+ghost use Rattle.kdl_rows.specs.Reading.{Outcome, not_value};
 ghost use Rattle.kdl_rows.specs.Rows.{AreTold};
 ghost use Rattle.std.specs.Prelude.{◌≡◌, ◌≤◌, ◌∷◌, [], IsNone, IfSome};
 
 use crate::faults::KdlFault;
 use kdl::{KdlDocument, KdlEntry, KdlError, KdlNode, ParseFailure};
 use kdl_call_parts::text::put_string;
+use kdl_call_parts::value::is_value;
 use std::alloc::Global;
 
 /// The kind of a text that is read as a document.
@@ -20,7 +20,7 @@ pub const AS_NODE: u32 = 1;
 /// The kind of a text that is read as one entry.
 pub const AS_ENTRY: u32 = 2;
 
-/// The kind of a text that is read as a value: an entry without a key and a type.
+/// The kind of a text that is read as a value: an entry without a key, a type, spaces and comments.
 pub const AS_VALUE: u32 = 3;
 
 /// The result of reading a text as one of the kinds.
@@ -28,7 +28,7 @@ pub const AS_VALUE: u32 = 3;
 pub enum Reading {
     /// The text is of the kind.
     Read,
-    /// The kind is `AS_VALUE`, and the text is an entry with a key or a type.
+    /// The kind is `AS_VALUE`, and the text is an entry, but more than a value.
     NotValue,
     /// The text is refused.
     Refused(KdlError),
@@ -55,20 +55,13 @@ fn read_value(alloc: Global, text: &str) -> Reading
         Err(ParseFailure::Syntax(error)) => Reading::Refused(error),
         Err(ParseFailure::Memory) => Reading::Memory,
         Ok(entry) => {
-            if is_alone(&entry) {
+            if is_value(&entry) {
                 Reading::Read
             } else {
                 Reading::NotValue
             }
         }
     }
-}
-
-/// Returns whether the entry has neither a key nor a type.
-fn is_alone(entry: &KdlEntry) -> bool
-    ensures { result ≡ is_alone (entry_tree entry.now) }
-{
-    entry.name().is_none() && entry.ty().is_none()
 }
 
 /// Reads a text as a node.
@@ -123,7 +116,11 @@ pub fn put_not_value(
         out.old out.new count.new strings.old strings.new used.new }
 {
     *used = 0;
-    let place = put_string("Expected value without key or type", strings, used);
+    let place = put_string(
+        "Expected value without key, type, space or comment",
+        strings,
+        used,
+    );
     let row = KdlFault {
         start: 0,
         len: text.len(),

@@ -3,7 +3,7 @@
 ghost use Rattle.kdl.specs.Words.{EntryData, IsEntryText, Value, entries_of, nodes_of};
 ghost use Rattle.kdl_call_parts.specs.Answers.{Each};
 ghost use Rattle.kdl_call_parts.specs.Changes.{AtEntry, AtNode, SameTree};
-ghost use Rattle.kdl_call_parts.specs.Entries.{EntryRemoved, plain_value};
+ghost use Rattle.kdl_call_parts.specs.Entries.{EntryRemoved, IsValueText};
 ghost use Rattle.kdl_calls.specs.Edits.{EntryInserted, KeySet, TypeSetAt, ValueSet, text_if};
 ghost use Rattle.kdl_call_parts.specs.Paths.{node_at};
 ghost use Rattle.std.specs.Prelude.{◌≡◌, ◌<◌, ◌≤◌, ◌-◌, ◌^◌, IfSome, IsNone, length, true};
@@ -17,8 +17,8 @@ use kdl_held::Handle;
 use std::alloc::Global;
 
 /// Sets the value of the entry at the index, and its spelling, from a text such as `"a b"`, `0x10` or `#true`. The text
-/// is only a value, without a key or a type. The key and the type of the entry, and the texts around its value, do not
-/// change.
+/// is only a value, without a key, a type, a space or a comment. The key and the type of the entry, and the texts around
+/// its value, do not change.
 #[unsafe(no_mangle)]
 pub extern "C" fn kdl_set_value(
     alloc: Global,
@@ -31,7 +31,7 @@ pub extern "C" fn kdl_set_value(
         → Each (AtNode path.now (AtEntry index (ValueSet (chars value.now))))
         document.old.held.document document.new.held.document }
     ensures refused { result ≡ 1 → (v : Value)
-        → IsEntryText true (chars value.now) (plain_value v) → ⊥ }
+        → IsValueText (chars value.now) v → ⊥ }
     ensures utf8 { result ≡ 2 → IsUtf8 value.now → ⊥ }
     ensures kept { (result ≡ 0 → ⊥)
         → Each SameTree document.old.held.document document.new.held.document }
