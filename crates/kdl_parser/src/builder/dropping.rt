@@ -154,7 +154,7 @@ impl<'a, N: ParsedNode> Builder<'a, N> {
     ghost use Rattle.kdl_lexer.specs.Tokens.{string};
     ghost use Rattle.kdl_parser.specs.Internal.States.{document_now, DropsLike, Takes, TakesToken};
     ghost use Rattle.kdl_parser.specs.declared.builder.dropping.Dropped.TheVariants.{Nothing};
-        ghost use Rattle.std.specs.Prelude.{[], true};
+    ghost use Rattle.std.specs.Prelude.{[], true};
 
     /// Takes a token of what is slashdashed. The text of a string makes no difference.
     #[inline(always)]
