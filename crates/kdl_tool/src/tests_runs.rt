@@ -95,12 +95,13 @@ fn reports(rt: &impl Abort, alloc: Global, outcome: &Outcome, report: &str) {
 /// How often a run that is not `Usage` reads: up to the read that returns no byte, or that fails.
 fn reads_of(reads: Reads<'_>) -> u32 {
     let mut left = reads.input.len();
-    let mut count: u32 = 0;
-    while left > 0 && count < reads.fails_at {
+    for count in 0..reads.fails_at {
+        if left == 0 {
+            return count.saturating_add(1);
+        }
         left = left.saturating_sub(reads.step);
-        count = count.saturating_add(1);
     }
-    count.saturating_add(1)
+    reads.fails_at.saturating_add(1)
 }
 
 /// Runs the tool, with a writer that takes `writes.0` bytes at a time and fails at the write numbered
