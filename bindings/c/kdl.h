@@ -78,8 +78,8 @@ void kdl_free(struct kdl_document *document);
 uint32_t kdl_print(struct kdl_document *document, uint8_t *out, size_t room, size_t *needed);
 
 /* Lays the document out, with its comments and without empty lines. Its data do not change. If an
- * allocation fails, a part of the document may already be laid out, and the text that it prints
- * still has its data. A document without nodes gets one newline after its comments. */
+ * allocation fails, a part of the document may already be laid out; if the text that it printed
+ * had its data, that still has. A document without nodes gets one newline after its comments. */
 uint32_t kdl_format(struct kdl_document *document);
 
 /* Lays the document out, without its comments. Two documents then print the same text if and only
