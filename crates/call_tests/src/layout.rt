@@ -60,6 +60,12 @@ fn builds(
 fn configurations(rt: HostRuntime) {
     let defaults = config(0, "    ", false);
     equal(&rt, &FormatConfig::default(), &defaults);
+    let layout = Layout {
+        config: defaults,
+        blank_lines: 0,
+    };
+    equal(&rt, &Layout::new(), &layout);
+    equal(&rt, &Layout::default(), &layout);
     builds(&rt, FormatConfig::builder(), 0, "    ", false);
     builds(&rt, FormatConfigBuilder::new(), 0, "    ", false);
     builds(&rt, FormatConfigBuilder::default(), 0, "    ", false);
@@ -435,8 +441,8 @@ fn an_indent_that_is_no_space(rt: HostRuntime) {
 /// The default layout with this number of blank lines.
 fn spaced(blank_lines: usize) -> Layout<'static> {
     Layout {
-        config: FormatConfig::default(),
         blank_lines,
+        ..Layout::new()
     }
 }
 

@@ -27,3 +27,23 @@ fn a_count_goes_on(rt: HostRuntime) {
     holds(&rt, !is_document(&rt, alloc, "a {", &mut steps), "a {");
     holds(&rt, before < steps.count(), "steps of a refused text");
 }
+
+#[test]
+fn a_count_saturates(rt: HostRuntime) {
+    let alloc = rt.alloc();
+    let text = "a 1 { b \"x\"; }\n";
+    let mut steps = Steps::new();
+    holds(&rt, is_document(&rt, alloc, text, &mut steps), text);
+    let once = steps.count();
+    let mut exact = Steps::from(u64::MAX.saturating_sub(once));
+    holds(&rt, is_document(&rt, alloc, text, &mut exact), text);
+    equal(&rt, &exact.count(), &u64::MAX);
+    let mut near = Steps::from(u64::MAX.saturating_sub(once).saturating_sub(1));
+    holds(&rt, is_document(&rt, alloc, text, &mut near), text);
+    equal(&rt, &near.count(), &u64::MAX.saturating_sub(1));
+    let mut nearer = Steps::from(u64::MAX.saturating_sub(3));
+    holds(&rt, is_document(&rt, alloc, text, &mut nearer), text);
+    equal(&rt, &nearer.count(), &u64::MAX);
+    holds(&rt, !is_document(&rt, alloc, "a {", &mut nearer), "a {");
+    equal(&rt, &nearer.count(), &u64::MAX);
+}

@@ -46,6 +46,31 @@ pub struct Layout<'a> {
     pub blank_lines: usize,
 }
 
+impl Layout<'_> {
+    /// Creates a layout with the default configuration, which keeps no blank lines.
+    ///
+    /// ```
+    /// let layout = Layout { blank_lines: 1, ..Layout::new() };
+    /// ```
+    pub fn new() -> Layout<'static>
+        ensures config { settings result.config ≡ defaults }
+        ensures blank_lines { result.blank_lines ≡ 0 }
+    {
+        Layout {
+            config: FormatConfig::default(),
+            blank_lines: 0,
+        }
+    }
+}
+
+impl Default for Layout<'_> {
+    ghost is_default = { λ l. (settings l.config ≡ defaults) × (l.blank_lines ≡ 0) };
+
+    fn default() -> Self {
+        Layout::new()
+    }
+}
+
 impl Default for FormatConfig<'_> {
     ghost is_default = { λ c. settings c ≡ defaults };
 

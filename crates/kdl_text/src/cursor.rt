@@ -69,6 +69,15 @@ impl Steps {
     }
 }
 
+impl From<u64> for Steps {
+    /// Returns a count that continues from a number of steps.
+    fn from(count: u64) -> Self
+        ensures { result ≡ count }
+    {
+        Steps { count }
+    }
+}
+
 /// The second character.
 fn second_char(text: &str) -> Option<char>
     ensures { result ≡ first (tail (chars text.now)) }
