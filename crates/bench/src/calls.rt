@@ -425,8 +425,8 @@ fn tabs() -> FormatConfig<'static> {
 /// A layout that keeps one blank line.
 fn layout() -> Layout<'static> {
     Layout {
-        config: FormatConfig::builder().build(),
         blank_lines: 1,
+        ..Layout::new()
     }
 }
 

@@ -63,6 +63,7 @@ fn configurations(rt: HostRuntime) {
     let layout = Layout {
         config: defaults,
         blank_lines: 0,
+        keep_spelling: false,
     };
     equal(&rt, &Layout::new(), &layout);
     equal(&rt, &Layout::default(), &layout);
@@ -447,7 +448,7 @@ fn spaced(blank_lines: usize) -> Layout<'static> {
 }
 
 /// Asserts that the document prints the text after this layout, and again after a second one.
-fn becomes_spaced(
+pub fn becomes_spaced(
     rt: &impl Abort,
     alloc: Global,
     document: &mut KdlDocument,
@@ -461,7 +462,7 @@ fn becomes_spaced(
 }
 
 /// Asserts the same for a node.
-fn node_becomes_spaced(
+pub fn node_becomes_spaced(
     rt: &impl Abort,
     alloc: Global,
     node: &mut KdlNode,

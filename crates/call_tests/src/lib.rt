@@ -35,6 +35,8 @@ mod rust_tests;
 #[cfg(test)]
 mod settings;
 #[cfg(test)]
+mod spellings;
+#[cfg(test)]
 mod steps;
 #[cfg(test)]
 mod values;

@@ -10,5 +10,7 @@ pub mod Loops
 pub mod Texts
 -- The data of an entry in memory are well formed.
 pub mod Entries
--- What an entry prints that is laid out.
+-- Parts of what an entry prints that is laid out.
 pub mod EntryTexts
+-- Spellings that layout keeps.
+pub mod Respelling

@@ -1,10 +1,10 @@
 -- A loop that changes the elements of a list one by one, as far as it has come: each that it has left is in a relation to what was there, and the others are as they were.
-use Rattle.std.proofs.Common.{◌≡◌, ℕ, zero, suc, ◌+◌, ◌<◌, ◌≤◌, List, [], ◌∷◌, ◌++◌, length, map, take, drop, set, get_or, refl, sym, ap, subst, ◌∙◌, arith, add-one}
+use Rattle.std.proofs.Common.{◌≡◌, ℕ, Bool, zero, suc, ◌+◌, ◌<◌, ◌≤◌, List, [], ◌∷◌, ◌++◌, length, map, take, drop, set, get_or, refl, sym, ap, subst, ◌∙◌, arith, add-one}
 use Rattle.std.proofs.lemmas.List.{length-set}
 use Rattle.kdl_entry.specs.Tree.{Entry, entry_data}
 use Rattle.kdl_fmt.specs.Config.{Settings}
 use Rattle.kdl_fmt.specs.WellFormed.{IsWellFormedEntry, AreWellFormedEntries}
-use Rattle.kdl_fmt.specs.WithComments.{IsFormattedEntry, AreFormattedEntries}
+use Rattle.kdl_fmt.specs.Respelled.{IsSpelledEntry, AreSpelledEntries}
 use Rattle.kdl_parts.proofs.Loops.{given_back}
 
 -- R holds of each element of the first list and the one in its place in the second
@@ -79,20 +79,20 @@ abbrev pub And : {B : Type 0} → (B → B → Type 0) → (B → Type 0) → B 
 And R P s t = R s t × P s
 
 -- an entry that is laid out, and well formed
-abbrev pub LaidEntry : Settings → Entry → Entry → Type 0
-LaidEntry s = And (IsFormattedEntry s) (λ e. IsWellFormedEntry (entry_data e))
+abbrev pub LaidEntry : Bool → Settings → Entry → Entry → Type 0
+LaidEntry keep s = And (IsSpelledEntry keep s) (λ e. IsWellFormedEntry (entry_data e))
 
-pub entries_laid : (s : Settings) (es es' : List Entry) → Pairwise (LaidEntry s) es es' → AreFormattedEntries s es es'
-entries_laid s [] [] k = tt
-entries_laid s [] (e' ∷ es') k = absurd k
-entries_laid s (e ∷ es) [] k = absurd k
-entries_laid s (e ∷ es) (e' ∷ es') k = (k.0.0, entries_laid s es es' k.1)
+pub entries_laid : (keep : Bool) (s : Settings) (es es' : List Entry) → Pairwise (LaidEntry keep s) es es' → AreSpelledEntries keep s es es'
+entries_laid keep s [] [] k = ([], tt, tt)
+entries_laid keep s [] (e' ∷ es') k = absurd k
+entries_laid keep s (e ∷ es) [] k = absurd k
+entries_laid keep s (e ∷ es) (e' ∷ es') ((f, w), k) = let x = entries_laid keep s es es' k in (f.0 ∷ x.0, (f.1, x.1), (f.2, x.2))
 
-pub entries_fit : (s : Settings) (es es' : List Entry) → Pairwise (LaidEntry s) es es' → AreWellFormedEntries (map entry_data es)
-entries_fit s [] [] k = tt
-entries_fit s [] (e' ∷ es') k = absurd k
-entries_fit s (e ∷ es) [] k = absurd k
-entries_fit s (e ∷ es) (e' ∷ es') k = (k.0.1, entries_fit s es es' k.1)
+pub entries_fit : (keep : Bool) (s : Settings) (es es' : List Entry) → Pairwise (LaidEntry keep s) es es' → AreWellFormedEntries (map entry_data es)
+entries_fit keep s [] [] k = tt
+entries_fit keep s [] (e' ∷ es') k = absurd k
+entries_fit keep s (e ∷ es) [] k = absurd k
+entries_fit keep s (e ∷ es) (e' ∷ es') k = (k.0.1, entries_fit keep s es es' k.1)
 
 -- what R leads to holds of each element wherever the loop ends
 abbrev pub Each : {B : Type 0} → (B → Type 0) → List B → Type 0

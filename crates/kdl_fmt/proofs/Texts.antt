@@ -1,5 +1,5 @@
 -- Texts of one or four characters, and the formats of lines and documents.
-use Rattle.std.proofs.Common.{◌≡◌, ◌≢◌, ℕ, Bool, zero, suc, true, false, List, [], ◌∷◌, ◌++◌, ◌==◌, lit<, refl, sym, ap, ◌∙◌, Option, None, Some, String, string_bytes, string_len, Global, IfOk, MatchBool, MatchOption, OnErr, Result, Ok, Err}
+use Rattle.std.proofs.Common.{◌≡◌, ◌≢◌, ℕ, Bool, zero, suc, true, false, List, [], ◌∷◌, ◌++◌, ◌==◌, lit<, refl, sym, ap, ◌∙◌, Option, None, Some, String, string_bytes, string_len, Global, IfOk, MatchBool, MatchOption, Result, Ok, Err}
 use Rattle.std.proofs.lemmas.Bool.{and_parts, ltb-true, eqb-true}
 use Rattle.std.proofs.lemmas.Str.{chars-IsAscii, chars-nil, chars-append, chars_from_encodes, chars_past_char, encodes-chars, IsUtf8-string_bytes}
 use Rattle.std.specs.Char.{encode_utf8}
@@ -49,10 +49,6 @@ type_cleared f a b c x y z = rw (x, y, z) refl
 pub put_text : (P : Type 0) (o : Option (String Global)) (a : String Global) (more t : Text) → MatchOption o (P × (more ≡ t)) (λ s. text_of s ≡ t) → MatchOption o (text_of a ≡ more) (λ s. text_of a ≡ text_of s) → text_of a ≡ t
 put_text P None a more t h p = p ∙ h.1
 put_text P (Some s) a more t h p = p ∙ h
-
-pub on_err : {A E P : Type 0} (r : Result A E) → P → OnErr r P
-on_err (Ok a) p = tt
-on_err (Err e) p = p
 
 -- the texts between braces
 pub braces_made : (l t : String Global) (a b before : Text) (ns : Nodes) → text_of l ≡ 10 ∷ a → text_of t ≡ (b ++ newline_if_none ns) ++ before

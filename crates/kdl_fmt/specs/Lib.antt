@@ -14,9 +14,13 @@ pub mod Kept
 pub mod KeptForm
 -- The texts around nodes and documents if no comments are kept.
 pub mod Plain
+-- The result of layout if spellings are kept.
+pub mod Respelled
 -- The result of layout if blank lines are kept.
 pub mod Spaced
 -- Data that memory can hold.
 pub mod WellFormed
 -- The result of layout, with the comments that it keeps.
 pub mod WithComments
+-- Definitions that only proofs and contracts inside the crates use.
+pub mod Internal

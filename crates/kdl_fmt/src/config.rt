@@ -3,7 +3,7 @@
 ghost use Rattle.kdl_fmt.specs.Config.{defaults, settings, settings_so_far};
 ghost use Rattle.kdl_text.specs.Chars as class;
 ghost use Rattle.std.specs.List.{list_all};
-ghost use Rattle.std.specs.Prelude.{◌≡◌, option_map, unwrap_or};
+ghost use Rattle.std.specs.Prelude.{◌≡◌, false, option_map, unwrap_or};
 ghost use Rattle.std.specs.Str.{chars};
 
 use kdl_text::chars::is_space;
@@ -33,10 +33,10 @@ pub struct FormatConfig<'a> {
     pub entry_autoformate_keep: bool,
 }
 
-/// The configuration of `autoformat_layout` of documents and nodes, which can keep blank lines.
+/// The configuration of `autoformat_layout` of documents and nodes, which can keep blank lines and spellings.
 ///
 /// ```
-/// let layout = Layout { config: FormatConfig::default(), blank_lines: 1 };
+/// let layout = Layout { blank_lines: 1, keep_spelling: true, ..Layout::new() };
 /// ```
 #[derive(Clone, Copy, Debug, PartialEq, Eq)]
 pub struct Layout<'a> {
@@ -44,10 +44,14 @@ pub struct Layout<'a> {
     pub config: FormatConfig<'a>,
     /// The greatest number of blank lines that are kept between two nodes or comments.
     pub blank_lines: usize,
+    /// Whether spellings are kept: the spelling of a value that is one of that value, of the same kind, and the spelling
+    /// of a name, a key or a type that is one of its string. A spelling that means something else, as `set_value` can
+    /// leave it, is replaced. An entry that is flagged to keep its form is laid out as without this field.
+    pub keep_spelling: bool,
 }
 
 impl Layout<'_> {
-    /// Creates a layout with the default configuration, which keeps no blank lines.
+    /// Creates a layout with the default configuration, which keeps no blank lines and no spellings.
     ///
     /// ```
     /// let layout = Layout { blank_lines: 1, ..Layout::new() };
@@ -55,16 +59,18 @@ impl Layout<'_> {
     pub fn new() -> Layout<'static>
         ensures config { settings result.config ≡ defaults }
         ensures blank_lines { result.blank_lines ≡ 0 }
+        ensures keep_spelling { result.keep_spelling ≡ false }
     {
         Layout {
             config: FormatConfig::default(),
             blank_lines: 0,
+            keep_spelling: false,
         }
     }
 }
 
 impl Default for Layout<'_> {
-    ghost is_default = { λ l. (settings l.config ≡ defaults) × (l.blank_lines ≡ 0) };
+    ghost is_default = { λ l. (settings l.config ≡ defaults) × (l.blank_lines ≡ 0) × (l.keep_spelling ≡ false) };
 
     fn default() -> Self {
         Layout::new()

@@ -1,15 +1,17 @@
 //! Layout of the texts around nodes and documents, and of entries.
 
-ghost use Rattle.kdl_entry.specs.Tree.{Entry, cleared, entry_data, entry_format_tree, entry_tree, identifier_tree, unspelled};
+ghost use Rattle.kdl_entry.specs.Tree.{Entry, cleared, entry_data, entry_format_tree, entry_tree};
 ghost use Rattle.kdl_fmt.specs.Blank.{at_start, empty_lines, past_node};
 ghost use Rattle.kdl_fmt.specs.Config.{indentation, settings};
 ghost use Rattle.kdl_fmt.specs.Formatted.{newline_if_none, or_empty, or_empty_document, with_keep_if};
-ghost use Rattle.kdl_fmt.specs.Kept.{KeptBefore, KeptBeforeBlock, KeptEnd, KeptLines, KeptTail, WrittenUnless, last_place, without_bom};
+ghost use Rattle.kdl_fmt.specs.Internal.Names.{IsLaid};
+ghost use Rattle.kdl_fmt.specs.Kept.{KeptBefore, KeptBeforeBlock, KeptEnd, KeptLines, KeptTail, WrittenUnless, is_kept_format, last_place, without_bom};
 ghost use Rattle.kdl_fmt.specs.KeptForm.{EntriesKeepReading};
 ghost use Rattle.kdl_fmt.specs.Plain.{newline_if};
+ghost use Rattle.kdl_fmt.specs.Respelled.{AreSpelledEntries, HasSpellings, IsSpelledEntry};
 ghost use Rattle.kdl_fmt.specs.Spaced.{IsSpacedBraced, IsSpacedContent, IsSpacedLine, Passes, PassesFormat, PassesNodes, SpacedLines, Spaces, SpacesContent};
 ghost use Rattle.kdl_fmt.specs.WellFormed.{AreWellFormedEntries, IsWellFormedEntry};
-ghost use Rattle.kdl_fmt.specs.WithComments.{AreFormattedEntries, IsFormattedEntry, behind, put_format};
+ghost use Rattle.kdl_fmt.specs.WithComments.{behind, put_format};
 ghost use Rattle.kdl_grammar.specs.ReadsBack.{EntryReads};
 ghost use Rattle.kdl_grammar.specs.Tree.{Nodes};
 ghost use Rattle.kdl_comments.specs.Items.{GapItems};
@@ -22,15 +24,16 @@ ghost use Rattle.kdl_value.specs.Tree.{text_of, value_tree};
 ghost use Rattle.kdl_value.specs.WellFormed.{IsWellFormed};
 ghost use Rattle.std.specs.Int.{w128};
 ghost use Rattle.std.specs.List.{All, list_all, repeat};
-ghost use Rattle.std.specs.Prelude.{◌≡◌, ◌+◌, ◌==◌, ◌≤◌, ◌||◌, ◌++◌, ◌∷◌, [], ℕ, FitsSigned, IfOk, MatchOption, OnErr, OnOk, Some, is_none, length, map, option_map, string_capacity, unwrap_or};
+ghost use Rattle.std.specs.Prelude.{◌≡◌, ◌+◌, ◌==◌, ◌≤◌, ◌||◌, ◌++◌, ◌∷◌, [], ℕ, FitsSigned, IfOk, MatchOption, OnErr, OnOk, Some, is_none, length, map, false, option_map, string_capacity, true, unwrap_or};
 ghost use Rattle.std.specs.Str.{chars};
 
 use crate::blank::{
     Before, Last, past_items, past_node, past_written, push_empty_lines, push_spaced_lines,
 };
 use crate::config::{FormatConfig, Layout};
+use crate::names::{autoformat_but, has_spelling, is_flagged, keeps_spelling_if, take_spelling};
 use kdl_comments::{Place, gap_items, line_comment, place_items, push_lines, push_tail, push_text};
-use kdl_entry::{KdlEntry, KdlEntryFormat, KdlIdentifier, KdlValue};
+use kdl_entry::{KdlEntry, KdlEntryFormat, KdlValue};
 use kdl_parts::{KdlDocumentFormat, KdlNodeFormat};
 use std::alloc::{AllocError, Global};
 
@@ -45,16 +48,6 @@ pub fn well_formed(value: &KdlValue)
 {
     if let KdlValue::Integer(number) = value {
         number_fits(*number);
-    }
-}
-
-/// Removes the spelling of the identifier, if there is one.
-pub fn clear_spelling(identifier: &mut Option<KdlIdentifier>)
-    ensures { option_map identifier_tree identifier.new ≡
-        option_map unspelled (option_map identifier_tree identifier.old) }
-{
-    if let Some(identifier) = identifier {
-        identifier.clear_format();
     }
 }
 
@@ -275,23 +268,16 @@ fn put_format(entry: &mut KdlEntry, format: Option<KdlEntryFormat>)
     }
 }
 
-/// Lays out an entry, as `lay_out_entries` lays out each one.
-fn lay_out_entry(
+/// Lays out an entry that keeps no spelling, or that is flagged to keep its form.
+fn lay_out_respelled(
     alloc: Global,
     entry: &mut KdlEntry,
     config: &FormatConfig,
 ) -> Result<(), AllocError>
-    ensures same { cleared (entry_tree entry.new) ≡ cleared (entry_tree entry.old) }
-    ensures flagged { OnErr result (entry_tree entry.new ≡
-        with_keep_if config.now.entry_autoformate_keep (entry_tree entry.old)) }
-    ensures formatted { OnOk result (IsFormattedEntry (settings config.now)
-        (entry_tree entry.old) (entry_tree entry.new)) }
-    ensures well_formed { IsWellFormedEntry (entry_data (entry_tree entry.old)) }
+    ensures same { OnErr result (entry_tree entry.new ≡ entry_tree entry.old) }
+    ensures formatted { OnOk result
+        (IsLaid (settings config.now) (entry_tree entry.old) (entry_tree entry.new)) }
 {
-    well_formed(entry.value());
-    if config.entry_autoformate_keep {
-        entry.keep_format();
-    }
     let kept = kept_before(alloc, config, entry)?;
     let format = format_behind(alloc, entry, kept)?;
     entry.autoformat();
@@ -299,24 +285,71 @@ fn lay_out_entry(
     Ok(())
 }
 
+/// Lays out an entry that keeps its spellings.
+fn lay_out_spelled(alloc: Global, entry: &mut KdlEntry, layout: &Layout) -> Result<(), AllocError>
+    requires keep { layout.now.keep_spelling ≡ true }
+    requires unflagged { is_kept_format (entry_tree entry.old).format ≡ false }
+    ensures same { OnErr result (entry_tree entry.new ≡ entry_tree entry.old) }
+    ensures spelled { OnOk result ((m : Entry)
+        × IsLaid (settings layout.now.config) (entry_tree entry.old) m
+        × HasSpellings (entry_tree entry.old) m (entry_tree entry.new)) }
+{
+    let key = keeps_spelling_if(alloc, layout, entry.name())?;
+    let ty = keeps_spelling_if(alloc, layout, entry.ty())?;
+    let mut kept = kept_before(alloc, &layout.config, entry)?;
+    let format = if has_spelling(alloc, entry)? {
+        push_text(&mut kept, " ")?;
+        take_spelling(alloc, entry, kept)
+    } else {
+        format_behind(alloc, entry, kept)?
+    };
+    autoformat_but(alloc, entry, key, ty);
+    put_format(entry, format);
+    Ok(())
+}
+
+/// Lays out an entry, as `lay_out_entries` lays out each one.
+fn lay_out_entry(alloc: Global, entry: &mut KdlEntry, layout: &Layout) -> Result<(), AllocError>
+    ensures same { cleared (entry_tree entry.new) ≡ cleared (entry_tree entry.old) }
+    ensures flagged { OnErr result (entry_tree entry.new ≡
+        with_keep_if layout.now.config.entry_autoformate_keep (entry_tree entry.old)) }
+    ensures formatted { OnOk result
+        (IsSpelledEntry layout.now.keep_spelling (settings layout.now.config)
+        (entry_tree entry.old) (entry_tree entry.new)) }
+    ensures well_formed { IsWellFormedEntry (entry_data (entry_tree entry.old)) }
+{
+    well_formed(entry.value());
+    if layout.config.entry_autoformate_keep {
+        entry.keep_format();
+    }
+    if layout.keep_spelling && !is_flagged(entry) {
+        lay_out_spelled(alloc, entry, layout)
+    } else {
+        lay_out_respelled(alloc, entry, &layout.config)
+    }
+}
+
 /// Lays out each entry of a node. Keeps the comments and slashdashed pieces before an entry, unless the configuration
-/// removes them. An entry that is flagged to keep its form keeps the whole text before it. Allocates only for what is
-/// kept. If an allocation fails, each entry is laid out or not, and still reads back.
-pub fn lay_out_entries(entries: &mut Vec<KdlEntry>, config: &FormatConfig) -> Result<(), AllocError>
+/// removes them, and the spellings that mean what they did, if the layout keeps spellings. An entry that is flagged to
+/// keep its form keeps the whole text before it. Allocates only for what is kept, and to read spellings. If an
+/// allocation fails, each entry is laid out or not, and still reads back.
+pub fn lay_out_entries(entries: &mut Vec<KdlEntry>, layout: &Layout) -> Result<(), AllocError>
     ensures same { map cleared (map entry_tree entries.new.items) ≡
         map cleared (map entry_tree entries.old.items) }
-    ensures reads { EntriesKeepReading (settings config.now) (map entry_tree entries.old.items)
+    ensures reads { EntriesKeepReading (settings layout.now.config)
+        (map entry_tree entries.old.items)
         → All EntryReads (map entry_tree entries.old.items)
         → All EntryReads (map entry_tree entries.new.items)
-        × EntriesKeepReading (settings config.now) (map entry_tree entries.new.items) }
-    ensures formatted { OnOk result (AreFormattedEntries (settings config.now)
+        × EntriesKeepReading (settings layout.now.config) (map entry_tree entries.new.items) }
+    ensures formatted { OnOk result
+        (AreSpelledEntries layout.now.keep_spelling (settings layout.now.config)
         (map entry_tree entries.old.items) (map entry_tree entries.new.items)) }
     ensures well_formed { OnOk result
         (AreWellFormedEntries (map entry_data (map entry_tree entries.old.items))) }
 {
     let alloc = *entries.allocator();
     for entry in entries.iter_mut() {
-        lay_out_entry(alloc, entry, config)?;
+        lay_out_entry(alloc, entry, layout)?;
     }
     Ok(())
 }

@@ -5,6 +5,8 @@
 mod blank;
 mod config;
 pub mod layout;
+pub mod names;
+mod spelling;
 
 pub use blank::{Before, Last};
 pub use config::{FormatConfig, FormatConfigBuilder, Layout, is_kdl_space};

@@ -1,5 +1,5 @@
 -- What two layouts make.
-use Rattle.std.proofs.Common.{◌≡◌, ℕ, true, false, sym, ap, ◌∙◌, subst, ◌↔◌, Result, Ok, Err, IfOk}
+use Rattle.std.proofs.Common.{◌≡◌, ℕ, Bool, true, false, sym, ap, ◌∙◌, subst, ◌↔◌, Result, Ok, Err, IfOk}
 use Rattle.std.specs.List.{list_all}
 use Rattle.kdl_text.specs.Chars.{Text, is_space}
 use Rattle.kdl_grammar.specs.Data as data'
@@ -10,7 +10,10 @@ use Rattle.kdl_fmt.specs.Canonical.{canonical, Canonical}
 use Rattle.kdl_fmt.specs.Config.{IndentsBySpaces, Settings}
 use Rattle.kdl_fmt.specs.Formatted.{DocumentKeepsNone, NodeKeepsNone}
 use Rattle.kdl_fmt.specs.WithComments.{IsFormattedDocument, IsFormattedNode}
+use Rattle.kdl_fmt.specs.Respelled.{IsSpelledDocument, IsSpelledNode}
 use Rattle.kdl_fmt.specs.Spaced.{IsSpacedDocument, IsSpacedNode}
+use Rattle.kdl_fmt.proofs.Respelling.Again as spelled
+use Rattle.kdl_fmt.proofs.Respelling.Off as off
 use Rattle.kdl_fmt.proofs.Spacing.Again as spaced
 use Rattle.kdl_fmt.proofs.Spacing.Zero.{document_formatted, document_spaced, node_formatted, node_spaced}
 use Rattle.kdl_fmt.proofs.Formatting.Again.{document_stays, node_stays}
@@ -49,10 +52,26 @@ spaced_again number s level d x y ok keep none f g = spaced.document_stays numbe
 pub spaced_node_again : (number : ℕ) (s : Settings) (level : ℕ) (n x y : Node) → IndentsBySpaces s → s.entry_autoformate_keep ≡ false → NodeKeepsNone n → IsSpacedNode number s level at_start n x → IsSpacedNode number s level at_start x y → y ≡ x
 spaced_node_again number s level n x y ok keep none f g = spaced.node_stays number s level ok keep n x y f none g
 
-pub spaced_twice : {A E : Type 0} (r : Result A E) (number : ℕ) (s : Settings) (level : ℕ) (d x y : Document) → list_all is_space s.indent ≡ true → s.entry_autoformate_keep ≡ false → DocumentKeepsNone d
-    → IsSpacedDocument number s level d x → IfOk r (λ _. IsSpacedDocument number s level x y) → IfOk r (λ _. IsSpacedDocument number s level d y)
-spaced_twice (Ok v) number s level d x y ok keep none f g = subst (λ (z : Document). IsSpacedDocument number s level d z) (sym (spaced.document_stays number s level ok keep d x y f none g)) f
-spaced_twice (Err v) number s level d x y ok keep none f g = tt
+-- the same with spellings
+pub spelled_again : (keep : Bool) (number : ℕ) (s : Settings) (level : ℕ) (d x y : Document) → IndentsBySpaces s → s.entry_autoformate_keep ≡ false → DocumentKeepsNone d → IsSpelledDocument keep number s level d x → IsSpelledDocument keep number s level x y → y ≡ x
+spelled_again keep number s level d x y ok flag none f g = spelled.document_stays keep number s level ok flag d x y none f g
+
+pub spelled_node_again : (keep : Bool) (number : ℕ) (s : Settings) (level : ℕ) (n x y : Node) → IndentsBySpaces s → s.entry_autoformate_keep ≡ false → NodeKeepsNone n → IsSpelledNode keep number s level at_start n x → IsSpelledNode keep number s level at_start x y → y ≡ x
+spelled_node_again keep number s level n x y ok flag none f g = spelled.node_stays keep number s level ok flag n x y none f g
+
+pub spaced_twice : {A E : Type 0} (r : Result A E) (keep : Bool) (number : ℕ) (s : Settings) (level : ℕ) (d x y : Document) → list_all is_space s.indent ≡ true → s.entry_autoformate_keep ≡ false → DocumentKeepsNone d
+    → IsSpelledDocument keep number s level d x → IfOk r (λ _. IsSpelledDocument keep number s level x y) → IfOk r (λ _. IsSpelledDocument keep number s level d y)
+spaced_twice (Ok v) keep number s level d x y ok flag none f g = subst (λ (z : Document). IsSpelledDocument keep number s level d z) (sym (spelled.document_stays keep number s level ok flag d x y none f g)) f
+spaced_twice (Err v) keep number s level d x y ok flag none f g = tt
+
+-- no spellings
+pub respelled_document : (number : ℕ) (s : Settings) (level : ℕ) (d x : Document) → IsSpelledDocument false number s level d x ↔ IsSpacedDocument number s level d x
+respelled_document number s level d x =
+    (λ h. subst (λ (z : Document). IsSpacedDocument number s level d z) (sym (off.same_document s d h.0 x h.2)) h.1, λ f. (x, f, off.document_itself number s level d x f))
+
+pub respelled_node : (number : ℕ) (s : Settings) (level : ℕ) (n x : Node) → IsSpelledNode false number s level at_start n x ↔ IsSpacedNode number s level at_start n x
+respelled_node number s level n x =
+    (λ h. subst (λ (z : Node). IsSpacedNode number s level at_start n z) (sym (off.same_node s n h.0 x h.2)) h.1, λ f. (x, f, off.node_itself number s level at_start n x f))
 
 -- no blank lines
 pub unspaced_document : (s : Settings) (level : ℕ) (d x : Document) → IsSpacedDocument 0 s level d x ↔ IsFormattedDocument s level d x

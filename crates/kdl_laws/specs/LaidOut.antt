@@ -1,12 +1,12 @@
 -- What layout makes of a text.
-use Rattle.std.specs.Prelude.{◌≡◌, ℕ, true}
+use Rattle.std.specs.Prelude.{◌≡◌, ℕ, Bool, true}
 use Rattle.kdl_text.specs.Chars.{Text}
 use Rattle.kdl_grammar.specs.Laid.{LaidDocument}
 use Rattle.kdl_grammar.specs.Print.{print_document}
 use Rattle.kdl_grammar.specs.Tree.{Document}
 use Rattle.kdl_fmt.specs.Comments.{CommentsStay}
 use Rattle.kdl_fmt.specs.Config.{defaults}
-use Rattle.kdl_fmt.specs.Spaced.{IsSpacedDocument}
+use Rattle.kdl_fmt.specs.Respelled.{IsSpelledDocument}
 use Rattle.kdl_fmt.specs.WithComments.{IsFormattedDocument}
 
 -- out is what the document of the text prints after layout; the comments are kept, and a second layout changes nothing
@@ -19,12 +19,12 @@ pub record IsLaidOut (text out : Text) : Type 0 where
   pub comments : CommentsStay before out
   pub again : (y : Document) → IsFormattedDocument defaults 0 after y → y ≡ after
 
--- the same if blank lines are kept, at most a number of them between two nodes or comments
-pub record IsSpacedOut (number : ℕ) (text out : Text) : Type 0 where
+-- the same if blank lines are kept, at most a number of them between two nodes or comments, and spellings are kept or not
+pub record IsSpacedOut (keep : Bool) (number : ℕ) (text out : Text) : Type 0 where
   pub before : Document
   pub after : Document
   pub laid : LaidDocument true before text
-  pub formatted : IsSpacedDocument number defaults 0 before after
+  pub formatted : IsSpelledDocument keep number defaults 0 before after
   pub prints : out ≡ print_document after 0
   pub comments : CommentsStay before out
-  pub again : (y : Document) → IsSpacedDocument number defaults 0 after y → y ≡ after
+  pub again : (y : Document) → IsSpelledDocument keep number defaults 0 after y → y ≡ after

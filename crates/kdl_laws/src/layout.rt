@@ -7,6 +7,7 @@ ghost use Rattle.kdl_fmt.specs.Blank.{at_start};
 ghost use Rattle.kdl_fmt.specs.Comments.{CommentsStay};
 ghost use Rattle.kdl_fmt.specs.Config.{IndentsBySpaces, Settings, defaults, settings};
 ghost use Rattle.kdl_fmt.specs.Formatted.{DocumentKeepsNone, NodeKeepsNone};
+ghost use Rattle.kdl_fmt.specs.Respelled.{IsSpelledDocument, IsSpelledNode};
 ghost use Rattle.kdl_fmt.specs.Spaced.{IsSpacedDocument, IsSpacedNode};
 ghost use Rattle.kdl_fmt.specs.declared.config.Layout.{Layout};
 ghost use Rattle.kdl_fmt.specs.WithComments.{IsFormattedDocument, IsFormattedNode};
@@ -18,7 +19,7 @@ ghost use Rattle.kdl_laws.specs.LaidOut.{IsLaidOut, IsSpacedOut};
 ghost use Rattle.kdl_text.specs.Chars.{Text, is_space};
 ghost use Rattle.kdl_value.specs.Tree.{text_of};
 ghost use Rattle.std.specs.List.{list_all};
-ghost use Rattle.std.specs.Prelude.{◌≡◌, ◌↔◌, ℕ, IfOk, OnOk, String, false, string_bytes, true};
+ghost use Rattle.std.specs.Prelude.{◌≡◌, ◌↔◌, ℕ, Bool, IfOk, OnOk, String, false, string_bytes, true};
 ghost use Rattle.std.specs.Str.{encode_utf8_all};
 ghost use Rattle.std.specs.declared.alloc.Global.{Global};
 
@@ -86,7 +87,7 @@ pub fn second_layout()
         → IsFormattedNode s level n x → IsFormattedNode s level x y → y ≡ x }
 {}
 
-/// A second layout of a document with the same number of blank lines changes nothing.
+/// A second layout of a document with the same number of blank lines, and with spellings kept or not, changes nothing.
 pub fn spaced_twice(document: &mut KdlDocument, layout: &Layout) -> Result<(), AllocError>
     requires indent { list_all is_space (settings layout.now.config).indent ≡ true }
     requires keeps_none_after { layout.now.config.entry_autoformate_keep ≡ false }
@@ -110,6 +111,28 @@ pub fn second_spaced_layout()
         → y ≡ x }
 {}
 
+/// A second layout changes nothing either if both keep spellings, or if neither does.
+pub fn second_spelled_layout()
+    ensures document { (keep : Bool) (number : ℕ) (s : Settings) (level : ℕ) (d x y : Document)
+        → IndentsBySpaces s → s.entry_autoformate_keep ≡ false → DocumentKeepsNone d
+        → IsSpelledDocument keep number s level d x → IsSpelledDocument keep number s level x y
+        → y ≡ x }
+    ensures node { (keep : Bool) (number : ℕ) (s : Settings) (level : ℕ) (n x y : Node)
+        → IndentsBySpaces s → s.entry_autoformate_keep ≡ false → NodeKeepsNone n
+        → IsSpelledNode keep number s level at_start n x
+        → IsSpelledNode keep number s level at_start x y → y ≡ x }
+{}
+
+/// If no spellings are kept, layout has the result of layout with blank lines alone.
+#[tactic(auto, using(crate::proofs::TwoLayouts::respelled_document, crate::proofs::TwoLayouts::respelled_node))]
+pub fn layout_without_spellings()
+    ensures document { (number : ℕ) (s : Settings) (level : ℕ) (d x : Document)
+        → IsSpelledDocument false number s level d x ↔ IsSpacedDocument number s level d x }
+    ensures node { (number : ℕ) (s : Settings) (level : ℕ) (n x : Node)
+        → IsSpelledNode false number s level at_start n x
+        ↔ IsSpacedNode number s level at_start n x }
+{}
+
 /// If no blank lines are kept, layout has the result of `autoformat_config`.
 #[tactic(auto, using(crate::proofs::TwoLayouts::unspaced_document, crate::proofs::TwoLayouts::unspaced_node))]
 pub fn layout_without_blank_lines()
@@ -128,7 +151,7 @@ pub fn texts_are_laid_out()
         → string_bytes s ≡ encode_utf8_all (document_prints e) → IsLaidOut text (text_of s) }
 {}
 
-/// The same if blank lines are kept.
+/// The same if blank lines are kept, and spellings or not.
 #[tactic(auto, using(crate::proofs::TextLaidOut::text_spaced_out))]
 pub fn texts_are_spaced_out()
     ensures { (text : Text) (l : Layout) (d e : KdlDocument) (s : String Global)
@@ -136,7 +159,7 @@ pub fn texts_are_spaced_out()
         → LaidDocument true (document_tree d) text → DocumentKeepsNoForm d
         → DocumentSpaced l d e → CommentsStay (document_tree d) (document_prints e)
         → string_bytes s ≡ encode_utf8_all (document_prints e)
-        → IsSpacedOut l.blank_lines text (text_of s) }
+        → IsSpacedOut l.keep_spelling l.blank_lines text (text_of s) }
 {}
 
 /// If no entry is flagged, each entry reads back in the form that it keeps, as clause `reads_back` of layout requires.

@@ -139,6 +139,7 @@ impl Item {
                 .no_comments(no_comments)
                 .build(),
             blank_lines,
+            ..Layout::new()
         };
         match self {
             Item::Document(document) => document.autoformat_layout(&layout),

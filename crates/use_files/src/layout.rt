@@ -2,10 +2,10 @@
 
 ghost use Rattle.kdl.specs.Words.{IsDocument, IsSyntax, Nodes, TellsOnSyntax, text_of};
 ghost use Rattle.kdl_laws.specs.ClientWords.{IsSpacedOut};
-ghost use Rattle.std.specs.Prelude.{IfOk, chars, true};
+ghost use Rattle.std.specs.Prelude.{IfOk, chars, false, true};
 
 use crate::faults::report;
-use kdl::{FormatConfig, KdlDocument, Layout, ParseFailure};
+use kdl::{KdlDocument, Layout, ParseFailure};
 use kdl_laws::layout::{defaults_indent_by_spaces, texts_are_spaced_out};
 use kdl_laws::reading_back::printed_reads_once;
 use std::alloc::Global;
@@ -18,7 +18,7 @@ fn laid_out(alloc: Global, text: &str) -> Result<String, ParseFailure>
         → IsDocument true (text_of out) x) }
     // It is the text laid out, with at most one blank line between two nodes or comments: its comments are kept, and a
     // second layout changes nothing.
-    ensures laid_out { IfOk result (λ out. IsSpacedOut 1 (chars text.now) (text_of out)) }
+    ensures laid_out { IfOk result (λ out. IsSpacedOut false 1 (chars text.now) (text_of out)) }
     // A refused text is not a document, and the error has its faults.
     ensures refused { IsSyntax result → (x : Nodes) → IsDocument true (chars text.now) x → ⊥ }
     ensures told { TellsOnSyntax text.now result }
@@ -28,8 +28,8 @@ fn laid_out(alloc: Global, text: &str) -> Result<String, ParseFailure>
     printed_reads_once();
     let mut document = KdlDocument::parse(alloc, text)?;
     let layout = Layout {
-        config: FormatConfig::builder().build(),
         blank_lines: 1,
+        ..Layout::new()
     };
     document.autoformat_layout(&layout)?;
     Ok(document.to_string(alloc)?)

@@ -1,5 +1,5 @@
 -- What the calls that lay out promise, from what the layout makes.
-use Rattle.std.proofs.Common.{◌≡◌, ℕ, zero, true, false, refl, sym, ap, ◌∙◌, subst, Result, Ok, Err, IfOk}
+use Rattle.std.proofs.Common.{◌≡◌, ℕ, Bool, true, false, refl, sym, ap, ◌∙◌, subst, Result, Ok, Err, IfOk}
 use Rattle.std.specs.List.{list_all}
 use Rattle.kdl_text.specs.Chars.{is_space}
 use Rattle.kdl_grammar.specs.Data as data'
@@ -12,10 +12,14 @@ use Rattle.kdl_fmt.specs.Comments.{CommentsStay}
 use Rattle.kdl_fmt.specs.Config.{Settings, IsPlain, defaults, without_comments}
 use Rattle.kdl_fmt.specs.Formatted.{formatted_document, formatted_node, DocumentLevelsFit, NodeLevelsFit, bare_document, bare_node, DocumentKeepsNone, NodeKeepsNone}
 use Rattle.kdl_fmt.specs.WellFormed.{AreWellFormed, IsWellFormedNode}
+use Rattle.kdl_fmt.specs.Respelled.{IsSpelledDocument, IsSpelledNode}
 use Rattle.kdl_fmt.specs.Spaced.{IsSpacedDocument, IsSpacedNode}
 use Rattle.kdl_fmt.specs.WithComments.{IsFormattedDocument, IsFormattedNode}
 use Rattle.kdl_fmt.proofs.Spacing.Stays as spaced
 use Rattle.kdl_fmt.proofs.Spacing.Zero.{document_formatted, node_formatted}
+use Rattle.kdl_fmt.proofs.Respelling.Leaves as left
+use Rattle.kdl_fmt.proofs.Respelling.Off as off
+use Rattle.kdl_fmt.proofs.Respelling.Written.{written_document, written_node}
 use Rattle.kdl_fmt.proofs.Formatting.CommentsReadBack.{document_derived, node_derived}
 use Rattle.kdl_fmt.proofs.Keeping.CommentsStay.{comments_stay, node_comments_stay}
 use Rattle.kdl_fmt.proofs.Formatting.FormattedUnique as layout
@@ -34,90 +38,101 @@ if_both : {A E P Q S : Type 0} (r : Result A E) → (P → Q → S) → IfOk r (
 if_both (Ok a) f p q = f p q
 if_both (Err e) f p q = p
 
--- what layout makes where no blank lines stay
-pub formatted : {A E : Type 0} (r : Result A E) (s : Settings) (level : ℕ) (x d : Document) → IfOk r (λ _. IsSpacedDocument 0 s level d x) → IfOk r (λ _. IsFormattedDocument s level d x)
-formatted r s level x d h = if_ok r (λ (f : IsSpacedDocument 0 s level d x). document_formatted s level d x f) h
+-- what layout makes where no blank lines and no spellings stay
+unspelled : (number : ℕ) (s : Settings) (level : ℕ) (d x : Document) → IsSpelledDocument false number s level d x → IsSpacedDocument number s level d x
+unspelled number s level d x (m, f, r) = subst (λ (z : Document). IsSpacedDocument number s level d z) (sym (off.same_document s d m x r)) f
 
-pub node_is_formatted : {A E : Type 0} (r : Result A E) (s : Settings) (level : ℕ) (x n : Node) → IfOk r (λ _. IsSpacedNode 0 s level at_start n x) → IfOk r (λ _. IsFormattedNode s level n x)
-node_is_formatted r s level x n h = if_ok r (λ (f : IsSpacedNode 0 s level at_start n x). node_formatted s level at_start n x f) h
+unspelled_node : (number : ℕ) (s : Settings) (level : ℕ) (n x : Node) → IsSpelledNode false number s level at_start n x → IsSpacedNode number s level at_start n x
+unspelled_node number s level n x (m, f, r) = subst (λ (z : Node). IsSpacedNode number s level at_start n z) (sym (off.same_node s n m x r)) f
 
-of_none : (number : ℕ) (P : ℕ → Type 0) → P number → number ≡ 0 → P 0
-of_none number P p e = subst P e p
+plain_spelled : (keep : Bool) (number : ℕ) (s : Settings) (level : ℕ) (d x : Document) → keep ≡ false → number ≡ 0 → IsSpelledDocument keep number s level d x → IsFormattedDocument s level d x
+plain_spelled keep number s level d x k e f =
+    document_formatted s level d x (unspelled 0 s level d x (subst (λ (z : ℕ). IsSpelledDocument false z s level d x) e (subst (λ (z : Bool). IsSpelledDocument z number s level d x) k f)))
 
-module _ {A E : Type 0} (r : Result A E) (number : ℕ) (s : Settings) (level : ℕ) where
+plain_spelled_node : (keep : Bool) (number : ℕ) (s : Settings) (level : ℕ) (n x : Node) → keep ≡ false → number ≡ 0 → IsSpelledNode keep number s level at_start n x → IsFormattedNode s level n x
+plain_spelled_node keep number s level n x k e f =
+    node_formatted s level at_start n x (unspelled_node 0 s level n x (subst (λ (z : ℕ). IsSpelledNode false z s level at_start n x) e (subst (λ (z : Bool). IsSpelledNode z number s level at_start n x) k f)))
+
+module _ {A E : Type 0} (r : Result A E) (keep : Bool) (number : ℕ) (s : Settings) (level : ℕ) where
   module _ (x d : Document) where
-    pub plainly : IfOk r (λ _. IsSpacedDocument number s level d x) → IfOk r (λ _. number ≡ 0 → IsFormattedDocument s level d x)
-    plainly h = if_ok r (λ (f : IsSpacedDocument number s level d x). λ e. document_formatted s level d x (of_none number (λ (n : ℕ). IsSpacedDocument n s level d x) f e)) h
+    pub plainly : IfOk r (λ _. IsSpelledDocument keep number s level d x) → IfOk r (λ _. number ≡ 0 → keep ≡ false → IsFormattedDocument s level d x)
+    plainly h = if_ok r (λ (f : IsSpelledDocument keep number s level d x). λ e k. plain_spelled keep number s level d x k e f) h
 
-    pub plain : IfOk r (λ _. IsSpacedDocument number s level d x) → IfOk r (λ _. number ≡ 0 → s.no_comments ≡ true → x ≡ formatted_document s level d)
-    plain h =
-        if_ok r (λ (f : IsSpacedDocument number s level d x). λ e k. layout.document_left_out s level d x k (document_formatted s level d x (of_none number (λ (n : ℕ). IsSpacedDocument n s level d x) f e))) h
+    pub plain : IfOk r (λ _. IsSpelledDocument keep number s level d x) → IfOk r (λ _. number ≡ 0 → keep ≡ false → s.no_comments ≡ true → x ≡ formatted_document s level d)
+    plain h = if_ok r (λ (f : IsSpelledDocument keep number s level d x). λ e k c. layout.document_left_out s level d x c (plain_spelled keep number s level d x k e f)) h
 
-    pub levels : IfOk r (λ _. IsSpacedDocument number s level d x) → IfOk r (λ _. DocumentLevelsFit level d)
-    levels h = if_ok r (λ (f : IsSpacedDocument number s level d x). spaced.document_levels_fit number s level d x f) h
+    pub levels : IfOk r (λ _. IsSpelledDocument keep number s level d x) → IfOk r (λ _. DocumentLevelsFit level d)
+    levels h = if_ok r (λ (f : IsSpelledDocument keep number s level d x). spaced.document_levels_fit number s level d f.0 f.1) h
 
-    pub keeps_none : IfOk r (λ _. IsSpacedDocument number s level d x) → IfOk r (λ _. DocumentKeepsNone x)
-    keeps_none h = if_ok r (λ (f : IsSpacedDocument number s level d x). spaced.document_keeps_none number s level d x f) h
+    pub keeps_none : IfOk r (λ _. IsSpelledDocument keep number s level d x) → IfOk r (λ _. DocumentKeepsNone x)
+    keeps_none h = if_ok r (λ (f : IsSpelledDocument keep number s level d x). left.document_keeps_none keep s d f.0 x (spaced.document_keeps_none number s level d f.0 f.1) f.2) h
 
-    pub derived : IfOk r (λ _. IsSpacedDocument number s level d x) → IfOk r (λ _. AreWellFormed (document_data d))
+    pub derived : IfOk r (λ _. IsSpelledDocument keep number s level d x) → IfOk r (λ _. AreWellFormed (document_data d)) → bare_document x ≡ bare_document d
         → IfOk r (λ _. list_all is_space s.indent ≡ true → s.entry_autoformate_keep ≡ false → DocumentKeepsNone d → IsDocument true (print_document x 0) (document_data d))
-    derived h w =
-        if_both r (λ (f : IsSpacedDocument number s level d x) (fit : AreWellFormed (document_data d)). λ ok keep none. document_derived number s ok keep level 0 d x f none fit) h w
+    derived h w same =
+        if_both r
+        (λ (f : IsSpelledDocument keep number s level d x) (fit : AreWellFormed (document_data d)). λ ok flag none.
+        subst (IsDocument true (print_document x 0)) (same_data x d same) (document_derived number s ok level 0 d x (written_document number s flag keep level d f.0 x f.1 f.2 none fit)))
+        h w
 
-    pub comments : IfOk r (λ _. IsSpacedDocument number s level d x) → IfOk r (λ _. AreWellFormed (document_data d))
+    pub comments : IfOk r (λ _. IsSpelledDocument keep number s level d x) → IfOk r (λ _. AreWellFormed (document_data d))
         → IfOk r (λ _. list_all is_space s.indent ≡ true → s.entry_autoformate_keep ≡ false → s.no_comments ≡ false → DocumentKeepsNone d → CommentsStay d (print_document x 0))
     comments h w =
         if_both r
-        (λ (f : IsSpacedDocument number s level d x) (fit : AreWellFormed (document_data d)). λ ok keep with none e is i l. comments_stay number s ok keep with level 0 d x e is i f none fit l) h w
+        (λ (f : IsSpelledDocument keep number s level d x) (fit : AreWellFormed (document_data d)). λ ok flag with none e is i l.
+        comments_stay number s ok with level 0 d x e is i (written_document number s flag keep level d f.0 x f.1 f.2 none fit) l)
+        h w
 
-    pub prints : IfOk r (λ _. IsSpacedDocument number s level d x) → IfOk r (λ _. number ≡ 0 → IsPlain s → DocumentKeepsNone d → print_document x 0 ≡ canonical s.indent level (document_data d))
+    pub prints : IfOk r (λ _. IsSpelledDocument keep number s level d x) → IfOk r (λ _. number ≡ 0 → keep ≡ false → IsPlain s → DocumentKeepsNone d → print_document x 0 ≡ canonical s.indent level (document_data d))
     prints h =
         if_ok r
-        (λ (f : IsSpacedDocument number s level d x). λ e p k. ap (λ (y : Document). print_document y 0)
-        (layout.document_left_out s level d x p.0 (document_formatted s level d x (of_none number (λ (n : ℕ). IsSpacedDocument n s level d x) f e))) ∙ document_canonical s level 0 d p k)
+        (λ (f : IsSpelledDocument keep number s level d x). λ e k p c. ap (λ (y : Document). print_document y 0) (layout.document_left_out s level d x p.0 (plain_spelled keep number s level d x k e f)) ∙ document_canonical s level 0 d p c)
         h
 
     pub reads : IfOk r (λ _. AreWellFormed (document_data d)) → IfOk r (λ _. list_all is_space s.indent ≡ true → Canonical s.indent level (document_data d))
     reads h = if_ok r (λ (w : AreWellFormed (document_data d)). λ ok. canonical_reads s.indent ok level (document_data d) w) h
 
   module _ (x n : Node) where
-    pub node_plainly : IfOk r (λ _. IsSpacedNode number s level at_start n x) → IfOk r (λ _. number ≡ 0 → IsFormattedNode s level n x)
-    node_plainly h = if_ok r (λ (f : IsSpacedNode number s level at_start n x). λ e. node_formatted s level at_start n x (of_none number (λ (k : ℕ). IsSpacedNode k s level at_start n x) f e)) h
+    pub node_plainly : IfOk r (λ _. IsSpelledNode keep number s level at_start n x) → IfOk r (λ _. number ≡ 0 → keep ≡ false → IsFormattedNode s level n x)
+    node_plainly h = if_ok r (λ (f : IsSpelledNode keep number s level at_start n x). λ e k. plain_spelled_node keep number s level n x k e f) h
 
-    pub node_plain : IfOk r (λ _. IsSpacedNode number s level at_start n x) → IfOk r (λ _. number ≡ 0 → s.no_comments ≡ true → x ≡ formatted_node s level n)
-    node_plain h =
-        if_ok r (λ (f : IsSpacedNode number s level at_start n x). λ e k. layout.left_out s level n x k (node_formatted s level at_start n x (of_none number (λ (y : ℕ). IsSpacedNode y s level at_start n x) f e))) h
+    pub node_plain : IfOk r (λ _. IsSpelledNode keep number s level at_start n x) → IfOk r (λ _. number ≡ 0 → keep ≡ false → s.no_comments ≡ true → x ≡ formatted_node s level n)
+    node_plain h = if_ok r (λ (f : IsSpelledNode keep number s level at_start n x). λ e k c. layout.left_out s level n x c (plain_spelled_node keep number s level n x k e f)) h
 
-    pub node_levels : IfOk r (λ _. IsSpacedNode number s level at_start n x) → IfOk r (λ _. NodeLevelsFit level n)
-    node_levels h = if_ok r (λ (f : IsSpacedNode number s level at_start n x). spaced.levels_fit number s level at_start n x f) h
+    pub node_levels : IfOk r (λ _. IsSpelledNode keep number s level at_start n x) → IfOk r (λ _. NodeLevelsFit level n)
+    node_levels h = if_ok r (λ (f : IsSpelledNode keep number s level at_start n x). spaced.levels_fit number s level at_start n f.0 f.1) h
 
-    pub node_keeps_none_then : IfOk r (λ _. IsSpacedNode number s level at_start n x) → IfOk r (λ _. NodeKeepsNone x)
-    node_keeps_none_then h = if_ok r (λ (f : IsSpacedNode number s level at_start n x). spaced.keeps_none number s level at_start n x f) h
+    pub node_keeps_none_then : IfOk r (λ _. IsSpelledNode keep number s level at_start n x) → IfOk r (λ _. NodeKeepsNone x)
+    node_keeps_none_then h = if_ok r (λ (f : IsSpelledNode keep number s level at_start n x). left.keeps_none keep s n f.0 x (spaced.keeps_none number s level at_start n f.0 f.1) f.2) h
 
-    pub node_derives : IfOk r (λ _. IsSpacedNode number s level at_start n x) → IfOk r (λ _. IsWellFormedNode (node_data n))
+    pub node_derives : IfOk r (λ _. IsSpelledNode keep number s level at_start n x) → IfOk r (λ _. IsWellFormedNode (node_data n)) → bare_node x ≡ bare_node n
         → IfOk r (λ _. list_all is_space s.indent ≡ true → s.entry_autoformate_keep ≡ false → NodeKeepsNone n → IsDocument true (print_node x 0) (data'.first (node_data n) data'.none))
-    node_derives h w =
-        if_both r (λ (f : IsSpacedNode number s level at_start n x) (fit : IsWellFormedNode (node_data n)). λ ok keep none. node_derived number s ok keep level 0 at_start n x f none fit) h w
+    node_derives h w same =
+        if_both r
+        (λ (f : IsSpelledNode keep number s level at_start n x) (fit : IsWellFormedNode (node_data n)). λ ok flag none.
+        subst (λ (y : data'.Node). IsDocument true (print_node x 0) (data'.first y data'.none)) (same_node_data x n same) (node_derived number s ok level 0 at_start n x (written_node number s flag keep level at_start n f.0 x f.1 f.2 none fit)))
+        h w
 
-    pub node_comments : IfOk r (λ _. IsSpacedNode number s level at_start n x) → IfOk r (λ _. IsWellFormedNode (node_data n))
+    pub node_comments : IfOk r (λ _. IsSpelledNode keep number s level at_start n x) → IfOk r (λ _. IsWellFormedNode (node_data n))
         → IfOk r (λ _. list_all is_space s.indent ≡ true → s.entry_autoformate_keep ≡ false → s.no_comments ≡ false → NodeKeepsNone n → NodeCommentsStay n (print_node x 0))
     node_comments h w =
         if_both r
-        (λ (f : IsSpacedNode number s level at_start n x) (fit : IsWellFormedNode (node_data n)). λ ok keep with none e is i l. node_comments_stay number s ok keep with level 0 at_start n x e is i f none fit l) h w
+        (λ (f : IsSpelledNode keep number s level at_start n x) (fit : IsWellFormedNode (node_data n)). λ ok flag with none e is i l.
+        node_comments_stay number s ok with level 0 at_start n x e is i (written_node number s flag keep level at_start n f.0 x f.1 f.2 none fit) l)
+        h w
 
-    pub node_prints : IfOk r (λ _. IsSpacedNode number s level at_start n x) → IfOk r (λ _. number ≡ 0 → IsPlain s → NodeKeepsNone n → print_node x 0 ≡ canonical_node s.indent level (node_data n))
+    pub node_prints : IfOk r (λ _. IsSpelledNode keep number s level at_start n x) → IfOk r (λ _. number ≡ 0 → keep ≡ false → IsPlain s → NodeKeepsNone n → print_node x 0 ≡ canonical_node s.indent level (node_data n))
     node_prints h =
         if_ok r
-        (λ (f : IsSpacedNode number s level at_start n x). λ e p k. ap (λ (y : Node). print_node y 0)
-        (layout.left_out s level n x p.0 (node_formatted s level at_start n x (of_none number (λ (y : ℕ). IsSpacedNode y s level at_start n x) f e))) ∙ node_canonical s level 0 n p k)
+        (λ (f : IsSpelledNode keep number s level at_start n x). λ e k p c. ap (λ (y : Node). print_node y 0) (layout.left_out s level n x p.0 (plain_spelled_node keep number s level n x k e f)) ∙ node_canonical s level 0 n p c)
         h
 
     pub node_reads : IfOk r (λ _. IsWellFormedNode (node_data n)) → IfOk r (λ _. list_all is_space s.indent ≡ true → CanonicalNode s.indent level (node_data n))
     node_reads h = if_ok r (λ (w : IsWellFormedNode (node_data n)). λ ok. canonical_node_reads s.indent ok level (node_data n) w) h
 
--- with no number of blank lines
-pub at_zero : {A E : Type 0} (P : Type 0) (r : Result A E) → IfOk r (λ _. zero ≡ zero → P) → IfOk r (λ _. P)
-at_zero P r h = if_ok r (λ (f : zero ≡ zero → P). f refl) h
+-- where no blank lines and no spellings are kept
+pub at_zero : {A E : Type 0} (P : Type 0) (r : Result A E) (number : ℕ) (keep : Bool) → number ≡ 0 → keep ≡ false → IfOk r (λ _. number ≡ 0 → keep ≡ false → P) → IfOk r (λ _. P)
+at_zero P r number keep e k h = if_ok r (λ (f : number ≡ 0 → keep ≡ false → P). f e k) h
 
 -- the four spaces of the default configuration
 spaces_are : list_all is_space defaults.indent ≡ true

@@ -2,17 +2,19 @@
 use Rattle.std.proofs.Common.{◌≡◌, ℕ, suc, ◌+◌, Bool, List, [], ◌∷◌, length, map, Option, None, Some, option_map, refl, sym, ap, ◌∙◌, subst, Result, Ok, Err, IfOk, Vec, Global, arith}
 use Rattle.std.specs.Prelude.{is_some, slice_get, ◌-◌}
 use Rattle.kdl_value.proofs.WellFormed.{text_scalars}
-use Rattle.kdl_entry.specs.Tree.{identifier_tree, entry_tree, entry_data, unspelled}
+use Rattle.kdl_entry.specs.Tree.{Identifier, identifier_tree, entry_tree, entry_data, unspelled}
 use Rattle.kdl_text.specs.declared.span.SourceSpan.{SourceSpan}
-use Rattle.kdl_grammar.specs.Tree.{NodeFormat, document_data, Node, Children, Nodes, listed_nodes, Document, document, children_of, node_data, nodes_data, children_data, DocumentFormat}
+use Rattle.kdl_grammar.specs.Tree.{NodeFormat, document_data, Head, Node, node, Children, Nodes, listed_nodes, Document, document, children_of, node_data, nodes_data, children_data, DocumentFormat}
 use Rattle.kdl_fmt.specs.Config.{Settings, settings}
-use Rattle.kdl_fmt.specs.Spaced.{IsSpacedLine, IsSpacedContent, IsSpacedNode, IsSpacedChildren, AreSpacedNodes, IsSpacedDocument, PassesFormat, PassesNodes}
+use Rattle.kdl_fmt.specs.Internal.Names.{Keeps, KeepsName, unspelled_if, unspelled_unless}
+use Rattle.kdl_fmt.specs.Respelled.{IsRespelled, IsRespelledIf, AreRespelledChildren, AreRespelledNodes, AreSpelledEntries, IsSpelledDocument, IsSpelledNode}
+use Rattle.kdl_fmt.specs.Spaced.{IsSpacedLine, IsSpacedContent, IsSpacedChildren, AreSpacedNodes, PassesFormat, PassesNodes}
 use Rattle.kdl_fmt.specs.declared.blank.Before.{Before}
 use Rattle.kdl_fmt.specs.declared.config.Layout.{Layout}
 use Rattle.kdl_parts.specs.declared.format.KdlNodeFormat.{KdlNodeFormat}
 use Rattle.kdl_fmt.specs.Formatted.{or_empty, or_empty_document, bare_node, bare_nodes, bare_document}
 use Rattle.kdl_fmt.specs.WellFormed.{IsWellFormedNode, AreWellFormed, AreWellFormedChildren, AreWellFormedEntries}
-use Rattle.kdl_fmt.specs.WithComments.{AreFormattedEntries, has_block}
+use Rattle.kdl_fmt.specs.WithComments.{has_block}
 use Rattle.kdl_fmt.proofs.Entries.{scalars}
 use Rattle.kdl_parts.specs.Formats.{node_format_tree, node_texts, document_format_tree}
 use Rattle.kdl.specs.Iterators.{child_nodes, nodes_in}
@@ -28,11 +30,19 @@ pub if_ok : {A E P Q : Type 0} (r : Result A E) → (P → Q) → IfOk r (λ (a 
 if_ok (Ok a) f p = f p
 if_ok (Err e) f p = p
 
-pub nodes_laid : (l : Layout) (level : ℕ) (b : Before) (ns ms : List Node) → NodesAreSpaced l level b ns ms → AreSpacedNodes l.blank_lines (settings l.config) level b (listed_nodes ns) (listed_nodes ms)
-nodes_laid l level b [] [] h = tt
+-- what nodes were laid out to be, before their spellings were put back
+pub record LaidNodes (l : Layout) (level : ℕ) (b : Before) (ns ms : List Node) : Type 0 where
+  pub between : List Node
+  pub spaced : AreSpacedNodes l.blank_lines (settings l.config) level b (listed_nodes ns) (listed_nodes between)
+  pub respelled : AreRespelledNodes l.keep_spelling (settings l.config) (listed_nodes ns) (listed_nodes between) (listed_nodes ms)
+
+pub nodes_laid : (l : Layout) (level : ℕ) (b : Before) (ns ms : List Node) → NodesAreSpaced l level b ns ms → LaidNodes l level b ns ms
+nodes_laid l level b [] [] h = record { between = []; spaced = tt; respelled = tt }
 nodes_laid l level b [] (m ∷ ms) h = absurd h
 nodes_laid l level b (n ∷ ns) [] h = absurd h
-nodes_laid l level b (n ∷ ns) (m ∷ ms) h = (h.0, h.1.0, h.2, nodes_laid l level h.0 ns ms h.3)
+nodes_laid l level b (n ∷ ns) (m ∷ ms) (b', ((x, f, r), w), p, h) =
+    let y = nodes_laid l level b' ns ms h in
+    record { between = x ∷ y.between; spaced = (b', f, p, y.spaced); respelled = (r, y.respelled) }
 
 pub nodes_fit : (l : Layout) (level : ℕ) (b : Before) (ns ms : List Node) → NodesAreSpaced l level b ns ms → AreWellFormed (nodes_data (listed_nodes ns))
 nodes_fit l level b [] ms h = tt
@@ -53,21 +63,42 @@ pub block_there : (o : Option KdlDocument) (b : Bool) → b ≡ is_some o → b 
 block_there None b e = e
 block_there (Some d) b e = e
 
+-- a block with other nodes, and with the spellings of these put back
+pub respelled_block : (keep : Bool) (s : Settings) (o : Option KdlDocument) (x : Option DocumentFormat) (xs ms : List Node) → AreRespelledNodes keep s (nodes_tree (nodes_in o)) (listed_nodes xs) (listed_nodes ms)
+    → AreRespelledChildren keep s (children_of (option_map document_tree o)) (with_texts x (filled_block o xs)) (with_texts x (filled_block o ms))
+respelled_block keep s None x xs ms r = tt
+respelled_block keep s (Some d) x xs ms r = rw (document_tree_out d) (refl, refl, r)
+
 -- a node of which the parts are known
 module _ (m n : KdlNode) where
-  pub laid_node : (number : ℕ) (s : Settings) (level : ℕ) (c : Before) (b : Bool) (ms : List Node) → b ≡ is_some (out-KdlNode n).children
-      → option_map identifier_tree (out-KdlNode m).ty ≡ option_map unspelled (option_map identifier_tree (out-KdlNode n).ty)
-      → identifier_tree (out-KdlNode m).name ≡ unspelled (identifier_tree (out-KdlNode n).name)
-      → AreFormattedEntries s (map entry_tree (out-KdlNode n).entries.items) (map entry_tree (out-KdlNode m).entries.items)
+  pub laid_node : (keep : Bool) (number : ℕ) (s : Settings) (level : ℕ) (c : Before) (b : Bool) (xs ms : List Node) → b ≡ is_some (out-KdlNode n).children
+      → (keeps_type keeps_name : Bool) → Keeps keep (option_map identifier_tree (out-KdlNode n).ty) keeps_type → KeepsName keep (identifier_tree (out-KdlNode n).name) keeps_name
+      → option_map identifier_tree (out-KdlNode m).ty ≡ unspelled_if keeps_type (option_map identifier_tree (out-KdlNode n).ty)
+      → identifier_tree (out-KdlNode m).name ≡ unspelled_unless keeps_name (identifier_tree (out-KdlNode n).name)
+      → AreSpelledEntries keep s (map entry_tree (out-KdlNode n).entries.items) (map entry_tree (out-KdlNode m).entries.items)
       → (f : Option NodeFormat) → option_map node_format_tree (out-KdlNode m).format ≡ f → IsSpacedLine number s level b c (or_empty (option_map node_format_tree (out-KdlNode n).format)) f
       → (out-KdlNode m).span ≡ (out-KdlNode n).span
-      → (o : Option KdlDocument) → (out-KdlNode m).children ≡ o → (x : Option DocumentFormat) → IsSpacedChildren number s level (children_of (option_map document_tree (out-KdlNode n).children)) (with_texts x (filled_block o ms))
-      → IsSpacedNode number s level c (node_tree n) (with_braces x (filled m ms))
-  laid_node number s level c b ms e ty name entries f g line span o is x k =
-      let own = subst (λ (x : Bool). IsSpacedLine number s level x c (or_empty (option_map node_format_tree (out-KdlNode n).format)) (option_map node_format_tree (out-KdlNode m).format))
-      (block_there (out-KdlNode n).children b e) (rw g line) in
-      let k' = subst (λ (z : Option KdlDocument). IsSpacedChildren number s level (children_of (option_map document_tree (out-KdlNode n).children)) (with_texts x (filled_block z ms))) (sym is) k in
-      rw (node_tree_out n) (record { ty = ty; name = name; entries = entries; format = own; span = span }, k')
+      → (o : Option KdlDocument) → (out-KdlNode m).children ≡ o → o ≡ (out-KdlNode n).children
+      → (x : Option DocumentFormat) → IsSpacedChildren number s level (children_of (option_map document_tree (out-KdlNode n).children)) (with_texts x (filled_block o xs))
+      → AreRespelledNodes keep s (nodes_tree (child_nodes n)) (listed_nodes xs) (listed_nodes ms)
+      → IsSpelledNode keep number s level c (node_tree n) (with_braces x (filled m ms))
+  laid_node keep number s level c b xs ms e kt kn keeps_type keeps_name ty' name' (es, entries, spellings) f g line span o is was x k r =
+      let N = out-KdlNode n in
+      let o' = option_map identifier_tree N.ty in
+      let i = identifier_tree N.name in
+      let ty : IsRespelledIf keep o' (option_map unspelled o') (option_map identifier_tree (out-KdlNode m).ty) = subst (λ (z : Option Identifier). IsRespelledIf keep o' (option_map unspelled o') z) (sym ty') keeps_type in
+      let name : IsRespelled keep i (unspelled i) (identifier_tree (out-KdlNode m).name) = subst (λ (z : Identifier). IsRespelled keep i (unspelled i) z) (sym name') keeps_name in
+      let own = subst (λ (x : Bool). IsSpacedLine number s level x c (or_empty (option_map node_format_tree N.format)) f) (block_there N.children b e) line in
+      let mid : Head = record { ty = option_map unspelled (option_map identifier_tree N.ty); name = unspelled (identifier_tree N.name); entries = es; format = f; span = N.span } in
+      let r' : AreRespelledNodes keep s (nodes_tree (nodes_in o)) (listed_nodes xs) (listed_nodes ms) = subst (λ (z : Option KdlDocument). AreRespelledNodes keep s (nodes_tree (nodes_in z)) (listed_nodes xs) (listed_nodes ms)) (sym was) r in
+      let block : AreRespelledChildren keep s (children_of (option_map document_tree N.children)) (with_texts x (filled_block o xs)) (with_texts x (filled_block (out-KdlNode m).children ms)) =
+      subst (λ (z : Option KdlDocument). AreRespelledChildren keep s (children_of (option_map document_tree N.children)) (with_texts x (filled_block o xs)) (with_texts x (filled_block z ms))) (sym is)
+      (subst (λ (z : Option KdlDocument). AreRespelledChildren keep s (children_of (option_map document_tree z)) (with_texts x (filled_block o xs)) (with_texts x (filled_block o ms))) was (respelled_block keep s o x xs ms r')) in
+      rw (node_tree_out n) (
+        node mid (with_texts x (filled_block o xs)),
+        (record { ty = refl; name = refl; entries = entries; format = own; span = refl }, k),
+        (record { ty = ty; name = name; entries = spellings; format = g; span = span }, block),
+      )
 
 -- and a document
 module _ (m d : KdlDocument) (span : (out-KdlDocument m).span ≡ (out-KdlDocument d).span) where
@@ -80,11 +111,11 @@ module _ (m d : KdlDocument) (span : (out-KdlDocument m).span ≡ (out-KdlDocume
 
     pub laid_content : (l : Layout) (level : ℕ) (b : Before) (f : Option DocumentFormat) → option_map document_format_tree (out-KdlDocument m).format ≡ f
         → IsSpacedContent l.blank_lines (settings l.config) level (nodes_tree (out-KdlDocument d).nodes.items) (or_empty_document (option_map document_format_tree (out-KdlDocument d).format)) b f
-        → NodesAreSpaced l level b (map node_tree (out-KdlDocument d).nodes.items) (map node_tree v.items) → IsSpacedDocument l.blank_lines (settings l.config) level (document_tree d) (document_tree m)
+        → NodesAreSpaced l level b (map node_tree (out-KdlDocument d).nodes.items) (map node_tree v.items) → IsSpelledDocument l.keep_spelling l.blank_lines (settings l.config) level (document_tree d) (document_tree m)
     laid_content l level b f g c k =
-        let k' : AreSpacedNodes l.blank_lines (settings l.config) level b (nodes_tree (out-KdlDocument d).nodes.items) (nodes_tree (out-KdlDocument m).nodes.items) =
-        rw holds (nodes_laid l level b (map node_tree (out-KdlDocument d).nodes.items) (map node_tree v.items) k) in
-        rw (document_tree_out d, document_tree_out m) (b, rw g c, span, k')
+        let x = nodes_laid l level b (map node_tree (out-KdlDocument d).nodes.items) (map node_tree v.items) k in
+        let r : AreRespelledNodes l.keep_spelling (settings l.config) (nodes_tree (out-KdlDocument d).nodes.items) (listed_nodes x.between) (nodes_tree (out-KdlDocument m).nodes.items) = rw holds x.respelled in
+        rw (document_tree_out d, document_tree_out m) (document f (out-KdlDocument d).span (listed_nodes x.between), (b, c, refl, x.spaced), (g, span, r))
 
 pub fitting_document : (d : KdlDocument) → AreWellFormed (nodes_data (nodes_tree (out-KdlDocument d).nodes.items)) → AreWellFormed (document_data (document_tree d))
 fitting_document d w = subst (λ (x : Document). AreWellFormed (document_data x)) (sym (document_tree_out d)) w

@@ -8,12 +8,15 @@ use Rattle.kdl_entry.specs.Tree.{Entry, entry_tree, identifier_tree, unspelled}
 use Rattle.kdl_fmt.specs.Config.{Settings, indentation, settings}
 use Rattle.kdl_fmt.specs.Formatted.{or_empty, or_empty_document}
 use Rattle.kdl_fmt.specs.KeptForm.{EntriesKeepReading, DocumentKeepsReading, NodesKeepReading}
-use Rattle.kdl_fmt.specs.Spaced.{IsSpacedContent, IsSpacedLine, IsSpacedNode}
+use Rattle.kdl_fmt.specs.Internal.Names.{Keeps, KeepsName, unspelled_if, unspelled_unless}
+use Rattle.kdl_fmt.specs.Respelled.{IsSpelledNode}
+use Rattle.kdl_fmt.specs.Spaced.{IsSpacedContent, IsSpacedLine}
 use Rattle.kdl_fmt.specs.WithComments.{has_block}
 use Rattle.kdl_fmt.specs.declared.blank.Before.{Before}
 use Rattle.kdl_fmt.specs.declared.config.Layout.{Layout}
 use Rattle.kdl_fmt.proofs.Entries.{scalars}
 use Rattle.kdl_fmt.proofs.Formatting.PartsRead.{closed_reads, document_reads, own_reads}
+use Rattle.kdl_fmt.proofs.Respelling.Written.{NameReads, NameReadsIf, respelled_reads, respelled_reads_if}
 use Rattle.kdl_grammar.specs.ReadsBack.{Rests, Anything, AddsNothing, EntryReads, IsGapBefore, last_rests, NodesRead, last_node, next_node, ContentReads, two_texts, with_nodes as content_nodes, BlockReads, block, DocumentReads}
 use Rattle.kdl_grammar.specs.Tree.{DocumentFormat, NodeFormat, Head, Node, node, no_children, children, children_of, document, Nodes, none, first, listed_nodes}
 use Rattle.kdl_grammar.proofs.ReadingBack.Composing.{block_reads, entries_read, with_block}
@@ -144,9 +147,9 @@ last_open l (a ∷ above) outer inner d level c olds u =
     last_open l above outer inner d (level + 1) q.0 q.1 q.3
 
 -- the texts around the nodes of a block, which are laid out
-pub braced_stays : (number : ℕ) (s : Settings) → list_all is_space s.indent ≡ true → (level : ℕ) (b : Before) (o n : Node) (g : Option DocumentFormat) → IsSpacedNode number s level b o (with_braces g n) → StaysAs s n (with_braces g n)
-braced_stays number s ok level b o (node h no_children) g w P x = x
-braced_stays number s ok level b o (node h (children (document f at ms))) g w P x = (closed_reads number s ok level b o h f g at ms w x.0, x.1)
+pub braced_stays : (keep : Bool) (number : ℕ) (s : Settings) → list_all is_space s.indent ≡ true → (level : ℕ) (b : Before) (o n : Node) (g : Option DocumentFormat) → IsSpelledNode keep number s level b o (with_braces g n) → StaysAs s n (with_braces g n)
+braced_stays keep number s ok level b o (node h no_children) g w P x = x
+braced_stays keep number s ok level b o (node h (children (document f at ms))) g w P x = (closed_reads number s ok keep level b o h f g at ms w x.0, x.1)
 
 -- the next node
 pub next_stays : (l : Layout) (above : List Block) (b b' : Block) (n m : KdlNode) → b.at < length b.nodes.items → get_or b.nodes.items b.at n ≡ n → b'.nodes.items ≡ set b.nodes.items b.at m
@@ -173,20 +176,21 @@ end_stays l ok above outer inner b n m h g e is all level c olds u =
     q.2 ns (partly_all l (there.0 + 1) q.0 inner.next q.1 inner.nodes.items inner.at all q.3.1) in
     let own : StaysAs s (filled (get_or outer.nodes.items outer.at n) ns) (node_tree m) =
     subst (λ (x : Node). StaysAs s (filled (get_or outer.nodes.items outer.at n) ns) x) (ap (λ (x : KdlNode). with_braces braces (filled x ns)) g ∙ sym e)
-    (braced_stays l.blank_lines s ok there.0 there.1 there.2 (filled (get_or outer.nodes.items outer.at n) ns) braces spaced.0) in
+    (braced_stays l.keep_spelling l.blank_lines s ok there.0 there.1 there.2 (filled (get_or outer.nodes.items outer.at n) ns) braces spaced.0) in
     subst (λ (z : List Node). StayAs s z (whole above b)) (sym (outermost_more above outer ns))
     (subst (λ (z : List KdlNode). StayAs s (outermost above (with_at (λ x. filled x ns) outer.nodes.items outer.at)) (outermost above (map node_tree z))) (sym is)
     (outermost_stays s above _ _ (pointwise s _ _ (set_with_stays s (λ x. filled x ns) outer.nodes.items outer.at m n h own))))
 
 -- a node of which all but the block is laid out
 pub own_stays : (l : Layout) → list_all is_space (settings l.config).indent ≡ true → (level : ℕ) (c : Before) (n m : KdlNode) (b : Bool) → b ≡ is_some (out-KdlNode n).children
-    → option_map identifier_tree (out-KdlNode m).ty ≡ option_map unspelled (option_map identifier_tree (out-KdlNode n).ty)
-    → identifier_tree (out-KdlNode m).name ≡ unspelled (identifier_tree (out-KdlNode n).name)
+    → (keeps_type keeps_name : Bool) → Keeps l.keep_spelling (option_map identifier_tree (out-KdlNode n).ty) keeps_type → KeepsName l.keep_spelling (identifier_tree (out-KdlNode n).name) keeps_name
+    → option_map identifier_tree (out-KdlNode m).ty ≡ unspelled_if keeps_type (option_map identifier_tree (out-KdlNode n).ty)
+    → identifier_tree (out-KdlNode m).name ≡ unspelled_unless keeps_name (identifier_tree (out-KdlNode n).name)
     → (f : Option NodeFormat) → option_map node_format_tree (out-KdlNode m).format ≡ f → IsSpacedLine l.blank_lines (settings l.config) level b c (or_empty (option_map node_format_tree (out-KdlNode n).format)) f
     → (olds es : List Entry) → map entry_tree (out-KdlNode n).entries.items ≡ olds → map entry_tree (out-KdlNode m).entries.items ≡ es
     → (EntriesKeepReading (settings l.config) olds → All EntryReads olds → All EntryReads es × EntriesKeepReading (settings l.config) es)
     → (out-KdlNode m).children ≡ (out-KdlNode n).children → StaysAs (settings l.config) (node_tree n) (node_tree m)
-own_stays l ok level c n m b e ty name f g line olds es was is reads kids P x =
+own_stays l ok level c n m b e kt kn keeps_type keeps_name ty name f g line olds es was is reads kids P x =
     let s = settings l.config in
     let N = out-KdlNode n in
     let M = out-KdlNode m in
@@ -199,7 +203,9 @@ own_stays l ok level c n m b e ty name f g line olds es was is reads kids P x =
     subst (λ (z : Option NodeFormat). IsSpacedLine l.blank_lines s level (has_block k) c (or_empty (option_map node_format_tree N.format)) z) (sym g)
     (subst (λ (z : Bool). IsSpacedLine l.blank_lines s level z c (or_empty (option_map node_format_tree N.format)) f) (block_there N.children b e) line) in
     subst (NodeStays s P) (ap (λ (o : Option KdlDocument). node (head_tree M) (children_of (option_map document_tree o))) (sym kids) ∙ sym (node_tree_out m)) (
-      own_reads l.blank_lines s ok level c (head_tree N) (head_tree M) (or_empty (option_map node_format_tree N.format)) k (option_map identifier_tree N.ty) (identifier_tree N.name) ty name (scalars N.ty) (text_scalars N.name.value) all own old.0,
+      own_reads l.blank_lines s ok level c (head_tree N) (head_tree M) (or_empty (option_map node_format_tree N.format)) k
+          (subst NameReadsIf (sym ty) (respelled_reads_if l.keep_spelling (option_map identifier_tree N.ty) (option_map unspelled (option_map identifier_tree N.ty)) (unspelled_if kt (option_map identifier_tree N.ty)) refl (scalars N.ty) keeps_type))
+          (subst NameReads (sym name) (respelled_reads l.keep_spelling (identifier_tree N.name) (unspelled (identifier_tree N.name)) (unspelled_unless kn (identifier_tree N.name)) refl (text_scalars N.name.value) keeps_name)) all own old.0,
       (keep, old.1.1),
     )
 

@@ -7,7 +7,8 @@ use Rattle.kdl_parts.specs.Formats.{document_format_tree}
 use Rattle.kdl_parts.specs.declared.format.KdlDocumentFormat.{KdlDocumentFormat}
 use Rattle.kdl_fmt.specs.Config.{Settings, indentation, settings}
 use Rattle.kdl_fmt.specs.KeptForm.{NodeKeepsReading, NodesKeepReading}
-use Rattle.kdl_fmt.specs.Spaced.{IsSpacedNode, PassesNode}
+use Rattle.kdl_fmt.specs.Respelled.{IsSpelledNode}
+use Rattle.kdl_fmt.specs.Spaced.{PassesNode}
 use Rattle.kdl_fmt.specs.WellFormed.{IsWellFormedNode}
 use Rattle.kdl_fmt.specs.declared.blank.Before.{Before}
 use Rattle.kdl_fmt.specs.declared.config.Layout.{Layout}
@@ -52,7 +53,7 @@ whole above inner = outermost above (map node_tree inner.nodes.items)
 
 -- the second node is the first one, laid out after what comes before it, and its texts can be printed
 abbrev pub NodeIsSpaced : Layout → ℕ → Before → Node → Node → Type 0
-NodeIsSpaced l level b n n' = IsSpacedNode l.blank_lines (settings l.config) level b n n' × IsWellFormedNode (node_data n)
+NodeIsSpaced l level b n n' = IsSpelledNode l.keep_spelling l.blank_lines (settings l.config) level b n n' × IsWellFormedNode (node_data n)
 
 -- what comes before whatever follows a node
 abbrev pub PassesAt : Layout → Node → Before → Type 0

@@ -132,22 +132,28 @@ impl KdlDocument {
         let layout = Layout {
             config: *config,
             blank_lines: 0,
+            keep_spelling: false,
         };
         self.lay_out(&layout)
     }
 
     /// Formats the document like `autoformat_config`, and keeps blank lines between nodes, and between comments and
     /// slashdashed pieces that are kept: as many as there are, but at most the layout's number. There are none at the
-    /// start and at the end of the document, and of a block.
+    /// start and at the end of the document, and of a block. If the layout keeps spellings, a value, a name, a key or a
+    /// type keeps its spelling if this means what it did; an entry that is flagged to keep its form is laid out as
+    /// without that.
     ///
     /// Returns an error if an allocation fails, or if the level of a child, or a number of newlines, would exceed
     /// `usize::MAX`. The data of the document is then unchanged, and some of it may be formatted. If the
     /// indent is spaces, it still prints a text with the same data, as after `autoformat`.
     ///
     /// ```
-    /// let layout = Layout { config: FormatConfig::default(), blank_lines: 1 };
+    /// let layout = Layout { blank_lines: 1, ..Layout::new() };
     /// let mut document = KdlDocument::parse(alloc, "a;b\n\n\n\nc")?;
     /// document.autoformat_layout(&layout)?; // prints `a`, `b`, an empty line and `c`
+    /// let layout = Layout { keep_spelling: true, ..Layout::new() };
+    /// let mut document = KdlDocument::parse(alloc, "a   0x10;\"b\"")?;
+    /// document.autoformat_layout(&layout)?; // prints `a 0x10` and `"b"`
     /// ```
     pub fn autoformat_layout(&mut self, layout: &Layout) -> Result<(), AllocError>
         ensures data { document_says self.new ≡ document_says self.old }
@@ -158,9 +164,9 @@ impl KdlDocument {
             → DocumentReadsBack self.old → DocumentReadsBack self.new }
         ensures formatted { OnOk result (DocumentSpaced layout.now self.old self.new) }
         ensures unspaced { OnOk result (layout.now.blank_lines ≡ 0
-            → DocumentLaidOut (settings layout.now.config) self.old self.new) }
+            → layout.now.keep_spelling ≡ false → DocumentLaidOut (settings layout.now.config) self.old self.new) }
         ensures plain { OnOk result (layout.now.blank_lines ≡ 0
-            → layout.now.config.no_comments ≡ true
+            → layout.now.keep_spelling ≡ false → layout.now.config.no_comments ≡ true
             → document_tree self.new ≡ plain_document (settings layout.now.config) self.old) }
         ensures levels { OnOk result
             (DocumentLevelsFit layout.now.config.indent_level (document_tree self.old)) }
@@ -173,7 +179,7 @@ impl KdlDocument {
             → layout.now.config.no_comments ≡ false → DocumentKeepsNoForm self.old
             → CommentsStay (document_tree self.old) (document_prints self.new)) }
         ensures prints { OnOk result (layout.now.blank_lines ≡ 0
-            → IsPlain (settings layout.now.config) → DocumentKeepsNoForm self.old
+            → layout.now.keep_spelling ≡ false → IsPlain (settings layout.now.config) → DocumentKeepsNoForm self.old
             → document_prints self.new ≡ canonical (settings layout.now.config).indent
             layout.now.config.indent_level (document_says self.old)) }
         ensures reads { OnOk result (IndentsBySpaces (settings layout.now.config)

@@ -14,7 +14,8 @@ ghost use Rattle.kdl_fmt.specs.Canonical.{CanonicalNode, canonical_node};
 ghost use Rattle.kdl_fmt.specs.Config.{IsPlain, defaults, indentation, settings, without_comments};
 ghost use Rattle.kdl_fmt.specs.Formatted.{NodeLevelsFit, bare_node};
 ghost use Rattle.kdl_fmt.specs.WellFormed.{IsWellFormedNode};
-ghost use Rattle.kdl_fmt.specs.Spaced.{AreSpacedNodes, IsSpacedChildren, IsSpacedNode};
+ghost use Rattle.kdl_fmt.specs.Respelled.{IsSpelledNode};
+ghost use Rattle.kdl_fmt.specs.Spaced.{AreSpacedNodes, IsSpacedChildren};
 ghost use Rattle.kdl_grammar.specs.Data as data';
 ghost use Rattle.kdl_grammar.specs.Grammar.{IsDocument};
 ghost use Rattle.kdl_grammar.specs.Tree.{Node, children_of, listed_nodes};
@@ -25,7 +26,8 @@ ghost use Rattle.std.specs.Str.{chars};
 use crate::document::KdlDocument;
 use crate::layout::lay_out_nodes;
 use crate::node::KdlNode;
-use kdl_fmt::layout::{behind_line, clear_spelling, indentation, lay_out_entries, lay_out_line};
+use kdl_fmt::layout::{behind_line, indentation, lay_out_entries, lay_out_line};
+use kdl_fmt::names::{clear_type_unless, clear_unless, keeps_spelling, keeps_type_spelling};
 use kdl_fmt::{Before, FormatConfig, Last, Layout};
 use kdl_parts::KdlDocumentFormat;
 use std::alloc::AllocError;
@@ -137,22 +139,28 @@ impl KdlNode {
         let layout = Layout {
             config: *config,
             blank_lines: 0,
+            keep_spelling: false,
         };
         self.lay_out_alone(&layout)
     }
 
     /// Formats the node like `autoformat_config`, and keeps blank lines between the nodes in its blocks, and between
     /// comments and slashdashed pieces that are kept: as many as there are, but at most the layout's number. There are
-    /// none before the node, and none at the start and at the end of a block.
+    /// none before the node, and none at the start and at the end of a block. If the layout keeps spellings, a value, a
+    /// name, a key or a type keeps its spelling if this means what it did; an entry that is flagged to keep its form is
+    /// laid out as without that.
     ///
     /// Returns an error if an allocation fails, or if the level of a child, or a number of newlines, would exceed
     /// `usize::MAX`. The data of the node is then unchanged, and some of it may be formatted. If the
     /// indent is spaces, it still prints a text with the same data, as after `autoformat`.
     ///
     /// ```
-    /// let layout = Layout { config: FormatConfig::default(), blank_lines: 1 };
+    /// let layout = Layout { blank_lines: 1, ..Layout::new() };
     /// let mut node = KdlNode::parse(alloc, "a {\n\nb\n\nc\n\n}")?;
     /// node.autoformat_layout(&layout)?; // prints `a {`, `b`, an empty line, `c` and `}`
+    /// let layout = Layout { keep_spelling: true, ..Layout::new() };
+    /// let mut node = KdlNode::parse(alloc, "\"a\"   0xff0000")?;
+    /// node.autoformat_layout(&layout)?; // prints `"a" 0xff0000`
     /// ```
     pub fn autoformat_layout(&mut self, layout: &Layout) -> Result<(), AllocError>
         ensures data { node_says self.new ≡ node_says self.old }
@@ -162,9 +170,9 @@ impl KdlNode {
             → NodeKeepsReading (settings layout.now.config) self.old → ReadsAs self.old self.new }
         ensures formatted { OnOk result (NodeSpaced layout.now self.old self.new) }
         ensures unspaced { OnOk result (layout.now.blank_lines ≡ 0
-            → NodeLaidOut (settings layout.now.config) self.old self.new) }
+            → layout.now.keep_spelling ≡ false → NodeLaidOut (settings layout.now.config) self.old self.new) }
         ensures plain { OnOk result (layout.now.blank_lines ≡ 0
-            → layout.now.config.no_comments ≡ true
+            → layout.now.keep_spelling ≡ false → layout.now.config.no_comments ≡ true
             → node_tree self.new ≡ plain_node (settings layout.now.config) self.old) }
         ensures levels { OnOk result
             (NodeLevelsFit layout.now.config.indent_level (node_tree self.old)) }
@@ -178,7 +186,7 @@ impl KdlNode {
             → layout.now.config.no_comments ≡ false → NodeKeepsNoForm self.old
             → NodeCommentsStay (node_tree self.old) (node_prints self.new)) }
         ensures prints { OnOk result (layout.now.blank_lines ≡ 0
-            → IsPlain (settings layout.now.config) → NodeKeepsNoForm self.old
+            → layout.now.keep_spelling ≡ false → IsPlain (settings layout.now.config) → NodeKeepsNoForm self.old
             → node_prints self.new ≡ canonical_node (settings layout.now.config).indent
             layout.now.config.indent_level (node_says self.old)) }
         ensures reads { OnOk result (IndentsBySpaces (settings layout.now.config)
@@ -208,7 +216,8 @@ impl KdlNode {
         ensures kept { node_bare self.new ≡ node_bare self.old }
         ensures stays { IndentsBySpaces (settings layout.now.config)
             → StaysAs (settings layout.now.config) (node_tree self.old) (node_tree self.new) }
-        ensures formatted { OnOk result (IsSpacedNode layout.now.blank_lines
+        ensures formatted { OnOk result
+            (IsSpelledNode layout.now.keep_spelling layout.now.blank_lines
             (settings layout.now.config) level at_start (node_tree self.old) (node_tree self.new)) }
         ensures well_formed { OnOk result (IsWellFormedNode (node_says self.old)) }
     {
@@ -241,12 +250,14 @@ impl KdlNode {
             (map node_tree (child_nodes self.old)) self.new) }
     {
         let alloc = *self.entries.allocator();
+        let keeps_type = keeps_type_spelling(alloc, layout, &self.ty)?;
+        let keeps_name = keeps_spelling(alloc, layout, &self.name)?;
         let has_block = self.children.is_some();
         let (first, braces) = block_braces(&self.children, layout, level, before)?;
         let behind = lay_out_line(&mut self.format, alloc, layout, before, has_block, next)?;
-        clear_spelling(&mut self.ty);
-        self.name.clear_format();
-        lay_out_entries(&mut self.entries, &layout.config)?;
+        clear_type_unless(&mut self.ty, keeps_type);
+        clear_unless(&mut self.name, keeps_name);
+        lay_out_entries(&mut self.entries, layout)?;
         Ok((behind, first, braces))
     }
 

@@ -1,17 +1,10 @@
 -- An entry that is laid out reads back where it did before.
-use Rattle.std.proofs.Common.{◌≡◌, zero, suc, Bool, true, false, ◌||◌, List, [], ◌∷◌, ◌++◌, refl, sym, ap, subst, ◌∙◌, Option, Some, None, option_map, append_assoc, append-nil, arith}
+use Rattle.std.proofs.Common.{◌≡◌, zero, suc, Bool, true, false, ◌||◌, List, [], ◌∷◌, refl, sym, ap, subst, ◌∙◌, Option, Some, None, option_map, arith}
 use Rattle.std.proofs.lemmas.List.Elements.{All-cons, All-nil}
 use Rattle.std.specs.List.{All}
-use Rattle.kdl_text.specs.Chars.{Text, Star}
+use Rattle.kdl_text.specs.Chars.{Text}
 use Rattle.kdl_value.specs.Data.{Value}
-use Rattle.kdl_value.specs.Spelled.{spelled}
-use Rattle.kdl_entry.specs.Data as data'
-use Rattle.kdl_entry.specs.Entries.{untyped, IsPlainValue, IsValue, value, IsEntry, property, argument}
-use Rattle.kdl_entry.specs.Tree.{Identifier, Entry, EntryFormat, unspelled, with_keep, autoformatted, autoformatted_format, entry_data}
-use Rattle.kdl_entry.proofs.Moving.EntryMoves.{punctuation_end}
-use Rattle.kdl_entry.proofs.Laying.ValueReadsBack.{printed_string, printed_value}
-use Rattle.kdl_grammar.specs.Data as nodes'
-use Rattle.kdl_grammar.specs.Grammar.{AfterName}
+use Rattle.kdl_entry.specs.Tree.{Identifier, Entry, EntryFormat, unspelled, with_keep, autoformatted, entry_data}
 use Rattle.kdl_grammar.specs.ReadsBack.{EntryReads}
 use Rattle.kdl_grammar.proofs.Laying.LaidIsDerived.{first_entry}
 use Rattle.kdl_comments.specs.Items.{before_entry, PlaceItems}
@@ -20,64 +13,33 @@ use Rattle.kdl_fmt.specs.Config.{Settings}
 use Rattle.kdl_fmt.specs.Formatted.{with_keep_if}
 use Rattle.kdl_fmt.specs.Kept.{Written, WrittenUnless, entry_leading, is_kept_format}
 use Rattle.kdl_fmt.specs.KeptForm.{KeepsReading, EntriesKeepReading}
-use Rattle.kdl_fmt.specs.WellFormed.{AreScalars, IsWellFormedEntry}
+use Rattle.kdl_fmt.specs.Respelled.{KeptValue, HasSpellings, HasSpellingsUnless, IsSpelledEntry}
+use Rattle.kdl_fmt.specs.WellFormed.{IsWellFormedEntry}
 use Rattle.kdl_fmt.specs.WithComments.{behind, IsFormattedEntry}
-use Rattle.kdl_fmt.proofs.EntryTexts.{name_of, type_text, key_text, key_joined, no_format}
-use Rattle.kdl_fmt.proofs.Formatting.CommentsReadBack.{type_reads}
+use Rattle.kdl_fmt.proofs.Formatting.CommentsReadBack.{entry_tail, item_reads}
 use Rattle.kdl_fmt.proofs.Formatting.FormattedUnique.{entry_keeps_none}
 use Rattle.kdl_fmt.proofs.Loops.{Each}
-use Rattle.kdl_fmt.proofs.Keeping.KeptPlaces.{space_ends, Tail, tail_of, tail_ends, tail_spaced}
+use Rattle.kdl_fmt.proofs.Keeping.KeptPlaces.{space_ends, tail_ends, tail_spaced}
 use Rattle.kdl_fmt.proofs.Keeping.KeptReads.{no_place}
+use Rattle.kdl_fmt.proofs.Respelling.Spellings.{value_before}
+use Rattle.kdl_fmt.proofs.Respelling.Written.{IsWrittenEntry, written_entry}
 
 -- an entry reads back, and so does what it keeps of its form
 abbrev pub Stays : Settings → Entry → Type 0
 Stays s e = EntryReads e × KeepsReading s e
 
--- what an entry prints before its value: what is kept, a space, its key and its type
-front_joined : (t k y r : Text) → ((t ++ (32 ∷ [])) ++ k ++ y ++ []) ++ r ≡ t ++ (32 ∷ (k ++ (y ++ r)))
-front_joined t k y r = simp (append_assoc, append-nil)
-
-bare_joined : (k y r : Text) → (32 ∷ k ++ y) ++ r ≡ 32 ∷ (k ++ (y ++ r))
-bare_joined k y r = simp append_assoc
-
-value_of : (o : Option Identifier) {v : Value} {r u : Text} → AreScalars (name_of o) → IsPlainValue true r u v → IsValue true (type_text o ++ r) u (name_of (option_map unspelled o)) v
-value_of None ok p = value untyped p
-value_of (Some i) {r = r} ok p = value (type_reads (Some i) r ok) p
-
-item_of : (k o : Option Identifier) {v : Value} {r u : Text} → AreScalars (name_of k) → AreScalars (name_of o) → IsPlainValue true r u v
-    → IsEntry true (key_text k ++ (type_text o ++ r)) u (record { key = name_of (option_map unspelled k); ty = name_of (option_map unspelled o); value = v })
-item_of None o a t p = argument (value_of o t p)
-item_of (Some i) o {r = r} a t p =
-    let rest = type_text o ++ r in
-    rw (key_joined (spelled i.value) rest) (property (printed_string i.value (61 ∷ rest) a (punctuation_end 61 refl)) Star.none Star.none (value_of o t p))
-
-front_of : (b : Text) (k o : Option Identifier) {v : Value} {r u t : Text} {es : List data'.Entry} {x : nodes'.Children} → Tail (before_entry false) b → AreScalars (name_of k) → AreScalars (name_of o)
-    → IsPlainValue true r u v → AfterName true u t es x
-    → AfterName true (b ++ (32 ∷ (key_text k ++ (type_text o ++ r)))) t (record { key = name_of (option_map unspelled k); ty = name_of (option_map unspelled o); value = v } ∷ es) x
-front_of b k o a ok t p d = first_entry (tail_spaced (before_entry false) a _) (item_of k o ok t p) d
-
 -- an entry that keeps no form
-unflagged_reads : (t : Text) (e : Entry) → Tail (before_entry false) t → autoformatted_format e.format ≡ None → IsWellFormedEntry (entry_data e) → EntryReads (behind t (autoformatted e))
-unflagged_reads [] e a n w =
-    rw n
-    (record {
-      begins = λ r. rw (bare_joined (key_text e.name) (type_text e.ty) r) (space_ends _);
-      front = λ {r} p d. rw (bare_joined (key_text e.name) (type_text e.ty) r) (front_of [] e.name e.ty Tail.nothing w.0 w.1 p d);
-      value = λ {r} x. printed_value e.value r w.2 x;
-      trailing = refl;
-    })
-unflagged_reads (c ∷ t) e a n w = record {
-  begins = λ r. rw (front_joined (c ∷ t) (key_text e.name) (type_text e.ty) r) (tail_ends a _ (space_ends _));
-  front = λ {r} p d. rw (front_joined (c ∷ t) (key_text e.name) (type_text e.ty) r) (front_of (c ∷ t) e.name e.ty a w.0 w.1 p d);
-  value = λ {r} x. printed_value e.value r w.2 x;
-  trailing = refl;
-}
+pub written_reads : (s : Settings) (e e' : Entry) → IsWrittenEntry s e e' → EntryReads e'
+written_reads s e e' w =
+    let a = entry_tail s e e' w in
+    record {
+      begins = λ r. rw (w.front r) (tail_ends a _ (space_ends _));
+      front = λ {r} p d. rw (w.front r) (first_entry (tail_spaced (before_entry false) a _) (item_reads e'.name e'.ty w.name w.ty p) d);
+      value = λ {r} x. rw w.value (value_before e'.value w.word r w.spelled x);
+      trailing = w.trailing;
+    }
 
 -- the flag is set
-flagged_data : (keep : Bool) (e : Entry) → IsWellFormedEntry (entry_data e) → IsWellFormedEntry (entry_data (with_keep_if keep e))
-flagged_data false e w = w
-flagged_data true e w = w
-
 flagged_reads : (keep : Bool) (e : Entry) → EntryReads e → EntryReads (with_keep_if keep e)
 flagged_reads false e h = h
 flagged_reads true e h = go e.format h
@@ -140,27 +102,60 @@ after_keeps true out e e' t k q m h y = go e.format k q h
         let same = q ∙ ap (λ (x : Text). behind x (autoformatted (record e { format = Some (with_keep f) }))) k in
         subst (λ (x : Entry). EntryReads (autoformatted (with_keep_if true x))) (sym same) (kept_formed e (Some f) (h refl) refl)
 
-laid_reads : (keep out : Bool) (e e' : Entry) (t : Text)
-    → WrittenUnless (is_kept_format (with_keep_if keep e).format || out) (PlaceItems (before_entry false) (entry_leading (with_keep_if keep e).format)) tail t
-    → e' ≡ behind t (autoformatted (with_keep_if keep e)) → IsWellFormedEntry (entry_data e)
-    → (is_kept_format (with_keep_if keep e).format ≡ true → EntryReads (autoformatted (with_keep_if keep e))) → EntryReads e'
-laid_reads keep out e e' t k q w h = go (is_kept_format (with_keep_if keep e).format) refl
+-- an entry that keeps its form, and has no text kept before it
+kept_reads : (b : Bool) → b ≡ true → (s : Settings) (e m : Entry) → is_kept_format (with_keep_if s.entry_autoformate_keep e).format ≡ b → IsFormattedEntry s e m → KeepsReading s e → EntryReads m
+kept_reads b x s e m y (t, k, q) h =
+    let f = with_keep_if s.entry_autoformate_keep e in
+    let none = flag_written (is_kept_format f.format) s.no_comments (entry_leading f.format) t (y ∙ x) k in
+    subst EntryReads (sym (q ∙ ap (λ (z : Text). behind z (autoformatted f)) none)) (h (y ∙ x))
+
+-- an entry that is laid out without its spelling
+plain_stays : (s : Settings) (e m : Entry) → IsFormattedEntry s e m → IsWellFormedEntry (entry_data e) → Stays s e → Stays s m
+plain_stays s e m f w h = (
+  go (is_kept_format (with_keep_if s.entry_autoformate_keep e).format) refl,
+  after_keeps s.entry_autoformate_keep s.no_comments e m f.0 f.1 f.2 (entry_keeps_none s e m f) h.1,
+)
   where
-    go : (b : Bool) → is_kept_format (with_keep_if keep e).format ≡ b → EntryReads e'
-    go true y =
-        let f = with_keep_if keep e in
-        let none = flag_written (is_kept_format f.format) out (entry_leading f.format) t y k in
-        subst EntryReads (sym (q ∙ ap (λ (z : Text). behind z (autoformatted f)) none)) (h y)
-    go false y =
-        let f = with_keep_if keep e in
-        subst EntryReads (sym q) (unflagged_reads t f (tail_of (is_kept_format f.format || out) (before_entry false) (entry_leading f.format) t k) (no_format f.format y) (flagged_data keep e w))
+    go : (b : Bool) → is_kept_format (with_keep_if s.entry_autoformate_keep e).format ≡ b → EntryReads m
+    go true y = kept_reads true refl s e m y f h.1
+    go false y = written_reads s e m (written_entry s false e m m f refl y w)
+
+-- an entry that has its spellings back is not flagged by the next layout either, unless it keeps its form
+still_none : (o : Option EntryFormat) → is_kept_format (option_map with_keep o) ≡ false → o ≡ None
+still_none None h = refl
+still_none (Some f) h = absurd cc
+
+formless_left : (v : Value) (o p q : Option EntryFormat) → o ≡ None → p ≡ None → KeptValue v o p q → q ≡ None
+formless_left v _ p _ x e (KeptValue.kept d) = absurd cc
+formless_left v _ p _ x e (KeptValue.other n) = e
+formless_left v _ p _ x e KeptValue.formless = e
+
+spelled_unflagged : (b out : Bool) (e m e' : Entry) (t : Text)
+    → WrittenUnless (is_kept_format (with_keep_if b e).format || out) (PlaceItems (before_entry false) (entry_leading (with_keep_if b e).format)) tail t
+    → m ≡ behind t (autoformatted (with_keep_if b e)) → is_kept_format (with_keep_if b e).format ≡ false → HasSpellings e m e' → is_kept_format e'.format ≡ false → is_kept_format (with_keep_if b e').format ≡ false
+spelled_unflagged false out e m e' t k q n h left = left
+spelled_unflagged true out e m e' t k q n h left =
+    let none = still_none e.format n in
+    let k' = subst (λ (o : Option EntryFormat). WrittenUnless (is_kept_format (option_map with_keep o) || out) (PlaceItems (before_entry false) (entry_leading (option_map with_keep o))) tail t) none k in
+    let empty = nothing_kept out t k' in
+    let q' = q ∙ ap (λ (o : Option EntryFormat). behind t (autoformatted (record e { format = option_map with_keep o }))) none ∙ ap (λ (u : Text). behind u (autoformatted (record e { format = None }))) empty in
+    let formless = formless_left e.value e.format m.format e'.format none (ap (λ (x : Entry). x.format) q') h.format in
+    ap (λ (o : Option EntryFormat). is_kept_format (option_map with_keep o)) formless
+
+clash : (b : Bool) → b ≡ false → b ≡ true → ⊥
+clash b x y = let z = sym x ∙ y in cc
 
 -- an entry that is laid out
-pub laid_stays : (s : Settings) (e e' : Entry) → IsFormattedEntry s e e' → IsWellFormedEntry (entry_data e) → Stays s e → Stays s e'
-laid_stays s e e' f w h = (
-  laid_reads s.entry_autoformate_keep s.no_comments e e' f.0 f.1 f.2 w h.1,
-  after_keeps s.entry_autoformate_keep s.no_comments e e' f.0 f.1 f.2 (entry_keeps_none s e e' f) h.1,
-)
+pub laid_stays : (keep : Bool) (s : Settings) (e e' : Entry) → IsSpelledEntry keep s e e' → IsWellFormedEntry (entry_data e) → Stays s e → Stays s e'
+laid_stays false s e e' (m, f, r) w h = subst (Stays s) (sym r) (plain_stays s e m f w h)
+laid_stays true s e e' (m, f, r) w h = go (is_kept_format (with_keep_if s.entry_autoformate_keep e).format) refl r
+  where
+    go : (b : Bool) → is_kept_format (with_keep_if s.entry_autoformate_keep e).format ≡ b → HasSpellingsUnless b e m e' → Stays s e'
+    go true y x = subst (Stays s) (sym x) (plain_stays s e m f w h)
+    go false y x =
+        let k = written_entry s true e m e' f r y w in
+        let u = spelled_unflagged s.entry_autoformate_keep s.no_comments e m e' f.0 f.1 f.2 y x k.left in
+        (written_reads s e e' k, λ z. absurd (clash _ u z))
 
 -- entries, one by one
 pub all_stay : (s : Settings) (es : List Entry) → All EntryReads es → EntriesKeepReading s es → Each (Stays s) es

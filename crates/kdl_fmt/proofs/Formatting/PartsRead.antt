@@ -1,15 +1,13 @@
 -- A node or document of which a part is laid out reads back where it did before.
-use Rattle.std.proofs.Common.{◌≡◌, ℕ, zero, suc, ◌+◌, Bool, true, false, List, [], ◌∷◌, ◌++◌, refl, sym, ap, subst, ◌∙◌, Option, Some, None, option_map, append_assoc, append-nil}
+use Rattle.std.proofs.Common.{◌≡◌, ℕ, zero, suc, ◌+◌, Bool, true, false, List, [], ◌∷◌, ◌++◌, refl, sym, ap, subst, ◌∙◌, Option, Some, None, append_assoc, append-nil}
 use Rattle.std.specs.List.{All, list_all}
 use Rattle.std.specs.Prelude.{if◌then◌else◌}
 use Rattle.kdl_text.specs.Chars.{Text, is_space}
 use Rattle.kdl_text.specs.Trivia.{ValueEnd}
 use Rattle.kdl_text.specs.declared.span.SourceSpan.{SourceSpan}
-use Rattle.kdl_value.specs.Spelled.{spelled}
 use Rattle.kdl_entry.specs.Data as data'
-use Rattle.kdl_entry.specs.Entries.{untyped}
-use Rattle.kdl_entry.specs.Tree.{Identifier, unspelled}
-use Rattle.kdl_entry.proofs.Laying.ValueReadsBack.{printed_string}
+use Rattle.kdl_entry.specs.Print.{print_identifier, print_type}
+use Rattle.kdl_entry.specs.Tree.{Identifier}
 use Rattle.kdl_grammar.specs.Data as nodes'
 use Rattle.kdl_grammar.specs.Grammar.{named, IsNode, AfterName, no_gap}
 use Rattle.kdl_grammar.specs.Places.{BeforeChildren}
@@ -24,13 +22,15 @@ use Rattle.kdl_fmt.specs.Blank.{at_start, past_node, spaced_lines}
 use Rattle.kdl_fmt.specs.Config.{Settings, indentation}
 use Rattle.kdl_fmt.specs.Formatted.{or_empty, or_empty_document, newline_if_none}
 use Rattle.kdl_fmt.specs.Kept.{KeptBeforeBlock, Written, WrittenUnless, last_place, without_bom}
-use Rattle.kdl_fmt.specs.WellFormed.{AreScalars}
+use Rattle.kdl_fmt.specs.Respelled.{IsRespelledNode, AreRespelledChildren, AreRespelledNodes, IsSpelledNode}
 use Rattle.kdl_fmt.specs.Spaced.{Spaces, SpacedLines, SpacesTexts, IsSpacedLine, IsSpacedContent, IsSpacedBraced, IsSpacedNode, IsSpacedChildren, AreSpacedNodes}
 use Rattle.kdl_fmt.specs.WithComments.{NodeTexts, line_of, has_block}
 use Rattle.kdl_fmt.specs.declared.blank.Before.{Before}
-use Rattle.kdl_fmt.proofs.EntryTexts.{name_of, type_text}
+use Rattle.kdl_fmt.proofs.EntryTexts.{name_of}
 use Rattle.kdl_fmt.proofs.Formatting.CommentsReadBack.{type_reads, empty_gap}
 use Rattle.kdl_fmt.proofs.Keeping.KeptPlaces.{newline_gap, gap_nodes, indentation_gap, Tail, tail_of, tail_spaced, LineEnd, line_end_of, line_terminator, last_text}
+use Rattle.kdl_fmt.proofs.Respelling.Spellings.{string_before}
+use Rattle.kdl_fmt.proofs.Respelling.Written.{NameReads, NameReadsIf}
 use Rattle.kdl_fmt.proofs.Spacing.Lines.{before_gap, lines_gap}
 
 -- nodes that end by themselves, before any rests
@@ -39,20 +39,49 @@ all_end P no_node = no_node
 all_end P (last_node x) = last_node (ends_before P x)
 all_end P (next_node x xs) = next_node x (all_end P xs)
 
--- a name and its type, without spelling
+-- a name and its type
 name_joined : (t n r : Text) → (t ++ [] ++ n) ++ r ≡ t ++ (n ++ r)
 name_joined t n r = simp (append_assoc, append-nil)
 
-named_reads : (y : Option Identifier) (i : Identifier) → AreScalars (name_of y) → AreScalars (Some i.value) → {r t : Text} {es : List data'.Entry} {k : nodes'.Children} → ValueEnd true r → AfterName true r t es k
-    → IsNode true ((type_text y ++ [] ++ spelled i.value) ++ r) t (nodes'.node (name_of (option_map unspelled y)) i.value es k)
-named_reads None i a n {r = r} e d = rw (name_joined (type_text None) (spelled i.value) r) (named untyped (printed_string i.value _ n e) d)
-named_reads (Some y) i a n {r = r} e d = rw (name_joined (type_text (Some y)) (spelled i.value) r) (named (type_reads (Some y) _ a) (printed_string i.value _ n e) d)
+named_reads : (y : Option Identifier) (i : Identifier) → NameReadsIf y → NameReads i → {r t : Text} {es : List data'.Entry} {k : nodes'.Children} → ValueEnd true r → AfterName true r t es k
+    → IsNode true ((print_type y [] [] ++ [] ++ print_identifier i) ++ r) t (nodes'.node (name_of y) i.value es k)
+named_reads y i a n {r = r} e d = rw (name_joined (print_type y [] []) (print_identifier i) r) (named (type_reads y _ a) (string_before (print_identifier i) i.value r n e) d)
 
 end_joined : (c b r : Text) → ((c ++ (10 ∷ [])) ++ b) ++ r ≡ c ++ (10 ∷ (b ++ r))
 end_joined c b r = simp append_assoc
 
 place_joined : (l s c b r : Text) → (l ++ s) ++ (((c ++ (10 ∷ [])) ++ b) ++ r) ≡ l ++ (s ++ (c ++ (10 ∷ (b ++ r))))
 place_joined l s c b r = simp append_assoc
+
+-- nodes of which the texts around their parts are laid out
+abbrev IsLined : ℕ → Settings → ℕ → Before → Node → Node → Type 0
+IsLined number s level b (node h k) (node h' k') = IsSpacedLine number s level (has_block k) b (or_empty h.format) h'.format × (has_block k ≡ has_block k')
+
+abbrev AreLined : ℕ → Settings → ℕ → Before → Nodes → Nodes → Type 0
+AreLined number s level b none none = Unit {0}
+AreLined number s level b (first n ns) (first n' ns') = (b' : Before) × IsLined number s level b n n' × AreLined number s level b' ns ns'
+AreLined number s level b _ _ = ⊥
+
+module _ (number : ℕ) (s : Settings) (keep : Bool) where
+  same_block : (level : ℕ) (k j k' : Children) → IsSpacedChildren number s level k j → AreRespelledChildren keep s k j k' → has_block k ≡ has_block k'
+  same_block level no_children no_children no_children c r = refl
+  same_block level no_children no_children (children d) c r = absurd r
+  same_block level no_children (children d) k' c r = absurd c
+  same_block level (children (document f at ns)) no_children k' c r = absurd c
+  same_block level (children d) (children m) no_children c r = absurd r
+  same_block level (children d) (children m) (children d') c r = refl
+
+  line_there : (level : ℕ) (b : Before) (n m n' : Node) → IsSpacedNode number s level b n m → IsRespelledNode keep s n m n' → IsLined number s level b n n'
+  line_there level b (node h k) (node m j) (node h' k') f r =
+      (subst (λ (x : Option NodeFormat). IsSpacedLine number s level (has_block k) b (or_empty h.format) x) (sym r.0.format) f.0.format, same_block level k j k' f.1 r.1)
+
+  lined : (level : ℕ) (b : Before) (ns ms ns' : Nodes) → AreSpacedNodes number s level b ns ms → AreRespelledNodes keep s ns ms ns' → AreLined number s level b ns ns'
+  lined level b none none none f r = tt
+  lined level b none none (first n' ns') f r = absurd r
+  lined level b none (first m ms) ns' f r = absurd f
+  lined level b (first n ns) none ns' f r = absurd f
+  lined level b (first n ns) (first m ms) none f r = absurd r
+  lined level b (first n ns) (first m ms) (first n' ns') f r = (f.0, line_there level b n m n' f.1 r.0, lined level f.0 ns ms ns' f.3 r.1)
 
 -- the place before the terminator
 before_end : (k : Children) {l space c : Text} → Tail (last_place (has_block k)) l → LineEnd space c → (r : Text) → BeforeTerminator k (l ++ (space ++ (c ++ (10 ∷ r)))) (c ++ (10 ∷ r))
@@ -73,13 +102,12 @@ module _ (number : ℕ) (s : Settings) (ok : list_all is_space s.indent ≡ true
 
   -- the line of a node
   module _ (level : ℕ) (has : Bool) (b : Before) (f : NodeFormat) (t : NodeTexts) (kept : SpacesTexts number s level has b f t) where
-    line_head : (h : Head) (y : Option Identifier) (i : Identifier) → h.ty ≡ option_map unspelled y → h.name ≡ unspelled i → AreScalars (name_of y) → AreScalars (Some i.value) → All EntryReads h.entries
-        → HeadReads h (line_of (indentation s level) t)
-    line_head h y i e g a n es = record {
+    line_head : (h : Head) → NameReadsIf h.ty → NameReads h.name → All EntryReads h.entries → HeadReads h (line_of (indentation s level) t)
+    line_head h a n es = record {
       leading = λ r.
           let rest = name_text h (line_of (indentation s level) t) ++ r in
           rw (append_assoc t.before (indentation s level) rest) (before_gap s ok number level has b f t kept (indentation_gap s ok level no_gap));
-      name = λ v d. rw (e, g) (named_reads y i a n v d);
+      name = λ v d. named_reads h.ty h.name a n v d;
       entries = es;
     }
 
@@ -107,32 +135,26 @@ module _ (number : ℕ) (s : Settings) (ok : list_all is_space s.indent ≡ true
   line_children level (children d) b f t kept x = a_block (line_block level true b f t kept refl) (block_reads x)
 
   -- a node whose own texts are laid out
-  pub own_reads : (level : ℕ) (b : Before) (h h' : Head) (f : NodeFormat) (k : Children) (y : Option Identifier) (i : Identifier) → h'.ty ≡ option_map unspelled y → h'.name ≡ unspelled i → AreScalars (name_of y) → AreScalars (Some i.value)
+  pub own_reads : (level : ℕ) (b : Before) (h h' : Head) (f : NodeFormat) (k : Children) → NameReadsIf h'.ty → NameReads h'.name
       → All EntryReads h'.entries → IsSpacedLine number s level (has_block k) b f h'.format → {P Q : Rests} → NodeReads P (node h k) → NodeReads Q (node h' k)
-  own_reads level b h h' f k y i e g a n es line {Q = Q} x =
-      reads line.2 (line_head level (has_block k) b f line.0 line.1 h' y i e g a n es) (line_children level k b f line.0 line.1 x) (line_end level (has_block k) b f line.0 line.1 k refl Q)
+  own_reads level b h h' f k a n es line {Q = Q} x =
+      reads line.2 (line_head level (has_block k) b f line.0 line.1 h' a n es) (line_children level k b f line.0 line.1 x) (line_end level (has_block k) b f line.0 line.1 k refl Q)
 
   -- a node that is laid out ends by itself
-  spaced_ends : {P Q : Rests} (level : ℕ) (b : Before) (n n' : Node) → IsSpacedNode number s level b n n' → NodeReads P n' → NodeReads Q n'
+  spaced_ends : {P Q : Rests} (level : ℕ) (b : Before) (n n' : Node) → IsLined number s level b n n' → NodeReads P n' → NodeReads Q n'
   spaced_ends {Q = Q} level b (node h k) (node h' k') f (reads {f = g} e head kids end) =
-      let line = f.0.format in
+      let line = f.0 in
       let same : g ≡ line_of (indentation s level) line.0 = ap or_empty (sym e ∙ line.2) in
-      reads e head kids (subst (λ (z : NodeFormat). EndReads Q k' z) (sym same) (line_end level (has_block k) b (or_empty h.format) line.0 line.1 k' (same_block level k k' f.1) Q))
-    where
-      same_block : (level : ℕ) (k k' : Children) → IsSpacedChildren number s level k k' → has_block k ≡ has_block k'
-      same_block level no_children no_children c = refl
-      same_block level (children (document f span ns)) (children (document f' span' ns')) c = refl
-      same_block level no_children (children d) c = absurd c
-      same_block level (children (document f span ns)) no_children c = absurd c
+      reads e head kids (subst (λ (z : NodeFormat). EndReads Q k' z) (sym same) (line_end level (has_block k) b (or_empty h.format) line.0 line.1 k' f.1 Q))
 
-  nodes_end : {P Q : Rests} (level : ℕ) (b : Before) (ns ns' : Nodes) → AreSpacedNodes number s level b ns ns' → NodesRead P ns' → NodesRead Q ns'
+  nodes_end : {P Q : Rests} (level : ℕ) (b : Before) (ns ns' : Nodes) → AreLined number s level b ns ns' → NodesRead P ns' → NodesRead Q ns'
   nodes_end level b none none f x = no_node
   nodes_end level b none (first n' ns') f x = absurd f
   nodes_end level b (first n ns) none f x = absurd f
   nodes_end level b (first n ns) (first n' none) f (last_node x) = last_node (spaced_ends level b n n' f.1 x)
-  nodes_end level b (first n ns) (first n' (first m ms)) f (next_node x xs) = next_node x (nodes_end level f.0 ns (first m ms) f.3 xs)
+  nodes_end level b (first n ns) (first n' (first m ms)) f (next_node x xs) = next_node x (nodes_end level f.0 ns (first m ms) f.2 xs)
 
-  content_nodes : {P : Rests} {l t : Text} (level : ℕ) (b : Before) (ns ns' : Nodes) → AreSpacedNodes number s level b ns ns' → ContentReads P l t ns' → NodesRead Anything ns'
+  content_nodes : {P : Rests} {l t : Text} (level : ℕ) (b : Before) (ns ns' : Nodes) → AreLined number s level b ns ns' → ContentReads P l t ns' → NodesRead Anything ns'
   content_nodes level b ns none f x = no_node
   content_nodes level b ns (first n ms) f (with_nodes a x g) = nodes_end level b ns (first n ms) f x
 
@@ -147,14 +169,16 @@ module _ (number : ℕ) (s : Settings) (ok : list_all is_space s.indent ≡ true
       (λ r p. rw (trailing_joined y (newline_if_none olds) ind r) (lines_gap s ok number (level + 1) c.last c.behind_it f.trailing y c.trailing (empty_gap olds (indentation_gap s ok level no_gap))))))
 
   -- a node of which the block is laid out, when the nodes in it are
-  pub closed_reads : (level : ℕ) (b : Before) (o : Node) (h : Head) (f g : Option DocumentFormat) (at : SourceSpan) (ms : Nodes) → IsSpacedNode number s level b o (node h (children (document g at ms)))
+  pub closed_reads : (keep : Bool) (level : ℕ) (b : Before) (o : Node) (h : Head) (f g : Option DocumentFormat) (at : SourceSpan) (ms : Nodes) → IsSpelledNode keep number s level b o (node h (children (document g at ms)))
       → {P : Rests} → NodeReads P (node h (children (document f at ms))) → NodeReads P (node h (children (document g at ms)))
-  closed_reads level b (node h' no_children) h f g at ms w x = absurd w.1
-  closed_reads level b (node h' (children (document f' at' ns))) h f g at ms (w, (b', c, same, nodes, fits)) x =
-      with_block (document g at ms) x (braced_reads level ns (or_empty_document f') b' g at ms c (inner (block_reads x)))
+  closed_reads keep level b (node h' no_children) h f g at ms (node m no_children, w, r) x = absurd r.1
+  closed_reads keep level b (node h' no_children) h f g at ms (node m (children d), w, r) x = absurd w.1
+  closed_reads keep level b (node h' (children d)) h f g at ms (node m no_children, w, r) x = absurd r.1
+  closed_reads keep level b (node h' (children (document f' at' ns))) h f g at ms (node m (children (document f2 at2 ns2)), (w, (b', c, same, nodes, fits)), r) x =
+      with_block (document g at ms) x (braced_reads level ns (or_empty_document f') b' g at ms (subst (λ (z : Option DocumentFormat). IsSpacedBraced number s level ns (or_empty_document f') b' z) (sym r.1.0) c) (inner (block_reads x)))
     where
       inner : BlockReads (document f at ms) → NodesRead Anything ms
-      inner (block y) = content_nodes (level + 1) b' ns ms nodes y
+      inner (block y) = content_nodes (level + 1) b' ns ms (lined number s keep (level + 1) b' ns ns2 ms nodes r.1.2) y
 
   -- what is kept of an empty text
   written_nothing : (level : ℕ) (t : Text) → Written (GapItems []) (lines (indentation s level)) t → t ≡ []

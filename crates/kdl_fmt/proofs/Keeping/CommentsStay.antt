@@ -1,34 +1,32 @@
 -- Layout loses no comment: what a document holds of them is, each as it is on a line, what is held by the document that is laid in the printed text.
-use Rattle.std.proofs.Common.{◌≡◌, ℕ, ◌+◌, Bool, true, false, List, [], ◌∷◌, ◌++◌, map, refl, sym, ap, subst, ◌∙◌, Option, Some, option_map, append_assoc, append-nil}
+use Rattle.std.proofs.Common.{◌≡◌, ℕ, ◌+◌, Bool, true, false, List, [], ◌∷◌, ◌++◌, map, refl, sym, ap, subst, ◌∙◌, Option, Some, append_assoc, append-nil}
 use Rattle.std.proofs.lemmas.List.{map-append}
 use Rattle.std.specs.List.{list_all}
 use Rattle.kdl_text.specs.Chars.{Text, is_space}
 use Rattle.kdl_text.specs.Trivia.{ValueEnd}
 use Rattle.kdl_text.specs.declared.span.SourceSpan.{SourceSpan}
-use Rattle.kdl_value.specs.Spelled.{spelled}
 use Rattle.kdl_entry.specs.Places.{span_of}
-use Rattle.kdl_entry.specs.Tree.{Identifier, unspelled}
+use Rattle.kdl_entry.specs.Print.{print_identifier, print_type}
 use Rattle.kdl_grammar.specs.Grammar.{Terminator, Gap}
 use Rattle.kdl_grammar.specs.Laid.{node_format, content_span, laid_node, LaidChildren, no_block, a_block, LaidNodes, no_node, a_node, LaidContent, without_nodes, with_nodes, LaidDocument}
 use Rattle.kdl_grammar.specs.Places.{BeforeChildren, AfterChildren}
 use Rattle.kdl_grammar.specs.Print.{print_pieces, print_head, print_node, print_tail, print_nodes, print_document}
-use Rattle.kdl_grammar.specs.Tree.{NodeFormat, DocumentFormat, Head, Node, node, Children, no_children, children, Document, document, Nodes, none, first, node_data, children_data, document_data, nodes_data}
+use Rattle.kdl_grammar.specs.Tree.{NodeFormat, DocumentFormat, Head, Node, node, Children, no_children, children, Document, document, Nodes, none, first}
 use Rattle.kdl_grammar.proofs.Reading.Complete.OneLaid.{one_laid_document}
 use Rattle.kdl_comments.specs.Items.{Item, before_block, GapItems, PlaceItems}
 use Rattle.kdl_comments.specs.Written.{on_line}
 use Rattle.kdl_fmt.specs.Comments.{ItemsIn, NodeItems, of_node, ChildrenItems, block, NodesItems, DocumentItems, of_document}
 use Rattle.kdl_fmt.specs.Config.{Settings, indentation}
-use Rattle.kdl_fmt.specs.Formatted.{or_empty, or_empty_document, newline_if_none, in_braces, NodeKeepsNone, ChildrenKeepNone, DocumentKeepsNone, NodesKeepNone}
+use Rattle.kdl_fmt.specs.Formatted.{or_empty, or_empty_document, newline_if_none, in_braces}
 use Rattle.kdl_fmt.specs.Kept.{last_place, without_bom}
-use Rattle.kdl_fmt.specs.WellFormed.{IsWellFormedNode, AreWellFormedChildren, AreWellFormed}
 use Rattle.kdl_fmt.specs.Blank.{at_start, past_node}
-use Rattle.kdl_fmt.specs.Spaced.{SpacesTexts, SpacesContent, IsSpacedNode, IsSpacedChildren, AreSpacedNodes, IsSpacedDocument}
+use Rattle.kdl_fmt.specs.Spaced.{SpacesTexts, SpacesContent}
 use Rattle.kdl_fmt.specs.WithComments.{NodeTexts, line_of, content_of, has_block}
 use Rattle.kdl_fmt.specs.declared.blank.Before.{Before}
 use Rattle.kdl_fmt.proofs.Spacing.Lines.{before_front, lines_front}
 use Rattle.kdl_fmt.proofs.Keeping.GapFronts.{Front, nothing, joined, alone, here, newline, newline_if, indented, gap_without_bom}
 use Rattle.kdl_fmt.proofs.Keeping.KeptItems.{KeptIn, kept_in, kept_end, kept_last}
-use Rattle.kdl_fmt.proofs.EntryTexts.{type_text}
+use Rattle.kdl_fmt.proofs.Respelling.Written.{IsWrittenNode, AreWrittenChildren, AreWrittenNodes, IsWrittenDocument}
 use Rattle.kdl_fmt.proofs.Formatting.LaidEntries.{identifier_at, identifier_laid, type_laid, entries_laid}
 use Rattle.kdl_fmt.proofs.Keeping.KeptPlaces.{space_ends, tail_ends, tail_spaced, LineEnd, line_end_of, line_terminator, last_text, last_ends}
 
@@ -49,9 +47,8 @@ content_joined : (a n b r : Text) → (a ++ n ++ b) ++ r ≡ a ++ (n ++ (b ++ r)
 content_joined a n b r = simp append_assoc
 
 module _ (h : Head) (before : Text) (k : NodeTexts) (line : h.format ≡ Some (line_of before k)) where
-  node_text : (y : Option Identifier) (i : Identifier) → h.ty ≡ option_map unspelled y → h.name ≡ unspelled i → (depth : ℕ) (p q r : Text)
-      → (print_head h depth ++ p ++ q) ++ r ≡ (k.before ++ before) ++ (type_text y ++ (spelled i.value ++ (p ++ (q ++ r))))
-  node_text y i e f depth p q r = rw (e, f, line) (node_joined (k.before ++ before) (type_text y) (spelled i.value) p q r)
+  node_text : (depth : ℕ) (p q r : Text) → (print_head h depth ++ p ++ q) ++ r ≡ (k.before ++ before) ++ (print_type h.ty [] [] ++ (print_identifier h.name ++ (p ++ (q ++ r))))
+  node_text depth p q r = rw line (node_joined (k.before ++ before) (print_type h.ty [] []) (print_identifier h.name) p q r)
 
   -- what comes after the last entry or the `}`
   abbrev end_of : Text → Text
@@ -137,7 +134,7 @@ block_lists p a b c = simp (map-append, append_assoc, append-nil)
 content_lists : (a b c : List Item) → map on_line a ++ map on_line b ++ (map on_line c ++ []) ≡ map on_line (a ++ b ++ c)
 content_lists a b c = simp (map-append, append_assoc, append-nil)
 
-module _ (number : ℕ) (s : Settings) (ok : list_all is_space s.indent ≡ true) (no_keep : s.entry_autoformate_keep ≡ false) (with : s.no_comments ≡ false) (whole : Text) where
+module _ (number : ℕ) (s : Settings) (ok : list_all is_space s.indent ≡ true) (with : s.no_comments ≡ false) (whole : Text) where
   -- what is kept of the texts around nodes
   content_front : (level : ℕ) (ns : Nodes) (f : DocumentFormat) (b : Before) (x y : Text) → SpacesContent number s level ns f b x y → {is : List Item} → ItemsIn (GapItems (without_bom f.leading)) is
       → Front x (map on_line is)
@@ -157,11 +154,11 @@ module _ (number : ℕ) (s : Settings) (ok : list_all is_space s.indent ≡ true
   line_end level has b f t k = line_end_of s.no_comments f.terminator t.space t.comment k.end
 
   mutual
-    children_laid : (level depth : ℕ) (b : Before) (h : Head) (f : NodeFormat) (t : NodeTexts) (k k' : Children) → h.format ≡ Some (line_of (indentation s level) t) → IsSpacedChildren number s level k k'
-        → SpacesTexts number s level (has_block k) b f t → ChildrenKeepNone k → AreWellFormedChildren (children_data k) → {is js : List Item} → ChildrenItems f.before_children k is
+    children_laid : (level depth : ℕ) (b : Before) (h : Head) (f : NodeFormat) (t : NodeTexts) (k k' : Children) → h.format ≡ Some (line_of (indentation s level) t) → AreWrittenChildren number s level k k'
+        → SpacesTexts number s level (has_block k) b f t → {is js : List Item} → ChildrenItems f.before_children k is
         → ItemsIn (PlaceItems (last_place (has_block k)) f.before_terminator) js → (r : Text)
         → ChildrenLaid whole (print_tail h k' depth ++ r) ((t.comment ++ (10 ∷ [])) ++ (t.behind ++ r)) (map on_line is) (map on_line js)
-    children_laid level depth b h f t no_children no_children line c kept m w ChildrenItems.no_block i r =
+    children_laid level depth b h f t no_children no_children line c kept ChildrenItems.no_block i r =
         let end = line_end level false b f t kept in
         let last = last_in level false b f t kept i in
         let rest = t.behind ++ r in
@@ -180,7 +177,7 @@ module _ (number : ℕ) (s : Settings) (ok : list_all is_space s.indent ≡ true
           behind = ItemsIn.items (kept_last s.no_comments with false f.terminator t.space t.comment t.last kept.end last);
           ends = subst (ValueEnd true) e (last_ends last.stands end rest);
         })
-    children_laid level depth b h f t (children (document g span ns)) (children (document g' span' ns')) line (b', c, same, nodes, fits) kept m w (block {is = is} {js = ks} i (of_document {a = a} {b = e'} {c = d} ia ib id)) j r =
+    children_laid level depth b h f t (children (document g span ns)) (children (document g' span' ns')) line (b', c, nodes) kept (block {is = is} {js = ks} i (of_document {a = a} {b = e'} {c = d} ia ib id)) j r =
         let end = line_end level true b f t kept in
         let last = last_in level true b f t kept j in
         let before = block_in level b f t kept i in
@@ -188,7 +185,7 @@ module _ (number : ℕ) (s : Settings) (ok : list_all is_space s.indent ≡ true
         let e = last_joined t.last t.space t.comment rest in
         let after = (t.last ++ t.space) ++ ((t.comment ++ (10 ∷ [])) ++ rest) in
         let behind = c.1 ++ newline_if_none ns ++ indentation s level in
-        let x = nodes_laid (level + 1) (depth + 1) b' ns ns' nodes m w ib (joined newline (content_front (level + 1) ns (or_empty_document g) b' c.0 c.1 c.2 ia)) (behind ++ (125 ∷ after)) in
+        let x = nodes_laid (level + 1) (depth + 1) b' ns ns' nodes ib (joined newline (content_front (level + 1) ns (or_empty_document g) b' c.0 c.1 c.2 ia)) (behind ++ (125 ∷ after)) in
         let y = content_laid x (joined (joined (content_end (level + 1) ns (or_empty_document g) b' c.0 c.1 c.2 id) (newline_if ns)) (indented s ok level)) in
         rw (block_text h (indentation s level) t line g' span' ns ns' c.0 c.1 depth r c.3)
         (record {
@@ -206,13 +203,13 @@ module _ (number : ℕ) (s : Settings) (ok : list_all is_space s.indent ≡ true
           behind = ItemsIn.items (kept_last s.no_comments with true f.terminator t.space t.comment t.last kept.end last);
           ends = tail_ends before.stands _ (space_ends _);
         })
-    children_laid level depth b h f t no_children (children d') line c kept m w i j r = absurd c
-    children_laid level depth b h f t (children (document g span ns)) no_children line c kept m w i j r = absurd c
+    children_laid level depth b h f t no_children (children d') line c kept i j r = absurd c
+    children_laid level depth b h f t (children (document g span ns)) no_children line c kept i j r = absurd c
 
     -- a node after a gap
-    node_laid : (level depth : ℕ) (before : Before) (n n' : Node) → IsSpacedNode number s level before n n' → NodeKeepsNone n → IsWellFormedNode (node_data n) → {is : List Item} → NodeItems n is
+    node_laid : (level depth : ℕ) (before : Before) (n n' : Node) → IsWrittenNode number s level before n n' → {is : List Item} → NodeItems n is
         → {p : Text} {ps : List Item} → Front p ps → (r : Text) → NodeLaid whole (p ++ (print_node n' depth ++ r)) r (ps ++ map on_line is)
-    node_laid level depth before (node h k) (node h' k') (f, c) m w (of_node {a = a} {b = b} {c = ci} {d = d} {e = e} {f = g} ia ib ic id ie ig) {p} {ps} front r =
+    node_laid level depth before (node h k) (node h' k') (f, c) (of_node {a = a} {b = b} {c = ci} {d = d} {e = e} {f = g} ia ib ic id ie ig) {p} {ps} front r =
         let (t, kept, line) = f.format in
         let i = indentation s level in
         let format = or_empty h.format in
@@ -221,34 +218,34 @@ module _ (number : ℕ) (s : Settings) (ok : list_all is_space s.indent ≡ true
         let v = t.behind ++ r in
         let end = t.comment ++ (10 ∷ []) in
         let lines = joined (before_front s ok with number level has before format t kept ia) (indented s ok level) in
-        let x = children_laid level depth before h' format t k k' line c kept m.1 w.3 ic id r in
-        let y = entries_laid s no_keep with whole h.entries h'.entries f.entries m.0 w.2 ib tail x.ends in
+        let x = children_laid level depth before h' format t k k' line c kept ic id r in
+        let y = entries_laid s with whole h.entries h'.entries f.entries ib tail x.ends in
         let pieces = print_pieces h'.entries ++ tail in
-        let named = identifier_at whole h.name.value pieces in
-        let ty = type_laid whole h.ty (spelled h.name.value ++ pieces) w.0 in
-        let start = type_text h.ty ++ (spelled h.name.value ++ pieces) in
+        let named = identifier_at whole h'.name pieces in
+        let ty = type_laid whole h'.ty (print_identifier h'.name ++ pieces) f.ty in
+        let start = print_type h'.ty [] [] ++ (print_identifier h'.name ++ pieces) in
         let leading = p ++ (t.before ++ i) in
-        rw (node_text h' i t line h.ty h.name f.ty f.name depth (print_pieces h'.entries) (print_tail h' k' depth) r)
+        rw (node_text h' i t line depth (print_pieces h'.entries) (print_tail h' k' depth) r)
         (record {
           tree = node (record { ty = ty.0; name = named; entries = y.entries; format = Some (node_format leading [] [] [] x.before x.place end []); span = span_of whole start (end ++ v) }) x.tree;
           pending = t.behind;
           own = (ps ++ (map on_line a ++ [])) ++ map on_line b ++ map on_line ci ++ map on_line d ++ map on_line e ++ [];
           later = map on_line g;
           laid = λ ns. a_node {leading = leading} {end = end} {t = start} {u = end ++ v} {v = v} (record { is = front.gap (lines.gap Gap.no_gap); text = sym (append_assoc p (t.before ++ i) start) })
-              (laid_node ty.1 (identifier_laid whole h.name.value pieces w.1 y.ends) y.laid x.laid)
+              (laid_node ty.1 (identifier_laid whole h'.name pieces f.name y.ends) y.laid x.laid)
               (record { is = subst (λ (z : Text). Terminator z v) (sym (append_assoc t.comment (10 ∷ []) v)) (line_terminator (line_end level has before format t kept) v); text = refl }) refl ns;
           items = of_node (ItemsIn.items (alone (joined front lines))) y.items x.inside x.behind (kept_end s.no_comments with format.terminator t.space t.comment kept.end ie) (ItemsIn.items GapItems.none);
           front = lines_front s ok with number level (past_node format.terminator) kept.behind_it format.trailing t.behind kept.behind ig;
           same = node_same ps a b ci d e g;
         })
 
-    nodes_laid : (level depth : ℕ) (before : Before) (ns ns' : Nodes) → AreSpacedNodes number s level before ns ns' → NodesKeepNone ns → AreWellFormed (nodes_data ns) → {is : List Item} → NodesItems ns is
+    nodes_laid : (level depth : ℕ) (before : Before) (ns ns' : Nodes) → AreWrittenNodes number s level before ns ns' → {is : List Item} → NodesItems ns is
         → {p : Text} {ps : List Item} → Front p ps → (t : Text) → NodesLaid whole (p ++ (print_nodes ns' depth ++ t)) t (ps ++ map on_line is)
-    nodes_laid level depth before none none f m w NodesItems.no_node {p} {ps} front t =
+    nodes_laid level depth before none none f NodesItems.no_node {p} {ps} front t =
         record { tree = none; pending = p; own = []; later = ps; laid = no_node; items = NodesItems.no_node; front = front; same = sym (append-nil ps) }
-    nodes_laid level depth before (first n ns) (first n' ns') f m w (NodesItems.a_node {is = is} {js = js} i k) {p} {ps} front t =
-        let x = node_laid level depth before n n' f.1 m.0 w.0 i front (print_nodes ns' depth ++ t) in
-        let y = nodes_laid level depth f.0 ns ns' f.3 m.1 w.1 k x.front t in
+    nodes_laid level depth before (first n ns) (first n' ns') f (NodesItems.a_node {is = is} {js = js} i k) {p} {ps} front t =
+        let x = node_laid level depth before n n' f.1 i front (print_nodes ns' depth ++ t) in
+        let y = nodes_laid level depth f.0 ns ns' f.2 k x.front t in
         rw (append_assoc (print_node n' depth) (print_nodes ns' depth) t)
         (record {
           tree = first x.tree y.tree;
@@ -261,15 +258,15 @@ module _ (number : ℕ) (s : Settings) (ok : list_all is_space s.indent ≡ true
           same = append_assoc x.own y.own y.later ∙ ap (λ (l : List Item). x.own ++ l) y.same ∙ sym (append_assoc x.own x.later (map on_line js)) ∙ ap (λ (l : List Item). l ++ map on_line js) x.same
               ∙ append_assoc ps (map on_line is) (map on_line js) ∙ ap (λ (l : List Item). ps ++ l) (sym (map-append on_line is js));
         })
-    nodes_laid level depth before none (first n' ns') f m w i front t = absurd f
-    nodes_laid level depth before (first n ns) none f m w i front t = absurd f
+    nodes_laid level depth before none (first n' ns') f i front t = absurd f
+    nodes_laid level depth before (first n ns) none f i front t = absurd f
 
   -- the content of a document that is laid out
-  document_content : (level depth : ℕ) (d d' : Document) (is : List Item) → DocumentItems d is → IsSpacedDocument number s level d d' → DocumentKeepsNone d → AreWellFormed (document_data d)
+  document_content : (level depth : ℕ) (d d' : Document) (is : List Item) → DocumentItems d is → IsWrittenDocument number s level d d'
       → ContentLaid whole (print_document d' depth) [] (map on_line is)
-  document_content level depth (document f span ns) (document f' span' ns') _ (of_document {a = a} {b = b} {c = d} ia ib id) (before, c, same, nodes) m w =
+  document_content level depth (document f span ns) (document f' span' ns') _ (of_document {a = a} {b = b} {c = d} ia ib id) (before, c, nodes) =
       let behind = c.1 ++ newline_if_none ns in
-      let x = nodes_laid level depth before ns ns' nodes m w ib (content_front level ns (or_empty_document f) before c.0 c.1 c.2 ia) (behind ++ []) in
+      let x = nodes_laid level depth before ns ns' nodes ib (content_front level ns (or_empty_document f) before c.0 c.1 c.2 ia) (behind ++ []) in
       let y = content_laid x (joined (content_end level ns (or_empty_document f) before c.0 c.1 c.2 id) (newline_if ns)) in
       subst (λ (l : List Item). ContentLaid whole (print_document (document f' span' ns') depth) [] l) (content_lists a b d)
       (subst (λ (t : Text). ContentLaid whole t [] (map on_line a ++ map on_line b ++ (map on_line d ++ []))) (document_joined f' ns' c.3) y)
@@ -279,26 +276,26 @@ module _ (number : ℕ) (s : Settings) (ok : list_all is_space s.indent ≡ true
       document_joined f' ns' e = rw e (simp (append_assoc, append-nil))
 
   -- a node that is laid out, as the content of a document
-  node_content : (level depth : ℕ) (before : Before) (n n' : Node) (is : List Item) → NodeItems n is → IsSpacedNode number s level before n n' → NodeKeepsNone n → IsWellFormedNode (node_data n)
+  node_content : (level depth : ℕ) (before : Before) (n n' : Node) (is : List Item) → NodeItems n is → IsWrittenNode number s level before n n'
       → ContentLaid whole (print_node n' depth) [] (map on_line is)
-  node_content level depth before n n' is i f m w =
-      let x = node_laid level depth before n n' f m w i nothing [] in
+  node_content level depth before n n' is i f =
+      let x = node_laid level depth before n n' f i nothing [] in
       subst (λ (l : List Item). ContentLaid whole (print_node n' depth) [] l) (ap (λ (l : List Item). l ++ x.later) (append-nil x.own) ∙ x.same)
       (subst (λ (t : Text). ContentLaid whole t [] (x.own ++ [] ++ x.later)) (append-nil (print_node n' depth))
       (content_of_nodes whole (print_node n' depth ++ []) [] x.pending (x.laid no_node) (NodesItems.a_node x.items NodesItems.no_node) x.front))
 
 -- each item of the document is one of the laid text, as it is on a line, in the same order
-pub comments_stay : (number : ℕ) (s : Settings) → list_all is_space s.indent ≡ true → s.entry_autoformate_keep ≡ false → s.no_comments ≡ false → (level depth : ℕ) → (d d' e : Document) → (is : List Item)
-    → DocumentItems d is → IsSpacedDocument number s level d d' → DocumentKeepsNone d → AreWellFormed (document_data d) → LaidDocument true e (print_document d' depth) → DocumentItems e (map on_line is)
-comments_stay number s ok no_keep with level depth d d' e is i f m w laid =
+pub comments_stay : (number : ℕ) (s : Settings) → list_all is_space s.indent ≡ true → s.no_comments ≡ false → (level depth : ℕ) → (d d' e : Document) → (is : List Item)
+    → DocumentItems d is → IsWrittenDocument number s level d d' → LaidDocument true e (print_document d' depth) → DocumentItems e (map on_line is)
+comments_stay number s ok with level depth d d' e is i f laid =
     let t = print_document d' depth in
-    let x = document_content number s ok no_keep with t level depth d d' is i f m w in
+    let x = document_content number s ok with t level depth d d' is i f in
     subst (λ (y : Document). DocumentItems y (map on_line is)) (one_laid_document t x.tree e (LaidDocument.no_bom x.laid) laid) x.items
 
 -- the same for a node that is printed alone
-pub node_comments_stay : (number : ℕ) (s : Settings) → list_all is_space s.indent ≡ true → s.entry_autoformate_keep ≡ false → s.no_comments ≡ false → (level depth : ℕ) → (before : Before) (n n' : Node) → (e : Document) → (is : List Item)
-    → NodeItems n is → IsSpacedNode number s level before n n' → NodeKeepsNone n → IsWellFormedNode (node_data n) → LaidDocument true e (print_node n' depth) → DocumentItems e (map on_line is)
-node_comments_stay number s ok no_keep with level depth before n n' e is i f m w laid =
+pub node_comments_stay : (number : ℕ) (s : Settings) → list_all is_space s.indent ≡ true → s.no_comments ≡ false → (level depth : ℕ) → (before : Before) (n n' : Node) → (e : Document) → (is : List Item)
+    → NodeItems n is → IsWrittenNode number s level before n n' → LaidDocument true e (print_node n' depth) → DocumentItems e (map on_line is)
+node_comments_stay number s ok with level depth before n n' e is i f laid =
     let t = print_node n' depth in
-    let x = node_content number s ok no_keep with t level depth before n n' is i f m w in
+    let x = node_content number s ok with t level depth before n n' is i f in
     subst (λ (y : Document). DocumentItems y (map on_line is)) (one_laid_document t x.tree e (LaidDocument.no_bom x.laid) laid) x.items

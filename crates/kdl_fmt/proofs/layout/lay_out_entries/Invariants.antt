@@ -5,4 +5,4 @@ use Rattle.kdl_fmt.proofs.Loops.{Turned, LaidEntry}
 use Rattle.kdl_fmt.proofs.layout.lay_out_entries.Given as goal
 
 abbrev pub invariant-loop-entry : goal.invariant-loop-entry
-invariant-loop-entry l = Turned entry_tree (LaidEntry (settings l.config)) l.entry-items l.entry-index (map entry_tree l.initial.entry-items)
+invariant-loop-entry l = Turned entry_tree (LaidEntry l.layout.keep_spelling (settings l.layout.config)) l.entry-items l.entry-index (map entry_tree l.initial.entry-items)

@@ -1,13 +1,14 @@
-use Rattle.std.proofs.Common.{◌≡◌, ◌∙◌, false, true, chars, ap, subst, sym}
-use Rattle.kdl.specs.Words.{IndentsBySpaces, IsDocument, Settings, Text, defaults, document_prints, settings}
+use Rattle.std.proofs.Common.{◌≡◌, Bool, false, true, chars, ap, subst, sym}
+use Rattle.kdl.specs.Words.{IndentsBySpaces, IsDocument, Settings, Text, defaults, document_prints, settings, text_of}
+use Rattle.kdl_laws.specs.ClientWords.{IsSpacedOut}
 use Rattle.use_files.proofs.layout.laid_out.Goals as goal
 
 pub returns-clause-says : goal.returns-clause-says
 returns-clause-says c x h =
     let d = c.in_ok-document.document in
     let e = c.autoformat_layout.new.self in
-    let is : settings c.build.result ≡ defaults = c.build.ensures ∙ c.builder.ensures in
-    let keep : c.build.result.entry_autoformate_keep ≡ false = ap (λ (s : Settings). s.entry_autoformate_keep) is in
+    let is : settings c.new.result.config ≡ defaults = c.new.ensures.config in
+    let keep : c.new.result.config.entry_autoformate_keep ≡ false = ap (λ (s : Settings). s.entry_autoformate_keep) is in
     let says = c.in_ok-autoformat_layout.ensures.derived (subst IndentsBySpaces (sym is) c.defaults_indent_by_spaces.ensures) keep c.in_ok-document.ensures.keeps_none in
     let same = c.in_ok-document.ensures.only x h in
     let text = c.printed_reads_once.ensures.text e c.in_ok-to_string.field-0 c.in_ok-to_string.ensures.ok in
@@ -17,9 +18,11 @@ pub returns-clause-laid_out : goal.returns-clause-laid_out
 returns-clause-laid_out c =
     let d = c.in_ok-document.document in
     let e = c.autoformat_layout.new.self in
-    let is : settings c.build.result ≡ defaults = c.build.ensures ∙ c.builder.ensures in
-    let keep : c.build.result.entry_autoformate_keep ≡ false = ap (λ (s : Settings). s.entry_autoformate_keep) is in
-    let no : c.build.result.no_comments ≡ false = ap (λ (s : Settings). s.no_comments) is in
+    let is : settings c.new.result.config ≡ defaults = c.new.ensures.config in
+    let keep : c.new.result.config.entry_autoformate_keep ≡ false = ap (λ (s : Settings). s.entry_autoformate_keep) is in
+    let no : c.new.result.config.no_comments ≡ false = ap (λ (s : Settings). s.no_comments) is in
     let none = c.in_ok-document.ensures.keeps_none in
     let comments = c.in_ok-autoformat_layout.ensures.comments (subst IndentsBySpaces (sym is) c.defaults_indent_by_spaces.ensures) keep no none in
-    c.texts_are_spaced_out.ensures (chars c.args.text.now) (record { config = c.build.result; blank_lines = 1 }) d e c.in_ok-to_string.field-0 is c.in_ok-document.ensures.laid none c.in_ok-autoformat_layout.ensures.formatted comments c.in_ok-to_string.ensures.ok
+    let l = record c.new.result { blank_lines = 1 } in
+    subst (λ (b : Bool). IsSpacedOut b 1 (chars c.args.text.now) (text_of c.in_ok-to_string.field-0)) c.new.ensures.keep_spelling
+    (c.texts_are_spaced_out.ensures (chars c.args.text.now) l d e c.in_ok-to_string.field-0 is c.in_ok-document.ensures.laid none c.in_ok-autoformat_layout.ensures.formatted comments c.in_ok-to_string.ensures.ok)

@@ -45,7 +45,7 @@ returns-then-not-has_nodes-clause-stays c ok level x olds u =
     (λ k h P y.
     let e = is ∙ h.1 ∙ ap (indentation s) (sym h.0) in
     let laid = line_is_laid l b c.in_ok-behind.behind c.in_ok-behind.first g n m c.lay_out_own.ensures.block (λ h. search rules) b.level (c.in_ok-behind.ensures.spaced e) in
-    subst (λ (z : Node). StaysAs s (node_tree m) z) (sym tree) (braced_stays l.blank_lines s ok b.level b.next (node_tree n) (node_tree m) (option_map document_format_tree g) laid.0) P (c.lay_out_own.ensures.stays ok e P y))
+    subst (λ (z : Node). StaysAs s (node_tree m) z) (sym tree) (braced_stays l.keep_spelling l.blank_lines s ok b.level b.next (node_tree n) (node_tree m) (option_map document_format_tree g) laid.0) P (c.lay_out_own.ensures.stays ok e P y))
     level x olds u
 
 pub returns-then-not-has_nodes-clause-kept : goal.returns-then-not-has_nodes-clause-kept

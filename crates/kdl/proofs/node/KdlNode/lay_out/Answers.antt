@@ -6,7 +6,7 @@ use Rattle.kdl.specs.declared.document.KdlDocument.TheViews.{out-KdlNode, roll-K
 use Rattle.kdl_fmt.specs.Blank.{at_start}
 use Rattle.kdl_fmt.specs.Config.{settings}
 use Rattle.kdl_fmt.specs.Formatted.{bare_node}
-use Rattle.kdl_fmt.specs.Spaced.{IsSpacedNode}
+use Rattle.kdl_fmt.specs.Respelled.{IsSpelledNode}
 use Rattle.kdl_grammar.specs.Tree.{Node}
 use Rattle.kdl_parts.specs.Formats.{document_format_tree}
 use Rattle.kdl.proofs.LayingOut.BlockSteps.{node_is, node_below, node_braced, laid_below, bare_braced, bare_filled}
@@ -61,7 +61,7 @@ returns-clause-stays c ok P x =
     let tree = node_braced g n1 c.set_braces.new.self c.set_braces.ensures in
     let laid = laid_below l c.args.level at_start c.in_ok-first.first g c.args.self.now n n1 c.set_braces.new.self o below tree c.lay_out_own.ensures.block (c.in_ok-first.ensures.spaced (search rules)).1 c.in_ok-lay_out_below.ensures.spaced in
     let braced = subst (λ (z : Node). StaysAs s (node_tree n1) z) (sym tree)
-    (braced_stays l.blank_lines s ok c.args.level at_start (node_tree c.args.self.now) (node_tree n1) (option_map document_format_tree g) (subst (λ (z : Node). IsSpacedNode l.blank_lines s c.args.level at_start (node_tree c.args.self.now) z) tree laid.0)) in
+    (braced_stays l.keep_spelling l.blank_lines s ok c.args.level at_start (node_tree c.args.self.now) (node_tree n1) (option_map document_format_tree g) (subst (λ (z : Node). IsSpelledNode l.keep_spelling l.blank_lines s c.args.level at_start (node_tree c.args.self.now) z) tree laid.0)) in
     braced P (below_stays s n n1 o below (c.lay_out_below.ensures.stays ok) P (c.lay_out_own.ensures.stays ok (search rules) P x))
 
 pub returns-clause-formatted : goal.returns-clause-formatted

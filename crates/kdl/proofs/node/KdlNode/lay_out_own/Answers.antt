@@ -12,13 +12,13 @@ use Rattle.kdl.proofs.node.KdlNode.lay_out_own.Goals as goal
 
 pub returns-in_err-lay_out_entries-clause-stays : goal.returns-in_err-lay_out_entries-clause-stays
 returns-in_err-lay_out_entries-clause-stays c ok e =
-    own_stays c.args.layout.now ok c.args.level c.args.next c.args.self.now _ c.is_some-has_block.result (search (rules, the_lemmas)) (search (rules, the_lemmas)) (search (rules, the_lemmas))
+    own_stays c.args.layout.now ok c.args.level c.args.next c.args.self.now _ c.is_some-has_block.result (search (rules, the_lemmas)) c.in_ok-keeps_type.keeps_type c.in_ok-keeps_name.keeps_name c.in_ok-keeps_type.ensures c.in_ok-keeps_name.ensures (search (rules, the_lemmas)) (search (rules, the_lemmas))
     (option_map node_format_tree c.lay_out_line.new.format) (search (rules, the_lemmas)) (c.in_ok-behind.ensures.spaced c.args.level e).0
     _ (map entry_tree c.lay_out_entries.new.entries.items) (search (rules, the_lemmas)) (search (rules, the_lemmas)) c.lay_out_entries.ensures.reads (search (rules, the_lemmas))
 
 pub returns-clause-stays : goal.returns-clause-stays
 returns-clause-stays c ok e =
-    own_stays c.args.layout.now ok c.args.level c.args.next c.args.self.now _ c.is_some-has_block.result (search (rules, the_lemmas)) (search (rules, the_lemmas)) (search (rules, the_lemmas))
+    own_stays c.args.layout.now ok c.args.level c.args.next c.args.self.now _ c.is_some-has_block.result (search (rules, the_lemmas)) c.in_ok-keeps_type.keeps_type c.in_ok-keeps_name.keeps_name c.in_ok-keeps_type.ensures c.in_ok-keeps_name.ensures (search (rules, the_lemmas)) (search (rules, the_lemmas))
     (option_map node_format_tree c.lay_out_line.new.format) (search (rules, the_lemmas)) (c.in_ok-behind.ensures.spaced c.args.level e).0
     _ (map entry_tree c.lay_out_entries.new.entries.items) (search (rules, the_lemmas)) (search (rules, the_lemmas)) c.lay_out_entries.ensures.reads (search (rules, the_lemmas))
 
@@ -32,12 +32,13 @@ returns-clause-spaced c e =
     let olds = map node_tree (child_nodes n) in
     let line = c.in_ok-behind.ensures.spaced c.args.level e in (
       own_passes l n c.in_ok-behind.behind (out-KdlNode n).format refl line.1,
-      λ ms z. (
-        laid_node _ n l.blank_lines s c.args.level c.args.next c.is_some-has_block.result ms (search (rules, the_lemmas))
-            (search (rules, the_lemmas)) (search (rules, the_lemmas)) (search (rules, the_lemmas))
+      λ ms z. let laid = nodes_laid l (c.args.level + 1) first olds ms z in (
+        laid_node _ n l.keep_spelling l.blank_lines s c.args.level c.args.next c.is_some-has_block.result laid.between ms (search (rules, the_lemmas))
+            c.in_ok-keeps_type.keeps_type c.in_ok-keeps_name.keeps_name c.in_ok-keeps_type.ensures c.in_ok-keeps_name.ensures (search (rules, the_lemmas)) (search (rules, the_lemmas)) (search (rules, the_lemmas))
             (option_map node_format_tree c.lay_out_line.new.format) (search (rules, the_lemmas)) line.0
-            (search (rules, the_lemmas)) (out-KdlNode n).children (search (rules, the_lemmas)) texts
-            (own_block l.blank_lines s c.args.level first n (out-KdlNode n).children (with_texts texts (filled_block (out-KdlNode n).children ms)) ms (c.in_ok-first.ensures e ms) refl (nodes_laid l (c.args.level + 1) first olds ms z)),
+            (search (rules, the_lemmas)) (out-KdlNode n).children (search (rules, the_lemmas)) refl texts
+            (own_block l.blank_lines s c.args.level first n (out-KdlNode n).children (with_texts texts (filled_block (out-KdlNode n).children laid.between)) laid.between (c.in_ok-first.ensures e laid.between) refl laid.spaced)
+            laid.respelled,
         fitting_node n (search (rules, the_lemmas)) (nodes_fit l (c.args.level + 1) first olds ms z),
       ),
     )

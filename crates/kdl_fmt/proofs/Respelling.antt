@@ -1,0 +1,16 @@
+-- Spellings that layout keeps.
+
+-- Texts that are a whole string, number or keyword, and what they are before other text.
+pub mod Spellings
+-- What is laid out, with or without spellings.
+pub mod Written
+-- What a layout that keeps spellings leaves as it was.
+pub mod Leaves
+-- If no spellings are kept, nothing is put back.
+pub mod Off
+-- An entry that is laid out with its spellings, from the steps that lay it out.
+pub mod Entries
+-- A second layout that keeps spellings changes nothing.
+pub mod Again
+-- What the definitions of kept spellings do not allow.
+pub mod Examples

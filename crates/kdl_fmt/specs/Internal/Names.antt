@@ -1,0 +1,52 @@
+-- The spellings of names that are kept, and those that are not.
+use Rattle.std.specs.Prelude.{◌≡◌, [], Bool, true, false, Option, Some, None, option_map}
+use Rattle.kdl_text.specs.Chars.{Text}
+use Rattle.kdl_value.specs.Data.{Value}
+use Rattle.kdl_entry.specs.Tree.{Identifier, EntryFormat, Entry, empty_format, plain_identifier, unspelled, autoformatted}
+use Rattle.kdl_fmt.specs.Config.{Settings}
+use Rattle.kdl_fmt.specs.Kept.{KeptBefore}
+use Rattle.kdl_fmt.specs.Respelled.{IsRespelled, IsRespelledIf, IsSpelling}
+use Rattle.kdl_fmt.specs.WithComments.{behind}
+
+-- the identifier, with its spelling only if that is kept
+abbrev pub unspelled_unless : Bool → Identifier → Identifier
+unspelled_unless true i = i
+unspelled_unless false i = unspelled i
+
+-- the same of a key or a type, if there is one
+abbrev pub unspelled_if : Bool → Option Identifier → Option Identifier
+unspelled_if keeps o = option_map (unspelled_unless keeps) o
+
+-- whether the spelling of a name is kept
+abbrev pub KeepsName : Bool → Identifier → Bool → Type 0
+KeepsName keep i keeps = IsRespelled keep i (unspelled i) (unspelled_unless keeps i)
+
+-- the same of a key or a type, if there is one
+abbrev pub Keeps : Bool → Option Identifier → Bool → Type 0
+Keeps keep o keeps = IsRespelledIf keep o (option_map unspelled o) (unspelled_if keeps o)
+
+-- an entry without format, with the spellings of its key and its type only if these are kept
+abbrev pub autoformatted_but : Bool → Bool → Entry → Entry
+autoformatted_but key ty e = record (autoformatted e) { name = unspelled_if key e.name; ty = unspelled_if ty e.ty }
+
+-- e' is e, laid out as its format says, without spellings unless the entry is flagged to keep its form
+abbrev pub IsLaid : Settings → Entry → Entry → Type 0
+IsLaid s e e' = (t : Text) × KeptBefore s e.format t × (e' ≡ behind t (autoformatted e))
+
+-- a format with the spelling of the value, after a text before the entry
+abbrev pub spelled_behind : Text → EntryFormat → EntryFormat
+spelled_behind t f = record empty_format { value_repr = f.value_repr; leading = t }
+
+-- a format of empty texts in place of another one
+abbrev pub emptied_format : Option EntryFormat → Option EntryFormat
+emptied_format o = option_map (λ (f : EntryFormat). empty_format) o
+
+-- a string that is empty in place of an identifier
+abbrev pub emptied : Option Identifier → Option Identifier
+emptied o = option_map (λ (i : Identifier). plain_identifier []) o
+
+-- whether the format of an entry with the value v has a spelling of v
+abbrev pub HasSpelling : Value → Option EntryFormat → Bool → Type 0
+HasSpelling v None b = b ≡ false
+HasSpelling v (Some f) true = IsSpelling v f.value_repr
+HasSpelling v (Some f) false = IsSpelling v f.value_repr → ⊥

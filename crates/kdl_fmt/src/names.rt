@@ -1,0 +1,174 @@
+//! Spellings that layout keeps, of names, keys, types and values.
+
+ghost use Rattle.kdl_entry.specs.Tree.{entry_format_tree, entry_tree, identifier_tree, unspelled};
+ghost use Rattle.kdl_fmt.specs.Internal.Names.{HasSpelling, Keeps, KeepsName, autoformatted_but, emptied, emptied_format, spelled_behind, unspelled_if, unspelled_unless};
+ghost use Rattle.kdl_fmt.specs.Kept.{is_kept_format};
+ghost use Rattle.kdl_value.specs.Tree.{text_of};
+ghost use Rattle.std.specs.Prelude.{◌≡◌, IfOk, option_map};
+
+use crate::config::Layout;
+use crate::spelling::{spells_text, spells_value};
+use kdl_entry::{KdlEntry, KdlEntryFormat, KdlIdentifier};
+use std::alloc::{AllocError, Global};
+use std::mem;
+
+/// Returns whether the layout keeps the spelling of the identifier: if it keeps spellings, and this is one of the
+/// identifier's string.
+pub fn keeps_spelling(
+    alloc: Global,
+    layout: &Layout,
+    identifier: &KdlIdentifier,
+) -> Result<bool, AllocError>
+    ensures { IfOk result (λ keeps.
+        KeepsName layout.now.keep_spelling (identifier_tree identifier.now) keeps) }
+{
+    if !layout.keep_spelling {
+        return Ok(false);
+    }
+    match identifier.repr() {
+        Some(repr) => spells_text(alloc, repr, identifier.value()),
+        None => Ok(false),
+    }
+}
+
+/// The same of a key or a type, if there is one.
+pub fn keeps_spelling_if(
+    alloc: Global,
+    layout: &Layout,
+    identifier: Option<&KdlIdentifier>,
+) -> Result<bool, AllocError>
+    ensures { IfOk result (λ keeps. Keeps layout.now.keep_spelling
+        (option_map (λ i. identifier_tree i.now) identifier.entry) keeps) }
+{
+    match identifier {
+        Some(identifier) => keeps_spelling(alloc, layout, identifier),
+        None => Ok(false),
+    }
+}
+
+/// The same of a type in memory, if there is one.
+pub fn keeps_type_spelling(
+    alloc: Global,
+    layout: &Layout,
+    ty: &Option<KdlIdentifier>,
+) -> Result<bool, AllocError>
+    ensures { IfOk result (λ keeps. Keeps layout.now.keep_spelling
+        (option_map identifier_tree ty.now) keeps) }
+{
+    match ty {
+        Some(ty) => keeps_spelling(alloc, layout, ty),
+        None => Ok(false),
+    }
+}
+
+/// Removes the spelling of the identifier, unless it is kept.
+pub fn clear_unless(identifier: &mut KdlIdentifier, keeps: bool)
+    ensures spelled { identifier_tree identifier.new ≡
+        unspelled_unless keeps (identifier_tree identifier.old) }
+    ensures same { unspelled (identifier_tree identifier.new) ≡
+        unspelled (identifier_tree identifier.old) }
+{
+    if !keeps {
+        identifier.clear_format();
+    }
+}
+
+/// The same of a type, if there is one.
+pub fn clear_type_unless(identifier: &mut Option<KdlIdentifier>, keeps: bool)
+    ensures spelled { option_map identifier_tree identifier.new ≡
+        unspelled_if keeps (option_map identifier_tree identifier.old) }
+    ensures same { option_map unspelled (option_map identifier_tree identifier.new) ≡
+        option_map unspelled (option_map identifier_tree identifier.old) }
+{
+    if let Some(identifier) = identifier {
+        clear_unless(identifier, keeps);
+    }
+}
+
+/// Takes out the key, and leaves an empty one in its place. Returns `None` if there is no key.
+fn take_key(alloc: Global, entry: &mut KdlEntry) -> Option<KdlIdentifier>
+    ensures key { option_map identifier_tree result ≡ (entry_tree entry.old).name }
+    ensures left { entry_tree entry.new ≡ record (entry_tree entry.old)
+        { name = emptied (entry_tree entry.old).name } }
+{
+    match entry.name_mut() {
+        Some(name) => Some(mem::replace(name, KdlIdentifier::from(String::new(alloc)))),
+        None => None,
+    }
+}
+
+/// Takes out the type, and leaves an empty one in its place. Returns `None` if there is no type.
+fn take_type(alloc: Global, entry: &mut KdlEntry) -> Option<KdlIdentifier>
+    ensures ty { option_map identifier_tree result ≡ (entry_tree entry.old).ty }
+    ensures left { entry_tree entry.new ≡ record (entry_tree entry.old)
+        { ty = emptied (entry_tree entry.old).ty } }
+{
+    match entry.ty_mut() {
+        Some(ty) => Some(mem::replace(ty, KdlIdentifier::from(String::new(alloc)))),
+        None => None,
+    }
+}
+
+/// Removes the format of an entry, as `KdlEntry::autoformat` does, and the spellings of its key and its type unless
+/// they are kept.
+pub(crate) fn autoformat_but(alloc: Global, entry: &mut KdlEntry, key: bool, ty: bool)
+    ensures { entry_tree entry.new ≡ autoformatted_but key ty (entry_tree entry.old) }
+{
+    let old_key = take_key(alloc, entry);
+    let old_type = take_type(alloc, entry);
+    entry.autoformat();
+    if let Some(mut name) = old_key {
+        clear_unless(&mut name, key);
+        entry.set_name(Some(name));
+    }
+    if let Some(mut name) = old_type {
+        clear_unless(&mut name, ty);
+        entry.set_ty(name);
+    }
+}
+
+/// Returns whether the entry has a format with a spelling of its value.
+pub(crate) fn has_spelling(alloc: Global, entry: &KdlEntry) -> Result<bool, AllocError>
+    ensures { IfOk result (λ b.
+        HasSpelling (entry_tree entry.now).value (entry_tree entry.now).format b) }
+{
+    match entry.format() {
+        Some(format) => spells_value(alloc, format.value_repr.as_str(), entry.value()),
+        None => Ok(false),
+    }
+}
+
+/// Takes the spelling of the value out of the entry, and returns a format with it and the text before the entry.
+/// Returns `None` if the entry has no format.
+pub(crate) fn take_spelling(
+    alloc: Global,
+    entry: &mut KdlEntry,
+    leading: String,
+) -> Option<KdlEntryFormat>
+    ensures left { entry_tree entry.new ≡ record (entry_tree entry.old)
+        { format = emptied_format (entry_tree entry.old).format } }
+    ensures format { option_map entry_format_tree result ≡
+        option_map (spelled_behind (text_of leading)) (entry_tree entry.old).format }
+{
+    match entry.format_mut() {
+        Some(format) => {
+            let old = mem::replace(format, KdlEntryFormat::new(alloc));
+            Some(KdlEntryFormat {
+                value_repr: old.value_repr,
+                leading,
+                ..KdlEntryFormat::new(alloc)
+            })
+        }
+        None => None,
+    }
+}
+
+/// Returns whether the entry is flagged to keep its form.
+pub(crate) fn is_flagged(entry: &KdlEntry) -> bool
+    ensures { result ≡ is_kept_format (entry_tree entry.now).format }
+{
+    match entry.format() {
+        Some(format) => format.autoformat_keep,
+        None => false,
+    }
+}
