@@ -64,6 +64,7 @@ fn configurations(rt: HostRuntime) {
         config: defaults,
         blank_lines: 0,
         keep_spelling: false,
+        keep_one_line: false,
     };
     equal(&rt, &Layout::new(), &layout);
     equal(&rt, &Layout::default(), &layout);
@@ -553,6 +554,149 @@ fn node_has_the_spans(rt: &impl Abort, node: &KdlNode, other: &KdlNode) {
     equal(rt, &node.span(), &other.span());
     equal(rt, &node.name().span(), &other.name().span());
     entries_have_the_spans(rt, node.entries(), other.entries());
+}
+
+/// The default layout, with blocks on one line kept.
+fn one_line() -> Layout<'static> {
+    Layout {
+        keep_one_line: true,
+        ..Layout::new()
+    }
+}
+
+/// Asserts that the text prints another one after this layout, and again after a second one.
+fn lines_become(rt: &impl Abort, alloc: Global, text: &str, laid: &str) {
+    becomes_spaced(rt, alloc, &mut read(rt, alloc, text), &one_line(), laid);
+}
+
+#[test]
+fn blocks_on_one_line(rt: HostRuntime) {
+    let alloc = rt.alloc();
+    let rows = [
+        (
+            "Mod+T { spawn \"alacritty\"; }",
+            "Mod+T { spawn alacritty }\n",
+        ),
+        ("a {}", "a {}\n"),
+        ("a 1  {  }", "a 1 {}\n"),
+        ("n { a; b }", "n { a; b }\n"),
+        ("n { a; b; }", "n { a; b }\n"),
+        ("n{a ;b}", "n { a; b }\n"),
+        ("n { (t)a  0x10 k = \"v\" ; }; m", "n { (t)a 16 k=v }\nm\n"),
+        ("n { exec \"/* \\n */\"; }", "n { exec \"/* \\n */\" }\n"),
+        ("n /* c */ {a;} // d", "n /* c */ { a } // d\n"),
+        ("n\\\n { a; }", "n { a }\n"),
+    ];
+    for (text, laid) in &rows {
+        lines_become(&rt, alloc, text, laid);
+    }
+}
+
+#[test]
+fn blocks_on_more_lines(rt: HostRuntime) {
+    let alloc = rt.alloc();
+    let rows = [
+        ("n {\n}", "n {\n\n}\n"),
+        ("n {\na }", "n {\n    a\n}\n"),
+        ("n { a\n}", "n {\n    a\n}\n"),
+        ("n { a; b; \u{85} }", "n {\n    a\n    b\n}\n"),
+        ("n { a; // c\n}", "n {\n    a\n    // c\n}\n"),
+        ("n { a /* c */; }", "n {\n    a /* c */\n}\n"),
+        ("n { a (/* c */t)1 }", "n {\n    a (t)1\n}\n"),
+        ("n { a; /- b; }", "n {\n    a\n    /- b;\n}\n"),
+        ("n { a /- 1 2 }", "n {\n    a /- 1 2\n}\n"),
+        ("n { a \\\n 1 }", "n {\n    a 1\n}\n"),
+        ("n { a \"\"\"\n  x\n  \"\"\" }", "n {\n    a x\n}\n"),
+        ("n { a \"x \\\n y\" }", "n {\n    a \"x y\"\n}\n"),
+    ];
+    for (text, laid) in &rows {
+        lines_become(&rt, alloc, text, laid);
+    }
+}
+
+#[test]
+fn blocks_in_blocks(rt: HostRuntime) {
+    let alloc = rt.alloc();
+    let rows = [
+        ("m { n { a; b } }", "m {\n    n { a; b }\n}\n"),
+        ("m { n {} }", "m {\n    n {}\n}\n"),
+        (
+            "m { n; o { p {\n} } }",
+            "m {\n    n\n    o {\n        p {\n\n        }\n    }\n}\n",
+        ),
+        (
+            "m {\n// c\nn {a;b}; o { p {c} }\n}",
+            "m {\n    // c\n    n { a; b }\n    o {\n        p { c }\n    }\n}\n",
+        ),
+    ];
+    for (text, laid) in &rows {
+        lines_become(&rt, alloc, text, laid);
+    }
+}
+
+#[test]
+fn blocks_on_one_line_without_the_field(rt: HostRuntime) {
+    let alloc = rt.alloc();
+    let mut document = read(&rt, alloc, "n { a; b }; m {}");
+    let laid = "n {\n    a\n    b\n}\nm {\n\n}\n";
+    becomes_spaced(&rt, alloc, &mut document, &Layout::new(), laid);
+    becomes_spaced(&rt, alloc, &mut document, &one_line(), laid);
+}
+
+/// A comment counts even where it is removed, but a second layout finds a block without one, on lines of its own.
+#[test]
+fn blocks_with_removed_comments(rt: HostRuntime) {
+    let alloc = rt.alloc();
+    let layout = Layout {
+        config: config(0, "\t", true),
+        ..one_line()
+    };
+    let text = "n { a /* c */; }; m /* d */ { b; } // e\n";
+    let laid = "n {\n\ta\n}\nm { b }\n";
+    becomes_spaced(&rt, alloc, &mut read(&rt, alloc, text), &layout, laid);
+}
+
+/// Blank lines are counted as between other nodes.
+#[test]
+fn blank_lines_between_blocks_on_one_line(rt: HostRuntime) {
+    let alloc = rt.alloc();
+    let layout = Layout {
+        blank_lines: 1,
+        ..one_line()
+    };
+    let text = "n {a;}\n\n\nm {b;}; o {}\n\np {\n\nq {c}\n\n\n// d\nr { } }\n";
+    let laid = "n { a }\n\nm { b }\no {}\n\np {\n    q { c }\n\n    // d\n    r {}\n}\n";
+    becomes_spaced(&rt, alloc, &mut read(&rt, alloc, text), &layout, laid);
+}
+
+#[test]
+fn node_with_a_block_on_one_line(rt: HostRuntime) {
+    let alloc = rt.alloc();
+    let layout = one_line();
+    let mut node = node_text(&rt, alloc, "n  1 {a 2;b}");
+    node_becomes_spaced(&rt, alloc, &mut node, &layout, "n 1 { a 2; b }\n");
+    let mut empty = node_text(&rt, alloc, "n { }");
+    node_becomes_spaced(&rt, alloc, &mut empty, &layout, "n {}\n");
+}
+
+/// A node that is pushed to the list itself becomes a part of the last one, and `push_child` puts it on a line of its
+/// own.
+#[test]
+fn nodes_pushed_to_a_block_on_one_line(rt: HostRuntime) {
+    let alloc = rt.alloc();
+    let mut node = node_text(&rt, alloc, "n { a; b }");
+    node.autoformat_layout(&one_line()).expect(&rt, "memory");
+    let mut pushed = node.clone().expect(&rt, "memory");
+    let list = pushed
+        .children_mut()
+        .as_mut()
+        .expect(&rt, "a block")
+        .nodes_mut();
+    list.push(node_text(&rt, alloc, "c")).expect(&rt, "memory");
+    prints(&rt, alloc, &pushed, "n { a; b c}\n");
+    node.push_child(node_text(&rt, alloc, "c"))
+        .expect(&rt, "memory");
+    prints(&rt, alloc, &node, "n { a; b \nc}\n");
 }
 
 /// Asserts that the documents and their nodes, and the names and entries of these, have the same spans.

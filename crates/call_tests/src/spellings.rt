@@ -282,3 +282,35 @@ fn entries_without_a_format(rt: HostRuntime) {
     let formless = entry_at(&rt, &mut document, 0).format().is_none();
     equal(&rt, &formless, &true);
 }
+
+/// Spellings are kept in blocks on one line too. A string of several lines keeps its block on more lines.
+#[test]
+fn blocks_on_one_line(rt: HostRuntime) {
+    let alloc = rt.alloc();
+    let layout = Layout {
+        keep_one_line: true,
+        blank_lines: 1,
+        ..spelled()
+    };
+    let rows = [
+        (
+            "Mod+T { spawn \"alacritty\"; }",
+            "Mod+T { spawn \"alacritty\" }\n",
+        ),
+        (
+            "n {(\"t\")\"a\"  0x10 ;b  k=#\"v\"#}",
+            "n { (\"t\")\"a\" 0x10; b k=#\"v\"# }\n",
+        ),
+        (
+            "a  0x1 {\n\n\"b\" {c 1_0}\n\n\nd\n}",
+            "a 0x1 {\n    \"b\" { c 1_0 }\n\n    d\n}\n",
+        ),
+        (
+            "n { a \"\"\"\n  x\n  \"\"\"; }",
+            "n {\n    a \"\"\"\n  x\n  \"\"\"\n}\n",
+        ),
+    ];
+    for (text, laid) in &rows {
+        becomes_spaced(&rt, alloc, &mut read(&rt, alloc, text), &layout, laid);
+    }
+}

@@ -84,6 +84,7 @@ pub use Rattle.kdl.specs.Layout.{DocumentKeepsNoForm, DocumentKeepsReading, Node
 -- Its result, with comments and without, and what is unchanged.
 pub use Rattle.kdl_fmt.specs.WithComments.{IsFormattedDocument, IsFormattedNode}
 pub use Rattle.kdl.specs.Layout.{DocumentLaidOut, DocumentSpaced, NodeLaidOut, NodeSpaced}
+pub use Rattle.kdl_fmt.specs.OneLine.{IsLaidDocument, IsLaidNode}
 pub use Rattle.kdl_fmt.specs.Respelled.{IsSpelledDocument, IsSpelledNode}
 pub use Rattle.kdl_fmt.specs.Spaced.{IsSpacedDocument, IsSpacedNode}
 pub use Rattle.kdl_fmt.specs.Formatted.{formatted_document}

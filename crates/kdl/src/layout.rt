@@ -1,27 +1,37 @@
 //! How nodes are laid out: with a stack on the heap and without recursion, however deep their blocks are.
 
-ghost use Rattle.kdl.specs.Internal.Spacing.{NodesAreSpaced, GoesOn, IsUnderWay, StayAs, whole};
+ghost use Rattle.kdl.specs.Internal.Spacing.{NodesAreSpaced, GoesOn, IsUnderWay, StayAs, whole, with_formats};
 ghost use Rattle.kdl.specs.Tree.{node_tree, nodes_tree};
 ghost use Rattle.kdl_fmt.specs.Config.{IndentsBySpaces, indentation, settings};
 ghost use Rattle.kdl_fmt.specs.Formatted.{bare_node};
+ghost use Rattle.kdl_fmt.specs.OneLine.{nodes_on_line};
 ghost use Rattle.kdl_fmt.specs.Plain.{newline_if};
 ghost use Rattle.kdl_fmt.specs.Spaced.{PassesNodes};
 ghost use Rattle.kdl_fmt.specs.declared.blank.Before.{Before};
 ghost use Rattle.kdl_fmt.specs.declared.config.Layout.{Layout};
 ghost use Rattle.kdl_fmt.specs.Formatted.{newline_if_none};
 ghost use Rattle.kdl_grammar.specs.Tree.{Node};
+ghost use Rattle.kdl_parts.specs.Formats.{node_format_tree};
 ghost use Rattle.kdl_value.specs.Tree.{text_of};
 ghost use Rattle.std.specs.Prelude.{◌≡◌, ◌+◌, ◌<◌, ◌≤◌, ◌++◌, ◌∷◌, [], ℕ, IfOk, List, OnOk, is_none, map, unwrap_or, vec_len, vec_capacity};
 
 use crate::node::KdlNode;
 use kdl_fmt::layout::{further, indentation};
 use kdl_fmt::{Before, Layout};
-use kdl_parts::KdlDocumentFormat;
+use kdl_parts::{KdlDocumentFormat, KdlNodeFormat};
 use std::alloc::AllocError;
 use std::mem;
 
+/// The texts that are set around the nodes of a block once they are laid out: those after its `{` and before its `}`,
+/// and those around each node if the block stays on one line. Otherwise `line` is empty.
+#[derive(Drop)]
+pub(crate) struct Around {
+    pub braces: KdlDocumentFormat,
+    pub line: Vec<KdlNodeFormat>,
+}
+
 /// The nodes of a block that is being laid out: those before `at` are laid out. In a block above, the node at `at` is
-/// laid out except for its own block, whose nodes are taken out: `braces` are the texts around these, which are set when
+/// laid out except for its own block, whose nodes are taken out: `around` are the texts around these, which are set when
 /// they are laid out. `next` is what comes before the next node, which is not laid out.
 #[derive(Drop)]
 struct Block {
@@ -30,7 +40,7 @@ struct Block {
     level: usize,
     before: String,
     next: Before,
-    braces: Option<KdlDocumentFormat>,
+    around: Option<Around>,
 }
 
 /// The blocks that are being laid out: the innermost one, and those above it.
@@ -80,17 +90,17 @@ impl Blocks {
             level,
             before,
             next,
-            braces,
+            around,
         } = &mut self.inner;
         let node = &mut nodes[*at];
         let (behind, first, texts) = node.lay_out_own(layout, *level, before.as_str(), *next)?;
         *next = behind;
         if !node.has_nodes() {
-            node.set_braces(texts);
+            node.set_around(texts);
             *at += 1;
             return Ok(());
         }
-        *braces = texts;
+        *around = texts;
         let (level, before) = self.next_level(layout)?;
         let alloc = *self.above.allocator();
         let at = self.inner.at;
@@ -101,7 +111,7 @@ impl Blocks {
             level,
             before,
             next: first,
-            braces: None,
+            around: None,
         };
         let outer = mem::replace(&mut self.inner, block);
         self.above.push_reserved(outer);
@@ -125,10 +135,10 @@ impl Blocks {
     {
         let done = mem::replace(&mut self.inner, outer);
         let at = self.inner.at;
-        let braces = self.inner.braces.take();
+        let around = self.inner.around.take();
         if let Some(node) = self.inner.nodes.get_mut(at) {
             let _ = node.exchange_nodes(done.nodes);
-            node.set_braces(braces);
+            node.set_around(around);
             self.inner.at = at + 1;
         }
     }
@@ -186,10 +196,36 @@ impl Blocks {
             level: _,
             before: _,
             next: _,
-            braces: _,
+            around: _,
         } = inner;
         nodes
     }
+}
+
+/// Sets the formats of the nodes, in order. A node for which there is no format keeps its own.
+pub(crate) fn set_formats(nodes: &mut Vec<KdlNode>, formats: Vec<KdlNodeFormat>)
+    ensures { map node_tree nodes.new.items ≡
+        with_formats (map node_format_tree formats.items) (map node_tree nodes.old.items) }
+{
+    let mut formats = formats.into_iter();
+    for node in nodes.iter_mut() {
+        let Some(format) = formats.next() else {
+            return;
+        };
+        node.set_format(format);
+    }
+}
+
+/// Returns whether each of the nodes can be printed on one line, and has no block.
+pub(crate) fn nodes_on_line(nodes: &[KdlNode]) -> bool
+    ensures { result ≡ nodes_on_line (nodes_tree nodes.now) }
+{
+    for (i, node) in nodes.iter().enumerate() {
+        if !node.is_on_line(i + 1 == nodes.len()) {
+            return false;
+        }
+    }
+    true
 }
 
 /// Returns what comes before the text after the nodes, which are not laid out, or `None` if there are no nodes.
@@ -238,7 +274,7 @@ pub(crate) fn lay_out_nodes(
             level,
             before,
             next: first,
-            braces: None,
+            around: None,
         },
     };
     let outcome = blocks.lay_out(layout);

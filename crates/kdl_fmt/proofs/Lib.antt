@@ -4,6 +4,8 @@ pub mod Keeping
 pub mod Formatting
 -- Blank lines that stay between nodes and comments.
 pub mod Spacing
+-- Blocks that stay on one line.
+pub mod OneLine
 -- A loop that changes the elements of a list one by one.
 pub mod Loops
 -- Texts of one or four characters, and the formats of lines.

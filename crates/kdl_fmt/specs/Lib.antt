@@ -12,6 +12,8 @@ pub mod Formatted
 pub mod Kept
 -- Entries whose kept form reads back.
 pub mod KeptForm
+-- Blocks that stay on one line.
+pub mod OneLine
 -- The texts around nodes and documents if no comments are kept.
 pub mod Plain
 -- The result of layout if spellings are kept.

@@ -33,10 +33,11 @@ pub struct FormatConfig<'a> {
     pub entry_autoformate_keep: bool,
 }
 
-/// The configuration of `autoformat_layout` of documents and nodes, which can keep blank lines and spellings.
+/// The configuration of `autoformat_layout` of documents and nodes, which can keep blank lines, spellings, and blocks on
+/// one line.
 ///
 /// ```
-/// let layout = Layout { blank_lines: 1, keep_spelling: true, ..Layout::new() };
+/// let layout = Layout { blank_lines: 1, keep_spelling: true, keep_one_line: true, ..Layout::new() };
 /// ```
 #[derive(Clone, Copy, Debug, PartialEq, Eq)]
 pub struct Layout<'a> {
@@ -48,10 +49,16 @@ pub struct Layout<'a> {
     /// of a name, a key or a type that is one of its string. A spelling that means something else, as `set_value` can
     /// leave it, is replaced. An entry that is flagged to keep its form is laid out as without this field.
     pub keep_spelling: bool,
+    /// Whether a block that is on one line stays on one line: `{ a 1; b 2 }`, or `{}` without nodes. From its `{` to its
+    /// `}` such a block prints no newline, also in no string, and no comment, slashdashed piece or line continuation, and
+    /// its nodes have no blocks. Comments count even if they are removed. Its last node ends without a terminator, so a
+    /// node that is pushed to the list of nodes itself becomes a part of it, as after a text that was read so.
+    pub keep_one_line: bool,
 }
 
 impl Layout<'_> {
-    /// Creates a layout with the default configuration, which keeps no blank lines and no spellings.
+    /// Creates a layout with the default configuration, which keeps no blank lines, no spellings, and no blocks on one
+    /// line.
     ///
     /// ```
     /// let layout = Layout { blank_lines: 1, ..Layout::new() };
@@ -60,17 +67,20 @@ impl Layout<'_> {
         ensures config { settings result.config ≡ defaults }
         ensures blank_lines { result.blank_lines ≡ 0 }
         ensures keep_spelling { result.keep_spelling ≡ false }
+        ensures one_line { result.keep_one_line ≡ false }
     {
         Layout {
             config: FormatConfig::default(),
             blank_lines: 0,
             keep_spelling: false,
+            keep_one_line: false,
         }
     }
 }
 
 impl Default for Layout<'_> {
-    ghost is_default = { λ l. (settings l.config ≡ defaults) × (l.blank_lines ≡ 0) × (l.keep_spelling ≡ false) };
+    ghost is_default = { λ l. (settings l.config ≡ defaults) × (l.blank_lines ≡ 0)
+        × (l.keep_spelling ≡ false) × (l.keep_one_line ≡ false) };
 
     fn default() -> Self {
         Layout::new()

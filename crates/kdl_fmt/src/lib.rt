@@ -6,6 +6,7 @@ mod blank;
 mod config;
 pub mod layout;
 pub mod names;
+pub mod one_line;
 mod spelling;
 
 pub use blank::{Before, Last};

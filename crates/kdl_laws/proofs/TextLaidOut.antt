@@ -7,9 +7,9 @@ use Rattle.kdl_value.specs.Tree.{text_of}
 use Rattle.kdl_grammar.specs.Laid.{LaidDocument}
 use Rattle.kdl_fmt.specs.Comments.{CommentsStay}
 use Rattle.kdl_fmt.specs.Config.{Settings, defaults, settings}
-use Rattle.kdl_fmt.specs.Respelled.{IsSpelledDocument}
+use Rattle.kdl_fmt.specs.OneLine.{IsLaidDocument}
 use Rattle.kdl_fmt.specs.declared.config.Layout.{Layout}
-use Rattle.kdl_fmt.proofs.Respelling.Again as spelled
+use Rattle.kdl_fmt.proofs.OneLine.Again as line
 use Rattle.kdl_fmt.proofs.Formatting.Again.{document_stays}
 use Rattle.kdl.specs.Layout.{DocumentKeepsNoForm, DocumentLaidOut, DocumentSpaced}
 use Rattle.kdl.specs.Tree.{document_prints, document_tree}
@@ -37,11 +37,11 @@ text_laid_out text d e s laid none formatted comments h =
 
 -- the same with blank lines
 pub text_spaced_out : (text : Text) (l : Layout) (d e : KdlDocument) (s : String Global) → settings l.config ≡ defaults → LaidDocument true (document_tree d) text → DocumentKeepsNoForm d → DocumentSpaced l d e
-    → CommentsStay (document_tree d) (document_prints e) → string_bytes s ≡ encode_utf8_all (document_prints e) → IsSpacedOut l.keep_spelling l.blank_lines text (text_of s)
+    → CommentsStay (document_tree d) (document_prints e) → string_bytes s ≡ encode_utf8_all (document_prints e) → IsSpacedOut l.keep_spelling l.keep_one_line l.blank_lines text (text_of s)
 text_spaced_out text l d e s is laid none formatted comments h =
     let p = printed e s h in
-    let f : IsSpelledDocument l.keep_spelling l.blank_lines defaults 0 (document_tree d) (document_tree e) =
-    subst (λ (x : Settings). IsSpelledDocument l.keep_spelling l.blank_lines x x.indent_level (document_tree d) (document_tree e)) is formatted in
+    let f : IsLaidDocument l.keep_spelling l.keep_one_line l.blank_lines defaults 0 (document_tree d) (document_tree e) =
+    subst (λ (x : Settings). IsLaidDocument l.keep_spelling l.keep_one_line l.blank_lines x x.indent_level (document_tree d) (document_tree e)) is formatted in
     record {
       before = document_tree d;
       after = document_tree e;
@@ -49,5 +49,5 @@ text_spaced_out text l d e s is laid none formatted comments h =
       formatted = f;
       prints = p;
       comments = subst (CommentsStay (document_tree d)) (sym p) comments;
-      again = λ y g. spelled.document_stays l.keep_spelling l.blank_lines defaults 0 spaces_are refl (document_tree d) (document_tree e) y none f g;
+      again = λ y g. line.document_stays l.blank_lines defaults spaces_are l.keep_one_line refl l.keep_spelling 0 (document_tree d) (document_tree e) y f none g;
     }

@@ -12,9 +12,10 @@ use Rattle.kdl_fmt.specs.Formatted.{DocumentKeepsNone, NodeKeepsNone}
 use Rattle.kdl_fmt.specs.WithComments.{IsFormattedDocument, IsFormattedNode}
 use Rattle.kdl_fmt.specs.Respelled.{IsSpelledDocument, IsSpelledNode}
 use Rattle.kdl_fmt.specs.Spaced.{IsSpacedDocument, IsSpacedNode}
-use Rattle.kdl_fmt.proofs.Respelling.Again as spelled
+use Rattle.kdl_fmt.specs.OneLine.{IsLaidDocument, IsLaidNode}
+use Rattle.kdl_fmt.proofs.OneLine.Again as again
+use Rattle.kdl_fmt.proofs.OneLine.Same.{document_off, node_off}
 use Rattle.kdl_fmt.proofs.Respelling.Off as off
-use Rattle.kdl_fmt.proofs.Spacing.Again as spaced
 use Rattle.kdl_fmt.proofs.Spacing.Zero.{document_formatted, document_spaced, node_formatted, node_spaced}
 use Rattle.kdl_fmt.proofs.Formatting.Again.{document_stays, node_stays}
 use Rattle.kdl_fmt.proofs.Formatting.FormattedUnique.{formatted_det}
@@ -45,24 +46,28 @@ document_again s level d x y ok keep none f g = document_stays s level ok keep d
 pub node_again : (s : Settings) (level : ℕ) (n x y : Node) → IndentsBySpaces s → s.entry_autoformate_keep ≡ false → NodeKeepsNone n → IsFormattedNode s level n x → IsFormattedNode s level x y → y ≡ x
 node_again s level n x y ok keep none f g = node_stays s level ok keep n x y f none g
 
--- the same with blank lines
-pub spaced_again : (number : ℕ) (s : Settings) (level : ℕ) (d x y : Document) → IndentsBySpaces s → s.entry_autoformate_keep ≡ false → DocumentKeepsNone d → IsSpacedDocument number s level d x → IsSpacedDocument number s level x y → y ≡ x
-spaced_again number s level d x y ok keep none f g = spaced.document_stays number s level ok keep d x y f none g
+-- the same with blank lines, and with blocks on one line
+pub spaced_again : (spelling line : Bool) (number : ℕ) (s : Settings) (level : ℕ) (d x y : Document) → IndentsBySpaces s → s.entry_autoformate_keep ≡ false → DocumentKeepsNone d → IsLaidDocument spelling line number s level d x → IsLaidDocument spelling line number s level x y
+    → y ≡ x
+spaced_again spelling line number s level d x y ok flag bare f g = again.document_stays number s ok line flag spelling level d x y f bare g
 
-pub spaced_node_again : (number : ℕ) (s : Settings) (level : ℕ) (n x y : Node) → IndentsBySpaces s → s.entry_autoformate_keep ≡ false → NodeKeepsNone n → IsSpacedNode number s level at_start n x → IsSpacedNode number s level at_start x y → y ≡ x
-spaced_node_again number s level n x y ok keep none f g = spaced.node_stays number s level ok keep n x y f none g
+pub spaced_node_again : (spelling line : Bool) (number : ℕ) (s : Settings) (level : ℕ) (n x y : Node) → IndentsBySpaces s → s.entry_autoformate_keep ≡ false → NodeKeepsNone n → IsLaidNode spelling line number s level at_start n x → IsLaidNode spelling line number s level at_start x y
+    → y ≡ x
+spaced_node_again spelling line number s level n x y ok flag bare f g = again.node_stays number s ok line flag spelling level n x y f bare g
 
--- the same with spellings
-pub spelled_again : (keep : Bool) (number : ℕ) (s : Settings) (level : ℕ) (d x y : Document) → IndentsBySpaces s → s.entry_autoformate_keep ≡ false → DocumentKeepsNone d → IsSpelledDocument keep number s level d x → IsSpelledDocument keep number s level x y → y ≡ x
-spelled_again keep number s level d x y ok flag none f g = spelled.document_stays keep number s level ok flag d x y none f g
+pub spaced_twice : {A E : Type 0} (r : Result A E) (spelling line : Bool) (number : ℕ) (s : Settings) (level : ℕ) (d x y : Document) → list_all is_space s.indent ≡ true → s.entry_autoformate_keep ≡ false → DocumentKeepsNone d
+    → IsLaidDocument spelling line number s level d x → IfOk r (λ _. IsLaidDocument spelling line number s level x y) → IfOk r (λ _. IsLaidDocument spelling line number s level d y)
+spaced_twice (Ok v) spelling line number s level d x y ok flag bare f g = subst (λ (z : Document). IsLaidDocument spelling line number s level d z) (sym (again.document_stays number s ok line flag spelling level d x y f bare g)) f
+spaced_twice (Err v) spelling line number s level d x y ok flag bare f g = tt
 
-pub spelled_node_again : (keep : Bool) (number : ℕ) (s : Settings) (level : ℕ) (n x y : Node) → IndentsBySpaces s → s.entry_autoformate_keep ≡ false → NodeKeepsNone n → IsSpelledNode keep number s level at_start n x → IsSpelledNode keep number s level at_start x y → y ≡ x
-spelled_node_again keep number s level n x y ok flag none f g = spelled.node_stays keep number s level ok flag n x y none f g
+-- no block on one line
+pub lined_document : (spelling : Bool) (number : ℕ) (s : Settings) (level : ℕ) (d x : Document) → IsLaidDocument spelling false number s level d x ↔ IsSpelledDocument spelling number s level d x
+lined_document spelling number s level d x =
+    (λ f. subst (λ (y : Document). IsSpelledDocument spelling number s level d y) (sym (f.2 ∙ document_off d f.0)) f.1, λ f. (x, f, sym (document_off d x)))
 
-pub spaced_twice : {A E : Type 0} (r : Result A E) (keep : Bool) (number : ℕ) (s : Settings) (level : ℕ) (d x y : Document) → list_all is_space s.indent ≡ true → s.entry_autoformate_keep ≡ false → DocumentKeepsNone d
-    → IsSpelledDocument keep number s level d x → IfOk r (λ _. IsSpelledDocument keep number s level x y) → IfOk r (λ _. IsSpelledDocument keep number s level d y)
-spaced_twice (Ok v) keep number s level d x y ok flag none f g = subst (λ (z : Document). IsSpelledDocument keep number s level d z) (sym (spelled.document_stays keep number s level ok flag d x y none f g)) f
-spaced_twice (Err v) keep number s level d x y ok flag none f g = tt
+pub lined_node : (spelling : Bool) (number : ℕ) (s : Settings) (level : ℕ) (n x : Node) → IsLaidNode spelling false number s level at_start n x ↔ IsSpelledNode spelling number s level at_start n x
+lined_node spelling number s level n x =
+    (λ f. subst (λ (y : Node). IsSpelledNode spelling number s level at_start n y) (sym (f.2 ∙ node_off n f.0)) f.1, λ f. (x, f, sym (node_off n x)))
 
 -- no spellings
 pub respelled_document : (number : ℕ) (s : Settings) (level : ℕ) (d x : Document) → IsSpelledDocument false number s level d x ↔ IsSpacedDocument number s level d x

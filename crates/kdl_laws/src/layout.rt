@@ -8,6 +8,7 @@ ghost use Rattle.kdl_fmt.specs.Comments.{CommentsStay};
 ghost use Rattle.kdl_fmt.specs.Config.{IndentsBySpaces, Settings, defaults, settings};
 ghost use Rattle.kdl_fmt.specs.Formatted.{DocumentKeepsNone, NodeKeepsNone};
 ghost use Rattle.kdl_fmt.specs.Respelled.{IsSpelledDocument, IsSpelledNode};
+ghost use Rattle.kdl_fmt.specs.OneLine.{IsLaidDocument, IsLaidNode};
 ghost use Rattle.kdl_fmt.specs.Spaced.{IsSpacedDocument, IsSpacedNode};
 ghost use Rattle.kdl_fmt.specs.declared.config.Layout.{Layout};
 ghost use Rattle.kdl_fmt.specs.WithComments.{IsFormattedDocument, IsFormattedNode};
@@ -87,7 +88,7 @@ pub fn second_layout()
         → IsFormattedNode s level n x → IsFormattedNode s level x y → y ≡ x }
 {}
 
-/// A second layout of a document with the same number of blank lines, and with spellings kept or not, changes nothing.
+/// A second layout of a document with the same fields changes nothing.
 pub fn spaced_twice(document: &mut KdlDocument, layout: &Layout) -> Result<(), AllocError>
     requires indent { list_all is_space (settings layout.now.config).indent ≡ true }
     requires keeps_none_after { layout.now.config.entry_autoformate_keep ≡ false }
@@ -98,32 +99,32 @@ pub fn spaced_twice(document: &mut KdlDocument, layout: &Layout) -> Result<(), A
     document.autoformat_layout(layout)
 }
 
-/// A second layout with the same number of blank lines changes nothing: if the indent is of spaces and no entry is
-/// flagged, layout of its own result is that result.
-#[tactic(auto, using(crate::proofs::TwoLayouts::spaced_again, crate::proofs::TwoLayouts::spaced_node_again))]
+/// A second layout with the same fields changes nothing, whether spellings are kept and blocks stay on one line or not:
+/// if the indent is of spaces and no entry is flagged, layout of its own result is that result.
 pub fn second_spaced_layout()
-    ensures document { (number : ℕ) (s : Settings) (level : ℕ) (d x y : Document) → IndentsBySpaces s
+    ensures document { (spelling line : Bool) (number : ℕ) (s : Settings) (level : ℕ)
+        → (d x y : Document) → IndentsBySpaces s
         → s.entry_autoformate_keep ≡ false → DocumentKeepsNone d
-        → IsSpacedDocument number s level d x → IsSpacedDocument number s level x y → y ≡ x }
-    ensures node { (number : ℕ) (s : Settings) (level : ℕ) (n x y : Node) → IndentsBySpaces s
+        → IsLaidDocument spelling line number s level d x
+        → IsLaidDocument spelling line number s level x y → y ≡ x }
+    ensures node { (spelling line : Bool) (number : ℕ) (s : Settings) (level : ℕ)
+        → (n x y : Node) → IndentsBySpaces s
         → s.entry_autoformate_keep ≡ false → NodeKeepsNone n
-        → IsSpacedNode number s level at_start n x → IsSpacedNode number s level at_start x y
-        → y ≡ x }
+        → IsLaidNode spelling line number s level at_start n x
+        → IsLaidNode spelling line number s level at_start x y → y ≡ x }
 {}
 
-/// A second layout changes nothing either if both keep spellings, or if neither does.
-pub fn second_spelled_layout()
-    ensures document { (keep : Bool) (number : ℕ) (s : Settings) (level : ℕ) (d x y : Document)
-        → IndentsBySpaces s → s.entry_autoformate_keep ≡ false → DocumentKeepsNone d
-        → IsSpelledDocument keep number s level d x → IsSpelledDocument keep number s level x y
-        → y ≡ x }
-    ensures node { (keep : Bool) (number : ℕ) (s : Settings) (level : ℕ) (n x y : Node)
-        → IndentsBySpaces s → s.entry_autoformate_keep ≡ false → NodeKeepsNone n
-        → IsSpelledNode keep number s level at_start n x
-        → IsSpelledNode keep number s level at_start x y → y ≡ x }
+/// If no block is to stay on one line, layout has the result of layout with blank lines and spellings alone.
+pub fn layout_without_one_line()
+    ensures document { (spelling : Bool) (number : ℕ) (s : Settings) (level : ℕ) (d x : Document)
+        → IsLaidDocument spelling false number s level d x
+        ↔ IsSpelledDocument spelling number s level d x }
+    ensures node { (spelling : Bool) (number : ℕ) (s : Settings) (level : ℕ) (n x : Node)
+        → IsLaidNode spelling false number s level at_start n x
+        ↔ IsSpelledNode spelling number s level at_start n x }
 {}
 
-/// If no spellings are kept, layout has the result of layout with blank lines alone.
+/// If no spellings are kept either, layout has the result of layout with blank lines alone.
 #[tactic(auto, using(crate::proofs::TwoLayouts::respelled_document, crate::proofs::TwoLayouts::respelled_node))]
 pub fn layout_without_spellings()
     ensures document { (number : ℕ) (s : Settings) (level : ℕ) (d x : Document)
@@ -151,7 +152,7 @@ pub fn texts_are_laid_out()
         → string_bytes s ≡ encode_utf8_all (document_prints e) → IsLaidOut text (text_of s) }
 {}
 
-/// The same if blank lines are kept, and spellings or not.
+/// The same if blank lines, spellings or blocks on one line are kept.
 #[tactic(auto, using(crate::proofs::TextLaidOut::text_spaced_out))]
 pub fn texts_are_spaced_out()
     ensures { (text : Text) (l : Layout) (d e : KdlDocument) (s : String Global)
@@ -159,7 +160,7 @@ pub fn texts_are_spaced_out()
         → LaidDocument true (document_tree d) text → DocumentKeepsNoForm d
         → DocumentSpaced l d e → CommentsStay (document_tree d) (document_prints e)
         → string_bytes s ≡ encode_utf8_all (document_prints e)
-        → IsSpacedOut l.keep_spelling l.blank_lines text (text_of s) }
+        → IsSpacedOut l.keep_spelling l.keep_one_line l.blank_lines text (text_of s) }
 {}
 
 /// If no entry is flagged, each entry reads back in the form that it keeps, as clause `reads_back` of layout requires.

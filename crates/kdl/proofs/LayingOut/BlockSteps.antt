@@ -3,24 +3,24 @@ use Rattle.std.proofs.Common.{◌≡◌, ℕ, zero, suc, ◌+◌, ◌<◌, ◌�
 use Rattle.std.specs.Prelude.{MatchOption}
 use Rattle.std.proofs.lemmas.List.{append-nil, drop_more, drop_all, drop-set-lt, get_or-set_same}
 use Rattle.kdl_value.specs.Tree.{text_of}
-use Rattle.kdl_fmt.specs.Config.{indentation, settings}
+use Rattle.kdl_fmt.specs.Config.{IndentsBySpaces, indentation, settings}
 use Rattle.kdl_fmt.specs.declared.blank.Before.{Before}
 use Rattle.kdl_fmt.specs.declared.config.Layout.{Layout}
 use Rattle.kdl_fmt.specs.Formatted.{bare_node, bare_children, bare_nodes}
-use Rattle.kdl_grammar.specs.Tree.{DocumentFormat, Node, node, no_children, children, children_of, document, listed_nodes}
-use Rattle.kdl_parts.specs.declared.format.KdlDocumentFormat.{KdlDocumentFormat}
+use Rattle.kdl_grammar.specs.Tree.{DocumentFormat, NodeFormat, Node, node, no_children, children, children_of, document, listed_nodes}
+use Rattle.kdl.specs.declared.layout.Around.{Around}
 use Rattle.kdl_parts.specs.Formats.{document_format_tree}
-use Rattle.kdl.specs.Change.{with_document_format, with_nodes}
+use Rattle.kdl.specs.Change.{with_nodes}
 use Rattle.kdl.specs.Internal.Count.{count_left}
 use Rattle.kdl.specs.Iterators.{child_nodes, nodes_in}
-use Rattle.kdl.specs.Internal.Spacing.{filled_block, filled, with_at, outermost, whole, NodeIsSpaced, PassesAt, NodesAreSpaced, Partly, PartlyOpen, IsSpacedBut, IsAtLevel, IsUnderWay, GoesOn, with_braces, with_texts}
+use Rattle.kdl.specs.Internal.Spacing.{filled_block, filled, with_at, outermost, whole, NodeIsSpaced, PassesAt, NodesAreSpaced, Partly, PartlyOpen, IsSpacedBut, IsAtLevel, IsUnderWay, GoesOn, with_braces, with_formats, braces_of, line_of, lined, enclosed, StaysAs}
 use Rattle.kdl.specs.Tree.{head_tree, node_tree, document_tree}
 use Rattle.kdl.specs.declared.node.KdlNode.{KdlNode}
 use Rattle.kdl.specs.declared.document.KdlDocument.{KdlDocument}
 use Rattle.kdl.specs.declared.document.KdlDocument.TheViews.{out-KdlDocument, out-KdlNode, out-roll-KdlDocument}
 use Rattle.kdl.specs.declared.layout.Block.{Block}
 use Rattle.kdl.proofs.NodeCounts.{line_counted, block_counted, end_counted}
-use Rattle.kdl.proofs.Trees.{node_of, node_tree_out, document_tree_out, document_tree_roll}
+use Rattle.kdl.proofs.Trees.{node_tree_out, document_tree_out}
 
 -- blocks with other nodes in them
 block_is : (o : Option KdlDocument) → children_of (option_map document_tree o) ≡ filled_block o (map node_tree (nodes_in o))
@@ -53,19 +53,31 @@ node_changed n m v e =
     ∙ ap (λ x. filled n (map node_tree (nodes_in x.children))) e
     ∙ ap (λ k. node (head_tree (out-KdlNode n)) k) (nodes_changed (out-KdlNode n).children v)
 
+-- what is made of the nodes that were put into a block
+nodes_exchanged : (o : Option KdlDocument) (v : Vec KdlNode Global) (F : List Node → List Node) → filled_block o (F (map node_tree (nodes_in (option_map (λ d. with_nodes d v) o)))) ≡ filled_block o (F (map node_tree v.items))
+nodes_exchanged None v F = refl
+nodes_exchanged (Some d) v F = ap (λ x. filled_block (Some d) (F (map node_tree x.nodes.items))) (out-roll-KdlDocument (record (out-KdlDocument d) { nodes = v }))
+
+pub filled_exchanged : (n m : KdlNode) (v : Vec KdlNode Global) (F : List Node → List Node) → out-KdlNode m ≡ record (out-KdlNode n) { children = option_map (λ d. with_nodes d v) (out-KdlNode n).children }
+    → filled m (F (map node_tree (child_nodes m))) ≡ filled n (F (map node_tree v.items))
+filled_exchanged n m v F e =
+    filled_changed n m v (F (map node_tree (child_nodes m))) e
+    ∙ ap (λ x. filled n (F (map node_tree (nodes_in x.children)))) e
+    ∙ ap (λ k. node (head_tree (out-KdlNode n)) k) (nodes_exchanged (out-KdlNode n).children v F)
+
+pub filled_below : (n m : KdlNode) (o : Option KdlDocument) (F : List Node → List Node) → out-KdlNode m ≡ record (out-KdlNode n) { children = o } → ((ns : List Node) → filled_block o ns ≡ filled_block (out-KdlNode n).children ns)
+    → filled m (F (map node_tree (child_nodes m))) ≡ filled n (F (map node_tree (nodes_in o)))
+filled_below n m o F e f =
+    ap (λ x. node (head_tree x) (filled_block x.children (F (map node_tree (nodes_in x.children))))) e
+    ∙ ap (λ k. node (head_tree (out-KdlNode n)) k) (f (F (map node_tree (nodes_in o))))
+
+-- the texts around the nodes do not count
+bare_formats : (fs : List NodeFormat) (ns : List Node) → map bare_node (with_formats fs ns) ≡ map bare_node ns
+bare_formats fs [] = refl
+bare_formats [] (n ∷ ns) = refl
+bare_formats (f ∷ fs) (node h k ∷ ns) = ap (λ x. bare_node (node h k) ∷ x) (bare_formats fs ns)
+
 -- a node whose block has other texts around its nodes
-block_braced : (g : Option KdlDocumentFormat) (o : Option KdlDocument) → children_of (option_map document_tree (option_map (λ d. with_document_format d g) o)) ≡ with_texts (option_map document_format_tree g) (children_of (option_map document_tree o))
-block_braced g None = refl
-block_braced g (Some d) =
-    ap children (document_tree_roll (record (out-KdlDocument d) { format = g }))
-    ∙ sym (ap (λ x. with_texts (option_map document_format_tree g) (children x)) (document_tree_out d))
-
-pub node_braced : (g : Option KdlDocumentFormat) (n m : KdlNode) → out-KdlNode m ≡ record (out-KdlNode n) { children = option_map (λ d. with_document_format d g) (out-KdlNode n).children }
-    → node_tree m ≡ with_braces (option_map document_format_tree g) (node_tree n)
-node_braced g n m e =
-    node_tree_out m ∙ ap node_of e ∙ ap (λ k. node (head_tree (out-KdlNode n)) k) (block_braced g (out-KdlNode n).children)
-    ∙ sym (ap (with_braces (option_map document_format_tree g)) (node_tree_out n))
-
 pub bare_braced : (g : Option DocumentFormat) (n : Node) → bare_node (with_braces g n) ≡ bare_node n
 bare_braced g (node h no_children) = refl
 bare_braced g (node h (children (document f at ns))) = refl
@@ -79,10 +91,14 @@ node_below n m o e f =
     ∙ ap (λ k. node (head_tree (out-KdlNode n)) k) (f (map node_tree (nodes_in o)))
 
 -- it is laid out where these are
-pub laid_below : (l : Layout) (level : ℕ) (c first : Before) (g : Option KdlDocumentFormat) (n n' n1 m : KdlNode) (o : Option KdlDocument) → node_tree n1 ≡ filled n' (map node_tree (nodes_in o))
-    → node_tree m ≡ with_braces (option_map document_format_tree g) (node_tree n1) → child_nodes n' ≡ child_nodes n
-    → IsSpacedBut l level c (node_tree n) first g (map node_tree (child_nodes n)) n' → NodesAreSpaced l (level + 1) first (map node_tree (child_nodes n')) (map node_tree (nodes_in o)) → NodeIsSpaced l level c (node_tree n) (node_tree m)
-laid_below l level c first g n n' n1 m o e t b f z = rw (t, e) (f (map node_tree (nodes_in o)) (subst (λ x. NodesAreSpaced l (level + 1) first (map node_tree x) (map node_tree (nodes_in o))) b z))
+pub laid_below : (l : Layout) (level : ℕ) (c first : Before) (g : Option Around) (n n' m : KdlNode) (o : Option KdlDocument)
+    → node_tree m ≡ enclosed g n' (map node_tree (nodes_in o)) → child_nodes n' ≡ child_nodes n
+    → IsSpacedBut l level c (node_tree n) first g (map node_tree (child_nodes n)) n' → NodesAreSpaced l (level + 1) first (map node_tree (child_nodes n')) (map node_tree (nodes_in o))
+    → NodeIsSpaced l level c (node_tree n) (node_tree m) × (IndentsBySpaces (settings l.config) → StaysAs (settings l.config) (filled n' (map node_tree (nodes_in o))) (node_tree m))
+laid_below l level c first g n n' m o t b f z =
+    let ms = map node_tree (nodes_in o) in
+    let w = f ms (subst (λ x. NodesAreSpaced l (level + 1) first (map node_tree x) ms) b z) in
+    subst (λ (x : Node). NodeIsSpaced l level c (node_tree n) x × (IndentsBySpaces (settings l.config) → StaysAs (settings l.config) (filled n' ms) x)) (sym t) w
 
 -- what stays in a block
 bared : (ns : List Node) → bare_nodes (listed_nodes ns) ≡ listed_nodes (map bare_node ns)
@@ -98,6 +114,9 @@ bare_block (Some d) ns ms e = rw (bare_alike ns ms e) refl
 
 pub bare_filled : (n : KdlNode) (ns ms : List Node) → map bare_node ns ≡ map bare_node ms → bare_node (filled n ns) ≡ bare_node (filled n ms)
 bare_filled n ns ms e = rw (bare_block (out-KdlNode n).children ns ms e) refl
+
+pub bare_enclosed : (g : Option Around) (n : KdlNode) (ns : List Node) → bare_node (enclosed g n ns) ≡ bare_node (filled n ns)
+bare_enclosed g n ns = bare_braced (braces_of g) (filled n (lined g ns)) ∙ bare_filled n (lined g ns) ns (bare_formats (line_of g) ns)
 
 bare_with_at : (f g : KdlNode → Node) → ((n : KdlNode) → bare_node (f n) ≡ bare_node (g n)) → (ns : List KdlNode) (i : ℕ) → map bare_node (with_at f ns i) ≡ map bare_node (with_at g ns i)
 bare_with_at f g e [] i = refl
@@ -183,7 +202,7 @@ module _ (l : Layout) (level : ℕ) where
   open_as Open Open' f c next (o ∷ olds) (n ∷ ns) (suc i) p = (p.0, p.1, p.2, open_as Open Open' f p.0 next olds ns i p.3)
 
 -- the node at a place is laid out where the nodes in its block are, which are under way
-abbrev pub Opened : Layout → ℕ → Option KdlDocumentFormat → List Block → Block → Before → Node → KdlNode → Type 0
+abbrev pub Opened : Layout → ℕ → Option Around → List Block → Block → Before → Node → KdlNode → Type 0
 Opened l level g above inner x o n = (first : Before) × (ns : List Node) × IsSpacedBut l level x o first g ns n × IsUnderWay l (level + 1) first ns above inner
 
 -- what a step does under all blocks above
@@ -192,7 +211,7 @@ under_way : (l : Layout) (above tail tail' : List Block) (b b' : Block) → ((le
 under_way l [] tail tail' b b' f level c olds u = f level c olds u
 under_way l (a ∷ above) tail tail' b b' f level c olds u = (
   u.0,
-  open_as l level (Opened l level a.braces (above ++ tail) b) (Opened l level a.braces (above ++ tail') b')
+  open_as l level (Opened l level a.around (above ++ tail) b) (Opened l level a.around (above ++ tail') b')
       (λ x o n q. (q.0, q.1, q.2, under_way l above tail tail' b b' f (level + 1) q.0 q.1 q.3)) c a.next olds a.nodes.items a.at u.1,
 )
 
@@ -214,7 +233,7 @@ pub block_on : (l : Layout) (above : List Block) (b outer inner : Block) (ns : L
     → outer.nodes.items ≡ set b.nodes.items b.at m → outer.at ≡ b.at → outer.level ≡ b.level → outer.before ≡ b.before
     → inner.nodes.items ≡ ns → inner.at ≡ 0
     → ((level : ℕ) → IsAtLevel l level b
-    → IsSpacedBut l level b.next (node_tree (get_or b.nodes.items b.at d)) inner.next outer.braces (map node_tree ns) m × IsAtLevel l (level + 1) inner × PassesAt l (node_tree (get_or b.nodes.items b.at d)) outer.next)
+    → IsSpacedBut l level b.next (node_tree (get_or b.nodes.items b.at d)) inner.next outer.around (map node_tree ns) m × IsAtLevel l (level + 1) inner × PassesAt l (node_tree (get_or b.nodes.items b.at d)) outer.next)
     → (level : ℕ) (c : Before) (olds : List Node) → IsUnderWay l level c olds above b → IsUnderWay l level c olds (above ++ outer ∷ []) inner
 block_on l above b outer inner ns m d h is at y t holds first laid level c olds u =
     let f : (level : ℕ) (c : Before) (olds : List Node) → IsUnderWay l level c olds [] b → IsUnderWay l level c olds (outer ∷ []) inner =
@@ -222,23 +241,23 @@ block_on l above b outer inner ns m d h is at y t holds first laid level c olds 
     let w = laid level u.0 in
     let start : Partly l (level + 1) inner.next (map node_tree ns) inner.nodes.items inner.at inner.next = rw (holds, first) (refl, refl) in (
       rw (y, t) u.0,
-      rw (is, at) (partly_open l level (Opened l level outer.braces [] inner) c b.next outer.next olds b.nodes.items b.at m d h (inner.next, map node_tree ns, w.0, (w.1, start)) w.2 u.1),
+      rw (is, at) (partly_open l level (Opened l level outer.around [] inner) c b.next outer.next olds b.nodes.items b.at m d h (inner.next, map node_tree ns, w.0, (w.1, start)) w.2 u.1),
     ) in
     under_way l above [] (outer ∷ []) b inner f level c olds (subst (λ z. IsUnderWay l level c olds z b) (sym (append-nil above)) u)
 
 -- a block is left
 pub end_on : (l : Layout) (above : List Block) (outer inner b : Block) (m d : KdlNode) → length inner.nodes.items ≤ inner.at
     → (outer.at < length outer.nodes.items → (b.nodes.items ≡ set outer.nodes.items outer.at m) × (b.at ≡ outer.at + 1)) → b.level ≡ outer.level → b.before ≡ outer.before → b.next ≡ outer.next
-    → node_tree m ≡ with_braces (option_map document_format_tree outer.braces) (filled (get_or outer.nodes.items outer.at d) (map node_tree inner.nodes.items))
+    → node_tree m ≡ enclosed outer.around (get_or outer.nodes.items outer.at d) (map node_tree inner.nodes.items)
     → (level : ℕ) (c : Before) (olds : List Node) → IsUnderWay l level c olds (above ++ outer ∷ []) inner → IsUnderWay l level c olds above b
 end_on l above outer inner b m d all is y t x e level c olds u =
     let f : (level : ℕ) (c : Before) (olds : List Node) → IsUnderWay l level c olds (outer ∷ []) inner → IsUnderWay l level c olds [] b =
     λ level c olds u.
-    let Open : Before → Node → KdlNode → Type 0 = Opened l level outer.braces [] inner in
+    let Open : Before → Node → KdlNode → Type 0 = Opened l level outer.around [] inner in
     let w = is (open_inside l level Open c outer.next olds outer.nodes.items outer.at u.1) in (
       rw (y, t) u.0,
       rw (w.0, w.1, add-one outer.at, x) (partly_closed l level Open c outer.next olds outer.nodes.items outer.at m d
-          (λ x o q. rw e (q.2 (map node_tree inner.nodes.items) (partly_all l (level + 1) q.0 inner.next q.1 inner.nodes.items inner.at all q.3.1))) u.1),
+          (λ x o q. rw e (q.2 (map node_tree inner.nodes.items) (partly_all l (level + 1) q.0 inner.next q.1 inner.nodes.items inner.at all q.3.1)).0) u.1),
     ) in
     subst (λ z. IsUnderWay l level c olds z b) (append-nil above) (under_way l above (outer ∷ []) [] inner b f level c olds u)
 
@@ -247,7 +266,7 @@ end_on_none : (l : Layout) (above : List Block) (outer inner b : Block) → leng
 end_on_none l above outer inner b h level c olds u =
     let f : (level : ℕ) (c : Before) (olds : List Node) → IsUnderWay l level c olds (outer ∷ []) inner → IsUnderWay l level c olds [] b =
     λ level c olds u.
-    let k = open_inside l level (Opened l level outer.braces [] inner) c outer.next olds outer.nodes.items outer.at u.1 in
+    let k = open_inside l level (Opened l level outer.around [] inner) c outer.next olds outer.nodes.items outer.at u.1 in
     absurd (omega (arith, h, k)) in
     subst (λ z. IsUnderWay l level c olds z b) (append-nil above) (under_way l above (outer ∷ []) [] inner b f level c olds u)
 
@@ -284,11 +303,11 @@ bare_set_with_at f (n ∷ ns) zero m d h e = ap (λ x. x ∷ map bare_node (map 
 bare_set_with_at f (n ∷ ns) (suc i) m d h e = ap (λ x. bare_node (node_tree n) ∷ x) (bare_set_with_at f ns i m d (omega arith) e)
 
 pub end_bare : (above : List Block) (outer inner b : Block) (n m : KdlNode) → outer.at < length outer.nodes.items → get_or outer.nodes.items outer.at n ≡ n
-    → node_tree m ≡ with_braces (option_map document_format_tree outer.braces) (filled n (map node_tree inner.nodes.items))
+    → node_tree m ≡ enclosed outer.around n (map node_tree inner.nodes.items)
     → b.nodes.items ≡ set outer.nodes.items outer.at m → map bare_node (whole above b) ≡ map bare_node (whole (above ++ outer ∷ []) inner)
 end_bare above outer inner b n m h g t is =
     let ns = map node_tree inner.nodes.items in
-    let same = ap bare_node t ∙ bare_braced (option_map document_format_tree outer.braces) (filled n ns) ∙ ap (λ x. bare_node (filled x ns)) (sym g) in
+    let same = ap bare_node t ∙ bare_enclosed outer.around n ns ∙ ap (λ x. bare_node (filled x ns)) (sym g) in
     ap (λ z. map bare_node (outermost above (map node_tree z))) is
     ∙ bare_outermost above (map node_tree (set outer.nodes.items outer.at m)) (with_at (λ x. filled x ns) outer.nodes.items outer.at) (bare_set_with_at (λ x. filled x ns) outer.nodes.items outer.at m n h same)
     ∙ sym (ap (map bare_node) (outermost_more above outer ns))
@@ -296,19 +315,19 @@ end_bare above outer inner b n m h g t is =
 -- and what was under way goes on
 end_goes_on : (above : List Block) (outer inner b : Block) (n m : KdlNode) → (outer.at < length outer.nodes.items → (b.nodes.items ≡ set outer.nodes.items outer.at m) × (b.at ≡ outer.at + 1))
     → drop b.at b.nodes.items ≡ behind outer → b.level ≡ outer.level → b.before ≡ outer.before → b.next ≡ outer.next
-    → node_tree m ≡ with_braces (option_map document_format_tree outer.braces) (filled (get_or outer.nodes.items outer.at n) (map node_tree inner.nodes.items)) → length inner.nodes.items ≤ inner.at → (s : Layout) → GoesOn s (above ++ outer ∷ []) inner above b
+    → node_tree m ≡ enclosed outer.around (get_or outer.nodes.items outer.at n) (map node_tree inner.nodes.items) → length inner.nodes.items ≤ inner.at → (s : Layout) → GoesOn s (above ++ outer ∷ []) inner above b
 end_goes_on above outer inner b n m is left l t x e all s =
     let nothing : drop inner.at inner.nodes.items ≡ [] = drop_all inner.at inner.nodes.items all in (
       end_on s above outer inner b m n all is l t x e,
       omega (arith, end_counted behind outer above, ap (λ r. count_left behind r above) left, ap (λ r. count_left behind r (above ++ outer ∷ [])) nothing),
     )
 
-pub end_goes_on_there : (above : List Block) (outer inner b : Block) (n m : KdlNode) → outer.at < length outer.nodes.items → get_or outer.nodes.items outer.at n ≡ n → node_tree m ≡ with_braces (option_map document_format_tree outer.braces) (filled n (map node_tree inner.nodes.items))
+pub end_goes_on_there : (above : List Block) (outer inner b : Block) (n m : KdlNode) → outer.at < length outer.nodes.items → get_or outer.nodes.items outer.at n ≡ n → node_tree m ≡ enclosed outer.around n (map node_tree inner.nodes.items)
     → b.nodes.items ≡ set outer.nodes.items outer.at m → b.at ≡ outer.at + 1 → b.level ≡ outer.level → b.before ≡ outer.before → b.next ≡ outer.next
     → length inner.nodes.items ≤ inner.at → (s : Layout) → GoesOn s (above ++ outer ∷ []) inner above b
 end_goes_on_there above outer inner b n m h g e is at l t x all =
     end_goes_on above outer inner b n m (λ _. (is, at)) (rw (is, at) (drop-set-lt (outer.at + 1) outer.nodes.items outer.at m (omega arith))) l t x
-    (e ∙ ap (λ x. with_braces (option_map document_format_tree outer.braces) (filled x (map node_tree inner.nodes.items))) (sym g)) all
+    (e ∙ ap (λ x. enclosed outer.around x (map node_tree inner.nodes.items)) (sym g)) all
 
 pub end_goes_on_none : (above : List Block) (outer inner b : Block) → length outer.nodes.items ≤ outer.at → b.nodes.items ≡ outer.nodes.items → b.at ≡ outer.at → b.level ≡ outer.level → b.before ≡ outer.before
     → length inner.nodes.items ≤ inner.at → (s : Layout) → GoesOn s (above ++ outer ∷ []) inner above b
@@ -328,10 +347,10 @@ bare_next above b b' n m h g e is =
 
 -- what is laid out at a block's level
 -- own is what a node becomes at it, and what comes after it
-abbrev pub Own : Layout → ℕ → Block → Before → Before → Option KdlDocumentFormat → KdlNode → KdlNode → Type 0
+abbrev pub Own : Layout → ℕ → Block → Before → Before → Option Around → KdlNode → KdlNode → Type 0
 Own l level b next first g n m = PassesAt l (node_tree n) next × IsSpacedBut l level b.next (node_tree n) first g (map node_tree (child_nodes n)) m
 
-at_level : (l : Layout) (b : Block) (next first : Before) (g : Option KdlDocumentFormat) (n m : KdlNode) → (text_of b.before ≡ indentation (settings l.config) b.level → Own l b.level b next first g n m) → (level : ℕ) → IsAtLevel l level b → Own l level b next first g n m
+at_level : (l : Layout) (b : Block) (next first : Before) (g : Option Around) (n m : KdlNode) → (text_of b.before ≡ indentation (settings l.config) b.level → Own l b.level b next first g n m) → (level : ℕ) → IsAtLevel l level b → Own l level b next first g n m
 at_level l b next first g n m own level u = subst (λ k. Own l k b next first g n m) u.0 (own (u.1 ∙ ap (indentation (settings l.config)) (sym u.0)))
 
 none_is : (xs : List KdlNode) → (0 < length xs → ⊥) → xs ≡ []
@@ -339,21 +358,24 @@ none_is [] h = refl
 none_is (x ∷ xs) h = absurd (h (omega arith))
 
 -- the next node, without nodes in its block
-pub line_is_laid : (s : Layout) (b : Block) (next first : Before) (g : Option KdlDocumentFormat) (n m : KdlNode) → child_nodes m ≡ child_nodes n → (0 < length (child_nodes m) → ⊥) → (level : ℕ) → Own s level b next first g n m
-    → NodeIsSpaced s level b.next (node_tree n) (with_braces (option_map document_format_tree g) (node_tree m))
+pub line_is_laid : (s : Layout) (b : Block) (next first : Before) (g : Option Around) (n m : KdlNode) → child_nodes m ≡ child_nodes n → (0 < length (child_nodes m) → ⊥) → (level : ℕ) → Own s level b next first g n m
+    → NodeIsSpaced s level b.next (node_tree n) (enclosed g m (map node_tree (child_nodes m)))
+    × (IndentsBySpaces (settings s.config) → StaysAs (settings s.config) (node_tree m) (enclosed g m (map node_tree (child_nodes m))))
 line_is_laid s b next first g n m same none level w =
     let empty : child_nodes m ≡ [] = none_is (child_nodes m) none in
     let tree : node_tree m ≡ filled m [] = node_is m ∙ ap (λ z. filled m (map node_tree z)) empty in
-    subst (λ x. NodeIsSpaced s level b.next (node_tree n) (with_braces (option_map document_format_tree g) x)) (sym tree) (w.1 [] (subst (λ z. NodesAreSpaced s (level + 1) first (map node_tree z) []) (sym empty ∙ same) tt))
+    let v = w.1 [] (subst (λ z. NodesAreSpaced s (level + 1) first (map node_tree z) []) (sym empty ∙ same) tt) in
+    subst (λ (z : List KdlNode). NodeIsSpaced s level b.next (node_tree n) (enclosed g m (map node_tree z)) × (IndentsBySpaces (settings s.config) → StaysAs (settings s.config) (node_tree m) (enclosed g m (map node_tree z)))) (sym empty)
+    (subst (λ (z : Node). NodeIsSpaced s level b.next (node_tree n) (enclosed g m []) × (IndentsBySpaces (settings s.config) → StaysAs (settings s.config) z (enclosed g m []))) (sym tree) v)
 
-pub line_goes_on : (s : Layout) (above : List Block) (b b' : Block) (first : Before) (g : Option KdlDocumentFormat) (n m x : KdlNode) → b.at < length b.nodes.items → get_or b.nodes.items b.at n ≡ n
+pub line_goes_on : (s : Layout) (above : List Block) (b b' : Block) (first : Before) (g : Option Around) (n m x : KdlNode) → b.at < length b.nodes.items → get_or b.nodes.items b.at n ≡ n
     → b'.nodes.items ≡ set b.nodes.items b.at x → b'.at ≡ b.at + 1 → b'.level ≡ b.level → b'.before ≡ b.before
-    → child_nodes m ≡ child_nodes n → (0 < length (child_nodes m) → ⊥) → node_tree x ≡ with_braces (option_map document_format_tree g) (node_tree m)
+    → child_nodes m ≡ child_nodes n → (0 < length (child_nodes m) → ⊥) → node_tree x ≡ enclosed g m (map node_tree (child_nodes m))
     → (text_of b.before ≡ indentation (settings s.config) b.level → Own s b.level b b'.next first g n m) → GoesOn s above b above b'
 line_goes_on s above b b' first g n m x h e is at l t same none braced own =
     let laid : (level : ℕ) → IsAtLevel s level b → NodeIsSpaced s level b.next (node_tree n) (node_tree x) × PassesAt s (node_tree n) b'.next =
     λ level u. let w = at_level s b b'.next first g n m own level u in
-    (subst (λ z. NodeIsSpaced s level b.next (node_tree n) z) (sym braced) (line_is_laid s b b'.next first g n m same none level w), w.0) in
+    (subst (λ z. NodeIsSpaced s level b.next (node_tree n) z) (sym braced) (line_is_laid s b b'.next first g n m same none level w).0, w.0) in
     let rest : drop b'.at b'.nodes.items ≡ behind b = rw (is, at) (drop-set-lt (b.at + 1) b.nodes.items b.at x (omega arith)) in
     let first : drop b.at b.nodes.items ≡ n ∷ behind b = drop_more b.nodes.items b.at n h ∙ ap (λ x. x ∷ behind b) e in (
       line_on s above b b' x n h is at l t (λ level u. subst (λ y. NodeIsSpaced s level b.next (node_tree y) (node_tree x) × PassesAt s (node_tree y) b'.next) (sym e) (laid level u)),
@@ -410,15 +432,21 @@ module _ (s : Layout) (above : List Block) (b b1 outer inner : Block) (n m x x' 
 
   pub block_goes_on : inner.at ≡ 0 → inner.level ≡ b1.level + 1
       → (text_of b.before ≡ indentation (settings s.config) b.level → text_of inner.before ≡ indentation (settings s.config) inner.level)
-      → (text_of b.before ≡ indentation (settings s.config) b.level → Own s b.level b outer.next inner.next outer.braces n m) → GoesOn s above b (above ++ outer ∷ []) inner
+      → (text_of b.before ≡ indentation (settings s.config) b.level → Own s b.level b outer.next inner.next outer.around n m) → GoesOn s above b (above ++ outer ∷ []) inner
   block_goes_on first l t own =
       let w = block_is_there (out-KdlNode n).children (subst (λ z. 0 < length z) same some) in
       let laid : (level : ℕ) → IsAtLevel s level b
-      → IsSpacedBut s level b.next (node_tree (get_or b.nodes.items b.at n)) inner.next outer.braces (map node_tree (child_nodes n)) x' × IsAtLevel s (level + 1) inner × PassesAt s (node_tree (get_or b.nodes.items b.at n)) outer.next =
+      → IsSpacedBut s level b.next (node_tree (get_or b.nodes.items b.at n)) inner.next outer.around (map node_tree (child_nodes n)) x' × IsAtLevel s (level + 1) inner × PassesAt s (node_tree (get_or b.nodes.items b.at n)) outer.next =
       λ level u.
-      let w = at_level s b outer.next inner.next outer.braces n m own level u in (
-        λ ms z. subst (λ (y : KdlNode). NodeIsSpaced s level b.next (node_tree y) (with_braces (option_map document_format_tree outer.braces) (filled x' ms))) (sym next)
-            (subst (λ (y : Node). NodeIsSpaced s level b.next (node_tree n) (with_braces (option_map document_format_tree outer.braces) y)) (sym (as_before ms)) (w.1 ms z)),
+      let w = at_level s b outer.next inner.next outer.around n m own level u in (
+        λ ms z.
+            let v = w.1 ms z in
+            let same_lined = sym (as_before (lined outer.around ms)) in (
+              subst (λ (y : KdlNode). NodeIsSpaced s level b.next (node_tree y) (enclosed outer.around x' ms)) (sym next)
+                  (subst (λ (y : Node). NodeIsSpaced s level b.next (node_tree n) (with_braces (braces_of outer.around) y)) same_lined v.0),
+              λ ok. subst (λ (y : Node). StaysAs (settings s.config) y (enclosed outer.around x' ms)) (sym (as_before ms))
+                  (subst (λ (y : Node). StaysAs (settings s.config) (filled m ms) (with_braces (braces_of outer.around) y)) same_lined (v.1 ok)),
+            ),
         let k : inner.level ≡ level + 1 = l ∙ ap (λ z. z + 1) (open_level ∙ u.0) in (k, t (u.1 ∙ ap (indentation (settings s.config)) (sym u.0)) ∙ ap (indentation (settings s.config)) k),
         rw next w.0,
       ) in

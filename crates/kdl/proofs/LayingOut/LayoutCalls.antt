@@ -1,9 +1,10 @@
 -- What the calls that lay out promise, from what the layout makes.
-use Rattle.std.proofs.Common.{◌≡◌, ℕ, Bool, true, false, refl, sym, ap, ◌∙◌, subst, Result, Ok, Err, IfOk}
+use Rattle.std.proofs.Common.{◌≡◌, ℕ, zero, Bool, true, false, refl, sym, ap, ◌∙◌, subst, Result, Ok, Err, IfOk}
 use Rattle.std.specs.List.{list_all}
 use Rattle.kdl_text.specs.Chars.{is_space}
 use Rattle.kdl_grammar.specs.Data as data'
 use Rattle.kdl_grammar.specs.Grammar.{IsDocument}
+use Rattle.kdl_grammar.specs.Laid.{LaidDocument}
 use Rattle.kdl_grammar.specs.Print.{print_document, print_node}
 use Rattle.kdl_grammar.specs.Tree.{Document, document_data, Node, node_data}
 use Rattle.kdl_fmt.specs.Blank.{at_start}
@@ -12,6 +13,7 @@ use Rattle.kdl_fmt.specs.Comments.{CommentsStay}
 use Rattle.kdl_fmt.specs.Config.{Settings, IsPlain, defaults, without_comments}
 use Rattle.kdl_fmt.specs.Formatted.{formatted_document, formatted_node, DocumentLevelsFit, NodeLevelsFit, bare_document, bare_node, DocumentKeepsNone, NodeKeepsNone}
 use Rattle.kdl_fmt.specs.WellFormed.{AreWellFormed, IsWellFormedNode}
+use Rattle.kdl_fmt.specs.OneLine.{IsLaidDocument, IsLaidNode}
 use Rattle.kdl_fmt.specs.Respelled.{IsSpelledDocument, IsSpelledNode}
 use Rattle.kdl_fmt.specs.Spaced.{IsSpacedDocument, IsSpacedNode}
 use Rattle.kdl_fmt.specs.WithComments.{IsFormattedDocument, IsFormattedNode}
@@ -20,7 +22,9 @@ use Rattle.kdl_fmt.proofs.Spacing.Zero.{document_formatted, node_formatted}
 use Rattle.kdl_fmt.proofs.Respelling.Leaves as left
 use Rattle.kdl_fmt.proofs.Respelling.Off as off
 use Rattle.kdl_fmt.proofs.Respelling.Written.{written_document, written_node}
-use Rattle.kdl_fmt.proofs.Formatting.CommentsReadBack.{document_derived, node_derived}
+use Rattle.kdl_fmt.proofs.OneLine.Reads.{document_derived, node_derived}
+use Rattle.kdl_fmt.proofs.OneLine.Same as on_line
+use Rattle.kdl_fmt.proofs.OneLine.Same.{document_off, node_off}
 use Rattle.kdl_fmt.proofs.Keeping.CommentsStay.{comments_stay, node_comments_stay}
 use Rattle.kdl_fmt.proofs.Formatting.FormattedUnique as layout
 use Rattle.kdl_fmt.proofs.Formatting.PrintsCanonical.{bare_document_data, bare_node_data, document_canonical, node_canonical}
@@ -38,101 +42,119 @@ if_both : {A E P Q S : Type 0} (r : Result A E) → (P → Q → S) → IfOk r (
 if_both (Ok a) f p q = f p q
 if_both (Err e) f p q = p
 
--- what layout makes where no blank lines and no spellings stay
+-- what layout makes where no block stays on one line
+laid_off : (spelling line : Bool) (number : ℕ) (s : Settings) (level : ℕ) (d x : Document) → line ≡ false → IsLaidDocument spelling line number s level d x → IsSpelledDocument spelling number s level d x
+laid_off spelling true number s level d x e f = absurd cc
+laid_off spelling false number s level d x e f = subst (λ (y : Document). IsSpelledDocument spelling number s level d y) (sym (f.2 ∙ document_off d f.0)) f.1
+
+node_laid_off : (spelling line : Bool) (number : ℕ) (s : Settings) (level : ℕ) (n x : Node) → line ≡ false → IsLaidNode spelling line number s level at_start n x → IsSpelledNode spelling number s level at_start n x
+node_laid_off spelling true number s level n x e f = absurd cc
+node_laid_off spelling false number s level n x e f = subst (λ (y : Node). IsSpelledNode spelling number s level at_start n y) (sym (f.2 ∙ node_off n f.0)) f.1
+
+-- and where no spellings stay
 unspelled : (number : ℕ) (s : Settings) (level : ℕ) (d x : Document) → IsSpelledDocument false number s level d x → IsSpacedDocument number s level d x
 unspelled number s level d x (m, f, r) = subst (λ (z : Document). IsSpacedDocument number s level d z) (sym (off.same_document s d m x r)) f
 
 unspelled_node : (number : ℕ) (s : Settings) (level : ℕ) (n x : Node) → IsSpelledNode false number s level at_start n x → IsSpacedNode number s level at_start n x
 unspelled_node number s level n x (m, f, r) = subst (λ (z : Node). IsSpacedNode number s level at_start n z) (sym (off.same_node s n m x r)) f
 
-plain_spelled : (keep : Bool) (number : ℕ) (s : Settings) (level : ℕ) (d x : Document) → keep ≡ false → number ≡ 0 → IsSpelledDocument keep number s level d x → IsFormattedDocument s level d x
-plain_spelled keep number s level d x k e f =
-    document_formatted s level d x (unspelled 0 s level d x (subst (λ (z : ℕ). IsSpelledDocument false z s level d x) e (subst (λ (z : Bool). IsSpelledDocument z number s level d x) k f)))
+-- and where no blank lines stay
+unspaced : (spelling line : Bool) (number : ℕ) (s : Settings) (level : ℕ) (d x : Document) → number ≡ 0 → spelling ≡ false → line ≡ false → IsLaidDocument spelling line number s level d x → IsFormattedDocument s level d x
+unspaced spelling line number s level d x e k o f =
+    document_formatted s level d x
+    (unspelled 0 s level d x (subst (λ (z : ℕ). IsSpelledDocument false z s level d x) e (subst (λ (z : Bool). IsSpelledDocument z number s level d x) k (laid_off spelling line number s level d x o f))))
 
-plain_spelled_node : (keep : Bool) (number : ℕ) (s : Settings) (level : ℕ) (n x : Node) → keep ≡ false → number ≡ 0 → IsSpelledNode keep number s level at_start n x → IsFormattedNode s level n x
-plain_spelled_node keep number s level n x k e f =
-    node_formatted s level at_start n x (unspelled_node 0 s level n x (subst (λ (z : ℕ). IsSpelledNode false z s level at_start n x) e (subst (λ (z : Bool). IsSpelledNode z number s level at_start n x) k f)))
+node_unspaced : (spelling line : Bool) (number : ℕ) (s : Settings) (level : ℕ) (n x : Node) → number ≡ 0 → spelling ≡ false → line ≡ false → IsLaidNode spelling line number s level at_start n x → IsFormattedNode s level n x
+node_unspaced spelling line number s level n x e k o f =
+    node_formatted s level at_start n x
+    (unspelled_node 0 s level n x (subst (λ (z : ℕ). IsSpelledNode false z s level at_start n x) e (subst (λ (z : Bool). IsSpelledNode z number s level at_start n x) k (node_laid_off spelling line number s level n x o f))))
 
-module _ {A E : Type 0} (r : Result A E) (keep : Bool) (number : ℕ) (s : Settings) (level : ℕ) where
+module _ {A E : Type 0} (r : Result A E) (spelling line : Bool) (number : ℕ) (s : Settings) (level : ℕ) where
   module _ (x d : Document) where
-    pub plainly : IfOk r (λ _. IsSpelledDocument keep number s level d x) → IfOk r (λ _. number ≡ 0 → keep ≡ false → IsFormattedDocument s level d x)
-    plainly h = if_ok r (λ (f : IsSpelledDocument keep number s level d x). λ e k. plain_spelled keep number s level d x k e f) h
+    abbrev IsLaid : Type 0
+    IsLaid = IsLaidDocument spelling line number s level d x
 
-    pub plain : IfOk r (λ _. IsSpelledDocument keep number s level d x) → IfOk r (λ _. number ≡ 0 → keep ≡ false → s.no_comments ≡ true → x ≡ formatted_document s level d)
-    plain h = if_ok r (λ (f : IsSpelledDocument keep number s level d x). λ e k c. layout.document_left_out s level d x c (plain_spelled keep number s level d x k e f)) h
+    pub plainly : IfOk r (λ _. IsLaidDocument spelling line number s level d x) → IfOk r (λ _. number ≡ 0 → spelling ≡ false → line ≡ false → IsFormattedDocument s level d x)
+    plainly h = if_ok r (λ (f : IsLaid). λ e k o. unspaced spelling line number s level d x e k o f) h
 
-    pub levels : IfOk r (λ _. IsSpelledDocument keep number s level d x) → IfOk r (λ _. DocumentLevelsFit level d)
-    levels h = if_ok r (λ (f : IsSpelledDocument keep number s level d x). spaced.document_levels_fit number s level d f.0 f.1) h
+    pub plain : IfOk r (λ _. IsLaidDocument spelling line number s level d x) → IfOk r (λ _. number ≡ 0 → spelling ≡ false → line ≡ false → s.no_comments ≡ true → x ≡ formatted_document s level d)
+    plain h = if_ok r (λ (f : IsLaid). λ e k o c. layout.document_left_out s level d x c (unspaced spelling line number s level d x e k o f)) h
 
-    pub keeps_none : IfOk r (λ _. IsSpelledDocument keep number s level d x) → IfOk r (λ _. DocumentKeepsNone x)
-    keeps_none h = if_ok r (λ (f : IsSpelledDocument keep number s level d x). left.document_keeps_none keep s d f.0 x (spaced.document_keeps_none number s level d f.0 f.1) f.2) h
+    pub levels : IfOk r (λ _. IsLaidDocument spelling line number s level d x) → IfOk r (λ _. DocumentLevelsFit level d)
+    levels h = if_ok r (λ (f : IsLaid). spaced.document_levels_fit number s level d f.1.0 f.1.1) h
 
-    pub derived : IfOk r (λ _. IsSpelledDocument keep number s level d x) → IfOk r (λ _. AreWellFormed (document_data d)) → bare_document x ≡ bare_document d
+    pub keeps_none : IfOk r (λ _. IsLaidDocument spelling line number s level d x) → IfOk r (λ _. DocumentKeepsNone x)
+    keeps_none h =
+        if_ok r
+        (λ (f : IsLaid). subst DocumentKeepsNone (sym f.2) (on_line.document_keeps_none line d f.0 (left.document_keeps_none spelling s d f.1.0 f.0 (spaced.document_keeps_none number s level d f.1.0 f.1.1) f.1.2)))
+        h
+
+    pub derived : document_data x ≡ document_data d → IfOk r (λ _. IsLaidDocument spelling line number s level d x) → IfOk r (λ _. AreWellFormed (document_data d))
         → IfOk r (λ _. list_all is_space s.indent ≡ true → s.entry_autoformate_keep ≡ false → DocumentKeepsNone d → IsDocument true (print_document x 0) (document_data d))
-    derived h w same =
-        if_both r
-        (λ (f : IsSpelledDocument keep number s level d x) (fit : AreWellFormed (document_data d)). λ ok flag none.
-        subst (IsDocument true (print_document x 0)) (same_data x d same) (document_derived number s ok level 0 d x (written_document number s flag keep level d f.0 x f.1 f.2 none fit)))
-        h w
+    derived e h w =
+        if_both r (λ (f : IsLaid) (fit : AreWellFormed (document_data d)). λ ok flag none. document_derived number s ok line flag spelling level d x f none fit e) h w
 
-    pub comments : IfOk r (λ _. IsSpelledDocument keep number s level d x) → IfOk r (λ _. AreWellFormed (document_data d))
+    pub comments : IfOk r (λ _. IsLaidDocument spelling line number s level d x) → IfOk r (λ _. AreWellFormed (document_data d))
         → IfOk r (λ _. list_all is_space s.indent ≡ true → s.entry_autoformate_keep ≡ false → s.no_comments ≡ false → DocumentKeepsNone d → CommentsStay d (print_document x 0))
     comments h w =
         if_both r
-        (λ (f : IsSpelledDocument keep number s level d x) (fit : AreWellFormed (document_data d)). λ ok flag with none e is i l.
-        comments_stay number s ok with level 0 d x e is i (written_document number s flag keep level d f.0 x f.1 f.2 none fit) l)
+        (λ (f : IsLaid) (fit : AreWellFormed (document_data d)). λ ok flag with none e is i l.
+        comments_stay number s ok with line level 0 d f.0 e is i (written_document number s flag spelling level d f.1.0 f.0 f.1.1 f.1.2 none fit) (subst (λ (z : Document). LaidDocument true e (print_document z 0)) f.2 l))
         h w
 
-    pub prints : IfOk r (λ _. IsSpelledDocument keep number s level d x) → IfOk r (λ _. number ≡ 0 → keep ≡ false → IsPlain s → DocumentKeepsNone d → print_document x 0 ≡ canonical s.indent level (document_data d))
+    pub prints : IfOk r (λ _. IsLaidDocument spelling line number s level d x) → IfOk r (λ _. number ≡ 0 → spelling ≡ false → line ≡ false → IsPlain s → DocumentKeepsNone d → print_document x 0 ≡ canonical s.indent level (document_data d))
     prints h =
         if_ok r
-        (λ (f : IsSpelledDocument keep number s level d x). λ e k p c. ap (λ (y : Document). print_document y 0) (layout.document_left_out s level d x p.0 (plain_spelled keep number s level d x k e f)) ∙ document_canonical s level 0 d p c)
+        (λ (f : IsLaid). λ e k o p c. ap (λ (y : Document). print_document y 0) (layout.document_left_out s level d x p.0 (unspaced spelling line number s level d x e k o f)) ∙ document_canonical s level 0 d p c)
         h
 
     pub reads : IfOk r (λ _. AreWellFormed (document_data d)) → IfOk r (λ _. list_all is_space s.indent ≡ true → Canonical s.indent level (document_data d))
     reads h = if_ok r (λ (w : AreWellFormed (document_data d)). λ ok. canonical_reads s.indent ok level (document_data d) w) h
 
   module _ (x n : Node) where
-    pub node_plainly : IfOk r (λ _. IsSpelledNode keep number s level at_start n x) → IfOk r (λ _. number ≡ 0 → keep ≡ false → IsFormattedNode s level n x)
-    node_plainly h = if_ok r (λ (f : IsSpelledNode keep number s level at_start n x). λ e k. plain_spelled_node keep number s level n x k e f) h
+    abbrev IsLaidOne : Type 0
+    IsLaidOne = IsLaidNode spelling line number s level at_start n x
 
-    pub node_plain : IfOk r (λ _. IsSpelledNode keep number s level at_start n x) → IfOk r (λ _. number ≡ 0 → keep ≡ false → s.no_comments ≡ true → x ≡ formatted_node s level n)
-    node_plain h = if_ok r (λ (f : IsSpelledNode keep number s level at_start n x). λ e k c. layout.left_out s level n x c (plain_spelled_node keep number s level n x k e f)) h
+    pub node_plainly : IfOk r (λ _. IsLaidNode spelling line number s level at_start n x) → IfOk r (λ _. number ≡ 0 → spelling ≡ false → line ≡ false → IsFormattedNode s level n x)
+    node_plainly h = if_ok r (λ (f : IsLaidOne). λ e k o. node_unspaced spelling line number s level n x e k o f) h
 
-    pub node_levels : IfOk r (λ _. IsSpelledNode keep number s level at_start n x) → IfOk r (λ _. NodeLevelsFit level n)
-    node_levels h = if_ok r (λ (f : IsSpelledNode keep number s level at_start n x). spaced.levels_fit number s level at_start n f.0 f.1) h
+    pub node_plain : IfOk r (λ _. IsLaidNode spelling line number s level at_start n x) → IfOk r (λ _. number ≡ 0 → spelling ≡ false → line ≡ false → s.no_comments ≡ true → x ≡ formatted_node s level n)
+    node_plain h = if_ok r (λ (f : IsLaidOne). λ e k o c. layout.left_out s level n x c (node_unspaced spelling line number s level n x e k o f)) h
 
-    pub node_keeps_none_then : IfOk r (λ _. IsSpelledNode keep number s level at_start n x) → IfOk r (λ _. NodeKeepsNone x)
-    node_keeps_none_then h = if_ok r (λ (f : IsSpelledNode keep number s level at_start n x). left.keeps_none keep s n f.0 x (spaced.keeps_none number s level at_start n f.0 f.1) f.2) h
+    pub node_levels : IfOk r (λ _. IsLaidNode spelling line number s level at_start n x) → IfOk r (λ _. NodeLevelsFit level n)
+    node_levels h = if_ok r (λ (f : IsLaidOne). spaced.levels_fit number s level at_start n f.1.0 f.1.1) h
 
-    pub node_derives : IfOk r (λ _. IsSpelledNode keep number s level at_start n x) → IfOk r (λ _. IsWellFormedNode (node_data n)) → bare_node x ≡ bare_node n
+    pub node_keeps_none_then : IfOk r (λ _. IsLaidNode spelling line number s level at_start n x) → IfOk r (λ _. NodeKeepsNone x)
+    node_keeps_none_then h =
+        if_ok r
+        (λ (f : IsLaidOne). subst NodeKeepsNone (sym f.2) (on_line.node_keeps_none line n f.0 (left.keeps_none spelling s n f.1.0 f.0 (spaced.keeps_none number s level at_start n f.1.0 f.1.1) f.1.2)))
+        h
+
+    pub node_derives : node_data x ≡ node_data n → IfOk r (λ _. IsLaidNode spelling line number s level at_start n x) → IfOk r (λ _. IsWellFormedNode (node_data n))
         → IfOk r (λ _. list_all is_space s.indent ≡ true → s.entry_autoformate_keep ≡ false → NodeKeepsNone n → IsDocument true (print_node x 0) (data'.first (node_data n) data'.none))
-    node_derives h w same =
-        if_both r
-        (λ (f : IsSpelledNode keep number s level at_start n x) (fit : IsWellFormedNode (node_data n)). λ ok flag none.
-        subst (λ (y : data'.Node). IsDocument true (print_node x 0) (data'.first y data'.none)) (same_node_data x n same) (node_derived number s ok level 0 at_start n x (written_node number s flag keep level at_start n f.0 x f.1 f.2 none fit)))
-        h w
+    node_derives e h w =
+        if_both r (λ (f : IsLaidOne) (fit : IsWellFormedNode (node_data n)). λ ok flag none. node_derived number s ok line flag spelling level at_start n x f none fit e) h w
 
-    pub node_comments : IfOk r (λ _. IsSpelledNode keep number s level at_start n x) → IfOk r (λ _. IsWellFormedNode (node_data n))
+    pub node_comments : IfOk r (λ _. IsLaidNode spelling line number s level at_start n x) → IfOk r (λ _. IsWellFormedNode (node_data n))
         → IfOk r (λ _. list_all is_space s.indent ≡ true → s.entry_autoformate_keep ≡ false → s.no_comments ≡ false → NodeKeepsNone n → NodeCommentsStay n (print_node x 0))
     node_comments h w =
         if_both r
-        (λ (f : IsSpelledNode keep number s level at_start n x) (fit : IsWellFormedNode (node_data n)). λ ok flag with none e is i l.
-        node_comments_stay number s ok with level 0 at_start n x e is i (written_node number s flag keep level at_start n f.0 x f.1 f.2 none fit) l)
+        (λ (f : IsLaidOne) (fit : IsWellFormedNode (node_data n)). λ ok flag with none e is i l.
+        node_comments_stay number s ok with line level 0 at_start n f.0 e is i (written_node number s flag spelling level at_start n f.1.0 f.0 f.1.1 f.1.2 none fit) (subst (λ (z : Node). LaidDocument true e (print_node z 0)) f.2 l))
         h w
 
-    pub node_prints : IfOk r (λ _. IsSpelledNode keep number s level at_start n x) → IfOk r (λ _. number ≡ 0 → keep ≡ false → IsPlain s → NodeKeepsNone n → print_node x 0 ≡ canonical_node s.indent level (node_data n))
+    pub node_prints : IfOk r (λ _. IsLaidNode spelling line number s level at_start n x) → IfOk r (λ _. number ≡ 0 → spelling ≡ false → line ≡ false → IsPlain s → NodeKeepsNone n → print_node x 0 ≡ canonical_node s.indent level (node_data n))
     node_prints h =
         if_ok r
-        (λ (f : IsSpelledNode keep number s level at_start n x). λ e k p c. ap (λ (y : Node). print_node y 0) (layout.left_out s level n x p.0 (plain_spelled_node keep number s level n x k e f)) ∙ node_canonical s level 0 n p c)
+        (λ (f : IsLaidOne). λ e k o p c. ap (λ (y : Node). print_node y 0) (layout.left_out s level n x p.0 (node_unspaced spelling line number s level n x e k o f)) ∙ node_canonical s level 0 n p c)
         h
 
     pub node_reads : IfOk r (λ _. IsWellFormedNode (node_data n)) → IfOk r (λ _. list_all is_space s.indent ≡ true → CanonicalNode s.indent level (node_data n))
     node_reads h = if_ok r (λ (w : IsWellFormedNode (node_data n)). λ ok. canonical_node_reads s.indent ok level (node_data n) w) h
 
--- where no blank lines and no spellings are kept
-pub at_zero : {A E : Type 0} (P : Type 0) (r : Result A E) (number : ℕ) (keep : Bool) → number ≡ 0 → keep ≡ false → IfOk r (λ _. number ≡ 0 → keep ≡ false → P) → IfOk r (λ _. P)
-at_zero P r number keep e k h = if_ok r (λ (f : number ≡ 0 → keep ≡ false → P). f e k) h
+-- where no blank lines, no spellings and no blocks on one line are kept
+pub at_zero : {A E : Type 0} (P : Type 0) (r : Result A E) → IfOk r (λ _. zero ≡ zero → false ≡ false → false ≡ false → P) → IfOk r (λ _. P)
+at_zero P r h = if_ok r (λ (f : zero ≡ zero → false ≡ false → false ≡ false → P). f refl refl refl) h
 
 -- the four spaces of the default configuration
 spaces_are : list_all is_space defaults.indent ≡ true

@@ -1,13 +1,14 @@
 -- Nodes and documents whose parts were laid out.
-use Rattle.std.proofs.Common.{◌≡◌, ℕ, suc, ◌+◌, Bool, List, [], ◌∷◌, length, map, Option, None, Some, option_map, refl, sym, ap, ◌∙◌, subst, Result, Ok, Err, IfOk, Vec, Global, arith}
+use Rattle.std.proofs.Common.{◌≡◌, ℕ, suc, Bool, List, [], ◌∷◌, length, map, Option, None, Some, option_map, refl, sym, ap, ◌∙◌, subst, Result, Ok, Err, IfOk, Vec, Global, arith}
 use Rattle.std.specs.Prelude.{is_some, slice_get, ◌-◌}
 use Rattle.kdl_value.proofs.WellFormed.{text_scalars}
 use Rattle.kdl_entry.specs.Tree.{Identifier, identifier_tree, entry_tree, entry_data, unspelled}
 use Rattle.kdl_text.specs.declared.span.SourceSpan.{SourceSpan}
-use Rattle.kdl_grammar.specs.Tree.{NodeFormat, document_data, Head, Node, node, Children, Nodes, listed_nodes, Document, document, children_of, node_data, nodes_data, children_data, DocumentFormat}
+use Rattle.kdl_grammar.specs.Tree.{NodeFormat, document_data, Head, Node, node, Nodes, listed_nodes, Document, document, children_of, first, node_data, nodes_data, children_data, DocumentFormat}
 use Rattle.kdl_fmt.specs.Config.{Settings, settings}
 use Rattle.kdl_fmt.specs.Internal.Names.{Keeps, KeepsName, unspelled_if, unspelled_unless}
-use Rattle.kdl_fmt.specs.Respelled.{IsRespelled, IsRespelledIf, AreRespelledChildren, AreRespelledNodes, AreSpelledEntries, IsSpelledDocument, IsSpelledNode}
+use Rattle.kdl_fmt.specs.OneLine.{IsLaidDocument, one_lined_node, one_lined_nodes}
+use Rattle.kdl_fmt.specs.Respelled.{IsRespelled, IsRespelledIf, AreRespelledChildren, AreRespelledNodes, AreSpelledEntries, IsSpelledNode}
 use Rattle.kdl_fmt.specs.Spaced.{IsSpacedLine, IsSpacedContent, IsSpacedChildren, AreSpacedNodes, PassesFormat, PassesNodes}
 use Rattle.kdl_fmt.specs.declared.blank.Before.{Before}
 use Rattle.kdl_fmt.specs.declared.config.Layout.{Layout}
@@ -30,19 +31,27 @@ pub if_ok : {A E P Q : Type 0} (r : Result A E) → (P → Q) → IfOk r (λ (a 
 if_ok (Ok a) f p = f p
 if_ok (Err e) f p = p
 
--- what nodes were laid out to be, before their spellings were put back
-pub record LaidNodes (l : Layout) (level : ℕ) (b : Before) (ns ms : List Node) : Type 0 where
+-- nodes that are laid out: each on lines of its own, then with their spellings, and then with blocks on one line
+pub record NodesLaid (l : Layout) (level : ℕ) (b : Before) (ns ms : List Node) : Type 0 where
   pub between : List Node
+  pub nodes : List Node
   pub spaced : AreSpacedNodes l.blank_lines (settings l.config) level b (listed_nodes ns) (listed_nodes between)
-  pub respelled : AreRespelledNodes l.keep_spelling (settings l.config) (listed_nodes ns) (listed_nodes between) (listed_nodes ms)
+  pub respelled : AreRespelledNodes l.keep_spelling (settings l.config) (listed_nodes ns) (listed_nodes between) (listed_nodes nodes)
+  pub same : listed_nodes ms ≡ one_lined_nodes l.keep_one_line (listed_nodes ns) (listed_nodes nodes)
 
-pub nodes_laid : (l : Layout) (level : ℕ) (b : Before) (ns ms : List Node) → NodesAreSpaced l level b ns ms → LaidNodes l level b ns ms
-nodes_laid l level b [] [] h = record { between = []; spaced = tt; respelled = tt }
+pub nodes_laid : (l : Layout) (level : ℕ) (b : Before) (ns ms : List Node) → NodesAreSpaced l level b ns ms → NodesLaid l level b ns ms
+nodes_laid l level b [] [] h = record { between = []; nodes = []; spaced = tt; respelled = tt; same = refl }
 nodes_laid l level b [] (m ∷ ms) h = absurd h
 nodes_laid l level b (n ∷ ns) [] h = absurd h
-nodes_laid l level b (n ∷ ns) (m ∷ ms) (b', ((x, f, r), w), p, h) =
-    let y = nodes_laid l level b' ns ms h in
-    record { between = x ∷ y.between; spaced = (b', f, p, y.spaced); respelled = (r, y.respelled) }
+nodes_laid l level b (n ∷ ns) (m ∷ ms) (b', ((x, (y, f, r), e), w), p, h) =
+    let z = nodes_laid l level b' ns ms h in
+    record {
+      between = y ∷ z.between;
+      nodes = x ∷ z.nodes;
+      spaced = (b', f, p, z.spaced);
+      respelled = (r, z.respelled);
+      same = ap (λ (q : Node). first q (listed_nodes ms)) e ∙ ap (first (one_lined_node l.keep_one_line n x)) z.same;
+    }
 
 pub nodes_fit : (l : Layout) (level : ℕ) (b : Before) (ns ms : List Node) → NodesAreSpaced l level b ns ms → AreWellFormed (nodes_data (listed_nodes ns))
 nodes_fit l level b [] ms h = tt
@@ -111,11 +120,18 @@ module _ (m d : KdlDocument) (span : (out-KdlDocument m).span ≡ (out-KdlDocume
 
     pub laid_content : (l : Layout) (level : ℕ) (b : Before) (f : Option DocumentFormat) → option_map document_format_tree (out-KdlDocument m).format ≡ f
         → IsSpacedContent l.blank_lines (settings l.config) level (nodes_tree (out-KdlDocument d).nodes.items) (or_empty_document (option_map document_format_tree (out-KdlDocument d).format)) b f
-        → NodesAreSpaced l level b (map node_tree (out-KdlDocument d).nodes.items) (map node_tree v.items) → IsSpelledDocument l.keep_spelling l.blank_lines (settings l.config) level (document_tree d) (document_tree m)
+        → NodesAreSpaced l level b (map node_tree (out-KdlDocument d).nodes.items) (map node_tree v.items)
+        → IsLaidDocument l.keep_spelling l.keep_one_line l.blank_lines (settings l.config) level (document_tree d) (document_tree m)
     laid_content l level b f g c k =
-        let x = nodes_laid l level b (map node_tree (out-KdlDocument d).nodes.items) (map node_tree v.items) k in
-        let r : AreRespelledNodes l.keep_spelling (settings l.config) (nodes_tree (out-KdlDocument d).nodes.items) (listed_nodes x.between) (nodes_tree (out-KdlDocument m).nodes.items) = rw holds x.respelled in
-        rw (document_tree_out d, document_tree_out m) (document f (out-KdlDocument d).span (listed_nodes x.between), (b, c, refl, x.spaced), (g, span, r))
+        let M = out-KdlDocument m in
+        let D = out-KdlDocument d in
+        let w = nodes_laid l level b (map node_tree D.nodes.items) (map node_tree v.items) k in
+        let e = document (option_map document_format_tree M.format) M.span (listed_nodes w.nodes) in
+        rw (document_tree_out d, document_tree_out m) (
+          e,
+          (document f D.span (listed_nodes w.between), (b, c, refl, w.spaced), (g, span, w.respelled)),
+          ap (document (option_map document_format_tree M.format) M.span) (ap (λ (x : Vec KdlNode Global). nodes_tree x.items) holds ∙ w.same),
+        )
 
 pub fitting_document : (d : KdlDocument) → AreWellFormed (nodes_data (nodes_tree (out-KdlDocument d).nodes.items)) → AreWellFormed (document_data (document_tree d))
 fitting_document d w = subst (λ (x : Document). AreWellFormed (document_data x)) (sym (document_tree_out d)) w
@@ -123,14 +139,6 @@ fitting_document d w = subst (λ (x : Document). AreWellFormed (document_data x)
 fitting_block : (o : Option KdlDocument) → AreWellFormed (nodes_data (nodes_tree (nodes_in o))) → AreWellFormedChildren (children_data (children_of (option_map document_tree o)))
 fitting_block None w = w
 fitting_block (Some d) w = fitting_document d w
-
--- the block that the node has
-pub own_block : (number : ℕ) (s : Settings) (level : ℕ) (c : Before) (n : KdlNode) (o : Option KdlDocument) (k : Children) (ms : List Node)
-    → (AreSpacedNodes number s (level + 1) c (nodes_tree (nodes_in o)) (listed_nodes ms) → IsSpacedChildren number s level (children_of (option_map document_tree o)) k) → o ≡ (out-KdlNode n).children
-    → AreSpacedNodes number s (level + 1) c (nodes_tree (child_nodes n)) (listed_nodes ms) → IsSpacedChildren number s level (children_of (option_map document_tree (out-KdlNode n).children)) k
-own_block number s level c n o k ms h e d =
-    subst (λ x. IsSpacedChildren number s level (children_of (option_map document_tree x)) k) e
-    (h (subst (λ x. AreSpacedNodes number s (level + 1) c (nodes_tree (nodes_in x)) (listed_nodes ms)) (sym e) d))
 
 -- what comes before the thing after a node
 pub own_passes : (l : Layout) (n : KdlNode) (e : Before) (f : Option KdlNodeFormat) → f ≡ (out-KdlNode n).format → PassesFormat l.blank_lines (settings l.config) (or_empty (node_texts f)) e → PassesAt l (node_tree n) e

@@ -9,21 +9,20 @@ use Rattle.kdl_fmt.specs.Config.{Settings, indentation, settings}
 use Rattle.kdl_fmt.specs.Formatted.{or_empty, or_empty_document}
 use Rattle.kdl_fmt.specs.KeptForm.{EntriesKeepReading, DocumentKeepsReading, NodesKeepReading}
 use Rattle.kdl_fmt.specs.Internal.Names.{Keeps, KeepsName, unspelled_if, unspelled_unless}
-use Rattle.kdl_fmt.specs.Respelled.{IsSpelledNode}
 use Rattle.kdl_fmt.specs.Spaced.{IsSpacedContent, IsSpacedLine}
 use Rattle.kdl_fmt.specs.WithComments.{has_block}
 use Rattle.kdl_fmt.specs.declared.blank.Before.{Before}
 use Rattle.kdl_fmt.specs.declared.config.Layout.{Layout}
 use Rattle.kdl_fmt.proofs.Entries.{scalars}
-use Rattle.kdl_fmt.proofs.Formatting.PartsRead.{closed_reads, document_reads, own_reads}
+use Rattle.kdl_fmt.proofs.Formatting.PartsRead.{document_reads, own_reads}
 use Rattle.kdl_fmt.proofs.Respelling.Written.{NameReads, NameReadsIf, respelled_reads, respelled_reads_if}
 use Rattle.kdl_grammar.specs.ReadsBack.{Rests, Anything, AddsNothing, EntryReads, IsGapBefore, last_rests, NodesRead, last_node, next_node, ContentReads, two_texts, with_nodes as content_nodes, BlockReads, block, DocumentReads}
-use Rattle.kdl_grammar.specs.Tree.{DocumentFormat, NodeFormat, Head, Node, node, no_children, children, children_of, document, Nodes, none, first, listed_nodes}
+use Rattle.kdl_grammar.specs.Tree.{DocumentFormat, NodeFormat, Head, Node, node, children_of, document, Nodes, none, first, listed_nodes}
 use Rattle.kdl_grammar.proofs.ReadingBack.Composing.{block_reads, entries_read, with_block}
 use Rattle.kdl_parts.specs.Formats.{document_format_tree, node_format_tree}
 use Rattle.kdl_value.specs.Tree.{text_of}
 use Rattle.kdl_value.proofs.WellFormed.{text_scalars}
-use Rattle.kdl.specs.Internal.Spacing.{filled_block, filled, with_at, outermost, whole, with_braces, NodeIsSpaced, PartlyOpen, IsAtLevel, IsUnderWay, NodeStays, NodesStay, StaysAs, StayAs}
+use Rattle.kdl.specs.Internal.Spacing.{filled_block, filled, with_at, outermost, whole, enclosed, PartlyOpen, IsAtLevel, IsUnderWay, NodeStays, NodesStay, StaysAs, StayAs}
 use Rattle.kdl.specs.Iterators.{child_nodes, nodes_in}
 use Rattle.kdl.specs.Tree.{document_tree, head_tree, node_tree, nodes_tree}
 use Rattle.kdl.specs.declared.document.KdlDocument.{KdlDocument}
@@ -134,22 +133,17 @@ open_there l level Open c next (o ∷ olds) (n ∷ ns) (suc i) d p = open_there 
 inner_level : (l : Layout) (above : List Block) (b : Block) (d : KdlNode) (level : ℕ) (c : Before) (olds : List Node) → IsUnderWay l level c olds above b → (k : ℕ) × IsAtLevel l k b
 inner_level l [] b d level c olds u = (level, u.0)
 inner_level l (a ∷ above) b d level c olds u =
-    let q = (open_there l level (Opened l level a.braces above b) c a.next olds a.nodes.items a.at d u.1).2 in
+    let q = (open_there l level (Opened l level a.around above b) c a.next olds a.nodes.items a.at d u.1).2 in
     inner_level l above b d (level + 1) q.0 q.1 q.3
 
 last_open : (l : Layout) (above : List Block) (outer inner : Block) (d : KdlNode) (level : ℕ) (c : Before) (olds : List Node) → IsUnderWay l level c olds (above ++ outer ∷ []) inner
-    → (k : ℕ) × (x : Before) × (o : Node) × Opened l k outer.braces [] inner x o (get_or outer.nodes.items outer.at d)
+    → (k : ℕ) × (x : Before) × (o : Node) × Opened l k outer.around [] inner x o (get_or outer.nodes.items outer.at d)
 last_open l [] outer inner d level c olds u =
-    let q = open_there l level (Opened l level outer.braces [] inner) c outer.next olds outer.nodes.items outer.at d u.1 in
+    let q = open_there l level (Opened l level outer.around [] inner) c outer.next olds outer.nodes.items outer.at d u.1 in
     (level, q.0, q.1, q.2)
 last_open l (a ∷ above) outer inner d level c olds u =
-    let q = (open_there l level (Opened l level a.braces (above ++ outer ∷ []) inner) c a.next olds a.nodes.items a.at d u.1).2 in
+    let q = (open_there l level (Opened l level a.around (above ++ outer ∷ []) inner) c a.next olds a.nodes.items a.at d u.1).2 in
     last_open l above outer inner d (level + 1) q.0 q.1 q.3
-
--- the texts around the nodes of a block, which are laid out
-pub braced_stays : (keep : Bool) (number : ℕ) (s : Settings) → list_all is_space s.indent ≡ true → (level : ℕ) (b : Before) (o n : Node) (g : Option DocumentFormat) → IsSpelledNode keep number s level b o (with_braces g n) → StaysAs s n (with_braces g n)
-braced_stays keep number s ok level b o (node h no_children) g w P x = x
-braced_stays keep number s ok level b o (node h (children (document f at ms))) g w P x = (closed_reads number s ok keep level b o h f g at ms w x.0, x.1)
 
 -- the next node
 pub next_stays : (l : Layout) (above : List Block) (b b' : Block) (n m : KdlNode) → b.at < length b.nodes.items → get_or b.nodes.items b.at n ≡ n → b'.nodes.items ≡ set b.nodes.items b.at m
@@ -164,19 +158,16 @@ next_stays l above b b' n m h g is a level c olds u =
 
 -- a block is left
 pub end_stays : (l : Layout) → list_all is_space (settings l.config).indent ≡ true → (above : List Block) (outer inner b : Block) (n m : KdlNode) → outer.at < length outer.nodes.items → get_or outer.nodes.items outer.at n ≡ n
-    → node_tree m ≡ with_braces (option_map document_format_tree outer.braces) (filled n (map node_tree inner.nodes.items)) → b.nodes.items ≡ set outer.nodes.items outer.at m → length inner.nodes.items ≤ inner.at
+    → node_tree m ≡ enclosed outer.around n (map node_tree inner.nodes.items) → b.nodes.items ≡ set outer.nodes.items outer.at m → length inner.nodes.items ≤ inner.at
     → (level : ℕ) (c : Before) (olds : List Node) → IsUnderWay l level c olds (above ++ outer ∷ []) inner → StayAs (settings l.config) (whole (above ++ outer ∷ []) inner) (whole above b)
 end_stays l ok above outer inner b n m h g e is all level c olds u =
     let s = settings l.config in
     let ns = map node_tree inner.nodes.items in
-    let braces = option_map document_format_tree outer.braces in
     let there = last_open l above outer inner n level c olds u in
     let q = there.3 in
-    let spaced : NodeIsSpaced l there.0 there.1 there.2 (with_braces braces (filled (get_or outer.nodes.items outer.at n) ns)) =
-    q.2 ns (partly_all l (there.0 + 1) q.0 inner.next q.1 inner.nodes.items inner.at all q.3.1) in
+    let spaced = q.2 ns (partly_all l (there.0 + 1) q.0 inner.next q.1 inner.nodes.items inner.at all q.3.1) in
     let own : StaysAs s (filled (get_or outer.nodes.items outer.at n) ns) (node_tree m) =
-    subst (λ (x : Node). StaysAs s (filled (get_or outer.nodes.items outer.at n) ns) x) (ap (λ (x : KdlNode). with_braces braces (filled x ns)) g ∙ sym e)
-    (braced_stays l.keep_spelling l.blank_lines s ok there.0 there.1 there.2 (filled (get_or outer.nodes.items outer.at n) ns) braces spaced.0) in
+    subst (λ (x : Node). StaysAs s (filled (get_or outer.nodes.items outer.at n) ns) x) (ap (λ (x : KdlNode). enclosed outer.around x ns) g ∙ sym e) (spaced.1 ok) in
     subst (λ (z : List Node). StayAs s z (whole above b)) (sym (outermost_more above outer ns))
     (subst (λ (z : List KdlNode). StayAs s (outermost above (with_at (λ x. filled x ns) outer.nodes.items outer.at)) (outermost above (map node_tree z))) (sym is)
     (outermost_stays s above _ _ (pointwise s _ _ (set_with_stays s (λ x. filled x ns) outer.nodes.items outer.at m n h own))))

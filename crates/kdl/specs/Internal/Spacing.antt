@@ -1,22 +1,24 @@
 -- How far layout has come while some blocks are open.
-use Rattle.std.specs.Prelude.{◌≡◌, ℕ, zero, suc, ◌+◌, ◌<◌, List, [], ◌∷◌, map, drop, Option, option_map}
+use Rattle.std.specs.Prelude.{◌≡◌, ℕ, zero, suc, ◌+◌, ◌<◌, Bool, true, false, ◌&&◌, List, [], ◌∷◌, map, drop, Option, None, Some, option_map, length}
 use Rattle.kdl_value.specs.Tree.{text_of}
 use Rattle.kdl_grammar.specs.ReadsBack.{Rests, NodeReads, NodesRead}
-use Rattle.kdl_grammar.specs.Tree.{DocumentFormat, Node, node, node_data, Children, no_children, children, children_of, document, listed_nodes}
-use Rattle.kdl_parts.specs.Formats.{document_format_tree}
-use Rattle.kdl_parts.specs.declared.format.KdlDocumentFormat.{KdlDocumentFormat}
-use Rattle.kdl_fmt.specs.Config.{Settings, indentation, settings}
+use Rattle.kdl_grammar.specs.Tree.{DocumentFormat, NodeFormat, Head, Node, node, node_data, Children, no_children, children, children_of, document, listed_nodes}
+use Rattle.kdl_parts.specs.Formats.{document_format_tree, node_format_tree}
+use Rattle.kdl_fmt.specs.Config.{IndentsBySpaces, Settings, indentation, settings}
 use Rattle.kdl_fmt.specs.KeptForm.{NodeKeepsReading, NodesKeepReading}
-use Rattle.kdl_fmt.specs.Respelled.{IsSpelledNode}
-use Rattle.kdl_fmt.specs.Spaced.{PassesNode}
+use Rattle.kdl_fmt.specs.OneLine.{IsLaidNode, braces_in_line, formats_in_line, is_on_one_line, one_lined_children}
+use Rattle.kdl_fmt.specs.Respelled.{AreRespelledNodes}
+use Rattle.kdl_fmt.specs.Spaced.{IsSpacedChildren, PassesNode}
 use Rattle.kdl_fmt.specs.WellFormed.{IsWellFormedNode}
 use Rattle.kdl_fmt.specs.declared.blank.Before.{Before}
 use Rattle.kdl_fmt.specs.declared.config.Layout.{Layout}
 use Rattle.kdl.specs.Internal.Count.{count_left}
-use Rattle.kdl.specs.Tree.{head_tree, node_tree, document_of}
+use Rattle.kdl.specs.Iterators.{nodes_in}
+use Rattle.kdl.specs.Tree.{document_tree, head_tree, node_tree, nodes_tree, document_of}
 use Rattle.kdl.specs.declared.node.KdlNode.{KdlNode}
 use Rattle.kdl.specs.declared.document.KdlDocument.{KdlDocument}
-use Rattle.kdl.specs.declared.document.KdlDocument.TheViews.{out-KdlNode}
+use Rattle.kdl.specs.declared.document.KdlDocument.TheViews.{out-KdlDocument, out-KdlNode}
+use Rattle.kdl.specs.declared.layout.Around.{Around}
 use Rattle.kdl.specs.declared.layout.Block.{Block}
 
 -- a block, with other nodes in it
@@ -36,6 +38,40 @@ with_texts g (children (document f at ns)) = children (document g at ns)
 abbrev pub with_braces : Option DocumentFormat → Node → Node
 with_braces g (node h k) = node h (with_texts g k)
 
+-- a node, with another format
+abbrev pub put_format : NodeFormat → Node → Node
+put_format f (node h k) = node (record h { format = Some f }) k
+
+-- nodes, with other formats, as far as there are any
+abbrev pub with_formats : List NodeFormat → List Node → List Node
+with_formats fs [] = []
+with_formats [] (n ∷ ns) = n ∷ ns
+with_formats (f ∷ fs) (n ∷ ns) = put_format f n ∷ with_formats fs ns
+
+-- the texts that are set around the nodes of a block, and around each node
+abbrev pub braces_of : Option Around → Option DocumentFormat
+braces_of g = option_map (λ a. document_format_tree a.braces) g
+
+abbrev pub line_of : Option Around → List NodeFormat
+line_of None = []
+line_of (Some a) = map node_format_tree a.line.items
+
+-- the nodes of a block, with those around each node
+abbrev pub lined : Option Around → List Node → List Node
+lined g ns = with_formats (line_of g) ns
+
+-- a node, with these texts in its block, which has other nodes
+abbrev pub enclosed : Option Around → KdlNode → List Node → Node
+enclosed g n ns = with_braces (braces_of g) (filled n (lined g ns))
+
+-- these texts are those of a block on one line, or the braces g
+abbrev pub IsAroundIf : Bool → ℕ → DocumentFormat → Around → Type 0
+IsAroundIf true number g a = (document_format_tree a.braces ≡ braces_in_line) × (map node_format_tree a.line.items ≡ formats_in_line number)
+IsAroundIf false number g a = (document_format_tree a.braces ≡ g) × (a.line.items ≡ [])
+
+abbrev pub IsAround : Layout → KdlDocument → DocumentFormat → Around → Type 0
+IsAround l d g a = IsAroundIf (l.keep_one_line && is_on_one_line (document_tree d)) (length (out-KdlDocument d).nodes.items) g a
+
 -- nodes, with another one in place of the one at a place
 abbrev pub with_at : (KdlNode → Node) → List KdlNode → ℕ → List Node
 with_at f [] i = []
@@ -53,7 +89,7 @@ whole above inner = outermost above (map node_tree inner.nodes.items)
 
 -- the second node is the first one, laid out after what comes before it, and its texts can be printed
 abbrev pub NodeIsSpaced : Layout → ℕ → Before → Node → Node → Type 0
-NodeIsSpaced l level b n n' = IsSpelledNode l.keep_spelling l.blank_lines (settings l.config) level b n n' × IsWellFormedNode (node_data n)
+NodeIsSpaced l level b n n' = IsLaidNode l.keep_spelling l.keep_one_line l.blank_lines (settings l.config) level b n n' × IsWellFormedNode (node_data n)
 
 -- what comes before whatever follows a node
 abbrev pub PassesAt : Layout → Node → Before → Type 0
@@ -77,30 +113,6 @@ PartlyOpen l level b Open (o ∷ olds) (n ∷ ns) zero next = Open b o n × Pass
 PartlyOpen l level b Open (o ∷ olds) (n ∷ ns) (suc i) next = (b' : Before) × NodeIsSpaced l level b o (node_tree n) × PassesAt l o b' × PartlyOpen l level b' Open olds ns i next
 PartlyOpen l level b Open _ _ i next = ⊥
 
--- a node is laid out once the nodes in its block are, the first of them after `first`, with the texts around them
-abbrev pub IsSpacedBut : Layout → ℕ → Before → Node → Before → Option KdlDocumentFormat → List Node → KdlNode → Type 0
-IsSpacedBut l level b o first g olds n = (ms : List Node) → NodesAreSpaced l (level + 1) first olds ms → NodeIsSpaced l level b o (with_braces (option_map document_format_tree g) (filled n ms))
-
--- the level of a block, and the indentation there
-abbrev pub IsAtLevel : Layout → ℕ → Block → Type 0
-IsAtLevel l level b = (b.level ≡ level) × (text_of b.before ≡ indentation (settings l.config) level)
-
--- of the nodes at a level, those before the open blocks are laid out
-abbrev pub IsUnderWay : Layout → ℕ → Before → List Node → List Block → Block → Type 0
-IsUnderWay l level c olds [] inner = IsAtLevel l level inner × Partly l level c olds inner.nodes.items inner.at inner.next
-IsUnderWay l level c olds (b ∷ above) inner =
-    IsAtLevel l level b
-    × PartlyOpen l level c (λ c o n. (first : Before) × (ns : List Node) × IsSpacedBut l level c o first b.braces ns n × IsUnderWay l (level + 1) first ns above inner) olds b.nodes.items b.at b.next
-
--- how much is left to lay out
-abbrev pub left : List Block → Block → ℕ
-left above inner = count_left (λ b. drop (b.at + 1) b.nodes.items) (drop inner.at inner.nodes.items) above
-
--- a step: the layout is in progress as before, and less is left
-abbrev pub GoesOn : Layout → List Block → Block → List Block → Block → Type 0
-GoesOn l above inner above' inner' =
-    ((level : ℕ) (c : Before) (olds : List Node) → IsUnderWay l level c olds above inner → IsUnderWay l level c olds above' inner') × (left above' inner' < left above inner)
-
 -- a node reads back before the rests P, and so does what its entries keep of their form
 abbrev pub NodeStays : Settings → Rests → Node → Type 0
 NodeStays s P n = NodeReads P n × NodeKeepsReading s n
@@ -116,3 +128,44 @@ StaysAs s n m = (P : Rests) → NodeStays s P n → NodeStays s P m
 -- the second nodes do where the first ones do, and there are none if there were none
 abbrev pub StayAs : Settings → List Node → List Node → Type 0
 StayAs s ns ms = (ns ≡ [] → ms ≡ []) × ((P : Rests) → NodesStay s P ns → NodesStay s P ms)
+
+-- a node is laid out once the nodes in its block are, the first of them after `first`, with the texts around them; it
+-- reads back if it did with the old texts
+abbrev pub IsSpacedBut : Layout → ℕ → Before → Node → Before → Option Around → List Node → KdlNode → Type 0
+IsSpacedBut l level b o first g olds n =
+    (ms : List Node) → NodesAreSpaced l (level + 1) first olds ms → NodeIsSpaced l level b o (enclosed g n ms) × (IndentsBySpaces (settings l.config) → StaysAs (settings l.config) (filled n ms) (enclosed g n ms))
+
+-- what layout makes of a block whose nodes are laid out, with the texts around these: the block on more lines is `braces`
+-- and `between`, and with its spellings `nodes`; it reads back if it did with the old texts
+pub record BlockSpacing (l : Layout) (level : ℕ) (o : Option KdlDocument) (g : Option Around) (ms : List Node) : Type 0 where
+  pub braces : Option DocumentFormat
+  pub between : List Node
+  pub nodes : List Node
+  pub spaced : IsSpacedChildren l.blank_lines (settings l.config) level (children_of (option_map document_tree o)) (with_texts braces (filled_block o between))
+  pub respelled : AreRespelledNodes l.keep_spelling (settings l.config) (nodes_tree (nodes_in o)) (listed_nodes between) (listed_nodes nodes)
+  pub same : with_texts (braces_of g) (filled_block o (lined g ms)) ≡ one_lined_children l.keep_one_line (children_of (option_map document_tree o)) (with_texts braces (filled_block o nodes))
+  pub stays : IndentsBySpaces (settings l.config) → (h : Head) → StaysAs (settings l.config) (node h (filled_block o ms)) (node h (with_texts (braces_of g) (filled_block o (lined g ms))))
+
+-- a block is laid out once its nodes are, the first of them after `first`
+abbrev pub BlockIsSpaced : Layout → ℕ → Option KdlDocument → Before → Option Around → Type 0
+BlockIsSpaced l level o first g = (ms : List Node) → NodesAreSpaced l (level + 1) first (map node_tree (nodes_in o)) ms → BlockSpacing l level o g ms
+
+-- the level of a block, and the indentation there
+abbrev pub IsAtLevel : Layout → ℕ → Block → Type 0
+IsAtLevel l level b = (b.level ≡ level) × (text_of b.before ≡ indentation (settings l.config) level)
+
+-- of the nodes at a level, those before the open blocks are laid out
+abbrev pub IsUnderWay : Layout → ℕ → Before → List Node → List Block → Block → Type 0
+IsUnderWay l level c olds [] inner = IsAtLevel l level inner × Partly l level c olds inner.nodes.items inner.at inner.next
+IsUnderWay l level c olds (b ∷ above) inner =
+    IsAtLevel l level b
+    × PartlyOpen l level c (λ c o n. (first : Before) × (ns : List Node) × IsSpacedBut l level c o first b.around ns n × IsUnderWay l (level + 1) first ns above inner) olds b.nodes.items b.at b.next
+
+-- how much is left to lay out
+abbrev pub left : List Block → Block → ℕ
+left above inner = count_left (λ b. drop (b.at + 1) b.nodes.items) (drop inner.at inner.nodes.items) above
+
+-- a step: the layout is in progress as before, and less is left
+abbrev pub GoesOn : Layout → List Block → Block → List Block → Block → Type 0
+GoesOn l above inner above' inner' =
+    ((level : ℕ) (c : Before) (olds : List Node) → IsUnderWay l level c olds above inner → IsUnderWay l level c olds above' inner') × (left above' inner' < left above inner)

@@ -2,6 +2,7 @@
 
 ghost use Rattle.kdl.specs.Change.{with_document_format};
 ghost use Rattle.kdl.specs.Finds.{FindsSame};
+ghost use Rattle.kdl.specs.Internal.Spacing.{IsAround};
 ghost use Rattle.kdl.specs.Layout.{DocumentLaidOut, DocumentKeepsNoForm, DocumentKeepsReading, DocumentSpaced, IndentsBySpaces, document_bare, plain_document};
 ghost use Rattle.kdl.specs.ReadsBack.{DocumentReadsBack};
 ghost use Rattle.kdl.specs.Tree.{document_prints, document_says, document_tree, nodes_tree};
@@ -10,16 +11,19 @@ ghost use Rattle.kdl_fmt.specs.Canonical.{Canonical, canonical, canonical_text};
 ghost use Rattle.kdl_fmt.specs.Comments.{CommentsStay};
 ghost use Rattle.kdl_fmt.specs.Config.{IsPlain, defaults, indentation, settings, without_comments};
 ghost use Rattle.kdl_fmt.specs.Formatted.{DocumentLevelsFit, or_empty_document};
+ghost use Rattle.kdl_fmt.specs.OneLine.{is_on_one_line};
 ghost use Rattle.kdl_fmt.specs.WellFormed.{AreWellFormed};
 ghost use Rattle.kdl_fmt.specs.Spaced.{IsSpacedBraced};
 ghost use Rattle.kdl_grammar.specs.Grammar.{IsDocument};
+ghost use Rattle.kdl_grammar.specs.Tree.{DocumentFormat};
 ghost use Rattle.kdl_parts.specs.Formats.{document_format_tree};
 ghost use Rattle.std.specs.Prelude.{◌≡◌, ◌+◌, ◌<◌, ◌^◌, IfOk, OnOk, Some, false, option_map, true};
 ghost use Rattle.std.specs.Str.{chars};
 
 use crate::document::KdlDocument;
-use crate::layout::{before_trailing, lay_out_nodes};
+use crate::layout::{Around, before_trailing, lay_out_nodes, nodes_on_line};
 use kdl_fmt::layout::{braces, lay_out_content};
+use kdl_fmt::one_line::{braces_on_line, formats_in_line};
 use kdl_fmt::{Before, FormatConfig, Layout};
 use kdl_parts::KdlDocumentFormat;
 use std::alloc::AllocError;
@@ -133,6 +137,7 @@ impl KdlDocument {
             config: *config,
             blank_lines: 0,
             keep_spelling: false,
+            keep_one_line: false,
         };
         self.lay_out(&layout)
     }
@@ -141,16 +146,17 @@ impl KdlDocument {
     /// slashdashed pieces that are kept: as many as there are, but at most the layout's number. There are none at the
     /// start and at the end of the document, and of a block. If the layout keeps spellings, a value, a name, a key or a
     /// type keeps its spelling if this means what it did; an entry that is flagged to keep its form is laid out as
-    /// without that.
+    /// without that. If the layout keeps blocks on one line, a block that prints one line, without comments and without
+    /// blocks in it, is put on one line: `{ a 1; b 2 }`, or `{}` without nodes.
     ///
     /// Returns an error if an allocation fails, or if the level of a child, or a number of newlines, would exceed
     /// `usize::MAX`. The data of the document is then unchanged, and some of it may be formatted. If the
     /// indent is spaces, it still prints a text with the same data, as after `autoformat`.
     ///
     /// ```
-    /// let layout = Layout { blank_lines: 1, ..Layout::new() };
-    /// let mut document = KdlDocument::parse(alloc, "a;b\n\n\n\nc")?;
-    /// document.autoformat_layout(&layout)?; // prints `a`, `b`, an empty line and `c`
+    /// let layout = Layout { blank_lines: 1, keep_one_line: true, ..Layout::new() };
+    /// let mut document = KdlDocument::parse(alloc, "a;b\n\n\n\nc {d ;e}")?;
+    /// document.autoformat_layout(&layout)?; // prints `a`, `b`, an empty line and `c { d; e }`
     /// let layout = Layout { keep_spelling: true, ..Layout::new() };
     /// let mut document = KdlDocument::parse(alloc, "a   0x10;\"b\"")?;
     /// document.autoformat_layout(&layout)?; // prints `a 0x10` and `"b"`
@@ -164,9 +170,11 @@ impl KdlDocument {
             → DocumentReadsBack self.old → DocumentReadsBack self.new }
         ensures formatted { OnOk result (DocumentSpaced layout.now self.old self.new) }
         ensures unspaced { OnOk result (layout.now.blank_lines ≡ 0
-            → layout.now.keep_spelling ≡ false → DocumentLaidOut (settings layout.now.config) self.old self.new) }
+            → layout.now.keep_spelling ≡ false → layout.now.keep_one_line ≡ false
+            → DocumentLaidOut (settings layout.now.config) self.old self.new) }
         ensures plain { OnOk result (layout.now.blank_lines ≡ 0
-            → layout.now.keep_spelling ≡ false → layout.now.config.no_comments ≡ true
+            → layout.now.keep_spelling ≡ false → layout.now.keep_one_line ≡ false
+            → layout.now.config.no_comments ≡ true
             → document_tree self.new ≡ plain_document (settings layout.now.config) self.old) }
         ensures levels { OnOk result
             (DocumentLevelsFit layout.now.config.indent_level (document_tree self.old)) }
@@ -179,7 +187,8 @@ impl KdlDocument {
             → layout.now.config.no_comments ≡ false → DocumentKeepsNoForm self.old
             → CommentsStay (document_tree self.old) (document_prints self.new)) }
         ensures prints { OnOk result (layout.now.blank_lines ≡ 0
-            → layout.now.keep_spelling ≡ false → IsPlain (settings layout.now.config) → DocumentKeepsNoForm self.old
+            → layout.now.keep_spelling ≡ false → layout.now.keep_one_line ≡ false
+            → IsPlain (settings layout.now.config) → DocumentKeepsNoForm self.old
             → document_prints self.new ≡ canonical (settings layout.now.config).indent
             layout.now.config.indent_level (document_says self.old)) }
         ensures reads { OnOk result (IndentsBySpaces (settings layout.now.config)
@@ -227,6 +236,43 @@ impl KdlDocument {
         let alloc = *self.nodes.allocator();
         let last = before_trailing(&self.nodes, layout)?;
         braces(&self.format, alloc, layout, inner, before, last)
+    }
+
+    /// Returns the texts around the nodes of the document, as the block of a node at a level, and what comes before the
+    /// first of these. If the document is on one line and the layout keeps it there, they are those on one line.
+    pub(crate) fn around(
+        &self,
+        layout: &Layout,
+        level: usize,
+        before: &str,
+    ) -> Result<(Around, Before), AllocError>
+        ensures fits { OnOk result (level + 1 < 2 ^ 64) }
+        ensures formatted { IfOk result (λ (around, first).
+            chars before.now ≡ indentation (settings layout.now.config) level
+            → (braces : DocumentFormat)
+            × IsSpacedBraced layout.now.blank_lines (settings layout.now.config) level
+            (nodes_tree (out-KdlDocument self.now).nodes.items)
+            (or_empty_document (option_map document_format_tree (out-KdlDocument self.now).format))
+            first (Some braces)
+            × IsAround layout.now self.now braces around) }
+    {
+        let (braces, first) = self.braces(layout, level, before)?;
+        let alloc = *self.nodes.allocator();
+        if layout.keep_one_line && self.is_on_one_line() {
+            let line = formats_in_line(alloc, self.nodes.len())?;
+            let braces = KdlDocumentFormat::new(alloc);
+            return Ok((Around { braces, line }, first));
+        }
+        let line = Vec::new(alloc);
+        Ok((Around { braces, line }, first))
+    }
+
+    /// Returns whether the block is on one line: it prints no newline, no comment, no slashdashed piece and no line
+    /// continuation, and its nodes have no blocks.
+    fn is_on_one_line(&self) -> bool
+        ensures { result ≡ is_on_one_line (document_tree self.now) }
+    {
+        braces_on_line(&self.format) && nodes_on_line(&self.nodes)
     }
 
     /// Sets the texts around the nodes of the document.

@@ -1,35 +1,38 @@
 //! Layout of nodes.
 
-ghost use Rattle.kdl.specs.Change.{with_document_format, with_nodes};
+ghost use Rattle.kdl.specs.Change.{with_nodes};
 ghost use Rattle.kdl.specs.Finds.{NodeFindsSame};
 ghost use Rattle.kdl.specs.Iterators.{child_nodes, nodes_in};
-ghost use Rattle.kdl.specs.Internal.Spacing.{NodesAreSpaced, IsSpacedBut, PassesAt, StayAs, StaysAs, filled_block, with_texts};
+ghost use Rattle.kdl.specs.Internal.Spacing.{BlockIsSpaced, NodesAreSpaced, IsSpacedBut, PassesAt, StayAs, StaysAs, braces_of, enclosed, filled_block, lined, with_texts};
 ghost use Rattle.kdl.specs.Layout.{IndentsBySpaces, NodeCommentsStay, NodeLaidOut, NodeKeepsNoForm, NodeKeepsReading, NodeSpaced, node_bare, plain_node};
 ghost use Rattle.kdl.specs.ReadsBack.{ReadsAs};
-ghost use Rattle.kdl.specs.Tree.{document_tree, node_prints, node_says, node_tree, nodes_tree};
+ghost use Rattle.kdl.specs.Tree.{document_tree, node_prints, node_says, node_tree};
 ghost use Rattle.kdl.specs.declared.document.KdlDocument.{out-KdlDocument};
 ghost use Rattle.kdl.specs.declared.node.KdlNode.{out-KdlNode};
 ghost use Rattle.kdl_fmt.specs.Blank.{at_start};
 ghost use Rattle.kdl_fmt.specs.Canonical.{CanonicalNode, canonical_node};
 ghost use Rattle.kdl_fmt.specs.Config.{IsPlain, defaults, indentation, settings, without_comments};
-ghost use Rattle.kdl_fmt.specs.Formatted.{NodeLevelsFit, bare_node};
+ghost use Rattle.kdl_fmt.specs.Formatted.{NodeLevelsFit, bare_node, or_empty};
 ghost use Rattle.kdl_fmt.specs.WellFormed.{IsWellFormedNode};
-ghost use Rattle.kdl_fmt.specs.Respelled.{IsSpelledNode};
-ghost use Rattle.kdl_fmt.specs.Spaced.{AreSpacedNodes, IsSpacedChildren};
+ghost use Rattle.kdl_fmt.specs.OneLine.{IsLaidNode, entry_on_line, line_on_line, maybe_on_line, name_on_line, node_on_line};
 ghost use Rattle.kdl_grammar.specs.Data as data';
 ghost use Rattle.kdl_grammar.specs.Grammar.{IsDocument};
-ghost use Rattle.kdl_grammar.specs.Tree.{Node, children_of, listed_nodes};
-ghost use Rattle.kdl_parts.specs.Formats.{document_format_tree};
-ghost use Rattle.std.specs.Prelude.{◌≡◌, ◌↔◌, ◌+◌, ◌<◌, IfOk, IsTrue, List, MatchOption, OnOk, false, length, map, option_map, true};
+ghost use Rattle.kdl_grammar.specs.Tree.{Node, children_of};
+ghost use Rattle.kdl_entry.specs.Tree.{entry_tree, identifier_tree};
+ghost use Rattle.kdl_parts.specs.Formats.{node_texts};
+ghost use Rattle.std.specs.List.{list_all};
+ghost use Rattle.std.specs.Prelude.{◌≡◌, ◌↔◌, ◌&&◌, ◌+◌, ◌<◌, IfOk, IsTrue, List, MatchOption, OnOk, false, length, map, option_map, true};
 ghost use Rattle.std.specs.Str.{chars};
 
 use crate::document::KdlDocument;
-use crate::layout::lay_out_nodes;
+use crate::layout::{Around, lay_out_nodes, set_formats};
 use crate::node::KdlNode;
+use kdl_entry::{KdlEntry, KdlIdentifier};
 use kdl_fmt::layout::{behind_line, indentation, lay_out_entries, lay_out_line};
 use kdl_fmt::names::{clear_type_unless, clear_unless, keeps_spelling, keeps_type_spelling};
+use kdl_fmt::one_line::{entries_on_line, line_on_line, name_on_line, type_on_line};
 use kdl_fmt::{Before, FormatConfig, Last, Layout};
-use kdl_parts::KdlDocumentFormat;
+use kdl_parts::KdlNodeFormat;
 use std::alloc::AllocError;
 use std::mem;
 
@@ -140,6 +143,7 @@ impl KdlNode {
             config: *config,
             blank_lines: 0,
             keep_spelling: false,
+            keep_one_line: false,
         };
         self.lay_out_alone(&layout)
     }
@@ -148,16 +152,17 @@ impl KdlNode {
     /// comments and slashdashed pieces that are kept: as many as there are, but at most the layout's number. There are
     /// none before the node, and none at the start and at the end of a block. If the layout keeps spellings, a value, a
     /// name, a key or a type keeps its spelling if this means what it did; an entry that is flagged to keep its form is
-    /// laid out as without that.
+    /// laid out as without that. If the layout keeps blocks on one line, a block that prints one line, without comments
+    /// and without blocks in it, is put on one line, as in a document.
     ///
     /// Returns an error if an allocation fails, or if the level of a child, or a number of newlines, would exceed
     /// `usize::MAX`. The data of the node is then unchanged, and some of it may be formatted. If the
     /// indent is spaces, it still prints a text with the same data, as after `autoformat`.
     ///
     /// ```
-    /// let layout = Layout { blank_lines: 1, ..Layout::new() };
+    /// let layout = Layout { blank_lines: 1, keep_one_line: true, ..Layout::new() };
     /// let mut node = KdlNode::parse(alloc, "a {\n\nb\n\nc\n\n}")?;
-    /// node.autoformat_layout(&layout)?; // prints `a {`, `b`, an empty line, `c` and `}`
+    /// node.autoformat_layout(&layout)?; // prints `a {`, `b`, an empty line, `c` and `}`, each on its own line
     /// let layout = Layout { keep_spelling: true, ..Layout::new() };
     /// let mut node = KdlNode::parse(alloc, "\"a\"   0xff0000")?;
     /// node.autoformat_layout(&layout)?; // prints `"a" 0xff0000`
@@ -170,9 +175,11 @@ impl KdlNode {
             → NodeKeepsReading (settings layout.now.config) self.old → ReadsAs self.old self.new }
         ensures formatted { OnOk result (NodeSpaced layout.now self.old self.new) }
         ensures unspaced { OnOk result (layout.now.blank_lines ≡ 0
-            → layout.now.keep_spelling ≡ false → NodeLaidOut (settings layout.now.config) self.old self.new) }
+            → layout.now.keep_spelling ≡ false → layout.now.keep_one_line ≡ false
+            → NodeLaidOut (settings layout.now.config) self.old self.new) }
         ensures plain { OnOk result (layout.now.blank_lines ≡ 0
-            → layout.now.keep_spelling ≡ false → layout.now.config.no_comments ≡ true
+            → layout.now.keep_spelling ≡ false → layout.now.keep_one_line ≡ false
+            → layout.now.config.no_comments ≡ true
             → node_tree self.new ≡ plain_node (settings layout.now.config) self.old) }
         ensures levels { OnOk result
             (NodeLevelsFit layout.now.config.indent_level (node_tree self.old)) }
@@ -186,7 +193,8 @@ impl KdlNode {
             → layout.now.config.no_comments ≡ false → NodeKeepsNoForm self.old
             → NodeCommentsStay (node_tree self.old) (node_prints self.new)) }
         ensures prints { OnOk result (layout.now.blank_lines ≡ 0
-            → layout.now.keep_spelling ≡ false → IsPlain (settings layout.now.config) → NodeKeepsNoForm self.old
+            → layout.now.keep_spelling ≡ false → layout.now.keep_one_line ≡ false
+            → IsPlain (settings layout.now.config) → NodeKeepsNoForm self.old
             → node_prints self.new ≡ canonical_node (settings layout.now.config).indent
             layout.now.config.indent_level (node_says self.old)) }
         ensures reads { OnOk result (IndentsBySpaces (settings layout.now.config)
@@ -217,58 +225,67 @@ impl KdlNode {
         ensures stays { IndentsBySpaces (settings layout.now.config)
             → StaysAs (settings layout.now.config) (node_tree self.old) (node_tree self.new) }
         ensures formatted { OnOk result
-            (IsSpelledNode layout.now.keep_spelling layout.now.blank_lines
+            (IsLaidNode layout.now.keep_spelling layout.now.keep_one_line layout.now.blank_lines
             (settings layout.now.config) level at_start (node_tree self.old) (node_tree self.new)) }
         ensures well_formed { OnOk result (IsWellFormedNode (node_says self.old)) }
     {
         let next = Before::Nothing(Last::Other);
-        let (_, first, braces) = self.lay_out_own(layout, level, before, next)?;
+        let (_, first, around) = self.lay_out_own(layout, level, before, next)?;
         lay_out_below(&mut self.children, layout, level, first)?;
-        self.set_braces(braces);
+        self.set_around(around);
         Ok(())
     }
 
     /// Lays out the node at a level, after what comes before it and the indentation of that level, but not its block.
     /// Returns what comes before the node after it, and before the first node in its block, and the texts around these,
-    /// for `set_braces`.
+    /// for `set_around`.
     pub(crate) fn lay_out_own(
         &mut self,
         layout: &Layout,
         level: usize,
         before: &str,
         next: Before,
-    ) -> Result<(Before, Before, Option<KdlDocumentFormat>), AllocError>
+    ) -> Result<(Before, Before, Option<Around>), AllocError>
         ensures kept { node_bare self.new ≡ node_bare self.old }
         ensures block { child_nodes self.new ≡ child_nodes self.old }
         ensures stays { IndentsBySpaces (settings layout.now.config)
             → chars before.now ≡ indentation (settings layout.now.config) level
             → StaysAs (settings layout.now.config) (node_tree self.old) (node_tree self.new) }
-        ensures spaced { IfOk result (λ (behind, first, braces).
+        ensures spaced { IfOk result (λ (behind, first, around).
             chars before.now ≡ indentation (settings layout.now.config) level
             → PassesAt layout.now (node_tree self.old) behind
-            × IsSpacedBut layout.now level next (node_tree self.old) first braces
+            × IsSpacedBut layout.now level next (node_tree self.old) first around
             (map node_tree (child_nodes self.old)) self.new) }
     {
         let alloc = *self.entries.allocator();
         let keeps_type = keeps_type_spelling(alloc, layout, &self.ty)?;
         let keeps_name = keeps_spelling(alloc, layout, &self.name)?;
         let has_block = self.children.is_some();
-        let (first, braces) = block_braces(&self.children, layout, level, before)?;
+        let (first, around) = block_around(&self.children, layout, level, before)?;
         let behind = lay_out_line(&mut self.format, alloc, layout, before, has_block, next)?;
         clear_type_unless(&mut self.ty, keeps_type);
         clear_unless(&mut self.name, keeps_name);
         lay_out_entries(&mut self.entries, layout)?;
-        Ok((behind, first, braces))
+        Ok((behind, first, around))
     }
 
     /// Sets the texts around the nodes of the node's block, if there is one.
-    pub(crate) fn set_braces(&mut self, braces: Option<KdlDocumentFormat>)
-        ensures { out-KdlNode self.new ≡ record (out-KdlNode self.old) {
-          children =
-              option_map (λ d. with_document_format d braces) (out-KdlNode self.old).children;
-        } }
+    pub(crate) fn set_around(&mut self, around: Option<Around>)
+        ensures { node_tree self.new ≡
+            enclosed around self.old (map node_tree (child_nodes self.old)) }
     {
-        set_braces(&mut self.children, braces);
+        set_around(&mut self.children, around);
+    }
+
+    /// Returns whether the node can be printed on one line, without comments, and has no block. `last` is whether no node
+    /// follows.
+    pub(crate) fn is_on_line(&self, last: bool) -> bool
+        ensures { result ≡ node_on_line last (node_tree self.now) }
+    {
+        if self.children.is_some() {
+            return false;
+        }
+        is_line(&self.ty, &self.name, &self.entries, &self.format, last)
     }
 
     /// Returns what comes before whatever follows the node. That is not laid out.
@@ -302,35 +319,54 @@ impl KdlNode {
     }
 }
 
-/// Sets the texts around the nodes of a block, if there is one.
-fn set_braces(children: &mut Option<KdlDocument>, braces: Option<KdlDocumentFormat>)
-    ensures { children.new ≡ option_map (λ d. with_document_format d braces) children.old }
+/// Returns whether the parts of a node without a block can be printed on one line, without comments.
+fn is_line(
+    ty: &Option<KdlIdentifier>,
+    name: &KdlIdentifier,
+    entries: &[KdlEntry],
+    format: &Option<KdlNodeFormat>,
+    last: bool,
+) -> bool
+    ensures { result ≡ (maybe_on_line (option_map identifier_tree ty.now)
+        && name_on_line (identifier_tree name.now)
+        && list_all (λ e. entry_on_line (entry_tree e)) entries.now
+        && line_on_line last (or_empty (node_texts format.now))) }
 {
-    if let Some(children) = children {
-        children.exchange_format(braces);
+    type_on_line(ty) && name_on_line(name) && entries_on_line(entries) && line_on_line(format, last)
+}
+
+/// Sets the texts around the nodes of a block, if there is one.
+fn set_around(children: &mut Option<KdlDocument>, around: Option<Around>)
+    ensures { children_of (option_map document_tree children.new) ≡ with_texts (braces_of around)
+        (filled_block children.old (lined around (map node_tree (nodes_in children.old)))) }
+{
+    let Some(children) = children else {
+        return;
+    };
+    match around {
+        Some(Around { braces, line }) => {
+            set_formats(children.nodes_mut(), line);
+            children.exchange_format(Some(braces));
+        }
+        None => children.exchange_format(None),
     }
 }
 
 /// Returns what comes before the first node in the block of a node at a level, and the texts around the nodes in it.
-fn block_braces(
+fn block_around(
     children: &Option<KdlDocument>,
     layout: &Layout,
     level: usize,
     before: &str,
-) -> Result<(Before, Option<KdlDocumentFormat>), AllocError>
-    ensures { IfOk result (λ (first, braces).
+) -> Result<(Before, Option<Around>), AllocError>
+    ensures { IfOk result (λ (first, around).
         chars before.now ≡ indentation (settings layout.now.config) level
-        → (ms : List Node)
-        → AreSpacedNodes layout.now.blank_lines (settings layout.now.config) (level + 1) first
-        (nodes_tree (nodes_in children.now)) (listed_nodes ms)
-        → IsSpacedChildren layout.now.blank_lines (settings layout.now.config) level
-        (children_of (option_map document_tree children.now))
-        (with_texts (option_map document_format_tree braces) (filled_block children.now ms))) }
+        → BlockIsSpaced layout.now level children.now first around) }
 {
     match children {
         Some(children) => {
-            let (braces, first) = children.braces(layout, level, before)?;
-            Ok((first, Some(braces)))
+            let (around, first) = children.around(layout, level, before)?;
+            Ok((first, Some(around)))
         }
         None => Ok((Before::Nothing(Last::Other), None)),
     }

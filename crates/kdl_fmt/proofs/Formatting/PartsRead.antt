@@ -1,5 +1,5 @@
 -- A node or document of which a part is laid out reads back where it did before.
-use Rattle.std.proofs.Common.{◌≡◌, ℕ, zero, suc, ◌+◌, Bool, true, false, List, [], ◌∷◌, ◌++◌, refl, sym, ap, subst, ◌∙◌, Option, Some, None, append_assoc, append-nil}
+use Rattle.std.proofs.Common.{◌≡◌, ℕ, zero, suc, ◌+◌, Bool, true, false, List, [], ◌∷◌, ◌++◌, refl, sym, ap, subst, Option, Some, None, append_assoc, append-nil}
 use Rattle.std.specs.List.{All, list_all}
 use Rattle.std.specs.Prelude.{if◌then◌else◌}
 use Rattle.kdl_text.specs.Chars.{Text, is_space}
@@ -14,7 +14,7 @@ use Rattle.kdl_grammar.specs.Places.{BeforeChildren}
 use Rattle.kdl_grammar.specs.Print.{trailing_text}
 use Rattle.kdl_grammar.specs.ReadsBack.{Rests, Anything, TextEnd, EntryReads, name_text, HeadReads, AddsNothing, IsGapBefore, BeforeTerminator, EndReads, last_rests, NodeReads, reads, ChildrenRead, no_block, a_block, NodesRead, no_node, last_node, next_node, ContentReads, two_texts, with_nodes, BlockReads, block, DocumentReads}
 use Rattle.kdl_grammar.specs.Tree.{NodeFormat, DocumentFormat, Head, Node, node, Children, no_children, children, document, Nodes, none, first}
-use Rattle.kdl_grammar.proofs.ReadingBack.Composing.{block_reads, ends_before, with_block}
+use Rattle.kdl_grammar.proofs.ReadingBack.Composing.{block_reads, ends_before}
 use Rattle.kdl_comments.specs.Items.{Item, GapItems, before_block}
 use Rattle.kdl_comments.specs.Written.{lines}
 use Rattle.kdl_comments.proofs.Listing.ItemsUnique.{gap_items_det}
@@ -22,7 +22,7 @@ use Rattle.kdl_fmt.specs.Blank.{at_start, past_node, spaced_lines}
 use Rattle.kdl_fmt.specs.Config.{Settings, indentation}
 use Rattle.kdl_fmt.specs.Formatted.{or_empty, or_empty_document, newline_if_none}
 use Rattle.kdl_fmt.specs.Kept.{KeptBeforeBlock, Written, WrittenUnless, last_place, without_bom}
-use Rattle.kdl_fmt.specs.Respelled.{IsRespelledNode, AreRespelledChildren, AreRespelledNodes, IsSpelledNode}
+use Rattle.kdl_fmt.specs.Respelled.{IsRespelledNode, AreRespelledChildren, AreRespelledNodes}
 use Rattle.kdl_fmt.specs.Spaced.{Spaces, SpacedLines, SpacesTexts, IsSpacedLine, IsSpacedContent, IsSpacedBraced, IsSpacedNode, IsSpacedChildren, AreSpacedNodes}
 use Rattle.kdl_fmt.specs.WithComments.{NodeTexts, line_of, has_block}
 use Rattle.kdl_fmt.specs.declared.blank.Before.{Before}
@@ -54,10 +54,10 @@ place_joined : (l s c b r : Text) → (l ++ s) ++ (((c ++ (10 ∷ [])) ++ b) ++ 
 place_joined l s c b r = simp append_assoc
 
 -- nodes of which the texts around their parts are laid out
-abbrev IsLined : ℕ → Settings → ℕ → Before → Node → Node → Type 0
+abbrev pub IsLined : ℕ → Settings → ℕ → Before → Node → Node → Type 0
 IsLined number s level b (node h k) (node h' k') = IsSpacedLine number s level (has_block k) b (or_empty h.format) h'.format × (has_block k ≡ has_block k')
 
-abbrev AreLined : ℕ → Settings → ℕ → Before → Nodes → Nodes → Type 0
+abbrev pub AreLined : ℕ → Settings → ℕ → Before → Nodes → Nodes → Type 0
 AreLined number s level b none none = Unit {0}
 AreLined number s level b (first n ns) (first n' ns') = (b' : Before) × IsLined number s level b n n' × AreLined number s level b' ns ns'
 AreLined number s level b _ _ = ⊥
@@ -75,7 +75,7 @@ module _ (number : ℕ) (s : Settings) (keep : Bool) where
   line_there level b (node h k) (node m j) (node h' k') f r =
       (subst (λ (x : Option NodeFormat). IsSpacedLine number s level (has_block k) b (or_empty h.format) x) (sym r.0.format) f.0.format, same_block level k j k' f.1 r.1)
 
-  lined : (level : ℕ) (b : Before) (ns ms ns' : Nodes) → AreSpacedNodes number s level b ns ms → AreRespelledNodes keep s ns ms ns' → AreLined number s level b ns ns'
+  pub lined : (level : ℕ) (b : Before) (ns ms ns' : Nodes) → AreSpacedNodes number s level b ns ms → AreRespelledNodes keep s ns ms ns' → AreLined number s level b ns ns'
   lined level b none none none f r = tt
   lined level b none none (first n' ns') f r = absurd r
   lined level b none (first m ms) ns' f r = absurd f
@@ -88,7 +88,7 @@ before_end : (k : Children) {l space c : Text} → Tail (last_place (has_block k
 before_end no_children t e r = last_text false t e r
 before_end (children d) t e r = last_text true t e r
 
-content_with : {P : Rests} {l t : Text} (ns : Nodes) → AddsNothing l → NodesRead (last_rests t P) ns → IsGapBefore P t → ContentReads P l t ns
+pub content_with : {P : Rests} {l t : Text} (ns : Nodes) → AddsNothing l → NodesRead (last_rests t P) ns → IsGapBefore P t → ContentReads P l t ns
 content_with none a x g = two_texts a g
 content_with (first n ns) a x g = with_nodes a x g
 
@@ -97,12 +97,12 @@ trailing_joined b e i r = simp append_assoc
 
 module _ (number : ℕ) (s : Settings) (ok : list_all is_space s.indent ≡ true) where
   -- what is kept between nodes adds nothing
-  lines_add : (level : ℕ) (b b' : Before) (place t : Text) → SpacedLines number s level b place t b' → AddsNothing t
+  pub lines_add : (level : ℕ) (b b' : Before) (place t : Text) → SpacedLines number s level b place t b' → AddsNothing t
   lines_add level b b' place t k r v xs e d = gap_nodes (lines_gap s ok number level b b' place t k no_gap) d
 
   -- the line of a node
   module _ (level : ℕ) (has : Bool) (b : Before) (f : NodeFormat) (t : NodeTexts) (kept : SpacesTexts number s level has b f t) where
-    line_head : (h : Head) → NameReadsIf h.ty → NameReads h.name → All EntryReads h.entries → HeadReads h (line_of (indentation s level) t)
+    pub line_head : (h : Head) → NameReadsIf h.ty → NameReads h.name → All EntryReads h.entries → HeadReads h (line_of (indentation s level) t)
     line_head h a n es = record {
       leading = λ r.
           let rest = name_text h (line_of (indentation s level) t) ++ r in
@@ -111,7 +111,7 @@ module _ (number : ℕ) (s : Settings) (ok : list_all is_space s.indent ≡ true
       entries = es;
     }
 
-    line_end : (k : Children) → has ≡ has_block k → (Q : Rests) → EndReads Q k (line_of (indentation s level) t)
+    pub line_end : (k : Children) → has ≡ has_block k → (Q : Rests) → EndReads Q k (line_of (indentation s level) t)
     line_end k same Q =
         let tail : Tail (last_place (has_block k)) t.last = subst (λ (x : Bool). Tail (last_place x) t.last) same (tail_of s.no_comments (last_place has) f.before_terminator t.last kept.last) in
         let end = line_end_of s.no_comments f.terminator t.space t.comment kept.end in
@@ -124,7 +124,7 @@ module _ (number : ℕ) (s : Settings) (ok : list_all is_space s.indent ≡ true
           );
         }
 
-    line_block : has ≡ true → (u : Text) → BeforeChildren ((t.before_block ++ (32 ∷ [])) ++ (123 ∷ u)) (123 ∷ u)
+    pub line_block : has ≡ true → (u : Text) → BeforeChildren ((t.before_block ++ (32 ∷ [])) ++ (123 ∷ u)) (123 ∷ u)
     line_block same u =
         let k : KeptBeforeBlock s true f.before_children t.before_block = subst (λ (x : Bool). KeptBeforeBlock s x f.before_children t.before_block) same kept.before_block in
         rw (append_assoc t.before_block (32 ∷ []) (123 ∷ u)) (tail_spaced before_block (tail_of s.no_comments before_block f.before_children t.before_block k) (123 ∷ u))
@@ -140,26 +140,8 @@ module _ (number : ℕ) (s : Settings) (ok : list_all is_space s.indent ≡ true
   own_reads level b h h' f k a n es line {Q = Q} x =
       reads line.2 (line_head level (has_block k) b f line.0 line.1 h' a n es) (line_children level k b f line.0 line.1 x) (line_end level (has_block k) b f line.0 line.1 k refl Q)
 
-  -- a node that is laid out ends by itself
-  spaced_ends : {P Q : Rests} (level : ℕ) (b : Before) (n n' : Node) → IsLined number s level b n n' → NodeReads P n' → NodeReads Q n'
-  spaced_ends {Q = Q} level b (node h k) (node h' k') f (reads {f = g} e head kids end) =
-      let line = f.0 in
-      let same : g ≡ line_of (indentation s level) line.0 = ap or_empty (sym e ∙ line.2) in
-      reads e head kids (subst (λ (z : NodeFormat). EndReads Q k' z) (sym same) (line_end level (has_block k) b (or_empty h.format) line.0 line.1 k' f.1 Q))
-
-  nodes_end : {P Q : Rests} (level : ℕ) (b : Before) (ns ns' : Nodes) → AreLined number s level b ns ns' → NodesRead P ns' → NodesRead Q ns'
-  nodes_end level b none none f x = no_node
-  nodes_end level b none (first n' ns') f x = absurd f
-  nodes_end level b (first n ns) none f x = absurd f
-  nodes_end level b (first n ns) (first n' none) f (last_node x) = last_node (spaced_ends level b n n' f.1 x)
-  nodes_end level b (first n ns) (first n' (first m ms)) f (next_node x xs) = next_node x (nodes_end level f.0 ns (first m ms) f.2 xs)
-
-  content_nodes : {P : Rests} {l t : Text} (level : ℕ) (b : Before) (ns ns' : Nodes) → AreLined number s level b ns ns' → ContentReads P l t ns' → NodesRead Anything ns'
-  content_nodes level b ns none f x = no_node
-  content_nodes level b ns (first n ms) f (with_nodes a x g) = nodes_end level b ns (first n ms) f x
-
   -- a block whose nodes end by themselves
-  braced_reads : (level : ℕ) (olds : Nodes) (f : DocumentFormat) (b : Before) (g : Option DocumentFormat) (at : SourceSpan) (ms : Nodes) → IsSpacedBraced number s level olds f b g → NodesRead Anything ms → BlockReads (document g at ms)
+  pub braced_reads : (level : ℕ) (olds : Nodes) (f : DocumentFormat) (b : Before) (g : Option DocumentFormat) (at : SourceSpan) (ms : Nodes) → IsSpacedBraced number s level olds f b g → NodesRead Anything ms → BlockReads (document g at ms)
   braced_reads level olds f b g at ms (x, y, c, e) d =
       let ind = indentation s level in
       subst (λ (z : Option DocumentFormat). BlockReads (document z at ms)) (sym e)
@@ -167,18 +149,6 @@ module _ (number : ℕ) (s : Settings) (ok : list_all is_space s.indent ≡ true
       (λ r v xs z d. gap_nodes (newline_gap (lines_gap s ok number (level + 1) at_start b (without_bom f.leading) x c.leading no_gap)) d)
       (all_end _ d)
       (λ r p. rw (trailing_joined y (newline_if_none olds) ind r) (lines_gap s ok number (level + 1) c.last c.behind_it f.trailing y c.trailing (empty_gap olds (indentation_gap s ok level no_gap))))))
-
-  -- a node of which the block is laid out, when the nodes in it are
-  pub closed_reads : (keep : Bool) (level : ℕ) (b : Before) (o : Node) (h : Head) (f g : Option DocumentFormat) (at : SourceSpan) (ms : Nodes) → IsSpelledNode keep number s level b o (node h (children (document g at ms)))
-      → {P : Rests} → NodeReads P (node h (children (document f at ms))) → NodeReads P (node h (children (document g at ms)))
-  closed_reads keep level b (node h' no_children) h f g at ms (node m no_children, w, r) x = absurd r.1
-  closed_reads keep level b (node h' no_children) h f g at ms (node m (children d), w, r) x = absurd w.1
-  closed_reads keep level b (node h' (children d)) h f g at ms (node m no_children, w, r) x = absurd r.1
-  closed_reads keep level b (node h' (children (document f' at' ns))) h f g at ms (node m (children (document f2 at2 ns2)), (w, (b', c, same, nodes, fits)), r) x =
-      with_block (document g at ms) x (braced_reads level ns (or_empty_document f') b' g at ms (subst (λ (z : Option DocumentFormat). IsSpacedBraced number s level ns (or_empty_document f') b' z) (sym r.1.0) c) (inner (block_reads x)))
-    where
-      inner : BlockReads (document f at ms) → NodesRead Anything ms
-      inner (block y) = content_nodes (level + 1) b' ns ms (lined number s keep (level + 1) b' ns ns2 ms nodes r.1.2) y
 
   -- what is kept of an empty text
   written_nothing : (level : ℕ) (t : Text) → Written (GapItems []) (lines (indentation s level)) t → t ≡ []

@@ -1,7 +1,9 @@
 -- Layout loses no comment: what a document holds of them is, each as it is on a line, what is held by the document that is laid in the printed text.
 use Rattle.std.proofs.Common.{◌≡◌, ℕ, ◌+◌, Bool, true, false, List, [], ◌∷◌, ◌++◌, map, refl, sym, ap, subst, ◌∙◌, Option, Some, append_assoc, append-nil}
+use Rattle.std.proofs.lemmas.Bool.{and_parts}
 use Rattle.std.proofs.lemmas.List.{map-append}
 use Rattle.std.specs.List.{list_all}
+use Rattle.std.specs.Prelude.{◌&&◌}
 use Rattle.kdl_text.specs.Chars.{Text, is_space}
 use Rattle.kdl_text.specs.Trivia.{ValueEnd}
 use Rattle.kdl_text.specs.declared.span.SourceSpan.{SourceSpan}
@@ -20,20 +22,20 @@ use Rattle.kdl_fmt.specs.Config.{Settings, indentation}
 use Rattle.kdl_fmt.specs.Formatted.{or_empty, or_empty_document, newline_if_none, in_braces}
 use Rattle.kdl_fmt.specs.Kept.{last_place, without_bom}
 use Rattle.kdl_fmt.specs.Blank.{at_start, past_node}
+use Rattle.kdl_fmt.specs.OneLine.{braces_in_line, braces_on_line, in_one_line, is_on_one_line, nodes_in_line, nodes_on_line, one_lined_children, one_lined_document, one_lined_node, one_lined_nodes}
 use Rattle.kdl_fmt.specs.Spaced.{SpacesTexts, SpacesContent}
 use Rattle.kdl_fmt.specs.WithComments.{NodeTexts, line_of, content_of, has_block}
 use Rattle.kdl_fmt.specs.declared.blank.Before.{Before}
 use Rattle.kdl_fmt.proofs.Spacing.Lines.{before_front, lines_front}
 use Rattle.kdl_fmt.proofs.Keeping.GapFronts.{Front, nothing, joined, alone, here, newline, newline_if, indented, gap_without_bom}
 use Rattle.kdl_fmt.proofs.Keeping.KeptItems.{KeptIn, kept_in, kept_end, kept_last}
+use Rattle.kdl_fmt.proofs.OneLine.Laid.{braces_nothing, node_joined, nodes_line}
+use Rattle.kdl_fmt.proofs.OneLine.Same.{one_or_more}
 use Rattle.kdl_fmt.proofs.Respelling.Written.{IsWrittenNode, AreWrittenChildren, AreWrittenNodes, IsWrittenDocument}
 use Rattle.kdl_fmt.proofs.Formatting.LaidEntries.{identifier_at, identifier_laid, type_laid, entries_laid}
 use Rattle.kdl_fmt.proofs.Keeping.KeptPlaces.{space_ends, tail_ends, tail_spaced, LineEnd, line_end_of, line_terminator, last_text, last_ends}
 
--- what a node prints, with a rest after it
-node_joined : (l t n p q r : Text) → (l ++ t ++ [] ++ n ++ p ++ q) ++ r ≡ l ++ (t ++ (n ++ (p ++ (q ++ r))))
-node_joined l t n p q r = simp (append_assoc, append-nil)
-
+-- texts that are joined
 end_joined : (l s c b r : Text) → (l ++ s ++ (c ++ (10 ∷ [])) ++ b) ++ r ≡ (l ++ s) ++ ((c ++ (10 ∷ [])) ++ (b ++ r))
 end_joined l s c b r = simp append_assoc
 
@@ -66,6 +68,14 @@ module _ (h : Head) (before : Text) (k : NodeTexts) (line : h.format ≡ Some (l
       let behind = b ++ newline_if_none ns ++ before in
       rw (e, line, ← end_joined k.last k.space k.comment k.behind r)
       (braces_joined k.before_block ((10 ∷ a) ++ n ++ behind) (125 ∷ end) r ∙ ap (λ (t : Text). k.before_block ++ (32 ∷ 123 ∷ t)) (content_joined (10 ∷ a) n behind (125 ∷ (end ++ r))))
+
+  -- a block on one line
+  line_text : (span : SourceSpan) (ms : Nodes) (depth : ℕ) (r : Text) → print_tail h (children (document (Some braces_in_line) span ms)) depth ++ r ≡ k.before_block ++ (32 ∷ 123 ∷ (print_nodes ms (depth + 1) ++ (125 ∷ end_of r)))
+  line_text span ms depth r =
+      let end = k.last ++ k.space ++ (k.comment ++ (10 ∷ [])) ++ k.behind in
+      let n = print_nodes ms (depth + 1) in
+      rw (line, ← end_joined k.last k.space k.comment k.behind r)
+      (braces_joined k.before_block ([] ++ n ++ []) (125 ∷ end) r ∙ ap (λ (t : Text). k.before_block ++ (32 ∷ 123 ∷ t)) (content_joined [] n [] (125 ∷ (end ++ r))))
 
 -- a node in a text: what is kept after it comes before what follows it
 record NodeLaid (whole s r : Text) (is : List Item) : Type 0 where
@@ -131,10 +141,13 @@ node_same p a b c d e f = simp (map-append, append_assoc, append-nil)
 block_lists : (p a b c : List Item) → p ++ (map on_line a ++ map on_line b ++ (map on_line c ++ [] ++ [])) ≡ p ++ map on_line (a ++ b ++ c)
 block_lists p a b c = simp (map-append, append_assoc, append-nil)
 
+line_lists : (p a b c : List Item) → a ≡ [] → c ≡ [] → map on_line p ++ (map on_line b ++ []) ≡ map on_line (p ++ (a ++ b ++ c))
+line_lists p a b c e f = rw (e, f) (simp (map-append, append-nil))
+
 content_lists : (a b c : List Item) → map on_line a ++ map on_line b ++ (map on_line c ++ []) ≡ map on_line (a ++ b ++ c)
 content_lists a b c = simp (map-append, append_assoc, append-nil)
 
-module _ (number : ℕ) (s : Settings) (ok : list_all is_space s.indent ≡ true) (with : s.no_comments ≡ false) (whole : Text) where
+module _ (number : ℕ) (s : Settings) (ok : list_all is_space s.indent ≡ true) (with : s.no_comments ≡ false) (keep : Bool) (whole : Text) where
   -- what is kept of the texts around nodes
   content_front : (level : ℕ) (ns : Nodes) (f : DocumentFormat) (b : Before) (x y : Text) → SpacesContent number s level ns f b x y → {is : List Item} → ItemsIn (GapItems (without_bom f.leading)) is
       → Front x (map on_line is)
@@ -157,7 +170,7 @@ module _ (number : ℕ) (s : Settings) (ok : list_all is_space s.indent ≡ true
     children_laid : (level depth : ℕ) (b : Before) (h : Head) (f : NodeFormat) (t : NodeTexts) (k k' : Children) → h.format ≡ Some (line_of (indentation s level) t) → AreWrittenChildren number s level k k'
         → SpacesTexts number s level (has_block k) b f t → {is js : List Item} → ChildrenItems f.before_children k is
         → ItemsIn (PlaceItems (last_place (has_block k)) f.before_terminator) js → (r : Text)
-        → ChildrenLaid whole (print_tail h k' depth ++ r) ((t.comment ++ (10 ∷ [])) ++ (t.behind ++ r)) (map on_line is) (map on_line js)
+        → ChildrenLaid whole (print_tail h (one_lined_children keep k k') depth ++ r) ((t.comment ++ (10 ∷ [])) ++ (t.behind ++ r)) (map on_line is) (map on_line js)
     children_laid level depth b h f t no_children no_children line c kept ChildrenItems.no_block i r =
         let end = line_end level false b f t kept in
         let last = last_in level false b f t kept i in
@@ -177,44 +190,61 @@ module _ (number : ℕ) (s : Settings) (ok : list_all is_space s.indent ≡ true
           behind = ItemsIn.items (kept_last s.no_comments with false f.terminator t.space t.comment t.last kept.end last);
           ends = subst (ValueEnd true) e (last_ends last.stands end rest);
         })
-    children_laid level depth b h f t (children (document g span ns)) (children (document g' span' ns')) line (b', c, nodes) kept (block {is = is} {js = ks} i (of_document {a = a} {b = e'} {c = d} ia ib id)) j r =
-        let end = line_end level true b f t kept in
-        let last = last_in level true b f t kept j in
+    children_laid level depth b h f t (children (document g span ns)) (children (document g' span' ns')) line (b', c, nodes) kept {js = ks} (block {is = is} i (of_document {a = a} {b = e'} {c = d} ia ib id)) j r =
         let before = block_in level b f t kept i in
         let rest = t.behind ++ r in
-        let e = last_joined t.last t.space t.comment rest in
         let after = (t.last ++ t.space) ++ ((t.comment ++ (10 ∷ [])) ++ rest) in
         let behind = c.1 ++ newline_if_none ns ++ indentation s level in
+        let old = document g span ns in
+        let laid' = document g' span' ns' in
         let x = nodes_laid (level + 1) (depth + 1) b' ns ns' nodes ib (joined newline (content_front (level + 1) ns (or_empty_document g) b' c.0 c.1 c.2 ia)) (behind ++ (125 ∷ after)) in
         let y = content_laid x (joined (joined (content_end (level + 1) ns (or_empty_document g) b' c.0 c.1 c.2 id) (newline_if ns)) (indented s ok level)) in
-        rw (block_text h (indentation s level) t line g' span' ns ns' c.0 c.1 depth r c.3)
-        (record {
-          tree = children y.tree;
-          before = t.before_block ++ (32 ∷ []);
-          place = t.last ++ t.space;
-          laid = a_block (record { is = tail_spaced before_block before.stands _; text = sym (append_assoc t.before_block (32 ∷ []) _) }) y.laid
-              (record {
-                is = subst (λ (x : Text). AfterChildren x ((t.comment ++ (10 ∷ [])) ++ rest)) e
-                    (subst (λ (x : Text). AfterChildren (t.last ++ (t.space ++ (t.comment ++ (10 ∷ rest)))) x) (sym (append_assoc t.comment (10 ∷ []) rest)) (last_text true last.stands end rest));
-                text = refl;
-              });
-          inside = subst (λ (l : List Item). ChildrenItems (t.before_block ++ (32 ∷ [])) (children y.tree) l) (block_lists (map on_line is) a e' d ∙ sym (map-append on_line is (a ++ e' ++ d)))
-              (block (ItemsIn.items before.spaced) y.items);
-          behind = ItemsIn.items (kept_last s.no_comments with true f.terminator t.space t.comment t.last kept.end last);
-          ends = tail_ends before.stands _ (space_ends _);
-        })
+        one_or_more (λ (z : Document). ChildrenLaid whole (print_tail h (children z) depth ++ r) ((t.comment ++ (10 ∷ [])) ++ rest) (map on_line (is ++ (a ++ e' ++ d))) (map on_line ks)) (keep && is_on_one_line old) (in_one_line laid') (one_lined_document keep old laid')
+        (λ on. let w = (and_parts (braces_on_line g) (nodes_on_line ns) (and_parts keep (is_on_one_line old) on).1) in
+        let n = braces_nothing g w.0 ia id in
+        let o = nodes_line number s with whole (level + 1) (depth + 1) b' ns ns' w.1 nodes ib after in
+        let l = content_of_nodes whole (print_nodes (nodes_in_line ns') (depth + 1) ++ (125 ∷ after)) (125 ∷ after) [] o.laid o.items nothing in
+        rw (line_text h (indentation s level) t line span' (nodes_in_line ns') depth r)
+        (block_laid l.tree l.laid (subst (λ (z : List Item). ChildrenItems (t.before_block ++ (32 ∷ [])) (children l.tree) z) (line_lists is a e' d n.0 n.1) (block (ItemsIn.items before.spaced) l.items))))
+        (λ on. rw (block_text h (indentation s level) t line g' span' ns (one_lined_nodes keep ns ns') c.0 c.1 depth r c.3)
+        (block_laid y.tree y.laid
+        (subst (λ (l : List Item). ChildrenItems (t.before_block ++ (32 ∷ [])) (children y.tree) l) (block_lists (map on_line is) a e' d ∙ sym (map-append on_line is (a ++ e' ++ d))) (block (ItemsIn.items before.spaced) y.items))))
+      where
+        -- what comes before the block and after it
+        block_laid : (z : Document) {m : Text} → LaidContent true whole z m (125 ∷ ((t.last ++ t.space) ++ ((t.comment ++ (10 ∷ [])) ++ (t.behind ++ r)))) → {l : List Item} → ChildrenItems (t.before_block ++ (32 ∷ [])) (children z) l
+            → ChildrenLaid whole (t.before_block ++ (32 ∷ 123 ∷ m)) ((t.comment ++ (10 ∷ [])) ++ (t.behind ++ r)) l (map on_line ks)
+        block_laid z m l =
+            let end = line_end level true b f t kept in
+            let last = last_in level true b f t kept j in
+            let before = block_in level b f t kept i in
+            let rest = t.behind ++ r in
+            let e = last_joined t.last t.space t.comment rest in
+            record {
+              tree = children z;
+              before = t.before_block ++ (32 ∷ []);
+              place = t.last ++ t.space;
+              laid = a_block (record { is = tail_spaced before_block before.stands _; text = sym (append_assoc t.before_block (32 ∷ []) _) }) m
+                  (record {
+                    is = subst (λ (x : Text). AfterChildren x ((t.comment ++ (10 ∷ [])) ++ rest)) e
+                        (subst (λ (x : Text). AfterChildren (t.last ++ (t.space ++ (t.comment ++ (10 ∷ rest)))) x) (sym (append_assoc t.comment (10 ∷ []) rest)) (last_text true last.stands end rest));
+                    text = refl;
+                  });
+              inside = l;
+              behind = ItemsIn.items (kept_last s.no_comments with true f.terminator t.space t.comment t.last kept.end last);
+              ends = tail_ends before.stands _ (space_ends _);
+            }
     children_laid level depth b h f t no_children (children d') line c kept i j r = absurd c
     children_laid level depth b h f t (children (document g span ns)) no_children line c kept i j r = absurd c
 
     -- a node after a gap
     node_laid : (level depth : ℕ) (before : Before) (n n' : Node) → IsWrittenNode number s level before n n' → {is : List Item} → NodeItems n is
-        → {p : Text} {ps : List Item} → Front p ps → (r : Text) → NodeLaid whole (p ++ (print_node n' depth ++ r)) r (ps ++ map on_line is)
+        → {p : Text} {ps : List Item} → Front p ps → (r : Text) → NodeLaid whole (p ++ (print_node (one_lined_node keep n n') depth ++ r)) r (ps ++ map on_line is)
     node_laid level depth before (node h k) (node h' k') (f, c) (of_node {a = a} {b = b} {c = ci} {d = d} {e = e} {f = g} ia ib ic id ie ig) {p} {ps} front r =
         let (t, kept, line) = f.format in
         let i = indentation s level in
         let format = or_empty h.format in
         let has = has_block k in
-        let tail = print_tail h' k' depth ++ r in
+        let tail = print_tail h' (one_lined_children keep k k') depth ++ r in
         let v = t.behind ++ r in
         let end = t.comment ++ (10 ∷ []) in
         let lines = joined (before_front s ok with number level has before format t kept ia) (indented s ok level) in
@@ -225,7 +255,7 @@ module _ (number : ℕ) (s : Settings) (ok : list_all is_space s.indent ≡ true
         let ty = type_laid whole h'.ty (print_identifier h'.name ++ pieces) f.ty in
         let start = print_type h'.ty [] [] ++ (print_identifier h'.name ++ pieces) in
         let leading = p ++ (t.before ++ i) in
-        rw (node_text h' i t line depth (print_pieces h'.entries) (print_tail h' k' depth) r)
+        rw (node_text h' i t line depth (print_pieces h'.entries) (print_tail h' (one_lined_children keep k k') depth) r)
         (record {
           tree = node (record { ty = ty.0; name = named; entries = y.entries; format = Some (node_format leading [] [] [] x.before x.place end []); span = span_of whole start (end ++ v) }) x.tree;
           pending = t.behind;
@@ -240,13 +270,13 @@ module _ (number : ℕ) (s : Settings) (ok : list_all is_space s.indent ≡ true
         })
 
     nodes_laid : (level depth : ℕ) (before : Before) (ns ns' : Nodes) → AreWrittenNodes number s level before ns ns' → {is : List Item} → NodesItems ns is
-        → {p : Text} {ps : List Item} → Front p ps → (t : Text) → NodesLaid whole (p ++ (print_nodes ns' depth ++ t)) t (ps ++ map on_line is)
+        → {p : Text} {ps : List Item} → Front p ps → (t : Text) → NodesLaid whole (p ++ (print_nodes (one_lined_nodes keep ns ns') depth ++ t)) t (ps ++ map on_line is)
     nodes_laid level depth before none none f NodesItems.no_node {p} {ps} front t =
         record { tree = none; pending = p; own = []; later = ps; laid = no_node; items = NodesItems.no_node; front = front; same = sym (append-nil ps) }
     nodes_laid level depth before (first n ns) (first n' ns') f (NodesItems.a_node {is = is} {js = js} i k) {p} {ps} front t =
-        let x = node_laid level depth before n n' f.1 i front (print_nodes ns' depth ++ t) in
+        let x = node_laid level depth before n n' f.1 i front (print_nodes (one_lined_nodes keep ns ns') depth ++ t) in
         let y = nodes_laid level depth f.0 ns ns' f.2 k x.front t in
-        rw (append_assoc (print_node n' depth) (print_nodes ns' depth) t)
+        rw (append_assoc (print_node (one_lined_node keep n n') depth) (print_nodes (one_lined_nodes keep ns ns') depth) t)
         (record {
           tree = first x.tree y.tree;
           pending = y.pending;
@@ -263,39 +293,39 @@ module _ (number : ℕ) (s : Settings) (ok : list_all is_space s.indent ≡ true
 
   -- the content of a document that is laid out
   document_content : (level depth : ℕ) (d d' : Document) (is : List Item) → DocumentItems d is → IsWrittenDocument number s level d d'
-      → ContentLaid whole (print_document d' depth) [] (map on_line is)
+      → ContentLaid whole (print_document (one_lined_document keep d d') depth) [] (map on_line is)
   document_content level depth (document f span ns) (document f' span' ns') _ (of_document {a = a} {b = b} {c = d} ia ib id) (before, c, nodes) =
       let behind = c.1 ++ newline_if_none ns in
       let x = nodes_laid level depth before ns ns' nodes ib (content_front level ns (or_empty_document f) before c.0 c.1 c.2 ia) (behind ++ []) in
       let y = content_laid x (joined (content_end level ns (or_empty_document f) before c.0 c.1 c.2 id) (newline_if ns)) in
-      subst (λ (l : List Item). ContentLaid whole (print_document (document f' span' ns') depth) [] l) (content_lists a b d)
+      subst (λ (l : List Item). ContentLaid whole (print_document (document f' span' (one_lined_nodes keep ns ns')) depth) [] l) (content_lists a b d)
       (subst (λ (t : Text). ContentLaid whole t [] (map on_line a ++ map on_line b ++ (map on_line d ++ []))) (document_joined f' ns' c.3) y)
     where
       document_joined : (f' : Option DocumentFormat) (ns' : Nodes) → f' ≡ Some (content_of ns c.0 c.1)
-          → c.0 ++ (print_nodes ns' depth ++ ((c.1 ++ newline_if_none ns) ++ [])) ≡ print_document (document f' span' ns') depth
+          → c.0 ++ (print_nodes (one_lined_nodes keep ns ns') depth ++ ((c.1 ++ newline_if_none ns) ++ [])) ≡ print_document (document f' span' (one_lined_nodes keep ns ns')) depth
       document_joined f' ns' e = rw e (simp (append_assoc, append-nil))
 
   -- a node that is laid out, as the content of a document
   node_content : (level depth : ℕ) (before : Before) (n n' : Node) (is : List Item) → NodeItems n is → IsWrittenNode number s level before n n'
-      → ContentLaid whole (print_node n' depth) [] (map on_line is)
+      → ContentLaid whole (print_node (one_lined_node keep n n') depth) [] (map on_line is)
   node_content level depth before n n' is i f =
       let x = node_laid level depth before n n' f i nothing [] in
-      subst (λ (l : List Item). ContentLaid whole (print_node n' depth) [] l) (ap (λ (l : List Item). l ++ x.later) (append-nil x.own) ∙ x.same)
-      (subst (λ (t : Text). ContentLaid whole t [] (x.own ++ [] ++ x.later)) (append-nil (print_node n' depth))
-      (content_of_nodes whole (print_node n' depth ++ []) [] x.pending (x.laid no_node) (NodesItems.a_node x.items NodesItems.no_node) x.front))
+      subst (λ (l : List Item). ContentLaid whole (print_node (one_lined_node keep n n') depth) [] l) (ap (λ (l : List Item). l ++ x.later) (append-nil x.own) ∙ x.same)
+      (subst (λ (t : Text). ContentLaid whole t [] (x.own ++ [] ++ x.later)) (append-nil (print_node (one_lined_node keep n n') depth))
+      (content_of_nodes whole (print_node (one_lined_node keep n n') depth ++ []) [] x.pending (x.laid no_node) (NodesItems.a_node x.items NodesItems.no_node) x.front))
 
 -- each item of the document is one of the laid text, as it is on a line, in the same order
-pub comments_stay : (number : ℕ) (s : Settings) → list_all is_space s.indent ≡ true → s.no_comments ≡ false → (level depth : ℕ) → (d d' e : Document) → (is : List Item)
-    → DocumentItems d is → IsWrittenDocument number s level d d' → LaidDocument true e (print_document d' depth) → DocumentItems e (map on_line is)
-comments_stay number s ok with level depth d d' e is i f laid =
-    let t = print_document d' depth in
-    let x = document_content number s ok with t level depth d d' is i f in
+pub comments_stay : (number : ℕ) (s : Settings) → list_all is_space s.indent ≡ true → s.no_comments ≡ false → (keep : Bool) (level depth : ℕ) → (d d' e : Document) → (is : List Item)
+    → DocumentItems d is → IsWrittenDocument number s level d d' → LaidDocument true e (print_document (one_lined_document keep d d') depth) → DocumentItems e (map on_line is)
+comments_stay number s ok with keep level depth d d' e is i f laid =
+    let t = print_document (one_lined_document keep d d') depth in
+    let x = document_content number s ok with keep t level depth d d' is i f in
     subst (λ (y : Document). DocumentItems y (map on_line is)) (one_laid_document t x.tree e (LaidDocument.no_bom x.laid) laid) x.items
 
 -- the same for a node that is printed alone
-pub node_comments_stay : (number : ℕ) (s : Settings) → list_all is_space s.indent ≡ true → s.no_comments ≡ false → (level depth : ℕ) → (before : Before) (n n' : Node) → (e : Document) → (is : List Item)
-    → NodeItems n is → IsWrittenNode number s level before n n' → LaidDocument true e (print_node n' depth) → DocumentItems e (map on_line is)
-node_comments_stay number s ok with level depth before n n' e is i f laid =
-    let t = print_node n' depth in
-    let x = node_content number s ok with t level depth before n n' is i f in
+pub node_comments_stay : (number : ℕ) (s : Settings) → list_all is_space s.indent ≡ true → s.no_comments ≡ false → (keep : Bool) (level depth : ℕ) → (before : Before) (n n' : Node) → (e : Document) → (is : List Item)
+    → NodeItems n is → IsWrittenNode number s level before n n' → LaidDocument true e (print_node (one_lined_node keep n n') depth) → DocumentItems e (map on_line is)
+node_comments_stay number s ok with keep level depth before n n' e is i f laid =
+    let t = print_node (one_lined_node keep n n') depth in
+    let x = node_content number s ok with keep t level depth before n n' is i f in
     subst (λ (y : Document). DocumentItems y (map on_line is)) (one_laid_document t x.tree e (LaidDocument.no_bom x.laid) laid) x.items

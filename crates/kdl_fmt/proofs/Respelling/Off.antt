@@ -9,7 +9,7 @@ use Rattle.kdl_fmt.specs.Spaced.{IsSpacedNode, IsSpacedChildren, AreSpacedNodes,
 use Rattle.kdl_fmt.specs.WithComments.{AreFormattedEntries}
 use Rattle.kdl_fmt.specs.declared.blank.Before.{Before}
 
-same_if : (o m o' : Option Identifier) → IsRespelledIf false o m o' → o' ≡ m
+pub same_if : (o m o' : Option Identifier) → IsRespelledIf false o m o' → o' ≡ m
 same_if None None None h = refl
 same_if None None (Some i') h = absurd h
 same_if None (Some m) o' h = absurd h
@@ -84,7 +84,7 @@ module _ (number : ℕ) (s : Settings) where
     children_itself level (children (document d at ns)) no_children f = absurd f
     children_itself level (children (document d at ns)) (children (document e bt ms)) (b, f, same, nodes, fits) = (refl, refl, nodes_itself (level + 1) b ns ms nodes)
 
-    nodes_itself : (level : ℕ) (b : Before) (ns ms : Nodes) → AreSpacedNodes number s level b ns ms → AreRespelledNodes false s ns ms ms
+    pub nodes_itself : (level : ℕ) (b : Before) (ns ms : Nodes) → AreSpacedNodes number s level b ns ms → AreRespelledNodes false s ns ms ms
     nodes_itself level b none none f = tt
     nodes_itself level b none (first m ms) f = absurd f
     nodes_itself level b (first n ns) none f = absurd f

@@ -1,6 +1,6 @@
 use Rattle.std.proofs.Common.{◌≡◌, Bool, false, true, chars, ap, subst, sym}
-use Rattle.kdl.specs.Words.{IndentsBySpaces, IsDocument, Settings, Text, defaults, document_prints, settings, text_of}
 use Rattle.kdl_laws.specs.ClientWords.{IsSpacedOut}
+use Rattle.kdl.specs.Words.{IndentsBySpaces, IsDocument, Settings, Text, defaults, document_prints, settings, text_of}
 use Rattle.use_files.proofs.layout.laid_out.Goals as goal
 
 pub returns-clause-says : goal.returns-clause-says
@@ -22,7 +22,10 @@ returns-clause-laid_out c =
     let keep : c.new.result.config.entry_autoformate_keep ≡ false = ap (λ (s : Settings). s.entry_autoformate_keep) is in
     let no : c.new.result.config.no_comments ≡ false = ap (λ (s : Settings). s.no_comments) is in
     let none = c.in_ok-document.ensures.keeps_none in
+    let off = c.new.ensures.one_line in
     let comments = c.in_ok-autoformat_layout.ensures.comments (subst IndentsBySpaces (sym is) c.defaults_indent_by_spaces.ensures) keep no none in
     let l = record c.new.result { blank_lines = 1 } in
-    subst (λ (b : Bool). IsSpacedOut b 1 (chars c.args.text.now) (text_of c.in_ok-to_string.field-0)) c.new.ensures.keep_spelling
-    (c.texts_are_spaced_out.ensures (chars c.args.text.now) l d e c.in_ok-to_string.field-0 is c.in_ok-document.ensures.laid none c.in_ok-autoformat_layout.ensures.formatted comments c.in_ok-to_string.ensures.ok)
+    let out = c.in_ok-to_string.field-0 in
+    subst (λ (k : Bool). IsSpacedOut k false 1 (chars c.args.text.now) (text_of out)) c.new.ensures.keep_spelling
+    (subst (λ (k : Bool). IsSpacedOut l.keep_spelling k 1 (chars c.args.text.now) (text_of out)) off
+    (c.texts_are_spaced_out.ensures (chars c.args.text.now) l d e out is c.in_ok-document.ensures.laid none c.in_ok-autoformat_layout.ensures.formatted comments c.in_ok-to_string.ensures.ok))

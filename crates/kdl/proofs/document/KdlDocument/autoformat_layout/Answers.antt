@@ -13,35 +13,35 @@ returns-clause-finds c =
 
 pub returns-clause-unspaced : goal.returns-clause-unspaced
 returns-clause-unspaced c =
-    plainly c.lay_out.result c.args.layout.now.keep_spelling c.args.layout.now.blank_lines (settings c.args.layout.now.config) c.args.layout.now.config.indent_level (document_tree c.lay_out.new.self) (document_tree c.args.self.now) c.lay_out.ensures.formatted
+    plainly c.lay_out.result c.args.layout.now.keep_spelling c.args.layout.now.keep_one_line c.args.layout.now.blank_lines (settings c.args.layout.now.config) c.args.layout.now.config.indent_level (document_tree c.lay_out.new.self) (document_tree c.args.self.now) c.lay_out.ensures.formatted
 
 pub returns-clause-plain : goal.returns-clause-plain
 returns-clause-plain c =
-    plain c.lay_out.result c.args.layout.now.keep_spelling c.args.layout.now.blank_lines (settings c.args.layout.now.config) c.args.layout.now.config.indent_level (document_tree c.lay_out.new.self) (document_tree c.args.self.now) c.lay_out.ensures.formatted
+    plain c.lay_out.result c.args.layout.now.keep_spelling c.args.layout.now.keep_one_line c.args.layout.now.blank_lines (settings c.args.layout.now.config) c.args.layout.now.config.indent_level (document_tree c.lay_out.new.self) (document_tree c.args.self.now) c.lay_out.ensures.formatted
 
 pub returns-clause-levels : goal.returns-clause-levels
 returns-clause-levels c =
-    levels c.lay_out.result c.args.layout.now.keep_spelling c.args.layout.now.blank_lines (settings c.args.layout.now.config) c.args.layout.now.config.indent_level (document_tree c.lay_out.new.self) (document_tree c.args.self.now) c.lay_out.ensures.formatted
+    levels c.lay_out.result c.args.layout.now.keep_spelling c.args.layout.now.keep_one_line c.args.layout.now.blank_lines (settings c.args.layout.now.config) c.args.layout.now.config.indent_level (document_tree c.lay_out.new.self) (document_tree c.args.self.now) c.lay_out.ensures.formatted
 
 pub returns-clause-keeps_none : goal.returns-clause-keeps_none
 returns-clause-keeps_none c =
-    keeps_none c.lay_out.result c.args.layout.now.keep_spelling c.args.layout.now.blank_lines (settings c.args.layout.now.config) c.args.layout.now.config.indent_level (document_tree c.lay_out.new.self) (document_tree c.args.self.now) c.lay_out.ensures.formatted
+    keeps_none c.lay_out.result c.args.layout.now.keep_spelling c.args.layout.now.keep_one_line c.args.layout.now.blank_lines (settings c.args.layout.now.config) c.args.layout.now.config.indent_level (document_tree c.lay_out.new.self) (document_tree c.args.self.now) c.lay_out.ensures.formatted
 
 pub returns-clause-derived : goal.returns-clause-derived
 returns-clause-derived c =
-    derived c.lay_out.result c.args.layout.now.keep_spelling c.args.layout.now.blank_lines (settings c.args.layout.now.config) c.args.layout.now.config.indent_level (document_tree c.lay_out.new.self) (document_tree c.args.self.now) c.lay_out.ensures.formatted c.lay_out.ensures.well_formed c.lay_out.ensures.kept
+    derived c.lay_out.result c.args.layout.now.keep_spelling c.args.layout.now.keep_one_line c.args.layout.now.blank_lines (settings c.args.layout.now.config) c.args.layout.now.config.indent_level (document_tree c.lay_out.new.self) (document_tree c.args.self.now) (same_data (document_tree c.lay_out.new.self) (document_tree c.args.self.now) c.lay_out.ensures.kept) c.lay_out.ensures.formatted c.lay_out.ensures.well_formed
 
 pub returns-clause-comments : goal.returns-clause-comments
 returns-clause-comments c =
-    comments c.lay_out.result c.args.layout.now.keep_spelling c.args.layout.now.blank_lines (settings c.args.layout.now.config) c.args.layout.now.config.indent_level (document_tree c.lay_out.new.self) (document_tree c.args.self.now) c.lay_out.ensures.formatted c.lay_out.ensures.well_formed
+    comments c.lay_out.result c.args.layout.now.keep_spelling c.args.layout.now.keep_one_line c.args.layout.now.blank_lines (settings c.args.layout.now.config) c.args.layout.now.config.indent_level (document_tree c.lay_out.new.self) (document_tree c.args.self.now) c.lay_out.ensures.formatted c.lay_out.ensures.well_formed
 
 pub returns-clause-prints : goal.returns-clause-prints
 returns-clause-prints c =
-    prints c.lay_out.result c.args.layout.now.keep_spelling c.args.layout.now.blank_lines (settings c.args.layout.now.config) c.args.layout.now.config.indent_level (document_tree c.lay_out.new.self) (document_tree c.args.self.now) c.lay_out.ensures.formatted
+    prints c.lay_out.result c.args.layout.now.keep_spelling c.args.layout.now.keep_one_line c.args.layout.now.blank_lines (settings c.args.layout.now.config) c.args.layout.now.config.indent_level (document_tree c.lay_out.new.self) (document_tree c.args.self.now) c.lay_out.ensures.formatted
 
 pub returns-clause-reads : goal.returns-clause-reads
 returns-clause-reads c =
-    reads c.lay_out.result c.args.layout.now.keep_spelling c.args.layout.now.blank_lines (settings c.args.layout.now.config) c.args.layout.now.config.indent_level (document_tree c.lay_out.new.self) (document_tree c.args.self.now) c.lay_out.ensures.well_formed
+    reads c.lay_out.result c.args.layout.now.keep_spelling c.args.layout.now.keep_one_line c.args.layout.now.blank_lines (settings c.args.layout.now.config) c.args.layout.now.config.indent_level (document_tree c.lay_out.new.self) (document_tree c.args.self.now) c.lay_out.ensures.well_formed
 
 pub returns-clause-reads_back : goal.returns-clause-reads_back
 returns-clause-reads_back c ok k x = c.lay_out.ensures.reads_back ok k x

@@ -1,25 +1,24 @@
-use Rattle.std.proofs.Common.{rules, sym, subst, ◌≡◌, ◌++◌, ◌∷◌, [], ap, ◌∙◌, ◌+◌, Option, map, option_map}
+use Rattle.std.proofs.Common.{rules, sym, subst, ◌≡◌, ◌++◌, ◌∷◌, [], ap, ◌∙◌, ◌+◌, Option, map}
 use Rattle.std.specs.Str.{chars}
 use Rattle.std.specs.Vec.{with_item}
 use Rattle.kdl_fmt.specs.Config.{indentation, settings}
 use Rattle.kdl_fmt.specs.Formatted.{bare_node}
-use Rattle.kdl_grammar.specs.Tree.{Node}
-use Rattle.kdl_parts.specs.Formats.{document_format_tree}
-use Rattle.kdl_parts.specs.declared.format.KdlDocumentFormat.{KdlDocumentFormat}
+use Rattle.kdl.specs.Iterators.{child_nodes}
+use Rattle.kdl.specs.declared.layout.Around.{Around}
 use Rattle.kdl_value.specs.Tree.{text_of}
-use Rattle.kdl.specs.Internal.Spacing.{GoesOn, StayAs, StaysAs, whole}
+use Rattle.kdl.specs.Internal.Spacing.{GoesOn, NodeStays, StayAs, whole}
 use Rattle.kdl.specs.Tree.{node_tree}
 use Rattle.kdl.specs.declared.layout.Block.{Block}
 use Rattle.kdl_fmt.specs.declared.blank.Before.{Before}
-use Rattle.kdl.proofs.LayingOut.BlockSteps.{Own, bare_next, bare_braced, line_goes_on, line_is_laid, node_braced, bare_block_next, whole_block_next, block_goes_on}
-use Rattle.kdl.proofs.LayingOut.StaysReading.{braced_stays, next_stays}
+use Rattle.kdl.proofs.LayingOut.BlockSteps.{Own, bare_next, bare_enclosed, line_goes_on, line_is_laid, node_is, bare_block_next, whole_block_next, block_goes_on}
+use Rattle.kdl.proofs.LayingOut.StaysReading.{next_stays}
 use Rattle.kdl.proofs.layout.Blocks.lay_out_next.Goals as goal
 
 pub returns-in_err-behind-clause-stays : goal.returns-in_err-behind-clause-stays
 returns-in_err-behind-clause-stays c ok level x olds u =
     let l = c.args.layout.now in
     let b = c.args.self.now.inner in
-    let b' : Block = record { nodes = with_item b.nodes b.at c.lay_out_own.new.self; at = b.at; level = b.level; before = b.before; next = b.next; braces = b.braces } in
+    let b' : Block = record { nodes = with_item b.nodes b.at c.lay_out_own.new.self; at = b.at; level = b.level; before = b.before; next = b.next; around = b.around } in
     let is : chars c.as_str.result.now ≡ text_of b.before = search rules in
     next_stays l c.args.self.now.above.items b b' c.index_mut-node.result.now c.lay_out_own.new.self (search rules) (search rules) (search rules)
     (λ k h. c.lay_out_own.ensures.stays ok (is ∙ h.1 ∙ ap (indentation (settings l.config)) (sym h.0))) level x olds u
@@ -27,7 +26,7 @@ returns-in_err-behind-clause-stays c ok level x olds u =
 pub returns-in_err-behind-clause-kept : goal.returns-in_err-behind-clause-kept
 returns-in_err-behind-clause-kept c =
     let b = c.args.self.now.inner in
-    let b' : Block = record { nodes = with_item b.nodes b.at c.lay_out_own.new.self; at = b.at; level = b.level; before = b.before; next = b.next; braces = b.braces } in
+    let b' : Block = record { nodes = with_item b.nodes b.at c.lay_out_own.new.self; at = b.at; level = b.level; before = b.before; next = b.next; around = b.around } in
     bare_next c.args.self.now.above.items b b' c.index_mut-node.result.now c.lay_out_own.new.self (search rules) (search rules) c.lay_out_own.ensures.kept (search rules)
 
 pub returns-then-not-has_nodes-clause-stays : goal.returns-then-not-has_nodes-clause-stays
@@ -38,14 +37,13 @@ returns-then-not-has_nodes-clause-stays c ok level x olds u =
     let n = c.index_mut-node.result.now in
     let m = c.lay_out_own.new.self in
     let g = c.in_ok-behind.texts in
-    let b' : Block = record { nodes = with_item b.nodes b.at c.set_braces.new.self; at = b.at + 1; level = b.level; before = b.before; next = c.in_ok-behind.behind; braces = b.braces } in
+    let b' : Block = record { nodes = with_item b.nodes b.at c.set_around.new.self; at = b.at + 1; level = b.level; before = b.before; next = c.in_ok-behind.behind; around = b.around } in
     let is : chars c.as_str.result.now ≡ text_of b.before = search rules in
-    let tree = node_braced g m c.set_braces.new.self c.set_braces.ensures in
-    next_stays l c.args.self.now.above.items b b' n c.set_braces.new.self (search rules) (search rules) (search rules)
+    next_stays l c.args.self.now.above.items b b' n c.set_around.new.self (search rules) (search rules) (search rules)
     (λ k h P y.
     let e = is ∙ h.1 ∙ ap (indentation s) (sym h.0) in
     let laid = line_is_laid l b c.in_ok-behind.behind c.in_ok-behind.first g n m c.lay_out_own.ensures.block (λ h. search rules) b.level (c.in_ok-behind.ensures.spaced e) in
-    subst (λ (z : Node). StaysAs s (node_tree m) z) (sym tree) (braced_stays l.keep_spelling l.blank_lines s ok b.level b.next (node_tree n) (node_tree m) (option_map document_format_tree g) laid.0) P (c.lay_out_own.ensures.stays ok e P y))
+    subst (NodeStays s P) (sym c.set_around.ensures) (laid.1 ok P (c.lay_out_own.ensures.stays ok e P y)))
     level x olds u
 
 pub returns-then-not-has_nodes-clause-kept : goal.returns-then-not-has_nodes-clause-kept
@@ -53,18 +51,18 @@ returns-then-not-has_nodes-clause-kept c =
     let b = c.args.self.now.inner in
     let g = c.in_ok-behind.texts in
     let m = c.lay_out_own.new.self in
-    let b' : Block = record { nodes = with_item b.nodes b.at c.set_braces.new.self; at = b.at + 1; level = b.level; before = b.before; next = c.in_ok-behind.behind; braces = b.braces } in
-    let same = ap bare_node (node_braced g m c.set_braces.new.self c.set_braces.ensures) ∙ bare_braced (option_map document_format_tree g) (node_tree m) ∙ c.lay_out_own.ensures.kept in
-    bare_next c.args.self.now.above.items b b' c.index_mut-node.result.now c.set_braces.new.self (search rules) (search rules) same (search rules)
+    let b' : Block = record { nodes = with_item b.nodes b.at c.set_around.new.self; at = b.at + 1; level = b.level; before = b.before; next = c.in_ok-behind.behind; around = b.around } in
+    let same = ap bare_node c.set_around.ensures ∙ bare_enclosed g m (map node_tree (child_nodes m)) ∙ sym (ap bare_node (node_is m)) ∙ c.lay_out_own.ensures.kept in
+    bare_next c.args.self.now.above.items b b' c.index_mut-node.result.now c.set_around.new.self (search rules) (search rules) same (search rules)
 
 pub returns-then-not-has_nodes-clause-goes_on : goal.returns-then-not-has_nodes-clause-goes_on
 returns-then-not-has_nodes-clause-goes_on c =
     let b = c.args.self.now.inner in
     let g = c.in_ok-behind.texts in
-    let b' : Block = record { nodes = with_item b.nodes b.at c.set_braces.new.self; at = b.at + 1; level = b.level; before = b.before; next = c.in_ok-behind.behind; braces = b.braces } in
+    let b' : Block = record { nodes = with_item b.nodes b.at c.set_around.new.self; at = b.at + 1; level = b.level; before = b.before; next = c.in_ok-behind.behind; around = b.around } in
     let is : chars c.as_str.result.now ≡ text_of b.before = search rules in
-    line_goes_on c.args.layout.now c.args.self.now.above.items b b' c.in_ok-behind.first g c.index_mut-node.result.now c.lay_out_own.new.self c.set_braces.new.self (search rules) (search rules) (search rules) (search rules) (search rules) (search rules)
-    c.lay_out_own.ensures.block (λ h. search rules) (node_braced g c.lay_out_own.new.self c.set_braces.new.self c.set_braces.ensures) (λ e. c.in_ok-behind.ensures.spaced (is ∙ e))
+    line_goes_on c.args.layout.now c.args.self.now.above.items b b' c.in_ok-behind.first g c.index_mut-node.result.now c.lay_out_own.new.self c.set_around.new.self (search rules) (search rules) (search rules) (search rules) (search rules) (search rules)
+    c.lay_out_own.ensures.block (λ h. search rules) c.set_around.ensures (λ e. c.in_ok-behind.ensures.spaced (is ∙ e))
 
 pub returns-in_err-level-clause-stays : goal.returns-in_err-level-clause-stays
 returns-in_err-level-clause-stays c ok level x olds u =
@@ -122,7 +120,7 @@ returns-clause-goes_on c =
     let pushed : c.push_reserved.new.self.items ≡ above ++ outer ∷ [] = search rules in
     let is : chars c.as_str.result.now ≡ text_of b.before = search rules in
     let next : c.in_ok-behind.behind ≡ outer.next = search rules in
-    let braces : c.in_ok-behind.texts ≡ outer.braces = search rules in
+    let around : c.in_ok-behind.texts ≡ outer.around = search rules in
     let first : c.in_ok-behind.first ≡ inner.next = search rules in
     let level : c.in_ok-level.level ≡ inner.level = search rules in
     let before : c.in_ok-level.before ≡ inner.before = search rules in
@@ -130,6 +128,6 @@ returns-clause-goes_on c =
     (block_goes_on s above b b1 outer inner c.index_mut-node.result.now c.lay_out_own.new.self c.index_mut.result.now c.exchange_nodes-nodes.new.self c.new.result c.exchange_nodes-nodes.result
     (search rules) (search rules) (search rules) (search rules) (search rules) (search rules) (search rules) c.lay_out_own.ensures.block (search rules) c.exchange_nodes-nodes.ensures.had c.exchange_nodes-nodes.ensures.has (search rules) (search rules) (search rules) (search rules) (search rules)
     (search rules) (search rules) (λ e. sym (ap text_of before) ∙ c.in_ok-level.ensures.before e ∙ ap (indentation (settings s.config)) level)
-    (λ e. subst (λ (x : Before). Own s b.level b x inner.next outer.braces c.index_mut-node.result.now c.lay_out_own.new.self) next
-    (subst (λ (x : Before). Own s b.level b c.in_ok-behind.behind x outer.braces c.index_mut-node.result.now c.lay_out_own.new.self) first
-    (subst (λ (x : Option KdlDocumentFormat). Own s b.level b c.in_ok-behind.behind c.in_ok-behind.first x c.index_mut-node.result.now c.lay_out_own.new.self) braces (c.in_ok-behind.ensures.spaced (is ∙ e))))))
+    (λ e. subst (λ (x : Before). Own s b.level b x inner.next outer.around c.index_mut-node.result.now c.lay_out_own.new.self) next
+    (subst (λ (x : Before). Own s b.level b c.in_ok-behind.behind x outer.around c.index_mut-node.result.now c.lay_out_own.new.self) first
+    (subst (λ (x : Option Around). Own s b.level b c.in_ok-behind.behind c.in_ok-behind.first x c.index_mut-node.result.now c.lay_out_own.new.self) around (c.in_ok-behind.ensures.spaced (is ∙ e))))))

@@ -13,35 +13,35 @@ returns-clause-finds c =
 
 pub returns-clause-unspaced : goal.returns-clause-unspaced
 returns-clause-unspaced c =
-    node_plainly c.lay_out_alone.result c.args.layout.now.keep_spelling c.args.layout.now.blank_lines (settings c.args.layout.now.config) c.args.layout.now.config.indent_level (node_tree c.lay_out_alone.new.self) (node_tree c.args.self.now) c.lay_out_alone.ensures.formatted
+    node_plainly c.lay_out_alone.result c.args.layout.now.keep_spelling c.args.layout.now.keep_one_line c.args.layout.now.blank_lines (settings c.args.layout.now.config) c.args.layout.now.config.indent_level (node_tree c.lay_out_alone.new.self) (node_tree c.args.self.now) c.lay_out_alone.ensures.formatted
 
 pub returns-clause-plain : goal.returns-clause-plain
 returns-clause-plain c =
-    node_plain c.lay_out_alone.result c.args.layout.now.keep_spelling c.args.layout.now.blank_lines (settings c.args.layout.now.config) c.args.layout.now.config.indent_level (node_tree c.lay_out_alone.new.self) (node_tree c.args.self.now) c.lay_out_alone.ensures.formatted
+    node_plain c.lay_out_alone.result c.args.layout.now.keep_spelling c.args.layout.now.keep_one_line c.args.layout.now.blank_lines (settings c.args.layout.now.config) c.args.layout.now.config.indent_level (node_tree c.lay_out_alone.new.self) (node_tree c.args.self.now) c.lay_out_alone.ensures.formatted
 
 pub returns-clause-levels : goal.returns-clause-levels
 returns-clause-levels c =
-    node_levels c.lay_out_alone.result c.args.layout.now.keep_spelling c.args.layout.now.blank_lines (settings c.args.layout.now.config) c.args.layout.now.config.indent_level (node_tree c.lay_out_alone.new.self) (node_tree c.args.self.now) c.lay_out_alone.ensures.formatted
+    node_levels c.lay_out_alone.result c.args.layout.now.keep_spelling c.args.layout.now.keep_one_line c.args.layout.now.blank_lines (settings c.args.layout.now.config) c.args.layout.now.config.indent_level (node_tree c.lay_out_alone.new.self) (node_tree c.args.self.now) c.lay_out_alone.ensures.formatted
 
 pub returns-clause-keeps_none : goal.returns-clause-keeps_none
 returns-clause-keeps_none c =
-    node_keeps_none_then c.lay_out_alone.result c.args.layout.now.keep_spelling c.args.layout.now.blank_lines (settings c.args.layout.now.config) c.args.layout.now.config.indent_level (node_tree c.lay_out_alone.new.self) (node_tree c.args.self.now) c.lay_out_alone.ensures.formatted
+    node_keeps_none_then c.lay_out_alone.result c.args.layout.now.keep_spelling c.args.layout.now.keep_one_line c.args.layout.now.blank_lines (settings c.args.layout.now.config) c.args.layout.now.config.indent_level (node_tree c.lay_out_alone.new.self) (node_tree c.args.self.now) c.lay_out_alone.ensures.formatted
 
 pub returns-clause-derived : goal.returns-clause-derived
 returns-clause-derived c =
-    node_derives c.lay_out_alone.result c.args.layout.now.keep_spelling c.args.layout.now.blank_lines (settings c.args.layout.now.config) c.args.layout.now.config.indent_level (node_tree c.lay_out_alone.new.self) (node_tree c.args.self.now) c.lay_out_alone.ensures.formatted c.lay_out_alone.ensures.well_formed c.lay_out_alone.ensures.kept
+    node_derives c.lay_out_alone.result c.args.layout.now.keep_spelling c.args.layout.now.keep_one_line c.args.layout.now.blank_lines (settings c.args.layout.now.config) c.args.layout.now.config.indent_level (node_tree c.lay_out_alone.new.self) (node_tree c.args.self.now) (same_node_data (node_tree c.lay_out_alone.new.self) (node_tree c.args.self.now) c.lay_out_alone.ensures.kept) c.lay_out_alone.ensures.formatted c.lay_out_alone.ensures.well_formed
 
 pub returns-clause-comments : goal.returns-clause-comments
 returns-clause-comments c =
-    node_comments c.lay_out_alone.result c.args.layout.now.keep_spelling c.args.layout.now.blank_lines (settings c.args.layout.now.config) c.args.layout.now.config.indent_level (node_tree c.lay_out_alone.new.self) (node_tree c.args.self.now) c.lay_out_alone.ensures.formatted c.lay_out_alone.ensures.well_formed
+    node_comments c.lay_out_alone.result c.args.layout.now.keep_spelling c.args.layout.now.keep_one_line c.args.layout.now.blank_lines (settings c.args.layout.now.config) c.args.layout.now.config.indent_level (node_tree c.lay_out_alone.new.self) (node_tree c.args.self.now) c.lay_out_alone.ensures.formatted c.lay_out_alone.ensures.well_formed
 
 pub returns-clause-prints : goal.returns-clause-prints
 returns-clause-prints c =
-    node_prints c.lay_out_alone.result c.args.layout.now.keep_spelling c.args.layout.now.blank_lines (settings c.args.layout.now.config) c.args.layout.now.config.indent_level (node_tree c.lay_out_alone.new.self) (node_tree c.args.self.now) c.lay_out_alone.ensures.formatted
+    node_prints c.lay_out_alone.result c.args.layout.now.keep_spelling c.args.layout.now.keep_one_line c.args.layout.now.blank_lines (settings c.args.layout.now.config) c.args.layout.now.config.indent_level (node_tree c.lay_out_alone.new.self) (node_tree c.args.self.now) c.lay_out_alone.ensures.formatted
 
 pub returns-clause-reads : goal.returns-clause-reads
 returns-clause-reads c =
-    node_reads c.lay_out_alone.result c.args.layout.now.keep_spelling c.args.layout.now.blank_lines (settings c.args.layout.now.config) c.args.layout.now.config.indent_level (node_tree c.lay_out_alone.new.self) (node_tree c.args.self.now) c.lay_out_alone.ensures.well_formed
+    node_reads c.lay_out_alone.result c.args.layout.now.keep_spelling c.args.layout.now.keep_one_line c.args.layout.now.blank_lines (settings c.args.layout.now.config) c.args.layout.now.config.indent_level (node_tree c.lay_out_alone.new.self) (node_tree c.args.self.now) c.lay_out_alone.ensures.well_formed
 
 pub returns-clause-reads_back : goal.returns-clause-reads_back
 returns-clause-reads_back c ok k P x = (c.lay_out_alone.ensures.stays ok P (x, k)).0

@@ -1,12 +1,11 @@
 use Rattle.std.proofs.Common.{rules, option_map, map, ◌+◌, refl}
 use Rattle.kdl.specs.Iterators.{child_nodes}
-use Rattle.kdl.specs.Internal.Spacing.{filled_block, with_texts}
 use Rattle.kdl.specs.Tree.{node_tree}
 use Rattle.kdl_entry.specs.Tree.{entry_tree}
-use Rattle.kdl_parts.specs.Formats.{document_format_tree, node_format_tree}
+use Rattle.kdl_parts.specs.Formats.{node_format_tree}
 use Rattle.kdl.specs.declared.document.KdlDocument.TheViews.{the_lemmas, out-KdlNode}
-use Rattle.kdl_fmt.specs.Config.{settings}
-use Rattle.kdl.proofs.LayingOut.PartsSpaced.{laid_node, own_block, own_passes, fitting_node, nodes_laid, nodes_fit}
+use Rattle.kdl.proofs.LayingOut.OneLine.{own_spaced}
+use Rattle.kdl.proofs.LayingOut.PartsSpaced.{own_passes, fitting_node, nodes_fit}
 use Rattle.kdl.proofs.LayingOut.StaysReading.{own_stays}
 use Rattle.kdl.proofs.node.KdlNode.lay_out_own.Goals as goal
 
@@ -25,20 +24,14 @@ returns-clause-stays c ok e =
 pub returns-clause-spaced : goal.returns-clause-spaced
 returns-clause-spaced c e =
     let l = c.args.layout.now in
-    let s = settings l.config in
     let n = c.args.self.now in
     let first = c.in_ok-first.first in
-    let texts = option_map document_format_tree c.in_ok-first.braces in
     let olds = map node_tree (child_nodes n) in
     let line = c.in_ok-behind.ensures.spaced c.args.level e in (
       own_passes l n c.in_ok-behind.behind (out-KdlNode n).format refl line.1,
-      λ ms z. let laid = nodes_laid l (c.args.level + 1) first olds ms z in (
-        laid_node _ n l.keep_spelling l.blank_lines s c.args.level c.args.next c.is_some-has_block.result laid.between ms (search (rules, the_lemmas))
-            c.in_ok-keeps_type.keeps_type c.in_ok-keeps_name.keeps_name c.in_ok-keeps_type.ensures c.in_ok-keeps_name.ensures (search (rules, the_lemmas)) (search (rules, the_lemmas)) (search (rules, the_lemmas))
-            (option_map node_format_tree c.lay_out_line.new.format) (search (rules, the_lemmas)) line.0
-            (search (rules, the_lemmas)) (out-KdlNode n).children (search (rules, the_lemmas)) refl texts
-            (own_block l.blank_lines s c.args.level first n (out-KdlNode n).children (with_texts texts (filled_block (out-KdlNode n).children laid.between)) laid.between (c.in_ok-first.ensures e laid.between) refl laid.spaced)
-            laid.respelled,
-        fitting_node n (search (rules, the_lemmas)) (nodes_fit l (c.args.level + 1) first olds ms z),
-      ),
+      λ ms z. own_spaced l _ n c.args.level c.args.next c.is_some-has_block.result c.in_ok-first.around ms (search (rules, the_lemmas))
+          c.in_ok-keeps_type.keeps_type c.in_ok-keeps_name.keeps_name c.in_ok-keeps_type.ensures c.in_ok-keeps_name.ensures (search (rules, the_lemmas)) (search (rules, the_lemmas)) (search (rules, the_lemmas))
+          (option_map node_format_tree c.lay_out_line.new.format) (search (rules, the_lemmas)) line.0
+          (search (rules, the_lemmas)) (search (rules, the_lemmas)) (c.in_ok-first.ensures e ms z)
+          (fitting_node n (search (rules, the_lemmas)) (nodes_fit l (c.args.level + 1) first olds ms z)),
     )
