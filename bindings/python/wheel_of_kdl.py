@@ -49,7 +49,9 @@ def build_wheel(wheel_directory, config_settings=None, metadata_directory=None):
     name = f"{NAMED}-{TAG}.whl"
     with zipfile.ZipFile(os.path.join(wheel_directory, name), "w", zipfile.ZIP_DEFLATED) as wheel:
         for path, data in files.items():
-            wheel.writestr(path, data)
+            entry = zipfile.ZipInfo(path)  # with a fixed date, so that equal files make equal wheels
+            entry.external_attr = 0o644 << 16
+            wheel.writestr(entry, data, zipfile.ZIP_DEFLATED)
     return name
 
 
