@@ -1,0 +1,6 @@
+-- Indents are spaces, each of one byte.
+pub mod Indents
+-- Files that are formatted one after another.
+pub mod FileSteps
+-- Files that are checked one after another.
+pub mod CheckSteps

@@ -1,0 +1,7 @@
+use Rattle.cli.proofs.ask.answer_to.Goals as goal
+
+pub returns-in-Set : goal.returns-in-Set
+returns-in-Set c = rw c.in-Set.is c.text_with.ensures
+
+pub returns-in-Insert : goal.returns-in-Insert
+returns-in-Insert c = rw c.in-Insert.is c.text_with_node.ensures

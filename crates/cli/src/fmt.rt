@@ -1,0 +1,51 @@
+//! What layout makes of a text.
+
+ghost use Rattle.cli.specs.Formatted.{IsFormatted};
+ghost use Rattle.kdl.specs.Words.{IsDocument, IsSyntax, Nodes, TellsOnSyntax, text_of};
+ghost use Rattle.std.specs.Prelude.{◌≡◌, ◌↔◌, IfOk, IsTrue, List, chars, true, ℕ};
+
+use crate::settings::Settings;
+use kdl::{FormatConfig, KdlDocument, Layout, ParseFailure};
+use kdl_laws::layout::second_spaced_layout;
+use kdl_laws::reading_back::printed_reads_once;
+use std::alloc::Global;
+
+/// Returns the document of the text, laid out.
+///
+/// Returns `Syntax` with the faults of the text if it is not a document, and `Memory` if an allocation fails.
+pub fn formatted(alloc: Global, text: &str, settings: &Settings) -> Result<String, ParseFailure>
+    // The output is a document with the data of the text, and no others.
+    ensures says { IfOk result (λ out. (x : Nodes) → IsDocument true (chars text.now) x
+        → IsDocument true (text_of out) x) }
+    // It is what layout makes of the text's document: its comments are kept, and a second layout changes nothing.
+    ensures laid_out { IfOk result (λ out. IsFormatted settings.now (chars text.now) (text_of out)) }
+    // A refused text is not a document, and the error has its faults.
+    ensures refused { IsSyntax result → (x : Nodes) → IsDocument true (chars text.now) x → ⊥ }
+    ensures told { TellsOnSyntax text.now result }
+{
+    printed_reads_once();
+    second_spaced_layout();
+    let mut document = KdlDocument::parse(alloc, text)?;
+    let indent = settings.indent.text(alloc)?;
+    let layout = Layout {
+        config: FormatConfig::builder().indent(&indent).build(),
+        blank_lines: settings.blank_lines,
+        keep_spelling: !settings.respell,
+        keep_one_line: !settings.expand,
+    };
+    document.autoformat_layout(&layout)?;
+    Ok(document.to_string(alloc)?)
+}
+
+/// Returns whether layout changes the text.
+///
+/// Returns errors as `formatted` does.
+pub fn would_change(alloc: Global, text: &str, settings: &Settings) -> Result<bool, ParseFailure>
+    ensures changes { IfOk result (λ b. (out : List ℕ)
+        × IsFormatted settings.now (chars text.now) (chars out) × (IsTrue b ↔ (out ≡ text.now → ⊥))) }
+    ensures refused { IsSyntax result → (x : Nodes) → IsDocument true (chars text.now) x → ⊥ }
+    ensures told { TellsOnSyntax text.now result }
+{
+    let out = formatted(alloc, text, settings)?;
+    Ok(out.as_str() != text)
+}

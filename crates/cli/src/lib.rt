@@ -1,0 +1,14 @@
+//! The program `kdl` over texts and over any files: what a command line asks for, and what becomes of it.
+#![tactic(auto)]
+
+pub mod ask;
+pub mod check;
+pub mod config;
+pub mod files;
+pub mod fmt;
+pub mod report;
+pub mod request;
+pub mod settings;
+
+pub use cli_words::{completions, words};
+pub use cli_world::{status, store, world};

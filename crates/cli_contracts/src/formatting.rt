@@ -1,0 +1,25 @@
+//! Texts that are laid out.
+
+ghost use Rattle.cli.specs.Formatted.{IsFormatted};
+ghost use Rattle.kdl.specs.Words.{text_of};
+ghost use Rattle.std.specs.Prelude.{◌≡◌, ◌↔◌, IfOk, IsTrue, List, chars, ℕ};
+
+use cli::fmt;
+use cli::settings::Settings;
+use kdl::ParseFailure;
+use std::alloc::Global;
+
+/// Returns the document of the text, laid out.
+pub fn formatted(alloc: Global, text: &str, settings: &Settings) -> Result<String, ParseFailure>
+    ensures laid_out { IfOk result (λ out. IsFormatted settings.now (chars text.now) (text_of out)) }
+{
+    fmt::formatted(alloc, text, settings)
+}
+
+/// Returns whether layout changes the text.
+pub fn would_change(alloc: Global, text: &str, settings: &Settings) -> Result<bool, ParseFailure>
+    ensures changes { IfOk result (λ b. (out : List ℕ)
+        × IsFormatted settings.now (chars text.now) (chars out) × (IsTrue b ↔ (out ≡ text.now → ⊥))) }
+{
+    fmt::would_change(alloc, text, settings)
+}

@@ -1,0 +1,36 @@
+//! Values at a PATH.
+
+ghost use Rattle.kdl.specs.Words.{IsDocument, Nodes, document_says, value_tree};
+ghost use Rattle.kdl_path.specs.Edits.{IsSetAt};
+ghost use Rattle.kdl_path.specs.Failures.{IsMissing};
+ghost use Rattle.kdl_path.specs.Paths.{at_path};
+ghost use Rattle.kdl_value.specs.Tree.{text_of};
+ghost use Rattle.std.specs.Prelude.{◌≡◌, IfErr, IfOk, IsSome, None, Some, true};
+ghost use Rattle.std.specs.Str.{chars};
+
+use kdl::{KdlDocument, KdlValue};
+use kdl_path::{EditFailure, GetFailure, Path};
+use std::alloc::Global;
+
+/// Returns the value at the PATH.
+pub fn get<'a>(
+    alloc: Global,
+    document: &'a KdlDocument,
+    path: &Path,
+) -> Result<&'a KdlValue, GetFailure>
+    ensures found { IfOk result (λ v.
+        at_path path.now (document_says document.now) ≡ Some (value_tree v.now)) }
+    ensures missing { IfErr result (λ e. IsMissing e
+        → at_path path.now (document_says document.now) ≡ None) }
+{
+    kdl_path::get(alloc, document, path)
+}
+
+/// Returns the text with VALUE in place of the value at the PATH.
+pub fn set(alloc: Global, text: &str, path: &Path, value: &str) -> Result<String, EditFailure>
+    ensures set { IfOk result (λ out. (x : Nodes) → IsDocument true (chars text.now) x
+        → IsSome (at_path path.now x)
+        → IsSetAt path.now (chars value.now) (chars text.now) (text_of out)) }
+{
+    kdl_path::set(alloc, text, path, value, false)
+}

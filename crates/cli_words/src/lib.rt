@@ -1,0 +1,6 @@
+//! The words of the program `kdl`, and the completions and the manual page that are made from them.
+#![tactic(auto)]
+
+pub mod completions;
+pub mod manual;
+pub mod words;

@@ -1,0 +1,4 @@
+-- The exit statuses.
+pub mod Statuses
+-- What is known of files, by their names.
+pub mod Files

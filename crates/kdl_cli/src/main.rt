@@ -1,0 +1,72 @@
+//! `kdl`: formats, checks, reads and changes KDL files.
+//!
+//! What it does is `cli`: this crate turns the words of the command line into a request, and is its files, input and
+//! output.
+#![tactic(auto)]
+
+mod command;
+mod requests;
+mod system;
+
+use crate::command::command;
+use crate::requests::request_of;
+use crate::system::System;
+use clap::ArgMatches;
+use cli::request::run;
+use cli::world::World;
+use std::io::ErrorKind;
+use std::process::ExitCode;
+use std::{env, io};
+
+fn main(rt: HostRuntime) -> ExitCode {
+    match run_words(&rt) {
+        Ok(code) => ExitCode::from(code),
+        // An argument of the program is all that is read as text there.
+        Err(error) if error.kind() == ErrorKind::InvalidData => {
+            let _ = eprintln!(rt; "kdl: an argument is not UTF-8");
+            ExitCode::from(2)
+        }
+        Err(error) => {
+            let _ = eprintln!(rt; "kdl: {error}");
+            ExitCode::from(3)
+        }
+    }
+}
+
+/// Does what the words of the command line ask for, and returns the exit status.
+fn run_words(rt: &HostRuntime) -> io::Result<u8> {
+    let alloc = rt.alloc();
+    let words: Vec<String> = env::args(rt)?.collect(alloc)?;
+    match command(alloc)?.try_get_matches_from(words.as_slice()) {
+        Ok(matches) => run_matches(rt, &matches),
+        Err(error) => show(rt, &error),
+    }
+}
+
+/// Shows what the words ask for in place of matches, as help, or what is wrong with them, and returns the exit status.
+fn show(rt: &HostRuntime, error: &clap::Error) -> io::Result<u8> {
+    if matches!(error.kind(), clap::error::ErrorKind::OutOfMemory) {
+        return Err(io::Error::from(ErrorKind::OutOfMemory));
+    }
+    match error.print(rt) {
+        // That nobody reads it any more is no error.
+        Err(why) if why.kind() != ErrorKind::BrokenPipe => Err(why),
+        _ => Ok(if error.use_stderr() { 2 } else { 0 }),
+    }
+}
+
+/// Does what is asked for, and returns the exit status.
+fn run_matches(rt: &HostRuntime, matches: &ArgMatches<'_>) -> io::Result<u8> {
+    let mut world = World {
+        files: System::new(rt),
+        out: rt.stdout(),
+        err: rt.stderr(),
+    };
+    match request_of(rt, matches) {
+        Ok(request) => Ok(run(rt.alloc(), &request, &mut world).code()),
+        Err(why) => {
+            world.tell_usage(why);
+            Ok(2)
+        }
+    }
+}

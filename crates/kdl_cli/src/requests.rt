@@ -1,0 +1,140 @@
+//! Requests from the words of the command line.
+
+use clap::ArgMatches;
+use cli::ask::{Ask, Question};
+use cli::completions::Shell;
+use cli::files::Mode;
+use cli::report::{Form, Style};
+use cli::request::{Format, Request};
+use cli::settings::{Given, Indent};
+use std::env;
+use std::io::IsTerminal;
+
+/// Returns the request, or why the words are none.
+pub fn request_of<'m>(
+    rt: &HostRuntime,
+    matches: &'m ArgMatches<'_>,
+) -> Result<Request<'m>, &'static str> {
+    let Some((word, matches)) = matches.subcommand() else {
+        return Err("give a word: `kdl --help` lists them");
+    };
+    match word {
+        "fmt" => format_request(rt, matches),
+        "check" => Ok(check_request(rt, matches)),
+        "completions" => match Shell::named(text(matches, "SHELL")) {
+            Some(shell) => Ok(Request::Completions(shell)),
+            None => Err("give a shell"),
+        },
+        "man" => Ok(Request::Manual),
+        _ => match question_of(word, matches) {
+            Some(question) => Ok(Request::Ask(Ask {
+                question,
+                name: matches.get_str("FILE").unwrap_or("-"),
+                replace: matches.get_flag("write"),
+                style: style(Form::Human, has_colors(rt, rt.stderr().is_terminal())),
+            })),
+            None => Err("give a word: `kdl --help` lists them"),
+        },
+    }
+}
+
+/// The text of an argument that is required.
+fn text<'a>(matches: &ArgMatches<'a>, id: &str) -> &'a str {
+    matches.get_str(id).unwrap_or("")
+}
+
+fn style(form: Form, color: bool) -> Style {
+    Style { form, color }
+}
+
+/// Whether colors are used where that is not said: on a terminal, if `NO_COLOR` is not set or empty.
+fn has_colors(rt: &HostRuntime, is_terminal: bool) -> bool {
+    match env::var(rt, "NO_COLOR") {
+        Ok(value) => is_terminal && value.is_empty(),
+        Err(_) => is_terminal,
+    }
+}
+
+fn format_request<'m>(
+    rt: &HostRuntime,
+    matches: &'m ArgMatches<'_>,
+) -> Result<Request<'m>, &'static str> {
+    let is_check = matches.get_flag("check");
+    let is_diff = matches.get_flag("diff");
+    let mode = match (matches.get_flag("write"), is_diff, is_check) {
+        (false, false, false) => Mode::Print,
+        (false, false, true) => Mode::Check,
+        (false, true, _) => Mode::Diff,
+        (true, false, false) => Mode::Replace,
+        (true, _, _) => return Err("`--write` goes with neither `--check` nor `--diff`"),
+    };
+    let indent = match matches.get_str("indent") {
+        Some(text) => match Indent::named(text) {
+            Some(indent) => Some(indent),
+            None => return Err("`--indent` is a number of spaces or `tab`"),
+        },
+        None => None,
+    };
+    Ok(Request::Format(Format {
+        names: matches.get_strs("FILE").unwrap_or(&[]),
+        mode,
+        given: Given {
+            indent,
+            blank_lines: matches.get_one("blank-lines"),
+            respell: if matches.get_flag("respell") {
+                Some(true)
+            } else {
+                None
+            },
+            expand: if matches.get_flag("expand") {
+                Some(true)
+            } else {
+                None
+            },
+        },
+        config: matches.get_str("config"),
+        style: style(Form::Human, has_colors(rt, rt.stderr().is_terminal())),
+    }))
+}
+
+fn check_request<'m>(rt: &HostRuntime, matches: &'m ArgMatches<'_>) -> Request<'m> {
+    let form = match matches.get_str("format") {
+        Some("short") => Form::Short,
+        Some("json") => Form::Json,
+        _ => Form::Human,
+    };
+    let color = match matches.get_str("color") {
+        Some("always") => true,
+        Some("never") => false,
+        _ => has_colors(rt, rt.stdout().is_terminal()),
+    };
+    Request::Check {
+        names: matches.get_strs("FILE").unwrap_or(&[]),
+        style: style(form, color),
+    }
+}
+
+/// The question of a word on one text.
+fn question_of<'a>(word: &str, matches: &ArgMatches<'a>) -> Option<Question<'a>> {
+    let path = text(matches, "PATH");
+    match word {
+        "get" => Some(Question::Get {
+            path,
+            raw: matches.get_flag("raw"),
+            all: matches.get_flag("all"),
+        }),
+        "set" => Some(Question::Set {
+            path,
+            value: text(matches, "VALUE"),
+            create: matches.get_flag("create"),
+        }),
+        "remove" => Some(Question::Remove { path }),
+        "insert" => Some(Question::Insert {
+            path,
+            node: text(matches, "NODE"),
+        }),
+        "json" => Some(Question::Json),
+        "from-json" => Some(Question::FromJson),
+        _ => None,
+    }
+}

@@ -1,0 +1,20 @@
+-- What a PATH names in memory, and in the data.
+pub mod Places
+-- A document with the node at the end of a path of indices changed.
+pub mod Lifting
+-- A value that is set.
+pub mod Values
+-- A change to the node at the end of a path of indices.
+pub mod Changes
+-- An entry, and a node in a block, that is removed.
+pub mod Removals
+-- A node after spaces, and with an end.
+pub mod Ends
+-- A node that is put into a block, in the data.
+pub mod Inserts
+-- A document without a node, or without an entry, and one with a node more.
+pub mod Removed
+-- The texts after an edit, and what they had to have before.
+pub mod Edited
+-- What failures mean.
+pub mod Failing

@@ -1,0 +1,69 @@
+use Rattle.std.proofs.Common.{rules, ◌≡◌, Bool, true, false, ℕ, List, None, Option, IsSome, sym, subst, ◌∙◌}
+use Rattle.kdl.specs.Words.{document_says, node_says, nodes_of, said_nodes}
+use Rattle.kdl_call_parts.specs.Changes.{AtNode}
+use Rattle.kdl_value.specs.Data.{Value}
+use Rattle.kdl_path.specs.Internal.Changed.{IsMade}
+use Rattle.kdl_path.specs.Internal.Located.{Leads}
+use Rattle.kdl_path.specs.Paths.{at_path, node_at, value_in}
+use Rattle.kdl_path.specs.declared.path.Step.{Step}
+use Rattle.kdl_path.proofs.Failing.{all_ok, err_is, misses_set, none_is_some, set_fails}
+use Rattle.kdl_path.proofs.Places.{at_node, at_nowhere}
+use Rattle.kdl_path.proofs.Values.{set_done, set_there}
+use Rattle.kdl_path.proofs.setter.set_in.Goals as goal
+
+not_both : (b : Bool) → b ≡ false → b ≡ true → ⊥
+not_both true h k = absurd (cc)
+not_both false h k = absurd (cc)
+
+pub returns-in_err-change-in-Ok-clause-missing : goal.returns-in_err-change-in-Ok-clause-missing
+returns-in_err-change-in-Ok-clause-missing c =
+    let p = c.args.path.now in
+    let d = c.args.document in
+    let is = c.in-Ok.located.indices.items in
+    let n = c.in-Ok.located.node.now in
+    let leads : Leads p.steps.items is (nodes_of d) None n = subst (λ (ss : List Step). Leads ss is (nodes_of d) None n) c.deref.ensures.value c.in-Ok.ensures.leads in
+    err_is c.from_residual.result _ _ c.from_residual.ensures.1 (misses_set {P = value_in p.target (node_says n) ≡ None} {Q = at_path p (document_says d) ≡ None} _ (λ h. at_node p is d n leads ∙ h) c.in_err-change-in-Ok.ensures.missing)
+
+pub returns-in_ok-change_at-in-Ok-clause-set : goal.returns-in_ok-change_at-in-Ok-clause-set
+returns-in_ok-change_at-in-Ok-clause-set c = λ r ok there.
+    let p = c.args.path.now in
+    let d = c.args.document in
+    let e = c.in_ok-change_at-in-Ok.field-0 in
+    let is = c.in-Ok.located.indices.items in
+    let n = c.in-Ok.located.node.now in
+    let change = c.in_ok-change-in-Ok.change in
+    let leads : Leads p.steps.items is (nodes_of d) None n = subst (λ (ss : List Step). Leads ss is (nodes_of d) None n) c.deref.ensures.value c.in-Ok.ensures.leads in
+    let made : AtNode is (IsMade change) d e = subst (λ (l : List ℕ). AtNode l (IsMade change) d e) c.deref-in-Ok.ensures.value c.in_ok-change_at-in-Ok.ensures in
+    set_done p is d e n c.args.value change leads (c.in_ok-change-in-Ok.ensures.set (set_there p is d n leads there)) made r ok
+
+pub returns-in_ok-change_at-in-Ok-clause-found : goal.returns-in_ok-change_at-in-Ok-clause-found
+returns-in_ok-change_at-in-Ok-clause-found c = λ u.
+    let p = c.args.path.now in
+    let d = c.args.document in
+    let is = c.in-Ok.located.indices.items in
+    let n = c.in-Ok.located.node.now in
+    let leads : Leads p.steps.items is (nodes_of d) None n = subst (λ (ss : List Step). Leads ss is (nodes_of d) None n) c.deref.ensures.value c.in-Ok.ensures.leads in
+    subst (λ (o : Option Value). IsSome o) (sym (at_node p is d n leads)) (c.in_ok-change-in-Ok.ensures.found u)
+
+pub returns-in_err-node-in-Err-Step-clause-missing : goal.returns-in_err-node-in-Err-Step-clause-missing
+returns-in_err-node-in-Err-Step-clause-missing c =
+    let p = c.args.path.now in
+    let d = c.args.document in
+    let lost : node_at p.steps.items (said_nodes (document_says d)) ≡ None = subst (λ (ss : List Step). node_at ss (said_nodes (document_says d)) ≡ None) c.deref.ensures.value (c.in-Err-Step.ensures.nowhere (search rules)) in
+    err_is c.from_residual-in_err-node-in-Err-Step.result _ _ c.from_residual-in_err-node-in-Err-Step.ensures.1 (set_fails _ (λ u. at_nowhere p d lost) c.in_err-node-in-Err-Step.ensures.missing)
+
+pub returns-in_ok-node-in-Err-Step-clause-set : goal.returns-in_ok-node-in-Err-Step-clause-set
+returns-in_ok-node-in-Err-Step-clause-set c =
+    let p = c.args.path.now in
+    let d = c.args.document in
+    let lost : node_at p.steps.items (said_nodes (document_says d)) ≡ None = subst (λ (ss : List Step). node_at ss (said_nodes (document_says d)) ≡ None) c.deref.ensures.value (c.in-Err-Step.ensures.nowhere (search rules)) in
+    all_ok c.put_node.result _ (λ e r ok there. absurd (none_is_some (at_path p (document_says d)) (at_nowhere p d lost) there))
+
+pub returns-in_ok-node-in-Err-Step-clause-found : goal.returns-in_ok-node-in-Err-Step-clause-found
+returns-in_ok-node-in-Err-Step-clause-found c = λ u. absurd (not_both c.args.create u c.in_ok-node-in-Err-Step.ensures.created)
+
+pub returns-in-Err-clause-missing : goal.returns-in-Err-clause-missing
+returns-in-Err-clause-missing c =
+    let p = c.args.path.now in
+    let d = c.args.document in
+    misses_set _ (λ n. at_nowhere p d (subst (λ (ss : List Step). node_at ss (said_nodes (document_says d)) ≡ None) c.deref.ensures.value (c.in-Err.ensures.nowhere n))) c.lost_failure.ensures

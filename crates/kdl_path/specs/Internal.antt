@@ -1,0 +1,8 @@
+-- Nodes and entries in memory that a PATH names.
+pub mod Located
+-- A node after a change.
+pub mod Changed
+-- A document in which a value is set.
+pub mod Done
+-- A node after spaces, and with an end.
+pub mod Laid

@@ -1,0 +1,39 @@
+-- Nodes and entries in memory that a PATH names.
+use Rattle.std.specs.Prelude.{◌≡◌, ℕ, List, [], ◌∷◌, Option, Some, option_and_then, slice_get, string_bytes, unwrap_or}
+use Rattle.kdl.specs.Words.{child_nodes, has_name, is_argument, is_node_named, there}
+use Rattle.kdl.specs.declared.node.KdlNode.{KdlNode}
+use Rattle.kdl_entry.specs.declared.entry.KdlEntry.{KdlEntry}
+use Rattle.kdl_parts.specs.EntryLists.{last_place, nth_place}
+use Rattle.kdl_path.specs.declared.locate.Lost.{Lost}
+use Rattle.kdl_path.specs.declared.locate.Lost.TheVariants as lost
+use Rattle.kdl_path.specs.declared.path.Step.{Step}
+use Rattle.kdl_path.specs.declared.path.Target.{Target}
+use Rattle.kdl_path.specs.declared.path.Target.TheVariants.{Node, Argument, Property}
+
+-- the place of the node that a step names
+abbrev pub place_of_step : Step → List KdlNode → Option ℕ
+place_of_step s ns = nth_place (is_node_named (string_bytes s.name)) ns (unwrap_or s.index 0)
+
+-- the node to which steps lead from the nodes ns; without steps, the node o
+abbrev pub walk : List Step → Option KdlNode → List KdlNode → Option KdlNode
+walk [] o ns = o
+walk (s ∷ ss) o ns = option_and_then (λ k. walk ss (Some k) (child_nodes k)) (there (place_of_step s ns) ns)
+
+-- steps and indices lead to the node n from the nodes ns; without steps, n is the node o
+abbrev pub Leads : List Step → List ℕ → List KdlNode → Option KdlNode → KdlNode → Type 0
+Leads [] [] ns o n = o ≡ Some n
+Leads [] (i ∷ is) ns o n = ⊥
+Leads (s ∷ ss) [] ns o n = ⊥
+Leads (s ∷ ss) (i ∷ is) ns o n = (k : KdlNode) × (place_of_step s ns ≡ Some i) × (slice_get ns i ≡ Some k) × Leads ss is (child_nodes k) (Some k) n
+
+-- the place of the entry that a target names
+abbrev pub place_of_target : Target → List KdlEntry → Option ℕ
+place_of_target Node es = nth_place is_argument es 0
+place_of_target (Argument i) es = nth_place is_argument es i
+place_of_target (Property s) es = last_place (has_name (string_bytes s)) es
+
+-- the steps lead to no node
+abbrev pub IsNowhere : Lost → Type 0
+IsNowhere lost.Document = Unit {0}
+IsNowhere (lost.Step is ns) = Unit {0}
+IsNowhere lost.Memory = ⊥

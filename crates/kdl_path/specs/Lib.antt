@@ -1,0 +1,8 @@
+-- What a PATH names in the data of a document.
+pub mod Paths
+-- The data of a document, and its text, after an edit at a PATH.
+pub mod Edits
+-- What failures mean.
+pub mod Failures
+-- Definitions that no contract of a public call mentions.
+pub mod Internal

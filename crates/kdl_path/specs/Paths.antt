@@ -1,0 +1,38 @@
+-- What a PATH names in the data of a document.
+use Rattle.std.specs.Prelude.{ℕ, List, [], ◌∷◌, Option, Some, None, option_and_then, unwrap_or}
+use Rattle.kdl.specs.Words.{NodeData, Nodes, Value, said_argument, said_child_nodes, said_nodes, said_property}
+use Rattle.kdl.specs.Said.{is_called}
+use Rattle.kdl_parts.specs.EntryLists.{nth_place, there}
+use Rattle.kdl_value.specs.Tree.{text_of}
+use Rattle.kdl_path.specs.declared.path.Path.{Path}
+use Rattle.kdl_path.specs.declared.path.Step.{Step}
+use Rattle.kdl_path.specs.declared.path.Target.{Target}
+use Rattle.kdl_path.specs.declared.path.Target.TheVariants.{Node, Argument, Property}
+
+-- the place of the node that a step names: the one at its index among the nodes of its name, or the first of them
+abbrev pub step_place : Step → List NodeData → Option ℕ
+step_place s xs = nth_place (is_called (text_of s.name)) xs (unwrap_or s.index 0)
+
+-- the node that a step names
+abbrev pub step_node : Step → List NodeData → Option NodeData
+step_node s xs = there (step_place s xs) xs
+
+-- the node to which steps lead from a node, through the blocks
+abbrev pub node_below : List Step → NodeData → Option NodeData
+node_below [] x = Some x
+node_below (s ∷ ss) x = option_and_then (node_below ss) (step_node s (said_child_nodes x))
+
+-- the node to which they lead from the nodes of a document; no steps lead to no node
+abbrev pub node_at : List Step → List NodeData → Option NodeData
+node_at [] xs = None
+node_at (s ∷ ss) xs = option_and_then (node_below ss) (step_node s xs)
+
+-- the value that a target names in a node: argument 0 for the node itself
+abbrev pub value_in : Target → NodeData → Option Value
+value_in Node x = said_argument 0 x
+value_in (Argument i) x = said_argument i x
+value_in (Property s) x = said_property (text_of s) x
+
+-- the value at a PATH
+abbrev pub at_path : Path → Nodes → Option Value
+at_path p x = option_and_then (value_in p.target) (node_at p.steps.items (said_nodes x))

@@ -1,0 +1,130 @@
+//! The values at a PATH.
+
+ghost use Rattle.kdl.specs.Words.{document_says, node_says, value_tree};
+ghost use Rattle.kdl_path.specs.Failures.{IsMissing};
+ghost use Rattle.kdl_path.specs.Internal.Located.{IsNowhere};
+ghost use Rattle.kdl_path.specs.Paths.{at_path, value_in};
+ghost use Rattle.std.specs.Prelude.{◌≡◌, IfErr, IfOk, None, Some, option_map};
+
+use crate::failure::{GetFailure, Missing};
+use crate::locate::{Lost, child_nodes, entry_place, locate, missing_entry, missing_node};
+use crate::path::{Path, Step, Target};
+use kdl::{KdlDocument, KdlNode, KdlValue};
+use std::alloc::{AllocError, Global};
+
+/// Returns the value at the PATH: of the argument or the property that it names, or of argument 0 of its node.
+///
+/// Fails with `Missing` if the document has no such value, and with `Memory` if an allocation fails.
+///
+/// ```
+/// let document = KdlDocument::parse(alloc, "server host=a host=b { port 80; }")?;
+/// let port = get(alloc, &document, &Path::parse(alloc, "server/port")?)?; // 80
+/// let host = get(alloc, &document, &Path::parse(alloc, "server/@host")?)?; // "b"
+/// ```
+pub fn get<'a>(
+    alloc: Global,
+    document: &'a KdlDocument,
+    path: &Path,
+) -> Result<&'a KdlValue, GetFailure>
+    // The value is the one that the data of the document have there,
+    ensures found { IfOk result (λ v.
+        at_path path.now (document_says document.now) ≡ Some (value_tree v.now)) }
+    // and a missing value is one that they do not have.
+    ensures missing { IfErr result (λ e. IsMissing e
+        → at_path path.now (document_says document.now) ≡ None) }
+{
+    let node = match locate(alloc, document, &path.steps) {
+        Ok(located) => located.node,
+        Err(lost) => return Err(not_located(alloc, lost, path)),
+    };
+    match value_of(node, &path.target) {
+        Some(value) => Ok(value),
+        None => Err(GetFailure::Missing(missing_entry(alloc, node, &path.target)?)),
+    }
+}
+
+/// The failure for a node that was not located.
+fn not_located<'a>(alloc: Global, lost: Lost<'a>, path: &Path) -> GetFailure
+    ensures { IsMissing result → IsNowhere lost.entry }
+{
+    match lost {
+        Lost::Document => missing_failure(missing_node(alloc, &[], path, 0)),
+        Lost::Step(indices, nodes) => {
+            missing_failure(missing_node(alloc, nodes, path, indices.len()))
+        }
+        Lost::Memory => GetFailure::Memory,
+    }
+}
+
+/// The failure for what is missing.
+fn missing_failure(missing: Result<Missing, AllocError>) -> GetFailure {
+    match missing {
+        Ok(missing) => GetFailure::Missing(missing),
+        Err(_) => GetFailure::Memory,
+    }
+}
+
+/// The value that a target names in a node.
+fn value_of<'a>(node: &'a KdlNode, target: &Target) -> Option<&'a KdlValue>
+    ensures { option_map (λ v. value_tree v.now) result ≡ value_in target.now (node_says node.now) }
+{
+    let entries = node.entries();
+    let Some(at) = entry_place(entries, target) else {
+        return None;
+    };
+    match entries.get(at) {
+        Some(entry) => Some(entry.value()),
+        None => None,
+    }
+}
+
+/// Returns the value at the PATH of every node that the PATH leads to, in the order of the document. A step without an
+/// index leads to every node of its name. A node that has no such value gives none.
+///
+/// ```
+/// let document = KdlDocument::parse(alloc, "a { b 1; b 2; }; a { b 3; }")?;
+/// let values = get_all(alloc, &document, &Path::parse(alloc, "a/b")?)?; // 1, 2, 3
+/// ```
+pub fn get_all<'a>(
+    alloc: Global,
+    document: &'a KdlDocument,
+    path: &Path,
+) -> Result<Vec<&'a KdlValue>, AllocError> {
+    let mut values = Vec::new(alloc);
+    let Some((first, below)) = path.steps.split_first() else {
+        return Ok(values);
+    };
+    let mut nodes = Vec::new(alloc);
+    push_named(&mut nodes, document.nodes(), first)?;
+    for step in below {
+        let mut inside = Vec::new(alloc);
+        for node in &nodes {
+            push_named(&mut inside, child_nodes(*node), step)?;
+        }
+        nodes = inside;
+    }
+    for node in &nodes {
+        if let Some(value) = value_of(*node, &path.target) {
+            values.push(value)?;
+        }
+    }
+    Ok(values)
+}
+
+/// Appends the nodes that a step leads to.
+fn push_named<'a>(
+    out: &mut Vec<&'a KdlNode>,
+    nodes: &'a [KdlNode],
+    step: &Step,
+) -> Result<(), AllocError> {
+    let mut seen: usize = 0;
+    for node in nodes {
+        if node.name().value() == step.name.as_str() {
+            if step.index.is_none() || step.index == Some(seen) {
+                out.push(node)?;
+            }
+            seen = seen.saturating_add(1);
+        }
+    }
+    Ok(())
+}

@@ -1,0 +1,150 @@
+//! A value that is set at a PATH.
+
+ghost use Rattle.kdl.specs.Words.{DocumentReadsBack, IsDocument, Nodes, Value, document_says, entries_of, node_says, value_tree};
+ghost use Rattle.kdl_call_parts.specs.Entries.{IsValueText};
+ghost use Rattle.kdl_path.specs.Edits.{IsSetAt};
+ghost use Rattle.kdl_path.specs.Failures.{IsAbsent, IsNoText, IsNoValue, MissesIf, SetFailsIf};
+ghost use Rattle.kdl_path.specs.Internal.Done.{IsDoneAt, SetsOrMakes};
+ghost use Rattle.kdl_path.specs.Paths.{at_path, value_in};
+ghost use Rattle.kdl_value.specs.Tree.{text_of};
+ghost use Rattle.std.specs.Prelude.{◌≡◌, IfErr, IfOk, IsSome, None, false, true};
+ghost use Rattle.std.specs.Str.{chars};
+
+use crate::change::{Change, change_at};
+use crate::create::{is_next, new_entry, new_node};
+use crate::failure::EditFailure;
+use crate::insertion::put_node;
+use crate::locate::{Lost, entry_place, locate, lost_failure, missing_entry, missing_node};
+use crate::path::{Path, Step, Target};
+use crate::value::{Spelled, read_value};
+use kdl::{KdlDocument, KdlNode};
+use std::alloc::Global;
+
+/// Returns the text with VALUE in place of the value at the PATH. VALUE is written as it is given, and every byte
+/// outside the former value is unchanged.
+///
+/// With `create`, the argument, the property or the nodes that the PATH names are made if they are missing: an argument
+/// or a property after the other entries of its node, and a node at the end of its block, which is made too. An index
+/// that is not the next one is not made.
+///
+/// Fails with `Value` if VALUE is not one value without a type, with `Text` if the text is not a document, with
+/// `Missing` if it has no value at the PATH, and with `Memory` if an allocation fails.
+///
+/// ```
+/// let path = Path::parse(alloc, "server/port")?;
+/// let text = "server { port 80 /* here */; }";
+/// let changed = set(alloc, text, &path, "0x1F", false)?; // "server { port 0x1F /* here */; }"
+/// ```
+pub fn set(
+    alloc: Global,
+    text: &str,
+    path: &Path,
+    value: &str,
+    create: bool,
+) -> Result<String, EditFailure>
+    // A value that is there is replaced, and no other byte.
+    ensures set { IfOk result (λ out. (x : Nodes) → IsDocument true (chars text.now) x
+        → IsSome (at_path path.now x)
+        → IsSetAt path.now (chars value.now) (chars text.now) (text_of out)) }
+    // Without `create`, there is one.
+    ensures found { create ≡ false → IfOk result (λ out. (x : Nodes)
+        → IsDocument true (chars text.now) x → IsSome (at_path path.now x)) }
+    // A refused VALUE is not a value, a refused text is not a document, and a missing value is not there.
+    ensures no_value { IfErr result (λ e. IsNoValue e → (v : Value)
+        → IsValueText (chars value.now) v → ⊥) }
+    ensures no_text { IfErr result (λ e. IsNoText e → (x : Nodes)
+        → IsDocument true (chars text.now) x → ⊥) }
+    ensures missing { IfErr result (λ e. IsAbsent e → (x : Nodes)
+        → IsDocument true (chars text.now) x → at_path path.now x ≡ None) }
+{
+    let value = read_value(alloc, value)?;
+    let document = KdlDocument::parse(alloc, text)?;
+    let changed = set_in(alloc, document, path, value, create)?;
+    Ok(changed.to_string(alloc)?)
+}
+
+/// Returns the document with the value at the PATH.
+fn set_in(
+    alloc: Global,
+    document: KdlDocument,
+    path: &Path,
+    value: Spelled,
+    create: bool,
+) -> Result<KdlDocument, EditFailure>
+    ensures set { IfOk result (λ d. DocumentReadsBack document
+        → IsValueText (text_of value.spelling) (value_tree value.value)
+        → IsSome (at_path path.now (document_says document))
+        → IsDoneAt path.now (value_tree value.value) (text_of value.spelling) document d) }
+    ensures found { create ≡ false → IfOk result (λ d.
+        IsSome (at_path path.now (document_says document))) }
+    ensures missing { IfErr result (λ e.
+        SetFailsIf (at_path path.now (document_says document) ≡ None) e) }
+{
+    match locate(alloc, &document, &path.steps) {
+        Ok(located) => {
+            let change = entry_change(alloc, located.node, &path.target, value, create)?;
+            let indices = located.indices;
+            Ok(change_at(alloc, document, &indices, change)?)
+        }
+        Err(Lost::Step(indices, nodes)) => {
+            let node = made_node(alloc, nodes, path, indices.len(), value, create)?;
+            put_node(alloc, document, &indices, node)
+        }
+        Err(lost) => Err(lost_failure(alloc, lost, path)),
+    }
+}
+
+/// The node of the step at that index, which is not among the nodes, with the value in it or below it.
+fn made_node(
+    alloc: Global,
+    nodes: &[KdlNode],
+    path: &Path,
+    number: usize,
+    value: Spelled,
+    create: bool,
+) -> Result<KdlNode, EditFailure>
+    ensures created { IfOk result (λ n. create ≡ true) }
+    ensures missing { IfErr result (λ e. SetFailsIf (Unit {0}) e) }
+{
+    let rest = steps_from(&path.steps, number);
+    if create && is_next(nodes, rest, &path.target) {
+        return new_node(alloc, rest, &path.target, value, number);
+    }
+    Err(EditFailure::Missing(missing_node(alloc, nodes, path, number)?))
+}
+
+/// The steps from that index on.
+fn steps_from(steps: &[Step], index: usize) -> &[Step] {
+    if index <= steps.len() {
+        steps.split_at(index).1
+    } else {
+        &[]
+    }
+}
+
+/// The change that gives the entry of the target the value.
+fn entry_change(
+    alloc: Global,
+    node: &KdlNode,
+    target: &Target,
+    value: Spelled,
+    create: bool,
+) -> Result<Change, EditFailure>
+    ensures set { IfOk result (λ c. IsSome (value_in target.now (node_says node.now))
+        → SetsOrMakes target.now value (entries_of node.now) c) }
+    ensures found { create ≡ false → IfOk result (λ c.
+        IsSome (value_in target.now (node_says node.now))) }
+    ensures missing { IfErr result (λ e.
+        MissesIf (value_in target.now (node_says node.now) ≡ None) e) }
+{
+    let entries = node.entries();
+    if let Some(at) = entry_place(entries, target) {
+        return Ok(Change::SetValue(at, value));
+    }
+    if create {
+        if let Some(entry) = new_entry(alloc, node, target, value)? {
+            return Ok(Change::PushEntry(entry));
+        }
+    }
+    Err(EditFailure::Missing(missing_entry(alloc, node, target)?))
+}

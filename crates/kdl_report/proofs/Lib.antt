@@ -1,0 +1,12 @@
+-- The text before a byte, and its newlines, when a unit is read.
+pub mod PlaceSteps
+-- A spot, when a unit is read.
+pub mod SpotSteps
+-- The lines that are shown for a span.
+pub mod RowSteps
+-- What is appended to a string.
+pub mod Appended
+-- The line of a byte is a line of the text.
+pub mod LineLaws
+-- What the definitions of reports do not allow.
+pub mod Examples

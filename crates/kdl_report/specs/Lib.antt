@@ -1,0 +1,12 @@
+-- Lines, columns and the places of a text.
+pub mod Places
+-- The lines that are shown for a span.
+pub mod Rows
+-- A place that is reached from left to right, for proofs alone.
+pub mod Spots
+-- How text is shown in a terminal.
+pub mod Shown
+-- What a diagnostic says.
+pub mod Said
+-- The picture of a fault.
+pub mod Picture

@@ -1,0 +1,37 @@
+//! Laws of places, for proofs of callers.
+
+ghost use Rattle.kdl_report.specs.Places.{IsLine, column, line_at, line_number, newlines};
+ghost use Rattle.kdl_report.specs.Rows.{first_row, last_row};
+ghost use Rattle.kdl_report.specs.Shown.{carets, shown};
+ghost use Rattle.kdl_text.specs.Chars.{Text};
+ghost use Rattle.kdl_text.specs.declared.span.SourceSpan.{SourceSpan};
+ghost use Rattle.std.specs.Prelude.{◌≡◌, ℕ, [], ◌∷◌, ◌++◌};
+
+/// The line of a byte is a line of the text, and its number is that of the line.
+pub fn line_of_a_byte_is_a_line()
+    ensures { (n : ℕ) (t : Text) → IsLine t (line_at n t) (line_number n t) }
+{}
+
+/// The lines that are shown for a span are lines of the text, with their numbers.
+pub fn shown_lines_are_lines()
+    ensures first { (span : SourceSpan) (t : Text) → IsLine t (first_row span t).line (first_row span t).number }
+    ensures last { (span : SourceSpan) (t : Text) → IsLine t (last_row span t).line (last_row span t).number }
+{}
+
+/// A line that is shown begins with what is left of its mark, and then with what is marked.
+pub fn marks_are_parts_of_lines()
+    ensures first { (span : SourceSpan) (t : Text) → (right : Text)
+        × ((first_row span t).line ≡ (first_row span t).left ++ (first_row span t).marked ++ right) }
+    ensures last { (span : SourceSpan) (t : Text) → (right : Text)
+        × ((last_row span t).line ≡ (last_row span t).left ++ (last_row span t).marked ++ right) }
+{}
+
+/// What places are not, on small texts: a CR LF is not two newlines, a column does not count bytes, a line has no newline,
+/// no escape is shown, and an empty mark is not without a caret.
+pub fn small_texts_are_not_so()
+    ensures newlines { newlines (13 ∷ 10 ∷ []) ≡ 2 → ⊥ }
+    ensures column { column 2 (233 ∷ 97 ∷ []) ≡ 3 → ⊥ }
+    ensures line { line_at 0 (97 ∷ 10 ∷ []) ≡ 97 ∷ 10 ∷ [] → ⊥ }
+    ensures shown { shown (27 ∷ []) ≡ 27 ∷ [] → ⊥ }
+    ensures carets { carets [] ≡ [] → ⊥ }
+{}

@@ -1,0 +1,37 @@
+//! Faults of KDL texts, as people and programs read them.
+//!
+//! `render` draws a fault under the lines of the text that it is in, `short` writes it on one line, and `json` as a JSON
+//! object. Each takes a `KdlDiagnostic` and the `Lines` of the text that was read:
+//!
+//! ```
+//! let lines = Lines::new(alloc, text)?;
+//! for fault in &error.diagnostics {
+//!     let report = render(alloc, "config.kdl", &lines, fault, false)?;
+//! }
+//! ```
+//!
+//! ```text
+//! error: Expected keyword
+//!  --> config.kdl:2:6
+//!   |
+//! 2 | port #treu
+//!   |      ^^^^^ not keyword
+//!   |
+//!   = help: Available keywords in KDL are '#true', '#false', '#null', '#nan', '#inf', and '#-inf'; they are case-sensitive.
+//! ```
+#![tactic(auto)]
+
+mod hints;
+pub mod laws;
+mod line;
+mod object;
+mod picture;
+mod places;
+mod shown;
+mod words;
+
+pub use hints::hint;
+pub use line::short;
+pub use object::json;
+pub use picture::render;
+pub use places::{Lines, Place};

@@ -1,0 +1,79 @@
+//! A fault as a JSON object.
+
+ghost use Rattle.std.specs.Prelude.{◌≡◌, OnOk};
+
+use crate::hints::hint;
+use crate::places::Lines;
+use crate::words::{optional, word_of};
+use json::Writer;
+use kdl_text::error::KdlDiagnostic;
+use std::alloc::{AllocError, Global};
+
+/// Returns a fault of the text as a JSON object on one line, and a newline.
+///
+/// Its members are, in this order: `file`, the name; `line` and `column`, from 1; `offset` and `length`, the span in bytes;
+/// `severity`, one of `error`, `warning` and `advice`; `message`, `label` and `help`, which are null if the diagnostic has
+/// none; and `hint`, which is null if there is none.
+pub fn json(
+    alloc: Global,
+    name: &str,
+    lines: &Lines<'_>,
+    fault: &KdlDiagnostic,
+) -> Result<String, AllocError> {
+    let mut out = Writer::new(Vec::new(alloc));
+    out.begin_object()?;
+    out.key("file")?;
+    out.string(name)?;
+    put_place(&mut out, lines, fault)?;
+    put_words(&mut out, fault)?;
+    put_optional(&mut out, "hint", hint(lines.text(), fault))?;
+    out.end_object()?;
+    let mut text = String::from_utf8(out.into_inner()).unwrap();
+    text.push('\n')?;
+    Ok(text)
+}
+
+/// Writes where the fault is.
+fn put_place(
+    out: &mut Writer<Global>,
+    lines: &Lines<'_>,
+    fault: &KdlDiagnostic,
+) -> Result<(), AllocError>
+    ensures { OnOk result (out.new.before ≡ out.old.before) }
+{
+    let place = lines.place(fault.span.offset);
+    put_number(out, "line", place.line)?;
+    put_number(out, "column", place.column)?;
+    put_number(out, "offset", fault.span.offset)?;
+    put_number(out, "length", fault.span.len)
+}
+
+/// Writes what the diagnostic says.
+fn put_words(out: &mut Writer<Global>, fault: &KdlDiagnostic) -> Result<(), AllocError>
+    ensures { OnOk result (out.new.before ≡ out.old.before) }
+{
+    out.key("severity")?;
+    out.string(word_of(fault.severity))?;
+    put_optional(out, "message", optional(&fault.message))?;
+    put_optional(out, "label", optional(&fault.label))?;
+    put_optional(out, "help", optional(&fault.help))
+}
+
+/// Writes a member that is a number.
+fn put_number(out: &mut Writer<Global>, key: &str, n: usize) -> Result<(), AllocError>
+    ensures { OnOk result (out.new.before ≡ out.old.before) }
+{
+    out.key(key)?;
+    out.u64(n as u64)
+}
+
+/// Writes a member that is a text, or null.
+fn put_optional(out: &mut Writer<Global>, key: &str, text: Option<&str>) -> Result<(), AllocError>
+    ensures { OnOk result (out.new.before ≡ out.old.before) }
+{
+    out.key(key)?;
+    match text {
+        Some(text) => out.string(text),
+        None => out.null(),
+    }
+}
