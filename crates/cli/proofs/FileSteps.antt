@@ -49,7 +49,7 @@ changes_named job _ _ _ _ (more {names} {os} {name} {o} {old} {mid} {new} fs f) 
 pub changes_all : (job : Job) (names : List (List ℕ)) (status : Status) (old new : Files) → FormatsFiles job names status old new → ChangesNamed job.mode names old new
 changes_all job names status old new f = changes_named job names f.outcomes old new f.each
 
--- the same of the names that are given, if others stand for them only where none is given and nothing is replaced
+-- the same of the names that are given, if others replace them only where none is given and nothing is replaced
 pub changes_given : (mode : Mode) (names given : List (Bor (List ℕ))) (old new : Files) → (0 < length given → names ≡ given) → (given ≡ [] → mode ≡ Replace → ⊥) → ChangesNamed mode (map (λ n. n.now) names) old new → ChangesNamed mode (map (λ n. n.now) given) old new
 changes_given mode names [] old new same other h p = elim (h p) [ inl e ↦ inl e | inr k ↦ absurd (other refl k.1) ]
 changes_given mode names (x ∷ xs) old new same other h p = subst (λ (ns : List (Bor (List ℕ))). ChangesNamed mode (map (λ n. n.now) ns) old new) (same (omega arith)) h p

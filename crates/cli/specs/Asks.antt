@@ -1,4 +1,4 @@
--- What becomes of a text, and of files, if a question is answered.
+-- What becomes of a text, and of files, by a question.
 use Rattle.std.specs.Prelude.{Bool, ◌≡◌, ◌⊎◌, ◌++◌, ◌∷◌, [], List, ℕ, IsSome, Ok, Result, Some, chars, false, string_bytes, true}
 use Rattle.kdl.specs.Words.{IsDocument, Nodes}
 use Rattle.kdl_json.specs.Form.{json_text}

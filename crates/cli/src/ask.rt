@@ -263,7 +263,7 @@ fn document_of(alloc: Global, text: &str) -> Result<Answer, ParseFailure> {
     }
 }
 
-/// Answers for a file: writes the answer to the output, or replaces the file by it.
+/// Writes the answer for a file to the output, or replaces the file by it.
 pub fn ask_file<S: Store, O: Write, E: Write>(
     alloc: Global,
     world: &mut World<S, O, E>,
@@ -302,7 +302,7 @@ pub fn ask_file<S: Store, O: Write, E: Write>(
     }
 }
 
-/// Tells that an allocation failed.
+/// Reports that an allocation failed.
 fn told_memory<S, O, E: Write>(world: &mut World<S, O, E>, name: &str) -> Status
     ensures { world.new.files ≡ world.old.files }
 {

@@ -146,7 +146,7 @@ fn print<S, O: Write, E: Write>(
     }
 }
 
-/// Tells that an allocation failed.
+/// Reports that an allocation failed.
 fn told_memory<S, O, E: Write>(world: &mut World<S, O, E>, name: &str) -> Checked
     ensures found { result ≡ Checked.Memory }
     ensures files { world.new.files ≡ world.old.files }

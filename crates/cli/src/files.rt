@@ -249,7 +249,7 @@ fn replace<S: Store, O, E: Write>(
     }
 }
 
-/// Tells that memory ran out.
+/// Reports that memory ran out.
 fn told_memory<S, O, E: Write>(world: &mut World<S, O, E>, name: &str) -> Outcome
     ensures files { world.new.files ≡ world.old.files }
     ensures outcome { result ≡ Outcome.Memory }

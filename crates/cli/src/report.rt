@@ -1,4 +1,4 @@
-//! What is told of faults.
+//! How faults are reported.
 
 ghost use Rattle.std.specs.Prelude.{◌≡◌};
 
@@ -8,7 +8,7 @@ use kdl_report::{Lines, json, render, short};
 use std::alloc::{AllocError, Global};
 use std::io::Write;
 
-/// The form in which faults are told.
+/// The form in which faults are reported.
 #[derive(Clone, Copy)]
 pub enum Form {
     /// With the line of the text, for people.
@@ -19,7 +19,7 @@ pub enum Form {
     Json,
 }
 
-/// How faults are told.
+/// How faults are reported.
 #[derive(Clone, Copy)]
 pub struct Style {
     pub form: Form,
@@ -37,7 +37,7 @@ impl Style {
     }
 }
 
-/// Returns what is told of the faults of a text: for people a picture of each, with an empty line after it.
+/// Returns the report of the faults of a text: for people a picture of each, with an empty line after it.
 pub fn faults(
     alloc: Global,
     name: &str,
@@ -62,7 +62,7 @@ pub fn faults(
     Ok(out)
 }
 
-/// Tells the faults of a text.
+/// Reports the faults of a text.
 pub fn tell_faults<S, O, E: Write>(
     alloc: Global,
     world: &mut World<S, O, E>,

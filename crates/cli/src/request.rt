@@ -42,7 +42,7 @@ pub enum Request<'a> {
     Format(Format<'a>),
     /// The faults of files are shown.
     Check { names: &'a [&'a str], style: Style },
-    /// A question is answered for a file.
+    /// A question about a file.
     Ask(Ask<'a>),
     /// The completions of a shell are shown.
     Completions(Shell),
@@ -50,7 +50,7 @@ pub enum Request<'a> {
     Manual,
 }
 
-/// Does what is asked for: writes results to the output, and tells what goes wrong. Returns the status.
+/// Does what is asked for: writes results to the output, and reports what goes wrong. Returns the status.
 pub fn run<S: Store, O: Write, E: Write>(
     alloc: Global,
     request: &Request<'_>,
@@ -83,7 +83,7 @@ fn check_named<S: Store, O: Write, E: Write>(
     check_files(alloc, world, style, or_input(names))
 }
 
-/// Answers a question for a file.
+/// Does what a question asks of a file.
 fn ask_named<S: Store, O: Write, E: Write>(
     alloc: Global,
     world: &mut World<S, O, E>,
@@ -171,7 +171,7 @@ const NOT_WRITABLE: &str = "standard input can't be written: give the files to w
 
 const READ_ONCE: &str = "standard input is read once: give `-` at most once";
 
-/// Tells what is wrong with the command line.
+/// Reports what is wrong with the command line.
 fn told_usage<S, O, E: Write>(world: &mut World<S, O, E>, why: &str) -> Status
     ensures files { world.new.files ≡ world.old.files }
     ensures status { result ≡ Status.Usage }
@@ -197,7 +197,7 @@ fn show<S, O: Write, E: Write>(
     }
 }
 
-/// Tells why the run fails.
+/// Reports why the run fails.
 fn failed<S, O, E: Write, T: Display + Drop>(
     world: &mut World<S, O, E>,
     name: &str,
@@ -239,7 +239,7 @@ fn settings_of<S: Store, O, E: Write>(
     }
 }
 
-/// Tells why a text has no settings.
+/// Reports why a text has no settings.
 fn told_unfit<S, O, E: Write>(
     alloc: Global,
     world: &mut World<S, O, E>,
@@ -266,7 +266,7 @@ fn told_unfit<S, O, E: Write>(
     }
 }
 
-/// Tells why nodes are no settings.
+/// Reports why nodes are no settings.
 fn tell_misfits<S, O, E: Write>(
     world: &mut World<S, O, E>,
     name: &str,
@@ -280,7 +280,7 @@ fn tell_misfits<S, O, E: Write>(
     }
 }
 
-/// Tells why a node is no setting.
+/// Reports why a node is no setting.
 fn tell_misfit<S, O, E: Write>(
     world: &mut World<S, O, E>,
     name: &str,
