@@ -1,7 +1,7 @@
 //! How many newlines a text around nodes lacks for what follows it not to become part of it.
 
 use crate::reading::equal;
-use kdl_comments::{Place, gap_lacks, place_lacks, terminator_lacks};
+use kdl_comments::{Place, gap_lacks, is_node_spaces, place_lacks, terminator_lacks};
 use std::alloc::Global;
 use std::process::Abort;
 
@@ -111,5 +111,26 @@ const PLACES: &[(Place, &str, Option<bool>)] = &[
 fn places_lack_the_newline_of_an_escline(rt: HostRuntime) {
     for (at, text, lacks) in PLACES {
         place(&rt, rt.alloc(), *at, text, *lacks);
+    }
+}
+
+const SPACES: &[(&str, bool)] = &[
+    ("", true),
+    (" /* a */ ", true),
+    (" \\\n", true),
+    (" \\ // a\n", true),
+    (" \\\r ", true),
+    (" \\", false),
+    (" \\\r", false),
+    (" \\ // a", false),
+    ("// a\n", false),
+    ("a", false),
+];
+
+#[test]
+fn node_spaces_end_with_the_newline_of_an_escline(rt: HostRuntime) {
+    for (text, wanted) in SPACES {
+        let found = is_node_spaces(rt.alloc(), text).expect(&rt, "memory");
+        equal(&rt, &found, wanted);
     }
 }

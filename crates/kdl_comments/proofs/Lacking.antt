@@ -4,6 +4,8 @@
 pub mod Keeping
 -- How node-spaces and line-spaces end.
 pub mod SpaceEnds
+-- Whether a text is node-spaces, whatever follows it.
+pub mod NodeSpaceLoop
 -- Fewer newlines are not enough.
 pub mod Fewest
 -- What the first piece of a gap adds to the nodes after it.

@@ -1,6 +1,7 @@
 -- How many newlines a text around nodes lacks for whatever follows it not to become part of it.
 use Rattle.std.specs.Prelude.{ℕ, ◌<◌, ◌≤◌, Bool, true, false, [], ◌++◌, Option, Some, None}
-use Rattle.kdl_text.specs.Chars.{Text, times}
+use Rattle.kdl_text.specs.Chars.{Text, times, Star}
+use Rattle.kdl_text.specs.Trivia.{NodeSpace}
 use Rattle.kdl_entry.specs.Places.{EntryLeading}
 use Rattle.kdl_grammar.specs.Grammar.{Terminator, Gap}
 use Rattle.kdl_grammar.specs.Places.{BeforeChildren, AfterChildren}
@@ -45,3 +46,7 @@ PlaceLacks (before_entry spaced) t o = Unit {0}
 PlaceLacks p t (Some true) = InPlace p t [] × Lacks (BeforeEach p) t 1
 PlaceLacks p t (Some false) = InPlace p t [] × BeforeEach p t
 PlaceLacks p t None = InPlace p t [] → ⊥
+
+-- the text is node-spaces, whatever follows it
+abbrev pub AreNodeSpaces : Text → Type 0
+AreNodeSpaces t = (w : Text) → Star NodeSpace (t ++ w) w

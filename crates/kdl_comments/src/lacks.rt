@@ -2,10 +2,10 @@
 
 ghost use Rattle.kdl_comments.specs.Internal.Lacking.{GapAnswer, PieceEnds, PlacePieceEnds, SpacesLack};
 ghost use Rattle.kdl_comments.specs.Internal.Reading.{place_view};
-ghost use Rattle.kdl_comments.specs.Lacks.{GapLacks, PlaceLacks, TerminatorLacks};
+ghost use Rattle.kdl_comments.specs.Lacks.{AreNodeSpaces, GapLacks, PlaceLacks, TerminatorLacks};
 ghost use Rattle.kdl_text.specs.Chars.{Star, Text};
 ghost use Rattle.kdl_text.specs.Trivia.{NodeSpace};
-ghost use Rattle.std.specs.Prelude.{◌≡◌, ◌∷◌, IfOk, []};
+ghost use Rattle.std.specs.Prelude.{◌≡◌, ◌↔◌, ◌∷◌, IfOk, IsTrue, []};
 ghost use Rattle.std.specs.Str.{chars};
 
 use crate::dropped::{behind_part, pass_node, pass_part};
@@ -41,6 +41,32 @@ fn spaces_lack(alloc: Global, text: &str) -> Result<bool, AllocError>
         }
     }
     Ok(false)
+}
+
+/// Returns whether the text is node-spaces, whatever follows it: spaces, block comments, and esclines that end with a
+/// newline. An escline whose newline is a CR at the end of the text does not count, since an LF after it is part of
+/// that newline.
+///
+/// Returns an error if an allocation fails.
+///
+/// ```
+/// assert!(is_node_spaces(alloc, " /* a */ ")?);
+/// assert!(!is_node_spaces(alloc, " \\ ")?);
+/// ```
+pub fn is_node_spaces(alloc: Global, text: &str) -> Result<bool, AllocError>
+    ensures { IfOk result (λ b. IsTrue b ↔ AreNodeSpaces (chars text.now)) }
+{
+    let mut rest = text;
+    'spaces: while !rest.is_empty() {
+        let first = start_of(alloc, rest)?;
+        match node_spaces_ending(alloc, first)? {
+            Some(Ending::Before(behind)) => rest = same(behind),
+            Some(Ending::InReturn) => return Ok(false),
+            Some(Ending::Open) => return Ok(false),
+            None => return Ok(false),
+        }
+    }
+    Ok(true)
 }
 
 /// The slashdashed node that begins the text.

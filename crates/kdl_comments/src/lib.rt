@@ -13,7 +13,7 @@ mod terminator;
 mod written;
 
 pub use item::{Item, Place};
-pub use lacks::{gap_lacks, place_lacks, terminator_lacks};
+pub use lacks::{gap_lacks, is_node_spaces, place_lacks, terminator_lacks};
 pub use places::{gap_items, place_items};
 pub use terminator::line_comment;
 pub use written::{push_lines, push_tail, push_text};

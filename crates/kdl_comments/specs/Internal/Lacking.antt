@@ -8,7 +8,7 @@ use Rattle.kdl_grammar.specs.Data.{Nodes, none}
 use Rattle.kdl_grammar.specs.Grammar.{Gap, AreNodes}
 use Rattle.kdl_grammar.specs.ReadsBack.{NodesEnd, AddsNothing}
 use Rattle.kdl_comments.specs.Items.{Item, Place, PlaceItems, takes_blocks, line_end}
-use Rattle.kdl_comments.specs.Lacks.{newlines, InPlace}
+use Rattle.kdl_comments.specs.Lacks.{newlines, InPlace, AreNodeSpaces}
 use Rattle.kdl_comments.specs.Internal.Reading.{place_view}
 use Rattle.kdl_comments.specs.declared.ends.Ending.{Ending}
 use Rattle.kdl_comments.specs.declared.ends.Ending.TheVariants.{Before, InReturn, Open}
@@ -55,7 +55,7 @@ pub data HasOpenEnd : Text → Text → Bool → Type 0 where
 -- whether the whole text, which is node-spaces, needs an LF to end before whatever follows
 abbrev pub SpacesLack : Text → Bool → Type 0
 SpacesLack t true = (w : Text) → Star NodeSpace (t ++ (10 ∷ w)) w
-SpacesLack t false = (w : Text) → Star NodeSpace (t ++ w) w
+SpacesLack t false = AreNodeSpaces t
 
 -- what comes before r in s adds nothing to the nodes after it, and s is a gap exactly if r is one
 pub record Through (s r : Text) : Type 0 where
