@@ -99,6 +99,110 @@ fn comments_before_entries(rt: HostRuntime) {
 }
 
 #[test]
+fn comments_inside(rt: HostRuntime) {
+    let alloc = rt.alloc();
+    stays(
+        &rt,
+        alloc,
+        "(/* a */t/* b */)/* c */n (/* d */u/* e */)/* f */0x1 k/* g */=/* h */(u /* i */)2\n",
+    );
+    stays(
+        &rt,
+        alloc,
+        "n k \\ // a\n =\\\n (u \\\n)1 {\n    (t)\\\nm\n}\n",
+    );
+    lays_out(
+        &rt,
+        alloc,
+        "( t\t)  n   k  =\t( u ) 1 l = /* a */ 2",
+        "(t)n k=(u)1 l= /* a */ 2\n",
+    );
+}
+
+#[test]
+fn comments_inside_removed(rt: HostRuntime) {
+    let alloc = rt.alloc();
+    let source = "(/* a */t)/* b */n (u/* c */)1 k=/* d */2 \\ // e\n 3 \\\n  4\n";
+    let mut document = read(&rt, alloc, source);
+    let mut layout = spelled();
+    layout.config.no_comments = true;
+    becomes_spaced(
+        &rt,
+        alloc,
+        &mut document,
+        &layout,
+        "(t)n (u)1 k=2 3 \\\n  4\n",
+    );
+}
+
+#[test]
+fn comments_inside_without_spellings(rt: HostRuntime) {
+    let alloc = rt.alloc();
+    let mut document = read(&rt, alloc, "(/* a */t)n k=/* b */0x1 \\\n  2\n");
+    becomes_spaced(&rt, alloc, &mut document, &Layout::new(), "(t)n k=1 2\n");
+}
+
+#[test]
+fn continued_lines(rt: HostRuntime) {
+    let alloc = rt.alloc();
+    stays(&rt, alloc, "spawn \"a\" \\\n    \"b\" \\ // c\n      k=1\n");
+    stays(
+        &rt,
+        alloc,
+        "a \\\n\t1\\\r\n2 {\n    b \\ /* c */ \u{2028}1\n}\n",
+    );
+    stays(&rt, alloc, "a /* b\n  c */   1\n");
+    lays_out(
+        &rt,
+        alloc,
+        "a  1   \\\n  2 /- 3 \\\n  4",
+        "a 1   \\\n  2 /- 3 4\n",
+    );
+    lays_out(&rt, alloc, "a 1 \\\n  {b}", "a 1 {\n    b\n}\n");
+}
+
+/// Asserts that the first entry of the node `a 0x10` with this text before it prints as in `laid_out`.
+fn led_becomes(rt: &impl Abort, alloc: Global, leading: &str, laid_out: &str) {
+    let mut document = read(rt, alloc, "a 0x10\n");
+    let format = entry_at(rt, &mut document, 0)
+        .format_mut()
+        .expect(rt, "no format");
+    format.leading = text(rt, alloc, leading);
+    becomes_spaced(rt, alloc, &mut document, &spelled(), laid_out);
+}
+
+#[test]
+fn texts_before_entries_that_are_set(rt: HostRuntime) {
+    let alloc = rt.alloc();
+    led_becomes(&rt, alloc, "\\\n", "a\\\n0x10\n");
+    for other in ["", "\n", " \\", " \\\r", " \\ // b", "b\n", " // b\n"] {
+        led_becomes(&rt, alloc, other, "a 0x10\n");
+    }
+}
+
+/// Asserts that a type `t` with this text after its `(` prints as in `laid_out`, of a node and of an entry.
+fn typed_becomes(rt: &impl Abort, alloc: Global, before: &str, laid_out: &str) {
+    let mut document = read(rt, alloc, "(t)a (t)1\n");
+    let format = entry_at(rt, &mut document, 0)
+        .format_mut()
+        .expect(rt, "no format");
+    format.before_ty_name = text(rt, alloc, before);
+    let node = document.nodes_mut().get_mut(0).expect(rt, "no node");
+    let format = node.format_mut().expect(rt, "no format");
+    format.before_ty_name = text(rt, alloc, before);
+    becomes_spaced(rt, alloc, &mut document, &spelled(), laid_out);
+}
+
+#[test]
+fn texts_in_types_that_are_set(rt: HostRuntime) {
+    let alloc = rt.alloc();
+    typed_becomes(&rt, alloc, "/**/", "(/**/t)a (/**/t)1\n");
+    for other in [" ", "\n", "\\", "// b\n", "/-b ", "b", "/*"] {
+        typed_becomes(&rt, alloc, other, "(t)a (t)1\n");
+    }
+}
+
+#[test]
 fn comments_removed(rt: HostRuntime) {
     let alloc = rt.alloc();
     let mut document = read(&rt, alloc, "a /* b */ 0x10 /-0x11 \"k\"=0x12 // c\n");

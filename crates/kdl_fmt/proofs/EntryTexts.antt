@@ -1,5 +1,5 @@
 -- Parts of what an entry prints that is laid out.
-use Rattle.std.proofs.Common.{◌≡◌, false, [], ◌∷◌, ◌++◌, refl, Option, Some, None, option_map, append_assoc, append-nil}
+use Rattle.std.proofs.Common.{◌≡◌, false, [], ◌∷◌, ◌++◌, refl, Option, Some, None, option_map, append_assoc}
 use Rattle.kdl_text.specs.Chars.{Text}
 use Rattle.kdl_entry.specs.Tree.{Identifier, EntryFormat, autoformatted_format}
 use Rattle.kdl_fmt.specs.Kept.{is_kept_format}
@@ -8,11 +8,11 @@ use Rattle.kdl_fmt.specs.Kept.{is_kept_format}
 abbrev pub name_of : Option Identifier → Option Text
 name_of o = option_map (λ (i : Identifier). i.value) o
 
-pub type_joined : (n r : Text) → (n ++ [] ++ (41 ∷ [])) ++ r ≡ n ++ (41 ∷ r)
-type_joined n r = simp (append_assoc, append-nil)
+pub type_joined : (b n a r : Text) → (b ++ n ++ a ++ (41 ∷ [])) ++ r ≡ b ++ (n ++ (a ++ (41 ∷ r)))
+type_joined b n a r = simp append_assoc
 
-pub key_joined : (n r : Text) → (n ++ [] ++ (61 ∷ []) ++ []) ++ r ≡ n ++ (61 ∷ r)
-key_joined n r = simp (append_assoc, append-nil)
+pub key_joined : (n b a r : Text) → (n ++ b ++ (61 ∷ []) ++ a) ++ r ≡ n ++ (b ++ (61 ∷ (a ++ r)))
+key_joined n b a r = simp append_assoc
 
 -- an entry that keeps no form
 pub no_format : (o : Option EntryFormat) → is_kept_format o ≡ false → autoformatted_format o ≡ None

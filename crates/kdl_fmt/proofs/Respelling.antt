@@ -2,6 +2,10 @@
 
 -- Texts that are a whole string, number or keyword, and what they are before other text.
 pub mod Spellings
+-- What is kept inside an entry or a type, and before an entry that continues the line.
+pub mod Kept
+-- The steps that find what is kept there.
+pub mod KeptSteps
 -- What is laid out, with or without spellings.
 pub mod Written
 -- What a layout that keeps spellings leaves as it was.

@@ -1,22 +1,15 @@
 -- Blocks that stay on one line.
-use Rattle.std.specs.Prelude.{◌≡◌, ℕ, zero, suc, Bool, true, false, ◌&&◌, not, ◌==◌, if◌then◌else◌, List, [], ◌∷◌, Option, Some, None}
+use Rattle.std.specs.Prelude.{◌≡◌, ℕ, zero, suc, Bool, true, false, ◌&&◌, ◌==◌, if◌then◌else◌, List, [], ◌∷◌, Option, Some, None}
 use Rattle.std.specs.List.{list_all}
-use Rattle.kdl_text.specs.Chars.{Text, is_space, is_newline_char}
+use Rattle.kdl_text.specs.Chars.{Text}
 use Rattle.kdl_entry.specs.Tree.{Identifier, Entry, EntryFormat}
 use Rattle.kdl_grammar.specs.Tree.{NodeFormat, DocumentFormat, Head, Node, node, Children, no_children, children, Document, document, Nodes, none, first}
 use Rattle.kdl_parts.specs.Formats.{empty_node_format}
 use Rattle.kdl_fmt.specs.Config.{Settings}
 use Rattle.kdl_fmt.specs.Formatted.{or_empty}
+use Rattle.kdl_fmt.specs.Plain.{no_newline, only_spaces}
 use Rattle.kdl_fmt.specs.Respelled.{IsSpelledDocument, IsSpelledNode}
 use Rattle.kdl_fmt.specs.declared.blank.Before.{Before}
-
--- the text contains only spaces of KDL
-abbrev pub only_spaces : Text → Bool
-only_spaces t = list_all is_space t
-
--- the text contains no newline
-abbrev pub no_newline : Text → Bool
-no_newline t = list_all (λ c. not (is_newline_char c)) t
 
 -- a name whose spelling, if it has one, contains no newline
 abbrev pub spelling_on_line : Option Text → Bool

@@ -47,7 +47,14 @@ pub struct Layout<'a> {
     pub blank_lines: usize,
     /// Whether spellings are kept: the spelling of a value that is one of that value, of the same kind, and the spelling
     /// of a name, a key or a type that is one of its string. A spelling that means something else, as `set_value` can
-    /// leave it, is replaced. An entry that is flagged to keep its form is laid out as without this field.
+    /// leave it, is replaced.
+    ///
+    /// With the spelling of its value, an entry keeps the texts with comments inside its type, after its type and around
+    /// its `=`, and the text before it if this continues the line (KDL 2.0.0, Line Continuation) and no entry is
+    /// slashdashed there. Such a text stays as it is. A node keeps the texts with comments inside and after its type. If
+    /// comments are removed, none of these texts stay, except one without comments that continues the line.
+    ///
+    /// An entry that is flagged to keep its form is laid out as without this field.
     pub keep_spelling: bool,
     /// Whether a block that is on one line stays on one line: `{ a 1; b 2 }`, or `{}` without nodes. From its `{` to its
     /// `}` such a block prints no newline, also in no string, and no comment, slashdashed piece or line continuation, and

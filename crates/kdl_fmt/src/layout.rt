@@ -31,7 +31,8 @@ use crate::blank::{
     Before, Last, past_items, past_node, past_written, push_empty_lines, push_spaced_lines,
 };
 use crate::config::{FormatConfig, Layout};
-use crate::names::{autoformat_but, has_spelling, is_flagged, keeps_spelling_if, take_spelling};
+use crate::kept::spelled_format;
+use crate::names::{autoformat_but, has_spelling, is_flagged, keeps_spelling_if};
 use kdl_comments::{Place, gap_items, line_comment, place_items, push_lines, push_tail, push_text};
 use kdl_entry::{KdlEntry, KdlEntryFormat, KdlValue};
 use kdl_parts::{KdlDocumentFormat, KdlNodeFormat};
@@ -292,14 +293,14 @@ fn lay_out_spelled(alloc: Global, entry: &mut KdlEntry, layout: &Layout) -> Resu
     ensures same { OnErr result (entry_tree entry.new ≡ entry_tree entry.old) }
     ensures spelled { OnOk result ((m : Entry)
         × IsLaid (settings layout.now.config) (entry_tree entry.old) m
-        × HasSpellings (entry_tree entry.old) m (entry_tree entry.new)) }
+        × HasSpellings (settings layout.now.config) (entry_tree entry.old) m
+        (entry_tree entry.new)) }
 {
     let key = keeps_spelling_if(alloc, layout, entry.name())?;
     let ty = keeps_spelling_if(alloc, layout, entry.ty())?;
-    let mut kept = kept_before(alloc, &layout.config, entry)?;
+    let kept = kept_before(alloc, &layout.config, entry)?;
     let format = if has_spelling(alloc, entry)? {
-        push_text(&mut kept, " ")?;
-        take_spelling(alloc, entry, kept)
+        spelled_format(alloc, layout, entry, kept)?
     } else {
         format_behind(alloc, entry, kept)?
     };

@@ -4,6 +4,7 @@
 
 mod blank;
 mod config;
+pub mod kept;
 pub mod layout;
 pub mod names;
 pub mod one_line;

@@ -1,14 +1,14 @@
 //! Spellings that layout keeps, of names, keys, types and values.
 
-ghost use Rattle.kdl_entry.specs.Tree.{entry_format_tree, entry_tree, identifier_tree, unspelled};
-ghost use Rattle.kdl_fmt.specs.Internal.Names.{HasSpelling, Keeps, KeepsName, autoformatted_but, emptied, emptied_format, spelled_behind, unspelled_if, unspelled_unless};
+ghost use Rattle.kdl_entry.specs.Tree.{entry_tree, identifier_tree, unspelled};
+ghost use Rattle.kdl_fmt.specs.Internal.Names.{HasSpelling, Keeps, KeepsName, autoformatted_but, emptied, spelling_of, unspelled_if, unspelled_unless, without_value};
 ghost use Rattle.kdl_fmt.specs.Kept.{is_kept_format};
 ghost use Rattle.kdl_value.specs.Tree.{text_of};
 ghost use Rattle.std.specs.Prelude.{◌≡◌, IfOk, option_map};
 
 use crate::config::Layout;
 use crate::spelling::{spells_text, spells_value};
-use kdl_entry::{KdlEntry, KdlEntryFormat, KdlIdentifier};
+use kdl_entry::{KdlEntry, KdlIdentifier};
 use std::alloc::{AllocError, Global};
 use std::mem;
 
@@ -138,28 +138,15 @@ pub(crate) fn has_spelling(alloc: Global, entry: &KdlEntry) -> Result<bool, Allo
     }
 }
 
-/// Takes the spelling of the value out of the entry, and returns a format with it and the text before the entry.
-/// Returns `None` if the entry has no format.
-pub(crate) fn take_spelling(
-    alloc: Global,
-    entry: &mut KdlEntry,
-    leading: String,
-) -> Option<KdlEntryFormat>
+/// Takes the spelling of the value out of the entry. Returns an empty text if the entry has no format.
+pub(crate) fn take_spelling(alloc: Global, entry: &mut KdlEntry) -> String
     ensures left { entry_tree entry.new ≡ record (entry_tree entry.old)
-        { format = emptied_format (entry_tree entry.old).format } }
-    ensures format { option_map entry_format_tree result ≡
-        option_map (spelled_behind (text_of leading)) (entry_tree entry.old).format }
+        { format = option_map without_value (entry_tree entry.old).format } }
+    ensures text { text_of result ≡ spelling_of (entry_tree entry.old).format }
 {
     match entry.format_mut() {
-        Some(format) => {
-            let old = mem::replace(format, KdlEntryFormat::new(alloc));
-            Some(KdlEntryFormat {
-                value_repr: old.value_repr,
-                leading,
-                ..KdlEntryFormat::new(alloc)
-            })
-        }
-        None => None,
+        Some(format) => mem::replace(&mut format.value_repr, String::new(alloc)),
+        None => String::new(alloc),
     }
 }
 

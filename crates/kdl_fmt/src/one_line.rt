@@ -2,7 +2,8 @@
 
 ghost use Rattle.kdl_entry.specs.Tree.{entry_format_tree, entry_tree, identifier_tree};
 ghost use Rattle.kdl_fmt.specs.Formatted.{or_empty};
-ghost use Rattle.kdl_fmt.specs.OneLine.{braces_on_line, end_on_line, entry_on_line, form_on_line, formats_in_line, line_on_line, maybe_form_on_line, maybe_on_line, name_on_line, no_newline, node_in_line};
+ghost use Rattle.kdl_fmt.specs.OneLine.{braces_on_line, end_on_line, entry_on_line, form_on_line, formats_in_line, line_on_line, maybe_form_on_line, maybe_on_line, name_on_line, node_in_line};
+ghost use Rattle.kdl_fmt.specs.Plain.{no_newline};
 ghost use Rattle.kdl_parts.specs.Formats.{document_texts, node_format_tree, node_texts};
 ghost use Rattle.std.specs.List.{list_all};
 ghost use Rattle.std.specs.Prelude.{◌≡◌, ◌==◌, IfOk, map, option_map};
@@ -16,7 +17,7 @@ use kdl_text::chars::is_newline_char;
 use std::alloc::{AllocError, Global};
 
 /// Returns whether the text contains no newline.
-fn has_no_newline(text: &str) -> bool
+pub(crate) fn has_no_newline(text: &str) -> bool
     ensures { result ≡ no_newline (chars text.now) }
 {
     text.chars().all(|c| !is_newline_char(c))

@@ -2,7 +2,7 @@
 use Rattle.std.proofs.Common.{◌≡◌, ℕ, suc, ◌+◌, ◌<◌, ◌^◌, ◌==◌, Bool, true, false, List, [], ◌∷◌, length, map, Option, None, Some, option_map, refl, sym, ap, ◌∙◌, subst}
 use Rattle.std.proofs.lemmas.Bool.{and_parts, eqb-true}
 use Rattle.std.specs.List.{list_all}
-use Rattle.std.specs.Prelude.{◌&&◌, is_some}
+use Rattle.std.specs.Prelude.{◌&&◌, is_some, not}
 use Rattle.kdl_text.specs.Chars.{is_space}
 use Rattle.kdl_text.specs.declared.span.SourceSpan.{SourceSpan}
 use Rattle.kdl_entry.specs.Tree.{entry_tree, identifier_tree}
@@ -16,7 +16,7 @@ use Rattle.kdl_fmt.specs.Formatted.{or_empty, or_empty_document}
 use Rattle.kdl_fmt.specs.Internal.Names.{Keeps, KeepsName, unspelled_if, unspelled_unless}
 use Rattle.kdl_fmt.specs.KeptForm.{NodesKeepReading}
 use Rattle.kdl_fmt.specs.OneLine.{braces_in_line, braces_on_line, formats_in_line, in_one_line, is_on_one_line, node_in_line, nodes_in_line, nodes_on_line, one_lined_children, one_lined_document, one_lined_node, one_lined_nodes}
-use Rattle.kdl_fmt.specs.Respelled.{AreSpelledEntries}
+use Rattle.kdl_fmt.specs.Respelled.{AreSpelledEntries, IsTypedFormat}
 use Rattle.kdl_fmt.specs.Spaced.{IsSpacedBraced, IsSpacedChildren, IsSpacedLine}
 use Rattle.kdl_fmt.specs.WellFormed.{IsWellFormedNode}
 use Rattle.kdl_fmt.specs.declared.blank.Before.{Before}
@@ -190,9 +190,10 @@ pub own_spaced : (l : Layout) (m n : KdlNode) (level : ℕ) (c : Before) (b : Bo
     → option_map identifier_tree (out-KdlNode m).ty ≡ unspelled_if keeps_type (option_map identifier_tree (out-KdlNode n).ty)
     → identifier_tree (out-KdlNode m).name ≡ unspelled_unless keeps_name (identifier_tree (out-KdlNode n).name)
     → AreSpelledEntries l.keep_spelling (settings l.config) (map entry_tree (out-KdlNode n).entries.items) (map entry_tree (out-KdlNode m).entries.items)
-    → (f : Option NodeFormat) → option_map node_format_tree (out-KdlNode m).format ≡ f → IsSpacedLine l.blank_lines (settings l.config) level b c (or_empty (option_map node_format_tree (out-KdlNode n).format)) f
+    → (f : Option NodeFormat) → IsSpacedLine l.blank_lines (settings l.config) level b c (or_empty (option_map node_format_tree (out-KdlNode n).format)) f
+    → IsTypedFormat (l.keep_spelling && not l.config.no_comments && is_some (option_map identifier_tree (out-KdlNode n).ty)) (or_empty (option_map node_format_tree (out-KdlNode n).format)) f (option_map node_format_tree (out-KdlNode m).format)
     → (out-KdlNode m).span ≡ (out-KdlNode n).span → (out-KdlNode m).children ≡ (out-KdlNode n).children → BlockSpacing l level (out-KdlNode n).children g ms → IsWellFormedNode (node_data (node_tree n))
     → NodeIsSpaced l level c (node_tree n) (enclosed g m ms) × (IndentsBySpaces (settings l.config) → StaysAs (settings l.config) (filled m ms) (enclosed g m ms))
-own_spaced l m n level c b g ms has kt kn keeps_type keeps_name ty name entries f format line span is w fit =
-    let mid = laid_node m n l.keep_spelling l.blank_lines (settings l.config) level c b w.between w.nodes has kt kn keeps_type keeps_name ty name entries f format line span (out-KdlNode n).children is refl w.braces w.spaced w.respelled in
+own_spaced l m n level c b g ms has kt kn keeps_type keeps_name ty name entries f line typed span is w fit =
+    let mid = laid_node m n l.keep_spelling l.blank_lines (settings l.config) level c b w.between w.nodes has kt kn keeps_type keeps_name ty name entries f line typed span (out-KdlNode n).children is refl w.braces w.spaced w.respelled in
     (((with_braces w.braces (filled m w.nodes), mid, one_lined l m n is g ms w.braces w.nodes w.same), fit), λ ok. enclosed_stays l m n is g ms (w.stays ok))

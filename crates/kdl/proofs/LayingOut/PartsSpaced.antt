@@ -1,6 +1,6 @@
 -- Nodes and documents whose parts were laid out.
 use Rattle.std.proofs.Common.{◌≡◌, ℕ, suc, Bool, List, [], ◌∷◌, length, map, Option, None, Some, option_map, refl, sym, ap, ◌∙◌, subst, Result, Ok, Err, IfOk, Vec, Global, arith}
-use Rattle.std.specs.Prelude.{is_some, slice_get, ◌-◌}
+use Rattle.std.specs.Prelude.{is_some, not, ◌&&◌, slice_get, ◌-◌}
 use Rattle.kdl_value.proofs.WellFormed.{text_scalars}
 use Rattle.kdl_entry.specs.Tree.{Identifier, identifier_tree, entry_tree, entry_data, unspelled}
 use Rattle.kdl_text.specs.declared.span.SourceSpan.{SourceSpan}
@@ -8,7 +8,7 @@ use Rattle.kdl_grammar.specs.Tree.{NodeFormat, document_data, Head, Node, node, 
 use Rattle.kdl_fmt.specs.Config.{Settings, settings}
 use Rattle.kdl_fmt.specs.Internal.Names.{Keeps, KeepsName, unspelled_if, unspelled_unless}
 use Rattle.kdl_fmt.specs.OneLine.{IsLaidDocument, one_lined_node, one_lined_nodes}
-use Rattle.kdl_fmt.specs.Respelled.{IsRespelled, IsRespelledIf, AreRespelledChildren, AreRespelledNodes, AreSpelledEntries, IsSpelledNode}
+use Rattle.kdl_fmt.specs.Respelled.{IsTypedFormat, IsRespelled, IsRespelledIf, AreRespelledChildren, AreRespelledNodes, AreSpelledEntries, IsSpelledNode}
 use Rattle.kdl_fmt.specs.Spaced.{IsSpacedLine, IsSpacedContent, IsSpacedChildren, AreSpacedNodes, PassesFormat, PassesNodes}
 use Rattle.kdl_fmt.specs.declared.blank.Before.{Before}
 use Rattle.kdl_fmt.specs.declared.config.Layout.{Layout}
@@ -85,13 +85,14 @@ module _ (m n : KdlNode) where
       → option_map identifier_tree (out-KdlNode m).ty ≡ unspelled_if keeps_type (option_map identifier_tree (out-KdlNode n).ty)
       → identifier_tree (out-KdlNode m).name ≡ unspelled_unless keeps_name (identifier_tree (out-KdlNode n).name)
       → AreSpelledEntries keep s (map entry_tree (out-KdlNode n).entries.items) (map entry_tree (out-KdlNode m).entries.items)
-      → (f : Option NodeFormat) → option_map node_format_tree (out-KdlNode m).format ≡ f → IsSpacedLine number s level b c (or_empty (option_map node_format_tree (out-KdlNode n).format)) f
+      → (f : Option NodeFormat) → IsSpacedLine number s level b c (or_empty (option_map node_format_tree (out-KdlNode n).format)) f
+      → IsTypedFormat (keep && not s.no_comments && is_some (option_map identifier_tree (out-KdlNode n).ty)) (or_empty (option_map node_format_tree (out-KdlNode n).format)) f (option_map node_format_tree (out-KdlNode m).format)
       → (out-KdlNode m).span ≡ (out-KdlNode n).span
       → (o : Option KdlDocument) → (out-KdlNode m).children ≡ o → o ≡ (out-KdlNode n).children
       → (x : Option DocumentFormat) → IsSpacedChildren number s level (children_of (option_map document_tree (out-KdlNode n).children)) (with_texts x (filled_block o xs))
       → AreRespelledNodes keep s (nodes_tree (child_nodes n)) (listed_nodes xs) (listed_nodes ms)
       → IsSpelledNode keep number s level c (node_tree n) (with_braces x (filled m ms))
-  laid_node keep number s level c b xs ms e kt kn keeps_type keeps_name ty' name' (es, entries, spellings) f g line span o is was x k r =
+  laid_node keep number s level c b xs ms e kt kn keeps_type keeps_name ty' name' (es, entries, spellings) f line typed span o is was x k r =
       let N = out-KdlNode n in
       let o' = option_map identifier_tree N.ty in
       let i = identifier_tree N.name in
@@ -106,7 +107,7 @@ module _ (m n : KdlNode) where
       rw (node_tree_out n) (
         node mid (with_texts x (filled_block o xs)),
         (record { ty = refl; name = refl; entries = entries; format = own; span = refl }, k),
-        (record { ty = ty; name = name; entries = spellings; format = g; span = span }, block),
+        (record { ty = ty; name = name; entries = spellings; format = typed; span = span }, block),
       )
 
 -- and a document

@@ -1,10 +1,10 @@
 -- Nodes that still read back, after each step of layout.
 use Rattle.std.proofs.Common.{◌≡◌, ℕ, zero, suc, ◌+◌, ◌<◌, ◌≤◌, List, [], ◌∷◌, ◌++◌, length, map, set, get_or, Option, None, Some, option_map, refl, sym, ap, ◌∙◌, subst, arith, Bool, true, Vec, Global}
 use Rattle.std.specs.List.{All, list_all}
-use Rattle.std.specs.Prelude.{is_some}
+use Rattle.std.specs.Prelude.{◌&&◌, is_some, not}
 use Rattle.kdl_text.specs.Chars.{Text, is_space}
 use Rattle.kdl_text.specs.declared.span.SourceSpan.{SourceSpan}
-use Rattle.kdl_entry.specs.Tree.{Entry, entry_tree, identifier_tree, unspelled}
+use Rattle.kdl_entry.specs.Tree.{Entry, Identifier, entry_tree, identifier_tree, unspelled}
 use Rattle.kdl_fmt.specs.Config.{Settings, indentation, settings}
 use Rattle.kdl_fmt.specs.Formatted.{or_empty, or_empty_document}
 use Rattle.kdl_fmt.specs.KeptForm.{EntriesKeepReading, DocumentKeepsReading, NodesKeepReading}
@@ -15,7 +15,8 @@ use Rattle.kdl_fmt.specs.declared.blank.Before.{Before}
 use Rattle.kdl_fmt.specs.declared.config.Layout.{Layout}
 use Rattle.kdl_fmt.proofs.Entries.{scalars}
 use Rattle.kdl_fmt.proofs.Formatting.PartsRead.{document_reads, own_reads}
-use Rattle.kdl_fmt.proofs.Respelling.Written.{NameReads, NameReadsIf, respelled_reads, respelled_reads_if}
+use Rattle.kdl_fmt.proofs.Respelling.Written.{NameReads, NameReadsIf, respelled_reads, respelled_reads_if, typed_line}
+use Rattle.kdl_fmt.specs.Respelled.{IsRespelledIf, IsTypedFormat}
 use Rattle.kdl_grammar.specs.ReadsBack.{Rests, Anything, AddsNothing, EntryReads, IsGapBefore, last_rests, NodesRead, last_node, next_node, ContentReads, two_texts, with_nodes as content_nodes, BlockReads, block, DocumentReads}
 use Rattle.kdl_grammar.specs.Tree.{DocumentFormat, NodeFormat, Head, Node, node, children_of, document, Nodes, none, first, listed_nodes}
 use Rattle.kdl_grammar.proofs.ReadingBack.Composing.{block_reads, entries_read, with_block}
@@ -177,11 +178,12 @@ pub own_stays : (l : Layout) → list_all is_space (settings l.config).indent �
     → (keeps_type keeps_name : Bool) → Keeps l.keep_spelling (option_map identifier_tree (out-KdlNode n).ty) keeps_type → KeepsName l.keep_spelling (identifier_tree (out-KdlNode n).name) keeps_name
     → option_map identifier_tree (out-KdlNode m).ty ≡ unspelled_if keeps_type (option_map identifier_tree (out-KdlNode n).ty)
     → identifier_tree (out-KdlNode m).name ≡ unspelled_unless keeps_name (identifier_tree (out-KdlNode n).name)
-    → (f : Option NodeFormat) → option_map node_format_tree (out-KdlNode m).format ≡ f → IsSpacedLine l.blank_lines (settings l.config) level b c (or_empty (option_map node_format_tree (out-KdlNode n).format)) f
+    → (f : Option NodeFormat) → IsSpacedLine l.blank_lines (settings l.config) level b c (or_empty (option_map node_format_tree (out-KdlNode n).format)) f
+    → IsTypedFormat (l.keep_spelling && not l.config.no_comments && is_some (option_map identifier_tree (out-KdlNode n).ty)) (or_empty (option_map node_format_tree (out-KdlNode n).format)) f (option_map node_format_tree (out-KdlNode m).format)
     → (olds es : List Entry) → map entry_tree (out-KdlNode n).entries.items ≡ olds → map entry_tree (out-KdlNode m).entries.items ≡ es
     → (EntriesKeepReading (settings l.config) olds → All EntryReads olds → All EntryReads es × EntriesKeepReading (settings l.config) es)
     → (out-KdlNode m).children ≡ (out-KdlNode n).children → StaysAs (settings l.config) (node_tree n) (node_tree m)
-own_stays l ok level c n m b e kt kn keeps_type keeps_name ty name f g line olds es was is reads kids P x =
+own_stays l ok level c n m b e kt kn keeps_type keeps_name ty name f line typed olds es was is reads kids P x =
     let s = settings l.config in
     let N = out-KdlNode n in
     let M = out-KdlNode m in
@@ -190,9 +192,11 @@ own_stays l ok level c n m b e kt kn keeps_type keeps_name ty name f g line olds
     let w = reads (subst (EntriesKeepReading s) was old.1.0) (subst (All EntryReads) was (entries_read old.0)) in
     let all : All EntryReads (map entry_tree M.entries.items) = subst (All EntryReads) (sym is) w.0 in
     let keep : EntriesKeepReading s (map entry_tree M.entries.items) = subst (EntriesKeepReading s) (sym is) w.1 in
-    let own : IsSpacedLine l.blank_lines s level (has_block k) c (or_empty (option_map node_format_tree N.format)) (option_map node_format_tree M.format) =
-    subst (λ (z : Option NodeFormat). IsSpacedLine l.blank_lines s level (has_block k) c (or_empty (option_map node_format_tree N.format)) z) (sym g)
-    (subst (λ (z : Bool). IsSpacedLine l.blank_lines s level z c (or_empty (option_map node_format_tree N.format)) f) (block_there N.children b e) line) in
+    let f' = or_empty (option_map node_format_tree N.format) in
+    let o = option_map identifier_tree N.ty in
+    let spaced = subst (λ (z : Bool). IsSpacedLine l.blank_lines s level z c f' f) (block_there N.children b e) line in
+    let type : IsRespelledIf l.keep_spelling o (option_map unspelled o) (option_map identifier_tree M.ty) = subst (λ (z : Option Identifier). IsRespelledIf l.keep_spelling o (option_map unspelled o) z) (sym ty) keeps_type in
+    let own = typed_line l.blank_lines s level (has_block k) c f' l.keep_spelling o (option_map unspelled o) (option_map identifier_tree M.ty) f (option_map node_format_tree M.format) type spaced typed in
     subst (NodeStays s P) (ap (λ (o : Option KdlDocument). node (head_tree M) (children_of (option_map document_tree o))) (sym kids) ∙ sym (node_tree_out m)) (
       own_reads l.blank_lines s ok level c (head_tree N) (head_tree M) (or_empty (option_map node_format_tree N.format)) k
           (subst NameReadsIf (sym ty) (respelled_reads_if l.keep_spelling (option_map identifier_tree N.ty) (option_map unspelled (option_map identifier_tree N.ty)) (unspelled_if kt (option_map identifier_tree N.ty)) refl (scalars N.ty) keeps_type))

@@ -145,7 +145,8 @@ impl KdlDocument {
     /// Formats the document like `autoformat_config`, and keeps blank lines between nodes, and between comments and
     /// slashdashed pieces that are kept: as many as there are, but at most the layout's number. There are none at the
     /// start and at the end of the document, and of a block. If the layout keeps spellings, a value, a name, a key or a
-    /// type keeps its spelling if this means what it did; an entry that is flagged to keep its form is laid out as
+    /// type keeps its spelling if this means what it did, comments inside a type, after it and around `=` stay, and so
+    /// does a text before an entry that continues the line; an entry that is flagged to keep its form is laid out as
     /// without that. If the layout keeps blocks on one line, a block that prints one line, without comments and without
     /// blocks in it, is put on one line: `{ a 1; b 2 }`, or `{}` without nodes.
     ///

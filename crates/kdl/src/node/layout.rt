@@ -28,6 +28,7 @@ use crate::document::KdlDocument;
 use crate::layout::{Around, lay_out_nodes, set_formats};
 use crate::node::KdlNode;
 use kdl_entry::{KdlEntry, KdlIdentifier};
+use kdl_fmt::kept::{kept_type_texts, put_type_texts};
 use kdl_fmt::layout::{behind_line, indentation, lay_out_entries, lay_out_line};
 use kdl_fmt::names::{clear_type_unless, clear_unless, keeps_spelling, keeps_type_spelling};
 use kdl_fmt::one_line::{entries_on_line, line_on_line, name_on_line, type_on_line};
@@ -151,7 +152,8 @@ impl KdlNode {
     /// Formats the node like `autoformat_config`, and keeps blank lines between the nodes in its blocks, and between
     /// comments and slashdashed pieces that are kept: as many as there are, but at most the layout's number. There are
     /// none before the node, and none at the start and at the end of a block. If the layout keeps spellings, a value, a
-    /// name, a key or a type keeps its spelling if this means what it did; an entry that is flagged to keep its form is
+    /// name, a key or a type keeps its spelling if this means what it did, comments inside a type, after it and around
+    /// `=` stay, and so does a text before an entry that continues the line; an entry that is flagged to keep its form is
     /// laid out as without that. If the layout keeps blocks on one line, a block that prints one line, without comments
     /// and without blocks in it, is put on one line, as in a document.
     ///
@@ -262,7 +264,10 @@ impl KdlNode {
         let keeps_name = keeps_spelling(alloc, layout, &self.name)?;
         let has_block = self.children.is_some();
         let (first, around) = block_around(&self.children, layout, level, before)?;
+        let has_type = self.ty.is_some();
+        let types = kept_type_texts(alloc, layout, has_type, &self.format)?;
         let behind = lay_out_line(&mut self.format, alloc, layout, before, has_block, next)?;
+        put_type_texts(&mut self.format, types);
         clear_type_unless(&mut self.ty, keeps_type);
         clear_unless(&mut self.name, keeps_name);
         lay_out_entries(&mut self.entries, layout)?;

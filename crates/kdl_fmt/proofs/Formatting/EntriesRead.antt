@@ -3,7 +3,6 @@ use Rattle.std.proofs.Common.{◌≡◌, zero, suc, Bool, true, false, ◌||◌,
 use Rattle.std.proofs.lemmas.List.Elements.{All-cons, All-nil}
 use Rattle.std.specs.List.{All}
 use Rattle.kdl_text.specs.Chars.{Text}
-use Rattle.kdl_value.specs.Data.{Value}
 use Rattle.kdl_entry.specs.Tree.{Identifier, Entry, EntryFormat, unspelled, with_keep, autoformatted, entry_data}
 use Rattle.kdl_grammar.specs.ReadsBack.{EntryReads}
 use Rattle.kdl_grammar.proofs.Laying.LaidIsDerived.{first_entry}
@@ -13,13 +12,12 @@ use Rattle.kdl_fmt.specs.Config.{Settings}
 use Rattle.kdl_fmt.specs.Formatted.{with_keep_if}
 use Rattle.kdl_fmt.specs.Kept.{Written, WrittenUnless, entry_leading, is_kept_format}
 use Rattle.kdl_fmt.specs.KeptForm.{KeepsReading, EntriesKeepReading}
-use Rattle.kdl_fmt.specs.Respelled.{KeptValue, HasSpellings, HasSpellingsUnless, IsSpelledEntry}
+use Rattle.kdl_fmt.specs.Respelled.{KeptForm, HasSpellings, HasSpellingsUnless, IsSpelledEntry}
 use Rattle.kdl_fmt.specs.WellFormed.{IsWellFormedEntry}
 use Rattle.kdl_fmt.specs.WithComments.{behind, IsFormattedEntry}
-use Rattle.kdl_fmt.proofs.Formatting.CommentsReadBack.{entry_tail, item_reads}
+use Rattle.kdl_fmt.proofs.Formatting.CommentsReadBack.{entry_ends, entry_leads, item_reads}
 use Rattle.kdl_fmt.proofs.Formatting.FormattedUnique.{entry_keeps_none}
 use Rattle.kdl_fmt.proofs.Loops.{Each}
-use Rattle.kdl_fmt.proofs.Keeping.KeptPlaces.{space_ends, tail_ends, tail_spaced}
 use Rattle.kdl_fmt.proofs.Keeping.KeptReads.{no_place}
 use Rattle.kdl_fmt.proofs.Respelling.Spellings.{value_before}
 use Rattle.kdl_fmt.proofs.Respelling.Written.{IsWrittenEntry, written_entry}
@@ -30,14 +28,12 @@ Stays s e = EntryReads e × KeepsReading s e
 
 -- an entry that keeps no form
 pub written_reads : (s : Settings) (e e' : Entry) → IsWrittenEntry s e e' → EntryReads e'
-written_reads s e e' w =
-    let a = entry_tail s e e' w in
-    record {
-      begins = λ r. rw (w.front r) (tail_ends a _ (space_ends _));
-      front = λ {r} p d. rw (w.front r) (first_entry (tail_spaced (before_entry false) a _) (item_reads e'.name e'.ty w.name w.ty p) d);
-      value = λ {r} x. rw w.value (value_before e'.value w.word r w.spelled x);
-      trailing = w.trailing;
-    }
+written_reads s e e' w = record {
+  begins = λ r. rw (w.front r) (entry_ends s e e' w _);
+  front = λ {r} p d. rw (w.front r) (first_entry (entry_leads s e e' w _) (item_reads e'.name e'.ty w.inside w.name w.ty w.is_inside p) d);
+  value = λ {r} x. rw w.value (value_before e'.value w.word r w.spelled x);
+  trailing = w.trailing;
+}
 
 -- the flag is set
 flagged_reads : (keep : Bool) (e : Entry) → EntryReads e → EntryReads (with_keep_if keep e)
@@ -125,21 +121,21 @@ still_none : (o : Option EntryFormat) → is_kept_format (option_map with_keep o
 still_none None h = refl
 still_none (Some f) h = absurd cc
 
-formless_left : (v : Value) (o p q : Option EntryFormat) → o ≡ None → p ≡ None → KeptValue v o p q → q ≡ None
-formless_left v _ p _ x e (KeptValue.kept d) = absurd cc
-formless_left v _ p _ x e (KeptValue.other n) = e
-formless_left v _ p _ x e KeptValue.formless = e
+formless_left : (s : Settings) (e : Entry) (o p q : Option EntryFormat) → o ≡ None → p ≡ None → KeptForm s e o p q → q ≡ None
+formless_left s e _ p _ x h (KeptForm.kept d k) = absurd cc
+formless_left s e _ p _ x h (KeptForm.other n) = h
+formless_left s e _ p _ x h KeptForm.formless = h
 
-spelled_unflagged : (b out : Bool) (e m e' : Entry) (t : Text)
+spelled_unflagged : (s : Settings) (b out : Bool) (e m e' : Entry) (t : Text)
     → WrittenUnless (is_kept_format (with_keep_if b e).format || out) (PlaceItems (before_entry false) (entry_leading (with_keep_if b e).format)) tail t
-    → m ≡ behind t (autoformatted (with_keep_if b e)) → is_kept_format (with_keep_if b e).format ≡ false → HasSpellings e m e' → is_kept_format e'.format ≡ false → is_kept_format (with_keep_if b e').format ≡ false
-spelled_unflagged false out e m e' t k q n h left = left
-spelled_unflagged true out e m e' t k q n h left =
+    → m ≡ behind t (autoformatted (with_keep_if b e)) → is_kept_format (with_keep_if b e).format ≡ false → HasSpellings s e m e' → is_kept_format e'.format ≡ false → is_kept_format (with_keep_if b e').format ≡ false
+spelled_unflagged s false out e m e' t k q n h left = left
+spelled_unflagged s true out e m e' t k q n h left =
     let none = still_none e.format n in
     let k' = subst (λ (o : Option EntryFormat). WrittenUnless (is_kept_format (option_map with_keep o) || out) (PlaceItems (before_entry false) (entry_leading (option_map with_keep o))) tail t) none k in
     let empty = nothing_kept out t k' in
     let q' = q ∙ ap (λ (o : Option EntryFormat). behind t (autoformatted (record e { format = option_map with_keep o }))) none ∙ ap (λ (u : Text). behind u (autoformatted (record e { format = None }))) empty in
-    let formless = formless_left e.value e.format m.format e'.format none (ap (λ (x : Entry). x.format) q') h.format in
+    let formless = formless_left s e e.format m.format e'.format none (ap (λ (x : Entry). x.format) q') h.format in
     ap (λ (o : Option EntryFormat). is_kept_format (option_map with_keep o)) formless
 
 clash : (b : Bool) → b ≡ false → b ≡ true → ⊥
@@ -150,11 +146,11 @@ pub laid_stays : (keep : Bool) (s : Settings) (e e' : Entry) → IsSpelledEntry 
 laid_stays false s e e' (m, f, r) w h = subst (Stays s) (sym r) (plain_stays s e m f w h)
 laid_stays true s e e' (m, f, r) w h = go (is_kept_format (with_keep_if s.entry_autoformate_keep e).format) refl r
   where
-    go : (b : Bool) → is_kept_format (with_keep_if s.entry_autoformate_keep e).format ≡ b → HasSpellingsUnless b e m e' → Stays s e'
+    go : (b : Bool) → is_kept_format (with_keep_if s.entry_autoformate_keep e).format ≡ b → HasSpellingsUnless b s e m e' → Stays s e'
     go true y x = subst (Stays s) (sym x) (plain_stays s e m f w h)
     go false y x =
         let k = written_entry s true e m e' f r y w in
-        let u = spelled_unflagged s.entry_autoformate_keep s.no_comments e m e' f.0 f.1 f.2 y x k.left in
+        let u = spelled_unflagged s s.entry_autoformate_keep s.no_comments e m e' f.0 f.1 f.2 y x k.left in
         (written_reads s e e' k, λ z. absurd (clash _ u z))
 
 -- entries, one by one

@@ -1,5 +1,5 @@
 -- A node or document of which a part is laid out reads back where it did before.
-use Rattle.std.proofs.Common.{◌≡◌, ℕ, zero, suc, ◌+◌, Bool, true, false, List, [], ◌∷◌, ◌++◌, refl, sym, ap, subst, Option, Some, None, append_assoc, append-nil}
+use Rattle.std.proofs.Common.{◌≡◌, ℕ, zero, suc, ◌+◌, Bool, true, false, List, [], ◌∷◌, ◌++◌, refl, sym, ap, subst, Option, Some, None, append_assoc}
 use Rattle.std.specs.List.{All, list_all}
 use Rattle.std.specs.Prelude.{if◌then◌else◌}
 use Rattle.kdl_text.specs.Chars.{Text, is_space}
@@ -22,15 +22,16 @@ use Rattle.kdl_fmt.specs.Blank.{at_start, past_node, spaced_lines}
 use Rattle.kdl_fmt.specs.Config.{Settings, indentation}
 use Rattle.kdl_fmt.specs.Formatted.{or_empty, or_empty_document, newline_if_none}
 use Rattle.kdl_fmt.specs.Kept.{KeptBeforeBlock, Written, WrittenUnless, last_place, without_bom}
-use Rattle.kdl_fmt.specs.Respelled.{IsRespelledNode, AreRespelledChildren, AreRespelledNodes}
-use Rattle.kdl_fmt.specs.Spaced.{Spaces, SpacedLines, SpacesTexts, IsSpacedLine, IsSpacedContent, IsSpacedBraced, IsSpacedNode, IsSpacedChildren, AreSpacedNodes}
+use Rattle.kdl_fmt.specs.Respelled.{TypeTexts, with_type_texts, IsRespelledNode, AreRespelledChildren, AreRespelledNodes}
+use Rattle.kdl_fmt.specs.Spaced.{Spaces, SpacedLines, SpacesTexts, IsSpacedContent, IsSpacedBraced, IsSpacedNode, IsSpacedChildren, AreSpacedNodes}
 use Rattle.kdl_fmt.specs.WithComments.{NodeTexts, line_of, has_block}
 use Rattle.kdl_fmt.specs.declared.blank.Before.{Before}
 use Rattle.kdl_fmt.proofs.EntryTexts.{name_of}
 use Rattle.kdl_fmt.proofs.Formatting.CommentsReadBack.{type_reads, empty_gap}
 use Rattle.kdl_fmt.proofs.Keeping.KeptPlaces.{newline_gap, gap_nodes, indentation_gap, Tail, tail_of, tail_spaced, LineEnd, line_end_of, line_terminator, last_text}
 use Rattle.kdl_fmt.proofs.Respelling.Spellings.{string_before}
-use Rattle.kdl_fmt.proofs.Respelling.Written.{NameReads, NameReadsIf}
+use Rattle.kdl_fmt.proofs.Respelling.Kept.{TypeSpaces}
+use Rattle.kdl_fmt.proofs.Respelling.Written.{IsTypedLine, NameReads, NameReadsIf, typed_line}
 use Rattle.kdl_fmt.proofs.Spacing.Lines.{before_gap, lines_gap}
 
 -- nodes that end by themselves, before any rests
@@ -40,12 +41,12 @@ all_end P (last_node x) = last_node (ends_before P x)
 all_end P (next_node x xs) = next_node x (all_end P xs)
 
 -- a name and its type
-name_joined : (t n r : Text) → (t ++ [] ++ n) ++ r ≡ t ++ (n ++ r)
-name_joined t n r = simp (append_assoc, append-nil)
+name_joined : (t a n r : Text) → (t ++ a ++ n) ++ r ≡ t ++ (a ++ (n ++ r))
+name_joined t a n r = simp append_assoc
 
-named_reads : (y : Option Identifier) (i : Identifier) → NameReadsIf y → NameReads i → {r t : Text} {es : List data'.Entry} {k : nodes'.Children} → ValueEnd true r → AfterName true r t es k
-    → IsNode true ((print_type y [] [] ++ [] ++ print_identifier i) ++ r) t (nodes'.node (name_of y) i.value es k)
-named_reads y i a n {r = r} e d = rw (name_joined (print_type y [] []) (print_identifier i) r) (named (type_reads y _ a) (string_before (print_identifier i) i.value r n e) d)
+named_reads : (y : Option Identifier) (i : Identifier) (x : TypeTexts) → NameReadsIf y → NameReads i → TypeSpaces x → (y ≡ None → x.after ≡ []) → {r t : Text} {es : List data'.Entry} {k : nodes'.Children} → ValueEnd true r → AfterName true r t es k
+    → IsNode true ((print_type y x.before_name x.after_name ++ x.after ++ print_identifier i) ++ r) t (nodes'.node (name_of y) i.value es k)
+named_reads y i x a n s u {r = r} e d = rw (name_joined (print_type y x.before_name x.after_name) x.after (print_identifier i) r) (named (type_reads y x _ a s u) (string_before (print_identifier i) i.value r n e) d)
 
 end_joined : (c b r : Text) → ((c ++ (10 ∷ [])) ++ b) ++ r ≡ c ++ (10 ∷ (b ++ r))
 end_joined c b r = simp append_assoc
@@ -55,7 +56,7 @@ place_joined l s c b r = simp append_assoc
 
 -- nodes of which the texts around their parts are laid out
 abbrev pub IsLined : ℕ → Settings → ℕ → Before → Node → Node → Type 0
-IsLined number s level b (node h k) (node h' k') = IsSpacedLine number s level (has_block k) b (or_empty h.format) h'.format × (has_block k ≡ has_block k')
+IsLined number s level b (node h k) (node h' k') = IsTypedLine number s level (has_block k) b (or_empty h.format) h'.ty h'.format × (has_block k ≡ has_block k')
 
 abbrev pub AreLined : ℕ → Settings → ℕ → Before → Nodes → Nodes → Type 0
 AreLined number s level b none none = Unit {0}
@@ -73,7 +74,7 @@ module _ (number : ℕ) (s : Settings) (keep : Bool) where
 
   line_there : (level : ℕ) (b : Before) (n m n' : Node) → IsSpacedNode number s level b n m → IsRespelledNode keep s n m n' → IsLined number s level b n n'
   line_there level b (node h k) (node m j) (node h' k') f r =
-      (subst (λ (x : Option NodeFormat). IsSpacedLine number s level (has_block k) b (or_empty h.format) x) (sym r.0.format) f.0.format, same_block level k j k' f.1 r.1)
+      (typed_line number s level (has_block k) b (or_empty h.format) keep h.ty m.ty h'.ty m.format h'.format r.0.ty f.0.format r.0.format, same_block level k j k' f.1 r.1)
 
   pub lined : (level : ℕ) (b : Before) (ns ms ns' : Nodes) → AreSpacedNodes number s level b ns ms → AreRespelledNodes keep s ns ms ns' → AreLined number s level b ns ns'
   lined level b none none none f r = tt
@@ -101,17 +102,17 @@ module _ (number : ℕ) (s : Settings) (ok : list_all is_space s.indent ≡ true
   lines_add level b b' place t k r v xs e d = gap_nodes (lines_gap s ok number level b b' place t k no_gap) d
 
   -- the line of a node
-  module _ (level : ℕ) (has : Bool) (b : Before) (f : NodeFormat) (t : NodeTexts) (kept : SpacesTexts number s level has b f t) where
-    pub line_head : (h : Head) → NameReadsIf h.ty → NameReads h.name → All EntryReads h.entries → HeadReads h (line_of (indentation s level) t)
-    line_head h a n es = record {
+  module _ (level : ℕ) (has : Bool) (b : Before) (f : NodeFormat) (t : NodeTexts) (x : TypeTexts) (kept : SpacesTexts number s level has b f t) where
+    pub line_head : (h : Head) → NameReadsIf h.ty → NameReads h.name → TypeSpaces x → (h.ty ≡ None → x.after ≡ []) → All EntryReads h.entries → HeadReads h (with_type_texts x (line_of (indentation s level) t))
+    line_head h a n y u es = record {
       leading = λ r.
-          let rest = name_text h (line_of (indentation s level) t) ++ r in
+          let rest = name_text h (with_type_texts x (line_of (indentation s level) t)) ++ r in
           rw (append_assoc t.before (indentation s level) rest) (before_gap s ok number level has b f t kept (indentation_gap s ok level no_gap));
-      name = λ v d. named_reads h.ty h.name a n v d;
+      name = λ v d. named_reads h.ty h.name x a n y u v d;
       entries = es;
     }
 
-    pub line_end : (k : Children) → has ≡ has_block k → (Q : Rests) → EndReads Q k (line_of (indentation s level) t)
+    pub line_end : (k : Children) → has ≡ has_block k → (Q : Rests) → EndReads Q k (with_type_texts x (line_of (indentation s level) t))
     line_end k same Q =
         let tail : Tail (last_place (has_block k)) t.last = subst (λ (x : Bool). Tail (last_place x) t.last) same (tail_of s.no_comments (last_place has) f.before_terminator t.last kept.last) in
         let end = line_end_of s.no_comments f.terminator t.space t.comment kept.end in
@@ -129,16 +130,18 @@ module _ (number : ℕ) (s : Settings) (ok : list_all is_space s.indent ≡ true
         let k : KeptBeforeBlock s true f.before_children t.before_block = subst (λ (x : Bool). KeptBeforeBlock s x f.before_children t.before_block) same kept.before_block in
         rw (append_assoc t.before_block (32 ∷ []) (123 ∷ u)) (tail_spaced before_block (tail_of s.no_comments before_block f.before_children t.before_block k) (123 ∷ u))
 
-  line_children : (level : ℕ) (k : Children) (b : Before) (f : NodeFormat) (t : NodeTexts) (kept : SpacesTexts number s level (has_block k) b f t) {h : Head} {P : Rests} → NodeReads P (node h k)
-      → ChildrenRead (line_of (indentation s level) t) k
-  line_children level no_children b f t kept x = no_block
-  line_children level (children d) b f t kept x = a_block (line_block level true b f t kept refl) (block_reads x)
+  line_children : (level : ℕ) (k : Children) (b : Before) (f : NodeFormat) (t : NodeTexts) (w : TypeTexts) (kept : SpacesTexts number s level (has_block k) b f t) {h : Head} {P : Rests} → NodeReads P (node h k)
+      → ChildrenRead (with_type_texts w (line_of (indentation s level) t)) k
+  line_children level no_children b f t w kept x = no_block
+  line_children level (children d) b f t w kept x = a_block (line_block level true b f t w kept refl) (block_reads x)
 
   -- a node whose own texts are laid out
   pub own_reads : (level : ℕ) (b : Before) (h h' : Head) (f : NodeFormat) (k : Children) → NameReadsIf h'.ty → NameReads h'.name
-      → All EntryReads h'.entries → IsSpacedLine number s level (has_block k) b f h'.format → {P Q : Rests} → NodeReads P (node h k) → NodeReads Q (node h' k)
+      → All EntryReads h'.entries → IsTypedLine number s level (has_block k) b f h'.ty h'.format → {P Q : Rests} → NodeReads P (node h k) → NodeReads Q (node h' k)
   own_reads level b h h' f k a n es line {Q = Q} x =
-      reads line.2 (line_head level (has_block k) b f line.0 line.1 h' a n es) (line_children level k b f line.0 line.1 x) (line_end level (has_block k) b f line.0 line.1 k refl Q)
+      let t = line.texts in
+      let w = line.types in
+      reads line.is (line_head level (has_block k) b f t w line.kept h' a n line.spaces line.untyped es) (line_children level k b f t w line.kept x) (line_end level (has_block k) b f t w line.kept k refl Q)
 
   -- a block whose nodes end by themselves
   pub braced_reads : (level : ℕ) (olds : Nodes) (f : DocumentFormat) (b : Before) (g : Option DocumentFormat) (at : SourceSpan) (ms : Nodes) → IsSpacedBraced number s level olds f b g → NodesRead Anything ms → BlockReads (document g at ms)

@@ -23,13 +23,14 @@ use Rattle.kdl_fmt.specs.Formatted.{or_empty, or_empty_document, newline_if_none
 use Rattle.kdl_fmt.specs.Kept.{last_place, without_bom}
 use Rattle.kdl_fmt.specs.Blank.{at_start, past_node}
 use Rattle.kdl_fmt.specs.OneLine.{braces_in_line, braces_on_line, in_one_line, is_on_one_line, nodes_in_line, nodes_on_line, one_lined_children, one_lined_document, one_lined_node, one_lined_nodes}
+use Rattle.kdl_fmt.specs.Respelled.{TypeTexts, with_type_texts}
 use Rattle.kdl_fmt.specs.Spaced.{SpacesTexts, SpacesContent}
 use Rattle.kdl_fmt.specs.WithComments.{NodeTexts, line_of, content_of, has_block}
 use Rattle.kdl_fmt.specs.declared.blank.Before.{Before}
 use Rattle.kdl_fmt.proofs.Spacing.Lines.{before_front, lines_front}
 use Rattle.kdl_fmt.proofs.Keeping.GapFronts.{Front, nothing, joined, alone, here, newline, newline_if, indented, gap_without_bom}
 use Rattle.kdl_fmt.proofs.Keeping.KeptItems.{KeptIn, kept_in, kept_end, kept_last}
-use Rattle.kdl_fmt.proofs.OneLine.Laid.{braces_nothing, node_joined, nodes_line}
+use Rattle.kdl_fmt.proofs.OneLine.Laid.{braces_nothing, nodes_line}
 use Rattle.kdl_fmt.proofs.OneLine.Same.{one_or_more}
 use Rattle.kdl_fmt.proofs.Respelling.Written.{IsWrittenNode, AreWrittenChildren, AreWrittenNodes, IsWrittenDocument}
 use Rattle.kdl_fmt.proofs.Formatting.LaidEntries.{identifier_at, identifier_laid, type_laid, entries_laid}
@@ -48,9 +49,12 @@ braces_joined l m c r = simp (append_assoc, append-nil)
 content_joined : (a n b r : Text) → (a ++ n ++ b) ++ r ≡ a ++ (n ++ (b ++ r))
 content_joined a n b r = simp append_assoc
 
-module _ (h : Head) (before : Text) (k : NodeTexts) (line : h.format ≡ Some (line_of before k)) where
-  node_text : (depth : ℕ) (p q r : Text) → (print_head h depth ++ p ++ q) ++ r ≡ (k.before ++ before) ++ (print_type h.ty [] [] ++ (print_identifier h.name ++ (p ++ (q ++ r))))
-  node_text depth p q r = rw line (node_joined (k.before ++ before) (print_type h.ty [] []) (print_identifier h.name) p q r)
+typed_joined : (l y a n p q r : Text) → ((l ++ y ++ a ++ n) ++ p ++ q) ++ r ≡ l ++ (y ++ (a ++ (n ++ (p ++ (q ++ r)))))
+typed_joined l y a n p q r = simp append_assoc
+
+module _ (h : Head) (before : Text) (k : NodeTexts) (x : TypeTexts) (line : h.format ≡ Some (with_type_texts x (line_of before k))) where
+  node_text : (depth : ℕ) (p q r : Text) → (print_head h depth ++ p ++ q) ++ r ≡ (k.before ++ before) ++ (print_type h.ty x.before_name x.after_name ++ (x.after ++ (print_identifier h.name ++ (p ++ (q ++ r)))))
+  node_text depth p q r = rw line (typed_joined (k.before ++ before) (print_type h.ty x.before_name x.after_name) x.after (print_identifier h.name) p q r)
 
   -- what comes after the last entry or the `}`
   abbrev end_of : Text → Text
@@ -167,16 +171,16 @@ module _ (number : ℕ) (s : Settings) (ok : list_all is_space s.indent ≡ true
   line_end level has b f t k = line_end_of s.no_comments f.terminator t.space t.comment k.end
 
   mutual
-    children_laid : (level depth : ℕ) (b : Before) (h : Head) (f : NodeFormat) (t : NodeTexts) (k k' : Children) → h.format ≡ Some (line_of (indentation s level) t) → AreWrittenChildren number s level k k'
+    children_laid : (level depth : ℕ) (b : Before) (h : Head) (f : NodeFormat) (t : NodeTexts) (x : TypeTexts) (k k' : Children) → h.format ≡ Some (with_type_texts x (line_of (indentation s level) t)) → AreWrittenChildren number s level k k'
         → SpacesTexts number s level (has_block k) b f t → {is js : List Item} → ChildrenItems f.before_children k is
         → ItemsIn (PlaceItems (last_place (has_block k)) f.before_terminator) js → (r : Text)
         → ChildrenLaid whole (print_tail h (one_lined_children keep k k') depth ++ r) ((t.comment ++ (10 ∷ [])) ++ (t.behind ++ r)) (map on_line is) (map on_line js)
-    children_laid level depth b h f t no_children no_children line c kept ChildrenItems.no_block i r =
+    children_laid level depth b h f t w no_children no_children line c kept ChildrenItems.no_block i r =
         let end = line_end level false b f t kept in
         let last = last_in level false b f t kept i in
         let rest = t.behind ++ r in
         let e = last_joined t.last t.space t.comment rest in
-        rw (plain_text h (indentation s level) t line depth r)
+        rw (plain_text h (indentation s level) t w line depth r)
         (record {
           tree = no_children;
           before = [];
@@ -190,7 +194,7 @@ module _ (number : ℕ) (s : Settings) (ok : list_all is_space s.indent ≡ true
           behind = ItemsIn.items (kept_last s.no_comments with false f.terminator t.space t.comment t.last kept.end last);
           ends = subst (ValueEnd true) e (last_ends last.stands end rest);
         })
-    children_laid level depth b h f t (children (document g span ns)) (children (document g' span' ns')) line (b', c, nodes) kept {js = ks} (block {is = is} i (of_document {a = a} {b = e'} {c = d} ia ib id)) j r =
+    children_laid level depth b h f t types (children (document g span ns)) (children (document g' span' ns')) line (b', c, nodes) kept {js = ks} (block {is = is} i (of_document {a = a} {b = e'} {c = d} ia ib id)) j r =
         let before = block_in level b f t kept i in
         let rest = t.behind ++ r in
         let after = (t.last ++ t.space) ++ ((t.comment ++ (10 ∷ [])) ++ rest) in
@@ -204,9 +208,9 @@ module _ (number : ℕ) (s : Settings) (ok : list_all is_space s.indent ≡ true
         let n = braces_nothing g w.0 ia id in
         let o = nodes_line number s with whole (level + 1) (depth + 1) b' ns ns' w.1 nodes ib after in
         let l = content_of_nodes whole (print_nodes (nodes_in_line ns') (depth + 1) ++ (125 ∷ after)) (125 ∷ after) [] o.laid o.items nothing in
-        rw (line_text h (indentation s level) t line span' (nodes_in_line ns') depth r)
+        rw (line_text h (indentation s level) t types line span' (nodes_in_line ns') depth r)
         (block_laid l.tree l.laid (subst (λ (z : List Item). ChildrenItems (t.before_block ++ (32 ∷ [])) (children l.tree) z) (line_lists is a e' d n.0 n.1) (block (ItemsIn.items before.spaced) l.items))))
-        (λ on. rw (block_text h (indentation s level) t line g' span' ns (one_lined_nodes keep ns ns') c.0 c.1 depth r c.3)
+        (λ on. rw (block_text h (indentation s level) t types line g' span' ns (one_lined_nodes keep ns ns') c.0 c.1 depth r c.3)
         (block_laid y.tree y.laid
         (subst (λ (l : List Item). ChildrenItems (t.before_block ++ (32 ∷ [])) (children y.tree) l) (block_lists (map on_line is) a e' d ∙ sym (map-append on_line is (a ++ e' ++ d))) (block (ItemsIn.items before.spaced) y.items))))
       where
@@ -233,14 +237,17 @@ module _ (number : ℕ) (s : Settings) (ok : list_all is_space s.indent ≡ true
               behind = ItemsIn.items (kept_last s.no_comments with true f.terminator t.space t.comment t.last kept.end last);
               ends = tail_ends before.stands _ (space_ends _);
             }
-    children_laid level depth b h f t no_children (children d') line c kept i j r = absurd c
-    children_laid level depth b h f t (children (document g span ns)) no_children line c kept i j r = absurd c
+    children_laid level depth b h f t w no_children (children d') line c kept i j r = absurd c
+    children_laid level depth b h f t w (children (document g span ns)) no_children line c kept i j r = absurd c
 
     -- a node after a gap
     node_laid : (level depth : ℕ) (before : Before) (n n' : Node) → IsWrittenNode number s level before n n' → {is : List Item} → NodeItems n is
         → {p : Text} {ps : List Item} → Front p ps → (r : Text) → NodeLaid whole (p ++ (print_node (one_lined_node keep n n') depth ++ r)) r (ps ++ map on_line is)
     node_laid level depth before (node h k) (node h' k') (f, c) (of_node {a = a} {b = b} {c = ci} {d = d} {e = e} {f = g} ia ib ic id ie ig) {p} {ps} front r =
-        let (t, kept, line) = f.format in
+        let t = f.format.texts in
+        let w = f.format.types in
+        let kept = f.format.kept in
+        let line = f.format.is in
         let i = indentation s level in
         let format = or_empty h.format in
         let has = has_block k in
@@ -248,21 +255,21 @@ module _ (number : ℕ) (s : Settings) (ok : list_all is_space s.indent ≡ true
         let v = t.behind ++ r in
         let end = t.comment ++ (10 ∷ []) in
         let lines = joined (before_front s ok with number level has before format t kept ia) (indented s ok level) in
-        let x = children_laid level depth before h' format t k k' line c kept ic id r in
+        let x = children_laid level depth before h' format t w k k' line c kept ic id r in
         let y = entries_laid s with whole h.entries h'.entries f.entries ib tail x.ends in
         let pieces = print_pieces h'.entries ++ tail in
         let named = identifier_at whole h'.name pieces in
-        let ty = type_laid whole h'.ty (print_identifier h'.name ++ pieces) f.ty in
-        let start = print_type h'.ty [] [] ++ (print_identifier h'.name ++ pieces) in
+        let ty = type_laid whole h'.ty w (print_identifier h'.name ++ pieces) f.ty f.format.spaces f.format.untyped in
+        let start = print_type h'.ty w.before_name w.after_name ++ (w.after ++ (print_identifier h'.name ++ pieces)) in
         let leading = p ++ (t.before ++ i) in
-        rw (node_text h' i t line depth (print_pieces h'.entries) (print_tail h' (one_lined_children keep k k') depth) r)
+        rw (node_text h' i t w line depth (print_pieces h'.entries) (print_tail h' (one_lined_children keep k k') depth) r)
         (record {
-          tree = node (record { ty = ty.0; name = named; entries = y.entries; format = Some (node_format leading [] [] [] x.before x.place end []); span = span_of whole start (end ++ v) }) x.tree;
+          tree = node (record { ty = ty.0; name = named; entries = y.entries; format = Some (node_format leading ty.1.before_name ty.1.after_name ty.1.after x.before x.place end []); span = span_of whole start (end ++ v) }) x.tree;
           pending = t.behind;
           own = (ps ++ (map on_line a ++ [])) ++ map on_line b ++ map on_line ci ++ map on_line d ++ map on_line e ++ [];
           later = map on_line g;
           laid = λ ns. a_node {leading = leading} {end = end} {t = start} {u = end ++ v} {v = v} (record { is = front.gap (lines.gap Gap.no_gap); text = sym (append_assoc p (t.before ++ i) start) })
-              (laid_node ty.1 (identifier_laid whole h'.name pieces f.name y.ends) y.laid x.laid)
+              (laid_node ty.2 (identifier_laid whole h'.name pieces f.name y.ends) y.laid x.laid)
               (record { is = subst (λ (z : Text). Terminator z v) (sym (append_assoc t.comment (10 ∷ []) v)) (line_terminator (line_end level has before format t kept) v); text = refl }) refl ns;
           items = of_node (ItemsIn.items (alone (joined front lines))) y.items x.inside x.behind (kept_end s.no_comments with format.terminator t.space t.comment kept.end ie) (ItemsIn.items GapItems.none);
           front = lines_front s ok with number level (past_node format.terminator) kept.behind_it format.trailing t.behind kept.behind ig;

@@ -68,7 +68,7 @@ space_stays (SpaceItems.space p) = refl
 space_stays (SpaceItems.block b) = pair_stays _ [] (piece_on_line (ws_last (Ws.comment b))) refl
 space_stays (SpaceItems.escline d) = escline_stays d
 
-place_stays : {p : Place} {s : Text} {is : List Item} → PlaceItems p s is → map on_line is ≡ is
+pub place_stays : {p : Place} {s : Text} {is : List Item} → PlaceItems p s is → map on_line is ≡ is
 place_stays (PlaceItems.ends h) = refl
 place_stays (PlaceItems.space {is = is} {js = js} n d) = join_stays is js (space_stays n) (place_stays d)
 place_stays (PlaceItems.dropped_entry h m i d) = pair_stays _ _ (piece_on_line (last_behind (end_slashdash m) (entry_last i))) (place_stays d)

@@ -14,8 +14,8 @@ use Rattle.kdl_fmt.specs.Blank.{at_start, blank_lines, past_items, past_node}
 use Rattle.kdl_fmt.specs.Config.{Settings, indentation}
 use Rattle.kdl_fmt.specs.Formatted.{or_empty, or_empty_document, newline_if_none, in_braces, DocumentKeepsNone, NodeKeepsNone}
 use Rattle.kdl_fmt.specs.Kept.{KeptEnd, Written, WrittenEnd, WrittenUnless}
-use Rattle.kdl_fmt.specs.OneLine.{IsLaidDocument, IsLaidNode, braces_in_line, braces_on_line, head_on_line, in_one_line, is_end, is_on_one_line, line_on_line, node_in_line, nodes_in_line, nodes_on_line, one_lined_node, one_lined_children, one_lined_document, one_lined_nodes, only_spaces}
-use Rattle.kdl_fmt.specs.Plain.{plain_line}
+use Rattle.kdl_fmt.specs.OneLine.{IsLaidDocument, IsLaidNode, braces_in_line, braces_on_line, head_on_line, in_one_line, is_end, is_on_one_line, line_on_line, node_in_line, nodes_in_line, nodes_on_line, one_lined_node, one_lined_children, one_lined_document, one_lined_nodes}
+use Rattle.kdl_fmt.specs.Plain.{only_spaces, plain_line}
 use Rattle.kdl_fmt.specs.Respelled.{IsRespelledDocument, IsRespelledNode}
 use Rattle.kdl_fmt.specs.Spaced.{Passes, PassesFormat, PassesNode, PassesNodes, Spaces, SpacedLines, SpacesContent, SpacesTexts, IsSpacedHead, IsSpacedNode, IsSpacedChildren, AreSpacedNodes, IsSpacedDocument}
 use Rattle.kdl_fmt.specs.WithComments.{NodeTexts, content_of}
@@ -285,7 +285,7 @@ module _ (number : ℕ) (s : Settings) (ok : list_all is_space s.indent ≡ true
     document_stays level d x y (r, (m, f, q), e) bare (r2, (m2, g, q2), e2) =
         let framed = document_framed number s spelling level d m r f q in
         let again : IsSpacedDocument number s level r m2 = document_as level d r m2 framed (subst (λ (z : Document). IsSpacedDocument number s level z m2) e g) in
-        let respelled : IsRespelledDocument spelling s r m2 r2 = document_looks spelling s keep d r m2 r2 (subst (λ (z : Document). IsRespelledDocument spelling s z m2 r2) e q2) in
+        let respelled : IsRespelledDocument spelling s r m2 r2 = document_looks number spelling s keep level d r m2 r2 framed (subst (λ (z : Document). IsRespelledDocument spelling s z m2 r2) e q2) in
         let same : r2 ≡ r = spelled.document_stays spelling number s level ok flag d r r2 bare (m, f, q) (m2, again, respelled) in
         e2 ∙ ap (λ (z : Document). one_lined_document keep z r2) e ∙ ap (one_lined_document keep (one_lined_document keep d r)) same ∙ document_same number s keep level d r framed ∙ sym e
 
@@ -293,6 +293,6 @@ module _ (number : ℕ) (s : Settings) (ok : list_all is_space s.indent ≡ true
     node_stays level n x y (r, (m, f, q), e) bare (r2, (m2, g, q2), e2) =
         let framed = node_framed number s spelling level at_start n m r f q in
         let again : IsSpacedNode number s level at_start r m2 = node_as level at_start at_start n r m2 framed (subst (λ (z : Node). IsSpacedNode number s level at_start z m2) e g) in
-        let respelled : IsRespelledNode spelling s r m2 r2 = node_looks spelling s keep n r m2 r2 (subst (λ (z : Node). IsRespelledNode spelling s z m2 r2) e q2) in
+        let respelled : IsRespelledNode spelling s r m2 r2 = node_looks number spelling s keep level at_start n r m2 r2 framed (subst (λ (z : Node). IsRespelledNode spelling s z m2 r2) e q2) in
         let same : r2 ≡ r = spelled.node_stays spelling number s level ok flag n r r2 bare (m, f, q) (m2, again, respelled) in
         e2 ∙ ap (λ (z : Node). one_lined_node keep z r2) e ∙ ap (one_lined_node keep (one_lined_node keep n r)) same ∙ node_same number s keep level at_start n r framed ∙ sym e

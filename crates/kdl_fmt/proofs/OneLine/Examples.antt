@@ -3,7 +3,8 @@ use Rattle.std.proofs.Common.{◌≡◌, true, false, [], ◌∷◌, refl, Some,
 use Rattle.kdl_text.specs.Chars.{is_newline_char, is_space}
 use Rattle.kdl_entry.specs.Tree.{empty_format, no_span}
 use Rattle.kdl_grammar.specs.Tree.{Head, node, no_children, children, document, none, first}
-use Rattle.kdl_fmt.specs.OneLine.{end_on_line, form_on_line, is_on_one_line, no_newline, node_on_line, only_spaces}
+use Rattle.kdl_fmt.specs.OneLine.{end_on_line, form_on_line, is_on_one_line, node_on_line}
+use Rattle.kdl_fmt.specs.Plain.{no_newline, only_spaces}
 
 -- `a`
 abbrev named : Head

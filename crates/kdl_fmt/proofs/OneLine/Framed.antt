@@ -5,13 +5,14 @@ use Rattle.kdl_grammar.specs.Tree.{Head, Node, node, Children, no_children, chil
 use Rattle.kdl_fmt.specs.Config.{Settings}
 use Rattle.kdl_fmt.specs.Formatted.{or_empty, or_empty_document}
 use Rattle.kdl_fmt.specs.OneLine.{entry_on_line, maybe_on_line, name_on_line}
-use Rattle.kdl_fmt.specs.Spaced.{PassesNode, IsSpacedBraced, IsSpacedContent, IsSpacedLine}
+use Rattle.kdl_fmt.specs.Spaced.{PassesNode, IsSpacedBraced, IsSpacedContent}
 use Rattle.kdl_fmt.specs.WithComments.{has_block}
 use Rattle.kdl_fmt.specs.declared.blank.Before.{Before}
+use Rattle.kdl_fmt.proofs.Respelling.Written.{IsTypedLine}
 
 -- a node without its children; each part that is on one line is there still
 pub record IsFramedHead (number : ℕ) (s : Settings) (level : ℕ) (has : Bool) (b : Before) (h h' : Head) : Type 0 where
-  pub format : IsSpacedLine number s level has b (or_empty h.format) h'.format
+  pub format : IsTypedLine number s level has b (or_empty h.format) h'.ty h'.format
   pub ty : maybe_on_line h.ty ≡ true → maybe_on_line h'.ty ≡ true
   pub name : name_on_line h.name ≡ true → name_on_line h'.name ≡ true
   pub entries : list_all entry_on_line h.entries ≡ true → list_all entry_on_line h'.entries ≡ true

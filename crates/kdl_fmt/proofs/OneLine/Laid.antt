@@ -19,12 +19,14 @@ use Rattle.kdl_fmt.specs.Comments.{ItemsIn, EndItems, EntriesItems, NodeItems, o
 use Rattle.kdl_fmt.specs.Config.{Settings}
 use Rattle.kdl_fmt.specs.Formatted.{or_empty, or_empty_document}
 use Rattle.kdl_fmt.specs.Kept.{without_bom}
-use Rattle.kdl_fmt.specs.OneLine.{braces_on_line, end_on_line, head_on_line, node_in_line, nodes_in_line, nodes_on_line, only_spaces}
+use Rattle.kdl_fmt.specs.OneLine.{braces_on_line, end_on_line, head_on_line, node_in_line, nodes_in_line, nodes_on_line}
+use Rattle.kdl_fmt.specs.Plain.{only_spaces}
 use Rattle.kdl_fmt.specs.declared.blank.Before.{Before}
 use Rattle.kdl_fmt.proofs.Formatting.LaidEntries.{identifier_at, identifier_laid, type_laid, entries_laid}
 use Rattle.kdl_fmt.proofs.Keeping.KeptPlaces.{space_ends}
 use Rattle.kdl_fmt.proofs.OneLine.Nothing.{head_parts, line_parts, no_comment, spaces_in, spaces_items, spaces_without_bom}
 use Rattle.kdl_fmt.proofs.OneLine.Reads.{nothing_before, one_space, space_before}
+use Rattle.kdl_fmt.proofs.Respelling.Kept.{no_texts, no_type_spaces}
 use Rattle.kdl_fmt.proofs.Respelling.Written.{IsWrittenHead, AreWrittenNodes}
 
 space_is : only_spaces (32 ∷ []) ≡ true
@@ -63,7 +65,7 @@ braces_nothing (Some f) {a} h i j =
     (gap_nothing (subst (λ (t : Text). ItemsIn (GapItems t) a) (spaces_without_bom f.leading e.0) i) e.0, gap_nothing j e.1)
 
 -- what a node prints, with a rest after it
-pub node_joined : (l t n p q r : Text) → (l ++ t ++ [] ++ n ++ p ++ q) ++ r ≡ l ++ (t ++ (n ++ (p ++ (q ++ r))))
+node_joined : (l t n p q r : Text) → (l ++ t ++ [] ++ n ++ p ++ q) ++ r ≡ l ++ (t ++ (n ++ (p ++ (q ++ r))))
 node_joined l t n p q r = simp (append_assoc, append-nil)
 
 -- a node, put on the line
@@ -91,14 +93,14 @@ module _ (number : ℕ) (s : Settings) (with : s.no_comments ≡ false) (whole :
         let y = entries_laid s with whole h.entries h'.entries f.entries i tail (punctuation_end 59 refl) in
         let pieces = print_pieces h'.entries ++ tail in
         let named = identifier_at whole h'.name pieces in
-        let ty = type_laid whole h'.ty (print_identifier h'.name ++ pieces) f.ty in
+        let ty = type_laid whole h'.ty no_texts (print_identifier h'.name ++ pieces) f.ty no_type_spaces (λ e. refl) in
         let start = print_type h'.ty [] [] ++ (print_identifier h'.name ++ pieces) in
-        let head : Head = record { ty = ty.0; name = named; entries = y.entries; format = Some (node_format (32 ∷ []) [] [] [] [] [] (59 ∷ []) []); span = span_of whole start tail } in
+        let head : Head = record { ty = ty.0; name = named; entries = y.entries; format = Some (node_format (32 ∷ []) ty.1.before_name ty.1.after_name ty.1.after [] [] (59 ∷ []) []); span = span_of whole start tail } in
         rw (line_text false h' depth v)
         (record {
           tree = first (node head no_children) x.tree;
           laid = a_node {leading = 32 ∷ []} {end = 59 ∷ []} {t = start} {u = tail} {v = v} (record { is = line_space (LineSpace.space (one_space _)) no_gap; text = refl })
-              (laid_node ty.1 (identifier_laid whole h'.name pieces f.name y.ends) y.laid (no_block (record { is = nothing_before tail; text = refl })))
+              (laid_node ty.2 (identifier_laid whole h'.name pieces f.name y.ends) y.laid (no_block (record { is = nothing_before tail; text = refl })))
               (record { is = Terminator.semicolon; text = refl }) refl x.laid;
           items = subst (λ (l : List Item). NodesItems (first (node head no_children) x.tree) (l ++ js)) (no_others (map on_line is))
               (NodesItems.a_node (of_node {h = head} (ItemsIn.items (spaces_items (32 ∷ []) space_is)) y.items ChildrenItems.no_block (ItemsIn.items (PlaceItems.ends refl)) (EndItems.other (no_line_comment refl)) (ItemsIn.items GapItems.none)) x.items);
@@ -112,14 +114,14 @@ module _ (number : ℕ) (s : Settings) (with : s.no_comments ≡ false) (whole :
         let y = entries_laid s with whole h.entries h'.entries f.entries i tail (space_ends v) in
         let pieces = print_pieces h'.entries ++ tail in
         let named = identifier_at whole h'.name pieces in
-        let ty = type_laid whole h'.ty (print_identifier h'.name ++ pieces) f.ty in
+        let ty = type_laid whole h'.ty no_texts (print_identifier h'.name ++ pieces) f.ty no_type_spaces (λ e. refl) in
         let start = print_type h'.ty [] [] ++ (print_identifier h'.name ++ pieces) in
-        let head : Head = record { ty = ty.0; name = named; entries = y.entries; format = Some (node_format (32 ∷ []) [] [] [] [] (32 ∷ []) [] []); span = span_of whole start v } in
+        let head : Head = record { ty = ty.0; name = named; entries = y.entries; format = Some (node_format (32 ∷ []) ty.1.before_name ty.1.after_name ty.1.after [] (32 ∷ []) [] []); span = span_of whole start v } in
         rw (line_text true h' depth v)
         (record {
           tree = first (node head no_children) none;
           laid = a_node {leading = 32 ∷ []} {end = []} {t = start} {u = v} {v = v} (record { is = line_space (LineSpace.space (one_space _)) no_gap; text = refl })
-              (laid_node ty.1 (identifier_laid whole h'.name pieces f.name y.ends) y.laid (no_block (record { is = space_before v; text = refl })))
+              (laid_node ty.2 (identifier_laid whole h'.name pieces f.name y.ends) y.laid (no_block (record { is = space_before v; text = refl })))
               (record { is = Terminator.at_close; text = refl }) refl no_node;
           items = subst (λ (l : List Item). NodesItems (first (node head no_children) none) (l ++ [])) (no_others (map on_line is))
               (NodesItems.a_node (of_node {h = head} (ItemsIn.items (spaces_items (32 ∷ []) space_is)) y.items ChildrenItems.no_block (ItemsIn.items (spaces_in before_block refl (32 ∷ []) space_is)) (EndItems.other (no_line_comment refl)) (ItemsIn.items GapItems.none)) NodesItems.no_node);

@@ -1,5 +1,5 @@
 -- Of the texts of a node that is on one line, layout keeps no comment, and no blank line.
-use Rattle.std.proofs.Common.{◌≡◌, ℕ, zero, suc, ◌+◌, ◌-◌, ◌==◌, Bool, true, false, List, [], ◌∷◌, ◌++◌, refl, ap, subst, ◌∙◌, Some, arith}
+use Rattle.std.proofs.Common.{◌≡◌, ℕ, zero, suc, ◌+◌, ◌-◌, ◌==◌, Bool, true, false, List, [], ◌∷◌, ◌++◌, refl, ap, subst, ◌∙◌, Option, Some, arith}
 use Rattle.std.proofs.lemmas.Bool.Decides.{nat_tests}
 use Rattle.std.proofs.lemmas.Bool.{and_parts, eqb-true}
 use Rattle.std.specs.List.{list_all, list_any}
@@ -8,6 +8,7 @@ use Rattle.kdl_text.specs.Chars.{Text, is_space, is_newline_char, times}
 use Rattle.kdl_text.specs.Chars.Space.{space as a_space}
 use Rattle.kdl_text.specs.Trivia.{LineComment}
 use Rattle.kdl_text.proofs.Spacing.SpaceUnique.{no_line_comment}
+use Rattle.kdl_entry.specs.Tree.{Identifier}
 use Rattle.kdl_grammar.specs.Tree.{NodeFormat, Head, node, Children, no_children, children, Nodes, none, first}
 use Rattle.kdl_comments.specs.Items.{Item, SpaceItems, LineSpaceItems, GapItems, Place, before_entry, before_block, behind_block, may_end, spaced, PlaceItems}
 use Rattle.kdl_comments.specs.Written.{lines, tail}
@@ -16,11 +17,18 @@ use Rattle.kdl_fmt.specs.Blank.{at_start, blank_lines, empty_lines, newlines, on
 use Rattle.kdl_fmt.specs.Config.{Settings, indentation}
 use Rattle.kdl_fmt.specs.Formatted.{or_empty}
 use Rattle.kdl_fmt.specs.Kept.{KeptEnd, Written, WrittenUnless, WrittenEnd, without_bom}
-use Rattle.kdl_fmt.specs.OneLine.{only_spaces, end_on_line, head_on_line, is_end, line_on_line, nodes_on_line, maybe_on_line, name_on_line, entry_on_line}
-use Rattle.kdl_fmt.specs.Plain.{plain_line}
+use Rattle.kdl_fmt.specs.OneLine.{end_on_line, head_on_line, is_end, line_on_line, nodes_on_line, maybe_on_line, name_on_line, entry_on_line}
+use Rattle.kdl_fmt.specs.Plain.{only_spaces, plain_line}
+use Rattle.kdl_fmt.specs.Respelled.{TypeTexts, node_type_texts, with_type_texts}
 use Rattle.kdl_fmt.specs.Spaced.{Passes, PassesNode, Spaces, SpacedLines, SpacesTexts}
 use Rattle.kdl_fmt.specs.WithComments.{NodeTexts, line_of}
+use Rattle.kdl_fmt.proofs.Respelling.Kept.{OnlySpaces}
+use Rattle.kdl_fmt.proofs.Spacing.Counts.{space_no_newline}
+use Rattle.kdl_fmt.proofs.Respelling.Written.{IsTypedLine}
 use Rattle.kdl_fmt.specs.declared.blank.Before.{Before}
+use Rattle.kdl_fmt.proofs.Respelling.Kept.{OnlySpaces}
+use Rattle.kdl_fmt.proofs.Spacing.Counts.{space_no_newline}
+use Rattle.kdl_fmt.proofs.Respelling.Written.{IsTypedLine}
 use Rattle.kdl_fmt.specs.declared.blank.Before.TheVariants.{Nothing, Thing}
 use Rattle.kdl_fmt.specs.declared.blank.Last.{Last}
 use Rattle.kdl_fmt.proofs.OneLine.Framed.{AreFramedNodes}
@@ -30,10 +38,6 @@ use Rattle.kdl_fmt.proofs.Spacing.Zero.{no_lines}
 space_no_slash : (c : ℕ) → is_space c ≡ true → (c == 47) ≡ false
 unfolding is_space
 space_no_slash c h = grind (arith, nat_tests)
-
-space_no_newline : (c : ℕ) → is_space c ≡ true → is_newline_char c ≡ false
-unfolding is_space is_newline_char
-space_no_newline c h = grind (arith, nat_tests)
 
 space_no_bom : (c : ℕ) → is_space c ≡ true → (c == 0xFEFF) ≡ false
 unfolding is_space
@@ -144,6 +148,7 @@ nothing_ended false terminator space comment bare k = written_end terminator spa
 -- the parts of a node's format
 pub record LineParts (last : Bool) (f : NodeFormat) : Type 0 where
   pub leading : only_spaces f.leading ≡ true
+  pub types : OnlySpaces (node_type_texts f)
   pub before_terminator : only_spaces f.before_terminator ≡ true
   pub trailing : only_spaces f.trailing ≡ true
   pub terminator : end_on_line last f.terminator ≡ true
@@ -159,8 +164,10 @@ line_parts last f h =
     let end = and_parts (a && b && c && d && e && t) (end_on_line last f.terminator) h in
     let trailing = and_parts (a && b && c && d && e) t end.0 in
     let before = and_parts (a && b && c && d) e trailing.0 in
-    let first = and_parts a b (and_parts (a && b) c (and_parts (a && b && c) d before.0).0).0 in
-    record { leading = first.0; before_terminator = before.1; trailing = trailing.1; terminator = end.1 }
+    let three = and_parts (a && b && c) d before.0 in
+    let two = and_parts (a && b) c three.0 in
+    let first = and_parts a b two.0 in
+    record { leading = first.0; types = record { before_name = first.1; after_name = two.1; after = three.1 }; before_terminator = before.1; trailing = trailing.1; terminator = end.1 }
 
 pub record HeadParts (last : Bool) (h : Head) : Type 0 where
   pub ty : maybe_on_line h.ty ≡ true
@@ -207,6 +214,11 @@ module _ (number : ℕ) (s : Settings) (level : ℕ) where
       go zero p = tt
       go (suc number) p = ap blank_lines (passed b p) ∙ read_spaces f.trailing (past_node f.terminator) trailing (quiet_node f.terminator)
 
+-- around the type of a node on one line nothing is kept
+pub bare_line : (number : ℕ) (s : Settings) (level : ℕ) (last : Bool) (b : Before) (f : NodeFormat) (ty : Option Identifier) (g : Option NodeFormat) (l : IsTypedLine number s level false b f ty g) → line_on_line last f ≡ true
+    → g ≡ Some (line_of (indentation s level) l.texts)
+bare_line number s level last b f ty g l h = l.is ∙ ap (λ (x : TypeTexts). Some (with_type_texts x (line_of (indentation s level) l.texts))) (l.bare (line_parts last f h).types)
+
 -- nodes without blocks, each on a line of its own without comments
 abbrev pub ArePlain : Text → Nodes → Type 0
 ArePlain ind none = Unit {0}
@@ -223,7 +235,7 @@ are_plain number s level b (first (node x no_children) ns) (first (node x' no_ch
     let e = and_parts (head_on_line (is_end ns) x) (nodes_on_line ns) h in
     let line = (head_parts (is_end ns) x e.0).line in
     let format = f.0.format in (
-      format.2 ∙ ap Some (line_is_plain number s level (is_end ns) b (or_empty x.format) format.0 line q format.1),
+      bare_line number s level (is_end ns) b (or_empty x.format) x'.ty x'.format format line ∙ ap Some (line_is_plain number s level (is_end ns) b (or_empty x.format) format.texts line q format.kept),
       are_plain number s level b' ns ns' e.1 (quiet_passes number s level (is_end ns) x no_children b' line p) fs,
     )
 

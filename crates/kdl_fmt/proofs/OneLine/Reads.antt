@@ -21,7 +21,8 @@ use Rattle.kdl_fmt.specs.Blank.{at_start}
 use Rattle.kdl_fmt.specs.Config.{Settings, indentation}
 use Rattle.kdl_fmt.specs.Formatted.{or_empty, or_empty_document, newline_if_none, NodeKeepsNone, DocumentKeepsNone}
 use Rattle.kdl_fmt.specs.Kept.{without_bom}
-use Rattle.kdl_fmt.specs.OneLine.{IsLaidDocument, IsLaidNode, braces_in_line, braces_on_line, head_on_line, in_one_line, is_on_one_line, node_in_line, nodes_in_line, nodes_on_line, one_lined_node, one_lined_children, one_lined_document, one_lined_nodes}
+use Rattle.kdl_fmt.specs.OneLine.{IsLaidDocument, IsLaidNode, braces_in_line, braces_on_line, head_on_line, in_one_line, is_end, is_on_one_line, node_in_line, nodes_in_line, nodes_on_line, one_lined_node, one_lined_children, one_lined_document, one_lined_nodes}
+use Rattle.kdl_fmt.specs.Respelled.{TypeTexts, with_type_texts}
 use Rattle.kdl_fmt.specs.Spaced.{SpacesTexts}
 use Rattle.kdl_fmt.specs.WellFormed.{IsWellFormedNode, AreWellFormed}
 use Rattle.kdl_fmt.specs.WithComments.{NodeTexts, line_of, has_block}
@@ -29,6 +30,7 @@ use Rattle.kdl_fmt.specs.declared.blank.Before.{Before}
 use Rattle.kdl_fmt.proofs.Formatting.CommentsReadBack.{empty_gap}
 use Rattle.kdl_fmt.proofs.Formatting.EntriesRead.{written_reads}
 use Rattle.kdl_fmt.proofs.Formatting.PartsRead.{AreLined, IsLined, all_end, braced_reads, content_with, line_block, line_end, line_head, lines_add}
+use Rattle.kdl_fmt.proofs.OneLine.Nothing.{bare_line, head_parts}
 use Rattle.kdl_fmt.proofs.OneLine.Same.{block_stays, nodes_flat, one_or_more}
 use Rattle.kdl_fmt.proofs.Respelling.Written.{AreWrittenEntries, IsWrittenNode, AreWrittenChildren, AreWrittenNodes, IsWrittenDocument, written_document, written_node}
 use Rattle.kdl_fmt.proofs.Spacing.Lines.{lines_gap}
@@ -72,12 +74,13 @@ module _ (number : ℕ) (s : Settings) where
   nodes_in_line_read g level b (first (node y no_children) ns) (first (node y' (children d)) ns') h f x = let z : false ≡ true = f.1.1 in absurd cc
   nodes_in_line_read g level b (first (node y no_children) ns) (first (node y' no_children) none) h f (last_node x) =
       let l = f.1.0 in
-      last_node (last_one (indentation s level) l.0 y' g (read_head (indentation s level) l.0 y' l.2 x))
+      let e = and_parts (head_on_line (is_end ns) y) (nodes_on_line ns) h in
+      last_node (last_one (indentation s level) l.texts y' g (read_head (indentation s level) l.texts y' (bare_line number s level (is_end ns) b (or_empty y.format) y'.ty y'.format l (head_parts (is_end ns) y e.0).line) x))
   nodes_in_line_read g level b (first (node y no_children) none) (first (node y' no_children) (first m ms)) h f x = absurd f.2
   nodes_in_line_read g level b (first (node y no_children) (first n ns)) (first (node y' no_children) (first (node z k) ms)) h f (next_node x xs) =
       let l = f.1.0 in
       let e = and_parts (head_on_line false y) (nodes_on_line (first n ns)) h in
-      next_node (followed (indentation s level) l.0 y' Anything (read_head (indentation s level) l.0 y' l.2 x)) (nodes_in_line_read g level f.0 (first n ns) (first (node z k) ms) e.1 f.2 xs)
+      next_node (followed (indentation s level) l.texts y' Anything (read_head (indentation s level) l.texts y' (bare_line number s level false b (or_empty y.format) y'.ty y'.format l (head_parts false y e.0).line) x)) (nodes_in_line_read g level f.0 (first n ns) (first (node z k) ms) e.1 f.2 xs)
 
   content_in_line : (ns : Nodes) → NodesRead (BlockEnd (Some braces_in_line)) (nodes_in_line ns) → ContentReads (BlockEnd (Some braces_in_line)) [] [] (nodes_in_line ns)
   content_in_line none x = two_texts (λ r q xs z d. d) (λ r p. no_gap)
@@ -108,10 +111,10 @@ module _ (number : ℕ) (s : Settings) (ok : list_all is_space s.indent ≡ true
   node_ends : {P Q : Rests} (level : ℕ) (b : Before) (n n' : Node) → IsLined number s level b n n' → NodeReads P (one_lined_node keep n n') → NodeReads Q (one_lined_node keep n n')
   node_ends {Q = Q} level b (node h k) (node h' k') f (reads {f = g} e head kids end) =
       let line = f.0 in
-      let same : g ≡ line_of (indentation s level) line.0 = ap or_empty (sym e ∙ line.2) in
+      let same : g ≡ with_type_texts line.types (line_of (indentation s level) line.texts) = ap or_empty (sym e ∙ line.is) in
       reads e head kids
       (subst (λ (z : NodeFormat). EndReads Q (one_lined_children keep k k') z) (sym same)
-      (line_end number s ok level (has_block k) b (or_empty h.format) line.0 line.1 (one_lined_children keep k k') (f.1 ∙ sym (block_stays keep k k')) Q))
+      (line_end number s ok level (has_block k) b (or_empty h.format) line.texts line.types line.kept (one_lined_children keep k k') (f.1 ∙ sym (block_stays keep k k')) Q))
 
   pub nodes_end : {P Q : Rests} (level : ℕ) (b : Before) (ns ns' : Nodes) → AreLined number s level b ns ns' → NodesRead P (one_lined_nodes keep ns ns') → NodesRead Q (one_lined_nodes keep ns ns')
   nodes_end level b none none f x = no_node
@@ -138,21 +141,23 @@ module _ (number : ℕ) (s : Settings) (ok : list_all is_space s.indent ≡ true
   mutual
     node_reads : (Q : Rests) (level : ℕ) (b : Before) (n n' : Node) → IsWrittenNode number s level b n n' → NodeReads Q (one_lined_node keep n n')
     node_reads Q level b (node h k) (node h' k') (f, c) =
-        let (t, kept, line) = f.format in
+        let t = f.format.texts in
+        let w = f.format.types in
+        let kept = f.format.kept in
         let has = has_block k in
         let old = or_empty h.format in
-        reads line (line_head number s ok level has b old t kept h' f.ty f.name (entries_read h.entries h'.entries f.entries))
-        (children_read level b old t k k' c kept)
-        (line_end number s ok level has b old t kept (one_lined_children keep k k') (written_block number s level k k' c ∙ sym (block_stays keep k k')) Q)
+        reads f.format.is (line_head number s ok level has b old t w kept h' f.ty f.name f.format.spaces f.format.untyped (entries_read h.entries h'.entries f.entries))
+        (children_read level b old t w k k' c kept)
+        (line_end number s ok level has b old t w kept (one_lined_children keep k k') (written_block number s level k k' c ∙ sym (block_stays keep k k')) Q)
 
-    children_read : (level : ℕ) (b : Before) (f : NodeFormat) (t : NodeTexts) (k k' : Children) → AreWrittenChildren number s level k k' → SpacesTexts number s level (has_block k) b f t
-        → ChildrenRead (line_of (indentation s level) t) (one_lined_children keep k k')
-    children_read level b f t no_children no_children c kept = no_block
-    children_read level b f t no_children (children d') c kept = absurd c
-    children_read level b f t (children (document g span ns)) no_children c kept = absurd c
-    children_read level b f t (children (document g span ns)) (children (document g' span' ns')) (b', c, nodes) kept =
+    children_read : (level : ℕ) (b : Before) (f : NodeFormat) (t : NodeTexts) (w : TypeTexts) (k k' : Children) → AreWrittenChildren number s level k k' → SpacesTexts number s level (has_block k) b f t
+        → ChildrenRead (with_type_texts w (line_of (indentation s level) t)) (one_lined_children keep k k')
+    children_read level b f t w no_children no_children c kept = no_block
+    children_read level b f t w no_children (children d') c kept = absurd c
+    children_read level b f t w (children (document g span ns)) no_children c kept = absurd c
+    children_read level b f t w (children (document g span ns)) (children (document g' span' ns')) (b', c, nodes) kept =
         let x = nodes_read (level + 1) b' ns ns' nodes in
-        a_block (line_block number s ok level true b f t kept refl)
+        a_block (line_block number s ok level true b f t w kept refl)
         (one_or_more BlockReads (keep && is_on_one_line (document g span ns)) (in_one_line (document g' span' ns')) (one_lined_document keep (document g span ns) (document g' span' ns'))
         (λ e. let h = (and_parts (braces_on_line g) (nodes_on_line ns) (and_parts keep (is_on_one_line (document g span ns)) e).1).1 in
         one_line_reads number s (level + 1) b' ns ns' span' h (written_lines number s (level + 1) b' ns ns' nodes) (subst (NodesRead Anything) (nodes_flat keep ns ns' h) x))

@@ -1,6 +1,7 @@
 -- A second layout that keeps spellings changes nothing: layout does not look at them, and what was put back is put back again.
 use Rattle.std.proofs.Common.{◌≡◌, ℕ, ◌+◌, Bool, true, false, List, [], ◌∷◌, ◌++◌, refl, sym, ap, subst, ◌∙◌, Option, Some, None, option_map}
 use Rattle.std.specs.List.{list_all}
+use Rattle.std.specs.Prelude.{◌&&◌, ◌||◌, not, is_some}
 use Rattle.kdl_text.specs.Chars.{Text, is_space}
 use Rattle.kdl_value.specs.Data.{Value}
 use Rattle.kdl_value.specs.Print.{print_value}
@@ -11,16 +12,19 @@ use Rattle.kdl_comments.specs.Written.{tail}
 use Rattle.kdl_fmt.specs.Blank.{at_start}
 use Rattle.kdl_fmt.specs.Config.{Settings, indentation}
 use Rattle.kdl_fmt.specs.Formatted.{with_keep_if, or_empty, or_empty_document, in_braces, newline_if_none, EntriesKeepNone, NodeKeepsNone, ChildrenKeepNone, DocumentKeepsNone, NodesKeepNone}
-use Rattle.kdl_fmt.specs.Kept.{WrittenUnless, KeptBefore, is_kept_format}
-use Rattle.kdl_fmt.specs.Respelled.{KeptSpelling, IsRespelled, IsRespelledIf, text_before, KeptValue, HasSpellings, HasSpellingsUnless, IsRespelledEntry, AreRespelledEntries, IsRespelledHead, IsRespelledNode, AreRespelledChildren, IsRespelledDocument, AreRespelledNodes, IsSpelledNode, IsSpelledDocument}
+use Rattle.kdl_fmt.specs.Kept.{Written, WrittenUnless, KeptBefore, is_kept_format}
+use Rattle.kdl_fmt.specs.Plain.{only_spaces}
+use Rattle.kdl_fmt.specs.Respelled.{KeptSpelling, IsRespelled, IsRespelledIf, IsSpelling, text_before, KeptLeading, KeptPlaceIf, TypeTexts, KeptTypeTexts, KeptTypeTextsIf, KeepsForm, KeptForm, entry_type_texts, node_type_texts, with_type_texts, IsTypedFormat, HasSpellings, HasSpellingsUnless, IsRespelledEntry, AreRespelledEntries, IsRespelledHead, IsRespelledNode, AreRespelledChildren, IsRespelledDocument, AreRespelledNodes, IsSpelledNode, IsSpelledDocument}
 use Rattle.kdl_fmt.specs.Spaced.{SpacesContent, IsSpacedLine, IsSpacedHead, PassesNode, PassesFormat, PassesNodes, IsSpacedBraced, IsSpacedNode, IsSpacedChildren, AreSpacedNodes, IsSpacedDocument}
 use Rattle.kdl_fmt.specs.WithComments.{behind, IsFormattedEntry, AreFormattedEntries, content_of, has_block}
 use Rattle.kdl_fmt.specs.declared.blank.Before.{Before}
 use Rattle.kdl_fmt.proofs.EntryTexts.{no_format}
-use Rattle.kdl_fmt.proofs.Formatting.FormattedUnique.{before_det, entry_keeps_none}
+use Rattle.kdl_comments.proofs.Rewriting.PlacesAgain.{tail_spaced}
+use Rattle.kdl_fmt.proofs.Formatting.FormattedUnique.{entry_keeps_none, tail_det}
 use Rattle.kdl_fmt.proofs.Keeping.KeptReads.{blank_tail, kept_bare}
 use Rattle.kdl_fmt.proofs.Respelling.Leaves.{cleared_same, entry_flag, unspelled_same, unspelled_same_if}
-use Rattle.kdl_fmt.proofs.Respelling.Written.{plain_format, behind_format, behind_name, behind_ty, behind_value}
+use Rattle.kdl_fmt.proofs.Respelling.Kept.{OnlySpaces, leading_again, no_texts, place_again_if, place_bare_if, types_again, types_again_if, types_bare_if}
+use Rattle.kdl_fmt.proofs.Respelling.Written.{leading_is, plain_format, behind_format, behind_name, behind_ty, behind_value}
 use Rattle.kdl_fmt.proofs.Spacing.Again as spaced
 
 -- an entry that is not flagged has no format once it is laid out, but for what is kept before it
@@ -32,19 +36,35 @@ blank_kept : (b : Bool) → WrittenUnless b (PlaceItems (before_entry false) (32
 blank_kept true = refl
 blank_kept false = blank_tail false (before_entry false) (32 ∷ []) [] refl refl refl
 
-space_kept : (s : Settings) (w u : Text) → KeptBefore s (Some (record empty_format { value_repr = w; leading = 32 ∷ [] })) u → u ≡ []
-space_kept s w u k = before_det s (Some (record empty_format { value_repr = w; leading = 32 ∷ [] })) u [] k (blank_kept s.no_comments)
+-- the same of the text that layout leaves before an entry
+before_plain : (s : Settings) (v : Value) (t u : Text) → WrittenUnless s.no_comments (PlaceItems (before_entry false) (text_before (plain_format t v))) tail u → KeptBefore s (plain_format t v) u
+before_plain s v [] u k = kept_bare s.no_comments u (tail_det s (before_entry false) (32 ∷ []) u [] k (blank_kept s.no_comments))
+before_plain s v (c ∷ t) u k = k
 
--- what is kept before an entry is kept of it with its spelling and without
-spelling_unlooked : (s : Settings) (v : Value) (t w u : Text) → KeptBefore s (Some (record empty_format { value_repr = w; leading = text_before (plain_format t v) })) u → KeptBefore s (plain_format t v) u
-spelling_unlooked s v [] w u k = kept_bare s.no_comments u (space_kept s w u k)
-spelling_unlooked s v (c ∷ t) w u k = k
+-- what is kept of comments is kept again after it is written
+tail_again : (b : Bool) (q t : Text) → WrittenUnless b (PlaceItems (before_entry false) q) tail t → WrittenUnless b (PlaceItems (before_entry false) (t ++ (32 ∷ []))) tail t
+tail_again true q t k = k
+tail_again false q _ (Written.items d) = Written.items (tail_spaced d)
+tail_again false q _ (Written.none n) = blank_kept false
 
-before_unlooked : (s : Settings) (v : Value) (t u : Text) (o p q : Option EntryFormat) → p ≡ plain_format t v → KeptValue v o p q → KeptBefore s q u → KeptBefore s p u
-before_unlooked s v t u _ p _ e (KeptValue.kept {f = f} d) k =
-    subst (λ (x : Option EntryFormat). KeptBefore s x u) (sym e) (spelling_unlooked s v t f.value_repr u (subst (λ (x : Option EntryFormat). KeptBefore s (Some (record empty_format { value_repr = f.value_repr; leading = text_before x })) u) e k))
-before_unlooked s v t u _ p _ e (KeptValue.other n) k = k
-before_unlooked s v t u _ p _ e KeptValue.formless k = k
+-- layout looks at the text before an entry, which is kept of it, with its spelling or without
+before_unlooked : (s : Settings) (e : Entry) (t u : Text) (o p q : Option EntryFormat) → is_kept_format o ≡ false → KeptBefore s o t → p ≡ plain_format t e.value → KeptForm s e o p q → KeptBefore s q u → KeptBefore s p u
+before_unlooked s e t u _ p _ n h i (KeptForm.kept {f = f} {g = g} d k) b =
+    subst (λ (x : Option EntryFormat). KeptBefore s x u) (sym i) (before_plain s e.value t u (go k.leading (subst (λ (z : Bool). WrittenUnless (z || s.no_comments) (PlaceItems (before_entry false) g.leading) tail u) k.autoformat_keep b)))
+  where
+    old : WrittenUnless s.no_comments (PlaceItems (before_entry false) f.leading) tail t
+    old = subst (λ (z : Bool). WrittenUnless (z || s.no_comments) (PlaceItems (before_entry false) f.leading) tail t) n h
+
+    after : text_before (plain_format t e.value) ≡ t ++ (32 ∷ [])
+    after = leading_is t e.value
+
+    go : {r : Text} → KeptLeading s f.leading (text_before p) r → WrittenUnless s.no_comments (PlaceItems (before_entry false) r) tail u → WrittenUnless s.no_comments (PlaceItems (before_entry false) (text_before (plain_format t e.value))) tail u
+    go (KeptLeading.continued c) w =
+        subst (λ (z : Text). WrittenUnless s.no_comments (PlaceItems (before_entry false) z) tail u) (sym after)
+        (subst (λ (z : Text). WrittenUnless s.no_comments (PlaceItems (before_entry false) (t ++ (32 ∷ []))) tail z) (tail_det s (before_entry false) f.leading t u old w) (tail_again s.no_comments f.leading t old))
+    go (KeptLeading.other m) w = subst (λ (x : Option EntryFormat). WrittenUnless s.no_comments (PlaceItems (before_entry false) (text_before x)) tail u) i w
+before_unlooked s e t u _ p _ n h i (KeptForm.other m) b = b
+before_unlooked s e t u _ p _ n h i KeptForm.formless b = b
 
 -- what is put back is put back again
 spelling_again : (s : Text) (o r q : Option Text) → KeptSpelling s o r → KeptSpelling s r q → q ≡ r
@@ -71,19 +91,114 @@ name_again_if keep (Some i) (Some m) None y e a b = absurd a
 name_again_if keep (Some i) (Some m) (Some x) None e a b = absurd b
 name_again_if keep (Some i) (Some m) (Some x) (Some y) e a b = let h : m ≡ unspelled i = cc in ap Some (name_again keep i m x y h a b)
 
-plain_again : (v : Value) (t : Text) (p q : Option EntryFormat) → p ≡ plain_format t v → KeptValue v p p q → q ≡ p
-plain_again v [] _ _ e (KeptValue.kept {f = f} d) = absurd cc
-plain_again v (c ∷ t) _ _ e (KeptValue.kept {f = f} d) =
-    let h : f ≡ record empty_format { leading = (c ∷ t) ++ (32 ∷ []); value_repr = print_value v } = cc in
-    ap (λ (x : EntryFormat). Some (record empty_format { value_repr = x.value_repr; leading = x.leading })) h ∙ sym (ap Some h)
-plain_again v t _ _ e (KeptValue.other n) = refl
-plain_again v t _ _ e KeptValue.formless = refl
+-- an entry with the same value, and with a type and a key where this one has them
+record IsLike (e x : Entry) : Type 0 where
+  value : x.value ≡ e.value
+  ty : is_some x.ty ≡ is_some e.ty
+  name : is_some x.name ≡ is_some e.name
 
-format_again : (v : Value) (t : Text) (o p q r : Option EntryFormat) → p ≡ plain_format t v → KeptValue v o p q → KeptValue v q p r → r ≡ q
-format_again v t _ p _ r e (KeptValue.kept d) (KeptValue.kept h) = refl
-format_again v t _ p _ r e (KeptValue.kept d) (KeptValue.other n) = absurd (n d)
-format_again v t _ p _ r e (KeptValue.other n) h = plain_again v t p r e h
-format_again v t _ p _ r e KeptValue.formless h = plain_again v t p r e h
+some_again : (keep : Bool) (o m x : Option Identifier) → IsRespelledIf keep o m x → is_some x ≡ is_some o
+some_again keep None None None r = refl
+some_again keep None None (Some x) r = absurd r
+some_again keep None (Some m) x r = absurd r
+some_again keep (Some i) None x r = absurd r
+some_again keep (Some i) (Some m) None r = absurd r
+some_again keep (Some i) (Some m) (Some x) r = refl
+
+keeps_again : (s : Settings) (e x : Entry) (f g h : EntryFormat) (laid : Text) → IsLike e x → KeepsForm s e f laid g → KeepsForm s x g laid h → h ≡ g
+keeps_again s e x f g h laid like a b =
+    let out = not s.no_comments in
+    let leading = leading_again a.leading b.leading in
+    let value_repr = b.value_repr in
+    let types = types_again_if (out && is_some e.ty) (entry_type_texts f) (entry_type_texts g) (entry_type_texts h) a.ty (subst (λ (z : Bool). KeptTypeTextsIf (out && z) (entry_type_texts g) (entry_type_texts h)) like.ty b.ty) in
+    let after_key = place_again_if (out && is_some e.name) f.after_key g.after_key h.after_key a.after_key (subst (λ (z : Bool). KeptPlaceIf (out && z) g.after_key h.after_key) like.name b.after_key) in
+    let after_eq = place_again_if (out && is_some e.name) f.after_eq g.after_eq h.after_eq a.after_eq (subst (λ (z : Bool). KeptPlaceIf (out && z) g.after_eq h.after_eq) like.name b.after_eq) in
+    let trailing = b.trailing ∙ sym a.trailing in
+    let flag = b.autoformat_keep ∙ sym a.autoformat_keep in
+    λ i. record {
+      value_repr = value_repr i;
+      leading = leading i;
+      trailing = trailing i;
+      after_ty = (types i).after;
+      before_ty_name = (types i).before_name;
+      after_ty_name = (types i).after_name;
+      after_key = after_key i;
+      after_eq = after_eq i;
+      autoformat_keep = flag i;
+    }
+
+-- the format that layout leaves has no text inside, and so is kept
+plain_keeps : (s : Settings) (x : Entry) (laid : Text) (f g : EntryFormat) → f ≡ record empty_format { leading = laid; value_repr = f.value_repr } → KeepsForm s x f laid g → g ≡ f
+plain_keeps s x laid f g e k =
+    let out = not s.no_comments in
+    let leading : g.leading ≡ f.leading = same_leading k.leading ∙ sym (ap (λ (z : EntryFormat). z.leading) e) in
+    let types : entry_type_texts g ≡ no_texts = types_bare_if (out && is_some x.ty) (entry_type_texts f) (entry_type_texts g) bare k.ty in
+    let after_key : g.after_key ≡ [] = place_bare_if (out && is_some x.name) f.after_key g.after_key (ap (λ (z : EntryFormat). only_spaces z.after_key) e) k.after_key in
+    let after_eq : g.after_eq ≡ [] = place_bare_if (out && is_some x.name) f.after_eq g.after_eq (ap (λ (z : EntryFormat). only_spaces z.after_eq) e) k.after_eq in
+    let value = k.value_repr in
+    let trailing = k.trailing in
+    let flag = k.autoformat_keep in
+    (λ i. record {
+      value_repr = value i;
+      leading = leading i;
+      trailing = trailing i;
+      after_ty = (types i).after;
+      before_ty_name = (types i).before_name;
+      after_ty_name = (types i).after_name;
+      after_key = after_key i;
+      after_eq = after_eq i;
+      autoformat_keep = flag i;
+    }) ∙ ap (λ (z : Text). record empty_format { leading = z; value_repr = f.value_repr }) (ap (λ (z : EntryFormat). z.leading) e) ∙ sym e
+  where
+    bare : OnlySpaces (entry_type_texts f)
+    bare = record { before_name = ap (λ (z : EntryFormat). only_spaces z.before_ty_name) e; after_name = ap (λ (z : EntryFormat). only_spaces z.after_ty_name) e; after = ap (λ (z : EntryFormat). only_spaces z.after_ty) e }
+
+    same_leading : {r : Text} → KeptLeading s f.leading laid r → r ≡ laid
+    same_leading (KeptLeading.continued c) = ap (λ (z : EntryFormat). z.leading) e
+    same_leading (KeptLeading.other n) = refl
+
+plain_again : (s : Settings) (x : Entry) (t : Text) (v : Value) (p q : Option EntryFormat) → p ≡ plain_format t v → KeptForm s x p p q → q ≡ p
+plain_again s x [] v _ _ e (KeptForm.kept d k) = absurd cc
+plain_again s x (c ∷ t) v _ _ e (KeptForm.kept {f = f} {g = g} d k) =
+    let h : f ≡ record empty_format { leading = (c ∷ t) ++ (32 ∷ []); value_repr = print_value v } = cc in
+    let h' : f ≡ record empty_format { leading = f.leading; value_repr = f.value_repr } = h ∙ sym (ap (λ (z : EntryFormat). record empty_format { leading = z.leading; value_repr = z.value_repr }) h) in
+    ap Some (plain_keeps s x f.leading f g h' k)
+plain_again s x t v _ _ e (KeptForm.other n) = refl
+plain_again s x t v _ _ e KeptForm.formless = refl
+
+format_again : (s : Settings) (e x : Entry) (t : Text) (o p q r : Option EntryFormat) → IsLike e x → p ≡ plain_format t e.value → KeptForm s e o p q → KeptForm s x q p r → r ≡ q
+format_again s e x t _ p _ _ like h (KeptForm.kept {f = f} {g = g} d k) (KeptForm.kept {g = g'} b j) = ap Some (keeps_again s e x f g g' (text_before p) like k j)
+format_again s e x t _ p _ _ like h (KeptForm.kept {f = f} {g = g} d k) (KeptForm.other n) = absurd (n (subst (λ (v : Value). IsSpelling v g.value_repr) (sym like.value) (subst (IsSpelling e.value) (sym k.value_repr) d)))
+format_again s e x t _ p _ r like h (KeptForm.other n) b = plain_again s x t e.value p r h b
+format_again s e x t _ p _ r like h KeptForm.formless b = plain_again s x t e.value p r h b
+
+-- layout does not look at the texts around the type of a node
+typed_passes : (number : ℕ) (s : Settings) (c : Bool) (f : NodeFormat) (m x : Option NodeFormat) (b : Before) → IsTypedFormat c f m x → PassesFormat number s (or_empty x) b → PassesFormat number s (or_empty m) b
+typed_passes number s false f m x b h p = subst (λ (z : Option NodeFormat). PassesFormat number s (or_empty z) b) h p
+typed_passes number s true f m x b (t, k, h) p = go m (subst (λ (z : Option NodeFormat). PassesFormat number s (or_empty z) b) h p)
+  where
+    go : (m : Option NodeFormat) → PassesFormat number s (or_empty (option_map (with_type_texts t) m)) b → PassesFormat number s (or_empty m) b
+    go None p = p
+    go (Some g) p = p
+
+typed_spaced : (number : ℕ) (s : Settings) (level : ℕ) (has : Bool) (b : Before) (c : Bool) (f : NodeFormat) (m x z : Option NodeFormat) → IsTypedFormat c f m x → IsSpacedLine number s level has b (or_empty x) z → IsSpacedLine number s level has b (or_empty m) z
+typed_spaced number s level has b false f m x z h p = subst (λ (y : Option NodeFormat). IsSpacedLine number s level has b (or_empty y) z) h p
+typed_spaced number s level has b true f m x z (t, k, h) p = go m (subst (λ (y : Option NodeFormat). IsSpacedLine number s level has b (or_empty y) z) h p)
+  where
+    go : (m : Option NodeFormat) → IsSpacedLine number s level has b (or_empty (option_map (with_type_texts t) m)) z → IsSpacedLine number s level has b (or_empty m) z
+    go None p = p
+    go (Some g) (k, c, e) = (
+      k,
+      record { lines = c.lines; at_node = c.at_node; behind_it = c.behind_it; leading = c.leading; before = c.before; before_block = c.before_block; last = c.last; end = c.end; behind = c.behind },
+      e,
+    )
+
+typed_again : (c : Bool) (f : NodeFormat) (m x y : Option NodeFormat) → IsTypedFormat c f m x → IsTypedFormat c (or_empty x) m y → y ≡ x
+typed_again false f m x y a b = b ∙ sym a
+typed_again true f None x y (t, k, h) (u, j, i) = i ∙ sym h
+typed_again true f (Some g) x y (t, k, h) (u, j, i) =
+    let same : node_type_texts (or_empty x) ≡ t = ap (λ (z : Option NodeFormat). node_type_texts (or_empty z)) h in
+    i ∙ ap (λ (z : TypeTexts). Some (with_type_texts z g)) (types_again k (subst (λ (z : TypeTexts). KeptTypeTexts z u) same j)) ∙ sym h
 
 module _ (keep : Bool) (s : Settings) (no_keep : s.entry_autoformate_keep ≡ false) where
   unflagged : (e : Entry) → with_keep_if s.entry_autoformate_keep e ≡ e
@@ -92,10 +207,11 @@ module _ (keep : Bool) (s : Settings) (no_keep : s.entry_autoformate_keep ≡ fa
   -- an entry that is laid out: what it is without spellings
   record Laid (e m : Entry) : Type 0 where
     before : Text
+    kept : KeptBefore s e.format before
     is : m ≡ behind before (autoformatted e)
 
   laid : (e m : Entry) → IsFormattedEntry s e m → Laid e m
-  laid e m (t, k, q) = record { before = t; is = q ∙ ap (λ (x : Entry). behind t (autoformatted x)) (unflagged e) }
+  laid e m (t, k, q) = record { before = t; kept = subst (λ (x : Entry). KeptBefore s x.format t) (unflagged e) k; is = q ∙ ap (λ (x : Entry). behind t (autoformatted x)) (unflagged e) }
 
   format_is : (e m : Entry) (l : Laid e m) → is_kept_format e.format ≡ false → m.format ≡ plain_format l.before e.value
   format_is e m l n = ap (λ (x : Entry). x.format) l.is ∙ behind_format l.before (autoformatted e) (no_format e.format n)
@@ -103,8 +219,8 @@ module _ (keep : Bool) (s : Settings) (no_keep : s.entry_autoformate_keep ≡ fa
   value_is : (e m : Entry) (l : Laid e m) → m.value ≡ e.value
   value_is e m l = ap (λ (x : Entry). x.value) l.is ∙ behind_value l.before (autoformatted e)
 
-  spellings : (e m x : Entry) (b : Bool) → is_kept_format e.format ≡ false → HasSpellingsUnless (is_kept_format (with_keep_if s.entry_autoformate_keep e).format) e m x → HasSpellings e m x
-  spellings e m x b n h = subst (λ (z : Bool). HasSpellingsUnless z e m x) (ap (λ (y : Entry). is_kept_format y.format) (unflagged e) ∙ n) h
+  spellings : (e m x : Entry) (b : Bool) → is_kept_format e.format ≡ false → HasSpellingsUnless (is_kept_format (with_keep_if s.entry_autoformate_keep e).format) s e m x → HasSpellings s e m x
+  spellings e m x b n h = subst (λ (z : Bool). HasSpellingsUnless z s e m x) (ap (λ (y : Entry). is_kept_format y.format) (unflagged e) ∙ n) h
 
   -- layout does not look at spellings
   look : (e z : Entry) → IsFormattedEntry s e z → (u : Text) × KeptBefore s e.format u × (z ≡ behind u (autoformatted e))
@@ -127,15 +243,15 @@ module _ (keep : Bool) (s : Settings) (no_keep : s.entry_autoformate_keep ≡ fa
       go true r =
           let (u, k, q) = look x z g in
           let l = laid e m f in
-          looked m z u (before_unlooked s e.value l.before u e.format m.format x.format (format_is e m l n) (spellings e m x true n r).format k) (q ∙ ap (behind u) (auto true r))
+          looked m z u (before_unlooked s e l.before u e.format m.format x.format n l.kept (format_is e m l n) (spellings e m x true n r).format k) (q ∙ ap (behind u) (auto true r))
 
   -- what an entry got back it gets back again
-  spelled_again : (e m x y : Entry) (l : Laid e m) → is_kept_format e.format ≡ false → HasSpellings e m x → HasSpellings x m y → y ≡ x
+  spelled_again : (e m x y : Entry) (l : Laid e m) → is_kept_format e.format ≡ false → HasSpellings s e m x → HasSpellings s x m y → y ≡ x
   spelled_again e m x y l n a b =
       let ty = name_again_if true e.ty m.ty x.ty y.ty (ap (λ (z : Entry). z.ty) l.is ∙ behind_ty l.before (autoformatted e)) a.ty b.ty in
       let name = name_again_if true e.name m.name x.name y.name (ap (λ (z : Entry). z.name) l.is ∙ behind_name l.before (autoformatted e)) a.name b.name in
-      let v = subst (λ (z : Value). KeptValue z x.format m.format y.format) (a.value ∙ value_is e m l) b.format in
-      let format = format_again e.value l.before e.format m.format x.format y.format (format_is e m l n) a.format v in
+      let like : IsLike e x = record { value = a.value ∙ value_is e m l; ty = some_again true e.ty m.ty x.ty a.ty; name = some_again true e.name m.name x.name a.name } in
+      let format = format_again s e x l.before e.format m.format x.format y.format like (format_is e m l n) a.format b.format in
       let value = b.value ∙ sym a.value in
       let span = b.span ∙ sym a.span in
       λ i. record { ty = ty i; value = value i; name = name i; format = format i; span = span i }
@@ -188,7 +304,7 @@ module _ (keep : Bool) (s : Settings) (no_keep : s.entry_autoformate_keep ≡ fa
 
   module _ (number : ℕ) where
     node_passes : (n m x : Node) (b : Before) → IsRespelledNode keep s n m x → PassesNode number s x b → PassesNode number s m b
-    node_passes (node h k) (node m j) (node x l) b r p = subst (λ (f : Option NodeFormat). PassesFormat number s (or_empty f) b) r.0.format p
+    node_passes (node h k) (node m j) (node x l) b r p = typed_passes number s (keep && not s.no_comments && is_some h.ty) (or_empty h.format) m.format x.format b r.0.format p
 
     nodes_pass : (b e : Before) (ns ms xs : Nodes) → AreRespelledNodes keep s ns ms xs → PassesNodes number s b xs e → PassesNodes number s b ms e
     nodes_pass b e none none none r p = p
@@ -214,7 +330,7 @@ module _ (keep : Bool) (s : Settings) (no_keep : s.entry_autoformate_keep ≡ fa
       ty = g.ty ∙ unspelled_same_if keep h.ty m.ty x.ty r.ty;
       name = g.name ∙ unspelled_same keep h.name m.name x.name r.name;
       entries = entries_unlooked h.entries m.entries x.entries z.entries f.entries r.entries o g.entries;
-      format = subst (λ (y : Option NodeFormat). IsSpacedLine number s level has c (or_empty y) z.format) r.format g.format;
+      format = typed_spaced number s level has c (keep && not s.no_comments && is_some h.ty) (or_empty h.format) m.format x.format z.format r.format g.format;
       span = g.span ∙ r.span;
     }
 
@@ -269,7 +385,8 @@ module _ (keep : Bool) (s : Settings) (no_keep : s.entry_autoformate_keep ≡ fa
         let ty = name_again_if keep h.ty m.ty x.ty y.ty f.ty p.ty q.ty in
         let name = name_again keep h.name m.name x.name y.name f.name p.name q.name in
         let entries = entries_again h.entries m.entries x.entries y.entries f.entries o p.entries q.entries in
-        let format = q.format ∙ sym p.format in
+        let format = typed_again (keep && not s.no_comments && is_some h.ty) (or_empty h.format) m.format x.format y.format p.format
+        (subst (λ (z : Bool). IsTypedFormat (keep && not s.no_comments && z) (or_empty x.format) m.format y.format) (some_again keep h.ty m.ty x.ty p.ty) q.format) in
         let span = q.span ∙ sym p.span in
         λ i. record { ty = ty i; name = name i; entries = entries i; format = format i; span = span i }
 

@@ -2,14 +2,14 @@
 use Rattle.std.proofs.Common.{◌≡◌, Bool, true, false, [], ◌∷◌, ◌++◌, refl, sym, ap, subst, ◌∙◌, Option, Some, None, option_map, Result, Ok, Err}
 use Rattle.std.specs.Prelude.{IsTrue, OnErr, OnOk}
 use Rattle.kdl_text.specs.Chars.{Text}
-use Rattle.kdl_value.specs.Data.{Value}
 use Rattle.kdl_entry.specs.Entries.{IsIdentifierText}
-use Rattle.kdl_entry.specs.Tree.{Identifier, EntryFormat, empty_format, Entry, unspelled, cleared, autoformatted, autoformatted_format}
-use Rattle.kdl_fmt.specs.Internal.Names.{unspelled_if, Keeps, KeepsName, autoformatted_but, spelled_behind, emptied_format, HasSpelling, IsLaid}
+use Rattle.kdl_entry.specs.Tree.{Identifier, EntryFormat, Entry, unspelled, cleared, autoformatted, autoformatted_format}
+use Rattle.kdl_fmt.specs.Internal.KeptTexts.{HasForm}
+use Rattle.kdl_fmt.specs.Internal.Names.{unspelled_if, Keeps, KeepsName, autoformatted_but, without_value, HasSpelling, IsLaid}
 use Rattle.kdl_fmt.specs.Config.{Settings}
 use Rattle.kdl_fmt.specs.Formatted.{with_keep_if}
 use Rattle.kdl_fmt.specs.Kept.{is_kept_format}
-use Rattle.kdl_fmt.specs.Respelled.{KeptSpelling, IsRespelledIf, text_before, KeptValue, HasSpellings, HasSpellingsUnless, IsRespelledEntry, IsSpelledEntry}
+use Rattle.kdl_fmt.specs.Respelled.{KeptSpelling, IsRespelledIf, text_before, KeepsForm, KeptForm, HasSpellings, HasSpellingsUnless, IsRespelledEntry, IsSpelledEntry}
 use Rattle.kdl_fmt.specs.WithComments.{behind, put_format}
 use Rattle.kdl_fmt.proofs.EntryTexts.{no_format}
 use Rattle.kdl_fmt.proofs.Respelling.Written.{plain_format, leading_is, behind_name, behind_ty, behind_value, behind_format, unflagged_same}
@@ -47,22 +47,22 @@ behind_span : (t : Text) (e : Entry) → (behind t e).span ≡ e.span
 behind_span [] e = refl
 behind_span (c ∷ t) e = refl
 
--- an entry whose format was taken out
-pub taken_same : (key ty : Bool) (e : Entry) → is_kept_format e.format ≡ false → autoformatted_but key ty (record e { format = emptied_format e.format }) ≡ autoformatted_but key ty e
-taken_same key ty e n = ap (λ (o : Option EntryFormat). record (autoformatted_but key ty e) { format = o }) (go e.format ∙ sym (no_format e.format n))
+-- an entry whose spelling was taken out
+pub taken_same : (key ty : Bool) (e : Entry) → is_kept_format e.format ≡ false → autoformatted_but key ty (record e { format = option_map without_value e.format }) ≡ autoformatted_but key ty e
+taken_same key ty e n = ap (λ (o : Option EntryFormat). record (autoformatted_but key ty e) { format = o }) (go e.format n ∙ sym (no_format e.format n))
   where
-    go : (o : Option EntryFormat) → autoformatted_format (emptied_format o) ≡ None
-    go None = refl
-    go (Some f) = refl
+    go : (o : Option EntryFormat) → is_kept_format o ≡ false → autoformatted_format (option_map without_value o) ≡ None
+    go None n = refl
+    go (Some f) n = rw n refl
 
-module _ (e : Entry) (t : Text) (key ty : Bool) (unflagged : is_kept_format e.format ≡ false) where
+module _ (s : Settings) (e : Entry) (t : Text) (key ty : Bool) (unflagged : is_kept_format e.format ≡ false) where
   abbrev mid : Entry
   mid = behind t (autoformatted e)
 
   mid_format : mid.format ≡ plain_format t e.value
   mid_format = behind_format t (autoformatted e) (no_format e.format unflagged)
 
-  pub spelled_entry : (y e' : Entry) (o : Option EntryFormat) → Keeps true e.name key → Keeps true e.ty ty → y ≡ autoformatted_but key ty e → e' ≡ put_format o y → KeptValue e.value e.format mid.format e'.format → HasSpellings e mid e'
+  pub spelled_entry : (y e' : Entry) (o : Option EntryFormat) → Keeps true e.name key → Keeps true e.ty ty → y ≡ autoformatted_but key ty e → e' ≡ put_format o y → KeptForm s e e.format mid.format e'.format → HasSpellings s e mid e'
   spelled_entry y e' o k h a b v =
       let name : e'.name ≡ unspelled_if key e.name = ap (λ (x : Entry). x.name) b ∙ put_name o y ∙ ap (λ (x : Entry). x.name) a in
       let type : e'.ty ≡ unspelled_if ty e.ty = ap (λ (x : Entry). x.ty) b ∙ put_ty o y ∙ ap (λ (x : Entry). x.ty) a in
@@ -75,43 +75,47 @@ module _ (e : Entry) (t : Text) (key ty : Bool) (unflagged : is_kept_format e.fo
       }
 
   -- with its spelling
-  taken_value : (f q : Option EntryFormat) (v : Value) (m : Option EntryFormat) (l : Text) → m ≡ plain_format t v → l ≡ t ++ (32 ∷ []) → HasSpelling v f true → q ≡ option_map (spelled_behind l) f → KeptValue v f m q
-  taken_value None q v m l a b h c = let z : true ≡ false = h in absurd (cc)
-  taken_value (Some f) q v m l a b h c =
-      let before : l ≡ text_before m = b ∙ sym (leading_is t v) ∙ ap text_before (sym a) in
-      subst (λ (z : Option EntryFormat). KeptValue v (Some f) m z) (sym (c ∙ ap (λ (z : Text). Some (record empty_format { value_repr = f.value_repr; leading = z })) before)) (KeptValue.kept h)
+  taken_form : (f o q m : Option EntryFormat) (l : Text) → m ≡ plain_format t e.value → l ≡ t ++ (32 ∷ []) → HasSpelling e.value f true → HasForm s e l f o → q ≡ o → KeptForm s e f m q
+  taken_form None o q m l a b h k c = let z : true ≡ false = h in absurd (cc)
+  taken_form (Some f) None q m l a b h k c = absurd k
+  taken_form (Some f) (Some g) q m l a b h k c =
+      let before : l ≡ text_before m = b ∙ sym (leading_is t e.value) ∙ ap text_before (sym a) in
+      subst (λ (z : Option EntryFormat). KeptForm s e (Some f) m z) (sym c) (KeptForm.kept h (subst (λ (z : Text). KeepsForm s e f z g) before k))
 
-  put_taken : (f o : Option EntryFormat) (l : Text) (y : Entry) → y.format ≡ None → o ≡ option_map (spelled_behind l) f → (put_format o y).format ≡ option_map (spelled_behind l) f
-  put_taken None o l y n h = subst (λ (z : Option EntryFormat). (put_format z y).format ≡ None) (sym h) n
-  put_taken (Some f) o l y n h = subst (λ (z : Option EntryFormat). (put_format z y).format ≡ Some (spelled_behind l f)) (sym h) refl
+  put_taken : (f o : Option EntryFormat) (l : Text) (y : Entry) → y.format ≡ None → HasForm s e l f o → (put_format o y).format ≡ o
+  put_taken None o l y n h = subst (λ (z : Option EntryFormat). (put_format z y).format ≡ z) (sym h) n
+  put_taken (Some f) None l y n h = absurd h
+  put_taken (Some f) (Some g) l y n h = refl
 
   but_format : (y : Entry) → y ≡ autoformatted_but key ty e → y.format ≡ None
   but_format y a = ap (λ (x : Entry). x.format) a ∙ no_format e.format unflagged
 
-  pub spelled_value : (y e' : Entry) (o : Option EntryFormat) (l : Text) → l ≡ t ++ (32 ∷ []) → HasSpelling e.value e.format true → y ≡ autoformatted_but key ty e → e' ≡ put_format o y → o ≡ option_map (spelled_behind l) e.format → KeptValue e.value e.format mid.format e'.format
-  spelled_value y e' o l b h a c d =
-      taken_value e.format e'.format e.value mid.format l mid_format b h (ap (λ (x : Entry). x.format) c ∙ put_taken e.format o l y (but_format y a) d)
+  pub spelled_form : (y e' : Entry) (o q : Option EntryFormat) (l : Text) → l ≡ t ++ (32 ∷ []) → HasSpelling e.value e.format true → y ≡ autoformatted_but key ty e → e' ≡ put_format o y → o ≡ q → HasForm s e l e.format q
+      → KeptForm s e e.format mid.format e'.format
+  spelled_form y e' o q l b h a c same d =
+      let k = subst (HasForm s e l e.format) (sym same) d in
+      taken_form e.format o e'.format mid.format l mid_format b h k (ap (λ (x : Entry). x.format) c ∙ put_taken e.format o l y (but_format y a) k)
 
   -- without one
-  other_value : (f q : Option EntryFormat) (v : Value) (m : Option EntryFormat) → HasSpelling v f false → q ≡ m → KeptValue v f m q
-  other_value None q v m h c = subst (λ (z : Option EntryFormat). KeptValue v None m z) (sym c) KeptValue.formless
-  other_value (Some f) q v m h c = subst (λ (z : Option EntryFormat). KeptValue v (Some f) m z) (sym c) (KeptValue.other h)
+  other_form : (f q m : Option EntryFormat) → HasSpelling e.value f false → q ≡ m → KeptForm s e f m q
+  other_form None q m h c = subst (λ (z : Option EntryFormat). KeptForm s e None m z) (sym c) KeptForm.formless
+  other_form (Some f) q m h c = subst (λ (z : Option EntryFormat). KeptForm s e (Some f) m z) (sym c) (KeptForm.other h)
 
-  pub respelled_value : (y e' : Entry) (o : Option EntryFormat) → HasSpelling e.value e.format false → y ≡ autoformatted_but key ty e → e' ≡ put_format o y → put_format o y ≡ behind t y → KeptValue e.value e.format mid.format e'.format
-  respelled_value y e' o h a c d =
-      other_value e.format e'.format e.value mid.format h
+  pub respelled_form : (y e' : Entry) (o : Option EntryFormat) → HasSpelling e.value e.format false → y ≡ autoformatted_but key ty e → e' ≡ put_format o y → put_format o y ≡ behind t y → KeptForm s e e.format mid.format e'.format
+  respelled_form y e' o h a c d =
+      other_form e.format e'.format mid.format h
       (ap (λ (x : Entry). x.format) (c ∙ d) ∙ behind_format t y (but_format y a) ∙ ap (λ (x : Entry). plain_format t x.value) a ∙ sym mid_format)
 
 -- an entry that was flagged or not, and laid out with its spellings
-spelled_there : (s : Settings) (e m e' : Entry) → is_kept_format (with_keep_if s.entry_autoformate_keep e).format ≡ false → HasSpellings (with_keep_if s.entry_autoformate_keep e) m e' → IsRespelledEntry true s e m e'
-spelled_there s e m e' n h = subst (λ (b : Bool). HasSpellingsUnless b e m e') (sym n) (subst (λ (x : Entry). HasSpellings x m e') (unflagged_same s.entry_autoformate_keep e n) h)
+spelled_there : (s : Settings) (e m e' : Entry) → is_kept_format (with_keep_if s.entry_autoformate_keep e).format ≡ false → HasSpellings s (with_keep_if s.entry_autoformate_keep e) m e' → IsRespelledEntry true s e m e'
+spelled_there s e m e' n h = subst (λ (b : Bool). HasSpellingsUnless b s e m e') (sym n) (subst (λ (x : Entry). HasSpellings s x m e') (unflagged_same s.entry_autoformate_keep e n) h)
 
-pub spelled_is : {A E : Type 0} (r : Result A E) (keep : Bool) (s : Settings) (e x e' : Entry) → keep ≡ true → x ≡ with_keep_if s.entry_autoformate_keep e → false ≡ is_kept_format x.format → OnOk r ((m : Entry) × IsLaid s x m × HasSpellings x m e')
+pub spelled_is : {A E : Type 0} (r : Result A E) (keep : Bool) (s : Settings) (e x e' : Entry) → keep ≡ true → x ≡ with_keep_if s.entry_autoformate_keep e → false ≡ is_kept_format x.format → OnOk r ((m : Entry) × IsLaid s x m × HasSpellings s x m e')
     → OnOk r (IsSpelledEntry keep s e e')
 spelled_is (Err z) keep s e x e' k a n h = h
 spelled_is (Ok z) keep s e x e' k a n (m, f, h) =
     let n' : is_kept_format (with_keep_if s.entry_autoformate_keep e).format ≡ false = ap (λ (y : Entry). is_kept_format y.format) (sym a) ∙ sym n in
-    let h' = subst (λ (y : Entry). HasSpellings y m e') a h in
+    let h' = subst (λ (y : Entry). HasSpellings s y m e') a h in
     (m, subst (λ (y : Entry). IsLaid s y m) a f, subst (λ (b : Bool). IsRespelledEntry b s e m e') (sym k) (spelled_there s e m e' n' h'))
 
 -- or laid out without them
@@ -121,7 +125,7 @@ off_respelled true s e m k = absurd cc
 
 pub flag_respelled : (keep : Bool) (s : Settings) (e m x : Entry) → x ≡ with_keep_if s.entry_autoformate_keep e → true ≡ is_kept_format x.format → IsRespelledEntry keep s e m m
 flag_respelled false s e m x a n = refl
-flag_respelled true s e m x a n = subst (λ (b : Bool). HasSpellingsUnless b e m m) (n ∙ ap (λ (y : Entry). is_kept_format y.format) a) refl
+flag_respelled true s e m x a n = subst (λ (b : Bool). HasSpellingsUnless b s e m m) (n ∙ ap (λ (y : Entry). is_kept_format y.format) a) refl
 
 pub respelled_is : {A E : Type 0} (r : Result A E) (keep : Bool) (s : Settings) (e x e' : Entry) → x ≡ with_keep_if s.entry_autoformate_keep e → IsRespelledEntry keep s e e' e' → OnOk r (IsLaid s x e') → OnOk r (IsSpelledEntry keep s e e')
 respelled_is (Err z) keep s e x e' a k h = h

@@ -1,12 +1,11 @@
 -- What a layout that keeps spellings leaves as it was, and what it leaves of flags.
 use Rattle.std.proofs.Common.{◌≡◌, Bool, true, false, List, [], ◌∷◌, refl, ap, ◌∙◌, Option, Some, None, option_map}
-use Rattle.kdl_value.specs.Data.{Value}
 use Rattle.kdl_entry.specs.Tree.{Identifier, EntryFormat, Entry, unspelled, cleared}
 use Rattle.kdl_grammar.specs.Tree.{Node, node, Children, no_children, children, Document, document, Nodes, none, first}
 use Rattle.kdl_fmt.specs.Config.{Settings}
 use Rattle.kdl_fmt.specs.Formatted.{with_keep_if, EntriesKeepNone, NodeKeepsNone, ChildrenKeepNone, DocumentKeepsNone, NodesKeepNone}
 use Rattle.kdl_fmt.specs.Kept.{is_kept_format}
-use Rattle.kdl_fmt.specs.Respelled.{IsRespelled, IsRespelledIf, KeptValue, HasSpellings, HasSpellingsUnless, IsRespelledEntry, AreRespelledEntries, IsRespelledNode, AreRespelledChildren, IsRespelledDocument, AreRespelledNodes, IsSpelledEntry}
+use Rattle.kdl_fmt.specs.Respelled.{IsRespelled, IsRespelledIf, KeptForm, HasSpellings, HasSpellingsUnless, IsRespelledEntry, AreRespelledEntries, IsRespelledNode, AreRespelledChildren, IsRespelledDocument, AreRespelledNodes, IsSpelledEntry}
 use Rattle.kdl_fmt.proofs.Formatting.FormattedUnique as plain
 
 -- without its spelling an identifier is what it was
@@ -22,8 +21,8 @@ unspelled_same_if keep (Some i) None o' h = absurd h
 unspelled_same_if keep (Some i) (Some m) None h = absurd h
 unspelled_same_if keep (Some i) (Some m) (Some i') h = ap Some (unspelled_same keep i m i' h)
 
-cleared_spellings : (e m e' : Entry) → HasSpellings e m e' → cleared e' ≡ cleared m
-cleared_spellings e m e' h =
+cleared_spellings : (s : Settings) (e m e' : Entry) → HasSpellings s e m e' → cleared e' ≡ cleared m
+cleared_spellings s e m e' h =
     let ty = unspelled_same_if true e.ty m.ty e'.ty h.ty in
     let name = unspelled_same_if true e.name m.name e'.name h.name in
     let value = h.value in
@@ -34,26 +33,26 @@ pub cleared_same : (keep : Bool) (s : Settings) (e m e' : Entry) → IsRespelled
 cleared_same false s e m e' h = ap cleared h
 cleared_same true s e m e' h = go (is_kept_format (with_keep_if s.entry_autoformate_keep e).format) h
   where
-    go : (b : Bool) → HasSpellingsUnless b e m e' → cleared e' ≡ cleared m
+    go : (b : Bool) → HasSpellingsUnless b s e m e' → cleared e' ≡ cleared m
     go true h = ap cleared h
-    go false h = cleared_spellings e m e' h
+    go false h = cleared_spellings s e m e' h
 
 pub entry_stays : (keep : Bool) (s : Settings) (e e' : Entry) → IsSpelledEntry keep s e e' → cleared e' ≡ cleared e
 entry_stays keep s e e' (m, f, r) = cleared_same keep s e m e' r ∙ plain.entry_stays s e m f
 
 -- no entry is flagged any more
-value_flag : (v : Value) (o p q : Option EntryFormat) → is_kept_format p ≡ false → KeptValue v o p q → is_kept_format q ≡ false
-value_flag v _ p _ h (KeptValue.kept d) = refl
-value_flag v _ p _ h (KeptValue.other n) = h
-value_flag v _ p _ h KeptValue.formless = h
+form_flag : (s : Settings) (e : Entry) (o p q : Option EntryFormat) → is_kept_format p ≡ false → KeptForm s e o p q → is_kept_format q ≡ false
+form_flag s e _ p _ h (KeptForm.kept d k) = k.autoformat_keep
+form_flag s e _ p _ h (KeptForm.other n) = h
+form_flag s e _ p _ h KeptForm.formless = h
 
 pub entry_flag : (keep : Bool) (s : Settings) (e m e' : Entry) → is_kept_format m.format ≡ false → IsRespelledEntry keep s e m e' → is_kept_format e'.format ≡ false
 entry_flag false s e m e' h r = ap (λ (x : Entry). is_kept_format x.format) r ∙ h
 entry_flag true s e m e' h r = go (is_kept_format (with_keep_if s.entry_autoformate_keep e).format) r
   where
-    go : (b : Bool) → HasSpellingsUnless b e m e' → is_kept_format e'.format ≡ false
+    go : (b : Bool) → HasSpellingsUnless b s e m e' → is_kept_format e'.format ≡ false
     go true r = ap (λ (x : Entry). is_kept_format x.format) r ∙ h
-    go false r = value_flag e.value e.format m.format e'.format h r.format
+    go false r = form_flag s e e.format m.format e'.format h r.format
 
 module _ (keep : Bool) (s : Settings) where
   entries_flag : (es ms es' : List Entry) → EntriesKeepNone ms → AreRespelledEntries keep s es ms es' → EntriesKeepNone es'

@@ -1,6 +1,8 @@
 -- What is laid out, with or without spellings: what each part prints, and around it the texts that are kept.
 use Rattle.std.proofs.Common.{◌≡◌, ℕ, ◌+◌, Bool, true, false, List, [], ◌∷◌, ◌++◌, map, refl, sym, ap, subst, ◌∙◌, Option, Some, None, option_map, append_assoc, append-nil}
+use Rattle.std.proofs.lemmas.Bool.{and_parts}
 use Rattle.std.specs.List.{list_all}
+use Rattle.std.specs.Prelude.{◌&&◌, not, is_some}
 use Rattle.kdl_text.specs.Chars.{Text, is_scalar}
 use Rattle.kdl_value.specs.Data.{Value}
 use Rattle.kdl_value.specs.Print.{print_value}
@@ -11,15 +13,18 @@ use Rattle.kdl_entry.specs.Tree.{Identifier, EntryFormat, empty_format, Entry, u
 use Rattle.kdl_grammar.specs.Print.{print_piece}
 use Rattle.kdl_grammar.specs.ReadsBack.{front_text, value_text, entry_trailing}
 use Rattle.kdl_grammar.specs.Tree.{NodeFormat, DocumentFormat, Head, Node, node, Children, no_children, children, Document, document, Nodes, none, first, node_data, children_data, nodes_data, document_data}
-use Rattle.kdl_fmt.specs.Config.{Settings}
+use Rattle.kdl_fmt.specs.Config.{Settings, indentation}
 use Rattle.kdl_fmt.specs.Formatted.{with_keep_if, or_empty, or_empty_document, EntriesKeepNone, NodeKeepsNone, ChildrenKeepNone, DocumentKeepsNone, NodesKeepNone}
-use Rattle.kdl_fmt.specs.Kept.{KeptBefore, is_kept_format}
-use Rattle.kdl_fmt.specs.Respelled.{IsSpelling, KeptSpelling, IsRespelled, IsRespelledIf, text_before, KeptValue, HasSpellings, HasSpellingsUnless, IsRespelledEntry, AreRespelledEntries, IsRespelledNode, AreRespelledChildren, IsRespelledDocument, AreRespelledNodes}
-use Rattle.kdl_fmt.specs.Spaced.{IsSpacedLine, IsSpacedNode, IsSpacedChildren, AreSpacedNodes, IsSpacedBraced, IsSpacedContent, IsSpacedDocument}
+use Rattle.kdl_comments.specs.Lacks.{AreNodeSpaces}
+use Rattle.kdl_comments.proofs.NodeSpaces.{empty_spaces}
+use Rattle.kdl_fmt.specs.Kept.{KeptBefore, entry_leading, is_kept_format}
+use Rattle.kdl_fmt.specs.Respelled.{IsSpelling, KeptSpelling, IsRespelled, IsRespelledIf, text_before, IsContinued, KeptLeading, TypeTexts, KeptTypeTextsIf, KeepsForm, KeptForm, entry_type_texts, node_type_texts, with_type_texts, IsTypedFormat, HasSpellings, HasSpellingsUnless, IsRespelledEntry, AreRespelledEntries, IsRespelledNode, AreRespelledChildren, IsRespelledDocument, AreRespelledNodes}
+use Rattle.kdl_fmt.specs.Spaced.{SpacesTexts, IsSpacedLine, IsSpacedNode, IsSpacedChildren, AreSpacedNodes, IsSpacedBraced, IsSpacedContent, IsSpacedDocument}
 use Rattle.kdl_fmt.specs.WellFormed.{AreScalars, IsWellFormedEntry, AreWellFormedEntries, IsWellFormedNode, AreWellFormedChildren, AreWellFormed}
-use Rattle.kdl_fmt.specs.WithComments.{behind, IsFormattedEntry, AreFormattedEntries, has_block}
+use Rattle.kdl_fmt.specs.WithComments.{NodeTexts, behind, IsFormattedEntry, AreFormattedEntries, has_block, line_of}
 use Rattle.kdl_fmt.specs.declared.blank.Before.{Before}
 use Rattle.kdl_fmt.proofs.EntryTexts.{name_of, no_format}
+use Rattle.kdl_fmt.proofs.Respelling.Kept.{OnlySpaces, TypeSpaces, bare_types, no_texts, no_type_spaces, place_if_spaces, type_spaces, type_spaces_if}
 use Rattle.kdl_fmt.proofs.Respelling.Spellings.{printed_name, printed_spelling}
 
 -- an identifier prints a string that is its own
@@ -56,10 +61,44 @@ abbrev pub plain_format : Text → Value → Option EntryFormat
 plain_format [] v = None
 plain_format (c ∷ t) v = Some (record empty_format { leading = (c ∷ t) ++ (32 ∷ []); value_repr = print_value v })
 
--- what an entry with the format q prints is the text t, a space, its key, its type, and the text w
-record Prints (q : Option EntryFormat) (t w : Text) (v : Value) : Type 0 where
-  text : (e : Entry) → e.format ≡ q → e.value ≡ v → (r : Text) → print_piece e ++ r ≡ t ++ (32 ∷ (print_key e.name [] [] ++ (print_type e.ty [] [] ++ (w ++ r))))
-  front : (e : Entry) → e.format ≡ q → (r : Text) → front_text e e.format ++ r ≡ t ++ (32 ∷ (print_key e.name [] [] ++ (print_type e.ty [] [] ++ r)))
+-- the text before an entry: what is kept of its comments, and a space; or a text that continues the line
+pub data IsGap (s : Settings) (old before : Text) : Text → Type 0 where
+  laid : IsGap s old before (before ++ (32 ∷ []))
+  continued : IsContinued s old → IsGap s old before old
+
+leading_gap : {s : Settings} {old laid r : Text} (t : Text) → laid ≡ t ++ (32 ∷ []) → KeptLeading s old laid r → IsGap s old t r
+leading_gap t e (KeptLeading.continued c) = IsGap.continued c
+leading_gap {s} {old} t e (KeptLeading.other n) = subst (IsGap s old t) (sym e) IsGap.laid
+
+-- the texts inside an entry: around its type, and around the `=`
+pub record Inside : Type 0 where
+  pub ty : TypeTexts
+  pub after_key : Text
+  pub after_eq : Text
+
+abbrev pub nothing_inside : Inside
+nothing_inside = record { ty = no_texts; after_key = []; after_eq = [] }
+
+abbrev pub inside_of : EntryFormat → Inside
+inside_of f = record { ty = entry_type_texts f; after_key = f.after_key; after_eq = f.after_eq }
+
+-- they are node-spaces, and none come after a type that is missing
+pub record IsInside (ty : Option Identifier) (x : Inside) : Type 0 where
+  pub ty_spaces : TypeSpaces x.ty
+  pub after_key : AreNodeSpaces x.after_key
+  pub after_eq : AreNodeSpaces x.after_eq
+  pub untyped : ty ≡ None → x.ty.after ≡ []
+
+nothing_is_inside : (ty : Option Identifier) → IsInside ty nothing_inside
+nothing_is_inside ty = record { ty_spaces = no_type_spaces; after_key = empty_spaces; after_eq = empty_spaces; untyped = λ h. refl }
+
+-- what an entry prints: a text, its key, its type, and the text w
+abbrev pub printed_front : Text → Inside → Entry → Text → Text
+printed_front gap x e r = gap ++ (print_key e.name x.after_key x.after_eq ++ (print_type e.ty x.ty.before_name x.ty.after_name ++ (x.ty.after ++ r)))
+
+record Prints (q : Option EntryFormat) (gap w : Text) (x : Inside) (v : Value) : Type 0 where
+  text : (e : Entry) → e.format ≡ q → e.value ≡ v → (r : Text) → print_piece e ++ r ≡ printed_front gap x e (w ++ r)
+  front : (e : Entry) → e.format ≡ q → (r : Text) → front_text e e.format ++ r ≡ printed_front gap x e r
   value : (e : Entry) → e.format ≡ q → e.value ≡ v → value_text e e.format ≡ w
   trailing : entry_trailing q ≡ []
   unflagged : is_kept_format q ≡ false
@@ -70,13 +109,13 @@ formless_text k y w r = simp append_assoc
 formless_front : (k y r : Text) → (32 ∷ k ++ y) ++ r ≡ 32 ∷ (k ++ (y ++ r))
 formless_front k y r = simp append_assoc
 
-formed_text : (t k y w r : Text) → ([] ++ ((t ++ (32 ∷ [])) ++ k ++ y ++ [] ++ w ++ [])) ++ r ≡ t ++ (32 ∷ (k ++ (y ++ (w ++ r))))
-formed_text t k y w r = simp (append_assoc, append-nil)
+formed_text : (l k y a w r : Text) → ([] ++ (l ++ k ++ y ++ a ++ w ++ [])) ++ r ≡ l ++ (k ++ (y ++ (a ++ (w ++ r))))
+formed_text l k y a w r = simp (append_assoc, append-nil)
 
-formed_front : (t k y r : Text) → ((t ++ (32 ∷ [])) ++ k ++ y ++ []) ++ r ≡ t ++ (32 ∷ (k ++ (y ++ r)))
-formed_front t k y r = simp (append_assoc, append-nil)
+formed_front : (l k y a r : Text) → (l ++ k ++ y ++ a) ++ r ≡ l ++ (k ++ (y ++ (a ++ r)))
+formed_front l k y a r = simp append_assoc
 
-formless : (v : Value) → Prints None [] (print_value v) v
+formless : (v : Value) → Prints None (32 ∷ []) (print_value v) nothing_inside v
 formless v = record {
   text = λ e f g r. rw (f, g) (formless_text (print_key e.name [] []) (print_type e.ty [] []) (print_value v) r);
   front = λ e f r. rw f (formless_front (print_key e.name [] []) (print_type e.ty [] []) r);
@@ -85,62 +124,115 @@ formless v = record {
   unflagged = refl;
 }
 
-formed : (t w : Text) (v : Value) → Prints (Some (record empty_format { leading = t ++ (32 ∷ []); value_repr = w })) t w v
-formed t w v = record {
-  text = λ e f g r. rw f (formed_text t (print_key e.name [] []) (print_type e.ty [] []) w r);
-  front = λ e f r. rw f (formed_front t (print_key e.name [] []) (print_type e.ty [] []) r);
-  value = λ e f g. rw f refl;
-  trailing = refl;
-  unflagged = refl;
+formed : (f : EntryFormat) (v : Value) → f.trailing ≡ [] → f.autoformat_keep ≡ false → Prints (Some f) f.leading f.value_repr (inside_of f) v
+formed f v t n = record {
+  text = λ e q w r. rw (q, t) (formed_text f.leading (print_key e.name f.after_key f.after_eq) (print_type e.ty f.before_ty_name f.after_ty_name) f.after_ty f.value_repr r);
+  front = λ e q r. rw q (formed_front f.leading (print_key e.name f.after_key f.after_eq) (print_type e.ty f.before_ty_name f.after_ty_name) f.after_ty r);
+  value = λ e q w. rw q refl;
+  trailing = t;
+  unflagged = n;
 }
 
-plain_prints : (t : Text) (v : Value) → Prints (plain_format t v) t (print_value v) v
+plain_prints : (t : Text) (v : Value) → Prints (plain_format t v) (t ++ (32 ∷ [])) (print_value v) nothing_inside v
 plain_prints [] v = formless v
-plain_prints (c ∷ t) v = formed (c ∷ t) (print_value v) v
+plain_prints (c ∷ t) v = formed (record empty_format { leading = (c ∷ t) ++ (32 ∷ []); value_repr = print_value v }) v refl refl
 
 pub leading_is : (t : Text) (v : Value) → text_before (plain_format t v) ≡ t ++ (32 ∷ [])
 leading_is [] v = refl
 leading_is (c ∷ t) v = refl
 
--- a spelling of the value, and what is printed with it
-record ValueWritten (q : Option EntryFormat) (t : Text) (v : Value) : Type 0 where
+-- a spelling of the value, and what is printed with it; `old` is the old text before the entry, and t what is kept of its
+-- comments
+record FormWritten (q : Option EntryFormat) (s : Settings) (old t : Text) (ty : Option Identifier) (v : Value) : Type 0 where
   word : Text
+  gap : Text
+  inside : Inside
   spelled : IsSpelling v word
-  prints : Prints q t word v
+  is_gap : IsGap s old t gap
+  is_inside : IsInside ty inside
+  prints : Prints q gap word inside v
 
-plain_written : (t : Text) (v : Value) → IsWellFormed v → ValueWritten (plain_format t v) t v
-plain_written t v ok = record { word = print_value v; spelled = printed_spelling v ok; prints = plain_prints t v }
+plain_written : (s : Settings) (old t : Text) (ty : Option Identifier) (v : Value) → IsWellFormed v → FormWritten (plain_format t v) s old t ty v
+plain_written s old t ty v ok = record {
+  word = print_value v;
+  gap = t ++ (32 ∷ []);
+  inside = nothing_inside;
+  spelled = printed_spelling v ok;
+  is_gap = IsGap.laid;
+  is_inside = nothing_is_inside ty;
+  prints = plain_prints t v;
+}
 
-value_written : (v : Value) (t : Text) (o p q : Option EntryFormat) → p ≡ plain_format t v → IsWellFormed v → KeptValue v o p q → ValueWritten q t v
-value_written v t _ p _ e ok (KeptValue.kept {f = f} d) =
-    let l : text_before p ≡ t ++ (32 ∷ []) = ap text_before e ∙ leading_is t v in
-    subst (λ (x : Text). ValueWritten (Some (record empty_format { value_repr = f.value_repr; leading = x })) t v) (sym l)
-    (record { word = f.value_repr; spelled = d; prints = formed t f.value_repr v })
-value_written v t _ p _ e ok (KeptValue.other n) = subst (λ (x : Option EntryFormat). ValueWritten x t v) (sym e) (plain_written t v ok)
-value_written v t _ p _ e ok KeptValue.formless = subst (λ (x : Option EntryFormat). ValueWritten x t v) (sym e) (plain_written t v ok)
+-- without a type, nothing is kept after it
+pub none_typed : (b : Bool) (o : Option Identifier) (t x : TypeTexts) → o ≡ None → KeptTypeTextsIf (b && is_some o) t x → x.after ≡ []
+none_typed b (Some i) t x e h = absurd cc
+none_typed false None t x e h = ap (λ (z : TypeTexts). z.after) h
+none_typed true None t x e h = ap (λ (z : TypeTexts). z.after) h
+
+form_inside : (s : Settings) (e : Entry) (f g : EntryFormat) (l : Text) → KeepsForm s e f l g → IsInside e.ty (inside_of g)
+form_inside s e f g l k = record {
+  ty_spaces = type_spaces_if (not s.no_comments && is_some e.ty) (entry_type_texts f) (entry_type_texts g) k.ty;
+  after_key = place_if_spaces (not s.no_comments && is_some e.name) f.after_key g.after_key k.after_key;
+  after_eq = place_if_spaces (not s.no_comments && is_some e.name) f.after_eq g.after_eq k.after_eq;
+  untyped = λ h. none_typed (not s.no_comments) e.ty (entry_type_texts f) (entry_type_texts g) h k.ty;
+}
+
+form_written : (s : Settings) (e : Entry) (t : Text) (o p q : Option EntryFormat) → p ≡ plain_format t e.value → IsWellFormed e.value → KeptForm s e o p q → FormWritten q s (entry_leading o) t e.ty e.value
+form_written s e t _ p _ h ok (KeptForm.kept {f = f} {g = g} d k) =
+    let l : text_before p ≡ t ++ (32 ∷ []) = ap text_before h ∙ leading_is t e.value in
+    record {
+      word = g.value_repr;
+      gap = g.leading;
+      inside = inside_of g;
+      spelled = subst (IsSpelling e.value) (sym k.value_repr) d;
+      is_gap = leading_gap t l k.leading;
+      is_inside = form_inside s e f g (text_before p) k;
+      prints = formed g e.value k.trailing k.autoformat_keep;
+    }
+form_written s e t o p _ h ok (KeptForm.other n) = subst (λ (x : Option EntryFormat). FormWritten x s (entry_leading o) t e.ty e.value) (sym h) (plain_written s (entry_leading o) t e.ty e.value ok)
+form_written s e t o p _ h ok KeptForm.formless = subst (λ (x : Option EntryFormat). FormWritten x s (entry_leading o) t e.ty e.value) (sym h) (plain_written s (entry_leading o) t e.ty e.value ok)
 
 -- an entry that is laid out: what is kept of the text before it, and what it prints
 pub record IsWrittenEntry (s : Settings) (e e' : Entry) : Type 0 where
   pub before : Text
+  pub gap : Text
+  pub inside : Inside
   pub word : Text
   pub kept : KeptBefore s e.format before
+  pub is_gap : IsGap s (entry_leading e.format) before gap
   pub name : NameReadsIf e'.name
   pub ty : NameReadsIf e'.ty
+  pub is_inside : IsInside e'.ty inside
   pub spelled : IsSpelling e'.value word
-  pub text : (r : Text) → print_piece e' ++ r ≡ before ++ (32 ∷ (print_key e'.name [] [] ++ (print_type e'.ty [] [] ++ (word ++ r))))
-  pub front : (r : Text) → front_text e' e'.format ++ r ≡ before ++ (32 ∷ (print_key e'.name [] [] ++ (print_type e'.ty [] [] ++ r)))
+  pub text : (r : Text) → print_piece e' ++ r ≡ printed_front gap inside e' (word ++ r)
+  pub front : (r : Text) → front_text e' e'.format ++ r ≡ printed_front gap inside e' r
   pub value : value_text e' e'.format ≡ word
   pub trailing : entry_trailing e'.format ≡ []
   pub unflagged : is_kept_format e.format ≡ false
   pub left : is_kept_format e'.format ≡ false
 
-entry_written : (s : Settings) (e e' : Entry) (t : Text) → KeptBefore s e.format t → NameReadsIf e'.name → NameReadsIf e'.ty → e'.value ≡ e.value → is_kept_format e.format ≡ false → ValueWritten e'.format t e.value → IsWrittenEntry s e e'
-entry_written s e e' t k name ty v n w = record {
+-- a type that is missing was missing
+pub none_if : (keep : Bool) (o m o' : Option Identifier) → IsRespelledIf keep o m o' → o' ≡ None → o ≡ None
+none_if keep None m o' h e = refl
+none_if keep (Some i) None o' h e = absurd h
+none_if keep (Some i) (Some m) None h e = absurd h
+none_if keep (Some i) (Some m) (Some i') h e = absurd cc
+
+inside_there : (ty ty' : Option Identifier) (x : Inside) → (ty' ≡ None → ty ≡ None) → IsInside ty x → IsInside ty' x
+inside_there ty ty' x h k = record { ty_spaces = k.ty_spaces; after_key = k.after_key; after_eq = k.after_eq; untyped = λ e. k.untyped (h e) }
+
+entry_written : (s : Settings) (e e' : Entry) (t : Text) → KeptBefore s e.format t → NameReadsIf e'.name → NameReadsIf e'.ty → (e'.ty ≡ None → e.ty ≡ None) → e'.value ≡ e.value → is_kept_format e.format ≡ false
+    → FormWritten e'.format s (entry_leading e.format) t e.ty e.value → IsWrittenEntry s e e'
+entry_written s e e' t k name ty untyped v n w = record {
   before = t;
+  gap = w.gap;
+  inside = w.inside;
   word = w.word;
   kept = k;
+  is_gap = w.is_gap;
   name = name;
   ty = ty;
+  is_inside = inside_there e.ty e'.ty w.inside untyped w.is_inside;
   spelled = subst (λ (x : Value). IsSpelling x w.word) (sym v) w.spelled;
   text = λ r. w.prints.text e' refl v r;
   front = λ r. w.prints.front e' refl r;
@@ -181,20 +273,24 @@ module _ (s : Settings) (e m : Entry) (t : Text) (k : KeptBefore s e.format t) (
   format_is : m.format ≡ plain_format t e.value
   format_is = ap (λ (x : Entry). x.format) is ∙ behind_format t (autoformatted e) (no_format e.format n)
 
-  spelled_written : (e' : Entry) → HasSpellings e m e' → IsWrittenEntry s e e'
+  spelled_written : (e' : Entry) → HasSpellings s e m e' → IsWrittenEntry s e e'
   spelled_written e' h =
-      entry_written s e e' t k (respelled_reads_if true e.name m.name e'.name name_is w.0 h.name) (respelled_reads_if true e.ty m.ty e'.ty ty_is w.1 h.ty) (h.value ∙ value_is) n
-      (value_written e.value t e.format m.format e'.format format_is w.2 h.format)
+      entry_written s e e' t k (respelled_reads_if true e.name m.name e'.name name_is w.0 h.name) (respelled_reads_if true e.ty m.ty e'.ty ty_is w.1 h.ty) (none_if true e.ty m.ty e'.ty h.ty) (h.value ∙ value_is) n
+      (form_written s e t e.format m.format e'.format format_is w.2 h.format)
 
   plain_name : (o : Option Identifier) → AreScalars (name_of o) → NameReadsIf (option_map unspelled o)
   plain_name None ok = tt
   plain_name (Some i) ok = unspelled_reads i ok
 
+  no_type : (o : Option Identifier) → option_map unspelled o ≡ None → o ≡ None
+  no_type None h = refl
+  no_type (Some i) h = absurd cc
+
   respelled_written : (e' : Entry) → e' ≡ m → IsWrittenEntry s e e'
   respelled_written e' h =
       subst (IsWrittenEntry s e) (sym h)
-      (entry_written s e m t k (subst NameReadsIf (sym name_is) (plain_name e.name w.0)) (subst NameReadsIf (sym ty_is) (plain_name e.ty w.1)) value_is n
-      (subst (λ (x : Option EntryFormat). ValueWritten x t e.value) (sym format_is) (plain_written t e.value w.2)))
+      (entry_written s e m t k (subst NameReadsIf (sym name_is) (plain_name e.name w.0)) (subst NameReadsIf (sym ty_is) (plain_name e.ty w.1)) (λ x. no_type e.ty (sym ty_is ∙ x)) value_is n
+      (subst (λ (x : Option EntryFormat). FormWritten x s (entry_leading e.format) t e.ty e.value) (sym format_is) (plain_written s (entry_leading e.format) t e.ty e.value w.2)))
 
 -- an entry that is not flagged
 pub unflagged_same : (b : Bool) (e : Entry) → is_kept_format (with_keep_if b e).format ≡ false → with_keep_if b e ≡ e
@@ -213,7 +309,7 @@ written_entry s keep e m e' (t, k, q) h n w =
     let n' : is_kept_format e.format ≡ false = ap (λ (x : Entry). is_kept_format x.format) (sym same) ∙ n in
     go keep k' q' n' h
   where
-    spelled : (b : Bool) → b ≡ false → (t : Text) → KeptBefore s e.format t → m ≡ behind t (autoformatted e) → is_kept_format e.format ≡ false → HasSpellingsUnless b e m e' → IsWrittenEntry s e e'
+    spelled : (b : Bool) → b ≡ false → (t : Text) → KeptBefore s e.format t → m ≡ behind t (autoformatted e) → is_kept_format e.format ≡ false → HasSpellingsUnless b s e m e' → IsWrittenEntry s e e'
     spelled true x t k q n h = absurd cc
     spelled false x t k q n h = spelled_written s e m t k q n w e' h
 
@@ -227,11 +323,37 @@ AreWrittenEntries s [] [] = Unit {0}
 AreWrittenEntries s (e ∷ es) (e' ∷ es') = IsWrittenEntry s e e' × AreWrittenEntries s es es'
 AreWrittenEntries s _ _ = ⊥
 
+-- the texts around a node on its own line, with those that are kept around its type; nothing is kept of spaces
+pub record IsTypedLine (number : ℕ) (s : Settings) (level : ℕ) (has : Bool) (b : Before) (f : NodeFormat) (ty : Option Identifier) (g : Option NodeFormat) : Type 0 where
+  pub texts : NodeTexts
+  pub types : TypeTexts
+  pub kept : SpacesTexts number s level has b f texts
+  pub is : g ≡ Some (with_type_texts types (line_of (indentation s level) texts))
+  pub spaces : TypeSpaces types
+  pub untyped : ty ≡ None → types.after ≡ []
+  pub bare : OnlySpaces (node_type_texts f) → types ≡ no_texts
+
+pub typed_line : (number : ℕ) (s : Settings) (level : ℕ) (has : Bool) (b : Before) (f : NodeFormat) (keep : Bool) (o m o' : Option Identifier) (g g' : Option NodeFormat) → IsRespelledIf keep o m o'
+    → IsSpacedLine number s level has b f g → IsTypedFormat (keep && not s.no_comments && is_some o) f g g' → IsTypedLine number s level has b f o' g'
+typed_line number s level has b f keep o m o' g g' r (k, kept, e) t = go (keep && not s.no_comments && is_some o) refl t
+  where
+    go : (c : Bool) → (keep && not s.no_comments && is_some o) ≡ c → IsTypedFormat c f g g' → IsTypedLine number s level has b f o' g'
+    go false x t = record { texts = k; types = no_texts; kept = kept; is = t ∙ e; spaces = no_type_spaces; untyped = λ h. refl; bare = λ h. refl }
+    go true x (types, kt, q) = record {
+      texts = k;
+      types = types;
+      kept = kept;
+      is = q ∙ ap (option_map (with_type_texts types)) e;
+      spaces = type_spaces kt;
+      untyped = λ h. let a = none_if keep o m o' r h in let c = (and_parts (keep && not s.no_comments) (is_some o) x).1 in let z : false ≡ true = ap is_some (sym a) ∙ c in absurd cc;
+      bare = λ h. bare_types (node_type_texts f) types h kt;
+    }
+
 pub record IsWrittenHead (number : ℕ) (s : Settings) (level : ℕ) (has : Bool) (b : Before) (h h' : Head) : Type 0 where
   pub ty : NameReadsIf h'.ty
   pub name : NameReads h'.name
   pub entries : AreWrittenEntries s h.entries h'.entries
-  pub format : IsSpacedLine number s level has b (or_empty h.format) h'.format
+  pub format : IsTypedLine number s level has b (or_empty h.format) h'.ty h'.format
 
 abbrev mutual
   pub IsWrittenNode : ℕ → Settings → ℕ → Before → Node → Node → Type 0
@@ -271,7 +393,7 @@ module _ (number : ℕ) (s : Settings) (no_keep : s.entry_autoformate_keep ≡ f
         ty = respelled_reads_if keep h.ty m.ty h'.ty f.0.ty w.0 r.0.ty;
         name = respelled_reads keep h.name m.name h'.name f.0.name w.1 r.0.name;
         entries = written_entries h.entries m.entries h'.entries f.0.entries r.0.entries o.0 w.2;
-        format = subst (λ (x : Option NodeFormat). IsSpacedLine number s level (has_block k) b (or_empty h.format) x) (sym r.0.format) f.0.format;
+        format = typed_line number s level (has_block k) b (or_empty h.format) keep h.ty m.ty h'.ty m.format h'.format r.0.ty f.0.format r.0.format;
       },
       written_children level k j k' f.1 r.1 o.1 w.3,
     )

@@ -21,7 +21,7 @@ space_no_slash : (c : ℕ) → is_space c ≡ true → (c == 47) ≡ false
 unfolding is_space
 space_no_slash c h = grind (arith, nat_tests)
 
-space_no_newline : (c : ℕ) → is_space c ≡ true → is_newline_char c ≡ false
+pub space_no_newline : (c : ℕ) → is_space c ≡ true → is_newline_char c ≡ false
 unfolding is_space is_newline_char
 space_no_newline c h = grind (arith, nat_tests)
 

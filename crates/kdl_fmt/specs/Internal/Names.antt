@@ -2,7 +2,7 @@
 use Rattle.std.specs.Prelude.{◌≡◌, [], Bool, true, false, Option, Some, None, option_map}
 use Rattle.kdl_text.specs.Chars.{Text}
 use Rattle.kdl_value.specs.Data.{Value}
-use Rattle.kdl_entry.specs.Tree.{Identifier, EntryFormat, Entry, empty_format, plain_identifier, unspelled, autoformatted}
+use Rattle.kdl_entry.specs.Tree.{Identifier, EntryFormat, Entry, plain_identifier, unspelled, autoformatted}
 use Rattle.kdl_fmt.specs.Config.{Settings}
 use Rattle.kdl_fmt.specs.Kept.{KeptBefore}
 use Rattle.kdl_fmt.specs.Respelled.{IsRespelled, IsRespelledIf, IsSpelling}
@@ -33,13 +33,14 @@ autoformatted_but key ty e = record (autoformatted e) { name = unspelled_if key 
 abbrev pub IsLaid : Settings → Entry → Entry → Type 0
 IsLaid s e e' = (t : Text) × KeptBefore s e.format t × (e' ≡ behind t (autoformatted e))
 
--- a format with the spelling of the value, after a text before the entry
-abbrev pub spelled_behind : Text → EntryFormat → EntryFormat
-spelled_behind t f = record empty_format { value_repr = f.value_repr; leading = t }
+-- a format without the spelling of the value
+abbrev pub without_value : EntryFormat → EntryFormat
+without_value f = record f { value_repr = [] }
 
--- a format of empty texts in place of another one
-abbrev pub emptied_format : Option EntryFormat → Option EntryFormat
-emptied_format o = option_map (λ (f : EntryFormat). empty_format) o
+-- the spelling of the value in a format, if there is one
+abbrev pub spelling_of : Option EntryFormat → Text
+spelling_of None = []
+spelling_of (Some f) = f.value_repr
 
 -- a string that is empty in place of an identifier
 abbrev pub emptied : Option Identifier → Option Identifier
