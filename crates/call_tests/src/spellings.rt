@@ -175,7 +175,8 @@ fn led_becomes(rt: &impl Abort, alloc: Global, leading: &str, laid_out: &str) {
 fn texts_before_entries_that_are_set(rt: HostRuntime) {
     let alloc = rt.alloc();
     led_becomes(&rt, alloc, "\\\n", "a\\\n0x10\n");
-    for other in ["", "\n", " \\", " \\\r", " \\ // b", "b\n", " // b\n"] {
+    led_becomes(&rt, alloc, " \\ // b", "a \\ // b\n 0x10\n");
+    for other in ["", "\n", " \\", " \\\r", "b\n", " // b\n"] {
         led_becomes(&rt, alloc, other, "a 0x10\n");
     }
 }
