@@ -4,3 +4,5 @@ pub mod Indents
 pub mod FileSteps
 -- Files that are checked one after another.
 pub mod CheckSteps
+-- The results of actions, and their statuses.
+pub mod Applying

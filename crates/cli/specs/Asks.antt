@@ -1,22 +1,26 @@
--- What becomes of a text, and of files, by a question.
-use Rattle.std.specs.Prelude.{Bool, ◌≡◌, ◌⊎◌, ◌++◌, ◌∷◌, [], List, ℕ, IsSome, Ok, Result, Some, chars, false, string_bytes, true}
-use Rattle.kdl.specs.Words.{IsDocument, Nodes}
-use Rattle.kdl_json.specs.Form.{json_text}
-use Rattle.kdl_path.specs.Edits.{IsInsertedAt, IsSetAt, named_at, without}
+-- What becomes of a text, and of files, by an action.
+use Rattle.std.specs.Prelude.{Bool, ◌≡◌, ◌⊎◌, ◌++◌, ◌∷◌, [], List, ℕ, IsSome, IsUtf8, None, Ok, Err, Result, Some, chars, false, string_bytes, true}
+use Rattle.kdl.specs.Words.{IsDocument, IsNodeText, NodeData, Nodes, Value}
+use Rattle.kdl_call_parts.specs.Entries.{IsValueText}
+use Rattle.kdl_fmt.specs.WellFormed.{AreWellFormed}
+use Rattle.kdl_json.specs.Form.{IsJsonOf, json_text}
+use Rattle.kdl_path.specs.Edits.{HasPlace, IsInsertedAt, IsSetAt, named_at, without}
+use Rattle.kdl_path.specs.Failures.{IsNoDocument, IsUnset}
 use Rattle.kdl_path.specs.Paths.{at_path}
+use Rattle.kdl_path.specs.declared.failure.EditFailure.{EditFailure}
+use Rattle.kdl_path.specs.declared.failure.EditFailure.TheVariants as edit
 use Rattle.kdl_path.specs.declared.path.Path.{Path}
+use Rattle.kdl_path.specs.declared.path.Target.TheVariants.{Node}
 use Rattle.kdl_text.specs.declared.error.ParseFailure.{ParseFailure}
+use Rattle.kdl_text.specs.declared.error.ParseFailure.TheVariants.{Syntax, Memory}
 use Rattle.cli_world.specs.Files.{Files, Has}
-use Rattle.cli.specs.declared.ask.Answer.{Answer}
-use Rattle.cli.specs.declared.ask.Answer.TheVariants.{Text}
+use Rattle.cli_world.specs.declared.status.Status.{Status}
+use Rattle.cli_world.specs.declared.status.Status.TheVariants as status
+use Rattle.cli.specs.declared.ask.Applied.{Applied}
+use Rattle.cli.specs.declared.ask.Applied.TheVariants.{Text, NotFound, Usage}
 use Rattle.cli.specs.declared.ask.Ask.{Ask}
-use Rattle.cli.specs.declared.ask.Question.{Question}
-use Rattle.cli.specs.declared.ask.Question.TheVariants.{Get, Set, Remove, Insert, Json, FromJson}
-
--- P holds of the bytes of an answer that is a text
-abbrev pub IfText : Result Answer ParseFailure → (List ℕ → Type 0) → Type 0
-IfText (Ok (Text s)) P = P (string_bytes s)
-IfText _ P = Unit {0}
+use Rattle.cli.specs.declared.ask.Action.{Action}
+use Rattle.cli.specs.declared.ask.Action.TheVariants.{Get, Set, Remove, Insert, Json, FromJson}
 
 -- a value at the path is replaced by VALUE, and no other byte of the text; without `create`, there is one
 abbrev pub IsSet : Path → List ℕ → Bool → List ℕ → List ℕ → Type 0
@@ -28,25 +32,83 @@ abbrev pub IsRemoved : Path → List ℕ → List ℕ → Type 0
 IsRemoved p text new = (x : Nodes) → IsDocument true (chars text) x
     → IsSome (named_at p x) × IsDocument true (chars new) (without p x)
 
--- the new text is what is asked for, at some path; it is not said which path a PATH is read as
-abbrev pub Gives : Question → List ℕ → List ℕ → Type 0
-Gives (Get path raw all) text new = Unit {0}
-Gives (Set path value create) text new = (p : Path) × IsSet p value.now create text new
-Gives (Remove path) text new = (p : Path) × IsRemoved p text new
-Gives (Insert path node) text new = (p : Path) × IsInsertedAt p (chars node.now) (chars text) (chars new)
+-- NODE is one node, which the new text has at the end of the block that the path names, and which is there
+abbrev pub IsInserted : Path → List ℕ → List ℕ → List ℕ → Type 0
+IsInserted p node text new = IsInsertedAt p (chars node) (chars text) (chars new)
+    × ((x : Nodes) → IsDocument true (chars text) x → HasPlace p.steps.items x)
+
+-- the new text is what the action asks for
+abbrev pub Gives : Action → List ℕ → List ℕ → Type 0
+Gives (Get path raw all) text new = all ≡ false → (x : Nodes) → IsDocument true (chars text) x → IsSome (at_path path.now x)
+Gives (Set path value create) text new = IsSet path.now value.now create text new
+Gives (Remove path) text new = IsRemoved path.now text new
+Gives (Insert path node) text new = IsInserted path.now node.now text new
 Gives Json text new = (x : Nodes) → IsDocument true (chars text) x → new ≡ json_text x ++ (10 ∷ [])
 Gives FromJson text new = Unit {0}
 
+-- what the action asks for is not in the text
+abbrev pub IsNotThere : Action → List ℕ → Type 0
+IsNotThere (Get path raw all) text = (x : Nodes) × IsDocument true (chars text) x × (at_path path.now x ≡ None)
+IsNotThere (Set path value create) text = (x : Nodes) × IsDocument true (chars text) x × IsUnset path.now create x
+IsNotThere (Remove path) text = (x : Nodes) × IsDocument true (chars text) x × (named_at path.now x ≡ None)
+IsNotThere (Insert path node) text = (x : Nodes) × IsDocument true (chars text) x × (HasPlace path.now.steps.items x → ⊥)
+IsNotThere Json text = ⊥
+IsNotThere FromJson text = (x : Nodes) → AreWellFormed x → IsJsonOf text x → ⊥
+
+-- VALUE is no value, NODE is no node, or the path names no node where it has to
+abbrev pub IsMisused : Action → Type 0
+IsMisused (Set path value create) = (v : Value) → IsValueText (chars value.now) v → ⊥
+IsMisused (Insert path node) = (path.now.target ≡ Node → ⊥) ⊎ ((y : NodeData) → IsNodeText true (chars node.now) y → ⊥)
+IsMisused _ = ⊥
+
+-- the text is no document, where the action needs one
+abbrev pub IsRefused : Action → List ℕ → Type 0
+IsRefused FromJson text = ⊥
+IsRefused _ text = IsNoDocument (chars text)
+
+-- the result of an action on a text
+abbrev pub Applies : Action → List ℕ → Result Applied ParseFailure → Type 0
+Applies a text (Ok (Text s)) = Gives a text (string_bytes s)
+Applies a text (Ok (NotFound s)) = IsNotThere a text
+Applies a text (Ok (Usage s)) = IsMisused a
+Applies a text (Err (Syntax e)) = IsRefused a text
+Applies a text (Err Memory) = Unit {0}
+
+-- the status of an action on a file with these bytes
+abbrev pub IsStatusOf : Action → List ℕ → Status → Type 0
+IsStatusOf a bytes status.Done = (out : List ℕ) × Gives a bytes out
+IsStatusOf a bytes status.Found = (IsUtf8 bytes → ⊥) ⊎ (IsNotThere a bytes ⊎ IsRefused a bytes)
+IsStatusOf a bytes status.Usage = IsMisused a
+IsStatusOf a bytes status.Failed = Unit {0}
+
 -- the file has known bytes, which are what is asked for of those that it had
-abbrev pub HasAnswer : Question → List ℕ → Files → Files → Type 0
-HasAnswer question name old new = (b t : List ℕ) × (new name ≡ Some b) × Has old name t × Gives question t b
+abbrev pub HasResult : Action → List ℕ → Files → Files → Type 0
+HasResult action name old new = (b t : List ℕ) × (new name ≡ Some b) × Has old name t × Gives action t b
 
--- each file is as before, or it is that of the question, which is replaced by what is asked for
-abbrev pub AnswersFile : Ask → Files → Files → Type 0
-AnswersFile ask old new = (p : List ℕ)
-    → (new p ≡ old p) ⊎ ((p ≡ ask.name.now) × (ask.replace ≡ true) × HasAnswer ask.question ask.name.now old new)
+-- each file is as before, or it is the one that the action is for, which is replaced by what is asked for
+abbrev pub ActsOnFile : Ask → Files → Files → Type 0
+ActsOnFile ask old new = (p : List ℕ)
+    → (new p ≡ old p) ⊎ ((p ≡ ask.name.now) × (ask.replace ≡ true) × HasResult ask.action ask.name.now old new)
 
--- each file is as before, or it is that of the question, which is replaced by these bytes
+-- each file is as before, or it is the one that the action is for, which is replaced by these bytes
 abbrev pub IsDelivered : Ask → List ℕ → Files → Files → Type 0
 IsDelivered ask bytes old new = (p : List ℕ)
     → (new p ≡ old p) ⊎ ((p ≡ ask.name.now) × (ask.replace ≡ true) × (new ask.name.now ≡ Some bytes))
+
+-- the result of `get`: a value that is at the path, or none there
+abbrev pub ShowsAt : Path → Nodes → Result Applied ParseFailure → Type 0
+ShowsAt p x (Ok (Text s)) = IsSome (at_path p x)
+ShowsAt p x (Ok (NotFound s)) = at_path p x ≡ None
+ShowsAt p x (Ok (Usage s)) = ⊥
+ShowsAt p x (Err (Syntax e)) = ⊥
+ShowsAt p x (Err Memory) = Unit {0}
+
+-- the result of an edit that was not made, for that reason
+abbrev pub IsUnedited : EditFailure → Result Applied ParseFailure → Type 0
+IsUnedited (edit.Text e) r = r ≡ Err (Syntax e)
+IsUnedited (edit.Missing m) (Ok (NotFound s)) = Unit {0}
+IsUnedited edit.Value (Ok (Usage s)) = Unit {0}
+IsUnedited (edit.Node e) (Ok (Usage s)) = Unit {0}
+IsUnedited edit.NotNode (Ok (Usage s)) = Unit {0}
+IsUnedited f (Err Memory) = Unit {0}
+IsUnedited f r = ⊥

@@ -4,7 +4,7 @@ pub mod Formatted
 pub mod Outcomes
 -- What a check finds in files.
 pub mod Checks
--- What becomes of a text, and of files, by a question.
+-- What becomes of a text, and of files, by an action.
 pub mod Asks
 -- What becomes of files by a request.
 pub mod Requests

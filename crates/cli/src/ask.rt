@@ -1,94 +1,75 @@
-//! What is asked of one text: one of its values, another form of it, or the text with a part of it changed.
+//! What is done with one text: one of its values, another form of it, or the text with a part of it changed.
 
-ghost use Rattle.cli.specs.Asks.{AnswersFile, Gives, IfText, IsDelivered, IsRemoved, IsSet};
-ghost use Rattle.cli.specs.declared.ask.Question.TheVariants.{Json};
-ghost use Rattle.kdl_path.specs.Edits.{IsInsertedAt};
-ghost use Rattle.kdl_path.specs.declared.path.Path.{Path};
-ghost use Rattle.std.specs.Prelude.{◌≡◌, chars};
+ghost use Rattle.cli.specs.Asks.{ActsOnFile, Applies, IsDelivered, IsStatusOf, IsUnedited, ShowsAt};
+ghost use Rattle.cli.specs.declared.ask.Action.TheVariants.{FromJson, Get, Insert, Json, Remove, Set};
+ghost use Rattle.kdl.specs.Words.{document_says};
+ghost use Rattle.std.specs.Prelude.{◌≡◌, ◌⊎◌, List, Some, ℕ};
 
-use crate::report::{Style, tell_faults};
+use crate::report::{Style, report_faults};
 use cli_world::status::Status;
 use cli_world::store::Store;
 use cli_world::world::{Unread, World};
 use kdl::{KdlDocument, KdlValue, ParseFailure};
 use kdl_json::{JsonFailure, from_json, to_json};
-use kdl_path::{EditFailure, GetFailure, Path, PathFailure, get, get_all, insert, remove, set};
+pub use kdl_path::Path;
+use kdl_path::{EditFailure, GetFailure, PathFailure, get, get_all, insert, remove, set};
 use kdl_report::Lines;
 use std::alloc::{AllocError, Global};
 use std::io::Write;
 
-/// What is asked of a text.
+/// What is done with a text.
 #[derive(Clone, Copy)]
-pub enum Question<'a> {
-    /// The value at a path: of a string without quotes and escapes if `raw`, and of every node of each name if `all`.
+pub enum Action<'a> {
+    /// Shows the value at a path: of a string without quotes and escapes if `raw`, and of every node of each name if
+    /// `all`.
     Get {
-        path: &'a str,
+        path: &'a Path,
         raw: bool,
         all: bool,
     },
-    /// The text with the value at a path, which is made if `create`.
+    /// Sets the value at a path, which is made if `create`.
     Set {
-        path: &'a str,
+        path: &'a Path,
         value: &'a str,
         create: bool,
     },
-    /// The text without what is at a path.
+    /// Removes what is at a path.
     Remove {
-        path: &'a str,
+        path: &'a Path,
     },
-    /// The text with the node as the last one in the block at a path.
+    /// Adds the node as the last one in the block at a path.
     Insert {
-        path: &'a str,
+        path: &'a Path,
         node: &'a str,
     },
-    /// The data of the text as JSON.
+    /// Shows the data of the text as JSON.
     Json,
-    /// The document whose data are this JSON.
+    /// Shows the document whose data are this JSON.
     FromJson,
 }
 
-/// What is asked, of which file, and whether the file is replaced.
+/// An action, the file that it is applied to, and whether the file is replaced.
 #[derive(Clone, Copy)]
 pub struct Ask<'a> {
-    pub question: Question<'a>,
+    pub action: Action<'a>,
     pub name: &'a str,
     pub replace: bool,
     pub style: Style,
 }
 
-/// The answer for a text.
+/// The result of an action on a text.
 #[derive(Drop)]
-pub enum Answer {
+pub enum Applied {
     /// The output, or the new text.
     Text(String),
-    /// What was asked for is not in the text, or the text is not the JSON of a document.
+    /// What is asked for is not in the text, or the text is not the JSON of a document.
     NotFound(String),
-    /// The question is not one, as where a path has no reading.
+    /// The VALUE or the NODE is none, or the path names no node where it has to.
     Usage(String),
 }
 
-/// Returns the answer for a text.
-///
-/// Returns `Syntax` with the faults of the text if it is not a document, and `Memory` if an allocation fails.
-fn answer_to(alloc: Global, text: &str, question: Question<'_>) -> Result<Answer, ParseFailure>
-    ensures { IfText result (Gives question.entry text.now) }
-{
-    match question {
-        Question::Get { path, raw, all } => values_at(alloc, text, path, raw, all),
-        Question::Set {
-            path,
-            value,
-            create,
-        } => text_with(alloc, text, path, value, create),
-        Question::Remove { path } => text_without(alloc, text, path),
-        Question::Insert { path, node } => text_with_node(alloc, text, path, node),
-        Question::Json => json_of(alloc, text),
-        Question::FromJson => document_of(alloc, text),
-    }
-}
-
-/// Returns the path, or what is wrong with it.
-fn read_path(alloc: Global, text: &str) -> Result<Result<Path, String>, AllocError> {
+/// Returns the path that a text is, or what is wrong with it.
+pub fn read_path(alloc: Global, text: &str) -> Result<Result<Path, String>, AllocError> {
     match Path::parse(alloc, text) {
         Ok(path) => Ok(Ok(path)),
         Err(PathFailure::Syntax(fault, at)) => {
@@ -98,85 +79,96 @@ fn read_path(alloc: Global, text: &str) -> Result<Result<Path, String>, AllocErr
     }
 }
 
+/// Applies the action to a text.
+///
+/// Returns `Syntax` with the faults of the text if it is not a document, and `Memory` if an allocation fails.
+fn apply(alloc: Global, text: &str, action: Action<'_>) -> Result<Applied, ParseFailure>
+    ensures { Applies action.entry text.now result }
+{
+    match action {
+        Action::Get { path, raw, all } => values_at(alloc, text, path, raw, all),
+        Action::Set {
+            path,
+            value,
+            create,
+        } => text_with(alloc, text, path, value, create),
+        Action::Remove { path } => text_without(alloc, text, path),
+        Action::Insert { path, node } => text_with_node(alloc, text, path, node),
+        Action::Json => json_of(alloc, text),
+        Action::FromJson => document_of(alloc, text),
+    }
+}
+
 /// Returns the text with a value at a path.
 fn text_with(
     alloc: Global,
     text: &str,
-    path: &str,
+    path: &Path,
     value: &str,
     create: bool,
-) -> Result<Answer, ParseFailure>
-    ensures { IfText result (λ new. (p : Path) × IsSet p value.now create text.now new) }
+) -> Result<Applied, ParseFailure>
+    ensures { Applies (Set path.entry value.entry create) text.now result }
 {
-    let path = match read_path(alloc, path)? {
-        Ok(path) => path,
-        Err(why) => return Ok(Answer::Usage(why)),
-    };
-    match set(alloc, text, &path, value, create) {
-        Ok(new) => Ok(Answer::Text(new)),
+    match set(alloc, text, path, value, create) {
+        Ok(new) => Ok(Applied::Text(new)),
         Err(failure) => unedited(alloc, failure),
     }
 }
 
 /// Returns the text without what is at a path.
-fn text_without(alloc: Global, text: &str, path: &str) -> Result<Answer, ParseFailure>
-    ensures { IfText result (λ new. (p : Path) × IsRemoved p text.now new) }
+fn text_without(alloc: Global, text: &str, path: &Path) -> Result<Applied, ParseFailure>
+    ensures { Applies (Remove path.entry) text.now result }
 {
-    let path = match read_path(alloc, path)? {
-        Ok(path) => path,
-        Err(why) => return Ok(Answer::Usage(why)),
-    };
-    match remove(alloc, text, &path) {
-        Ok(new) => Ok(Answer::Text(new)),
+    match remove(alloc, text, path) {
+        Ok(new) => Ok(Applied::Text(new)),
         Err(failure) => unedited(alloc, failure),
     }
 }
 
 /// Returns the text with a node in the block at a path.
-fn text_with_node(alloc: Global, text: &str, path: &str, node: &str) -> Result<Answer, ParseFailure>
-    ensures { IfText result (λ new.
-        (p : Path) × IsInsertedAt p (chars node.now) (chars text.now) (chars new)) }
+fn text_with_node(
+    alloc: Global,
+    text: &str,
+    path: &Path,
+    node: &str,
+) -> Result<Applied, ParseFailure>
+    ensures { Applies (Insert path.entry node.entry) text.now result }
 {
-    let path = match read_path(alloc, path)? {
-        Ok(path) => path,
-        Err(why) => return Ok(Answer::Usage(why)),
-    };
-    match insert(alloc, text, &path, node) {
-        Ok(new) => Ok(Answer::Text(new)),
+    match insert(alloc, text, path, node) {
+        Ok(new) => Ok(Applied::Text(new)),
         Err(failure) => unedited(alloc, failure),
     }
 }
 
 /// Returns the data of a text as JSON, with a line break at the end.
-fn json_of(alloc: Global, text: &str) -> Result<Answer, ParseFailure>
-    ensures { IfText result (Gives Json text.now) }
+fn json_of(alloc: Global, text: &str) -> Result<Applied, ParseFailure>
+    ensures { Applies Json text.now result }
 {
     let document = KdlDocument::parse(alloc, text)?;
     let mut json = to_json(alloc, &document)?;
     json.push('\n')?;
-    Ok(Answer::Text(json))
+    Ok(Applied::Text(json))
 }
 
 /// Returns the value at the path, or each of them, on a line of its own.
 fn values_at(
     alloc: Global,
     text: &str,
-    path: &str,
+    path: &Path,
     raw: bool,
     all: bool,
-) -> Result<Answer, ParseFailure> {
-    let path = match read_path(alloc, path)? {
-        Ok(path) => path,
-        Err(why) => return Ok(Answer::Usage(why)),
-    };
+) -> Result<Applied, ParseFailure>
+    ensures { Applies (Get path.entry raw all) text.now result }
+{
     let document = KdlDocument::parse(alloc, text)?;
-    if all {
-        let lines = all_values(alloc, &document, &path, raw)?;
-        if !lines.is_empty() {
-            return Ok(Answer::Text(lines));
-        }
+    if !all {
+        return one_value(alloc, &document, path, raw);
     }
-    one_value(alloc, &document, &path, raw)
+    let lines = all_values(alloc, &document, path, raw)?;
+    if lines.is_empty() {
+        return one_value(alloc, &document, path, raw);
+    }
+    Ok(Applied::Text(lines))
 }
 
 /// Returns a line for each value at the path.
@@ -199,14 +191,16 @@ fn one_value(
     document: &KdlDocument,
     path: &Path,
     raw: bool,
-) -> Result<Answer, ParseFailure> {
+) -> Result<Applied, ParseFailure>
+    ensures { ShowsAt path.now (document_says document.now) result }
+{
     match get(alloc, document, path) {
         Ok(value) => {
             let mut line = String::new(alloc);
             push_value(&mut line, value, raw)?;
-            Ok(Answer::Text(line))
+            Ok(Applied::Text(line))
         }
-        Err(GetFailure::Missing(missing)) => Ok(Answer::NotFound(format!(in alloc; "{missing}")?)),
+        Err(GetFailure::Missing(missing)) => Ok(Applied::NotFound(format!(in alloc; "{missing}")?)),
         Err(GetFailure::Memory) => Err(ParseFailure::Memory),
     }
 }
@@ -220,21 +214,21 @@ fn push_value(out: &mut String, value: &KdlValue, raw: bool) -> Result<(), Alloc
     out.push('\n')
 }
 
-/// Returns the answer for an edit that was not made.
-fn unedited(alloc: Global, failure: EditFailure) -> Result<Answer, ParseFailure>
-    ensures { IfText result (λ _. ⊥) }
+/// Returns the result for an edit that was not made.
+fn unedited(alloc: Global, failure: EditFailure) -> Result<Applied, ParseFailure>
+    ensures { IsUnedited failure result }
 {
     let why = match failure {
         EditFailure::Text(error) => return Err(ParseFailure::Syntax(error)),
         EditFailure::Missing(missing) => {
-            return Ok(Answer::NotFound(format!(in alloc; "{missing}")?));
+            return Ok(Applied::NotFound(format!(in alloc; "{missing}")?));
         }
         EditFailure::Memory => return Err(ParseFailure::Memory),
         EditFailure::Value => NO_VALUE,
         EditFailure::Node(_) => NO_NODE,
         EditFailure::NotNode => NO_BLOCK,
     };
-    Ok(Answer::Usage(String::from_str(alloc, why)?))
+    Ok(Applied::Usage(String::from_str(alloc, why)?))
 }
 
 const NO_VALUE: &str =
@@ -245,11 +239,13 @@ const NO_NODE: &str = "NODE is not one KDL node";
 const NO_BLOCK: &str = "PATH names no node: it has `#` or `@`";
 
 /// Returns the document of a JSON, laid out.
-fn document_of(alloc: Global, text: &str) -> Result<Answer, ParseFailure> {
+fn document_of(alloc: Global, text: &str) -> Result<Applied, ParseFailure>
+    ensures { Applies FromJson text.now result }
+{
     match from_json(alloc, text) {
         Ok(mut document) => {
             document.autoformat()?;
-            Ok(Answer::Text(document.to_string(alloc)?))
+            Ok(Applied::Text(document.to_string(alloc)?))
         }
         Err(JsonFailure::Unexpected { at, expected }) => {
             let place = Lines::new(alloc, text)?.place(at);
@@ -257,73 +253,79 @@ fn document_of(alloc: Global, text: &str) -> Result<Answer, ParseFailure> {
                 "line {}, column {}: {expected}",
                 place.line, place.column
             )?;
-            Ok(Answer::NotFound(message))
+            Ok(Applied::NotFound(message))
         }
         Err(JsonFailure::Memory) => Err(ParseFailure::Memory),
     }
 }
 
-/// Writes the answer for a file to the output, or replaces the file by it.
+/// Applies an action to a file: writes the result to the output, or replaces the file by it.
 pub fn ask_file<S: Store, O: Write, E: Write>(
     alloc: Global,
     world: &mut World<S, O, E>,
     ask: &Ask<'_>,
 ) -> Status
     // Only this file changes, to what is asked for, and only if it is to be replaced.
-    ensures { AnswersFile ask.now (S.known world.old.files) (S.known world.new.files) }
+    ensures changes { ActsOnFile ask.now (S.known world.old.files) (S.known world.new.files) }
+    // The status is what the action makes of the file's bytes, or `Failed`.
+    ensures status { (bytes : List ℕ) → S.known world.old.files ask.now.name.now ≡ Some bytes
+        → IsStatusOf ask.now.action bytes result }
 {
     let text = match world.text(alloc, ask.name) {
         Ok(text) => text,
         Err(unread) => {
-            world.tell_unread(ask.name, &unread);
+            world.report_unread(ask.name, &unread);
             return match unread {
                 Unread::NotUtf8(_) => Status::Found,
                 Unread::Failed(_) => Status::Failed,
             };
         }
     };
-    match answer_to(alloc, &text, ask.question) {
-        Ok(Answer::Text(new)) => deliver(world, ask, &text, &new),
-        Ok(Answer::NotFound(message)) => {
-            world.tell(ask.name, message);
+    match apply(alloc, &text, ask.action) {
+        Ok(Applied::Text(new)) => deliver(world, ask, &text, &new),
+        Ok(Applied::NotFound(message)) => {
+            world.report(ask.name, message);
             Status::Found
         }
-        Ok(Answer::Usage(message)) => {
-            world.tell_usage(&message);
+        Ok(Applied::Usage(message)) => {
+            world.report_usage(&message);
             Status::Usage
         }
         Err(ParseFailure::Syntax(error)) => {
-            match tell_faults(alloc, world, ask.name, &text, &error, ask.style) {
+            match report_faults(alloc, world, ask.name, &text, &error, ask.style) {
                 Ok(()) => Status::Found,
-                Err(AllocError) => told_memory(world, ask.name),
+                Err(AllocError) => report_memory(world, ask.name),
             }
         }
-        Err(ParseFailure::Memory) => told_memory(world, ask.name),
+        Err(ParseFailure::Memory) => report_memory(world, ask.name),
     }
 }
 
 /// Reports that an allocation failed.
-fn told_memory<S, O, E: Write>(world: &mut World<S, O, E>, name: &str) -> Status
-    ensures { world.new.files ≡ world.old.files }
+fn report_memory<S, O, E: Write>(world: &mut World<S, O, E>, name: &str) -> Status
+    ensures files { world.new.files ≡ world.old.files }
+    ensures status { result ≡ Status.Failed }
 {
-    world.tell_memory(name);
+    world.report_memory(name);
     Status::Failed
 }
 
-/// Writes the answer to the output, or replaces the file if it differs.
+/// Writes the result to the output, or replaces the file if it differs.
 fn deliver<S: Store, O: Write, E: Write>(
     world: &mut World<S, O, E>,
     ask: &Ask<'_>,
     old: &str,
     new: &str,
 ) -> Status
-    ensures { IsDelivered ask.now new.now (S.known world.old.files) (S.known world.new.files) }
+    ensures files { IsDelivered ask.now new.now
+        (S.known world.old.files) (S.known world.new.files) }
+    ensures status { (result ≡ Status.Done) ⊎ (result ≡ Status.Failed) }
 {
     if !ask.replace {
         return match world.print(new) {
             Ok(_) => Status::Done,
             Err(error) => {
-                world.tell(ask.name, error);
+                world.report(ask.name, error);
                 Status::Failed
             }
         };
@@ -334,7 +336,7 @@ fn deliver<S: Store, O: Write, E: Write>(
     match world.files.replace(ask.name, new) {
         Ok(()) => Status::Done,
         Err(error) => {
-            world.tell(ask.name, error);
+            world.report(ask.name, error);
             Status::Failed
         }
     }

@@ -108,7 +108,7 @@ pub fn check_file<S: Store, O: Write, E: Write>(
     let text = match world.text(alloc, name) {
         Ok(text) => text,
         Err(unread) => {
-            world.tell_unread(name, &unread);
+            world.report_unread(name, &unread);
             return match unread {
                 Unread::NotUtf8(_) => Checked::NotUtf8,
                 Unread::Failed(_) => Checked::ReadFailed,
@@ -120,10 +120,10 @@ pub fn check_file<S: Store, O: Write, E: Write>(
         Err(ParseFailure::Syntax(error)) => {
             match faults(alloc, name, &text, &error, style) {
                 Ok(faults) => print(world, name, &faults, error.diagnostics.len()),
-                Err(AllocError) => told_memory(world, name),
+                Err(AllocError) => report_memory(world, name),
             }
         }
-        Err(ParseFailure::Memory) => told_memory(world, name),
+        Err(ParseFailure::Memory) => report_memory(world, name),
     }
 }
 
@@ -140,18 +140,18 @@ fn print<S, O: Write, E: Write>(
     match world.print(faults) {
         Ok(_) => Checked::Faulty(count),
         Err(error) => {
-            world.tell(name, error);
+            world.report(name, error);
             Checked::WriteFailed
         }
     }
 }
 
 /// Reports that an allocation failed.
-fn told_memory<S, O, E: Write>(world: &mut World<S, O, E>, name: &str) -> Checked
+fn report_memory<S, O, E: Write>(world: &mut World<S, O, E>, name: &str) -> Checked
     ensures found { result ≡ Checked.Memory }
     ensures files { world.new.files ≡ world.old.files }
 {
-    world.tell_memory(name);
+    world.report_memory(name);
     Checked::Memory
 }
 

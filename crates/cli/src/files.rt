@@ -5,7 +5,7 @@ ghost use Rattle.std.specs.Io.KnownBytes.{Appends};
 ghost use Rattle.std.specs.Prelude.{◌≡◌, map};
 
 use crate::fmt::formatted;
-use crate::report::{Style, tell_faults};
+use crate::report::{Style, report_faults};
 use crate::settings::Settings;
 use cli_world::status::Status;
 use cli_world::store::Store;
@@ -113,7 +113,7 @@ pub fn format_file<S: Store, O: Write, E: Write>(
     let text = match world.text(alloc, name) {
         Ok(text) => text,
         Err(unread) => {
-            world.tell_unread(name, &unread);
+            world.report_unread(name, &unread);
             return match unread {
                 Unread::NotUtf8(_) => Outcome::NotUtf8,
                 Unread::Failed(_) => Outcome::ReadFailed,
@@ -123,12 +123,12 @@ pub fn format_file<S: Store, O: Write, E: Write>(
     match formatted(alloc, &text, &job.settings) {
         Ok(new) => deliver(alloc, world, job.mode, name, &text, &new),
         Err(ParseFailure::Syntax(error)) => {
-            match tell_faults(alloc, world, name, &text, &error, job.style) {
+            match report_faults(alloc, world, name, &text, &error, job.style) {
                 Ok(()) => Outcome::Refused,
                 Err(AllocError) => Outcome::Memory,
             }
         }
-        Err(ParseFailure::Memory) => told_memory(world, name),
+        Err(ParseFailure::Memory) => report_memory(world, name),
     }
 }
 
@@ -181,7 +181,7 @@ fn print<S, O: Write, E: Write>(
         Ok(Output::Written) => outcome,
         Ok(Output::Closed) => Outcome::Closed,
         Err(error) => {
-            world.tell(name, error);
+            world.report(name, error);
             Outcome::WriteFailed
         }
     }
@@ -203,7 +203,7 @@ fn show_name<S, O: Write, E: Write>(
     }
     match format!(in alloc; "{}\n", shown_name(name)) {
         Ok(line) => print(world, name, &line, Outcome::Changed),
-        Err(AllocError) => told_memory(world, name),
+        Err(AllocError) => report_memory(world, name),
     }
 }
 
@@ -223,7 +223,7 @@ fn show_lines<S, O: Write, E: Write>(
     }
     match unified(alloc, shown_name(name), old, new) {
         Ok(lines) => print(world, name, &lines, Outcome::Changed),
-        Err(AllocError) => told_memory(world, name),
+        Err(AllocError) => report_memory(world, name),
     }
 }
 
@@ -243,17 +243,17 @@ fn replace<S: Store, O, E: Write>(
     match world.files.replace(name, new) {
         Ok(()) => Outcome::Changed,
         Err(error) => {
-            world.tell(name, error);
+            world.report(name, error);
             Outcome::WriteFailed
         }
     }
 }
 
 /// Reports that memory ran out.
-fn told_memory<S, O, E: Write>(world: &mut World<S, O, E>, name: &str) -> Outcome
+fn report_memory<S, O, E: Write>(world: &mut World<S, O, E>, name: &str) -> Outcome
     ensures files { world.new.files ≡ world.old.files }
     ensures outcome { result ≡ Outcome.Memory }
 {
-    world.tell_memory(name);
+    world.report_memory(name);
     Outcome::Memory
 }

@@ -27,16 +27,6 @@ pub struct Style {
     pub color: bool,
 }
 
-impl Style {
-    /// For people, without colors.
-    pub fn plain() -> Style {
-        Style {
-            form: Form::Human,
-            color: false,
-        }
-    }
-}
-
 /// Returns the report of the faults of a text: for people a picture of each, with an empty line after it.
 pub fn faults(
     alloc: Global,
@@ -49,12 +39,12 @@ pub fn faults(
     let lines = Lines::new(alloc, text)?;
     let mut out = String::new(alloc);
     for fault in &error.diagnostics {
-        let told = match style.form {
+        let report = match style.form {
             Form::Human => render(alloc, name, &lines, fault, style.color)?,
             Form::Short => short(alloc, name, &lines, fault)?,
             Form::Json => json(alloc, name, &lines, fault)?,
         };
-        out.push_str(told.as_str())?;
+        out.push_str(report.as_str())?;
         if matches!(style.form, Form::Human) {
             out.push('\n')?;
         }
@@ -63,7 +53,7 @@ pub fn faults(
 }
 
 /// Reports the faults of a text.
-pub fn tell_faults<S, O, E: Write>(
+pub fn report_faults<S, O, E: Write>(
     alloc: Global,
     world: &mut World<S, O, E>,
     name: &str,

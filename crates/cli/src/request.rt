@@ -1,6 +1,6 @@
 //! What a command line asks for.
 
-ghost use Rattle.cli.specs.Asks.{AnswersFile};
+ghost use Rattle.cli.specs.Asks.{ActsOnFile};
 ghost use Rattle.cli.specs.Outcomes.{ChangesNamed};
 ghost use Rattle.cli.specs.Requests.{MayReplace};
 ghost use Rattle.std.specs.Prelude.{◌≡◌, ◌<◌, [], IsTrue, length, map};
@@ -9,7 +9,7 @@ use crate::ask::{Ask, ask_file};
 use crate::check::check_files;
 use crate::config::{Misfit, Unfit, given};
 use crate::files::{Job, Mode, format_files};
-use crate::report::{Style, tell_faults};
+use crate::report::{Style, report_faults};
 use crate::settings::{Given, Settings};
 use cli_words::completions::{Shell, completions};
 use cli_words::manual::manual;
@@ -42,7 +42,7 @@ pub enum Request<'a> {
     Format(Format<'a>),
     /// The faults of files are shown.
     Check { names: &'a [&'a str], style: Style },
-    /// A question about a file.
+    /// An action on a file.
     Ask(Ask<'a>),
     /// The completions of a shell are shown.
     Completions(Shell),
@@ -78,21 +78,21 @@ fn check_named<S: Store, O: Write, E: Write>(
     ensures { world.new.files ≡ world.old.files }
 {
     if has_input_twice(names) {
-        return told_usage(world, READ_ONCE);
+        return report_usage(world, READ_ONCE);
     }
     check_files(alloc, world, style, or_input(names))
 }
 
-/// Does what a question asks of a file.
+/// Applies an action to a file.
 fn ask_named<S: Store, O: Write, E: Write>(
     alloc: Global,
     world: &mut World<S, O, E>,
     ask: &Ask<'_>,
 ) -> Status
-    ensures { AnswersFile ask.now (S.known world.old.files) (S.known world.new.files) }
+    ensures { ActsOnFile ask.now (S.known world.old.files) (S.known world.new.files) }
 {
     if ask.replace && ask.name == "-" {
-        return told_usage(world, NOT_WRITABLE);
+        return report_usage(world, NOT_WRITABLE);
     }
     ask_file(alloc, world, ask)
 }
@@ -114,10 +114,10 @@ fn format_named<S: Store, O: Write, E: Write>(
         style,
     } = *format;
     if writes_input(mode, names) {
-        return told_usage(world, NOT_WRITABLE);
+        return report_usage(world, NOT_WRITABLE);
     }
     if has_input_twice(names) {
-        return told_usage(world, READ_ONCE);
+        return report_usage(world, READ_ONCE);
     }
     let settings = match settings_of(alloc, world, config, given, style) {
         Ok(settings) => settings,
@@ -172,11 +172,11 @@ const NOT_WRITABLE: &str = "standard input can't be written: give the files to w
 const READ_ONCE: &str = "standard input is read once: give `-` at most once";
 
 /// Reports what is wrong with the command line.
-fn told_usage<S, O, E: Write>(world: &mut World<S, O, E>, why: &str) -> Status
+fn report_usage<S, O, E: Write>(world: &mut World<S, O, E>, why: &str) -> Status
     ensures files { world.new.files ≡ world.old.files }
     ensures status { result ≡ Status.Usage }
 {
-    world.tell_usage(why);
+    world.report_usage(why);
     Status::Usage
 }
 
@@ -205,7 +205,7 @@ fn failed<S, O, E: Write, T: Display + Drop>(
 ) -> Status
     ensures { world.new.files ≡ world.old.files }
 {
-    world.tell(name, why);
+    world.report(name, why);
     Status::Failed
 }
 
@@ -226,7 +226,7 @@ fn settings_of<S: Store, O, E: Write>(
     let text = match world.text(alloc, name) {
         Ok(text) => text,
         Err(unread) => {
-            world.tell_unread(name, &unread);
+            world.report_unread(name, &unread);
             return match unread {
                 Unread::NotUtf8(_) => Err(Status::Usage),
                 Unread::Failed(_) => Err(Status::Failed),
@@ -235,12 +235,12 @@ fn settings_of<S: Store, O, E: Write>(
     };
     match given(alloc, &text) {
         Ok(given) => Ok(Settings::new().with(given).with(over)),
-        Err(unfit) => Err(told_unfit(alloc, world, name, &text, &unfit, style)),
+        Err(unfit) => Err(report_unfit(alloc, world, name, &text, &unfit, style)),
     }
 }
 
 /// Reports why a text has no settings.
-fn told_unfit<S, O, E: Write>(
+fn report_unfit<S, O, E: Write>(
     alloc: Global,
     world: &mut World<S, O, E>,
     name: &str,
@@ -251,13 +251,13 @@ fn told_unfit<S, O, E: Write>(
     ensures { world.new.files ≡ world.old.files }
 {
     match unfit {
-        Unfit::Syntax(error) => match tell_faults(alloc, world, name, text, error, style) {
+        Unfit::Syntax(error) => match report_faults(alloc, world, name, text, error, style) {
             Ok(()) => Status::Usage,
             Err(AllocError) => failed(world, name, "out of memory"),
         },
         Unfit::Misfits(misfits) => match Lines::new(alloc, text) {
             Ok(lines) => {
-                tell_misfits(world, name, &lines, misfits);
+                report_misfits(world, name, &lines, misfits);
                 Status::Usage
             }
             Err(AllocError) => failed(world, name, "out of memory"),
@@ -267,7 +267,7 @@ fn told_unfit<S, O, E: Write>(
 }
 
 /// Reports why nodes are no settings.
-fn tell_misfits<S, O, E: Write>(
+fn report_misfits<S, O, E: Write>(
     world: &mut World<S, O, E>,
     name: &str,
     lines: &Lines<'_>,
@@ -276,12 +276,12 @@ fn tell_misfits<S, O, E: Write>(
     ensures { world.new.files ≡ world.old.files }
 {
     for misfit in misfits {
-        tell_misfit(world, name, lines, misfit);
+        report_misfit(world, name, lines, misfit);
     }
 }
 
 /// Reports why a node is no setting.
-fn tell_misfit<S, O, E: Write>(
+fn report_misfit<S, O, E: Write>(
     world: &mut World<S, O, E>,
     name: &str,
     lines: &Lines<'_>,

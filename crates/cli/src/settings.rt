@@ -8,7 +8,7 @@ use kdl_laws::reading_back::printed_is_text;
 use std::alloc::{AllocError, Global};
 
 /// What comes before a node, once for each level.
-#[derive(Clone, Copy, Debug, PartialEq, Eq)]
+#[derive(Clone, Copy)]
 pub enum Indent {
     /// This number of spaces.
     Spaces(usize),

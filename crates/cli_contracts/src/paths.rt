@@ -2,10 +2,10 @@
 
 ghost use Rattle.kdl.specs.Words.{IsDocument, Nodes, document_says, value_tree};
 ghost use Rattle.kdl_path.specs.Edits.{IsSetAt};
-ghost use Rattle.kdl_path.specs.Failures.{IsMissing};
+ghost use Rattle.kdl_path.specs.Failures.{IsMissing, SetFails};
 ghost use Rattle.kdl_path.specs.Paths.{at_path};
 ghost use Rattle.kdl_value.specs.Tree.{text_of};
-ghost use Rattle.std.specs.Prelude.{◌≡◌, IfErr, IfOk, IsSome, None, Some, true};
+ghost use Rattle.std.specs.Prelude.{◌≡◌, IfErr, IfOk, IsSome, None, Some, false, true};
 ghost use Rattle.std.specs.Str.{chars};
 
 use kdl::{KdlDocument, KdlValue};
@@ -31,6 +31,8 @@ pub fn set(alloc: Global, text: &str, path: &Path, value: &str) -> Result<String
     ensures set { IfOk result (λ out. (x : Nodes) → IsDocument true (chars text.now) x
         → IsSome (at_path path.now x)
         → IsSetAt path.now (chars value.now) (chars text.now) (text_of out)) }
+    ensures fails { IfErr result
+        (SetFails path.now (chars value.now) (chars text.now) false) }
 {
     kdl_path::set(alloc, text, path, value, false)
 }

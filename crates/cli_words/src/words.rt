@@ -117,7 +117,7 @@ pub fn words() -> &'static [Word] {
 }
 
 /// The words.
-pub static WORDS: [Word; 10] = [
+static WORDS: [Word; 10] = [
     Word {
         name: "fmt",
         about: "Formats files",
@@ -163,7 +163,7 @@ pub static WORDS: [Word; 10] = [
             Flag {
                 long: "config",
                 short: None,
-                value: Some(("CONFIG", Values::Files)),
+                value: Some(("FILE", Values::Files)),
                 help: "Reads settings from a KDL file, as `indent 2` and `blank-lines 1`",
             },
         ],

@@ -69,7 +69,7 @@ impl From<io::Error> for Unread {
 }
 
 impl<S, O: Write, E> World<S, O, E> {
-    /// Writes a text to the output. That nobody reads it any more is no error.
+    /// Writes a text to the output. Returns `Closed`, and no error, if nothing reads it any more.
     pub fn print(&mut self, text: &str) -> io::Result<Output>
         ensures files { self.new.files ≡ self.old.files }
         ensures written { result ≡ Ok Output.Written →
@@ -84,8 +84,8 @@ impl<S, O: Write, E> World<S, O, E> {
 }
 
 impl<S, O, E: Write> World<S, O, E> {
-    /// Tells what is wrong with a file.
-    pub fn tell<T: Display + Drop>(&mut self, name: &str, what: T)
+    /// Reports what is wrong with a file.
+    pub fn report<T: Display + Drop>(&mut self, name: &str, what: T)
         ensures files { self.new.files ≡ self.old.files }
         ensures out { self.new.out ≡ self.old.out }
     {
@@ -93,30 +93,30 @@ impl<S, O, E: Write> World<S, O, E> {
         let _ = writeln!(self.err, "kdl: {name}: {what}");
     }
 
-    /// Tells what is wrong with the command line.
-    pub fn tell_usage(&mut self, why: &str)
+    /// Reports what is wrong with the command line.
+    pub fn report_usage(&mut self, why: &str)
         ensures files { self.new.files ≡ self.old.files }
         ensures out { self.new.out ≡ self.old.out }
     {
         let _ = writeln!(self.err, "kdl: {why}");
     }
 
-    /// Tells why a file has no text.
-    pub fn tell_unread(&mut self, name: &str, unread: &Unread)
+    /// Reports why a file has no text.
+    pub fn report_unread(&mut self, name: &str, unread: &Unread)
         ensures files { self.new.files ≡ self.old.files }
         ensures out { self.new.out ≡ self.old.out }
     {
         match unread {
-            Unread::NotUtf8(byte) => self.tell(name, format_args!("not UTF-8 at byte {byte}")),
-            Unread::Failed(error) => self.tell(name, error),
+            Unread::NotUtf8(byte) => self.report(name, format_args!("not UTF-8 at byte {byte}")),
+            Unread::Failed(error) => self.report(name, error),
         }
     }
 
-    /// Tells that memory ran out.
-    pub fn tell_memory(&mut self, name: &str)
+    /// Reports that memory ran out.
+    pub fn report_memory(&mut self, name: &str)
         ensures files { self.new.files ≡ self.old.files }
         ensures out { self.new.out ≡ self.old.out }
     {
-        self.tell(name, "out of memory");
+        self.report(name, "out of memory");
     }
 }

@@ -1,7 +1,7 @@
 //! The command line, made from the table of words.
 
 use clap::{Arg, ArgAction, Command, value_parser};
-use cli::words::{ABOUT, Count, Flag, Operand, VERSION, Values, WORDS, Word};
+use cli::words::{ABOUT, Count, Flag, Operand, VERSION, Values, Word, words};
 use std::alloc::{AllocError, Global};
 
 /// Returns the command line of the program.
@@ -12,7 +12,7 @@ pub fn command<'a>(alloc: Global) -> Result<Command<'a>, AllocError> {
         .about(ABOUT)
         .subcommand_required(true)
         .arg_required_else_help(true);
-    for word in WORDS.iter() {
+    for word in words() {
         command = command.subcommand(word_command(alloc, word)?)?;
     }
     Ok(command)

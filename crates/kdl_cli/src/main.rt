@@ -9,7 +9,7 @@ mod requests;
 mod system;
 
 use crate::command::command;
-use crate::requests::request_of;
+use crate::requests::{path_of, request_of};
 use crate::system::System;
 use clap::ArgMatches;
 use cli::request::run;
@@ -62,10 +62,17 @@ fn run_matches(rt: &HostRuntime, matches: &ArgMatches<'_>) -> io::Result<u8> {
         out: rt.stdout(),
         err: rt.stderr(),
     };
-    match request_of(rt, matches) {
+    let path = match path_of(rt, matches)? {
+        Ok(path) => path,
+        Err(why) => {
+            world.report_usage(&why);
+            return Ok(2);
+        }
+    };
+    match request_of(rt, matches, &path) {
         Ok(request) => Ok(run(rt.alloc(), &request, &mut world).code()),
         Err(why) => {
-            world.tell_usage(why);
+            world.report_usage(why);
             Ok(2)
         }
     }

@@ -1,19 +1,33 @@
 //! Requests from the words of the command line.
 
 use clap::ArgMatches;
-use cli::ask::{Ask, Question};
+use cli::ask::{Action, Ask, Path, read_path};
 use cli::completions::Shell;
 use cli::files::Mode;
 use cli::report::{Form, Style};
 use cli::request::{Format, Request};
 use cli::settings::{Given, Indent};
+use std::alloc::AllocError;
 use std::env;
 use std::io::IsTerminal;
 
-/// Returns the request, or why the words are none.
+/// Returns the path among the words, or what is wrong with it. Without one, returns that of the document.
+pub fn path_of(
+    rt: &HostRuntime,
+    matches: &ArgMatches<'_>,
+) -> Result<Result<Path, String>, AllocError> {
+    let path = match matches.subcommand() {
+        Some((_, matches)) => matches.get_str("PATH").unwrap_or("/"),
+        None => "/",
+    };
+    read_path(rt.alloc(), path)
+}
+
+/// Returns the request, with that path, or why the words are none.
 pub fn request_of<'m>(
     rt: &HostRuntime,
     matches: &'m ArgMatches<'_>,
+    path: &'m Path,
 ) -> Result<Request<'m>, &'static str> {
     let Some((word, matches)) = matches.subcommand() else {
         return Err("give a word: `kdl --help` lists them");
@@ -26,9 +40,9 @@ pub fn request_of<'m>(
             None => Err("give a shell"),
         },
         "man" => Ok(Request::Manual),
-        _ => match question_of(word, matches) {
-            Some(question) => Ok(Request::Ask(Ask {
-                question,
+        _ => match action_of(word, matches, path) {
+            Some(action) => Ok(Request::Ask(Ask {
+                action,
                 name: matches.get_str("FILE").unwrap_or("-"),
                 replace: matches.get_flag("write"),
                 style: style(Form::Human, has_colors(rt, rt.stderr().is_terminal())),
@@ -114,27 +128,26 @@ fn check_request<'m>(rt: &HostRuntime, matches: &'m ArgMatches<'_>) -> Request<'
     }
 }
 
-/// The question of a word on one text.
-fn question_of<'a>(word: &str, matches: &ArgMatches<'a>) -> Option<Question<'a>> {
-    let path = text(matches, "PATH");
+/// The action of a word on one text.
+fn action_of<'a>(word: &str, matches: &'a ArgMatches<'_>, path: &'a Path) -> Option<Action<'a>> {
     match word {
-        "get" => Some(Question::Get {
+        "get" => Some(Action::Get {
             path,
             raw: matches.get_flag("raw"),
             all: matches.get_flag("all"),
         }),
-        "set" => Some(Question::Set {
+        "set" => Some(Action::Set {
             path,
             value: text(matches, "VALUE"),
             create: matches.get_flag("create"),
         }),
-        "remove" => Some(Question::Remove { path }),
-        "insert" => Some(Question::Insert {
+        "remove" => Some(Action::Remove { path }),
+        "insert" => Some(Action::Insert {
             path,
             node: text(matches, "NODE"),
         }),
-        "json" => Some(Question::Json),
-        "from-json" => Some(Question::FromJson),
+        "json" => Some(Action::Json),
+        "from-json" => Some(Action::FromJson),
         _ => None,
     }
 }

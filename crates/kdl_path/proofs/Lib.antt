@@ -18,3 +18,5 @@ pub mod Removed
 pub mod Edited
 -- What failures mean.
 pub mod Failing
+-- What can be made at a PATH, in memory and in the data.
+pub mod Making

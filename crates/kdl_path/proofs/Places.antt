@@ -31,7 +31,7 @@ use Rattle.kdl_path.specs.declared.path.Target.{Target}
 use Rattle.kdl_path.specs.declared.path.Target.TheVariants.{Node, Argument, Property}
 
 -- a place in a list is one in the list of what its elements are mapped to
-nth_mapped : {A B : Type 0} (f : A → B) (p : A → Bool) (q : B → Bool) → ((x : A) → p x ≡ q (f x)) → (xs : List A) (n : ℕ) → nth_place p xs n ≡ nth_place q (map f xs) n
+pub nth_mapped : {A B : Type 0} (f : A → B) (p : A → Bool) (q : B → Bool) → ((x : A) → p x ≡ q (f x)) → (xs : List A) (n : ℕ) → nth_place p xs n ≡ nth_place q (map f xs) n
 nth_mapped f p q h [] n = refl
 nth_mapped {A = A} {B = B} f p q h (x ∷ xs) n = go (p x) (q (f x)) (h x) n (λ k. nth_mapped f p q h xs k)
   where
@@ -46,17 +46,17 @@ last_mapped : {A B : Type 0} (f : A → B) (p : A → Bool) (q : B → Bool) →
 last_mapped f p q h [] = refl
 last_mapped f p q h (x ∷ xs) = ap (λ o. later o (p x)) (last_mapped f p q h xs) ∙ ap (later (last_place q (map f xs))) (h x)
 
-there_mapped : {A B : Type 0} (f : A → B) (xs : List A) (o : Option ℕ) → there o (map f xs) ≡ option_map f (there o xs)
+pub there_mapped : {A B : Type 0} (f : A → B) (xs : List A) (o : Option ℕ) → there o (map f xs) ≡ option_map f (there o xs)
 there_mapped f xs None = refl
 there_mapped f xs (Some i) = slice_get-map f xs i
 
 -- the node of a step
-named_said : (s : String Global) (n : KdlNode) → is_node_named (string_bytes s) n ≡ is_called (text_of s) (node_says n)
+pub named_said : (s : String Global) (n : KdlNode) → is_node_named (string_bytes s) n ≡ is_called (text_of s) (node_says n)
 named_said s n =
     (same_chars (string_bytes s) (IsUtf8-string_bytes s)).same (string_bytes (out-KdlNode n).name.value) (IsUtf8-string_bytes (out-KdlNode n).name.value)
     ∙ ap (λ t. same_text t (text_of s)) (name_said n)
 
-place_said : (s : Step) (ns : List KdlNode) → place_of_step s ns ≡ step_place s (map node_says ns)
+pub place_said : (s : Step) (ns : List KdlNode) → place_of_step s ns ≡ step_place s (map node_says ns)
 place_said s ns = nth_mapped node_says (is_node_named (string_bytes s.name)) (is_called (text_of s.name)) (named_said s.name) ns _
 
 pub step_said : (s : Step) (d : KdlDocument) (i : ℕ) → place_of_step s (nodes_of d) ≡ Some i → step_place s (said_nodes (document_says d)) ≡ Some i
@@ -121,7 +121,7 @@ leads_at (s ∷ ss) [] ns n h = absurd h
 leads_at (s ∷ ss) (i ∷ is) ns n h = leads_node s ss i is ns None n h
 
 -- the entry of a target
-keyless : (e : KdlEntry) → is_argument e ≡ has_no_key (entry_says e)
+pub keyless : (e : KdlEntry) → is_argument e ≡ has_no_key (entry_says e)
 keyless e = go e.name
   where
     go : (o : Option KdlIdentifier) → is_none o ≡ is_none (option_map (λ (i : Identifier). i.value) (option_map identifier_tree o))

@@ -1,10 +1,23 @@
--- What failures mean.
+-- What failures mean, and when an edit at a PATH fails.
+use Rattle.std.specs.List.{list_all}
+use Rattle.std.specs.Prelude.{◌≡◌, ◌==◌, ◌&&◌, ℕ, zero, suc, Bool, true, false, List, [], ◌∷◌, Option, Some, None, is_some, unwrap_or}
+use Rattle.kdl.specs.Words.{EntryData, IsDocument, IsNodeText, NodeData, Nodes, Text, Value, said_child_nodes, said_entries, said_nodes}
+use Rattle.kdl.specs.Said.{has_no_key, is_called}
+use Rattle.kdl_call_parts.specs.Entries.{IsValueText}
+use Rattle.kdl_parts.specs.EntryLists.{nth_place}
+use Rattle.kdl_value.specs.Tree.{text_of}
 use Rattle.kdl_text.specs.declared.error.ParseFailure.{ParseFailure}
 use Rattle.kdl_text.specs.declared.error.ParseFailure.TheVariants as parse
-use Rattle.kdl_path.specs.declared.failure.GetFailure.{GetFailure}
-use Rattle.kdl_path.specs.declared.failure.GetFailure.TheVariants.{Missing, Memory}
+use Rattle.kdl_path.specs.Edits.{HasPlace, named_at}
+use Rattle.kdl_path.specs.Paths.{at_path, step_node}
 use Rattle.kdl_path.specs.declared.failure.EditFailure.{EditFailure}
 use Rattle.kdl_path.specs.declared.failure.EditFailure.TheVariants as edit
+use Rattle.kdl_path.specs.declared.failure.GetFailure.{GetFailure}
+use Rattle.kdl_path.specs.declared.failure.GetFailure.TheVariants as get
+use Rattle.kdl_path.specs.declared.path.Path.{Path}
+use Rattle.kdl_path.specs.declared.path.Step.{Step}
+use Rattle.kdl_path.specs.declared.path.Target.{Target}
+use Rattle.kdl_path.specs.declared.path.Target.TheVariants.{Node, Argument, Property}
 
 -- the failure of a text that is not parsed
 abbrev pub edit_of : ParseFailure → EditFailure
@@ -13,53 +26,69 @@ edit_of parse.Memory = edit.Memory
 
 -- no value was found
 abbrev pub IsMissing : GetFailure → Type 0
-IsMissing (Missing m) = Unit {0}
-IsMissing Memory = ⊥
+IsMissing (get.Missing m) = Unit {0}
+IsMissing get.Memory = ⊥
 
--- the failure is memory, or it is of VALUE, and Q holds
-abbrev pub NoValueIf : Type 0 → EditFailure → Type 0
-NoValueIf Q edit.Value = Q
-NoValueIf Q edit.Memory = Unit {0}
-NoValueIf Q _ = ⊥
+-- the index is the next one: 0, or one after an index that has a place
+abbrev pub is_next : ℕ → (ℕ → Option ℕ) → Bool
+is_next zero place = true
+is_next (suc i) place = is_some (place i)
 
--- the failure is memory, or a text that the library makes, or it is of what is missing, and Q holds
-abbrev pub SetFailsIf : Type 0 → EditFailure → Type 0
-SetFailsIf Q (edit.Missing m) = Q
-SetFailsIf Q edit.Memory = Unit {0}
-SetFailsIf Q (edit.Node e) = Unit {0}
-SetFailsIf Q _ = ⊥
+-- the entry that a target names, which is missing, can be made after these entries: the next argument, or a property
+abbrev pub makes_entry : Target → List EntryData → Bool
+makes_entry Node es = true
+makes_entry (Argument i) es = is_next i (nth_place has_no_key es)
+makes_entry (Property s) es = true
 
--- memory, or a text that the library makes
-abbrev pub IsOther : EditFailure → Type 0
-IsOther edit.Memory = Unit {0}
-IsOther (edit.Node e) = Unit {0}
-IsOther _ = ⊥
+-- the step names the first node of its name
+abbrev pub is_first : Step → Bool
+is_first s = unwrap_or s.index 0 == 0
 
--- the failure is memory, or it is of what is missing, and Q holds
-abbrev pub MissesIf : Type 0 → EditFailure → Type 0
-MissesIf Q (edit.Missing m) = Q
-MissesIf Q edit.Memory = Unit {0}
-MissesIf Q _ = ⊥
+-- the node of a step, which is missing, can be made after the nodes xs, with those of the steps ss in its block
+abbrev pub makes_node : Step → List Step → Target → List NodeData → Bool
+makes_node s ss t xs = is_next (unwrap_or s.index 0) (nth_place (is_called (text_of s.name)) xs) && (list_all is_first ss && makes_entry t [])
 
--- the failure is memory, or it is of a node, and Q holds
-abbrev pub NoNodeIf : Type 0 → EditFailure → Type 0
-NoNodeIf Q (edit.Node e) = Q
-NoNodeIf Q edit.Memory = Unit {0}
-NoNodeIf Q _ = ⊥
+-- what is missing at the end of the steps can be made: below the node of the first step, or else with that node
+abbrev pub makes_on : Option NodeData → Bool → (NodeData → Bool) → Bool
+makes_on None new below = new
+makes_on (Some x) new below = below x
 
--- an edit was not made: the text is no document; VALUE is no value; NODE is no node; what the PATH names is not there
-abbrev pub IsNoText : EditFailure → Type 0
-IsNoText (edit.Text e) = Unit {0}
-IsNoText _ = ⊥
+abbrev pub makes_below : List Step → Target → NodeData → Bool
+makes_below [] t x = makes_entry t (said_entries x)
+makes_below (s ∷ ss) t x = makes_on (step_node s (said_child_nodes x)) (makes_node s ss t (said_child_nodes x)) (makes_below ss t)
 
-abbrev pub IsNoValue : EditFailure → Type 0
-IsNoValue edit.Value = Unit {0}
-IsNoValue _ = ⊥
+abbrev pub makes_at : List Step → Target → List NodeData → Bool
+makes_at [] t xs = false
+makes_at (s ∷ ss) t xs = makes_on (step_node s xs) (makes_node s ss t xs) (makes_below ss t)
 
-abbrev pub IsNoNode : EditFailure → Type 0
-IsNoNode (edit.Node e) = Unit {0}
-IsNoNode _ = ⊥
+-- the text is no document
+abbrev pub IsNoDocument : Text → Type 0
+IsNoDocument text = (x : Nodes) → IsDocument true text x → ⊥
 
-abbrev pub IsAbsent : EditFailure → Type 0
-IsAbsent (edit.Missing m) = Unit {0}
-IsAbsent _ = ⊥
+-- nothing is at the PATH, and with `create` it can't be made there
+abbrev pub IsUnset : Path → Bool → Nodes → Type 0
+IsUnset p create x = (at_path p x ≡ None) × (create ≡ true → makes_at p.steps.items p.target (said_nodes x) ≡ false)
+
+-- `set` fails: VALUE is no value, the text is no document, or its document has no value at the PATH, and with `create` none can be made there; or memory runs out
+abbrev pub SetFails : Path → Text → Text → Bool → EditFailure → Type 0
+SetFails p given text create edit.Value = (v : Value) → IsValueText given v → ⊥
+SetFails p given text create (edit.Text e) = IsNoDocument text
+SetFails p given text create (edit.Missing m) = (x : Nodes) × IsDocument true text x × IsUnset p create x
+SetFails p given text create edit.Memory = Unit {0}
+SetFails p given text create _ = ⊥
+
+-- `remove` fails: the text is no document, or its document does not have what the PATH names; or memory runs out
+abbrev pub RemoveFails : Path → Text → EditFailure → Type 0
+RemoveFails p text (edit.Text e) = IsNoDocument text
+RemoveFails p text (edit.Missing m) = (x : Nodes) × IsDocument true text x × (named_at p x ≡ None)
+RemoveFails p text edit.Memory = Unit {0}
+RemoveFails p text _ = ⊥
+
+-- `insert` fails: the PATH names an argument or a property, NODE is no node, the text is no document, or its document has no node at the PATH; or memory runs out
+abbrev pub InsertFails : Path → Text → Text → EditFailure → Type 0
+InsertFails p given text edit.NotNode = p.target ≡ Node → ⊥
+InsertFails p given text (edit.Node e) = (y : NodeData) → IsNodeText true given y → ⊥
+InsertFails p given text (edit.Text e) = IsNoDocument text
+InsertFails p given text (edit.Missing m) = (x : Nodes) × IsDocument true text x × (HasPlace p.steps.items x → ⊥)
+InsertFails p given text edit.Memory = Unit {0}
+InsertFails p given text _ = ⊥

@@ -1,3 +1,5 @@
+-- What the failures of parts of an edit mean.
+pub mod Failing
 -- Nodes and entries in memory that a PATH names.
 pub mod Located
 -- A node after a change.

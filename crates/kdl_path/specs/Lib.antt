@@ -2,7 +2,7 @@
 pub mod Paths
 -- The data of a document, and its text, after an edit at a PATH.
 pub mod Edits
--- What failures mean.
+-- What failures mean, and when an edit at a PATH fails.
 pub mod Failures
 -- Definitions that no contract of a public call mentions.
 pub mod Internal

@@ -1,107 +1,135 @@
 //! Entries and nodes that are made for a value.
 
-ghost use Rattle.kdl_path.specs.Failures.{IsOther};
-ghost use Rattle.std.specs.Prelude.{IfErr};
+ghost use Rattle.kdl_path.specs.Failures.{is_first};
+ghost use Rattle.kdl_path.specs.Internal.Located.{makes_new};
+ghost use Rattle.std.specs.List.{list_all};
+ghost use Rattle.std.specs.Prelude.{◌≡◌};
 
 use crate::change::set_spelled;
-use crate::failure::EditFailure;
+use crate::laid::push;
 use crate::layout::push_indent;
+use crate::locate::{is_next_entry, is_next_node};
 use crate::path::{Step, Target};
 use crate::value::Spelled;
-use kdl::{KdlEntry, KdlIdentifier, KdlNode, KdlValue, ParseFailure};
+use kdl::{
+    KdlDocument, KdlDocumentFormat, KdlEntry, KdlIdentifier, KdlNode, KdlNodeFormat, KdlValue,
+};
 use std::alloc::{AllocError, Global};
 
-/// Returns the entry that the target names, with the value, or `None` if the node has too few arguments before it.
+/// Returns the entry that the target names, with the value.
 pub(crate) fn new_entry(
     alloc: Global,
-    node: &KdlNode,
     target: &Target,
     value: Spelled,
-) -> Result<Option<KdlEntry>, AllocError> {
+) -> Result<KdlEntry, AllocError> {
     let mut entry = match target {
-        Target::Node => KdlEntry::new(KdlValue::Null),
-        Target::Argument(number) if *number == node.argument_count() => {
-            KdlEntry::new(KdlValue::Null)
-        }
-        Target::Argument(_) => return Ok(None),
         Target::Property(name) => {
             KdlEntry::new_prop(KdlIdentifier::from_text(alloc, name)?, KdlValue::Null)
         }
+        _ => KdlEntry::new(KdlValue::Null),
     };
     set_spelled(alloc, &mut entry, value)?;
-    Ok(Some(entry))
+    Ok(entry)
 }
 
-/// Whether the first step names the node after the last one of its name, and the others the first of theirs.
-pub(crate) fn is_next(nodes: &[KdlNode], steps: &[Step], target: &Target) -> bool {
+/// Whether the node of the first step, which is missing, can be made after the nodes: it is the next one of its name,
+/// and the other steps and the target name the first ones in it.
+pub(crate) fn is_next(nodes: &[KdlNode], steps: &[Step], target: &Target) -> bool
+    ensures { result ≡ makes_new steps.now target.now nodes.now }
+{
     let Some((first, below)) = steps.split_first() else {
         return false;
     };
-    let mut count: usize = 0;
-    for node in nodes {
-        if node.name().value() == first.name.as_str() {
-            count = count.saturating_add(1);
-        }
+    if !is_next_node(nodes, first) {
+        return false;
     }
-    let is_first = |step: &Step| step.index.unwrap_or(0) == 0;
-    let has_entry = match target {
-        Target::Argument(number) => *number == 0,
-        _ => true,
-    };
-    first.index.unwrap_or(0) == count && below.iter().all(is_first) && has_entry
+    if !are_first(below) {
+        return false;
+    }
+    is_next_entry(&[], target)
 }
 
-/// Returns the node of the first step, with a node for each other step in its block, and the value in the last one.
+/// Whether each step names the first node of its name.
+fn are_first(steps: &[Step]) -> bool
+    ensures { result ≡ list_all is_first steps.now }
+{
+    for step in steps {
+        if step.index.unwrap_or(0) != 0 {
+            return false;
+        }
+    }
+    true
+}
+
+/// Returns the node of the first step, with a node for each other step in its block, and the value in the last one. The
+/// node is at that depth.
 pub(crate) fn new_node(
     alloc: Global,
     steps: &[Step],
     target: &Target,
     value: Spelled,
     depth: usize,
-) -> Result<KdlNode, EditFailure>
-    ensures { IfErr result (λ e. IsOther e) }
-{
-    let text = new_node_text(alloc, steps, target, &value, depth)?;
-    drop(value);
-    match KdlNode::parse(alloc, &text) {
-        Ok(node) => Ok(node),
-        Err(ParseFailure::Syntax(error)) => Err(EditFailure::Node(error)),
-        Err(ParseFailure::Memory) => Err(EditFailure::Memory),
+) -> Result<KdlNode, AllocError> {
+    let mut left = steps.len().saturating_sub(1);
+    let mut node = new_named(alloc, steps, left)?;
+    push_entry(&mut node, new_entry(alloc, target, value)?)?;
+    for _above in 0..left {
+        left = left.saturating_sub(1);
+        node = with_child(
+            alloc,
+            new_named(alloc, steps, left)?,
+            node,
+            depth.saturating_add(left),
+        )?;
     }
+    Ok(node)
 }
 
-/// The text of that node.
-fn new_node_text(
-    alloc: Global,
-    steps: &[Step],
-    target: &Target,
-    value: &Spelled,
-    depth: usize,
-) -> Result<String, AllocError> {
-    let mut text = String::new(alloc);
-    for (i, step) in steps.iter().enumerate() {
-        if i > 0 {
-            text.push_str(" {\n")?;
-            push_indent(&mut text, depth.saturating_add(i))?;
+/// Returns a node of the name of the step at that index, with empty texts around its parts.
+fn new_named(alloc: Global, steps: &[Step], index: usize) -> Result<KdlNode, AllocError> {
+    let name = match steps.get(index) {
+        Some(step) => step.name.as_str(),
+        None => "",
+    };
+    let mut node = KdlNode::new(KdlIdentifier::from_text(alloc, name)?)?;
+    node.set_format(KdlNodeFormat::new(alloc));
+    Ok(node)
+}
+
+/// Appends the entry.
+fn push_entry(node: &mut KdlNode, entry: KdlEntry) -> Result<(), AllocError> {
+    match node.push(entry) {
+        Ok(()) => Ok(()),
+        Err((entry, error)) => {
+            drop(entry);
+            Err(error)
         }
-        push_name(alloc, &mut text, &step.name)?;
     }
-    text.push_str(" ")?;
-    if let Target::Property(name) = target {
-        push_name(alloc, &mut text, name)?;
-        text.push_str("=")?;
-    }
-    text.push_str(&value.spelling)?;
-    for i in 1..steps.len() {
-        text.push_str("\n")?;
-        push_indent(&mut text, depth.saturating_add(steps.len() - 1 - i))?;
-        text.push_str("}")?;
-    }
-    Ok(text)
 }
 
-/// Appends a name, in quotes if it needs them.
-fn push_name(alloc: Global, text: &mut String, name: &str) -> Result<(), AllocError> {
-    let name = KdlIdentifier::from_text(alloc, name)?.to_string(alloc)?;
-    text.push_str(&name)
+/// Returns the node, which is at that depth, with a block that has the child on a line of its own.
+fn with_child(
+    alloc: Global,
+    mut node: KdlNode,
+    child: KdlNode,
+    depth: usize,
+) -> Result<KdlNode, AllocError> {
+    let mut around = KdlDocumentFormat::new(alloc);
+    around.leading = line_start(alloc, depth.saturating_add(1))?;
+    around.trailing = line_start(alloc, depth)?;
+    let mut block = KdlDocument::new(alloc);
+    block.set_format(around);
+    push(&mut block, child)?;
+    let mut format = KdlNodeFormat::new(alloc);
+    format.before_children = String::from_str(alloc, " ")?;
+    node.set_format(format);
+    node.set_children(block);
+    Ok(node)
+}
+
+/// Returns a newline, and four spaces for each level.
+fn line_start(alloc: Global, depth: usize) -> Result<String, AllocError> {
+    let mut text = String::from_str(alloc, "\n")?;
+    push_indent(&mut text, depth)?;
+    Ok(text)
 }

@@ -2,11 +2,11 @@
 
 ghost use Rattle.kdl.specs.Words.{DocumentReadsBack, IsDocument, IsNodeText, NodeData, NodeReadsBack, Nodes, document_says, node_says, nodes_of};
 ghost use Rattle.kdl_path.specs.Edits.{HasPlace, IsInsertedAt};
-ghost use Rattle.kdl_path.specs.Failures.{IsAbsent, IsNoNode, IsNoText, MissesIf, NoNodeIf};
+ghost use Rattle.kdl_path.specs.Internal.Failing.{MissesIf, NoNodeIf};
+ghost use Rattle.kdl_path.specs.Failures.{InsertFails};
 ghost use Rattle.kdl_path.specs.Internal.Done.{IsPutAt, LeadsTo};
-ghost use Rattle.kdl_path.specs.declared.failure.EditFailure.TheVariants.{Memory, NotNode};
+ghost use Rattle.kdl_path.specs.declared.failure.EditFailure.TheVariants.{Memory};
 ghost use Rattle.kdl_path.specs.declared.path.Step.{Step};
-ghost use Rattle.kdl_path.specs.declared.path.Target.TheVariants.{Node};
 ghost use Rattle.kdl_value.specs.Tree.{text_of};
 ghost use Rattle.std.specs.Prelude.{◌≡◌, IfErr, IfOk, List, true};
 ghost use Rattle.std.specs.Str.{chars};
@@ -42,15 +42,10 @@ pub fn insert(alloc: Global, text: &str, path: &Path, node: &str) -> Result<Stri
     // which is there.
     ensures found { IfOk result (λ out. (x : Nodes) → IsDocument true (chars text.now) x
         → HasPlace path.now.steps.items x) }
-    // A refused PATH names no node, a refused NODE is not a node, a refused text is not a document, and what is missing
-    // is not there.
-    ensures not_node { IfErr result (λ e. e ≡ NotNode → path.now.target ≡ Node → ⊥) }
-    ensures no_node { IfErr result (λ e. IsNoNode e → (y : NodeData)
-        → IsNodeText true (chars node.now) y → ⊥) }
-    ensures no_text { IfErr result (λ e. IsNoText e → (x : Nodes)
-        → IsDocument true (chars text.now) x → ⊥) }
-    ensures missing { IfErr result (λ e. IsAbsent e → (x : Nodes)
-        → IsDocument true (chars text.now) x → HasPlace path.now.steps.items x → ⊥) }
+    // A failure is `NotNode` only if the PATH names an argument or a property, `Node` only if NODE is not a node, `Text`
+    // only if the text is not a document, `Missing` only if it is one without a node at the PATH, or else `Memory`.
+    ensures fails { IfErr result
+        (InsertFails path.now (chars node.now) (chars text.now)) }
 {
     if !is_node(&path.target) {
         return Err(EditFailure::NotNode);

@@ -1,11 +1,13 @@
 //! The node that the steps of a PATH lead to, and the entry that its target names.
 
-ghost use Rattle.kdl.specs.Words.{child_nodes, document_says, is_argument, is_node_named, nodes_of, said_nodes};
+ghost use Rattle.kdl.specs.Words.{child_nodes, document_says, entries_of, is_argument, is_node_named, nodes_of, said_nodes};
 ghost use Rattle.kdl_parts.specs.EntryLists.{nth_place};
-ghost use Rattle.kdl_path.specs.Failures.{MissesIf};
-ghost use Rattle.kdl_path.specs.Internal.Located.{IsNowhere, Leads, place_of_step, place_of_target};
+ghost use Rattle.kdl_path.specs.Internal.Failing.{MissesIf};
+ghost use Rattle.kdl_path.specs.Failures.{is_next, makes_at};
+ghost use Rattle.kdl_path.specs.Internal.Located.{IsNowhere, Leads, Loses, makes_named, makes_there, place_of_step, place_of_target};
 ghost use Rattle.kdl_path.specs.Paths.{node_at};
 ghost use Rattle.kdl_path.specs.declared.locate.Lost.TheVariants.{Memory};
+ghost use Rattle.kdl_path.specs.declared.path.Target.{Target};
 ghost use Rattle.kdl_path.specs.declared.path.Target.TheVariants.{Node};
 ghost use Rattle.std.specs.Prelude.{◌≡◌, IfErr, IfOk, MatchBool, None};
 
@@ -83,6 +85,17 @@ fn step_index(nodes: &[KdlNode], step: &Step) -> Option<usize>
     nth_named(nodes, &step.name, number)
 }
 
+/// Whether the node of the step, which is missing, can be made: its index is 0, or the one before it has a node.
+pub(crate) fn is_next_node(nodes: &[KdlNode], step: &Step) -> bool
+    ensures { result ≡ makes_named step.now nodes.now }
+{
+    let number = step.index.unwrap_or(0);
+    if number == 0 {
+        return true;
+    }
+    nth_named(nodes, &step.name, number - 1).is_some()
+}
+
 /// Locates the node at the end of the steps.
 pub(crate) fn locate<'a>(
     alloc: Global,
@@ -93,6 +106,10 @@ pub(crate) fn locate<'a>(
         Leads steps.now l.indices.items (nodes_of document.now) None l.node.now) }
     ensures nowhere { IfErr result (λ e. IsNowhere e
         → node_at steps.now (said_nodes (document_says document.now)) ≡ None) }
+    ensures makes { IfOk result (λ l. (t : Target)
+        → makes_at steps.now t (said_nodes (document_says document.now))
+        ≡ makes_there t (entries_of l.node.now)) }
+    ensures loses { IfErr result (Loses steps.now (document_says document.now)) }
 {
     let mut nodes = document.nodes();
     let mut located = None;
@@ -139,6 +156,26 @@ pub(crate) fn entry_place(entries: &[KdlEntry], target: &Target) -> Option<usize
         Target::Argument(number) => nth_argument(entries, *number),
         Target::Property(name) => last_property(entries, name),
     }
+}
+
+/// Whether the entry of the target, which is missing, can be made: it is the next argument, or a property.
+pub(crate) fn is_next_entry(entries: &[KdlEntry], target: &Target) -> bool
+    ensures { result ≡ makes_there target.now entries.now }
+{
+    match target {
+        Target::Argument(number) => is_next_argument(entries, *number),
+        _ => true,
+    }
+}
+
+/// Whether the number of an argument, which is missing, is 0 or follows one that is there.
+fn is_next_argument(entries: &[KdlEntry], number: usize) -> bool
+    ensures { result ≡ is_next number (nth_place is_argument entries.now) }
+{
+    if number == 0 {
+        return true;
+    }
+    nth_argument(entries, number - 1).is_some()
 }
 
 /// Whether the target is the node itself.

@@ -3,7 +3,8 @@
 ghost use Rattle.kdl.specs.Words.{DocumentReadsBack, IsDocument, Nodes, document_says, entries_of, nodes_of, said_without};
 ghost use Rattle.kdl.specs.declared.node.KdlNode.{KdlNode};
 ghost use Rattle.kdl_path.specs.Edits.{named_at, without};
-ghost use Rattle.kdl_path.specs.Failures.{IsAbsent, IsNoText, MissesIf};
+ghost use Rattle.kdl_path.specs.Internal.Failing.{MissesIf};
+ghost use Rattle.kdl_path.specs.Failures.{RemoveFails};
 ghost use Rattle.kdl_path.specs.Internal.Done.{IsNamed, IsNodeRemoved, IsRemovedAt};
 ghost use Rattle.kdl_path.specs.Internal.Located.{Leads, place_of_target};
 ghost use Rattle.kdl_path.specs.declared.failure.EditFailure.TheVariants.{Memory};
@@ -38,11 +39,9 @@ pub fn remove(alloc: Global, text: &str, path: &Path) -> Result<String, EditFail
     // which is there.
     ensures found { IfOk result (λ out. (x : Nodes) → IsDocument true (chars text.now) x
         → IsSome (named_at path.now x)) }
-    // A refused text is not a document, and what is missing is not there.
-    ensures no_text { IfErr result (λ e. IsNoText e → (x : Nodes)
-        → IsDocument true (chars text.now) x → ⊥) }
-    ensures missing { IfErr result (λ e. IsAbsent e → (x : Nodes)
-        → IsDocument true (chars text.now) x → named_at path.now x ≡ None) }
+    // A failure is `Text` only if the text is not a document, `Missing` only if it is one without what the PATH names,
+    // or else `Memory`.
+    ensures fails { IfErr result (RemoveFails path.now (chars text.now)) }
 {
     let document = KdlDocument::parse(alloc, text)?;
     let changed = remove_in(alloc, document, path)?;

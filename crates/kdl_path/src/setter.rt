@@ -3,21 +3,23 @@
 ghost use Rattle.kdl.specs.Words.{DocumentReadsBack, IsDocument, Nodes, Value, document_says, entries_of, node_says, value_tree};
 ghost use Rattle.kdl_call_parts.specs.Entries.{IsValueText};
 ghost use Rattle.kdl_path.specs.Edits.{IsSetAt};
-ghost use Rattle.kdl_path.specs.Failures.{IsAbsent, IsNoText, IsNoValue, MissesIf, SetFailsIf};
+ghost use Rattle.kdl_path.specs.Internal.Failing.{MissesIf};
+ghost use Rattle.kdl_path.specs.Failures.{IsUnset, SetFails};
 ghost use Rattle.kdl_path.specs.Internal.Done.{IsDoneAt, SetsOrMakes};
+ghost use Rattle.kdl_path.specs.Internal.Located.{makes_new, makes_there};
 ghost use Rattle.kdl_path.specs.Paths.{at_path, value_in};
 ghost use Rattle.kdl_value.specs.Tree.{text_of};
-ghost use Rattle.std.specs.Prelude.{◌≡◌, IfErr, IfOk, IsSome, None, false, true};
+ghost use Rattle.std.specs.Prelude.{◌≡◌, ◌&&◌, IfErr, IfOk, IsSome, None, drop, false, true};
 ghost use Rattle.std.specs.Str.{chars};
 
 use crate::change::{Change, change_at};
 use crate::create::{is_next, new_entry, new_node};
-use crate::failure::EditFailure;
+use crate::failure::{EditFailure, Missing};
 use crate::insertion::put_node;
-use crate::locate::{Lost, entry_place, locate, lost_failure, missing_entry, missing_node};
+use crate::locate::{Lost, entry_place, is_next_entry, locate, missing_entry, missing_node};
 use crate::path::{Path, Step, Target};
 use crate::value::{Spelled, read_value};
-use kdl::{KdlDocument, KdlNode};
+use kdl::{KdlDocument, KdlEntry, KdlNode};
 use std::alloc::Global;
 
 /// Returns the text with VALUE in place of the value at the PATH. VALUE is written as it is given, and every byte
@@ -28,7 +30,7 @@ use std::alloc::Global;
 /// that is not the next one is not made.
 ///
 /// Fails with `Value` if VALUE is not one value without a type, with `Text` if the text is not a document, with
-/// `Missing` if it has no value at the PATH, and with `Memory` if an allocation fails.
+/// `Missing` if it has no value at the PATH and none is made there, and with `Memory` if an allocation fails.
 ///
 /// ```
 /// let path = Path::parse(alloc, "server/port")?;
@@ -49,13 +51,9 @@ pub fn set(
     // Without `create`, there is one.
     ensures found { create ≡ false → IfOk result (λ out. (x : Nodes)
         → IsDocument true (chars text.now) x → IsSome (at_path path.now x)) }
-    // A refused VALUE is not a value, a refused text is not a document, and a missing value is not there.
-    ensures no_value { IfErr result (λ e. IsNoValue e → (v : Value)
-        → IsValueText (chars value.now) v → ⊥) }
-    ensures no_text { IfErr result (λ e. IsNoText e → (x : Nodes)
-        → IsDocument true (chars text.now) x → ⊥) }
-    ensures missing { IfErr result (λ e. IsAbsent e → (x : Nodes)
-        → IsDocument true (chars text.now) x → at_path path.now x ≡ None) }
+    // A failure is `Value` only if VALUE is not a value, `Text` only if the text is not a document, `Missing` only if it
+    // is one without a value at the PATH, and with `create` none can be made there, or else `Memory`.
+    ensures fails { IfErr result (SetFails path.now (chars value.now) (chars text.now) create) }
 {
     let value = read_value(alloc, value)?;
     let document = KdlDocument::parse(alloc, text)?;
@@ -78,7 +76,7 @@ fn set_in(
     ensures found { create ≡ false → IfOk result (λ d.
         IsSome (at_path path.now (document_says document))) }
     ensures missing { IfErr result (λ e.
-        SetFailsIf (at_path path.now (document_says document) ≡ None) e) }
+        MissesIf (IsUnset path.now create (document_says document)) e) }
 {
     match locate(alloc, &document, &path.steps) {
         Ok(located) => {
@@ -90,7 +88,8 @@ fn set_in(
             let node = made_node(alloc, nodes, path, indices.len(), value, create)?;
             put_node(alloc, document, &indices, node)
         }
-        Err(lost) => Err(lost_failure(alloc, lost, path)),
+        Err(Lost::Document) => Err(EditFailure::Missing(Missing::Document)),
+        Err(Lost::Memory) => Err(EditFailure::Memory),
     }
 }
 
@@ -104,17 +103,31 @@ fn made_node(
     create: bool,
 ) -> Result<KdlNode, EditFailure>
     ensures created { IfOk result (λ n. create ≡ true) }
-    ensures missing { IfErr result (λ e. SetFailsIf (Unit {0}) e) }
+    ensures missing { IfErr result (λ e. MissesIf (create ≡ true
+        → makes_new (drop number path.now.steps.items) path.now.target nodes.now ≡ false) e) }
 {
     let rest = steps_from(&path.steps, number);
-    if create && is_next(nodes, rest, &path.target) {
-        return new_node(alloc, rest, &path.target, value, number);
+    if !may_make_node(create, nodes, rest, &path.target) {
+        return Err(EditFailure::Missing(missing_node(alloc, nodes, path, number)?));
     }
-    Err(EditFailure::Missing(missing_node(alloc, nodes, path, number)?))
+    Ok(new_node(alloc, rest, &path.target, value, number)?)
+}
+
+/// Whether the node of the first step, which is missing, is made after the nodes.
+fn may_make_node(create: bool, nodes: &[KdlNode], steps: &[Step], target: &Target) -> bool
+    ensures { result ≡ (create && makes_new steps.now target.now nodes.now) }
+{
+    if create {
+        is_next(nodes, steps, target)
+    } else {
+        false
+    }
 }
 
 /// The steps from that index on.
-fn steps_from(steps: &[Step], index: usize) -> &[Step] {
+fn steps_from(steps: &[Step], index: usize) -> &[Step]
+    ensures { result.now ≡ drop index steps.now }
+{
     if index <= steps.len() {
         steps.split_at(index).1
     } else {
@@ -135,16 +148,26 @@ fn entry_change(
     ensures found { create ≡ false → IfOk result (λ c.
         IsSome (value_in target.now (node_says node.now))) }
     ensures missing { IfErr result (λ e.
-        MissesIf (value_in target.now (node_says node.now) ≡ None) e) }
+        MissesIf ((value_in target.now (node_says node.now) ≡ None)
+        × (create ≡ true → makes_there target.now (entries_of node.now) ≡ false)) e) }
 {
     let entries = node.entries();
     if let Some(at) = entry_place(entries, target) {
         return Ok(Change::SetValue(at, value));
     }
-    if create {
-        if let Some(entry) = new_entry(alloc, node, target, value)? {
-            return Ok(Change::PushEntry(entry));
-        }
+    if !may_make_entry(create, entries, target) {
+        return Err(EditFailure::Missing(missing_entry(alloc, node, target)?));
     }
-    Err(EditFailure::Missing(missing_entry(alloc, node, target)?))
+    Ok(Change::PushEntry(new_entry(alloc, target, value)?))
+}
+
+/// Whether the entry of the target, which is missing, is made after the entries.
+fn may_make_entry(create: bool, entries: &[KdlEntry], target: &Target) -> bool
+    ensures { result ≡ (create && makes_there target.now entries.now) }
+{
+    if create {
+        is_next_entry(entries, target)
+    } else {
+        false
+    }
 }

@@ -2,7 +2,7 @@
 
 ghost use Rattle.kdl.specs.Words.{EntryData, IsEntryText, LaidEntryText, Value, entry_tree, value_tree};
 ghost use Rattle.kdl_call_parts.specs.Entries.{IsValueText};
-ghost use Rattle.kdl_path.specs.Failures.{NoValueIf};
+ghost use Rattle.kdl_path.specs.Internal.Failing.{NoValueIf};
 ghost use Rattle.kdl_value.specs.Tree.{text_of};
 ghost use Rattle.std.specs.Prelude.{◌≡◌, IfErr, IfOk, true};
 ghost use Rattle.std.specs.Str.{chars};

@@ -133,7 +133,7 @@ pub(crate) fn put_location(out: &mut String, name: &str, place: Place) -> Result
     put_number(out, place.column)
 }
 
-/// Appends the line that tells the place.
+/// Appends the line with the place of the fault.
 fn put_arrow(out: &mut String, margin: Margin, name: &str, place: Place) -> Result<(), AllocError>
     ensures { Appends result out.old out.new (arrow margin.color margin.width (chars name.now) place) }
 {

@@ -1,9 +1,11 @@
 -- Nodes and entries in memory that a PATH names.
-use Rattle.std.specs.Prelude.{◌≡◌, ℕ, List, [], ◌∷◌, Option, Some, option_and_then, slice_get, string_bytes, unwrap_or}
-use Rattle.kdl.specs.Words.{child_nodes, has_name, is_argument, is_node_named, there}
+use Rattle.std.specs.List.{list_all}
+use Rattle.std.specs.Prelude.{◌≡◌, ◌&&◌, ℕ, Bool, true, false, List, [], ◌∷◌, Option, Some, drop, length, option_and_then, slice_get, string_bytes, unwrap_or}
+use Rattle.kdl.specs.Words.{Nodes, child_nodes, has_name, is_argument, is_node_named, said_nodes, there}
 use Rattle.kdl.specs.declared.node.KdlNode.{KdlNode}
 use Rattle.kdl_entry.specs.declared.entry.KdlEntry.{KdlEntry}
 use Rattle.kdl_parts.specs.EntryLists.{last_place, nth_place}
+use Rattle.kdl_path.specs.Failures.{is_first, is_next, makes_at}
 use Rattle.kdl_path.specs.declared.locate.Lost.{Lost}
 use Rattle.kdl_path.specs.declared.locate.Lost.TheVariants as lost
 use Rattle.kdl_path.specs.declared.path.Step.{Step}
@@ -37,3 +39,24 @@ abbrev pub IsNowhere : Lost → Type 0
 IsNowhere lost.Document = Unit {0}
 IsNowhere (lost.Step is ns) = Unit {0}
 IsNowhere lost.Memory = ⊥
+
+-- the entry of a target, which is missing, can be made after these entries
+abbrev pub makes_there : Target → List KdlEntry → Bool
+makes_there Node es = true
+makes_there (Argument i) es = is_next i (nth_place is_argument es)
+makes_there (Property s) es = true
+
+-- the node of a step, which is missing, can be made after the nodes ns
+abbrev pub makes_named : Step → List KdlNode → Bool
+makes_named s ns = is_next (unwrap_or s.index 0) (nth_place (is_node_named (string_bytes s.name)) ns)
+
+-- the same of the first step, with the nodes of the other steps in its block
+abbrev pub makes_new : List Step → Target → List KdlNode → Bool
+makes_new [] t ns = false
+makes_new (s ∷ ss) t ns = makes_named s ns && (list_all is_first ss && makes_there t [])
+
+-- where steps lead to no node: what is missing can be made if it can be made after the nodes among which the step at that number names none
+abbrev pub Loses : List Step → Nodes → Lost → Type 0
+Loses ss x lost.Document = (t : Target) → makes_at ss t (said_nodes x) ≡ false
+Loses ss x (lost.Step is ns) = (t : Target) → makes_at ss t (said_nodes x) ≡ makes_new (drop (length is.items) ss) t ns.now
+Loses ss x lost.Memory = Unit {0}

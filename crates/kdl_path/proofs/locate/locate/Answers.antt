@@ -1,11 +1,12 @@
-use Rattle.std.proofs.Common.{rules, ◌≡◌, ◌≤◌, ◌+◌, length, List, [], ◌∷◌, ◌++◌, None, Some, option_map, slice_get, drop, refl, ap, ◌∙◌, sym, subst, append_assoc, append-nil}
+use Rattle.std.proofs.Common.{rules, ◌≡◌, ◌≤◌, ◌+◌, ℕ, arith, length, length-append, List, [], ◌∷◌, ◌++◌, None, Some, option_map, slice_get, drop, refl, ap, ◌∙◌, sym, subst, append_assoc, append-nil}
 use Rattle.std.proofs.lemmas.List.{drop_all, drop_more}
 use Rattle.std.proofs.lemmas.Option.{slice_get_past, slice_get_read}
 use Rattle.kdl.specs.Words.{nodes_of}
 use Rattle.kdl.specs.declared.node.KdlNode.{KdlNode}
 use Rattle.kdl_parts.specs.EntryLists.{there}
-use Rattle.kdl_path.specs.Internal.Located.{Leads, walk}
+use Rattle.kdl_path.specs.Internal.Located.{Leads, makes_new, walk}
 use Rattle.kdl_path.specs.declared.path.Step.{Step}
+use Rattle.kdl_path.proofs.Making.{made_first, made_from, made_last, made_lost, made_next, made_none}
 use Rattle.kdl_path.proofs.Places.{none_lost, step_leads, step_lost, step_walks}
 use Rattle.kdl_path.proofs.locate.locate.Goals as goal
 
@@ -18,6 +19,16 @@ returns-in_default-clause-nowhere c = λ u.
     let e : drop i ss ≡ s ∷ drop (i + 1) ss = drop_more ss i s c.loop-step-test.true ∙ ap (λ x. x ∷ drop (i + 1) ss) (sym c.step-item.is) in
     step_lost (drop i ss) (drop (i + 1) ss) s c.args.document.now ss ns (option_map (λ n. n.now) c.loop-step.located) e (ap (λ q. there q ns) (sym c.in_default.ensures)) c.loop-step.invariant.walks
 
+pub returns-in_default-clause-loses : goal.returns-in_default-clause-loses
+returns-in_default-clause-loses c = λ t.
+    let ss = c.args.steps.now in
+    let i = c.loop-step.step-index in
+    let s = c.step-item.result in
+    let ns = c.loop-step.nodes.now in
+    let o = option_map (λ n. n.now) c.loop-step.located in
+    let e : drop i ss ≡ s ∷ drop (i + 1) ss = drop_more ss i s c.loop-step-test.true ∙ ap (λ x. x ∷ drop (i + 1) ss) (sym c.step-item.is) in
+    sym (c.loop-step.invariant.makes t) ∙ made_lost (drop i ss) (drop (i + 1) ss) s t ns o e (ap (λ q. there q ns) (sym c.in_default.ensures)) ∙ ap (λ n. makes_new (drop n ss) t ns) (sym c.loop-step.invariant.count)
+
 pub returns-in_default-get-clause-nowhere : goal.returns-in_default-get-clause-nowhere
 returns-in_default-get-clause-nowhere c = λ u.
     let ss = c.args.steps.now in
@@ -27,6 +38,30 @@ returns-in_default-get-clause-nowhere c = λ u.
     let e : drop i ss ≡ s ∷ drop (i + 1) ss = drop_more ss i s c.loop-step-test.true ∙ ap (λ x. x ∷ drop (i + 1) ss) (sym c.step-item.is) in
     let past : slice_get ns c.in-Some.index ≡ None = slice_get_past ns c.in-Some.index (search rules) in
     step_lost (drop i ss) (drop (i + 1) ss) s c.args.document.now ss ns (option_map (λ n. n.now) c.loop-step.located) e (ap (λ q. there q ns) (sym c.in-Some.ensures) ∙ past) c.loop-step.invariant.walks
+
+pub returns-in_default-get-clause-loses : goal.returns-in_default-get-clause-loses
+returns-in_default-get-clause-loses c = λ t.
+    let ss = c.args.steps.now in
+    let i = c.loop-step.step-index in
+    let s = c.step-item.result in
+    let ns = c.loop-step.nodes.now in
+    let o = option_map (λ n. n.now) c.loop-step.located in
+    let e : drop i ss ≡ s ∷ drop (i + 1) ss = drop_more ss i s c.loop-step-test.true ∙ ap (λ x. x ∷ drop (i + 1) ss) (sym c.step-item.is) in
+    let past : slice_get ns c.in-Some.index ≡ None = slice_get_past ns c.in-Some.index (search rules) in
+    sym (c.loop-step.invariant.makes t) ∙ made_lost (drop i ss) (drop (i + 1) ss) s t ns o e (ap (λ q. there q ns) (sym c.in-Some.ensures) ∙ past) ∙ ap (λ n. makes_new (drop n ss) t ns) (sym c.loop-step.invariant.count)
+
+pub loop-step-init : goal.loop-step-init
+loop-step-init c =
+    let ss = c.args.steps.now in
+    let d = c.args.document.now in
+    let same : c.nodes-nodes.result.now ≡ nodes_of d = search rules in
+    let none : c.new-indices.result.items ≡ [] = search rules in
+    record {
+      walks = ap (walk ss None) same;
+      leads = λ is n h. subst (λ (l : List ℕ). Leads ss (l ++ is) (nodes_of d) None n) (sym none) (subst (λ (l : List KdlNode). Leads ss is l None n) same h);
+      count = ap length none;
+      makes = λ t. ap (made_from ss t None) same ∙ made_first ss t d;
+    }
 
 pub loop-step-preserved : goal.loop-step-preserved
 loop-step-preserved c =
@@ -49,6 +84,8 @@ loop-step-preserved c =
           (subst (λ l. Leads ss l (nodes_of c.args.document.now) None n) (sym (append_assoc before (at ∷ []) is))
           (c.loop-step.invariant.leads (at ∷ is) n
           (step_leads (drop i ss) rest s is ns o at k n e (sym c.in-Some.ensures) there (subst (λ (l : List KdlNode). Leads rest is l (Some k) n) c.child_nodes-nodes.ensures h))));
+      count = ap length items ∙ omega (arith, length-append before (at ∷ []), c.loop-step.invariant.count);
+      makes = λ t. ap (made_from rest t (Some k)) c.child_nodes-nodes.ensures ∙ made_next (drop i ss) rest s t ns o at k e (sym c.in-Some.ensures) there ∙ c.loop-step.invariant.makes t;
     }
 
 pub returns-in-Some-located-clause-leads : goal.returns-in-Some-located-clause-leads
@@ -61,6 +98,25 @@ returns-in-Some-located-clause-leads c =
     let past : length ss ≤ i = search rules in
     subst (λ l. Leads ss l (nodes_of c.args.document.now) None n) (append-nil c.loop-step.indices.items)
     (c.loop-step.invariant.leads [] n (subst (λ (l : List Step). Leads l [] c.loop-step.nodes.now o n) (sym (drop_all i ss past)) found))
+
+pub returns-in-Some-located-clause-makes : goal.returns-in-Some-located-clause-makes
+returns-in-Some-located-clause-makes c = λ t.
+    let ss = c.args.steps.now in
+    let i = c.loop-step.step-index in
+    let n = c.in-Some-located.node.now in
+    let o = option_map (λ n. n.now) c.loop-step.located in
+    let found : o ≡ Some n = search rules in
+    let past : length ss ≤ i = search rules in
+    sym (c.loop-step.invariant.makes t) ∙ made_last (drop i ss) t c.loop-step.nodes.now o n (drop_all i ss past) found
+
+pub returns-clause-loses : goal.returns-clause-loses
+returns-clause-loses c = λ t.
+    let ss = c.args.steps.now in
+    let i = c.loop-step.step-index in
+    let o = option_map (λ n. n.now) c.loop-step.located in
+    let none : o ≡ None = search rules in
+    let past : length ss ≤ i = search rules in
+    sym (c.loop-step.invariant.makes t) ∙ made_none (drop i ss) t c.loop-step.nodes.now o (drop_all i ss past) none
 
 pub returns-clause-nowhere : goal.returns-clause-nowhere
 returns-clause-nowhere c = λ u.

@@ -1,9 +1,10 @@
-use Rattle.std.proofs.Common.{rules, ◌≡◌, ◌∙◌, IsSome, ap, string_bytes, subst, sym}
+use Rattle.std.proofs.Common.{rules, ◌≡◌, IsSome, string_bytes, subst, sym}
 use Rattle.std.specs.Str.{chars, encode_utf8_all}
 use Rattle.kdl.specs.Words.{Nodes, document_prints}
+use Rattle.kdl.specs.declared.document.KdlDocument.{KdlDocument}
 use Rattle.kdl_path.specs.Edits.{named_at}
 use Rattle.kdl_path.proofs.Edited.{removed_text}
-use Rattle.kdl_path.proofs.Failing.{err_is, misses_absent, misses_no_text, no_ok, text_not_absent}
+use Rattle.kdl_path.proofs.Failing.{err_is, missing_remove, no_ok, text_remove}
 use Rattle.kdl_path.proofs.removal.remove.Goals as goal
 
 pub returns-in_err-document-clause-removed : goal.returns-in_err-document-clause-removed
@@ -12,8 +13,8 @@ returns-in_err-document-clause-removed c = no_ok c.from_residual.result _ c.from
 pub returns-in_err-document-clause-found : goal.returns-in_err-document-clause-found
 returns-in_err-document-clause-found c = no_ok c.from_residual.result _ c.from_residual.ensures.0
 
-pub returns-in_err-document-clause-missing : goal.returns-in_err-document-clause-missing
-returns-in_err-document-clause-missing c = err_is c.from_residual.result _ _ c.from_residual.ensures.1 (λ n x d. absurd (text_not_absent _ n))
+pub returns-in_err-document-clause-fails : goal.returns-in_err-document-clause-fails
+returns-in_err-document-clause-fails c = err_is c.from_residual.result _ _ c.from_residual.ensures.1 (text_remove KdlDocument c.args.path.now _ _ c.in_err-document.ensures.refused)
 
 pub returns-in_err-changed-clause-removed : goal.returns-in_err-changed-clause-removed
 returns-in_err-changed-clause-removed c = no_ok c.from_residual-in_err-changed.result _ c.from_residual-in_err-changed.ensures.0
@@ -21,11 +22,11 @@ returns-in_err-changed-clause-removed c = no_ok c.from_residual-in_err-changed.r
 pub returns-in_err-changed-clause-found : goal.returns-in_err-changed-clause-found
 returns-in_err-changed-clause-found c = no_ok c.from_residual-in_err-changed.result _ c.from_residual-in_err-changed.ensures.0
 
-pub returns-in_err-changed-clause-no_text : goal.returns-in_err-changed-clause-no_text
-returns-in_err-changed-clause-no_text c = err_is c.from_residual-in_err-changed.result _ _ c.from_residual-in_err-changed.ensures.1 (λ n x d. misses_no_text _ _ c.in_err-changed.ensures.missing n)
+pub returns-in_err-changed-clause-fails : goal.returns-in_err-changed-clause-fails
+returns-in_err-changed-clause-fails c = err_is c.from_residual-in_err-changed.result _ _ c.from_residual-in_err-changed.ensures.1 (missing_remove c.args.path.now _ _ _ c.in_ok-document.ensures.found c.in_err-changed.ensures.missing)
 
-pub returns-in_err-changed-clause-missing : goal.returns-in_err-changed-clause-missing
-returns-in_err-changed-clause-missing c = err_is c.from_residual-in_err-changed.result _ _ c.from_residual-in_err-changed.ensures.1 (λ n x d. ap (named_at c.args.path.now) (c.in_ok-document.ensures.only x d) ∙ misses_absent _ c.in_err-changed.ensures.missing n)
+pub returns-in_err-to_string-clause-fails : goal.returns-in_err-to_string-clause-fails
+returns-in_err-to_string-clause-fails c = err_is c.from_residual-in_err-to_string.result _ _ c.from_residual-in_err-to_string.ensures.1 tt
 
 pub returns-clause-removed : goal.returns-clause-removed
 returns-clause-removed c =

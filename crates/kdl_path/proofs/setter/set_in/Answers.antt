@@ -1,12 +1,15 @@
-use Rattle.std.proofs.Common.{rules, ◌≡◌, Bool, true, false, ℕ, List, None, Option, IsSome, sym, subst, ◌∙◌}
-use Rattle.kdl.specs.Words.{document_says, node_says, nodes_of, said_nodes}
+use Rattle.std.proofs.Common.{rules, ◌≡◌, Bool, true, false, ℕ, drop, length, List, None, Option, IsSome, ap, sym, subst, ◌∙◌}
+use Rattle.kdl.specs.Words.{document_says, entries_of, node_says, nodes_of, said_nodes}
 use Rattle.kdl_call_parts.specs.Changes.{AtNode}
 use Rattle.kdl_value.specs.Data.{Value}
 use Rattle.kdl_path.specs.Internal.Changed.{IsMade}
-use Rattle.kdl_path.specs.Internal.Located.{Leads}
+use Rattle.kdl_path.specs.Failures.{IsUnset, makes_at}
+use Rattle.kdl_path.specs.Internal.Located.{Leads, Loses, makes_new, makes_there}
+use Rattle.kdl_path.specs.declared.locate.Lost.{Lost}
+use Rattle.kdl_path.specs.declared.locate.Lost.TheVariants as lost
 use Rattle.kdl_path.specs.Paths.{at_path, node_at, value_in}
 use Rattle.kdl_path.specs.declared.path.Step.{Step}
-use Rattle.kdl_path.proofs.Failing.{all_ok, err_is, misses_set, none_is_some, set_fails}
+use Rattle.kdl_path.proofs.Failing.{all_ok, err_is, misses, none_is_some}
 use Rattle.kdl_path.proofs.Places.{at_node, at_nowhere}
 use Rattle.kdl_path.proofs.Values.{set_done, set_there}
 use Rattle.kdl_path.proofs.setter.set_in.Goals as goal
@@ -21,8 +24,11 @@ returns-in_err-change-in-Ok-clause-missing c =
     let d = c.args.document in
     let is = c.in-Ok.located.indices.items in
     let n = c.in-Ok.located.node.now in
+    let x = said_nodes (document_says d) in
     let leads : Leads p.steps.items is (nodes_of d) None n = subst (λ (ss : List Step). Leads ss is (nodes_of d) None n) c.deref.ensures.value c.in-Ok.ensures.leads in
-    err_is c.from_residual.result _ _ c.from_residual.ensures.1 (misses_set {P = value_in p.target (node_says n) ≡ None} {Q = at_path p (document_says d) ≡ None} _ (λ h. at_node p is d n leads ∙ h) c.in_err-change-in-Ok.ensures.missing)
+    let makes : makes_at p.steps.items p.target x ≡ makes_there p.target (entries_of n) = ap (λ (ss : List Step). makes_at ss p.target x) (sym c.deref.ensures.value) ∙ c.in-Ok.ensures.makes p.target in
+    let unset : (value_in p.target (node_says n) ≡ None) × (c.args.create ≡ true → makes_there p.target (entries_of n) ≡ false) → IsUnset p c.args.create (document_says d) = λ h. (at_node p is d n leads ∙ h.0, λ k. makes ∙ h.1 k) in
+    err_is c.from_residual.result _ _ c.from_residual.ensures.1 (misses _ unset c.in_err-change-in-Ok.ensures.missing)
 
 pub returns-in_ok-change_at-in-Ok-clause-set : goal.returns-in_ok-change_at-in-Ok-clause-set
 returns-in_ok-change_at-in-Ok-clause-set c = λ r ok there.
@@ -49,21 +55,31 @@ pub returns-in_err-node-in-Err-Step-clause-missing : goal.returns-in_err-node-in
 returns-in_err-node-in-Err-Step-clause-missing c =
     let p = c.args.path.now in
     let d = c.args.document in
-    let lost : node_at p.steps.items (said_nodes (document_says d)) ≡ None = subst (λ (ss : List Step). node_at ss (said_nodes (document_says d)) ≡ None) c.deref.ensures.value (c.in-Err-Step.ensures.nowhere (search rules)) in
-    err_is c.from_residual-in_err-node-in-Err-Step.result _ _ c.from_residual-in_err-node-in-Err-Step.ensures.1 (set_fails _ (λ u. at_nowhere p d lost) c.in_err-node-in-Err-Step.ensures.missing)
+    let x = said_nodes (document_says d) in
+    let nowhere : node_at p.steps.items x ≡ None = subst (λ (ss : List Step). node_at ss x ≡ None) c.deref.ensures.value (c.in-Err-Step.ensures.nowhere (search rules)) in
+    let is = c.in-Err-Step.indices.items in
+    let ns = c.in-Err-Step.nodes.now in
+    let len : c.len.result ≡ length is = search rules in
+    let own : Loses c.deref.result.now (document_says d) (lost.Step c.in-Err-Step.indices c.in-Err-Step.nodes) = subst (λ (l : Lost). Loses c.deref.result.now (document_says d) l) c.in-Err-Step.field-0-is c.in-Err-Step.ensures.loses in
+    let loses : makes_at p.steps.items p.target x ≡ makes_new (drop (length is) p.steps.items) p.target ns = subst (λ (ss : List Step). makes_at ss p.target x ≡ makes_new (drop (length is) ss) p.target ns) c.deref.ensures.value (own p.target) in
+    let unset : (c.args.create ≡ true → makes_new (drop c.len.result p.steps.items) p.target ns ≡ false) → IsUnset p c.args.create (document_says d) = λ f. (at_nowhere p d nowhere, λ k. loses ∙ ap (λ n. makes_new (drop n p.steps.items) p.target ns) (sym len) ∙ f k) in
+    err_is c.from_residual-in_err-node-in-Err-Step.result _ _ c.from_residual-in_err-node-in-Err-Step.ensures.1 (misses _ unset c.in_err-node-in-Err-Step.ensures.missing)
 
 pub returns-in_ok-node-in-Err-Step-clause-set : goal.returns-in_ok-node-in-Err-Step-clause-set
 returns-in_ok-node-in-Err-Step-clause-set c =
     let p = c.args.path.now in
     let d = c.args.document in
-    let lost : node_at p.steps.items (said_nodes (document_says d)) ≡ None = subst (λ (ss : List Step). node_at ss (said_nodes (document_says d)) ≡ None) c.deref.ensures.value (c.in-Err-Step.ensures.nowhere (search rules)) in
-    all_ok c.put_node.result _ (λ e r ok there. absurd (none_is_some (at_path p (document_says d)) (at_nowhere p d lost) there))
+    let nowhere : node_at p.steps.items (said_nodes (document_says d)) ≡ None = subst (λ (ss : List Step). node_at ss (said_nodes (document_says d)) ≡ None) c.deref.ensures.value (c.in-Err-Step.ensures.nowhere (search rules)) in
+    all_ok c.put_node.result _ (λ e r ok there. absurd (none_is_some (at_path p (document_says d)) (at_nowhere p d nowhere) there))
 
 pub returns-in_ok-node-in-Err-Step-clause-found : goal.returns-in_ok-node-in-Err-Step-clause-found
 returns-in_ok-node-in-Err-Step-clause-found c = λ u. absurd (not_both c.args.create u c.in_ok-node-in-Err-Step.ensures.created)
 
-pub returns-in-Err-clause-missing : goal.returns-in-Err-clause-missing
-returns-in-Err-clause-missing c =
+pub returns-in-Err-Document-clause-missing : goal.returns-in-Err-Document-clause-missing
+returns-in-Err-Document-clause-missing c =
     let p = c.args.path.now in
     let d = c.args.document in
-    misses_set _ (λ n. at_nowhere p d (subst (λ (ss : List Step). node_at ss (said_nodes (document_says d)) ≡ None) c.deref.ensures.value (c.in-Err.ensures.nowhere n))) c.lost_failure.ensures
+    let x = said_nodes (document_says d) in
+    let nowhere : node_at p.steps.items x ≡ None = subst (λ (ss : List Step). node_at ss x ≡ None) c.deref.ensures.value (c.in-Err-Document.ensures.nowhere (search rules)) in
+    let own : Loses c.deref.result.now (document_says d) lost.Document = subst (λ (l : Lost). Loses c.deref.result.now (document_says d) l) c.in-Err-Document.field-0-is c.in-Err-Document.ensures.loses in
+    (at_nowhere p d nowhere, λ k. subst (λ (ss : List Step). makes_at ss p.target x ≡ false) c.deref.ensures.value (own p.target))

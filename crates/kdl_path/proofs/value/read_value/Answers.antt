@@ -5,7 +5,7 @@ use Rattle.kdl_call_parts.proofs.ValueSteps.{laid_in_value, value_is_entry, valu
 use Rattle.kdl_call_parts.specs.Entries.{IsValueText}
 use Rattle.kdl_call_parts.specs.Internal.Values.{is_value}
 use Rattle.kdl_text.specs.Chars.{Text}
-use Rattle.kdl_path.specs.Failures.{NoValueIf}
+use Rattle.kdl_path.specs.Internal.Failing.{NoValueIf}
 use Rattle.kdl_path.specs.declared.failure.EditFailure.{EditFailure}
 use Rattle.kdl_path.specs.declared.failure.EditFailure.TheVariants as edit
 use Rattle.kdl_path.proofs.Failing.{err_is}

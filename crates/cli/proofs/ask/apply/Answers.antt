@@ -1,4 +1,4 @@
-use Rattle.cli.proofs.ask.answer_to.Goals as goal
+use Rattle.cli.proofs.ask.apply.Goals as goal
 
 pub returns-in-Set : goal.returns-in-Set
 returns-in-Set c = rw c.in-Set.is c.text_with.ensures
