@@ -40,16 +40,53 @@ pub fn request_of<'m>(
             None => Err("give a shell"),
         },
         "man" => Ok(Request::Manual),
-        _ => match action_of(word, matches, path) {
-            Some(action) => Ok(Request::Ask(Ask {
-                action,
-                name: matches.get_str("FILE").unwrap_or("-"),
-                replace: matches.get_flag("write"),
-                style: style(Form::Human, has_colors(rt, rt.stderr().is_terminal())),
-            })),
-            None => Err("give a word: `kdl --help` lists them"),
-        },
+        "get" => {
+            let action = Action::Get {
+                path,
+                raw: matches.get_flag("raw"),
+                all: matches.get_flag("all"),
+            };
+            Ok(ask_request(rt, matches, action))
+        }
+        "set" => {
+            let action = Action::Set {
+                path,
+                value: text(matches, "VALUE"),
+                create: matches.get_flag("create"),
+            };
+            Ok(ask_request(rt, matches, action))
+        }
+        "remove" => Ok(ask_request(rt, matches, Action::Remove { path })),
+        "insert" => {
+            let action = Action::Insert {
+                path,
+                node: text(matches, "NODE"),
+            };
+            Ok(ask_request(rt, matches, action))
+        }
+        "json" => Ok(ask_request(rt, matches, Action::Json)),
+        "from-json" => Ok(ask_request(rt, matches, Action::FromJson)),
+        _ => Err("give a word: `kdl --help` lists them"),
     }
+}
+
+/// The request for an action on the file that the words name.
+fn ask_request<'m>(
+    rt: &HostRuntime,
+    matches: &'m ArgMatches<'_>,
+    action: Action<'m>,
+) -> Request<'m> {
+    Request::Ask(Ask {
+        action,
+        name: file_name(matches),
+        replace: matches.get_flag("write"),
+        style: style(Form::Human, has_colors(rt, rt.stderr().is_terminal())),
+    })
+}
+
+/// The name of the file, or of the standard input.
+fn file_name<'a>(matches: &ArgMatches<'a>) -> &'a str {
+    matches.get_str("FILE").unwrap_or("-")
 }
 
 /// The text of an argument that is required.
@@ -125,29 +162,5 @@ fn check_request<'m>(rt: &HostRuntime, matches: &'m ArgMatches<'_>) -> Request<'
     Request::Check {
         names: matches.get_strs("FILE").unwrap_or(&[]),
         style: style(form, color),
-    }
-}
-
-/// The action of a word on one text.
-fn action_of<'a>(word: &str, matches: &'a ArgMatches<'_>, path: &'a Path) -> Option<Action<'a>> {
-    match word {
-        "get" => Some(Action::Get {
-            path,
-            raw: matches.get_flag("raw"),
-            all: matches.get_flag("all"),
-        }),
-        "set" => Some(Action::Set {
-            path,
-            value: text(matches, "VALUE"),
-            create: matches.get_flag("create"),
-        }),
-        "remove" => Some(Action::Remove { path }),
-        "insert" => Some(Action::Insert {
-            path,
-            node: text(matches, "NODE"),
-        }),
-        "json" => Some(Action::Json),
-        "from-json" => Some(Action::FromJson),
-        _ => None,
     }
 }
