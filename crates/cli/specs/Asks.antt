@@ -1,7 +1,7 @@
 -- What becomes of a text, and of files, by an action.
 use Rattle.std.specs.Prelude.{Bool, ◌≡◌, ◌⊎◌, ◌++◌, ◌∷◌, [], List, ℕ, IsSome, IsUtf8, None, Ok, Err, Result, Some, chars, false, string_bytes, true}
 use Rattle.kdl.specs.Words.{IsDocument, IsNodeText, NodeData, Nodes, Value}
-use Rattle.kdl_call_parts.specs.Entries.{IsValueText}
+use Rattle.c_calls.specs.Entries.{IsValueText}
 use Rattle.kdl_fmt.specs.WellFormed.{AreWellFormed}
 use Rattle.kdl_json.specs.Form.{IsJsonOf, json_text}
 use Rattle.kdl_path.specs.Edits.{HasPlace, IsInsertedAt, IsSetAt, named_at, without}

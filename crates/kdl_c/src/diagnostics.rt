@@ -1,18 +1,18 @@
 //! Lists of the faults of a text.
 
 ghost use Rattle.kdl.specs.Words.{IsDocument, Nodes};
-ghost use Rattle.kdl_rows.specs.Listed.{AreFaultsOf, AreListed, AreReportsListed, Fault, ListsNothing};
-ghost use Rattle.kdl_rows.specs.Reading.{AreFaultsAs, IsRead};
-ghost use Rattle.kdl_rows.specs.Reports.{AreReported};
-ghost use Rattle.kdl_rows.specs.Rows.{AreTold};
+ghost use Rattle.c_calls.specs.Listed.{AreFaultsOf, AreListed, AreReportsListed, Fault, ListsNothing};
+ghost use Rattle.c_calls.specs.Reading.{AreFaultsAs, IsRead};
+ghost use Rattle.c_calls.specs.Reports.{AreReported};
+ghost use Rattle.c_calls.specs.Rows.{AreTold};
 ghost use Rattle.std.specs.Prelude.{◌≡◌, ◌<◌, ◌≤◌, List, true};
 ghost use Rattle.std.specs.Str.{IsUtf8, chars};
 
+use c_calls::faults::{KdlFault, put_faults};
+use c_calls::given_faults::{Reading, put_not_value, read};
+use c_calls::reports::{KdlReport, put_reports};
+use c_calls::status::{FAULTS, NOT_FOUND, NOT_UTF8, OK, OUT_OF_MEMORY};
 use kdl::{KdlDocument, ParseFailure};
-use kdl_call_parts::status::{FAULTS, NOT_FOUND, NOT_UTF8, OK, OUT_OF_MEMORY};
-use kdl_rows::faults::{KdlFault, put_faults};
-use kdl_rows::given_faults::{Reading, put_not_value, read};
-use kdl_rows::reports::{KdlReport, put_reports};
 use std::alloc::Global;
 
 /// Lists the faults of a text, in the order in which they are found. Writes as many faults as `out` has room for, and

@@ -2,14 +2,14 @@
 
 ghost use Rattle.kdl.specs.Words.{IsDocument, LaidDocument, Nodes, document_prints, document_says, document_tree};
 ghost use Rattle.kdl_c.specs.Statuses.{IsAmong};
-ghost use Rattle.kdl_call_parts.specs.Answers.{printed_bytes};
+ghost use Rattle.c_calls.specs.Answers.{printed_bytes};
 ghost use Rattle.std.specs.Prelude.{◌≡◌, ◌++◌, ◌<◌, ◌∷◌, [], IfSome, IsNone, IsSome, IsSomeAnd, None, drop, length, true};
 ghost use Rattle.std.specs.Str.{IsUtf8, chars};
 
+use c_calls::held::Handle;
+use c_calls::status::{NO_DOCUMENT, NOT_UTF8, OK, OUT_OF_MEMORY, of_failure};
+use c_calls::text::put_text;
 use kdl::KdlDocument;
-use kdl_call_parts::status::{NO_DOCUMENT, NOT_UTF8, OK, OUT_OF_MEMORY, of_failure};
-use kdl_call_parts::text::put_text;
-use kdl_held::Handle;
 use std::alloc::Global;
 
 /// Parses a text into `document`, and frees the document that was there. After any status but `OK`, `document` holds

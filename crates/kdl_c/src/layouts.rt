@@ -1,16 +1,16 @@
 //! Layout of documents and texts.
 
 ghost use Rattle.kdl.specs.Words.{CommentsStay, DocumentKeepsNoForm, DocumentLaidOut, IsDocument, Nodes, Text, canonical_text, defaults, document_prints, document_says, document_tree};
-ghost use Rattle.kdl_call_parts.specs.Answers.{Each};
-ghost use Rattle.kdl_call_parts.specs.LaidOut.{IsTextLaidOut};
+ghost use Rattle.c_calls.specs.Answers.{Each};
+ghost use Rattle.c_calls.specs.LaidOut.{IsTextLaidOut};
 ghost use Rattle.std.specs.Prelude.{◌≡◌, ◌++◌, drop, length, true};
 ghost use Rattle.std.specs.Str.{IsUtf8, chars, encode_utf8_all};
 
+use c_calls::held::Handle;
+use c_calls::laid_out::{format, laid_out, strip};
+use c_calls::status::{NO_DOCUMENT, NOT_UTF8, OUT_OF_MEMORY, of_failure};
+use c_calls::text::put_text;
 use kdl::KdlDocument;
-use kdl_call_parts::laid_out::{format, laid_out, strip};
-use kdl_call_parts::status::{NO_DOCUMENT, NOT_UTF8, OUT_OF_MEMORY, of_failure};
-use kdl_call_parts::text::put_text;
-use kdl_held::Handle;
 use std::alloc::Global;
 
 /// Lays the document out, with its comments. Its data do not change. If an allocation fails, a part of the document may

@@ -2,17 +2,17 @@
 
 ghost use Rattle.kdl.specs.Words.{argument_named, entry_data, entry_tree, is_node_named, nodes_of, property_place};
 ghost use Rattle.kdl_c.specs.Statuses.{IsAmong};
-ghost use Rattle.kdl_call_parts.specs.Paths.{node_at, nodes_at};
-ghost use Rattle.kdl_call_parts.specs.Says.{IsWithin, SaysEntry};
+ghost use Rattle.c_calls.specs.Paths.{node_at, nodes_at};
+ghost use Rattle.c_calls.specs.Says.{IsWithin, SaysEntry};
 ghost use Rattle.std.specs.Prelude.{◌≡◌, ◌≤◌, ◌∷◌, [], IfSome, IsNone, IsSome, IsSomeAnd, None, Some, length, option_and_then, position, take};
 ghost use Rattle.std.specs.Str.{IsUtf8};
 
-use kdl_call_parts::entries::last_property;
-use kdl_call_parts::row::{KdlRow, put_found};
-use kdl_call_parts::status::{NO_DOCUMENT, NOT_FOUND, NOT_UTF8};
-use kdl_calls::names::{first_argument, first_named, put_index};
-use kdl_calls::path::{node_at, nodes_at};
-use kdl_held::Handle;
+use c_calls::entries::last_property;
+use c_calls::held::Handle;
+use c_calls::names::{first_argument, first_named, put_index};
+use c_calls::path::{node_at, nodes_at};
+use c_calls::row::{KdlRow, put_found};
+use c_calls::status::{NO_DOCUMENT, NOT_FOUND, NOT_UTF8};
 use std::alloc::Global;
 
 /// Writes the row of the first argument of the first node of that name in the document. Names are compared by value,

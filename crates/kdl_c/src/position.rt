@@ -1,12 +1,12 @@
 //! Lines and columns of a text.
 
 ghost use Rattle.kdl_c.specs.Statuses.{IsAmong};
-ghost use Rattle.kdl_call_parts.specs.Positions.{IsNoPosition, IsPosition};
+ghost use Rattle.c_calls.specs.Positions.{IsNoPosition, IsPosition};
 ghost use Rattle.std.specs.Prelude.{◌≡◌, ◌∷◌, []};
 ghost use Rattle.std.specs.Str.{IsUtf8, chars};
 
-use kdl_call_parts::place;
-use kdl_call_parts::status::{NOT_FOUND, NOT_UTF8, OK};
+use c_calls::place;
+use c_calls::status::{NOT_FOUND, NOT_UTF8, OK};
 
 /// Finds the line and the column of a byte of the text, both counted from 1. A line ends at a newline of KDL, such as
 /// CR LF, which is one newline. A column is counted in characters. The end of the text has a position too.

@@ -2,16 +2,16 @@
 
 ghost use Rattle.kdl.specs.Words.{document_says, entries_of, entry_data, entry_tree, node_says, node_span_of, nodes_of};
 ghost use Rattle.kdl_c.specs.Statuses.{IsAmong};
-ghost use Rattle.kdl_rows.specs.Flat.{SayAll, flattened};
-ghost use Rattle.kdl_call_parts.specs.Paths.{node_at, nodes_at};
-ghost use Rattle.kdl_call_parts.specs.Says.{IsWithin, SaysEntry, SaysNode};
+ghost use Rattle.c_calls.specs.Flat.{SayAll, flattened};
+ghost use Rattle.c_calls.specs.Paths.{node_at, nodes_at};
+ghost use Rattle.c_calls.specs.Says.{IsWithin, SaysEntry, SaysNode};
 ghost use Rattle.std.specs.Prelude.{◌≡◌, ◌≤◌, ◌<◌, ◌∷◌, [], All, IfSome, IsNone, IsSome, IsSomeAnd, length, slice_get, take};
 
-use kdl_call_parts::row::{KdlRow, put_found, put_node};
-use kdl_call_parts::status::{NO_DOCUMENT, NOT_FOUND, OK, OUT_OF_MEMORY, room};
-use kdl_calls::path::{node_at, nodes_at};
-use kdl_held::Handle;
-use kdl_rows::tree::put_tree;
+use c_calls::held::Handle;
+use c_calls::path::{node_at, nodes_at};
+use c_calls::row::{KdlRow, put_found, put_node};
+use c_calls::status::{NO_DOCUMENT, NOT_FOUND, OK, OUT_OF_MEMORY, room};
+use c_calls::tree::put_tree;
 use std::alloc::Global;
 
 /// Writes the whole document as rows. Each node has its own row, and a row for each entry. If the node has a block, the

@@ -4,10 +4,10 @@ use Rattle.std.specs.Prelude.{option_and_then}
 use Rattle.kdl.specs.Words.{document_tree, node_tree, nodes_of}
 use Rattle.kdl.specs.declared.document.KdlDocument.{KdlDocument}
 use Rattle.kdl.specs.declared.node.KdlNode.{KdlNode}
-use Rattle.kdl_call_parts.specs.Changes.{AtNode, changed_at}
-use Rattle.kdl_call_parts.specs.Internal.Opened.{IsOpened, plugged}
-use Rattle.kdl_call_parts.specs.Paths.{block_nodes, node_at, nodes_at}
-use Rattle.kdl_call_parts.specs.declared.opened.Opened.{Opened}
+use Rattle.c_calls.specs.Changes.{AtNode, changed_at}
+use Rattle.c_calls.specs.Internal.Opened.{IsOpened, plugged}
+use Rattle.c_calls.specs.Paths.{block_nodes, node_at, nodes_at}
+use Rattle.c_calls.specs.declared.opened.Opened.{Opened}
 use Rattle.kdl_path.specs.Internal.Changed.{IsMade, IsMadeIn}
 use Rattle.kdl_path.specs.declared.change.Change.{Change}
 

@@ -16,7 +16,7 @@ use Rattle.kdl.specs.declared.document.KdlDocument.{KdlDocument}
 use Rattle.kdl.specs.declared.node.KdlNode.{KdlNode}
 use Rattle.kdl.proofs.Finding.SaidLookups.{entries_said}
 use Rattle.kdl.proofs.ReadingBack.{document_derived}
-use Rattle.kdl_call_parts.specs.Changes.{AtNode}
+use Rattle.c_calls.specs.Changes.{AtNode}
 use Rattle.kdl_path.specs.Edits.{HasPlace, IsInsertedAt, entry_place, named_at, with_node, with_target, without, without_target}
 use Rattle.kdl_path.specs.Internal.Changed.{IsChildPushed}
 use Rattle.kdl_path.specs.Internal.Done.{IsNamed, IsNodeRemoved, IsPutAt, IsRemovedAt, LeadsTo}

@@ -5,7 +5,7 @@ use Rattle.kdl.specs.Words.{IsDocument, IsNodeText, NodeData, Nodes, Text, Value
 use Rattle.kdl_text.specs.Failures.{IsSyntax}
 use Rattle.kdl_text.specs.declared.error.ParseFailure.{ParseFailure}
 use Rattle.kdl_text.specs.declared.error.ParseFailure.TheVariants as parse
-use Rattle.kdl_call_parts.specs.Entries.{IsValueText}
+use Rattle.c_calls.specs.Entries.{IsValueText}
 use Rattle.kdl_path.specs.Edits.{HasPlace, named_at}
 use Rattle.kdl_path.specs.Failures.{InsertFails, IsUnset, RemoveFails, SetFails, edit_of}
 use Rattle.kdl_path.specs.Internal.Failing.{MissesIf, NoNodeIf, NoValueIf}

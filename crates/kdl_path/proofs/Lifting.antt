@@ -28,9 +28,9 @@ use Rattle.kdl.proofs.EditLaws.{node_exchanged}
 use Rattle.kdl.proofs.PiecesExchanged.{block_exchanges}
 use Rattle.kdl.proofs.ReadingBack.{block_exchanged, node_set_reads}
 use Rattle.kdl.proofs.Trees.{document_tree_out, document_tree_roll, node_of, node_tree_out, node_tree_roll}
-use Rattle.kdl_call_parts.specs.Changes as changes
-use Rattle.kdl_call_parts.specs.Internal.Opened.{block_in, with_kids_at}
-use Rattle.kdl_call_parts.proofs.OpenSteps.{block_set, changed_in_block, node_set}
+use Rattle.c_calls.specs.Changes as changes
+use Rattle.c_calls.specs.Internal.Opened.{block_in, with_kids_at}
+use Rattle.c_calls.proofs.OpenSteps.{block_set, changed_in_block, node_set}
 use Rattle.kdl_path.specs.Edits.{changed_at, changed_below, with_block, with_nth, with_there}
 use Rattle.kdl_path.specs.Internal.Located.{Leads, place_of_step}
 use Rattle.kdl_path.specs.Paths.{step_place}

@@ -20,8 +20,8 @@ use Rattle.kdl.specs.declared.document.KdlDocument.{KdlDocument}
 use Rattle.kdl.specs.declared.document.KdlDocument.TheViews.{out-KdlNode}
 use Rattle.kdl.specs.declared.node.KdlNode.{KdlNode}
 use Rattle.kdl.proofs.Finding.SaidLookups.{argument_said, entry_says, got_child_nodes, name_said, nodes_said, property_said, same_chars}
-use Rattle.kdl_call_parts.specs.Paths as paths
-use Rattle.kdl_call_parts.specs.Paths.{block_nodes}
+use Rattle.c_calls.specs.Paths as paths
+use Rattle.c_calls.specs.Paths.{block_nodes}
 use Rattle.kdl_path.specs.Edits.{entry_place}
 use Rattle.kdl_path.specs.Internal.Located.{Leads, place_of_step, place_of_target, walk}
 use Rattle.kdl_path.specs.Paths.{at_path, node_at, node_below, step_node, step_place, value_in}

@@ -28,7 +28,7 @@ use Rattle.kdl.proofs.Finding.SaidLookups.{entry_says}
 use Rattle.kdl.proofs.Putting.Puts.{remove_trees, taken_says}
 use Rattle.kdl.proofs.ReadingBack.{block_exchanged, entries_exchanged}
 use Rattle.kdl.proofs.Trees.{document_tree_out, document_tree_roll, node_tree_out, node_tree_roll}
-use Rattle.kdl_call_parts.specs.Entries.{EntryRemoved}
+use Rattle.c_calls.specs.Entries.{EntryRemoved}
 use Rattle.kdl_path.specs.Edits.{changed_at, changed_below, entry_place, node_without_entry, with_block, with_nth, with_there, without_node, without_nth, without_there}
 use Rattle.kdl_path.specs.Internal.Changed.{IsChildRemoved}
 use Rattle.kdl_path.specs.Internal.Located.{Leads, place_of_step, place_of_target}

@@ -12,8 +12,8 @@ use Rattle.kdl.specs.Tree.{document_says, document_tree, node_says, nodes_tree}
 use Rattle.kdl.proofs.Trees.{document_tree_out}
 use Rattle.kdl.specs.declared.document.KdlDocument.{KdlDocument}
 use Rattle.kdl.specs.declared.node.KdlNode.{KdlNode}
-use Rattle.kdl_call_parts.specs.Changes.{AtNode}
-use Rattle.kdl_call_parts.specs.Entries.{EntryRemoved}
+use Rattle.c_calls.specs.Changes.{AtNode}
+use Rattle.c_calls.specs.Entries.{EntryRemoved}
 use Rattle.kdl_path.specs.Edits.{changed_at, node_with_child, node_without_entry, with_block, without_node, without_target, without_there}
 use Rattle.kdl_path.specs.Internal.Changed.{IsChildPushed, IsChildRemoved}
 use Rattle.kdl_path.specs.Internal.Done.{IsNodeRemoved, IsPutAt, IsRemovedAt}

@@ -34,8 +34,8 @@ use Rattle.kdl.proofs.ReadingBack.{document_derived, entry_there_reads}
 use Rattle.kdl.proofs.Trees.{node_tree_out, node_tree_roll}
 use Rattle.kdl_fmt.proofs.Texts.{printed_text}
 use Rattle.std.specs.Str.{encode_utf8_all}
-use Rattle.kdl_call_parts.specs.Changes.{AtNode}
-use Rattle.kdl_call_parts.specs.Entries.{IsValueText}
+use Rattle.c_calls.specs.Changes.{AtNode}
+use Rattle.c_calls.specs.Entries.{IsValueText}
 use Rattle.kdl_value.specs.Tree.{text_of, value_tree}
 use Rattle.kdl_path.specs.Edits.{IsSetAt, entry_place, node_with_value, with_value, with_value_nth, with_value_there}
 use Rattle.kdl_path.specs.Internal.Done.{IsDoneAt, SetsOrMakes}

@@ -3,7 +3,7 @@ use Rattle.std.specs.List.{remove}
 use Rattle.std.specs.Prelude.{◌≡◌, ℕ, zero, suc, true, List, [], ◌∷◌, Option, Some, None, IsSome, option_and_then, option_map}
 use Rattle.kdl.specs.Words.{EntryData, IsDocument, IsExchanged, IsNodeText, NodeData, Nodes, Text, Value, said_entries, said_nodes, said_without}
 use Rattle.kdl.specs.Said.{has_key, has_no_key}
-use Rattle.kdl_call_parts.specs.Entries.{IsValueText}
+use Rattle.c_calls.specs.Entries.{IsValueText}
 use Rattle.kdl_grammar.specs.Data as data'
 use Rattle.kdl_parts.specs.EntryLists.{last_place, nth_place}
 use Rattle.kdl_value.specs.Tree.{text_of}

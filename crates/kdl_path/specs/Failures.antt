@@ -3,7 +3,7 @@ use Rattle.std.specs.List.{list_all}
 use Rattle.std.specs.Prelude.{◌≡◌, ◌==◌, ◌&&◌, ℕ, zero, suc, Bool, true, false, List, [], ◌∷◌, Option, Some, None, is_some, unwrap_or}
 use Rattle.kdl.specs.Words.{EntryData, IsDocument, IsNodeText, NodeData, Nodes, Text, Value, said_child_nodes, said_entries, said_nodes}
 use Rattle.kdl.specs.Said.{has_no_key, is_called}
-use Rattle.kdl_call_parts.specs.Entries.{IsValueText}
+use Rattle.c_calls.specs.Entries.{IsValueText}
 use Rattle.kdl_parts.specs.EntryLists.{nth_place}
 use Rattle.kdl_value.specs.Tree.{text_of}
 use Rattle.kdl_text.specs.declared.error.ParseFailure.{ParseFailure}

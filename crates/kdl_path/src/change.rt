@@ -1,7 +1,7 @@
 //! Changes to the node at the end of a path of indices.
 
 ghost use Rattle.kdl.specs.Words.{ChildPut, NodeReadsBack, ReadsAs, child_nodes, entry_tree, value_tree};
-ghost use Rattle.kdl_call_parts.specs.Changes.{AtNode};
+ghost use Rattle.c_calls.specs.Changes.{AtNode};
 ghost use Rattle.kdl_path.specs.Internal.Changed.{IsChildPushed, IsChildRemoved, IsMade, IsMadeIn, IsTaken, IsTakenFrom, IsValueSet, with_format, with_spelled};
 ghost use Rattle.kdl_path.specs.Internal.Laid.{IsBlockLaid, IsLaid};
 ghost use Rattle.kdl_value.specs.Tree.{text_of};
@@ -10,11 +10,11 @@ ghost use Rattle.std.specs.Prelude.{◌≡◌, IfOk, OnOk, length};
 use crate::laid::{begin_line, end_line, spaces};
 use crate::layout::begins_line;
 use crate::value::Spelled;
+use c_calls::entries;
+use c_calls::entries::remove_entry;
+use c_calls::opened::Opened;
+use c_calls::status::Refused;
 use kdl::{KdlDocument, KdlEntry, KdlEntryFormat, KdlNode};
-use kdl_call_parts::entries;
-use kdl_call_parts::entries::remove_entry;
-use kdl_call_parts::opened::Opened;
-use kdl_call_parts::status::Refused;
 use std::alloc::{AllocError, Global};
 
 /// A change to one node.

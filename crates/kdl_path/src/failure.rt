@@ -5,8 +5,8 @@ ghost use Rattle.kdl_path.specs.declared.failure.EditFailure.TheVariants.{Memory
 ghost use Rattle.kdl_path.specs.declared.failure.GetFailure.TheVariants.{Memory as OutOfMemory};
 ghost use Rattle.std.specs.Prelude.{◌≡◌};
 
+use c_calls::status::Refused;
 use kdl::{KdlError, ParseFailure};
-use kdl_call_parts::status::Refused;
 use std::alloc::{AllocError, AllocFailed};
 use std::fmt;
 

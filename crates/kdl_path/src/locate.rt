@@ -14,8 +14,8 @@ ghost use Rattle.std.specs.Prelude.{◌≡◌, IfErr, IfOk, MatchBool, None};
 use crate::failure::{EditFailure, Missing};
 use crate::nearest::Nearest;
 use crate::path::{Path, Step, Target};
+use c_calls::entries::last_property;
 use kdl::{KdlDocument, KdlEntry, KdlNode};
-use kdl_call_parts::entries::last_property;
 use std::alloc::{AllocError, AllocFailed, Global};
 
 /// A node, and the indices that lead to it: of a node in the document, of a node in the block of that one, and so on.

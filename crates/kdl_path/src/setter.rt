@@ -1,7 +1,7 @@
 //! A value that is set at a PATH.
 
 ghost use Rattle.kdl.specs.Words.{DocumentReadsBack, IsDocument, Nodes, document_says, entries_of, node_says, value_tree};
-ghost use Rattle.kdl_call_parts.specs.Entries.{IsValueText};
+ghost use Rattle.c_calls.specs.Entries.{IsValueText};
 ghost use Rattle.kdl_path.specs.Edits.{IsSetAt};
 ghost use Rattle.kdl_path.specs.Internal.Failing.{MissesIf};
 ghost use Rattle.kdl_path.specs.Failures.{IsUnset, SetFails};

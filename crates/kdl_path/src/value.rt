@@ -1,15 +1,15 @@
 //! Values that are read alone, with their spelling.
 
 ghost use Rattle.kdl.specs.Words.{EntryData, IsEntryText, LaidEntryText, Value, entry_tree, value_tree};
-ghost use Rattle.kdl_call_parts.specs.Entries.{IsValueText};
+ghost use Rattle.c_calls.specs.Entries.{IsValueText};
 ghost use Rattle.kdl_path.specs.Internal.Failing.{NoValueIf};
 ghost use Rattle.kdl_value.specs.Tree.{text_of};
 ghost use Rattle.std.specs.Prelude.{◌≡◌, IfErr, IfOk, true};
 ghost use Rattle.std.specs.Str.{chars};
 
 use crate::failure::EditFailure;
+use c_calls::value::is_value;
 use kdl::{KdlEntry, KdlValue, ParseFailure};
-use kdl_call_parts::value::is_value;
 use std::alloc::{AllocError, Global};
 
 /// A value, and how it is written.

@@ -1,19 +1,19 @@
 //! Edits of the entries of a node.
 
 ghost use Rattle.kdl.specs.Words.{EntryData, IsEntryText, Value, entries_of, nodes_of};
-ghost use Rattle.kdl_call_parts.specs.Answers.{Each};
-ghost use Rattle.kdl_call_parts.specs.Changes.{AtEntry, AtNode, SameTree};
-ghost use Rattle.kdl_call_parts.specs.Entries.{EntryRemoved, IsValueText};
-ghost use Rattle.kdl_calls.specs.Edits.{EntryInserted, KeySet, TypeSetAt, ValueSet, text_if};
-ghost use Rattle.kdl_call_parts.specs.Paths.{node_at};
+ghost use Rattle.c_calls.specs.Answers.{Each};
+ghost use Rattle.c_calls.specs.Changes.{AtEntry, AtNode, SameTree};
+ghost use Rattle.c_calls.specs.Entries.{EntryRemoved, IsValueText};
+ghost use Rattle.c_calls.specs.Edits.{EntryInserted, KeySet, TypeSetAt, ValueSet, text_if};
+ghost use Rattle.c_calls.specs.Paths.{node_at};
 ghost use Rattle.std.specs.Prelude.{◌≡◌, ◌<◌, ◌≤◌, ◌-◌, ◌^◌, IfSome, IsNone, length, true};
 ghost use Rattle.std.specs.Str.{IsUtf8, chars};
 
-use kdl_calls::at_path::change_held;
-use kdl_calls::entry_change::EntryChange;
-use kdl_calls::given;
-use kdl_calls::node_change::NodeChange;
-use kdl_held::Handle;
+use c_calls::at_path::change_held;
+use c_calls::entry_change::EntryChange;
+use c_calls::given;
+use c_calls::held::Handle;
+use c_calls::node_change::NodeChange;
 use std::alloc::Global;
 
 /// Sets the value of the entry at the index, and its spelling, from a text such as `"a b"`, `0x10` or `#true`. The text

@@ -1,18 +1,18 @@
 //! Edits of nodes: names, insertion and removal.
 
 ghost use Rattle.kdl.specs.Words.{IsNodeText, NodeData, nodes_of};
-ghost use Rattle.kdl_call_parts.specs.Answers.{Each};
-ghost use Rattle.kdl_call_parts.specs.Changes.{AtNode, SameTree};
-ghost use Rattle.kdl_calls.specs.Edits.{NoPlaceFor, NodeAbsent, NodeInserted, NodeNamed, NodeRemoved};
-ghost use Rattle.kdl_call_parts.specs.Paths.{node_at};
+ghost use Rattle.c_calls.specs.Answers.{Each};
+ghost use Rattle.c_calls.specs.Changes.{AtNode, SameTree};
+ghost use Rattle.c_calls.specs.Edits.{NoPlaceFor, NodeAbsent, NodeInserted, NodeNamed, NodeRemoved};
+ghost use Rattle.c_calls.specs.Paths.{node_at};
 ghost use Rattle.std.specs.Prelude.{◌≡◌, IfSome, IsNone, true};
 ghost use Rattle.std.specs.Str.{IsUtf8, chars};
 
-use kdl_calls::at_path::change_held;
-use kdl_calls::first::{insert_first, remove_first};
-use kdl_calls::given;
-use kdl_calls::node_change::NodeChange;
-use kdl_held::Handle;
+use c_calls::at_path::change_held;
+use c_calls::first::{insert_first, remove_first};
+use c_calls::given;
+use c_calls::held::Handle;
+use c_calls::node_change::NodeChange;
 use std::alloc::Global;
 
 /// Sets the name of the node at the path to a copy of the bytes. The name is printed in the library's spelling.

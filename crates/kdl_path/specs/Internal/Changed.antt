@@ -5,8 +5,8 @@ use Rattle.kdl.specs.Words.{Entry, EntryFormat, NodeReadsBack, ReadsAs, Text, Va
 use Rattle.kdl.specs.Lookups.{with_entry_there}
 use Rattle.kdl.specs.declared.document.KdlDocument.{KdlDocument}
 use Rattle.kdl.specs.declared.node.KdlNode.{KdlNode}
-use Rattle.kdl_call_parts.specs.Changes.{changed_at}
-use Rattle.kdl_call_parts.specs.Entries.{EntryRemoved}
+use Rattle.c_calls.specs.Changes.{changed_at}
+use Rattle.c_calls.specs.Entries.{EntryRemoved}
 use Rattle.kdl_entry.specs.declared.entry.KdlEntry.{KdlEntry}
 use Rattle.kdl_value.specs.Tree.{text_of}
 use Rattle.kdl_path.specs.Edits.{node_with_child}

@@ -3,7 +3,7 @@ use Rattle.std.specs.Prelude.{◌≡◌, ℕ, List, [], ◌∷◌, Option, None,
 use Rattle.kdl.specs.Words.{DocumentReadsBack, IsExchanged, NodeData, Text, Value, document_prints, document_says, entries_of}
 use Rattle.kdl.specs.declared.document.KdlDocument.{KdlDocument}
 use Rattle.kdl.specs.declared.node.KdlNode.{KdlNode}
-use Rattle.kdl_call_parts.specs.Entries.{IsValueText}
+use Rattle.c_calls.specs.Entries.{IsValueText}
 use Rattle.kdl_entry.specs.declared.entry.KdlEntry.{KdlEntry}
 use Rattle.kdl_path.specs.Edits.{with_node, with_value, without, without_node}
 use Rattle.kdl_path.specs.Internal.Located.{Leads, place_of_target}

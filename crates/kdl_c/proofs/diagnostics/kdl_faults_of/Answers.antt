@@ -1,9 +1,9 @@
 use Rattle.std.proofs.Common.{rules, ◌≡◌, ◌∷◌, [], All, List, ℕ, ap, inl, inr, map, refl, sym}
 use mathlib.Core.Path.{subst}
 use Rattle.kdl.specs.Words.{IsToldOf, Tells}
-use Rattle.kdl_rows.specs.Listed.{AreFaultsOf, fault_of}
-use Rattle.kdl_rows.specs.Reading.{AreFaultsAs, Outcome, not_value}
-use Rattle.kdl_rows.specs.Rows.{AreTold}
+use Rattle.c_calls.specs.Listed.{AreFaultsOf, fault_of}
+use Rattle.c_calls.specs.Reading.{AreFaultsAs, Outcome, not_value}
+use Rattle.c_calls.specs.Rows.{AreTold}
 use Rattle.kdl_c.proofs.diagnostics.kdl_faults_of.Goals as goal
 
 pub returns-in-Refused-clause-told : goal.returns-in-Refused-clause-told

@@ -2,7 +2,7 @@ use Rattle.std.proofs.Common.{rules, ◌≡◌, All, ap, map, sym}
 use mathlib.Core.Path.{subst}
 use Rattle.kdl.specs.Words.{IsToldOf, Tells}
 use Rattle.kdl_text.specs.Failures.{TellsOf}
-use Rattle.kdl_rows.specs.Listed.{fault_of}
+use Rattle.c_calls.specs.Listed.{fault_of}
 use Rattle.kdl_c.proofs.diagnostics.kdl_reports.Goals as goal
 
 pub returns-in-Err-Syntax-clause-told : goal.returns-in-Err-Syntax-clause-told

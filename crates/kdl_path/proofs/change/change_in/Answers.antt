@@ -1,7 +1,7 @@
 use Rattle.std.proofs.Common.{rules, ◌≡◌, length, refl, Some, slice_get}
 use Rattle.std.proofs.lemmas.Option.{slice_get_read}
 use Rattle.kdl.specs.Words.{nodes_of}
-use Rattle.kdl_call_parts.proofs.OpenSteps.{set_in}
+use Rattle.c_calls.proofs.OpenSteps.{set_in}
 use Rattle.kdl_path.proofs.Changes.{on_ok}
 use Rattle.kdl_path.proofs.change.change_in.Goals as goal
 

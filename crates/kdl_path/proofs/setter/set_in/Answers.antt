@@ -1,6 +1,6 @@
 use Rattle.std.proofs.Common.{rules, ◌≡◌, Bool, true, false, ℕ, drop, length, List, None, Option, IsSome, ap, sym, subst, ◌∙◌}
 use Rattle.kdl.specs.Words.{document_says, entries_of, node_says, nodes_of, said_nodes}
-use Rattle.kdl_call_parts.specs.Changes.{AtNode}
+use Rattle.c_calls.specs.Changes.{AtNode}
 use Rattle.kdl_value.specs.Data.{Value}
 use Rattle.kdl_path.specs.Internal.Changed.{IsMade}
 use Rattle.kdl_path.specs.Failures.{IsUnset, makes_at}

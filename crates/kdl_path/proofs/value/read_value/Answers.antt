@@ -1,9 +1,9 @@
 use Rattle.std.proofs.Common.{rules, ◌≡◌, Bool, true, false, sym, subst}
 use Rattle.std.specs.Str.{chars}
 use Rattle.kdl.specs.Words.{EntryData, IsEntryText, Value, entry_tree, value_tree}
-use Rattle.kdl_call_parts.proofs.ValueSteps.{laid_in_value, value_is_entry, value_laid}
-use Rattle.kdl_call_parts.specs.Entries.{IsValueText}
-use Rattle.kdl_call_parts.specs.Internal.Values.{is_value}
+use Rattle.c_calls.proofs.ValueSteps.{laid_in_value, value_is_entry, value_laid}
+use Rattle.c_calls.specs.Entries.{IsValueText}
+use Rattle.c_calls.specs.Internal.Values.{is_value}
 use Rattle.kdl_text.specs.Chars.{Text}
 use Rattle.kdl_path.specs.Internal.Failing.{NoValueIf}
 use Rattle.kdl_path.specs.declared.failure.EditFailure.{EditFailure}

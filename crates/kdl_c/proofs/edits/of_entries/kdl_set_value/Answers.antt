@@ -1,5 +1,5 @@
 use Rattle.std.specs.Str.{chars}
-use Rattle.kdl_calls.proofs.EditSteps.{value_set}
+use Rattle.c_calls.proofs.EditSteps.{value_set}
 use Rattle.kdl_c.proofs.edits.of_entries.kdl_set_value.Goals as goal
 
 pub returns-clause-done : goal.returns-clause-done

@@ -1,5 +1,5 @@
 use Rattle.std.specs.Str.{chars}
-use Rattle.kdl_calls.proofs.EditSteps.{node_named}
+use Rattle.c_calls.proofs.EditSteps.{node_named}
 use Rattle.kdl_c.proofs.edits.of_nodes.kdl_set_name.Goals as goal
 
 pub returns-clause-done : goal.returns-clause-done
