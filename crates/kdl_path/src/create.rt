@@ -6,7 +6,6 @@ ghost use Rattle.std.specs.List.{list_all};
 ghost use Rattle.std.specs.Prelude.{◌≡◌};
 
 use crate::change::set_spelled;
-use crate::laid::push;
 use crate::layout::push_indent;
 use crate::locate::{is_next_entry, is_next_node};
 use crate::path::{Step, Target};
@@ -119,7 +118,7 @@ fn with_child(
     around.trailing = line_start(alloc, depth)?;
     let mut block = KdlDocument::new(alloc);
     block.set_format(around);
-    push(&mut block, child)?;
+    block.nodes_mut().push(child)?;
     let mut format = KdlNodeFormat::new(alloc);
     format.before_children = String::from_str(alloc, " ")?;
     node.set_format(format);
