@@ -68,7 +68,7 @@ fn the_arguments_of_a_node(rt: HostRuntime) {
 }
 
 #[test]
-fn the_arguments_behind_dashes(rt: HostRuntime) {
+fn the_arguments_after_dashes(rt: HostRuntime) {
     let alloc = rt.alloc();
     let text = "foo {\n - 1\n - k=2\n - 3 4\n x 5\n}";
     let document = read(&rt, alloc, text);

@@ -169,7 +169,7 @@ fn arguments_are_put_in_by_their_index(rt: HostRuntime) {
 }
 
 #[test]
-fn an_argument_is_put_in_behind_a_property(rt: HostRuntime) {
+fn an_argument_is_put_in_after_a_property(rt: HostRuntime) {
     let alloc = rt.alloc();
     let mut n = node(&rt, alloc, "n a k=1");
     add_argument(&rt, &mut n, 1, string(&rt, alloc, "b"));

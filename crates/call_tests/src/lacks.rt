@@ -87,7 +87,7 @@ const TERMINATORS: &[(&str, Option<usize>)] = &[
 ];
 
 #[test]
-fn terminators_lack_what_the_gap_behind_them_lacks(rt: HostRuntime) {
+fn terminators_lack_what_the_gap_after_them_lacks(rt: HostRuntime) {
     for (text, lacks) in TERMINATORS {
         terminator(&rt, rt.alloc(), text, *lacks);
     }
@@ -101,9 +101,9 @@ const PLACES: &[(Place, &str, Option<bool>)] = &[
     (Place::BeforeBlock, " \\", Some(true)),
     (Place::BeforeBlock, " \\ // c", Some(true)),
     (Place::BeforeBlock, " \\ /* x */", Some(true)),
-    (Place::BehindBlock, " \\\r", Some(true)),
-    (Place::BehindBlock, "/-{} ", Some(false)),
-    (Place::BehindBlock, "/-3", None),
+    (Place::AfterBlock, " \\\r", Some(true)),
+    (Place::AfterBlock, "/-{} ", Some(false)),
+    (Place::AfterBlock, "/-3", None),
     (Place::BeforeBlock, " // c", None),
 ];
 

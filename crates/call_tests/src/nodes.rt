@@ -288,7 +288,7 @@ fn puts_child(
     drop(node);
 }
 
-const CHILDREN_BEHIND: &[Row] = &[
+const CHILDREN_AFTER: &[Row] = &[
     Row("c {}", "c {e}"),
     Row("c { d }", "c { d \ne}"),
     Row("c { d; }", "c { d;e\n }"),
@@ -301,8 +301,8 @@ const CHILDREN_BEHIND: &[Row] = &[
 ];
 
 #[test]
-fn a_child_behind_others(rt: HostRuntime) {
-    for Row(before, printed) in CHILDREN_BEHIND {
+fn a_child_after_others(rt: HostRuntime) {
+    for Row(before, printed) in CHILDREN_AFTER {
         puts_child(&rt, rt.alloc(), before, 9, "e", printed);
     }
 }

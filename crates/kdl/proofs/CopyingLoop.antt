@@ -11,9 +11,9 @@ use Rattle.kdl.specs.declared.clone.Open.{Open}
 use Rattle.kdl.proofs.Trees.{document_tree_out, node_tree_out}
 
 -- one more block that is open
-outermost_more : (os : List Open) (o : Open) (ns : List Node) → outermost (os ++ o ∷ []) ns ≡ outermost os (closed o ns ++ map node_tree o.behind.now)
+outermost_more : (os : List Open) (o : Open) (ns : List Node) → outermost (os ++ o ∷ []) ns ≡ outermost os (closed o ns ++ map node_tree o.following.now)
 outermost_more [] o ns = refl
-outermost_more (p ∷ os) o ns = ap (λ z. closed p z ++ map node_tree p.behind.now) (outermost_more os o ns)
+outermost_more (p ∷ os) o ns = ap (λ z. closed p z ++ map node_tree p.following.now) (outermost_more os o ns)
 
 -- a node with the children that it has
 pub none_copied : (n : KdlNode) → (out-KdlNode n).children ≡ None → with_children n None ≡ node_tree n
@@ -36,14 +36,14 @@ line_made made made' n c rest e k =
 
 -- a block is opened
 pub block_opened : (o : Open) (above : List Open) → (out-KdlNode o.node.now).children ≡ Some o.block.now
-    → outermost (above ++ o ∷ []) (map node_tree (out-KdlDocument o.block.now).nodes.items) ≡ outermost above (map node_tree o.before.items ++ (node_tree o.node.now ∷ map node_tree o.behind.now))
+    → outermost (above ++ o ∷ []) (map node_tree (out-KdlDocument o.block.now).nodes.items) ≡ outermost above (map node_tree o.before.items ++ (node_tree o.node.now ∷ map node_tree o.following.now))
 block_opened o above e =
     outermost_more above o (map node_tree (out-KdlDocument o.block.now).nodes.items)
-    ∙ ap (λ t. outermost above ((map node_tree o.before.items ++ t ∷ []) ++ map node_tree o.behind.now)) (block_copied o.node.now o.block.now e)
-    ∙ ap (outermost above) (append_assoc (map node_tree o.before.items) (node_tree o.node.now ∷ []) (map node_tree o.behind.now))
+    ∙ ap (λ t. outermost above ((map node_tree o.before.items ++ t ∷ []) ++ map node_tree o.following.now)) (block_copied o.node.now o.block.now e)
+    ∙ ap (outermost above) (append_assoc (map node_tree o.before.items) (node_tree o.node.now ∷ []) (map node_tree o.following.now))
 
 -- it is closed
 pub block_closed : (o : Open) (above : List Open) (made made' : List KdlNode) → map node_tree made' ≡ closed o (map node_tree made)
-    → outermost above (map node_tree made' ++ map node_tree o.behind.now) ≡ outermost (above ++ o ∷ []) (map node_tree made)
+    → outermost above (map node_tree made' ++ map node_tree o.following.now) ≡ outermost (above ++ o ∷ []) (map node_tree made)
 block_closed o above made made' e =
-    ap (λ z. outermost above (z ++ map node_tree o.behind.now)) e ∙ sym (outermost_more above o (map node_tree made))
+    ap (λ z. outermost above (z ++ map node_tree o.following.now)) e ∙ sym (outermost_more above o (map node_tree made))

@@ -8,7 +8,7 @@ use Rattle.kdl_entry.specs.Print.{print_entry}
 use Rattle.kdl_entry.specs.Tree.{Entry, entry_tree}
 use Rattle.kdl_entry.specs.declared.entry.KdlEntry.{KdlEntry}
 use Rattle.kdl.specs.Change.{with_entries, with_entry}
-use Rattle.kdl.specs.EditLaw.{head_of, tail_of, tree_entries, PrintsInstead, PrintsAtPlace, EntriesExchanged, EntryExchanged, FormedPiece, NodesExchanged, NodeExchanged, document_before, document_behind}
+use Rattle.kdl.specs.EditLaw.{head_of, tail_of, tree_entries, PrintsInstead, PrintsAtPlace, EntriesExchanged, EntryExchanged, FormedPiece, NodesExchanged, NodeExchanged, document_before, document_after}
 use Rattle.kdl_parts.specs.Edits.{under, put_for, replaced_place, IsInserted}
 use Rattle.kdl_parts.specs.EntryLists.{sought, place_of}
 use Rattle.kdl_grammar.specs.Print.{print_head, print_tail, before_block, after_brace, before_brace, end_text, format_of, print_piece, print_pieces, print_node, print_nodes, print_document, leading_text, trailing_text}
@@ -112,7 +112,7 @@ nodes_at ns i n depth =
 
 node_at : (d : KdlDocument) (ns : List KdlNode) (i : ℕ) (n : KdlNode) (depth : ℕ) → ns ≡ take i (out-KdlDocument d).nodes.items ++ (n ∷ drop (i + 1) (out-KdlDocument d).nodes.items)
     → leading_text (option_map document_format_tree (out-KdlDocument d).format) ++ print_nodes (nodes_tree ns) depth ++ trailing_text (option_map document_format_tree (out-KdlDocument d).format)
-    ≡ document_before d i depth ++ print_node (node_tree n) depth ++ document_behind d i depth
+    ≡ document_before d i depth ++ print_node (node_tree n) depth ++ document_after d i depth
 node_at d ns i n depth k =
     let l = leading_text (option_map document_format_tree (out-KdlDocument d).format) in
     let t = trailing_text (option_map document_format_tree (out-KdlDocument d).format) in

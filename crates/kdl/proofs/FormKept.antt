@@ -39,7 +39,7 @@ bom_keeps_none (with_nodes ns g z) h = h
 
 pub laid_keeps_none : (exact : Bool) (d : Document) (t : Text) → LaidDocument exact d t → DocumentKeepsNone d
 laid_keeps_none exact d t (LaidDocument.no_bom c) = content_keeps_none exact t c
-laid_keeps_none exact d t (LaidDocument.behind_bom {t = u} c) = bom_keeps_none c (content_keeps_none exact t c)
+laid_keeps_none exact d t (LaidDocument.after_bom {t = u} c) = bom_keeps_none c (content_keeps_none exact t c)
 
 pub laid_node_keeps_none : (exact : Bool) (n : Node) (t : Text) → LaidNodeText exact t n → NodeKeepsNone n
 laid_node_keeps_none exact n t (LaidNodeText.laid_node_text g l e z s) = node_keeps_none exact t l

@@ -66,7 +66,7 @@ bom_laid (with_nodes ns g z) h = h
 
 pub laid_formats : (exact : Bool) (d : Document) (t : Text) → LaidDocument exact d t → DocumentHasFormats d
 laid_formats exact d t (LaidDocument.no_bom c) = content_laid exact t c
-laid_formats exact d t (LaidDocument.behind_bom {t = u} c) = bom_laid c (content_laid exact t c)
+laid_formats exact d t (LaidDocument.after_bom {t = u} c) = bom_laid c (content_laid exact t c)
 
 -- so has each node of such a document in memory
 some_of : {A B : Type 0} (f : A → B) (o : Option A) → IsSome (option_map f o) → IsSome o

@@ -60,16 +60,16 @@ goes_down all part all' part' h k =
 pub left : (xs ys : List KdlNode) (x : KdlNode) → xs ≡ ys ++ x ∷ [] → count_nodes xs ≡ count_nodes ys + (1 + count_option (out-KdlNode x).children)
 left xs ys x e = omega (arith, ap count_nodes e, count_nodes-last ys x, count_node_out x)
 
-count_above-more : {A : Type 0} (behind : A → List KdlNode) (above : List A) (o : A) → total (map (λ p. 1 + count_nodes (behind p)) (above ++ o ∷ [])) ≡ total (map (λ p. 1 + count_nodes (behind p)) above) + (1 + count_nodes (behind o))
-count_above-more behind above o =
-    omega (arith, ap total (map-append (λ p. 1 + count_nodes (behind p)) above (o ∷ [])), total-append (map (λ p. 1 + count_nodes (behind p)) above) ((1 + count_nodes (behind o)) ∷ []))
+count_above-more : {A : Type 0} (following : A → List KdlNode) (above : List A) (o : A) → total (map (λ p. 1 + count_nodes (following p)) (above ++ o ∷ [])) ≡ total (map (λ p. 1 + count_nodes (following p)) above) + (1 + count_nodes (following o))
+count_above-more following above o =
+    omega (arith, ap total (map-append (λ p. 1 + count_nodes (following p)) above (o ∷ [])), total-append (map (λ p. 1 + count_nodes (following p)) above) ((1 + count_nodes (following o)) ∷ []))
 
-pub line_counted : {A : Type 0} (behind : A → List KdlNode) (n : KdlNode) (rest : List KdlNode) (above : List A) → count_left behind rest above < count_left behind (n ∷ rest) above
-line_counted behind n rest above = omega (arith, count_node_out n)
+pub line_counted : {A : Type 0} (following : A → List KdlNode) (n : KdlNode) (rest : List KdlNode) (above : List A) → count_left following rest above < count_left following (n ∷ rest) above
+line_counted following n rest above = omega (arith, count_node_out n)
 
-pub block_counted : {A : Type 0} (behind : A → List KdlNode) (n : KdlNode) (d : KdlDocument) (o : A) (above : List A) → (out-KdlNode n).children ≡ Some d
-    → count_left behind (out-KdlDocument d).nodes.items (above ++ o ∷ []) < count_left behind (n ∷ behind o) above
-block_counted behind n d o above e = omega (arith, count_node_out n, ap count_option e, count_doc_out d, count_above-more behind above o)
+pub block_counted : {A : Type 0} (following : A → List KdlNode) (n : KdlNode) (d : KdlDocument) (o : A) (above : List A) → (out-KdlNode n).children ≡ Some d
+    → count_left following (out-KdlDocument d).nodes.items (above ++ o ∷ []) < count_left following (n ∷ following o) above
+block_counted following n d o above e = omega (arith, count_node_out n, ap count_option e, count_doc_out d, count_above-more following above o)
 
-pub end_counted : {A : Type 0} (behind : A → List KdlNode) (o : A) (above : List A) → count_left behind (behind o) above < count_left behind [] (above ++ o ∷ [])
-end_counted behind o above = omega (arith, count_above-more behind above o)
+pub end_counted : {A : Type 0} (following : A → List KdlNode) (o : A) (above : List A) → count_left following (following o) above < count_left following [] (above ++ o ∷ [])
+end_counted following o above = omega (arith, count_above-more following above o)

@@ -17,7 +17,7 @@ use Rattle.kdl_parts.proofs.PrintedEntries.{print_pieces-append}
 use Rattle.kdl.specs.Bytes.{IsExchanged, IsExchangedInDocument, IsExchangedInNode, piece_of}
 use Rattle.kdl.specs.Change.{with_children, with_entries, with_node}
 use Rattle.kdl.specs.DocumentLookups.{is_node_named, node_named, node_place, nodes_of, with_node_named, with_node_there}
-use Rattle.kdl.specs.EditLaw.{document_before, document_behind, head_of, tail_of, text_before, text_behind}
+use Rattle.kdl.specs.EditLaw.{document_before, document_after, head_of, tail_of, text_before, text_after}
 use Rattle.kdl.specs.Fields.{document_format_of}
 use Rattle.kdl.specs.Lookups.{entries_of, found_entry, key_place, with_entry_there, with_found_entry}
 use Rattle.kdl.specs.Tree.{document_tree, head_tree as head, node_tree}
@@ -46,7 +46,7 @@ entry_piece : (n : KdlNode) (o : Option ℕ) (old new : KdlEntry) → IsSome (ou
 entry_piece n None old new f h = absurd (none-some _ (sym h))
 entry_piece n (Some i) old new f h =
     let (was, is) = entry_exchanged n i old new f (sym h) in
-    record { prints = λ depth. record { before = text_before (node_tree n) i depth; after = text_behind (node_tree n) i depth; was = was depth; is = is depth } }
+    record { prints = λ depth. record { before = text_before (node_tree n) i depth; after = text_after (node_tree n) i depth; was = was depth; is = is depth } }
 
 -- so through the loan of the entry that a key finds
 pub loan_exchanges : {A : Type 0} (now : A → KdlEntry) (key : NodeKey) (n : KdlNode) (o : Option A) → option_map now o ≡ found_entry key n
@@ -167,7 +167,7 @@ node_prints : (p q : Text) (d : KdlDocument) (i : ℕ) (n m : KdlNode) → slice
     → IsExchanged p q (print_document (document_tree d) depth) (print_document (document_tree (with_node d i m)) depth)
 node_prints p q d i n m h x depth =
     let (was, is) = node_exchanged d i n m depth h in
-    within p q _ _ (document_before d i depth) (document_behind d i depth) _ _ (x.prints depth) was is
+    within p q _ _ (document_before d i depth) (document_after d i depth) _ _ (x.prints depth) was is
 
 node_piece : (p q : Text) (d : KdlDocument) (i : ℕ) (n m : KdlNode) → slice_get (nodes_of d) i ≡ Some n → IsExchangedInNode p q n m → IsExchangedInDocument p q d (with_node d i m)
 node_piece p q d i n m h x = record { prints = node_prints p q d i n m h x; format = format_kept d i m }

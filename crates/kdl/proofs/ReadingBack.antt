@@ -194,7 +194,7 @@ content_set (y ∷ ns) i n m h f (content_nodes a x g) = content_with (nodes_tre
 
 whole_set : (o : Option DocumentFormat) (at : SourceSpan) (ns : List KdlNode) (i : ℕ) (n m : KdlNode) → slice_get ns i ≡ Some n → ReadsAs n m → DocumentReads (document o at (nodes_tree ns)) → DocumentReads (document o at (nodes_tree (set ns i m)))
 whole_set o at ns i n m h f (DocumentReads.no_bom c) = DocumentReads.no_bom (content_set ns i n m h f c)
-whole_set o at ns i n m h f (DocumentReads.behind_bom e c) = DocumentReads.behind_bom e (content_set ns i n m h f c)
+whole_set o at ns i n m h f (DocumentReads.after_bom e c) = DocumentReads.after_bom e (content_set ns i n m h f c)
 
 block_set : (o : Option DocumentFormat) (at : SourceSpan) (ns : List KdlNode) (i : ℕ) (n m : KdlNode) → slice_get ns i ≡ Some n → ReadsAs n m → BlockReads (document o at (nodes_tree ns)) → BlockReads (document o at (nodes_tree (set ns i m)))
 block_set o at ns i n m h f (block c) = block (content_set ns i n m h f c)
@@ -286,7 +286,7 @@ nodes_read_back d x = go (option_map document_format_tree (out-KdlDocument d).fo
   where
     go : (o : Option DocumentFormat) (at : SourceSpan) (ns : List KdlNode) → DocumentReads (document o at (nodes_tree ns)) → All NodeReadsBack ns
     go o at ns (DocumentReads.no_bom c) = content_nodes_read (trailing_text o) ns c
-    go o at ns (DocumentReads.behind_bom e c) = content_nodes_read (trailing_text o) ns c
+    go o at ns (DocumentReads.after_bom e c) = content_nodes_read (trailing_text o) ns c
 
 pub ended_reads : (n : KdlNode) → NodeEnds n → NodeReadsBack n
 ended_reads n x = composing.ends_before TextEnd x

@@ -32,12 +32,12 @@ PrintsInstead n es m = (depth : ℕ) → print_node m depth ≡ head_of n depth 
 abbrev pub text_before : Node → ℕ → ℕ → Text
 text_before n i depth = head_of n depth ++ print_pieces (take i (tree_entries n))
 
-abbrev pub text_behind : Node → ℕ → ℕ → Text
-text_behind n i depth = print_pieces (drop (i + 1) (tree_entries n)) ++ tail_of n depth
+abbrev pub text_after : Node → ℕ → ℕ → Text
+text_after n i depth = print_pieces (drop (i + 1) (tree_entries n)) ++ tail_of n depth
 
 -- m prints what n prints, except for the piece of the entry at i, which is that of e
 abbrev pub PrintsAtPlace : Node → ℕ → Entry → Node → Type 0
-PrintsAtPlace n i e m = (depth : ℕ) → print_node m depth ≡ text_before n i depth ++ print_piece e ++ text_behind n i depth
+PrintsAtPlace n i e m = (depth : ℕ) → print_node m depth ≡ text_before n i depth ++ print_piece e ++ text_after n i depth
 
 -- a node with a format prints the same head and tail whatever its entries are, and the pieces of its entries between them
 abbrev pub EntriesExchanged : Type 0
@@ -56,8 +56,8 @@ FormedPiece = (e : Entry) → IsSome e.format → print_piece e ≡ print_entry 
 abbrev pub document_before : KdlDocument → ℕ → ℕ → Text
 document_before d i depth = leading_text (option_map document_format_tree (out-KdlDocument d).format) ++ print_nodes (nodes_tree (take i (out-KdlDocument d).nodes.items)) depth
 
-abbrev pub document_behind : KdlDocument → ℕ → ℕ → Text
-document_behind d i depth = print_nodes (nodes_tree (drop (i + 1) (out-KdlDocument d).nodes.items)) depth ++ trailing_text (option_map document_format_tree (out-KdlDocument d).format)
+abbrev pub document_after : KdlDocument → ℕ → ℕ → Text
+document_after d i depth = print_nodes (nodes_tree (drop (i + 1) (out-KdlDocument d).nodes.items)) depth ++ trailing_text (option_map document_format_tree (out-KdlDocument d).format)
 
 -- a document prints the same leading and trailing text whatever its nodes are, and its nodes between them
 abbrev pub NodesExchanged : Type 0
@@ -67,5 +67,5 @@ NodesExchanged = (d : KdlDocument) (v : Vec KdlNode Global) (depth : ℕ) → pr
 -- if one node of a document is replaced, its piece of the printed text is replaced, and no other byte
 abbrev pub NodeExchanged : Type 0
 NodeExchanged = (d : KdlDocument) (i : ℕ) (old new : KdlNode) (depth : ℕ) → slice_get (out-KdlDocument d).nodes.items i ≡ Some old
-    → (print_document (document_tree d) depth ≡ document_before d i depth ++ print_node (node_tree old) depth ++ document_behind d i depth)
-    × (print_document (document_tree (with_node d i new)) depth ≡ document_before d i depth ++ print_node (node_tree new) depth ++ document_behind d i depth)
+    → (print_document (document_tree d) depth ≡ document_before d i depth ++ print_node (node_tree old) depth ++ document_after d i depth)
+    × (print_document (document_tree (with_node d i new)) depth ≡ document_before d i depth ++ print_node (node_tree new) depth ++ document_after d i depth)

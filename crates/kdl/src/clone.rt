@@ -14,7 +14,7 @@ use std::mem;
 struct Open<'a> {
     node: &'a KdlNode,
     block: &'a KdlDocument,
-    behind: &'a [KdlNode],
+    following: &'a [KdlNode],
     before: Vec<KdlNode>,
 }
 
@@ -26,7 +26,7 @@ fn close(opened: Open<'_>, nodes: Vec<KdlNode>) -> Result<Vec<KdlNode>, AllocErr
     let Open {
         node,
         block,
-        behind: _,
+        following: _,
         mut before,
     } = opened;
     let children = block.with_nodes(nodes)?;
@@ -42,26 +42,26 @@ pub(crate) fn copy_nodes(alloc: Global, nodes: &[KdlNode]) -> Result<Vec<KdlNode
     let mut made = Vec::with_capacity(alloc, nodes.len())?;
     let mut rest = nodes;
     'left: loop {
-        if let Some((node, behind)) = rest.split_first() {
+        if let Some((node, following)) = rest.split_first() {
             if let Some(block) = node.children() {
                 let inner = Vec::with_capacity(alloc, block.nodes().len())?;
                 let before = mem::replace(&mut made, inner);
                 above.push(Open {
                     node,
                     block,
-                    behind,
+                    following,
                     before,
                 })?;
                 rest = block.nodes();
             } else {
                 made.push(node.with_children(None)?)?;
-                rest = behind;
+                rest = following;
             }
         } else {
             let Some(opened) = above.pop() else {
                 return Ok(made);
             };
-            rest = opened.behind;
+            rest = opened.following;
             made = close(opened, made)?;
         }
     }

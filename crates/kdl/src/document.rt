@@ -31,7 +31,7 @@ use crate::node::KdlNode;
 use crate::print::write_nodes;
 use kdl_parser::{DocumentParts, DocumentText};
 use kdl_parts::KdlDocumentFormat;
-use kdl_parts::format::behind_bom;
+use kdl_parts::format::after_bom;
 use kdl_parts::print::{write_after_brace, write_before_brace, write_leading, write_trailing};
 use kdl_text::span::SourceSpan;
 use std::alloc::{AllocError, Global};
@@ -148,7 +148,7 @@ impl KdlDocument {
     fn with_bom(mut self, alloc: Global) -> Result<KdlDocument, AllocError>
         ensures { IfOk result (λ d. document_tree d ≡ with_bom (document_tree self)) }
     {
-        self.format = Some(behind_bom(alloc, self.format.take())?);
+        self.format = Some(after_bom(alloc, self.format.take())?);
         Ok(self)
     }
 

@@ -78,7 +78,7 @@ pub(crate) fn place_newlines(
     ensures fewest { IfOk result (λ n. PlaceFewest (block_if has_block) (chars text.now) n) }
 {
     let place = if has_block {
-        Place::BehindBlock
+        Place::AfterBlock
     } else {
         Place::BeforeBlock
     };

@@ -93,8 +93,8 @@ impl Blocks {
             around,
         } = &mut self.inner;
         let node = &mut nodes[*at];
-        let (behind, first, texts) = node.lay_out_own(layout, *level, before.as_str(), *next)?;
-        *next = behind;
+        let (following, first, texts) = node.lay_out_own(layout, *level, before.as_str(), *next)?;
+        *next = following;
         if !node.has_nodes() {
             node.set_around(texts);
             *at += 1;

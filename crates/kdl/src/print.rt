@@ -14,7 +14,7 @@ use std::fmt;
 struct Open<'a> {
     node: &'a KdlNode,
     block: &'a KdlDocument,
-    behind: &'a [KdlNode],
+    following: &'a [KdlNode],
 }
 
 /// Writes a node without children, at the given depth.
@@ -68,14 +68,14 @@ pub(crate) fn write_nodes<W: fmt::Write>(
     let mut above: Vec<Open> = Vec::new(alloc);
     let mut rest = nodes;
     'left: loop {
-        if let Some((node, behind)) = rest.split_first() {
+        if let Some((node, following)) = rest.split_first() {
             if let Some(block) = node.children() {
                 write_opening(node, block, above.len(), f)?;
                 if above
                     .push(Open {
                         node,
                         block,
-                        behind,
+                        following,
                     })
                     .is_err()
                 {
@@ -84,14 +84,14 @@ pub(crate) fn write_nodes<W: fmt::Write>(
                 rest = block.nodes();
             } else {
                 write_line(node, above.len(), f)?;
-                rest = behind;
+                rest = following;
             }
         } else {
             let Some(open) = above.pop() else {
                 return Ok(());
             };
             write_closing(open.node, open.block, above.len(), f)?;
-            rest = open.behind;
+            rest = open.following;
         }
     }
 }

@@ -59,35 +59,35 @@ pub data GapItems : Text → List Item → Type 0 where
 pub data Place : Type 0 where
   before_entry : Bool → Place
   before_block : Place
-  behind_block : Place
+  after_block : Place
 
 -- the place may end here
 abbrev pub may_end : Place → Bool
 may_end (before_entry spaced) = spaced
 may_end before_block = true
-may_end behind_block = true
+may_end after_block = true
 
 -- entries may be slashdashed here
 abbrev pub takes_entries : Place → Bool
 takes_entries (before_entry spaced) = true
 takes_entries before_block = true
-takes_entries behind_block = false
+takes_entries after_block = false
 
 -- blocks may be slashdashed here
 abbrev pub takes_blocks : Place → Bool
 takes_blocks (before_entry spaced) = false
 takes_blocks before_block = true
-takes_blocks behind_block = true
+takes_blocks after_block = true
 
 -- the place after a node-space, or directly after a slashdashed entry
 abbrev pub spaced : Bool → Place → Place
 spaced b (before_entry c) = before_entry b
 spaced b before_block = before_block
-spaced b behind_block = behind_block
+spaced b after_block = after_block
 
 -- a whole text that is in such a place: node-spaces, slashdashed entries, and then slashdashed blocks
 pub data PlaceItems : Place → Text → List Item → Type 0 where
   ends : {p : Place} → may_end p ≡ true → PlaceItems p [] []
   space : {p : Place} {s t : Text} {is js : List Item} → SpaceItems s t is → PlaceItems (spaced true p) t js → PlaceItems p s (is ++ js)
   dropped_entry : {p : Place} {s t u : Text} {is : List Item} {e : Entry} → takes_entries p ≡ true → Slashdash s t → IsEntry true t u e → PlaceItems (spaced false p) u is → PlaceItems p s (piece (between s u) ∷ is)
-  dropped_block : {p : Place} {s t u : Text} {is : List Item} {xs : Nodes} → takes_blocks p ≡ true → Slashdash s t → IsBlock true t u xs → PlaceItems behind_block u is → PlaceItems p s (piece (between s u) ∷ is)
+  dropped_block : {p : Place} {s t u : Text} {is : List Item} {xs : Nodes} → takes_blocks p ≡ true → Slashdash s t → IsBlock true t u xs → PlaceItems after_block u is → PlaceItems p s (piece (between s u) ∷ is)

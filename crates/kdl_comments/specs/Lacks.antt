@@ -6,7 +6,7 @@ use Rattle.kdl_entry.specs.Places.{EntryLeading}
 use Rattle.kdl_grammar.specs.Grammar.{Terminator, Gap}
 use Rattle.kdl_grammar.specs.Places.{BeforeChildren, AfterChildren}
 use Rattle.kdl_grammar.specs.ReadsBack.{Anything, Terminates, AddsNothing}
-use Rattle.kdl_comments.specs.Items.{Place, before_entry, before_block, behind_block}
+use Rattle.kdl_comments.specs.Items.{Place, before_entry, before_block, after_block}
 
 -- a text of k newlines
 abbrev pub newlines : ℕ → Text
@@ -34,7 +34,7 @@ TerminatorLacks t None = Terminating t → ⊥
 abbrev pub InPlace : Place → Text → Text → Type 0
 InPlace (before_entry spaced) = EntryLeading
 InPlace before_block = BeforeChildren
-InPlace behind_block = AfterChildren
+InPlace after_block = AfterChildren
 
 -- the text may be in the place before each terminator
 abbrev pub BeforeEach : Place → Text → Type 0

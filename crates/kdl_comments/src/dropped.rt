@@ -7,7 +7,7 @@ ghost use Rattle.kdl_comments.specs.Internal.Passing.{follows_word, slashdash_in
 ghost use Rattle.kdl_comments.specs.Items.{ItemEnd};
 ghost use Rattle.kdl_comments.specs.Internal.Lacking.{HasOpenEnd};
 ghost use Rattle.kdl_control.specs.Internal.Views.{control_view, ended_view, phase_view};
-ghost use Rattle.kdl_comments.specs.Internal.Passed.{Before, BehindPart, AnswersDroppedNode, AnswersDroppedPart, PlaceTakesHeld, of_spaces};
+ghost use Rattle.kdl_comments.specs.Internal.Passed.{Before, AfterPart, AnswersDroppedNode, AnswersDroppedPart, PlaceTakesHeld, of_spaces};
 ghost use Rattle.kdl_comments.specs.Internal.Reading.{TakesHeld, place_view};
 ghost use Rattle.kdl_text.specs.Chars.{Text};
 ghost use Rattle.std.specs.Prelude.{◌≡◌, ◌⊎◌, ◌∷◌, IfOk, MatchOption, [], option_map, true, false, not, ◌&&◌, if◌then◌else◌};
@@ -25,7 +25,7 @@ use std::alloc::{AllocError, Global};
 #[derive(Clone, Copy)]
 pub(crate) struct NodeEnd {
     item: usize,
-    pub(crate) behind: usize,
+    pub(crate) following: usize,
     /// Whether it has no terminator, or a line comment without a newline.
     pub(crate) is_open: bool,
 }
@@ -59,7 +59,7 @@ fn ends_word(control: &Control, kind: &TokenKind) -> bool
 }
 
 /// Where the last token that is not a space ends: this one, or an earlier one.
-fn end_behind(token: &Token, last: usize) -> usize
+fn end_after(token: &Token, last: usize) -> usize
     ensures { result ≡ (if of_spaces (kind_view token.now.kind) then last else token.now.at.end.at) }
 {
     if is_space(&token.kind) {
@@ -77,14 +77,14 @@ fn node_end(text: &str, token: &Token) -> NodeEnd
     requires ends { (kind_view token.now.kind ≡ newline) ⊎ (kind_view token.now.kind ≡ semicolon) }
     ensures { (i : Text) × ItemEnd token.now.at.start.rest token.now.at.end.rest i
         × Before (chars text.now) result.item i
-        × Before (chars text.now) result.behind token.now.at.end.rest
+        × Before (chars text.now) result.following token.now.at.end.rest
         × HasOpenEnd token.now.at.start.rest token.now.at.end.rest result.is_open }
 {
-    let behind = token.at.end.at();
+    let following = token.at.end.at();
     if let TokenKind::Semicolon = token.kind {
         return NodeEnd {
-            item: behind,
-            behind,
+            item: following,
+            following,
             is_open: false,
         };
     }
@@ -92,7 +92,7 @@ fn node_end(text: &str, token: &Token) -> NodeEnd
     let (_, end) = line(terminator);
     NodeEnd {
         item: text.len() - end.len(),
-        behind,
+        following,
         is_open: end.is_empty(),
     }
 }
@@ -100,13 +100,13 @@ fn node_end(text: &str, token: &Token) -> NodeEnd
 /// The end of a node at the end of the text, where node-spaces come after it. `None` if the node can't end here.
 fn last_end(control: &Control, last: usize) -> Option<NodeEnd>
     ensures { MatchOption result (finish (control_view control.now) ≡ false)
-        (λ e. (finish (control_view control.now) ≡ true) × (e.item ≡ last) × (e.behind ≡ last)
+        (λ e. (finish (control_view control.now) ≡ true) × (e.item ≡ last) × (e.following ≡ last)
         × (e.is_open ≡ true)) }
 {
     if control.may_end() {
         Some(NodeEnd {
             item: last,
-            behind: last,
+            following: last,
             is_open: true,
         })
     } else {
@@ -160,7 +160,7 @@ pub(crate) fn pass_node(alloc: Global, text: &str) -> Result<Option<NodeEnd>, Al
         if control.is_between_nodes() {
             return Ok(Some(node_end(text, &token)));
         }
-        last = end_behind(&token, last);
+        last = end_after(&token, last);
         drop(token);
     }
 }
@@ -174,12 +174,12 @@ pub(crate) fn dropped_node<'a>(
     requires { (t : Text) × (chars text.now ≡ 47 ∷ 45 ∷ t) }
     ensures { IfOk result (λ o. TakesHeld (chars text.now) o items.old.items items.new.items) }
 {
-    let (_, behind) = cut(text, 2);
-    let Some(end) = pass_node(alloc, behind)? else {
+    let (_, following) = cut(text, 2);
+    let Some(end) = pass_node(alloc, following)? else {
         return Ok(None);
     };
-    let (_, after) = cut(behind, end.item);
-    let (_, rest) = cut(behind, end.behind);
+    let (_, after) = cut(following, end.item);
+    let (_, rest) = cut(following, end.following);
     let (node, _) = cut(text, text.len() - after.len());
     items.push(Item::Piece(node))?;
     Ok(Some(rest))
@@ -191,18 +191,18 @@ fn slashdash_phase(place: Place) -> Phase
 {
     match place {
         Place::BeforeEntry(_) | Place::BeforeBlock => Phase::EntrySlashdash,
-        Place::BehindBlock => Phase::BlockSlashdash,
+        Place::AfterBlock => Phase::BlockSlashdash,
     }
 }
 
 /// The place after an entry or a block that is slashdashed in it, or `None` if no block may be slashdashed there.
-pub(crate) fn behind_part(place: Place, is_block: bool) -> Option<Place>
-    ensures { BehindPart (place_view place) is_block (option_map place_view result) }
+pub(crate) fn after_part(place: Place, is_block: bool) -> Option<Place>
+    ensures { AfterPart (place_view place) is_block (option_map place_view result) }
 {
     match place {
         Place::BeforeEntry(_) if is_block => None,
         Place::BeforeEntry(_) => Some(Place::BeforeEntry(false)),
-        _ if is_block => Some(Place::BehindBlock),
+        _ if is_block => Some(Place::AfterBlock),
         _ => Some(place),
     }
 }
@@ -231,7 +231,7 @@ pub(crate) fn pass_part(
         if !control.take(&token.kind)? {
             return Ok(None);
         }
-        last = end_behind(&token, last);
+        last = end_after(&token, last);
         drop(token);
         if let Some(ended) = control.over() {
             return Ok(Some(part_end(ended, last)));
@@ -251,14 +251,14 @@ pub(crate) fn dropped_part<'a>(
     ensures { IfOk result (λ o.
         PlaceTakesHeld place (chars text.now) o items.old.items items.new.items) }
 {
-    let (_, behind) = cut(text, 2);
-    let Some(end) = pass_part(alloc, place, behind)? else {
+    let (_, following) = cut(text, 2);
+    let Some(end) = pass_part(alloc, place, following)? else {
         return Ok(None);
     };
-    let Some(next) = behind_part(place, end.is_block) else {
+    let Some(next) = after_part(place, end.is_block) else {
         return Ok(None);
     };
-    let (_, rest) = cut(behind, end.at);
+    let (_, rest) = cut(following, end.at);
     let (part, _) = cut(text, text.len() - rest.len());
     items.push(Item::Piece(part))?;
     Ok(Some((next, rest)))

@@ -53,8 +53,8 @@ fn escline_ending(alloc: Global, text: &str) -> Result<Option<Ending<'_>>, Alloc
     let mut rest = text;
     'comments: loop {
         match start_of(alloc, rest)? {
-            Start::Space(_, behind) => rest = same(behind),
-            Start::Break(_, behind) => return Ok(Some(break_ending(rest, behind))),
+            Start::Space(_, following) => rest = same(following),
+            Start::Break(_, following) => return Ok(Some(break_ending(rest, following))),
             Start::End => return Ok(Some(Ending::Open)),
             _ => return Ok(None),
         }

@@ -18,5 +18,5 @@ pub enum Place {
     /// then blocks.
     BeforeBlock,
     /// After the node's block, or after a slashdashed block. Blocks may be slashdashed here.
-    BehindBlock,
+    AfterBlock,
 }

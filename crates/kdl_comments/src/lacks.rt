@@ -8,12 +8,12 @@ ghost use Rattle.kdl_text.specs.Trivia.{NodeSpace};
 ghost use Rattle.std.specs.Prelude.{◌≡◌, ◌↔◌, ◌∷◌, IfOk, IsTrue, []};
 ghost use Rattle.std.specs.Str.{chars};
 
-use crate::dropped::{behind_part, pass_node, pass_part};
+use crate::dropped::{after_part, pass_node, pass_part};
 use crate::ends::{Ending, break_ending, line_spaces_ending, node_spaces_ending};
 use crate::item::Place;
 use crate::places::spaced;
 use crate::slices::cut;
-use crate::spaces::{Start, behind_char, same, start_of};
+use crate::spaces::{Start, after_char, same, start_of};
 use std::alloc::{AllocError, Global};
 
 /// The first piece of a gap: line-spaces, or a slashdashed node.
@@ -34,7 +34,7 @@ fn spaces_lack(alloc: Global, text: &str) -> Result<bool, AllocError>
     'spaces: while !rest.is_empty() {
         let first = start_of(alloc, rest)?;
         match node_spaces_ending(alloc, first)? {
-            Some(Ending::Before(behind)) => rest = same(behind),
+            Some(Ending::Before(following)) => rest = same(following),
             Some(Ending::InReturn) => return Ok(true),
             Some(Ending::Open) => return Ok(true),
             None => return Ok(false),
@@ -60,7 +60,7 @@ pub fn is_node_spaces(alloc: Global, text: &str) -> Result<bool, AllocError>
     'spaces: while !rest.is_empty() {
         let first = start_of(alloc, rest)?;
         match node_spaces_ending(alloc, first)? {
-            Some(Ending::Before(behind)) => rest = same(behind),
+            Some(Ending::Before(following)) => rest = same(following),
             Some(Ending::InReturn) => return Ok(false),
             Some(Ending::Open) => return Ok(false),
             None => return Ok(false),
@@ -74,11 +74,11 @@ fn dropped_piece<'a>(alloc: Global, text: &'a str) -> Result<Option<GapPiece<'a>
     requires { (t : Text) × (chars text.now ≡ 47 ∷ 45 ∷ t) }
     ensures { IfOk result (λ o. PieceEnds (chars text.now) o) }
 {
-    let (_, behind) = cut(text, 2);
-    let Some(end) = pass_node(alloc, behind)? else {
+    let (_, following) = cut(text, 2);
+    let Some(end) = pass_node(alloc, following)? else {
         return Ok(None);
     };
-    let (_, rest) = cut(behind, end.behind);
+    let (_, rest) = cut(following, end.following);
     if end.is_open {
         if spaces_lack(alloc, rest)? {
             Ok(Some(GapPiece::Last(2)))
@@ -130,7 +130,7 @@ fn gap_newlines(alloc: Global, text: &str) -> Result<Option<usize>, AllocError>
     let mut rest = text;
     'pieces: while !rest.is_empty() {
         match gap_piece(alloc, rest)? {
-            Some(GapPiece::Until(behind)) => rest = same(behind),
+            Some(GapPiece::Until(following)) => rest = same(following),
             Some(GapPiece::Last(lacks)) => return Ok(Some(lacks)),
             None => return Ok(None),
         }
@@ -151,7 +151,7 @@ fn gap_newlines(alloc: Global, text: &str) -> Result<Option<usize>, AllocError>
 pub fn terminator_lacks(alloc: Global, text: &str) -> Result<Option<usize>, AllocError>
     ensures { IfOk result (λ o. TerminatorLacks (chars text.now) o) }
 {
-    if let Some(gap) = behind_char(text, ';') {
+    if let Some(gap) = after_char(text, ';') {
         return gap_newlines(alloc, gap);
     }
     match start_of(alloc, text)? {
@@ -183,14 +183,14 @@ fn dropped_place<'a>(
     requires { (t : Text) × (chars text.now ≡ 47 ∷ 45 ∷ t) }
     ensures { IfOk result (λ o. PlacePieceEnds place (chars text.now) o) }
 {
-    let (_, behind) = cut(text, 2);
-    let Some(end) = pass_part(alloc, place, behind)? else {
+    let (_, following) = cut(text, 2);
+    let Some(end) = pass_part(alloc, place, following)? else {
         return Ok(None);
     };
-    let Some(next) = behind_part(place, end.is_block) else {
+    let Some(next) = after_part(place, end.is_block) else {
         return Ok(None);
     };
-    let (_, rest) = cut(behind, end.at);
+    let (_, rest) = cut(following, end.at);
     Ok(Some(PlacePiece::Onward(next, rest)))
 }
 
@@ -233,9 +233,9 @@ pub fn place_lacks(alloc: Global, place: Place, text: &str) -> Result<Option<boo
     let mut place = place;
     'pieces: while !rest.is_empty() {
         match place_piece(alloc, place, rest)? {
-            Some(PlacePiece::Onward(next, behind)) => {
+            Some(PlacePiece::Onward(next, following)) => {
                 place = next;
-                rest = same(behind);
+                rest = same(following);
             }
             Some(PlacePiece::InEscline) => return Ok(Some(true)),
             None => return Ok(None),

@@ -40,7 +40,7 @@ pub fn gap_items<'a>(alloc: Global, text: &'a str) -> Result<Option<Vec<Item<'a>
     let mut rest = text;
     'pieces: while !rest.is_empty() {
         match gap_piece(alloc, rest, &mut items)? {
-            Some(behind) => rest = same(behind),
+            Some(following) => rest = same(following),
             None => return Ok(None),
         }
     }
@@ -84,7 +84,7 @@ fn place_piece<'a>(
         return dropped_part(alloc, place, text, items);
     }
     match node_spaces(alloc, first, items)? {
-        Some(behind) => Ok(Some((spaced(place), behind))),
+        Some(following) => Ok(Some((spaced(place), following))),
         None => Ok(None),
     }
 }
@@ -106,9 +106,9 @@ pub fn place_items<'a>(
     let mut place = place;
     'pieces: while !rest.is_empty() {
         match place_piece(alloc, place, rest, &mut items)? {
-            Some((next, behind)) => {
+            Some((next, following)) => {
                 place = next;
-                rest = same(behind);
+                rest = same(following);
             }
             None => return Ok(None),
         }

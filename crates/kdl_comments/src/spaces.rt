@@ -41,7 +41,7 @@ pub(crate) fn same(text: &str) -> &str
 }
 
 /// The text after its first character, if that is c.
-pub(crate) fn behind_char(text: &str, c: char) -> Option<&str>
+pub(crate) fn after_char(text: &str, c: char) -> Option<&str>
     ensures { MatchOption result ((s : Text) → chars text.now ≡ c ∷ s → ⊥)
         (λ rest. chars text.now ≡ c ∷ chars rest.now) }
 {
@@ -74,11 +74,11 @@ fn token_start<'a>(text: &'a str, token: &Token) -> Start<'a>
 {
     let (piece, rest) = cut(text, token.at.end.at());
     match token.kind {
-        TokenKind::Space => match behind_char(text, '/') {
+        TokenKind::Space => match after_char(text, '/') {
             Some(_) => Start::Space(Some(Item::Piece(piece)), rest),
             None => Start::Space(None, rest),
         },
-        TokenKind::Newline => match behind_char(text, '/') {
+        TokenKind::Newline => match after_char(text, '/') {
             Some(_) => {
                 let (comment, _) = line(text);
                 Start::Break(Some(Item::Comment(comment)), rest)
@@ -95,7 +95,7 @@ fn token_start<'a>(text: &'a str, token: &Token) -> Start<'a>
 pub(crate) fn start_of(alloc: Global, text: &str) -> Result<Start<'_>, AllocError>
     ensures { IfOk result (λ x. Starts (chars text.now) x) }
 {
-    if let Some(rest) = behind_char(text, '\\') {
+    if let Some(rest) = after_char(text, '\\') {
         return Ok(Start::Backslash(rest));
     }
     let mut lexer = Lexer::new(text, Steps::new());
@@ -131,13 +131,13 @@ fn escline<'a>(
     let mut rest = text;
     'comments: loop {
         match start_of(alloc, rest)? {
-            Start::Space(item, behind) => {
+            Start::Space(item, following) => {
                 add(item, items)?;
-                rest = same(behind);
+                rest = same(following);
             }
-            Start::Break(item, behind) => {
+            Start::Break(item, following) => {
                 add(item, items)?;
-                return Ok(Some(behind));
+                return Ok(Some(following));
             }
             Start::End => return Ok(Some(rest)),
             _ => return Ok(None),

@@ -58,7 +58,7 @@ pub fn push_lines(out: &mut String, before: &str, items: &[Item]) -> Result<(), 
 }
 
 /// Appends the item after a space.
-fn push_behind_space(out: &mut String, item: Item) -> Result<(), AllocError>
+fn push_after_space(out: &mut String, item: Item) -> Result<(), AllocError>
     ensures { OnOk result (text_of out.new ≡ text_of out.old ++ tail (item_view item.entry ∷ [])) }
 {
     match item {
@@ -79,7 +79,7 @@ pub fn push_tail(out: &mut String, items: &[Item]) -> Result<(), AllocError>
     ensures { OnOk result (text_of out.new ≡ text_of out.old ++ tail (items_view items.now)) }
 {
     for item in items {
-        push_behind_space(out, *item)?;
+        push_after_space(out, *item)?;
     }
     Ok(())
 }

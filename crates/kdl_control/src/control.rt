@@ -87,7 +87,7 @@ fn may_be_key(spot: Spot) -> bool
 }
 
 /// The phase after the block.
-fn behind_block(frame: Frame) -> Phase
+fn after_block(frame: Frame) -> Phase
     ensures { (fs : List control.Frame) → control.popped (frame_view frame ∷ fs) ≡
         Some (control.at (phase_view result) fs) }
 {
@@ -236,7 +236,7 @@ impl Control {
                 self.phase = Phase::Gap;
             }
             Move::Close => match self.frames.pop() {
-                Some(frame) => self.phase = behind_block(frame),
+                Some(frame) => self.phase = after_block(frame),
                 None => return Ok(false),
             },
             Move::Refuse => return Ok(false),

@@ -10,7 +10,7 @@ use Rattle.kdl_lexer.proofs.Lexing.TokenUnique.{token_det, no_token}
 use Rattle.kdl_control.specs.Control as c
 use Rattle.kdl_control.specs.EntryControl as e
 use Rattle.kdl_control.specs.NodeControl.{NodeControl, in_text, node_step}
-use Rattle.kdl_diagnostics.specs.TextControl.{TextControl, in_document, in_node, in_entry, in_identifier, text_step, text_finish, text_start, Takes, ends, takes, AcceptsDocument, no_bom, behind_bom}
+use Rattle.kdl_diagnostics.specs.TextControl.{TextControl, in_document, in_node, in_entry, in_identifier, text_step, text_finish, text_start, Takes, ends, takes, AcceptsDocument, no_bom, after_bom}
 use Rattle.kdl_diagnostics.specs.declared.whole.Whole.TheVariants.{Document}
 
 abbrev pub Of : {S : Type 0} → (S → Type 0) → Option S → Type 0
@@ -116,16 +116,16 @@ at_end {m = m} q = (λ f. subst (λ (z : Text). Takes m z) (sym q) (ends f), λ 
 bom_refused : {s : Text} → Takes (text_start Document) (0xFEFF ∷ s) → ⊥
 bom_refused a = let x = taken t_bom a in let y = x.1 in cc
 
-behind_mark : (s t : Text) → t ≡ 0xFEFF ∷ s → AcceptsDocument t → Takes (text_start Document) s
-behind_mark s t e (no_bom a) = absurd (bom_refused (subst (λ (z : Text). Takes (text_start Document) z) e a))
-behind_mark s t e (behind_bom {t = u} a) = let x : u ≡ s = cc in subst (λ (z : Text). Takes (text_start Document) z) x a
+after_mark : (s t : Text) → t ≡ 0xFEFF ∷ s → AcceptsDocument t → Takes (text_start Document) s
+after_mark s t e (no_bom a) = absurd (bom_refused (subst (λ (z : Text). Takes (text_start Document) z) e a))
+after_mark s t e (after_bom {t = u} a) = let x : u ≡ s = cc in subst (λ (z : Text). Takes (text_start Document) z) x a
 
 without_mark : (t : Text) → begins 0xFEFF t ≡ false → AcceptsDocument t → Takes (text_start Document) t
 without_mark t h (no_bom a) = a
-without_mark t h (behind_bom a) = cc
+without_mark t h (after_bom a) = cc
 
 pub bom : (eaten : Bool) (old new : Here) → Ate 0xFEFF eaten old new → Takes (text_start Document) new.rest ↔ AcceptsDocument old.rest
-bom true old new a = (λ x. subst (λ (z : Text). AcceptsDocument z) (sym a.0) (behind_bom x), λ x. behind_mark new.rest old.rest a.0 x)
+bom true old new a = (λ x. subst (λ (z : Text). AcceptsDocument z) (sym a.0) (after_bom x), λ x. after_mark new.rest old.rest a.0 x)
 bom false old new a =
     let e : new.rest ≡ old.rest = ap (λ (h : Here). h.rest) a.1 in
     (λ x. no_bom (subst (λ (z : Text). Takes (text_start Document) z) e x), λ x. subst (λ (z : Text). Takes (text_start Document) z) (sym e) (without_mark old.rest a.0 x))

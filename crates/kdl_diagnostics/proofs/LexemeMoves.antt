@@ -13,7 +13,7 @@ use Rattle.kdl_diagnostics.specs.declared.ends.ValueEnd.{ValueEnd}
 use Rattle.kdl_diagnostics.specs.declared.lexemes.Lexeme.{Lexeme}
 use Rattle.kdl_diagnostics.specs.declared.strings.Found.{Found}
 use Rattle.kdl_diagnostics.specs.declared.lexemes.Start.{Start}
-use Rattle.kdl_diagnostics.proofs.Passing.{behind_then}
+use Rattle.kdl_diagnostics.proofs.Passing.{after_then}
 
 -- a lexeme with its end anywhere after its start, and after it what was read from m on
 pub stands_at : (s : Start) (p : Lexeme) (m n : Here) (c : Option Unclosed) → p.start ≡ s.place → p.next ≡ s.next → p.comment ≡ c → Spans s → (q : Text) × (s.place.rest ≡ q ++ p.end.rest) → (q : Text) × (s.place.rest ≡ q ++ m.rest) → OnUnclosed m c n
@@ -32,23 +32,23 @@ stands_at s p m n c is_start is_next is_comment spans (q, e) back unclosed backs
     met None k h u = cc
     met (Some j) k h u =
         let same : j ≡ k = cc in
-        let b = behind_then _ _ _ back u.start.before in
+        let b = after_then _ _ _ back u.start.before in
         (b.0, u.end.0, b.1 ∙ ap (λ z. b.0 ++ z.start.rest) same, ap (λ z. z.start.rest) (sym same) ∙ u.end.1 ∙ ap (λ z. u.end.0 ++ z.end.rest) same)
 
 -- a lexeme that ends at the value end from m on
 pub stands_word : (s : Start) (p : Lexeme) (m n : Here) (e : ValueEnd) → p.start ≡ s.place → p.next ≡ s.next → p.comment ≡ e.comment → p.backslash ≡ None → p.end ≡ e.place → Spans s → (q : Text) × (s.place.rest ≡ q ++ m.rest) → IsEnd m e n → Stands s.place.rest p
 stands_word s p m n e is_start is_next is_comment is_backslash is_end spans back end =
-    let b = behind_then _ _ _ back end.place.before in
+    let b = after_then _ _ _ back end.place.before in
     stands_at s p m n e.comment is_start is_next is_comment spans (b.0, b.1 ∙ ap (λ z. b.0 ++ z.rest) (sym is_end)) back end.comment (subst (λ z. IfSome z (λ b. (q : Text) × (s.place.rest ≡ q ++ b.rest))) (sym is_backslash) tt)
 
 -- a place that may be there, from further back
 pub ahead_if : (s t : Text) (o : Option Position) → (p : Text) × (s ≡ p ++ t) → IfSome o (λ b. (p : Text) × (t ≡ p ++ b.rest)) → IfSome o (λ b. (p : Text) × (s ≡ p ++ b.rest))
 ahead_if s t None x y = tt
-ahead_if s t (Some b) x y = behind_then s t b.rest x y
+ahead_if s t (Some b) x y = after_then s t b.rest x y
 
 -- the fault of a string that begins at the start of the lexeme: the one in it, or one at its start
 pub found_in_role : (s : Start) (a : Here) (f g : Option Found) → (p : Text) × (s.place.rest ≡ p ++ a.rest) → OnFound (gone s.place a) f a → FindsAlso f s.place g → OnFound (gone s.place a) g a
-found_in_role s a f g here on also = also (gone s.place a) a on (record { before = ([], refl); behind = here; at = refl })
+found_in_role s a f g here on also = also (gone s.place a) a on (record { before = ([], refl); following = here; at = refl })
 
 -- from the start of a lexeme to after its first character
 pub begun : (s : Start) (a b : Here) → Spans s → b ≡ gone s.next a → Moves (gone s.place a) b

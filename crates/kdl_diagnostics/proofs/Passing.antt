@@ -55,21 +55,21 @@ stepped_begins c a b h e = stepped_past c a b (begins_is a.rest c h) e
 pub passed_here : (a m b : Here) (s : Position) → s.rest ≡ m.rest → s.at ≡ m.at → Moves a m → Moves m b → Passed a s b
 passed_here a m b s r t v w = record {
   before = (v.piece.0, v.piece.1 ∙ ap (λ z. v.piece.0 ++ z) (sym r));
-  behind = (w.piece.0, r ∙ w.piece.1);
+  following = (w.piece.0, r ∙ w.piece.1);
   at = ap (λ z. z + bytes s.rest) t ∙ ap (λ z. m.at + bytes z) r ∙ v.at;
 }
 
 pub passed_on : (a m b : Here) (s : Position) → Passed a s m → Moves m b → Passed a s b
 passed_on a m b s p w = record {
   before = p.before;
-  behind = (p.behind.0 ++ w.piece.0, p.behind.1 ∙ ap (λ z. p.behind.0 ++ z) w.piece.1 ∙ sym (append_assoc p.behind.0 w.piece.0 b.rest));
+  following = (p.following.0 ++ w.piece.0, p.following.1 ∙ ap (λ z. p.following.0 ++ z) w.piece.1 ∙ sym (append_assoc p.following.0 w.piece.0 b.rest));
   at = p.at;
 }
 
 pub passed_from : (a m b : Here) (s : Position) → Moves a m → Passed m s b → Passed a s b
 passed_from a m b s v p = record {
   before = (v.piece.0 ++ p.before.0, v.piece.1 ∙ ap (λ z. v.piece.0 ++ z) p.before.1 ∙ sym (append_assoc v.piece.0 p.before.0 s.rest));
-  behind = p.behind;
+  following = p.following;
   at = p.at ∙ v.at;
 }
 
@@ -146,11 +146,11 @@ opened r a b e h s t =
     let m = moves_ate_two 34 34 r b e t in
     record { moves = moves_then x.moves m; fewer = omega (arith, x.fewer, fewer_bytes m); steps = omega (arith, x.steps, ate_two_steps 34 34 r b e t) }
 
-pub behind_bytes : (s t : Text) → (p : Text) × (s ≡ p ++ t) → bytes t ≤ bytes s
-behind_bytes s t (p, e) = omega (arith, ap bytes e, bytes-append p t)
+pub after_bytes : (s t : Text) → (p : Text) × (s ≡ p ++ t) → bytes t ≤ bytes s
+after_bytes s t (p, e) = omega (arith, ap bytes e, bytes-append p t)
 
-pub behind_then : (s t u : Text) → (p : Text) × (s ≡ p ++ t) → (p : Text) × (t ≡ p ++ u) → (p : Text) × (s ≡ p ++ u)
-behind_then s t u (p, e) (q, f) = (p ++ q, e ∙ ap (λ z. p ++ z) f ∙ sym (append_assoc p q u))
+pub after_then : (s t u : Text) → (p : Text) × (s ≡ p ++ t) → (p : Text) × (t ≡ p ++ u) → (p : Text) × (s ≡ p ++ u)
+after_then s t u (p, e) (q, f) = (p ++ q, e ∙ ap (λ z. p ++ z) f ∙ sym (append_assoc p q u))
 
 pub starts_first : (p : ℕ → Bool) (c : ℕ) (s : Text) → first s ≡ Some c → true ≡ p c → starts p s ≡ true
 starts_first p c [] h x = cc
@@ -158,7 +158,7 @@ starts_first p c (d ∷ s) h x = cc
 
 pub found_at : (a b e : Here) (f : Option Found) → a.rest ≡ b.rest → a.at ≡ b.at → OnFound a f e → OnFound b f e
 found_at a b e None r t p = tt
-found_at a b e (Some f) r t p = record { before = (p.before.0, sym r ∙ p.before.1); behind = p.behind; at = p.at ∙ ap (λ z. z + bytes a.rest) t ∙ ap (λ z. b.at + bytes z) r }
+found_at a b e (Some f) r t p = record { before = (p.before.0, sym r ∙ p.before.1); following = p.following; at = p.at ∙ ap (λ z. z + bytes a.rest) t ∙ ap (λ z. b.at + bytes z) r }
 
-pub behind_same : (s t u : Text) → (p : Text) × (s ≡ p ++ t) → u ≡ t → (p : Text) × (s ≡ p ++ u)
-behind_same s t u (p, e) h = (p, e ∙ ap (λ z. p ++ z) (sym h))
+pub after_same : (s t u : Text) → (p : Text) × (s ≡ p ++ t) → u ≡ t → (p : Text) × (s ≡ p ++ u)
+after_same s t u (p, e) h = (p, e ∙ ap (λ z. p ++ z) (sym h))

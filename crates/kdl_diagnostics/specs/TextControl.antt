@@ -45,7 +45,7 @@ pub data Takes : TextControl → Text → Type 0 where
 -- so is a document, after the U+FEFF that it may begin with
 pub data AcceptsDocument : Text → Type 0 where
   no_bom : {t : Text} → Takes (text_start Document) t → AcceptsDocument t
-  behind_bom : {t : Text} → Takes (text_start Document) t → AcceptsDocument (0xFEFF ∷ t)
+  after_bom : {t : Text} → Takes (text_start Document) t → AcceptsDocument (0xFEFF ∷ t)
 
 -- the text is accepted: its control takes it
 abbrev pub Accepts : Whole → Text → Type 0

@@ -37,7 +37,7 @@ format_decides f g =
     let ends = Decides-and _ _ (text_decides f.trailing g.trailing) (Decides-and _ _ (text_decides f.after_ty g.after_ty) types) in
     let all = Decides-and _ _ (text_decides f.value_repr g.value_repr) (Decides-and _ _ (text_decides f.leading g.leading) ends) in
     Decides-like _
-    (λ (value, (leading, (trailing, (ty, (before, (behind, (key, (eq, keep)))))))). cc)
+    (λ (value, (leading, (trailing, (ty, (before, (following, (key, (eq, keep)))))))). cc)
     (λ e. (
       ap (λ x. x.value_repr) e,
       (

@@ -17,19 +17,19 @@ pub data LaidIdentifier (exact : Bool) (whole : Text) : Identifier → Text → 
 -- a type with the texts before its name, after it, and after the `)`; these are empty if there is no type
 pub data LaidType (exact : Bool) (whole : Text) : Option Identifier → Text → Text → Text → Text → Text → Type 0 where
   no_type : {s : Text} → LaidType exact whole None [] [] [] s s
-  a_type : {before after behind s t u v r : Text} {i : Identifier} → Is (Star NodeSpace) before s t → LaidIdentifier exact whole i t u → Is (Star NodeSpace) after u (41 ∷ v)
-      → Is (Star NodeSpace) behind v r → LaidType exact whole (Some i) before after behind (40 ∷ s) r
+  a_type : {before after following s t u v r : Text} {i : Identifier} → Is (Star NodeSpace) before s t → LaidIdentifier exact whole i t u → Is (Star NodeSpace) after u (41 ∷ v)
+      → Is (Star NodeSpace) following v r → LaidType exact whole (Some i) before after following (40 ∷ s) r
 
 -- a key, `=`, and the texts before and after the `=`; these are empty if there is no key
 pub data LaidKey (exact : Bool) (whole : Text) : Option Identifier → Text → Text → Text → Text → Type 0 where
   no_key : {s : Text} → LaidKey exact whole None [] [] s s
-  a_key : {before behind s t u r : Text} {i : Identifier} → LaidIdentifier exact whole i s t → Is (Star NodeSpace) before t (61 ∷ u) → Is (Star NodeSpace) behind u r
-      → LaidKey exact whole (Some i) before behind s r
+  a_key : {before following s t u r : Text} {i : Identifier} → LaidIdentifier exact whole i s t → Is (Star NodeSpace) before t (61 ∷ u) → Is (Star NodeSpace) following u r
+      → LaidKey exact whole (Some i) before following s r
 
 -- an entry without what comes before and after it: key, type, and the spelling of its value
 pub data LaidItem (exact : Bool) (whole leading trailing : Text) (at : SourceSpan) : Entry → Text → Text → Type 0 where
-  item : {after_key after_eq before after behind repr s t u r : Text} {key ty : Option Identifier} {v : Value}
-      → LaidKey exact whole key after_key after_eq s t → LaidType exact whole ty before after behind t u → Is (λ s r. IsPlainValue true s r v) repr u r
+  item : {after_key after_eq before after following repr s t u r : Text} {key ty : Option Identifier} {v : Value}
+      → LaidKey exact whole key after_key after_eq s t → LaidType exact whole ty before after following t u → Is (λ s r. IsPlainValue true s r v) repr u r
       → LaidItem exact whole leading trailing at (record {
         ty = ty;
         value = v;
@@ -38,7 +38,7 @@ pub data LaidItem (exact : Bool) (whole leading trailing : Text) (at : SourceSpa
           value_repr = repr;
           leading = leading;
           trailing = trailing;
-          after_ty = behind;
+          after_ty = following;
           before_ty_name = before;
           after_ty_name = after;
           after_key = after_key;

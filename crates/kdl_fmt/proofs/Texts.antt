@@ -17,7 +17,7 @@ use Rattle.kdl_parts.specs.declared.format.KdlNodeFormat.{KdlNodeFormat}
 use Rattle.kdl_comments.proofs.Rewriting.Pushing.{no_bytes}
 use Rattle.kdl_fmt.specs.Formatted.{newline_if_none, in_braces}
 use Rattle.kdl_fmt.specs.Kept.{without_bom}
-use Rattle.kdl_fmt.specs.WithComments.{NodeTexts, line_of, content_of, behind}
+use Rattle.kdl_fmt.specs.WithComments.{NodeTexts, line_of, content_of, following}
 
 ascii : (s : Text) → list_all (λ c. nat_lt c 128) s ≡ true → IsAscii s
 ascii [] h i = lit< tt
@@ -37,7 +37,7 @@ pub space_text : chars (32 ∷ []) ≡ 32 ∷ []
 space_text = ascii_text (32 ∷ []) refl
 
 -- a format with five other texts, and none around the type
-pub line_put : (f : NodeFormat) (a b c d e : Text) (k : NodeTexts) (before : Text) → a ≡ k.before ++ before → b ≡ k.before_block ++ (32 ∷ []) → c ≡ k.last ++ k.space → d ≡ k.comment ++ (10 ∷ []) → e ≡ k.behind
+pub line_put : (f : NodeFormat) (a b c d e : Text) (k : NodeTexts) (before : Text) → a ≡ k.before ++ before → b ≡ k.before_block ++ (32 ∷ []) → c ≡ k.last ++ k.space → d ≡ k.comment ++ (10 ∷ []) → e ≡ k.following
     → record f { leading = a; before_children = b; before_terminator = c; terminator = d; trailing = e; before_ty_name = []; after_ty_name = []; after_ty = [] } ≡ line_of before k
 line_put f a b c d e k before x y z u v = rw (x, y, z, u, v) refl
 
@@ -57,7 +57,7 @@ braces_made l t a b before ns x y = rw (x, y) refl
 
 -- an entry after a text
 pub entry_made : (f : KdlEntryFormat) (a b : String Global) (t : Text) (e : Entry) → entry_format_tree f ≡ empty_format → text_of a ≡ print_value e.value → text_of b ≡ t ++ (32 ∷ []) → t ≢ []
-    → record e { format = Some (entry_format_tree (record f { value_repr = a; leading = b })) } ≡ behind t e
+    → record e { format = Some (entry_format_tree (record f { value_repr = a; leading = b })) } ≡ following t e
 entry_made f a b [] e h x y n = absurd (n refl)
 entry_made f a b (c ∷ s) e h x y n = ap (λ (z : EntryFormat). record e { format = Some (record z { value_repr = text_of a; leading = text_of b }) }) h ∙ rw (x, y) refl
 

@@ -4,7 +4,7 @@ use Rattle.kdl_text.specs.Chars.{Text}
 use Rattle.kdl_text.specs.Trivia.{LineComment}
 use Rattle.kdl_entry.specs.Places.{between}
 use Rattle.kdl_entry.specs.Tree.{EntryFormat}
-use Rattle.kdl_comments.specs.Items.{Item, line_end, GapItems, Place, before_entry, before_block, behind_block, PlaceItems}
+use Rattle.kdl_comments.specs.Items.{Item, line_end, GapItems, Place, before_entry, before_block, after_block, PlaceItems}
 use Rattle.kdl_comments.specs.Written.{lines, tail}
 use Rattle.kdl_fmt.specs.Config.{Settings, indentation}
 
@@ -34,7 +34,7 @@ KeptBeforeBlock s true place t = KeptTail s before_block place t
 -- the place before the terminator: after a block or without one
 abbrev pub last_place : Bool → Place
 last_place false = before_block
-last_place true = behind_block
+last_place true = after_block
 
 -- a terminator that is a line comment is written after a space, without its newline
 pub data WrittenEnd (terminator : Text) : Text → Text → Type 0 where

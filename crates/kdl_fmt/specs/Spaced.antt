@@ -35,13 +35,13 @@ SpacedLines (suc number) s level b place t b' = Spaces (suc number) s level b pl
 pub record SpacesTexts (number : ℕ) (s : Settings) (level : ℕ) (has_block : Bool) (b : Before) (f : NodeFormat) (k : NodeTexts) : Type 0 where
   pub lines : Text
   pub at_node : Before
-  pub behind_it : Before
+  pub after_it : Before
   pub leading : SpacedLines number s level b f.leading lines at_node
   pub before : k.before ≡ lines ++ empty_lines number at_node
   pub before_block : KeptBeforeBlock s has_block f.before_children k.before_block
   pub last : KeptTail s (last_place has_block) f.before_terminator k.last
   pub end : KeptEnd s.no_comments f.terminator k.space k.comment
-  pub behind : SpacedLines number s level (past_node f.terminator) f.trailing k.behind behind_it
+  pub following : SpacedLines number s level (past_node f.terminator) f.trailing k.following after_it
 
 -- the texts around the parts of a node on its own line, at a level
 abbrev pub IsSpacedLine : ℕ → Settings → ℕ → Bool → Before → NodeFormat → Option NodeFormat → Type 0
@@ -70,20 +70,20 @@ PassesNodes number s b (first n (first m ns)) e = PassesNodes number s b (first 
 
 -- what is kept of the texts around the nodes of a document, what comes before the first node, and what comes before the
 -- text after the last one
-pub record SpacesContent (number : ℕ) (s : Settings) (level : ℕ) (ns : Nodes) (f : DocumentFormat) (b : Before) (before behind : Text) : Type 0 where
+pub record SpacesContent (number : ℕ) (s : Settings) (level : ℕ) (ns : Nodes) (f : DocumentFormat) (b : Before) (before following : Text) : Type 0 where
   pub last : Before
-  pub behind_it : Before
+  pub after_it : Before
   pub leading : SpacedLines number s level at_start (without_bom f.leading) before b
   pub passes : PassesNodes number s b ns last
-  pub trailing : SpacedLines number s level last f.trailing behind behind_it
+  pub trailing : SpacedLines number s level last f.trailing following after_it
 
 -- the second texts are those around the nodes of a document that is laid out at a level
 abbrev pub IsSpacedContent : ℕ → Settings → ℕ → Nodes → DocumentFormat → Before → Option DocumentFormat → Type 0
-IsSpacedContent number s level ns f b g = (before behind : Text) × SpacesContent number s level ns f b before behind × (g ≡ Some (content_of ns before behind))
+IsSpacedContent number s level ns f b g = (before following : Text) × SpacesContent number s level ns f b before following × (g ≡ Some (content_of ns before following))
 
 -- the same between the braces of a node at the level
 abbrev pub IsSpacedBraced : ℕ → Settings → ℕ → Nodes → DocumentFormat → Before → Option DocumentFormat → Type 0
-IsSpacedBraced number s level ns f b g = (before behind : Text) × SpacesContent number s (level + 1) ns f b before behind × (g ≡ Some (in_braces (indentation s level) (content_of ns before behind)))
+IsSpacedBraced number s level ns f b g = (before following : Text) × SpacesContent number s (level + 1) ns f b before following × (g ≡ Some (in_braces (indentation s level) (content_of ns before following)))
 
 -- the second node is the first one, laid out at the level, after the blank lines before it
 abbrev mutual

@@ -9,9 +9,9 @@ use Rattle.kdl_fmt.specs.Formatted.{with_keep_if, or_empty, or_empty_document, n
 use Rattle.kdl_fmt.specs.Kept.{KeptLines, KeptTail, KeptBeforeBlock, last_place, KeptEnd, without_bom, KeptBefore}
 
 -- an entry after what is kept of the text before it, if anything is kept
-abbrev pub behind : Text → Entry → Entry
-behind [] e = e
-behind (c ∷ s) e = record e { format = Some (record empty_format { leading = (c ∷ s) ++ (32 ∷ []); value_repr = print_value e.value }) }
+abbrev pub following : Text → Entry → Entry
+following [] e = e
+following (c ∷ s) e = record e { format = Some (record empty_format { leading = (c ∷ s) ++ (32 ∷ []); value_repr = print_value e.value }) }
 
 -- an entry with a format, or unchanged if there is none
 abbrev pub put_format : Option EntryFormat → Entry → Entry
@@ -20,7 +20,7 @@ put_format (Some f) e = record e { format = Some f }
 
 -- the second entry is the first one, laid out
 abbrev pub IsFormattedEntry : Settings → Entry → Entry → Type 0
-IsFormattedEntry s e e' = (t : Text) × KeptBefore s (with_keep_if s.entry_autoformate_keep e).format t × (e' ≡ behind t (autoformatted (with_keep_if s.entry_autoformate_keep e)))
+IsFormattedEntry s e e' = (t : Text) × KeptBefore s (with_keep_if s.entry_autoformate_keep e).format t × (e' ≡ following t (autoformatted (with_keep_if s.entry_autoformate_keep e)))
 
 -- the second entries are the first ones, laid out
 abbrev pub AreFormattedEntries : Settings → List Entry → List Entry → Type 0
@@ -35,7 +35,7 @@ pub record NodeTexts : Type 0 where
   pub last : Text
   pub space : Text
   pub comment : Text
-  pub behind : Text
+  pub following : Text
 
 -- each of these texts is what is kept of its place in the format
 pub record KeepsTexts (s : Settings) (level : ℕ) (has_block : Bool) (f : NodeFormat) (k : NodeTexts) : Type 0 where
@@ -43,7 +43,7 @@ pub record KeepsTexts (s : Settings) (level : ℕ) (has_block : Bool) (f : NodeF
   pub before_block : KeptBeforeBlock s has_block f.before_children k.before_block
   pub last : KeptTail s (last_place has_block) f.before_terminator k.last
   pub end : KeptEnd s.no_comments f.terminator k.space k.comment
-  pub behind : KeptLines s level f.trailing k.behind
+  pub following : KeptLines s level f.trailing k.following
 
 -- the node's line, after the indentation
 abbrev pub line_of : Text → NodeTexts → NodeFormat
@@ -55,7 +55,7 @@ line_of before k = record {
   before_children = k.before_block ++ (32 ∷ []);
   before_terminator = k.last ++ k.space;
   terminator = k.comment ++ (10 ∷ []);
-  trailing = k.behind;
+  trailing = k.following;
 }
 
 -- the texts around the parts of a node on its own line, at a level
@@ -64,12 +64,12 @@ IsLine s level has_block f g = (k : NodeTexts) × KeepsTexts s level has_block f
 
 -- the texts around the nodes of a document
 abbrev pub content_of : Nodes → Text → Text → DocumentFormat
-content_of ns before behind = record { leading = before; trailing = behind ++ newline_if_none ns }
+content_of ns before following = record { leading = before; trailing = following ++ newline_if_none ns }
 
 -- what is kept of the texts around the nodes of a document
-pub record ContentTexts (s : Settings) (level : ℕ) (f : DocumentFormat) (before behind : Text) : Type 0 where
+pub record ContentTexts (s : Settings) (level : ℕ) (f : DocumentFormat) (before following : Text) : Type 0 where
   pub leading : KeptLines s level (without_bom f.leading) before
-  pub trailing : KeptLines s level f.trailing behind
+  pub trailing : KeptLines s level f.trailing following
 
 -- the second texts are those around the nodes of a document that is laid out at a level
 abbrev pub IsContent : Settings → ℕ → Nodes → DocumentFormat → Option DocumentFormat → Type 0

@@ -126,7 +126,7 @@ fn newlines(count: usize, last: Last, text: &str) -> Result<(usize, Last, &str),
     let mut count = count;
     let mut last = last;
     let mut rest = text;
-    'chars: while let Some((c, behind)) = next_char(rest) {
+    'chars: while let Some((c, following)) = next_char(rest) {
         if c == '/' {
             break;
         }
@@ -134,21 +134,21 @@ fn newlines(count: usize, last: Last, text: &str) -> Result<(usize, Last, &str),
             count = one_more(count, last, c)?;
         }
         last = last.after_char(c);
-        rest = same(behind);
+        rest = same(following);
     }
     Ok((count, last, rest))
 }
 
 /// Returns the text without its first characters, as many as the item has.
-fn behind_item<'a>(text: &'a str, item: Item) -> &'a str
+fn following_item<'a>(text: &'a str, item: Item) -> &'a str
     ensures { chars result.now ≡ drop (length (item_text (item_view item.entry))) (chars text.now) }
 {
     let (Item::Comment(item) | Item::Piece(item)) = item;
-    behind_chars(text, item)
+    after_chars(text, item)
 }
 
 /// Returns the text without its first characters, as many as the other text has.
-fn behind_chars<'a>(text: &'a str, other: &str) -> &'a str
+fn after_chars<'a>(text: &'a str, other: &str) -> &'a str
     ensures { chars result.now ≡ drop (length (chars other.now)) (chars text.now) }
 {
     let mut rest = text;
@@ -156,7 +156,7 @@ fn behind_chars<'a>(text: &'a str, other: &str) -> &'a str
     'chars: while let Some((_, more)) = next_char(left) {
         left = same(more);
         match next_char(rest) {
-            Some((_, behind)) => rest = same(behind),
+            Some((_, following)) => rest = same(following),
             None => return rest,
         }
     }
@@ -260,7 +260,7 @@ pub(crate) fn past_items(before: Before, text: &str, items: &[Item]) -> Result<B
     for item in items {
         let (at_item, from) = before.read(rest)?;
         before = at_item.past_item(*item);
-        rest = same(behind_item(from, *item));
+        rest = same(following_item(from, *item));
     }
     let (at_end, _) = before.read(rest)?;
     Ok(at_end)
@@ -276,7 +276,7 @@ pub(crate) fn past_written(before: Before, text: &str, items: &[Item]) -> Result
     for item in items {
         let (at_item, from) = before.read(rest)?;
         before = at_item.past_written_item(*item);
-        rest = same(behind_item(from, *item));
+        rest = same(following_item(from, *item));
     }
     let (at_end, _) = before.read(rest)?;
     Ok(at_end)
@@ -325,7 +325,7 @@ pub(crate) fn push_spaced_lines(
         push_empty_lines(out, number, at_item)?;
         push_lines(out, indentation, slice::from_ref(item))?;
         before = at_item.past_written_item(*item);
-        rest = same(behind_item(from, *item));
+        rest = same(following_item(from, *item));
     }
     let (at_end, _) = before.read(rest)?;
     Ok(at_end)

@@ -11,7 +11,7 @@ ghost use Rattle.kdl_fmt.specs.Plain.{newline_if};
 ghost use Rattle.kdl_fmt.specs.Respelled.{AreSpelledEntries, HasSpellings, IsSpelledEntry};
 ghost use Rattle.kdl_fmt.specs.Spaced.{IsSpacedBraced, IsSpacedContent, IsSpacedLine, Passes, PassesFormat, PassesNodes, SpacedLines, Spaces, SpacesContent};
 ghost use Rattle.kdl_fmt.specs.WellFormed.{AreWellFormedEntries, IsWellFormedEntry};
-ghost use Rattle.kdl_fmt.specs.WithComments.{behind, put_format};
+ghost use Rattle.kdl_fmt.specs.WithComments.{following, put_format};
 ghost use Rattle.kdl_grammar.specs.ReadsBack.{EntryReads};
 ghost use Rattle.kdl_grammar.specs.Tree.{Nodes};
 ghost use Rattle.kdl_comments.specs.Items.{GapItems};
@@ -241,13 +241,13 @@ fn printed(alloc: Global, value: &KdlValue) -> Result<String, AllocError>
 
 /// Returns the format of an entry after what is kept of the text before it: `kept` and a space, and the value as it is
 /// printed. If `kept` is empty, returns `None`.
-fn format_behind(
+fn format_after(
     alloc: Global,
     entry: &KdlEntry,
     kept: String,
 ) -> Result<Option<KdlEntryFormat>, AllocError>
     ensures { IfOk result (λ o. (e : Entry) → e.value ≡ (entry_tree entry.now).value
-        → put_format (option_map entry_format_tree o) e ≡ behind (text_of kept) e) }
+        → put_format (option_map entry_format_tree o) e ≡ following (text_of kept) e) }
 {
     if kept.is_empty() {
         return Ok(None);
@@ -280,7 +280,7 @@ fn lay_out_respelled(
         (IsLaid (settings config.now) (entry_tree entry.old) (entry_tree entry.new)) }
 {
     let kept = kept_before(alloc, config, entry)?;
-    let format = format_behind(alloc, entry, kept)?;
+    let format = format_after(alloc, entry, kept)?;
     entry.autoformat();
     put_format(entry, format);
     Ok(())
@@ -302,7 +302,7 @@ fn lay_out_spelled(alloc: Global, entry: &mut KdlEntry, layout: &Layout) -> Resu
     let format = if has_spelling(alloc, entry)? {
         spelled_format(alloc, layout, entry, kept)?
     } else {
-        format_behind(alloc, entry, kept)?
+        format_after(alloc, entry, kept)?
     };
     autoformat_but(alloc, entry, key, ty);
     put_format(entry, format);
@@ -406,7 +406,7 @@ fn last_place(has_block: bool) -> Place
     ensures { place_view result ≡ last_place has_block }
 {
     if has_block {
-        Place::BehindBlock
+        Place::AfterBlock
     } else {
         Place::BeforeBlock
     }
@@ -557,7 +557,7 @@ pub fn lay_out_line(
 
 /// Returns what comes before the thing after a node that is not laid out. The result has no meaning if no blank lines
 /// are kept.
-pub fn behind_line(
+pub fn after_line(
     format: &Option<KdlNodeFormat>,
     alloc: Global,
     layout: &Layout,
@@ -713,11 +713,11 @@ fn spaced_content(
     format: &Option<KdlDocumentFormat>,
     last: Option<Before>,
 ) -> Result<(String, String, Before), AllocError>
-    ensures { IfOk result (λ (before, behind, b). (ns : Nodes)
+    ensures { IfOk result (λ (before, following, b). (ns : Nodes)
         → ((b : Before) → PassesNodes layout.now.blank_lines (settings layout.now.config) b ns
         (unwrap_or last b))
         → SpacesContent layout.now.blank_lines (settings layout.now.config) level ns
-        (or_empty_document (document_texts format.now)) b (text_of before) (text_of behind)) }
+        (or_empty_document (document_texts format.now)) b (text_of before) (text_of following)) }
 {
     let (leading, first) = content_leading(alloc, layout, level, format)?;
     let trailing = content_trailing(alloc, layout, level, last.unwrap_or(first), format)?;

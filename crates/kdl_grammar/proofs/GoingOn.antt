@@ -11,7 +11,7 @@ use Rattle.kdl_grammar.specs.Data.{Nodes}
 use Rattle.kdl_grammar.specs.GoingOn.{Derived, Viable, Alive, AliveInToken, DeadAtToken, DeadAtFront, RefusedAtPiece, DerivedAtEnd}
 use Rattle.kdl_grammar.specs.Grammar.{AreNodes, IsDocument}
 use Rattle.kdl_control.specs.Control.{Control, at, gap, accepts, finish, step}
-use Rattle.kdl_grammar.specs.Going.{Goes, here, goes, Reaches, no_bom, behind_bom}
+use Rattle.kdl_grammar.specs.Going.{Goes, here, goes, Reaches, no_bom, after_bom}
 use Rattle.kdl_grammar.proofs.Reading.Erased.{accepted_nodes}
 use Rattle.kdl_grammar.proofs.Reading.Refusing.{near_goes, rest_of, dead_nodes, refused_here, refuses_two}
 use Rattle.kdl_grammar.proofs.Reading.Sound.{derives}
@@ -24,8 +24,8 @@ data Went (p r : Text) (c : Control) : Type 0 where
 
 went : (p r : Text) {t : Text} {c : Control} → Reaches t c r → t ≡ p ++ r → Went p r c
 went p r {c = c} (no_bom h g) e = plain (ap (begins 0xFEFF) (sym e) ∙ h) (subst (λ (z : Text). Goes (at gap []) z c r) e g)
-went [] r (behind_bom g) e = absurd (omega (arith, goes_length g, ap length e))
-went (d ∷ p) r {c = c} (behind_bom {t = t} g) e =
+went [] r (after_bom g) e = absurd (omega (arith, goes_length g, ap length e))
+went (d ∷ p) r {c = c} (after_bom {t = t} g) e =
     let a : d ≡ 0xFEFF = cc in
     let b : t ≡ p ++ r = cc in
     marked (ap (λ z. z ∷ p) a) (subst (λ (z : Text). Goes (at gap []) z c r) b g)
@@ -37,17 +37,17 @@ alive p r c g = go (went p r g refl)
     go (plain h g) =
         let v = viable g in
         let same : v.before ≡ p = append_cancel_right v.before p r (sym v.text) in
-        (v.behind, (v.nodes, IsDocument.no_bom (subst (λ (z : Text). AreNodes true (z ++ v.behind) [] v.nodes) same v.derived)))
+        (v.following, (v.nodes, IsDocument.no_bom (subst (λ (z : Text). AreNodes true (z ++ v.following) [] v.nodes) same v.derived)))
     go (marked {q = q} e g) =
         let v = viable g in
         let same : v.before ≡ q = append_cancel_right v.before q r (sym v.text) in
-        let d : IsDocument true (0xFEFF ∷ (q ++ v.behind)) v.nodes = IsDocument.behind_bom (subst (λ (z : Text). AreNodes true (z ++ v.behind) [] v.nodes) same v.derived) in
-        (v.behind, (v.nodes, subst (λ (z : Text). IsDocument true (z ++ v.behind) v.nodes) (sym e) d))
+        let d : IsDocument true (0xFEFF ∷ (q ++ v.following)) v.nodes = IsDocument.after_bom (subst (λ (z : Text). AreNodes true (z ++ v.following) [] v.nodes) same v.derived) in
+        (v.following, (v.nodes, subst (λ (z : Text). IsDocument true (z ++ v.following) v.nodes) (sym e) d))
 
 -- one token more
-behind : {c d e : Control} {s r t : Text} {k : Token} → Goes c s d r → BeginsToken r k t → step d k ≡ Some e → Goes c s e t
-behind here b f = goes b f here
-behind (goes x y g) b f = goes x y (behind g b f)
+following : {c d e : Control} {s r t : Text} {k : Token} → Goes c s d r → BeginsToken r k t → step d k ≡ Some e → Goes c s e t
+following here b f = goes b f here
+following (goes x y g) b f = goes x y (following g b f)
 
 pub alive_in_token : AliveInToken
 alive_in_token p r u c d k some g b f = longer (alive (p ++ (r ++ u)) [] d (go (went p r g refl)))
@@ -57,7 +57,7 @@ alive_in_token p r u c d k some g b f = longer (alive (p ++ (r ++ u)) [] d (go (
         let y = near_goes (r ++ u) (more_first r u some) g in
         let same : y.at.piece ≡ q = append_cancel_right y.at.piece q r (sym (y.at.here ∙ y.at.text r)) in
         let text : y.at.put (r ++ u) ≡ (q ++ (r ++ u)) ++ [] = y.at.text (r ++ u) ∙ ap (λ (z : Text). z ++ (r ++ u)) same ∙ sym (append-nil (q ++ (r ++ u))) in
-        subst (λ (z : Text). Goes (at gap []) z d []) text (behind y.there b f)
+        subst (λ (z : Text). Goes (at gap []) z d []) text (following y.there b f)
 
     no_bom_more : (q : Text) → begins 0xFEFF (q ++ r) ≡ false → begins 0xFEFF ((q ++ (r ++ u)) ++ []) ≡ false
     no_bom_more [] h = ap (begins 0xFEFF) (append-nil (r ++ u)) ∙ begins_first 0xFEFF (r ++ u) r (more_first r u some) ∙ h
@@ -65,7 +65,7 @@ alive_in_token p r u c d k some g b f = longer (alive (p ++ (r ++ u)) [] d (go (
 
     go : Went p r c → Reaches ((p ++ (r ++ u)) ++ []) d []
     go (plain h g) = no_bom (no_bom_more p h) (over p g)
-    go (marked {q = q} e g) = subst (λ (z : Text). Reaches ((z ++ (r ++ u)) ++ []) d []) (sym e) (behind_bom (over q g))
+    go (marked {q = q} e g) = subst (λ (z : Text). Reaches ((z ++ (r ++ u)) ++ []) d []) (sym e) (after_bom (over q g))
 
     longer : Viable (p ++ (r ++ u)) → Viable (p ++ r)
     longer (w, x) = (u ++ w, subst (λ (z : Text). Derived z) (ap (λ (z : Text). z ++ w) (sym (append_assoc p r u)) ∙ append_assoc (p ++ r) u w) x)
@@ -81,7 +81,7 @@ data Parts (t : Text) : Type 0 where
 
 parts : {t : Text} {xs : Nodes} → IsDocument true t xs → Parts t
 parts (IsDocument.no_bom n) = nodes n
-parts (IsDocument.behind_bom n) = bom_nodes refl n
+parts (IsDocument.after_bom n) = bom_nodes refl n
 
 bom_first : (s t : Text) {u : Text} → first s ≡ first t → begins 0xFEFF t ≡ false → s ≡ 0xFEFF ∷ u → ⊥
 bom_first s t e h f = let x : begins 0xFEFF s ≡ false = begins_first 0xFEFF s t e ∙ h in let y : begins 0xFEFF s ≡ true = ap (begins 0xFEFF) f in cc
@@ -115,9 +115,9 @@ data Ahead (c : Control) (r : Text) : Type 0 where
 
 ahead_of : {t : Text} {c : Control} {r : Text} → Reaches t c r → Derived t → Ahead c r
 ahead_of (no_bom h g) (xs, IsDocument.no_bom m) = let x = rest_of g m in ahead x.lexed x.accepted
-ahead_of (no_bom h g) (xs, IsDocument.behind_bom m) = cc
-ahead_of (behind_bom g) (xs, IsDocument.no_bom m) = absurd (no_bom_nodes m)
-ahead_of (behind_bom g) (xs, IsDocument.behind_bom m) = let x = rest_of g m in ahead x.lexed x.accepted
+ahead_of (no_bom h g) (xs, IsDocument.after_bom m) = cc
+ahead_of (after_bom g) (xs, IsDocument.no_bom m) = absurd (no_bom_nodes m)
+ahead_of (after_bom g) (xs, IsDocument.after_bom m) = let x = rest_of g m in ahead x.lexed x.accepted
 
 stuck : {c : Control} {r : Text} → NoToken r → Ahead c r → ⊥
 stuck n (ahead done a) = n.begun refl
@@ -135,4 +135,4 @@ derived_at_end t c g = (λ d. forth (ahead_of g d) refl, λ h. back g h)
 
     back : {t : Text} → Reaches t c [] → IsTrue (finish c) → Derived t
     back (no_bom h g) f = let x = reads g done f in let (xs, n) = derives x.lexed x.accepted in (xs, IsDocument.no_bom n)
-    back (behind_bom g) f = let x = reads g done f in let (xs, n) = derives x.lexed x.accepted in (xs, IsDocument.behind_bom n)
+    back (after_bom g) f = let x = reads g done f in let (xs, n) = derives x.lexed x.accepted in (xs, IsDocument.after_bom n)

@@ -18,7 +18,7 @@ use Rattle.kdl_grammar.proofs.Reading.NodeSteps.{control_of, steps, refuses_two}
 use Rattle.kdl_grammar.proofs.Reading.Refusing.{near_goes}
 use Rattle.kdl_grammar.proofs.Reading.Sound.{derives}
 use Rattle.kdl_entry.proofs.Moving.TokenMoves.{Fits}
-use Rattle.kdl_grammar.proofs.Reading.Viable.{Ends, at_gap, at_node, at_kept, closing_text, missing_text, a_word, no_right, no_close, worded, behind_string, behind_value, carry, reads}
+use Rattle.kdl_grammar.proofs.Reading.Viable.{Ends, at_gap, at_node, at_kept, closing_text, missing_text, a_word, no_right, no_close, worded, after_string, after_value, carry, reads}
 
 -- it goes over the text, which may end there
 pub record Passes (n : NodeControl) (s : Text) : Type 0 where
@@ -45,10 +45,10 @@ rest_passes : {n m : NodeControl} {s r : Text} → NodeGoes n s m r → Passes n
 rest_passes g x = record { last = x.last; there = follows g x.there; ends = x.ends }
 
 -- where the node has ended only line-spaces are left
-abbrev behind_node : NodeControl
-behind_node = in_text true (at gap [])
+abbrev after_node : NodeControl
+after_node = in_text true (at gap [])
 
-line_then : {s t : Text} {m : NodeControl} (k : Token) → BeginsToken s k t → node_step behind_node k ≡ Some m → (m ≡ behind_node → Star LineSpace t []) → Star LineSpace s []
+line_then : {s t : Text} {m : NodeControl} (k : Token) → BeginsToken s k t → node_step after_node k ≡ Some m → (m ≡ after_node → Star LineSpace t []) → Star LineSpace s []
 line_then space (t_space n) e f = more (LineSpace.space n) (f cc)
 line_then newline (t_newline n) e f = more (LineSpace.«break» n) (f cc)
 line_then slashdash b e f = absurd cc
@@ -62,7 +62,7 @@ line_then equals b e f = absurd cc
 line_then semicolon b e f = absurd cc
 line_then bom b e f = absurd cc
 
-only_lines : {n l : NodeControl} {s : Text} → n ≡ behind_node → NodeGoes n s l [] → Star LineSpace s []
+only_lines : {n l : NodeControl} {s : Text} → n ≡ after_node → NodeGoes n s l [] → Star LineSpace s []
 only_lines h here = no_star
 only_lines h (goes {k = k} b e g) = line_then k b (ap (λ z. node_step z k) (sym h) ∙ e) (λ x. only_lines x g)
 
@@ -119,9 +119,9 @@ sound x =
     from_nodes x z.1
 
 -- What ends a text: what is due, a `}` for each open block, and a node if it has not begun.
-abbrev pub behind : Bool → Text
-behind true = []
-behind false = 59 ∷ 97 ∷ []
+abbrev pub following : Bool → Text
+following true = []
+following false = 59 ∷ 97 ∷ []
 
 abbrev pub begin : Bool → Text
 begin true = []
@@ -129,7 +129,7 @@ begin false = 97 ∷ []
 
 abbrev pub ending : Phase → List Frame → Bool → Text
 ending gap [] b = begin b
-ending _ _ b = behind b
+ending _ _ b = following b
 
 abbrev pub closed_text : Phase → List Frame → Bool → Text
 closed_text p fs b = closing_text fs ++ ending p fs b
@@ -140,7 +140,7 @@ out_text p fs b = missing_text p ++ closed_text p fs b
 a_node : Passes (in_text false (at gap [])) (97 ∷ [])
 a_node = record { last = in_text true (at (in_node (fresh false)) []); there = goes (a_word [] refl) refl here; ends = refl }
 
-ended : (b : Bool) {p : Phase} → node_step (in_text false (at p [])) semicolon ≡ Some (in_text false (at gap [])) → finish (at p []) ≡ true → Passes (in_text b (at p [])) (behind b)
+ended : (b : Bool) {p : Phase} → node_step (in_text false (at p [])) semicolon ≡ Some (in_text false (at gap [])) → finish (at p []) ≡ true → Passes (in_text b (at p [])) (following b)
 ended true {p = p} e f = record { last = in_text true (at p []); there = here; ends = f }
 ended false e f = over t_semicolon e a_node
 
@@ -163,29 +163,29 @@ no_semicolon : is_identifier_char 59 ≡ false
 unfolding is_identifier_char Rattle.kdl_text.specs.Chars.is_space Rattle.kdl_text.specs.Chars.is_newline_char Rattle.kdl_text.specs.Chars.is_banned Rattle.kdl_text.specs.Chars.is_punctuation
 no_semicolon = refl
 
-behind_class : (fs : List Frame) (b : Bool) → starts is_identifier_char (closing_text fs ++ behind b) ≡ false
-behind_class [] true = refl
-behind_class [] false = no_semicolon
-behind_class (f ∷ fs) b = no_close
+after_class : (fs : List Frame) (b : Bool) → starts is_identifier_char (closing_text fs ++ following b) ≡ false
+after_class [] true = refl
+after_class [] false = no_semicolon
+after_class (f ∷ fs) b = no_close
 
-behind_quote : (fs : List Frame) (b : Bool) → begins 34 (closing_text fs ++ behind b) ≡ false
-behind_quote [] true = refl
-behind_quote [] false = refl
-behind_quote (f ∷ fs) b = refl
+after_quote : (fs : List Frame) (b : Bool) → begins 34 (closing_text fs ++ following b) ≡ false
+after_quote [] true = refl
+after_quote [] false = refl
+after_quote (f ∷ fs) b = refl
 
-behind_feed : (fs : List Frame) (b : Bool) → begins 10 (closing_text fs ++ behind b) ≡ false
-behind_feed [] true = refl
-behind_feed [] false = refl
-behind_feed (f ∷ fs) b = refl
+after_feed : (fs : List Frame) (b : Bool) → begins 10 (closing_text fs ++ following b) ≡ false
+after_feed [] true = refl
+after_feed [] false = refl
+after_feed (f ∷ fs) b = refl
 
 -- from each state some text passes
-named : (w : Bool) (fs : List Frame) (b : Bool) {n : NodeControl} → node_step n (string (97 ∷ [])) ≡ Some (in_text b (at (in_node (fresh w)) fs)) → Passes n (97 ∷ (closing_text fs ++ behind b))
-named w fs b e = over (a_word (closing_text fs ++ behind b) (behind_class fs b)) e (closes (at_node {p = fresh w}) fs b)
+named : (w : Bool) (fs : List Frame) (b : Bool) {n : NodeControl} → node_step n (string (97 ∷ [])) ≡ Some (in_text b (at (in_node (fresh w)) fs)) → Passes n (97 ∷ (closing_text fs ++ following b))
+named w fs b e = over (a_word (closing_text fs ++ following b) (after_class fs b)) e (closes (at_node {p = fresh w}) fs b)
 
 pub out : (p : Phase) (fs : List Frame) (b : Bool) → Passes (in_text b (at p fs)) (out_text p fs b)
 out gap fs b = closes at_gap fs b
 out node_slashdash fs b = named false fs b refl
-out (type_open o) fs b = over (a_word (41 ∷ 97 ∷ (closing_text fs ++ behind b)) no_right) refl (over t_right refl (named false fs b refl))
+out (type_open o) fs b = over (a_word (41 ∷ 97 ∷ (closing_text fs ++ following b)) no_right) refl (over t_right refl (named false fs b refl))
 out (type_name o) fs b = over t_right refl (named false fs b refl)
 out (type_done o) fs b = named false fs b refl
 out (in_node p) fs b = closes (at_node {p = p}) fs b
@@ -206,15 +206,15 @@ out_feed node_slashdash fs b = refl
 out_feed (type_open o) fs b = refl
 out_feed (type_name o) fs b = refl
 out_feed (type_done o) fs b = refl
-out_feed (in_node p) fs b = behind_feed fs b
+out_feed (in_node p) fs b = after_feed fs b
 out_feed property fs b = refl
 out_feed entry_slashdash fs b = refl
 out_feed block_slashdash fs b = refl
-out_feed kept fs b = behind_feed fs b
+out_feed kept fs b = after_feed fs b
 out_feed kept_slashdash fs b = refl
 
 word_fits : (p : Phase) (fs : List Frame) (b : Bool) → worded (at p fs) ≡ true → (starts is_identifier_char (out_text p fs b) ≡ false) × (begins 34 (out_text p fs b) ≡ false)
-word_fits (in_node (fresh w)) fs b e = (behind_class fs b, behind_quote fs b)
+word_fits (in_node (fresh w)) fs b e = (after_class fs b, after_quote fs b)
 word_fits (type_name o) fs b e = (no_right, refl)
 word_fits gap fs b e = absurd cc
 word_fits node_slashdash fs b e = absurd cc
@@ -229,8 +229,8 @@ word_fits kept fs b e = absurd cc
 word_fits kept_slashdash fs b e = absurd cc
 
 out_fits : (c : Control) (k : Token) (p : Phase) (fs : List Frame) (b : Bool) → step c k ≡ Some (at p fs) → Fits k (out_text p fs b)
-out_fits c (string v) p fs b e = word_fits p fs b (behind_string c v (at p fs) e)
-out_fits c (value v) p fs b e = (word_fits p fs b (behind_value c v (at p fs) e)).0
+out_fits c (string v) p fs b e = word_fits p fs b (after_string c v (at p fs) e)
+out_fits c (value v) p fs b e = (word_fits p fs b (after_value c v (at p fs) e)).0
 out_fits c space p fs b e = tt
 out_fits c newline p fs b e = tt
 out_fits c slashdash p fs b e = tt

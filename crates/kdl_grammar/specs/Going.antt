@@ -16,7 +16,7 @@ Goes = GoesBy step
 -- it reaches the state by the text t of a document up to the rest r: by its tokens, after the U+FEFF that t may begin with
 pub data Reaches : Text → Control → Text → Type 0 where
   no_bom : {t r : Text} {c : Control} → begins 0xFEFF t ≡ false → Goes (at gap []) t c r → Reaches t c r
-  behind_bom : {t r : Text} {c : Control} → Goes (at gap []) t c r → Reaches (0xFEFF ∷ t) c r
+  after_bom : {t r : Text} {c : Control} → Goes (at gap []) t c r → Reaches (0xFEFF ∷ t) c r
 
 -- it refuses each token at the start of a text with this front
 abbrev pub RefusesFront : Control → Text → Type 0

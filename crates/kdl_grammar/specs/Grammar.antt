@@ -64,7 +64,7 @@ mutual
 -- the whole text: an optional U+FEFF, and then nodes
 pub data IsDocument (wide : Bool) : Text → Nodes → Type 0 where
   no_bom : {t : Text} {xs : Nodes} → AreNodes wide t [] xs → IsDocument wide t xs
-  behind_bom : {t : Text} {xs : Nodes} → AreNodes wide t [] xs → IsDocument wide (0xFEFF ∷ t) xs
+  after_bom : {t : Text} {xs : Nodes} → AreNodes wide t [] xs → IsDocument wide (0xFEFF ∷ t) xs
 
 -- the whole text: a gap, a node with its terminator, and line-spaces
 pub data IsNodeText (wide : Bool) : Text → Node → Type 0 where

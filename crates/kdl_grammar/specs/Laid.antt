@@ -13,11 +13,11 @@ use Rattle.kdl_grammar.specs.Tree.{NodeFormat, DocumentFormat, Node, node, Child
 
 -- the format of a node, from its texts in order
 abbrev pub node_format : Text → Text → Text → Text → Text → Text → Text → Text → NodeFormat
-node_format leading before after behind before_children before_terminator terminator trailing = record {
+node_format leading before after following before_children before_terminator terminator trailing = record {
   leading = leading;
   before_ty_name = before;
   after_ty_name = after;
-  after_ty = behind;
+  after_ty = following;
   before_children = before_children;
   before_terminator = before_terminator;
   terminator = terminator;
@@ -45,14 +45,14 @@ mutual
   -- a node from its type or name to its terminator. The text before it, its terminator, the text after it and its span are separate arguments:
   -- for a node in a list they differ from those of a node that is a whole text.
   pub data LaidNode (exact : Bool) (whole : Text) : Text → Text → Text → SourceSpan → Node → Text → Text → Type 0 where
-    laid_node : {leading end trailing before after behind before_children before_terminator s t u v r : Text} {at : SourceSpan} {ty : Option Identifier} {name : Identifier} {es : List Entry} {k : Children}
-        → LaidType exact whole ty before after behind s t → LaidIdentifier exact whole name t u → LaidEntries exact whole es u v
+    laid_node : {leading end trailing before after following before_children before_terminator s t u v r : Text} {at : SourceSpan} {ty : Option Identifier} {name : Identifier} {es : List Entry} {k : Children}
+        → LaidType exact whole ty before after following s t → LaidIdentifier exact whole name t u → LaidEntries exact whole es u v
         → LaidChildren exact whole k before_children before_terminator v r
         → LaidNode exact whole leading end trailing at (node (record {
           ty = ty;
           name = name;
           entries = es;
-          format = Some (node_format leading before after behind before_children before_terminator end trailing);
+          format = Some (node_format leading before after following before_children before_terminator end trailing);
           span = at;
         }) k) s r
 
@@ -87,7 +87,7 @@ with_bom (document f at ns) = document (Some (bom_format f)) at ns
 -- a document that is the whole text: an optional U+FEFF, and then its content
 pub data LaidDocument (exact : Bool) : Document → Text → Type 0 where
   no_bom : {d : Document} {t : Text} → LaidContent exact t d t [] → LaidDocument exact d t
-  behind_bom : {d : Document} {t : Text} → LaidContent exact (0xFEFF ∷ t) d t [] → LaidDocument exact (with_bom d) (0xFEFF ∷ t)
+  after_bom : {d : Document} {t : Text} → LaidContent exact (0xFEFF ∷ t) d t [] → LaidDocument exact (with_bom d) (0xFEFF ∷ t)
 
 -- a node that is the whole text, with line-spaces after it; its span is the whole text
 pub data LaidNodeText (exact : Bool) (whole : Text) : Node → Type 0 where

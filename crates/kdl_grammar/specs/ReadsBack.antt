@@ -134,4 +134,4 @@ mutual
 -- a document that is a whole text, with an optional U+FEFF before it
 pub data DocumentReads : Document → Type 0 where
   no_bom : {o : Option DocumentFormat} {ns : Nodes} {at : SourceSpan} → ContentReads TextEnd (leading_text o) (trailing_text o) ns → DocumentReads (document o at ns)
-  behind_bom : {o : Option DocumentFormat} {ns : Nodes} {at : SourceSpan} {leading : Text} → leading_text o ≡ 0xFEFF ∷ leading → ContentReads TextEnd leading (trailing_text o) ns → DocumentReads (document o at ns)
+  after_bom : {o : Option DocumentFormat} {ns : Nodes} {at : SourceSpan} {leading : Text} → leading_text o ≡ 0xFEFF ∷ leading → ContentReads TextEnd leading (trailing_text o) ns → DocumentReads (document o at ns)

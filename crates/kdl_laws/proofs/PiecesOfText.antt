@@ -19,29 +19,29 @@ length-encodes : (s : Text) → length (encodes s) ≡ bytes s
 length-encodes [] = refl
 length-encodes (c ∷ s) = length-append (encode c) (encodes s) ∙ ap (λ n. n + length (encodes s)) (length-encode c) ∙ ap (λ n. len_utf8 c + n) (length-encodes s)
 
-scalars_behind : (xs ys : List ℕ) → scalars (xs ++ ys) ≡ true → scalars ys ≡ true
-scalars_behind [] ys h = h
-scalars_behind (x ∷ xs) ys h = scalars_behind xs ys (and_parts (scalar x) (scalars (xs ++ ys)) h).1
+scalars_after : (xs ys : List ℕ) → scalars (xs ++ ys) ≡ true → scalars ys ≡ true
+scalars_after [] ys h = h
+scalars_after (x ∷ xs) ys h = scalars_after xs ys (and_parts (scalar x) (scalars (xs ++ ys)) h).1
 
 utf8_of : (cs : Text) → scalars cs ≡ true → IsUtf8 (encodes cs)
 utf8_of cs h = (cs, (h, refl))
 
 pub is_piece : (text : List ℕ) (span : SourceSpan) → IsUtf8 text → InText (chars text) span → IsPiece text span
-is_piece text span u (before, piece, behind, whole, offset, len) =
-    let ok : scalars (before ++ piece ++ behind) ≡ true = subst (λ (t : Text). scalars t ≡ true) whole (scalars-chars text u) in
-    let last : scalars behind ≡ true = scalars_behind (before ++ piece) behind ok in
-    let ok' : scalars (before ++ (piece ++ behind)) ≡ true = subst (λ (t : Text). scalars t ≡ true) (append_assoc before piece behind) ok in
-    let later : scalars (piece ++ behind) ≡ true = scalars_behind before (piece ++ behind) ok' in
-    let all : text ≡ encodes (before ++ piece ++ behind) = sym (encodes-chars text u) ∙ ap encodes whole in
-    let seam : text ≡ encodes (before ++ piece) ++ encodes behind = all ∙ encodes-append (before ++ piece) behind in
-    let seam' : text ≡ encodes before ++ encodes (piece ++ behind) = all ∙ ap encodes (append_assoc before piece behind) ∙ encodes-append before (piece ++ behind) in
+is_piece text span u (before, piece, following, whole, offset, len) =
+    let ok : scalars (before ++ piece ++ following) ≡ true = subst (λ (t : Text). scalars t ≡ true) whole (scalars-chars text u) in
+    let last : scalars following ≡ true = scalars_after (before ++ piece) following ok in
+    let ok' : scalars (before ++ (piece ++ following)) ≡ true = subst (λ (t : Text). scalars t ≡ true) (append_assoc before piece following) ok in
+    let later : scalars (piece ++ following) ≡ true = scalars_after before (piece ++ following) ok' in
+    let all : text ≡ encodes (before ++ piece ++ following) = sym (encodes-chars text u) ∙ ap encodes whole in
+    let seam : text ≡ encodes (before ++ piece) ++ encodes following = all ∙ encodes-append (before ++ piece) following in
+    let seam' : text ≡ encodes before ++ encodes (piece ++ following) = all ∙ ap encodes (append_assoc before piece following) ∙ encodes-append before (piece ++ following) in
     let long : length (encodes (before ++ piece)) ≡ span.offset + span.len =
     ap length (encodes-append before piece) ∙ length-append (encodes before) (encodes piece) ∙ ap (λ n. n + length (encodes piece)) (length-encodes before ∙ sym offset) ∙ ap (λ n. span.offset + n) (length-encodes piece ∙ sym len) in
     let short : length (encodes before) ≡ span.offset = length-encodes before ∙ sym offset in
-    let e : IsCharBoundary text (span.offset + span.len) = subst (λ (n : ℕ). IsCharBoundary text n) long (IsCharBoundary-at_seam text (encodes (before ++ piece)) (encodes behind) seam (utf8_of behind last)) in
+    let e : IsCharBoundary text (span.offset + span.len) = subst (λ (n : ℕ). IsCharBoundary text n) long (IsCharBoundary-at_seam text (encodes (before ++ piece)) (encodes following) seam (utf8_of following last)) in
     record {
       within = e.0;
-      begins = subst (λ (n : ℕ). IsCharBoundary text n) short (IsCharBoundary-at_seam text (encodes before) (encodes (piece ++ behind)) seam' (utf8_of (piece ++ behind) later));
+      begins = subst (λ (n : ℕ). IsCharBoundary text n) short (IsCharBoundary-at_seam text (encodes before) (encodes (piece ++ following)) seam' (utf8_of (piece ++ following) later));
       ends = e;
     }
 

@@ -51,13 +51,13 @@ content_pushed o l t (n ∷ ns) put s e p (with_nodes a x g) =
 gap_alone : (t : Text) → Gap true t [] → without_bom t ≡ t
 gap_alone t g = gap_without_bom t ((gap_items t).0 g).1
 
-behind : (o : Option DocumentFormat) (l : Text) → leading_text o ≡ 0xFEFF ∷ l → without_bom (leading_text o) ≡ l
-behind o l h = ap without_bom h
+following : (o : Option DocumentFormat) (l : Text) → leading_text o ≡ 0xFEFF ∷ l → without_bom (leading_text o) ≡ l
+following o l h = ap without_bom h
 
 whole_pushed : (o : Option DocumentFormat) (at : SourceSpan) (ns : List KdlNode) (put : Node) → EndsBefore o (slice_get ns (length ns - 1)) → NodeReads Anything put
     → DocumentReads (document o at (nodes_tree ns)) → DocumentReads (document o at (listed_nodes (map node_tree ns ++ (put ∷ []))))
 whole_pushed o at ns put e p (DocumentReads.no_bom c) = DocumentReads.no_bom (content_pushed o (leading_text o) (trailing_text o) ns put (λ g. gap_alone (leading_text o) g) e p c)
-whole_pushed o at ns put e p (DocumentReads.behind_bom {leading = l} h c) = DocumentReads.behind_bom h (content_pushed o l (trailing_text o) ns put (λ g. behind o l h) e p c)
+whole_pushed o at ns put e p (DocumentReads.after_bom {leading = l} h c) = DocumentReads.after_bom h (content_pushed o l (trailing_text o) ns put (λ g. following o l h) e p c)
 
 -- the document with the list
 tree_pushed : (d : KdlDocument) (n : KdlNode) (v : Vec KdlNode Global) → v.items ≡ nodes_of d ++ (n ∷ [])
@@ -97,11 +97,11 @@ last_is_end d ns n h s f x =
 abbrev lasts : List KdlNode → data'.Node → List data'.Node
 lasts ns x = said_nodes (said_with (length ns) x (nodes_data (nodes_tree ns)))
 
-said_behind : (ns : List KdlNode) (x : data'.Node) → lasts ns x ≡ said_nodes (nodes_data (nodes_tree ns)) ++ (x ∷ [])
-said_behind [] x = refl
-said_behind (n ∷ ns) x = ap (λ (l : List data'.Node). node_says n ∷ l) (said_behind ns x)
+said_after : (ns : List KdlNode) (x : data'.Node) → lasts ns x ≡ said_nodes (nodes_data (nodes_tree ns)) ++ (x ∷ [])
+said_after [] x = refl
+said_after (n ∷ ns) x = ap (λ (l : List data'.Node). node_says n ∷ l) (said_after ns x)
 
 pub put_last : (d e : KdlDocument) (x : data'.Node) → document_says e ≡ said_with (length (nodes_of d)) x (document_says d) → said_nodes (document_says e) ≡ said_nodes (document_says d) ++ (x ∷ [])
 put_last d e x h =
     let own : document_says d ≡ nodes_data (nodes_tree (nodes_of d)) = ap document_data (document_tree_out d) in
-    ap said_nodes (h ∙ ap (said_with (length (nodes_of d)) x) own) ∙ said_behind (nodes_of d) x ∙ ap (λ (z : data'.Nodes). said_nodes z ++ (x ∷ [])) (sym own)
+    ap said_nodes (h ∙ ap (said_with (length (nodes_of d)) x) own) ∙ said_after (nodes_of d) x ∙ ap (λ (z : data'.Nodes). said_nodes z ++ (x ∷ [])) (sym own)

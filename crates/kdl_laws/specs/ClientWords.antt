@@ -11,7 +11,7 @@ pub use Rattle.kdl_value.specs.Spelled.{SpelledReadsBack, SpelledReadsBackBefore
 pub use Rattle.kdl_value.specs.Floats.{DecimalsAreFloats}
 pub use Rattle.kdl_entry.specs.Formless.{FormlessReadsBack}
 -- Items: the lists of a place, of a node and of a document.
-pub use Rattle.kdl_comments.specs.Items.{GapItems, Item, Place, PlaceItems, before_block, before_entry, behind_block}
+pub use Rattle.kdl_comments.specs.Items.{GapItems, Item, Place, PlaceItems, before_block, before_entry, after_block}
 pub use Rattle.kdl_fmt.specs.Comments.{DocumentItems, EndItems, NodeItems}
 -- Entries that keep their form.
 pub use Rattle.kdl_laws.specs.KeptForm.{EmptyFormFails, UnflaggedKeepReading}

@@ -10,7 +10,7 @@ ghost use Rattle.kdl_fmt.specs.WithComments.{IsFormattedDocument, IsFormattedNod
 ghost use Rattle.kdl_grammar.specs.Grammar.{Gap};
 ghost use Rattle.kdl_grammar.specs.Places.{AfterChildren, BeforeChildren};
 ghost use Rattle.kdl_grammar.specs.Tree.{Document, Node};
-ghost use Rattle.kdl_comments.specs.Items.{GapItems, Item, Place, PlaceItems, before_block, before_entry, behind_block};
+ghost use Rattle.kdl_comments.specs.Items.{GapItems, Item, Place, PlaceItems, before_block, before_entry, after_block};
 ghost use Rattle.kdl_comments.specs.Written.{lines, on_line, tail};
 ghost use Rattle.kdl_laws.specs.Leading.{DocumentLeading};
 ghost use Rattle.kdl_text.specs.Chars.{Text, is_space};
@@ -25,7 +25,7 @@ pub fn place_has_items()
     ensures before_block { (s : Text) → BeforeChildren s []
         ↔ ((is : List Item) × PlaceItems before_block s is) }
     ensures after_block { (s : Text) → AfterChildren s []
-        ↔ ((is : List Item) × PlaceItems behind_block s is) }
+        ↔ ((is : List Item) × PlaceItems after_block s is) }
     ensures before_entry { (s : Text) → EntryLeading s []
         ↔ ((is : List Item) × PlaceItems (before_entry false) s is) }
     ensures document { (s : Text) → DocumentLeading s

@@ -13,8 +13,8 @@ use Rattle.kdl_parts.specs.declared.format.KdlNodeFormat.{KdlNodeFormat}
 pub node_format_decides : (f g : KdlNodeFormat) → Decides (node_format_impl.ghosts.eq f g) (node_format_tree f ≡ node_format_tree g)
 node_format_decides f g =
     let ends = Decides-and _ _ (text_decides f.terminator g.terminator) (text_decides f.trailing g.trailing) in
-    let behind = Decides-and _ _ (text_decides f.before_children g.before_children) (Decides-and _ _ (text_decides f.before_terminator g.before_terminator) ends) in
-    let types = Decides-and _ _ (text_decides f.after_ty_name g.after_ty_name) (Decides-and _ _ (text_decides f.after_ty g.after_ty) behind) in
+    let following = Decides-and _ _ (text_decides f.before_children g.before_children) (Decides-and _ _ (text_decides f.before_terminator g.before_terminator) ends) in
+    let types = Decides-and _ _ (text_decides f.after_ty_name g.after_ty_name) (Decides-and _ _ (text_decides f.after_ty g.after_ty) following) in
     let all = Decides-and _ _ (text_decides f.leading g.leading) (Decides-and _ _ (text_decides f.before_ty_name g.before_ty_name) types) in
     Decides-like _ (λ (leading, (before, (inside, (after, (block, (end, (terminator, trailing))))))). cc)
     (λ e. (

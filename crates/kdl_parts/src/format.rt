@@ -167,10 +167,10 @@ fn push_text(text: &mut String, more: &str) -> Result<(), AllocError>
 /// Returns the format with U+FEFF before its leading text.
 ///
 /// ```
-/// let format = behind_bom(alloc, None)?;
+/// let format = after_bom(alloc, None)?;
 /// let leading = format.leading.as_str(); // only U+FEFF
 /// ```
-pub fn behind_bom(
+pub fn after_bom(
     alloc: Global,
     format: Option<KdlDocumentFormat>,
 ) -> Result<KdlDocumentFormat, AllocError>

@@ -14,7 +14,7 @@ use Rattle.kdl_parts.specs.Formats.{document_format_tree, node_format_tree}
 use Rattle.kdl_parts.specs.declared.format.KdlNodeFormat.{KdlNodeFormat}
 use Rattle.kdl.specs.Bytes.{IsExchanged, IsExchangedInDocument, IsExchangedInNode}
 use Rattle.kdl.specs.Change.{with_children, with_node}
-use Rattle.kdl.specs.EditLaw.{document_before, document_behind}
+use Rattle.kdl.specs.EditLaw.{document_before, document_after}
 use Rattle.kdl.specs.Fields.{block_of, document_format_of, node_format_of}
 use Rattle.kdl.specs.Iterators.{nodes_in}
 use Rattle.kdl.specs.ReadsBack.{BlockReadsBack, DocumentReadsBack, ReadsAs}
@@ -57,7 +57,7 @@ content_reads (y ∷ ns) i n at (with_nodes a x g) = one_reads (y ∷ ns) i n at
 
 whole_reads : (o : Option DocumentFormat) (at : SourceSpan) (ns : List KdlNode) (i : ℕ) (n : KdlNode) → slice_get ns i ≡ Some n → DocumentReads (document o at (nodes_tree ns)) → AnyReads n
 whole_reads o at ns i n h (DocumentReads.no_bom c) = content_reads ns i n h c
-whole_reads o at ns i n h (DocumentReads.behind_bom e c) = content_reads ns i n h c
+whole_reads o at ns i n h (DocumentReads.after_bom e c) = content_reads ns i n h c
 
 inner_reads : (o : Option DocumentFormat) (at : SourceSpan) (ns : List KdlNode) (i : ℕ) (n : KdlNode) → slice_get ns i ≡ Some n → BlockReads (document o at (nodes_tree ns)) → AnyReads n
 inner_reads o at ns i n h (block c) = content_reads ns i n h c
@@ -114,7 +114,7 @@ node_exchanges p q d i n m h x = record { prints = at; format = format_same d i 
     at : (depth : ℕ) → IsExchanged p q (print_document (document_tree d) depth) (print_document (document_tree (with_node d i m)) depth)
     at depth =
         let (was, is) = node_exchanged d i n m depth h in
-        within p q _ _ (document_before d i depth) (document_behind d i depth) _ _ (x.prints depth) was is
+        within p q _ _ (document_before d i depth) (document_after d i depth) _ _ (x.prints depth) was is
 
 -- the data of the nodes, one of them changed
 nodes_say : (ns : List KdlNode) (i : ℕ) (n m : KdlNode) (g : data'.Node → data'.Node) → slice_get ns i ≡ Some n → node_says m ≡ g (node_says n) → nodes_data (nodes_tree (set ns i m)) ≡ with_nth i g (nodes_data (nodes_tree ns))

@@ -20,7 +20,7 @@ use Rattle.kdl_grammar.specs.Tree.{Children, Document, Head, Node, children_data
 use Rattle.kdl.specs.Bytes.{IsExchanged, IsExchangedInNode}
 use Rattle.kdl.specs.Change.{with_entry}
 use Rattle.kdl.specs.DocumentLookups.{nodes_of}
-use Rattle.kdl.specs.EditLaw.{text_before, text_behind}
+use Rattle.kdl.specs.EditLaw.{text_before, text_after}
 use Rattle.kdl.specs.Fields.{node_format_of}
 use Rattle.kdl.specs.Lookups.{entries_of, with_entry_there}
 use Rattle.kdl.specs.ReadsBack.{DocumentReadsBack, EntryReadsBack, ReadsAs}
@@ -114,7 +114,7 @@ former_is p is d n i e leads at h r x there =
 entry_exchanges : (n : KdlNode) (i : ℕ) (old new : KdlEntry) → IsSome (node_format_of n) → slice_get (entries_of n) i ≡ Some old → IsExchangedInNode (print_piece (entry_tree old)) (print_piece (entry_tree new)) n (with_entry n i new)
 entry_exchanges n i old new f h =
     let (was, is) = entry_exchanged n i old new f h in
-    record { prints = λ depth. record { before = text_before (node_tree n) i depth; after = text_behind (node_tree n) i depth; was = was depth; is = is depth } }
+    record { prints = λ depth. record { before = text_before (node_tree n) i depth; after = text_after (node_tree n) i depth; was = was depth; is = is depth } }
 
 map_twice : {A B C : Type 0} (f : A → B) (g : B → C) (xs : List A) → map (λ x. g (f x)) xs ≡ map g (map f xs)
 map_twice f g [] = refl

@@ -347,20 +347,20 @@ pub(crate) fn skip_unmarked(text: &str, marks: Marks) -> &str
 /// Continues the longest run of the class where `skip_ascii` stopped after `read` characters.
 /// Returns the text after the run, and the number of characters in it.
 #[inline(never)]
-#[tactic(auto, using(crate::proofs::Looking::Runs::run_begins, crate::proofs::Looking::Runs::run_turn, crate::proofs::Looking::Runs::run_stops, crate::proofs::Looking::Runs::run_ends, crate::proofs::Looking::Runs::run_counts))]
-fn skip_beyond<'a>(text: &str, behind: &'a str, read: u64, class: Class) -> (&'a str, u64)
-    requires { AsciiOf (in_class class) text.now behind.now read }
+#[tactic(auto, using(crate::proofs::Looking::Runs::runs))]
+fn skip_beyond<'a>(text: &str, following: &'a str, read: u64, class: Class) -> (&'a str, u64)
+    requires { AsciiOf (in_class class) text.now following.now read }
     ensures { RunOf (in_class class) text.now result.0.now result.1 }
 {
     let _len = text.len();
-    let mut rest = behind;
+    let mut rest = following;
     let mut count = read;
     'run: while let Some((c, next)) = split_first(rest) {
         if !class.has_beyond(c) {
             break;
         }
-        let (behind, more) = skip_ascii(next, class);
-        rest = behind;
+        let (following, more) = skip_ascii(next, class);
+        rest = following;
         count += 1 + more;
     }
     (rest, count)

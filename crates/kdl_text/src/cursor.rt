@@ -13,7 +13,7 @@
 
 ghost use Rattle.kdl_text.specs.Chars as class;
 ghost use Rattle.kdl_text.specs.Chars.{Text};
-ghost use Rattle.kdl_text.specs.Internal.Here.{Ahead, Behind, IsPart, Skips, Took, TookAfter, Ate, AteTwo, Stayed, first, first_len, tail, looked, stepped, sliced, in_class};
+ghost use Rattle.kdl_text.specs.Internal.Here.{Ahead, Reached, IsPart, Skips, Took, TookAfter, Ate, AteTwo, Stayed, first, first_len, tail, looked, stepped, sliced, in_class};
 ghost use Rattle.kdl_text.specs.Spans.{bytes, raise};
 ghost use Rattle.kdl_text.specs.Internal.DigitRuns.{SkipsDigits};
 ghost use Rattle.kdl_text.specs.Internal.Reading.{Moves, Costs, ReadsNewline};
@@ -581,7 +581,7 @@ impl<'a> Cursor<'a> {
     /// Returns the text from the checkpoint to here. Costs a step for each of its bytes.
     #[inline]
     pub fn slice(&mut self, from: &Checkpoint<'a>) -> Piece<'a>
-        requires { Behind from.now self.old }
+        requires { Reached from.now self.old }
         ensures result { from.now.rest ≡ result ++ self.old.rest }
         ensures moved { self.new ≡ sliced result self.old }
     {

@@ -155,9 +155,9 @@ fn write_escaped<W: Write>(s: &str, f: &mut Formatter<W>) -> fmt::Result
         let next = skip_plain(rest);
         write_text(before(rest, next), f)?;
         match next_char(next) {
-            Some((c, behind)) => {
+            Some((c, following)) => {
                 write_char_text(c, f)?;
-                rest = behind;
+                rest = following;
             }
             None => return Ok(()),
         }

@@ -97,31 +97,31 @@ pub fn check_replaced(case: &Case<'_>) -> Result<(), Fault> {
 
 /// Tests each text in which the character there is replaced, doubled or removed.
 fn check_replaced_at(case: &Case<'_>, at: usize, old: char, by: &str) -> Result<(), Fault> {
-    let behind = at.saturating_add(old.len_utf8());
+    let following = at.saturating_add(old.len_utf8());
     for new in by.chars() {
-        check_with(case, at, new, behind)?;
+        check_with(case, at, new, following)?;
     }
     check_with(case, at, old, at)?;
-    check_without(case, at, behind)
+    check_without(case, at, following)
 }
 
 /// Tests the text with that character in place of what is between the two places.
-fn check_with(case: &Case<'_>, at: usize, new: char, behind: usize) -> Result<(), Fault> {
-    let (front, back) = around(case.text, at, behind);
+fn check_with(case: &Case<'_>, at: usize, new: char, following: usize) -> Result<(), Fault> {
+    let (front, back) = around(case.text, at, following);
     let text = format!(in case.alloc(); "{front}{new}{back}")?;
     check_new(case, &text)
 }
 
 /// Tests the text without what is between the two places.
-fn check_without(case: &Case<'_>, at: usize, behind: usize) -> Result<(), Fault> {
-    let (front, back) = around(case.text, at, behind);
+fn check_without(case: &Case<'_>, at: usize, following: usize) -> Result<(), Fault> {
+    let (front, back) = around(case.text, at, following);
     let text = format!(in case.alloc(); "{front}{back}")?;
     check_new(case, &text)
 }
 
 /// The text before one place, and the text after the other.
-fn around(text: &str, at: usize, behind: usize) -> (&str, &str) {
-    match (text.get(..at), text.get(behind..)) {
+fn around(text: &str, at: usize, following: usize) -> (&str, &str) {
+    match (text.get(..at), text.get(following..)) {
         (Some(front), Some(back)) => (front, back),
         (_, _) => (text, ""),
     }

@@ -105,10 +105,10 @@ impl Decoder<'_> {
 
     /// Takes a character, or a mark of one, or what begins or ends another mark.
     fn take_plain(&mut self, text: &mut String, at: usize, c: char) -> Result<(), Fault> {
-        let behind = at.saturating_add(c.len_utf8());
+        let following = at.saturating_add(c.len_utf8());
         match c {
-            '⟨' => self.part = Part::Code(behind),
-            '⟦' if self.count == 0 => self.part = Part::Count(behind),
+            '⟨' => self.part = Part::Code(following),
+            '⟦' if self.count == 0 => self.part = Part::Count(following),
             '⟧' if self.count > 0 => self.repeat(text)?,
             '⟦' | '⟧' | '⟩' => return Err(self.wrong("a mark out of its place in ")),
             '◊' => self.fill(text, self.fills.member)?,

@@ -40,11 +40,11 @@ abbrev mutual
   left_above (children d) = left_around d
 
   left_around : Document → ℕ
-  left_around (document f span ns) = 1 + left_behind ns
+  left_around (document f span ns) = 1 + left_after ns
 
-  left_behind : Nodes → ℕ
-  left_behind none = 0
-  left_behind (first n ns) = cond (goes_on ns) (left_behind ns) (size_nodes ns + left_in n)
+  left_after : Nodes → ℕ
+  left_after none = 0
+  left_after (first n ns) = cond (goes_on ns) (left_after ns) (size_nodes ns + left_in n)
 
   left_in : Node → ℕ
   left_in (node h k) = left_above k
@@ -68,21 +68,21 @@ ends_there (m ∷ left) h = ap not (format_is m ∙ All-head IsDue m left h)
 not_due_goes_on : (n : KdlNode) (ns : Nodes) → IsNotDue n → goes_on (first (node_tree n) ns) ≡ true
 not_due_goes_on n ns e = ap not (format_is n ∙ e)
 
-left_at : (n : KdlNode) (left : List KdlNode) (o : Option KdlDocument) → (out-KdlNode n).children ≡ o → All IsDue left → left_behind (nodes_tree (n ∷ left)) ≡ size_nodes (nodes_tree left) + left_above (children_of (option_map document_tree o))
+left_at : (n : KdlNode) (left : List KdlNode) (o : Option KdlDocument) → (out-KdlNode n).children ≡ o → All IsDue left → left_after (nodes_tree (n ∷ left)) ≡ size_nodes (nodes_tree left) + left_above (children_of (option_map document_tree o))
 left_at n left o e h =
-    ap (λ b. cond b (left_behind (nodes_tree left)) (size_nodes (nodes_tree left) + left_in (node_tree n))) (ends_there left h)
+    ap (λ b. cond b (left_after (nodes_tree left)) (size_nodes (nodes_tree left) + left_in (node_tree n))) (ends_there left h)
     ∙ ap (λ t. size_nodes (nodes_tree left) + left_in t) (node_tree_out n)
     ∙ ap (λ p. size_nodes (nodes_tree left) + left_above (children_of (option_map document_tree p))) e
 
 left_open : (done : List KdlNode) (n : KdlNode) (left : List KdlNode) (o : Option KdlDocument) → All IsNotDue done → IsNotDue n → (out-KdlNode n).children ≡ o → All IsDue left
-    → left_behind (nodes_tree (done ++ n ∷ left)) ≡ size_nodes (nodes_tree left) + left_above (children_of (option_map document_tree o))
+    → left_after (nodes_tree (done ++ n ∷ left)) ≡ size_nodes (nodes_tree left) + left_above (children_of (option_map document_tree o))
 left_open [] n left o d f e h = left_at n left o e h
 left_open (m ∷ []) n left o d f e h =
-    ap (λ b. cond b (left_behind (nodes_tree (n ∷ left))) (size_nodes (nodes_tree (n ∷ left)) + left_in (node_tree m))) (not_due_goes_on n (nodes_tree left) f)
+    ap (λ b. cond b (left_after (nodes_tree (n ∷ left))) (size_nodes (nodes_tree (n ∷ left)) + left_in (node_tree m))) (not_due_goes_on n (nodes_tree left) f)
     ∙ left_at n left o e h
 left_open (m ∷ (k ∷ done)) n left o d f e h =
-    let behind = nodes_tree (k ∷ done ++ n ∷ left) in
-    ap (λ b. cond b (left_behind behind) (size_nodes behind + left_in (node_tree m))) (not_due_goes_on k (nodes_tree (done ++ n ∷ left)) (All-head IsNotDue k done (All-tail IsNotDue m (k ∷ done) d)))
+    let following = nodes_tree (k ∷ done ++ n ∷ left) in
+    ap (λ b. cond b (left_after following) (size_nodes following + left_in (node_tree m))) (not_due_goes_on k (nodes_tree (done ++ n ∷ left)) (All-head IsNotDue k done (All-tail IsNotDue m (k ∷ done) d)))
     ∙ left_open (k ∷ done) n left o (All-tail IsNotDue m (k ∷ done) d) f e h
 
 size_positive : (n : Node) → 1 ≤ size_node n
@@ -96,21 +96,21 @@ size_at here new at R h x =
     ap (λ z. size_nodes (nodes_tree z)) (drop_more xs at x.was h)
     ∙ ap (λ n. size_node (node_tree n) + size_nodes (nodes_tree (drop (at + 1) xs))) (x.found x.was)
 
-size_behind : (here new : KdlDocument) (at : ℕ) (R : KdlNode → KdlNode → Type 0) → ExchangedAt here new at R
+size_after : (here new : KdlDocument) (at : ℕ) (R : KdlNode → KdlNode → Type 0) → ExchangedAt here new at R
     → size_nodes (nodes_tree (drop (at + 1) (out-KdlDocument new).nodes.items)) ≡ size_nodes (nodes_tree (drop (at + 1) (out-KdlDocument here).nodes.items))
-size_behind here new at R x =
+size_after here new at R x =
     ap (λ z. size_nodes (nodes_tree (drop (at + 1) z))) x.nodes ∙ ap (λ z. size_nodes (nodes_tree z)) (drop-set-lt (at + 1) (out-KdlDocument here).nodes.items at x.is (omega arith))
 
 pub leaf_counted : (here new : KdlDocument) (above : Option KdlDocument) (at : ℕ) (R : KdlNode → KdlNode → Type 0) → at < length (out-KdlDocument here).nodes.items → ExchangedAt here new at R
     → left_of new above (at + 1) < left_of here above at
-leaf_counted here new above at R h x = omega (arith, size_at here new at R h x, size_behind here new at R x, size_positive (node_tree x.was))
+leaf_counted here new above at R h x = omega (arith, size_at here new at R h x, size_after here new at R x, size_positive (node_tree x.was))
 
 -- what is above an open node
 above_open : (above : KdlDocument) (done : List KdlNode) (n : KdlNode) (left : List KdlNode) (o : Option KdlDocument) → IsOpen above done n left → (out-KdlNode n).children ≡ o
     → left_above (children (document_tree above)) ≡ 1 + (size_nodes (nodes_tree left) + left_above (children_of (option_map document_tree o)))
 above_open above done n left o k e =
     ap left_around (document_tree_out above)
-    ∙ ap (λ z. 1 + left_behind (nodes_tree z)) k.nodes
+    ∙ ap (λ z. 1 + left_after (nodes_tree z)) k.nodes
     ∙ ap (λ i. 1 + i) (left_open done n left o (All-weaker IsCleared IsNotDue cleared_not_due done k.cleared) (open_not_due n k.head) e k.due)
 
 size_block : (n : KdlNode) (block : KdlDocument) → (out-KdlNode n).children ≡ Some block → size_node (node_tree n) ≡ 2 + size_nodes (nodes_tree (out-KdlDocument block).nodes.items)
@@ -135,8 +135,8 @@ end_counted here above new other end at w k y =
     let o = k.opened in
     let e = exchanged above new (at - 1) (HasInstead (Some here) other) y o.done o.n o.left o.is_open.nodes (omega (arith, k.place)) in
     let had : (out-KdlNode o.n).children ≡ other = ap (λ n. (out-KdlNode n).children) (sym e.same) ∙ sym y.holds.had in
-    let behind : size_nodes (nodes_tree (drop at (out-KdlDocument new).nodes.items)) ≡ size_nodes (nodes_tree o.left) =
+    let following : size_nodes (nodes_tree (drop at (out-KdlDocument new).nodes.items)) ≡ size_nodes (nodes_tree o.left) =
     ap (λ z. size_nodes (nodes_tree (drop at z))) (e.nodes ∙ sym (append_assoc o.done (y.is ∷ []) o.left))
     ∙ ap (λ z. size_nodes (nodes_tree z)) (drop_at (o.done ++ y.is ∷ []) o.left at (length_push o.done y.is ∙ sym k.place))
     in
-    omega (arith, behind, above_open above o.done o.n o.left other o.is_open had)
+    omega (arith, following, above_open above o.done o.n o.left other o.is_open had)

@@ -66,9 +66,9 @@ last_found : {A : Type 0} (p : A → Bool) (xs : List A) → there (last_place p
 last_found p xs = sym (or_none (there (last_place p xs) xs)) ∙ sym (last_is p xs None)
 
 -- and what is at the n-th place is the n-th of them
-there_behind : {A : Type 0} (x : A) (xs : List A) (o : Option ℕ) → there (option_map suc o) (x ∷ xs) ≡ there o xs
-there_behind x xs None = refl
-there_behind x xs (Some i) = refl
+there_after : {A : Type 0} (x : A) (xs : List A) (o : Option ℕ) → there (option_map suc o) (x ∷ xs) ≡ there o xs
+there_after x xs None = refl
+there_after x xs (Some i) = refl
 
 nth_found : {A : Type 0} (p : A → Bool) (xs : List A) (n : ℕ) → there (nth_place p xs n) xs ≡ slice_get (filter p xs) n
 nth_found p [] n = refl
@@ -76,8 +76,8 @@ nth_found {A = A} p (x ∷ xs) n = go (λ k. nth_found p xs k) (p x) n
   where
     go : ((k : ℕ) → there (nth_place p xs k) xs ≡ slice_get (filter p xs) k) → (b : Bool) (k : ℕ) → there (nth_step b k (nth_place p xs)) (x ∷ xs) ≡ slice_get (cond b (x ∷ filter p xs) (filter p xs)) k
     go h true zero = refl
-    go h true (suc k) = there_behind x xs (nth_place p xs k) ∙ h k
-    go h false k = there_behind x xs (nth_place p xs k) ∙ h k
+    go h true (suc k) = there_after x xs (nth_place p xs k) ∙ h k
+    go h false k = there_after x xs (nth_place p xs k) ∙ h k
 
 -- what is found in a list is found in the list of what its elements are mapped to
 last_mapped : {A B : Type 0} (f : A → B) (xs : List A) (o : Option A) → option_map f (last_or o xs) ≡ last_or (option_map f o) (map f xs)

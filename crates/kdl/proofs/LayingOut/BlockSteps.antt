@@ -277,8 +277,8 @@ all_done l above b level c olds e h u =
     partly_all l level c b.next olds b.nodes.items b.at h w.1
 
 -- what is left of a list of which one element is exchanged
-abbrev behind : Block → List KdlNode
-behind b = drop (b.at + 1) b.nodes.items
+abbrev following : Block → List KdlNode
+following b = drop (b.at + 1) b.nodes.items
 
 -- a block is left: the whole is what it was
 pub end_whole : (above : List Block) (outer inner b : Block) (n m : KdlNode) → outer.at < length outer.nodes.items → get_or outer.nodes.items outer.at n ≡ n → node_tree m ≡ filled n (map node_tree inner.nodes.items)
@@ -314,12 +314,12 @@ end_bare above outer inner b n m h g t is =
 
 -- and what was under way goes on
 end_goes_on : (above : List Block) (outer inner b : Block) (n m : KdlNode) → (outer.at < length outer.nodes.items → (b.nodes.items ≡ set outer.nodes.items outer.at m) × (b.at ≡ outer.at + 1))
-    → drop b.at b.nodes.items ≡ behind outer → b.level ≡ outer.level → b.before ≡ outer.before → b.next ≡ outer.next
+    → drop b.at b.nodes.items ≡ following outer → b.level ≡ outer.level → b.before ≡ outer.before → b.next ≡ outer.next
     → node_tree m ≡ enclosed outer.around (get_or outer.nodes.items outer.at n) (map node_tree inner.nodes.items) → length inner.nodes.items ≤ inner.at → (s : Layout) → GoesOn s (above ++ outer ∷ []) inner above b
 end_goes_on above outer inner b n m is left l t x e all s =
     let nothing : drop inner.at inner.nodes.items ≡ [] = drop_all inner.at inner.nodes.items all in (
       end_on s above outer inner b m n all is l t x e,
-      omega (arith, end_counted behind outer above, ap (λ r. count_left behind r above) left, ap (λ r. count_left behind r (above ++ outer ∷ [])) nothing),
+      omega (arith, end_counted following outer above, ap (λ r. count_left following r above) left, ap (λ r. count_left following r (above ++ outer ∷ [])) nothing),
     )
 
 pub end_goes_on_there : (above : List Block) (outer inner b : Block) (n m : KdlNode) → outer.at < length outer.nodes.items → get_or outer.nodes.items outer.at n ≡ n → node_tree m ≡ enclosed outer.around n (map node_tree inner.nodes.items)
@@ -333,9 +333,9 @@ pub end_goes_on_none : (above : List Block) (outer inner b : Block) → length o
     → length inner.nodes.items ≤ inner.at → (s : Layout) → GoesOn s (above ++ outer ∷ []) inner above b
 end_goes_on_none above outer inner b h is at l t all s =
     let nothing : drop inner.at inner.nodes.items ≡ [] = drop_all inner.at inner.nodes.items all in
-    let left : drop b.at b.nodes.items ≡ behind outer = rw (is, at) (drop_all outer.at outer.nodes.items h ∙ sym (drop_all (outer.at + 1) outer.nodes.items (omega (arith, h)))) in (
+    let left : drop b.at b.nodes.items ≡ following outer = rw (is, at) (drop_all outer.at outer.nodes.items h ∙ sym (drop_all (outer.at + 1) outer.nodes.items (omega (arith, h)))) in (
       end_on_none s above outer inner b h,
-      omega (arith, end_counted behind outer above, ap (λ r. count_left behind r above) left, ap (λ r. count_left behind r (above ++ outer ∷ [])) nothing),
+      omega (arith, end_counted following outer above, ap (λ r. count_left following r above) left, ap (λ r. count_left following r (above ++ outer ∷ [])) nothing),
     )
 
 -- a step at the next node leaves what stays
@@ -376,10 +376,10 @@ line_goes_on s above b b' first g n m x h e is at l t same none braced own =
     let laid : (level : ℕ) → IsAtLevel s level b → NodeIsSpaced s level b.next (node_tree n) (node_tree x) × PassesAt s (node_tree n) b'.next =
     λ level u. let w = at_level s b b'.next first g n m own level u in
     (subst (λ z. NodeIsSpaced s level b.next (node_tree n) z) (sym braced) (line_is_laid s b b'.next first g n m same none level w).0, w.0) in
-    let rest : drop b'.at b'.nodes.items ≡ behind b = rw (is, at) (drop-set-lt (b.at + 1) b.nodes.items b.at x (omega arith)) in
-    let first : drop b.at b.nodes.items ≡ n ∷ behind b = drop_more b.nodes.items b.at n h ∙ ap (λ x. x ∷ behind b) e in (
+    let rest : drop b'.at b'.nodes.items ≡ following b = rw (is, at) (drop-set-lt (b.at + 1) b.nodes.items b.at x (omega arith)) in
+    let first : drop b.at b.nodes.items ≡ n ∷ following b = drop_more b.nodes.items b.at n h ∙ ap (λ x. x ∷ following b) e in (
       line_on s above b b' x n h is at l t (λ level u. subst (λ y. NodeIsSpaced s level b.next (node_tree y) (node_tree x) × PassesAt s (node_tree y) b'.next) (sym e) (laid level u)),
-      omega (arith, line_counted behind n (behind b) above, ap (λ r. count_left behind r above) rest, ap (λ r. count_left behind r above) first),
+      omega (arith, line_counted following n (following b) above, ap (λ r. count_left following r above) rest, ap (λ r. count_left following r above) first),
     )
 
 set_twice : (xs : List KdlNode) (i : ℕ) (y z : KdlNode) → set (set xs i y) i z ≡ set xs i z
@@ -450,13 +450,13 @@ module _ (s : Layout) (above : List Block) (b b1 outer inner : Block) (n m x x' 
         let k : inner.level ≡ level + 1 = l ∙ ap (λ z. z + 1) (open_level ∙ u.0) in (k, t (u.1 ∙ ap (indentation (settings s.config)) (sym u.0)) ∙ ap (indentation (settings s.config)) k),
         rw next w.0,
       ) in
-      let rest : behind outer ≡ behind b =
+      let rest : following outer ≡ following b =
       ap (λ z. drop (outer.at + 1) z) outer_items ∙ ap (λ i. drop (i + 1) (set b.nodes.items b.at x')) (outer_at ∙ place) ∙ drop-set-lt (b.at + 1) b.nodes.items b.at x' (omega arith) in
-      let next_is : drop b.at b.nodes.items ≡ n ∷ behind b = drop_more b.nodes.items b.at n there ∙ ap (λ z. z ∷ behind b) next in
+      let next_is : drop b.at b.nodes.items ≡ n ∷ following b = drop_more b.nodes.items b.at n there ∙ ap (λ z. z ∷ following b) next in
       let start : drop inner.at inner.nodes.items ≡ child_nodes n = ap (λ i. drop i inner.nodes.items) first ∙ taken ∙ same in
       let is : child_nodes n ≡ (out-KdlDocument w.0).nodes.items = ap nodes_in w.1 in (
         block_on s above b outer inner (child_nodes n) x' n there outer_items (outer_at ∙ place) (outer_level ∙ open_level) (outer_before ∙ open_before) (taken ∙ same) first laid,
-        omega (arith, block_counted behind n w.0 outer above w.1, ap (λ z. count_left behind z (above ++ outer ∷ [])) (start ∙ is), ap (λ z. count_left behind (n ∷ z) above) rest, ap (λ z. count_left behind z above) next_is),
+        omega (arith, block_counted following n w.0 outer above w.1, ap (λ z. count_left following z (above ++ outer ∷ [])) (start ∙ is), ap (λ z. count_left following (n ∷ z) above) rest, ap (λ z. count_left following z above) next_is),
       )
 
 -- a layout from the start to the end

@@ -224,7 +224,7 @@ all_stays l level before olds xs above above' b b' empty holds start y t next tr
 -- a document of which the nodes are others, and the texts around them are laid out
 whole_stays : (s : Settings) (o : Option DocumentFormat) (at : SourceSpan) (ns ms : List Node) → StayAs s ns ms → NodesKeepReading s (listed_nodes ns) → DocumentReads (document o at (listed_nodes ns)) → DocumentReads (document o at (listed_nodes ms))
 whole_stays s o at ns ms a k (DocumentReads.no_bom c) = DocumentReads.no_bom (content_stays s ns ms a c k).0
-whole_stays s o at ns ms a k (DocumentReads.behind_bom e c) = DocumentReads.behind_bom e (content_stays s ns ms a c k).0
+whole_stays s o at ns ms a k (DocumentReads.after_bom e c) = DocumentReads.after_bom e (content_stays s ns ms a c k).0
 
 pub document_stays : (l : Layout) → list_all is_space (settings l.config).indent ≡ true → (level : ℕ) (b : Before) (d m : KdlDocument) → (out-KdlDocument m).span ≡ (out-KdlDocument d).span
     → (v : Vec KdlNode Global) → (out-KdlDocument m).nodes ≡ v → (g : Option DocumentFormat) → option_map document_format_tree (out-KdlDocument m).format ≡ g

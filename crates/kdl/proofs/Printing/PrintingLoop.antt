@@ -45,10 +45,10 @@ block_printed n d depth e =
 
 -- one more block that is open
 above_more : (os : List Open) (o : Open) (depth at : ℕ) → at ≡ depth + length os
-    → print_above (os ++ o ∷ []) depth ≡ closing o.node.now o.block.now at ++ print_nodes (nodes_tree o.behind.now) at ++ print_above os depth
+    → print_above (os ++ o ∷ []) depth ≡ closing o.node.now o.block.now at ++ print_nodes (nodes_tree o.following.now) at ++ print_above os depth
 above_more [] o depth at e =
     let k : at ≡ depth = omega (arith, e) in
-    rw (k, append-nil (closing o.node.now o.block.now depth ++ print_nodes (nodes_tree o.behind.now) depth)) refl
+    rw (k, append-nil (closing o.node.now o.block.now depth ++ print_nodes (nodes_tree o.following.now) depth)) refl
 above_more (p ∷ os) o depth at e =
     let k : at ≡ depth + 1 + length os = omega (arith, e) in
     rw (above_more os o (depth + 1) at k) (grind (arith, common_steps))
@@ -56,34 +56,34 @@ above_more (p ∷ os) o depth at e =
 inside : (o c k b a : Text) → o ++ (k ++ (c ++ b ++ a)) ≡ (o ++ k ++ c) ++ (b ++ a)
 inside o c k b a = grind (arith, common_steps)
 
-pub line_left : (n : KdlNode) (behind : List KdlNode) (above : List Open) (at : ℕ) → at ≡ length above → (out-KdlNode n).children ≡ None
-    → line n at ++ print_left behind above ≡ print_left (n ∷ behind) above
-line_left n behind above at k e =
-    ap (λ i. line n i ++ print_left behind above) k
-    ∙ sym (append_assoc (line n (length above)) (print_nodes (nodes_tree behind) (length above)) (print_above above 0))
-    ∙ ap (λ t. (t ++ print_nodes (nodes_tree behind) (length above)) ++ print_above above 0) (sym (line_printed n (length above) e))
+pub line_left : (n : KdlNode) (following : List KdlNode) (above : List Open) (at : ℕ) → at ≡ length above → (out-KdlNode n).children ≡ None
+    → line n at ++ print_left following above ≡ print_left (n ∷ following) above
+line_left n following above at k e =
+    ap (λ i. line n i ++ print_left following above) k
+    ∙ sym (append_assoc (line n (length above)) (print_nodes (nodes_tree following) (length above)) (print_above above 0))
+    ∙ ap (λ t. (t ++ print_nodes (nodes_tree following) (length above)) ++ print_above above 0) (sym (line_printed n (length above) e))
 
 pub block_left : (o : Open) (above : List Open) (at : ℕ) → at ≡ length above → (out-KdlNode o.node.now).children ≡ Some o.block.now
-    → opening o.node.now o.block.now at ++ print_left (out-KdlDocument o.block.now).nodes.items (above ++ o ∷ []) ≡ print_left (o.node.now ∷ o.behind.now) above
+    → opening o.node.now o.block.now at ++ print_left (out-KdlDocument o.block.now).nodes.items (above ++ o ∷ []) ≡ print_left (o.node.now ∷ o.following.now) above
 block_left o above at k e =
     let depth = length above in
     let n = o.node.now in
     let d = o.block.now in
     let inner = nodes_tree (out-KdlDocument d).nodes.items in
-    let behind = print_nodes (nodes_tree o.behind.now) depth in
+    let following = print_nodes (nodes_tree o.following.now) depth in
     let more : length (above ++ o ∷ []) ≡ depth + 1 = length-append above (o ∷ []) in
     ap (λ i. opening n d i ++ print_left (out-KdlDocument d).nodes.items (above ++ o ∷ [])) k
     ∙ ap (λ i. opening n d depth ++ (print_nodes inner i ++ print_above (above ++ o ∷ []) 0)) more
     ∙ ap (λ t. opening n d depth ++ (print_nodes inner (depth + 1) ++ t)) (above_more above o 0 depth (omega arith))
-    ∙ inside (opening n d depth) (closing n d depth) (print_nodes inner (depth + 1)) behind (print_above above 0)
-    ∙ ap (λ t. t ++ (behind ++ print_above above 0)) (sym (block_printed n d depth e))
-    ∙ sym (append_assoc (print_node (node_tree n) depth) behind (print_above above 0))
+    ∙ inside (opening n d depth) (closing n d depth) (print_nodes inner (depth + 1)) following (print_above above 0)
+    ∙ ap (λ t. t ++ (following ++ print_above above 0)) (sym (block_printed n d depth e))
+    ∙ sym (append_assoc (print_node (node_tree n) depth) following (print_above above 0))
 
 pub end_left : (o : Open) (above : List Open) (at : ℕ) → at ≡ length above
-    → closing o.node.now o.block.now at ++ print_left o.behind.now above ≡ print_left [] (above ++ o ∷ [])
+    → closing o.node.now o.block.now at ++ print_left o.following.now above ≡ print_left [] (above ++ o ∷ [])
 end_left o above at k =
-    ap (λ i. closing o.node.now o.block.now i ++ print_left o.behind.now above) k
-    ∙ sym (append_assoc (closing o.node.now o.block.now (length above)) (print_nodes (nodes_tree o.behind.now) (length above)) (print_above above 0))
+    ap (λ i. closing o.node.now o.block.now i ++ print_left o.following.now above) k
+    ∙ sym (append_assoc (closing o.node.now o.block.now (length above)) (print_nodes (nodes_tree o.following.now) (length above)) (print_above above 0))
     ∙ sym (above_more above o 0 (length above) (omega arith))
 
 -- one more text

@@ -17,7 +17,7 @@ use Rattle.kdl_grammar.specs.Tree.{DocumentFormat, Node, Nodes, document, listed
 use Rattle.kdl_grammar.proofs.ReadingBack.Composing.{ends_before, weaker}
 use Rattle.kdl_parts.specs.declared.format.KdlNodeFormat.{KdlNodeFormat}
 use Rattle.kdl.specs.DocumentLookups.{nodes_of}
-use Rattle.kdl.specs.Internal.Ends.{EndsAs, GapSays, IsRestAt, LeadingEnded, PutBehind, PutFirst, ReadsIn, end_with, lead_with, led_with, rests_after}
+use Rattle.kdl.specs.Internal.Ends.{EndsAs, GapSays, IsRestAt, LeadingEnded, PutAfter, PutFirst, ReadsIn, end_with, lead_with, led_with, rests_after}
 use Rattle.kdl.specs.Nodes.{newlines, texts_around, trees}
 use Rattle.kdl.specs.ReadsBack.{NodeReadsBack}
 use Rattle.kdl.specs.Tree.{document_tree, node_tree}
@@ -112,8 +112,8 @@ module _ (o p : Option DocumentFormat) (at to : SourceSpan) (ns ms : List Node) 
   document_changed l t w (DocumentReads.no_bom c) =
       DocumentReads.no_bom (subst (λ (z : Text). ContentReads TextEnd (leading_text p) z (listed_nodes ms)) (sym t)
       (subst (λ (z : Text). ContentReads TextEnd z (trailing_text o) (listed_nodes ms)) (sym l) (w (leading_text o) c)))
-  document_changed l t w (DocumentReads.behind_bom {leading = x} e c) =
-      DocumentReads.behind_bom (l ∙ e) (subst (λ (z : Text). ContentReads TextEnd x z (listed_nodes ms)) (sym t) (w x c))
+  document_changed l t w (DocumentReads.after_bom {leading = x} e c) =
+      DocumentReads.after_bom (l ∙ e) (subst (λ (z : Text). ContentReads TextEnd x z (listed_nodes ms)) (sym t) (w x c))
 
 -- the content of a document with a node put before all others
 document_first : (o : Option DocumentFormat) (l : Option Text) (at to : SourceSpan) (ns : List Node) (put : Node) → LeadingEnded o l → (0 < length ns → NodeReads Anything put)
@@ -123,10 +123,10 @@ document_first o l at to ns put e a x (DocumentReads.no_bom c) =
     DocumentReads.no_bom (subst (λ (z : Text). ContentReads TextEnd (leading_text (led_with l o)) z (listed_nodes (put ∷ ns))) (sym k.3)
     (subst (λ (z : Text). ContentReads TextEnd z (trailing_text o) (listed_nodes (put ∷ ns))) (sym k.2)
     (content_put_first TextEnd (leading_text o) (leading_text o ++ newlines k.0) (trailing_text o) ns put (plain_says (leading_text o) k.0 k.1) a x c)))
-document_first o l at to ns put e a x (DocumentReads.behind_bom {leading = m} h c) =
+document_first o l at to ns put e a x (DocumentReads.after_bom {leading = m} h c) =
     let k = leading_led o l e in
     let says : GapSays m k.0 = subst (λ (z : Text). GapSays (without_bom z) k.0) h k.1 in
-    DocumentReads.behind_bom (k.2 ∙ ap (λ (z : Text). z ++ newlines k.0) h) (subst (λ (z : Text). ContentReads TextEnd (m ++ newlines k.0) z (listed_nodes (put ∷ ns))) (sym k.3)
+    DocumentReads.after_bom (k.2 ∙ ap (λ (z : Text). z ++ newlines k.0) h) (subst (λ (z : Text). ContentReads TextEnd (m ++ newlines k.0) z (listed_nodes (put ∷ ns))) (sym k.3)
     (content_put_first TextEnd m (m ++ newlines k.0) (trailing_text o) ns put says a x c))
 
 block_first : (o : Option DocumentFormat) (l : Option Text) (at to : SourceSpan) (ns : List Node) (put : Node) → LeadingEnded o l → (0 < length ns → NodeReads Anything put)
@@ -159,40 +159,40 @@ first_reads true n d e p (a, x) r =
     subst BlockReads (sym (first_tree n d e p))
     (block_first (texts_around d) p.leading (out-KdlDocument d).span (out-KdlDocument e).span (trees d) (node_tree n) p.ended a x (subst BlockReads (document_tree_out d) r))
 
-abbrev with_behind : ℕ → KdlNode → KdlNode → KdlDocument → List Node
-with_behind i m n d = insert (set (trees d) i (node_tree m)) (suc i) (node_tree n)
+abbrev with_after : ℕ → KdlNode → KdlNode → KdlDocument → List Node
+with_after i m n d = insert (set (trees d) i (node_tree m)) (suc i) (node_tree n)
 
-behind_tree : (i : ℕ) (n : KdlNode) (d e : KdlDocument) (p : PutBehind i n d e)
-    → document_tree e ≡ document (texts_around d) (out-KdlDocument e).span (listed_nodes (with_behind i (end_with p.format p.last) n d))
-behind_tree i n d e p =
+after_tree : (i : ℕ) (n : KdlNode) (d e : KdlDocument) (p : PutAfter i n d e)
+    → document_tree e ≡ document (texts_around d) (out-KdlDocument e).span (listed_nodes (with_after i (end_with p.format p.last) n d))
+after_tree i n d e p =
     let m = end_with p.format p.last in
-    tree_as e (texts_around d) (with_behind i m n d) (texts_kept d e p.rest)
+    tree_as e (texts_around d) (with_after i m n d) (texts_kept d e p.rest)
     (ap (map node_tree) (p.nodes ∙ ap (λ (z : ℕ). insert (set (nodes_of d) i m) z n) (add-one i)) ∙ insert_trees (set (nodes_of d) i m) (suc i) n
     ∙ ap (λ (z : List Node). insert z (suc i) (node_tree n)) (map-set node_tree (nodes_of d) i m))
 
-behind_content : (P : Rests) (i : ℕ) (n : KdlNode) (d e : KdlDocument) (p : PutBehind i n d e) (l : Text) → (suc i < length (trees d) → NodeReads Anything (node_tree n))
+after_content : (P : Rests) (i : ℕ) (n : KdlNode) (d e : KdlDocument) (p : PutAfter i n d e) (l : Text) → (suc i < length (trees d) → NodeReads Anything (node_tree n))
     → NodeReads (last_rests (trailing_text (texts_around d)) P) (node_tree n) → ContentReads P l (trailing_text (texts_around d)) (listed_nodes (trees d))
-    → ContentReads P l (trailing_text (texts_around d)) (listed_nodes (with_behind i (end_with p.format p.last) n d))
-behind_content P i n d e p l a x c =
+    → ContentReads P l (trailing_text (texts_around d)) (listed_nodes (with_after i (end_with p.format p.last) n d))
+after_content P i n d e p l a x c =
     content_put P i l (trailing_text (texts_around d)) (trees d) (node_tree p.last) (node_tree (end_with p.format p.last)) (node_tree n)
     (slice_get-map node_tree (nodes_of d) i ∙ ap (option_map node_tree) p.there) p.reads a x c
 
 block_of : {o : Option DocumentFormat} {at : SourceSpan} {ns : Nodes} → BlockReads (document o at ns) → ContentReads (BlockEnd o) (leading_text o) (trailing_text o) ns
 block_of (block c) = c
 
-behind_reads : (b : Bool) (i : ℕ) (n : KdlNode) (d e : KdlDocument) → PutBehind i n d e → PutEnds b (suc i) d (node_tree n) → ReadsIn b d → ReadsIn b e
-behind_reads false i n d e p (a, x) r =
-    subst DocumentReads (sym (behind_tree i n d e p))
-    (document_changed (texts_around d) (texts_around d) (out-KdlDocument d).span (out-KdlDocument e).span (trees d) (with_behind i (end_with p.format p.last) n d) refl refl
-    (λ l c. behind_content TextEnd i n d e p l a x c) (subst DocumentReads (document_tree_out d) r))
-behind_reads true i n d e p (a, x) r =
-    subst BlockReads (sym (behind_tree i n d e p)) (block (behind_content (BlockEnd (texts_around d)) i n d e p (leading_text (texts_around d)) a x (block_of (subst BlockReads (document_tree_out d) r))))
+after_reads : (b : Bool) (i : ℕ) (n : KdlNode) (d e : KdlDocument) → PutAfter i n d e → PutEnds b (suc i) d (node_tree n) → ReadsIn b d → ReadsIn b e
+after_reads false i n d e p (a, x) r =
+    subst DocumentReads (sym (after_tree i n d e p))
+    (document_changed (texts_around d) (texts_around d) (out-KdlDocument d).span (out-KdlDocument e).span (trees d) (with_after i (end_with p.format p.last) n d) refl refl
+    (λ l c. after_content TextEnd i n d e p l a x c) (subst DocumentReads (document_tree_out d) r))
+after_reads true i n d e p (a, x) r =
+    subst BlockReads (sym (after_tree i n d e p)) (block (after_content (BlockEnd (texts_around d)) i n d e p (leading_text (texts_around d)) a x (block_of (subst BlockReads (document_tree_out d) r))))
 
 -- a node put in at the index j
-pub put_behind_reads : (b : Bool) (i j : ℕ) (d e : KdlDocument) (rest : Rest) (n : KdlNode) (own : Option KdlNodeFormat) → suc i ≡ j → IsRestAt b j d rest → EndsAs rest n (end_with own n)
-    → PutBehind i (end_with own n) d e → ReadsIn b d → NodeReadsBack n → ReadsIn b e
-put_behind_reads b i j d e rest n own h at w p r x =
-    behind_reads b i (end_with own n) d e p (put_ends b (suc i) d rest n (end_with own n) (subst (λ (k : ℕ). IsRestAt b k d rest) (sym h) at) w x) r
+pub put_after_reads : (b : Bool) (i j : ℕ) (d e : KdlDocument) (rest : Rest) (n : KdlNode) (own : Option KdlNodeFormat) → suc i ≡ j → IsRestAt b j d rest → EndsAs rest n (end_with own n)
+    → PutAfter i (end_with own n) d e → ReadsIn b d → NodeReadsBack n → ReadsIn b e
+put_after_reads b i j d e rest n own h at w p r x =
+    after_reads b i (end_with own n) d e p (put_ends b (suc i) d rest n (end_with own n) (subst (λ (k : ℕ). IsRestAt b k d rest) (sym h) at) w x) r
 
 pub put_first_reads : (b : Bool) (j : ℕ) (d e : KdlDocument) (rest : Rest) (n : KdlNode) (own : Option KdlNodeFormat) → 0 ≡ j → IsRestAt b j d rest → EndsAs rest n (end_with own n)
     → PutFirst (end_with own n) d e → ReadsIn b d → NodeReadsBack n → ReadsIn b e

@@ -18,7 +18,7 @@ use Rattle.kdl.specs.Cleared.{new_document}
 use Rattle.kdl.specs.DocumentLookups.{nodes_of}
 use Rattle.kdl.specs.Exact.{BlockBegunExactly, ChildPutExactly, ChildPutExactlyIn, EndsAt, FewerFail, HasOpenEnd, IsBeforeNewline, IsPutExactly, IsPutInBlock, LacksAt, LacksBeforeBrace, LacksBeforeText, LacksInBlock, LacksInText, NodesMayFollow, lengthened, with_more}
 use Rattle.kdl.specs.Fields.{node_format_of}
-use Rattle.kdl.specs.Internal.Ends.{BeforeNewBlock, BeginsFewest, BlockBegins, EndsAs, EndsExactly, FewestBefore, FormatFewest, GapFewest, GapSays, IsEnded, IsEndedBy, IsEndedExactly, IsNodeEnded, IsRestAt, Lacks, LacksBefore, LeadingEnded, LeadsExactly, PlaceFewest, PutBehind, PutBehindExactly, PutExactly, PutFirst, PutFirstExactly, block_format, block_if, end_with, formless_count, lead_with, led_with, with_newlines}
+use Rattle.kdl.specs.Internal.Ends.{BeforeNewBlock, BeginsFewest, BlockBegins, EndsAs, EndsExactly, FewestBefore, FormatFewest, GapFewest, GapSays, IsEnded, IsEndedBy, IsEndedExactly, IsNodeEnded, IsRestAt, Lacks, LacksBefore, LeadingEnded, LeadsExactly, PlaceFewest, PutAfter, PutAfterExactly, PutExactly, PutFirst, PutFirstExactly, block_format, block_if, end_with, formless_count, lead_with, led_with, with_newlines}
 use Rattle.kdl.specs.Nodes.{EndsWith, IsPut, LeadsWith, WithNewlines, format_or_printed, newlines, printed_format, text_from, text_up_to, texts_around, trees}
 use Rattle.kdl.specs.ReadsBack.{NodeEnds}
 use Rattle.kdl.specs.Tree.{document_prints, document_tree, head_tree, node_prints, node_tree, nodes_tree}
@@ -28,7 +28,7 @@ use Rattle.kdl.specs.declared.ends.Rest.{Rest}
 use Rattle.kdl.specs.declared.node.KdlNode.{KdlNode}
 use Rattle.kdl.proofs.Putting.Fewest.{open_fewest}
 use Rattle.kdl.proofs.Putting.NodeEnds.{ends_with}
-use Rattle.kdl.proofs.Putting.Puts.{behind_put_is, insert_trees, put_printed_as, span_kept, texts_kept}
+use Rattle.kdl.proofs.Putting.Puts.{after_put_is, insert_trees, put_printed_as, span_kept, texts_kept}
 use Rattle.kdl.proofs.Printing.PrintedParts.{document_printed}
 use Rattle.kdl.proofs.Trees.{node_tree_out, node_tree_roll}
 use Rattle.kdl.proofs.Putting.PutReads.{block_of, is_some_mapped}
@@ -142,11 +142,11 @@ leads_exactly o f t (suc k) h l m e says x =
     subst (λ (p : Option DocumentFormat). LeadsExactly p (Some t)) (sym h) (suc k, m, (f, refl, ap (λ (z : Text). Some (record f { leading = z })) e), says, x)
 
 -- a node put after another one
-pub behind_put_exactly : (d p : KdlDocument) (i : ℕ) (n b m x : KdlNode) (o : Option KdlNodeFormat) → i < length (nodes_of d) → get_or (nodes_of d) i b ≡ b
+pub after_put_exactly : (d p : KdlDocument) (i : ℕ) (n b m x : KdlNode) (o : Option KdlNodeFormat) → i < length (nodes_of d) → get_or (nodes_of d) i b ≡ b
     → IsEnded (format_or_printed (head_tree (out-KdlNode b))) (node_texts o) → EndsAs Rest.Text b (end_with o b) → EndsExactly Rest.Text b o → nodes_of p ≡ insert (nodes_of d) (i + 1) n
-    → p ≡ with_nodes d (out-KdlDocument p).nodes → get_or (nodes_of p) i m ≡ m → x ≡ end_with o m → PutBehindExactly i n d (with_nodes p (with_item (out-KdlDocument p).nodes i x))
-behind_put_exactly d p i n b m x o h at c ends exact q r g w =
-    let y = behind_put_is d p i n b m x o h at c ends q r g w in
+    → p ≡ with_nodes d (out-KdlDocument p).nodes → get_or (nodes_of p) i m ≡ m → x ≡ end_with o m → PutAfterExactly i n d (with_nodes p (with_item (out-KdlDocument p).nodes i x))
+after_put_exactly d p i n b m x o h at c ends exact q r g w =
+    let y = after_put_is d p i n b m x o h at c ends q r g w in
     (y.0, subst (λ (z : KdlNode). EndsExactly Rest.Text z y.0.format) (sym y.1) (subst (λ (z : Option KdlNodeFormat). EndsExactly Rest.Text b z) (sym y.2) exact))
 
 -- a node put before all others, after a leading text that took the place of the old one
@@ -183,9 +183,9 @@ same_some : (x y : KdlNode) (o : Option KdlNode) → o ≡ Some x → o ≡ Some
 same_some x y o h k = let e : Some x ≡ Some y = sym h ∙ k in cc
 
 -- a node put in at the index j, after another one
-behind_is_put : (i : ℕ) (n : KdlNode) (own : Option KdlNodeFormat) (d e : KdlDocument) (rest : Rest) → EndsExactly rest n own → (p : PutBehind i (end_with own n) d e) → EndsExactly Rest.Text p.last p.format
+after_is_put : (i : ℕ) (n : KdlNode) (own : Option KdlNodeFormat) (d e : KdlDocument) (rest : Rest) → EndsExactly rest n own → (p : PutAfter i (end_with own n) d e) → EndsExactly Rest.Text p.last p.format
     → IsPut (suc i) (node_tree n) d e
-behind_is_put i n own d e rest a p b = record {
+after_is_put i n own d e rest a p b = record {
   k = b.0;
   j = a.0;
   few = (b.1, a.1);
@@ -202,22 +202,22 @@ behind_is_put i n own d e rest a p b = record {
   span = span_kept d e p.rest;
 }
 
-behind_lacks : (i : ℕ) (n : KdlNode) (d e : KdlDocument) (p : PutBehind i n d e) (b : EndsExactly Rest.Text p.last p.format) → LacksAt (suc i) b.0 d
-behind_lacks i n d e p b = λ m h. subst (LacksBeforeText b.0) (same_some p.last m (slice_get (nodes_of d) i) p.there h) b.3
+after_lacks : (i : ℕ) (n : KdlNode) (d e : KdlDocument) (p : PutAfter i n d e) (b : EndsExactly Rest.Text p.last p.format) → LacksAt (suc i) b.0 d
+after_lacks i n d e p b = λ m h. subst (LacksBeforeText b.0) (same_some p.last m (slice_get (nodes_of d) i) p.there h) b.3
 
-behind_exactly : (b : Bool) (i : ℕ) (n : KdlNode) (own : Option KdlNodeFormat) (d e : KdlDocument) (rest : Rest) → IsRestAt b (suc i) d rest → EndsExactly rest n own
-    → PutBehindExactly i (end_with own n) d e → PutExactly b (suc i) n d e
-unfolding behind_is_put
-behind_exactly false i n own d e rest at a (p, x) =
-    let q = behind_is_put i n own d e rest a p x in
-    record { put = q; prints = put_printed_as (suc i) n d e q; before = behind_lacks i (end_with own n) d e p x; own = own_in_text (suc i) a.0 n d rest at a.3 }
-behind_exactly true i n own d e rest at a (p, x) =
-    record { put = behind_is_put i n own d e rest a p x; before = behind_lacks i (end_with own n) d e p x; own = own_in_block (suc i) a.0 n d rest at a.3 }
+after_exactly : (b : Bool) (i : ℕ) (n : KdlNode) (own : Option KdlNodeFormat) (d e : KdlDocument) (rest : Rest) → IsRestAt b (suc i) d rest → EndsExactly rest n own
+    → PutAfterExactly i (end_with own n) d e → PutExactly b (suc i) n d e
+unfolding after_is_put
+after_exactly false i n own d e rest at a (p, x) =
+    let q = after_is_put i n own d e rest a p x in
+    record { put = q; prints = put_printed_as (suc i) n d e q; before = after_lacks i (end_with own n) d e p x; own = own_in_text (suc i) a.0 n d rest at a.3 }
+after_exactly true i n own d e rest at a (p, x) =
+    record { put = after_is_put i n own d e rest a p x; before = after_lacks i (end_with own n) d e p x; own = own_in_block (suc i) a.0 n d rest at a.3 }
 
-pub put_behind_exactly : (b : Bool) (i j : ℕ) (n : KdlNode) (own : Option KdlNodeFormat) (d e : KdlDocument) (rest : Rest) → suc i ≡ j → IsRestAt b j d rest → EndsExactly rest n own
-    → PutBehindExactly i (end_with own n) d e → PutExactly b j n d e
-put_behind_exactly b i j n own d e rest h at a p =
-    subst (λ (k : ℕ). PutExactly b k n d e) h (behind_exactly b i n own d e rest (subst (λ (k : ℕ). IsRestAt b k d rest) (sym h) at) a p)
+pub put_after_exactly : (b : Bool) (i j : ℕ) (n : KdlNode) (own : Option KdlNodeFormat) (d e : KdlDocument) (rest : Rest) → suc i ≡ j → IsRestAt b j d rest → EndsExactly rest n own
+    → PutAfterExactly i (end_with own n) d e → PutExactly b j n d e
+put_after_exactly b i j n own d e rest h at a p =
+    subst (λ (k : ℕ). PutExactly b k n d e) h (after_exactly b i n own d e rest (subst (λ (k : ℕ). IsRestAt b k d rest) (sym h) at) a p)
 
 -- and before all others
 first_is_put : (n : KdlNode) (own : Option KdlNodeFormat) (d e : KdlDocument) (rest : Rest) → EndsExactly rest n own → (p : PutFirst (end_with own n) d e) → LeadsExactly (texts_around d) p.leading

@@ -20,7 +20,7 @@ use Rattle.kdl_grammar.specs.ReadsBack.{Anything, AddsNothing, BeforeTerminator,
 use Rattle.kdl_grammar.specs.Tree.{Children, no_children, children, NodeFormat}
 use Rattle.kdl_grammar.proofs.Laying.LaidIsDerived.{braced_of, later_of, plain_of}
 use Rattle.kdl_grammar.proofs.Moving.Moves.{before_end}
-use Rattle.kdl_comments.specs.Items.{ItemEnd, Place, before_block, behind_block}
+use Rattle.kdl_comments.specs.Items.{ItemEnd, Place, before_block, after_block}
 use Rattle.kdl_comments.specs.Lacks.{GapLacks, PlaceLacks, TerminatorLacks}
 use Rattle.kdl_comments.proofs.Dropping.DroppedNodes.{passes_det, passes_node}
 use Rattle.kdl_comments.proofs.Lacking.Fewest.{a, a_piece, letter_node}
@@ -102,18 +102,18 @@ place_one c t f m h g =
 
 pub place_fewest : (b : Bool) (p : Place) (t : Text) (o : Bool) → p ≡ place_of b → PlaceLacks p t (Some o) → PlaceFewest (block_if b) t (newline_count o)
 place_fewest b p t false e x = λ m h g. omega arith
-place_fewest true p t true e x = let y : PlaceLacks behind_block t (Some true) = subst (λ z. PlaceLacks z t (Some true)) e x in place_one (block_if true) t (λ r v q. y.1.0 r v q)
+place_fewest true p t true e x = let y : PlaceLacks after_block t (Some true) = subst (λ z. PlaceLacks z t (Some true)) e x in place_one (block_if true) t (λ r v q. y.1.0 r v q)
 place_fewest false p t true e x = let y : PlaceLacks before_block t (Some true) = subst (λ z. PlaceLacks z t (Some true)) e x in place_one (block_if false) t (λ r v q. y.1.0 r v q)
 
 -- a format with fewer newlines
-more_behind : (f : NodeFormat) (b e : ℕ) → terminator_text (lengthened b e f) ≡ terminator_text f ++ newlines e
-more_behind f b e = sym (append_assoc f.terminator f.trailing (newlines e))
+more_after : (f : NodeFormat) (b e : ℕ) → terminator_text (lengthened b e f) ≡ terminator_text f ++ newlines e
+more_after f b e = sym (append_assoc f.terminator f.trailing (newlines e))
 
 pub ended_fewest : (c : Children) (f : NodeFormat) (n : ℕ) → EndFewest (terminator_text f) n → FormatFewest c f n
-ended_fewest c f n less b e h x = less e (omega arith) (subst (Terminates Anything) (more_behind f b e) x.terminator)
+ended_fewest c f n less b e h x = less e (omega arith) (subst (Terminates Anything) (more_after f b e) x.terminator)
 
 pub open_fewest : (c : Children) (f : NodeFormat) (n : ℕ) → terminator_text f ≡ [] → n ≤ 1 → PlaceFewest c f.before_terminator n → FormatFewest c f (n + 1)
-open_fewest c f n z few less b zero h x = nothing_ends _ (more_behind f b 0 ∙ ap (λ (y : Text). y ++ newlines 0) z) x.terminator
+open_fewest c f n z few less b zero h x = nothing_ends _ (more_after f b 0 ∙ ap (λ (y : Text). y ++ newlines 0) z) x.terminator
 open_fewest c f n z few less b (suc e) h x =
     let one : e ≡ 0 = omega arith in
     let none : b ≡ 0 = omega arith in
@@ -121,7 +121,7 @@ open_fewest c f n z few less b (suc e) h x =
   where
     here : (r : Text) → e ≡ 0 → BeforeTerminator c ((f.before_terminator ++ newlines b) ++ (10 ∷ r)) (10 ∷ r)
     here r one =
-        let t : terminator_text (lengthened b (suc e) f) ++ r ≡ 10 ∷ r = ap (λ (y : Text). y ++ r) (more_behind f b (suc e) ∙ ap (λ (y : Text). y ++ newlines (suc e)) z ∙ ap (λ (m : ℕ). newlines (suc m)) one) in
+        let t : terminator_text (lengthened b (suc e) f) ++ r ≡ 10 ∷ r = ap (λ (y : Text). y ++ r) (more_after f b (suc e) ∙ ap (λ (y : Text). y ++ newlines (suc e)) z ∙ ap (λ (m : ℕ). newlines (suc m)) one) in
         subst (λ (y : Text). BeforeTerminator c ((f.before_terminator ++ newlines b) ++ y) y) t
         (x.place r tt (subst (λ (y : Text). Terminator y r) (sym t) (Terminator.newline (a_newline r))))
 

@@ -48,11 +48,11 @@ formless_made f b t es k x y =
     ∙ rw (x, y) refl
 
 -- newlines at the end of texts, before the last two or after them
-behind_terminator : (b t n : Text) → (b ++ (t ++ n)) ++ [] ≡ ((b ++ t) ++ []) ++ n
-behind_terminator b t n = simp (append_assoc, append-nil)
+after_terminator : (b t n : Text) → (b ++ (t ++ n)) ++ [] ≡ ((b ++ t) ++ []) ++ n
+after_terminator b t n = simp (append_assoc, append-nil)
 
-behind_trailing : (b t u n : Text) → (b ++ t) ++ (u ++ n) ≡ ((b ++ t) ++ u) ++ n
-behind_trailing b t u n = simp append_assoc
+after_trailing : (b t u n : Text) → (b ++ t) ++ (u ++ n) ≡ ((b ++ t) ++ u) ++ n
+after_trailing b t u n = simp append_assoc
 
 before_terminator : (b n m : Text) → ((b ++ n) ++ m) ++ [] ≡ ((b ++ []) ++ []) ++ (n ++ m)
 before_terminator b n m = simp (append_assoc, append-nil)
@@ -61,11 +61,11 @@ before_terminator b n m = simp (append_assoc, append-nil)
 texts_end : (f : NodeFormat) (t : Text) (b e : ℕ) → (b ≡ 0) ⊎ ((f.terminator ≡ []) × (t ≡ []))
     → end_text (Some (end_newlines t e (record f { before_terminator = f.before_terminator ++ newlines b; trailing = t }))) ≡ end_text (Some (record f { trailing = t })) ++ newlines (b + e)
 texts_end f [] b e (inl h) =
-    rw (h, append-nil f.before_terminator, zero-add e) (behind_terminator f.before_terminator f.terminator (newlines e))
+    rw (h, append-nil f.before_terminator, zero-add e) (after_terminator f.before_terminator f.terminator (newlines e))
 texts_end f [] b e (inr (h, k)) =
     rw (h, ← replicate-append-replicate {A = ℕ} b e 10) (before_terminator f.before_terminator (newlines b) (newlines e))
 texts_end f (c ∷ s) b e (inl h) =
-    rw (h, append-nil f.before_terminator, zero-add e) (behind_trailing f.before_terminator f.terminator (c ∷ s) (newlines e))
+    rw (h, append-nil f.before_terminator, zero-add e) (after_trailing f.before_terminator f.terminator (c ∷ s) (newlines e))
 texts_end f (c ∷ s) b e (inr (h, k)) = absurd (cc)
 
 rest_stays : (f : NodeFormat) (t : Text) (e : ℕ) → let g = end_newlines t e f in g ≡ record f { before_terminator = g.before_terminator; terminator = g.terminator; trailing = g.trailing }

@@ -16,7 +16,7 @@ use Rattle.kdl_grammar.specs.ReadsBack.{Rests, Anything, TextEnd, BlockEnd, MayF
 use Rattle.kdl_grammar.specs.Tree.{DocumentFormat, NodeFormat, Head, Node, node, Children, no_children, children, children_of, Document, document, listed_nodes}
 use Rattle.kdl_grammar.proofs.Moving.Moves.{move_after, move_before, terminator_end}
 use Rattle.kdl_grammar.proofs.ReadingBack.Composing.{ends_before, node_before, nodes_append, nodes_drop, nodes_take, each_reads}
-use Rattle.kdl_comments.specs.Items.{Place, before_block, behind_block}
+use Rattle.kdl_comments.specs.Items.{Place, before_block, after_block}
 use Rattle.kdl_comments.specs.Lacks.{GapLacks, PlaceLacks, TerminatorLacks, Terminating}
 use Rattle.kdl_comments.proofs.Lacking.Alone.{after_before_close, before_alone, gap_before_close, terminator_before_close}
 use Rattle.kdl_comments.proofs.Rewriting.BeforeNewlines.{a_newline}
@@ -49,7 +49,7 @@ content_taken P l t (n ∷ ns) i h (with_nodes a x g) =
 
 document_taken : (o : Option DocumentFormat) (at : SourceSpan) (ns : List Node) (i : ℕ) → i < length ns → DocumentReads (document o at (listed_nodes ns)) → DocumentReads (document o at (listed_nodes (remove ns i)))
 document_taken o at ns i h (DocumentReads.no_bom c) = DocumentReads.no_bom (content_taken TextEnd (leading_text o) (trailing_text o) ns i h c)
-document_taken o at ns i h (DocumentReads.behind_bom {leading = l} e c) = DocumentReads.behind_bom e (content_taken TextEnd l (trailing_text o) ns i h c)
+document_taken o at ns i h (DocumentReads.after_bom {leading = l} e c) = DocumentReads.after_bom e (content_taken TextEnd l (trailing_text o) ns i h c)
 
 as_last : (t : Text) {n : Node} → NodeReads (last_rests t TextEnd) n → NodeReads TextEnd n
 as_last [] x = x
@@ -62,7 +62,7 @@ content_each l t (n ∷ ns) i x h (with_nodes a ms g) =
 
 document_each : (o : Option DocumentFormat) (at : SourceSpan) (ns : List Node) (i : ℕ) (x : Node) → slice_get ns i ≡ Some x → DocumentReads (document o at (listed_nodes ns)) → NodeReads TextEnd x
 document_each o at ns i x h (DocumentReads.no_bom c) = content_each (leading_text o) (trailing_text o) ns i x h c
-document_each o at ns i x h (DocumentReads.behind_bom {leading = l} e c) = content_each l (trailing_text o) ns i x h c
+document_each o at ns i x h (DocumentReads.after_bom {leading = l} e c) = content_each l (trailing_text o) ns i x h c
 
 pub taken_reads : (i : ℕ) (n : KdlNode) (d e : KdlDocument) → slice_get (nodes_of d) i ≡ Some n → nodes_of e ≡ remove (nodes_of d) i → e ≡ change.with_nodes d (out-KdlDocument e).nodes
     → (out-KdlDocument e).span ≡ (out-KdlDocument d).span → DocumentReadsBack d → DocumentReadsBack e × NodeReadsBack n
@@ -92,9 +92,9 @@ texts_before : (f : NodeFormat) (t : Text) (b e : ℕ) → (end_newlines t e (re
 texts_before f [] b e = refl
 texts_before f (c ∷ s) b e = refl
 
-texts_behind : (f : NodeFormat) (t : Text) (b e : ℕ) → terminator_text (end_newlines t e (record f { before_terminator = f.before_terminator ++ newlines b; trailing = t })) ≡ (f.terminator ++ t) ++ newlines e
-texts_behind f [] b e = rw (append-nil f.terminator) (append-nil (f.terminator ++ newlines e))
-texts_behind f (c ∷ s) b e = sym (append_assoc f.terminator (c ∷ s) (newlines e))
+texts_after : (f : NodeFormat) (t : Text) (b e : ℕ) → terminator_text (end_newlines t e (record f { before_terminator = f.before_terminator ++ newlines b; trailing = t })) ≡ (f.terminator ++ t) ++ newlines e
+texts_after f [] b e = rw (append-nil f.terminator) (append-nil (f.terminator ++ newlines e))
+texts_after f (c ∷ s) b e = sym (append_assoc f.terminator (c ∷ s) (newlines e))
 
 lf_ends : Terminates Anything (10 ∷ [])
 lf_ends = λ r s xs p z d. (r, Terminator.newline (a_newline r), d)
@@ -137,7 +137,7 @@ place_alone P k f z end = elim (may_end P) [ inl m ↦ at_end m | inr m ↦ at_b
 open_ends : (P : Rests) (k : Children) (f : NodeFormat) (b : ℕ) → terminator_text f ≡ [] → PlaceSays k f.before_terminator b → EndReads P k f → EndReads Anything k (with_newlines f b 1)
 open_ends P k f b z says end =
     let place = says (place_alone P k f z end) in
-    end_read Anything k (with_newlines f b 1) (f.before_terminator ++ newlines b) (10 ∷ []) (texts_before f f.trailing b 1) (texts_behind f f.trailing b 1 ∙ ap (λ (u : Text). u ++ newlines 1) z)
+    end_read Anything k (with_newlines f b 1) (f.before_terminator ++ newlines b) (10 ∷ []) (texts_before f f.trailing b 1) (texts_after f f.trailing b 1 ∙ ap (λ (u : Text). u ++ newlines 1) z)
     (λ r v p t. place (10 ∷ r) v t) lf_ends
 
 -- before a `}` it needs none
@@ -148,7 +148,7 @@ open_before_brace : (P : Rests) (d : DocumentFormat) (k : Children) (f : NodeFor
     → EndReads (BlockEnd (Some d)) k (with_newlines f b 0)
 open_before_brace P d k f b z says end =
     let place = says (place_alone P k f z end) in
-    end_read (BlockEnd (Some d)) k (with_newlines f b 0) (f.before_terminator ++ newlines b) [] (texts_before f f.trailing b 0) (texts_behind f f.trailing b 0 ∙ ap (λ (u : Text). u ++ newlines 0) z)
+    end_read (BlockEnd (Some d)) k (with_newlines f b 0) (f.before_terminator ++ newlines b) [] (texts_before f f.trailing b 0) (texts_after f f.trailing b 0 ∙ ap (λ (u : Text). u ++ newlines 0) z)
     (λ r v p t. place r v t) (brace_ends d)
 
 like : (z : Text) (c : ℕ) (s n r q : Text) → z ≡ c ∷ s → first_char ((z ++ n) ++ r) ≡ first_char (z ++ q)
@@ -162,7 +162,7 @@ closed_at : (P : Rests) (k : Children) (f : NodeFormat) (e c : ℕ) (s q v : Tex
     → EndSays (terminator_text f) e → EndReads P k f → EndReads Anything k (with_newlines f 0 e)
 closed_at P k f e c s q v m z t alone says end =
     let place : BeforeTerminator k (f.before_terminator ++ (terminator_text f ++ q)) (terminator_text f ++ q) = end.place q m t in
-    end_read Anything k (with_newlines f 0 e) f.before_terminator (terminator_text f ++ newlines e) (texts_before f f.trailing 0 e ∙ append-nil f.before_terminator) (texts_behind f f.trailing 0 e)
+    end_read Anything k (with_newlines f 0 e) f.before_terminator (terminator_text f ++ newlines e) (texts_before f f.trailing 0 e ∙ append-nil f.before_terminator) (texts_after f f.trailing 0 e)
     (λ r w p u. place_moves k f.before_terminator (terminator_text f ++ q) ((terminator_text f ++ newlines e) ++ r) place (like (terminator_text f) c s (newlines e) r q z) (terminator_end u))
     (says alone.0 alone.1 alone.2)
 
@@ -233,7 +233,7 @@ content_put_first P l m t (n ∷ ns) put e a p (with_nodes b x g) = with_nodes (
 
 -- the place before the terminator, and one newline or none
 abbrev pub place_of : Bool → Place
-place_of true = behind_block
+place_of true = after_block
 place_of false = before_block
 
 -- what the readers say
@@ -254,13 +254,13 @@ pub end_missing : (t u : Text) → u ≡ t → TerminatorLacks u None → EndSay
 end_missing t u e f v x y = absurd (f (v, subst (λ (z : Text). Terminator z v) (sym e) x, y))
 
 pub place_found : (b : Bool) (p : Place) (t : Text) (o : Bool) → p ≡ place_of b → PlaceLacks p t (Some o) → PlaceSays (block_if b) t (newline_count o)
-place_found true p t true e x = let y : PlaceLacks behind_block t (Some true) = subst (λ z. PlaceLacks z t (Some true)) e x in λ h r v q. y.1.0 r v q
-place_found true p t false e x = let y : PlaceLacks behind_block t (Some false) = subst (λ z. PlaceLacks z t (Some false)) e x in λ h r v q. subst (λ (z : Text). AfterChildren (z ++ r) r) (sym (append-nil t)) (y.1 r v q)
+place_found true p t true e x = let y : PlaceLacks after_block t (Some true) = subst (λ z. PlaceLacks z t (Some true)) e x in λ h r v q. y.1.0 r v q
+place_found true p t false e x = let y : PlaceLacks after_block t (Some false) = subst (λ z. PlaceLacks z t (Some false)) e x in λ h r v q. subst (λ (z : Text). AfterChildren (z ++ r) r) (sym (append-nil t)) (y.1 r v q)
 place_found false p t true e x = let y : PlaceLacks before_block t (Some true) = subst (λ z. PlaceLacks z t (Some true)) e x in λ h r v q. y.1.0 r v q
 place_found false p t false e x = let y : PlaceLacks before_block t (Some false) = subst (λ z. PlaceLacks z t (Some false)) e x in λ h r v q. subst (λ (z : Text). BeforeChildren (z ++ r) r) (sym (append-nil t)) (y.1 r v q)
 
 pub place_missing : (b : Bool) (p : Place) (t : Text) → p ≡ place_of b → PlaceLacks p t None → PlaceSays (block_if b) t 0
-place_missing true p t e x = let y : PlaceLacks behind_block t None = subst (λ z. PlaceLacks z t None) e x in λ h. absurd (y h)
+place_missing true p t e x = let y : PlaceLacks after_block t None = subst (λ z. PlaceLacks z t None) e x in λ h. absurd (y h)
 place_missing false p t e x = let y : PlaceLacks before_block t None = subst (λ z. PlaceLacks z t None) e x in λ h. absurd (y h)
 
 -- a node that ends as its format does

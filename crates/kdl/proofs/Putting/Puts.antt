@@ -13,7 +13,7 @@ use Rattle.kdl_parts.specs.Formats.{document_format_tree, node_texts}
 use Rattle.kdl_parts.specs.declared.format.KdlNodeFormat.{KdlNodeFormat}
 use Rattle.kdl.specs.Change.{with_nodes}
 use Rattle.kdl.specs.DocumentLookups.{nodes_of}
-use Rattle.kdl.specs.Internal.Ends.{EndsAs, IsEnded, LeadingEnded, PutBehind, PutFirst, end_with, lead_with, led_with}
+use Rattle.kdl.specs.Internal.Ends.{EndsAs, IsEnded, LeadingEnded, PutAfter, PutFirst, end_with, lead_with, led_with}
 use Rattle.kdl.specs.Nodes.{EndedBefore, IsPut, LeadsWith, PrintsPut, PrintsWithout, WithNewlines, format_or_printed, newlines, said_with, said_without, text_from, text_up_to, texts_around, trees}
 use Rattle.kdl.specs.Tree.{document_prints, document_says, head_tree, node_prints, node_says, node_tree, nodes_tree}
 use Rattle.kdl.specs.declared.document.KdlDocument.{KdlDocument}
@@ -31,8 +31,8 @@ text ns = print_nodes (listed_nodes ns) 0
 seam_first : (l n p j r t : Text) → (l ++ n) ++ ((p ++ j) ++ r) ++ t ≡ ((((l ++ []) ++ n) ++ p) ++ j) ++ (r ++ t)
 seam_first l n p j r t = simp (append_assoc, append-nil)
 
-seam_behind : (l u n p j r t : Text) → l ++ ((u ++ n) ++ ((p ++ j) ++ r)) ++ t ≡ ((((l ++ u) ++ n) ++ p) ++ j) ++ (r ++ t)
-seam_behind l u n p j r t = simp append_assoc
+seam_after : (l u n p j r t : Text) → l ++ ((u ++ n) ++ ((p ++ j) ++ r)) ++ t ≡ ((((l ++ u) ++ n) ++ p) ++ j) ++ (r ++ t)
+seam_after l u n p j r t = simp append_assoc
 
 -- a node put after the one at i
 put_printed : (i : ℕ) (ns : List Node) (old new put : Node) (n t : Text) → slice_get ns i ≡ Some old → print_node new 0 ≡ print_node old 0 ++ n → print_node put 0 ≡ t
@@ -77,7 +77,7 @@ printed zero k j n put o p ns ms (e, l) w =
     rw (e, leads_printed k o p l, leads_trailing k o p l, newlines_printed j n put w) (seam_first (leading_text o) (newlines k) (print_node n 0) (newlines j) (text ns) (trailing_text o))
 printed (suc i) k j n put o p ns ms (e, x) w =
     rw (x.nodes, e, put_printed i ns x.old x.new put (newlines k) _ x.is (newlines_printed k x.old x.new x.ends) (newlines_printed j n put w))
-    (seam_behind (leading_text o) (text (take (suc i) ns)) (newlines k) (print_node n 0) (newlines j) (text (drop (suc i) ns)) (trailing_text o))
+    (seam_after (leading_text o) (text (take (suc i) ns)) (newlines k) (print_node n 0) (newlines j) (text (drop (suc i) ns)) (trailing_text o))
 
 pub put_printed_as : (i : ℕ) (n : KdlNode) (d e : KdlDocument) (p : IsPut i (node_tree n) d e)
     → document_prints e ≡ text_up_to i d 0 ++ newlines p.k ++ node_prints n ++ newlines p.j ++ text_from i d 0
@@ -132,9 +132,9 @@ pub span_kept : (d e : KdlDocument) → e ≡ with_nodes d (out-KdlDocument e).n
 span_kept d e r = ap (λ (z : KdlDocument). (out-KdlDocument z).span) r ∙ ap (λ x. x.span) (out-roll-KdlDocument (record (out-KdlDocument d) { nodes = (out-KdlDocument e).nodes }))
 
 -- a node put after another one, and before all others
-pub put_behind : (i : ℕ) (n : KdlNode) (own : Option KdlNodeFormat) (d e : KdlDocument) → IsEnded (format_or_printed (head_tree (out-KdlNode n))) (node_texts own)
-    → PutBehind i (end_with own n) d e → IsPut (suc i) (node_tree n) d e
-put_behind i n own d e h p =
+pub put_after : (i : ℕ) (n : KdlNode) (own : Option KdlNodeFormat) (d e : KdlDocument) → IsEnded (format_or_printed (head_tree (out-KdlNode n))) (node_texts own)
+    → PutAfter i (end_with own n) d e → IsPut (suc i) (node_tree n) d e
+put_after i n own d e h p =
     let a = node_ended n own h in
     let b = node_ended p.last p.format p.ended in
     let new = node_tree (end_with p.format p.last) in
@@ -197,12 +197,12 @@ taken_prints i n d e h k r depth =
     let t = trailing_text (texts_around d) in
     let there : slice_get (trees d) i ≡ Some (node_tree n) = slice_get-map node_tree (nodes_of d) i ∙ ap (option_map node_tree) h in
     let before = print_nodes (listed_nodes (take i (trees d))) depth in
-    let behind = print_nodes (listed_nodes (drop (suc i) (trees d))) depth in
+    let following = print_nodes (listed_nodes (drop (suc i) (trees d))) depth in
     rw (add-one i) (
-      document_printed d depth ∙ ap (λ (z : Text). l ++ z ++ t) (taken_printed i (trees d) (node_tree n) depth there) ∙ around l before (print_node (node_tree n) depth) behind t,
+      document_printed d depth ∙ ap (λ (z : Text). l ++ z ++ t) (taken_printed i (trees d) (node_tree n) depth there) ∙ around l before (print_node (node_tree n) depth) following t,
       document_printed e depth ∙ ap (λ (o : Option DocumentFormat). leading_text o ++ print_nodes (nodes_tree (nodes_of e)) depth ++ trailing_text o) (texts_kept d e r)
           ∙ ap (λ (z : List Node). l ++ print_nodes (listed_nodes z) depth ++ t) (ap (map node_tree) k ∙ remove_trees (nodes_of d) i)
-          ∙ ap (λ (z : Text). l ++ z ++ t) (left_printed (take i (trees d)) (drop (suc i) (trees d)) depth) ∙ without l before behind t,
+          ∙ ap (λ (z : Text). l ++ z ++ t) (left_printed (take i (trees d)) (drop (suc i) (trees d)) depth) ∙ without l before following t,
     )
 
 taken_said : (i : ℕ) (ns : List Node) → nodes_data (listed_nodes (remove ns i)) ≡ said_without i (nodes_data (listed_nodes ns))
@@ -241,10 +241,10 @@ put_at d v i n m e own h z g w =
     nodes_with (with_nodes d v) (with_item (out-KdlDocument (with_nodes d v)).nodes i e) ∙ put_set (nodes_of d) (nodes_of (with_nodes d v)) i n m e own h (nodes_with d v ∙ z) g w
 
 -- the node before it, with its format
-pub behind_put : (d p : KdlDocument) (i : ℕ) (n b m x : KdlNode) (o : Option KdlNodeFormat) → i < length (nodes_of d) → get_or (nodes_of d) i b ≡ b
+pub after_put : (d p : KdlDocument) (i : ℕ) (n b m x : KdlNode) (o : Option KdlNodeFormat) → i < length (nodes_of d) → get_or (nodes_of d) i b ≡ b
     → IsEnded (format_or_printed (head_tree (out-KdlNode b))) (node_texts o) → EndsAs Rest.Text b (end_with o b) → nodes_of p ≡ insert (nodes_of d) (i + 1) n → p ≡ with_nodes d (out-KdlDocument p).nodes
-    → get_or (nodes_of p) i m ≡ m → x ≡ end_with o m → PutBehind i n d (with_nodes p (with_item (out-KdlDocument p).nodes i x))
-behind_put d p i n b m x o h at c ends q r g w =
+    → get_or (nodes_of p) i m ≡ m → x ≡ end_with o m → PutAfter i n d (with_nodes p (with_item (out-KdlDocument p).nodes i x))
+after_put d p i n b m x o h at c ends q r g w =
     let xs = nodes_of d in
     let there : slice_get xs i ≡ Some b = slice_get-get_or xs i b h ∙ ap Some at in
     let same : m ≡ b = sym g ∙ ap (λ (l : List KdlNode). get_or l i m) q ∙ get_or-insert_below xs (i + 1) n m i (omega arith) (omega arith) ∙ get_or_from_slice_get xs i b m there in
@@ -261,11 +261,11 @@ behind_put d p i n b m x o h at c ends q r g w =
     }
 
 -- it is that node, and that format
-pub behind_put_is : (d p : KdlDocument) (i : ℕ) (n b m x : KdlNode) (o : Option KdlNodeFormat) → i < length (nodes_of d) → get_or (nodes_of d) i b ≡ b
+pub after_put_is : (d p : KdlDocument) (i : ℕ) (n b m x : KdlNode) (o : Option KdlNodeFormat) → i < length (nodes_of d) → get_or (nodes_of d) i b ≡ b
     → IsEnded (format_or_printed (head_tree (out-KdlNode b))) (node_texts o) → EndsAs Rest.Text b (end_with o b) → nodes_of p ≡ insert (nodes_of d) (i + 1) n → p ≡ with_nodes d (out-KdlDocument p).nodes
-    → get_or (nodes_of p) i m ≡ m → x ≡ end_with o m → (q : PutBehind i n d (with_nodes p (with_item (out-KdlDocument p).nodes i x))) × (q.last ≡ b) × (q.format ≡ o)
-unfolding behind_put
-behind_put_is d p i n b m x o h at c ends q r g w = (behind_put d p i n b m x o h at c ends q r g w, refl, refl)
+    → get_or (nodes_of p) i m ≡ m → x ≡ end_with o m → (q : PutAfter i n d (with_nodes p (with_item (out-KdlDocument p).nodes i x))) × (q.last ≡ b) × (q.format ≡ o)
+unfolding after_put
+after_put_is d p i n b m x o h at c ends q r g w = (after_put d p i n b m x o h at c ends q r g w, refl, refl)
 
 -- where a call succeeds
 pub on_ok : {T E P Q : Type 0} (r : Result T E) → (P → Q) → OnOk r P → OnOk r Q

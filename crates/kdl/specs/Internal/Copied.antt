@@ -22,4 +22,4 @@ closed o ns = map node_tree o.before.items ++ with_block o.node.now o.block.now 
 -- the outermost nodes: the open blocks, the outermost first, and the nodes of the innermost
 abbrev pub outermost : List Open → List Node → List Node
 outermost [] ns = ns
-outermost (o ∷ os) ns = closed o (outermost os ns) ++ map node_tree o.behind.now
+outermost (o ∷ os) ns = closed o (outermost os ns) ++ map node_tree o.following.now

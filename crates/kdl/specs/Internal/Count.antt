@@ -41,4 +41,4 @@ count_option o = or_none (option_map count_doc o)
 
 -- how much is left of nodes, and of open blocks with nodes after each: a node counts once, and so does the end of a block
 abbrev pub count_left : {A : Type 0} → (A → List KdlNode) → List KdlNode → List A → ℕ
-count_left behind rest above = count_nodes rest + total (map (λ o. 1 + count_nodes (behind o)) above)
+count_left following rest above = count_nodes rest + total (map (λ o. 1 + count_nodes (following o)) above)

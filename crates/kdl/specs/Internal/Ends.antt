@@ -75,7 +75,7 @@ end_with None n = n
 end_with (Some f) n = with_format n (Some f)
 
 -- e is d with the node n after the one at i, which got the newlines that it lacked
-pub record PutBehind (i : ℕ) (n : KdlNode) (d e : KdlDocument) : Type 0 where
+pub record PutAfter (i : ℕ) (n : KdlNode) (d e : KdlDocument) : Type 0 where
   pub last : KdlNode
   pub format : Option KdlNodeFormat
   pub there : slice_get (nodes_of d) i ≡ Some last
@@ -203,8 +203,8 @@ abbrev pub LeadsExactly : Option DocumentFormat → Option Text → Type 0
 LeadsExactly o l = (k : ℕ) × (k ≤ 2) × LeadsWith k o (led_with l o) × GapSays (without_bom (leading_text o)) k × GapFewest (without_bom (leading_text o)) k
 
 -- e is d with the node n after the one at i, or before the others, and what is before it has exactly the newlines more that it lacked
-abbrev pub PutBehindExactly : ℕ → KdlNode → KdlDocument → KdlDocument → Type 0
-PutBehindExactly i n d e = (p : PutBehind i n d e) × EndsExactly Rest.Text p.last p.format
+abbrev pub PutAfterExactly : ℕ → KdlNode → KdlDocument → KdlDocument → Type 0
+PutAfterExactly i n d e = (p : PutAfter i n d e) × EndsExactly Rest.Text p.last p.format
 
 abbrev pub PutFirstExactly : KdlNode → KdlDocument → KdlDocument → Type 0
 PutFirstExactly n d e = (p : PutFirst n d e) × LeadsExactly (texts_around d) p.leading

@@ -50,7 +50,7 @@ closing n d depth = block_end d depth ++ node_end n
 -- the blocks that are open, the outermost first, and the nodes after each
 abbrev pub print_above : List Open → ℕ → Text
 print_above [] depth = []
-print_above (o ∷ os) depth = print_above os (depth + 1) ++ closing o.node.now o.block.now depth ++ print_nodes (nodes_tree o.behind.now) depth
+print_above (o ∷ os) depth = print_above os (depth + 1) ++ closing o.node.now o.block.now depth ++ print_nodes (nodes_tree o.following.now) depth
 
 -- the nodes in the innermost block, and then the blocks that are open
 abbrev pub print_left : List KdlNode → List Open → Text

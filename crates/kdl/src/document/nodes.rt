@@ -4,7 +4,7 @@ ghost use Rattle.kdl.specs.DocumentLookups.{nodes_of};
 ghost use Rattle.kdl.specs.Change.{with_nodes};
 ghost use Rattle.kdl.specs.Exact.{IsPutExactly, NodesMayFollow};
 ghost use Rattle.kdl.specs.Fields.{held_nodes};
-ghost use Rattle.kdl.specs.Internal.Ends.{LeadingEnded, LeadsExactly, PutBehind, PutBehindExactly, PutExactly, PutFirst, PutFirstExactly, end_with, lead_with, IsRestAt, ReadsIn};
+ghost use Rattle.kdl.specs.Internal.Ends.{LeadingEnded, LeadsExactly, PutAfter, PutAfterExactly, PutExactly, PutFirst, PutFirstExactly, end_with, lead_with, IsRestAt, ReadsIn};
 ghost use Rattle.kdl.specs.Nodes.{IsPut, PrintsPut, PrintsWithout, said_with, said_without, texts_around};
 ghost use Rattle.kdl.specs.ReadsBack.{DocumentReadsBack, NodeReadsBack};
 ghost use Rattle.kdl.specs.Tree.{document_prints, document_says, document_tree, node_prints, node_says, node_tree};
@@ -129,7 +129,7 @@ impl KdlDocument {
             Err(error) => return Err((node, error)),
         };
         match index.checked_sub(1) {
-            Some(last) => self.put_behind(last, node, own),
+            Some(last) => self.put_after(last, node, own),
             None => self.put_first(node, own),
         }
     }
@@ -162,16 +162,16 @@ impl KdlDocument {
     }
 
     /// Inserts the node, with its new format, after the one at `last`, which gets the newlines that it lacks.
-    fn put_behind(
+    fn put_after(
         &mut self,
         last: usize,
         node: KdlNode,
         own: Option<KdlNodeFormat>,
     ) -> Result<(), (KdlNode, AllocError)>
         requires { last < length (nodes_of self.old) }
-        ensures put { OnOk result (PutBehind last (end_with own node) self.old self.new) }
+        ensures put { OnOk result (PutAfter last (end_with own node) self.old self.new) }
         ensures exact { OnOk result
-            (PutBehindExactly last (end_with own node) self.old self.new) }
+            (PutAfterExactly last (end_with own node) self.old self.new) }
         ensures back { IfErr result (λ e. e.0 ≡ node) }
         ensures refused { OnErr result (document_tree self.new ≡ document_tree self.old) }
     {

@@ -42,12 +42,12 @@ impl ParsedNode for KdlNode {
                     name: ty,
                     before,
                     after,
-                    behind,
+                    following,
                 },
             ) => {
                 format.before_ty_name = before;
                 format.after_ty_name = after;
-                format.after_ty = behind;
+                format.after_ty = following;
                 Some(ty)
             }
             None => None,

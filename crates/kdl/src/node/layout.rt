@@ -29,7 +29,7 @@ use crate::layout::{Around, lay_out_nodes, set_formats};
 use crate::node::KdlNode;
 use kdl_entry::{KdlEntry, KdlIdentifier};
 use kdl_fmt::kept::{kept_type_texts, put_type_texts};
-use kdl_fmt::layout::{behind_line, indentation, lay_out_entries, lay_out_line};
+use kdl_fmt::layout::{after_line, indentation, lay_out_entries, lay_out_line};
 use kdl_fmt::names::{clear_type_unless, clear_unless, keeps_spelling, keeps_type_spelling};
 use kdl_fmt::one_line::{entries_on_line, line_on_line, name_on_line, type_on_line};
 use kdl_fmt::{Before, FormatConfig, Last, Layout};
@@ -253,9 +253,9 @@ impl KdlNode {
         ensures stays { IndentsBySpaces (settings layout.now.config)
             → chars before.now ≡ indentation (settings layout.now.config) level
             → StaysAs (settings layout.now.config) (node_tree self.old) (node_tree self.new) }
-        ensures spaced { IfOk result (λ (behind, first, around).
+        ensures spaced { IfOk result (λ (following, first, around).
             chars before.now ≡ indentation (settings layout.now.config) level
-            → PassesAt layout.now (node_tree self.old) behind
+            → PassesAt layout.now (node_tree self.old) following
             × IsSpacedBut layout.now level next (node_tree self.old) first around
             (map node_tree (child_nodes self.old)) self.new) }
     {
@@ -266,12 +266,12 @@ impl KdlNode {
         let (first, around) = block_around(&self.children, layout, level, before)?;
         let has_type = self.ty.is_some();
         let types = kept_type_texts(alloc, layout, has_type, &self.format)?;
-        let behind = lay_out_line(&mut self.format, alloc, layout, before, has_block, next)?;
+        let following = lay_out_line(&mut self.format, alloc, layout, before, has_block, next)?;
         put_type_texts(&mut self.format, types);
         clear_type_unless(&mut self.ty, keeps_type);
         clear_unless(&mut self.name, keeps_name);
         lay_out_entries(&mut self.entries, layout)?;
-        Ok((behind, first, around))
+        Ok((following, first, around))
     }
 
     /// Sets the texts around the nodes of the node's block, if there is one.
@@ -297,7 +297,7 @@ impl KdlNode {
     pub(crate) fn before_next(&self, layout: &Layout) -> Result<Before, AllocError>
         ensures { IfOk result (λ b. PassesAt layout.now (node_tree self.now) b) }
     {
-        behind_line(&self.format, *self.entries.allocator(), layout)
+        after_line(&self.format, *self.entries.allocator(), layout)
     }
 
     /// Replaces the nodes in the node's block and returns the old ones. Without a block, returns the given nodes.

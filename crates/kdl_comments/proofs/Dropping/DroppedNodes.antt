@@ -15,7 +15,7 @@ use Rattle.kdl_control.specs.Control.{gap, node_slashdash, Control, at, step, fi
 use Rattle.kdl_grammar.proofs.Reading.Sound.{derives}
 use Rattle.kdl_comments.specs.Items.{Item, piece, EsclineItems, SpaceItems, LineSpaceItems, ItemEnd, EndsTight, GapItems}
 use Rattle.kdl_comments.specs.Internal.Passing.{moved, NodeEnd, returned, ended, NodePasses, returns, ends, goes}
-use Rattle.kdl_comments.proofs.Dropping.Paths.{Tail, before_block, behind_block, at_brace, halts_nodes, Back, Here, over_node, drop_node, tail_spaces}
+use Rattle.kdl_comments.proofs.Dropping.Paths.{Tail, before_block, after_block, at_brace, halts_nodes, Back, Here, over_node, drop_node, tail_spaces}
 
 -- the control passes over a text in one way at most
 pub passes_det : {c : Control} {last s : Text} {e e' : NodeEnd} → NodePasses c last s e → NodePasses c last s e' → e ≡ e'
@@ -36,19 +36,19 @@ passes_det {last = last} {e' = e'} (goes {d = d} {r = r} {k = k} t f z p) (goes 
 
 tail_semicolon : {c : Control} → Tail [] c → step c semicolon ≡ Some (at gap [])
 tail_semicolon before_block = refl
-tail_semicolon behind_block = refl
+tail_semicolon after_block = refl
 
 tail_newline : {c : Control} → Tail [] c → step c newline ≡ Some (at gap [])
 tail_newline before_block = refl
-tail_newline behind_block = refl
+tail_newline after_block = refl
 
 pub tail_gap : {c : Control} → Tail [] c → is_gap c ≡ false
 tail_gap before_block = refl
-tail_gap behind_block = refl
+tail_gap after_block = refl
 
 tail_finish : {c : Control} → Tail [] c → finish c ≡ true
 tail_finish before_block = refl
-tail_finish behind_block = refl
+tail_finish after_block = refl
 
 -- the tokens of the text may come
 abbrev Accepted : Control → Text → Type 0

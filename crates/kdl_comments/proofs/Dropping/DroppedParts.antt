@@ -22,7 +22,7 @@ use Rattle.kdl_grammar.specs.Grammar.Gap.{line_space as gap_space}
 use Rattle.kdl_control.specs.Control.{Control, at, Spot, fresh, spaced, later, Phase, gap, node_slashdash, type_open, type_name, type_done, in_node, property, entry_slashdash, block_slashdash, kept, kept_slashdash, Frame, in_dropped, spaced_of, slashdash_at, step, held, accepts, is_over, is_block, is_word}
 use Rattle.kdl_grammar.proofs.Reading.Sound.{derives}
 use Rattle.kdl_comments.specs.Items as items
-use Rattle.kdl_comments.specs.Items.{Item, piece, Place, before_entry, before_block, behind_block, takes_entries, takes_blocks, PlaceItems}
+use Rattle.kdl_comments.specs.Items.{Item, piece, Place, before_entry, before_block, after_block, takes_entries, takes_blocks, PlaceItems}
 use Rattle.kdl_comments.specs.Internal.Passing.{moved, PartPasses, over, word_ends, word_over, goes, slashdash_phase, slashdash_in}
 use Rattle.kdl_comments.proofs.Dropping.Paths.{Back, over_part, drop_entry, drop_block}
 use Rattle.kdl_comments.proofs.Listing.SpaceItems.{space_of}
@@ -32,12 +32,12 @@ use Rattle.kdl_comments.proofs.Dropping.NoEquals.{passes_det, Quiet, name_quiet,
 spaced_ends : {last s : Text} → Quiet s → PartPasses (at (in_node (spaced true)) []) last s false last
 spaced_ends Quiet.ends = word_ends refl
 spaced_ends (Quiet.token t e) = word_over refl t e
-spaced_ends (Quiet.behind_space n q) = goes refl refl (t_space n) refl (spaced_ends q)
+spaced_ends (Quiet.after_space n q) = goes refl refl (t_space n) refl (spaced_ends q)
 
 word_passes : {s : Text} → Quiet s → PartPasses (at (in_node (fresh true)) []) s s false s
 word_passes Quiet.ends = word_ends refl
 word_passes (Quiet.token t e) = word_over refl t e
-word_passes (Quiet.behind_space n q) = goes refl refl (t_space n) refl (spaced_ends q)
+word_passes (Quiet.after_space n q) = goes refl refl (t_space n) refl (spaced_ends q)
 
 value_passes : {s : Text} → Quiet s → (b : Bool) → PartPasses (at (in_node (fresh b)) []) s s false s
 value_passes q true = word_passes q
@@ -71,7 +71,7 @@ block_accepted {s = s} ls i a b = drop_block (λ c last s. Accepted c s) accepte
 
 -- where the control may be in a place: after a dropped block entries come no more
 abbrev fits : Place → Spot → Bool
-fits behind_block q = true
+fits after_block q = true
 fits p later = false
 fits p q = true
 
@@ -82,24 +82,24 @@ fits_spaced (before_entry b) later e = cc
 fits_spaced before_block (fresh c) e = refl
 fits_spaced before_block (spaced c) e = refl
 fits_spaced before_block later e = cc
-fits_spaced behind_block q e = refl
+fits_spaced after_block q e = refl
 
 fits_fresh : (p : Place) (b : Bool) → fits (items.spaced false p) (fresh b) ≡ true
 fits_fresh (before_entry c) b = refl
 fits_fresh before_block b = refl
-fits_fresh behind_block b = refl
+fits_fresh after_block b = refl
 
 fits_part : (p : Place) (b : Bool) → fits (items.spaced false p) (spaced b) ≡ true
 fits_part (before_entry c) b = refl
 fits_part before_block b = refl
-fits_part behind_block b = refl
+fits_part after_block b = refl
 
 slashdash_entry : (p : Place) (q : Spot) → takes_entries p ≡ true → fits p q ≡ true → entry_slashdash ≡ slashdash_at q
 slashdash_entry p (fresh b) x y = refl
 slashdash_entry p (spaced b) x y = refl
 slashdash_entry (before_entry c) later x y = absurd cc
 slashdash_entry before_block later x y = absurd cc
-slashdash_entry behind_block later x y = absurd cc
+slashdash_entry after_block later x y = absurd cc
 
 slashdash_block : (q : Spot) {s : Text} → ((b : Bool) → Accepted (at (slashdash_phase b) []) s) → Accepted (at (slashdash_at q) []) s
 slashdash_block (fresh b) f = f true
@@ -115,10 +115,10 @@ place_accepted {p = p} (PlaceItems.dropped_entry e (a_slashdash {s = s} ls) i g)
 place_accepted (PlaceItems.dropped_block e (a_slashdash ls) b g) q h = token_first t_slashdash refl (slashdash_block q (λ c. block_accepted ls b (place_accepted g later refl) c))
 
 -- where the last token that is no node-space ended, and which spaces come after it
-data Behind : Control → Text → Text → Type 0 where
-  directly : {c : Control} {s : Text} → Behind c s s
-  spaces : {last s : Text} → Plus NodeSpace last s → Behind (at (in_node (spaced true)) []) last s
-  other : {c : Control} {last s : Text} → is_over c ≡ false → is_word c ≡ false → Behind c last s
+data Following : Control → Text → Text → Type 0 where
+  directly : {c : Control} {s : Text} → Following c s s
+  spaces : {last s : Text} → Plus NodeSpace last s → Following (at (in_node (spaced true)) []) last s
+  other : {c : Control} {last s : Text} → is_over c ≡ false → is_word c ≡ false → Following c last s
 
 plus_snoc : {s t r : Text} → Plus NodeSpace s t → NodeSpace t r → Plus NodeSpace s r
 plus_snoc (plus n ss) m = plus n (snoc ss m)
@@ -132,52 +132,52 @@ inside (in_node later) f fs = (refl, refl)
 inside _ f fs = (refl, refl)
 
 -- one space more
-to_other : {c d : Control} {last r : Text} → Some c ≡ Some d → is_over c ≡ false → is_word c ≡ false → Behind d last r
-to_other {c = c} {d = d} {last = last} {r = r} e o w = let x : c ≡ d = cc in subst (λ (z : Control). Behind z last r) x (other o w)
+to_other : {c d : Control} {last r : Text} → Some c ≡ Some d → is_over c ≡ false → is_word c ≡ false → Following d last r
+to_other {c = c} {d = d} {last = last} {r = r} e o w = let x : c ≡ d = cc in subst (λ (z : Control). Following z last r) x (other o w)
 
-to_spaced : {d : Control} {last r : Text} → Some (at (in_node (spaced true)) []) ≡ Some d → Plus NodeSpace last r → Behind d last r
-to_spaced {d = d} {last = last} {r = r} e ss = let x : at (in_node (spaced true)) [] ≡ d = cc in subst (λ (z : Control). Behind z last r) x (spaces ss)
+to_spaced : {d : Control} {last r : Text} → Some (at (in_node (spaced true)) []) ≡ Some d → Plus NodeSpace last r → Following d last r
+to_spaced {d = d} {last = last} {r = r} e ss = let x : at (in_node (spaced true)) [] ≡ d = cc in subst (λ (z : Control). Following z last r) x (spaces ss)
 
-fresh_plus : {last s r : Text} → Behind (at (in_node (fresh true)) []) last s → NodeSpace s r → Plus NodeSpace last r
+fresh_plus : {last s r : Text} → Following (at (in_node (fresh true)) []) last s → NodeSpace s r → Plus NodeSpace last r
 fresh_plus directly n = plus n no_star
 fresh_plus (other o w) n = absurd cc
 
-spaced_plus : {last s r : Text} → Behind (at (in_node (spaced true)) []) last s → NodeSpace s r → Plus NodeSpace last r
+spaced_plus : {last s r : Text} → Following (at (in_node (spaced true)) []) last s → NodeSpace s r → Plus NodeSpace last r
 spaced_plus directly n = plus n no_star
 spaced_plus (spaces ss) n = plus_snoc ss n
 spaced_plus (other o w) n = absurd cc
 
-space_behind : (c d : Control) {last s r : Text} → Behind c last s → is_over c ≡ false → NodeSpace s r → step c token'.space ≡ Some d → Behind d last r
-space_behind (at (in_node (fresh true)) []) d x o n e = to_spaced e (fresh_plus x n)
-space_behind (at (in_node (spaced true)) []) d x o n e = to_spaced e (spaced_plus x n)
-space_behind (at (in_node (fresh false)) []) d x o n e = absurd cc
-space_behind (at (in_node (spaced false)) []) d x o n e = to_other e refl refl
-space_behind (at (in_node later) []) d x o n e = absurd cc
-space_behind (at (in_node q) (f ∷ fs)) d x o n e = let i = inside (in_node (spaced_of q)) f fs in to_other e i.0 i.1
-space_behind (at gap fs) d x o n e = to_other e refl refl
-space_behind (at node_slashdash fs) d x o n e = to_other e refl refl
-space_behind (at (type_open b) fs) d x o n e = to_other e refl refl
-space_behind (at (type_name b) fs) d x o n e = to_other e refl refl
-space_behind (at (type_done b) fs) d x o n e = to_other e refl refl
-space_behind (at property fs) d x o n e = to_other e refl refl
-space_behind (at entry_slashdash fs) d x o n e = to_other e refl refl
-space_behind (at block_slashdash fs) d x o n e = to_other e refl refl
-space_behind (at kept fs) d x o n e = to_other e refl refl
-space_behind (at kept_slashdash fs) d x o n e = to_other e refl refl
+space_after : (c d : Control) {last s r : Text} → Following c last s → is_over c ≡ false → NodeSpace s r → step c token'.space ≡ Some d → Following d last r
+space_after (at (in_node (fresh true)) []) d x o n e = to_spaced e (fresh_plus x n)
+space_after (at (in_node (spaced true)) []) d x o n e = to_spaced e (spaced_plus x n)
+space_after (at (in_node (fresh false)) []) d x o n e = absurd cc
+space_after (at (in_node (spaced false)) []) d x o n e = to_other e refl refl
+space_after (at (in_node later) []) d x o n e = absurd cc
+space_after (at (in_node q) (f ∷ fs)) d x o n e = let i = inside (in_node (spaced_of q)) f fs in to_other e i.0 i.1
+space_after (at gap fs) d x o n e = to_other e refl refl
+space_after (at node_slashdash fs) d x o n e = to_other e refl refl
+space_after (at (type_open b) fs) d x o n e = to_other e refl refl
+space_after (at (type_name b) fs) d x o n e = to_other e refl refl
+space_after (at (type_done b) fs) d x o n e = to_other e refl refl
+space_after (at property fs) d x o n e = to_other e refl refl
+space_after (at entry_slashdash fs) d x o n e = to_other e refl refl
+space_after (at block_slashdash fs) d x o n e = to_other e refl refl
+space_after (at kept fs) d x o n e = to_other e refl refl
+space_after (at kept_slashdash fs) d x o n e = to_other e refl refl
 
-token_behind : {c d : Control} {last s r : Text} {k : Token} → Behind c last s → is_over c ≡ false → BeginsToken s k r → step c k ≡ Some d → Behind d (moved k last r) r
-token_behind {c = c} {d = d} x o (t_space n) e = space_behind c d x o n e
-token_behind x o (t_newline n) e = directly
-token_behind x o t_slashdash e = directly
-token_behind x o (t_string p) e = directly
-token_behind x o (t_value p) e = directly
-token_behind x o t_left e = directly
-token_behind x o t_right e = directly
-token_behind x o t_opening e = directly
-token_behind x o t_closing e = directly
-token_behind x o t_equals e = directly
-token_behind x o t_semicolon e = directly
-token_behind x o t_bom e = directly
+token_after : {c d : Control} {last s r : Text} {k : Token} → Following c last s → is_over c ≡ false → BeginsToken s k r → step c k ≡ Some d → Following d (moved k last r) r
+token_after {c = c} {d = d} x o (t_space n) e = space_after c d x o n e
+token_after x o (t_newline n) e = directly
+token_after x o t_slashdash e = directly
+token_after x o (t_string p) e = directly
+token_after x o (t_value p) e = directly
+token_after x o t_left e = directly
+token_after x o t_right e = directly
+token_after x o t_opening e = directly
+token_after x o t_closing e = directly
+token_after x o t_equals e = directly
+token_after x o t_semicolon e = directly
+token_after x o t_bom e = directly
 
 -- after a token, what is accepted goes on
 token_off : {c d : Control} {s r : Text} {k : Token} → BeginsToken s k r → step c k ≡ Some d → Accepted c s → Accepted d r
@@ -195,7 +195,7 @@ abbrev ends_in : Bool → Spot → Bool
 ends_in false later = false
 ends_in b q = true
 
-over_here : {c : Control} {last s : Text} → is_over c ≡ true → Behind c last s → last ≡ s
+over_here : {c : Control} {last s : Text} → is_over c ≡ true → Following c last s → last ≡ s
 over_here x directly = refl
 over_here x (spaces ss) = absurd cc
 over_here x (other o w) = absurd cc
@@ -210,17 +210,17 @@ word_accepted (at (in_node (fresh true)) []) x f = f (fresh true) refl
 word_accepted (at (in_node (spaced true)) []) x f = f (spaced true) refl
 word_accepted _ x f = absurd cc
 
-word_behind : {c : Control} {last s : Text} → is_word c ≡ true → Behind c last s → ((q : Spot) → ends_in false q ≡ true → Accepted (at (in_node q) []) last) → Accepted c s
-word_behind {c = c} x directly f = word_accepted c x f
-word_behind x (spaces (plus n ss)) f = spaces_off ss (token_off (t_space n) refl (f (fresh true) refl))
-word_behind x (other o w) f = absurd cc
+word_after : {c : Control} {last s : Text} → is_word c ≡ true → Following c last s → ((q : Spot) → ends_in false q ≡ true → Accepted (at (in_node q) []) last) → Accepted c s
+word_after {c = c} x directly f = word_accepted c x f
+word_after x (spaces (plus n ss)) f = spaces_off ss (token_off (t_space n) refl (f (fresh true) refl))
+word_after x (other o w) f = absurd cc
 
 -- where the control passes over a part, and what comes after it is accepted, all is accepted
-passes_accepted : {c : Control} {last s u : Text} {b : Bool} → PartPasses c last s b u → Behind c last s → ((q : Spot) → ends_in b q ≡ true → Accepted (at (in_node q) []) u) → Accepted c s
+passes_accepted : {c : Control} {last s u : Text} {b : Bool} → PartPasses c last s b u → Following c last s → ((q : Spot) → ends_in b q ≡ true → Accepted (at (in_node q) []) u) → Accepted c s
 passes_accepted (over {c = c} x) h f = subst (λ (z : Text). Accepted c z) (over_here x h) (over_accepted c x f)
 passes_accepted (word_ends {c = c} x) h f = word_accepted c x (λ q e. text_ends q)
-passes_accepted (word_over x t e) h f = word_behind x h f
-passes_accepted (goes o w t e p) h f = token_first t e (passes_accepted p (token_behind h o t e) f)
+passes_accepted (word_over x t e) h f = word_after x h f
+passes_accepted (goes o w t e p) h f = token_first t e (passes_accepted p (token_after h o t e) f)
 
 -- what is derived after a name
 data Named (s : Text) : Type 0 where
@@ -315,7 +315,7 @@ block_derived {t = t} a =
 -- what a place that begins with `/-` says
 data Dropped (p : Place) (t : Text) (all : List Item) : Type 0 where
   by_entry : {u : Text} {is : List Item} → PartPasses (slashdash_in p) t t false u → PlaceItems (items.spaced false p) u is → all ≡ piece (between (47 ∷ 45 ∷ t) u) ∷ is → Dropped p t all
-  by_block : {u : Text} {is : List Item} → takes_blocks p ≡ true → PartPasses (slashdash_in p) t t true u → PlaceItems behind_block u is → all ≡ piece (between (47 ∷ 45 ∷ t) u) ∷ is → Dropped p t all
+  by_block : {u : Text} {is : List Item} → takes_blocks p ≡ true → PartPasses (slashdash_in p) t t true u → PlaceItems after_block u is → all ≡ piece (between (47 ∷ 45 ∷ t) u) ∷ is → Dropped p t all
 
 drops : {p : Place} {s t : Text} {all : List Item} → s ≡ 47 ∷ 45 ∷ t → PlaceItems p s all → Dropped p t all
 drops q (PlaceItems.ends e) = absurd cc
@@ -343,20 +343,20 @@ no_entry {t = t} x (a_block ls b d f) = let e = (passes_det (block_passes ls b f
 entry_back : (p : Place) {t u : Text} {js : List Item} → PartPasses (slashdash_in p) t t false u → PlaceItems (items.spaced false p) u js → PlaceItems p (47 ∷ 45 ∷ t) (piece (between (47 ∷ 45 ∷ t) u) ∷ js)
 entry_back (before_entry c) x g = entry_of (before_entry c) refl x (part_derived (passes_accepted x directly (λ q e. place_accepted g q (fits_ends (before_entry c) q e)))) g
 entry_back before_block x g = entry_of before_block refl x (part_derived (passes_accepted x directly (λ q e. place_accepted g q (fits_ends before_block q e)))) g
-entry_back behind_block x g = absurd (no_entry x (block_derived (passes_accepted x directly (λ q e. place_accepted g q (fits_ends behind_block q e)))))
+entry_back after_block x g = absurd (no_entry x (block_derived (passes_accepted x directly (λ q e. place_accepted g q (fits_ends after_block q e)))))
 
 -- and so is a block
-block_of : (p : Place) {t u : Text} {js : List Item} (b : Bool) → takes_blocks p ≡ true → PartPasses (at (slashdash_phase b) []) t t true u → BlockDropped t → PlaceItems behind_block u js → PlaceItems p (47 ∷ 45 ∷ t) (piece (between (47 ∷ 45 ∷ t) u) ∷ js)
+block_of : (p : Place) {t u : Text} {js : List Item} (b : Bool) → takes_blocks p ≡ true → PartPasses (at (slashdash_phase b) []) t t true u → BlockDropped t → PlaceItems after_block u js → PlaceItems p (47 ∷ 45 ∷ t) (piece (between (47 ∷ 45 ∷ t) u) ∷ js)
 block_of p {t = t} b h x (a_block {u = w} {xs = xs} ls y d f) g = PlaceItems.dropped_block h (a_slashdash ls) (subst (λ (z : Text). IsBlock true w z xs) (passes_det (block_passes ls y b t) x).1 y) g
 
 some_part : {t u : Text} → PartPasses (at entry_slashdash []) t t true u → PartDropped t → BlockDropped t
 some_part {t = t} x (an_entry ls i q) = let e = (passes_det (entry_passes ls i q t) x).0 in absurd cc
 some_part x (some_block b) = b
 
-block_back : (p : Place) {t u : Text} {js : List Item} → PartPasses (slashdash_in p) t t true u → takes_blocks p ≡ true → PlaceItems behind_block u js → PlaceItems p (47 ∷ 45 ∷ t) (piece (between (47 ∷ 45 ∷ t) u) ∷ js)
+block_back : (p : Place) {t u : Text} {js : List Item} → PartPasses (slashdash_in p) t t true u → takes_blocks p ≡ true → PlaceItems after_block u js → PlaceItems p (47 ∷ 45 ∷ t) (piece (between (47 ∷ 45 ∷ t) u) ∷ js)
 block_back (before_entry c) x h g = absurd cc
 block_back before_block x h g = block_of before_block true refl x (some_part x (part_derived (passes_accepted x directly (λ q e. place_accepted g q refl)))) g
-block_back behind_block x h g = block_of behind_block false refl x (block_derived (passes_accepted x directly (λ q e. place_accepted g q refl))) g
+block_back after_block x h g = block_of after_block false refl x (block_derived (passes_accepted x directly (λ q e. place_accepted g q refl))) g
 
 -- An entry is passed over after the slashdash.
 entry_there : {p : Place} {t u : Text} {all : List Item} → PartPasses (slashdash_in p) t t false u → Dropped p t all → (js : List Item) × (all ≡ piece (between (47 ∷ 45 ∷ t) u) ∷ js) × PlaceItems (items.spaced false p) u js
@@ -369,13 +369,13 @@ pub part_entry : {p : Place} {t u : Text} → PartPasses (slashdash_in p) t t fa
 part_entry {p = p} {t = t} x all = (λ g. entry_there x (drops refl g), λ h. subst (λ (l : List Item). PlaceItems p (47 ∷ 45 ∷ t) l) (sym h.1) (entry_back p x h.2))
 
 -- A block is passed over.
-block_there : {p : Place} {t u : Text} {all : List Item} → PartPasses (slashdash_in p) t t true u → Dropped p t all → (js : List Item) × (all ≡ piece (between (47 ∷ 45 ∷ t) u) ∷ js) × PlaceItems behind_block u js
+block_there : {p : Place} {t u : Text} {all : List Item} → PartPasses (slashdash_in p) t t true u → Dropped p t all → (js : List Item) × (all ≡ piece (between (47 ∷ 45 ∷ t) u) ∷ js) × PlaceItems after_block u js
 block_there {t = t} x (by_block {is = is} h y g e) =
     let f = (passes_det y x).1 in
-    (is, e ∙ ap (λ (z : Text). piece (between (47 ∷ 45 ∷ t) z) ∷ is) f, subst (λ (z : Text). PlaceItems behind_block z is) f g)
+    (is, e ∙ ap (λ (z : Text). piece (between (47 ∷ 45 ∷ t) z) ∷ is) f, subst (λ (z : Text). PlaceItems after_block z is) f g)
 block_there x (by_entry y g e) = let f = (passes_det y x).0 in absurd cc
 
-pub part_block : {p : Place} {t u : Text} → PartPasses (slashdash_in p) t t true u → takes_blocks p ≡ true → (all : List Item) → PlaceItems p (47 ∷ 45 ∷ t) all ↔ ((js : List Item) × (all ≡ piece (between (47 ∷ 45 ∷ t) u) ∷ js) × PlaceItems behind_block u js)
+pub part_block : {p : Place} {t u : Text} → PartPasses (slashdash_in p) t t true u → takes_blocks p ≡ true → (all : List Item) → PlaceItems p (47 ∷ 45 ∷ t) all ↔ ((js : List Item) × (all ≡ piece (between (47 ∷ 45 ∷ t) u) ∷ js) × PlaceItems after_block u js)
 part_block {p = p} {t = t} x b all = (λ g. block_there x (drops refl g), λ h. subst (λ (l : List Item). PlaceItems p (47 ∷ 45 ∷ t) l) (sym h.1) (block_back p x b h.2))
 
 -- before entries no block is dropped

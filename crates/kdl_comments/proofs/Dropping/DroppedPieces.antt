@@ -12,10 +12,10 @@ use Rattle.kdl_lexer.specs.declared.lexer.TokenKind.{TokenKind}
 use Rattle.kdl_lexer.specs.declared.lexer.TokenKind.TheVariants.{Semicolon}
 use Rattle.kdl_entry.proofs.Slicing.Between.{is_between}
 use Rattle.kdl_comments.specs.Items as items
-use Rattle.kdl_comments.specs.Items.{Item, piece, ItemEnd, line_end, GapItems, PlaceItems, Place, behind_block}
+use Rattle.kdl_comments.specs.Items.{Item, piece, ItemEnd, line_end, GapItems, PlaceItems, Place, after_block}
 use Rattle.kdl_comments.specs.Internal.Lacking.{HasOpenEnd}
 use Rattle.kdl_comments.specs.Internal.Passing.{PartPasses, slashdash_in}
-use Rattle.kdl_comments.specs.Internal.Passed.{Before, EndsAt, AnswersDroppedNode, AnswersDroppedPart, BehindPart, PlaceTakes}
+use Rattle.kdl_comments.specs.Internal.Passed.{Before, EndsAt, AnswersDroppedNode, AnswersDroppedPart, AfterPart, PlaceTakes}
 use Rattle.kdl_comments.specs.Internal.Reading.{Cut, Takes, item_view, items_view}
 use Rattle.kdl_comments.specs.declared.dropped.NodeEnd.{NodeEnd}
 use Rattle.kdl_comments.specs.declared.dropped.PartEnd.{PartEnd}
@@ -74,8 +74,8 @@ line_open bs s r k c (inl e) f u l false h = HasOpenEnd.ended (newline_cut c e) 
 pub dash_cut : (s t : Text) → s ≡ 47 ∷ 45 ∷ t → Cut s 2
 dash_cut s t e = (47 ∷ 45 ∷ [], t, e, refl)
 
-pub behind_dash : (s t x b : Text) → s ≡ 47 ∷ 45 ∷ t → ((p r : Text) → s ≡ p ++ r → bytes p ≡ 2 → (x ≡ p) × (b ≡ r)) → s ≡ 47 ∷ 45 ∷ b
-behind_dash s t x b e h = e ∙ ap (λ (z : Text). 47 ∷ 45 ∷ z) (sym (h (47 ∷ 45 ∷ []) t e refl).1)
+pub after_dash : (s t x b : Text) → s ≡ 47 ∷ 45 ∷ t → ((p r : Text) → s ≡ p ++ r → bytes p ≡ 2 → (x ≡ p) × (b ≡ r)) → s ≡ 47 ∷ 45 ∷ b
+after_dash s t x b e h = e ∙ ap (λ (z : Text). 47 ∷ 45 ∷ z) (sym (h (47 ∷ 45 ∷ []) t e refl).1)
 
 -- up to the end of what is dropped
 pub record PieceOf (bs ds : List ℕ) (i : Text) : Type 0 where
@@ -121,30 +121,30 @@ pub node_cut : (bs ds : List ℕ) (b x : Text) (e : NodeEnd) → IsUtf8 bs → I
 node_cut bs ds b x e u v f d h = let (i, y) = node_item b e d in (i, piece_of bs ds b i x e.item u v f y h)
 
 pub node_taken : (bs ds : List ℕ) (b x y rest node z : Text) (e : NodeEnd) (old new : List Item) → IsUtf8 bs → IsUtf8 ds → chars bs ≡ 47 ∷ 45 ∷ b → EndsAt b e
-    → ((p r : Text) → b ≡ p ++ r → bytes p ≡ e.item → (x ≡ p) × (chars ds ≡ r)) → ((p r : Text) → b ≡ p ++ r → bytes p ≡ e.behind → (y ≡ p) × (rest ≡ r))
+    → ((p r : Text) → b ≡ p ++ r → bytes p ≡ e.item → (x ≡ p) × (chars ds ≡ r)) → ((p r : Text) → b ≡ p ++ r → bytes p ≡ e.following → (y ≡ p) × (rest ≡ r))
     → ((p r : Text) → chars bs ≡ p ++ r → bytes p ≡ length bs - length ds → (node ≡ p) × (z ≡ r)) → new ≡ old ++ (piece node ∷ []) → Takes GapItems GapItems (chars bs) (Some rest) old new
 node_taken bs ds b x y rest node z e old new u v f (EndsAt.returns {v = w} {i = i} p d (p1, e1, n1) (p2, e2, n2) o) h k l n =
     let q = piece_of bs ds b i x e.item u v f (p1, e1, n1) h in
     let g : rest ≡ w = (k p2 w e2 n2).1 in
-    let s = before_shorter (chars bs) b w e.behind f (p2, e2, n2) in
+    let s = before_shorter (chars bs) b w e.following f (p2, e2, n2) in
     rw g (one_item GapItems GapItems (chars bs) b i w node old new f (piece_between bs ds b i node z q f l) n s (node_returned p d))
 node_taken bs ds b x y rest node z e old new u v f (EndsAt.ends {w = w} p (p1, e1, n1) (p2, e2, n2) o) h k l n =
     let q = piece_of bs ds b w x e.item u v f (p1, e1, n1) h in
     let g : rest ≡ w = (k p2 w e2 n2).1 in
-    let s = before_shorter (chars bs) b w e.behind f (p2, e2, n2) in
+    let s = before_shorter (chars bs) b w e.following f (p2, e2, n2) in
     rw g (one_item GapItems GapItems (chars bs) b w w node old new f (piece_between bs ds b w node z q f l) n s (node_ended p))
 
 pub no_node : (s b : Text) (old new : List Item) → s ≡ 47 ∷ 45 ∷ b → AnswersDroppedNode b None → Takes GapItems GapItems s None old new
 no_node s b old new e f = λ all g. node_refused f all (subst (λ (z : Text). GapItems z all) e g)
 
 -- a dropped entry or block
-part_items : (p q : Place) (b u : Text) (is_block : Bool) (o : Option Place) → PartPasses (slashdash_in p) b b is_block u → BehindPart p is_block o → o ≡ Some q
+part_items : (p q : Place) (b u : Text) (is_block : Bool) (o : Option Place) → PartPasses (slashdash_in p) b b is_block u → AfterPart p is_block o → o ≡ Some q
     → (all : List Item) → PlaceItems p (47 ∷ 45 ∷ b) all ↔ ((js : List Item) × (all ≡ piece (between (47 ∷ 45 ∷ b) u) ∷ js) × PlaceItems q u js)
 part_items p q b u false o x f e = let y : items.spaced false p ≡ q = cc in rw (← y) (part_entry x)
 part_items p q b u true None x f e = absurd cc
-part_items p q b u true (Some q') x (h, f) e = let y : behind_block ≡ q = cc in rw (← y) (part_block x h)
+part_items p q b u true (Some q') x (h, f) e = let y : after_block ≡ q = cc in rw (← y) (part_block x h)
 
-pub part_taken : (bs ds : List ℕ) (b x node z : Text) (p q : Place) (e : PartEnd) (o : Option Place) (old new : List Item) → IsUtf8 bs → IsUtf8 ds → chars bs ≡ 47 ∷ 45 ∷ b → AnswersDroppedPart p b (Some e) → BehindPart p e.is_block o → o ≡ Some q
+pub part_taken : (bs ds : List ℕ) (b x node z : Text) (p q : Place) (e : PartEnd) (o : Option Place) (old new : List Item) → IsUtf8 bs → IsUtf8 ds → chars bs ≡ 47 ∷ 45 ∷ b → AnswersDroppedPart p b (Some e) → AfterPart p e.is_block o → o ≡ Some q
     → ((p r : Text) → b ≡ p ++ r → bytes p ≡ e.at → (x ≡ p) × (chars ds ≡ r)) → ((p r : Text) → chars bs ≡ p ++ r → bytes p ≡ length bs - length ds → (node ≡ p) × (z ≡ r)) → new ≡ old ++ (piece node ∷ [])
     → PlaceTakes p (chars bs) (Some (q, chars ds)) old new
 part_taken bs ds b x node z p q e o old new v w f (u, y, c) g i h l n =
@@ -155,10 +155,10 @@ part_taken bs ds b x node z p q e o old new v w f (u, y, c) g i h l n =
 pub no_part : (s b : Text) (p : Place) (old new : List Item) → s ≡ 47 ∷ 45 ∷ b → AnswersDroppedPart p b None → PlaceTakes p s None old new
 no_part s b p old new e f = λ all g. part_refused f all (subst (λ (z : Text). PlaceItems p z all) e g)
 
-nowhere : (p : Place) (b u : Text) (is_block : Bool) (o : Option Place) → PartPasses (slashdash_in p) b b is_block u → BehindPart p is_block o → o ≡ None → (all : List Item) → PlaceItems p (47 ∷ 45 ∷ b) all → ⊥
+nowhere : (p : Place) (b u : Text) (is_block : Bool) (o : Option Place) → PartPasses (slashdash_in p) b b is_block u → AfterPart p is_block o → o ≡ None → (all : List Item) → PlaceItems p (47 ∷ 45 ∷ b) all → ⊥
 nowhere p b u false o x f e = absurd cc
 nowhere p b u true None x f e = part_no_block x f
 nowhere p b u true (Some q) x f e = absurd cc
 
-pub no_block_here : (s b : Text) (p : Place) (e : PartEnd) (o : Option Place) (old new : List Item) → s ≡ 47 ∷ 45 ∷ b → AnswersDroppedPart p b (Some e) → BehindPart p e.is_block o → o ≡ None → PlaceTakes p s None old new
+pub no_block_here : (s b : Text) (p : Place) (e : PartEnd) (o : Option Place) (old new : List Item) → s ≡ 47 ∷ 45 ∷ b → AnswersDroppedPart p b (Some e) → AfterPart p e.is_block o → o ≡ None → PlaceTakes p s None old new
 no_block_here s b p e o old new f (u, y, c) g i = λ all h. nowhere p b u e.is_block o y g i all (subst (λ (z : Text). PlaceItems p z all) f h)

@@ -54,11 +54,11 @@ passes_det {last = last} {e' = e'} {b' = b'} (goes {d = d} {r = r} {k = k} o w t
 pub data Quiet : Text → Type 0 where
   ends : Quiet []
   token : {s r : Text} {k : Token} → BeginsToken s k r → follows_word k ≡ false → Quiet s
-  behind_space : {s r : Text} → NodeSpace s r → Quiet r → Quiet s
+  after_space : {s r : Text} → NodeSpace s r → Quiet r → Quiet s
 
 pub spaces_quiet : {s r : Text} → Star NodeSpace s r → Quiet r → Quiet s
 spaces_quiet no_star q = q
-spaces_quiet (more n m) q = Quiet.behind_space n (spaces_quiet m q)
+spaces_quiet (more n m) q = Quiet.after_space n (spaces_quiet m q)
 
 pub value_quiet : {s r : Text} {y : Option Text} {v : Value} → IsValue true s r y v → Quiet s
 value_quiet (a_value untyped (a_string (a_string' p e))) = Quiet.token (t_string p) refl
@@ -88,12 +88,12 @@ blocks_quiet (block ss b d) e = spaces_quiet ss (block_quiet b)
 blocks_quiet (no_block ss) e = spaces_quiet ss (end_quiet e)
 
 pub name_quiet : {s r v : Text} {es : List Entry} {k : Children} → AfterName true s r es k → Terminator r v → Quiet s
-name_quiet (kept_entry (plus n ss) i d) e = Quiet.behind_space n (spaces_quiet ss (entry_quiet i))
+name_quiet (kept_entry (plus n ss) i d) e = Quiet.after_space n (spaces_quiet ss (entry_quiet i))
 name_quiet (dropped_entry ss m i d) e = spaces_quiet ss (dash_quiet m)
 name_quiet (blocks d) e = blocks_quiet d e
 
 pub place_quiet : {p : Place} {s : Text} {is : List Item} → PlaceItems p s is → Quiet s
 place_quiet (PlaceItems.ends e) = Quiet.ends
-place_quiet (PlaceItems.space d g) = Quiet.behind_space (space_of d) (place_quiet g)
+place_quiet (PlaceItems.space d g) = Quiet.after_space (space_of d) (place_quiet g)
 place_quiet (PlaceItems.dropped_entry e m i g) = dash_quiet m
 place_quiet (PlaceItems.dropped_block e m b g) = dash_quiet m

@@ -156,15 +156,15 @@ cut_shorter (spaces (plus n m)) = omega (arith, token_shorter (t_space n), space
 
 -- the lexer is in the text t, over which the control passes as from here on; the last token that is no node-space ended after so many bytes
 pub record NodeGoes (here : Here) (c : Control) (t : Text) (last : ℕ) : Type 0 where
-  pub behind : Text
-  pub same : (e : NodeEnd) → NodePasses (at node_slashdash []) t t e ↔ NodePasses c behind here.rest e
-  pub counted : Before t last behind
+  pub following : Text
+  pub same : (e : NodeEnd) → NodePasses (at node_slashdash []) t t e ↔ NodePasses c following here.rest e
+  pub counted : Before t last following
   pub text : Before t here.at here.rest
   pub between : is_gap c ≡ false
 
 pub node_starts : (t : Text) (here : Here) (c : Control) → here.rest ≡ t → here.at ≡ 0 → c ≡ at node_slashdash [] → NodeGoes here c t 0
 node_starts t here c e n h = record {
-  behind = t;
+  following = t;
   same = rw (e, h) (λ x. (λ p. p, λ p. p));
   counted = ([], refl, refl);
   text = ([], sym e, sym n);
@@ -174,8 +174,8 @@ node_starts t here c e n h = record {
 pub node_goes_on : (t : Text) (old new : Here) (c d : Control) (k : CodeToken) (last : ℕ) → NodeGoes old c t last → HandsOut old k new → Moves old new → step c (kind_view k.kind) ≡ Some d → is_gap d ≡ false
     → NodeGoes new d t (if of_spaces (kind_view k.kind) then last else k.at.end.at)
 node_goes_on t old new c d k last g h m f x = record {
-  behind = moved (kind_view k.kind) g.behind new.rest;
-  same = λ e. let a = g.same e in let b = cut_turn {last = g.behind} g.between h.cuts f x e in (λ p. b.0 (a.0 p), λ p. a.1 (b.1 p));
+  following = moved (kind_view k.kind) g.following new.rest;
+  same = λ e. let a = g.same e in let b = cut_turn {last = g.following} g.between h.cuts f x e in (λ p. b.0 (a.0 p), λ p. a.1 (b.1 p));
   counted = moved_before (kind_view k.kind) g.counted (subst (λ (n : ℕ). Before t n new.rest) (sym h.end_at) (then_before t old new g.text m));
   text = then_before t old new g.text m;
   between = x;
@@ -193,11 +193,11 @@ at_stop z f (returns {r = r} {k = k} t h) = no_token (subst (λ (a : Text). Begi
 at_stop z f (ends g h) = cc
 at_stop z f (goes {r = r} {k = k} t h g p) = no_token (subst (λ (a : Text). BeginsToken a k r) z t)
 
-pub node_stops : (t : Text) (here : Here) (c : Control) (last : ℕ) (o : Option CodeEnd) → NodeGoes here c t last → here.rest ≡ [] → MatchOption o (finish c ≡ false) (λ e. (finish c ≡ true) × (e.item ≡ last) × (e.behind ≡ last) × (e.is_open ≡ true)) → AnswersDroppedNode t o
+pub node_stops : (t : Text) (here : Here) (c : Control) (last : ℕ) (o : Option CodeEnd) → NodeGoes here c t last → here.rest ≡ [] → MatchOption o (finish c ≡ false) (λ e. (finish c ≡ true) × (e.item ≡ last) × (e.following ≡ last) × (e.is_open ≡ true)) → AnswersDroppedNode t o
 node_stops t here c last None g z f = λ e p. at_stop z f ((g.same e).0 p)
 node_stops t here c last (Some e) g z (f, i, b, o) =
-    EndsAt.ends {w = g.behind} ((g.same (ended g.behind)).1 (subst (λ (a : Text). NodePasses c g.behind a (ended g.behind)) (sym z) (ends g.between f)))
-    (subst (λ (n : ℕ). Before t n g.behind) (sym i) g.counted) (subst (λ (n : ℕ). Before t n g.behind) (sym b) g.counted) o
+    EndsAt.ends {w = g.following} ((g.same (ended g.following)).1 (subst (λ (a : Text). NodePasses c g.following a (ended g.following)) (sym z) (ends g.between f)))
+    (subst (λ (n : ℕ). Before t n g.following) (sym i) g.counted) (subst (λ (n : ℕ). Before t n g.following) (sym b) g.counted) o
 
 -- the terminator's places
 pub token_places : (t : Text) (old new : Here) (c : Control) (k : CodeToken) (last : ℕ) → NodeGoes old c t last → HandsOut old k new → Moves old new → Before t k.at.start.at k.at.start.rest × Before t k.at.end.at k.at.end.rest
@@ -207,7 +207,7 @@ pub token_ends : (old new : Here) (c d : Control) (k : CodeToken) (t : Text) (la
 token_ends old new c d k t last g f x = gap_turn c (kind_view k.kind) g.between (ap (held is_gap) f ∙ x)
 
 pub node_returns : (t : Text) (old new : Here) (c d : Control) (k : CodeToken) (last : ℕ) (e : CodeEnd) → NodeGoes old c t last → HandsOut old k new → step c (kind_view k.kind) ≡ Some d → is_gap d ≡ true
-    → (i : Text) × ItemEnd k.at.start.rest k.at.end.rest i × Before t e.item i × Before t e.behind k.at.end.rest × HasOpenEnd k.at.start.rest k.at.end.rest e.is_open → AnswersDroppedNode t (Some e)
+    → (i : Text) × ItemEnd k.at.start.rest k.at.end.rest i × Before t e.item i × Before t e.following k.at.end.rest × HasOpenEnd k.at.start.rest k.at.end.rest e.is_open → AnswersDroppedNode t (Some e)
 node_returns t old new c d k last e g h f x (i, y, a, b, o) =
     let p : NodePasses (at node_slashdash []) t t (returned (kind_view k.kind) old.rest new.rest) = (g.same (returned (kind_view k.kind) old.rest new.rest)).1 (last_turn g.between h.cuts f x) in
     EndsAt.returns {k = kind_view k.kind} {u = k.at.start.rest} {v = k.at.end.rest} {i = i} (rw (h.start_rest, h.end_rest) p) y a b o

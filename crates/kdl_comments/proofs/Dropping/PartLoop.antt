@@ -11,7 +11,7 @@ use Rattle.kdl_lexer.specs.Tokens.{Token, space, t_space, BeginsToken, NoToken}
 use Rattle.kdl_lexer.specs.declared.lexer.Token.{Token as CodeToken}
 use Rattle.kdl_lexer.proofs.Lexing.TokenUnique.{token_det, no_token}
 use Rattle.kdl_control.specs.Control.{fresh, spaced, later, gap, node_slashdash, type_open, type_name, type_done, in_node, property, entry_slashdash, block_slashdash, kept, kept_slashdash, Control, at, step, is_over, is_block, is_word}
-use Rattle.kdl_comments.specs.Items.{Place, before_entry, before_block, behind_block}
+use Rattle.kdl_comments.specs.Items.{Place, before_entry, before_block, after_block}
 use Rattle.kdl_comments.specs.Internal.Passing.{moved, follows_word, slashdash_in, PartPasses, over, word_ends, word_over, goes}
 use Rattle.kdl_comments.specs.Internal.Passed.{Before, AnswersDroppedPart, of_spaces}
 use Rattle.kdl_comments.specs.declared.dropped.PartEnd.{PartEnd}
@@ -97,20 +97,20 @@ word_turn x (spaces n) h = absurd cc
 
 -- the lexer is in the text t after `/-` in the place, over which the control passes as from here on; the last token that is no node-space ended after so many bytes
 pub record PartGoes (p : Place) (here : Here) (c : Control) (t : Text) (last : ℕ) : Type 0 where
-  pub behind : Text
-  pub same : (b : Bool) (u : Text) → PartPasses (slashdash_in p) t t b u ↔ PartPasses c behind here.rest b u
-  pub counted : Before t last behind
+  pub following : Text
+  pub same : (b : Bool) (u : Text) → PartPasses (slashdash_in p) t t b u ↔ PartPasses c following here.rest b u
+  pub counted : Before t last following
   pub text : Before t here.at here.rest
   pub under_way : is_over c ≡ false
 
 not_over : (p : Place) → is_over (slashdash_in p) ≡ false
 not_over (before_entry b) = refl
 not_over before_block = refl
-not_over behind_block = refl
+not_over after_block = refl
 
 pub part_starts : (p : Place) (t : Text) (here : Here) (c : Control) → here.rest ≡ t → here.at ≡ 0 → c ≡ slashdash_in p → PartGoes p here c t 0
 part_starts p t here c e n h = record {
-  behind = t;
+  following = t;
   same = rw (e, h) (λ b u. (λ x. x, λ x. x));
   counted = ([], refl, refl);
   text = ([], sym e, sym n);
@@ -120,8 +120,8 @@ part_starts p t here c e n h = record {
 pub part_goes_on : (p : Place) (t : Text) (old new : Here) (c d : Control) (k : CodeToken) (last : ℕ) → PartGoes p old c t last → HandsOut old k new → Moves old new → (is_word c && not (follows_word (kind_view k.kind))) ≡ false → step c (kind_view k.kind) ≡ Some d → is_over d ≡ false
     → PartGoes p new d t (if of_spaces (kind_view k.kind) then last else k.at.end.at)
 part_goes_on p t old new c d k last g h m w f x = record {
-  behind = moved (kind_view k.kind) g.behind new.rest;
-  same = λ b u. let a = g.same b u in let z = cut_turn {last = g.behind} g.under_way w h.cuts f b u in (λ y. z.0 (a.0 y), λ y. a.1 (z.1 y));
+  following = moved (kind_view k.kind) g.following new.rest;
+  same = λ b u. let a = g.same b u in let z = cut_turn {last = g.following} g.under_way w h.cuts f b u in (λ y. z.0 (a.0 y), λ y. a.1 (z.1 y));
   counted = moved_before (kind_view k.kind) g.counted (subst (λ (n : ℕ). Before t n new.rest) (sym h.end_at) (then_before t old new g.text m));
   text = then_before t old new g.text m;
   under_way = x;
@@ -144,13 +144,13 @@ at_stop z o w (word_ends x) = cc
 at_stop z o w (word_over x t h) = cc
 at_stop z o w (goes {r = r} {k = k} o' w' t f p) = no_token (subst (λ (a : Text). BeginsToken a k r) z t)
 
-a_word : (p : Place) (t s : Text) (c : Control) (last : ℕ) (e : PartEnd) (behind : Text) → PartPasses (slashdash_in p) t t false behind → Before t last behind → e.at ≡ last → e.is_block ≡ false → AnswersDroppedPart p t (Some e)
-a_word p t s c last e behind x y i j = (behind, rw j x, rw i y)
+a_word : (p : Place) (t s : Text) (c : Control) (last : ℕ) (e : PartEnd) (following : Text) → PartPasses (slashdash_in p) t t false following → Before t last following → e.at ≡ last → e.is_block ≡ false → AnswersDroppedPart p t (Some e)
+a_word p t s c last e following x y i j = (following, rw j x, rw i y)
 
 pub part_stops : (p : Place) (t : Text) (here : Here) (c : Control) (last : ℕ) (o : Option PartEnd) → PartGoes p here c t last → here.rest ≡ [] → WordEnds c last o → AnswersDroppedPart p t o
 part_stops p t here c last None g z f = λ b u x. at_stop z g.under_way f ((g.same b u).0 x)
 part_stops p t here c last (Some e) g z (w, i, j) =
-    a_word p t here.rest c last e g.behind ((g.same false g.behind).1 (subst (λ (a : Text). PartPasses c g.behind a false g.behind) (sym z) (word_ends w))) g.counted i j
+    a_word p t here.rest c last e g.following ((g.same false g.following).1 (subst (λ (a : Text). PartPasses c g.following a false g.following) (sym z) (word_ends w))) g.counted i j
 
 no_follower : (b : Bool) → not b ≡ true → b ≡ false
 no_follower true e = cc
@@ -160,13 +160,13 @@ pub part_word : (p : Place) (t : Text) (old new : Here) (c : Control) (k : CodeT
 part_word p t old new c k last None g h w f = let z : true ≡ false = sym (and_parts (is_word c) (not (follows_word (kind_view k.kind))) w).0 ∙ f in absurd cc
 part_word p t old new c k last (Some e) g h w (w', i, j) =
     let x = no_follower (follows_word (kind_view k.kind)) (and_parts (is_word c) (not (follows_word (kind_view k.kind))) w).1 in
-    a_word p t old.rest c last e g.behind ((g.same false g.behind).1 (word_turn w' h.cuts x)) g.counted i j
+    a_word p t old.rest c last e g.following ((g.same false g.following).1 (word_turn w' h.cuts x)) g.counted i j
 
 -- after a value or a block
 pub part_over : (p : Place) (t : Text) (old new : Here) (c d : Control) (k : CodeToken) (last n : ℕ) (b : Bool) → PartGoes p old c t last → HandsOut old k new → Moves old new → (is_word c && not (follows_word (kind_view k.kind))) ≡ false → step c (kind_view k.kind) ≡ Some d
     → n ≡ (if of_spaces (kind_view k.kind) then last else k.at.end.at) → is_over d ≡ true → b ≡ is_block d → AnswersDroppedPart p t (Some (record { at = n; is_block = b }))
 part_over p t old new c d k last n b g h m w f i x j =
-    let u = moved (kind_view k.kind) g.behind new.rest in
-    let y : PartPasses (slashdash_in p) t t (is_block d) u = (g.same (is_block d) u).1 ((cut_turn {last = g.behind} g.under_way w h.cuts f (is_block d) u).1 (over x)) in
+    let u = moved (kind_view k.kind) g.following new.rest in
+    let y : PartPasses (slashdash_in p) t t (is_block d) u = (g.same (is_block d) u).1 ((cut_turn {last = g.following} g.under_way w h.cuts f (is_block d) u).1 (over x)) in
     let z : Before t (if of_spaces (kind_view k.kind) then last else k.at.end.at) u = moved_before (kind_view k.kind) g.counted (subst (λ (z : ℕ). Before t z new.rest) (sym h.end_at) (then_before t old new g.text m)) in
     (u, rw j y, rw i z)

@@ -18,7 +18,7 @@ use Rattle.kdl_comments.specs.Internal.Passing.{moved, NodeEnd, NodePasses, foll
 -- after the name of a node
 pub data Tail (fs : List Frame) : Control → Type 0 where
   before_block : {q : Spot} → Tail fs (at (in_node q) fs)
-  behind_block : Tail fs (at kept fs)
+  after_block : Tail fs (at kept fs)
 
 -- where the nodes of a place may end
 pub data Shuts (fs : List Frame) : Control → Type 0 where
@@ -166,16 +166,16 @@ module _ (P : Control → Text → Text → Type 0) (over : Back P) where
 
   pub tail_spaces : {fs : List Frame} {c : Control} {last s r : Text} → Tail fs c → Star NodeSpace s r → Here P fs → ((c' : Control) → Tail fs c' → P c' last r) → P c last s
   tail_spaces (before_block {q = q}) ss h x = spaces ss q h (λ q' e. x _ before_block)
-  tail_spaces behind_block ss h x = kept_spaces ss h (x _ behind_block)
+  tail_spaces after_block ss h x = kept_spaces ss h (x _ after_block)
 
   -- the terminator, where the nodes go on after it or end
   pub terminator : {fs : List Frame} {c : Control} {u v : Text} → Terminator u v → Tail fs c → ToGap P fs → ((last : Text) → P (at gap fs) last v) → (Halt v → (last : Text) → P c last v) → (last : Text) → P c last u
   terminator Terminator.semicolon (before_block {q = q}) t x z last = t (in_node q) _ _ _ _ t_semicolon refl (x _)
-  terminator Terminator.semicolon behind_block t x z last = t kept _ _ _ _ t_semicolon refl (x _)
+  terminator Terminator.semicolon after_block t x z last = t kept _ _ _ _ t_semicolon refl (x _)
   terminator (Terminator.newline n) (before_block {q = q}) t x z last = t (in_node q) _ _ _ _ (t_newline (Break.newline n)) refl (x _)
-  terminator (Terminator.newline n) behind_block t x z last = t kept _ _ _ _ (t_newline (Break.newline n)) refl (x _)
+  terminator (Terminator.newline n) after_block t x z last = t kept _ _ _ _ (t_newline (Break.newline n)) refl (x _)
   terminator (Terminator.comment n) (before_block {q = q}) t x z last = t (in_node q) _ _ _ _ (t_newline (Break.comment n)) refl (x _)
-  terminator (Terminator.comment n) behind_block t x z last = t kept _ _ _ _ (t_newline (Break.comment n)) refl (x _)
+  terminator (Terminator.comment n) after_block t x z last = t kept _ _ _ _ (t_newline (Break.comment n)) refl (x _)
   terminator Terminator.at_end q t x z last = z at_end last
   terminator Terminator.at_close q t x z last = z at_brace last
 
@@ -183,7 +183,7 @@ module _ (P : Control → Text → Text → Type 0) (over : Back P) where
   close : {c d : Control} {r : Text} (f : Frame) (fs : List Frame) → Shuts (f ∷ fs) c → popped (f ∷ fs) ≡ Some d → is_gap d ≡ false → P d r r → (last : Text) → P c last (125 ∷ r)
   close f fs between_nodes e g x last = inside f fs gap _ _ _ _ _ t_closing e g x
   close f fs (in_tail (before_block {q = q})) e g x last = inside f fs (in_node q) _ _ _ _ _ t_closing e g x
-  close f fs (in_tail behind_block) e g x last = inside f fs kept _ _ _ _ _ t_closing e g x
+  close f fs (in_tail after_block) e g x last = inside f fs kept _ _ _ _ _ t_closing e g x
 
   mutual
     -- a block, from where one may begin
@@ -231,14 +231,14 @@ module _ (P : Control → Text → Text → Type 0) (over : Back P) where
         spaces ss q h (λ q' e. h (in_node q') _ _ _ _ _ t_slashdash refl (slashdash_gap q' fs) (lines (slashdash_at q') (h (slashdash_at q')) (slashdash_gap q' fs) (slashdash_space q' fs) (slashdash_newline q' fs) ls
         (block b (slashdash_at q') (h (slashdash_at q')) in_dropped (at (in_node later) fs) (slashdash_opening q' fs) refl refl (blocks d h later (λ c w z d' ws. x c w z (Blocks.dropped_block ss (slashdash ls) b d') ws))) _))
     blocks {fs = fs} (Blocks.block ss b d) h q x =
-        spaces ss q h (λ q' e. block b (in_node q') (h (in_node q')) in_block (at kept fs) refl refl refl (behind d h (λ c w z d' ws. x c w z (Blocks.block ss b d') ws)) _)
+        spaces ss q h (λ q' e. block b (in_node q') (h (in_node q')) in_block (at kept fs) refl refl refl (following d h (λ c w z d' ws. x c w z (Blocks.block ss b d') ws)) _)
     blocks (Blocks.no_block ss) h q x = spaces ss q h (λ q' e. x _ _ before_block (Blocks.no_block no_star) ss)
 
-    behind : {fs : List Frame} {s r : Text} → AfterBlock true s r → Here P fs → ((c : Control) (w : Text) → Tail fs c → AfterBlock true s w → Star NodeSpace w r → P c w r) → P (at kept fs) s s
-    behind {fs = fs} (dropped_later ss (slashdash ls) b d) h x =
+    following : {fs : List Frame} {s r : Text} → AfterBlock true s r → Here P fs → ((c : Control) (w : Text) → Tail fs c → AfterBlock true s w → Star NodeSpace w r → P c w r) → P (at kept fs) s s
+    following {fs = fs} (dropped_later ss (slashdash ls) b d) h x =
         kept_spaces ss h (h kept _ _ _ _ _ t_slashdash refl refl (lines kept_slashdash (h kept_slashdash) refl refl refl ls
-        (block b kept_slashdash (h kept_slashdash) in_later (at kept fs) refl refl refl (behind d h (λ c w z d' ws. x c w z (dropped_later ss (slashdash ls) b d') ws))) _))
-    behind (no_more ss) h x = kept_spaces ss h (x _ _ behind_block (no_more no_star) ss)
+        (block b kept_slashdash (h kept_slashdash) in_later (at kept fs) refl refl refl (following d h (λ c w z d' ws. x c w z (dropped_later ss (slashdash ls) b d') ws))) _))
+    following (no_more ss) h x = kept_spaces ss h (x _ _ after_block (no_more no_star) ss)
 
   -- what a slashdash drops: a node; its last node-spaces begin at w
   pub drop_node : {fs : List Frame} {s t r : Text} {y : Node} → Star LineSpace s t → IsNode true t r y → Here P fs → ((c : Control) (w : Text) → Tail fs c → IsNode true t w y → Star NodeSpace w r → P c w r) → (last : Text) → P (at node_slashdash fs) last s

@@ -17,7 +17,7 @@ use Rattle.kdl_grammar.specs.Grammar.{Terminator, IsNode, Gap, no_gap, line_spac
 use Rattle.kdl_control.specs.Control.{Control, at, node_slashdash}
 use Rattle.kdl_grammar.specs.ReadsBack.{NodesEnd, AddsNothing}
 use Rattle.kdl_grammar.proofs.Moving.Moves.{terminator_end}
-use Rattle.kdl_grammar.proofs.ReadingBack.Closing.{behind_lf}
+use Rattle.kdl_grammar.proofs.ReadingBack.Closing.{after_lf}
 use Rattle.kdl_comments.specs.Items.{Item, line_end, ItemEnd, EndsTight}
 use Rattle.kdl_comments.specs.Lacks.{newlines}
 use Rattle.kdl_comments.specs.Internal.Lacking.{letter, Fewest, GapEnds, EndsInReturn, EndsAs, HasOpenEnd, semicolon, ended, unended, SpacesLack, Through, PieceEnds}
@@ -89,7 +89,7 @@ return_adds {s = s} k r z xs e ds = go (begins 10 r) refl
     go : (b : Bool) → begins 10 r ≡ b → AreNodes true (s ++ r) z xs
     go true h =
         let (t, f) = begins_lf r h in
-        subst (λ (y : Text). AreNodes true (s ++ y) z xs) (sym f) (in_front (one_line (k.before_lf t)) (behind_lf _ e (subst (λ (y : Text). AreNodes true y z xs) f ds)))
+        subst (λ (y : Text). AreNodes true (s ++ y) z xs) (sym f) (in_front (one_line (k.before_lf t)) (after_lf _ e (subst (λ (y : Text). AreNodes true y z xs) f ds)))
     go false h = in_front (one_line (k.alone r h)) ds
 
 with_none : (s : Text) → AddsNothing s → AddsNothing (s ++ newlines 0)
@@ -137,7 +137,7 @@ newline_adds (one {c = c} {r = []} x y) (d ∷ w) z xs e ds = go ((c == 13) && (
     go true h =
         let (i, j) = and_parts (c == 13) (d == 10) h in
         let k : c ≡ 13 = eqb-true c 13 i in let l : d ≡ 10 = eqb-true d 10 j in
-        (w, rw (k, l) crlf, behind_lf _ e (subst (λ (y : ℕ). AreNodes true (y ∷ w) z xs) l ds))
+        (w, rw (k, l) crlf, after_lf _ e (subst (λ (y : ℕ). AreNodes true (y ∷ w) z xs) l ds))
     go false h = (d ∷ w, one x h, ds)
 
 pub break_terminator : {s r : Text} → Break s r → Terminator s r
@@ -247,15 +247,15 @@ two_newlines : (s : Text) → ((r z : Text) (xs : Nodes) → NodesEnd z → AreN
 two_newlines s f r z xs e ds = subst (λ (y : Text). AreNodes true y z xs) (sym (append_assoc s (10 ∷ 10 ∷ []) r)) (f r z xs e ds)
 
 module _ {b u v e : Text} {k : Token} (p : NodePasses (at node_slashdash []) b b (returned k u v)) (i : ItemEnd u v e) (o : HasOpenEnd u v true) where
-  nothing_behind : Gap true v []
-  nothing_behind = subst (λ (y : Text). Gap true y []) (sym (open_all o)) no_gap
+  nothing_after : Gap true v []
+  nothing_after = subst (λ (y : Text). Gap true y []) (sym (open_all o)) no_gap
 
   open_gap : Gap true (47 ∷ 45 ∷ b) []
-  open_gap = node_back p i nothing_behind
+  open_gap = node_back p i nothing_after
 
   open_adds : AddsNothing ((47 ∷ 45 ∷ b) ++ newlines 1)
   open_adds = one_newline (47 ∷ 45 ∷ b) (λ r z xs f ds.
-      let d = the_node p i (gap_has nothing_behind) in
+      let d = the_node p i (gap_has nothing_after) in
       let m = break_terminator (open_lf o r) in
       let n = node_before d.dash d.is (some_end o) (10 ∷ r) (terminator_end m) in
       in_front (dropped_node n.0 n.1 m no_gap) ds)
@@ -264,7 +264,7 @@ module _ {b u v e : Text} {k : Token} (p : NodePasses (at node_slashdash []) b b
 module _ {b u v e : Text} {k : Token} (p : NodePasses (at node_slashdash []) b b (returned k u v)) (i : ItemEnd u v e) (o : HasOpenEnd u v true) where
   open_letter : (xs : Nodes) → AreNodes true ((47 ∷ 45 ∷ b) ++ letter) [] xs → xs ≡ nodes'.none
   open_letter xs ds =
-      let d = the_node p i (gap_has (nothing_behind p i o)) in
+      let d = the_node p i (gap_has (nothing_after p i o)) in
       let l = swallows_letter o in
       let n = node_before d.dash d.is (some_end o) letter (terminator_end (break_terminator l)) in
       no_nodes (nodes_off_node n.0 n.1 (ItemEnd.line l) ds)
@@ -304,11 +304,11 @@ tight_same tight x none = refl
 tight_same tight x (more n ss) = absurd (tight _ _ x (plus n ss))
 
 module _ {b u : Text} (p : NodePasses (at node_slashdash []) b b (passing.ended u)) where
-  spaces_behind : Star NodeSpace u []
-  spaces_behind = ended_spaces p none
+  spaces_after : Star NodeSpace u []
+  spaces_after = ended_spaces p none
 
   last_items : HasGap (47 ∷ 45 ∷ b)
-  last_items = let h = spaces_only spaces_behind in (_, (node_ended p _).1 (h.0, refl, h.1))
+  last_items = let h = spaces_only spaces_after in (_, (node_ended p _).1 (h.0, refl, h.1))
 
   last_gap_all : Gap true (47 ∷ 45 ∷ b) []
   last_gap_all = gap_of last_items.1
@@ -329,7 +329,7 @@ module _ {b u : Text} (p : NodePasses (at node_slashdash []) b b (passing.ended 
   last_more : (w q : Text) → Star NodeSpace (u ++ w) q → ValueEnd true q → (t : Text) × (x : Node) × Slashdash ((47 ∷ 45 ∷ b) ++ w) t × IsNode true t q x
   last_more w q ss e =
       let d = last_node in let c = cut_node d.is in
-      let k = spaces_end c.spaces (spaces_end spaces_behind ValueEnd.nothing) in
+      let k = spaces_end c.spaces (spaces_end spaces_after ValueEnd.nothing) in
       let f : c.rest ≡ u = tight_same d.tight (subst (λ (z : Text). IsNode true z c.rest d.node) (sym c.at.here) (c.there c.rest c.rest k none)) c.spaces in
       let n = node_more d.dash d.is w q (subst (λ (z : Text). Star NodeSpace (z ++ w) q) (sym f) ss) e in
       (d.start ++ w, d.node, n.0, n.1)
@@ -402,9 +402,9 @@ pub spaces_done : (s t : Text) → SpacesTo s t → t ≡ [] → SpacesLack s fa
 spaces_done s t (ss, f) e = λ w. subst (λ (y : Text). Star NodeSpace (s ++ w) (y ++ w)) e (f w)
 
 -- the dropped node that was passed over
-pub behind_cut : (b : Text) (e : NodeEnd) → EndsAt b e → (v : Text) × Before b e.behind v
-behind_cut b e (EndsAt.returns {v = v} p i x y o) = (v, y)
-behind_cut b e (EndsAt.ends {w = w} p x y o) = (w, y)
+pub after_cut : (b : Text) (e : NodeEnd) → EndsAt b e → (v : Text) × Before b e.following v
+after_cut b e (EndsAt.returns {v = v} p i x y o) = (v, y)
+after_cut b e (EndsAt.ends {w = w} p x y o) = (w, y)
 
 abbrev Cuts : Text → ℕ → Text → Text → Type 0
 Cuts b n y rest = (p r : Text) → b ≡ p ++ r → bytes p ≡ n → (y ≡ p) × (rest ≡ r)
@@ -412,21 +412,21 @@ Cuts b n y rest = (p r : Text) → b ≡ p ++ r → bytes p ≡ n → (y ≡ p) 
 before_length : (s b r : Text) (n : ℕ) → s ≡ 47 ∷ 45 ∷ b → Before b n r → length r < length s
 before_length s b r n e (p, f, m) = omega (arith, ap length e, ap length f, length-append p r)
 
-pub node_until : (s b y : Text) (rest : Bor (List ℕ)) (e : NodeEnd) → s ≡ 47 ∷ 45 ∷ b → EndsAt b e → Cuts b e.behind y (chars rest.now) → e.is_open ≡ false → PieceEnds s (Some (Until rest))
+pub node_until : (s b y : Text) (rest : Bor (List ℕ)) (e : NodeEnd) → s ≡ 47 ∷ 45 ∷ b → EndsAt b e → Cuts b e.following y (chars rest.now) → e.is_open ≡ false → PieceEnds s (Some (Until rest))
 node_until s b y rest e f (EndsAt.returns {u = u} {v = v} p i x z o) k h =
     let g : chars rest.now ≡ v = (k z.0 v z.1 z.2).1 in
-    rw (f, g) (node_through p i (subst (λ (c : Bool). HasOpenEnd u v c) h o), before_length (47 ∷ 45 ∷ b) b v e.behind refl z)
+    rw (f, g) (node_through p i (subst (λ (c : Bool). HasOpenEnd u v c) h o), before_length (47 ∷ 45 ∷ b) b v e.following refl z)
 node_until s b y rest e f (EndsAt.ends p x z o) k h = absurd cc
 
-pub open_spaces : (b y rest : Text) (e : NodeEnd) → EndsAt b e → Cuts b e.behind y rest → e.is_open ≡ true → Star NodeSpace rest []
+pub open_spaces : (b y rest : Text) (e : NodeEnd) → EndsAt b e → Cuts b e.following y rest → e.is_open ≡ true → Star NodeSpace rest []
 open_spaces b y rest e (EndsAt.returns {u = u} {v = v} p i x z o) k h =
     let g : rest ≡ v = (k z.0 v z.1 z.2).1 in
     subst (λ (c : Text). Star NodeSpace c []) (sym (g ∙ open_all (subst (λ (c : Bool). HasOpenEnd u v c) h o))) none
 open_spaces b y rest e (EndsAt.ends {w = w} p x z o) k h =
     let g : rest ≡ w = (k z.0 w z.1 z.2).1 in
-    subst (λ (c : Text). Star NodeSpace c []) (sym g) (spaces_behind p)
+    subst (λ (c : Text). Star NodeSpace c []) (sym g) (spaces_after p)
 
-pub node_open : (s b y rest : Text) (e : NodeEnd) (two : Bool) → s ≡ 47 ∷ 45 ∷ b → EndsAt b e → Cuts b e.behind y rest → e.is_open ≡ true → SpacesLack rest two → PieceEnds s (Some (Last (if two then 2 else 1)))
+pub node_open : (s b y rest : Text) (e : NodeEnd) (two : Bool) → s ≡ 47 ∷ 45 ∷ b → EndsAt b e → Cuts b e.following y rest → e.is_open ≡ true → SpacesLack rest two → PieceEnds s (Some (Last (if two then 2 else 1)))
 node_open s b y rest e true f (EndsAt.returns {u = u} {v = v} p i x z o) k h l =
     let g : rest ≡ [] = (k z.0 v z.1 z.2).1 ∙ open_all (subst (λ (c : Bool). HasOpenEnd u v c) h o) in
     absurd (no_lf_spaces [] (subst (λ (c : Text). Star NodeSpace (c ++ (10 ∷ [])) []) g (l [])))

@@ -12,7 +12,7 @@ use Rattle.kdl_grammar.specs.Data as nodes'
 use Rattle.kdl_grammar.specs.Data.{Node, node, no_children, children}
 use Rattle.kdl_grammar.specs.Grammar.{Terminator, IsNode, named, AfterName, Blocks, AfterBlock, dropped_later, no_more, no_gap, dropped_node, last_gap, braces}
 use Rattle.kdl_grammar.specs.Places.{DroppedBlock, dropped as dropped_b, AfterChildren, after, before}
-use Rattle.kdl_comments.specs.Items.{Place, before_entry, before_block, behind_block, takes_blocks}
+use Rattle.kdl_comments.specs.Items.{Place, before_entry, before_block, after_block, takes_blocks}
 use Rattle.kdl_comments.specs.Lacks.{InPlace, BeforeEach}
 use Rattle.kdl_comments.specs.Internal.Lacking.{letter}
 use Rattle.kdl_comments.proofs.Lacking.Fewest.{a_piece, letter_node, letter_end, some_nodes, letter_dropped}
@@ -39,7 +39,7 @@ name_of (more (dropped_e ss m i) ds) x = AfterName.dropped_entry ss m i (name_of
 abbrev front : Place → Text → Text
 front (before_entry b) s = s
 front before_block s = 97 ∷ s
-front behind_block s = 97 ∷ 123 ∷ 125 ∷ s
+front after_block s = 97 ∷ 123 ∷ 125 ∷ s
 
 letter_piece : {s : Text} → ValueEnd true s → StringPiece (97 ∷ s) s (97 ∷ [])
 letter_piece e = StringPiece.bare (a_bare refl a_piece (value_end_no_identifier e))
@@ -47,7 +47,7 @@ letter_piece e = StringPiece.bare (a_bare refl a_piece (value_end_no_identifier 
 place_node : (p : Place) → takes_blocks p ≡ true → {s r : Text} → InPlace p s r → ValueEnd true s → (x : Node) × IsNode true (front p s) r x
 place_node (before_entry b) h d e = cc
 place_node before_block h (before ds x) e = (node None (97 ∷ []) [] no_children, named untyped (a_string' (letter_piece e) e) (name_of ds x))
-place_node behind_block h (after ds ss) e =
+place_node after_block h (after ds ss) e =
     let k = punctuation_end 123 refl in (
       node None (97 ∷ []) [] (children nodes'.none),
       named untyped (a_string' (letter_piece k) k) (AfterName.blocks (Blocks.block none (braces (last_gap no_gap)) (later ds ss))),

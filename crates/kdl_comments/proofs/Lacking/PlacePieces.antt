@@ -16,10 +16,10 @@ use Rattle.kdl_grammar.specs.Grammar.{IsBlock}
 use Rattle.kdl_control.specs.Control.{at}
 use Rattle.kdl_grammar.specs.Places.{after, before}
 use Rattle.kdl_grammar.proofs.Moving.Moves.{before_end, terminator_end}
-use Rattle.kdl_comments.specs.Items.{Item, Place, before_entry, before_block, behind_block, may_end, takes_entries, takes_blocks, spaced, PlaceItems, ends, dropped_entry, dropped_block}
+use Rattle.kdl_comments.specs.Items.{Item, Place, before_entry, before_block, after_block, may_end, takes_entries, takes_blocks, spaced, PlaceItems, ends, dropped_entry, dropped_block}
 use Rattle.kdl_comments.specs.Lacks.{newlines, Lacks, InPlace, BeforeEach, PlaceLacks}
 use Rattle.kdl_comments.specs.Internal.Lacking.{letter, EndsAs, PlaceThrough, PlacePieceEnds}
-use Rattle.kdl_comments.specs.Internal.Passed.{Before, AnswersDroppedPart, BehindPart}
+use Rattle.kdl_comments.specs.Internal.Passed.{Before, AnswersDroppedPart, AfterPart}
 use Rattle.kdl_comments.specs.Internal.Passing.{PartPasses, slashdash_phase, slashdash_in}
 use Rattle.kdl_comments.specs.Internal.Reading.{place_view}
 use Rattle.kdl_comments.specs.declared.dropped.PartEnd.{PartEnd}
@@ -42,12 +42,12 @@ use Rattle.kdl_comments.proofs.Rewriting.PlacesAgain.{DashedEntry, DashedBlock, 
 text_end : (p : Place) {s z : Text} → InPlace p s z → ValueEnd true z → ValueEnd true s
 text_end (before_entry b) d e = leading_end d
 text_end before_block d e = before_end d e
-text_end behind_block d e = before_end (before none d) e
+text_end after_block d e = before_end (before none d) e
 
 spaced_back : (b : Bool) (p : Place) (s z : Text) → InPlace (spaced b p) s z → InPlace p s z
 spaced_back b (before_entry c) s z d = d
 spaced_back b before_block s z d = d
-spaced_back b behind_block s z d = d
+spaced_back b after_block s z d = d
 
 -- one piece after another
 pub place_start : (p : Place) (s : Text) → PlaceThrough p s p s
@@ -103,12 +103,12 @@ spaces_onward p q s r e (k, l) = (spaces_through (place_view p) (place_view q) s
 ends_spaced : (p : Place) → may_end (spaced true p) ≡ true
 ends_spaced (before_entry b) = refl
 ends_spaced before_block = refl
-ends_spaced behind_block = refl
+ends_spaced after_block = refl
 
 one_space : (p : Place) {s r : Text} → NodeSpace s r → InPlace p s r
 one_space (before_entry b) n = leading none (plus n none)
 one_space before_block n = before none (after none (more n none))
-one_space behind_block n = after none (more n none)
+one_space after_block n = after none (more n none)
 
 pub spaces_in_escline : (p : held.Place) (s : Text) (y : Ending) → ((r : Bor (List ℕ)) → y ≡ EndsBefore r → ⊥) → EndsAs NodeSpace s (Some y) → PlacePieceEnds p s (Some InEscline)
 spaces_in_escline p s (EndsBefore r) g k = absurd (g r refl)
@@ -182,7 +182,7 @@ entry_through p {b} {u} x = record {
   blocks = λ h. blocks_spaced false p ∙ h;
 }
 
-block_through : (p : Place) {b u : Text} → PartPasses (slashdash_in p) b b true u → takes_blocks p ≡ true → PlaceThrough p (47 ∷ 45 ∷ b) behind_block u
+block_through : (p : Place) {b u : Text} → PartPasses (slashdash_in p) b b true u → takes_blocks p ≡ true → PlaceThrough p (47 ∷ 45 ∷ b) after_block u
 block_through p {b} {u} x h = record {
   on = λ is d. let y = (part_block x h is).0 d in (y.0, y.2);
   back = λ js d. (_, (part_block x h _).1 (js, refl, d));
@@ -190,10 +190,10 @@ block_through p {b} {u} x h = record {
   blocks = λ k. refl;
 }
 
-part_through : (p q : Place) (b u : Text) (is_block : Bool) (o : Option Place) → PartPasses (slashdash_in p) b b is_block u → BehindPart p is_block o → o ≡ Some q → PlaceThrough p (47 ∷ 45 ∷ b) q u
+part_through : (p q : Place) (b u : Text) (is_block : Bool) (o : Option Place) → PartPasses (slashdash_in p) b b is_block u → AfterPart p is_block o → o ≡ Some q → PlaceThrough p (47 ∷ 45 ∷ b) q u
 part_through p q b u false o x f e = let y : spaced false p ≡ q = cc in subst (λ (c : Place). PlaceThrough p (47 ∷ 45 ∷ b) c u) y (entry_through p x)
 part_through p q b u true None x f e = absurd cc
-part_through p q b u true (Some q') x (h, f) e = let y : behind_block ≡ q = cc in subst (λ (c : Place). PlaceThrough p (47 ∷ 45 ∷ b) c u) y (block_through p x h)
+part_through p q b u true (Some q') x (h, f) e = let y : after_block ≡ q = cc in subst (λ (c : Place). PlaceThrough p (47 ∷ 45 ∷ b) c u) y (block_through p x h)
 
 before_length : (s b r : Text) (n : ℕ) → s ≡ 47 ∷ 45 ∷ b → Before b n r → length r < length s
 before_length s b r n e (p, f, m) = omega (arith, ap length e, ap length f, length-append p r)
@@ -201,7 +201,7 @@ before_length s b r n e (p, f, m) = omega (arith, ap length e, ap length f, leng
 pub part_cut : (p : held.Place) (b : Text) (e : PartEnd) → AnswersDroppedPart (place_view p) b (Some e) → (u : Text) × Before b e.at u
 part_cut p b e (u, x, c) = (u, c)
 
-pub part_goes : (p q : held.Place) (s b y : Text) (rest : Bor (List ℕ)) (e : PartEnd) (o : Option held.Place) → s ≡ 47 ∷ 45 ∷ b → AnswersDroppedPart (place_view p) b (Some e) → BehindPart (place_view p) e.is_block (option_map place_view o) → o ≡ Some q
+pub part_goes : (p q : held.Place) (s b y : Text) (rest : Bor (List ℕ)) (e : PartEnd) (o : Option held.Place) → s ≡ 47 ∷ 45 ∷ b → AnswersDroppedPart (place_view p) b (Some e) → AfterPart (place_view p) e.is_block (option_map place_view o) → o ≡ Some q
     → ((a r : Text) → b ≡ a ++ r → bytes a ≡ e.at → (y ≡ a) × (chars rest.now ≡ r)) → PlacePieceEnds p s (Some (Onward q rest))
 part_goes p q s b y rest e o f (u, x, c) g h k =
     let i : chars rest.now ≡ u = (k c.0 u c.1 c.2).1 in
@@ -210,29 +210,29 @@ part_goes p q s b y rest e o f (u, x, c) g h k =
 pub part_none : (p : held.Place) (s b : Text) → s ≡ 47 ∷ 45 ∷ b → AnswersDroppedPart (place_view p) b None → PlacePieceEnds p s None
 part_none p s b f k = λ is d. part_refused k is (subst (λ (y : Text). PlaceItems (place_view p) y is) f d)
 
-nowhere : (p : Place) (b u : Text) (is_block : Bool) (o : Option Place) → PartPasses (slashdash_in p) b b is_block u → BehindPart p is_block o → o ≡ None → (is : List Item) → PlaceItems p (47 ∷ 45 ∷ b) is → ⊥
+nowhere : (p : Place) (b u : Text) (is_block : Bool) (o : Option Place) → PartPasses (slashdash_in p) b b is_block u → AfterPart p is_block o → o ≡ None → (is : List Item) → PlaceItems p (47 ∷ 45 ∷ b) is → ⊥
 nowhere p b u false o x f e = absurd cc
 nowhere p b u true None x f e = part_no_block x f
 nowhere p b u true (Some q) x f e = absurd cc
 
-pub part_nowhere : (p : held.Place) (s b : Text) (e : PartEnd) (o : Option held.Place) → s ≡ 47 ∷ 45 ∷ b → AnswersDroppedPart (place_view p) b (Some e) → BehindPart (place_view p) e.is_block (option_map place_view o) → o ≡ None → PlacePieceEnds p s None
+pub part_nowhere : (p : held.Place) (s b : Text) (e : PartEnd) (o : Option held.Place) → s ≡ 47 ∷ 45 ∷ b → AnswersDroppedPart (place_view p) b (Some e) → AfterPart (place_view p) e.is_block (option_map place_view o) → o ≡ None → PlacePieceEnds p s None
 part_nowhere p s b e o f (u, x, c) g h = λ is d. nowhere (place_view p) b u e.is_block (option_map place_view o) x g (ap (option_map place_view) h) is (subst (λ (y : Text). PlaceItems (place_view p) y is) f d)
 
 no_blocks_end : (q : Place) → takes_blocks q ≡ true → may_end q ≡ true
 no_blocks_end (before_entry b) h = cc
 no_blocks_end before_block h = refl
-no_blocks_end behind_block h = refl
+no_blocks_end after_block h = refl
 
 -- where blocks are taken, what has items may be there
 has_text : (p : Place) → takes_blocks p ≡ true → {s : Text} → Has p s → InPlace p s []
 has_text (before_entry b) h x = cc
 has_text before_block h {s} x = (before_block_items s).1 x
-has_text behind_block h {s} x = (after_block_items s).1 x
+has_text after_block h {s} x = (after_block_items s).1 x
 
 text_has : (p : Place) → takes_blocks p ≡ true → {s : Text} → InPlace p s [] → Has p s
 text_has (before_entry b) h x = cc
 text_has before_block h {s} x = (before_block_items s).0 x
-text_has behind_block h {s} x = (after_block_items s).0 x
+text_has after_block h {s} x = (after_block_items s).0 x
 
 done : (p q : Place) (s t : Text) → PlaceThrough p s q t → t ≡ [] → takes_blocks p ≡ true → InPlace p s [] × BeforeEach p s
 done p q s t k e h =
@@ -256,14 +256,14 @@ lacking p q s t k i f h = (
 pub place_done : (p q : Place) (s t : Text) → PlaceThrough p s q t → t ≡ [] → PlaceLacks p s (Some false)
 place_done (before_entry b) q s t k e = tt
 place_done before_block q s t k e = done before_block q s t k e refl
-place_done behind_block q s t k e = done behind_block q s t k e refl
+place_done after_block q s t k e = done after_block q s t k e refl
 
 pub place_lacking : (p q : Place) (s t : Text) → PlaceThrough p s q t → Has q t × ((z : Text) → InPlace q (t ++ (10 ∷ z)) z) → PlaceLacks p s (Some true)
 place_lacking (before_entry b) q s t k i = tt
 place_lacking before_block q s t k i = lacking before_block q s t k i.0 i.1 refl
-place_lacking behind_block q s t k i = lacking behind_block q s t k i.0 i.1 refl
+place_lacking after_block q s t k i = lacking after_block q s t k i.0 i.1 refl
 
 pub place_refused : (p q : Place) (s t : Text) → PlaceThrough p s q t → ((is : List Item) → PlaceItems q t is → ⊥) → PlaceLacks p s None
 place_refused (before_entry b) q s t k f = tt
 place_refused before_block q s t k f = λ d. let h = text_has before_block refl d in let i = k.on h.0 h.1 in f i.0 i.1
-place_refused behind_block q s t k f = λ d. let h = text_has behind_block refl d in let i = k.on h.0 h.1 in f i.0 i.1
+place_refused after_block q s t k f = λ d. let h = text_has after_block refl d in let i = k.on h.0 h.1 in f i.0 i.1

@@ -13,7 +13,7 @@ use Rattle.kdl_comments.specs.Internal.Lacking.{letter, GapAnswer, LineEnds}
 use Rattle.kdl_comments.specs.declared.ends.Ending.TheVariants.{Before, InReturn, Open}
 use Rattle.kdl_comments.proofs.Dropping.Paths.{at_brace, halts}
 use Rattle.kdl_comments.proofs.Lacking.Fewest.{a, letter_node, some_nodes, no_nodes, fewer_not, ends_more}
-use Rattle.kdl_grammar.proofs.ReadingBack.Closing.{behind_lf}
+use Rattle.kdl_grammar.proofs.ReadingBack.Closing.{after_lf}
 use Rattle.kdl_comments.proofs.Lacking.GapPieces.{begins_lf, break_terminator}
 use Rattle.kdl_comments.proofs.Lacking.Keeping.{alone}
 use Rattle.kdl_comments.proofs.Lacking.SpaceEnds.{lf, cr, break_at, break_open, break_ends, letter_line, space_no_newline}
@@ -27,23 +27,23 @@ unfolding is_newline_char
 brace_no_newline = refl
 
 -- after a semicolon
-behind : {r v : Text} → Terminator (59 ∷ r) v → v ≡ r
-behind Terminator.semicolon = refl
-behind (Terminator.newline n) = let x = newline_begins n in let y = semicolon_no_newline in absurd cc
-behind (Terminator.comment l) = elim l [ ]
+following : {r v : Text} → Terminator (59 ∷ r) v → v ≡ r
+following Terminator.semicolon = refl
+following (Terminator.newline n) = let x = newline_begins n in let y = semicolon_no_newline in absurd cc
+following (Terminator.comment l) = elim l [ ]
 
 -- where one newline fewer leaves no node, fewer are not enough
 fewer : (t : Text) (k : ℕ) → ((j : ℕ) → suc j ≡ k → (v : Text) → Terminator ((t ++ newlines j) ++ letter) v → AreNodes true v [] (first a none) → first a none ≡ none) → (j : ℕ) → j < k → Terminates Anything (t ++ newlines j) → ⊥
 fewer t k f = fewer_not (Terminates Anything) t k (ends_more t) (λ j e p. let (v, m, ds) = p letter [] (first a none) tt (inl refl) letter_node in some_nodes (f j e v m ds))
 
 semicolon_lacks : (r : Text) (o : Option ℕ) → GapAnswer r o → TerminatorLacks (59 ∷ r) o
-semicolon_lacks r None f = λ (v, t, g). f (subst (λ (y : Text). Gap true y []) (behind t) g)
+semicolon_lacks r None f = λ (v, t, g). f (subst (λ (y : Text). Gap true y []) (following t) g)
 semicolon_lacks r (Some k) (b, g, f, few) = (
   b,
   (r, Terminator.semicolon, g),
   (
     λ w z xs x e ds. ((r ++ newlines k) ++ w, Terminator.semicolon, f w z xs e ds),
-    fewer (59 ∷ r) k (λ j e v m ds. few j e (first a none) (subst (λ (y : Text). AreNodes true y [] (first a none)) (behind m) ds)),
+    fewer (59 ∷ r) k (λ j e v m ds. few j e (first a none) (subst (λ (y : Text). AreNodes true y [] (first a none)) (following m) ds)),
   ),
 )
 
@@ -106,7 +106,7 @@ return_alone {t = t} b n =
         let (u, i) = begins_lf w h in (
           u,
           subst (λ (y : Text). Terminator ((t ++ newlines 0) ++ y) u) (sym i) (subst (λ (y : Text). Terminator (y ++ (10 ∷ u)) u) (sym (append-nil t)) (break_terminator (g u))),
-          behind_lf _ e (subst (λ (y : Text). AreNodes true y z xs) i ds),
+          after_lf _ e (subst (λ (y : Text). AreNodes true y z xs) i ds),
         )
     go w z xs e ds f g false h = (w, subst (λ (y : Text). Terminator (y ++ w) w) (sym (append-nil t)) (break_terminator (f w h)), ds)
 

@@ -32,7 +32,7 @@ cut_front bs p r n u e l =
     ap (λ k. chars (take k bs)) (sym l ∙ bytes-encodes p) ∙ ap (λ (s : List ℕ). chars (take (length (encodes p)) s)) (seam bs p r u e)
     ∙ ap chars (take-append_seam (encodes p) (encodes r)) ∙ chars-encodes p (parts_scalars bs p r u e).0
 
-pub cut_behind : (bs p r : Text) (n : ℕ) → IsUtf8 bs → chars bs ≡ p ++ r → bytes p ≡ n → chars (drop n bs) ≡ r
-cut_behind bs p r n u e l =
+pub cut_after : (bs p r : Text) (n : ℕ) → IsUtf8 bs → chars bs ≡ p ++ r → bytes p ≡ n → chars (drop n bs) ≡ r
+cut_after bs p r n u e l =
     ap (λ k. chars (drop k bs)) (sym l ∙ bytes-encodes p) ∙ ap (λ (s : List ℕ). chars (drop (length (encodes p)) s)) (seam bs p r u e)
     ∙ ap chars (drop-append_seam (encodes p) (encodes r)) ∙ chars-encodes r (parts_scalars bs p r u e).1

@@ -2,7 +2,7 @@
 use Rattle.std.proofs.Common.{◌≡◌, ◌↔◌, ◌<◌, true, false, List, [], ◌∷◌, ◌++◌, length, Option, Some, None, refl, sym, ap, subst, ◌∙◌, arith, append_assoc, append-nil}
 use Rattle.kdl_text.specs.Chars.{Text}
 use Rattle.kdl_text.specs.Trivia.{slashdash}
-use Rattle.kdl_comments.specs.Items.{Item, SpaceItems, LineSpaceItems, GapItems, Place, before_entry, before_block, behind_block, may_end, spaced, PlaceItems}
+use Rattle.kdl_comments.specs.Items.{Item, SpaceItems, LineSpaceItems, GapItems, Place, before_entry, before_block, after_block, may_end, spaced, PlaceItems}
 use Rattle.kdl_comments.specs.Internal.Passed.{PlaceTakes}
 use Rattle.kdl_comments.specs.Internal.Reading.{Run, Adds, Takes}
 use Rattle.kdl_comments.specs.Internal.Reading.Run.{none, more}
@@ -56,7 +56,7 @@ gap_done s t old l e = leaves_all (GapItems s) (GapItems t) old l (rw e GapItems
 spaced_twice : (p : Place) → spaced true (spaced true p) ≡ spaced true p
 spaced_twice (before_entry b) = refl
 spaced_twice before_block = refl
-spaced_twice behind_block = refl
+spaced_twice after_block = refl
 
 space_leaves : (p : Place) {s t : Text} {is : List Item} → SpaceItems s t is → Leaves (PlaceItems (spaced true p) s) (PlaceItems (spaced true p) t) is
 space_leaves p {s = s} {t = t} {is = is} d = subst (λ (q : Place). Leaves (PlaceItems (spaced true p) s) (PlaceItems q t) is) (spaced_twice p) (place_space d)

@@ -11,7 +11,7 @@ use Rattle.kdl_entry.specs.Places.{DroppedEntry, dropped as a_dropped_entry, Ent
 use Rattle.kdl_grammar.specs.Data.{Node, Children, Nodes}
 use Rattle.kdl_grammar.specs.Grammar.{Terminator, IsNode, named, AfterName, kept_entry, Blocks, AfterBlock, dropped_later, no_more, Gap, no_gap, IsBlock}
 use Rattle.kdl_grammar.specs.Places.{DroppedBlock, dropped as a_dropped_block, AfterChildren, after, BeforeChildren, before}
-use Rattle.kdl_comments.specs.Items.{Item, piece, ItemEnd, GapItems, Place, before_entry, before_block, behind_block, may_end, takes_entries, takes_blocks, spaced, PlaceItems}
+use Rattle.kdl_comments.specs.Items.{Item, piece, ItemEnd, GapItems, Place, before_entry, before_block, after_block, may_end, takes_entries, takes_blocks, spaced, PlaceItems}
 use Rattle.kdl_comments.proofs.Dropping.DroppedNodes.{passes_last, node_ended}
 use Rattle.kdl_comments.proofs.Dropping.Paths.{at_brace, halts}
 use Rattle.kdl_comments.proofs.Listing.SpaceItems.{space_of, line_space_of, space_items, line_space_items}
@@ -89,17 +89,17 @@ gap_items s = (λ g. gap_has g, λ h. gap_of h.1)
 entries_spaced : (p : Place) → takes_entries (spaced true p) ≡ takes_entries p
 entries_spaced (before_entry b) = refl
 entries_spaced before_block = refl
-entries_spaced behind_block = refl
+entries_spaced after_block = refl
 
 blocks_spaced : (p : Place) → takes_blocks (spaced true p) ≡ takes_blocks p
 blocks_spaced (before_entry b) = refl
 blocks_spaced before_block = refl
-blocks_spaced behind_block = refl
+blocks_spaced after_block = refl
 
 unspaced : (p : Place) → spaced false (spaced true p) ≡ spaced false p
 unspaced (before_entry b) = refl
 unspaced before_block = refl
-unspaced behind_block = refl
+unspaced after_block = refl
 
 -- node-spaces, a dropped entry and a dropped block in a place
 space_first : {p : Place} {s t : Text} → NodeSpace s t → Has (spaced true p) t → Has p s
@@ -113,14 +113,14 @@ entry_first : (p : Place) → takes_entries p ≡ true → {s t u r : Text} {e :
 entry_first p h {s} {r = r} no_star m i g = (piece (between s r) ∷ g.0, PlaceItems.dropped_entry h m i g.1)
 entry_first p h {r = r} (more n ss) m i g = space_first n (entry_first (spaced true p) (entries_spaced p ∙ h) ss m i (subst (λ (q : Place). Has q r) (sym (unspaced p)) g))
 
-block_first : (p : Place) → takes_blocks p ≡ true → {s t u r : Text} {xs : Nodes} → Star NodeSpace s t → Slashdash t u → IsBlock true u r xs → Has behind_block r → Has p s
+block_first : (p : Place) → takes_blocks p ≡ true → {s t u r : Text} {xs : Nodes} → Star NodeSpace s t → Slashdash t u → IsBlock true u r xs → Has after_block r → Has p s
 block_first p h {s} {r = r} no_star m b g = (piece (between s r) ∷ g.0, PlaceItems.dropped_block h m b g.1)
 block_first p h (more n ss) m b g = space_first n (block_first (spaced true p) (blocks_spaced p ∙ h) ss m b g)
 
 -- each text of a place has items
 after_has : (p : Place) → takes_blocks p ≡ true → spaced true p ≡ p → may_end p ≡ true → {s t : Text} → Star DroppedBlock s t → Star NodeSpace t [] → Has p s
 after_has p h e f no_star us = spaces_first p e us ([], PlaceItems.ends f)
-after_has p h e f (more (a_dropped_block ss m b) ds) us = block_first p h ss m b (after_has behind_block refl refl refl ds us)
+after_has p h e f (more (a_dropped_block ss m b) ds) us = block_first p h ss m b (after_has after_block refl refl refl ds us)
 
 before_has : {s t : Text} → Star DroppedEntry s t → AfterChildren t [] → Has before_block s
 before_has no_star (after ds us) = after_has before_block refl refl refl ds us
@@ -135,7 +135,7 @@ abbrev TextIn : Place → Text → Type 0
 TextIn (before_entry false) s = EntryLeading s []
 TextIn (before_entry true) s = Star NodeSpace s [] ⊎ EntryLeading s []
 TextIn before_block s = BeforeChildren s []
-TextIn behind_block s = AfterChildren s []
+TextIn after_block s = AfterChildren s []
 
 space_after : {s t : Text} → NodeSpace s t → AfterChildren t [] → AfterChildren s []
 space_after n (after no_star us) = after no_star (more n us)
@@ -154,7 +154,7 @@ text_space : (p : Place) {s t : Text} → NodeSpace s t → TextIn (spaced true 
 text_space (before_entry false) n d = space_leading n d
 text_space (before_entry true) n d = inr (space_leading n d)
 text_space before_block n d = space_before n d
-text_space behind_block n d = space_after n d
+text_space after_block n d = space_after n d
 
 entry_leading : {s t u : Text} {e : Entry} → Slashdash s t → IsEntry true t u e → EntryLeading u [] → EntryLeading s []
 entry_leading m i (leading ds us) = leading (more (a_dropped_entry no_star m i) ds) us
@@ -166,7 +166,7 @@ text_entry : (p : Place) → takes_entries p ≡ true → {s t u : Text} {e : En
 text_entry (before_entry false) h m i d = entry_leading m i d
 text_entry (before_entry true) h m i d = inr (entry_leading m i d)
 text_entry before_block h m i d = entry_before m i d
-text_entry behind_block h m i d = absurd cc
+text_entry after_block h m i d = absurd cc
 
 block_after : {s t u : Text} {xs : Nodes} → Slashdash s t → IsBlock true t u xs → AfterChildren u [] → AfterChildren s []
 block_after m b (after ds us) = after (more (a_dropped_block no_star m b) ds) us
@@ -174,19 +174,19 @@ block_after m b (after ds us) = after (more (a_dropped_block no_star m b) ds) us
 text_block : (p : Place) → takes_blocks p ≡ true → {s t u : Text} {xs : Nodes} → Slashdash s t → IsBlock true t u xs → AfterChildren u [] → TextIn p s
 text_block (before_entry b) h m i d = absurd cc
 text_block before_block h m i d = before no_star (block_after m i d)
-text_block behind_block h m i d = block_after m i d
+text_block after_block h m i d = block_after m i d
 
 text_end : (p : Place) → may_end p ≡ true → TextIn p []
 text_end (before_entry false) h = absurd cc
 text_end (before_entry true) h = inl no_star
 text_end before_block h = before no_star (after no_star no_star)
-text_end behind_block h = after no_star no_star
+text_end after_block h = after no_star no_star
 
 text_of : (p : Place) {s : Text} {is : List Item} → PlaceItems p s is → TextIn p s
 text_of p (PlaceItems.ends h) = text_end p h
 text_of p (PlaceItems.space d g) = text_space p (space_of d) (text_of (spaced true p) g)
 text_of p (PlaceItems.dropped_entry h m i g) = text_entry p h m i (text_of (spaced false p) g)
-text_of p (PlaceItems.dropped_block h m b g) = text_block p h m b (text_of behind_block g)
+text_of p (PlaceItems.dropped_block h m b g) = text_block p h m b (text_of after_block g)
 
 pub before_block_items : (s : Text) → BeforeChildren s [] ↔ ((is : List Item) × PlaceItems before_block s is)
 before_block_items s = (λ d. has d, λ h. text_of before_block h.1)
@@ -194,11 +194,11 @@ before_block_items s = (λ d. has d, λ h. text_of before_block h.1)
     has : BeforeChildren s [] → Has before_block s
     has (before ds a) = before_has ds a
 
-pub after_block_items : (s : Text) → AfterChildren s [] ↔ ((is : List Item) × PlaceItems behind_block s is)
-after_block_items s = (λ d. has d, λ h. text_of behind_block h.1)
+pub after_block_items : (s : Text) → AfterChildren s [] ↔ ((is : List Item) × PlaceItems after_block s is)
+after_block_items s = (λ d. has d, λ h. text_of after_block h.1)
   where
-    has : AfterChildren s [] → Has behind_block s
-    has (after ds us) = after_has behind_block refl refl refl ds us
+    has : AfterChildren s [] → Has after_block s
+    has (after ds us) = after_has after_block refl refl refl ds us
 
 pub before_entry_items : (s : Text) → EntryLeading s [] ↔ ((is : List Item) × PlaceItems (before_entry false) s is)
 before_entry_items s = (λ d. has d, λ h. text_of (before_entry false) h.1)

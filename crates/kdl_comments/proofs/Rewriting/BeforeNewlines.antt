@@ -5,7 +5,7 @@ use Rattle.std.specs.Prelude.{if◌then◌else◌}
 use Rattle.kdl_text.specs.Chars.{Text, starts, begins_two, is_newline_char, Newline, crlf, one, Star, none, more, Plus, plus, space as a_space}
 use Rattle.kdl_text.specs.Internal.Here.{first}
 use Rattle.kdl_text.specs.Trivia.{Parts, close, nested, BlockComment, block, Line, line as a_line, Ws, EscEnd, escline, NodeSpace, ValueEnd}
-use Rattle.kdl_text.proofs.Looking.Ends.{then as behind_end}
+use Rattle.kdl_text.proofs.Looking.Ends.{then as after_end}
 use Rattle.kdl_text.proofs.Spacing.ValueEnds.{space_ends}
 use Rattle.kdl_entry.specs.Data.{Entry}
 use Rattle.kdl_entry.proofs.Moving.EntryEnds.{end_spaces, end_slashdash, end_some, end_type}
@@ -15,17 +15,17 @@ use Rattle.kdl_grammar.specs.Data.{Node, Children, Nodes}
 use Rattle.kdl_grammar.specs.Grammar.{IsNode, named, AfterName, kept_entry, dropped_entry, Blocks, dropped_block, block as a_block, no_block, AfterBlock, dropped_later, no_more, IsBlock, braces}
 use Rattle.kdl_grammar.proofs.Moving.Moves.{move_nodes}
 use Rattle.kdl_comments.specs.Written.{line_text}
-use Rattle.kdl_comments.proofs.Rewriting.LastCharacters.{Last, last_behind, last_end, is_string_last, entry_last, block_last, ws_last}
+use Rattle.kdl_comments.proofs.Rewriting.LastCharacters.{Last, last_after, last_end, is_string_last, entry_last, block_last, ws_last}
 
 -- the text of a line is that of its end
-pub line_behind : (p : Text) (c : ℕ) (q : Text) → line_text (p ++ (c ∷ q)) ≡ p ++ line_text (c ∷ q)
-line_behind [] c q = refl
-line_behind (d ∷ []) c q = refl
-line_behind (d ∷ e ∷ p) c q = ap (λ (z : Text). d ∷ z) (line_behind (e ∷ p) c q)
+pub line_after : (p : Text) (c : ℕ) (q : Text) → line_text (p ++ (c ∷ q)) ≡ p ++ line_text (c ∷ q)
+line_after [] c q = refl
+line_after (d ∷ []) c q = refl
+line_after (d ∷ e ∷ p) c q = ap (λ (z : Text). d ∷ z) (line_after (e ∷ p) c q)
 
 -- a text that does not end with CR is its own
 pub line_kept : (p : Text) (c : ℕ) → (c == 13) ≡ false → line_text (p ++ (c ∷ [])) ≡ p ++ (c ∷ [])
-line_kept p c h = line_behind p c [] ∙ ap (λ (b : Bool). p ++ ((if b then 10 else c) ∷ [])) h
+line_kept p c h = line_after p c [] ∙ ap (λ (b : Bool). p ++ ((if b then 10 else c) ∷ [])) h
 
 -- the piece q in s before r
 pub piece_kept : {s r : Text} (q : Text) → s ≡ q ++ r → Last s r → (p : Text) → line_text (p ++ q) ≡ p ++ q
@@ -33,8 +33,8 @@ piece_kept {r = r} q e l p =
     let f : q ≡ l.front ++ (l.char ∷ []) = append_cancel_right q (l.front ++ (l.char ∷ [])) r (sym e ∙ l.text ∙ sym (append_assoc l.front (l.char ∷ []) r)) in
     rw f (sym (ap line_text (append_assoc p l.front (l.char ∷ []))) ∙ line_kept (p ++ l.front) l.char l.other ∙ append_assoc p l.front (l.char ∷ []))
 
-lined_behind : (q : Text) {piece line : Text} → ((p : Text) → line_text (p ++ piece) ≡ p ++ line) → (p : Text) → line_text (p ++ (q ++ piece)) ≡ p ++ (q ++ line)
-lined_behind q {piece} {line} f p = ap line_text (sym (append_assoc p q piece)) ∙ f (p ++ q) ∙ append_assoc p q line
+lined_after : (q : Text) {piece line : Text} → ((p : Text) → line_text (p ++ piece) ≡ p ++ line) → (p : Text) → line_text (p ++ (q ++ piece)) ≡ p ++ (q ++ line)
+lined_after q {piece} {line} f p = ap line_text (sym (append_assoc p q piece)) ∙ f (p ++ q) ∙ append_assoc p q line
 
 -- it comes before each rest
 pub record Closed (R : Text → Text → Type 0) (s r : Text) : Type 0 where
@@ -92,12 +92,12 @@ put_line p line u = p.text (line ++ (10 ∷ u)) ∙ sym (append_assoc p.piece li
 pub put_text : {s t : Text} (p : Put s t) (q r : Text) → t ≡ q ++ r → s ≡ (p.piece ++ q) ++ r
 put_text {t = t} p q r e = p.here ∙ p.text t ∙ ap (λ (z : Text). p.piece ++ z) e ∙ sym (append_assoc p.piece q r)
 
-abbrev behind : {R Q : Text → Text → Type 0} {s t r : Text} (p : Put s t) (k : OnLine R t r) → ((u : Text) → Q (p.put (k.line ++ (10 ∷ u))) (10 ∷ u)) → OnLine Q s r
-behind {Q = Q} {r = r} p k f = record {
+abbrev following : {R Q : Text → Text → Type 0} {s t r : Text} (p : Put s t) (k : OnLine R t r) → ((u : Text) → Q (p.put (k.line ++ (10 ∷ u))) (10 ∷ u)) → OnLine Q s r
+following {Q = Q} {r = r} p k f = record {
   piece = p.piece ++ k.piece;
   line = p.piece ++ k.line;
   text = put_text p k.piece r k.text;
-  lined = lined_behind p.piece k.lined;
+  lined = lined_after p.piece k.lined;
   there = λ u. subst (λ (z : Text). Q z (10 ∷ u)) (put_line p k.line u) (f u);
 }
 
@@ -128,25 +128,25 @@ line_char_other c = go (c == 13) refl
     go false e = e
 
 newline_line : {s r : Text} → Newline s r → OnLine Newline s r
-newline_line crlf = record { piece = 13 ∷ 10 ∷ []; line = 13 ∷ 10 ∷ []; text = refl; lined = λ p. line_behind p 13 (10 ∷ []); there = λ u. crlf }
+newline_line crlf = record { piece = 13 ∷ 10 ∷ []; line = 13 ∷ 10 ∷ []; text = refl; lined = λ p. line_after p 13 (10 ∷ []); there = λ u. crlf }
 newline_line (one {c = c} x y) =
     record {
       piece = c ∷ [];
       line = (if c == 13 then 10 else c) ∷ [];
       text = refl;
-      lined = λ p. line_behind p c [];
+      lined = λ p. line_after p c [];
       there = λ u. one (line_char_newline c x) (ap (λ (b : Bool). b && true) (line_char_other c));
     }
 
 line_line : {s r : Text} → Line s r → starts is_newline_char r ≡ true → OnLine Line s r
 line_line Line.ends h = cc
-line_line (Line.newline n) h = behind stands (newline_line n) (λ u. Line.newline ((newline_line n).there u))
-line_line (Line.other {c = c} x l) h = let k = line_line l h in behind (also c stands) k (λ u. Line.other x (k.there u))
+line_line (Line.newline n) h = following stands (newline_line n) (λ u. Line.newline ((newline_line n).there u))
+line_line (Line.other {c = c} x l) h = let k = line_line l h in following (also c stands) k (λ u. Line.other x (k.there u))
 
 -- node-spaces
 esc_line : {s r : Text} → EscEnd s r → starts is_newline_char r ≡ true → OnLine EscEnd s r
-esc_line (EscEnd.comment (a_line l)) h = let k = line_line l h in behind (also 47 (also 47 stands)) k (λ u. EscEnd.comment (a_line (k.there u)))
-esc_line (EscEnd.newline n) h = let k = newline_line n in behind stands k (λ u. EscEnd.newline (k.there u))
+esc_line (EscEnd.comment (a_line l)) h = let k = line_line l h in following (also 47 (also 47 stands)) k (λ u. EscEnd.comment (a_line (k.there u)))
+esc_line (EscEnd.newline n) h = let k = newline_line n in following stands k (λ u. EscEnd.newline (k.there u))
 esc_line EscEnd.ends h = cc
 
 record SpacesLine (R : Text → Text → Type 0) (s r : Text) : Type 0 where
@@ -169,7 +169,7 @@ space_line : {s r : Text} → NodeSpace s r → starts is_newline_char r ≡ tru
 space_line (NodeSpace.ws w) h = let m = closed_ws w in closed_line (record { at = m.at; full = m.full; there = λ u. NodeSpace.ws (m.there u) }) (ws_last w)
 space_line (NodeSpace.escline (escline ss f)) h =
     let a = closed_run ss in let k = esc_line f h in
-    record { on = behind (also 92 a.at) k (λ u. NodeSpace.escline (escline (a.there (k.line ++ (10 ∷ u))) (k.there u))); begun = λ u. refl }
+    record { on = following (also 92 a.at) k (λ u. NodeSpace.escline (escline (a.there (k.line ++ (10 ∷ u))) (k.there u))); begun = λ u. refl }
 
 add_space : {s t r : Text} → NodeSpace s t → Plus NodeSpace t r → Plus NodeSpace s r
 add_space n (plus m ms) = plus n (more m ms)
@@ -181,7 +181,7 @@ spaces_line n none h =
 spaces_line n (more m ms) h =
     let a = move_space n in let k = spaces_line m ms h in
     record {
-      on = behind a.at k.on (λ u. add_space (a.there (k.on.line ++ (10 ∷ u)) (k.begun u)) (k.on.there u));
+      on = following a.at k.on (λ u. add_space (a.there (k.on.line ++ (10 ∷ u)) (k.begun u)) (k.on.there u));
       begun = λ u. ap first (sym (put_line a.at k.on.line u)) ∙ same a.at (k.on.line ++ (10 ∷ u)) (k.begun u);
     }
 
@@ -210,7 +210,7 @@ cut_later (dropped_later ss m b d) =
       rest = k.rest;
       at = joined a.at (joined o.at (joined c.at k.at));
       spaces = k.spaces;
-      last = λ l. k.last (last_behind (behind_end (last_end l) (behind_end (end_spaces ss) (end_slashdash m))) (block_last b));
+      last = λ l. k.last (last_after (after_end (last_end l) (after_end (end_spaces ss) (end_slashdash m))) (block_last b));
       ends = λ u e. spaces_dash (spaced u) (dashed u);
       there = λ u q e f. dropped_later (spaced u) (dashed u) (c.there (k.at.put u)) (k.there u q e f);
     }
@@ -224,7 +224,7 @@ cut_blocks (a_block ss b d) =
       rest = k.rest;
       at = joined a.at (joined c.at k.at);
       spaces = k.spaces;
-      last = λ l. k.last (last_behind (behind_end (last_end l) (end_spaces ss)) (block_last b));
+      last = λ l. k.last (last_after (after_end (last_end l) (end_spaces ss)) (block_last b));
       ends = λ u e. spaces_end (spaced u) (brace_end (c.there (k.at.put u)));
       there = λ u q e f. a_block (spaced u) (c.there (k.at.put u)) (k.there u q e f);
     }
@@ -236,7 +236,7 @@ cut_blocks (dropped_block ss m b d) =
       rest = k.rest;
       at = joined a.at (joined o.at (joined c.at k.at));
       spaces = k.spaces;
-      last = λ l. k.last (last_behind (behind_end (last_end l) (behind_end (end_spaces ss) (end_slashdash m))) (block_last b));
+      last = λ l. k.last (last_after (after_end (last_end l) (after_end (end_spaces ss) (end_slashdash m))) (block_last b));
       ends = λ u e. spaces_dash (spaced u) (dashed u);
       there = λ u q e f. dropped_block (spaced u) (dashed u) (c.there (k.at.put u)) (k.there u q e f);
     }
@@ -250,7 +250,7 @@ cut_name (kept_entry n i d) =
       rest = k.rest;
       at = joined a.at (joined c.at k.at);
       spaces = k.spaces;
-      last = λ l. k.last (last_behind (behind_end (last_end l) (end_some n)) (entry_last i));
+      last = λ l. k.last (last_after (after_end (last_end l) (end_some n)) (entry_last i));
       ends = λ u e. some_end (spaced u);
       there = λ u q e f. kept_entry (spaced u) (c.there (k.at.put u) (k.ends u e)) (k.there u q e f);
     }
@@ -262,7 +262,7 @@ cut_name (dropped_entry ss m i d) =
       rest = k.rest;
       at = joined a.at (joined o.at (joined c.at k.at));
       spaces = k.spaces;
-      last = λ l. k.last (last_behind (behind_end (last_end l) (behind_end (end_spaces ss) (end_slashdash m))) (entry_last i));
+      last = λ l. k.last (last_after (after_end (last_end l) (after_end (end_spaces ss) (end_slashdash m))) (entry_last i));
       ends = λ u e. spaces_dash (spaced u) (dashed u);
       there = λ u q e f. dropped_entry (spaced u) (dashed u) (c.there (k.at.put u) (k.ends u e)) (k.there u q e f);
     }
@@ -283,7 +283,7 @@ cut_node (named y w d) =
       rest = k.rest;
       at = joined b.at (joined o.at k.at);
       spaces = k.spaces;
-      last = k.last (last_behind (end_type y) (is_string_last w));
+      last = k.last (last_after (end_type y) (is_string_last w));
       full = λ u. same b.at (o.at.put (k.at.put u)) (o.full (k.at.put u));
       there = λ u q e f. named (b.there (o.at.put (k.at.put u)) (o.full (k.at.put u))) (o.there (k.at.put u) (k.ends u e)) (k.there u q e f);
     }
@@ -311,7 +311,7 @@ node_line_at {x = x} {t = t} p l full there none h = record {
 node_line_at p l full there (more n ss) h =
     let k = spaces_line n ss h in
     record {
-      on = behind p k.on (λ u. there (k.on.line ++ (10 ∷ u)) (10 ∷ u) (some_end (k.on.there u)) (some_spaces (k.on.there u)));
+      on = following p k.on (λ u. there (k.on.line ++ (10 ∷ u)) (10 ∷ u) (some_end (k.on.there u)) (some_spaces (k.on.there u)));
       begun = λ u. ap first (sym (put_line p k.on.line u)) ∙ full (k.on.line ++ (10 ∷ u));
     }
 

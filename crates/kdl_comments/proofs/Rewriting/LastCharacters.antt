@@ -14,7 +14,7 @@ use Rattle.kdl_text.specs.Trivia.{Parts, close, nested, block, Ws}
 use Rattle.kdl_text.specs.declared.numbers.Keyword.{Keyword}
 use Rattle.kdl_text.specs.declared.numbers.Keyword.TheVariants.{True, False, Null, Infinity, NegativeInfinity, NotANumber}
 use Rattle.kdl_text.specs.declared.strings.dedent.LineUnit.{LineUnit}
-use Rattle.kdl_text.proofs.Looking.Ends.{End, here, also, then as behind, past, end_newline}
+use Rattle.kdl_text.proofs.Looking.Ends.{End, here, also, then as following, past, end_newline}
 use Rattle.kdl_text.proofs.Spacing.SpacePieces.{parts_end}
 use Rattle.kdl_value.specs.Data.{Value}
 use Rattle.kdl_entry.specs.Data.{Entry}
@@ -38,11 +38,11 @@ pub record Last (s r : Text) : Type 0 where
 pub last_here : (c : ℕ) → (c == 13) ≡ false → {r : Text} → Last (c ∷ r) r
 last_here c h = record { front = []; char = c; text = refl; other = h }
 
-pub last_behind : {s t r : Text} → End s t → Last t r → Last s r
-last_behind {r = r} e l = record { front = e.piece ++ l.front; char = l.char; text = e.text ∙ ap (λ (u : Text). e.piece ++ u) l.text ∙ sym (append_assoc e.piece l.front (l.char ∷ r)); other = l.other }
+pub last_after : {s t r : Text} → End s t → Last t r → Last s r
+last_after {r = r} e l = record { front = e.piece ++ l.front; char = l.char; text = e.text ∙ ap (λ (u : Text). e.piece ++ u) l.text ∙ sym (append_assoc e.piece l.front (l.char ∷ r)); other = l.other }
 
 pub last_also : (c : ℕ) {s r : Text} → Last s r → Last (c ∷ s) r
-last_also c l = last_behind (also c here) l
+last_also c l = last_after (also c here) l
 
 pub last_end : {s r : Text} → Last s r → End s r
 last_end {r = r} l = record { piece = l.front ++ (l.char ∷ []); text = l.text ∙ sym (append_assoc l.front (l.char ∷ []) r) }
@@ -91,14 +91,14 @@ ten_last : {s r w : Text} → Integer 10 s r w → Last s r
 ten_last i = integer_last 10 (omega arith) i
 
 part_last : {s r : Text} → DecimalPart s r → Last s r
-part_last (part (Fraction.none x) (Exponent.exponent {c = c} y g i) z e) = last_also c (last_behind (sign_end g) (ten_last i))
+part_last (part (Fraction.none x) (Exponent.exponent {c = c} y g i) z e) = last_also c (last_after (sign_end g) (ten_last i))
 part_last (part (Fraction.fraction i) (Exponent.none y) z e) = last_also 46 (ten_last i)
-part_last (part (Fraction.fraction i) (Exponent.exponent {c = c} y g j) z e) = last_also 46 (last_behind (integer_end i) (last_also c (last_behind (sign_end g) (ten_last j))))
+part_last (part (Fraction.fraction i) (Exponent.exponent {c = c} y g j) z e) = last_also 46 (last_after (integer_end i) (last_also c (last_after (sign_end g) (ten_last j))))
 part_last (part (Fraction.none x) (Exponent.none y) z e) = absurd cc
 
 number_last : {s r : Text} {n : NumberValue} → IsNumber s r n → Last s r
-number_last (is_whole (whole {radix = k} g m i x y e)) = last_behind (behind (sign_end g) (base_end m)) (integer_last k (read_base_small m) i)
-number_last (is_decimal (decimal p g i d e f)) = last_behind (behind (sign_end g) (integer_end i)) (part_last d)
+number_last (is_whole (whole {radix = k} g m i x y e)) = last_after (following (sign_end g) (base_end m)) (integer_last k (read_base_small m) i)
+number_last (is_decimal (decimal p g i d e f)) = last_after (following (sign_end g) (integer_end i)) (part_last d)
 
 keyword_last : {s r : Text} {k : Keyword} → IsKeyword s r k → Last s r
 keyword_last {r = r} {k = k} (a_keyword e n) = last_same e (go k)
@@ -136,7 +136,7 @@ unit_end (one_gap {e = e} x gap) = also 92 (also e (record { piece = gap.run; te
 
 units_end : {s r : Text} {us : List StringUnit} → AreUnits s r us → End s r
 units_end AreUnits.none = here
-units_end (AreUnits.more u us) = behind (unit_end u) (units_end us)
+units_end (AreUnits.more u us) = following (unit_end u) (units_end us)
 
 content_unit_end : {s r : Text} {us : List LineUnit} → ContentUnit s r us → End s r
 content_unit_end (ContentUnit.quote x) = also 34 here
@@ -145,11 +145,11 @@ content_unit_end (ContentUnit.unit u e) = unit_end u
 
 content_last : {s r : Text} {us : List LineUnit} → Content s r us → Last s r
 content_last Content.close = last_also 34 (last_also 34 (last_here 34 refl))
-content_last (Content.more u c e) = last_behind (content_unit_end u) (content_last c)
+content_last (Content.more u c e) = last_after (content_unit_end u) (content_last c)
 
 quoted_last : {s r v : Text} → IsQuoted s r v → Last s r
-quoted_last (IsQuoted.on_one_line x (quoted_text (body us e))) = last_also 34 (last_behind (units_end us) (last_here 34 refl))
-quoted_last (IsQuoted.on_many_lines (multi_line (MultiLineBody.lines n c d))) = last_also 34 (last_also 34 (last_also 34 (last_behind (end_newline n) (content_last c))))
+quoted_last (IsQuoted.on_one_line x (quoted_text (body us e))) = last_also 34 (last_after (units_end us) (last_here 34 refl))
+quoted_last (IsQuoted.on_many_lines (multi_line (MultiLineBody.lines n c d))) = last_also 34 (last_also 34 (last_also 34 (last_after (end_newline n) (content_last c))))
 
 signs_last : (n : ℕ) → 0 < n → (r : Text) → Last (times n 35 ++ r) r
 signs_last zero h r = absurd (omega (arith, h))
@@ -162,17 +162,17 @@ raw_unit_end (RawUnit.line n) = end_newline n
 
 raw_units_end : {p s r : Text} {us : List LineUnit} → RawUnits p s r us → End s r
 raw_units_end RawUnits.none = here
-raw_units_end (RawUnits.more u us) = behind (raw_unit_end u) (raw_units_end us)
+raw_units_end (RawUnits.more u us) = following (raw_unit_end u) (raw_units_end us)
 
 raw_content_last : {p s r : Text} {us : List LineUnit} → Last (p ++ r) r → RawContent p s r us → Last s r
-raw_content_last l (content us e) = last_behind (raw_units_end us) (last_same e l)
+raw_content_last l (content us e) = last_after (raw_units_end us) (last_same e l)
 
 raw_body_last : {n : ℕ} {s r v : Text} → 0 < n → MultiLineRawBody n s r v → Last s r
-raw_body_last {n = n} {r = r} h (MultiLineRawBody.lines k c d) = last_behind (end_newline k) (raw_content_last (last_also 34 (last_also 34 (last_also 34 (signs_last n h r)))) c)
+raw_body_last {n = n} {r = r} h (MultiLineRawBody.lines k c d) = last_after (end_newline k) (raw_content_last (last_also 34 (last_also 34 (last_also 34 (signs_last n h r)))) c)
 
 raw_last : {s r v : Text} → IsRaw s r v → Last s r
-raw_last {r = r} (IsRaw.on_one_line x) = last_behind (record { piece = times x.signs 35; text = x.text }) (last_also 34 (raw_content_last (last_also 34 (signs_last x.signs x.some r)) x.content))
-raw_last (IsRaw.on_many_lines x) = last_behind (record { piece = times x.signs 35; text = x.text }) (last_also 34 (last_also 34 (last_also 34 (raw_body_last x.some x.is_body))))
+raw_last {r = r} (IsRaw.on_one_line x) = last_after (record { piece = times x.signs 35; text = x.text }) (last_also 34 (raw_content_last (last_also 34 (signs_last x.signs x.some r)) x.content))
+raw_last (IsRaw.on_many_lines x) = last_after (record { piece = times x.signs 35; text = x.text }) (last_also 34 (last_also 34 (last_also 34 (raw_body_last x.some x.is_body))))
 
 string_last : {s r v : Text} → StringPiece s r v → Last s r
 string_last (bare x) = bare_last x
@@ -189,15 +189,15 @@ plain_last (a_plain (number n f) e) = number_last n
 plain_last (a_plain (keyword k f) e) = keyword_last k
 
 value_last : {s r : Text} {y : Option Text} {v : Value} → IsValue true s r y v → Last s r
-value_last (value y d) = last_behind (end_type y) (plain_last d)
+value_last (value y d) = last_after (end_type y) (plain_last d)
 
 pub entry_last : {s r : Text} {x : Entry} → IsEntry true s r x → Last s r
 entry_last (argument v) = value_last v
-entry_last (property k ss us v) = last_behind (behind (end_string k) (behind (past (end_spaces ss)) (end_spaces us))) (value_last v)
+entry_last (property k ss us v) = last_after (following (end_string k) (following (past (end_spaces ss)) (end_spaces us))) (value_last v)
 
 -- blocks, spaces and block comments
 pub block_last : {s r : Text} {xs : Nodes} → IsBlock true s r xs → Last s r
-block_last (braces ns) = let m = move_nodes ns in last_also 123 (last_behind (put_end m.at) (last_here 125 refl))
+block_last (braces ns) = let m = move_nodes ns in last_also 123 (last_after (put_end m.at) (last_here 125 refl))
 
 space_other : (c : ℕ) → is_space c ≡ true → (c == 13) ≡ false
 unfolding is_space
@@ -205,7 +205,7 @@ space_other c h = grind (arith, nat_tests)
 
 parts_last : {s r : Text} → Parts s r → Last s r
 parts_last close = last_also 42 (last_here 47 refl)
-parts_last (nested p q) = last_also 47 (last_also 42 (last_behind (end_of (parts_end p)) (parts_last q)))
+parts_last (nested p q) = last_also 47 (last_also 42 (last_after (end_of (parts_end p)) (parts_last q)))
 parts_last (Parts.other {c = c} x y p) = last_also c (parts_last p)
 
 pub ws_last : {s r : Text} → Ws s r → Last s r

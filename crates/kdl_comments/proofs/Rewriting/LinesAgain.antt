@@ -16,7 +16,7 @@ use Rattle.kdl_grammar.specs.Data.{Node}
 use Rattle.kdl_grammar.specs.Grammar.{Terminator, IsNode, Gap, line_space}
 use Rattle.kdl_comments.specs.Items.{Item, comment, piece, line_end, EsclineItems, SpaceItems, LineSpaceItems, ItemEnd, EndsTight, GapItems, last_node}
 use Rattle.kdl_comments.specs.Written.{item_text, line_text, lines, on_line}
-use Rattle.kdl_comments.proofs.Rewriting.LastCharacters.{Last, last_here, last_behind, last_also, put_end, ws_last}
+use Rattle.kdl_comments.proofs.Rewriting.LastCharacters.{Last, last_here, last_after, last_also, put_end, ws_last}
 use Rattle.kdl_comments.proofs.Rewriting.BeforeNewlines.{piece_kept, closed_block, put_line, put_text, a_newline, newline_end, lf, line_char_other, cut_node, node_line}
 
 -- the text up to its first newline
@@ -150,7 +150,7 @@ node_comment {s = s} {u = u} m n =
     let last = λ (r : Text). comment_part u ++ (10 ∷ r) in
     let spaced = λ (r : Text). k.there (last r) refl in
     rw (slash_end u)
-    (node_kept (joined p (before (comment_part u) (comment_cut u))) (last_behind (put_end p) (comment_last u))
+    (node_kept (joined p (before (comment_part u) (comment_cut u))) (last_after (put_end p) (comment_last u))
     (λ r. DroppedLine.dropped (o.there (c.at.put (k.at.put (last r))) (c.full (k.at.put (last r))))
     (c.there (k.at.put (last r)) (last r) (spaces_end (spaced r) ValueEnd.line_comment) (spaced r)) (item_comment u r) Over.over))
 
@@ -159,7 +159,7 @@ node_semicolon m n =
     let o = move_slashdash m in let c = cut_node n in let k = move_spaces c.spaces in
     let p = joined o.at (joined c.at k.at) in
     let spaced = λ (r : Text). k.there (59 ∷ 10 ∷ r) refl in
-    node_kept (joined p (also 59 stands)) (last_behind (put_end p) (last_here 59 refl))
+    node_kept (joined p (also 59 stands)) (last_after (put_end p) (last_here 59 refl))
     (λ r. DroppedLine.dropped (o.there (c.at.put (k.at.put (59 ∷ 10 ∷ r))) (c.full (k.at.put (59 ∷ 10 ∷ r))))
     (c.there (k.at.put (59 ∷ 10 ∷ r)) (59 ∷ 10 ∷ r) (spaces_end (spaced r) (punctuation_end 59 refl)) (spaced r)) ItemEnd.semicolon Over.line)
 
@@ -172,7 +172,7 @@ tight_at : {s t u w : Text} {x : Node} → Slashdash s t → (p : Put t w) → L
     → ((z q : Text) → ValueEnd true z → Star NodeSpace z q → IsNode true (p.put z) q x) → EndsTight t u → ValueEnd true w → Star NodeSpace w u → Standing (piece (between s u))
 tight_at m p l full there tight end none =
     let o = move_slashdash m in
-    node_kept (joined o.at p) (last_behind (put_end o.at) l)
+    node_kept (joined o.at p) (last_after (put_end o.at) l)
     (λ r. DroppedLine.dropped (o.there (p.put (10 ∷ r)) (full (10 ∷ r))) (there (10 ∷ r) (10 ∷ r) (newline_end r) none) (item_line r) Over.over)
 tight_at {t = t} {u = u} {w = w} {x = x} m p l full there tight end (more k ks) =
     absurd (tight w x (subst (λ (z : Text). IsNode true z w x) (sym p.here) (there w w end none)) (plus k ks))

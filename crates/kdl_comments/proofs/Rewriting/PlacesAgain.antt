@@ -11,7 +11,7 @@ use Rattle.kdl_lexer.proofs.Moving.Puts.{joined}
 use Rattle.kdl_grammar.specs.Data.{Nodes}
 use Rattle.kdl_grammar.specs.Grammar.{IsBlock}
 use Rattle.kdl_grammar.specs.Places.{dropped as dropped_b, AfterChildren, after, BeforeChildren, before}
-use Rattle.kdl_comments.specs.Items.{Item, comment, piece, line_end, EsclineItems, SpaceItems, Place, before_entry, before_block, behind_block, may_end, takes_entries, takes_blocks, spaced, PlaceItems, ends, dropped_entry, dropped_block}
+use Rattle.kdl_comments.specs.Items.{Item, comment, piece, line_end, EsclineItems, SpaceItems, Place, before_entry, before_block, after_block, may_end, takes_entries, takes_blocks, spaced, PlaceItems, ends, dropped_entry, dropped_block}
 use Rattle.kdl_comments.specs.Written.{tail}
 use Rattle.kdl_comments.proofs.Rewriting.BeforeNewlines.{closed_block, closed_braces, newline_end}
 use Rattle.kdl_comments.proofs.Rewriting.LinesAgain.{comment_part, comment_again, comment_text, comment_item}
@@ -27,7 +27,7 @@ data InPlace : Place → Item → Place → Type 0 where
   line_comment : {p : Place} (s : Text) → InPlace p (comment (comment_part s)) p
   block_comment : {p : Place} {t : Text} → ((r : Text) → BlockComment (t ++ r) r) → InPlace p (piece t) p
   an_entry : {p : Place} {t : Text} → takes_entries p ≡ true → ((r : Text) → ValueEnd true r → DashedEntry (t ++ r) r) → InPlace p (piece t) p
-  a_block : {p : Place} {t : Text} → takes_blocks p ≡ true → ((r : Text) → DashedBlock (t ++ r) r) → InPlace p (piece t) behind_block
+  a_block : {p : Place} {t : Text} → takes_blocks p ≡ true → ((r : Text) → DashedBlock (t ++ r) r) → InPlace p (piece t) after_block
 
 data AreInPlace : Place → List Item → Place → Type 0 where
   no_item : {p : Place} → AreInPlace p [] p
@@ -41,22 +41,22 @@ in_join (one_more i a) b = one_more i (in_join a b)
 pub spaced_again : (a b : Bool) (p : Place) → spaced a (spaced b p) ≡ spaced a p
 spaced_again a b (before_entry c) = refl
 spaced_again a b before_block = refl
-spaced_again a b behind_block = refl
+spaced_again a b after_block = refl
 
 pub entries_spaced : (b : Bool) (p : Place) → takes_entries (spaced b p) ≡ takes_entries p
 entries_spaced b (before_entry c) = refl
 entries_spaced b before_block = refl
-entries_spaced b behind_block = refl
+entries_spaced b after_block = refl
 
 pub blocks_spaced : (b : Bool) (p : Place) → takes_blocks (spaced b p) ≡ takes_blocks p
 blocks_spaced b (before_entry c) = refl
 blocks_spaced b before_block = refl
-blocks_spaced b behind_block = refl
+blocks_spaced b after_block = refl
 
 as_spaced : (p : Place) → (b : Bool) × (spaced b p ≡ p)
 as_spaced (before_entry c) = (c, refl)
 as_spaced before_block = (true, refl)
-as_spaced behind_block = (true, refl)
+as_spaced after_block = (true, refl)
 
 -- what a place holds, as items
 comment_in : {p : Place} {s r : Text} → LineComment s r → InPlace p (comment (between s (line_end s))) p
@@ -74,10 +74,10 @@ entry_in {p} {s} {t} {u} h m i =
     subst (λ (t : Text). InPlace p (piece t) p) (is_between s u at.piece (at.here ∙ at.text u))
     (InPlace.an_entry h (λ z k. subst (λ (y : Text). DashedEntry y z) (at.text z) (DashedEntry.dashed (o.there (c.at.put z) (c.full z)) (c.there z k))))
 
-braces_in : {p : Place} {s t u : Text} {xs : Nodes} → takes_blocks p ≡ true → Slashdash s t → IsBlock true t u xs → InPlace p (piece (between s u)) behind_block
+braces_in : {p : Place} {s t u : Text} {xs : Nodes} → takes_blocks p ≡ true → Slashdash s t → IsBlock true t u xs → InPlace p (piece (between s u)) after_block
 braces_in {p} {s} {t} {u} h m b =
     let o = move_slashdash m in let c = closed_braces b in let at = joined o.at c.at in
-    subst (λ (t : Text). InPlace p (piece t) behind_block) (is_between s u at.piece (at.here ∙ at.text u))
+    subst (λ (t : Text). InPlace p (piece t) after_block) (is_between s u at.piece (at.here ∙ at.text u))
     (InPlace.a_block h (λ z. subst (λ (y : Text). DashedBlock y z) (at.text z) (DashedBlock.dashed (o.there (c.at.put z) (c.full z)) (c.there z))))
 
 esc_in : {p : Place} {s r : Text} {is : List Item} → EsclineItems s r is → AreInPlace p is p
@@ -128,7 +128,7 @@ loosen (before_entry c) d b = go b d
     go b (dropped_entry h m i d) = dropped_entry refl m i d
     go b (dropped_block h m k d) = absurd cc
 loosen before_block d b = d
-loosen behind_block d b = d
+loosen after_block d b = d
 
 one_space : (s : Text) → Space (32 ∷ s) s
 unfolding is_space
@@ -168,7 +168,7 @@ entry_item p t r {js} h (DashedEntry.dashed m i) d =
     subst (λ (z : Text). PlaceItems (spaced true p) (t ++ r) (piece z ∷ js)) (between_is t r)
     (dropped_entry (entries_spaced true p ∙ h) m i (subst (λ (q : Place). PlaceItems q r js) (sym (spaced_again false true p)) d))
 
-braces_item : (p : Place) (t r : Text) {js : List Item} → takes_blocks p ≡ true → DashedBlock (t ++ r) r → PlaceItems behind_block r js → PlaceItems (spaced true p) (t ++ r) (piece t ∷ js)
+braces_item : (p : Place) (t r : Text) {js : List Item} → takes_blocks p ≡ true → DashedBlock (t ++ r) r → PlaceItems after_block r js → PlaceItems (spaced true p) (t ++ r) (piece t ∷ js)
 braces_item p t r {js} h (DashedBlock.dashed m b) d =
     subst (λ (z : Text). PlaceItems (spaced true p) (t ++ r) (piece z ∷ js)) (between_is t r) (dropped_block (blocks_spaced true p ∙ h) m b d)
 
@@ -199,7 +199,7 @@ tail_alone {p} {s} {is} h d =
     go : (q : Place) → takes_blocks q ≡ true → may_end q ≡ true
     go (before_entry b) k = cc
     go before_block k = refl
-    go behind_block k = refl
+    go after_block k = refl
 
 -- with a space after them
 pub tail_spaced : {p : Place} {s : Text} {is : List Item} → PlaceItems p s is → PlaceItems p (tail is ++ (32 ∷ [])) is
@@ -210,13 +210,13 @@ tail_spaced {p} {s} {is} d =
     go : (q : Place) → may_end (spaced true q) ≡ true
     go (before_entry b) = refl
     go before_block = refl
-    go behind_block = refl
+    go after_block = refl
 
 -- the text of a place comes before a rest
 abbrev pub PlaceText : Place → Text → Text → Type 0
 PlaceText (before_entry b) = EntryLeading
 PlaceText before_block = BeforeChildren
-PlaceText behind_block = AfterChildren
+PlaceText after_block = AfterChildren
 
 lead_space : {s t r : Text} → NodeSpace s t → EntryLeading t r → EntryLeading s r
 lead_space n (leading none (plus m ms)) = leading none (plus n (more m ms))
@@ -225,15 +225,15 @@ lead_space n (leading (more (dropped_e ss m i) ds) ms) = leading (more (dropped_
 lead_entry : {s t u r : Text} {e : Entry} → Slashdash s t → IsEntry true t u e → EntryLeading u r → EntryLeading s r
 lead_entry m i (leading ds n) = leading (more (dropped_e none m i) ds) n
 
-space_behind : {s t r : Text} → NodeSpace s t → AfterChildren t r → AfterChildren s r
-space_behind n (after none ss) = after none (more n ss)
-space_behind n (after (more (dropped_b us m b) ds) ss) = after (more (dropped_b (more n us) m b) ds) ss
+space_after : {s t r : Text} → NodeSpace s t → AfterChildren t r → AfterChildren s r
+space_after n (after none ss) = after none (more n ss)
+space_after n (after (more (dropped_b us m b) ds) ss) = after (more (dropped_b (more n us) m b) ds) ss
 
-braces_behind : {s t u r : Text} {xs : Nodes} → Slashdash s t → IsBlock true t u xs → AfterChildren u r → AfterChildren s r
-braces_behind m b (after ds ss) = after (more (dropped_b none m b) ds) ss
+braces_after : {s t u r : Text} {xs : Nodes} → Slashdash s t → IsBlock true t u xs → AfterChildren u r → AfterChildren s r
+braces_after m b (after ds ss) = after (more (dropped_b none m b) ds) ss
 
 space_before : {s t r : Text} → NodeSpace s t → BeforeChildren t r → BeforeChildren s r
-space_before n (before none a) = before none (space_behind n a)
+space_before n (before none a) = before none (space_after n a)
 space_before n (before (more (dropped_e ss m i) ds) a) = before (more (dropped_e (more n ss) m i) ds) a
 
 entry_before : {s t u r : Text} {e : Entry} → Slashdash s t → IsEntry true t u e → BeforeChildren u r → BeforeChildren s r
@@ -242,17 +242,17 @@ entry_before m i (before ds a) = before (more (dropped_e none m i) ds) a
 pub text_space : (p : Place) (r : Text) {s t : Text} → NodeSpace s t → PlaceText p t r → PlaceText p s r
 text_space (before_entry b) r n d = lead_space n d
 text_space before_block r n d = space_before n d
-text_space behind_block r n d = space_behind n d
+text_space after_block r n d = space_after n d
 
 pub text_entry : (p : Place) (r : Text) → takes_entries p ≡ true → {s t : Text} → DashedEntry s t → PlaceText p t r → PlaceText p s r
 text_entry (before_entry b) r h (DashedEntry.dashed m i) d = lead_entry m i d
 text_entry before_block r h (DashedEntry.dashed m i) d = entry_before m i d
-text_entry behind_block r h (DashedEntry.dashed m i) d = cc
+text_entry after_block r h (DashedEntry.dashed m i) d = cc
 
 pub text_block : (p : Place) (r : Text) → takes_blocks p ≡ true → {s t : Text} → DashedBlock s t → AfterChildren t r → PlaceText p s r
 text_block (before_entry b) r h (DashedBlock.dashed m i) d = cc
-text_block before_block r h (DashedBlock.dashed m i) d = before none (braces_behind m i d)
-text_block behind_block r h (DashedBlock.dashed m i) d = braces_behind m i d
+text_block before_block r h (DashedBlock.dashed m i) d = before none (braces_after m i d)
+text_block after_block r h (DashedBlock.dashed m i) d = braces_after m i d
 
 written_text : {p q : Place} {is : List Item} → AreInPlace p is q → (z r : Text) → PlaceText q z r → ValueEnd true z → PlaceText p (tail is ++ z) r
 written_text no_item z r d e = d
@@ -270,17 +270,17 @@ written_text (one_more {p = p} {is = is} (InPlace.a_block {t = t} h f) k) z r d 
 space_text : (p : Place) (r : Text) → PlaceText p (32 ∷ r) r
 space_text (before_entry b) r = leading none (plus (a_node_space r) none)
 space_text before_block r = before none (after none (more (a_node_space r) none))
-space_text behind_block r = after none (more (a_node_space r) none)
+space_text after_block r = after none (more (a_node_space r) none)
 
 pub no_text : (p : Place) → takes_blocks p ≡ true → (r : Text) → PlaceText p r r
 no_text (before_entry b) h r = cc
 no_text before_block h r = before none (after none none)
-no_text behind_block h r = after none none
+no_text after_block h r = after none none
 
 pub place_spaced : (b : Bool) (p : Place) (s r : Text) → PlaceText (spaced b p) s r → PlaceText p s r
 place_spaced b (before_entry c) s r d = d
 place_spaced b before_block s r d = d
-place_spaced b behind_block s r d = d
+place_spaced b after_block s r d = d
 
 -- what is written is in the place, before what it comes before; with a space after it before each rest
 pub tail_text : {p : Place} {s : Text} {is : List Item} (d : PlaceItems p s is) (z r : Text) → PlaceText (last_place d) z r → ValueEnd true z → PlaceText p (tail is ++ z) r
@@ -301,11 +301,11 @@ tail_before_end d {r} e = tail_text d r r (no_text (last_place d) (blocks_end d 
 pub tail_before_line : {s : Text} {is : List Item} → PlaceItems before_block s is → {r : Text} → BeforeChildren (tail is ++ (10 ∷ r)) (10 ∷ r)
 tail_before_line d {r} = tail_before_end d (newline_end r)
 
-pub tail_behind : {s : Text} {is : List Item} → PlaceItems behind_block s is → {r : Text} → AfterChildren (tail is ++ (32 ∷ r)) r
-tail_behind d {r} = tail_space d r
+pub tail_after : {s : Text} {is : List Item} → PlaceItems after_block s is → {r : Text} → AfterChildren (tail is ++ (32 ∷ r)) r
+tail_after d {r} = tail_space d r
 
-pub tail_behind_end : {s : Text} {is : List Item} → PlaceItems behind_block s is → {r : Text} → ValueEnd true r → AfterChildren (tail is ++ r) r
-tail_behind_end d {r} e = tail_text d r r (no_text (last_place d) (blocks_end d refl) r) e
+pub tail_after_end : {s : Text} {is : List Item} → PlaceItems after_block s is → {r : Text} → ValueEnd true r → AfterChildren (tail is ++ r) r
+tail_after_end d {r} e = tail_text d r r (no_text (last_place d) (blocks_end d refl) r) e
 
-pub tail_behind_line : {s : Text} {is : List Item} → PlaceItems behind_block s is → {r : Text} → AfterChildren (tail is ++ (10 ∷ r)) (10 ∷ r)
-tail_behind_line d {r} = tail_behind_end d (newline_end r)
+pub tail_after_line : {s : Text} {is : List Item} → PlaceItems after_block s is → {r : Text} → AfterChildren (tail is ++ (10 ∷ r)) (10 ∷ r)
+tail_after_line d {r} = tail_after_end d (newline_end r)

@@ -12,7 +12,7 @@ use Rattle.kdl_comments.specs.Items.{comment, piece}
 use Rattle.kdl_comments.specs.Internal.Reading.{item_view, items_view}
 use Rattle.kdl_comments.specs.Written.{item_text, line_text, lines, tail}
 use Rattle.kdl_comments.specs.declared.item.Item.{Item}
-use Rattle.kdl_comments.proofs.Rewriting.BeforeNewlines.{line_behind}
+use Rattle.kdl_comments.proofs.Rewriting.BeforeNewlines.{line_after}
 
 pub if_ok : {A E P Q : Type 0} (r : Result A E) → (P → Q) → IfOk r (λ (a : A). P) → IfOk r (λ (a : A). Q)
 if_ok (Ok a) f p = f p
@@ -45,7 +45,7 @@ pub line_shorter : (bs front : List ℕ) → IsUtf8 bs → (n : ℕ) × FindsCha
 line_shorter bs front u h e =
     let v : IsUtf8 (take (length bs - h.0) bs) = IsUtf8-take bs (length bs - h.0) u (rw h.1.0 h.1.2) in
     let w : IsUtf8 front = rw h.2 v in
-    ap line_text (ap chars e ∙ chars-append front (13 ∷ []) w ∙ ap (λ (t : Text). chars front ++ t) (one_char 13 (omega arith))) ∙ line_behind (chars front) 13 []
+    ap line_text (ap chars e ∙ chars-append front (13 ∷ []) w ∙ ap (λ (t : Text). chars front ++ t) (one_char 13 (omega arith))) ∙ line_after (chars front) 13 []
 
 -- a text without one
 last_other : (s : Text) → ((p : Text) → s ≡ p ++ (13 ∷ []) → ⊥) → line_text s ≡ s
@@ -62,14 +62,14 @@ line_same bs u h =
     last_other (chars bs) (λ p e. h (encode_utf8_all p) (sym (encodes-chars bs u) ∙ ap encode_utf8_all e ∙ encodes-append p (13 ∷ []) ∙ ap (λ (x : List ℕ). encode_utf8_all p ++ x) (append-nil (encode_utf8 13))))
 
 -- items that are written one by one
-pub lines_behind : (before : Text) (is js : List items.Item) → lines before (is ++ js) ≡ lines before is ++ lines before js
-lines_behind before [] js = refl
-lines_behind before (i ∷ is) js = rw (lines_behind before is js) (sym (append_assoc (before ++ line_text (item_text i) ++ (10 ∷ [])) (lines before is) (lines before js)))
+pub lines_after : (before : Text) (is js : List items.Item) → lines before (is ++ js) ≡ lines before is ++ lines before js
+lines_after before [] js = refl
+lines_after before (i ∷ is) js = rw (lines_after before is js) (sym (append_assoc (before ++ line_text (item_text i) ++ (10 ∷ [])) (lines before is) (lines before js)))
 
-pub tail_behind : (is js : List items.Item) → tail (is ++ js) ≡ tail is ++ tail js
-tail_behind [] js = refl
-tail_behind (comment t ∷ is) js = rw (tail_behind is js) (sym (append_assoc (32 ∷ 92 ∷ 32 ∷ t ++ (10 ∷ [])) (tail is) (tail js)))
-tail_behind (piece t ∷ is) js = rw (tail_behind is js) (sym (append_assoc (32 ∷ t) (tail is) (tail js)))
+pub tail_after : (is js : List items.Item) → tail (is ++ js) ≡ tail is ++ tail js
+tail_after [] js = refl
+tail_after (comment t ∷ is) js = rw (tail_after is js) (sym (append_assoc (32 ∷ 92 ∷ 32 ∷ t ++ (10 ∷ [])) (tail is) (tail js)))
+tail_after (piece t ∷ is) js = rw (tail_after is js) (sym (append_assoc (32 ∷ t) (tail is) (tail js)))
 
 -- one more is written
 pub one_more : (write : List items.Item → Text) → ((is js : List items.Item) → write (is ++ js) ≡ write is ++ write js)

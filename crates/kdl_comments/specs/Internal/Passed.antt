@@ -9,7 +9,7 @@ use Rattle.kdl_control.specs.Control.{at, node_slashdash}
 use Rattle.kdl_comments.specs.Internal.Lacking.{HasOpenEnd}
 use Rattle.kdl_comments.specs.Internal.Passing as passing
 use Rattle.kdl_comments.specs.Internal.Passing.{NodePasses, PartPasses, returned, ended, slashdash_in}
-use Rattle.kdl_comments.specs.Items.{Item, ItemEnd, Place, PlaceItems, behind_block, spaced, takes_blocks}
+use Rattle.kdl_comments.specs.Items.{Item, ItemEnd, Place, PlaceItems, after_block, spaced, takes_blocks}
 use Rattle.kdl_comments.specs.Internal.Reading.{items_view, place_view}
 use Rattle.kdl_comments.specs.declared.dropped.NodeEnd.{NodeEnd}
 use Rattle.kdl_comments.specs.declared.dropped.PartEnd.{PartEnd}
@@ -26,8 +26,8 @@ Before s n r = (p : Text) × (s ≡ p ++ r) × (bytes p ≡ n)
 
 -- the node after the `/-` ends there
 pub data EndsAt (t : Text) (e : NodeEnd) : Type 0 where
-  returns : {k : Token} {u v i : Text} → NodePasses (at node_slashdash []) t t (returned k u v) → ItemEnd u v i → Before t e.item i → Before t e.behind v → HasOpenEnd u v e.is_open → EndsAt t e
-  ends : {w : Text} → NodePasses (at node_slashdash []) t t (ended w) → Before t e.item w → Before t e.behind w → e.is_open ≡ true → EndsAt t e
+  returns : {k : Token} {u v i : Text} → NodePasses (at node_slashdash []) t t (returned k u v) → ItemEnd u v i → Before t e.item i → Before t e.following v → HasOpenEnd u v e.is_open → EndsAt t e
+  ends : {w : Text} → NodePasses (at node_slashdash []) t t (ended w) → Before t e.item w → Before t e.following w → e.is_open ≡ true → EndsAt t e
 
 abbrev pub AnswersDroppedNode : Text → Option NodeEnd → Type 0
 AnswersDroppedNode t (Some e) = EndsAt t e
@@ -39,10 +39,10 @@ AnswersDroppedPart p t (Some e) = (u : Text) × PartPasses (slashdash_in p) t t 
 AnswersDroppedPart p t None = (b : Bool) (u : Text) → PartPasses (slashdash_in p) t t b u → ⊥
 
 -- the place after what was slashdashed
-abbrev pub BehindPart : Place → Bool → Option Place → Type 0
-BehindPart p false o = o ≡ Some (spaced false p)
-BehindPart p true (Some q) = (takes_blocks p ≡ true) × (q ≡ behind_block)
-BehindPart p true None = takes_blocks p ≡ false
+abbrev pub AfterPart : Place → Bool → Option Place → Type 0
+AfterPart p false o = o ≡ Some (spaced false p)
+AfterPart p true (Some q) = (takes_blocks p ≡ true) × (q ≡ after_block)
+AfterPart p true None = takes_blocks p ≡ false
 
 -- the first items of the text in the place were added to those before, and what is left of it has the others; or the text has no items there
 abbrev pub PlaceTakes : Place → Text → Option (Place × Text) → List Item → List Item → Type 0

@@ -8,11 +8,11 @@ use Rattle.kdl_text.specs.Trivia.{BlockComment, LineComment}
 use Rattle.kdl_lexer.specs.Tokens.{Token, BeginsToken, space, newline, slashdash}
 use Rattle.kdl_entry.specs.Places.{between}
 use Rattle.kdl_comments.specs.Items as items
-use Rattle.kdl_comments.specs.Items.{line_end, GapItems, PlaceItems, before_entry, before_block, behind_block}
+use Rattle.kdl_comments.specs.Items.{line_end, GapItems, PlaceItems, before_entry, before_block, after_block}
 use Rattle.kdl_comments.specs.declared.item.Item.{Item}
 use Rattle.kdl_comments.specs.declared.item.Item.TheVariants.{Comment, Piece}
 use Rattle.kdl_comments.specs.declared.item.Place.{Place}
-use Rattle.kdl_comments.specs.declared.item.Place.TheVariants.{BeforeEntry, BeforeBlock, BehindBlock}
+use Rattle.kdl_comments.specs.declared.item.Place.TheVariants.{BeforeEntry, BeforeBlock, AfterBlock}
 use Rattle.kdl_comments.specs.declared.spaces.Start.{Start}
 use Rattle.kdl_comments.specs.declared.spaces.Start.TheVariants.{Space, Break, Backslash, Slashdash, End, Other}
 
@@ -27,7 +27,7 @@ items_view xs = map item_view xs
 abbrev pub place_view : Place → items.Place
 place_view (BeforeEntry b) = before_entry b
 place_view BeforeBlock = before_block
-place_view BehindBlock = behind_block
+place_view AfterBlock = after_block
 
 -- a piece of n bytes begins the text
 abbrev pub Cut : Text → ℕ → Type 0

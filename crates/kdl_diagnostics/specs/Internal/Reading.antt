@@ -34,7 +34,7 @@ NoEarlier a b c place = (from : Position) → Ahead from a → Ahead from b → 
 -- the place is in what the cursor passed, or at one of its ends
 pub record Passed (old : Here) (spot : Position) (new : Here) : Type 0 where
   pub before : (p : Text) × (old.rest ≡ p ++ spot.rest)
-  pub behind : (p : Text) × (spot.rest ≡ p ++ new.rest)
+  pub following : (p : Text) × (spot.rest ≡ p ++ new.rest)
   pub at : spot.at + bytes spot.rest ≡ old.at + bytes old.rest
 
 -- a comment that was met, which begins at a place that was passed and ends after it

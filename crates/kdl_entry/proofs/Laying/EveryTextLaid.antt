@@ -29,17 +29,17 @@ module _ (whole : Text) where
     name : Option Identifier
     before : Text
     after : Text
-    behind : Text
-    laid : LaidType true whole name before after behind s r
+    following : Text
+    laid : LaidType true whole name before after following s r
     same : option_map (λ (i : Identifier). i.value) name ≡ y
 
   build_type : {s r : Text} {y : Option Text} → MaybeType true s r y → BuiltType s r y
-  build_type untyped = record { name = None; before = []; after = []; behind = []; laid = no_type; same = refl }
+  build_type untyped = record { name = None; before = []; after = []; following = []; laid = no_type; same = refl }
   build_type (typed (parens ss d us) vs) = record {
     name = Some (identifier_of d);
     before = (end_spaces ss).piece;
     after = (end_spaces us).piece;
-    behind = (end_spaces vs).piece;
+    following = (end_spaces vs).piece;
     laid = a_type (place ss (end_spaces ss)) (laid_identifier d) (place us (end_spaces us)) (place vs (end_spaces vs));
     same = ap Some (same_value d);
   }
@@ -58,7 +58,7 @@ module _ (whole : Text) where
           value = v;
           name = None;
           span = at;
-          format = Some (record { value_repr = (end_plain d).piece; leading = q; trailing = w; after_ty = T.behind; before_ty_name = T.before; after_ty_name = T.after; after_key = []; after_eq = []; autoformat_keep = false });
+          format = Some (record { value_repr = (end_plain d).piece; leading = q; trailing = w; after_ty = T.following; before_ty_name = T.before; after_ty_name = T.after; after_key = []; after_eq = []; autoformat_keep = false });
         };
         laid = λ q w at. item no_key T.laid (place d (end_plain d));
         same = λ q w at. (let a = T.same in cc);
@@ -71,7 +71,7 @@ module _ (whole : Text) where
           value = v;
           name = Some (identifier_of k);
           span = at;
-          format = Some (record { value_repr = (end_plain d).piece; leading = q; trailing = w; after_ty = T.behind; before_ty_name = T.before; after_ty_name = T.after; after_key = (end_spaces ss).piece; after_eq = (end_spaces us).piece; autoformat_keep = false });
+          format = Some (record { value_repr = (end_plain d).piece; leading = q; trailing = w; after_ty = T.following; before_ty_name = T.before; after_ty_name = T.after; after_key = (end_spaces ss).piece; after_eq = (end_spaces us).piece; autoformat_keep = false });
         };
         laid = λ q w at. item (a_key (laid_identifier k) (place ss (end_spaces ss)) (place us (end_spaces us))) T.laid (place d (end_plain d));
         same = λ q w at. (let a = T.same in let b = same_value k in cc);

@@ -10,7 +10,7 @@ module _ (exact : Bool) (whole : Text) where
   unfoldable pub string_of : {s r : Text} {i : Identifier} → LaidIdentifier exact whole i s r → IsString true s r i.value
   string_of (spelled p e) = p.is
 
-  unfoldable pub type_of : {before after behind s r : Text} {i : Option Identifier} → LaidType exact whole i before after behind s r → MaybeType true s r (option_map (λ i. i.value) i)
+  unfoldable pub type_of : {before after following s r : Text} {i : Option Identifier} → LaidType exact whole i before after following s r → MaybeType true s r (option_map (λ i. i.value) i)
   type_of no_type = untyped
   type_of (a_type ss d us vs) = typed (parens ss.is (string_of d) us.is) vs.is
 

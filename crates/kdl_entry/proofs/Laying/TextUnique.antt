@@ -113,15 +113,15 @@ begins_entry _ = false
 -- the token at the front of an entry
 record Front (s : Text) : Type 0 where
   token : Token
-  behind : Text
-  begins : BeginsToken s token behind
+  following : Text
+  begins : BeginsToken s token following
   is : begins_entry token ≡ true
 
 entry_front : {a : Bool} {s r : Text} {x : Entry} → IsEntry a s r x → Front s
-entry_front (property (string p e) ss us v) = record { token = _; behind = _; begins = t_string p; is = refl }
-entry_front (argument (value untyped (a_string (string p e)))) = record { token = _; behind = _; begins = t_string p; is = refl }
-entry_front (argument (value untyped (a_plain p e))) = record { token = _; behind = _; begins = t_value p; is = refl }
-entry_front (argument (value (typed (parens ss n us) vs) d)) = record { token = left; behind = _; begins = t_left; is = refl }
+entry_front (property (string p e) ss us v) = record { token = _; following = _; begins = t_string p; is = refl }
+entry_front (argument (value untyped (a_string (string p e)))) = record { token = _; following = _; begins = t_string p; is = refl }
+entry_front (argument (value untyped (a_plain p e))) = record { token = _; following = _; begins = t_value p; is = refl }
+entry_front (argument (value (typed (parens ss n us) vs) d)) = record { token = left; following = _; begins = t_left; is = refl }
 
 entry_no : {s r : Text} {k : Token} → Front s → BeginsToken s k r → begins_entry k ≡ false → ⊥
 entry_no f t h = let x : f.token ≡ _ = (token_det f.begins t).1 in let y = f.is in cc

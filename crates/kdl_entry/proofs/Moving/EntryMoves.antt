@@ -104,12 +104,12 @@ move_parens (parens ss d us) =
     let a = move_spaces ss in let b = move_string d in let c = move_spaces us in
     let brace = λ (u : Text). c.there (41 ∷ u) refl in
     record {
-      at = also 40 (joined a.at (joined b.at (behind c.at)));
+      at = also 40 (joined a.at (joined b.at (following c.at)));
       there = λ u e. parens (a.there (b.at.put (c.at.put (41 ∷ u))) (b.full (c.at.put (41 ∷ u)))) (b.there (c.at.put (41 ∷ u)) (spaces_end (brace u) (punctuation_end 41 refl))) (brace u);
     }
   where
-    behind : {t r : Text} → Put t (41 ∷ r) → Put t r
-    behind p = joined p (also 41 stands)
+    following : {t r : Text} → Put t (41 ∷ r) → Put t r
+    following p = joined p (also 41 stands)
 
 pub move_maybe : {s r : Text} {y : Option Text} → MaybeType true s r y → Move (λ s r. MaybeType true s r y) s r
 move_maybe untyped = record { at = stands; there = λ u e. untyped }

@@ -26,9 +26,9 @@ pub accepted_entry : (t : Text) → Takes (in_entry ahead) t → (x : Entry) × 
 accepted_entry t a = accepts_derived (over_entry a ahead refl)
 
 -- nothing comes after the string of an identifier text
-nothing_behind : {c : TextControl} {t : Text} → Takes c t → c ≡ in_identifier true → t ≡ []
-nothing_behind (text.ends f) q = refl
-nothing_behind (text.takes {k = k} b e a) q = let x = ap (λ z. text_step z k) (sym q) ∙ e in absurd cc
+nothing_after : {c : TextControl} {t : Text} → Takes c t → c ≡ in_identifier true → t ≡ []
+nothing_after (text.ends f) q = refl
+nothing_after (text.takes {k = k} b e a) q = let x = ap (λ z. text_step z k) (sym q) ∙ e in absurd cc
 
 the_string : {c d : TextControl} {s r : Text} {k : Token} → BeginsToken s k r → text_step c k ≡ Some d → c ≡ in_identifier false → (v : Text) × StringPiece s r v × (d ≡ in_identifier true)
 the_string {k = string v} (t_string p) e q = let x = ap (λ z. text_step z (string v)) (sym q) ∙ e in (v, p, cc)
@@ -38,7 +38,7 @@ over_identifier : {c : TextControl} {t : Text} → Takes c t → c ≡ in_identi
 over_identifier (text.ends f) q = let x = ap text_finish (sym q) ∙ f in absurd cc
 over_identifier (text.takes {s = s} b e a) q =
     let (v, p, g) = the_string b e q in
-    let n = nothing_behind a g in
+    let n = nothing_after a g in
     (v, entries.string (subst (λ (z : Text). StringPiece s z v) n p) nothing)
 
 pub accepted_identifier : (t : Text) → Takes (in_identifier false) t → (v : Text) × IsIdentifierText true t v

@@ -8,7 +8,7 @@ use Rattle.kdl_entry.specs.Data as data'
 use Rattle.kdl_value.specs.Data.{Value, text}
 use Rattle.kdl_entry.specs.Entries.{IsString, string as a_string', IsPlainValue, a_string, a_plain, parens, MaybeType, untyped, typed, value as a_value, IsEntry, property, argument, DroppedFirst, dropped_first, BeforeEntry, before_entry, IsEntryText, entry_text}
 use Rattle.kdl_entry.specs.Internal.EntryMachine.{Word, State, ahead, dropping, under, word, done, opened_parts, word_at, entry_by, argument_of, step, ended, Runs, stops, reads, AnswersEntry}
-use Rattle.kdl_entry.specs.Internal.Parts.{TypeParts, KeyParts, type_of, before_name, after_name, behind_type, identifier_at, Parts}
+use Rattle.kdl_entry.specs.Internal.Parts.{TypeParts, KeyParts, type_of, before_name, after_name, after_type, identifier_at, Parts}
 use Rattle.kdl_control.specs.Control.{fresh, spaced, type_open, type_name, type_done, in_node, property as in_property, entry_slashdash}
 use Rattle.kdl_entry.specs.Laid.{LaidIdentifier, spelled, LaidType, no_type, a_type, no_key, a_key, LaidItem, item, LaidEntryText, laid_entry_text}
 use Rattle.kdl_entry.specs.Places.{span_of, between}
@@ -58,7 +58,7 @@ module _ (whole : Text) where
   item_at h q from k i b a = record { leading = q; start = h; from = from; key = k; name = i; before = b; after = a }
 
   abbrev parts : Text → Text → Text → Text → Text → Text → TypeParts
-  parts y s1 s2 s3 s4 t = record { name = identifier_at whole y s2 s3; before = between s1 s2; after = between s3 (41 ∷ s4); behind = between s4 t }
+  parts y s1 s2 s3 s4 t = record { name = identifier_at whole y s2 s3; before = between s1 s2; after = between s3 (41 ∷ s4); following = between s4 t }
 
   kept_type : (out : Entry) → {s1 s2 s3 s4 t r y : Text} {v : Value} → Star NodeSpace s1 s2 → IsString true s2 s3 y → Star NodeSpace s3 (41 ∷ s4) → Star NodeSpace s4 t → IsPlainValue true t r v
       → (h q : Text) (k : Option KeyParts) (i : Identifier) (b a : Text) → Runs whole out (done (entry_by q k (Some (parts y s1 s2 s3 s4 t)) v (between t r)) r) r → Runs whole out (under (type_open true) (item_at h q s1 k i b a)) s1
@@ -83,13 +83,13 @@ module _ (whole : Text) where
   -- a value with its type, where the entry begins with it and after its key
   record ReadValue (s t r : Text) (y : Option Text) (v : Value) : Type 0 where
     type : Option TypeParts
-    laid : LaidType true whole (type_of type) (before_name type) (after_name type) (behind_type type) s t
+    laid : LaidType true whole (type_of type) (before_name type) (after_name type) (after_type type) s t
     same : option_map (λ (i : Identifier). i.value) (type_of type) ≡ y
     starts : (out : Entry) (st : State) → Starts st → ((st' : State) → After (entry_by (between whole s) None type v (between t r)) r st' → Runs whole out st' r) → Runs whole out st s
     drops : (out : Entry) → ((b : Bool) → Runs whole out (dropping (in_node (fresh b))) r) → Runs whole out (dropping entry_slashdash) s
-    behind_key : (out : Entry) (h q from : Text) (i : Identifier) (b : Text) → Runs whole out (done (entry_by q (Some (record { name = i; before = b; behind = between from s })) type v (between t r)) r) r
+    after_key : (out : Entry) (h q from : Text) (i : Identifier) (b : Text) → Runs whole out (done (entry_by q (Some (record { name = i; before = b; following = between from s })) type v (between t r)) r) r
         → Runs whole out (under in_property (item_at h q from None i b [])) s
-    drops_behind : (out : Entry) → Runs whole out (dropping (in_node (fresh false))) r → Runs whole out (dropping in_property) s
+    drops_after : (out : Entry) → Runs whole out (dropping (in_node (fresh false))) r → Runs whole out (dropping in_property) s
 
   starts_plain : {s r : Text} {v : Value} → IsPlainValue true s r v → (out : Entry) (st : State) → Starts st → ((st' : State) → After (entry_by (between whole s) None None v (between s r)) r st' → Runs whole out st' r) → Runs whole out st s
   starts_plain {s = s} {r = r} (a_string {v = v} d) out st z a = read_string out d (z.to_string v s r) (a (word (word_at whole v s r) r) (is_word refl))
@@ -106,8 +106,8 @@ module _ (whole : Text) where
     same = refl;
     starts = λ out st z a. starts_plain d out st z a;
     drops = λ out a. drops_plain d out a;
-    behind_key = λ out h q from i b x. read_plain out d (under in_property (item_at h q from None i b [])) (λ v. done (entry_by q (Some (record { name = i; before = b; behind = between from s })) None v (between s r)) r) (λ v. refl) (λ v. refl) x;
-    drops_behind = λ out x. read_plain out d (dropping in_property) (λ v. dropping (in_node (fresh false))) (λ v. refl) (λ v. refl) x;
+    after_key = λ out h q from i b x. read_plain out d (under in_property (item_at h q from None i b [])) (λ v. done (entry_by q (Some (record { name = i; before = b; following = between from s })) None v (between s r)) r) (λ v. refl) (λ v. refl) x;
+    drops_after = λ out x. read_plain out d (dropping in_property) (λ v. dropping (in_node (fresh false))) (λ v. refl) (λ v. refl) x;
   }
   read_value {s = s} {t = t} {r = r} {v = v} (typed (parens {s = s1} {t = s2} {u = s3} {r = s4} {v = y} ss u us) vs) d = record {
     type = Some (parts y s1 s2 s3 s4 t);
@@ -115,8 +115,8 @@ module _ (whole : Text) where
     same = refl;
     starts = λ out st z a. reads t_left (z.to_left s s1) (kept_type out ss u us vs d s (between whole s) None (plain_identifier []) [] [] (a (done (entry_by (between whole s) None (Some (parts y s1 s2 s3 s4 t)) v (between t r)) r) is_done));
     drops = λ out a. reads t_left refl (dropped_type out ss u us vs d (a false));
-    behind_key = λ out h q from i b x. reads t_left refl (kept_type out ss u us vs d h q (Some (record { name = i; before = b; behind = between from s })) (plain_identifier []) [] [] x);
-    drops_behind = λ out x. reads t_left refl (dropped_type out ss u us vs d x);
+    after_key = λ out h q from i b x. reads t_left refl (kept_type out ss u us vs d h q (Some (record { name = i; before = b; following = between from s })) (plain_identifier []) [] [] x);
+    drops_after = λ out x. reads t_left refl (dropped_type out ss u us vs d x);
   }
 
   record ReadItem (s r : Text) (e : data'.Entry) : Type 0 where
@@ -144,7 +144,7 @@ module _ (whole : Text) where
   read_item {s = s} {r = r} (property {t = t} {u = u} {w = w} {k = k} {v = v} d ss us (a_value {t = p} y z)) =
       let V = read_value y z in
       let i = identifier_at whole k s t in
-      let n : KeyParts = record { name = i; before = between t (61 ∷ u); behind = between u w } in
+      let n : KeyParts = record { name = i; before = between t (61 ∷ u); following = between u w } in
       record {
         tree = λ q. entry_by q (Some n) V.type v (between p r);
         laid = λ q x. item (a_key (spelled_at d) (place ss (end_spaces ss)) (place us (end_spaces us))) V.laid (place z (end_plain z));
@@ -152,8 +152,8 @@ module _ (whole : Text) where
         starts = λ out st x a.
             read_string out d (x.to_string k s t) (stay out (word (word_at whole k s t) t) (λ s r. refl) ss (reads t_equals refl
             (stay out (under in_property (item_at whole (between whole s) u None i (between t (61 ∷ u)) [])) (λ s r. refl) us
-            (V.behind_key out whole (between whole s) u i (between t (61 ∷ u)) (a (done (entry_by (between whole s) (Some n) V.type v (between p r)) r) is_done)))));
-        drops = λ out a. read_string out d refl (to_equals out ss (stay out (dropping in_property) (λ s r. refl) us (V.drops_behind out (a false))));
+            (V.after_key out whole (between whole s) u i (between t (61 ∷ u)) (a (done (entry_by (between whole s) (Some n) V.type v (between p r)) r) is_done)))));
+        drops = λ out a. read_string out d refl (to_equals out ss (stay out (dropping in_property) (λ s r. refl) us (V.drops_after out (a false))));
       }
 
   read_dropped : (out : Entry) → {s t : Text} → Star (DroppedFirst true) s t → (st : State) → Starts st → ((st' : State) → Starts st' → Runs whole out st' t) → Runs whole out st s
@@ -162,17 +162,17 @@ module _ (whole : Text) where
       reads t_slashdash (z.to_slashdash _ _) (lines out (dropping entry_slashdash) (λ s r. refl) (λ s r. refl) ls ((read_item i).drops out
       (λ b. reads (t_space n) refl (stay out (dropping (in_node (spaced b))) (λ s r. refl) ss (read_dropped out ds (dropping (in_node (spaced b))) (at_spaced b) f)))))
 
-  behind_done : {r : Text} (e : Entry) (from : Text) → Star LineSpace r [] → Runs whole (ended whole (between from []) e) (done e from) r
-  behind_done e from ls = lines (ended whole (between from []) e) (done e from) (λ s r. refl) (λ s r. refl) ls (stops refl)
+  after_done : {r : Text} (e : Entry) (from : Text) → Star LineSpace r [] → Runs whole (ended whole (between from []) e) (done e from) r
+  after_done e from ls = lines (ended whole (between from []) e) (done e from) (λ s r. refl) (λ s r. refl) ls (stops refl)
 
-  behind_word : {r : Text} (w : Word) (from : Text) → Star LineSpace r [] → Runs whole (ended whole (between from []) (argument_of w)) (word w from) r
-  behind_word w from no_star = stops refl
-  behind_word w from (more (LineSpace.space n) ls) = reads (t_space n) refl (behind_word w from ls)
-  behind_word w from (more (LineSpace.«break» n) ls) = reads (t_newline n) refl (behind_done (argument_of w) from ls)
+  after_word : {r : Text} (w : Word) (from : Text) → Star LineSpace r [] → Runs whole (ended whole (between from []) (argument_of w)) (word w from) r
+  after_word w from no_star = stops refl
+  after_word w from (more (LineSpace.space n) ls) = reads (t_space n) refl (after_word w from ls)
+  after_word w from (more (LineSpace.«break» n) ls) = reads (t_newline n) refl (after_done (argument_of w) from ls)
 
-  behind : {r : Text} {e : Entry} {st : State} → After e r st → Star LineSpace r [] → Runs whole (ended whole (between r []) e) st r
-  behind {r = r} (is_word {w = w} x) ls = subst (λ (z : Entry). Runs whole (ended whole (between r []) z) (word w r) r) x (behind_word w r ls)
-  behind {r = r} {e = e} is_done ls = behind_done e r ls
+  following : {r : Text} {e : Entry} {st : State} → After e r st → Star LineSpace r [] → Runs whole (ended whole (between r []) e) st r
+  following {r = r} (is_word {w = w} x) ls = subst (λ (z : Entry). Runs whole (ended whole (between r []) z) (word w r) r) x (after_word w r ls)
+  following {r = r} {e = e} is_done ls = after_done e r ls
 
 end_before : {s r : Text} → BeforeEntry true s r → End s r
 end_before (before_entry ls ds) = then (end_lines ls) (end_star (λ s r x. end_first x) ds)
@@ -193,7 +193,7 @@ built {t = t} (entry_text {u = u} {r = r} (before_entry ls ds) i zs) =
     let e = ended t p (I.tree (between t u)) in
     record {
       tree = e;
-      answers = lines t e ahead (λ s r. refl) (λ s r. refl) ls (read_dropped t e ds ahead (at_ahead t) (λ st z. I.starts e st z (λ st' a. behind t a zs)));
+      answers = lines t e ahead (λ s r. refl) (λ s r. refl) ls (read_dropped t e ds ahead (at_ahead t) (λ st z. I.starts e st z (λ st' a. following t a zs)));
       laid = laid_entry_text (place (before_entry ls ds) (end_before (before_entry ls ds))) (I.laid (between t u) p) (place zs (end_lines zs)) refl;
       same = I.same (between t u) p;
     }

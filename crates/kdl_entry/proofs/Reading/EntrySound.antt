@@ -11,7 +11,7 @@ use Rattle.kdl_control.specs.Control.{Phase, fresh, spaced, later, gap, node_sla
 use Rattle.kdl_entry.specs.Internal.Parts.{Parts}
 use Rattle.kdl_lexer.specs.Tokens.{Token, string, value, left, bom, BeginsToken, t_space, t_newline, t_slashdash, t_string, t_value, t_left, t_right, t_equals}
 use Rattle.kdl_entry.specs.Tree.{Entry}
-use Rattle.kdl_lexer.proofs.Lexing.TokenUnique.{is_end, end_behind}
+use Rattle.kdl_lexer.proofs.Lexing.TokenUnique.{is_end, end_after}
 
 -- What is left of the text, by what is under way. The flag: the entry is kept.
 
@@ -180,7 +180,7 @@ module _ (whole : Text) (out : Entry) where
 
   ends : {s : Text} {st : State} → Runs whole out st s → ((k : Token) (s r : Text) (st' : State) → step whole st k s r ≡ Some st' → is_end k ≡ true) → ValueEnd true s
   ends (stops e) f = ValueEnd.nothing
-  ends {s = s} (reads {st' = st'} {r = r} {k = k} t e a) f = end_behind t (f k s r st' e)
+  ends {s = s} (reads {st' = st'} {r = r} {k = k} t e a) f = end_after t (f k s r st' e)
 
   word_end : {s : Text} (w : Word) (from : Text) → Runs whole out (word w from) s → ValueEnd true s
   word_end w from a = ends a (word_ends w from)

@@ -9,11 +9,11 @@ use Rattle.kdl_entry.specs.declared.parsing.parts.TypeParts.{TypeParts}
 
 -- a type in memory, as characters
 abbrev pub type_view : TypeParts → under_way.TypeParts
-type_view y = record { name = identifier_tree y.name; before = text_of y.before; after = text_of y.after; behind = text_of y.behind }
+type_view y = record { name = identifier_tree y.name; before = text_of y.before; after = text_of y.after; following = text_of y.following }
 
 -- a key in memory, as characters
 abbrev pub key_view : KeyParts → under_way.KeyParts
-key_view k = record { name = identifier_tree k.name; before = text_of k.before; behind = text_of k.behind }
+key_view k = record { name = identifier_tree k.name; before = text_of k.before; following = text_of k.following }
 
 -- the parts that the fields represent
 abbrev pub parts_view : Parts → under_way.Parts

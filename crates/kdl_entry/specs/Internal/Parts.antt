@@ -14,13 +14,13 @@ pub record TypeParts : Type 0 where
   pub name : Identifier
   pub before : Text
   pub after : Text
-  pub behind : Text
+  pub following : Text
 
 -- a key, and the texts before and after its `=`
 pub record KeyParts : Type 0 where
   pub name : Identifier
   pub before : Text
-  pub behind : Text
+  pub following : Text
 
 -- the type
 abbrev pub type_of : Option TypeParts → Option Identifier
@@ -38,9 +38,9 @@ after_name None = []
 after_name (Some y) = y.after
 
 -- the text after the type's `)`
-abbrev pub behind_type : Option TypeParts → Text
-behind_type None = []
-behind_type (Some y) = y.behind
+abbrev pub after_type : Option TypeParts → Text
+after_type None = []
+after_type (Some y) = y.following
 
 -- the name of the property
 abbrev pub key_identifier : Option KeyParts → Option Identifier
@@ -53,9 +53,9 @@ before_equals None = []
 before_equals (Some k) = k.before
 
 -- the text after the `=`
-abbrev pub behind_equals : Option KeyParts → Text
-behind_equals None = []
-behind_equals (Some k) = k.behind
+abbrev pub after_equals : Option KeyParts → Text
+after_equals None = []
+after_equals (Some k) = k.following
 
 -- the string that is in s before r
 abbrev pub identifier_at : Text → Text → Text → Text → Identifier
@@ -71,11 +71,11 @@ entry_at span leading k y v repr = record {
     value_repr = repr;
     leading = leading;
     trailing = [];
-    after_ty = behind_type y;
+    after_ty = after_type y;
     before_ty_name = before_name y;
     after_ty_name = after_name y;
     after_key = before_equals k;
-    after_eq = behind_equals k;
+    after_eq = after_equals k;
     autoformat_keep = false;
   });
   span = span;
@@ -105,11 +105,11 @@ closed_at after r it = record it { after = after; from = r }
 
 -- the type, if what follows it begins at s
 abbrev pub type_at : Parts → Text → TypeParts
-type_at it s = record { name = it.name; before = it.before; after = it.after; behind = between it.from s }
+type_at it s = record { name = it.name; before = it.before; after = it.after; following = between it.from s }
 
 -- the key, if what follows its `=` begins at s
 abbrev pub key_at : Parts → Text → KeyParts
-key_at it s = record { name = it.name; before = it.before; behind = between it.from s }
+key_at it s = record { name = it.name; before = it.before; following = between it.from s }
 
 -- the name and the text before it were taken
 abbrev pub emptied : Parts → Parts

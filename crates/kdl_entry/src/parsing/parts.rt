@@ -32,7 +32,7 @@ pub struct TypeParts {
     pub name: KdlIdentifier,
     pub before: String,
     pub after: String,
-    pub behind: String,
+    pub following: String,
 }
 
 /// A key, and the texts before and after its `=`.
@@ -40,7 +40,7 @@ pub struct TypeParts {
 pub struct KeyParts {
     pub name: KdlIdentifier,
     pub before: String,
-    pub behind: String,
+    pub following: String,
 }
 
 /// A key, and the text before its `=`.
@@ -127,11 +127,11 @@ pub fn entry_from(
             KeyParts {
                 name,
                 before,
-                behind,
+                following,
             },
         ) => {
             format.after_key = before;
-            format.after_eq = behind;
+            format.after_eq = following;
             Some(name)
         }
         None => None,
@@ -142,12 +142,12 @@ pub fn entry_from(
                 name,
                 before,
                 after,
-                behind,
+                following,
             },
         ) => {
             format.before_ty_name = before;
             format.after_ty_name = after;
-            format.after_ty = behind;
+            format.after_ty = following;
             Some(name)
         }
         None => None,
@@ -193,7 +193,7 @@ pub fn argument_from(
 /// ```
 /// let span = SourceSpan { offset: 0, len: 4 };
 /// let name = KdlIdentifier::from_text(alloc, "a")?;
-/// let key = KeyParts { name, before: empty(alloc), behind: empty(alloc) };
+/// let key = KeyParts { name, before: empty(alloc), after: empty(alloc) };
 /// let leading = String::from_str(alloc, " ")?;
 /// let value = ValueParts { value: KdlValue::from(1), repr: String::from_str(alloc, "1")? };
 /// let entry = property_from(alloc, span, leading, key, value); // prints " a=1"
@@ -212,7 +212,7 @@ pub fn property_from(
     let KeyParts {
         name,
         before,
-        behind,
+        following,
     } = key;
     let ValueParts { value, repr } = value;
     let format = KdlEntryFormat {
@@ -223,7 +223,7 @@ pub fn property_from(
         before_ty_name: empty(alloc),
         after_ty_name: empty(alloc),
         after_key: before,
-        after_eq: behind,
+        after_eq: following,
         autoformat_keep: false,
     };
     KdlEntry::parsed(None, Some(name), value, format, span)
@@ -376,7 +376,7 @@ impl<'a> Parts<'a> {
         ensures sliced { OnOk result
             (Sliced (bytes self.old.from.rest) (bytes start.now.rest) source.old.steps source.new.steps) }
     {
-        let behind = source.text(&self.from, start)?;
+        let following = source.text(&self.from, start)?;
         let name = mem::replace(&mut self.name, KdlIdentifier::from(empty(self.alloc)));
         let before = mem::replace(&mut self.before, empty(self.alloc));
         let after = mem::replace(&mut self.after, empty(self.alloc));
@@ -384,7 +384,7 @@ impl<'a> Parts<'a> {
             name,
             before,
             after,
-            behind,
+            following,
         })
     }
 
@@ -404,13 +404,13 @@ impl<'a> Parts<'a> {
         ensures sliced { OnOk result
             (Sliced (bytes self.old.from.rest) (bytes start.now.rest) source.old.steps source.new.steps) }
     {
-        let behind = source.text(&self.from, start)?;
+        let following = source.text(&self.from, start)?;
         let name = mem::replace(&mut self.name, KdlIdentifier::from(empty(self.alloc)));
         let before = mem::replace(&mut self.before, empty(self.alloc));
         Ok(KeyParts {
             name,
             before,
-            behind,
+            following,
         })
     }
 

@@ -10,7 +10,7 @@ use Rattle.kdl_comments.specs.Written.{tail}
 use Rattle.kdl_fmt.specs.Config.{Settings, indentation}
 use Rattle.kdl_fmt.specs.Formatted.{with_keep_if, or_empty, or_empty_document, newline_if_none, EntriesKeepNone, NodeKeepsNone, ChildrenKeepNone, DocumentKeepsNone, NodesKeepNone}
 use Rattle.kdl_fmt.specs.Kept.{WrittenUnless, KeptBefore, entry_leading, is_kept_format, without_bom}
-use Rattle.kdl_fmt.specs.WithComments.{behind, IsFormattedEntry, AreFormattedEntries, NodeTexts, KeepsTexts, line_of, IsLine, IsContent, IsBraced, IsFormattedHead, has_block, IsFormattedNode, IsFormattedChildren, AreFormattedNodes, IsFormattedDocument}
+use Rattle.kdl_fmt.specs.WithComments.{following, IsFormattedEntry, AreFormattedEntries, NodeTexts, KeepsTexts, line_of, IsLine, IsContent, IsBraced, IsFormattedHead, has_block, IsFormattedNode, IsFormattedChildren, AreFormattedNodes, IsFormattedDocument}
 use Rattle.kdl_fmt.proofs.Formatting.PrintsCanonical.{unspelled_twice}
 use Rattle.kdl_fmt.proofs.Keeping.KeptAgain as kept
 
@@ -25,25 +25,25 @@ loses_form e h = rw (lost e.format h) refl
 cleared_again : (e : Entry) → cleared (cleared e) ≡ cleared e
 cleared_again e = rw (unspelled_twice e.name, unspelled_twice e.ty) refl
 
-behind_not_kept : (t : Text) (e : Entry) → is_kept_format (behind t (cleared e)).format ≡ false
-behind_not_kept [] e = refl
-behind_not_kept (c ∷ t) e = refl
+after_not_kept : (t : Text) (e : Entry) → is_kept_format (following t (cleared e)).format ≡ false
+after_not_kept [] e = refl
+after_not_kept (c ∷ t) e = refl
 
-cleared_behind : (t : Text) (e : Entry) → cleared (behind t (cleared e)) ≡ cleared e
-cleared_behind [] e = cleared_again e
-cleared_behind (c ∷ t) e = cleared_again e
+cleared_after : (t : Text) (e : Entry) → cleared (following t (cleared e)) ≡ cleared e
+cleared_after [] e = cleared_again e
+cleared_after (c ∷ t) e = cleared_again e
 
 -- the entry e' is e without its form, after what is kept
 abbrev LaidEntry : Settings → Entry → Entry → Type 0
-LaidEntry s e e' = (t : Text) × WrittenUnless s.no_comments (PlaceItems (before_entry false) (entry_leading e.format)) tail t × (e' ≡ behind t (cleared e))
+LaidEntry s e e' = (t : Text) × WrittenUnless s.no_comments (PlaceItems (before_entry false) (entry_leading e.format)) tail t × (e' ≡ following t (cleared e))
 
 laid_entry : (s : Settings) (e e' : Entry) → s.entry_autoformate_keep ≡ false → is_kept_format e.format ≡ false → IsFormattedEntry s e e' → LaidEntry s e e'
 laid_entry s e e' keep m f =
-    let g : (t : Text) × KeptBefore s e.format t × (e' ≡ behind t (autoformatted e))
-    = subst (λ (b : Bool). (t : Text) × KeptBefore s (with_keep_if b e).format t × (e' ≡ behind t (autoformatted (with_keep_if b e)))) keep f in (
+    let g : (t : Text) × KeptBefore s e.format t × (e' ≡ following t (autoformatted e))
+    = subst (λ (b : Bool). (t : Text) × KeptBefore s (with_keep_if b e).format t × (e' ≡ following t (autoformatted (with_keep_if b e)))) keep f in (
       g.0,
       subst (λ (b : Bool). WrittenUnless (b || s.no_comments) (PlaceItems (before_entry false) (entry_leading e.format)) tail g.0) m g.1,
-      g.2 ∙ ap (behind g.0) (loses_form e m),
+      g.2 ∙ ap (following g.0) (loses_form e m),
     )
 
 -- a head, by its parts
@@ -72,17 +72,17 @@ same_end s level (first n ns) (first n' ns') f = refl
 
 -- the text that is kept before an entry
 before_stays : (b : Bool) (e : Entry) (q t u : Text) → WrittenUnless b (PlaceItems (before_entry false) q) tail t
-    → WrittenUnless b (PlaceItems (before_entry false) (entry_leading (behind t (cleared e)).format)) tail u → u ≡ t
+    → WrittenUnless b (PlaceItems (before_entry false) (entry_leading (following t (cleared e)).format)) tail u → u ≡ t
 before_stays b e q [] u k m = kept.none_before b u m
 before_stays b e q (c ∷ t) u k m = kept.before_entry_stays b q (c ∷ t) u k m
 
 entry_stays : (s : Settings) → s.entry_autoformate_keep ≡ false → (e e' e'' : Entry) → IsFormattedEntry s e e' → is_kept_format e.format ≡ false → IsFormattedEntry s e' e'' → e'' ≡ e'
 entry_stays s keep e e' e'' f m g =
     let a = laid_entry s e e' keep m f in
-    let h : IsFormattedEntry s (behind a.0 (cleared e)) e'' = subst (λ (x : Entry). IsFormattedEntry s x e'') a.2 g in
-    let b = laid_entry s (behind a.0 (cleared e)) e'' keep (behind_not_kept a.0 e) h in
-    b.2 ∙ ap (λ (x : Text). behind x (cleared (behind a.0 (cleared e)))) (before_stays s.no_comments e (entry_leading e.format) a.0 b.0 a.1 b.1)
-    ∙ ap (behind a.0) (cleared_behind a.0 e) ∙ sym a.2
+    let h : IsFormattedEntry s (following a.0 (cleared e)) e'' = subst (λ (x : Entry). IsFormattedEntry s x e'') a.2 g in
+    let b = laid_entry s (following a.0 (cleared e)) e'' keep (after_not_kept a.0 e) h in
+    b.2 ∙ ap (λ (x : Text). following x (cleared (following a.0 (cleared e)))) (before_stays s.no_comments e (entry_leading e.format) a.0 b.0 a.1 b.1)
+    ∙ ap (following a.0) (cleared_after a.0 e) ∙ sym a.2
 
 pub entries_stay : (s : Settings) → s.entry_autoformate_keep ≡ false → (es es' es'' : List Entry) → AreFormattedEntries s es es' → EntriesKeepNone es → AreFormattedEntries s es' es'' → es'' ≡ es'
 entries_stay s keep [] [] [] f m g = refl
@@ -104,7 +104,7 @@ texts_stay s level ok b f k l a c =
       kept.last_stays s b f.before_terminator k.last l.last f.terminator k.space k.comment a.end a.last c.last,
       e.0,
       e.1,
-      kept.trailing_stays s level ok f.trailing k.behind l.behind a.behind c.behind,
+      kept.trailing_stays s level ok f.trailing k.following l.following a.following c.following,
     ) refl
 
 line_stays : (s : Settings) (level : ℕ) → list_all is_space s.indent ≡ true → (b : Bool) (f : NodeFormat) (g h : Option NodeFormat) → IsLine s level b f g → IsLine s level b (or_empty g) h → h ≡ g

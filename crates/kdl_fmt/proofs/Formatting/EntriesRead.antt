@@ -14,7 +14,7 @@ use Rattle.kdl_fmt.specs.Kept.{Written, WrittenUnless, entry_leading, is_kept_fo
 use Rattle.kdl_fmt.specs.KeptForm.{KeepsReading, EntriesKeepReading}
 use Rattle.kdl_fmt.specs.Respelled.{KeptForm, HasSpellings, HasSpellingsUnless, IsSpelledEntry}
 use Rattle.kdl_fmt.specs.WellFormed.{IsWellFormedEntry}
-use Rattle.kdl_fmt.specs.WithComments.{behind, IsFormattedEntry}
+use Rattle.kdl_fmt.specs.WithComments.{following, IsFormattedEntry}
 use Rattle.kdl_fmt.proofs.Formatting.CommentsReadBack.{entry_ends, entry_leads, item_reads}
 use Rattle.kdl_fmt.proofs.Formatting.FormattedUnique.{entry_keeps_none}
 use Rattle.kdl_fmt.proofs.Loops.{Each}
@@ -78,7 +78,7 @@ kept_formed e (Some f) x h = rw (twice e.ty, twice e.name) x
 
 after_keeps : (keep out : Bool) (e e' : Entry) (t : Text)
     → WrittenUnless (is_kept_format (with_keep_if keep e).format || out) (PlaceItems (before_entry false) (entry_leading (with_keep_if keep e).format)) tail t
-    → e' ≡ behind t (autoformatted (with_keep_if keep e)) → is_kept_format e'.format ≡ false
+    → e' ≡ following t (autoformatted (with_keep_if keep e)) → is_kept_format e'.format ≡ false
     → (is_kept_format (with_keep_if keep e).format ≡ true → EntryReads (autoformatted (with_keep_if keep e)))
     → is_kept_format (with_keep_if keep e').format ≡ true → EntryReads (autoformatted (with_keep_if keep e'))
 after_keeps false out e e' t k q m h y = absurd cc
@@ -86,16 +86,16 @@ after_keeps true out e e' t k q m h y = go e.format k q h
   where
     go : (o : Option EntryFormat)
         → WrittenUnless (is_kept_format (option_map with_keep o) || out) (PlaceItems (before_entry false) (entry_leading (option_map with_keep o))) tail t
-        → e' ≡ behind t (autoformatted (record e { format = option_map with_keep o }))
+        → e' ≡ following t (autoformatted (record e { format = option_map with_keep o }))
         → (is_kept_format (option_map with_keep o) ≡ true → EntryReads (autoformatted (record e { format = option_map with_keep o })))
         → EntryReads (autoformatted (with_keep_if true e'))
     go None k q h =
-        let same = q ∙ ap (λ (x : Text). behind x (autoformatted (record e { format = None }))) (nothing_kept out t k) in
+        let same = q ∙ ap (λ (x : Text). following x (autoformatted (record e { format = None }))) (nothing_kept out t k) in
         let none : e'.format ≡ None = ap (λ (x : Entry). x.format) same in
         let bad : is_kept_format (option_map with_keep None) ≡ true = subst (λ (o : Option EntryFormat). is_kept_format (option_map with_keep o) ≡ true) none y in
         absurd cc
     go (Some f) k q h =
-        let same = q ∙ ap (λ (x : Text). behind x (autoformatted (record e { format = Some (with_keep f) }))) k in
+        let same = q ∙ ap (λ (x : Text). following x (autoformatted (record e { format = Some (with_keep f) }))) k in
         subst (λ (x : Entry). EntryReads (autoformatted (with_keep_if true x))) (sym same) (kept_formed e (Some f) (h refl) refl)
 
 -- an entry that keeps its form, and has no text kept before it
@@ -103,7 +103,7 @@ kept_reads : (b : Bool) → b ≡ true → (s : Settings) (e m : Entry) → is_k
 kept_reads b x s e m y (t, k, q) h =
     let f = with_keep_if s.entry_autoformate_keep e in
     let none = flag_written (is_kept_format f.format) s.no_comments (entry_leading f.format) t (y ∙ x) k in
-    subst EntryReads (sym (q ∙ ap (λ (z : Text). behind z (autoformatted f)) none)) (h (y ∙ x))
+    subst EntryReads (sym (q ∙ ap (λ (z : Text). following z (autoformatted f)) none)) (h (y ∙ x))
 
 -- an entry that is laid out without its spelling
 plain_stays : (s : Settings) (e m : Entry) → IsFormattedEntry s e m → IsWellFormedEntry (entry_data e) → Stays s e → Stays s m
@@ -128,13 +128,13 @@ formless_left s e _ p _ x h KeptForm.formless = h
 
 spelled_unflagged : (s : Settings) (b out : Bool) (e m e' : Entry) (t : Text)
     → WrittenUnless (is_kept_format (with_keep_if b e).format || out) (PlaceItems (before_entry false) (entry_leading (with_keep_if b e).format)) tail t
-    → m ≡ behind t (autoformatted (with_keep_if b e)) → is_kept_format (with_keep_if b e).format ≡ false → HasSpellings s e m e' → is_kept_format e'.format ≡ false → is_kept_format (with_keep_if b e').format ≡ false
+    → m ≡ following t (autoformatted (with_keep_if b e)) → is_kept_format (with_keep_if b e).format ≡ false → HasSpellings s e m e' → is_kept_format e'.format ≡ false → is_kept_format (with_keep_if b e').format ≡ false
 spelled_unflagged s false out e m e' t k q n h left = left
 spelled_unflagged s true out e m e' t k q n h left =
     let none = still_none e.format n in
     let k' = subst (λ (o : Option EntryFormat). WrittenUnless (is_kept_format (option_map with_keep o) || out) (PlaceItems (before_entry false) (entry_leading (option_map with_keep o))) tail t) none k in
     let empty = nothing_kept out t k' in
-    let q' = q ∙ ap (λ (o : Option EntryFormat). behind t (autoformatted (record e { format = option_map with_keep o }))) none ∙ ap (λ (u : Text). behind u (autoformatted (record e { format = None }))) empty in
+    let q' = q ∙ ap (λ (o : Option EntryFormat). following t (autoformatted (record e { format = option_map with_keep o }))) none ∙ ap (λ (u : Text). following u (autoformatted (record e { format = None }))) empty in
     let formless = formless_left s e e.format m.format e'.format none (ap (λ (x : Entry). x.format) q') h.format in
     ap (λ (o : Option EntryFormat). is_kept_format (option_map with_keep o)) formless
 

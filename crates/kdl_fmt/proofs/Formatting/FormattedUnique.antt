@@ -11,7 +11,7 @@ use Rattle.kdl_fmt.specs.Config.{Settings, indentation}
 use Rattle.kdl_fmt.specs.Formatted.{with_keep_if, formatted_entry, or_empty, or_empty_document, content_format, in_braces, formatted_head, formatted_node, formatted_children, formatted_nodes, formatted_document, EntriesKeepNone}
 use Rattle.kdl_fmt.specs.Kept.{Written, WrittenUnless, KeptLines, KeptTail, KeptBeforeBlock, last_place, WrittenEnd, KeptEnd, without_bom, entry_leading, is_kept_format, KeptBefore}
 use Rattle.kdl_fmt.specs.Plain.{plain_line}
-use Rattle.kdl_fmt.specs.WithComments.{behind, IsFormattedEntry, AreFormattedEntries, NodeTexts, KeepsTexts, line_of, IsLine, content_of, ContentTexts, IsContent, IsBraced, IsFormattedHead, has_block, IsFormattedNode, IsFormattedChildren, AreFormattedNodes, IsFormattedDocument}
+use Rattle.kdl_fmt.specs.WithComments.{following, IsFormattedEntry, AreFormattedEntries, NodeTexts, KeepsTexts, line_of, IsLine, content_of, ContentTexts, IsContent, IsBraced, IsFormattedHead, has_block, IsFormattedNode, IsFormattedChildren, AreFormattedNodes, IsFormattedDocument}
 use Rattle.kdl_fmt.proofs.Formatting.PrintsCanonical.{cleared_formatted, not_kept_again}
 
 abbrev Has : Type 1
@@ -59,7 +59,7 @@ line_plain s level has f k e w =
       tail_none s (last_place has) f.before_terminator k.last e w.last,
       end.0,
       end.1,
-      lines_none s level f.trailing k.behind e w.behind,
+      lines_none s level f.trailing k.following e w.following,
     ) refl
 
 content_plain : (s : Settings) (level : ℕ) (ns : Nodes) (f : DocumentFormat) (a b : Text) → s.no_comments ≡ true → ContentTexts s level f a b → content_of ns a b ≡ content_format ns
@@ -69,7 +69,7 @@ content_plain s level ns f a b e w = rw (lines_none s level (without_bom f.leadi
 pub entry_left : (s : Settings) (e e' : Entry) → s.no_comments ≡ true → IsFormattedEntry s e e' → e' ≡ formatted_entry s e
 entry_left s e e' h f =
     let m = with_keep_if s.entry_autoformate_keep e in
-    f.2 ∙ ap (λ (t : Text). behind t (autoformatted m)) (before_none s m.format f.0 h f.1)
+    f.2 ∙ ap (λ (t : Text). following t (autoformatted m)) (before_none s m.format f.0 h f.1)
 
 pub entries_left_out : (s : Settings) (es es' : List Entry) → s.no_comments ≡ true → AreFormattedEntries s es es' → es' ≡ map (formatted_entry s) es
 entries_left_out s [] [] h f = refl
@@ -115,22 +115,22 @@ document_left_out s level (document f span ns) (document f' span' ns') e d =
     λ i. document (a i) (d.1 i) (b i)
 
 -- of an entry all stays but formats and spellings
-pub cleared_behind : (t : Text) (e : Entry) → cleared (behind t e) ≡ cleared e
-cleared_behind [] e = refl
-cleared_behind (c ∷ t) e = refl
+pub cleared_after : (t : Text) (e : Entry) → cleared (following t e) ≡ cleared e
+cleared_after [] e = refl
+cleared_after (c ∷ t) e = refl
 
 pub entry_stays : (s : Settings) (e e' : Entry) → IsFormattedEntry s e e' → cleared e' ≡ cleared e
-entry_stays s e e' f = ap cleared f.2 ∙ cleared_behind f.0 (autoformatted (with_keep_if s.entry_autoformate_keep e)) ∙ cleared_formatted s.entry_autoformate_keep e
+entry_stays s e e' f = ap cleared f.2 ∙ cleared_after f.0 (autoformatted (with_keep_if s.entry_autoformate_keep e)) ∙ cleared_formatted s.entry_autoformate_keep e
 
 -- no entry is flagged any more
-behind_not_kept : (t : Text) (e : Entry) → is_kept_format e.format ≡ false → is_kept_format (behind t e).format ≡ false
-behind_not_kept [] e h = h
-behind_not_kept (c ∷ t) e h = refl
+after_not_kept : (t : Text) (e : Entry) → is_kept_format e.format ≡ false → is_kept_format (following t e).format ≡ false
+after_not_kept [] e h = h
+after_not_kept (c ∷ t) e h = refl
 
 pub entry_keeps_none : (s : Settings) (e e' : Entry) → IsFormattedEntry s e e' → is_kept_format e'.format ≡ false
 entry_keeps_none s e e' f =
     let m = with_keep_if s.entry_autoformate_keep e in
-    ap (λ (x : Entry). is_kept_format x.format) f.2 ∙ behind_not_kept f.0 (autoformatted m) (not_kept_again m.format)
+    ap (λ (x : Entry). is_kept_format x.format) f.2 ∙ after_not_kept f.0 (autoformatted m) (not_kept_again m.format)
 
 pub entries_keep_none : (s : Settings) (es es' : List Entry) → AreFormattedEntries s es es' → EntriesKeepNone es'
 entries_keep_none s [] [] f = tt
@@ -178,14 +178,14 @@ texts_det s level has f k k' a b =
     let before = lines_det s level f.leading k.before k'.before a.before b.before in
     let block = block_det s has f.before_children k.before_block k'.before_block a.before_block b.before_block in
     let last = tail_det s (last_place has) f.before_terminator k.last k'.last a.last b.last in
-    let more = lines_det s level f.trailing k.behind k'.behind a.behind b.behind in
-    λ i. record { before = before i; before_block = block i; last = last i; space = end.0 i; comment = end.1 i; behind = more i }
+    let more = lines_det s level f.trailing k.following k'.following a.following b.following in
+    λ i. record { before = before i; before_block = block i; last = last i; space = end.0 i; comment = end.1 i; following = more i }
 
 -- so what layout makes is one thing
 pub entry_det : (s : Settings) (e x y : Entry) → IsFormattedEntry s e x → IsFormattedEntry s e y → x ≡ y
 entry_det s e x y a b =
     let m = with_keep_if s.entry_autoformate_keep e in
-    a.2 ∙ ap (λ (t : Text). behind t (autoformatted m)) (before_det s m.format a.0 b.0 a.1 b.1) ∙ sym b.2
+    a.2 ∙ ap (λ (t : Text). following t (autoformatted m)) (before_det s m.format a.0 b.0 a.1 b.1) ∙ sym b.2
 
 pub formatted_entries_det : (s : Settings) (es xs ys : List Entry) → AreFormattedEntries s es xs → AreFormattedEntries s es ys → xs ≡ ys
 formatted_entries_det s [] [] [] a b = refl

@@ -117,11 +117,11 @@ module _ (number : ℕ) (s : Settings) (ok : list_all is_space s.indent ≡ true
         let tail : Tail (last_place (has_block k)) t.last = subst (λ (x : Bool). Tail (last_place x) t.last) same (tail_of s.no_comments (last_place has) f.before_terminator t.last kept.last) in
         let end = line_end_of s.no_comments f.terminator t.space t.comment kept.end in
         record {
-          place = λ r p x. rw (place_joined t.last t.space t.comment t.behind r, end_joined t.comment t.behind r) (before_end k tail end (t.behind ++ r));
+          place = λ r p x. rw (place_joined t.last t.space t.comment t.following r, end_joined t.comment t.following r) (before_end k tail end (t.following ++ r));
           terminator = λ r v xs p z d. (
-            t.behind ++ r,
-            rw (end_joined t.comment t.behind r) (line_terminator end (t.behind ++ r)),
-            lines_add level (past_node f.terminator) kept.behind_it f.trailing t.behind kept.behind r v xs z d,
+            t.following ++ r,
+            rw (end_joined t.comment t.following r) (line_terminator end (t.following ++ r)),
+            lines_add level (past_node f.terminator) kept.after_it f.trailing t.following kept.following r v xs z d,
           );
         }
 
@@ -151,7 +151,7 @@ module _ (number : ℕ) (s : Settings) (ok : list_all is_space s.indent ≡ true
       (block (content_with ms
       (λ r v xs z d. gap_nodes (newline_gap (lines_gap s ok number (level + 1) at_start b (without_bom f.leading) x c.leading no_gap)) d)
       (all_end _ d)
-      (λ r p. rw (trailing_joined y (newline_if_none olds) ind r) (lines_gap s ok number (level + 1) c.last c.behind_it f.trailing y c.trailing (empty_gap olds (indentation_gap s ok level no_gap))))))
+      (λ r p. rw (trailing_joined y (newline_if_none olds) ind r) (lines_gap s ok number (level + 1) c.last c.after_it f.trailing y c.trailing (empty_gap olds (indentation_gap s ok level no_gap))))))
 
   -- what is kept of an empty text
   written_nothing : (level : ℕ) (t : Text) → Written (GapItems []) (lines (indentation s level)) t → t ≡ []
@@ -196,9 +196,9 @@ module _ (number : ℕ) (s : Settings) (ok : list_all is_space s.indent ≡ true
   document_reads level b o g at ns (x, y, c, e) d =
       subst (λ (z : Option DocumentFormat). DocumentReads (document z at ns)) (sym e) (DocumentReads.no_bom (of_old d))
     where
-      trailing : SpacedLines number s level c.last (trailing_text o) y c.behind_it
-      trailing = subst (λ (u : Text). SpacedLines number s level c.last u y c.behind_it) (trailing_is o) c.trailing
+      trailing : SpacedLines number s level c.last (trailing_text o) y c.after_it
+      trailing = subst (λ (u : Text). SpacedLines number s level c.last u y c.after_it) (trailing_is o) c.trailing
 
       of_old : DocumentReads (document o at ns) → ContentReads TextEnd x (y ++ newline_if_none ns) ns
-      of_old (DocumentReads.no_bom d) = content_laid level b c.last c.behind_it (without_bom (or_empty_document o).leading) (trailing_text o) x y c.leading trailing ns d
-      of_old (DocumentReads.behind_bom e d) = content_laid level b c.last c.behind_it (without_bom (or_empty_document o).leading) (trailing_text o) x y c.leading trailing ns d
+      of_old (DocumentReads.no_bom d) = content_laid level b c.last c.after_it (without_bom (or_empty_document o).leading) (trailing_text o) x y c.leading trailing ns d
+      of_old (DocumentReads.after_bom e d) = content_laid level b c.last c.after_it (without_bom (or_empty_document o).leading) (trailing_text o) x y c.leading trailing ns d

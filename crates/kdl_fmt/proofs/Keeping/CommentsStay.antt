@@ -58,27 +58,27 @@ module _ (h : Head) (before : Text) (k : NodeTexts) (x : TypeTexts) (line : h.fo
 
   -- what comes after the last entry or the `}`
   abbrev end_of : Text → Text
-  end_of r = (k.last ++ k.space) ++ ((k.comment ++ (10 ∷ [])) ++ (k.behind ++ r))
+  end_of r = (k.last ++ k.space) ++ ((k.comment ++ (10 ∷ [])) ++ (k.following ++ r))
 
   plain_text : (depth : ℕ) (r : Text) → print_tail h no_children depth ++ r ≡ end_of r
-  plain_text depth r = rw line (end_joined k.last k.space k.comment k.behind r)
+  plain_text depth r = rw line (end_joined k.last k.space k.comment k.following r)
 
   block_text : (f : Option DocumentFormat) (span : SourceSpan) (ns ms : Nodes) (a b : Text) (depth : ℕ) (r : Text) → f ≡ Some (in_braces before (content_of ns a b))
       → print_tail h (children (document f span ms)) depth ++ r
       ≡ k.before_block ++ (32 ∷ 123 ∷ ((10 ∷ a) ++ (print_nodes ms (depth + 1) ++ ((b ++ newline_if_none ns ++ before) ++ (125 ∷ end_of r)))))
   block_text f span ns ms a b depth r e =
-      let end = k.last ++ k.space ++ (k.comment ++ (10 ∷ [])) ++ k.behind in
+      let end = k.last ++ k.space ++ (k.comment ++ (10 ∷ [])) ++ k.following in
       let n = print_nodes ms (depth + 1) in
-      let behind = b ++ newline_if_none ns ++ before in
-      rw (e, line, ← end_joined k.last k.space k.comment k.behind r)
-      (braces_joined k.before_block ((10 ∷ a) ++ n ++ behind) (125 ∷ end) r ∙ ap (λ (t : Text). k.before_block ++ (32 ∷ 123 ∷ t)) (content_joined (10 ∷ a) n behind (125 ∷ (end ++ r))))
+      let following = b ++ newline_if_none ns ++ before in
+      rw (e, line, ← end_joined k.last k.space k.comment k.following r)
+      (braces_joined k.before_block ((10 ∷ a) ++ n ++ following) (125 ∷ end) r ∙ ap (λ (t : Text). k.before_block ++ (32 ∷ 123 ∷ t)) (content_joined (10 ∷ a) n following (125 ∷ (end ++ r))))
 
   -- a block on one line
   line_text : (span : SourceSpan) (ms : Nodes) (depth : ℕ) (r : Text) → print_tail h (children (document (Some braces_in_line) span ms)) depth ++ r ≡ k.before_block ++ (32 ∷ 123 ∷ (print_nodes ms (depth + 1) ++ (125 ∷ end_of r)))
   line_text span ms depth r =
-      let end = k.last ++ k.space ++ (k.comment ++ (10 ∷ [])) ++ k.behind in
+      let end = k.last ++ k.space ++ (k.comment ++ (10 ∷ [])) ++ k.following in
       let n = print_nodes ms (depth + 1) in
-      rw (line, ← end_joined k.last k.space k.comment k.behind r)
+      rw (line, ← end_joined k.last k.space k.comment k.following r)
       (braces_joined k.before_block ([] ++ n ++ []) (125 ∷ end) r ∙ ap (λ (t : Text). k.before_block ++ (32 ∷ 123 ∷ t)) (content_joined [] n [] (125 ∷ (end ++ r))))
 
 -- a node in a text: what is kept after it comes before what follows it
@@ -116,7 +116,7 @@ record ChildrenLaid (whole s r : Text) (is js : List Item) : Type 0 where
   place : Text
   laid : LaidChildren true whole tree before place s r
   inside : ChildrenItems before tree is
-  behind : ItemsIn (PlaceItems (last_place (has_block tree)) place) js
+  following : ItemsIn (PlaceItems (last_place (has_block tree)) place) js
   ends : ValueEnd true s
 
 -- nodes and the gap after them are the content of a document
@@ -158,7 +158,7 @@ module _ (number : ℕ) (s : Settings) (ok : list_all is_space s.indent ≡ true
   content_front level ns f b x y k i = lines_front s ok with number level at_start b (without_bom f.leading) x k.leading i
 
   content_end : (level : ℕ) (ns : Nodes) (f : DocumentFormat) (b : Before) (x y : Text) → SpacesContent number s level ns f b x y → {is : List Item} → ItemsIn (GapItems f.trailing) is → Front y (map on_line is)
-  content_end level ns f b x y k i = lines_front s ok with number level k.last k.behind_it f.trailing y k.trailing i
+  content_end level ns f b x y k i = lines_front s ok with number level k.last k.after_it f.trailing y k.trailing i
 
   last_in : (level : ℕ) (has : Bool) (b : Before) (f : NodeFormat) (t : NodeTexts) → SpacesTexts number s level has b f t → {is : List Item} → ItemsIn (PlaceItems (last_place has) f.before_terminator) is
       → KeptIn (last_place has) t.last (map on_line is)
@@ -174,11 +174,11 @@ module _ (number : ℕ) (s : Settings) (ok : list_all is_space s.indent ≡ true
     children_laid : (level depth : ℕ) (b : Before) (h : Head) (f : NodeFormat) (t : NodeTexts) (x : TypeTexts) (k k' : Children) → h.format ≡ Some (with_type_texts x (line_of (indentation s level) t)) → AreWrittenChildren number s level k k'
         → SpacesTexts number s level (has_block k) b f t → {is js : List Item} → ChildrenItems f.before_children k is
         → ItemsIn (PlaceItems (last_place (has_block k)) f.before_terminator) js → (r : Text)
-        → ChildrenLaid whole (print_tail h (one_lined_children keep k k') depth ++ r) ((t.comment ++ (10 ∷ [])) ++ (t.behind ++ r)) (map on_line is) (map on_line js)
+        → ChildrenLaid whole (print_tail h (one_lined_children keep k k') depth ++ r) ((t.comment ++ (10 ∷ [])) ++ (t.following ++ r)) (map on_line is) (map on_line js)
     children_laid level depth b h f t w no_children no_children line c kept ChildrenItems.no_block i r =
         let end = line_end level false b f t kept in
         let last = last_in level false b f t kept i in
-        let rest = t.behind ++ r in
+        let rest = t.following ++ r in
         let e = last_joined t.last t.space t.comment rest in
         rw (plain_text h (indentation s level) t w line depth r)
         (record {
@@ -191,17 +191,17 @@ module _ (number : ℕ) (s : Settings) (ok : list_all is_space s.indent ≡ true
             text = refl;
           });
           inside = ChildrenItems.no_block;
-          behind = ItemsIn.items (kept_last s.no_comments with false f.terminator t.space t.comment t.last kept.end last);
+          following = ItemsIn.items (kept_last s.no_comments with false f.terminator t.space t.comment t.last kept.end last);
           ends = subst (ValueEnd true) e (last_ends last.stands end rest);
         })
     children_laid level depth b h f t types (children (document g span ns)) (children (document g' span' ns')) line (b', c, nodes) kept {js = ks} (block {is = is} i (of_document {a = a} {b = e'} {c = d} ia ib id)) j r =
         let before = block_in level b f t kept i in
-        let rest = t.behind ++ r in
+        let rest = t.following ++ r in
         let after = (t.last ++ t.space) ++ ((t.comment ++ (10 ∷ [])) ++ rest) in
-        let behind = c.1 ++ newline_if_none ns ++ indentation s level in
+        let following = c.1 ++ newline_if_none ns ++ indentation s level in
         let old = document g span ns in
         let laid' = document g' span' ns' in
-        let x = nodes_laid (level + 1) (depth + 1) b' ns ns' nodes ib (joined newline (content_front (level + 1) ns (or_empty_document g) b' c.0 c.1 c.2 ia)) (behind ++ (125 ∷ after)) in
+        let x = nodes_laid (level + 1) (depth + 1) b' ns ns' nodes ib (joined newline (content_front (level + 1) ns (or_empty_document g) b' c.0 c.1 c.2 ia)) (following ++ (125 ∷ after)) in
         let y = content_laid x (joined (joined (content_end (level + 1) ns (or_empty_document g) b' c.0 c.1 c.2 id) (newline_if ns)) (indented s ok level)) in
         one_or_more (λ (z : Document). ChildrenLaid whole (print_tail h (children z) depth ++ r) ((t.comment ++ (10 ∷ [])) ++ rest) (map on_line (is ++ (a ++ e' ++ d))) (map on_line ks)) (keep && is_on_one_line old) (in_one_line laid') (one_lined_document keep old laid')
         (λ on. let w = (and_parts (braces_on_line g) (nodes_on_line ns) (and_parts keep (is_on_one_line old) on).1) in
@@ -215,13 +215,13 @@ module _ (number : ℕ) (s : Settings) (ok : list_all is_space s.indent ≡ true
         (subst (λ (l : List Item). ChildrenItems (t.before_block ++ (32 ∷ [])) (children y.tree) l) (block_lists (map on_line is) a e' d ∙ sym (map-append on_line is (a ++ e' ++ d))) (block (ItemsIn.items before.spaced) y.items))))
       where
         -- what comes before the block and after it
-        block_laid : (z : Document) {m : Text} → LaidContent true whole z m (125 ∷ ((t.last ++ t.space) ++ ((t.comment ++ (10 ∷ [])) ++ (t.behind ++ r)))) → {l : List Item} → ChildrenItems (t.before_block ++ (32 ∷ [])) (children z) l
-            → ChildrenLaid whole (t.before_block ++ (32 ∷ 123 ∷ m)) ((t.comment ++ (10 ∷ [])) ++ (t.behind ++ r)) l (map on_line ks)
+        block_laid : (z : Document) {m : Text} → LaidContent true whole z m (125 ∷ ((t.last ++ t.space) ++ ((t.comment ++ (10 ∷ [])) ++ (t.following ++ r)))) → {l : List Item} → ChildrenItems (t.before_block ++ (32 ∷ [])) (children z) l
+            → ChildrenLaid whole (t.before_block ++ (32 ∷ 123 ∷ m)) ((t.comment ++ (10 ∷ [])) ++ (t.following ++ r)) l (map on_line ks)
         block_laid z m l =
             let end = line_end level true b f t kept in
             let last = last_in level true b f t kept j in
             let before = block_in level b f t kept i in
-            let rest = t.behind ++ r in
+            let rest = t.following ++ r in
             let e = last_joined t.last t.space t.comment rest in
             record {
               tree = children z;
@@ -234,7 +234,7 @@ module _ (number : ℕ) (s : Settings) (ok : list_all is_space s.indent ≡ true
                     text = refl;
                   });
               inside = l;
-              behind = ItemsIn.items (kept_last s.no_comments with true f.terminator t.space t.comment t.last kept.end last);
+              following = ItemsIn.items (kept_last s.no_comments with true f.terminator t.space t.comment t.last kept.end last);
               ends = tail_ends before.stands _ (space_ends _);
             }
     children_laid level depth b h f t w no_children (children d') line c kept i j r = absurd c
@@ -252,7 +252,7 @@ module _ (number : ℕ) (s : Settings) (ok : list_all is_space s.indent ≡ true
         let format = or_empty h.format in
         let has = has_block k in
         let tail = print_tail h' (one_lined_children keep k k') depth ++ r in
-        let v = t.behind ++ r in
+        let v = t.following ++ r in
         let end = t.comment ++ (10 ∷ []) in
         let lines = joined (before_front s ok with number level has before format t kept ia) (indented s ok level) in
         let x = children_laid level depth before h' format t w k k' line c kept ic id r in
@@ -265,14 +265,14 @@ module _ (number : ℕ) (s : Settings) (ok : list_all is_space s.indent ≡ true
         rw (node_text h' i t w line depth (print_pieces h'.entries) (print_tail h' (one_lined_children keep k k') depth) r)
         (record {
           tree = node (record { ty = ty.0; name = named; entries = y.entries; format = Some (node_format leading ty.1.before_name ty.1.after_name ty.1.after x.before x.place end []); span = span_of whole start (end ++ v) }) x.tree;
-          pending = t.behind;
+          pending = t.following;
           own = (ps ++ (map on_line a ++ [])) ++ map on_line b ++ map on_line ci ++ map on_line d ++ map on_line e ++ [];
           later = map on_line g;
           laid = λ ns. a_node {leading = leading} {end = end} {t = start} {u = end ++ v} {v = v} (record { is = front.gap (lines.gap Gap.no_gap); text = sym (append_assoc p (t.before ++ i) start) })
               (laid_node ty.2 (identifier_laid whole h'.name pieces f.name y.ends) y.laid x.laid)
               (record { is = subst (λ (z : Text). Terminator z v) (sym (append_assoc t.comment (10 ∷ []) v)) (line_terminator (line_end level has before format t kept) v); text = refl }) refl ns;
-          items = of_node (ItemsIn.items (alone (joined front lines))) y.items x.inside x.behind (kept_end s.no_comments with format.terminator t.space t.comment kept.end ie) (ItemsIn.items GapItems.none);
-          front = lines_front s ok with number level (past_node format.terminator) kept.behind_it format.trailing t.behind kept.behind ig;
+          items = of_node (ItemsIn.items (alone (joined front lines))) y.items x.inside x.following (kept_end s.no_comments with format.terminator t.space t.comment kept.end ie) (ItemsIn.items GapItems.none);
+          front = lines_front s ok with number level (past_node format.terminator) kept.after_it format.trailing t.following kept.following ig;
           same = node_same ps a b ci d e g;
         })
 
@@ -302,8 +302,8 @@ module _ (number : ℕ) (s : Settings) (ok : list_all is_space s.indent ≡ true
   document_content : (level depth : ℕ) (d d' : Document) (is : List Item) → DocumentItems d is → IsWrittenDocument number s level d d'
       → ContentLaid whole (print_document (one_lined_document keep d d') depth) [] (map on_line is)
   document_content level depth (document f span ns) (document f' span' ns') _ (of_document {a = a} {b = b} {c = d} ia ib id) (before, c, nodes) =
-      let behind = c.1 ++ newline_if_none ns in
-      let x = nodes_laid level depth before ns ns' nodes ib (content_front level ns (or_empty_document f) before c.0 c.1 c.2 ia) (behind ++ []) in
+      let following = c.1 ++ newline_if_none ns in
+      let x = nodes_laid level depth before ns ns' nodes ib (content_front level ns (or_empty_document f) before c.0 c.1 c.2 ia) (following ++ []) in
       let y = content_laid x (joined (content_end level ns (or_empty_document f) before c.0 c.1 c.2 id) (newline_if ns)) in
       subst (λ (l : List Item). ContentLaid whole (print_document (document f' span' (one_lined_nodes keep ns ns')) depth) [] l) (content_lists a b d)
       (subst (λ (t : Text). ContentLaid whole t [] (map on_line a ++ map on_line b ++ (map on_line d ++ []))) (document_joined f' ns' c.3) y)

@@ -9,11 +9,11 @@ use Rattle.kdl_text.proofs.Spacing.SpaceUnique.{no_line_comment}
 use Rattle.kdl_entry.specs.Places.{between}
 use Rattle.kdl_entry.proofs.Slicing.Between.{is_between}
 use Rattle.kdl_entry.proofs.Moving.EntryEnds.{end_slashdash}
-use Rattle.kdl_comments.specs.Items.{Item, comment, piece, line_end, EsclineItems, SpaceItems, Place, before_entry, before_block, behind_block, may_end, takes_blocks, spaced, PlaceItems}
+use Rattle.kdl_comments.specs.Items.{Item, comment, piece, line_end, EsclineItems, SpaceItems, Place, before_entry, before_block, after_block, may_end, takes_blocks, spaced, PlaceItems}
 use Rattle.kdl_comments.specs.Written.{line_text, tail, on_line}
 use Rattle.kdl_comments.proofs.Rewriting.BeforeNewlines.{piece_kept}
 use Rattle.kdl_comments.proofs.Listing.ItemsUnique.{place_items_det}
-use Rattle.kdl_comments.proofs.Rewriting.LastCharacters.{Last, last_behind, last_end, entry_last, block_last, ws_last}
+use Rattle.kdl_comments.proofs.Rewriting.LastCharacters.{Last, last_after, last_end, entry_last, block_last, ws_last}
 use Rattle.kdl_comments.proofs.Rewriting.PlacesAgain.{tail_alone, tail_spaced}
 use Rattle.kdl_comments.proofs.Rewriting.LinesAgain.{line_part, comment_part, comment_again, comment_text, comment_item}
 use Rattle.kdl_fmt.specs.Comments.{ItemsIn, EndItems}
@@ -25,9 +25,9 @@ other_char : (c : ℕ) → is_newline_char c ≡ false → (c == 13) ≡ false
 unfolding is_newline_char
 other_char c h = grind (arith, nat_tests)
 
-line_behind : (c : ℕ) (s : Text) → (c == 13) ≡ false → line_text s ≡ s → line_text (c ∷ s) ≡ c ∷ s
-line_behind c [] h e = ap (λ (b : Bool). (if b then 10 else c) ∷ []) h
-line_behind c (d ∷ s) h e = ap (λ (t : Text). c ∷ t) e
+line_after : (c : ℕ) (s : Text) → (c == 13) ≡ false → line_text s ≡ s → line_text (c ∷ s) ≡ c ∷ s
+line_after c [] h e = ap (λ (b : Bool). (if b then 10 else c) ∷ []) h
+line_after c (d ∷ s) h e = ap (λ (t : Text). c ∷ t) e
 
 part_kept : (s : Text) → line_text (line_part s) ≡ line_part s
 part_kept [] = refl
@@ -35,10 +35,10 @@ part_kept (c ∷ s) = go (is_newline_char c) refl (part_kept s)
   where
     go : (b : Bool) → is_newline_char c ≡ b → line_text (line_part s) ≡ line_part s → line_text (if b then [] else c ∷ line_part s) ≡ (if b then [] else c ∷ line_part s)
     go true e h = refl
-    go false e h = line_behind c (line_part s) (other_char c e) h
+    go false e h = line_after c (line_part s) (other_char c e) h
 
 comment_kept : (s : Text) → line_text (comment_part s) ≡ comment_part s
-comment_kept s = line_behind 47 (47 ∷ line_part s) refl (line_behind 47 (line_part s) refl (part_kept s))
+comment_kept s = line_after 47 (47 ∷ line_part s) refl (line_after 47 (line_part s) refl (part_kept s))
 
 comment_on_line : {s r : Text} → LineComment s r → on_line (comment (between s (line_end s))) ≡ comment (between s (line_end s))
 comment_on_line l = let c = comment_item l in rw c.1 (ap comment (comment_kept c.0))
@@ -71,8 +71,8 @@ space_stays (SpaceItems.escline d) = escline_stays d
 pub place_stays : {p : Place} {s : Text} {is : List Item} → PlaceItems p s is → map on_line is ≡ is
 place_stays (PlaceItems.ends h) = refl
 place_stays (PlaceItems.space {is = is} {js = js} n d) = join_stays is js (space_stays n) (place_stays d)
-place_stays (PlaceItems.dropped_entry h m i d) = pair_stays _ _ (piece_on_line (last_behind (end_slashdash m) (entry_last i))) (place_stays d)
-place_stays (PlaceItems.dropped_block h m b d) = pair_stays _ _ (piece_on_line (last_behind (end_slashdash m) (block_last b))) (place_stays d)
+place_stays (PlaceItems.dropped_entry h m i d) = pair_stays _ _ (piece_on_line (last_after (end_slashdash m) (entry_last i))) (place_stays d)
+place_stays (PlaceItems.dropped_block h m b d) = pair_stays _ _ (piece_on_line (last_after (end_slashdash m) (block_last b))) (place_stays d)
 
 -- what is kept in a place, and the items there: with a space after it, and with nothing
 pub record KeptIn (p : Place) (t : Text) (is : List Item) : Type 0 where
@@ -87,12 +87,12 @@ one_space s = SpaceItems.space (a_space refl)
 pub ends_spaced : (p : Place) → may_end (spaced true p) ≡ true
 ends_spaced (before_entry b) = refl
 ends_spaced before_block = refl
-ends_spaced behind_block = refl
+ends_spaced after_block = refl
 
 pub ends_here : (p : Place) → takes_blocks p ≡ true → may_end p ≡ true
 ends_here (before_entry b) h = cc
 ends_here before_block h = refl
-ends_here behind_block h = refl
+ends_here after_block h = refl
 
 nothing_in : (p : Place) → KeptIn p [] []
 nothing_in p = record { stands = Tail.nothing; spaced = PlaceItems.space (one_space []) (PlaceItems.ends (ends_spaced p)); alone = λ h. PlaceItems.ends (ends_here p h) }

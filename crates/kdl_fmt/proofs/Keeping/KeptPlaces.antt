@@ -10,9 +10,9 @@ use Rattle.kdl_entry.specs.Places.{leading}
 use Rattle.kdl_grammar.specs.Data.{Nodes}
 use Rattle.kdl_grammar.specs.Grammar.{Terminator, Gap, no_gap, line_space, dropped_node, AreNodes, last_gap, node_then}
 use Rattle.kdl_grammar.specs.Places.{AfterChildren, BeforeChildren}
-use Rattle.kdl_comments.specs.Items.{Item, GapItems, Place, before_entry, before_block, behind_block, PlaceItems}
+use Rattle.kdl_comments.specs.Items.{Item, GapItems, Place, before_entry, before_block, after_block, PlaceItems}
 use Rattle.kdl_comments.specs.Written.{lines, tail}
-use Rattle.kdl_comments.proofs.Rewriting.PlacesAgain.{PlaceText, tail_leading, tail_before, tail_before_line, tail_behind, tail_behind_line}
+use Rattle.kdl_comments.proofs.Rewriting.PlacesAgain.{PlaceText, tail_leading, tail_before, tail_before_line, tail_after, tail_after_line}
 use Rattle.kdl_comments.proofs.Rewriting.LinesAgain.{comment_part, comment_again, comment_item, lines_gap}
 use Rattle.kdl_fmt.specs.Config.{Settings, indentation}
 use Rattle.kdl_fmt.specs.Kept.{Written, WrittenUnless, KeptLines, last_place, WrittenEnd, KeptEnd}
@@ -94,14 +94,14 @@ tail_spaced (before_entry b) Tail.nothing r = leading Star.none (plus (one_space
 tail_spaced (before_entry b) (Tail.items d) r = tail_leading d
 tail_spaced before_block Tail.nothing r = BeforeChildren.before Star.none (AfterChildren.after Star.none (Star.more (one_space r) Star.none))
 tail_spaced before_block (Tail.items d) r = tail_before d
-tail_spaced behind_block Tail.nothing r = AfterChildren.after Star.none (Star.more (one_space r) Star.none)
-tail_spaced behind_block (Tail.items d) r = tail_behind d
+tail_spaced after_block Tail.nothing r = AfterChildren.after Star.none (Star.more (one_space r) Star.none)
+tail_spaced after_block (Tail.items d) r = tail_after d
 
 tail_line : (has : Bool) {t : Text} → Tail (last_place has) t → (r : Text) → PlaceText (last_place has) (t ++ (10 ∷ r)) (10 ∷ r)
 tail_line false Tail.nothing r = BeforeChildren.before Star.none (AfterChildren.after Star.none Star.none)
 tail_line false (Tail.items d) r = tail_before_line d
 tail_line true Tail.nothing r = AfterChildren.after Star.none Star.none
-tail_line true (Tail.items d) r = tail_behind_line d
+tail_line true (Tail.items d) r = tail_after_line d
 
 -- nothing before a newline, or a space and a line comment
 pub data LineEnd : Text → Text → Type 0 where

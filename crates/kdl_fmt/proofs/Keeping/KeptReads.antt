@@ -9,7 +9,7 @@ use Rattle.kdl_text.specs.Chars.Space.{space as a_space}
 use Rattle.kdl_text.specs.Trivia.{LineComment}
 use Rattle.kdl_entry.specs.Places.{between}
 use Rattle.kdl_entry.specs.Tree.{EntryFormat}
-use Rattle.kdl_comments.specs.Items.{Item, line_end, SpaceItems, LineSpaceItems, GapItems, Place, before_entry, before_block, behind_block, may_end, spaced, PlaceItems}
+use Rattle.kdl_comments.specs.Items.{Item, line_end, SpaceItems, LineSpaceItems, GapItems, Place, before_entry, before_block, after_block, may_end, spaced, PlaceItems}
 use Rattle.kdl_comments.specs.Written.{lines, tail}
 use Rattle.kdl_comments.proofs.Listing.SpaceItems.{place_end}
 use Rattle.kdl_fmt.specs.Kept.{Written, WrittenUnless, KeptLines, KeptTail, WrittenEnd, KeptEnd, KeptBefore, is_kept_format}
@@ -31,8 +31,8 @@ kept_nothing true has write t e h x = absurd cc
 kept_nothing false has write t e h x = subst (Written has write) (sym x) (Written.none h)
 
 -- they are written after an empty text
-pub written_behind : (write : List Item → Text) (t u : Text) (is js : List Item) → t ≡ u ++ write js → u ≡ [] → js ≡ is → t ≡ write is
-written_behind write t u is js e x y = e ∙ ap (λ (z : Text). z ++ write js) x ∙ ap write y
+pub written_after : (write : List Item → Text) (t u : Text) (is js : List Item) → t ≡ u ++ write js → u ≡ [] → js ≡ is → t ≡ write is
+written_after write t u is js e x y = e ∙ ap (λ (z : Text). z ++ write js) x ∙ ap write y
 
 -- of the text before an entry that keeps its form, and of one that has no format
 pub kept_flagged : (s : Settings) (f : Option EntryFormat) (t : Text) → is_kept_format f ≡ true → t ≡ [] → KeptBefore s f t
@@ -78,7 +78,7 @@ begins_blank c s e = SpaceItems.space (a_space (subst (λ (d : ℕ). is_space d 
 spaced_ends : (p : Place) → may_end (spaced true p) ≡ true
 spaced_ends (before_entry b) = refl
 spaced_ends before_block = refl
-spaced_ends behind_block = refl
+spaced_ends after_block = refl
 
 blank_place : (p : Place) (c : ℕ) (s : Text) → is_blank (c ∷ s) ≡ true → PlaceItems p (c ∷ s) []
 blank_place p c [] h =
@@ -92,7 +92,7 @@ pub blank_tail : (b : Bool) (p : Place) (s t : Text) → b ≡ false → is_blan
 blank_tail b (before_entry true) [] t e h x = kept_items b (PlaceItems (before_entry true) []) tail [] t e (PlaceItems.ends refl) x
 blank_tail b (before_entry false) [] t e h x = kept_nothing b (PlaceItems (before_entry false) []) tail t e no_place x
 blank_tail b before_block [] t e h x = kept_items b (PlaceItems before_block []) tail [] t e (PlaceItems.ends refl) x
-blank_tail b behind_block [] t e h x = kept_items b (PlaceItems behind_block []) tail [] t e (PlaceItems.ends refl) x
+blank_tail b after_block [] t e h x = kept_items b (PlaceItems after_block []) tail [] t e (PlaceItems.ends refl) x
 blank_tail b p (c ∷ s) t e h x = kept_items b (PlaceItems p (c ∷ s)) tail [] t e (blank_place p c s h) x
 
 -- nor has one of spaces and newlines between nodes

@@ -10,7 +10,7 @@ use Rattle.kdl_fmt.specs.Comments.{ItemsIn, EndItems, EntriesItems, NodeItems, o
 use Rattle.kdl_fmt.specs.Config.{Settings, indentation}
 use Rattle.kdl_fmt.specs.Formatted.{with_keep_if, or_empty, or_empty_document, EntriesKeepNone, NodeKeepsNone, ChildrenKeepNone, DocumentKeepsNone, NodesKeepNone}
 use Rattle.kdl_fmt.specs.Kept.{Written, WrittenUnless, KeptEnd, WrittenEnd, KeptBefore, KeptBeforeBlock, last_place, without_bom, entry_leading, is_kept_format}
-use Rattle.kdl_fmt.specs.WithComments.{behind, IsFormattedEntry, AreFormattedEntries, ContentTexts, has_block, IsFormattedNode, IsFormattedChildren, AreFormattedNodes, IsFormattedDocument}
+use Rattle.kdl_fmt.specs.WithComments.{following, IsFormattedEntry, AreFormattedEntries, ContentTexts, has_block, IsFormattedNode, IsFormattedChildren, AreFormattedNodes, IsFormattedDocument}
 
 written_in : {Has : List Item → Type 0} {write : List Item → Text} {t : Text} → Written Has write t → (is : List Item) × ItemsIn Has is
 written_in (Written.items {is = is} d) = (is, ItemsIn.items d)
@@ -28,8 +28,8 @@ kept_end false h end _ _ (WrittenEnd.other f) = ([], EndItems.other f)
 module _ (s : Settings) (no_keep : s.entry_autoformate_keep ≡ false) (with : s.no_comments ≡ false) where
   entry_has : (e e' : Entry) → IsFormattedEntry s e e' → is_kept_format e.format ≡ false → (is : List Item) × ItemsIn (PlaceItems (before_entry false) (entry_leading e.format)) is
   entry_has e e' f h =
-      let g : (t : Text) × KeptBefore s e.format t × (e' ≡ behind t (autoformatted e))
-      = subst (λ (b : Bool). (t : Text) × KeptBefore s (with_keep_if b e).format t × (e' ≡ behind t (autoformatted (with_keep_if b e)))) no_keep f in
+      let g : (t : Text) × KeptBefore s e.format t × (e' ≡ following t (autoformatted e))
+      = subst (λ (b : Bool). (t : Text) × KeptBefore s (with_keep_if b e).format t × (e' ≡ following t (autoformatted (with_keep_if b e)))) no_keep f in
       kept_in s.no_comments with (PlaceItems (before_entry false) (entry_leading e.format)) tail g.0
       (subst (λ (b : Bool). WrittenUnless (b || s.no_comments) (PlaceItems (before_entry false) (entry_leading e.format)) tail g.0) h g.1)
 
@@ -54,7 +54,7 @@ module _ (s : Settings) (no_keep : s.entry_autoformate_keep ≡ false) (with : s
         let x = children_have level g.before_children t.before_block k k' c kept.before_block m.1 in
         let d = kept_in s.no_comments with (PlaceItems (last_place (has_block k)) g.before_terminator) tail t.last kept.last in
         let e = kept_end s.no_comments with g.terminator t.space t.comment kept.end in
-        let z = kept_in s.no_comments with (GapItems g.trailing) (lines (indentation s level)) t.behind kept.behind in
+        let z = kept_in s.no_comments with (GapItems g.trailing) (lines (indentation s level)) t.following kept.following in
         (a.0 ++ b.0 ++ x.0 ++ d.0 ++ e.0 ++ z.0, of_node a.1 b.1 x.1 d.1 e.1 z.1)
 
     children_have : (level : ℕ) (place t : Text) (k k' : Children) → IsFormattedChildren s level k k' → KeptBeforeBlock s (has_block k) place t → ChildrenKeepNone k → (is : List Item) × ChildrenItems place k is

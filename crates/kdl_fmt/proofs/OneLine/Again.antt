@@ -97,7 +97,7 @@ if_nothing true = refl
 if_nothing false = refl
 
 abbrev no_texts : NodeTexts
-no_texts = record { before = []; before_block = []; last = []; space = []; comment = []; behind = [] }
+no_texts = record { before = []; before_block = []; last = []; space = []; comment = []; following = [] }
 
 module _ (number : ℕ) (s : Settings) where
   nothing_of : (level : ℕ) (b : Before) (t : Text) → GapItems t [] → (b' : Before) × SpacedLines number s level b t [] b'
@@ -130,18 +130,18 @@ module _ (number : ℕ) (s : Settings) where
     plain_texts b f e q =
         let ind = indentation s level in
         let lead = nothing_of level b ind (spaces_items ind ind_spaces) in
-        let behind = nothing_of level (past_node (10 ∷ [])) [] GapItems.none in
+        let following = nothing_of level (past_node (10 ∷ [])) [] GapItems.none in
         subst (λ (x : NodeFormat). SpacesTexts number s level false b x no_texts) (sym e)
         (record {
           lines = [];
           at_node = lead.0;
-          behind_it = behind.0;
+          after_it = following.0;
           leading = lead.1;
           before = sym (quiet_lines number lead.0 (quiet_lead number s level b lead.0 ind [] ind_spaces lead.1 q));
           before_block = refl;
           last = nothing_before s.no_comments;
           end = nothing_at_end s.no_comments;
-          behind = behind.1;
+          following = following.1;
         })
 
     plain_passes : (h : Head) (k : Children) → h.format ≡ Some (plain_line (indentation s level)) → (b : Before) × PassesNode number s (node h k) b × Quiet number b
@@ -202,7 +202,7 @@ module _ (number : ℕ) (s : Settings) (ok : list_all is_space s.indent ≡ true
   newline_same (first n ns) (first n' ns') = refl
 
   content_as : (level : ℕ) (ns ns' : Nodes) (f : DocumentFormat) (b : Before) (x y : Text) → SpacesContent number s level (one_lined_nodes keep ns ns') f b x y → SpacesContent number s level ns' f b x y
-  content_as level ns ns' f b x y k = record { last = k.last; behind_it = k.behind_it; leading = k.leading; passes = nodes_pass b k.last ns ns' k.passes; trailing = k.trailing }
+  content_as level ns ns' f b x y k = record { last = k.last; after_it = k.after_it; leading = k.leading; passes = nodes_pass b k.last ns ns' k.passes; trailing = k.trailing }
 
   -- a block on one line
   line_as : (level : ℕ) (f : DocumentFormat) (span : SourceSpan) (ns : Nodes) (g' : Option DocumentFormat) (span' : SourceSpan) (ns' : Nodes) (g2 : Option DocumentFormat) (span2 : SourceSpan) (ns2 : Nodes)
@@ -216,10 +216,10 @@ module _ (number : ℕ) (s : Settings) (ok : list_all is_space s.indent ≡ true
       let bare = spaces_without_bom f.leading sides.0 in
       let old_lead = subst (λ (t : Text). SpacedLines number s inner at_start t c.0 b') bare c.2.leading in
       let a0 : c.0 ≡ [] = nothing_kept number s inner at_start b' f.leading c.0 (spaces_items f.leading sides.0) old_lead in
-      let a1 : c.1 ≡ [] = nothing_kept number s inner c.2.last c.2.behind_it f.trailing c.1 (spaces_items f.trailing sides.1) c.2.trailing in
+      let a1 : c.1 ≡ [] = nothing_kept number s inner c.2.last c.2.after_it f.trailing c.1 (spaces_items f.trailing sides.1) c.2.trailing in
       let quiet_old = quiet_lead number s inner at_start b' f.leading c.0 sides.0 old_lead (quiet_start number) in
       let x0 : x ≡ [] = nothing_kept number s inner at_start b2 [] x GapItems.none c2.leading in
-      let y0 : y ≡ [] = nothing_kept number s inner c2.last c2.behind_it [] y GapItems.none c2.trailing in
+      let y0 : y ≡ [] = nothing_kept number s inner c2.last c2.after_it [] y GapItems.none c2.trailing in
       let quiet_new = quiet_lead number s inner at_start b2 [] x refl c2.leading (quiet_start number) in
       let plain = are_plain number s inner b' ns ns' on quiet_old nodes in
       let plain2 = are_plain number s inner b2 (nodes_in_line ns') ns2 (nodes_again number s inner b' ns ns' on nodes) quiet_new (spaced_framed number s inner b2 (nodes_in_line ns') ns2 nodes2) in
@@ -228,12 +228,12 @@ module _ (number : ℕ) (s : Settings) (ok : list_all is_space s.indent ≡ true
       let quiet = quiet_first number s inner (10 ∷ []) [] lead.0 start lead.1 in
       let last = last_plain number s ok inner lead.0 ns' plain in
       let end : GapItems (newline_if_none ns ++ ind) [] = alone (joined (newline_if ns) (indented s ok level)) in
-      let behind = nothing_of number s inner last.0 (newline_if_none ns ++ ind) end in
+      let following = nothing_of number s inner last.0 (newline_if_none ns ++ ind) end in
       let laid : DocumentFormat = record { leading = 10 ∷ []; trailing = newline_if_none ns ++ ind } in
       let is : or_empty_document g' ≡ laid = ap or_empty_document c.3 ∙ rw (a0, a1) refl in
       let content : SpacesContent number s inner ns' (or_empty_document g') lead.0 [] [] =
       subst (λ (z : DocumentFormat). SpacesContent number s inner ns' z lead.0 [] []) (sym is)
-      (record { last = last.0; behind_it = behind.0; leading = lead.1; passes = last.1; trailing = behind.1 }) in
+      (record { last = last.0; after_it = following.0; leading = lead.1; passes = last.1; trailing = following.1 }) in
       let format : g2 ≡ Some (in_braces ind (content_of ns' [] [])) = e2 ∙ rw (x0, y0, same_none number s ns') refl in
       (lead.0, ([], [], content, format), same2, nodes_mid number s ok inner lead.0 b2 ns' ns2 plain plain2 nodes2 quiet, fits2)
 

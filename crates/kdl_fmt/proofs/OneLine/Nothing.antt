@@ -10,7 +10,7 @@ use Rattle.kdl_text.specs.Trivia.{LineComment}
 use Rattle.kdl_text.proofs.Spacing.SpaceUnique.{no_line_comment}
 use Rattle.kdl_entry.specs.Tree.{Identifier}
 use Rattle.kdl_grammar.specs.Tree.{NodeFormat, Head, node, Children, no_children, children, Nodes, none, first}
-use Rattle.kdl_comments.specs.Items.{Item, SpaceItems, LineSpaceItems, GapItems, Place, before_entry, before_block, behind_block, may_end, spaced, PlaceItems}
+use Rattle.kdl_comments.specs.Items.{Item, SpaceItems, LineSpaceItems, GapItems, Place, before_entry, before_block, after_block, may_end, spaced, PlaceItems}
 use Rattle.kdl_comments.specs.Written.{lines, tail}
 use Rattle.kdl_comments.proofs.Listing.ItemsUnique.{gap_items_det, place_items_det}
 use Rattle.kdl_fmt.specs.Blank.{at_start, blank_lines, empty_lines, newlines, one_if, past_items, past_node, read, spaced_lines, after_char, counts}
@@ -53,7 +53,7 @@ spaces_items (c ∷ t) h =
 spaced_ends : (p : Place) → may_end (spaced true p) ≡ true
 spaced_ends (before_entry b) = refl
 spaced_ends before_block = refl
-spaced_ends behind_block = refl
+spaced_ends after_block = refl
 
 pub spaces_place : (p : Place) (c : ℕ) (t : Text) → only_spaces (c ∷ t) ≡ true → PlaceItems p (c ∷ t) []
 spaces_place p c [] h =
@@ -194,8 +194,8 @@ module _ (number : ℕ) (s : Settings) (level : ℕ) where
       let before : k.before ≡ [] = w.before ∙ ap (λ (t : Text). t ++ empty_lines number w.at_node) lines ∙ quiet_lines number w.at_node (quiet_lead number s level b w.at_node f.leading w.lines p.leading w.leading q) in
       let end = nothing_ended s.no_comments f.terminator k.space k.comment (no_comment last f.terminator p.terminator) w.end in
       let last_text : k.last ≡ [] = nothing_tailed s.no_comments before_block f.before_terminator k.last (spaces_in before_block refl f.before_terminator p.before_terminator) w.last in
-      let behind : k.behind ≡ [] = nothing_kept number s level (past_node f.terminator) w.behind_it f.trailing k.behind (spaces_items f.trailing p.trailing) w.behind in
-      rw (before, w.before_block, last_text, end.0, end.1, behind) refl
+      let following : k.following ≡ [] = nothing_kept number s level (past_node f.terminator) w.after_it f.trailing k.following (spaces_items f.trailing p.trailing) w.following in
+      rw (before, w.before_block, last_text, end.0, end.1, following) refl
 
   pub quiet_passes : (last : Bool) (h : Head) (k : Children) (b : Before) → line_on_line last (or_empty h.format) ≡ true → PassesNode number s (node h k) b → Quiet number b
   quiet_passes last h k b e p = go number p

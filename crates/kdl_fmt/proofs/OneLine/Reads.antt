@@ -175,7 +175,7 @@ module _ (number : ℕ) (s : Settings) (ok : list_all is_space s.indent ≡ true
       let k = c.2 in
       subst (λ (g : Option DocumentFormat). DocumentReads (document g span' ms)) (sym c.3)
       (DocumentReads.no_bom (content_with ms (lines_add number s ok level at_start b (without_bom (or_empty_document f).leading) c.0 k.leading) (all_end _ (nodes_read level b ns ns' nodes))
-      (λ r p. rw (append_assoc c.1 (newline_if_none ns) r) (lines_gap s ok number level k.last k.behind_it (or_empty_document f).trailing c.1 k.trailing (empty_gap ns no_gap)))))
+      (λ r p. rw (append_assoc c.1 (newline_if_none ns) r) (lines_gap s ok number level k.last k.after_it (or_empty_document f).trailing c.1 k.trailing (empty_gap ns no_gap)))))
 
   -- so its text is a document with its data
   module _ (no_keep : s.entry_autoformate_keep ≡ false) (spelling : Bool) where

@@ -18,7 +18,7 @@ use Rattle.kdl_fmt.specs.OneLine.{braces_on_line, entry_on_line, form_on_line, i
 use Rattle.kdl_fmt.specs.Plain.{no_newline, only_spaces}
 use Rattle.kdl_fmt.specs.Respelled.{KeptSpelling, IsRespelled, IsRespelledIf, text_before, KeptLeading, TypeTexts, KeptTypeTexts, KeepsForm, KeptForm, IsTypedFormat, entry_type_texts, node_type_texts, HasSpellings, HasSpellingsUnless, IsRespelledEntry, AreRespelledEntries, IsRespelledNode, AreRespelledChildren, IsRespelledDocument, AreRespelledNodes}
 use Rattle.kdl_fmt.specs.Spaced.{SpacedLines, IsSpacedBraced, IsSpacedChildren, IsSpacedContent, IsSpacedDocument, IsSpacedNode, AreSpacedNodes}
-use Rattle.kdl_fmt.specs.WithComments.{AreFormattedEntries, IsFormattedEntry, behind, has_block}
+use Rattle.kdl_fmt.specs.WithComments.{AreFormattedEntries, IsFormattedEntry, following, has_block}
 use Rattle.kdl_fmt.specs.declared.blank.Before.{Before}
 use Rattle.kdl_fmt.proofs.Keeping.KeptReads.{no_place}
 use Rattle.kdl_fmt.proofs.OneLine.Framed.{IsFramedNode, AreFramedChildren, AreFramedNodes, IsFramedDocument}
@@ -112,7 +112,7 @@ module _ (s : Settings) where
       let x = autoformatted (with_keep_if s.entry_autoformate_keep e) in
       let names = laid_names s.entry_autoformate_keep e in
       let laid : maybe_form_on_line x.format ≡ true = laid_format s.entry_autoformate_keep e.format e form in
-      subst (λ (y : Entry). entry_on_line y ≡ true) (sym (q ∙ ap (λ (u : Text). behind u x) empty)) (both_true (both_true names.0 names.1) laid)
+      subst (λ (y : Entry). entry_on_line y ≡ true) (sym (q ∙ ap (λ (u : Text). following u x) empty)) (both_true (both_true names.0 names.1) laid)
 
 -- a name with its spelling, and a key or a type
 name_spelled : (i m i' : Identifier) → IsRespelled true i m i' → name_on_line i ≡ true → name_on_line i' ≡ true

@@ -16,7 +16,7 @@ use Rattle.kdl_fmt.specs.Kept.{Written, WrittenUnless, KeptBefore, is_kept_forma
 use Rattle.kdl_fmt.specs.Plain.{only_spaces}
 use Rattle.kdl_fmt.specs.Respelled.{KeptSpelling, IsRespelled, IsRespelledIf, IsSpelling, text_before, KeptLeading, KeptPlaceIf, TypeTexts, KeptTypeTexts, KeptTypeTextsIf, KeepsForm, KeptForm, entry_type_texts, node_type_texts, with_type_texts, IsTypedFormat, HasSpellings, HasSpellingsUnless, IsRespelledEntry, AreRespelledEntries, IsRespelledHead, IsRespelledNode, AreRespelledChildren, IsRespelledDocument, AreRespelledNodes, IsSpelledNode, IsSpelledDocument}
 use Rattle.kdl_fmt.specs.Spaced.{SpacesContent, IsSpacedLine, IsSpacedHead, PassesNode, PassesFormat, PassesNodes, IsSpacedBraced, IsSpacedNode, IsSpacedChildren, AreSpacedNodes, IsSpacedDocument}
-use Rattle.kdl_fmt.specs.WithComments.{behind, IsFormattedEntry, AreFormattedEntries, content_of, has_block}
+use Rattle.kdl_fmt.specs.WithComments.{following, IsFormattedEntry, AreFormattedEntries, content_of, has_block}
 use Rattle.kdl_fmt.specs.declared.blank.Before.{Before}
 use Rattle.kdl_fmt.proofs.EntryTexts.{no_format}
 use Rattle.kdl_comments.proofs.Rewriting.PlacesAgain.{tail_spaced}
@@ -24,7 +24,7 @@ use Rattle.kdl_fmt.proofs.Formatting.FormattedUnique.{entry_keeps_none, tail_det
 use Rattle.kdl_fmt.proofs.Keeping.KeptReads.{blank_tail, kept_bare}
 use Rattle.kdl_fmt.proofs.Respelling.Leaves.{cleared_same, entry_flag, unspelled_same, unspelled_same_if}
 use Rattle.kdl_fmt.proofs.Respelling.Kept.{OnlySpaces, leading_again, no_texts, place_again_if, place_bare_if, types_again, types_again_if, types_bare_if}
-use Rattle.kdl_fmt.proofs.Respelling.Written.{leading_is, plain_format, behind_format, behind_name, behind_ty, behind_value}
+use Rattle.kdl_fmt.proofs.Respelling.Written.{leading_is, plain_format, after_format, following_name, following_ty, after_value}
 use Rattle.kdl_fmt.proofs.Spacing.Again as spaced
 
 -- an entry that is not flagged has no format once it is laid out, but for what is kept before it
@@ -189,7 +189,7 @@ typed_spaced number s level has b true f m x z (t, k, h) p = go m (subst (λ (y 
     go None p = p
     go (Some g) (k, c, e) = (
       k,
-      record { lines = c.lines; at_node = c.at_node; behind_it = c.behind_it; leading = c.leading; before = c.before; before_block = c.before_block; last = c.last; end = c.end; behind = c.behind },
+      record { lines = c.lines; at_node = c.at_node; after_it = c.after_it; leading = c.leading; before = c.before; before_block = c.before_block; last = c.last; end = c.end; following = c.following },
       e,
     )
 
@@ -208,26 +208,26 @@ module _ (keep : Bool) (s : Settings) (no_keep : s.entry_autoformate_keep ≡ fa
   record Laid (e m : Entry) : Type 0 where
     before : Text
     kept : KeptBefore s e.format before
-    is : m ≡ behind before (autoformatted e)
+    is : m ≡ following before (autoformatted e)
 
   laid : (e m : Entry) → IsFormattedEntry s e m → Laid e m
-  laid e m (t, k, q) = record { before = t; kept = subst (λ (x : Entry). KeptBefore s x.format t) (unflagged e) k; is = q ∙ ap (λ (x : Entry). behind t (autoformatted x)) (unflagged e) }
+  laid e m (t, k, q) = record { before = t; kept = subst (λ (x : Entry). KeptBefore s x.format t) (unflagged e) k; is = q ∙ ap (λ (x : Entry). following t (autoformatted x)) (unflagged e) }
 
   format_is : (e m : Entry) (l : Laid e m) → is_kept_format e.format ≡ false → m.format ≡ plain_format l.before e.value
-  format_is e m l n = ap (λ (x : Entry). x.format) l.is ∙ behind_format l.before (autoformatted e) (no_format e.format n)
+  format_is e m l n = ap (λ (x : Entry). x.format) l.is ∙ after_format l.before (autoformatted e) (no_format e.format n)
 
   value_is : (e m : Entry) (l : Laid e m) → m.value ≡ e.value
-  value_is e m l = ap (λ (x : Entry). x.value) l.is ∙ behind_value l.before (autoformatted e)
+  value_is e m l = ap (λ (x : Entry). x.value) l.is ∙ after_value l.before (autoformatted e)
 
   spellings : (e m x : Entry) (b : Bool) → is_kept_format e.format ≡ false → HasSpellingsUnless (is_kept_format (with_keep_if s.entry_autoformate_keep e).format) s e m x → HasSpellings s e m x
   spellings e m x b n h = subst (λ (z : Bool). HasSpellingsUnless z s e m x) (ap (λ (y : Entry). is_kept_format y.format) (unflagged e) ∙ n) h
 
   -- layout does not look at spellings
-  look : (e z : Entry) → IsFormattedEntry s e z → (u : Text) × KeptBefore s e.format u × (z ≡ behind u (autoformatted e))
-  look e z (u, k, q) = (u, subst (λ (x : Entry). KeptBefore s x.format u) (unflagged e) k, q ∙ ap (λ (x : Entry). behind u (autoformatted x)) (unflagged e))
+  look : (e z : Entry) → IsFormattedEntry s e z → (u : Text) × KeptBefore s e.format u × (z ≡ following u (autoformatted e))
+  look e z (u, k, q) = (u, subst (λ (x : Entry). KeptBefore s x.format u) (unflagged e) k, q ∙ ap (λ (x : Entry). following u (autoformatted x)) (unflagged e))
 
-  looked : (e z : Entry) (u : Text) → KeptBefore s e.format u → z ≡ behind u (autoformatted e) → IsFormattedEntry s e z
-  looked e z u k q = (u, subst (λ (x : Entry). KeptBefore s x.format u) (sym (unflagged e)) k, q ∙ ap (λ (x : Entry). behind u (autoformatted x)) (sym (unflagged e)))
+  looked : (e z : Entry) (u : Text) → KeptBefore s e.format u → z ≡ following u (autoformatted e) → IsFormattedEntry s e z
+  looked e z u k q = (u, subst (λ (x : Entry). KeptBefore s x.format u) (sym (unflagged e)) k, q ∙ ap (λ (x : Entry). following u (autoformatted x)) (sym (unflagged e)))
 
   entry_unlooked : (e m x z : Entry) → IsFormattedEntry s e m → IsRespelledEntry keep s e m x → is_kept_format e.format ≡ false → IsFormattedEntry s x z → IsFormattedEntry s m z
   entry_unlooked e m x z f r n g = go keep r
@@ -243,13 +243,13 @@ module _ (keep : Bool) (s : Settings) (no_keep : s.entry_autoformate_keep ≡ fa
       go true r =
           let (u, k, q) = look x z g in
           let l = laid e m f in
-          looked m z u (before_unlooked s e l.before u e.format m.format x.format n l.kept (format_is e m l n) (spellings e m x true n r).format k) (q ∙ ap (behind u) (auto true r))
+          looked m z u (before_unlooked s e l.before u e.format m.format x.format n l.kept (format_is e m l n) (spellings e m x true n r).format k) (q ∙ ap (following u) (auto true r))
 
   -- what an entry got back it gets back again
   spelled_again : (e m x y : Entry) (l : Laid e m) → is_kept_format e.format ≡ false → HasSpellings s e m x → HasSpellings s x m y → y ≡ x
   spelled_again e m x y l n a b =
-      let ty = name_again_if true e.ty m.ty x.ty y.ty (ap (λ (z : Entry). z.ty) l.is ∙ behind_ty l.before (autoformatted e)) a.ty b.ty in
-      let name = name_again_if true e.name m.name x.name y.name (ap (λ (z : Entry). z.name) l.is ∙ behind_name l.before (autoformatted e)) a.name b.name in
+      let ty = name_again_if true e.ty m.ty x.ty y.ty (ap (λ (z : Entry). z.ty) l.is ∙ following_ty l.before (autoformatted e)) a.ty b.ty in
+      let name = name_again_if true e.name m.name x.name y.name (ap (λ (z : Entry). z.name) l.is ∙ following_name l.before (autoformatted e)) a.name b.name in
       let like : IsLike e x = record { value = a.value ∙ value_is e m l; ty = some_again true e.ty m.ty x.ty a.ty; name = some_again true e.name m.name x.name a.name } in
       let format = format_again s e x l.before e.format m.format x.format y.format like (format_is e m l n) a.format b.format in
       let value = b.value ∙ sym a.value in
@@ -320,7 +320,7 @@ module _ (keep : Bool) (s : Settings) (no_keep : s.entry_autoformate_keep ≡ fa
     nodes_pass b e (first n (first q ns)) (first m (first o ms)) (first x (first y xs)) r p = nodes_pass b e (first q ns) (first o ms) (first y xs) r.1 p
 
     content_unlooked : (level : ℕ) (ns ms xs : Nodes) (f : DocumentFormat) (b : Before) (u w : Text) → AreRespelledNodes keep s ns ms xs → SpacesContent number s level xs f b u w → SpacesContent number s level ms f b u w
-    content_unlooked level ns ms xs f b u w r c = record { last = c.last; behind_it = c.behind_it; leading = c.leading; passes = nodes_pass b c.last ns ms xs r c.passes; trailing = c.trailing }
+    content_unlooked level ns ms xs f b u w r c = record { last = c.last; after_it = c.after_it; leading = c.leading; passes = nodes_pass b c.last ns ms xs r c.passes; trailing = c.trailing }
 
     same_content : (ns ms xs : Nodes) (u w : Text) → AreRespelledNodes keep s ns ms xs → content_of xs u w ≡ content_of ms u w
     same_content ns ms xs u w r = ap (λ (t : Text). record { leading = u; trailing = w ++ t }) (same_newline ns ms xs r)

@@ -10,9 +10,9 @@ use Rattle.kdl_fmt.specs.Config.{Settings}
 use Rattle.kdl_fmt.specs.Formatted.{with_keep_if}
 use Rattle.kdl_fmt.specs.Kept.{is_kept_format}
 use Rattle.kdl_fmt.specs.Respelled.{KeptSpelling, IsRespelledIf, text_before, KeepsForm, KeptForm, HasSpellings, HasSpellingsUnless, IsRespelledEntry, IsSpelledEntry}
-use Rattle.kdl_fmt.specs.WithComments.{behind, put_format}
+use Rattle.kdl_fmt.specs.WithComments.{following, put_format}
 use Rattle.kdl_fmt.proofs.EntryTexts.{no_format}
-use Rattle.kdl_fmt.proofs.Respelling.Written.{plain_format, leading_is, behind_name, behind_ty, behind_value, behind_format, unflagged_same}
+use Rattle.kdl_fmt.proofs.Respelling.Written.{plain_format, leading_is, following_name, following_ty, after_value, after_format, unflagged_same}
 use Rattle.kdl_fmt.proofs.Respelling.Leaves.{entry_stays}
 
 -- whether the spelling of a name is kept
@@ -43,9 +43,9 @@ put_span : (o : Option EntryFormat) (e : Entry) → (put_format o e).span ≡ e.
 put_span None e = refl
 put_span (Some f) e = refl
 
-behind_span : (t : Text) (e : Entry) → (behind t e).span ≡ e.span
-behind_span [] e = refl
-behind_span (c ∷ t) e = refl
+after_span : (t : Text) (e : Entry) → (following t e).span ≡ e.span
+after_span [] e = refl
+after_span (c ∷ t) e = refl
 
 -- an entry whose spelling was taken out
 pub taken_same : (key ty : Bool) (e : Entry) → is_kept_format e.format ≡ false → autoformatted_but key ty (record e { format = option_map without_value e.format }) ≡ autoformatted_but key ty e
@@ -57,21 +57,21 @@ taken_same key ty e n = ap (λ (o : Option EntryFormat). record (autoformatted_b
 
 module _ (s : Settings) (e : Entry) (t : Text) (key ty : Bool) (unflagged : is_kept_format e.format ≡ false) where
   abbrev mid : Entry
-  mid = behind t (autoformatted e)
+  mid = following t (autoformatted e)
 
   mid_format : mid.format ≡ plain_format t e.value
-  mid_format = behind_format t (autoformatted e) (no_format e.format unflagged)
+  mid_format = after_format t (autoformatted e) (no_format e.format unflagged)
 
   pub spelled_entry : (y e' : Entry) (o : Option EntryFormat) → Keeps true e.name key → Keeps true e.ty ty → y ≡ autoformatted_but key ty e → e' ≡ put_format o y → KeptForm s e e.format mid.format e'.format → HasSpellings s e mid e'
   spelled_entry y e' o k h a b v =
       let name : e'.name ≡ unspelled_if key e.name = ap (λ (x : Entry). x.name) b ∙ put_name o y ∙ ap (λ (x : Entry). x.name) a in
       let type : e'.ty ≡ unspelled_if ty e.ty = ap (λ (x : Entry). x.ty) b ∙ put_ty o y ∙ ap (λ (x : Entry). x.ty) a in
       record {
-        ty = subst (λ (z : Option Identifier). IsRespelledIf true e.ty z e'.ty) (sym (behind_ty t (autoformatted e))) (subst (λ (z : Option Identifier). IsRespelledIf true e.ty (option_map unspelled e.ty) z) (sym type) h);
-        name = subst (λ (z : Option Identifier). IsRespelledIf true e.name z e'.name) (sym (behind_name t (autoformatted e))) (subst (λ (z : Option Identifier). IsRespelledIf true e.name (option_map unspelled e.name) z) (sym name) k);
+        ty = subst (λ (z : Option Identifier). IsRespelledIf true e.ty z e'.ty) (sym (following_ty t (autoformatted e))) (subst (λ (z : Option Identifier). IsRespelledIf true e.ty (option_map unspelled e.ty) z) (sym type) h);
+        name = subst (λ (z : Option Identifier). IsRespelledIf true e.name z e'.name) (sym (following_name t (autoformatted e))) (subst (λ (z : Option Identifier). IsRespelledIf true e.name (option_map unspelled e.name) z) (sym name) k);
         format = v;
-        value = ap (λ (x : Entry). x.value) b ∙ put_value o y ∙ ap (λ (x : Entry). x.value) a ∙ sym (behind_value t (autoformatted e));
-        span = ap (λ (x : Entry). x.span) b ∙ put_span o y ∙ ap (λ (x : Entry). x.span) a ∙ sym (behind_span t (autoformatted e));
+        value = ap (λ (x : Entry). x.value) b ∙ put_value o y ∙ ap (λ (x : Entry). x.value) a ∙ sym (after_value t (autoformatted e));
+        span = ap (λ (x : Entry). x.span) b ∙ put_span o y ∙ ap (λ (x : Entry). x.span) a ∙ sym (after_span t (autoformatted e));
       }
 
   -- with its spelling
@@ -101,10 +101,10 @@ module _ (s : Settings) (e : Entry) (t : Text) (key ty : Bool) (unflagged : is_k
   other_form None q m h c = subst (λ (z : Option EntryFormat). KeptForm s e None m z) (sym c) KeptForm.formless
   other_form (Some f) q m h c = subst (λ (z : Option EntryFormat). KeptForm s e (Some f) m z) (sym c) (KeptForm.other h)
 
-  pub respelled_form : (y e' : Entry) (o : Option EntryFormat) → HasSpelling e.value e.format false → y ≡ autoformatted_but key ty e → e' ≡ put_format o y → put_format o y ≡ behind t y → KeptForm s e e.format mid.format e'.format
+  pub respelled_form : (y e' : Entry) (o : Option EntryFormat) → HasSpelling e.value e.format false → y ≡ autoformatted_but key ty e → e' ≡ put_format o y → put_format o y ≡ following t y → KeptForm s e e.format mid.format e'.format
   respelled_form y e' o h a c d =
       other_form e.format e'.format mid.format h
-      (ap (λ (x : Entry). x.format) (c ∙ d) ∙ behind_format t y (but_format y a) ∙ ap (λ (x : Entry). plain_format t x.value) a ∙ sym mid_format)
+      (ap (λ (x : Entry). x.format) (c ∙ d) ∙ after_format t y (but_format y a) ∙ ap (λ (x : Entry). plain_format t x.value) a ∙ sym mid_format)
 
 -- an entry that was flagged or not, and laid out with its spellings
 spelled_there : (s : Settings) (e m e' : Entry) → is_kept_format (with_keep_if s.entry_autoformate_keep e).format ≡ false → HasSpellings s (with_keep_if s.entry_autoformate_keep e) m e' → IsRespelledEntry true s e m e'

@@ -21,7 +21,7 @@ use Rattle.kdl_fmt.specs.Kept.{KeptBefore, entry_leading, is_kept_format}
 use Rattle.kdl_fmt.specs.Respelled.{IsSpelling, KeptSpelling, IsRespelled, IsRespelledIf, text_before, IsContinued, KeptLeading, TypeTexts, KeptTypeTextsIf, KeepsForm, KeptForm, entry_type_texts, node_type_texts, with_type_texts, IsTypedFormat, HasSpellings, HasSpellingsUnless, IsRespelledEntry, AreRespelledEntries, IsRespelledNode, AreRespelledChildren, IsRespelledDocument, AreRespelledNodes}
 use Rattle.kdl_fmt.specs.Spaced.{SpacesTexts, IsSpacedLine, IsSpacedNode, IsSpacedChildren, AreSpacedNodes, IsSpacedBraced, IsSpacedContent, IsSpacedDocument}
 use Rattle.kdl_fmt.specs.WellFormed.{AreScalars, IsWellFormedEntry, AreWellFormedEntries, IsWellFormedNode, AreWellFormedChildren, AreWellFormed}
-use Rattle.kdl_fmt.specs.WithComments.{NodeTexts, behind, IsFormattedEntry, AreFormattedEntries, has_block, line_of}
+use Rattle.kdl_fmt.specs.WithComments.{NodeTexts, following, IsFormattedEntry, AreFormattedEntries, has_block, line_of}
 use Rattle.kdl_fmt.specs.declared.blank.Before.{Before}
 use Rattle.kdl_fmt.proofs.EntryTexts.{name_of, no_format}
 use Rattle.kdl_fmt.proofs.Respelling.Kept.{OnlySpaces, TypeSpaces, bare_types, no_texts, no_type_spaces, place_if_spaces, type_spaces, type_spaces_if}
@@ -243,35 +243,35 @@ entry_written s e e' t k name ty untyped v n w = record {
 }
 
 -- the parts of an entry after a text
-pub behind_name : (t : Text) (e : Entry) → (behind t e).name ≡ e.name
-behind_name [] e = refl
-behind_name (c ∷ t) e = refl
+pub following_name : (t : Text) (e : Entry) → (following t e).name ≡ e.name
+following_name [] e = refl
+following_name (c ∷ t) e = refl
 
-pub behind_ty : (t : Text) (e : Entry) → (behind t e).ty ≡ e.ty
-behind_ty [] e = refl
-behind_ty (c ∷ t) e = refl
+pub following_ty : (t : Text) (e : Entry) → (following t e).ty ≡ e.ty
+following_ty [] e = refl
+following_ty (c ∷ t) e = refl
 
-pub behind_value : (t : Text) (e : Entry) → (behind t e).value ≡ e.value
-behind_value [] e = refl
-behind_value (c ∷ t) e = refl
+pub after_value : (t : Text) (e : Entry) → (following t e).value ≡ e.value
+after_value [] e = refl
+after_value (c ∷ t) e = refl
 
-pub behind_format : (t : Text) (e : Entry) → e.format ≡ None → (behind t e).format ≡ plain_format t e.value
-behind_format [] e h = h
-behind_format (c ∷ t) e h = refl
+pub after_format : (t : Text) (e : Entry) → e.format ≡ None → (following t e).format ≡ plain_format t e.value
+after_format [] e h = h
+after_format (c ∷ t) e h = refl
 
 -- an entry that keeps its spellings
-module _ (s : Settings) (e m : Entry) (t : Text) (k : KeptBefore s e.format t) (is : m ≡ behind t (autoformatted e)) (n : is_kept_format e.format ≡ false) (w : IsWellFormedEntry (entry_data e)) where
+module _ (s : Settings) (e m : Entry) (t : Text) (k : KeptBefore s e.format t) (is : m ≡ following t (autoformatted e)) (n : is_kept_format e.format ≡ false) (w : IsWellFormedEntry (entry_data e)) where
   name_is : m.name ≡ option_map unspelled e.name
-  name_is = ap (λ (x : Entry). x.name) is ∙ behind_name t (autoformatted e)
+  name_is = ap (λ (x : Entry). x.name) is ∙ following_name t (autoformatted e)
 
   ty_is : m.ty ≡ option_map unspelled e.ty
-  ty_is = ap (λ (x : Entry). x.ty) is ∙ behind_ty t (autoformatted e)
+  ty_is = ap (λ (x : Entry). x.ty) is ∙ following_ty t (autoformatted e)
 
   value_is : m.value ≡ e.value
-  value_is = ap (λ (x : Entry). x.value) is ∙ behind_value t (autoformatted e)
+  value_is = ap (λ (x : Entry). x.value) is ∙ after_value t (autoformatted e)
 
   format_is : m.format ≡ plain_format t e.value
-  format_is = ap (λ (x : Entry). x.format) is ∙ behind_format t (autoformatted e) (no_format e.format n)
+  format_is = ap (λ (x : Entry). x.format) is ∙ after_format t (autoformatted e) (no_format e.format n)
 
   spelled_written : (e' : Entry) → HasSpellings s e m e' → IsWrittenEntry s e e'
   spelled_written e' h =
@@ -305,15 +305,15 @@ pub written_entry : (s : Settings) (keep : Bool) (e m e' : Entry) → IsFormatte
 written_entry s keep e m e' (t, k, q) h n w =
     let same = unflagged_same s.entry_autoformate_keep e n in
     let k' : KeptBefore s e.format t = subst (λ (x : Entry). KeptBefore s x.format t) same k in
-    let q' : m ≡ behind t (autoformatted e) = q ∙ ap (λ (x : Entry). behind t (autoformatted x)) same in
+    let q' : m ≡ following t (autoformatted e) = q ∙ ap (λ (x : Entry). following t (autoformatted x)) same in
     let n' : is_kept_format e.format ≡ false = ap (λ (x : Entry). is_kept_format x.format) (sym same) ∙ n in
     go keep k' q' n' h
   where
-    spelled : (b : Bool) → b ≡ false → (t : Text) → KeptBefore s e.format t → m ≡ behind t (autoformatted e) → is_kept_format e.format ≡ false → HasSpellingsUnless b s e m e' → IsWrittenEntry s e e'
+    spelled : (b : Bool) → b ≡ false → (t : Text) → KeptBefore s e.format t → m ≡ following t (autoformatted e) → is_kept_format e.format ≡ false → HasSpellingsUnless b s e m e' → IsWrittenEntry s e e'
     spelled true x t k q n h = absurd cc
     spelled false x t k q n h = spelled_written s e m t k q n w e' h
 
-    go : (keep : Bool) → KeptBefore s e.format t → m ≡ behind t (autoformatted e) → is_kept_format e.format ≡ false → IsRespelledEntry keep s e m e' → IsWrittenEntry s e e'
+    go : (keep : Bool) → KeptBefore s e.format t → m ≡ following t (autoformatted e) → is_kept_format e.format ≡ false → IsRespelledEntry keep s e m e' → IsWrittenEntry s e e'
     go false k q x h = respelled_written s e m t k q x w e' h
     go true k q x h = spelled (is_kept_format (with_keep_if s.entry_autoformate_keep e).format) n t k q x h
 

@@ -138,15 +138,15 @@ module _ (n : ℕ) (s : Settings) (ok : list_all is_space s.indent ≡ true) whe
       ∙ ap (λ (t : Text). w.lines ++ t) (lines_again (suc n) w.at_node ind (spaces_none level)) ∙ sym w.before
 
   node_known : (level : ℕ) (has : Bool) (b : Before) (f : NodeFormat) (k : NodeTexts) (w : SpacesTexts (suc n) s level has b f k)
-      → Known s.no_comments (suc n) (indentation s level) (past_node f.terminator) w.behind_it k.behind []
-  node_known level has b f k w = known (suc n) s ok level (past_node f.terminator) w.behind_it f.trailing k.behind w.behind [] GapItems.none
+      → Known s.no_comments (suc n) (indentation s level) (past_node f.terminator) w.after_it k.following []
+  node_known level has b f k w = known (suc n) s ok level (past_node f.terminator) w.after_it f.trailing k.following w.following [] GapItems.none
 
-  behind_stays : (level : ℕ) (has : Bool) (b : Before) (f : NodeFormat) (k l : NodeTexts) (w : SpacesTexts (suc n) s level has b f k) → SpacesTexts (suc n) s level has (again b) (line_of (indentation s level) k) l
-      → l.behind ≡ k.behind
-  behind_stays level has b f k l w v =
-      (stay (suc n) s ok level (past_node f.terminator) w.behind_it v.behind_it k.behind [] l.behind (node_known level has b f k w)
-      (subst (λ (t : Text). Spaces (suc n) s level (Thing 0 1 Other) t l.behind v.behind_it) (sym (append-nil k.behind))
-      (subst (λ (c : Before). Spaces (suc n) s level c k.behind l.behind v.behind_it) (line_ended k.comment) v.behind))).0
+  after_stays : (level : ℕ) (has : Bool) (b : Before) (f : NodeFormat) (k l : NodeTexts) (w : SpacesTexts (suc n) s level has b f k) → SpacesTexts (suc n) s level has (again b) (line_of (indentation s level) k) l
+      → l.following ≡ k.following
+  after_stays level has b f k l w v =
+      (stay (suc n) s ok level (past_node f.terminator) w.after_it v.after_it k.following [] l.following (node_known level has b f k w)
+      (subst (λ (t : Text). Spaces (suc n) s level (Thing 0 1 Other) t l.following v.after_it) (sym (append-nil k.following))
+      (subst (λ (c : Before). Spaces (suc n) s level c k.following l.following v.after_it) (line_ended k.comment) v.following))).0
 
   texts_stay : (level : ℕ) (has : Bool) (b : Before) (f : NodeFormat) (k l : NodeTexts) → SpacesTexts (suc n) s level has b f k → SpacesTexts (suc n) s level has (again b) (line_of (indentation s level) k) l
       → line_of (indentation s level) l ≡ line_of (indentation s level) k
@@ -158,7 +158,7 @@ module _ (n : ℕ) (s : Settings) (ok : list_all is_space s.indent ≡ true) whe
         kept.last_stays s has f.before_terminator k.last l.last f.terminator k.space k.comment a.end a.last c.last,
         e.0,
         e.1,
-        behind_stays level has b f k l a c,
+        after_stays level has b f k l a c,
       ) refl
 
   line_stays : (level : ℕ) (has : Bool) (b : Before) (f : NodeFormat) (g h : Option NodeFormat) → IsSpacedLine (suc n) s level has b f g → IsSpacedLine (suc n) s level has (again b) (or_empty g) h → h ≡ g
@@ -170,12 +170,12 @@ module _ (n : ℕ) (s : Settings) (ok : list_all is_space s.indent ≡ true) whe
   format_passes : (level : ℕ) (has : Bool) (b p q : Before) (f : NodeFormat) (g : Option NodeFormat) → IsSpacedLine (suc n) s level has b f g → Passes s.no_comments (past_node f.terminator) f.trailing p
       → Passes s.no_comments (past_node (or_empty g).terminator) (or_empty g).trailing q → q ≡ again p
   format_passes level has b p q f g (k, w, e) x y =
-      let same : w.behind_it ≡ p = pass_det x (spaces_pass w.behind) in
-      let z : Passes s.no_comments (past_node (k.comment ++ (10 ∷ []))) k.behind q =
+      let same : w.after_it ≡ p = pass_det x (spaces_pass w.following) in
+      let z : Passes s.no_comments (past_node (k.comment ++ (10 ∷ []))) k.following q =
       subst (λ (o : Option NodeFormat). Passes s.no_comments (past_node (or_empty o).terminator) (or_empty o).trailing q) e y in
-      let z' : Passes s.no_comments (Thing 0 1 Other) (k.behind ++ []) q =
-      subst (λ (t : Text). Passes s.no_comments (Thing 0 1 Other) t q) (sym (append-nil k.behind)) (subst (λ (c : Before). Passes s.no_comments c k.behind q) (line_ended k.comment) z) in
-      pass_stays (suc n) s ok level (past_node f.terminator) w.behind_it q k.behind [] (node_known level has b f k w) z' ∙ read_nothing (again w.behind_it) ∙ ap again same
+      let z' : Passes s.no_comments (Thing 0 1 Other) (k.following ++ []) q =
+      subst (λ (t : Text). Passes s.no_comments (Thing 0 1 Other) t q) (sym (append-nil k.following)) (subst (λ (c : Before). Passes s.no_comments c k.following q) (line_ended k.comment) z) in
+      pass_stays (suc n) s ok level (past_node f.terminator) w.after_it q k.following [] (node_known level has b f k w) z' ∙ read_nothing (again w.after_it) ∙ ap again same
 
   node_passes : (level : ℕ) (b p q : Before) (m m' : Node) → IsSpacedNode (suc n) s level b m m' → PassesNode (suc n) s m p → PassesNode (suc n) s m' q → q ≡ again p
   node_passes level b p q (node h k) (node h' k') f x y = format_passes level (has_block k) b p q (or_empty h.format) h'.format f.0.format x y
@@ -225,7 +225,7 @@ module _ (n : ℕ) (s : Settings) (ok : list_all is_space s.indent ≡ true) whe
       let v = z.2 in
       let l = leading_stays level b c (without_bom f.leading) x z.0 w.leading v.leading in
       let last = nodes_pass level b w.last v.last ns ns' nodes w.passes (subst (λ (d : Before). PassesNodes (suc n) s d ns' v.last) l.1 v.passes) in
-      let t = trailing_stays level w.last v.last w.behind_it v.behind_it f.trailing y z.1 (newline_if_none ns) w.trailing (alone (newline_if ns)) last v.trailing in
+      let t = trailing_stays level w.last v.last w.after_it v.after_it f.trailing y z.1 (newline_if_none ns) w.trailing (alone (newline_if ns)) last v.trailing in
       (l.1, z.3 ∙ rw (l.0, t, same_end level b ns ns' nodes) refl ∙ sym e)
 
   braced_stays : (level : ℕ) (b c : Before) (ns ns' : Nodes) (f : DocumentFormat) (g h : Option DocumentFormat) → AreSpacedNodes (suc n) s (level + 1) b ns ns'
@@ -236,8 +236,8 @@ module _ (n : ℕ) (s : Settings) (ok : list_all is_space s.indent ≡ true) whe
       let ind = indentation s level in
       let l = stay_first (suc n) s ok (level + 1) b c x z.0 (known (suc n) s ok (level + 1) at_start b (without_bom f.leading) x w.leading [] GapItems.none) v.leading in
       let last = nodes_pass (level + 1) b w.last v.last ns ns' nodes w.passes (subst (λ (d : Before). PassesNodes (suc n) s d ns' v.last) l.1 v.passes) in
-      let t = trailing_stays (level + 1) w.last v.last w.behind_it v.behind_it f.trailing y z.1 (newline_if_none ns ++ ind) w.trailing (alone (joined (newline_if ns) (indented s ok level))) last
-      (subst (λ (q : Text). Spaces (suc n) s (level + 1) v.last q z.1 v.behind_it) (append_assoc y (newline_if_none ns) ind) v.trailing) in
+      let t = trailing_stays (level + 1) w.last v.last w.after_it v.after_it f.trailing y z.1 (newline_if_none ns ++ ind) w.trailing (alone (joined (newline_if ns) (indented s ok level))) last
+      (subst (λ (q : Text). Spaces (suc n) s (level + 1) v.last q z.1 v.after_it) (append_assoc y (newline_if_none ns) ind) v.trailing) in
       (l.1, z.3 ∙ rw (l.0, t, same_end (level + 1) b ns ns' nodes) refl ∙ sym e)
 
   module _ (keep : s.entry_autoformate_keep ≡ false) where

@@ -234,11 +234,11 @@ module _ (number : ℕ) (ind : Text) (ok : list_all is_space ind ≡ true) where
       let rest = 10 ∷ (more ++ r) in
       let text = e ++ (ind ++ (l ++ rest)) in
       let js = map on_line is in
-      let behind : Before = past_item false (on_line i) (read text (again b)) in
+      let following : Before = past_item false (on_line i) (read text (again b)) in
       ap (λ (t : Text). spaced_lines number ind (again b) t (on_line i ∷ js)) (line_joined e ind l more r)
-      ∙ ap (λ (t : Text). (t ++ ind ++ line_text (item_text (on_line i)) ++ (10 ∷ [])) ++ spaced_lines number ind behind (after_item (on_line i) text) js) (read_again b s l slash.0 rest slash.1)
-      ∙ ap (λ (t : Text). (e ++ ind ++ t ++ (10 ∷ [])) ++ spaced_lines number ind behind (after_item (on_line i) text) js) (same_text i)
-      ∙ ap (λ (t : Text). (e ++ ind ++ l ++ (10 ∷ [])) ++ spaced_lines number ind behind t js) (after_line i (read s b) slash.0 rest slash.1)
+      ∙ ap (λ (t : Text). (t ++ ind ++ line_text (item_text (on_line i)) ++ (10 ∷ [])) ++ spaced_lines number ind following (after_item (on_line i) text) js) (read_again b s l slash.0 rest slash.1)
+      ∙ ap (λ (t : Text). (e ++ ind ++ t ++ (10 ∷ [])) ++ spaced_lines number ind following (after_item (on_line i) text) js) (same_text i)
+      ∙ ap (λ (t : Text). (e ++ ind ++ l ++ (10 ∷ [])) ++ spaced_lines number ind following t js) (after_line i (read s b) slash.0 rest slash.1)
       ∙ ap (λ (c : Before). (e ++ ind ++ l ++ (10 ∷ [])) ++ spaced_lines number ind c rest js) (line_state i b (read s b) l slash.0 rest slash.1)
       ∙ ap (λ (t : Text). (e ++ ind ++ l ++ (10 ∷ [])) ++ t) (spaced_line number ind (more ++ r) js ∙ all_again next (after_item i s) is a.1 r)
 

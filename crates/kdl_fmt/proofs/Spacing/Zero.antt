@@ -21,20 +21,20 @@ module _ (s : Settings) where
     before_block = w.before_block;
     last = w.last;
     end = w.end;
-    behind = w.behind;
+    following = w.following;
   }
 
   texts_spaced : (level : ℕ) (has : Bool) (b : Before) (f : NodeFormat) (k : NodeTexts) → KeepsTexts s level has f k → SpacesTexts 0 s level has b f k
   texts_spaced level has b f k w = record {
     lines = k.before;
     at_node = at_start;
-    behind_it = at_start;
+    after_it = at_start;
     leading = w.before;
     before = sym (append-nil k.before);
     before_block = w.before_block;
     last = w.last;
     end = w.end;
-    behind = w.behind;
+    following = w.following;
   }
 
   head_formatted : (level : ℕ) (has : Bool) (b : Before) (h h' : Head) → IsSpacedHead 0 s level has b h h' → IsFormattedHead s level has h h'
@@ -47,8 +47,8 @@ module _ (s : Settings) where
       let l = f.format in
       record { ty = f.ty; name = f.name; entries = f.entries; format = (l.0, texts_spaced level has b (or_empty h.format) l.0 l.1, l.2); span = f.span }
 
-  content_formatted : (level : ℕ) (ns : Nodes) (f : DocumentFormat) (b : Before) (before behind : Text) → SpacesContent 0 s level ns f b before behind → ContentTexts s level f before behind
-  content_formatted level ns f b before behind w = record { leading = w.leading; trailing = w.trailing }
+  content_formatted : (level : ℕ) (ns : Nodes) (f : DocumentFormat) (b : Before) (before following : Text) → SpacesContent 0 s level ns f b before following → ContentTexts s level f before following
+  content_formatted level ns f b before following w = record { leading = w.leading; trailing = w.trailing }
 
   node_passed : (n : Node) → PassesNode 0 s n at_start
   node_passed (node h k) = tt
@@ -58,10 +58,10 @@ module _ (s : Settings) where
   last_passed b (first n none) = (at_start, node_passed n)
   last_passed b (first n (first m ns)) = last_passed b (first m ns)
 
-  content_spaced : (level : ℕ) (ns : Nodes) (f : DocumentFormat) (b : Before) (before behind : Text) → ContentTexts s level f before behind → SpacesContent 0 s level ns f b before behind
-  content_spaced level ns f b before behind w =
+  content_spaced : (level : ℕ) (ns : Nodes) (f : DocumentFormat) (b : Before) (before following : Text) → ContentTexts s level f before following → SpacesContent 0 s level ns f b before following
+  content_spaced level ns f b before following w =
       let e = last_passed b ns in
-      record { last = e.0; behind_it = at_start; leading = w.leading; passes = e.1; trailing = w.trailing }
+      record { last = e.0; after_it = at_start; leading = w.leading; passes = e.1; trailing = w.trailing }
 
   mutual
     pub node_formatted : (level : ℕ) (b : Before) (n n' : Node) → IsSpacedNode 0 s level b n n' → IsFormattedNode s level n n'

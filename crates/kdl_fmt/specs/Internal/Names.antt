@@ -6,7 +6,7 @@ use Rattle.kdl_entry.specs.Tree.{Identifier, EntryFormat, Entry, plain_identifie
 use Rattle.kdl_fmt.specs.Config.{Settings}
 use Rattle.kdl_fmt.specs.Kept.{KeptBefore}
 use Rattle.kdl_fmt.specs.Respelled.{IsRespelled, IsRespelledIf, IsSpelling}
-use Rattle.kdl_fmt.specs.WithComments.{behind}
+use Rattle.kdl_fmt.specs.WithComments.{following}
 
 -- the identifier, with its spelling only if that is kept
 abbrev pub unspelled_unless : Bool → Identifier → Identifier
@@ -31,7 +31,7 @@ autoformatted_but key ty e = record (autoformatted e) { name = unspelled_if key 
 
 -- e' is e, laid out as its format says, without spellings unless the entry is flagged to keep its form
 abbrev pub IsLaid : Settings → Entry → Entry → Type 0
-IsLaid s e e' = (t : Text) × KeptBefore s e.format t × (e' ≡ behind t (autoformatted e))
+IsLaid s e e' = (t : Text) × KeptBefore s e.format t × (e' ≡ following t (autoformatted e))
 
 -- a format without the spelling of the value
 abbrev pub without_value : EntryFormat → EntryFormat

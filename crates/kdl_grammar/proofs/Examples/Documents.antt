@@ -12,7 +12,7 @@ use Rattle.kdl_lexer.proofs.Lexing.StringUnique.{string_begins, plain_begins}
 use Rattle.kdl_grammar.proofs.Reading.NoToken.{here, then, faulty}
 use Rattle.kdl_grammar.specs.Data.{node, no_children, Nodes, none, first}
 use Rattle.kdl_grammar.specs.Grammar.{IsDocument}
-use Rattle.kdl_grammar.proofs.Examples.Tokens.{end, derived, derived_behind_bom, refused, blank, line_feed, block, comment, escline_, dash, open_paren, close_paren, open_brace, close_brace, equals_sign, semi, a_bom, empty, keyword_true, letter, digit, argument, keyed, name, with, just}
+use Rattle.kdl_grammar.proofs.Examples.Tokens.{end, derived, derived_after_bom, refused, blank, line_feed, block, comment, escline_, dash, open_paren, close_paren, open_brace, close_brace, equals_sign, semi, a_bom, empty, keyword_true, letter, digit, argument, keyed, name, with, just}
 
 -- ``
 nothing : IsDocument true ([]) (none)
@@ -40,9 +40,9 @@ unfolding is_bare is_identifier_char is_space is_newline_char is_banned is_punct
 dash_block = derived (letter 97 refl refl (dash (open_brace (close_brace (open_brace (blank (close_brace end))))))) (just (with 97 [] none)) refl
 
 -- `n k=1/-2 3`
-dash_behind_number : IsDocument true (110 ∷ 32 ∷ 107 ∷ 61 ∷ 49 ∷ 47 ∷ 45 ∷ 50 ∷ 32 ∷ 51 ∷ []) (just (name 110 (keyed 107 (integer (pos 1)) ∷ argument (integer (pos 3)) ∷ [])))
+dash_after_number : IsDocument true (110 ∷ 32 ∷ 107 ∷ 61 ∷ 49 ∷ 47 ∷ 45 ∷ 50 ∷ 32 ∷ 51 ∷ []) (just (name 110 (keyed 107 (integer (pos 1)) ∷ argument (integer (pos 3)) ∷ [])))
 unfolding is_bare is_identifier_char is_space is_newline_char is_banned is_punctuation is_digit_of
-dash_behind_number = derived (letter 110 refl refl (blank (letter 107 refl refl (equals_sign (digit 49 refl refl refl refl refl refl (dash (digit 50 refl refl refl refl refl refl (blank (digit 51 refl refl refl refl refl refl end))))))))) (just (name 110 (keyed 107 (integer (pos 1)) ∷ argument (integer (pos 3)) ∷ []))) refl
+dash_after_number = derived (letter 110 refl refl (blank (letter 107 refl refl (equals_sign (digit 49 refl refl refl refl refl refl (dash (digit 50 refl refl refl refl refl refl (blank (digit 51 refl refl refl refl refl refl end))))))))) (just (name 110 (keyed 107 (integer (pos 1)) ∷ argument (integer (pos 3)) ∷ []))) refl
 
 -- `/-a/-b`
 dash_in_dropped : IsDocument true (47 ∷ 45 ∷ 97 ∷ 47 ∷ 45 ∷ 98 ∷ []) (none)
@@ -50,9 +50,9 @@ unfolding is_bare is_identifier_char is_space is_newline_char is_banned is_punct
 dash_in_dropped = derived (dash (letter 97 refl refl (dash (letter 98 refl refl end)))) (none) refl
 
 -- `a{}/-{}/-{}`
-blocks_behind : IsDocument true (97 ∷ 123 ∷ 125 ∷ 47 ∷ 45 ∷ 123 ∷ 125 ∷ 47 ∷ 45 ∷ 123 ∷ 125 ∷ []) (just (with 97 [] none))
+blocks_after : IsDocument true (97 ∷ 123 ∷ 125 ∷ 47 ∷ 45 ∷ 123 ∷ 125 ∷ 47 ∷ 45 ∷ 123 ∷ 125 ∷ []) (just (with 97 [] none))
 unfolding is_bare is_identifier_char is_space is_newline_char is_banned is_punctuation is_digit_of
-blocks_behind = derived (letter 97 refl refl (open_brace (close_brace (dash (open_brace (close_brace (dash (open_brace (close_brace end))))))))) (just (with 97 [] none)) refl
+blocks_after = derived (letter 97 refl refl (open_brace (close_brace (dash (open_brace (close_brace (dash (open_brace (close_brace end))))))))) (just (with 97 [] none)) refl
 
 -- `a;b`
 two_nodes : IsDocument true (97 ∷ 59 ∷ 98 ∷ []) (first (name 97 []) (just (name 98 [])))
@@ -95,9 +95,9 @@ unfolding is_bare is_identifier_char is_space is_newline_char is_banned is_punct
 children_two = derived (letter 97 refl refl (blank (open_brace (blank (letter 98 refl refl (semi (letter 99 refl refl (blank (close_brace end))))))))) (just (with 97 [] (first (name 98 []) (just (name 99 []))))) refl
 
 -- `a {} ;`
-ended_behind_block : IsDocument true (97 ∷ 32 ∷ 123 ∷ 125 ∷ 32 ∷ 59 ∷ []) (just (with 97 [] none))
+ended_after_block : IsDocument true (97 ∷ 32 ∷ 123 ∷ 125 ∷ 32 ∷ 59 ∷ []) (just (with 97 [] none))
 unfolding is_bare is_identifier_char is_space is_newline_char is_banned is_punctuation is_digit_of
-ended_behind_block = derived (letter 97 refl refl (blank (open_brace (close_brace (blank (semi end)))))) (just (with 97 [] none)) refl
+ended_after_block = derived (letter 97 refl refl (blank (open_brace (close_brace (blank (semi end)))))) (just (with 97 [] none)) refl
 
 -- `a /-b c`
 dropped_entry : IsDocument true (97 ∷ 32 ∷ 47 ∷ 45 ∷ 98 ∷ 32 ∷ 99 ∷ []) (just (name 97 (argument (text (99 ∷ [])) ∷ [])))
@@ -167,17 +167,17 @@ inner_end = derived (letter 97 refl refl (open_brace (letter 98 refl refl (open_
 -- `U+FEFFn`
 bom_name : IsDocument true (0xFEFF ∷ 110 ∷ []) (just (name 110 []))
 unfolding is_bare is_identifier_char is_space is_newline_char is_banned is_punctuation is_digit_of
-bom_name = derived_behind_bom (letter 110 refl refl end) (just (name 110 [])) refl
+bom_name = derived_after_bom (letter 110 refl refl end) (just (name 110 [])) refl
 
 -- `U+FEFF`
 bom_alone : IsDocument true (0xFEFF ∷ []) (none)
 unfolding is_bare is_identifier_char is_space is_newline_char is_banned is_punctuation is_digit_of
-bom_alone = derived_behind_bom (end) (none) refl
+bom_alone = derived_after_bom (end) (none) refl
 
 -- not `a {} /-b`
-entry_behind_block : (x : Nodes) → IsDocument true (97 ∷ 32 ∷ 123 ∷ 125 ∷ 32 ∷ 47 ∷ 45 ∷ 98 ∷ []) x → ⊥
+entry_after_block : (x : Nodes) → IsDocument true (97 ∷ 32 ∷ 123 ∷ 125 ∷ 32 ∷ 47 ∷ 45 ∷ 98 ∷ []) x → ⊥
 unfolding is_bare is_identifier_char is_space is_newline_char is_banned is_punctuation is_digit_of
-entry_behind_block x i = refused (letter 97 refl refl (blank (open_brace (close_brace (blank (dash (letter 98 refl refl end))))))) refl refl x i
+entry_after_block x i = refused (letter 97 refl refl (blank (open_brace (close_brace (blank (dash (letter 98 refl refl end))))))) refl refl x i
 
 -- not `a/-/-b`
 dash_twice : (x : Nodes) → IsDocument true (97 ∷ 47 ∷ 45 ∷ 47 ∷ 45 ∷ 98 ∷ []) x → ⊥
@@ -205,9 +205,9 @@ unfolding is_bare is_identifier_char is_space is_newline_char is_banned is_punct
 semicolon_twice x i = refused (letter 97 refl refl (semi (semi end))) refl refl x i
 
 -- not ` U+FEFF`
-bom_behind_space : (x : Nodes) → IsDocument true (32 ∷ 0xFEFF ∷ []) x → ⊥
+bom_after_space : (x : Nodes) → IsDocument true (32 ∷ 0xFEFF ∷ []) x → ⊥
 unfolding is_bare is_identifier_char is_space is_newline_char is_banned is_punctuation is_digit_of
-bom_behind_space x i = refused (blank (a_bom end)) refl refl x i
+bom_after_space x i = refused (blank (a_bom end)) refl refl x i
 
 -- not `{}`
 block_alone : (x : Nodes) → IsDocument true (123 ∷ 125 ∷ []) x → ⊥
@@ -230,9 +230,9 @@ unfolding is_bare is_identifier_char is_space is_newline_char is_banned is_punct
 number_as_name x i = refused (digit 49 refl refl refl refl refl refl end) refl refl x i
 
 -- not `(t)1`
-number_behind_type : (x : Nodes) → IsDocument true (40 ∷ 116 ∷ 41 ∷ 49 ∷ []) x → ⊥
+number_after_type : (x : Nodes) → IsDocument true (40 ∷ 116 ∷ 41 ∷ 49 ∷ []) x → ⊥
 unfolding is_bare is_identifier_char is_space is_newline_char is_banned is_punctuation is_digit_of
-number_behind_type x i = refused (open_paren (letter 116 refl refl (close_paren (digit 49 refl refl refl refl refl refl end)))) refl refl x i
+number_after_type x i = refused (open_paren (letter 116 refl refl (close_paren (digit 49 refl refl refl refl refl refl end)))) refl refl x i
 
 -- not `a k=`
 no_value : (x : Nodes) → IsDocument true (97 ∷ 32 ∷ 107 ∷ 61 ∷ []) x → ⊥
@@ -255,9 +255,9 @@ unfolding is_bare is_identifier_char is_space is_newline_char is_banned is_punct
 dash_alone x i = refused (letter 97 refl refl (dash end)) refl refl x i
 
 -- not `a k=/-v`
-dash_behind_equals : (x : Nodes) → IsDocument true (97 ∷ 32 ∷ 107 ∷ 61 ∷ 47 ∷ 45 ∷ 118 ∷ []) x → ⊥
+dash_after_equals : (x : Nodes) → IsDocument true (97 ∷ 32 ∷ 107 ∷ 61 ∷ 47 ∷ 45 ∷ 118 ∷ []) x → ⊥
 unfolding is_bare is_identifier_char is_space is_newline_char is_banned is_punctuation is_digit_of
-dash_behind_equals x i = refused (letter 97 refl refl (blank (letter 107 refl refl (equals_sign (dash (letter 118 refl refl end)))))) refl refl x i
+dash_after_equals x i = refused (letter 97 refl refl (blank (letter 107 refl refl (equals_sign (dash (letter 118 refl refl end)))))) refl refl x i
 
 -- not `/-/-a`
 dropped_twice : (x : Nodes) → IsDocument true (47 ∷ 45 ∷ 47 ∷ 45 ∷ 97 ∷ []) x → ⊥

@@ -55,15 +55,15 @@ derived {t = t} {ks = ks} l x e =
     subst (λ (z : Nodes). IsDocument true t z) d.2 (sound t d.0 (AnswersDocument.no_bom (runs_of l (initial t) d.0 d.1))).1
 
 -- the same after U+FEFF
-pub derived_behind_bom : {t : Text} {ks : List (Token × Text)} → Cut t ks → (x : Nodes) → option_map document_data (run (0xFEFF ∷ t) (initial t) t ks) ≡ Some x → IsDocument true (0xFEFF ∷ t) x
-derived_behind_bom {t = t} {ks = ks} l x e =
+pub derived_after_bom : {t : Text} {ks : List (Token × Text)} → Cut t ks → (x : Nodes) → option_map document_data (run (0xFEFF ∷ t) (initial t) t ks) ≡ Some x → IsDocument true (0xFEFF ∷ t) x
+derived_after_bom {t = t} {ks = ks} l x e =
     let d = some_document (run (0xFEFF ∷ t) (initial t) t ks) x e in
     let r = sound_runs (0xFEFF ∷ t) (runs_of l (initial t) d.0 d.1) in
-    IsDocument.behind_bom (subst (λ (z : Nodes). Rattle.kdl_grammar.specs.Grammar.AreNodes true t [] z) d.2 r.1)
+    IsDocument.after_bom (subst (λ (z : Nodes). Rattle.kdl_grammar.specs.Grammar.AreNodes true t [] z) d.2 r.1)
 
 pub refused_answer : {t : Text} {ks : List (Token × Text)} {d : Document} → Cut t ks → begins 0xFEFF t ≡ false → run t (initial t) t ks ≡ None → AnswersDocument t d → ⊥
 refused_answer l b e (AnswersDocument.no_bom a) = let x = of_runs l a in cc
-refused_answer l b e (AnswersDocument.behind_bom a) = cc
+refused_answer l b e (AnswersDocument.after_bom a) = cc
 
 -- where the machine refuses them, it is none
 pub refused : {t : Text} {ks : List (Token × Text)} → Cut t ks → begins 0xFEFF t ≡ false → run t (initial t) t ks ≡ None → (x : Nodes) → IsDocument true t x → ⊥

@@ -90,9 +90,9 @@ unfolding is_bare is_identifier_char is_space is_newline_char is_banned is_punct
 not_a_number = derived (letter 110 refl refl (blank (a_word NotANumber refl end))) (just (name 110 (argument (float (35 ∷ 110 ∷ 97 ∷ 110 ∷ [])) ∷ []))) refl
 
 -- not `n "a"b`
-letter_behind_quote : (x : Nodes) → IsDocument true (110 ∷ 32 ∷ 34 ∷ 97 ∷ 34 ∷ 98 ∷ []) x → ⊥
+letter_after_quote : (x : Nodes) → IsDocument true (110 ∷ 32 ∷ 34 ∷ 97 ∷ 34 ∷ 98 ∷ []) x → ⊥
 unfolding is_bare is_identifier_char is_space is_newline_char is_banned is_punctuation is_digit_of is_literal
-letter_behind_quote x i = refused (letter 110 refl refl (blank (a_string refl (one_char 97 refl) (letter 98 refl refl end)))) refl refl x i
+letter_after_quote x i = refused (letter 110 refl refl (blank (a_string refl (one_char 97 refl) (letter 98 refl refl end)))) refl refl x i
 
 -- not `1.5`
 decimal_as_name : (x : Nodes) → IsDocument true (49 ∷ 46 ∷ 53 ∷ []) x → ⊥

@@ -191,8 +191,8 @@ module _ (whole : Text) where
 
 document_printed : {x y : Document} {t : Text} → LaidDocument false y t → EachDocument IsFormed x y → print_document x 0 ≡ print_document y 0
 document_printed {t = t} (LaidDocument.no_bom c) e = document_print t 0 c e
-document_printed (LaidDocument.behind_bom (without_nodes g z)) (each_document EachNodes.last) = refl
-document_printed {t = t} (LaidDocument.behind_bom (with_nodes ns g z)) (each_document d) = let a = nodes_print t 0 ns d in rw a refl
+document_printed (LaidDocument.after_bom (without_nodes g z)) (each_document EachNodes.last) = refl
+document_printed {t = t} (LaidDocument.after_bom (with_nodes ns g z)) (each_document d) = let a = nodes_print t 0 ns d in rw a refl
 
 pub reads_back : ReadsBack
 reads_back d f x l = subst (λ (y : data'.Nodes). IsDocument true (print_document d 0) y) (document_same x) (document_of false f (print_document d 0) l)

@@ -66,7 +66,7 @@ module _ (exact : Bool) (whole : Text) where
 
 pub document_of : (exact : Bool) (d : Document) (t : Text) → LaidDocument exact d t → IsDocument true t (document_data d)
 document_of exact d t (LaidDocument.no_bom c) = IsDocument.no_bom (content_of exact t c)
-document_of exact d' t (LaidDocument.behind_bom {d = d} c) = subst (λ (z : data'.Nodes). IsDocument true t z) (sym (bom_data d)) (IsDocument.behind_bom (content_of exact t c))
+document_of exact d' t (LaidDocument.after_bom {d = d} c) = subst (λ (z : data'.Nodes). IsDocument true t z) (sym (bom_data d)) (IsDocument.after_bom (content_of exact t c))
 
 pub node_text_of : (exact : Bool) (x : Node) (t : Text) → LaidNodeText exact t x → IsNodeText true t (node_data x)
 node_text_of exact x t (laid_node_text g n e ls z) = node_text g.is (node_of exact t n) e.is ls.is

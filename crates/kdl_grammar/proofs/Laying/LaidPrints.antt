@@ -32,10 +32,10 @@ module _ (exact : Bool) (whole : Text) where
 
   mutual
     node_printed : {leading end trailing s u : Text} {at : SourceSpan} {x : Node} (depth : ℕ) → LaidNode exact whole leading end trailing at x s u → (r : Text) → u ≡ end ++ (trailing ++ r) → leading ++ s ≡ print_node x depth ++ r
-    node_printed {leading = q} {end = z} {trailing = w} depth (laid_node {before = b} {after = a} {behind = h} {before_terminator = p} {ty = y} {name = n} {es = es} d i e (no_block c)) r x =
+    node_printed {leading = q} {end = z} {trailing = w} depth (laid_node {before = b} {after = a} {following = h} {before_terminator = p} {ty = y} {name = n} {es = es} d i e (no_block c)) r x =
         ap (λ (x : Text). q ++ x) (type_printed exact whole d ∙ ap (λ (x : Text). print_type y b a ++ (h ++ x)) (identifier_printed exact whole i ∙ ap (λ (x : Text). print_identifier n ++ x) (entries_printed e ∙ ap (λ (x : Text). print_pieces es ++ x) (c.text ∙ ap (λ (v : Text). p ++ v) x))))
         ∙ simp append_assoc
-    node_printed {leading = q} {end = z} {trailing = w} depth (laid_node {before = b} {after = a} {behind = h} {before_children = bc} {before_terminator = p} {ty = y} {name = n} {es = es} d i e (a_block {d = doc} c ns l)) r x =
+    node_printed {leading = q} {end = z} {trailing = w} depth (laid_node {before = b} {after = a} {following = h} {before_children = bc} {before_terminator = p} {ty = y} {name = n} {es = es} d i e (a_block {d = doc} c ns l)) r x =
         ap (λ (x : Text). q ++ x) (type_printed exact whole d ∙ ap (λ (x : Text). print_type y b a ++ (h ++ x)) (identifier_printed exact whole i ∙ ap (λ (x : Text). print_identifier n ++ x) (entries_printed e ∙ ap (λ (x : Text). print_pieces es ++ x)
         (c.text ∙ ap (λ (v : Text). bc ++ v) (block_printed depth ns ∙ ap (λ (v : Text). print_block doc depth ++ v) (l.text ∙ ap (λ (v : Text). p ++ v) x))
         ∙ tail_text bc (123 ∷ after_brace (format_of doc)) (print_document doc (depth + 1)) (before_brace (format_of doc) depth) (125 ∷ []) p z w r))))
@@ -60,7 +60,7 @@ bom_printed (with_nodes ns g z) = refl
 
 pub printed : (exact : Bool) (d : Document) (t : Text) → LaidDocument exact d t → print_document d 0 ≡ t
 printed exact d t (LaidDocument.no_bom c) = sym (content_printed exact t c)
-printed exact d t (LaidDocument.behind_bom c) = bom_printed c ∙ ap (λ (x : Text). 0xFEFF ∷ x) (sym (content_printed exact t c))
+printed exact d t (LaidDocument.after_bom c) = bom_printed c ∙ ap (λ (x : Text). 0xFEFF ∷ x) (sym (content_printed exact t c))
 
 pub node_text_printed : (exact : Bool) (x : Node) (t : Text) → LaidNodeText exact t x → print_node x 0 ≡ t
 node_text_printed exact x t (laid_node_text {end = z} {trailing = w} g n e ls at) =

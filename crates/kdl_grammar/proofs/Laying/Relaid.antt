@@ -48,7 +48,7 @@ pub record CanReplace (h h' : Head) : Type 0 where
 
 -- the parts of a head are laid
 pub data LaidHead (exact : Bool) (whole : Text) (h : Head) : Type 0 where
-  laid_head : {before after behind s t u r : Text} → LaidType exact whole h.ty before after behind s t → LaidIdentifier exact whole h.name t u → LaidEntries exact whole h.entries u r → LaidHead exact whole h
+  laid_head : {before after following s t u r : Text} → LaidType exact whole h.ty before after following s t → LaidIdentifier exact whole h.name t u → LaidEntries exact whole h.entries u r → LaidHead exact whole h
 
 -- where a head is laid, a head of the relation with it can be laid
 abbrev pub Replaces : (Head → Head → Type 0) → Type 0
@@ -147,10 +147,10 @@ module _ (R : Head → Head → Type 0) (replaces : Replaces R) where
   unfolding LaidSomewhere
   bom_again {exact = exact} {whole = whole} (without_nodes g z) (each_document {at' = at} EachNodes.last) =
       let A = relaid_content R replaces exact whole [] (without_nodes g z) (each_document {at' = at} EachNodes.last) [] refl in
-      (0xFEFF ∷ A.text, LaidDocument.behind_bom (free_content [] (0xFEFF ∷ A.text) A.laid))
+      (0xFEFF ∷ A.text, LaidDocument.after_bom (free_content [] (0xFEFF ∷ A.text) A.laid))
   bom_again {exact = exact} {whole = whole} (with_nodes ns g z) (each_document {at' = at} (EachNodes.next d ds)) =
       let A = relaid_content R replaces exact whole [] (with_nodes ns g z) (each_document {at' = at} (EachNodes.next d ds)) [] refl in
-      (0xFEFF ∷ A.text, LaidDocument.behind_bom (free_content [] (0xFEFF ∷ A.text) A.laid))
+      (0xFEFF ∷ A.text, LaidDocument.after_bom (free_content [] (0xFEFF ∷ A.text) A.laid))
 
   pub relaid : (exact : Bool) (t : Text) (d d' : Document) → LaidDocument exact d t → EachDocument R d d' → LaidDocument false d' (print_document d' 0)
   unfolding LaidSomewhere
@@ -158,4 +158,4 @@ module _ (R : Head → Head → Type 0) (replaces : Replaces R) where
     where
       go : {d : Document} {t : Text} → LaidDocument exact d t → EachDocument R d d' → LaidSomewhere d'
       go (LaidDocument.no_bom c) e = plain_again c e
-      go (LaidDocument.behind_bom c) e = bom_again c e
+      go (LaidDocument.after_bom c) e = bom_again c e

@@ -66,7 +66,7 @@ module _ (w : Bool) where
 
   pub wider : {t : Text} {x : Nodes} → IsDocument w t x → IsDocument true t x
   wider (IsDocument.no_bom d) = IsDocument.no_bom (wide_nodes d)
-  wider (IsDocument.behind_bom d) = IsDocument.behind_bom (wide_nodes d)
+  wider (IsDocument.after_bom d) = IsDocument.after_bom (wide_nodes d)
 
   pub wider_node : {t : Text} {x : Node} → IsNodeText w t x → IsNodeText true t x
   wider_node (node_text g x e ls) = node_text (wide_gap g) (wide_node x) e ls

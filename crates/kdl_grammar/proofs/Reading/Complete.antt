@@ -23,7 +23,7 @@ use Rattle.kdl_grammar.specs.Laid.{content_span}
 use Rattle.kdl_grammar.specs.Laid.{LaidEntries, no_entry, an_entry, laid_node, LaidChildren, no_block as laid_no_block, a_block, LaidNodes, no_node, a_node, LaidContent, without_nodes, with_nodes, LaidDocument, with_bom, node_format, LaidNodeText, laid_node_text}
 use Rattle.kdl_grammar.specs.Places.{DroppedBlock, AfterChildren, after as after_children, before as before_children}
 use Rattle.kdl_grammar.specs.Tree.{Node, node, Children, no_children, children, Document, document, Nodes, none, first, join, node_data, children_data, document_data, nodes_data}
-use Rattle.kdl_entry.specs.Internal.Parts.{TypeParts, KeyParts, type_of, before_name, after_name, behind_type, key_identifier, identifier_at, entry_at}
+use Rattle.kdl_entry.specs.Internal.Parts.{TypeParts, KeyParts, type_of, before_name, after_name, after_type, key_identifier, identifier_at, entry_at}
 use Rattle.kdl_grammar.specs.Internal.Machine.{Under, Kept, Slot, no_name, for_name, no_value, for_value, Pending, pending, Spot, fresh, spaced, later, gap, node_slashdash, type_open, type_name, type_done, in_node, property, entry_slashdash, block_slashdash, kept, kept_slashdash, Frame, in_block, in_dropped, in_later, State, at, origin, moved, entry_slot, keyed, with_entry, filled, node_at, closed, closed_kept, ended, inside, content_at, spaced_of, slashdash_at, given, worded, typed, step, finish, initial, Runs, stops, reads, AnswersDocument}
 use Rattle.kdl_grammar.proofs.Moving.Ends.{end_terminator, end_gap, end_dropped_block}
 pub mod OneLaid
@@ -156,7 +156,7 @@ module _ (whole : Text) where
 
   record ReadFilled (b : Bool) (s t r : Text) (y : Option Text) (v : Value) : Type 0 where
     type : Option TypeParts
-    laid : LaidType true whole (type_of type) (before_name type) (after_name type) (behind_type type) s t
+    laid : LaidType true whole (type_of type) (before_name type) (after_name type) (after_type type) s t
     same : option_map (λ (i : Identifier). i.value) (type_of type) ≡ y
     runs : (out : Document) → (st : State) (c : Slot) (l : Option Nodes) (fs : List Frame) (from : Text) → Takes b st s c l fs from
         → ((o : Option Pending) → Runs whole out (given whole c type v o l fs from t r) r) → Runs whole out st s
@@ -205,7 +205,7 @@ module _ (whole : Text) where
   read_item {s = s} {r = r} (a_property {t = t} {u = u} {w = w} {k = k} {v = v} d ss us (a_value {t = p} y z)) =
       let X = read_filled y (value_fills z) in
       let i = identifier_at whole k s t in
-      let k' : KeyParts = record { name = i; before = between t (61 ∷ u); behind = between u w } in
+      let k' : KeyParts = record { name = i; before = between t (61 ∷ u); following = between u w } in
       record {
         key = Some k';
         type = X.type;
@@ -290,11 +290,11 @@ module _ (whole : Text) where
     runs : (out : Document) → (h : Option Under) (l : Option Nodes) (fs : List Frame) (from : Text) → Runs whole out (at gap (ended (tailed h tail r) l) fs (origin h from v)) v → (q : Spot) → Runs whole out (at (in_node h q) l fs (origin h from p)) s
 
   record ReadLater (p s r v : Text) : Type 0 where
-    behind : Text
+    following : Text
     end : Text
-    laid_behind : Is AfterChildren behind p r
+    laid_after : Is AfterChildren following p r
     laid_end : Is Terminator end r v
-    runs : (out : Document) → (x : Option Kept) (l : Option Nodes) (fs : List Frame) (from : Text) → Runs whole out (at gap (ended (closed_kept whole x behind end r) l) fs (origin x from v)) v → Runs whole out (at (kept x) l fs (origin x from p)) s
+    runs : (out : Document) → (x : Option Kept) (l : Option Nodes) (fs : List Frame) (from : Text) → Runs whole out (at gap (ended (closed_kept whole x following end r) l) fs (origin x from v)) v → Runs whole out (at (kept x) l fs (origin x from p)) s
 
   record ReadNodes (s r : Text) (xs : data'.Nodes) : Type 0 where
     tree : Nodes
@@ -315,7 +315,7 @@ module _ (whole : Text) where
       (record { to_semicolon = λ r. refl; to_newline = λ r. refl; to_closing = λ r. refl; to_end = λ e. ap (λ (z : Text). finish whole (at gap (ended (closed_kept whole (Some x) (between p z) [] z) l) fs [])) (sym e) }) a
 
   block_runs : (out : Document) → (p : Text) {s r u v : Text} {xs : data'.Nodes} (N : ReadNodes s (125 ∷ r) xs) (L : ReadLater r r u v) (h : Option Under) (l : Option Nodes) (fs : List Frame) (from : Text)
-      → Runs whole out (at gap (ended (closed whole h (children (content_at whole N.tree (between N.last (125 ∷ r)) (125 ∷ r))) (between p (123 ∷ s)) L.behind L.end u) l) fs (origin h from v)) v
+      → Runs whole out (at gap (ended (closed whole h (children (content_at whole N.tree (between N.last (125 ∷ r)) (125 ∷ r))) (between p (123 ∷ s)) L.following L.end u) l) fs (origin h from v)) v
       → Runs whole out (at gap (inside h) (in_block h (between (origin h from p) (123 ∷ s)) l ∷ fs) (origin h (origin h from p) s)) s
   block_runs out p {s = s} N L None l fs from a = N.runs out None (in_block None (between from (123 ∷ s)) l ∷ fs) from (reads t_closing refl (L.runs out None l fs from a))
   block_runs out p {s = s} {r = r} N L (Some h) l fs from a =
@@ -427,8 +427,8 @@ module _ (whole : Text) where
         let L = read_later d e u no_star in
         let inner = content_at whole N.tree (between N.last (125 ∷ u)) (125 ∷ u) in
         record {
-          tail = tail_of (children inner) (between p (123 ∷ t)) L.behind L.end;
-          laid_tail = a_block (place (before_children ds (after_children bs ss)) (then (end_star (λ s r x. end_dropped x) ds) (then (end_star (λ s r x. end_dropped_block x) bs) (end_spaces ss)))) (content_laid N.laid N.gap') L.laid_behind;
+          tail = tail_of (children inner) (between p (123 ∷ t)) L.following L.end;
+          laid_tail = a_block (place (before_children ds (after_children bs ss)) (then (end_star (λ s r x. end_dropped x) ds) (then (end_star (λ s r x. end_dropped_block x) bs) (end_spaces ss)))) (content_laid N.laid N.gap') L.laid_after;
           laid_end = L.laid_end;
           same_tail = ap data'.children (content_data N.tree (between N.last (125 ∷ u)) (125 ∷ u) ∙ N.same);
           runs = λ out h l fs from a q. spaces_in out h l fs (origin h from p) ss q (λ q'. reads t_opening refl (block_runs out p N L h l fs from a));
@@ -448,9 +448,9 @@ module _ (whole : Text) where
         let N = read_nodes ns' in
         let X = read_later d e p (snoc bs (DroppedBlock.dropped ss (slashdash ls) (braces ns'))) in
         record {
-          behind = X.behind;
+          following = X.following;
           end = X.end;
-          laid_behind = X.laid_behind;
+          laid_after = X.laid_after;
           laid_end = X.laid_end;
           runs = λ out x l fs from a. stay out (at (kept x) l fs (origin x from p)) (λ s r. refl) ss (reads t_slashdash refl (lines out (at (kept_slashdash x) l fs (origin x from p)) (λ s r. refl) (λ s r. refl) ls (reads t_opening refl
               (N.runs out None (in_later x l ∷ fs) (origin x from p) (reads t_closing refl (X.runs out x l fs from a))))));
@@ -458,9 +458,9 @@ module _ (whole : Text) where
     read_later (no_more {r = r} ss) e p bs =
         let E = read_end e in
         record {
-          behind = between p r;
+          following = between p r;
           end = E.end;
-          laid_behind = place (after_children bs ss) (then (end_star (λ s r x. end_dropped_block x) bs) (end_spaces ss));
+          laid_after = place (after_children bs ss) (then (end_star (λ s r x. end_dropped_block x) bs) (end_spaces ss));
           laid_end = E.laid;
           runs = λ out x l fs from a. stay out (at (kept x) l fs (origin x from p)) (λ s r. refl) ss (later_runs out p E x l fs from a);
         }
@@ -517,9 +517,9 @@ bom_data (document (Some f) z ns) = refl
 
 pub built : {t : Text} {xs : data'.Nodes} → IsDocument true t xs → Built t xs
 built (IsDocument.no_bom {t = t} d) = let p = placed t d in record { tree = p.tree; laid = LaidDocument.no_bom p.laid; same = p.same; answers = AnswersDocument.no_bom p.runs }
-built (IsDocument.behind_bom {t = t} d) =
+built (IsDocument.after_bom {t = t} d) =
     let p = placed (0xFEFF ∷ t) d in
-    record { tree = with_bom p.tree; laid = LaidDocument.behind_bom p.laid; same = bom_data p.tree ∙ p.same; answers = AnswersDocument.behind_bom p.runs }
+    record { tree = with_bom p.tree; laid = LaidDocument.after_bom p.laid; same = bom_data p.tree ∙ p.same; answers = AnswersDocument.after_bom p.runs }
 
 -- a node that is the whole text
 pub record BuiltNode (t : Text) (x : data'.Node) : Type 0 where
@@ -536,7 +536,7 @@ built_node {t = t} (node_text {u = s} {v = v} {r = r} g (named {t = m} {u = w} {
         ty = type_of X.type;
         name = identifier_at t n m w;
         entries = Y.entries;
-        format = Some (node_format (between t s) (before_name X.type) (after_name X.type) (behind_type X.type) Y.tail.before Y.tail.place Y.tail.end (between r []));
+        format = Some (node_format (between t s) (before_name X.type) (after_name X.type) (after_type X.type) Y.tail.before Y.tail.place Y.tail.end (between r []));
         span = span_of t t [];
       }) Y.tail.k;
       laid = laid_node_text (place g (end_gap g)) (laid_node X.laid (spelled_at t z) Y.laid_entries Y.laid_tail) Y.laid_end (place ls (end_lines ls)) refl;
@@ -572,11 +572,11 @@ only_node {t = t} (node_text {u = s} {v = v} {r = r} g (named {t = m} {u = w} {n
     let u : Under = record { leading = between t s; start = s; ty = X.type; name = identifier_at t n m w; entries = Y.entries } in
     let x = node_at t u Y.tail.k Y.tail.before Y.tail.place Y.tail.end v in
     let p = place {R = Star LineSpace} ls (end_lines ls) in
-    let behind : r ≡ between r [] = p.text ∙ append-nil (between r []) in
+    let following : r ≡ between r [] = p.text ∙ append-nil (between r []) in
     record {
       tree = x;
       span = content_span (span_of t [] []) (first x none);
       trailing = between r [];
-      line_spaces = subst (λ (z : Text). Star LineSpace z []) behind ls;
+      line_spaces = subst (λ (z : Text). Star LineSpace z []) following ls;
       runs = read_gap t (content_at t (first x none) (between r []) []) g (Some none) [] t (node_runs t (content_at t (first x none) (between r []) []) X Y D (Some none) [] t t (stops refl));
     }

@@ -118,13 +118,13 @@ no_bom_here {whole = whole} {s = s} {l = l} {fs = fs} {from = from} (reads {r = 
 -- the machine has one result at most
 pub answers_det : {t : Text} {x y : Document} → AnswersDocument t x → AnswersDocument t y → x ≡ y
 answers_det (AnswersDocument.no_bom a) (AnswersDocument.no_bom b) = runs_det a b
-answers_det (AnswersDocument.behind_bom a) (AnswersDocument.behind_bom b) = ap with_bom (runs_det a b)
-answers_det (AnswersDocument.no_bom a) (AnswersDocument.behind_bom b) = absurd (no_bom_here a)
-answers_det (AnswersDocument.behind_bom a) (AnswersDocument.no_bom b) = absurd (no_bom_here b)
+answers_det (AnswersDocument.after_bom a) (AnswersDocument.after_bom b) = ap with_bom (runs_det a b)
+answers_det (AnswersDocument.no_bom a) (AnswersDocument.after_bom b) = absurd (no_bom_here a)
+answers_det (AnswersDocument.after_bom a) (AnswersDocument.no_bom b) = absurd (no_bom_here b)
 
 pub sound : (t : Text) (d : Document) → AnswersDocument t d → LaidDocument true d t × IsDocument true t (document_data d)
 sound t d (AnswersDocument.no_bom a) = let p = sound_runs t a in (LaidDocument.no_bom p.0, IsDocument.no_bom p.1)
-sound t d' (AnswersDocument.behind_bom {t = s} {d = d} a) = let p = sound_runs t a in (LaidDocument.behind_bom p.0, subst (λ (z : data'.Nodes). IsDocument true t z) (sym (bom_data d)) (IsDocument.behind_bom p.1))
+sound t d' (AnswersDocument.after_bom {t = s} {d = d} a) = let p = sound_runs t a in (LaidDocument.after_bom p.0, subst (λ (z : data'.Nodes). IsDocument true t z) (sym (bom_data d)) (IsDocument.after_bom p.1))
 
 pub answered : (t : Text) (x : data'.Nodes) → IsDocument true t x → (d : Document) × AnswersDocument t d × (document_data d ≡ x)
 answered t x i = let b = built i in (b.tree, b.answers, b.same)
@@ -139,4 +139,4 @@ lexed t x i = go (built i).answers
   where
     go : {t : Text} {d : Document} → AnswersDocument t d → (ks : List Token) × Lexes t ks
     go (AnswersDocument.no_bom {t = t} a) = lexed_runs t a
-    go (AnswersDocument.behind_bom {t = s} a) = let b = lexed_runs (0xFEFF ∷ s) a in (bom ∷ b.0, next t_bom b.1)
+    go (AnswersDocument.after_bom {t = s} a) = let b = lexed_runs (0xFEFF ∷ s) a in (bom ∷ b.0, next t_bom b.1)

@@ -6,7 +6,7 @@ use Rattle.kdl_text.proofs.Spacing.ValueEnds.{value_end_no_identifier}
 use Rattle.kdl_value.specs.Data.{Value}
 use Rattle.kdl_lexer.specs.Pieces.{bare}
 use Rattle.kdl_lexer.specs.Tokens.{Token, space, newline, slashdash, string, value, left, right, opening, closing, equals, semicolon, bom, BeginsToken, t_string, t_right, t_opening, t_closing, Lexes, done, next}
-use Rattle.kdl_lexer.proofs.Lexing.TokenUnique.{token_shorter, is_end, end_behind}
+use Rattle.kdl_lexer.proofs.Lexing.TokenUnique.{token_shorter, is_end, end_after}
 use Rattle.kdl_lexer.proofs.Moving.Puts.{Put, stands, joined}
 use Rattle.kdl_lexer.proofs.Moving.StringMoves.{value_end_no_quote}
 use Rattle.kdl_entry.proofs.Moving.TokenMoves.{Fits, last_token, near_token, full_of}
@@ -161,36 +161,36 @@ worded (at (in_node (fresh b)) fs) = true
 worded (at (type_name b) fs) = true
 worded _ = false
 
-pub behind_string : (c : Control) (v : Text) (d : Control) → step c (string v) ≡ Some d → worded d ≡ true
-behind_string (at gap fs) v d e = let x : at (in_node (fresh false)) fs ≡ d = cc in subst (λ (z : Control). worded z ≡ true) x refl
-behind_string (at node_slashdash fs) v d e = let x : at (in_node (fresh false)) fs ≡ d = cc in subst (λ (z : Control). worded z ≡ true) x refl
-behind_string (at (type_open b) fs) v d e = let x : at (type_name b) fs ≡ d = cc in subst (λ (z : Control). worded z ≡ true) x refl
-behind_string (at (type_name b) fs) v d e = absurd cc
-behind_string (at (type_done b) fs) v d e = let x : at (in_node (fresh false)) fs ≡ d = cc in subst (λ (z : Control). worded z ≡ true) x refl
-behind_string (at (in_node (fresh b)) fs) v d e = absurd cc
-behind_string (at (in_node (spaced b)) fs) v d e = let x : at (in_node (fresh true)) fs ≡ d = cc in subst (λ (z : Control). worded z ≡ true) x refl
-behind_string (at (in_node later) fs) v d e = absurd cc
-behind_string (at property fs) v d e = let x : at (in_node (fresh false)) fs ≡ d = cc in subst (λ (z : Control). worded z ≡ true) x refl
-behind_string (at entry_slashdash fs) v d e = let x : at (in_node (fresh true)) fs ≡ d = cc in subst (λ (z : Control). worded z ≡ true) x refl
-behind_string (at block_slashdash fs) v d e = absurd cc
-behind_string (at kept fs) v d e = absurd cc
-behind_string (at kept_slashdash fs) v d e = absurd cc
+pub after_string : (c : Control) (v : Text) (d : Control) → step c (string v) ≡ Some d → worded d ≡ true
+after_string (at gap fs) v d e = let x : at (in_node (fresh false)) fs ≡ d = cc in subst (λ (z : Control). worded z ≡ true) x refl
+after_string (at node_slashdash fs) v d e = let x : at (in_node (fresh false)) fs ≡ d = cc in subst (λ (z : Control). worded z ≡ true) x refl
+after_string (at (type_open b) fs) v d e = let x : at (type_name b) fs ≡ d = cc in subst (λ (z : Control). worded z ≡ true) x refl
+after_string (at (type_name b) fs) v d e = absurd cc
+after_string (at (type_done b) fs) v d e = let x : at (in_node (fresh false)) fs ≡ d = cc in subst (λ (z : Control). worded z ≡ true) x refl
+after_string (at (in_node (fresh b)) fs) v d e = absurd cc
+after_string (at (in_node (spaced b)) fs) v d e = let x : at (in_node (fresh true)) fs ≡ d = cc in subst (λ (z : Control). worded z ≡ true) x refl
+after_string (at (in_node later) fs) v d e = absurd cc
+after_string (at property fs) v d e = let x : at (in_node (fresh false)) fs ≡ d = cc in subst (λ (z : Control). worded z ≡ true) x refl
+after_string (at entry_slashdash fs) v d e = let x : at (in_node (fresh true)) fs ≡ d = cc in subst (λ (z : Control). worded z ≡ true) x refl
+after_string (at block_slashdash fs) v d e = absurd cc
+after_string (at kept fs) v d e = absurd cc
+after_string (at kept_slashdash fs) v d e = absurd cc
 
-pub behind_value : (c : Control) (v : Value) (d : Control) → step c (value v) ≡ Some d → worded d ≡ true
-behind_value (at gap fs) v d e = absurd cc
-behind_value (at node_slashdash fs) v d e = absurd cc
-behind_value (at (type_open b) fs) v d e = absurd cc
-behind_value (at (type_name b) fs) v d e = absurd cc
-behind_value (at (type_done true) fs) v d e = let x : at (in_node (fresh false)) fs ≡ d = cc in subst (λ (z : Control). worded z ≡ true) x refl
-behind_value (at (type_done false) fs) v d e = absurd cc
-behind_value (at (in_node (fresh b)) fs) v d e = absurd cc
-behind_value (at (in_node (spaced b)) fs) v d e = let x : at (in_node (fresh false)) fs ≡ d = cc in subst (λ (z : Control). worded z ≡ true) x refl
-behind_value (at (in_node later) fs) v d e = absurd cc
-behind_value (at property fs) v d e = let x : at (in_node (fresh false)) fs ≡ d = cc in subst (λ (z : Control). worded z ≡ true) x refl
-behind_value (at entry_slashdash fs) v d e = let x : at (in_node (fresh false)) fs ≡ d = cc in subst (λ (z : Control). worded z ≡ true) x refl
-behind_value (at block_slashdash fs) v d e = absurd cc
-behind_value (at kept fs) v d e = absurd cc
-behind_value (at kept_slashdash fs) v d e = absurd cc
+pub after_value : (c : Control) (v : Value) (d : Control) → step c (value v) ≡ Some d → worded d ≡ true
+after_value (at gap fs) v d e = absurd cc
+after_value (at node_slashdash fs) v d e = absurd cc
+after_value (at (type_open b) fs) v d e = absurd cc
+after_value (at (type_name b) fs) v d e = absurd cc
+after_value (at (type_done true) fs) v d e = let x : at (in_node (fresh false)) fs ≡ d = cc in subst (λ (z : Control). worded z ≡ true) x refl
+after_value (at (type_done false) fs) v d e = absurd cc
+after_value (at (in_node (fresh b)) fs) v d e = absurd cc
+after_value (at (in_node (spaced b)) fs) v d e = let x : at (in_node (fresh false)) fs ≡ d = cc in subst (λ (z : Control). worded z ≡ true) x refl
+after_value (at (in_node later) fs) v d e = absurd cc
+after_value (at property fs) v d e = let x : at (in_node (fresh false)) fs ≡ d = cc in subst (λ (z : Control). worded z ≡ true) x refl
+after_value (at entry_slashdash fs) v d e = let x : at (in_node (fresh false)) fs ≡ d = cc in subst (λ (z : Control). worded z ≡ true) x refl
+after_value (at block_slashdash fs) v d e = absurd cc
+after_value (at kept fs) v d e = absurd cc
+after_value (at kept_slashdash fs) v d e = absurd cc
 
 -- there only what ends a value may follow
 pub next_end : (c : Control) (k : Token) (d : Control) → worded c ≡ true → step c k ≡ Some d → is_end k ≡ true
@@ -218,8 +218,8 @@ next_end (at kept_slashdash fs) k d w e = absurd cc
 
 -- what ends a value goes on with none
 pub fits_next : (c : Control) (k : Token) (d d' : Control) {j : Token} {t r : Text} → step c k ≡ Some d → BeginsToken t j r → step d j ≡ Some d' → Fits k t
-fits_next c (string v) d d' {j = j} e b f = let z = end_behind b (next_end d j d' (behind_string c v d e) f) in (value_end_no_identifier z, value_end_no_quote z)
-fits_next c (value v) d d' {j = j} e b f = let z = end_behind b (next_end d j d' (behind_value c v d e) f) in value_end_no_identifier z
+fits_next c (string v) d d' {j = j} e b f = let z = end_after b (next_end d j d' (after_string c v d e) f) in (value_end_no_identifier z, value_end_no_quote z)
+fits_next c (value v) d d' {j = j} e b f = let z = end_after b (next_end d j d' (after_value c v d e) f) in value_end_no_identifier z
 fits_next c space d d' e b f = tt
 fits_next c newline d d' e b f = tt
 fits_next c slashdash d d' e b f = tt
@@ -248,8 +248,8 @@ word_fits kept fs w = absurd cc
 word_fits kept_slashdash fs w = absurd cc
 
 fits_rest : (c : Control) (k : Token) (p : Phase) (fs : List Frame) → step c k ≡ Some (at p fs) → Fits k (rest_text p fs)
-fits_rest c (string v) p fs e = word_fits p fs (behind_string c v (at p fs) e)
-fits_rest c (value v) p fs e = (word_fits p fs (behind_value c v (at p fs) e)).0
+fits_rest c (string v) p fs e = word_fits p fs (after_string c v (at p fs) e)
+fits_rest c (value v) p fs e = (word_fits p fs (after_value c v (at p fs) e)).0
 fits_rest c space p fs e = tt
 fits_rest c newline p fs e = tt
 fits_rest c slashdash p fs e = tt
@@ -302,9 +302,9 @@ reads (goes {k = k} b e g) l a =
 pub record Viable (t r : Text) : Type 0 where
   pub before : Text
   pub text : t ≡ before ++ r
-  pub behind : Text
+  pub following : Text
   pub nodes : Nodes
-  pub derived : AreNodes true (before ++ behind) [] nodes
+  pub derived : AreNodes true (before ++ following) [] nodes
 
 -- Wherever the machine goes in a text, what it went over begins a text that is derived.
 pub viable : {t r : Text} {d : Control} → Goes (at gap []) t d r → Viable t r
@@ -313,4 +313,4 @@ viable {r = r} {d = at p fs} g =
     let x = carry {of = λ (c : Control). c} (λ c d k e. e) u (no_feed p fs) (λ c k e. fits_rest c k p fs e) g in
     let y = reads x.there (lexes_rest p fs) (ends p fs) in
     let z = derives y.lexed y.accepted in
-    record { before = x.at.piece; text = x.at.here ∙ x.at.text r; behind = x.glue ++ u; nodes = z.0; derived = subst (λ (s : Text). AreNodes true s [] z.0) (x.at.text (x.glue ++ u)) z.1 }
+    record { before = x.at.piece; text = x.at.here ∙ x.at.text r; following = x.glue ++ u; nodes = z.0; derived = subst (λ (s : Text). AreNodes true s [] z.0) (x.at.text (x.glue ++ u)) z.1 }

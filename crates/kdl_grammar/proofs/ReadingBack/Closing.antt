@@ -177,12 +177,12 @@ no_lf s r (inl e) f = cc
 no_lf s r (inr (t, e)) f = let g : 125 ≡ 10 = cc in no_number (subst (λ (z : ℕ). (z == 125) ≡ false) (sym g) refl)
 
 -- nodes after an LF are nodes without it
-pub behind_lf : (r : Text) {s : Text} {xs : data'.Nodes} → NodesEnd s → AreNodes true (10 ∷ r) s xs → AreNodes true r s xs
-behind_lf r {s = s} z (last_gap g) = elim (lf_gap r g) [
+pub after_lf : (r : Text) {s : Text} {xs : data'.Nodes} → NodesEnd s → AreNodes true (10 ∷ r) s xs → AreNodes true r s xs
+after_lf r {s = s} z (last_gap g) = elim (lf_gap r g) [
   | inl e ↦ absurd (no_lf s r z e)
   | inr h ↦ last_gap h
 ]
-behind_lf r z (node_then {t = t} g x e ds) = elim (lf_gap r g) [
+after_lf r z (node_then {t = t} g x e ds) = elim (lf_gap r g) [
   | inl f ↦ absurd (begins_here 10 t r f (node_front x).lf)
   | inr h ↦ node_then h x e ds
 ]
@@ -193,7 +193,7 @@ closing_terminates m = λ r s xs p z d. go r s xs z d (m.closes r)
   where
     go : (r s : Text) (xs : data'.Nodes) → NodesEnd s → AreNodes true r s xs → Terminator (m.piece ++ r) r ⊎ ((v : Text) × (r ≡ 10 ∷ v) × Terminator (m.piece ++ r) v) → (v : Text) × Terminator (m.piece ++ r) v × AreNodes true v s xs
     go r s xs z d (inl x) = (r, x, d)
-    go r s xs z d (inr (v, e, x)) = (v, x, behind_lf v z (subst (λ (t : Text). AreNodes true t s xs) e d))
+    go r s xs z d (inr (v, e, x)) = (v, x, after_lf v z (subst (λ (t : Text). AreNodes true t s xs) e d))
 
 -- what begins an entry is a value end, before any rest
 pub record EndsHere (s r : Text) : Type 0 where
@@ -201,9 +201,9 @@ pub record EndsHere (s r : Text) : Type 0 where
   pub text : s ≡ piece ++ r
   pub ends : (u : Text) → ValueEnd true (piece ++ u)
 
-some_behind : (p r : Text) → (r ≡ [] → ⊥) → p ++ r ≡ [] → ⊥
-some_behind [] r h e = h e
-some_behind (c ∷ p) r h e = cc
+some_after : (p r : Text) → (r ≡ [] → ⊥) → p ++ r ≡ [] → ⊥
+some_after [] r h e = h e
+some_after (c ∷ p) r h e = cc
 
 escline_end : {t s r : Text} → Star Ws s t → EscEnd t r → (r ≡ [] → ⊥) → EndsHere (92 ∷ s) r
 escline_end {t = t} {s = s} {r = r} ss e h =
@@ -218,8 +218,8 @@ escline_end {t = t} {s = s} {r = r} ss e h =
     go u ws (inl y) = ValueEnd.escline (escline ws y)
     go u ws (inr (v, f, y)) = ValueEnd.escline (escline ws y)
 
-behind : {s t r : Text} → EndsHere s t → (p : Text) → t ≡ p ++ r → EndsHere s r
-behind {r = r} m p e = record {
+following : {s t r : Text} → EndsHere s t → (p : Text) → t ≡ p ++ r → EndsHere s r
+following {r = r} m p e = record {
   piece = m.piece ++ p;
   text = m.text ∙ ap (λ (x : Text). m.piece ++ x) e ∙ sym (append_assoc m.piece p r);
   ends = λ u. subst (λ (x : Text). ValueEnd true x) (sym (append_assoc m.piece p u)) (m.ends (p ++ u));
@@ -233,10 +233,10 @@ space_end {r = r} (NodeSpace.ws (Ws.comment (block p))) h =
 space_end (NodeSpace.escline (escline ss e)) h = escline_end ss e h
 
 pub leading_ends : {s r : Text} → EntryLeading s r → (r ≡ [] → ⊥) → EndsHere s r
-leading_ends (leading none (plus n ss)) h = let e = end_spaces ss in behind (space_end n (λ f. some_behind e.piece _ h (sym e.text ∙ f))) e.piece e.text
+leading_ends (leading none (plus n ss)) h = let e = end_spaces ss in following (space_end n (λ f. some_after e.piece _ h (sym e.text ∙ f))) e.piece e.text
 leading_ends (leading (more (dropped none (slashdash ls) i) ds) n) h =
     let e = then (end_lines ls) (then (end_entry i) (then (end_star (λ s r d. end_dropped d) ds) (end_some n))) in
     record { piece = 47 ∷ 45 ∷ e.piece; text = ap (λ (x : Text). 47 ∷ 45 ∷ x) e.text; ends = λ u. ValueEnd.slashdash refl }
 leading_ends (leading (more (dropped (more x ss) m i) ds) n) h =
     let e = then (end_spaces ss) (then (end_slashdash m) (then (end_entry i) (then (end_star (λ s r d. end_dropped d) ds) (end_some n)))) in
-    behind (space_end x (λ f. some_behind e.piece _ h (sym e.text ∙ f))) e.piece e.text
+    following (space_end x (λ f. some_after e.piece _ h (sym e.text ∙ f))) e.piece e.text

@@ -40,9 +40,9 @@ node_before x (last_node y) = next_node x (last_node y)
 node_before x (next_node y ys) = next_node x (next_node y ys)
 
 -- the nodes after the first one
-pub nodes_behind : {P : Rests} {n : Node} {ns : Nodes} → NodesRead P (first n ns) → NodesRead P ns
-nodes_behind (last_node x) = no_node
-nodes_behind (next_node x xs) = xs
+pub nodes_after : {P : Rests} {n : Node} {ns : Nodes} → NodesRead P (first n ns) → NodesRead P ns
+nodes_after (last_node x) = no_node
+nodes_after (next_node x xs) = xs
 
 -- nodes that end by themselves, and nodes
 pub nodes_append : {P : Rests} (ns ms : List Node) → NodesRead Anything (listed_nodes ns) → NodesRead P (listed_nodes ms) → NodesRead P (listed_nodes (ns ++ ms))
@@ -54,7 +54,7 @@ nodes_append (n ∷ m ∷ ns) ms (next_node x xs) y = next_node x (nodes_append 
 pub nodes_drop : {P : Rests} (k : ℕ) (ns : List Node) → NodesRead P (listed_nodes ns) → NodesRead P (listed_nodes (drop k ns))
 nodes_drop zero ns x = x
 nodes_drop (suc k) [] x = x
-nodes_drop (suc k) (n ∷ ns) x = nodes_drop k ns (nodes_behind x)
+nodes_drop (suc k) (n ∷ ns) x = nodes_drop k ns (nodes_after x)
 
 -- the first nodes, before another
 pub nodes_take : {P : Rests} (k : ℕ) (ns : List Node) → k < length ns → NodesRead P (listed_nodes ns) → NodesRead Anything (listed_nodes (take k ns))

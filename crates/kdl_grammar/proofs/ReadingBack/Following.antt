@@ -16,14 +16,14 @@ pub record Follows (u r : Text) : Type 0 where
 pub same_first : (u r : Text) → first u ≡ first r → Follows u r
 same_first u r e = record { lf = λ h. begins_first 10 u r e ∙ h; end = λ h. nothing u (e ∙ ap first h) }
 
-behind_piece : (q u r : Text) → Follows u r → Follows (q ++ u) (q ++ r)
-behind_piece [] u r f = f
-behind_piece (c ∷ q) u r f = same_first _ _ refl
+after_piece : (q u r : Text) → Follows u r → Follows (q ++ u) (q ++ r)
+after_piece [] u r f = f
+after_piece (c ∷ q) u r f = same_first _ _ refl
 
 pub put_follows : {s r : Text} (p : Put s r) (u : Text) → Follows u r → Follows (p.put u) s
 put_follows {r = r} p u f =
     subst (λ (x : Text). Follows (p.put u) x) (sym (p.here ∙ p.text r))
-    (subst (λ (x : Text). Follows x (p.piece ++ r)) (sym (p.text u)) (behind_piece p.piece u r f))
+    (subst (λ (x : Text). Follows x (p.piece ++ r)) (sym (p.text u)) (after_piece p.piece u r f))
 
 -- it comes before each such rest
 pub record Shift (R : Text → Text → Type 0) (s r : Text) : Type 0 where

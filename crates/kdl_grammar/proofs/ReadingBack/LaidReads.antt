@@ -45,10 +45,10 @@ entry_parts : (l k y h r : Text) → l ++ (k ++ (y ++ (h ++ r))) ≡ l ++ k ++ y
 entry_parts l k y h r = simp append_assoc
 
 -- an entry
-laid_front : {q after_key after_eq before after behind p s t u : Text} {key ty : Option Identifier} → Is EntryLeading q p s → LaidKey false [] key after_key after_eq s t → LaidType false [] ty before after behind t u → Front u
+laid_front : {q after_key after_eq before after following p s t u : Text} {key ty : Option Identifier} → Is EntryLeading q p s → LaidKey false [] key after_key after_eq s t → LaidType false [] ty before after following t u → Front u
     → {r w x : Text} {v : Value} {es : List entry_data'.Entry} {k : data'.Children} → IsPlainValue true r w v → AfterName true w x es k
-    → AfterName true (q ++ print_key key after_key after_eq ++ print_type ty before after ++ behind ++ r) x (record { key = option_map (λ (i : Identifier). i.value) key; ty = option_map (λ (i : Identifier). i.value) ty; value = v } ∷ es) k
-laid_front {q = q} {after_key = after_key} {after_eq = after_eq} {before = before} {after = after} {behind = behind} {key = key} {ty = ty} l k y c {r = r} {w = w} {x = x} {v = v} {es = es} {k = kids} d rest =
+    → AfterName true (q ++ print_key key after_key after_eq ++ print_type ty before after ++ following ++ r) x (record { key = option_map (λ (i : Identifier). i.value) key; ty = option_map (λ (i : Identifier). i.value) ty; value = v } ∷ es) k
+laid_front {q = q} {after_key = after_key} {after_eq = after_eq} {before = before} {after = after} {following = following} {key = key} {ty = ty} l k y c {r = r} {w = w} {x = x} {v = v} {es = es} {k = kids} d rest =
     let f = value_follows c d in
     let Y = shift_type [] y in
     let K = shift_key [] k in
@@ -59,7 +59,7 @@ laid_front {q = q} {after_key = after_key} {after_eq = after_eq} {before = befor
     let fk = put_follows K.at (Y.at.put r) fy in
     let l' = is_shift L l (K.at.put (Y.at.put r)) fk in
     let i : LaidItem false [] q [] (record { offset = 0; len = 0 }) _ (K.at.put (Y.at.put r)) w = item {repr = (end_plain d).piece} k' y' (record { is = d; text = (end_plain d).text }) in
-    let text = l'.text ∙ ap (λ (z : Text). q ++ z) (key_printed false [] k' ∙ ap (λ (z : Text). print_key key after_key after_eq ++ z) (type_printed false [] y')) ∙ entry_parts q (print_key key after_key after_eq) (print_type ty before after) behind r in
+    let text = l'.text ∙ ap (λ (z : Text). q ++ z) (key_printed false [] k' ∙ ap (λ (z : Text). print_key key after_key after_eq ++ z) (type_printed false [] y')) ∙ entry_parts q (print_key key after_key after_eq) (print_type ty before after) following r in
     subst (λ (z : Text). AfterName true z x (record { key = option_map (λ (i : Identifier). i.value) key; ty = option_map (λ (i : Identifier). i.value) ty; value = v } ∷ es) kids) text
     (first_entry l'.is (item_of false [] i) rest)
 
@@ -71,13 +71,13 @@ begins_parts : (l k y h r : Text) → l ++ (k ++ y ++ h ++ r) ≡ l ++ k ++ y ++
 begins_parts l k y h r = simp append_assoc
 
 free_reads : {e : Entry} {s r : Text} → LaidEntry false [] e s r → EntryReads e
-free_reads (laid_entry {leading = q} {s = s} {t = t} l (item {after_key = after_key} {after_eq = after_eq} {before = before} {after = after} {behind = behind} {repr = repr} {t = t'} {u = u} {key = key} {ty = ty} {v = v} k y d) x) =
+free_reads (laid_entry {leading = q} {s = s} {t = t} l (item {after_key = after_key} {after_eq = after_eq} {before = before} {after = after} {following = following} {repr = repr} {t = t'} {u = u} {key = key} {ty = ty} {v = v} k y d) x) =
     let c = value_front d.is in
-    let m = leading_ends l.is (some_front t (print_key key after_key after_eq) t' (key_printed false [] k) (some_front t' (print_type ty before after) (behind ++ u) (type_printed false [] y) (some_front (behind ++ u) behind u refl c.some))) in
+    let m = leading_ends l.is (some_front t (print_key key after_key after_eq) t' (key_printed false [] k) (some_front t' (print_type ty before after) (following ++ u) (type_printed false [] y) (some_front (following ++ u) following u refl c.some))) in
     let piece : m.piece ≡ q = append_cancel_right m.piece q t (sym m.text ∙ l.text) in
     record {
-      begins = λ r. subst (λ (z : Text). ValueEnd true z) (begins_parts q (print_key key after_key after_eq) (print_type ty before after) behind r)
-          (subst (λ (z : Text). ValueEnd true (z ++ (print_key key after_key after_eq ++ print_type ty before after ++ behind ++ r))) piece (m.ends (print_key key after_key after_eq ++ print_type ty before after ++ behind ++ r)));
+      begins = λ r. subst (λ (z : Text). ValueEnd true z) (begins_parts q (print_key key after_key after_eq) (print_type ty before after) following r)
+          (subst (λ (z : Text). ValueEnd true (z ++ (print_key key after_key after_eq ++ print_type ty before after ++ following ++ r))) piece (m.ends (print_key key after_key after_eq ++ print_type ty before after ++ following ++ r)));
       front = λ p rest. laid_front l k y c p rest;
       value = λ e. here (is_move_value (move_plain d.is) d _ e);
       trailing = refl;
@@ -196,7 +196,7 @@ module _ (exact : Bool) (whole : Text) where
 
   mutual
     node_reads : {P : Rests} {q z w p s u : Text} {at : SourceSpan} {x : Node} → LaidNode exact whole q z w at x s u → Is (Gap true) q p s → SameEnd P (z ++ w) u → NodeReads P x
-    node_reads {P = P} (laid_node {leading = q} {end = z} {trailing = w} {before = b} {after = a} {behind = h} {before_children = bc} {before_terminator = bt} {at = at} {ty = ty} {name = name} {es = es} {k = k} y i e c) g m =
+    node_reads {P = P} (laid_node {leading = q} {end = z} {trailing = w} {before = b} {after = a} {following = h} {before_children = bc} {before_terminator = bt} {at = at} {ty = ty} {name = name} {es = es} {k = k} y i e c) g m =
         let f = node_format q b a h bc bt z w in
         let head : Head = record { ty = ty; name = name; entries = es; format = Some f; span = at } in
         reads refl (head_reads head f g (free_type exact whole [] y) (free_identifier exact whole [] i) (entries_read e)) (children_read f c refl) (end_reads P k f c m)
@@ -230,13 +230,13 @@ plain_document {exact = exact} {whole = whole} (without_nodes {leading = q} g sp
 plain_document {exact = exact} {whole = whole} (laid_nodes {trailing = t} ns g sp) = DocumentReads.no_bom {o = Some (record { leading = []; trailing = t })} (content_reads exact whole ns g)
 
 bom_document : {exact : Bool} {whole s : Text} {d : Document} → LaidContent exact whole d s [] → DocumentReads (with_bom d)
-bom_document {exact = exact} {whole = whole} (without_nodes {leading = q} g sp) = DocumentReads.behind_bom {o = Some (record { leading = 0xFEFF ∷ q; trailing = [] })} refl (gap_reads exact whole g)
-bom_document {exact = exact} {whole = whole} (laid_nodes {trailing = t} ns g sp) = DocumentReads.behind_bom {o = Some (record { leading = 0xFEFF ∷ []; trailing = t })} refl (content_reads exact whole ns g)
+bom_document {exact = exact} {whole = whole} (without_nodes {leading = q} g sp) = DocumentReads.after_bom {o = Some (record { leading = 0xFEFF ∷ q; trailing = [] })} refl (gap_reads exact whole g)
+bom_document {exact = exact} {whole = whole} (laid_nodes {trailing = t} ns g sp) = DocumentReads.after_bom {o = Some (record { leading = 0xFEFF ∷ []; trailing = t })} refl (content_reads exact whole ns g)
 
 -- a document that is laid as a whole text
 pub laid_reads : (exact : Bool) (t : Text) (d : Document) → LaidDocument exact d t → DocumentReads d
 laid_reads exact t d (LaidDocument.no_bom c) = plain_document c
-laid_reads exact t d (LaidDocument.behind_bom c) = bom_document c
+laid_reads exact t d (LaidDocument.after_bom c) = bom_document c
 
 text_parts : (z w r : Text) → z ++ (w ++ r) ≡ (z ++ w) ++ r
 text_parts z w r = simp append_assoc

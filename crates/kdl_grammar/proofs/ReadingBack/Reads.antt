@@ -152,8 +152,8 @@ whole_text l ns t c = subst (λ (u : Text). AreNodes true u [] (nodes_data ns)) 
 -- what a document prints is one, with its data
 pub reads_derived : (d : Document) → DocumentReads d → IsDocument true (print_document d 0) (document_data d)
 reads_derived (document o at ns) (DocumentReads.no_bom c) = IsDocument.no_bom (whole_text (leading_text o) ns (trailing_text o) c)
-reads_derived (document o at ns) (DocumentReads.behind_bom {leading = l} e c) =
-    subst (λ (u : Text). IsDocument true (u ++ print_nodes ns 0 ++ trailing_text o) (nodes_data ns)) (sym e) (IsDocument.behind_bom (whole_text l ns (trailing_text o) c))
+reads_derived (document o at ns) (DocumentReads.after_bom {leading = l} e c) =
+    subst (λ (u : Text). IsDocument true (u ++ print_nodes ns 0 ++ trailing_text o) (nodes_data ns)) (sym e) (IsDocument.after_bom (whole_text l ns (trailing_text o) c))
 
 -- what a node prints is a document with that node alone
 pub node_derived : (n : Node) → NodeReads TextEnd n → IsDocument true (print_node n 0) (data'.first (node_data n) data'.none)

@@ -5,7 +5,7 @@ use Rattle.std.specs.Prelude.{◌≡◌, Bool, true, false, List, [], ◌∷◌,
 use Rattle.kdl_text.specs.Chars.{Text}
 use Rattle.kdl_value.specs.Data.{Value, text}
 use Rattle.kdl_lexer.specs.Tokens.{Token, space, newline, slashdash, string, value, left, right, opening, closing, equals, semicolon, BeginsToken}
-use Rattle.kdl_entry.specs.Internal.Parts.{TypeParts, KeyParts, type_of, before_name, after_name, behind_type, identifier_at, entry_at}
+use Rattle.kdl_entry.specs.Internal.Parts.{TypeParts, KeyParts, type_of, before_name, after_name, after_type, identifier_at, entry_at}
 use Rattle.kdl_entry.specs.Places.{span_of, between}
 use Rattle.kdl_entry.specs.Tree.{Identifier, Entry}
 use Rattle.kdl_grammar.specs.Laid.{node_format, content_span, with_bom}
@@ -111,7 +111,7 @@ node_at whole u k before_children before_terminator end s = node (record {
   ty = type_of u.ty;
   name = u.name;
   entries = u.entries;
-  format = Some (node_format u.leading (before_name u.ty) (after_name u.ty) (behind_type u.ty) before_children before_terminator end []);
+  format = Some (node_format u.leading (before_name u.ty) (after_name u.ty) (after_type u.ty) before_children before_terminator end []);
   span = span_of whole u.start s;
 }) k
 
@@ -197,7 +197,7 @@ worded whole c v l fs from s r = given whole c None (text v) (Some (pending c (i
 
 -- the type, if what follows its `)` begins at s
 abbrev pub typed : Text → Identifier → Text → Text → Text → Option TypeParts
-typed before i after a s = Some (record { name = i; before = before; after = after; behind = between a s })
+typed before i after a s = Some (record { name = i; before = before; after = after; following = between a s })
 
 -- the token k is in s before r, in the text `whole`
 abbrev pub step : Text → State → Token → Text → Text → Option State
@@ -219,9 +219,9 @@ step whole (at (type_done b c q i d a) l fs from) space s r = Some (at (type_don
 step whole (at (type_done b c q i d a) l fs from) (string v) s r = Some (given whole c (typed q i d a s) (text v) None l fs from s r)
 step whole (at (type_done b c q i d a) l fs from) (value v) s r = where_value b (given whole c (typed q i d a s) v None l fs from s r)
 step whole (at (property c k b a) l fs from) space s r = Some (at (property c k b a) l fs from)
-step whole (at (property c k b a) l fs from) (string v) s r = Some (given whole (keyed c (record { name = k; before = b; behind = between a s })) None (text v) None l fs from s r)
-step whole (at (property c k b a) l fs from) (value v) s r = Some (given whole (keyed c (record { name = k; before = b; behind = between a s })) None v None l fs from s r)
-step whole (at (property c k b a) l fs from) left s r = Some (at (type_open true (keyed c (record { name = k; before = b; behind = between a s })) r) l fs from)
+step whole (at (property c k b a) l fs from) (string v) s r = Some (given whole (keyed c (record { name = k; before = b; following = between a s })) None (text v) None l fs from s r)
+step whole (at (property c k b a) l fs from) (value v) s r = Some (given whole (keyed c (record { name = k; before = b; following = between a s })) None v None l fs from s r)
+step whole (at (property c k b a) l fs from) left s r = Some (at (type_open true (keyed c (record { name = k; before = b; following = between a s })) r) l fs from)
 step whole (at (in_node u p) l fs from) space s r = Some (at (in_node u (spaced_of p)) l fs from)
 step whole (at (in_node u p) l fs from) newline s r = Some (at gap (ended (closed whole u no_children [] (between from s) (between s r) s) l) fs (origin u from r))
 step whole (at (in_node u p) l fs from) semicolon s r = Some (at gap (ended (closed whole u no_children [] (between from s) (between s r) s) l) fs (origin u from r))
@@ -276,4 +276,4 @@ pub data Runs (whole : Text) (d : Document) : State → Text → Type 0 where
 -- the machine's result on a text, which it reads after a U+FEFF if the text begins with one
 pub data AnswersDocument : Text → Document → Type 0 where
   no_bom : {t : Text} {d : Document} → Runs t d (initial t) t → AnswersDocument t d
-  behind_bom : {t : Text} {d : Document} → Runs (0xFEFF ∷ t) d (initial t) t → AnswersDocument (0xFEFF ∷ t) (with_bom d)
+  after_bom : {t : Text} {d : Document} → Runs (0xFEFF ∷ t) d (initial t) t → AnswersDocument (0xFEFF ∷ t) (with_bom d)

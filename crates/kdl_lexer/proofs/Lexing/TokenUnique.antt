@@ -173,24 +173,24 @@ unfolding ends_value
 closes c h = grind (arith, nat_tests)
 
 -- before a token that may come after a value, the value ends
-pub end_behind : {s r : Text} {k : Token} → BeginsToken s k r → is_end k ≡ true → ValueEnd true s
-end_behind (t_space n) e = space_ends n
-end_behind (t_newline n) e = break_ends n
-end_behind t_slashdash e = ValueEnd.slashdash refl
-end_behind (t_string p) e = cc
-end_behind (t_value p) e = cc
-end_behind t_left e = cc
-end_behind t_bom e = cc
-end_behind t_right e = ValueEnd.punctuation (closes 41 refl)
-end_behind t_opening e = ValueEnd.punctuation (closes 123 refl)
-end_behind t_closing e = ValueEnd.punctuation (closes 125 refl)
-end_behind t_equals e = ValueEnd.punctuation (closes 61 refl)
-end_behind t_semicolon e = ValueEnd.punctuation (closes 59 refl)
+pub end_after : {s r : Text} {k : Token} → BeginsToken s k r → is_end k ≡ true → ValueEnd true s
+end_after (t_space n) e = space_ends n
+end_after (t_newline n) e = break_ends n
+end_after t_slashdash e = ValueEnd.slashdash refl
+end_after (t_string p) e = cc
+end_after (t_value p) e = cc
+end_after t_left e = cc
+end_after t_bom e = cc
+end_after t_right e = ValueEnd.punctuation (closes 41 refl)
+end_after t_opening e = ValueEnd.punctuation (closes 123 refl)
+end_after t_closing e = ValueEnd.punctuation (closes 125 refl)
+end_after t_equals e = ValueEnd.punctuation (closes 61 refl)
+end_after t_semicolon e = ValueEnd.punctuation (closes 59 refl)
 
 -- where the next token may come after a value, the value ends
 pub value_end : {s : Text} {ks : List Token} → Lexes s ks → may_end ks ≡ true → ValueEnd true s
 value_end done e = ValueEnd.nothing
-value_end (next t l) e = end_behind t e
+value_end (next t l) e = end_after t e
 
 -- where no string, number or keyword begins with a character of theirs, no token begins
 piece_alone : {c : ℕ} {s r : Text} {k : Token} → begins_piece c ≡ true → ((r v : Text) → StringPiece (c ∷ s) r v → ⊥) → ((r : Text) (v : Value) → PlainPiece (c ∷ s) r v → ⊥) → BeginsToken (c ∷ s) k r → kind_of k ≡ k_piece → ⊥

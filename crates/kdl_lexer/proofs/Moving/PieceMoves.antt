@@ -112,9 +112,9 @@ base_none d h = go (d == 120 || d == 88) (d == 111 || d == 79) (d == 98 || d == 
     go false false true h = absurd cc
     go false false false h = refl
 
-behind_zero : (b : Bool) (s : Text) → (if b then starts is_base s else false) ≡ false → (u : Text) → starts is_base u ≡ starts is_base s → (if b then starts is_base u else false) ≡ false
-behind_zero true s h u e = e ∙ h
-behind_zero false s h u e = refl
+after_zero : (b : Bool) (s : Text) → (if b then starts is_base s else false) ≡ false → (u : Text) → starts is_base u ≡ starts is_base s → (if b then starts is_base u else false) ≡ false
+after_zero true s h u e = e ∙ h
+after_zero false s h u e = refl
 
 no_base_test : (c : ℕ) (s : Text) → base_prefix (c ∷ s) ≡ None → (if c == 48 then starts is_base s else false) ≡ false
 no_base_test c [] h = go (c == 48)
@@ -137,7 +137,7 @@ test_no_base c (d ∷ s) h = go (c == 48) h
     go false h = refl
 
 no_base_alike : (c : ℕ) (s u : Text) → Alike u s → base_prefix (c ∷ s) ≡ None → base_prefix (c ∷ u) ≡ None
-no_base_alike c s u a h = test_no_base c u (behind_zero (c == 48) s (no_base_test c s h) u (a.same is_base base_letter))
+no_base_alike c s u a h = test_no_base c u (after_zero (c == 48) s (no_base_test c s h) u (a.same is_base base_letter))
 
 move_sign : {t s : Text} {n : Bool} → Sign t s n → MoveAlike (λ t s. Sign t s n) t s
 move_sign (Sign.none x) = record { at = stands; there = λ u a. Sign.none (a.same is_sign sign_class ∙ x) }

@@ -4,7 +4,7 @@ use Rattle.kdl_text.specs.Chars.{Text}
 use Rattle.kdl_lexer.specs.Tokens.{Token, Lexes, done, next}
 use Rattle.kdl_control.specs.Control.{Control, at, gap, step, accepts, held}
 use Rattle.kdl_control.specs.NodeControl.{NodeControl, node_start, node_step}
-use Rattle.kdl_diagnostics.specs.TextControl.{TextControl, in_document, in_node, text_step, text_finish, Takes, ends, takes, AcceptsDocument, no_bom, behind_bom}
+use Rattle.kdl_diagnostics.specs.TextControl.{TextControl, in_document, in_node, text_step, text_finish, Takes, ends, takes, AcceptsDocument, no_bom, after_bom}
 use Rattle.kdl_grammar.specs.Going.{here, goes}
 use Rattle.kdl_grammar.specs.GoingOn.{Derived, DerivedNode}
 use Rattle.kdl_grammar.specs.Grammar.{IsDocument}
@@ -25,7 +25,7 @@ lexed (takes {d = d} {k = k} b e a) m q =
 
 pub accepted_document : {t : Text} → AcceptsDocument t → Derived t
 accepted_document (no_bom a) = let (ks, l, h) = lexed a (at gap []) refl in let (xs, n) = derives l h in (xs, IsDocument.no_bom n)
-accepted_document (behind_bom a) = let (ks, l, h) = lexed a (at gap []) refl in let (xs, n) = derives l h in (xs, IsDocument.behind_bom n)
+accepted_document (after_bom a) = let (ks, l, h) = lexed a (at gap []) refl in let (xs, n) = derives l h in (xs, IsDocument.after_bom n)
 
 -- the tokens of a node text
 over_node : {c : TextControl} {t : Text} → Takes c t → (m : NodeControl) → c ≡ in_node m → Passes m t

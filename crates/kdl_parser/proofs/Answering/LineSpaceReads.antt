@@ -64,9 +64,9 @@ cut_lines : {s r : Text} {k : Token} → Cuts s k r → of_lines k ≡ true → 
 cut_lines (one t) e a = begun_lines t e a
 cut_lines (spaces (plus n m)) e a = more (LineSpace.space n) (before_spaces m a)
 
-behind_cut : {s r : Text} {k : Token} → Cuts s k r → Star LineSpace s [] → (of_lines k ≡ true) × Star LineSpace r []
-behind_cut (one t) a = after_lines t a
-behind_cut (spaces (plus n m)) a = (refl, after_spaces m (after_lines (t_space n) a).1)
+after_cut : {s r : Text} {k : Token} → Cuts s k r → Star LineSpace s [] → (of_lines k ≡ true) × Star LineSpace r []
+after_cut (one t) a = after_lines t a
+after_cut (spaces (plus n m)) a = (refl, after_spaces m (after_lines (t_space n) a).1)
 
 -- the text t is line-spaces where what is left before the lexer is
 abbrev pub Lines : Here → Text → Type 0
@@ -78,7 +78,7 @@ lines_start t here e = rw e (λ a. a, λ a. a)
 pub lines_go_on : (t : Text) (old new : Here) (k : CodeToken) → Lines old t → HandsOut old k new → is_line_space k.kind ≡ true → Lines new t
 lines_go_on t old new k g h e =
     let f : of_lines (kind_view k.kind) ≡ true = sym (lines_kind k.kind) ∙ e in
-    (λ a. g.0 (cut_lines h.cuts f a), λ a. (behind_cut h.cuts (g.1 a)).1)
+    (λ a. g.0 (cut_lines h.cuts f a), λ a. (after_cut h.cuts (g.1 a)).1)
 
 pub lines_nearer : (old new : Here) (k : CodeToken) → HandsOut old k new → length new.rest < length old.rest
 lines_nearer old new k h = cut_shorter h.cuts
@@ -86,7 +86,7 @@ lines_nearer old new k h = cut_shorter h.cuts
 -- a token that is none, a failure of the lexer, and the end
 pub no_line_space : (t : Text) (old new : Here) (k : CodeToken) → Lines old t → HandsOut old k new → is_line_space k.kind ≡ false → AreLineSpaces t (Err Faulty)
 no_line_space t old new k g h e a =
-    let f : of_lines (kind_view k.kind) ≡ true = (behind_cut h.cuts (g.1 a)).0 in
+    let f : of_lines (kind_view k.kind) ≡ true = (after_cut h.cuts (g.1 a)).0 in
     let l = lines_kind k.kind in
     cc
 

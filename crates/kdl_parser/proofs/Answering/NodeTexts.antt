@@ -25,7 +25,7 @@ use Rattle.kdl_grammar.proofs.LawProofs.{one_node}
 use Rattle.kdl_value.specs.Tree.{text_of}
 use Rattle.kdl_parser.specs.Internal.Answered.{AnswersParts}
 use Rattle.kdl_parser.specs.Internal.LineSpaces.{AreLineSpaces}
-use Rattle.kdl_parser.specs.Internal.NodeText.{with_text_behind, text_by, RunsOnText, RunsToNodes, NoNode}
+use Rattle.kdl_parser.specs.Internal.NodeText.{with_text_after, text_by, RunsOnText, RunsToNodes, NoNode}
 use Rattle.kdl_parser.specs.Internal.Parts.{document_by, nodes_tree}
 use Rattle.kdl_parser.specs.declared.node_text.NodeText.{NodeText}
 use Rattle.kdl_parser.specs.declared.node_parts.DocumentParts.{DocumentParts}
@@ -46,10 +46,10 @@ pub no_lines : (t : Text) (f : Option DocumentFormat) (ns : Nodes) → RunsToNod
 no_lines t f ns a n x i = n (one_there t f ns x a i).2
 
 -- the one node, laid as a text of its own
-node_laid : {t q z w s r : Text} {at : SourceSpan} {n : Node} → (v : Text) (place : SourceSpan) → LaidNode true t q z w at n s r → LaidNode true t q z v place (with_text_behind n v place) s r
+node_laid : {t q z w s r : Text} {at : SourceSpan} {n : Node} → (v : Text) (place : SourceSpan) → LaidNode true t q z w at n s r → LaidNode true t q z v place (with_text_after n v place) s r
 node_laid v place (laid_node y i es k) = laid_node y i es k
 
-text_laid : {t : Text} {f : Option DocumentFormat} {at : SourceSpan} {n : Node} → LaidContent true t (document f at (first n none)) t [] → Star LineSpace (trailing_text f) [] → LaidNodeText true t (with_text_behind n (trailing_text f) (span_of t t []))
+text_laid : {t : Text} {f : Option DocumentFormat} {at : SourceSpan} {n : Node} → LaidContent true t (document f at (first n none)) t [] → Star LineSpace (trailing_text f) [] → LaidNodeText true t (with_text_after n (trailing_text f) (span_of t t []))
 text_laid {t = t} (with_nodes {trailing = w} {t = s} (a_node g x z l no_node) k y) ls =
     let e : s ≡ w = k.text ∙ append-nil w in
     laid_node_text g (node_laid w (span_of t t []) x) z (record { is = subst (λ (u : Text). Star LineSpace u []) (sym e) ls; text = k.text }) refl
@@ -62,8 +62,8 @@ whole_span bs v =
     ap (λ (k : ℕ). record { offset = k; len = bytes (chars bs) - 0 }) n ∙ ap (λ (k : ℕ). record { offset = 0; len = k }) m
 
 is_alone : (bs : List ℕ) (f : Option DocumentFormat) (n : Node) → IsUtf8 bs → RunsToNodes (chars bs) f (first n none) → Star LineSpace (trailing_text f) []
-    → LaidNodeText true (chars bs) (with_text_behind n (trailing_text f) (record { offset = 0; len = length bs }))
-is_alone bs f n v (at, a) ls = subst (λ (p : SourceSpan). LaidNodeText true (chars bs) (with_text_behind n (trailing_text f) p)) (whole_span bs v) (text_laid (sound_runs (chars bs) a).0 ls)
+    → LaidNodeText true (chars bs) (with_text_after n (trailing_text f) (record { offset = 0; len = length bs }))
+is_alone bs f n v (at, a) ls = subst (λ (p : SourceSpan). LaidNodeText true (chars bs) (with_text_after n (trailing_text f) p)) (whole_span bs v) (text_laid (sound_runs (chars bs) a).0 ls)
 
 -- what the text is, by the node that is laid in it
 pub found : (t : Text) (n : Node) → LaidNodeText true t n → IsNodeText true t (node_data n)
@@ -105,7 +105,7 @@ pub laid_there : {N : Type 0} (tree : N → Node) (bs : List ℕ) (u : Text) (f 
     → u ≡ trailing_text f → Star LineSpace u [] → n.span ≡ record { offset = 0; len = length bs } → LaidNodeText true (chars bs) (text_by tree n)
 laid_there tree bs u f n v a w e ls g =
     let ls' = subst (λ (z : Text). Star LineSpace z []) e ls in
-    let h : text_by tree n ≡ with_text_behind (tree n.node) (trailing_text f) (record { offset = 0; len = length bs }) = ap (λ (p : SourceSpan). with_text_behind (tree n.node) (text_of n.trailing) p) g ∙ ap (λ (z : Text). with_text_behind (tree n.node) z (record { offset = 0; len = length bs })) w in
+    let h : text_by tree n ≡ with_text_after (tree n.node) (trailing_text f) (record { offset = 0; len = length bs }) = ap (λ (p : SourceSpan). with_text_after (tree n.node) (text_of n.trailing) p) g ∙ ap (λ (z : Text). with_text_after (tree n.node) z (record { offset = 0; len = length bs })) w in
     subst (λ (z : Node). LaidNodeText true (chars bs) z) (sym h) (is_alone bs f (tree n.node) v a ls')
 
 pub none_there : (t u : Text) (f : Option DocumentFormat) (n : Node) (e : LexFailure) → RunsToNodes t f (first n none) → u ≡ trailing_text f → AreLineSpaces u (Err e) → NoNode t e

@@ -41,7 +41,7 @@ not_begins t n u e = let f = ap (begins 0xFEFF) e in cc
 
 refused_plain : {t : Text} {d : Document} → AnswersDocument t d → ((u : Text) → t ≡ 0xFEFF ∷ u → ⊥) → ((d : Document) → Runs t d (initial t) t → ⊥) → ⊥
 refused_plain (AnswersDocument.no_bom {d = d} a) n f = f d a
-refused_plain (AnswersDocument.behind_bom {t = s} a) n f = n s refl
+refused_plain (AnswersDocument.after_bom {t = s} a) n f = n s refl
 
 pub plain_answer : {N : Type 0} (tree : N → Node) (t : Text) (p : DocumentParts N) → AnswersParts tree t t (Ok p) → AnswersDocumentText tree t (Ok (record { parts = p; has_bom = false }))
 plain_answer tree t p a = AnswersDocument.no_bom a
@@ -51,17 +51,17 @@ plain_failure tree t Faulty n a = λ d x. refused_plain x (not_begins t n) a
 plain_failure tree t Memory n a = tt
 
 -- a text that begins with U+FEFF
-refused_behind_bom : {t : Text} {d : Document} → AnswersDocument t d → (u : Text) → t ≡ 0xFEFF ∷ u → ((d : Document) → Runs t d (initial u) u → ⊥) → ⊥
-refused_behind_bom (AnswersDocument.no_bom {t = t} {d = d} a) u e f = no_bom_here t u d (subst (λ (z : Text). Runs t d (initial z) z) e a)
-refused_behind_bom (AnswersDocument.behind_bom {t = s} {d = d} a) u e f = let g : s ≡ u = cc in f d (subst (λ (z : Text). Runs (0xFEFF ∷ s) d (initial z) z) g a)
+refused_after_bom : {t : Text} {d : Document} → AnswersDocument t d → (u : Text) → t ≡ 0xFEFF ∷ u → ((d : Document) → Runs t d (initial u) u → ⊥) → ⊥
+refused_after_bom (AnswersDocument.no_bom {t = t} {d = d} a) u e f = no_bom_here t u d (subst (λ (z : Text). Runs t d (initial z) z) e a)
+refused_after_bom (AnswersDocument.after_bom {t = s} {d = d} a) u e f = let g : s ≡ u = cc in f d (subst (λ (z : Text). Runs (0xFEFF ∷ s) d (initial z) z) g a)
 
 pub bom_answer : {N : Type 0} (tree : N → Node) (t u : Text) (p : DocumentParts N) → t ≡ 0xFEFF ∷ u → AnswersParts tree t u (Ok p) → AnswersDocumentText tree t (Ok (record { parts = p; has_bom = true }))
 bom_answer tree t u p e a =
     let b : Runs (0xFEFF ∷ u) (document_by tree p) (initial u) u = subst (λ (z : Text). Runs z (document_by tree p) (initial u) u) e a in
-    subst (λ (z : Text). AnswersDocument z (with_bom (document_by tree p))) (sym e) (AnswersDocument.behind_bom b)
+    subst (λ (z : Text). AnswersDocument z (with_bom (document_by tree p))) (sym e) (AnswersDocument.after_bom b)
 
 pub bom_failure : {N : Type 0} (tree : N → Node) (t u : Text) (e : LexFailure) → t ≡ 0xFEFF ∷ u → AnswersParts tree t u (Err e) → AnswersDocumentText tree t (Err e)
-bom_failure tree t u Faulty e a = λ d x. refused_behind_bom x u e a
+bom_failure tree t u Faulty e a = λ d x. refused_after_bom x u e a
 bom_failure tree t u Memory e a = tt
 
 -- what is returned is what the grammar derives, laid in the text, and prints it

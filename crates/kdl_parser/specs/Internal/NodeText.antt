@@ -18,11 +18,11 @@ trailed t None = None
 trailed t (Some f) = Some (record f { trailing = t })
 
 -- the node with the text after its terminator, and the span of the whole text
-abbrev pub with_text_behind : Node → Text → SourceSpan → Node
-with_text_behind (node h k) t at = node (record h { format = trailed t h.format; span = at }) k
+abbrev pub with_text_after : Node → Text → SourceSpan → Node
+with_text_after (node h k) t at = node (record h { format = trailed t h.format; span = at }) k
 
 abbrev pub text_by : {N : Type 0} → (N → Node) → NodeText N → Node
-text_by tree n = with_text_behind (tree n.node) (text_of n.trailing) n.span
+text_by tree n = with_text_after (tree n.node) (text_of n.trailing) n.span
 
 -- what the machine returns on the text
 abbrev pub RunsOnText : Text → Document → Type 0

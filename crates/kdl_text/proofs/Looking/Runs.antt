@@ -74,3 +74,6 @@ ascii_stops p old s n c i h l = ascii_run p old s n i (go (chars s) h i.stops)
     go (d ∷ q) h k =
         let same : c ≡ d = cc in
         neither (nat_lt d 128) (p d) (ap (λ b. not b && p d) (ap (λ x. nat_lt x 128) (sym same) ∙ l)) k
+
+-- a run of characters of one class, from its start to its end
+pub ruleset runs = (run_begins, run_turn, run_stops, run_ends, run_counts)

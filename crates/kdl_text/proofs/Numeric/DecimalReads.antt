@@ -46,11 +46,11 @@ ten_stays (other {c = c} {d = d} {r = r} h) = absurd (no_ten c d r h)
 module _ (f : Front) (t u : Text) (x : IsFront f t u) where
   -- a decimal is of base 10, and goes on
   pub front_decimal : (r w : Text) → Decimal t r w → (radix_of f.radix ≡ 10) × DecimalPart u r
-  front_decimal r w d = part_of t x.behind_sign x.behind_base u x.digits r f.minus (radix_of f.radix) w x.sign x.base x.int d
+  front_decimal r w d = part_of t x.after_sign x.after_base u x.digits r f.minus (radix_of f.radix) w x.sign x.base x.int d
 
   pub front_trailing : false ≡ not (starts is_identifier_char u) → (r : Text) (z : ℤ) → WholeNumber t r z → ⊥
   front_trailing h r z w =
-      let e = (whole_is t x.behind_sign x.behind_base u x.digits r f.minus (radix_of f.radix) z x.sign x.base x.int w).ends in
+      let e = (whole_is t x.after_sign x.after_base u x.digits r f.minus (radix_of f.radix) z x.sign x.base x.int w).ends in
       let y : false ≡ true = h ∙ ap not e in cc
 
   -- a whole number ends here, and so no decimal
@@ -66,7 +66,7 @@ module _ (f : Front) (t u : Text) (x : IsFront f t u) where
       found y = rw r (whole x.sign x.base x.int (ends _ h) y refl)
 
       none : (v : Text) (w : NumberValue) → fits f.minus (digits_value (radix_of f.radix) x.digits) ≡ false → IsNumber t v w → ⊥
-      none v w y (is_whole {z = z} i) = let c = (whole_is t x.behind_sign x.behind_base u x.digits v f.minus (radix_of f.radix) z x.sign x.base x.int i).fits in cc
+      none v w y (is_whole {z = z} i) = let c = (whole_is t x.after_sign x.after_base u x.digits v f.minus (radix_of f.radix) z x.sign x.base x.int i).fits in cc
       none v w y (is_decimal {w = w'} d) = let c = part_begins (front_decimal v w' d).1 in let e = ends _ h in cc
 
       go : (b : Bool) → fits f.minus (digits_value (radix_of f.radix) x.digits) ≡ b
@@ -87,8 +87,8 @@ module _ (f : Front) (t u : Text) (x : IsFront f t u) where
   -- a decimal was read
   pub front_part : (r p : Text) → radix_of f.radix ≡ 10 → DecimalPart u r → t ≡ p ++ r → Decimal t r (plain p)
   front_part r p e d g =
-      let m = ten_stays (subst (λ q. BasePrefix x.behind_sign x.behind_base q) e x.base) in
-      let i : Integer 10 x.behind_sign u x.digits = subst (λ q. Integer 10 q u x.digits) m (subst (λ q. Integer q x.behind_base u x.digits) e x.int) in
+      let m = ten_stays (subst (λ q. BasePrefix x.after_sign x.after_base q) e x.base) in
+      let i : Integer 10 x.after_sign u x.digits = subst (λ q. Integer 10 q u x.digits) m (subst (λ q. Integer q x.after_base u x.digits) e x.int) in
       decimal p x.sign i d g refl
 
 -- a number that was read is the only one
@@ -284,10 +284,10 @@ no_underscore_here c s ne = go (c == 95) refl
 module _ (f : Front) (t u : Text) (x : IsFront f t u) where
   begun : (rest : Text) → rest ≡ u → Begun f.radix t rest
   begun rest e =
-      rw e (record { behind_sign = x.behind_sign; behind_base = x.behind_base; digits = x.digits; negative = f.minus; sign = x.sign; base = x.base; int = x.int })
+      rw e (record { after_sign = x.after_sign; after_base = x.after_base; digits = x.digits; negative = f.minus; sign = x.sign; base = x.base; int = x.int })
 
   range : (rest : Text) → rest ≡ u → fits f.minus (digits_value (radix_of f.radix) x.digits) ≡ false → FaultAt OutOfRange t rest
-  range rest e h = rw e (f.radix, record { behind_sign = x.behind_sign; behind_base = x.behind_base; digits = x.digits; negative = f.minus; sign = x.sign; base = x.base; int = x.int }, h)
+  range rest e h = rw e (f.radix, record { after_sign = x.after_sign; after_base = x.after_base; digits = x.digits; negative = f.minus; sign = x.sign; base = x.base; int = x.int }, h)
 
   pub number_range : (rest : Text) (result : Result Number NumberFailure) → rest ≡ u → ((q : ℕ) → Counts f.magnitude q → result ≡ (if fits f.minus q then Ok (IntegerNumber (signed f.minus q)) else Err (Fault OutOfRange))) → IsNumberFault result t rest
   number_range rest result e g = rw (g (digits_value (radix_of f.radix) x.digits) x.counts) (go (fits f.minus (digits_value (radix_of f.radix) x.digits)) refl)

@@ -27,8 +27,8 @@ three_front : (m : ℕ) (x : Text) → 34 ∷ 34 ∷ 34 ∷ (times m 34 ++ x) �
 three_front m x = ap (λ z. 34 ∷ 34 ∷ z) (times_front m 34 x) ∙ ap (λ z. 34 ∷ z) (times_front m 34 (34 ∷ x)) ∙ times_front m 34 (34 ∷ 34 ∷ x)
 
 -- one quote less
-pub one_behind : (n i : ℕ) (o : Bool) (a b : Here) (t : Text) → i < n → Ate 34 o a b → a.rest ≡ times (n - i) 34 ++ t → b.rest ≡ times (n - (i + 1)) 34 ++ t
-one_behind n i o a b t h did e = go o did
+pub one_after : (n i : ℕ) (o : Bool) (a b : Here) (t : Text) → i < n → Ate 34 o a b → a.rest ≡ times (n - i) 34 ++ t → b.rest ≡ times (n - (i + 1)) 34 ++ t
+one_after n i o a b t h did e = go o did
   where
     there : a.rest ≡ 34 ∷ (times (n - (i + 1)) 34 ++ t)
     there = let m : n - i ≡ suc (n - (i + 1)) = omega arith in e ∙ ap (λ k. times k 34 ++ t) m
@@ -41,8 +41,8 @@ pub one_look : (c : ℕ) (o : Bool) (a b : Here) → Ate c o a b → (b.steps �
 one_look c true a b t = (omega (arith, t.2), omega (arith, t.2), t.3)
 one_look c false a b (n, e) = let s = ap (λ z. z.steps) e in (omega (arith, s), omega (arith, s), ap (λ z. z.text) e)
 
-pub no_more_behind : (n i : ℕ) (s t : Text) → n ≤ i → s ≡ times (n - i) 34 ++ t → s ≡ t
-no_more_behind n i s t h e = let m : n - i ≡ 0 = omega arith in e ∙ ap (λ k. times k 34 ++ t) m
+pub no_more_after : (n i : ℕ) (s t : Text) → n ≤ i → s ≡ times (n - i) 34 ++ t → s ≡ t
+no_more_after n i s t h e = let m : n - i ≡ 0 = omega arith in e ∙ ap (λ k. times k 34 ++ t) m
 
 -- a quote, more of them, and number signs
 module _ (n k : ℕ) (q a b : Text) (some : 0 < n) (first : q ≡ 34 ∷ a) (t : a ≡ times k 34 ++ b) (s : begins 34 b ≡ false) where

@@ -54,8 +54,8 @@ abbrev pub sliced : Text → Here → Here
 sliced p h = record h { steps = raise h.steps (bytes p) }
 
 -- the place is in the cursor's text, and some piece lies between the two
-abbrev pub Behind : Position → Here → Type 0
-Behind old new = (p : Text) × (old.rest ≡ p ++ new.rest) × IsPart new.text old.rest
+abbrev pub Reached : Position → Here → Type 0
+Reached old new = (p : Text) × (old.rest ≡ p ++ new.rest) × IsPart new.text old.rest
 
 -- some piece lies between the two places
 abbrev pub Ahead : Position → Position → Type 0

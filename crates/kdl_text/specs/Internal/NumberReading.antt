@@ -60,23 +60,23 @@ ReadsInteger radix None s rest = (rest ≡ s) × (starts (is_digit_of radix) s �
 
 -- the front of a number, up to the end of its first integer
 pub record IsFront (f : Front) (t rest : Text) : Type 0 where
-  pub behind_sign : Text
-  pub behind_base : Text
+  pub after_sign : Text
+  pub after_base : Text
   pub digits : Text
-  pub sign : Sign t behind_sign f.minus
-  pub base : BasePrefix behind_sign behind_base (radix_of f.radix)
-  pub int : Integer (radix_of f.radix) behind_base rest digits
+  pub sign : Sign t after_sign f.minus
+  pub base : BasePrefix after_sign after_base (radix_of f.radix)
+  pub int : Integer (radix_of f.radix) after_base rest digits
   pub counts : Counts f.magnitude (digits_value (radix_of f.radix) digits)
 
 -- a sign, the prefix of the base and an integer of it begin the text and leave u
 pub record Begun (b : Radix) (t u : Text) : Type 0 where
-  pub behind_sign : Text
-  pub behind_base : Text
+  pub after_sign : Text
+  pub after_base : Text
   pub digits : Text
   pub negative : Bool
-  pub sign : Sign t behind_sign negative
-  pub base : BasePrefix behind_sign behind_base (radix_of b)
-  pub int : Integer (radix_of b) behind_base u digits
+  pub sign : Sign t after_sign negative
+  pub base : BasePrefix after_sign after_base (radix_of b)
+  pub int : Integer (radix_of b) after_base u digits
 
 -- a point, and no digit where the text is left
 abbrev pub PointFault : Text → Text → Type 0

@@ -88,13 +88,9 @@ fn line_content<'a>(cursor: &mut Cursor<'a>, signs: usize) -> Result<Piece<'a>, 
 }
 
 /// The place after this many of the quotes at a place.
-fn behind_quotes<'a>(
-    place: &Checkpoint<'a>,
-    count: usize,
-    cursor: &mut Cursor<'a>,
-) -> Checkpoint<'a>
+fn after_quotes<'a>(place: &Checkpoint<'a>, count: usize, cursor: &mut Cursor<'a>) -> Checkpoint<'a>
     requires { IsPart cursor.old.text place.now.rest }
-    ensures behind { (t : Text) → place.now.rest ≡ times count 34 ++ t → result.rest ≡ t }
+    ensures following { (t : Text) → place.now.rest ≡ times count 34 ++ t → result.rest ≡ t }
     ensures returned { Returned count cursor.old cursor.new }
 {
     let here = cursor.checkpoint();
@@ -102,9 +98,9 @@ fn behind_quotes<'a>(
     for _ in 0..count {
         let _ = cursor.eat('"');
     }
-    let behind = cursor.checkpoint();
+    let following = cursor.checkpoint();
     cursor.go_to(&here);
-    behind
+    following
 }
 
 /// After the quote at a place: advances past the quotes that follow, and past the number signs if
@@ -134,7 +130,7 @@ fn closing_place<'a>(
     if eat_signs(cursor, signs) < signs {
         return None;
     }
-    Some(behind_quotes(quote, more - 2, cursor))
+    Some(after_quotes(quote, more - 2, cursor))
 }
 
 /// Reads a line, and the newline that ends it or the closing of three quotes and `signs` number

@@ -149,11 +149,11 @@ plain_decimal {t = t} {r = r} (decimal {s = s} {u = u} p a i (part {s = v} f e s
     let point = plain_fraction f in
     let power = plain_exponent e in
     let at_power = power.reads [] refl in
-    let behind_whole = plain power.piece ++ [] in
-    let at_point = point.reads behind_whole (record { digits = at_power.digits; point = at_power.point }) in
-    let behind_sign = plain point.piece ++ behind_whole in
-    let at_whole = whole.reads behind_sign at_point.digits in
-    let unsigned = plain whole.piece ++ behind_sign in
+    let after_whole = plain power.piece ++ [] in
+    let at_point = point.reads after_whole (record { digits = at_power.digits; point = at_power.point }) in
+    let after_sign = plain point.piece ++ after_whole in
+    let at_whole = whole.reads after_sign at_point.digits in
+    let unsigned = plain whole.piece ++ after_sign in
     let all = plain signed.piece ++ unsigned in
     let same : plain p ≡ all = joined p signed.piece whole.piece point.piece power.piece r t s u v cut signed.text whole.text point.text power.text in
     let once : all ≡ plain all = sym (ap plain (sym same) ∙ plain_twice p ∙ same) in

@@ -76,11 +76,11 @@ never_point c t n h r b (Fraction.fraction i) = true≢false (sym (integer_digit
 some_fraction : (t : Text) → SomeFraction t ⊎ NoFraction t
 unfolding NoFraction
 some_fraction [] = inl (record { rest = []; point = false; fraction = Fraction.none refl })
-some_fraction (c ∷ t) = elim (cases_Bool (c == 46)) [ inl h ↦ behind h (some_integer t) | inr h ↦ inl (record { rest = c ∷ t; point = false; fraction = Fraction.none h }) ]
+some_fraction (c ∷ t) = elim (cases_Bool (c == 46)) [ inl h ↦ following h (some_integer t) | inr h ↦ inl (record { rest = c ∷ t; point = false; fraction = Fraction.none h }) ]
   where
-    behind : (c == 46) ≡ true → SomeInteger t ⊎ (starts (is_digit_of 10) t ≡ false) → SomeFraction (c ∷ t) ⊎ ((r : Text) (b : Bool) → Fraction (c ∷ t) r b → ⊥)
-    behind h (inl i) = inl (record { rest = i.rest; point = true; fraction = subst (λ (d : ℕ). Fraction (d ∷ t) i.rest true) (sym (eqb-true c 46 h)) (Fraction.fraction i.int) })
-    behind h (inr n) = inr (never_point c t n h)
+    following : (c == 46) ≡ true → SomeInteger t ⊎ (starts (is_digit_of 10) t ≡ false) → SomeFraction (c ∷ t) ⊎ ((r : Text) (b : Bool) → Fraction (c ∷ t) r b → ⊥)
+    following h (inl i) = inl (record { rest = i.rest; point = true; fraction = subst (λ (d : ℕ). Fraction (d ∷ t) i.rest true) (sym (eqb-true c 46 h)) (Fraction.fraction i.int) })
+    following h (inr n) = inr (never_point c t n h)
 
 record SomeExponent (t : Text) : Type 0 where
   rest : Text
@@ -97,11 +97,11 @@ never_exponent c t n h r b (Exponent.exponent x g i) = true≢false (sym (intege
 some_exponent : (t : Text) → SomeExponent t ⊎ NoExponent t
 unfolding NoExponent
 some_exponent [] = inl (record { rest = []; power = false; exponent = Exponent.none refl })
-some_exponent (c ∷ t) = elim (cases_Bool (is_exponent_letter c)) [ inl h ↦ behind h (some_integer (some_sign t).rest) | inr h ↦ inl (record { rest = c ∷ t; power = false; exponent = Exponent.none h }) ]
+some_exponent (c ∷ t) = elim (cases_Bool (is_exponent_letter c)) [ inl h ↦ following h (some_integer (some_sign t).rest) | inr h ↦ inl (record { rest = c ∷ t; power = false; exponent = Exponent.none h }) ]
   where
-    behind : is_exponent_letter c ≡ true → SomeInteger (some_sign t).rest ⊎ (starts (is_digit_of 10) (some_sign t).rest ≡ false) → SomeExponent (c ∷ t) ⊎ ((r : Text) (b : Bool) → Exponent (c ∷ t) r b → ⊥)
-    behind h (inl i) = inl (record { rest = i.rest; power = true; exponent = Exponent.exponent h (some_sign t).sign i.int })
-    behind h (inr n) = inr (never_exponent c t n h)
+    following : is_exponent_letter c ≡ true → SomeInteger (some_sign t).rest ⊎ (starts (is_digit_of 10) (some_sign t).rest ≡ false) → SomeExponent (c ∷ t) ⊎ ((r : Text) (b : Bool) → Exponent (c ∷ t) r b → ⊥)
+    following h (inl i) = inl (record { rest = i.rest; power = true; exponent = Exponent.exponent h (some_sign t).sign i.int })
+    following h (inr n) = inr (never_exponent c t n h)
 
 -- after its sign and its integer a decimal that is the whole text goes on
 rest_part : {s t u w : Text} {m : Bool} → Sign s t m → Integer 10 t u w → Decimal s [] s → DecimalPart u [] × (plain s ≡ s)

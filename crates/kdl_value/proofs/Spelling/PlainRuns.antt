@@ -68,17 +68,17 @@ front_as_is old new piece r e =
     subst (λ x. escaped_text x ≡ x) same r.as_is
 
 -- a run, and the character after it
-pub escaped-run : (done s run next behind : List ℕ) (c : ℕ) (all : List ℕ) → chars s ≡ chars run ++ chars next → escaped_text (chars run) ≡ chars run → chars next ≡ c ∷ chars behind
+pub escaped-run : (done s run next following : List ℕ) (c : ℕ) (all : List ℕ) → chars s ≡ chars run ++ chars next → escaped_text (chars run) ≡ chars run → chars next ≡ c ∷ chars following
     → done ++ encode_utf8_all (escaped_text (chars s)) ≡ all
-    → ((done ++ encode_utf8_all (chars run)) ++ encode_utf8_all (char_text c)) ++ encode_utf8_all (escaped_text (chars behind)) ≡ all
-escaped-run done s run next behind c all e as_is more h =
+    → ((done ++ encode_utf8_all (chars run)) ++ encode_utf8_all (char_text c)) ++ encode_utf8_all (escaped_text (chars following)) ≡ all
+escaped-run done s run next following c all e as_is more h =
     let front = encode_utf8_all (chars run) in
     let one = encode_utf8_all (char_text c) in
-    let back = encode_utf8_all (escaped_text (chars behind)) in
-    let text : escaped_text (chars s) ≡ chars run ++ (char_text c ++ escaped_text (chars behind)) =
-    ap escaped_text (e ∙ ap (λ x. chars run ++ x) more) ∙ escaped-append (chars run) (c ∷ chars behind) ∙ ap (λ x. x ++ escaped_text (c ∷ chars behind)) as_is in
+    let back = encode_utf8_all (escaped_text (chars following)) in
+    let text : escaped_text (chars s) ≡ chars run ++ (char_text c ++ escaped_text (chars following)) =
+    ap escaped_text (e ∙ ap (λ x. chars run ++ x) more) ∙ escaped-append (chars run) (c ∷ chars following) ∙ ap (λ x. x ++ escaped_text (c ∷ chars following)) as_is in
     let bytes : encode_utf8_all (escaped_text (chars s)) ≡ front ++ (one ++ back) =
-    ap encode_utf8_all text ∙ encodes-append (chars run) (char_text c ++ escaped_text (chars behind)) ∙ ap (λ x. front ++ x) (encodes-append (char_text c) (escaped_text (chars behind))) in
+    ap encode_utf8_all text ∙ encodes-append (chars run) (char_text c ++ escaped_text (chars following)) ∙ ap (λ x. front ++ x) (encodes-append (char_text c) (escaped_text (chars following))) in
     append_assoc (done ++ front) one back ∙ append_assoc done front (one ++ back) ∙ ap (λ x. done ++ x) (sym bytes) ∙ h
 
 -- a run that ends the text

@@ -12,8 +12,8 @@ use Rattle.kdl.proofs.Printing.PrintingLoop.{none_left_is}
 use Rattle.kdl.proofs.clone.copy_nodes.Goals as goal
 
 -- the nodes after that of an open block
-abbrev behind : Open → List KdlNode
-behind o = o.behind.now
+abbrev following : Open → List KdlNode
+following o = o.following.now
 
 pub left-init : goal.left-init
 left-init c =
@@ -22,17 +22,17 @@ left-init c =
 
 pub left-smaller-in-Some-children : goal.left-smaller-in-Some-children
 left-smaller-in-Some-children c =
-    let o : Open = record { node = c.in-Some.node; block = c.in-Some-children.block; behind = c.in-Some.behind; before = c.replace-before.result } in
-    let first : c.left.rest.now ≡ c.in-Some.node.now ∷ c.in-Some.behind.now = search rules in
+    let o : Open = record { node = c.in-Some.node; block = c.in-Some-children.block; following = c.in-Some.following; before = c.replace-before.result } in
+    let first : c.left.rest.now ≡ c.in-Some.node.now ∷ c.in-Some.following.now = search rules in
     let has : (out-KdlNode c.in-Some.node.now).children ≡ Some c.in-Some-children.block.now = search rules in
     let pushed : c.push.new.self.items ≡ c.left.above.items ++ o ∷ [] = search rules in
-    omega (arith, block_counted behind c.in-Some.node.now c.in-Some-children.block.now o c.left.above.items has, ap (λ r. count_left behind r c.left.above.items) first, ap (count_left behind c.nodes-rest.result.now) pushed, ap (λ r. count_left behind r (c.left.above.items ++ o ∷ [])) c.nodes-rest.ensures.value)
+    omega (arith, block_counted following c.in-Some.node.now c.in-Some-children.block.now o c.left.above.items has, ap (λ r. count_left following r c.left.above.items) first, ap (count_left following c.nodes-rest.result.now) pushed, ap (λ r. count_left following r (c.left.above.items ++ o ∷ [])) c.nodes-rest.ensures.value)
 
 pub left-preserved-in-Some-children : goal.left-preserved-in-Some-children
 left-preserved-in-Some-children c =
-    let o : Open = record { node = c.in-Some.node; block = c.in-Some-children.block; behind = c.in-Some.behind; before = c.replace-before.result } in
+    let o : Open = record { node = c.in-Some.node; block = c.in-Some-children.block; following = c.in-Some.following; before = c.replace-before.result } in
     let above = c.left.above.items in
-    let first : c.left.rest.now ≡ c.in-Some.node.now ∷ c.in-Some.behind.now = search rules in
+    let first : c.left.rest.now ≡ c.in-Some.node.now ∷ c.in-Some.following.now = search rules in
     let has : (out-KdlNode c.in-Some.node.now).children ≡ Some c.in-Some-children.block.now = search rules in
     let pushed : c.push.new.self.items ≡ above ++ o ∷ [] = search rules in
     let before : c.replace-before.result ≡ c.left.made = search rules in
@@ -41,23 +41,23 @@ left-preserved-in-Some-children c =
     ∙ ap (λ ns. outermost (above ++ o ∷ []) (map node_tree ns ++ map node_tree c.nodes-rest.result.now)) made
     ∙ ap (λ ns. outermost (above ++ o ∷ []) (map node_tree ns)) c.nodes-rest.ensures.value
     ∙ block_opened o above has
-    ∙ ap (λ b. outermost above (map node_tree b.items ++ (node_tree c.in-Some.node.now ∷ map node_tree c.in-Some.behind.now))) before
+    ∙ ap (λ b. outermost above (map node_tree b.items ++ (node_tree c.in-Some.node.now ∷ map node_tree c.in-Some.following.now))) before
     ∙ ap (λ r. outermost above (map node_tree c.left.made.items ++ map node_tree r)) (sym first)
     ∙ c.left.invariant
 
 pub left-smaller-in_default-children : goal.left-smaller-in_default-children
 left-smaller-in_default-children c =
-    let first : c.left.rest.now ≡ c.in-Some.node.now ∷ c.in-Some.behind.now = search rules in
-    omega (arith, line_counted behind c.in-Some.node.now c.in-Some.behind.now c.left.above.items, ap (λ r. count_left behind r c.left.above.items) first)
+    let first : c.left.rest.now ≡ c.in-Some.node.now ∷ c.in-Some.following.now = search rules in
+    omega (arith, line_counted following c.in-Some.node.now c.in-Some.following.now c.left.above.items, ap (λ r. count_left following r c.left.above.items) first)
 
 pub left-preserved-in_default-children : goal.left-preserved-in_default-children
 left-preserved-in_default-children c =
     let above = c.left.above.items in
     let n = c.in-Some.node.now in
-    let first : c.left.rest.now ≡ n ∷ c.in-Some.behind.now = search rules in
+    let first : c.left.rest.now ≡ n ∷ c.in-Some.following.now = search rules in
     let has : (out-KdlNode n).children ≡ None = search rules in
     let made : c.push-in_default-children.new.self.items ≡ c.left.made.items ++ c.in_ok-with_children.field-0 ∷ [] = search rules in
-    ap (outermost above) (line_made c.left.made.items c.push-in_default-children.new.self.items n c.in_ok-with_children.field-0 (map node_tree c.in-Some.behind.now) made (c.in_ok-with_children.ensures ∙ none_copied n has))
+    ap (outermost above) (line_made c.left.made.items c.push-in_default-children.new.self.items n c.in_ok-with_children.field-0 (map node_tree c.in-Some.following.now) made (c.in_ok-with_children.ensures ∙ none_copied n has))
     ∙ ap (λ r. outermost above (map node_tree c.left.made.items ++ map node_tree r)) (sym first)
     ∙ c.left.invariant
 
@@ -76,7 +76,7 @@ left-smaller c =
     let above = c.left.above in
     let before : above.items ≡ c.pop.new.self.items ++ o ∷ [] = search rules in
     let none_left = none_left_is c.left.rest.now c.in_default.ensures.cases in
-    omega (arith, end_counted behind o c.pop.new.self.items, ap (λ r. count_left behind r above.items) none_left, ap (count_left behind []) before)
+    omega (arith, end_counted following o c.pop.new.self.items, ap (λ r. count_left following r above.items) none_left, ap (count_left following []) before)
 
 pub left-preserved : goal.left-preserved
 left-preserved c =

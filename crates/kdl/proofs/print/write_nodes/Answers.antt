@@ -14,8 +14,8 @@ use Rattle.kdl.proofs.NodeCounts.{line_counted, block_counted, end_counted}
 use Rattle.kdl.proofs.print.write_nodes.Goals as goal
 
 -- the nodes after that of an open block
-abbrev behind : Open → List KdlNode
-behind o = o.behind.now
+abbrev following : Open → List KdlNode
+following o = o.following.now
 
 pub left-init : goal.left-init
 left-init g c = λ plain. (
@@ -26,18 +26,18 @@ left-init g c = λ plain. (
 
 pub left-smaller-in-Some-children : goal.left-smaller-in-Some-children
 left-smaller-in-Some-children g c =
-    let o : Open = record { node = c.in-Some.node; block = c.in-Some-children.block; behind = c.in-Some.behind } in
-    let first : c.left.rest.now ≡ c.in-Some.node.now ∷ c.in-Some.behind.now = search rules in
+    let o : Open = record { node = c.in-Some.node; block = c.in-Some-children.block; following = c.in-Some.following } in
+    let first : c.left.rest.now ≡ c.in-Some.node.now ∷ c.in-Some.following.now = search rules in
     let has : (out-KdlNode c.in-Some.node.now).children ≡ Some c.in-Some-children.block.now = search rules in
     let pushed : c.push.new.self.items ≡ c.left.above.items ++ o ∷ [] = search rules in
-    omega (arith, block_counted behind c.in-Some.node.now c.in-Some-children.block.now o c.left.above.items has, ap (λ r. count_left behind r c.left.above.items) first, ap (count_left behind c.nodes-rest.result.now) pushed, ap (λ r. count_left behind r (c.left.above.items ++ o ∷ [])) c.nodes-rest.ensures.value)
+    omega (arith, block_counted following c.in-Some.node.now c.in-Some-children.block.now o c.left.above.items has, ap (λ r. count_left following r c.left.above.items) first, ap (count_left following c.nodes-rest.result.now) pushed, ap (λ r. count_left following r (c.left.above.items ++ o ∷ [])) c.nodes-rest.ensures.value)
 
 pub left-preserved-in-Some-children : goal.left-preserved-in-Some-children
 left-preserved-in-Some-children g c = λ plain.
     let p = c.left.invariant plain in
-    let o : Open = record { node = c.in-Some.node; block = c.in-Some-children.block; behind = c.in-Some.behind } in
+    let o : Open = record { node = c.in-Some.node; block = c.in-Some-children.block; following = c.in-Some.following } in
     let above = c.left.above in
-    let first : c.left.rest.now ≡ c.in-Some.node.now ∷ c.in-Some.behind.now = search rules in
+    let first : c.left.rest.now ≡ c.in-Some.node.now ∷ c.in-Some.following.now = search rules in
     let has : (out-KdlNode c.in-Some.node.now).children ≡ Some c.in-Some-children.block.now = search rules in
     let done : IsOk c.write_opening.result = search rules in
     let pushed : c.push.new.self.items ≡ above.items ++ o ∷ [] = search rules in
@@ -50,20 +50,20 @@ left-preserved-in-Some-children g c = λ plain.
 
 pub left-smaller-in_default-children : goal.left-smaller-in_default-children
 left-smaller-in_default-children g c =
-    let first : c.left.rest.now ≡ c.in-Some.node.now ∷ c.in-Some.behind.now = search rules in
-    omega (arith, line_counted behind c.in-Some.node.now c.in-Some.behind.now c.left.above.items, ap (λ r. count_left behind r c.left.above.items) first)
+    let first : c.left.rest.now ≡ c.in-Some.node.now ∷ c.in-Some.following.now = search rules in
+    omega (arith, line_counted following c.in-Some.node.now c.in-Some.following.now c.left.above.items, ap (λ r. count_left following r c.left.above.items) first)
 
 pub left-preserved-in_default-children : goal.left-preserved-in_default-children
 left-preserved-in_default-children g c = λ plain.
     let p = c.left.invariant plain in
     let above = c.left.above in
     let n = c.in-Some.node.now in
-    let first : c.left.rest.now ≡ n ∷ c.in-Some.behind.now = search rules in
+    let first : c.left.rest.now ≡ n ∷ c.in-Some.following.now = search rules in
     let has : (out-KdlNode n).children ≡ None = search rules in
     let done : IsOk c.write_line.result = search rules in
     let at : c.len-in_default-children.result ≡ length above.items = search rules in
     written_more _ _ _ _ p.0 _ _ _ _ p.1 p.2 (c.write_line.ensures p.1.plain done)
-    (line_left n c.in-Some.behind.now above.items c.len-in_default-children.result at has ∙ ap (λ r. print_left r above.items) (sym first))
+    (line_left n c.in-Some.following.now above.items c.len-in_default-children.result at has ∙ ap (λ r. print_left r above.items) (sym first))
 
 pub returns-in_default-pop : goal.returns-in_default-pop
 returns-in_default-pop g c = λ plain fine.
@@ -80,7 +80,7 @@ left-smaller g c =
     let above = c.left.above in
     let before : above.items ≡ c.pop.new.self.items ++ o ∷ [] = search rules in
     let none_left = none_left_is c.left.rest.now c.in_default.ensures.cases in
-    omega (arith, end_counted behind o c.pop.new.self.items, ap (λ r. count_left behind r above.items) none_left, ap (count_left behind []) before)
+    omega (arith, end_counted following o c.pop.new.self.items, ap (λ r. count_left following r above.items) none_left, ap (count_left following []) before)
 
 pub left-preserved : goal.left-preserved
 left-preserved g c = λ plain.

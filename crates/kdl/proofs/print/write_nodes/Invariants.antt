@@ -13,4 +13,4 @@ invariant-left g l =
     → (bs : List ℕ) × HasWritten g.W.Write.write_str_gives l.fn.f bs l.f × (bs ++ encode_utf8_all (print_left l.rest l.above.items) ≡ encode_utf8_all (print_nodes (nodes_tree l.nodes) 0))
 
 abbrev pub decreases-left : goal.decreases-left
-decreases-left g l = count_left (λ o. o.behind.now) l.rest l.above.items
+decreases-left g l = count_left (λ o. o.following.now) l.rest l.above.items

@@ -50,6 +50,6 @@ pub tokens-preserved : goal.tokens-preserved
 tokens-preserved c =
     let h = rw c.in-Ok-Some.field-0-is at c.in-Ok-Some.ensures.lexed in
     let f = rw c.if-not-branch.false at c.in_ok-take.ensures in
-    subst (λ (n : ℕ). NodeGoes c.next.new.self (control_view c.take.new.self) (chars c.args.text.now) n) (sym c.end_behind-last.ensures)
+    subst (λ (n : ℕ). NodeGoes c.next.new.self (control_view c.take.new.self) (chars c.args.text.now) n) (sym c.end_after-last.ensures)
     (node_goes_on (chars c.args.text.now) c.tokens.lexer c.next.new.self (control_view c.tokens.control) (control_view c.take.new.self) c.in-Ok-Some.token c.tokens.last c.tokens.invariant h c.next.ensures.moves f
     (sym c.is_between_nodes.ensures ∙ c.if-is_between_nodes.false))

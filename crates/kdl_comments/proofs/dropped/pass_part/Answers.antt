@@ -37,7 +37,7 @@ returns-in-Some c =
     let h = rw c.in-Ok-Some.field-0-is at c.in-Ok-Some.ensures.lexed in
     let f = rw c.if-not-branch.false at c.in_ok-take.ensures in
     part_over (place_view c.args.place) (chars c.args.text.now) c.tokens.lexer c.next.new.self (control_view c.tokens.control) (control_view c.take.new.self) c.in-Ok-Some.token c.tokens.last c.part_end.result.at c.part_end.result.is_block c.tokens.invariant h
-    c.next.ensures.moves (sym c.ends_word.ensures ∙ c.if-ends_word.false) f (c.part_end.ensures.at ∙ c.end_behind-last.ensures) c.in-Some.ensures.0 (c.part_end.ensures.block ∙ c.in-Some.ensures.1)
+    c.next.ensures.moves (sym c.ends_word.ensures ∙ c.if-ends_word.false) f (c.part_end.ensures.at ∙ c.end_after-last.ensures) c.in-Some.ensures.0 (c.part_end.ensures.block ∙ c.in-Some.ensures.1)
 
 pub tokens-smaller : goal.tokens-smaller
 tokens-smaller c =
@@ -48,6 +48,6 @@ pub tokens-preserved : goal.tokens-preserved
 tokens-preserved c =
     let h = rw c.in-Ok-Some.field-0-is at c.in-Ok-Some.ensures.lexed in
     let f = rw c.if-not-branch.false at c.in_ok-take.ensures in
-    subst (λ (n : ℕ). PartGoes (place_view c.args.place) c.next.new.self (control_view c.take.new.self) (chars c.args.text.now) n) (sym c.end_behind-last.ensures)
+    subst (λ (n : ℕ). PartGoes (place_view c.args.place) c.next.new.self (control_view c.take.new.self) (chars c.args.text.now) n) (sym c.end_after-last.ensures)
     (part_goes_on (place_view c.args.place) (chars c.args.text.now) c.tokens.lexer c.next.new.self (control_view c.tokens.control) (control_view c.take.new.self) c.in-Ok-Some.token c.tokens.last c.tokens.invariant h c.next.ensures.moves
     (sym c.ends_word.ensures ∙ c.if-ends_word.false) f c.in_default.ensures)

@@ -15,4 +15,4 @@ returns c = gap_end (chars c.args.text.now) (chars c.pieces.rest.now) c.pieces.i
 
 pub returns-in-Some-Last : goal.returns-in-Some-Last
 returns-in-Some-Last c =
-    gap_last (chars c.args.text.now) (chars c.pieces.rest.now) c.in-Some-Last.lacks c.pieces.invariant.1 (rw (c.in-Some-Last.is, c.in-Some-Last.field-0-is) at c.in_ok-behind.ensures)
+    gap_last (chars c.args.text.now) (chars c.pieces.rest.now) c.in-Some-Last.lacks c.pieces.invariant.1 (rw (c.in-Some-Last.is, c.in-Some-Last.field-0-is) at c.in_ok-following.ensures)

@@ -14,13 +14,13 @@ place_piece-requires c = some_chars c.pieces.rest.now c.pieces.invariant.0 (sym 
 
 pub pieces-smaller : goal.pieces-smaller
 pieces-smaller c =
-    place_shorter (place_view c.pieces.place) (place_view c.in-Some.next) (chars c.pieces.rest.now) (chars c.in-Some.behind.now) (chars c.same-rest.result.now) (items_view c.pieces.items.items) (items_view c.place_piece.new.items.items)
+    place_shorter (place_view c.pieces.place) (place_view c.in-Some.next) (chars c.pieces.rest.now) (chars c.in-Some.following.now) (chars c.same-rest.result.now) (items_view c.pieces.items.items) (items_view c.place_piece.new.items.items)
     (rw c.in-Some.is at c.in_ok-next.ensures) c.same-rest.ensures
 
 pub pieces-preserved : goal.pieces-preserved
 pieces-preserved c = (
   c.same-rest.utf8,
-  place_turn (place_view c.args.place) (place_view c.pieces.place) (place_view c.in-Some.next) (chars c.args.text.now) (chars c.pieces.rest.now) (chars c.in-Some.behind.now) (chars c.same-rest.result.now)
+  place_turn (place_view c.args.place) (place_view c.pieces.place) (place_view c.in-Some.next) (chars c.args.text.now) (chars c.pieces.rest.now) (chars c.in-Some.following.now) (chars c.same-rest.result.now)
       (items_view c.pieces.items.items) (items_view c.place_piece.new.items.items) c.pieces.invariant.1 (rw c.in-Some.is at c.in_ok-next.ensures) c.same-rest.ensures,
 )
 

@@ -10,11 +10,11 @@ returns-in-Some c = block_start c.cut.result.0 c.cut.result.1 c.requires.at c.at
 pub returns-in-None : goal.returns-in-None
 returns-in-None c = spaces_start c.cut.result.0 c.cut.result.1 c.requires.at c.at.ensures c.cut.ensures.parts (rw c.in-Space.is at c.requires.token) c.requires.no_backslash c.in-None.ensures
 
-pub returns-in-Some-behind_char : goal.returns-in-Some-behind_char
-returns-in-Some-behind_char c = line_start c.cut.result.0 c.cut.result.1 c.requires.at c.at.ensures c.cut.ensures.parts c.line.result.0 (rw c.in-Newline.is at c.requires.token) c.in-Some-behind_char.ensures c.line.ensures.parts c.line.ensures.end
+pub returns-in-Some-after_char : goal.returns-in-Some-after_char
+returns-in-Some-after_char c = line_start c.cut.result.0 c.cut.result.1 c.requires.at c.at.ensures c.cut.ensures.parts c.line.result.0 (rw c.in-Newline.is at c.requires.token) c.in-Some-after_char.ensures c.line.ensures.parts c.line.ensures.end
 
-pub returns-in-None-behind_char : goal.returns-in-None-behind_char
-returns-in-None-behind_char c = newline_start c.cut.result.0 c.cut.result.1 c.requires.at c.at.ensures c.cut.ensures.parts (rw c.in-Newline.is at c.requires.token) c.in-None-behind_char.ensures
+pub returns-in-None-after_char : goal.returns-in-None-after_char
+returns-in-None-after_char c = newline_start c.cut.result.0 c.cut.result.1 c.requires.at c.at.ensures c.cut.ensures.parts (rw c.in-Newline.is at c.requires.token) c.in-None-after_char.ensures
 
 pub returns-in-Slashdash : goal.returns-in-Slashdash
 returns-in-Slashdash c = dash_start (rw c.in-Slashdash.is at c.requires.token)

@@ -2,7 +2,7 @@ use Rattle.std.proofs.Common.{refl, ap, ◌∙◌, sym, ◌++◌, arith}
 use Rattle.kdl_text.specs.Spans.{bytes}
 use Rattle.kdl_text.proofs.Looking.MovesJoin.{moves_then, fewer_bytes}
 use Rattle.kdl_text.proofs.Looking.Parts.{part_moved, part_past, part_same}
-use Rattle.kdl_diagnostics.proofs.Passing.{behind_then}
+use Rattle.kdl_diagnostics.proofs.Passing.{after_then}
 use Rattle.kdl_diagnostics.proofs.LexemeMoves.{begun, stands_at}
 use Rattle.kdl_diagnostics.proofs.lexemes.backslash_lexeme.Goals as goal
 
@@ -14,7 +14,7 @@ pub returns-in-Unclosed-clause-lexeme : goal.returns-in-Unclosed-clause-lexeme
 returns-in-Unclosed-clause-lexeme c =
     let m = begun c.args.start c.args.cursor.now c.go_to.new.self c.requires.start.spans c.go_to.ensures in
     record {
-      stands = c.unclosed.ensures.stands c.args.start.place (behind_then _ _ _ m.piece c.in-Unclosed.ensures.comment.start.before);
+      stands = c.unclosed.ensures.stands c.args.start.place (after_then _ _ _ m.piece c.in-Unclosed.ensures.comment.start.before);
       more = λ e. cc;
       went = omega (arith, c.requires.start.fewer, ap (λ z. bytes z.rest) c.go_to.ensures, fewer_bytes c.after_backslash.ensures.moves);
     }

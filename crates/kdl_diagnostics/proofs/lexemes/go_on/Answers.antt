@@ -1,7 +1,7 @@
 use Rattle.std.proofs.Common.{arith}
 use Rattle.std.proofs.lemmas.Str.{len_utf8_bounds}
 use Rattle.kdl_text.proofs.Looking.MovesJoin.{moves_then, moves_one}
-use Rattle.kdl_diagnostics.proofs.Passing.{behind_same}
+use Rattle.kdl_diagnostics.proofs.Passing.{after_same}
 use Rattle.kdl_diagnostics.proofs.lexemes.go_on.Goals as goal
 
 pub chars-preserved : goal.chars-preserved
@@ -14,5 +14,5 @@ chars-preserved c =
       on = omega (arith, i.on, took.1);
       steps = omega (arith, i.on, i.steps, took.1, took.2, more);
       most = omega (arith, i.on, i.steps, c.chars-test.true, c.at.ensures, took.2);
-      last = behind_same _ _ _ i.moves.piece c.checkpoint-last-in-chars.ensures.rest;
+      last = after_same _ _ _ i.moves.piece c.checkpoint-last-in-chars.ensures.rest;
     }

@@ -4,11 +4,11 @@ use Rattle.kdl_text.proofs.Looking.MovesJoin.{moves_then, fewer_bytes, bytes-app
 use Rattle.kdl_text.proofs.Looking.Returns.{moves_returned}
 use Rattle.kdl_text.proofs.Looking.SliceCost.{moves_ran, costs_ran}
 use Rattle.kdl_text.proofs.Looking.Parts.{part_front, part_moved}
-use Rattle.kdl_diagnostics.proofs.Passing.{behind_then, behind_same, behind_bytes}
+use Rattle.kdl_diagnostics.proofs.Passing.{after_then, after_same, after_bytes}
 use Rattle.kdl_diagnostics.proofs.lexemes.keyword_lexeme.Goals as goal
 
 pub up_to-text-requires : goal.up_to-text-requires
-up_to-text-requires c = behind_same _ _ _ (behind_then _ _ _ c.requires.here (moves_ran c.skip.ensures.1).piece) c.checkpoint.ensures.rest
+up_to-text-requires c = after_same _ _ _ (after_then _ _ _ c.requires.here (moves_ran c.skip.ensures.1).piece) c.checkpoint.ensures.rest
 
 pub returns-clause-moves : goal.returns-clause-moves
 returns-clause-moves c = moves_then (moves_ran c.skip.ensures.1) (moves_then (moves_returned c.keyword_fault-fault.ensures) c.word.ensures.moves)
@@ -23,7 +23,7 @@ returns-clause-most c =
       arith,
       k.most,
       fewer_bytes m,
-      behind_bytes c.args.start.place.rest c.args.cursor.now.rest c.requires.here,
+      after_bytes c.args.start.place.rest c.args.cursor.now.rest c.requires.here,
       ap bytes text,
       bytes-append c.up_to-text.result c.skip.new.self.rest,
       ap bytes fault.rest,

@@ -7,7 +7,7 @@ use Rattle.kdl_value.specs.Data.{Value}
 use Rattle.kdl_entry.specs.Data as data'
 use Rattle.kdl_entry.specs.Entries.{IsPlainValue, IsEntry, BeforeEntry, before_entry, entry_text}
 use Rattle.kdl_entry.specs.Internal.EntryMachine.{ended, AnswersEntry}
-use Rattle.kdl_entry.specs.Internal.Parts.{TypeParts, type_of, before_name, after_name, behind_type, identifier_at}
+use Rattle.kdl_entry.specs.Internal.Parts.{TypeParts, type_of, before_name, after_name, after_type, identifier_at}
 use Rattle.kdl_entry.specs.Laid.{LaidIdentifier, spelled, LaidType, no_type, a_type, no_key, a_key, LaidItem, item, LaidEntryText, laid_entry_text}
 use Rattle.kdl_entry.specs.Laws.{OneLaidIdentifier, OneLaidEntry}
 use Rattle.kdl_entry.specs.Places.{span_of, between}
@@ -27,28 +27,28 @@ pub record SameType (y : Option TypeParts) (ty : Option Identifier) (b a h : Tex
   pub name : type_of y ≡ ty
   pub before : before_name y ≡ b
   pub after : after_name y ≡ a
-  pub behind : behind_type y ≡ h
+  pub following : after_type y ≡ h
 
 module _ (whole : Text) where
   -- the type that the machine keeps is the one that is laid
   type_same : {b a h s t r : Text} {ty : Option Identifier} {v : Value} (y : LaidType true whole ty b a h s t) (d : IsPlainValue true t r v)
       → SameType (read_value whole (maybe_type true whole y) d).type ty b a h
   unfolding read_value maybe_type
-  type_same no_type d = record { name = refl; before = refl; after = refl; behind = refl }
+  type_same no_type d = record { name = refl; before = refl; after = refl; following = refl }
   type_same {b = b} {a = a} {h = h} {t = r} (a_type {s = s} {t = t} {u = u} {v = v} ss n us vs) d = record {
     name = ap Some (identifier_same whole n);
     before = sym (is_between s t b ss.text);
     after = sym (is_between u (41 ∷ v) a us.text);
-    behind = sym (is_between v r h vs.text);
+    following = sym (is_between v r h vs.text);
   }
 
   -- the entry that the machine makes of a key, a type and a value is the one that is laid
   item_same : {leading trailing s r : Text} {at : SourceSpan} {e : Entry} (i : LaidItem true whole leading trailing at e s r) → at ≡ span_of whole whole []
       → ended whole trailing ((read_item whole (item_of true whole i)).tree leading) ≡ e
   unfolding read_item item_of
-  item_same {r = r} (item {repr = repr} {u = u} no_key y v) x = let T = type_same y v.is in let a = T.name in let b = T.before in let c = T.after in let f = T.behind in let g : repr ≡ between u r = is_between u r repr v.text in cc
+  item_same {r = r} (item {repr = repr} {u = u} no_key y v) x = let T = type_same y v.is in let a = T.name in let b = T.before in let c = T.after in let f = T.following in let g : repr ≡ between u r = is_between u r repr v.text in cc
   item_same {r = r} (item {after_key = after_key} {after_eq = after_eq} {repr = repr} {t = t} {u = u} (a_key {t = p} {u = q} {i = i} k ss us) y v) x =
-      let T = type_same y v.is in let a = T.name in let b = T.before in let c = T.after in let f = T.behind in let g : repr ≡ between u r = is_between u r repr v.text in
+      let T = type_same y v.is in let a = T.name in let b = T.before in let c = T.after in let f = T.following in let g : repr ≡ between u r = is_between u r repr v.text in
       let h = identifier_same whole k in
       let j : after_key ≡ between p (61 ∷ q) = is_between p (61 ∷ q) after_key ss.text in
       let l : after_eq ≡ between q t = is_between q t after_eq us.text in

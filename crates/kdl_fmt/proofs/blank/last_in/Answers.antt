@@ -11,14 +11,14 @@ use Rattle.kdl_fmt.specs.declared.blank.Last.TheVariants.{Cr, Other}
 use Rattle.kdl_fmt.proofs.blank.last_in.Goals as goal
 
 -- a text that ends with CR
-cr_behind : (t : Text) → last_in (t ++ (13 ∷ [])) ≡ Cr
-cr_behind [] = refl
-cr_behind (c ∷ []) = refl
-cr_behind (c ∷ d ∷ t) = cr_behind (d ∷ t)
+cr_after : (t : Text) → last_in (t ++ (13 ∷ [])) ≡ Cr
+cr_after [] = refl
+cr_after (c ∷ []) = refl
+cr_after (c ∷ d ∷ t) = cr_after (d ∷ t)
 
 cr_last : (bs front : List ℕ) → IsUtf8 front → bs ≡ front ++ (13 ∷ []) → last_in (chars bs) ≡ Cr
 cr_last bs front u e =
-    ap last_in (ap chars e ∙ chars-append front (13 ∷ []) u ∙ ap (λ (t : Text). chars front ++ t) (one_char 13 (omega arith))) ∙ cr_behind (chars front)
+    ap last_in (ap chars e ∙ chars-append front (13 ∷ []) u ∙ ap (λ (t : Text). chars front ++ t) (one_char 13 (omega arith))) ∙ cr_after (chars front)
 
 -- a text that does not
 other_text : (s : Text) → ((p : Text) → s ≡ p ++ (13 ∷ []) → ⊥) → last_in s ≡ Other

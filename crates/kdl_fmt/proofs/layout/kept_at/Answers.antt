@@ -7,7 +7,7 @@ use Rattle.kdl_comments.specs.Internal.Reading.{items_view}
 use Rattle.kdl_comments.specs.Written.{lines}
 use Rattle.kdl_comments.specs.declared.item.Item.{Item}
 use Rattle.kdl_fmt.specs.Config.{indentation, settings}
-use Rattle.kdl_fmt.proofs.Keeping.KeptReads.{no_elements, kept_none, kept_items, kept_nothing, written_behind, blank_lines}
+use Rattle.kdl_fmt.proofs.Keeping.KeptReads.{no_elements, kept_none, kept_items, kept_nothing, written_after, blank_lines}
 use Rattle.kdl_fmt.proofs.Texts.{no_text}
 use Rattle.kdl_fmt.proofs.layout.kept_at.Goals as goal
 use Rattle.kdl_fmt.proofs.layout.kept_at.Goals.{in-Some, then-not-is_empty+in_ok-before+in_ok-push_lines, else-not-is_empty, in_default}
@@ -32,7 +32,7 @@ returns c =
             | then-not-is_empty+in_ok-before+in_ok-push_lines w' ↦
                 let stands : chars w'.as_str.result.now ≡ before = ap chars w'.as_str.ensures.value ∙ w'.in_ok-before.ensures in
                 kept_items c.args.config.now.no_comments has write _ _ c.if-config.false (rw w.in-Some.is at c.in_ok-items.ensures)
-                (ap text_of (w.out-is ∙ w'.out-is) ∙ written_behind write _ _ _ _ (w'.in_ok-push_lines.ensures ∙ ap (λ (t : Text). text_of c.new-out.result ++ lines t (items_view w'.deref.result.now)) stands) empty (ap items_view w'.deref.ensures.value))
+                (ap text_of (w.out-is ∙ w'.out-is) ∙ written_after write _ _ _ _ (w'.in_ok-push_lines.ensures ∙ ap (λ (t : Text). text_of c.new-out.result ++ lines t (items_view w'.deref.result.now)) stands) empty (ap items_view w'.deref.ensures.value))
             | else-not-is_empty w' ↦
                 let no_item = no_elements w.in-Some.items.items w.in-Some.items.len w.is_empty.result w.in-Some.items.ok.0 w.is_empty.ensures w'.if-not-is_empty.false in
                 kept_items c.args.config.now.no_comments has write _ _ c.if-config.false (rw w.in-Some.is at c.in_ok-items.ensures)

@@ -4,7 +4,7 @@ use Rattle.kdl_value.specs.Tree.{text_of}
 use Rattle.kdl_comments.specs.Items.{GapItems}
 use Rattle.kdl_comments.specs.Internal.Reading.{items_view}
 use Rattle.kdl_comments.specs.Written.{lines}
-use Rattle.kdl_fmt.proofs.Keeping.KeptReads.{kept_none, kept_items, kept_nothing, written_behind, blank_lines}
+use Rattle.kdl_fmt.proofs.Keeping.KeptReads.{kept_none, kept_items, kept_nothing, written_after, blank_lines}
 use Rattle.kdl_fmt.proofs.Texts.{no_text}
 use Rattle.kdl_fmt.proofs.layout.kept_lines.Goals as goal
 use Rattle.kdl_fmt.proofs.layout.kept_lines.Goals.{in-Some+in_ok-reserve_if+in_ok-push_lines, in_default}
@@ -23,6 +23,6 @@ returns c =
     elim c.match-branch-2.branch [
       | in-Some+in_ok-reserve_if+in_ok-push_lines w ↦
           kept_items c.args.config.now.no_comments has write _ _ c.if-config.false (rw w.in-Some.is at c.in_ok-items.ensures)
-          (ap text_of w.out-is ∙ written_behind write _ _ _ _ w.in_ok-push_lines.ensures (w.in_ok-reserve_if.ensures ∙ empty) (ap items_view w.deref.ensures.value))
+          (ap text_of w.out-is ∙ written_after write _ _ _ _ w.in_ok-push_lines.ensures (w.in_ok-reserve_if.ensures ∙ empty) (ap items_view w.deref.ensures.value))
       | in_default w ↦ kept_nothing c.args.config.now.no_comments has write _ c.if-config.false (rw w.in_default.is at c.in_ok-items.ensures) (ap text_of w.out-is ∙ empty)
     ]

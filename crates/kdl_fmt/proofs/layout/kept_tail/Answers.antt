@@ -4,7 +4,7 @@ use Rattle.kdl_value.specs.Tree.{text_of}
 use Rattle.kdl_comments.specs.Items.{PlaceItems}
 use Rattle.kdl_comments.specs.Internal.Reading.{items_view, place_view}
 use Rattle.kdl_comments.specs.Written.{tail}
-use Rattle.kdl_fmt.proofs.Keeping.KeptReads.{kept_none, kept_items, kept_nothing, written_behind, blank_tail}
+use Rattle.kdl_fmt.proofs.Keeping.KeptReads.{kept_none, kept_items, kept_nothing, written_after, blank_tail}
 use Rattle.kdl_fmt.proofs.Texts.{no_text}
 use Rattle.kdl_fmt.proofs.layout.kept_tail.Goals as goal
 use Rattle.kdl_fmt.proofs.layout.kept_tail.Goals.{in-Some+in_ok-push_tail, in_default}
@@ -22,6 +22,6 @@ returns c =
     elim c.match-branch-2.branch [
       | in-Some+in_ok-push_tail w ↦
           kept_items c.args.config.now.no_comments has tail _ _ c.if-config.false (rw w.in-Some.is at c.in_ok-items.ensures)
-          (ap text_of w.out-is ∙ written_behind tail _ _ _ _ w.in_ok-push_tail.ensures empty (ap items_view w.deref.ensures.value))
+          (ap text_of w.out-is ∙ written_after tail _ _ _ _ w.in_ok-push_tail.ensures empty (ap items_view w.deref.ensures.value))
       | in_default w ↦ kept_nothing c.args.config.now.no_comments has tail _ c.if-config.false (rw w.in_default.is at c.in_ok-items.ensures) (ap text_of w.out-is ∙ empty)
     ]

@@ -5,7 +5,7 @@ use Rattle.kdl_entry.specs.declared.identifier.KdlIdentifier.{KdlIdentifier}
 use Rattle.kdl_fmt.specs.Config.{settings}
 use Rattle.kdl_fmt.specs.Internal.Names.{Keeps, HasSpelling, autoformatted_but}
 use Rattle.kdl_fmt.specs.Respelled.{KeptForm}
-use Rattle.kdl_fmt.specs.WithComments.{behind, put_format}
+use Rattle.kdl_fmt.specs.WithComments.{following, put_format}
 use Rattle.kdl_fmt.proofs.Respelling.Entries.{respelled_form, spelled_entry, spelled_form, taken_same}
 use Rattle.kdl_fmt.proofs.layout.lay_out_spelled.Goals as goal
 use Rattle.kdl_fmt.proofs.layout.lay_out_spelled.Goals.{then-branch+in_ok-format, else-branch+in_ok-format-2}
@@ -25,7 +25,7 @@ returns-clause-spelled c =
       | then-branch+in_ok-format w ↦ c.autoformat_but.ensures ∙ ap (autoformatted_but key ty) (ap entry_tree w.entry-is ∙ w.in_ok-format.ensures.left) ∙ taken_same key ty e u
       | else-branch+in_ok-format-2 w ↦ c.autoformat_but.ensures ∙ ap (λ x. autoformatted_but key ty (entry_tree x)) w.entry-is
     ] in
-    let v : KeptForm s e e.format (behind t (autoformatted e)).format e'.format = elim c.if-branch.branch [
+    let v : KeptForm s e e.format (following t (autoformatted e)).format e'.format = elim c.if-branch.branch [
       | then-branch+in_ok-format w ↦ spelled_form s e t key ty u y e' o _ _ refl
           (subst (HasSpelling e.value e.format) w.if-branch.true c.in_ok-has_spelling.ensures) but c.put_format.ensures (ap (option_map entry_format_tree) w.format-is) w.in_ok-format.ensures.form
       | else-branch+in_ok-format-2 w ↦ respelled_form s e t key ty u y e' o (subst (HasSpelling e.value e.format) w.if-branch.false c.in_ok-has_spelling.ensures) but c.put_format.ensures
@@ -33,4 +33,4 @@ returns-clause-spelled c =
     ] in
     let k : Keeps true e.name key = subst (λ (z : Option Identifier). Keeps true z key) c.name.ensures (subst (λ (b : Bool). Keeps b (option_map (λ (i : Bor KdlIdentifier). identifier_tree i.now) c.name.result) key) c.requires.keep c.in_ok-key.ensures) in
     let h : Keeps true e.ty ty = subst (λ (z : Option Identifier). Keeps true z ty) c.ty.ensures (subst (λ (b : Bool). Keeps b (option_map (λ (i : Bor KdlIdentifier). identifier_tree i.now) c.ty.result) ty) c.requires.keep c.in_ok-ty.ensures) in
-    (behind t (autoformatted e), (t, c.in_ok-kept.ensures, refl), spelled_entry s e t key ty u y e' o k h but c.put_format.ensures v)
+    (following t (autoformatted e), (t, c.in_ok-kept.ensures, refl), spelled_entry s e t key ty u y e' o k h but c.put_format.ensures v)

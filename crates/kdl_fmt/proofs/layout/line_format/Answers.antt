@@ -25,7 +25,7 @@ returns-clause-spaced c = λ level h.
     let block = text_of c.in_ok-kept-2.kept in
     let comment = text_of c.in_ok-last-2.comment in
     let trailing = text_of c.in_ok-trailing.trailing in
-    let behind : SpacedLines l.blank_lines s level (past_node (text_of old.terminator)) (text_of old.trailing) trailing next =
+    let following : SpacedLines l.blank_lines s level (past_node (text_of old.terminator)) (text_of old.trailing) trailing next =
     lines_after l.blank_lines s level c.after_end-next.result (past_node (text_of old.terminator)) next (text_of old.trailing) trailing
     (λ n. c.after_end-next.ensures n ∙ ap (λ (x : List ℕ). past_node (chars x)) c.as_str-5.ensures.value)
     (lines_as l.blank_lines s level next trailing refl (ap chars c.as_str-6.ensures.value) (c.in_ok-trailing.ensures level h)) in
@@ -35,7 +35,7 @@ returns-clause-spaced c = λ level h.
       last = text_of c.in_ok-last.last;
       space = end.0;
       comment = comment;
-      behind = trailing;
+      following = trailing;
     } in
     let leading_is = put_text _ c.in_ok-leading.leading c.put.new.old (chars c.args.margin.now) (before ++ chars c.args.margin.now) c.in_ok-leading.ensures.ready c.put.ensures in
     let children_is = put_text _ c.in_ok-before_children.before_children c.put-2.new.old (chars (32 ∷ [])) (block ++ chars (32 ∷ [])) c.in_ok-before_children.ensures.ready c.put-2.ensures
@@ -47,13 +47,13 @@ returns-clause-spaced c = λ level h.
         record {
           lines = kept.0;
           at_node = kept.1;
-          behind_it = next;
+          after_it = next;
           leading = lines_as l.blank_lines s level {b = c.args.before} {c = c.args.before} kept.1 kept.0 refl (ap chars c.as_str.ensures.value) kept.2;
           before = kept.3;
           before_block = subst (λ (t : Text). KeptBeforeBlock s c.args.has_block t block) (ap chars c.as_str-2.ensures.value) c.in_ok-kept-2.ensures;
           last = tail_at s _ c.last_place-place.ensures (ap chars c.as_str-3.ensures.value) c.in_ok-last.ensures;
           end = subst (λ (t : Text). KeptEnd l.config.no_comments t end.0 comment) (ap chars c.as_str-4.ensures.value) end.1;
-          behind = behind;
+          following = following;
         },
         ap Some (
             c.clear_type.ensures
@@ -61,5 +61,5 @@ returns-clause-spaced c = λ level h.
             ∙ ap (λ (t : Text). line_of t k) h
             ),
       ),
-      lines_pass l.blank_lines s level (past_node (text_of old.terminator)) next (text_of old.trailing) trailing behind,
+      lines_pass l.blank_lines s level (past_node (text_of old.terminator)) next (text_of old.trailing) trailing following,
     )

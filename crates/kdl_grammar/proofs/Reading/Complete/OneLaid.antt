@@ -32,20 +32,20 @@ module _ (whole : Text) where
   type_same : {kind : Bool} {b a h s t r : Text} {ty : Option Identifier} {v : Value} (y : LaidType true whole ty b a h s t) (d : Fills kind t r v)
       → SameType (read_filled whole {b = kind} (maybe_type true whole y) d).type ty b a h
   unfolding read_filled maybe_type
-  type_same no_type d = record { name = refl; before = refl; after = refl; behind = refl }
+  type_same no_type d = record { name = refl; before = refl; after = refl; following = refl }
   type_same {b = b} {a = a} {h = h} {t = r} (a_type {s = s} {t = t} {u = u} {v = v} ss n us vs) d = record {
     name = ap Some (identifier_same whole n);
     before = sym (is_between s t b ss.text);
     after = sym (is_between u (41 ∷ v) a us.text);
-    behind = sym (is_between v r h vs.text);
+    following = sym (is_between v r h vs.text);
   }
 
   -- the entry that the machine makes is the one that is laid
   entry_same : {leading s r : Text} {at : SourceSpan} {e : Entry} (i : LaidItem true whole leading [] at e s r) → at ≡ span_of whole s r → entry_of whole leading (read_item whole (item_of true whole i)) ≡ e
   unfolding read_item item_of
-  entry_same {r = r} (item {repr = repr} {u = u} no_key y v) x = let T = type_same y (value_fills v.is) in let a = T.name in let b = T.before in let c = T.after in let f = T.behind in let g : repr ≡ between u r = is_between u r repr v.text in cc
+  entry_same {r = r} (item {repr = repr} {u = u} no_key y v) x = let T = type_same y (value_fills v.is) in let a = T.name in let b = T.before in let c = T.after in let f = T.following in let g : repr ≡ between u r = is_between u r repr v.text in cc
   entry_same {r = r} (item {after_key = after_key} {after_eq = after_eq} {repr = repr} {t = t} {u = u} (a_key {t = p} {u = q} k ss us) y v) x =
-      let T = type_same y (value_fills v.is) in let a = T.name in let b = T.before in let c = T.after in let f = T.behind in let g : repr ≡ between u r = is_between u r repr v.text in
+      let T = type_same y (value_fills v.is) in let a = T.name in let b = T.before in let c = T.after in let f = T.following in let g : repr ≡ between u r = is_between u r repr v.text in
       let h = identifier_same whole k in
       let j : after_key ≡ between p (61 ∷ q) = is_between p (61 ∷ q) after_key ss.text in
       let l : after_eq ≡ between q t = is_between q t after_eq us.text in
@@ -107,21 +107,21 @@ module _ (whole : Text) where
 
   -- after dropped blocks is the node's own
   block_same : (b : Bool) {s t u w r v p m : Text} {xs : data'.Nodes} (bs : Star DroppedBlock s t) (ss : Star NodeSpace t (123 ∷ u)) (ns : AreNodes true u (125 ∷ w) xs) (d : AfterBlock true w r) (e : Terminator r v) (ds : Star DroppedEntry p m) (before : Star DroppedBlock m s)
-      → (read_blocks whole (block_of {b = b} bs ss (braces ns) d) e p ds before).tail ≡ tail_of (children (content_read ns)) (between p (123 ∷ u)) (read_later whole d e w no_star).behind (read_later whole d e w no_star).end
+      → (read_blocks whole (block_of {b = b} bs ss (braces ns) d) e p ds before).tail ≡ tail_of (children (content_read ns)) (between p (123 ∷ u)) (read_later whole d e w no_star).following (read_later whole d e w no_star).end
   unfolding read_blocks block_of
   block_same b no_star ss ns d e ds before = refl
   block_same b (more (DroppedBlock.dropped us (slashdash ls) (braces ns')) bs) ss ns d e ds before = block_same true bs ss ns d e ds (snoc before (DroppedBlock.dropped us (slashdash ls) (braces ns')))
 
   -- dropped blocks after the node's own are one place
   dropped_later_same : {s t r v p : Text} (bs : Star DroppedBlock s t) (ss : Star NodeSpace t r) (e : Terminator r v) (before : Star DroppedBlock p s)
-      → ((read_later whole (later_of (after_children bs ss)) e p before).behind ≡ between p r) × ((read_later whole (later_of (after_children bs ss)) e p before).end ≡ (read_end whole e).end)
+      → ((read_later whole (later_of (after_children bs ss)) e p before).following ≡ between p r) × ((read_later whole (later_of (after_children bs ss)) e p before).end ≡ (read_end whole e).end)
   unfolding read_later later_of
   dropped_later_same no_star ss e before = (refl, refl)
   dropped_later_same (more (DroppedBlock.dropped us (slashdash ls) (braces ns)) bs) ss e before = dropped_later_same bs ss e (snoc before (DroppedBlock.dropped us (slashdash ls) (braces ns)))
 
   -- what comes after the node's block is one place
   later_same : {r v p : Text} (l : AfterChildren p r) (e : Terminator r v)
-      → ((read_later whole (later_of l) e p no_star).behind ≡ between p r) × ((read_later whole (later_of l) e p no_star).end ≡ (read_end whole e).end)
+      → ((read_later whole (later_of l) e p no_star).following ≡ between p r) × ((read_later whole (later_of l) e p no_star).end ≡ (read_end whole e).end)
   later_same (after_children bs ss) e = dropped_later_same bs ss e no_star
 
   -- where there is no block, what comes after the name or the last entry is one place
@@ -133,10 +133,10 @@ module _ (whole : Text) where
   -- where there is a block, the places before and after it are two
   braced_same : {p u w r v : Text} {xs : data'.Nodes} (b : BeforeChildren p (123 ∷ u)) (ns : AreNodes true u (125 ∷ w) xs) (l : AfterBlock true w r) (e : Terminator r v)
       → ((read_name whole (braced_of b (braces ns) l) e p no_star).entries ≡ [])
-      × ((read_name whole (braced_of b (braces ns) l) e p no_star).tail ≡ tail_of (children (content_read ns)) (between p (123 ∷ u)) (read_later whole l e w no_star).behind (read_later whole l e w no_star).end)
+      × ((read_name whole (braced_of b (braces ns) l) e p no_star).tail ≡ tail_of (children (content_read ns)) (between p (123 ∷ u)) (read_later whole l e w no_star).following (read_later whole l e w no_star).end)
   unfolding braced_of
   braced_same {p = p} {u = u} {w = w} (before_children ds (after_children bs ss)) ns l e =
-      blocks_same ds (block_of bs ss (braces ns) l) e no_star (tail_of (children (content_read ns)) (between p (123 ∷ u)) (read_later whole l e w no_star).behind (read_later whole l e w no_star).end) (λ before. block_same false bs ss ns l e before no_star)
+      blocks_same ds (block_of bs ss (braces ns) l) e no_star (tail_of (children (content_read ns)) (between p (123 ∷ u)) (read_later whole l e w no_star).following (read_later whole l e w no_star).end) (λ before. block_same false bs ss ns l e before no_star)
 
   -- the first node is made of its parts, and those after it stay
   node_then_same : {s t m w r v q : Text} {n : Text} {y : Option Text} {es : List entry_data'.Entry} {k : data'.Children} {xs : data'.Nodes} (g : Gap true s t) (y' : MaybeType true t m y) (z : IsString true m w n) (d : AfterName true w r es k) (e : Terminator r v) (ds : AreNodes true v q xs)
@@ -196,7 +196,7 @@ module _ (whole : Text) where
         let b = T.name in
         let c = T.before in
         let d = T.after in
-        let f = T.behind in
+        let f = T.following in
         let h = identifier_same whole n in
         let i = tail_same k e in
         let j = entries_same es (children_of true whole k) e.is i.0 in
@@ -224,15 +224,15 @@ module _ (whole : Text) where
 -- what is laid in a text, the machine returns
 pub document_answered : {t : Text} {d : Document} → LaidDocument true d t → AnswersDocument t d
 document_answered (LaidDocument.no_bom {t = t} c) = AnswersDocument.no_bom (runs_laid t c)
-document_answered (LaidDocument.behind_bom {t = t} c) = AnswersDocument.behind_bom (runs_laid (0xFEFF ∷ t) c)
+document_answered (LaidDocument.after_bom {t = t} c) = AnswersDocument.after_bom (runs_laid (0xFEFF ∷ t) c)
 
 -- at most one document is laid
 pub one_laid_document : OneLaidDocument
 one_laid_document t d e k l = answers_det (document_answered k) (document_answered l)
 
 -- the node with that text after it, and that span
-abbrev behind : Text → SourceSpan → Node → Node
-behind trailing at (node h k) = node (record h { format = option_map (λ (f : NodeFormat). record f { trailing = trailing }) h.format; span = at }) k
+abbrev following : Text → SourceSpan → Node → Node
+following trailing at (node h k) = node (record h { format = option_map (λ (f : NodeFormat). record f { trailing = trailing }) h.format; span = at }) k
 
 -- a node that is the whole text is the only one of a document, but for the line-spaces after it and for its span
 record AsDocument (t : Text) (x : Node) : Type 0 where
@@ -240,12 +240,12 @@ record AsDocument (t : Text) (x : Node) : Type 0 where
   span : SourceSpan
   trailing : Text
   laid : LaidDocument true (document (Some (record { leading = []; trailing = trailing })) span (first inner none)) t
-  same : x ≡ behind trailing (span_of t t []) inner
+  same : x ≡ following trailing (span_of t t []) inner
 
 -- the document of that node
 as_document : {t : Text} {x : Node} → LaidNodeText true t x → AsDocument t x
-as_document {t = t} (laid_node_text {leading = leading} {end = end} {trailing = trailing} {t = s} {u = u} {at = at} g (laid_node {before = before} {after = after} {behind = behind'} {before_children = before_block} {before_terminator = place} {ty = ty} {name = name} {es = es} {k = k} y n ls c) e w z) =
-    let inner : Node = node (record { ty = ty; name = name; entries = es; format = Some (node_format leading before after behind' before_block place end []); span = span_of t s u }) k in
+as_document {t = t} (laid_node_text {leading = leading} {end = end} {trailing = trailing} {t = s} {u = u} {at = at} g (laid_node {before = before} {after = after} {following = following'} {before_children = before_block} {before_terminator = place} {ty = ty} {name = name} {es = es} {k = k} y n ls c) e w z) =
+    let inner : Node = node (record { ty = ty; name = name; entries = es; format = Some (node_format leading before after following' before_block place end []); span = span_of t s u }) k in
     let z' : at ≡ span_of t t [] = z in
     record {
       inner = inner;
@@ -263,4 +263,4 @@ one_laid_node t x y k l =
     let e = one_laid_document t _ _ a.laid b.laid in
     let i : a.inner ≡ b.inner = cc in
     let w : a.trailing ≡ b.trailing = ap (λ (z : Document). trailing_text (format_of z)) e in
-    a.same ∙ ap (λ (z : Node). behind a.trailing (span_of t t []) z) i ∙ ap (λ (z : Text). behind z (span_of t t []) b.inner) w ∙ sym b.same
+    a.same ∙ ap (λ (z : Node). following a.trailing (span_of t t []) z) i ∙ ap (λ (z : Text). following z (span_of t t []) b.inner) w ∙ sym b.same

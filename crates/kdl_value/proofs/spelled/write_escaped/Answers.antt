@@ -11,7 +11,7 @@ runs-preserved g c =
     let run = c.before-in-runs.result.now in (
       c.in-Some.ensures.text,
       (done ++ encode_utf8_all (chars run)) ++ encode_utf8_all (char_text c.in-Some.c),
-      escaped-run done c.runs.rest.now run c.skip_plain-next.result.now c.in-Some.behind.now c.in-Some.c _ c.before-in-runs.ensures.parts c.before-in-runs.ensures.as_is c.in-Some.ensures.cases whole,
+      escaped-run done c.runs.rest.now run c.skip_plain-next.result.now c.in-Some.following.now c.in-Some.c _ c.before-in-runs.ensures.parts c.before-in-runs.ensures.as_is c.in-Some.ensures.cases whole,
       λ plain.
           let sofar = wrote plain in
           let one = c.write_text.ensures sofar.plain (search rules) in

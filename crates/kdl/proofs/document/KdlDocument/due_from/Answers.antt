@@ -46,9 +46,9 @@ not_before xs (x ∷ done) left i e h q =
       | inr le ↦ le
     ]
 
-not_behind : (xs done left : List KdlNode) (i : ℕ) → xs ≡ done ++ left → All IsDue left → i ≤ length xs → AllWithin (λ y. is_done y ≡ true) xs 0 i → i ≤ length done
-not_behind xs done [] i e h le p = omega (arith, ap length e, length-append done [])
-not_behind xs done (y ∷ left) i e h le p =
+not_after : (xs done left : List KdlNode) (i : ℕ) → xs ≡ done ++ left → All IsDue left → i ≤ length xs → AllWithin (λ y. is_done y ≡ true) xs 0 i → i ≤ length done
+not_after xs done [] i e h le p = omega (arith, ap length e, length-append done [])
+not_after xs done (y ∷ left) i e h le p =
     elim (cases_lt (length done) i) [
       | inl lt ↦
           let t = p (length done) y (omega arith) lt in
@@ -65,4 +65,4 @@ returns c done left e h k =
     let found : IsPartitionPoint (λ y. is_done y ≡ true) (λ y. is_done y ≡ false) xs i =
     IsPartitionPoint-from_clause is_done xs i c.partition_point.ensures.partitioned (parted xs done left is h k) (λ a r f k. search rules)
     in
-    omega (arith, not_before xs done left i is h found.1, not_behind xs done left i is k c.partition_point.ensures.bound found.0)
+    omega (arith, not_before xs done left i is h found.1, not_after xs done left i is k c.partition_point.ensures.bound found.0)

@@ -14,8 +14,8 @@ use Rattle.kdl.proofs.LayingOut.BlockSteps.{Own, bare_next, bare_enclosed, line_
 use Rattle.kdl.proofs.LayingOut.StaysReading.{next_stays}
 use Rattle.kdl.proofs.layout.Blocks.lay_out_next.Goals as goal
 
-pub returns-in_err-behind-clause-stays : goal.returns-in_err-behind-clause-stays
-returns-in_err-behind-clause-stays c ok level x olds u =
+pub returns-in_err-following-clause-stays : goal.returns-in_err-following-clause-stays
+returns-in_err-following-clause-stays c ok level x olds u =
     let l = c.args.layout.now in
     let b = c.args.self.now.inner in
     let b' : Block = record { nodes = with_item b.nodes b.at c.lay_out_own.new.self; at = b.at; level = b.level; before = b.before; next = b.next; around = b.around } in
@@ -23,8 +23,8 @@ returns-in_err-behind-clause-stays c ok level x olds u =
     next_stays l c.args.self.now.above.items b b' c.index_mut-node.result.now c.lay_out_own.new.self (search rules) (search rules) (search rules)
     (λ k h. c.lay_out_own.ensures.stays ok (is ∙ h.1 ∙ ap (indentation (settings l.config)) (sym h.0))) level x olds u
 
-pub returns-in_err-behind-clause-kept : goal.returns-in_err-behind-clause-kept
-returns-in_err-behind-clause-kept c =
+pub returns-in_err-following-clause-kept : goal.returns-in_err-following-clause-kept
+returns-in_err-following-clause-kept c =
     let b = c.args.self.now.inner in
     let b' : Block = record { nodes = with_item b.nodes b.at c.lay_out_own.new.self; at = b.at; level = b.level; before = b.before; next = b.next; around = b.around } in
     bare_next c.args.self.now.above.items b b' c.index_mut-node.result.now c.lay_out_own.new.self (search rules) (search rules) c.lay_out_own.ensures.kept (search rules)
@@ -36,33 +36,33 @@ returns-then-not-has_nodes-clause-stays c ok level x olds u =
     let b = c.args.self.now.inner in
     let n = c.index_mut-node.result.now in
     let m = c.lay_out_own.new.self in
-    let g = c.in_ok-behind.texts in
-    let b' : Block = record { nodes = with_item b.nodes b.at c.set_around.new.self; at = b.at + 1; level = b.level; before = b.before; next = c.in_ok-behind.behind; around = b.around } in
+    let g = c.in_ok-following.texts in
+    let b' : Block = record { nodes = with_item b.nodes b.at c.set_around.new.self; at = b.at + 1; level = b.level; before = b.before; next = c.in_ok-following.following; around = b.around } in
     let is : chars c.as_str.result.now ≡ text_of b.before = search rules in
     next_stays l c.args.self.now.above.items b b' n c.set_around.new.self (search rules) (search rules) (search rules)
     (λ k h P y.
     let e = is ∙ h.1 ∙ ap (indentation s) (sym h.0) in
-    let laid = line_is_laid l b c.in_ok-behind.behind c.in_ok-behind.first g n m c.lay_out_own.ensures.block (λ h. search rules) b.level (c.in_ok-behind.ensures.spaced e) in
+    let laid = line_is_laid l b c.in_ok-following.following c.in_ok-following.first g n m c.lay_out_own.ensures.block (λ h. search rules) b.level (c.in_ok-following.ensures.spaced e) in
     subst (NodeStays s P) (sym c.set_around.ensures) (laid.1 ok P (c.lay_out_own.ensures.stays ok e P y)))
     level x olds u
 
 pub returns-then-not-has_nodes-clause-kept : goal.returns-then-not-has_nodes-clause-kept
 returns-then-not-has_nodes-clause-kept c =
     let b = c.args.self.now.inner in
-    let g = c.in_ok-behind.texts in
+    let g = c.in_ok-following.texts in
     let m = c.lay_out_own.new.self in
-    let b' : Block = record { nodes = with_item b.nodes b.at c.set_around.new.self; at = b.at + 1; level = b.level; before = b.before; next = c.in_ok-behind.behind; around = b.around } in
+    let b' : Block = record { nodes = with_item b.nodes b.at c.set_around.new.self; at = b.at + 1; level = b.level; before = b.before; next = c.in_ok-following.following; around = b.around } in
     let same = ap bare_node c.set_around.ensures ∙ bare_enclosed g m (map node_tree (child_nodes m)) ∙ sym (ap bare_node (node_is m)) ∙ c.lay_out_own.ensures.kept in
     bare_next c.args.self.now.above.items b b' c.index_mut-node.result.now c.set_around.new.self (search rules) (search rules) same (search rules)
 
 pub returns-then-not-has_nodes-clause-goes_on : goal.returns-then-not-has_nodes-clause-goes_on
 returns-then-not-has_nodes-clause-goes_on c =
     let b = c.args.self.now.inner in
-    let g = c.in_ok-behind.texts in
-    let b' : Block = record { nodes = with_item b.nodes b.at c.set_around.new.self; at = b.at + 1; level = b.level; before = b.before; next = c.in_ok-behind.behind; around = b.around } in
+    let g = c.in_ok-following.texts in
+    let b' : Block = record { nodes = with_item b.nodes b.at c.set_around.new.self; at = b.at + 1; level = b.level; before = b.before; next = c.in_ok-following.following; around = b.around } in
     let is : chars c.as_str.result.now ≡ text_of b.before = search rules in
-    line_goes_on c.args.layout.now c.args.self.now.above.items b b' c.in_ok-behind.first g c.index_mut-node.result.now c.lay_out_own.new.self c.set_around.new.self (search rules) (search rules) (search rules) (search rules) (search rules) (search rules)
-    c.lay_out_own.ensures.block (λ h. search rules) c.set_around.ensures (λ e. c.in_ok-behind.ensures.spaced (is ∙ e))
+    line_goes_on c.args.layout.now c.args.self.now.above.items b b' c.in_ok-following.first g c.index_mut-node.result.now c.lay_out_own.new.self c.set_around.new.self (search rules) (search rules) (search rules) (search rules) (search rules) (search rules)
+    c.lay_out_own.ensures.block (λ h. search rules) c.set_around.ensures (λ e. c.in_ok-following.ensures.spaced (is ∙ e))
 
 pub returns-in_err-level-clause-stays : goal.returns-in_err-level-clause-stays
 returns-in_err-level-clause-stays c ok level x olds u =
@@ -119,9 +119,9 @@ returns-clause-goes_on c =
     let above = c.args.self.now.above.items in
     let pushed : c.push_reserved.new.self.items ≡ above ++ outer ∷ [] = search rules in
     let is : chars c.as_str.result.now ≡ text_of b.before = search rules in
-    let next : c.in_ok-behind.behind ≡ outer.next = search rules in
-    let around : c.in_ok-behind.texts ≡ outer.around = search rules in
-    let first : c.in_ok-behind.first ≡ inner.next = search rules in
+    let next : c.in_ok-following.following ≡ outer.next = search rules in
+    let around : c.in_ok-following.texts ≡ outer.around = search rules in
+    let first : c.in_ok-following.first ≡ inner.next = search rules in
     let level : c.in_ok-level.level ≡ inner.level = search rules in
     let before : c.in_ok-level.before ≡ inner.before = search rules in
     subst (λ z. GoesOn s above b z inner) (sym pushed)
@@ -129,5 +129,5 @@ returns-clause-goes_on c =
     (search rules) (search rules) (search rules) (search rules) (search rules) (search rules) (search rules) c.lay_out_own.ensures.block (search rules) c.exchange_nodes-nodes.ensures.had c.exchange_nodes-nodes.ensures.has (search rules) (search rules) (search rules) (search rules) (search rules)
     (search rules) (search rules) (λ e. sym (ap text_of before) ∙ c.in_ok-level.ensures.before e ∙ ap (indentation (settings s.config)) level)
     (λ e. subst (λ (x : Before). Own s b.level b x inner.next outer.around c.index_mut-node.result.now c.lay_out_own.new.self) next
-    (subst (λ (x : Before). Own s b.level b c.in_ok-behind.behind x outer.around c.index_mut-node.result.now c.lay_out_own.new.self) first
-    (subst (λ (x : Option Around). Own s b.level b c.in_ok-behind.behind c.in_ok-behind.first x c.index_mut-node.result.now c.lay_out_own.new.self) around (c.in_ok-behind.ensures.spaced (is ∙ e))))))
+    (subst (λ (x : Before). Own s b.level b c.in_ok-following.following x outer.around c.index_mut-node.result.now c.lay_out_own.new.self) first
+    (subst (λ (x : Option Around). Own s b.level b c.in_ok-following.following c.in_ok-following.first x c.index_mut-node.result.now c.lay_out_own.new.self) around (c.in_ok-following.ensures.spaced (is ∙ e))))))

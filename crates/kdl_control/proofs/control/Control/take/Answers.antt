@@ -8,4 +8,4 @@ returns-in_ok-push-in-Open c =
 
 pub returns-in-Some : goal.returns-in-Some
 returns-in-Some c =
-    closed c.args.self.now.phase c.behind_block-self.result (kind_view c.args.kind.now) c.token_move.result c.pop.result c.in-Some.frame c.args.self.now.frames.items c.pop.new.self.items c.token_move.ensures c.in-Close.is c.in-Some.is c.pop.ensures.items c.behind_block-self.ensures
+    closed c.args.self.now.phase c.after_block-self.result (kind_view c.args.kind.now) c.token_move.result c.pop.result c.in-Some.frame c.args.self.now.frames.items c.pop.new.self.items c.token_move.ensures c.in-Close.is c.in-Some.is c.pop.ensures.items c.after_block-self.ensures

@@ -32,13 +32,13 @@ returns c =
     let some : 2 ≤ c.count_quotes-more.result = omega arith in
     let all : c.eat_signs.result ≡ c.args.signs = omega (arith, s.few) in
     let at = closing_at c.args.signs c.count_quotes-more.result c.eat_signs.result c.args.quote.now.rest _ _ _ c.requires.some c.requires.quote q.text q.stops s.text s.few s.stops some all in
-    let back = c.behind_quotes.ensures.returned in
+    let back = c.after_quotes.ensures.returned in
     record {
-      found = rw back.rest (closed c.args.signs c.count_quotes-more.result c.eat_signs.result c.args.quote.now.rest _ _ _ c.requires.some c.requires.quote q.text q.stops s.text s.few s.stops c.behind_quotes.result.rest some all (c.behind_quotes.ensures.behind _ at));
+      found = rw back.rest (closed c.args.signs c.count_quotes-more.result c.eat_signs.result c.args.quote.now.rest _ _ _ c.requires.some c.requires.quote q.text q.stops s.text s.few s.stops c.after_quotes.result.rest some all (c.after_quotes.ensures.following _ at));
       none = tt;
       moves = moves_then q.moves (moves_then s.moves (moves_returned back));
       costs = closing_cost c.count_quotes-more.result _ _ _ _ q.text some q.costs s.moves s.costs back;
     }
 
-pub behind_quotes-requires : goal.behind_quotes-requires
-behind_quotes-requires c = part_moved c.requires.part (moves_then c.count_quotes-more.ensures.moves c.eat_signs.ensures.moves)
+pub after_quotes-requires : goal.after_quotes-requires
+after_quotes-requires c = part_moved c.requires.part (moves_then c.count_quotes-more.ensures.moves c.eat_signs.ensures.moves)

@@ -2,7 +2,7 @@ use Rattle.std.proofs.Common.{sym, ap, ◌∷◌, ◌∙◌}
 use Rattle.std.specs.Str.{chars}
 use Rattle.kdl_text.specs.Chars.{Text}
 use Rattle.kdl_comments.proofs.Listing.SpaceReads.{ate_moves, cut_at, parts_at}
-use Rattle.kdl_comments.proofs.spaces.behind_char.Goals as goal
+use Rattle.kdl_comments.proofs.spaces.after_char.Goals as goal
 
 pub cut-requires : goal.cut-requires
 cut-requires c =

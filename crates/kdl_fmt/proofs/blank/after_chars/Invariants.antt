@@ -2,7 +2,7 @@ use Rattle.std.proofs.Common.{◌≡◌, drop, length}
 use denote.Text.{Utf8}
 use denote.Shadow.{shadow}
 use Rattle.std.specs.Str.{chars}
-use Rattle.kdl_fmt.proofs.blank.behind_chars.Given as goal
+use Rattle.kdl_fmt.proofs.blank.after_chars.Given as goal
 
 -- as many characters of the text are passed as of the other one
 abbrev pub invariant-chars : goal.invariant-chars

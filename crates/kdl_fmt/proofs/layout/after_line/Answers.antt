@@ -5,8 +5,8 @@ use Rattle.kdl_fmt.specs.Config.{settings}
 use Rattle.kdl_fmt.specs.Formatted.{or_empty}
 use Rattle.kdl_parts.specs.Formats.{node_texts}
 use Rattle.kdl_fmt.proofs.Spacing.Reads.{format_none, format_zero}
-use Rattle.kdl_fmt.proofs.layout.behind_line.Goals as goal
-use Rattle.kdl_fmt.proofs.layout.behind_line.Goals.{in_default-via-in-Some+else-layout-ne0, in_default-via-in_default}
+use Rattle.kdl_fmt.proofs.layout.after_line.Goals as goal
+use Rattle.kdl_fmt.proofs.layout.after_line.Goals.{in_default-via-in-Some+else-layout-ne0, in_default-via-in_default}
 
 pub returns-in_default : goal.returns-in_default
 returns-in_default c =

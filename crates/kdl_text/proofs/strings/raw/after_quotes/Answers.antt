@@ -1,12 +1,12 @@
 use Rattle.std.proofs.Common.{◌≡◌, ◌-◌, ◌++◌, ap, ◌∙◌, arith}
 use Rattle.kdl_text.specs.Chars.{times}
 use Rattle.kdl_text.proofs.Looking.Parts.{part_same}
-use Rattle.kdl_text.proofs.RawStrings.LinesLoop.{no_more_behind, one_behind, one_look}
-use Rattle.kdl_text.proofs.strings.raw.behind_quotes.Goals as goal
+use Rattle.kdl_text.proofs.RawStrings.LinesLoop.{no_more_after, one_after, one_look}
+use Rattle.kdl_text.proofs.strings.raw.after_quotes.Goals as goal
 
 pub loop-init : goal.loop-init
 loop-init c = record {
-  behind = λ t e.
+  following = λ t e.
       (let all : c.args.count ≡ c.args.count - 0 = omega arith in
       ap (λ z. z.rest) c.go_to.ensures ∙ e ∙ ap (λ k. times k 34 ++ t) all);
   most = omega (arith, ap (λ z. z.steps) c.go_to.ensures);
@@ -19,7 +19,7 @@ loop-preserved c =
     let i = c.loop.invariant in
     let (most, counts, same) = one_look 34 _ _ _ c.eat.ensures in
     record {
-      behind = λ t e. one_behind c.args.count c.loop.counter _ _ _ t c.loop-test.true c.eat.ensures (i.behind t e);
+      following = λ t e. one_after c.args.count c.loop.counter _ _ _ t c.loop-test.true c.eat.ensures (i.following t e);
       most = omega (arith, i.most, most);
       counts = omega (arith, i.counts, counts);
       same = same ∙ i.same;
@@ -30,7 +30,7 @@ returns c =
     let i = c.loop.invariant in
     let back = ap (λ z. z.steps) c.go_to-2.ensures in
     record {
-      behind = λ t e. c.checkpoint-behind.ensures.rest ∙ no_more_behind c.args.count c.loop.counter _ t c.loop-test.false (i.behind t e);
+      following = λ t e. c.checkpoint-following.ensures.rest ∙ no_more_after c.args.count c.loop.counter _ t c.loop-test.false (i.following t e);
       returned = record {
         rest = ap (λ z. z.rest) c.go_to-2.ensures ∙ c.checkpoint-here.ensures.rest;
         at = ap (λ z. z.at) c.go_to-2.ensures ∙ c.checkpoint-here.ensures.at;

@@ -6,7 +6,7 @@ use Rattle.kdl_comments.specs.Internal.Reading.{item_view}
 use Rattle.kdl_comments.specs.Written.{tail}
 use Rattle.kdl_comments.specs.declared.item.Item.{Item}
 use Rattle.kdl_comments.proofs.Rewriting.Pushing.{if_ok, one_char, two, three, escline_text}
-use Rattle.kdl_comments.proofs.written.push_behind_space.Goals as goal
+use Rattle.kdl_comments.proofs.written.push_after_space.Goals as goal
 
 pub returns-in_ok-push_text-in-Comment-2 : goal.returns-in_ok-push_text-in-Comment-2
 returns-in_ok-push_text-in-Comment-2 c =

@@ -2,14 +2,14 @@ use Rattle.std.proofs.Common.{◌++◌, sym, ap, ◌∙◌}
 use Rattle.kdl_text.specs.Chars.{Text}
 use Rattle.kdl_value.specs.Print.{print_value}
 use Rattle.kdl_value.specs.Tree.{text_of}
-use Rattle.kdl_fmt.specs.WithComments.{behind}
+use Rattle.kdl_fmt.specs.WithComments.{following}
 use Rattle.kdl_fmt.proofs.Texts.{empty_string, entry_made, space_text}
-use Rattle.kdl_fmt.proofs.layout.format_behind.Goals as goal
+use Rattle.kdl_fmt.proofs.layout.format_after.Goals as goal
 
 pub returns-then-is_empty : goal.returns-then-is_empty
 returns-then-is_empty c = λ e v.
     let empty = rw c.if-is_empty.true at (empty_string c.is_empty.result c.args.kept c.is_empty.ensures) in
-    sym (ap (λ (t : Text). behind t e) empty)
+    sym (ap (λ (t : Text). following t e) empty)
 
 pub returns : goal.returns
 returns c = λ e v.
