@@ -7,11 +7,11 @@ use Rattle.kdl.specs.Tree.{head_tree, node_tree}
 use Rattle.kdl.specs.declared.node.KdlNode.{KdlNode}
 use Rattle.kdl.specs.declared.document.KdlDocument.{KdlDocument}
 use Rattle.kdl.specs.declared.document.KdlDocument.TheViews.{out-KdlDocument, out-KdlNode}
-use Rattle.kdl.specs.declared.clone.Open.{Open}
+use Rattle.kdl.specs.declared.clone.CopyFrame.{CopyFrame}
 use Rattle.kdl.proofs.Trees.{document_tree_out, node_tree_out}
 
 -- one more block that is open
-outermost_more : (os : List Open) (o : Open) (ns : List Node) → outermost (os ++ o ∷ []) ns ≡ outermost os (closed o ns ++ map node_tree o.following.now)
+outermost_more : (os : List CopyFrame) (o : CopyFrame) (ns : List Node) → outermost (os ++ o ∷ []) ns ≡ outermost os (closed o ns ++ map node_tree o.following.now)
 outermost_more [] o ns = refl
 outermost_more (p ∷ os) o ns = ap (λ z. closed p z ++ map node_tree p.following.now) (outermost_more os o ns)
 
@@ -35,7 +35,7 @@ line_made made made' n c rest e k =
     ∙ append_assoc (map node_tree made) (node_tree n ∷ []) rest
 
 -- a block is opened
-pub block_opened : (o : Open) (above : List Open) → (out-KdlNode o.node.now).children ≡ Some o.block.now
+pub block_opened : (o : CopyFrame) (above : List CopyFrame) → (out-KdlNode o.node.now).children ≡ Some o.block.now
     → outermost (above ++ o ∷ []) (map node_tree (out-KdlDocument o.block.now).nodes.items) ≡ outermost above (map node_tree o.before.items ++ (node_tree o.node.now ∷ map node_tree o.following.now))
 block_opened o above e =
     outermost_more above o (map node_tree (out-KdlDocument o.block.now).nodes.items)
@@ -43,7 +43,7 @@ block_opened o above e =
     ∙ ap (outermost above) (append_assoc (map node_tree o.before.items) (node_tree o.node.now ∷ []) (map node_tree o.following.now))
 
 -- it is closed
-pub block_closed : (o : Open) (above : List Open) (made made' : List KdlNode) → map node_tree made' ≡ closed o (map node_tree made)
+pub block_closed : (o : CopyFrame) (above : List CopyFrame) (made made' : List KdlNode) → map node_tree made' ≡ closed o (map node_tree made)
     → outermost above (map node_tree made' ++ map node_tree o.following.now) ≡ outermost (above ++ o ∷ []) (map node_tree made)
 block_closed o above made made' e =
     ap (λ z. outermost above (z ++ map node_tree o.following.now)) e ∙ sym (outermost_more above o (map node_tree made))

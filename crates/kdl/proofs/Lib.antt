@@ -28,3 +28,5 @@ pub mod ReadingBack
 pub mod SpanIsIgnored
 -- The trees of a node and of a document, by their fields.
 pub mod Trees
+-- The lemmas that the functions of a file cite.
+pub mod Rules

@@ -11,7 +11,7 @@ use std::mem;
 
 /// A block that is being copied: its node, its document, the nodes after that node, and the copies of those before it.
 #[derive(Drop)]
-struct Open<'a> {
+struct CopyFrame<'a> {
     node: &'a KdlNode,
     block: &'a KdlDocument,
     following: &'a [KdlNode],
@@ -19,11 +19,11 @@ struct Open<'a> {
 }
 
 /// Returns the copies up to that of the block's node, whose block has the nodes.
-fn close(opened: Open<'_>, nodes: Vec<KdlNode>) -> Result<Vec<KdlNode>, AllocError>
+fn close(opened: CopyFrame<'_>, nodes: Vec<KdlNode>) -> Result<Vec<KdlNode>, AllocError>
     ensures { IfOk result (λ v. map node_tree v.items ≡
         closed opened.entry (map node_tree nodes.items)) }
 {
-    let Open {
+    let CopyFrame {
         node,
         block,
         following: _,
@@ -38,7 +38,7 @@ fn close(opened: Open<'_>, nodes: Vec<KdlNode>) -> Result<Vec<KdlNode>, AllocErr
 pub(crate) fn copy_nodes(alloc: Global, nodes: &[KdlNode]) -> Result<Vec<KdlNode>, AllocError>
     ensures { IfOk result (λ v. map node_tree v.items ≡ map node_tree nodes.now) }
 {
-    let mut above: Vec<Open> = Vec::new(alloc);
+    let mut above: Vec<CopyFrame> = Vec::new(alloc);
     let mut made = Vec::with_capacity(alloc, nodes.len())?;
     let mut rest = nodes;
     'left: loop {
@@ -46,7 +46,7 @@ pub(crate) fn copy_nodes(alloc: Global, nodes: &[KdlNode]) -> Result<Vec<KdlNode
             if let Some(block) = node.children() {
                 let inner = Vec::with_capacity(alloc, block.nodes().len())?;
                 let before = mem::replace(&mut made, inner);
-                above.push(Open {
+                above.push(CopyFrame {
                     node,
                     block,
                     following,

@@ -1,4 +1,5 @@
 //! Documents.
+#![tactic(auto, using(crate::proofs::Rules::document))]
 
 ghost use Rattle.kdl.specs.Said.{said_nodes};
 ghost use Rattle.kdl.specs.Tree.{document_of, document_says, document_tree, node_says, node_tree};
@@ -158,7 +159,6 @@ impl KdlDocument {
     /// let document = KdlDocument::parse(alloc, "a; /-b; c")?;
     /// let names = document.nodes().iter().map(|node| node.name().value()); // "a", "c"
     /// ```
-    #[tactic(auto, using(crate::proofs::Finding::SaidLookups::got_nodes))]
     pub fn nodes(&self) -> &[KdlNode]
         ensures value { result.now ≡ nodes_of self.now }
         ensures said { map node_says result.now ≡ said_nodes (document_says self.now) }
@@ -199,7 +199,6 @@ impl KdlDocument {
     /// let mut document = KdlDocument::new(alloc);
     /// document.set_span(SourceSpan { offset: 0, len: 12 });
     /// ```
-    #[tactic(auto, using(crate::proofs::SpanIsIgnored::document_spanned))]
     pub fn set_span(&mut self, span: SourceSpan)
         ensures same { same_document self.old self.new ≡ true }
         ensures rest { self.new ≡ with_document_span self.old span }
@@ -210,7 +209,6 @@ impl KdlDocument {
 
 impl KdlDocument {
     /// Writes the `{` of the block that the document is, up to its first node.
-    #[tactic(auto, using(kdl_parts::proofs::Utf8Parts::writes))]
     pub(crate) fn write_front<W: fmt::Write>(&self, f: &mut fmt::Formatter<W>) -> fmt::Result
         ensures { Prints W.write_str_gives f.old result (block_front self.now) f.new }
     {
@@ -220,7 +218,6 @@ impl KdlDocument {
 
     /// Writes what follows its last node, up to the `}` of the block that the document is. The node of that block is at
     /// the given depth.
-    #[tactic(auto, using(kdl_parts::proofs::Utf8Parts::writes))]
     pub(crate) fn write_end<W: fmt::Write>(
         &self,
         depth: usize,

@@ -34,7 +34,7 @@ pub(crate) struct Around {
 /// laid out except for its own block, whose nodes are taken out: `around` are the texts around these, which are set when
 /// they are laid out. `next` is what comes before the next node, which is not laid out.
 #[derive(Drop)]
-struct Block {
+struct LayoutFrame {
     nodes: Vec<KdlNode>,
     at: usize,
     level: usize,
@@ -46,8 +46,8 @@ struct Block {
 /// The blocks that are being laid out: the innermost one, and those above it.
 #[derive(Drop)]
 struct Blocks {
-    above: Vec<Block>,
-    inner: Block,
+    above: Vec<LayoutFrame>,
+    inner: LayoutFrame,
 }
 
 impl Blocks {
@@ -84,7 +84,7 @@ impl Blocks {
         ensures goes_on { OnOk result (GoesOn layout.now
             self.old.above.items self.old.inner self.new.above.items self.new.inner) }
     {
-        let Block {
+        let LayoutFrame {
             nodes,
             at,
             level,
@@ -105,7 +105,7 @@ impl Blocks {
         let alloc = *self.above.allocator();
         let at = self.inner.at;
         let nodes = self.inner.nodes[at].exchange_nodes(Vec::new(alloc));
-        let block = Block {
+        let block = LayoutFrame {
             nodes,
             at: 0,
             level,
@@ -120,7 +120,7 @@ impl Blocks {
 
     /// Puts the nodes of the innermost block back into the node that it belongs to, and sets the texts around them. They
     /// are laid out, so the node is laid out as well. What follows it comes next.
-    fn leave(&mut self, outer: Block)
+    fn leave(&mut self, outer: LayoutFrame)
         ensures kept { map bare_node (whole self.new.above.items self.new.inner) ≡
             map bare_node (whole (self.old.above.items ++ outer ∷ []) self.old.inner) }
         ensures goes_on { vec_len self.old.inner.nodes ≤ self.old.inner.at → (l : Layout)
@@ -145,7 +145,7 @@ impl Blocks {
 
     /// Puts the nodes of the innermost block back into the node that it belongs to, laid out or not. The texts around
     /// them do not change.
-    fn close(&mut self, outer: Block)
+    fn close(&mut self, outer: LayoutFrame)
         ensures whole { whole self.new.above.items self.new.inner ≡
             whole (self.old.above.items ++ outer ∷ []) self.old.inner }
         ensures above { self.new.above ≡ self.old.above }
@@ -190,7 +190,7 @@ impl Blocks {
             self.close(outer);
         }
         let Blocks { above: _, inner } = self;
-        let Block {
+        let LayoutFrame {
             nodes,
             at: _,
             level: _,
@@ -268,7 +268,7 @@ pub(crate) fn lay_out_nodes(
     let before = indentation(alloc, &layout.config, level)?;
     let mut blocks = Blocks {
         above: Vec::new(alloc),
-        inner: Block {
+        inner: LayoutFrame {
             nodes: mem::replace(nodes, Vec::new(alloc)),
             at: 0,
             level,

@@ -1,4 +1,5 @@
 //! Nodes.
+#![tactic(auto, using(crate::proofs::Rules::node))]
 
 ghost use Rattle.kdl_grammar.specs.Tree.{node};
 ghost use Rattle.kdl.specs.Said.{said_children, said_entries, said_name, said_type};
@@ -104,7 +105,6 @@ impl KdlNode {
     /// let node = KdlNode::parse(alloc, "\"a\\tb\"")?;
     /// let name = node.name().value(); // an `a`, a tab and a `b`
     /// ```
-    #[tactic(auto, using(crate::proofs::Finding::SaidLookups::got_name))]
     pub fn name(&self) -> &KdlIdentifier
         ensures value { result.now ≡ name_of self.now }
         ensures said { (identifier_tree result.now).value ≡ said_name (node_says self.now) }
@@ -118,7 +118,6 @@ impl KdlNode {
     /// let node = KdlNode::parse(alloc, "(date)today")?;
     /// let ty = node.ty(); // the identifier `date`
     /// ```
-    #[tactic(auto, using(crate::proofs::Finding::SaidLookups::got_type))]
     pub fn ty(&self) -> Option<&KdlIdentifier>
         ensures value { option_map (λ t. t.now) result ≡ ty_of self.now }
         ensures said { option_map (λ t. (identifier_tree t.now).value) result ≡
@@ -133,7 +132,6 @@ impl KdlNode {
     /// let node = KdlNode::parse(alloc, "a 1 /-2 b=3")?;
     /// let count = node.entries().len(); // 2: a slashdashed entry does not count
     /// ```
-    #[tactic(auto, using(crate::proofs::Finding::SaidLookups::got_entries))]
     pub fn entries(&self) -> &[KdlEntry]
         ensures value { result.now ≡ entries_of self.now }
         ensures said { map (λ e. entry_data (entry_tree e)) result.now ≡
@@ -148,7 +146,6 @@ impl KdlNode {
     /// let none = KdlNode::parse(alloc, "a")?.children().is_none(); // true
     /// let some = KdlNode::parse(alloc, "a {}")?.children().is_some(); // true: an empty block differs from none
     /// ```
-    #[tactic(auto, using(crate::proofs::Finding::SaidLookups::got_children))]
     pub fn children(&self) -> Option<&KdlDocument>
         ensures value { option_map (λ d. d.now) result ≡ block_of self.now }
         ensures said { option_map (λ d. document_says d.now) result ≡
@@ -191,7 +188,6 @@ impl KdlNode {
     /// let mut node = KdlNode::parse(alloc, "a")?;
     /// node.set_span(SourceSpan { offset: 7, len: 1 });
     /// ```
-    #[tactic(auto, using(crate::proofs::SpanIsIgnored::node_spanned))]
     pub fn set_span(&mut self, span: SourceSpan)
         ensures same { same_node self.old self.new ≡ true }
         ensures rest { self.new ≡ with_span self.old span }
@@ -202,7 +198,6 @@ impl KdlNode {
 
 impl KdlNode {
     /// Writes the node at the given depth, up to its last entry.
-    #[tactic(auto, using(kdl_parts::proofs::Utf8Parts::writes))]
     pub(crate) fn write_front<W: fmt::Write>(
         &self,
         depth: usize,

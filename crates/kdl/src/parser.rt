@@ -1,4 +1,5 @@
 //! Documents and nodes, read from a text.
+#![tactic(auto, using(crate::proofs::Rules::parser))]
 
 ghost use Rattle.kdl.specs.Layout.{DocumentKeepsNoForm, NodeKeepsNoForm};
 ghost use Rattle.kdl.specs.ReadsBack.{DocumentReadsBack, NodeReadsBack};
@@ -103,7 +104,6 @@ impl KdlDocument {
     /// let document = KdlDocument::parse_counted(alloc, "a 1", &mut steps)?;
     /// let taken = steps.count(); // at least 3, at most 128
     /// ```
-    #[tactic(auto, using(crate::proofs::ParseAnswers::found, crate::proofs::ParseAnswers::only, crate::proofs::ParseAnswers::laid, crate::proofs::ParseAnswers::prints))]
     pub fn parse_counted(
         alloc: Global,
         text: &str,
@@ -176,7 +176,6 @@ impl KdlNode {
     /// let node = KdlNode::parse(alloc, "// the port\nport 8080\n")?;
     /// let two = KdlNode::parse(alloc, "a; b"); // `Syntax`, at the second node
     /// ```
-    #[tactic(auto, using(crate::proofs::ParseAnswers::node_found, crate::proofs::ParseAnswers::node_only, crate::proofs::ParseAnswers::node_prints))]
     pub fn parse(alloc: Global, text: &str) -> Result<KdlNode, ParseFailure>
         // The data of the node is what the grammar derives,
         ensures found { IfOk result (λ n. IsNodeText true (chars text.now) (node_says n)) }

@@ -1,4 +1,5 @@
 //! How nodes are printed: with a stack on the heap and without recursion, however deep their blocks are.
+#![tactic(auto, using(kdl_parts::proofs::Utf8Parts::writes))]
 
 ghost use Rattle.kdl.specs.Internal.Left.{Prints, closing, line, opening};
 ghost use Rattle.kdl.specs.Tree.{nodes_tree};
@@ -11,14 +12,13 @@ use std::fmt;
 
 /// An open block: its node, its document, and the nodes after that node.
 #[derive(Clone, Copy)]
-struct Open<'a> {
+struct PrintFrame<'a> {
     node: &'a KdlNode,
     block: &'a KdlDocument,
     following: &'a [KdlNode],
 }
 
 /// Writes a node without children, at the given depth.
-#[tactic(auto, using(kdl_parts::proofs::Utf8Parts::writes))]
 fn write_line<W: fmt::Write>(node: &KdlNode, depth: usize, f: &mut fmt::Formatter<W>) -> fmt::Result
     ensures { Prints W.write_str_gives f.old result (line node.now depth) f.new }
 {
@@ -27,7 +27,6 @@ fn write_line<W: fmt::Write>(node: &KdlNode, depth: usize, f: &mut fmt::Formatte
 }
 
 /// Writes a node at the given depth up to the first node in its block.
-#[tactic(auto, using(kdl_parts::proofs::Utf8Parts::writes))]
 fn write_opening<W: fmt::Write>(
     node: &KdlNode,
     block: &KdlDocument,
@@ -43,7 +42,6 @@ fn write_opening<W: fmt::Write>(
 
 /// Writes what follows the last node in a block: the rest of the block, and the end of its node, which is at the given
 /// depth.
-#[tactic(auto, using(kdl_parts::proofs::Utf8Parts::writes))]
 fn write_closing<W: fmt::Write>(
     node: &KdlNode,
     block: &KdlDocument,
@@ -65,14 +63,14 @@ pub(crate) fn write_nodes<W: fmt::Write>(
 ) -> fmt::Result
     ensures { Prints W.write_str_gives f.old result (print_nodes (nodes_tree nodes.now) 0) f.new }
 {
-    let mut above: Vec<Open> = Vec::new(alloc);
+    let mut above: Vec<PrintFrame> = Vec::new(alloc);
     let mut rest = nodes;
     'left: loop {
         if let Some((node, following)) = rest.split_first() {
             if let Some(block) = node.children() {
                 write_opening(node, block, above.len(), f)?;
                 if above
-                    .push(Open {
+                    .push(PrintFrame {
                         node,
                         block,
                         following,

@@ -12,7 +12,7 @@ use Rattle.kdl_lexer.specs.declared.lexer.Token.{Token as CodeToken}
 use Rattle.kdl_control.specs.Internal.Views.{phase_view}
 use Rattle.kdl_diagnostics.specs.Internal.Outsets.{Counts, EndsBefore, Enters, GoesOver, IsNew, BeginsAt, at_the_end, earlier, IsReady, IsStopped, Lacking, Lacks, LacksAt, Matched, Untold, depth, text_view}
 use Rattle.kdl_diagnostics.specs.TextControl.{TextControl, Takes, text_finish, text_start, text_step}
-use Rattle.kdl_diagnostics.specs.declared.front.Front.{Front}
+use Rattle.kdl_diagnostics.specs.declared.front.Prefix.{Prefix}
 use Rattle.kdl_diagnostics.specs.declared.reader.Block.{Block}
 use Rattle.kdl_diagnostics.specs.declared.reader.Reader.{Reader}
 use Rattle.kdl_diagnostics.specs.declared.text_control.Outset.{Outset}
@@ -36,7 +36,7 @@ pub pushed : {A : Type 0} (old new : List A) (x : A) → new ≡ old ++ (x ∷ [
 pushed old new x e = ap length e ∙ length_push old x
 
 -- a front that ends after no string, number or keyword
-pub ends_at : (rest : Text) (f : Front) → f.place.rest ≡ rest → f.from.rest ≡ rest → (text_finish (text_view f.control) ≡ false → LacksAt f.control.whole (depth (text_view f.control)) f.before) → Matched f → EndsBefore rest f
+pub ends_at : (rest : Text) (f : Prefix) → f.place.rest ≡ rest → f.from.rest ≡ rest → (text_finish (text_view f.control) ≡ false → LacksAt f.control.whole (depth (text_view f.control)) f.before) → Matched f → EndsBefore rest f
 ends_at rest f p q h m = record { place = p; from = λ e. (sym q ∙ e, λ x. subst (λ (n : ℕ). LacksAt f.control.whole n f.before) (sym m.0) (h x)); matched = m }
 
 -- the open blocks
@@ -74,7 +74,7 @@ lacking n o a b x u c e h =
       cut = h.cut ∙ c;
     }
 
-pub ready : (f : Front) (here : Outset) (a b : Reader) → IsStopped f → (text_finish (text_view f.control) ≡ false → LacksAt f.control.whole (depth (text_view f.control)) here) → a.text ≡ f.control.whole → a.blocks ≡ f.blocks → a.is_cut ≡ false → a.cursor.rest ≡ f.place.rest → BeginsAt f.from here f.before a b → IsReady b
+pub ready : (f : Prefix) (here : Outset) (a b : Reader) → IsStopped f → (text_finish (text_view f.control) ≡ false → LacksAt f.control.whole (depth (text_view f.control)) here) → a.text ≡ f.control.whole → a.blocks ≡ f.blocks → a.is_cut ≡ false → a.cursor.rest ≡ f.place.rest → BeginsAt f.from here f.before a b → IsReady b
 ready f here a b s l t k c r (at_the_end e h) = record {
   ends = λ n.
       (let (g, m) = s.place (sym r ∙ sym e ∙ n) in
@@ -89,7 +89,7 @@ ready f here a b s l t k c r (earlier e h) = record {
 }
 
 -- the front at the start of a text
-pub new_matched : (f : Front) → IsNew f → Matched f
+pub new_matched : (f : Prefix) → IsNew f → Matched f
 new_matched f n = (ap length n.blocks ∙ sym (ap depth n.control ∙ no_depth f.control.whole), subst Untold (sym n.blocks) (All-nil (λ (b : Block). b.is_told ≡ false)))
   where
     no_depth : (w : Whole) → depth (text_start w) ≡ 0
@@ -102,10 +102,10 @@ pub starts : {P : Type 0} (s : Text) (w : Whole) (c d : Control) → d ≡ c →
 starts {P = P} s w c d e f x = subst (λ (t : TextControl). Takes t s ↔ P) (sym (ap text_view e ∙ f)) x
 
 -- a front goes on over a token that is taken, and stops where none is
-pub over_token : {P : Type 0} (a b : Here) (k : CodeToken) (f g : Front) → HandsOut a k b → text_step (text_view f.control) (kind_view k.kind) ≡ Some (text_view g.control) → Takes (text_view f.control) a.rest ↔ P → Takes (text_view g.control) b.rest ↔ P
+pub over_token : {P : Type 0} (a b : Here) (k : CodeToken) (f g : Prefix) → HandsOut a k b → text_step (text_view f.control) (kind_view k.kind) ≡ Some (text_view g.control) → Takes (text_view f.control) a.rest ↔ P → Takes (text_view g.control) b.rest ↔ P
 over_token a b k f g h e x = let y = over h.cuts e in (λ t. x.0 (y.0 t), λ p. y.1 (x.1 p))
 
-pub ends_over : (a b : Here) (k : CodeToken) (f g : Front) → HandsOut a k b → EndsBefore a.rest f → GoesOver k f g true → EndsBefore b.rest g
+pub ends_over : (a b : Here) (k : CodeToken) (f g : Prefix) → HandsOut a k b → EndsBefore a.rest f → GoesOver k f g true → EndsBefore b.rest g
 ends_over a b k f g h e o = subst (λ (t : Text). EndsBefore t g) h.end_rest (o (λ n. omega (arith, cut_shorter h.cuts, ap length (sym h.start_rest ∙ n))) e.matched)
 
 pub refused : {P : Type 0} (r : Bool) (a b : Here) (k : CodeToken) (t : TextControl) → HandsOut a k b → text_step t (kind_view k.kind) ≡ None → r ≡ false → Takes t a.rest ↔ P → (r ≡ true) ↔ P
@@ -118,8 +118,8 @@ pub at_the_text_end : {P : Type 0} (r : Bool) (a : Here) (t : TextControl) → a
 at_the_text_end r a t n f x = let y = at_end n in (λ q. x.0 (y.0 (sym f ∙ q)), λ p. f ∙ y.1 (x.1 p))
 
 -- where the text goes on there is nothing more to know
-pub stopped_before : (rest : Text) (f g : Front) → EndsBefore rest f → (rest ≡ [] → ⊥) → g.place.rest ≡ f.place.rest → g.from.rest ≡ f.from.rest → IsStopped g
+pub stopped_before : (rest : Text) (f g : Prefix) → EndsBefore rest f → (rest ≡ [] → ⊥) → g.place.rest ≡ f.place.rest → g.from.rest ≡ f.from.rest → IsStopped g
 stopped_before rest f g e n p q = record { place = λ x. absurd (n (sym e.place ∙ sym p ∙ x)); from = λ x. absurd (n (e.from (sym q ∙ x)).0) }
 
-pub stopped_at_end : (rest : Text) (f : Front) → EndsBefore rest f → text_finish (text_view f.control) ≡ false → IsStopped f
+pub stopped_at_end : (rest : Text) (f : Prefix) → EndsBefore rest f → text_finish (text_view f.control) ≡ false → IsStopped f
 stopped_at_end rest f e n = record { place = λ x. (n, e.matched); from = λ x. ((e.from x).1 n, e.matched.1) }

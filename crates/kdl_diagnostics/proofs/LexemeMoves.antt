@@ -12,11 +12,11 @@ use Rattle.kdl_diagnostics.specs.declared.ends.Unclosed.{Unclosed}
 use Rattle.kdl_diagnostics.specs.declared.ends.ValueEnd.{ValueEnd}
 use Rattle.kdl_diagnostics.specs.declared.lexemes.Lexeme.{Lexeme}
 use Rattle.kdl_diagnostics.specs.declared.strings.Found.{Found}
-use Rattle.kdl_diagnostics.specs.declared.lexemes.Start.{Start}
+use Rattle.kdl_diagnostics.specs.declared.lexemes.LexemeStart.{LexemeStart}
 use Rattle.kdl_diagnostics.proofs.Passing.{after_then}
 
 -- a lexeme with its end anywhere after its start, and after it what was read from m on
-pub stands_at : (s : Start) (p : Lexeme) (m n : Here) (c : Option Unclosed) → p.start ≡ s.place → p.next ≡ s.next → p.comment ≡ c → Spans s → (q : Text) × (s.place.rest ≡ q ++ p.end.rest) → (q : Text) × (s.place.rest ≡ q ++ m.rest) → OnUnclosed m c n
+pub stands_at : (s : LexemeStart) (p : Lexeme) (m n : Here) (c : Option Unclosed) → p.start ≡ s.place → p.next ≡ s.next → p.comment ≡ c → Spans s → (q : Text) × (s.place.rest ≡ q ++ p.end.rest) → (q : Text) × (s.place.rest ≡ q ++ m.rest) → OnUnclosed m c n
     → IfSome p.backslash (λ b. (q : Text) × (s.place.rest ≡ q ++ b.rest)) → Stands s.place.rest p
 stands_at s p m n c is_start is_next is_comment spans (q, e) back unclosed backslash =
     let here : p.start.rest ≡ s.place.rest = ap (λ z. z.rest) is_start in
@@ -36,7 +36,7 @@ stands_at s p m n c is_start is_next is_comment spans (q, e) back unclosed backs
         (b.0, u.end.0, b.1 ∙ ap (λ z. b.0 ++ z.start.rest) same, ap (λ z. z.start.rest) (sym same) ∙ u.end.1 ∙ ap (λ z. u.end.0 ++ z.end.rest) same)
 
 -- a lexeme that ends at the value end from m on
-pub stands_word : (s : Start) (p : Lexeme) (m n : Here) (e : ValueEnd) → p.start ≡ s.place → p.next ≡ s.next → p.comment ≡ e.comment → p.backslash ≡ None → p.end ≡ e.place → Spans s → (q : Text) × (s.place.rest ≡ q ++ m.rest) → IsEnd m e n → Stands s.place.rest p
+pub stands_word : (s : LexemeStart) (p : Lexeme) (m n : Here) (e : ValueEnd) → p.start ≡ s.place → p.next ≡ s.next → p.comment ≡ e.comment → p.backslash ≡ None → p.end ≡ e.place → Spans s → (q : Text) × (s.place.rest ≡ q ++ m.rest) → IsEnd m e n → Stands s.place.rest p
 stands_word s p m n e is_start is_next is_comment is_backslash is_end spans back end =
     let b = after_then _ _ _ back end.place.before in
     stands_at s p m n e.comment is_start is_next is_comment spans (b.0, b.1 ∙ ap (λ z. b.0 ++ z.rest) (sym is_end)) back end.comment (subst (λ z. IfSome z (λ b. (q : Text) × (s.place.rest ≡ q ++ b.rest))) (sym is_backslash) tt)
@@ -47,14 +47,14 @@ ahead_if s t None x y = tt
 ahead_if s t (Some b) x y = after_then s t b.rest x y
 
 -- the fault of a string that begins at the start of the lexeme: the one in it, or one at its start
-pub found_in_role : (s : Start) (a : Here) (f g : Option Found) → (p : Text) × (s.place.rest ≡ p ++ a.rest) → OnFound (gone s.place a) f a → FindsAlso f s.place g → OnFound (gone s.place a) g a
+pub found_in_role : (s : LexemeStart) (a : Here) (f g : Option Found) → (p : Text) × (s.place.rest ≡ p ++ a.rest) → OnFound (gone s.place a) f a → FindsAlso f s.place g → OnFound (gone s.place a) g a
 found_in_role s a f g here on also = also (gone s.place a) a on (record { before = ([], refl); following = here; at = refl })
 
 -- from the start of a lexeme to after its first character
-pub begun : (s : Start) (a b : Here) → Spans s → b ≡ gone s.next a → Moves (gone s.place a) b
+pub begun : (s : LexemeStart) (a b : Here) → Spans s → b ≡ gone s.next a → Moves (gone s.place a) b
 begun s a b spans e = rw e (record { piece = spans.next; at = spans.at; counts = omega arith; same = refl })
 
-pub begins_took : (c : ℕ) (a b : Here) (s : Start) → Took (Some c) a b → s.place.rest ≡ a.rest → s.place.at ≡ a.at → s.next.rest ≡ b.rest → s.next.at ≡ b.at → Begins s
+pub begins_took : (c : ℕ) (a b : Here) (s : LexemeStart) → Took (Some c) a b → s.place.rest ≡ a.rest → s.place.at ≡ a.at → s.next.rest ≡ b.rest → s.next.at ≡ b.at → Begins s
 begins_took c a b s took pr pa nr na = record {
   spans = record {
     next = (c ∷ [], pr ∙ took.0 ∙ ap (λ z. c ∷ z) (sym nr));

@@ -19,7 +19,7 @@ use std::alloc::{AllocError, Global};
 
 /// The part of a text up to a place: the tokens before it may come.
 #[derive(Drop)]
-pub(crate) struct Front<'a> {
+pub(crate) struct Prefix<'a> {
     pub alloc: Global,
     /// The start of the text.
     pub whole: Checkpoint<'a>,
@@ -50,7 +50,7 @@ fn skip_bom<'a>(whole: Whole, lexer: &mut Lexer<'a>)
     }
 }
 
-impl<'a> Front<'a> {
+impl<'a> Prefix<'a> {
     /// Creates the empty part at the start of a text.
     pub(crate) fn new(alloc: Global, whole: Whole, start: Checkpoint<'a>) -> Self
         ensures front { IsFrontOf start.entry.rest result }
@@ -59,7 +59,7 @@ impl<'a> Front<'a> {
     {
         let control = TextControl::new(alloc, whole);
         let before = control.outset();
-        Front {
+        Prefix {
             alloc,
             control,
             blocks: Vec::new(alloc),

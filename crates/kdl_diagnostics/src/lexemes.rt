@@ -86,13 +86,13 @@ pub(crate) struct Lexeme<'a> {
 
 /// Where a lexeme begins, and the place after its first character.
 #[derive(Drop)]
-struct Start<'a> {
+struct LexemeStart<'a> {
     place: Checkpoint<'a>,
     next: Checkpoint<'a>,
 }
 
 /// A lexeme that ends a value, or spaces.
-fn plain<'a>(kind: LexemeKind, start: Start<'a>) -> Lexeme<'a>
+fn plain<'a>(kind: LexemeKind, start: LexemeStart<'a>) -> Lexeme<'a>
     requires { Spans start }
     ensures stands { Stands start.entry.place.rest result }
     ensures kind { result.kind ≡ kind }
@@ -128,7 +128,7 @@ fn unclosed<'a>(comment: Unclosed<'a>) -> Lexeme<'a>
 }
 
 /// Advances past a character with which no lexeme begins, and on to the next value end.
-fn other<'a>(cursor: &mut Cursor<'a>, start: Start<'a>) -> Lexeme<'a>
+fn other<'a>(cursor: &mut Cursor<'a>, start: LexemeStart<'a>) -> Lexeme<'a>
     requires start { Begins start }
     requires part { IsPart cursor.old.text start.place.rest }
     ensures lexeme { IsLexeme start.entry.place result cursor.new }
@@ -150,7 +150,7 @@ fn other<'a>(cursor: &mut Cursor<'a>, start: Start<'a>) -> Lexeme<'a>
 }
 
 /// Advances past what begins with the slash here.
-fn slash_lexeme<'a>(cursor: &mut Cursor<'a>, start: Start<'a>) -> Lexeme<'a>
+fn slash_lexeme<'a>(cursor: &mut Cursor<'a>, start: LexemeStart<'a>) -> Lexeme<'a>
     requires start { Begins start }
     requires here { cursor.old ≡ gone start.place cursor.old }
     requires part { IsPart cursor.old.text start.place.rest }
@@ -171,7 +171,7 @@ fn slash_lexeme<'a>(cursor: &mut Cursor<'a>, start: Start<'a>) -> Lexeme<'a>
 }
 
 /// Advances past what begins with the backslash here.
-fn backslash_lexeme<'a>(cursor: &mut Cursor<'a>, start: Start<'a>) -> Lexeme<'a>
+fn backslash_lexeme<'a>(cursor: &mut Cursor<'a>, start: LexemeStart<'a>) -> Lexeme<'a>
     requires start { Begins start }
     requires part { IsPart cursor.old.text start.place.rest }
     ensures lexeme { IsLexeme start.entry.place result cursor.new }
@@ -201,7 +201,7 @@ fn backslash_lexeme<'a>(cursor: &mut Cursor<'a>, start: Start<'a>) -> Lexeme<'a>
 fn word<'a>(
     cursor: &mut Cursor<'a>,
     kind: LexemeKind,
-    start: Start<'a>,
+    start: LexemeStart<'a>,
     fault: Option<Kind>,
     without_end: Kind,
 ) -> Lexeme<'a>
@@ -327,7 +327,7 @@ fn fault_in_role<'a>(
 /// to the value end after the string.
 fn string<'a>(
     cursor: &mut Cursor<'a>,
-    start: Start<'a>,
+    start: LexemeStart<'a>,
     scan: Scan<'a>,
     role: StringRole,
     without_end: Kind,
@@ -402,7 +402,7 @@ fn number_fault<'a>(
 fn number_lexeme<'a>(
     alloc: Global,
     cursor: &mut Cursor<'a>,
-    start: Start<'a>,
+    start: LexemeStart<'a>,
 ) -> Result<Lexeme<'a>, AllocError>
     requires start { Spans start }
     requires here { cursor.old ≡ gone start.place cursor.old }
@@ -420,7 +420,7 @@ fn number_lexeme<'a>(
 }
 
 /// Advances past the identifier characters here, which are not a number.
-fn bare_lexeme<'a>(cursor: &mut Cursor<'a>, start: Start<'a>) -> Lexeme<'a>
+fn bare_lexeme<'a>(cursor: &mut Cursor<'a>, start: LexemeStart<'a>) -> Lexeme<'a>
     requires start { Spans start }
     requires here { cursor.old ≡ gone start.place cursor.old }
     requires string { starts is_identifier_char cursor.old.rest ≡ true }
@@ -450,7 +450,7 @@ fn keyword_fault<'a>(cursor: &mut Cursor<'a>, word: &Segment<'a>) -> Option<Kind
 }
 
 /// Advances past what follows the number signs of a keyword.
-fn keyword_lexeme<'a>(cursor: &mut Cursor<'a>, start: Start<'a>) -> Lexeme<'a>
+fn keyword_lexeme<'a>(cursor: &mut Cursor<'a>, start: LexemeStart<'a>) -> Lexeme<'a>
     requires start { Spans start }
     requires here { Follows start.place cursor.old }
     requires part { IsPart cursor.old.text start.place.rest }
@@ -469,7 +469,7 @@ fn keyword_lexeme<'a>(cursor: &mut Cursor<'a>, start: Start<'a>) -> Lexeme<'a>
 fn sign_lexeme<'a>(
     alloc: Global,
     cursor: &mut Cursor<'a>,
-    start: Start<'a>,
+    start: LexemeStart<'a>,
     role: StringRole,
 ) -> Result<Lexeme<'a>, AllocError>
     requires start { Spans start }
@@ -507,7 +507,7 @@ fn sign_kind(c: char) -> Option<LexemeKind>
 
 /// Advances past the lexeme that begins with the character c here, which is neither one of `" # / \` nor an identifier
 /// character.
-fn plain_lexeme<'a>(c: char, cursor: &mut Cursor<'a>, start: Start<'a>) -> Lexeme<'a>
+fn plain_lexeme<'a>(c: char, cursor: &mut Cursor<'a>, start: LexemeStart<'a>) -> Lexeme<'a>
     requires start { Begins start }
     requires here { cursor.old ≡ gone start.place cursor.old }
     requires part { IsPart cursor.old.text start.place.rest }
@@ -538,7 +538,7 @@ fn lexeme_of<'a>(
     alloc: Global,
     c: char,
     cursor: &mut Cursor<'a>,
-    start: Start<'a>,
+    start: LexemeStart<'a>,
     role: StringRole,
 ) -> Result<Lexeme<'a>, AllocError>
     requires start { Begins start }
@@ -584,9 +584,9 @@ pub(crate) fn next_lexeme<'a>(
     let place = cursor.checkpoint();
     let Some(c) = cursor.take() else {
         let next = place.copied();
-        return Ok(plain(LexemeKind::End, Start { place, next }));
+        return Ok(plain(LexemeKind::End, LexemeStart { place, next }));
     };
     let next = cursor.checkpoint();
     cursor.go_to(&place);
-    lexeme_of(alloc, c, cursor, Start { place, next }, role)
+    lexeme_of(alloc, c, cursor, LexemeStart { place, next }, role)
 }

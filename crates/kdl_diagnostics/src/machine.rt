@@ -16,7 +16,7 @@ use std::alloc::Global;
 
 /// A place in a text with faults.
 #[derive(Clone, Copy)]
-pub(crate) enum Place {
+pub(crate) enum Context {
     /// Where the control is.
     Control,
     /// In a faulty type. The control is after the name or an entry of the node.
@@ -29,11 +29,11 @@ pub(crate) enum Place {
 
 /// What a lexeme does.
 #[derive(Clone, Copy)]
-pub(crate) enum Move {
+pub(crate) enum LexemeMove {
     /// What its token does in the control.
     Take,
     /// Continues in the place.
-    To(Place),
+    To(Context),
     /// Does not fit.
     Refuse,
 }
@@ -96,14 +96,14 @@ pub(crate) fn is_dropping(phase: Phase) -> bool {
 }
 
 /// The place after a lexeme that does not fit in the phase, and the phase there: what was expected counts as read.
-pub(crate) fn after_misfit(phase: Phase, kind: LexemeKind) -> (Place, Phase) {
+pub(crate) fn after_misfit(phase: Phase, kind: LexemeKind) -> (Context, Phase) {
     match (phase, kind) {
-        (Phase::TypeOpen(_), LexemeKind::Right) => (Place::Typeless, in_node()),
-        (Phase::TypeOpen(_) | Phase::TypeName(_), _) => (Place::FaultyType, in_node()),
-        (_, LexemeKind::Left) => (Place::Control, after_left(phase)),
-        (_, LexemeKind::String) => (Place::Control, after_string(phase)),
-        (Phase::KeptSlashdash, LexemeKind::Value) => (Place::Control, Phase::Kept),
-        _ => (Place::Control, in_node()),
+        (Phase::TypeOpen(_), LexemeKind::Right) => (Context::Typeless, in_node()),
+        (Phase::TypeOpen(_) | Phase::TypeName(_), _) => (Context::FaultyType, in_node()),
+        (_, LexemeKind::Left) => (Context::Control, after_left(phase)),
+        (_, LexemeKind::String) => (Context::Control, after_string(phase)),
+        (Phase::KeptSlashdash, LexemeKind::Value) => (Context::Control, Phase::Kept),
+        _ => (Context::Control, in_node()),
     }
 }
 
@@ -129,49 +129,49 @@ fn after_string(phase: Phase) -> Phase {
     }
 }
 
-impl Place {
+impl Context {
     /// The role of a string at the place, where the control is in the phase.
     pub(crate) fn string_role(self, phase: Phase) -> StringRole {
         match (self, phase) {
-            (Place::Control, Phase::TypeOpen(_)) => StringRole::TypeName,
-            (Place::Control, Phase::TypeName(_)) => StringRole::SecondItem,
+            (Context::Control, Phase::TypeOpen(_)) => StringRole::TypeName,
+            (Context::Control, Phase::TypeName(_)) => StringRole::SecondItem,
             _ => StringRole::Plain,
         }
     }
 
     /// What a lexeme does at the place.
-    pub(crate) fn takes(self, kind: LexemeKind) -> Move {
+    pub(crate) fn takes(self, kind: LexemeKind) -> LexemeMove {
         match self {
-            Place::Control => Move::Take,
-            Place::FaultyType => in_faulty_type(kind),
-            Place::Typeless => after_faulty_type(kind),
-            Place::Over => after_all(kind),
+            Context::Control => LexemeMove::Take,
+            Context::FaultyType => in_faulty_type(kind),
+            Context::Typeless => after_faulty_type(kind),
+            Context::Over => after_all(kind),
         }
     }
 }
 
 /// What a lexeme does in a faulty type: up to its `)`, or to what opens or ends a block or ends the node.
-fn in_faulty_type(kind: LexemeKind) -> Move {
+fn in_faulty_type(kind: LexemeKind) -> LexemeMove {
     match kind {
-        LexemeKind::Right => Move::To(Place::Typeless),
+        LexemeKind::Right => LexemeMove::To(Context::Typeless),
         LexemeKind::Opening | LexemeKind::Newline | LexemeKind::Semicolon | LexemeKind::Closing =>
-            Move::Take,
-        _ => Move::To(Place::FaultyType),
+            LexemeMove::Take,
+        _ => LexemeMove::To(Context::FaultyType),
     }
 }
 
 /// What a lexeme does after a faulty type: a name or a value may follow, or what follows that.
-fn after_faulty_type(kind: LexemeKind) -> Move {
+fn after_faulty_type(kind: LexemeKind) -> LexemeMove {
     match kind {
-        LexemeKind::String | LexemeKind::Value => Move::To(Place::Control),
-        _ => Move::Take,
+        LexemeKind::String | LexemeKind::Value => LexemeMove::To(Context::Control),
+        _ => LexemeMove::Take,
     }
 }
 
 /// What a lexeme does after the only node or entry of a text.
-fn after_all(kind: LexemeKind) -> Move {
+fn after_all(kind: LexemeKind) -> LexemeMove {
     match kind {
-        LexemeKind::Newline => Move::To(Place::Over),
-        _ => Move::Refuse,
+        LexemeKind::Newline => LexemeMove::To(Context::Over),
+        _ => LexemeMove::Refuse,
     }
 }

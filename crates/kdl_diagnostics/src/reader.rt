@@ -16,10 +16,10 @@ mod take;
 
 use crate::ends::is_value_end;
 use crate::esclines::Candidate;
-use crate::front::Front;
+use crate::front::Prefix;
 use crate::kind::Kind;
 use crate::lexemes::{Lexeme, LexemeKind, StringRole, next_lexeme};
-use crate::machine::Place;
+use crate::machine::Context;
 use crate::text_control::Outset;
 use crate::whole::Whole;
 use kdl_control::Control;
@@ -52,7 +52,7 @@ pub(crate) struct Reader<'a> {
     cursor: Cursor<'a>,
     /// The phase of the grammar. Spaces count as read after each lexeme.
     control: Control,
-    place: Place,
+    place: Context,
     blocks: Vec<Block>,
     /// The place after the last `(` that was read.
     left: Checkpoint<'a>,
@@ -76,14 +76,14 @@ pub(crate) struct Reader<'a> {
 impl<'a> Reader<'a> {
     /// Creates a reader that continues after the front of the text, and adds to the given count of steps. If no value
     /// end is there, it begins at the string, number or keyword that ends there.
-    pub(crate) fn new(text: &'a str, front: Front<'a>, steps: Steps) -> Self
+    pub(crate) fn new(text: &'a str, front: Prefix<'a>, steps: Steps) -> Self
         requires { IsFrontOf (chars text.now) front }
         ensures reads { IsReaderOf (chars text.now) result }
         ensures ready { IsStopped front.entry → IsReady result }
         ensures most { result.cursor.steps ≤ steps + 7 }
         ensures counts { raise steps 0 ≤ raise result.cursor.steps 0 }
     {
-        let Front {
+        let Prefix {
             alloc,
             whole,
             control,
@@ -106,7 +106,7 @@ impl<'a> Reader<'a> {
             is_property,
             cursor,
             control: control.node.control,
-            place: Place::Control,
+            place: Context::Control,
             blocks,
             has_item: false,
             has_dropped: false,
@@ -143,9 +143,9 @@ impl<'a> Reader<'a> {
     {
         self.control.go_to(outset.phase);
         self.place = if outset.is_over {
-            Place::Over
+            Context::Over
         } else {
-            Place::Control
+            Context::Control
         };
         self.has_item = outset.has_item;
         self.has_dropped = outset.has_dropped;

@@ -9,7 +9,7 @@ ghost use Rattle.std.specs.Prelude.{◌≡◌, ◌↔◌, ◌+◌, ◌*◌, ◌<
 ghost use Rattle.std.specs.Rc.{rc_str_bytes};
 ghost use Rattle.std.specs.Str.{chars};
 
-use crate::front::Front;
+use crate::front::Prefix;
 use crate::reader::{Fault, Reader};
 use crate::whole::Whole;
 use kdl_lexer::Lexer;
@@ -60,7 +60,7 @@ fn read_front<'a>(
     text: &'a str,
     whole: Whole,
     steps: &mut Steps,
-) -> Result<Front<'a>, AllocError>
+) -> Result<Prefix<'a>, AllocError>
     ensures front { IfOk result (IsFrontOf (chars text.now)) }
     ensures exact { IfOk result (λ f. f.is_accepted ≡ true ↔ Accepts whole (chars text.now)) }
     ensures stopped { IfOk result (λ f. f.is_accepted ≡ false → IsStopped f) }
@@ -68,7 +68,7 @@ fn read_front<'a>(
     ensures raised { raise steps.old 0 ≤ raise steps.new 0 }
 {
     let mut lexer = Lexer::new(text, mem::replace(steps, Steps::new()));
-    let mut front = Front::new(alloc, whole, lexer.checkpoint());
+    let mut front = Prefix::new(alloc, whole, lexer.checkpoint());
     let answer = front.read(&mut lexer);
     *steps = lexer.into_steps();
     answer?;
@@ -76,7 +76,7 @@ fn read_front<'a>(
 }
 
 /// The faults of a refused text from its front on. Adds the steps of reading to the count.
-fn recovered(text: &str, front: Front<'_>, steps: &mut Steps) -> Result<Vec<Fault>, AllocError>
+fn recovered(text: &str, front: Prefix<'_>, steps: &mut Steps) -> Result<Vec<Fault>, AllocError>
     requires front { IsFrontOf (chars text.now) front }
     requires stopped { IsStopped front }
     ensures some { IfOk result (λ fs. 0 < length fs.items) }

@@ -10,3 +10,5 @@ pub mod Reading
 pub mod Equality
 -- The strings of identifiers in memory are of Unicode scalar values.
 pub mod WellFormed
+-- The lemmas that the functions of a file cite.
+pub mod Rules

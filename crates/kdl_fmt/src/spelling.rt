@@ -19,21 +19,21 @@ use std::alloc::{AllocError, Global};
 
 /// The string, number or keyword that a whole text is.
 #[derive(Drop)]
-enum Whole<'a> {
+enum WholeText<'a> {
     /// A bare string that begins with an ASCII letter, as it is in the text.
     Word(Piece<'a>),
     /// Another string, a number or a keyword.
     Value(KdlValue),
 }
 
-impl Whole<'_> {
+impl WholeText<'_> {
     /// Returns whether this is the string.
     fn is_text(&self, text: &str) -> bool
         ensures { IsTrue result ↔ (whole_view self.now ≡ data'.text (chars text.now)) }
     {
         match self {
-            Whole::Word(word) => word.is(text),
-            Whole::Value(value) => match value.as_string() {
+            WholeText::Word(word) => word.is(text),
+            WholeText::Value(value) => match value.as_string() {
                 Some(read) => same(read, text),
                 None => false,
             },
@@ -45,11 +45,11 @@ impl Whole<'_> {
         ensures { IsTrue result ↔ (whole_view self.now ≡ value_tree value.now) }
     {
         match self {
-            Whole::Word(word) => match value.as_string() {
+            WholeText::Word(word) => match value.as_string() {
                 Some(text) => word.is(text),
                 None => false,
             },
-            Whole::Value(read) => read == value,
+            WholeText::Value(read) => read == value,
         }
     }
 }
@@ -69,32 +69,32 @@ fn is_end(place: &Checkpoint) -> bool
 }
 
 /// Returns the string that the bare string is, if the text ends after it.
-fn of_word<'a>(word: Piece<'a>, at: &TokenSpan) -> Option<Whole<'a>>
+fn of_word<'a>(word: Piece<'a>, at: &TokenSpan) -> Option<WholeText<'a>>
     ensures { (s : Text) → Cuts s (tokens.string word.entry) at.now.end.rest → Spelled s result }
 {
     if is_end(&at.end) {
-        Some(Whole::Word(word))
+        Some(WholeText::Word(word))
     } else {
         None
     }
 }
 
 /// Returns the string, number or keyword that the token is, if the text ends after it.
-fn of_token(token: Token) -> Option<Whole<'static>>
+fn of_token(token: Token) -> Option<WholeText<'static>>
     ensures { (s : Text) → Cuts s (kind_view token.entry.kind) token.entry.at.end.rest → Spelled s result }
 {
     if !is_end(&token.at.end) {
         return None;
     }
     match token.kind {
-        TokenKind::String(text) => Some(Whole::Value(KdlValue::String(text))),
-        TokenKind::Value(value) => Some(Whole::Value(value)),
+        TokenKind::String(text) => Some(WholeText::Value(KdlValue::String(text))),
+        TokenKind::Value(value) => Some(WholeText::Value(value)),
         _ => None,
     }
 }
 
 /// Returns the string, number or keyword that is next in a text, if the text ends after it.
-fn of_next(next: NextToken<'_>) -> Option<Whole<'_>>
+fn of_next(next: NextToken<'_>) -> Option<WholeText<'_>>
     ensures { (s : Text) (old new : Here) → old.rest ≡ s → LexedNext old (Ok next.entry) new
         → Spelled s result }
 {
@@ -106,7 +106,7 @@ fn of_next(next: NextToken<'_>) -> Option<Whole<'_>>
 }
 
 /// Returns the string, number or keyword that the whole text is.
-fn read_whole(alloc: Global, text: &str) -> Result<Option<Whole<'_>>, AllocError>
+fn read_whole(alloc: Global, text: &str) -> Result<Option<WholeText<'_>>, AllocError>
     ensures { IfOk result (λ o. Spelled (chars text.now) o) }
 {
     let mut lexer = Lexer::new(text, Steps::new());

@@ -14,3 +14,5 @@ pub mod ReadingBack
 pub mod GoingOn
 -- Which texts begin a node text.
 pub mod NodeTexts
+-- The lemmas that the functions of a file cite.
+pub mod Rules

@@ -6,3 +6,5 @@ pub mod Moving
 pub mod Fitting
 -- The two places of a token are in order.
 pub mod Order
+-- The lemmas that the functions of a file cite.
+pub mod Rules

@@ -1,6 +1,7 @@
 //! The lexer: the tokens of a text, one at a time.
 //!
 //! A token is known by its first character, and at most the one after it. A run of spaces is one token.
+#![tactic(auto, using(crate::proofs::Rules::lexer))]
 
 ghost use Rattle.kdl_value.specs.Data as data';
 ghost use Rattle.kdl_lexer.specs.Pieces as spec;
@@ -148,7 +149,6 @@ fn lex_failure(failure: KindFailure) -> LexFailure
 }
 
 /// Reads the token that is the bare string that begins here, where no number does.
-#[tactic(auto, using(crate::proofs::Lexing::TokenReads::a_bare_here, crate::proofs::Lexing::TokenCost::bare_costs))]
 fn bare_token(cursor: &mut Cursor, alloc: Global) -> Result<TokenKind, KindFailure>
     requires word { starts is_identifier_char cursor.old.rest ≡ true }
     requires no_number { numbers.begins_number cursor.old.rest ≡ false }
@@ -163,7 +163,6 @@ fn bare_token(cursor: &mut Cursor, alloc: Global) -> Result<TokenKind, KindFailu
 }
 
 /// Reads the quoted string that begins here.
-#[tactic(auto, using(crate::proofs::Lexing::TokenReads::a_quoted_here, crate::proofs::Lexing::TokenReads::no_quoted_here, crate::proofs::Lexing::TokenCost::quoted_costs))]
 fn quoted_token(cursor: &mut Cursor, alloc: Global) -> Result<TokenKind, KindFailure>
     requires { first cursor.old.rest ≡ Some 34 }
     ensures read { ReadsKind cursor.old.rest result cursor.new.rest }
@@ -177,7 +176,6 @@ fn quoted_token(cursor: &mut Cursor, alloc: Global) -> Result<TokenKind, KindFai
 }
 
 /// Reads the raw string that begins here, at a number sign with another or a quote after it.
-#[tactic(auto, using(crate::proofs::Lexing::TokenReads::a_raw_here, crate::proofs::Lexing::TokenReads::no_raw_here, crate::proofs::Lexing::TokenCost::raw_costs))]
 fn raw_token(cursor: &mut Cursor, alloc: Global) -> Result<TokenKind, KindFailure>
     requires sign { first cursor.old.rest ≡ Some 35 }
     requires second { starts (λ c. c == 34 || c == 35) (tail cursor.old.rest) ≡ true }
@@ -236,7 +234,6 @@ fn looks_raw(cursor: &mut Cursor) -> bool
 }
 
 /// Reads the raw string or the keyword that begins with the number sign here.
-#[tactic(auto, using(crate::proofs::Lexing::TokenCost::one_look))]
 fn sign_token(cursor: &mut Cursor, alloc: Global) -> Result<TokenKind, KindFailure>
     requires { first cursor.old.rest ≡ Some 35 }
     ensures read { ReadsKind cursor.old.rest result cursor.new.rest }
@@ -281,7 +278,6 @@ fn signed_token(cursor: &mut Cursor, alloc: Global) -> Result<TokenKind, KindFai
 }
 
 /// Reads the bare string or the signed number that begins with the identifier character c here, which is no digit.
-#[tactic(auto, using(crate::proofs::Lexing::TokenReads::word_here, crate::proofs::Lexing::TokenReads::no_digit_here, crate::proofs::Lexing::TokenReads::few_costs))]
 fn word_token(c: char, cursor: &mut Cursor, alloc: Global) -> Result<TokenKind, KindFailure>
     requires first { first cursor.old.rest ≡ Some c }
     requires word { is_identifier_char c ≡ true }
@@ -314,7 +310,6 @@ fn after_slash<'a>(read: SlashRead, at: TokenSpan<'a>) -> Result<NextToken<'a>, 
 }
 
 /// Reads the escline that begins with the backslash here.
-#[tactic(auto, using(crate::proofs::Lexing::TokenReads::an_escline_here))]
 fn escline_token(cursor: &mut Cursor) -> Result<TokenKind, KindFailure>
     requires { first cursor.old.rest ≡ Some 92 }
     ensures read { ReadsKind cursor.old.rest result cursor.new.rest }
@@ -347,7 +342,6 @@ fn single_kind(c: char) -> Option<TokenKind>
 
 /// Reads the token that begins with the character c here, which is no space, no digit, no slash, no token by itself, and
 /// none of `" # \`.
-#[tactic(auto, using(crate::proofs::Lexing::TokenReads::newline_here, crate::proofs::Lexing::TokenReads::newline_costs))]
 fn plain_token(c: char, cursor: &mut Cursor, alloc: Global) -> Result<TokenKind, KindFailure>
     requires first { first cursor.old.rest ≡ Some c }
     requires plain { ((c == 34 || c == 35) || c == 92) ≡ false }
@@ -385,7 +379,6 @@ fn other_token(c: char, cursor: &mut Cursor, alloc: Global) -> Result<TokenKind,
 /// Reads the token that begins with the character c here, which is no space and no slash, and returns its kind. The most
 /// common ones are read where this is called: numbers that begin with a digit, and tokens of one character.
 #[inline(always)]
-#[tactic(auto, using(crate::proofs::Lexing::TokenReads::take_moves, crate::proofs::Lexing::TokenReads::punctuation_here, crate::proofs::Lexing::TokenReads::punctuation_costs, crate::proofs::Lexing::TokenReads::digit_here, crate::proofs::Lexing::TokenReads::few_costs))]
 fn token_kind(c: char, cursor: &mut Cursor, alloc: Global) -> Result<TokenKind, KindFailure>
     requires first { first cursor.old.rest ≡ Some c }
     requires no_space { is_space c ≡ false }
@@ -560,7 +553,6 @@ impl<'a> Lexer<'a> {
     /// let closing = lexer.next_token(alloc)?; // `NextToken::Other`, the `}`
     /// ```
     #[inline(always)]
-    #[tactic(auto, using(crate::proofs::Lexing::TokenReads::read_alone, crate::proofs::Lexing::TokenReads::cut_alone, crate::proofs::Lexing::TokenReads::spaces_alone, crate::proofs::Lexing::TokenReads::skip_moves, crate::proofs::Lexing::TokenReads::spaces_apart, crate::proofs::Lexing::TokenReads::line_feed_here, crate::proofs::Lexing::TokenReads::take_moves, crate::proofs::Lexing::TokenReads::letter_there, crate::proofs::Lexing::TokenReads::not_apart, crate::proofs::Lexing::TokenReads::a_bare_here, crate::proofs::Lexing::Slashes::slash_next, crate::proofs::Lexing::Slashes::slash_alone, crate::proofs::Lexing::Slashes::slash_returned, crate::proofs::Lexing::Slashes::slash_costs, crate::proofs::Lexing::Slashes::word_costs, crate::proofs::Lexing::Slashes::word_text, crate::proofs::Lexing::Slashes::no_comment))]
     pub fn next_token(&mut self, alloc: Global) -> Result<NextToken<'a>, LexFailure>
         ensures lexed { LexedNext self.old result self.new }
         ensures alone { AloneNext self.old result self.new }

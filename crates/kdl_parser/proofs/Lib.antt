@@ -2,3 +2,5 @@
 pub mod Stepping
 -- What is returned on a whole text.
 pub mod Answering
+-- The lemmas that the functions of a file cite.
+pub mod Rules

@@ -1,4 +1,5 @@
 //! The builder: a document being read, token by token.
+#![tactic(auto, using(crate::proofs::Rules::builder))]
 
 ghost use Rattle.kdl_entry.specs.Internal.Counted.{Recounted, Within};
 ghost use Rattle.kdl_entry.specs.Tree.{plain_identifier};
@@ -171,7 +172,6 @@ impl<'a, N: ParsedNode> Builder<'a, N> {
 
     /// Takes a value, and does its event.
     #[inline(always)]
-    #[tactic(auto, using(crate::proofs::Stepping::StepsDone::does_did))]
     fn take_value(
         &mut self,
         event: Event,
@@ -194,7 +194,6 @@ impl<'a, N: ParsedNode> Builder<'a, N> {
 
     /// Takes a string, and does its event.
     #[inline(always)]
-    #[tactic(auto, using(crate::proofs::Stepping::StepsDone::does_did))]
     fn take_string(
         &mut self,
         event: Event,
@@ -218,7 +217,6 @@ impl<'a, N: ParsedNode> Builder<'a, N> {
 
     /// Takes a token that is neither a string nor a value, and does its event.
     #[inline(always)]
-    #[tactic(auto, using(crate::proofs::Stepping::StepsDone::does_did, crate::proofs::Stepping::StepsDone::none_sliced, crate::proofs::Stepping::StepsDone::does_sliced))]
     fn take_mark(&mut self, event: Event, at: &TokenSpan<'a>) -> Result<(), TakeFailure>
         requires live { self.old.dropped ≡ Nothing }
         requires from { Within self.old.source self.old.from at.now.start }
@@ -350,7 +348,6 @@ impl<'a, N: ParsedNode> Builder<'a, N> {
 
     /// Returns the token here and advances past it, as `Source::next_token` does.
     #[inline(always)]
-    #[tactic(auto, using(crate::proofs::Stepping::StepsDone::same_state))]
     pub(crate) fn next_token(&mut self) -> Result<NextToken<'a>, LexFailure>
         ensures lexed { LexedNext self.old.source result self.new.source }
         ensures moves { Moves self.old.source self.new.source }
@@ -399,7 +396,6 @@ impl<'a, N: ParsedNode> Builder<'a, N> {
     }
 
     /// Returns the document of the nodes, if no block is open.
-    #[tactic(auto, using(crate::proofs::Stepping::Views::one_open, crate::proofs::Stepping::Views::all_closed))]
     fn finish_nodes(&mut self, here: &Checkpoint<'a>) -> Result<DocumentParts<N>, TakeFailure>
         requires from { Within self.old.source self.old.from here.now }
         requires end { here.now.rest ≡ [] }

@@ -1,4 +1,5 @@
 //! Documents that are a whole text.
+#![tactic(auto, using(crate::proofs::Rules::document_text))]
 
 ghost use Rattle.kdl_grammar.specs.Internal.Machine.{AnswersDocument};
 ghost use Rattle.kdl_parser.specs.Internal.Steps.{CountedOn, Parses};
@@ -27,7 +28,6 @@ pub struct DocumentText<N> {
 }
 
 /// Returns the machine's result on the text, and adds the steps to the count.
-#[tactic(auto, using(crate::proofs::Answering::LeadingBom::bom_ends, crate::proofs::Answering::LeadingBom::whole_answer))]
 fn read_counted<N: ParsedNode>(
     alloc: Global,
     text: &str,

@@ -1,4 +1,5 @@
 //! Line-spaces up to the end of a text.
+#![tactic(auto, using(crate::proofs::Rules::line_spaces))]
 
 ghost use Rattle.kdl_parser.specs.Internal.LineSpaces as lines;
 ghost use Rattle.kdl_parser.specs.Internal.LineSpaces.{AreLineSpaces};
@@ -18,7 +19,6 @@ fn is_line_space(kind: &TokenKind) -> bool
 
 /// Reads line-spaces to the end of the text. Returns `Faulty` at the first token that is not part of a line-space, or at
 /// the first character with which no token begins, and `Memory` if an allocation fails.
-#[tactic(auto, using(crate::proofs::Answering::LineSpaceReads::lines_start, crate::proofs::Answering::LineSpaceReads::lines_fail, crate::proofs::Answering::LineSpaceReads::lines_nearer))]
 pub(crate) fn line_spaces(alloc: Global, text: &str) -> Result<(), LexFailure>
     ensures { AreLineSpaces (chars text.now) result }
 {

@@ -1,4 +1,5 @@
 //! Nodes that are a whole text.
+#![tactic(auto, using(crate::proofs::Rules::node_text))]
 
 ghost use Rattle.kdl_grammar.specs.Laid.{LaidNodeText};
 ghost use Rattle.kdl_parser.specs.Internal.NodeText.{RunsOnText, ReadsOne, IsOnly, AnswersNodeText, text_by};
@@ -76,7 +77,6 @@ fn with_line_spaces<N: ParsedNode>(
 }
 
 /// Returns the node that the text is, from the document that the text is.
-#[tactic(auto, using(crate::proofs::Answering::NodeTexts::one_read, crate::proofs::Answering::NodeTexts::not_one))]
 fn node_of<N: ParsedNode>(
     alloc: Global,
     text: &str,
@@ -92,7 +92,6 @@ fn node_of<N: ParsedNode>(
 }
 
 /// Reads the node that the text is.
-#[tactic(auto, using(crate::proofs::Answering::NodeTexts::whole_read))]
 fn read_whole<N: ParsedNode>(alloc: Global, text: &str) -> Result<NodeText<N>, LexFailure>
     ensures { AnswersNodeText N.tree (chars text.now) result }
 {

@@ -1,4 +1,5 @@
 //! Documents, read from the tokens of a text one by one.
+#![tactic(auto, using(crate::proofs::Rules::token_loop))]
 
 ghost use Rattle.kdl_grammar.specs.Internal.Machine.{initial};
 ghost use Rattle.kdl_parser.specs.Internal.Answered.{AnswersParts, TakeFailsAs};
@@ -24,7 +25,6 @@ fn lex_failure(failure: TakeFailure) -> LexFailure
 }
 
 /// Returns the machine's result on the text before the builder, which has not taken a token yet.
-#[tactic(auto, using(crate::proofs::Answering::TokenLoop::all_read, crate::proofs::Answering::Turns::take_placed, crate::proofs::Answering::Turns::lexer_told, crate::proofs::Answering::Turns::lexer_counted, crate::proofs::Answering::Turns::counts_on, crate::proofs::Answering::Turns::counts_after, crate::proofs::Answering::Turns::take_told, crate::proofs::Answering::Turns::take_counted, crate::proofs::Answering::Turns::end_placed, crate::proofs::Answering::Turns::end_told, crate::proofs::Answering::Turns::end_counted, crate::proofs::Answering::Turns::end_refused, crate::proofs::Answering::Turns::end_refused_counted))]
 fn build_with<N: ParsedNode>(builder: &mut Builder<N>) -> Result<DocumentParts<N>, LexFailure>
     requires state { state_view N.tree builder.old ≡ initial builder.old.source.rest }
     requires unsliced { unsliced builder.old ≡ bytes builder.old.source.rest }

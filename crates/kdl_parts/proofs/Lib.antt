@@ -12,3 +12,5 @@ pub mod BomText
 pub mod PrintedEntries
 -- The UTF-8 of a text, part by part.
 pub mod Utf8Parts
+-- The lemmas that the functions of a file cite.
+pub mod Rules

@@ -1,4 +1,5 @@
 //! The texts around nodes and documents.
+#![tactic(auto, using(crate::proofs::Utf8Parts::writes))]
 
 ghost use Rattle.kdl_value.specs.Tree.{text_of};
 ghost use Rattle.kdl_grammar.specs.Laid.{bom_format};
@@ -40,7 +41,6 @@ impl KdlNodeFormat {
     /// let mut format = KdlNodeFormat::new(alloc); // nothing ends the node: the next one would be on the same line
     /// format.terminator = String::from_str(alloc, "\n")?;
     /// ```
-    #[tactic(auto, using(crate::proofs::Utf8Parts::writes))]
     pub fn new(alloc: Global) -> KdlNodeFormat
         ensures { node_format_tree result ≡ empty_node_format }
     {
@@ -121,7 +121,6 @@ impl KdlDocumentFormat {
     /// let mut format = KdlDocumentFormat::new(alloc);
     /// format.trailing = String::from_str(alloc, "// the end\n")?; // printed after the last node
     /// ```
-    #[tactic(auto, using(crate::proofs::Utf8Parts::writes))]
     pub fn new(alloc: Global) -> KdlDocumentFormat
         ensures { document_format_tree result ≡ record { leading = []; trailing = [] } }
     {

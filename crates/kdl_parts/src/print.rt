@@ -1,4 +1,5 @@
 //! Parts of the printed text.
+#![tactic(auto, using(crate::proofs::Rules::printed))]
 
 ghost use Rattle.kdl_grammar.specs.Print.{after_brace, before_brace, end_text, last_has_format, leading_text, print_piece, spaces, trailing_text};
 ghost use Rattle.kdl_parts.specs.Formats.{document_texts, node_texts};
@@ -12,7 +13,6 @@ use std::fmt;
 use std::fmt::Display;
 
 /// Writes the indentation at a depth: four spaces for each level.
-#[tactic(auto, using(crate::proofs::Utf8Parts::writes, crate::proofs::Utf8Parts::spaces_more))]
 fn write_spaces<W: fmt::Write>(depth: usize, f: &mut fmt::Formatter<W>) -> fmt::Result
     ensures { Prints W.write_str_gives f.old result (spaces depth) f.new }
 {
@@ -27,7 +27,6 @@ fn write_spaces<W: fmt::Write>(depth: usize, f: &mut fmt::Formatter<W>) -> fmt::
 /// ```
 /// write_head(&None, &name, &None, 1, f)?; // writes four spaces and the name
 /// ```
-#[tactic(auto, using(crate::proofs::Utf8Parts::writes))]
 pub fn write_head<W: fmt::Write>(
     ty: &Option<KdlIdentifier>,
     name: &KdlIdentifier,
@@ -58,7 +57,6 @@ pub fn write_head<W: fmt::Write>(
 /// ```
 /// write_pieces(&entries, f)?; // for `1 a=2`, both without a format, writes " 1 a=2"
 /// ```
-#[tactic(auto, using(crate::proofs::Utf8Parts::writes, crate::proofs::PrintedEntries::pieces_written))]
 pub fn write_pieces<W: fmt::Write>(entries: &[KdlEntry], f: &mut fmt::Formatter<W>) -> fmt::Result
     ensures { Prints W.write_str_gives f.old result (pieces entries.now) f.new }
 {
@@ -69,7 +67,6 @@ pub fn write_pieces<W: fmt::Write>(entries: &[KdlEntry], f: &mut fmt::Formatter<
 }
 
 /// Writes an entry of a node. An entry without a format follows one space.
-#[tactic(auto, using(crate::proofs::Utf8Parts::writes))]
 fn write_piece<W: fmt::Write>(entry: &KdlEntry, f: &mut fmt::Formatter<W>) -> fmt::Result
     ensures { Prints W.write_str_gives f.old result (print_piece (entry_tree entry.now)) f.new }
 {
@@ -94,7 +91,6 @@ fn ends_formatted(entries: &[KdlEntry]) -> bool
 /// ```
 /// write_before_block(&None, &[], f)?; // writes one space
 /// ```
-#[tactic(auto, using(crate::proofs::Utf8Parts::writes))]
 pub fn write_before_block<W: fmt::Write>(
     format: &Option<KdlNodeFormat>,
     entries: &[KdlEntry],
@@ -119,7 +115,6 @@ pub fn write_before_block<W: fmt::Write>(
 /// ```
 /// write_end(&format, f)?; // of a node `a 1 ; // kept` that was read writes " ;"; without a format nothing
 /// ```
-#[tactic(auto, using(crate::proofs::Utf8Parts::writes))]
 pub fn write_end<W: fmt::Write>(
     format: &Option<KdlNodeFormat>,
     f: &mut fmt::Formatter<W>,
@@ -177,7 +172,6 @@ pub fn write_trailing<W: fmt::Write>(
 /// ```
 /// write_after_brace(&None, f)?; // writes `{` and a newline; with a format only `{`
 /// ```
-#[tactic(auto, using(crate::proofs::Utf8Parts::writes))]
 pub fn write_after_brace<W: fmt::Write>(
     format: &Option<KdlDocumentFormat>,
     f: &mut fmt::Formatter<W>,
@@ -196,7 +190,6 @@ pub fn write_after_brace<W: fmt::Write>(
 /// ```
 /// write_before_brace(&None, 1, f)?; // writes four spaces and `}`; with a format only `}`
 /// ```
-#[tactic(auto, using(crate::proofs::Utf8Parts::writes))]
 pub fn write_before_brace<W: fmt::Write>(
     format: &Option<KdlDocumentFormat>,
     depth: usize,

@@ -18,7 +18,7 @@ use Rattle.kdl.specs.Tree.{head_tree, node_tree, document_tree}
 use Rattle.kdl.specs.declared.node.KdlNode.{KdlNode}
 use Rattle.kdl.specs.declared.document.KdlDocument.{KdlDocument}
 use Rattle.kdl.specs.declared.document.KdlDocument.TheViews.{out-KdlDocument, out-KdlNode, out-roll-KdlDocument}
-use Rattle.kdl.specs.declared.layout.Block.{Block}
+use Rattle.kdl.specs.declared.layout.LayoutFrame.{LayoutFrame}
 use Rattle.kdl.proofs.NodeCounts.{line_counted, block_counted, end_counted}
 use Rattle.kdl.proofs.Trees.{node_tree_out, document_tree_out}
 
@@ -123,7 +123,7 @@ bare_with_at f g e [] i = refl
 bare_with_at f g e (n ∷ ns) zero = ap (λ x. x ∷ map bare_node (map node_tree ns)) (e n)
 bare_with_at f g e (n ∷ ns) (suc i) = ap (λ x. bare_node (node_tree n) ∷ x) (bare_with_at f g e ns i)
 
-pub bare_outermost : (above : List Block) (ns ms : List Node) → map bare_node ns ≡ map bare_node ms → map bare_node (outermost above ns) ≡ map bare_node (outermost above ms)
+pub bare_outermost : (above : List LayoutFrame) (ns ms : List Node) → map bare_node ns ≡ map bare_node ms → map bare_node (outermost above ns) ≡ map bare_node (outermost above ms)
 bare_outermost [] ns ms e = e
 bare_outermost (b ∷ above) ns ms e =
     bare_with_at (λ n. filled n (outermost above ns)) (λ n. filled n (outermost above ms)) (λ n. bare_filled n (outermost above ns) (outermost above ms) (bare_outermost above ns ms e)) b.nodes.items b.at
@@ -134,7 +134,7 @@ bare_set (n ∷ ns) zero m d h e = ap (λ x. x ∷ map bare_node (map node_tree 
 bare_set (n ∷ ns) (suc i) m d h e = ap (λ x. bare_node (node_tree n) ∷ x) (bare_set ns i m d (omega arith) e)
 
 -- one more block above
-pub outermost_more : (above : List Block) (b : Block) (ns : List Node) → outermost (above ++ b ∷ []) ns ≡ outermost above (with_at (λ n. filled n ns) b.nodes.items b.at)
+pub outermost_more : (above : List LayoutFrame) (b : LayoutFrame) (ns : List Node) → outermost (above ++ b ∷ []) ns ≡ outermost above (with_at (λ n. filled n ns) b.nodes.items b.at)
 outermost_more [] b ns = refl
 outermost_more (a ∷ above) b ns = ap (λ z. with_at (λ n. filled n z) a.nodes.items a.at) (outermost_more above b ns)
 
@@ -202,11 +202,11 @@ module _ (l : Layout) (level : ℕ) where
   open_as Open Open' f c next (o ∷ olds) (n ∷ ns) (suc i) p = (p.0, p.1, p.2, open_as Open Open' f p.0 next olds ns i p.3)
 
 -- the node at a place is laid out where the nodes in its block are, which are under way
-abbrev pub Opened : Layout → ℕ → Option Around → List Block → Block → Before → Node → KdlNode → Type 0
+abbrev pub Opened : Layout → ℕ → Option Around → List LayoutFrame → LayoutFrame → Before → Node → KdlNode → Type 0
 Opened l level g above inner x o n = (first : Before) × (ns : List Node) × IsSpacedBut l level x o first g ns n × IsUnderWay l (level + 1) first ns above inner
 
 -- what a step does under all blocks above
-under_way : (l : Layout) (above tail tail' : List Block) (b b' : Block) → ((level : ℕ) (c : Before) (olds : List Node) → IsUnderWay l level c olds tail b → IsUnderWay l level c olds tail' b')
+under_way : (l : Layout) (above tail tail' : List LayoutFrame) (b b' : LayoutFrame) → ((level : ℕ) (c : Before) (olds : List Node) → IsUnderWay l level c olds tail b → IsUnderWay l level c olds tail' b')
     → (level : ℕ) (c : Before) (olds : List Node) → IsUnderWay l level c olds (above ++ tail) b → IsUnderWay l level c olds (above ++ tail') b'
 under_way l [] tail tail' b b' f level c olds u = f level c olds u
 under_way l (a ∷ above) tail tail' b b' f level c olds u = (
@@ -216,7 +216,7 @@ under_way l (a ∷ above) tail tail' b b' f level c olds u = (
 )
 
 -- the next node has no nodes in its block
-pub line_on : (l : Layout) (above : List Block) (b b' : Block) (m d : KdlNode) → b.at < length b.nodes.items → b'.nodes.items ≡ set b.nodes.items b.at m → b'.at ≡ b.at + 1 → b'.level ≡ b.level → b'.before ≡ b.before
+pub line_on : (l : Layout) (above : List LayoutFrame) (b b' : LayoutFrame) (m d : KdlNode) → b.at < length b.nodes.items → b'.nodes.items ≡ set b.nodes.items b.at m → b'.at ≡ b.at + 1 → b'.level ≡ b.level → b'.before ≡ b.before
     → ((level : ℕ) → IsAtLevel l level b → NodeIsSpaced l level b.next (node_tree (get_or b.nodes.items b.at d)) (node_tree m) × PassesAt l (node_tree (get_or b.nodes.items b.at d)) b'.next)
     → (level : ℕ) (c : Before) (olds : List Node) → IsUnderWay l level c olds above b → IsUnderWay l level c olds above b'
 line_on l above b b' m d h ns at y t laid level c olds u =
@@ -229,7 +229,7 @@ line_on l above b b' m d h ns at y t laid level c olds u =
     (under_way l above [] [] b b' f level c olds (subst (λ z. IsUnderWay l level c olds z b) (sym (append-nil above)) u))
 
 -- the next node's block is entered
-pub block_on : (l : Layout) (above : List Block) (b outer inner : Block) (ns : List KdlNode) (m d : KdlNode) → b.at < length b.nodes.items
+pub block_on : (l : Layout) (above : List LayoutFrame) (b outer inner : LayoutFrame) (ns : List KdlNode) (m d : KdlNode) → b.at < length b.nodes.items
     → outer.nodes.items ≡ set b.nodes.items b.at m → outer.at ≡ b.at → outer.level ≡ b.level → outer.before ≡ b.before
     → inner.nodes.items ≡ ns → inner.at ≡ 0
     → ((level : ℕ) → IsAtLevel l level b
@@ -246,7 +246,7 @@ block_on l above b outer inner ns m d h is at y t holds first laid level c olds 
     under_way l above [] (outer ∷ []) b inner f level c olds (subst (λ z. IsUnderWay l level c olds z b) (sym (append-nil above)) u)
 
 -- a block is left
-pub end_on : (l : Layout) (above : List Block) (outer inner b : Block) (m d : KdlNode) → length inner.nodes.items ≤ inner.at
+pub end_on : (l : Layout) (above : List LayoutFrame) (outer inner b : LayoutFrame) (m d : KdlNode) → length inner.nodes.items ≤ inner.at
     → (outer.at < length outer.nodes.items → (b.nodes.items ≡ set outer.nodes.items outer.at m) × (b.at ≡ outer.at + 1)) → b.level ≡ outer.level → b.before ≡ outer.before → b.next ≡ outer.next
     → node_tree m ≡ enclosed outer.around (get_or outer.nodes.items outer.at d) (map node_tree inner.nodes.items)
     → (level : ℕ) (c : Before) (olds : List Node) → IsUnderWay l level c olds (above ++ outer ∷ []) inner → IsUnderWay l level c olds above b
@@ -261,7 +261,7 @@ end_on l above outer inner b m d all is y t x e level c olds u =
     ) in
     subst (λ z. IsUnderWay l level c olds z b) (append-nil above) (under_way l above (outer ∷ []) [] inner b f level c olds u)
 
-end_on_none : (l : Layout) (above : List Block) (outer inner b : Block) → length outer.nodes.items ≤ outer.at
+end_on_none : (l : Layout) (above : List LayoutFrame) (outer inner b : LayoutFrame) → length outer.nodes.items ≤ outer.at
     → (level : ℕ) (c : Before) (olds : List Node) → IsUnderWay l level c olds (above ++ outer ∷ []) inner → IsUnderWay l level c olds above b
 end_on_none l above outer inner b h level c olds u =
     let f : (level : ℕ) (c : Before) (olds : List Node) → IsUnderWay l level c olds (outer ∷ []) inner → IsUnderWay l level c olds [] b =
@@ -271,17 +271,17 @@ end_on_none l above outer inner b h level c olds u =
     subst (λ z. IsUnderWay l level c olds z b) (append-nil above) (under_way l above (outer ∷ []) [] inner b f level c olds u)
 
 -- nothing is left
-pub all_done : (l : Layout) (above : List Block) (b : Block) (level : ℕ) (c : Before) (olds : List Node) → above ≡ [] → length b.nodes.items ≤ b.at → IsUnderWay l level c olds above b → NodesAreSpaced l level c olds (map node_tree b.nodes.items)
+pub all_done : (l : Layout) (above : List LayoutFrame) (b : LayoutFrame) (level : ℕ) (c : Before) (olds : List Node) → above ≡ [] → length b.nodes.items ≤ b.at → IsUnderWay l level c olds above b → NodesAreSpaced l level c olds (map node_tree b.nodes.items)
 all_done l above b level c olds e h u =
     let w : IsUnderWay l level c olds [] b = subst (λ z. IsUnderWay l level c olds z b) e u in
     partly_all l level c b.next olds b.nodes.items b.at h w.1
 
 -- what is left of a list of which one element is exchanged
-abbrev following : Block → List KdlNode
+abbrev following : LayoutFrame → List KdlNode
 following b = drop (b.at + 1) b.nodes.items
 
 -- a block is left: the whole is what it was
-pub end_whole : (above : List Block) (outer inner b : Block) (n m : KdlNode) → outer.at < length outer.nodes.items → get_or outer.nodes.items outer.at n ≡ n → node_tree m ≡ filled n (map node_tree inner.nodes.items)
+pub end_whole : (above : List LayoutFrame) (outer inner b : LayoutFrame) (n m : KdlNode) → outer.at < length outer.nodes.items → get_or outer.nodes.items outer.at n ≡ n → node_tree m ≡ filled n (map node_tree inner.nodes.items)
     → b.nodes.items ≡ set outer.nodes.items outer.at m → whole above b ≡ whole (above ++ outer ∷ []) inner
 end_whole above outer inner b n m h g t is =
     let ns = map node_tree inner.nodes.items in
@@ -289,7 +289,7 @@ end_whole above outer inner b n m h g t is =
     ∙ ap (outermost above) (set_with_at (λ x. filled x ns) outer.nodes.items outer.at m n h (t ∙ ap (λ x. filled x ns) (sym g)))
     ∙ sym (outermost_more above outer ns)
 
-pub end_whole_none : (above : List Block) (outer inner b : Block) → length outer.nodes.items ≤ outer.at → b.nodes.items ≡ outer.nodes.items → whole above b ≡ whole (above ++ outer ∷ []) inner
+pub end_whole_none : (above : List LayoutFrame) (outer inner b : LayoutFrame) → length outer.nodes.items ≤ outer.at → b.nodes.items ≡ outer.nodes.items → whole above b ≡ whole (above ++ outer ∷ []) inner
 end_whole_none above outer inner b h is =
     let ns = map node_tree inner.nodes.items in
     ap (λ z. outermost above (map node_tree z)) is
@@ -302,7 +302,7 @@ bare_set_with_at f [] i m d h e = absurd (omega arith)
 bare_set_with_at f (n ∷ ns) zero m d h e = ap (λ x. x ∷ map bare_node (map node_tree ns)) e
 bare_set_with_at f (n ∷ ns) (suc i) m d h e = ap (λ x. bare_node (node_tree n) ∷ x) (bare_set_with_at f ns i m d (omega arith) e)
 
-pub end_bare : (above : List Block) (outer inner b : Block) (n m : KdlNode) → outer.at < length outer.nodes.items → get_or outer.nodes.items outer.at n ≡ n
+pub end_bare : (above : List LayoutFrame) (outer inner b : LayoutFrame) (n m : KdlNode) → outer.at < length outer.nodes.items → get_or outer.nodes.items outer.at n ≡ n
     → node_tree m ≡ enclosed outer.around n (map node_tree inner.nodes.items)
     → b.nodes.items ≡ set outer.nodes.items outer.at m → map bare_node (whole above b) ≡ map bare_node (whole (above ++ outer ∷ []) inner)
 end_bare above outer inner b n m h g t is =
@@ -313,7 +313,7 @@ end_bare above outer inner b n m h g t is =
     ∙ sym (ap (map bare_node) (outermost_more above outer ns))
 
 -- and what was under way goes on
-end_goes_on : (above : List Block) (outer inner b : Block) (n m : KdlNode) → (outer.at < length outer.nodes.items → (b.nodes.items ≡ set outer.nodes.items outer.at m) × (b.at ≡ outer.at + 1))
+end_goes_on : (above : List LayoutFrame) (outer inner b : LayoutFrame) (n m : KdlNode) → (outer.at < length outer.nodes.items → (b.nodes.items ≡ set outer.nodes.items outer.at m) × (b.at ≡ outer.at + 1))
     → drop b.at b.nodes.items ≡ following outer → b.level ≡ outer.level → b.before ≡ outer.before → b.next ≡ outer.next
     → node_tree m ≡ enclosed outer.around (get_or outer.nodes.items outer.at n) (map node_tree inner.nodes.items) → length inner.nodes.items ≤ inner.at → (s : Layout) → GoesOn s (above ++ outer ∷ []) inner above b
 end_goes_on above outer inner b n m is left l t x e all s =
@@ -322,14 +322,14 @@ end_goes_on above outer inner b n m is left l t x e all s =
       omega (arith, end_counted following outer above, ap (λ r. count_left following r above) left, ap (λ r. count_left following r (above ++ outer ∷ [])) nothing),
     )
 
-pub end_goes_on_there : (above : List Block) (outer inner b : Block) (n m : KdlNode) → outer.at < length outer.nodes.items → get_or outer.nodes.items outer.at n ≡ n → node_tree m ≡ enclosed outer.around n (map node_tree inner.nodes.items)
+pub end_goes_on_there : (above : List LayoutFrame) (outer inner b : LayoutFrame) (n m : KdlNode) → outer.at < length outer.nodes.items → get_or outer.nodes.items outer.at n ≡ n → node_tree m ≡ enclosed outer.around n (map node_tree inner.nodes.items)
     → b.nodes.items ≡ set outer.nodes.items outer.at m → b.at ≡ outer.at + 1 → b.level ≡ outer.level → b.before ≡ outer.before → b.next ≡ outer.next
     → length inner.nodes.items ≤ inner.at → (s : Layout) → GoesOn s (above ++ outer ∷ []) inner above b
 end_goes_on_there above outer inner b n m h g e is at l t x all =
     end_goes_on above outer inner b n m (λ _. (is, at)) (rw (is, at) (drop-set-lt (outer.at + 1) outer.nodes.items outer.at m (omega arith))) l t x
     (e ∙ ap (λ x. enclosed outer.around x (map node_tree inner.nodes.items)) (sym g)) all
 
-pub end_goes_on_none : (above : List Block) (outer inner b : Block) → length outer.nodes.items ≤ outer.at → b.nodes.items ≡ outer.nodes.items → b.at ≡ outer.at → b.level ≡ outer.level → b.before ≡ outer.before
+pub end_goes_on_none : (above : List LayoutFrame) (outer inner b : LayoutFrame) → length outer.nodes.items ≤ outer.at → b.nodes.items ≡ outer.nodes.items → b.at ≡ outer.at → b.level ≡ outer.level → b.before ≡ outer.before
     → length inner.nodes.items ≤ inner.at → (s : Layout) → GoesOn s (above ++ outer ∷ []) inner above b
 end_goes_on_none above outer inner b h is at l t all s =
     let nothing : drop inner.at inner.nodes.items ≡ [] = drop_all inner.at inner.nodes.items all in
@@ -339,7 +339,7 @@ end_goes_on_none above outer inner b h is at l t all s =
     )
 
 -- a step at the next node leaves what stays
-pub bare_next : (above : List Block) (b b' : Block) (n m : KdlNode) → b.at < length b.nodes.items → get_or b.nodes.items b.at n ≡ n → bare_node (node_tree m) ≡ bare_node (node_tree n)
+pub bare_next : (above : List LayoutFrame) (b b' : LayoutFrame) (n m : KdlNode) → b.at < length b.nodes.items → get_or b.nodes.items b.at n ≡ n → bare_node (node_tree m) ≡ bare_node (node_tree n)
     → b'.nodes.items ≡ set b.nodes.items b.at m → map bare_node (whole above b') ≡ map bare_node (whole above b)
 bare_next above b b' n m h g e is =
     bare_outermost above (map node_tree b'.nodes.items) (map node_tree b.nodes.items)
@@ -347,10 +347,10 @@ bare_next above b b' n m h g e is =
 
 -- what is laid out at a block's level
 -- own is what a node becomes at it, and what comes after it
-abbrev pub Own : Layout → ℕ → Block → Before → Before → Option Around → KdlNode → KdlNode → Type 0
+abbrev pub Own : Layout → ℕ → LayoutFrame → Before → Before → Option Around → KdlNode → KdlNode → Type 0
 Own l level b next first g n m = PassesAt l (node_tree n) next × IsSpacedBut l level b.next (node_tree n) first g (map node_tree (child_nodes n)) m
 
-at_level : (l : Layout) (b : Block) (next first : Before) (g : Option Around) (n m : KdlNode) → (text_of b.before ≡ indentation (settings l.config) b.level → Own l b.level b next first g n m) → (level : ℕ) → IsAtLevel l level b → Own l level b next first g n m
+at_level : (l : Layout) (b : LayoutFrame) (next first : Before) (g : Option Around) (n m : KdlNode) → (text_of b.before ≡ indentation (settings l.config) b.level → Own l b.level b next first g n m) → (level : ℕ) → IsAtLevel l level b → Own l level b next first g n m
 at_level l b next first g n m own level u = subst (λ k. Own l k b next first g n m) u.0 (own (u.1 ∙ ap (indentation (settings l.config)) (sym u.0)))
 
 none_is : (xs : List KdlNode) → (0 < length xs → ⊥) → xs ≡ []
@@ -358,7 +358,7 @@ none_is [] h = refl
 none_is (x ∷ xs) h = absurd (h (omega arith))
 
 -- the next node, without nodes in its block
-pub line_is_laid : (s : Layout) (b : Block) (next first : Before) (g : Option Around) (n m : KdlNode) → child_nodes m ≡ child_nodes n → (0 < length (child_nodes m) → ⊥) → (level : ℕ) → Own s level b next first g n m
+pub line_is_laid : (s : Layout) (b : LayoutFrame) (next first : Before) (g : Option Around) (n m : KdlNode) → child_nodes m ≡ child_nodes n → (0 < length (child_nodes m) → ⊥) → (level : ℕ) → Own s level b next first g n m
     → NodeIsSpaced s level b.next (node_tree n) (enclosed g m (map node_tree (child_nodes m)))
     × (IndentsBySpaces (settings s.config) → StaysAs (settings s.config) (node_tree m) (enclosed g m (map node_tree (child_nodes m))))
 line_is_laid s b next first g n m same none level w =
@@ -368,7 +368,7 @@ line_is_laid s b next first g n m same none level w =
     subst (λ (z : List KdlNode). NodeIsSpaced s level b.next (node_tree n) (enclosed g m (map node_tree z)) × (IndentsBySpaces (settings s.config) → StaysAs (settings s.config) (node_tree m) (enclosed g m (map node_tree z)))) (sym empty)
     (subst (λ (z : Node). NodeIsSpaced s level b.next (node_tree n) (enclosed g m []) × (IndentsBySpaces (settings s.config) → StaysAs (settings s.config) z (enclosed g m []))) (sym tree) v)
 
-pub line_goes_on : (s : Layout) (above : List Block) (b b' : Block) (first : Before) (g : Option Around) (n m x : KdlNode) → b.at < length b.nodes.items → get_or b.nodes.items b.at n ≡ n
+pub line_goes_on : (s : Layout) (above : List LayoutFrame) (b b' : LayoutFrame) (first : Before) (g : Option Around) (n m x : KdlNode) → b.at < length b.nodes.items → get_or b.nodes.items b.at n ≡ n
     → b'.nodes.items ≡ set b.nodes.items b.at x → b'.at ≡ b.at + 1 → b'.level ≡ b.level → b'.before ≡ b.before
     → child_nodes m ≡ child_nodes n → (0 < length (child_nodes m) → ⊥) → node_tree x ≡ enclosed g m (map node_tree (child_nodes m))
     → (text_of b.before ≡ indentation (settings s.config) b.level → Own s b.level b b'.next first g n m) → GoesOn s above b above b'
@@ -396,7 +396,7 @@ nodes_taken None r v h m = absurd (omega (arith, h))
 nodes_taken (Some d) r v h m = ap (λ (x : Vec KdlNode Global). x.items) m
 
 -- the next node, of which the nodes in its block are taken out: b is its block, b1 is that with the node laid out
-module _ (s : Layout) (above : List Block) (b b1 outer inner : Block) (n m x x' : KdlNode) (v r : Vec KdlNode Global)
+module _ (s : Layout) (above : List LayoutFrame) (b b1 outer inner : LayoutFrame) (n m x x' : KdlNode) (v r : Vec KdlNode Global)
     (there : b.at < length b.nodes.items) (next : get_or b.nodes.items b.at n ≡ n)
     (items : b1.nodes.items ≡ set b.nodes.items b.at m) (place : b1.at ≡ b.at) (open_level : b1.level ≡ b.level) (open_before : b1.before ≡ b.before)
     (again : get_or b1.nodes.items b1.at x ≡ x)
@@ -460,7 +460,7 @@ module _ (s : Layout) (above : List Block) (b b1 outer inner : Block) (n m x x' 
       )
 
 -- a layout from the start to the end
-pub all_laid : {E : Type 0} (r : Result (Unit {0}) E) (l : Layout) (level : ℕ) (first : Before) (olds xs : List KdlNode) (above above' : List Block) (b b' : Block)
+pub all_laid : {E : Type 0} (r : Result (Unit {0}) E) (l : Layout) (level : ℕ) (first : Before) (olds xs : List KdlNode) (above above' : List LayoutFrame) (b b' : LayoutFrame)
     → above ≡ [] → b.nodes.items ≡ olds → b.at ≡ 0 → b.level ≡ level → text_of b.before ≡ indentation (settings l.config) level → b.next ≡ first
     → map node_tree xs ≡ whole above' b'
     → IfOk r (λ _. (level : ℕ) (c : Before) (os : List Node) → IsUnderWay l level c os above b → (above' ≡ []) × NodesAreSpaced l level c os (map node_tree b'.nodes.items))

@@ -28,7 +28,7 @@ use Rattle.kdl.specs.Iterators.{child_nodes, nodes_in}
 use Rattle.kdl.specs.Tree.{document_tree, head_tree, node_tree, nodes_tree}
 use Rattle.kdl.specs.declared.document.KdlDocument.{KdlDocument}
 use Rattle.kdl.specs.declared.document.KdlDocument.TheViews.{out-KdlDocument, out-KdlNode}
-use Rattle.kdl.specs.declared.layout.Block.{Block}
+use Rattle.kdl.specs.declared.layout.LayoutFrame.{LayoutFrame}
 use Rattle.kdl.specs.declared.node.KdlNode.{KdlNode}
 use Rattle.kdl.proofs.LayingOut.BlockSteps.{Opened, node_is, outermost_more, partly_all}
 use Rattle.kdl.proofs.LayingOut.PartsSpaced.{block_there}
@@ -112,14 +112,14 @@ module _ (s : Settings) where
   filled_stays n ns ms a = children_stay (head_tree (out-KdlNode n)) (out-KdlNode n).children ns ms a
 
   -- under all blocks above
-  pub outermost_stays : (above : List Block) (ns ms : List Node) → StayAs s ns ms → StayAs s (outermost above ns) (outermost above ms)
+  pub outermost_stays : (above : List LayoutFrame) (ns ms : List Node) → StayAs s ns ms → StayAs s (outermost above ns) (outermost above ms)
   outermost_stays [] ns ms a = a
   outermost_stays (b ∷ above) ns ms a =
       pointwise (outermost (b ∷ above) ns) (outermost (b ∷ above) ms)
       (with_at_stays (λ n. filled n (outermost above ns)) (λ n. filled n (outermost above ms)) (λ n. filled_stays n (outermost above ns) (outermost above ms) (outermost_stays above ns ms a)) b.nodes.items b.at)
 
 -- a step after which nodes still read back, if the layout is in progress before it
-abbrev pub Steps : Layout → List Block → Block → List Block → Block → Type 0
+abbrev pub Steps : Layout → List LayoutFrame → LayoutFrame → List LayoutFrame → LayoutFrame → Type 0
 Steps l above b above' b' = (level : ℕ) (c : Before) (olds : List Node) → IsUnderWay l level c olds above b → StayAs (settings l.config) (whole above b) (whole above' b')
 
 -- the open node
@@ -131,13 +131,13 @@ open_there l level Open c next (o ∷ olds) [] i d p = absurd p
 open_there l level Open c next (o ∷ olds) (n ∷ ns) zero d p = (c, o, p.0)
 open_there l level Open c next (o ∷ olds) (n ∷ ns) (suc i) d p = open_there l level Open p.0 next olds ns i d p.3
 
-inner_level : (l : Layout) (above : List Block) (b : Block) (d : KdlNode) (level : ℕ) (c : Before) (olds : List Node) → IsUnderWay l level c olds above b → (k : ℕ) × IsAtLevel l k b
+inner_level : (l : Layout) (above : List LayoutFrame) (b : LayoutFrame) (d : KdlNode) (level : ℕ) (c : Before) (olds : List Node) → IsUnderWay l level c olds above b → (k : ℕ) × IsAtLevel l k b
 inner_level l [] b d level c olds u = (level, u.0)
 inner_level l (a ∷ above) b d level c olds u =
     let q = (open_there l level (Opened l level a.around above b) c a.next olds a.nodes.items a.at d u.1).2 in
     inner_level l above b d (level + 1) q.0 q.1 q.3
 
-last_open : (l : Layout) (above : List Block) (outer inner : Block) (d : KdlNode) (level : ℕ) (c : Before) (olds : List Node) → IsUnderWay l level c olds (above ++ outer ∷ []) inner
+last_open : (l : Layout) (above : List LayoutFrame) (outer inner : LayoutFrame) (d : KdlNode) (level : ℕ) (c : Before) (olds : List Node) → IsUnderWay l level c olds (above ++ outer ∷ []) inner
     → (k : ℕ) × (x : Before) × (o : Node) × Opened l k outer.around [] inner x o (get_or outer.nodes.items outer.at d)
 last_open l [] outer inner d level c olds u =
     let q = open_there l level (Opened l level outer.around [] inner) c outer.next olds outer.nodes.items outer.at d u.1 in
@@ -147,7 +147,7 @@ last_open l (a ∷ above) outer inner d level c olds u =
     last_open l above outer inner d (level + 1) q.0 q.1 q.3
 
 -- the next node
-pub next_stays : (l : Layout) (above : List Block) (b b' : Block) (n m : KdlNode) → b.at < length b.nodes.items → get_or b.nodes.items b.at n ≡ n → b'.nodes.items ≡ set b.nodes.items b.at m
+pub next_stays : (l : Layout) (above : List LayoutFrame) (b b' : LayoutFrame) (n m : KdlNode) → b.at < length b.nodes.items → get_or b.nodes.items b.at n ≡ n → b'.nodes.items ≡ set b.nodes.items b.at m
     → ((k : ℕ) → IsAtLevel l k b → StaysAs (settings l.config) (node_tree n) (node_tree m))
     → (level : ℕ) (c : Before) (olds : List Node) → IsUnderWay l level c olds above b → StayAs (settings l.config) (whole above b) (whole above b')
 next_stays l above b b' n m h g is a level c olds u =
@@ -158,7 +158,7 @@ next_stays l above b b' n m h g is a level c olds u =
     (outermost_stays s above (map node_tree b.nodes.items) (map node_tree (set b.nodes.items b.at m)) (pointwise s _ _ (set_stays s b.nodes.items b.at m n h own)))
 
 -- a block is left
-pub end_stays : (l : Layout) → list_all is_space (settings l.config).indent ≡ true → (above : List Block) (outer inner b : Block) (n m : KdlNode) → outer.at < length outer.nodes.items → get_or outer.nodes.items outer.at n ≡ n
+pub end_stays : (l : Layout) → list_all is_space (settings l.config).indent ≡ true → (above : List LayoutFrame) (outer inner b : LayoutFrame) (n m : KdlNode) → outer.at < length outer.nodes.items → get_or outer.nodes.items outer.at n ≡ n
     → node_tree m ≡ enclosed outer.around n (map node_tree inner.nodes.items) → b.nodes.items ≡ set outer.nodes.items outer.at m → length inner.nodes.items ≤ inner.at
     → (level : ℕ) (c : Before) (olds : List Node) → IsUnderWay l level c olds (above ++ outer ∷ []) inner → StayAs (settings l.config) (whole (above ++ outer ∷ []) inner) (whole above b)
 end_stays l ok above outer inner b n m h g e is all level c olds u =
@@ -211,7 +211,7 @@ below_stays s n m o e a =
     (subst (λ (x : Node). StaysAs s (filled n (map node_tree (child_nodes n))) x) (sym e) (filled_stays s n (map node_tree (child_nodes n)) (map node_tree (nodes_in o)) a))
 
 -- a layout from the start to the end
-pub all_stays : (l : Layout) (level : ℕ) (before : Before) (olds xs : List KdlNode) (above above' : List Block) (b b' : Block)
+pub all_stays : (l : Layout) (level : ℕ) (before : Before) (olds xs : List KdlNode) (above above' : List LayoutFrame) (b b' : LayoutFrame)
     → above ≡ [] → b.nodes.items ≡ olds → b.at ≡ 0 → b.level ≡ level → text_of b.before ≡ indentation (settings l.config) level → b.next ≡ before
     → map node_tree xs ≡ whole above' b' → Steps l above b above' b' → StayAs (settings l.config) (map node_tree olds) (map node_tree xs)
 all_stays l level before olds xs above above' b b' empty holds start y t next tree f =

@@ -5,7 +5,7 @@ use Rattle.kdl.specs.Tree.{head_tree, node_tree, document_tree, document_of}
 use Rattle.kdl.specs.declared.node.KdlNode.{KdlNode}
 use Rattle.kdl.specs.declared.document.KdlDocument.{KdlDocument}
 use Rattle.kdl.specs.declared.document.KdlDocument.TheViews.{out-KdlNode}
-use Rattle.kdl.specs.declared.clone.Open.{Open}
+use Rattle.kdl.specs.declared.clone.CopyFrame.{CopyFrame}
 
 -- a node, with other children
 abbrev pub with_children : KdlNode → Option KdlDocument → Node
@@ -16,10 +16,10 @@ abbrev pub with_block : KdlNode → KdlDocument → List Node → Node
 with_block n d ns = node (head_tree (out-KdlNode n)) (children (document_of d ns))
 
 -- the copies up to that of an open block's node, if its block has these nodes
-abbrev pub closed : Open → List Node → List Node
+abbrev pub closed : CopyFrame → List Node → List Node
 closed o ns = map node_tree o.before.items ++ with_block o.node.now o.block.now ns ∷ []
 
 -- the outermost nodes: the open blocks, the outermost first, and the nodes of the innermost
-abbrev pub outermost : List Open → List Node → List Node
+abbrev pub outermost : List CopyFrame → List Node → List Node
 outermost [] ns = ns
 outermost (o ∷ os) ns = closed o (outermost os ns) ++ map node_tree o.following.now

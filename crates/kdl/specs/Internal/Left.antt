@@ -9,7 +9,7 @@ use Rattle.kdl.specs.Tree.{head_tree, nodes_tree}
 use Rattle.kdl.specs.declared.node.KdlNode.{KdlNode}
 use Rattle.kdl.specs.declared.document.KdlDocument.{KdlDocument}
 use Rattle.kdl.specs.declared.document.KdlDocument.TheViews.{out-KdlDocument, out-KdlNode}
-use Rattle.kdl.specs.declared.print.Open.{Open}
+use Rattle.kdl.specs.declared.print.PrintFrame.{PrintFrame}
 
 -- a node up to its last entry, at a depth
 abbrev pub front : KdlNode → ℕ → Text
@@ -48,10 +48,10 @@ abbrev pub closing : KdlNode → KdlDocument → ℕ → Text
 closing n d depth = block_end d depth ++ node_end n
 
 -- the blocks that are open, the outermost first, and the nodes after each
-abbrev pub print_above : List Open → ℕ → Text
+abbrev pub print_above : List PrintFrame → ℕ → Text
 print_above [] depth = []
 print_above (o ∷ os) depth = print_above os (depth + 1) ++ closing o.node.now o.block.now depth ++ print_nodes (nodes_tree o.following.now) depth
 
 -- the nodes in the innermost block, and then the blocks that are open
-abbrev pub print_left : List KdlNode → List Open → Text
+abbrev pub print_left : List KdlNode → List PrintFrame → Text
 print_left rest above = print_nodes (nodes_tree rest) (length above) ++ print_above above 0

@@ -19,7 +19,7 @@ use Rattle.kdl.specs.declared.node.KdlNode.{KdlNode}
 use Rattle.kdl.specs.declared.document.KdlDocument.{KdlDocument}
 use Rattle.kdl.specs.declared.document.KdlDocument.TheViews.{out-KdlDocument, out-KdlNode}
 use Rattle.kdl.specs.declared.layout.Around.{Around}
-use Rattle.kdl.specs.declared.layout.Block.{Block}
+use Rattle.kdl.specs.declared.layout.LayoutFrame.{LayoutFrame}
 
 -- a block, with other nodes in it
 abbrev pub filled_block : Option KdlDocument → List Node → Children
@@ -79,12 +79,12 @@ with_at f (n ∷ ns) zero = f n ∷ map node_tree ns
 with_at f (n ∷ ns) (suc i) = node_tree n ∷ with_at f ns i
 
 -- the outermost nodes, given the blocks above, the outermost first, and the nodes of the innermost block
-abbrev pub outermost : List Block → List Node → List Node
+abbrev pub outermost : List LayoutFrame → List Node → List Node
 outermost [] ns = ns
 outermost (b ∷ above) ns = with_at (λ n. filled n (outermost above ns)) b.nodes.items b.at
 
 -- the same, with the nodes of the innermost block as they are
-abbrev pub whole : List Block → Block → List Node
+abbrev pub whole : List LayoutFrame → LayoutFrame → List Node
 whole above inner = outermost above (map node_tree inner.nodes.items)
 
 -- the second node is the first one, laid out after what comes before it, and its texts can be printed
@@ -151,21 +151,21 @@ abbrev pub BlockIsSpaced : Layout → ℕ → Option KdlDocument → Before → 
 BlockIsSpaced l level o first g = (ms : List Node) → NodesAreSpaced l (level + 1) first (map node_tree (nodes_in o)) ms → BlockSpacing l level o g ms
 
 -- the level of a block, and the indentation there
-abbrev pub IsAtLevel : Layout → ℕ → Block → Type 0
+abbrev pub IsAtLevel : Layout → ℕ → LayoutFrame → Type 0
 IsAtLevel l level b = (b.level ≡ level) × (text_of b.before ≡ indentation (settings l.config) level)
 
 -- of the nodes at a level, those before the open blocks are laid out
-abbrev pub IsUnderWay : Layout → ℕ → Before → List Node → List Block → Block → Type 0
+abbrev pub IsUnderWay : Layout → ℕ → Before → List Node → List LayoutFrame → LayoutFrame → Type 0
 IsUnderWay l level c olds [] inner = IsAtLevel l level inner × Partly l level c olds inner.nodes.items inner.at inner.next
 IsUnderWay l level c olds (b ∷ above) inner =
     IsAtLevel l level b
     × PartlyOpen l level c (λ c o n. (first : Before) × (ns : List Node) × IsSpacedBut l level c o first b.around ns n × IsUnderWay l (level + 1) first ns above inner) olds b.nodes.items b.at b.next
 
 -- how much is left to lay out
-abbrev pub left : List Block → Block → ℕ
+abbrev pub left : List LayoutFrame → LayoutFrame → ℕ
 left above inner = count_left (λ b. drop (b.at + 1) b.nodes.items) (drop inner.at inner.nodes.items) above
 
 -- a step: the layout is in progress as before, and less is left
-abbrev pub GoesOn : Layout → List Block → Block → List Block → Block → Type 0
+abbrev pub GoesOn : Layout → List LayoutFrame → LayoutFrame → List LayoutFrame → LayoutFrame → Type 0
 GoesOn l above inner above' inner' =
     ((level : ℕ) (c : Before) (olds : List Node) → IsUnderWay l level c olds above inner → IsUnderWay l level c olds above' inner') × (left above' inner' < left above inner)

@@ -1,4 +1,5 @@
 //! The iterators over the arguments of a node, and of its children named `-`.
+#![tactic(auto, using(crate::proofs::Rules::document_args))]
 
 ghost use Rattle.kdl.specs.DocumentLookups.{arguments_of, dash_arguments, dash_arguments_of, node_named};
 ghost use Rattle.kdl.specs.Iterators.{child_nodes};
@@ -31,7 +32,6 @@ impl KdlDocument {
     ///     let number = port.as_integer(); // 80, then 443
     /// }
     /// ```
-    #[tactic(auto, using(crate::proofs::Finding::SaidLookups::got_args))]
     pub fn iter_args(&self, name: &str) -> ArgsIter<'_>
         ensures value { result ≡ arguments_of (node_named name.now self.now) }
         ensures said { result ≡ said_args (chars name.now) (document_says self.now) }
@@ -51,7 +51,6 @@ impl KdlDocument {
     ///     let number = value.as_integer(); // 1, then 2
     /// }
     /// ```
-    #[tactic(auto, using(crate::proofs::Finding::SaidLookups::got_dash_args))]
     pub fn iter_dash_args(&self, name: &str) -> DashArgsIter<'_>
         ensures value { result ≡ dash_arguments_of (node_named name.now self.now) }
         ensures said { result ≡ said_dash_args (chars name.now) (document_says self.now) }

@@ -1,4 +1,5 @@
 //! Look-ups of nodes by their name.
+#![tactic(auto, using(crate::proofs::Rules::document_lookup))]
 
 ghost use Rattle.kdl.specs.Bytes.{IsExchangedInDocument, IsExchangedInNode};
 ghost use Rattle.kdl.specs.DocumentLookups.{argument_named, argument_place, first_argument, is_node_named, node_named, with_argument_named, with_node_named};
@@ -70,7 +71,6 @@ impl KdlDocument {
     /// let document = KdlDocument::parse(alloc, "host 1\n\"host\" 2")?;
     /// let host = document.get("host"); // the first one
     /// ```
-    #[tactic(auto, using(crate::proofs::Finding::SaidLookups::got_node))]
     pub fn get(&self, name: &str) -> Option<&KdlNode>
         ensures value { option_map (λ n. n.now) result ≡ node_named name.now self.now }
         ensures said { option_map (λ n. node_says n.now) result ≡
@@ -117,7 +117,6 @@ impl KdlDocument {
     /// let document = KdlDocument::parse(alloc, "port udp=#true 8080 8081")?;
     /// let port = document.get_arg("port"); // the whole number 8080
     /// ```
-    #[tactic(auto, using(crate::proofs::Finding::SaidLookups::got_arg))]
     pub fn get_arg(&self, name: &str) -> Option<&KdlValue>
         ensures value { option_map (λ v. value_tree v.now) result ≡
             value_of (argument_named name.now self.now) }

@@ -1,4 +1,5 @@
 //! The iterators over the entries and the children of a node.
+#![tactic(auto, using(crate::proofs::Rules::node_iter))]
 
 ghost use Rattle.kdl.specs.Change.{children_row};
 ghost use Rattle.kdl.specs.Fields.{block_of};
@@ -33,7 +34,6 @@ impl KdlNode {
     ///     let value = entry.value(); // 1, then 2
     /// }
     /// ```
-    #[tactic(auto, using(crate::proofs::Finding::SaidLookups::got_entries))]
     pub fn iter(&self) -> EntryIter<'_>
         ensures value { result ≡ entries_of self.now }
         ensures said { map (λ e. entry_data (entry_tree e)) result ≡
@@ -66,7 +66,6 @@ impl KdlNode {
     ///     let name = child.name().value(); // "b", then "c"
     /// }
     /// ```
-    #[tactic(auto, using(crate::proofs::Finding::SaidLookups::got_child_nodes))]
     pub fn iter_children(&self) -> ChildrenIter<'_>
         ensures value { result ≡ child_nodes self.now }
         ensures said { map node_says result ≡ said_child_nodes (node_says self.now) }

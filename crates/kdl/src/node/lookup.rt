@@ -1,4 +1,5 @@
 //! Look-ups of entries by the name of a property, or by the place of an argument.
+#![tactic(auto, using(crate::proofs::Rules::node_lookup))]
 
 ghost use Rattle.kdl.specs.Bytes.{IsExchangedInNode};
 ghost use Rattle.kdl.specs.Fields.{node_format_of};
@@ -35,7 +36,6 @@ impl KdlNode {
     /// let node = KdlNode::parse(alloc, "a 1 b=2 3")?;
     /// let three = node.entry(NodeKey::from(1)); // the argument 3, the second one
     /// ```
-    #[tactic(auto, using(crate::proofs::Finding::SaidLookups::got_entry))]
     pub fn entry(&self, key: NodeKey) -> Option<&KdlEntry>
         ensures value { option_map (λ e. e.now) result ≡ found_entry key self.now }
         ensures said { option_map (λ e. entry_data (entry_tree e.now)) result ≡
@@ -53,7 +53,6 @@ impl KdlNode {
     /// let node = KdlNode::parse(alloc, "a b=1 b=2")?;
     /// let two = node.get(NodeKey::from_text(alloc, "b")?); // 2: the last one counts
     /// ```
-    #[tactic(auto, using(crate::proofs::Finding::SaidLookups::got_value))]
     pub fn get(&self, key: NodeKey) -> Option<&KdlValue>
         ensures value { option_map (λ v. value_tree v.now) result ≡ found_value key self.now }
         ensures said { option_map (λ v. value_tree v.now) result ≡
@@ -73,7 +72,6 @@ impl KdlNode {
     /// let node = KdlNode::parse(alloc, "a b=1 c")?;
     /// let both = (node.has_property("b"), node.has_property("c")); // true and false: `c` is an argument
     /// ```
-    #[tactic(auto, using(crate::proofs::Finding::SaidLookups::got_property))]
     pub fn has_property(&self, name: &str) -> bool
         ensures value { result ≡ is_some (property_place name.now self.now) }
         ensures said { result ≡ is_some (said_property (chars name.now) (node_says self.now)) }
@@ -182,7 +180,6 @@ impl Index<usize> for KdlNode {
 
     ghost index_gives = { λ n i v. GivesArgument i (value_tree v) n };
 
-    #[tactic(auto, using(crate::proofs::Finding::SaidLookups::got_argument))]
     fn index(&self, index: usize) -> &KdlValue {
         lookup::argument(&self.entries, index)
     }
@@ -201,7 +198,6 @@ impl<'q> Index<&'q str> for KdlNode {
 
     ghost index_gives = { λ n name v. GivesProperty name.now (value_tree v) n };
 
-    #[tactic(auto, using(crate::proofs::Finding::SaidLookups::got_property_value))]
     fn index(&self, name: &'q str) -> &KdlValue {
         lookup::property(&self.entries, name)
     }

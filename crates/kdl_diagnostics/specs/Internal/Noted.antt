@@ -10,7 +10,7 @@ use Rattle.kdl_diagnostics.specs.declared.lexemes.Lexeme.{Lexeme}
 use Rattle.kdl_diagnostics.specs.declared.reader.Block.{Block}
 use Rattle.kdl_diagnostics.specs.declared.reader.Fault.{Fault}
 use Rattle.kdl_diagnostics.specs.declared.esclines.Candidate.{Candidate}
-use Rattle.kdl_diagnostics.specs.declared.front.Front.{Front}
+use Rattle.kdl_diagnostics.specs.declared.front.Prefix.{Prefix}
 use Rattle.kdl_diagnostics.specs.declared.reader.Reader.{Reader}
 
 -- the place is in the text
@@ -47,7 +47,7 @@ abbrev pub IsReader : Reader → Type 0
 IsReader r = (text : Text) × IsReaderOf text r
 
 -- a front of the text: all its places and all its spans are in the text
-pub record IsFrontOf (text : Text) (f : Front) : Type 0 where
+pub record IsFrontOf (text : Text) (f : Prefix) : Type 0 where
   pub whole : f.whole.rest ≡ text
   pub left : LiesIn text f.left
   pub place : LiesIn text f.place
@@ -55,7 +55,7 @@ pub record IsFrontOf (text : Text) (f : Front) : Type 0 where
   pub blocks : Opened text f.blocks.items
 
 -- if two places are in the text, a front of the text stays one
-abbrev pub KeepsFrontBetween : Position → Position → Front → Front → Type 0
+abbrev pub KeepsFrontBetween : Position → Position → Prefix → Prefix → Type 0
 KeepsFrontBetween a b old new = (text : Text) → IsFrontOf text old → LiesIn text a → LiesIn text b → IsFrontOf text new
 
 -- a reader of a text stays a reader of the text

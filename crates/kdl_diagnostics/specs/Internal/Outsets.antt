@@ -10,8 +10,8 @@ use Rattle.kdl_control.specs.Internal.EntryViews.{entry_view, node_view}
 use Rattle.kdl_control.specs.Internal.Views.{control_view, phase_view}
 use Rattle.kdl_diagnostics.specs.TextControl as spec
 use Rattle.kdl_diagnostics.specs.TextControl.{text_finish, text_start}
-use Rattle.kdl_diagnostics.specs.declared.front.Front.{Front}
-use Rattle.kdl_diagnostics.specs.declared.machine.Place.TheVariants.{FaultyType}
+use Rattle.kdl_diagnostics.specs.declared.front.Prefix.{Prefix}
+use Rattle.kdl_diagnostics.specs.declared.machine.Context.TheVariants.{FaultyType}
 use Rattle.kdl_diagnostics.specs.declared.lexemes.Lexeme.{Lexeme}
 use Rattle.kdl_diagnostics.specs.declared.lexemes.LexemeKind.{LexemeKind}
 use Rattle.kdl_diagnostics.specs.declared.lexemes.LexemeKind.TheVariants.{Comment, End}
@@ -63,7 +63,7 @@ abbrev pub Untold : List Block → Type 0
 Untold blocks = All (λ (b : Block). b.is_told ≡ false) blocks
 
 -- the open blocks are those of the control
-abbrev pub Matched : Front → Type 0
+abbrev pub Matched : Prefix → Type 0
 Matched f = (length f.blocks.items ≡ depth (text_view f.control)) × Untold f.blocks.items
 
 -- how many blocks are open after a token, if m were open before it: the `{` opens one, and the `}` closes one
@@ -73,24 +73,24 @@ Counts tokens.closing m n = n ≡ m - 1
 Counts _ m n = n ≡ m
 
 -- the front is at the start of a text
-pub record IsNew (f : Front) : Type 0 where
+pub record IsNew (f : Prefix) : Type 0 where
   pub control : text_view f.control ≡ text_start f.control.whole
   pub blocks : f.blocks.items ≡ []
   pub accepted : f.is_accepted ≡ false
 
 -- the front ends before the rest of the text
-pub record EndsBefore (rest : Text) (f : Front) : Type 0 where
+pub record EndsBefore (rest : Text) (f : Prefix) : Type 0 where
   pub place : f.place.rest ≡ rest
   pub from : f.from.rest ≡ [] → (rest ≡ []) × (text_finish (text_view f.control) ≡ false → LacksAt f.control.whole (length f.blocks.items) f.before)
   pub matched : Matched f
 
 -- the front goes on over the token, if it is taken; else it ends where it did
-abbrev pub GoesOver : Token → Front → Front → Bool → Type 0
+abbrev pub GoesOver : Token → Prefix → Prefix → Bool → Type 0
 GoesOver k old new true = (k.at.start.rest ≡ [] → ⊥) → Matched old → EndsBefore k.at.end.rest new
 GoesOver k old new false = (new.place ≡ old.place) × (new.from ≡ old.from)
 
 -- the front ends where the text is refused: where the text ends there, something is missing
-pub record IsStopped (f : Front) : Type 0 where
+pub record IsStopped (f : Prefix) : Type 0 where
   pub place : f.place.rest ≡ [] → (text_finish (text_view f.control) ≡ false) × Matched f
   pub from : f.from.rest ≡ [] → LacksAt f.control.whole (length f.blocks.items) f.before × Untold f.blocks.items
 

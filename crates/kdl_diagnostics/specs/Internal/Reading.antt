@@ -13,7 +13,7 @@ use Rattle.kdl_diagnostics.specs.declared.strings.Found.{Found}
 use Rattle.kdl_diagnostics.specs.declared.lexemes.Lexeme.{Lexeme}
 use Rattle.kdl_diagnostics.specs.declared.lexemes.LexemeKind.{LexemeKind}
 use Rattle.kdl_diagnostics.specs.declared.lexemes.LexemeKind.TheVariants.{End}
-use Rattle.kdl_diagnostics.specs.declared.lexemes.Start.{Start}
+use Rattle.kdl_diagnostics.specs.declared.lexemes.LexemeStart.{LexemeStart}
 
 -- at most k steps for each byte that was read, and c more
 abbrev pub Most : ℕ → ℕ → Here → Here → Type 0
@@ -88,12 +88,12 @@ abbrev pub gone : Position → Here → Here
 gone spot here = record here { rest = spot.rest; at = spot.at }
 
 -- the place where a lexeme begins, and one at or after it
-pub record Spans (start : Start) : Type 0 where
+pub record Spans (start : LexemeStart) : Type 0 where
   pub next : (q : Text) × (start.place.rest ≡ q ++ start.next.rest)
   pub at : start.next.at + bytes start.next.rest ≡ start.place.at + bytes start.place.rest
 
 -- the place where a lexeme begins, and one after it by at least a character
-pub record Begins (start : Start) : Type 0 where
+pub record Begins (start : LexemeStart) : Type 0 where
   pub spans : Spans start
   pub fewer : bytes start.next.rest < bytes start.place.rest
 

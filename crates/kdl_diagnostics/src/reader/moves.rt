@@ -5,7 +5,7 @@ ghost use Rattle.kdl_diagnostics.specs.Internal.Outsets.{Grows};
 ghost use Rattle.std.specs.Prelude.{◌≡◌};
 
 use crate::lexemes::{Lexeme, LexemeKind, StringRole};
-use crate::machine::{Move, Place, in_node, is_before_entry, is_dropping, token_kind};
+use crate::machine::{Context, LexemeMove, in_node, is_before_entry, is_dropping, token_kind};
 use crate::reader::{Block, Reader};
 use crate::whole::Whole;
 use kdl_control::Phase;
@@ -24,43 +24,43 @@ impl<'a> Reader<'a> {
     /// Whether the place is after an entry, or before the first one, in the text of an entry.
     fn is_between_entries(&self) -> bool {
         match self.place {
-            Place::Control => is_before_entry(self.control.phase()),
-            Place::Typeless => true,
-            Place::FaultyType | Place::Over => false,
+            Context::Control => is_before_entry(self.control.phase()),
+            Context::Typeless => true,
+            Context::FaultyType | Context::Over => false,
         }
     }
 
     /// Whether an entry may begin here, as far as the control knows.
     fn is_before_entry(&self) -> bool {
-        matches!(self.place, Place::Control) && is_before_entry(self.control.phase())
+        matches!(self.place, Context::Control) && is_before_entry(self.control.phase())
     }
 
     /// What the lexeme does in the text of an entry, where a space follows each slashdashed entry.
-    fn move_in_entry(&self, kind: LexemeKind) -> Move {
+    fn move_in_entry(&self, kind: LexemeKind) -> LexemeMove {
         match kind {
-            LexemeKind::Opening | LexemeKind::Closing | LexemeKind::Semicolon => Move::Refuse,
-            LexemeKind::Slashdash if self.has_dropped && !self.is_apart => Move::Refuse,
+            LexemeKind::Opening | LexemeKind::Closing | LexemeKind::Semicolon => LexemeMove::Refuse,
+            LexemeKind::Slashdash if self.has_dropped && !self.is_apart => LexemeMove::Refuse,
             LexemeKind::Newline if self.is_between_entries() => {
                 if self.has_item {
-                    Move::To(Place::Over)
+                    LexemeMove::To(Context::Over)
                 } else if self.has_dropped {
-                    Move::Refuse
+                    LexemeMove::Refuse
                 } else {
-                    Move::To(Place::Control)
+                    LexemeMove::To(Context::Control)
                 }
             }
             LexemeKind::Equals => self.place.takes(kind),
-            _ if self.has_item && self.is_before_entry() => Move::Refuse,
+            _ if self.has_item && self.is_before_entry() => LexemeMove::Refuse,
             _ => self.place.takes(kind),
         }
     }
 
     /// What the lexeme does. A faulty string is not the name of a type.
-    pub(super) fn move_of(&self, lexeme: &Lexeme<'a>) -> Move {
+    pub(super) fn move_of(&self, lexeme: &Lexeme<'a>) -> LexemeMove {
         if lexeme.fault.is_some()
             && let StringRole::TypeName = self.string_role()
         {
-            return Move::Refuse;
+            return LexemeMove::Refuse;
         }
         match self.text {
             Whole::Entry => self.move_in_entry(lexeme.kind),
@@ -93,7 +93,7 @@ impl<'a> Reader<'a> {
     }
 
     /// Continues in the place, after the name or an entry of a node.
-    fn go_to(&mut self, place: Place)
+    fn go_to(&mut self, place: Context)
         ensures keeps { Keeps self.old self.new }
         ensures grows { Grows self.old self.new }
         ensures cursor { self.new.cursor ≡ self.old.cursor }
@@ -114,7 +114,7 @@ impl<'a> Reader<'a> {
             && self.has_item
             && self.blocks.is_empty()
         {
-            self.go_to(Place::Over);
+            self.go_to(Context::Over);
         }
     }
 
@@ -162,7 +162,7 @@ impl<'a> Reader<'a> {
             return Ok(false);
         }
         let _ = self.control.take(&TokenKind::Space)?;
-        self.place = Place::Control;
+        self.place = Context::Control;
         self.is_property = match lexeme.kind {
             LexemeKind::Left => matches!(phase, Phase::Property),
             _ => self.is_property,
@@ -188,7 +188,7 @@ impl<'a> Reader<'a> {
     pub(super) fn apply(
         &mut self,
         lexeme: &Lexeme<'a>,
-        step: Move,
+        step: LexemeMove,
         is_told: bool,
     ) -> Result<bool, AllocError>
         ensures keeps { KeepsAt lexeme.now self.old self.new }
@@ -197,12 +197,12 @@ impl<'a> Reader<'a> {
         ensures same { self.new.is_over ≡ self.old.is_over }
     {
         match step {
-            Move::To(place) => {
+            LexemeMove::To(place) => {
                 self.go_to(place);
                 Ok(true)
             }
-            Move::Take => self.take_token(lexeme, is_told),
-            Move::Refuse => Ok(false),
+            LexemeMove::Take => self.take_token(lexeme, is_told),
+            LexemeMove::Refuse => Ok(false),
         }
     }
 }

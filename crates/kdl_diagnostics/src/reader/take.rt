@@ -3,14 +3,14 @@
 ghost use Rattle.kdl_diagnostics.specs.Internal.Noted.{KeepsAt};
 ghost use Rattle.kdl_diagnostics.specs.Internal.Outsets.{Grows, HasFault, IsReadyAt, IsSingle, Lacking, NotesAlone};
 ghost use Rattle.kdl_diagnostics.specs.Internal.Reading.{Most};
-ghost use Rattle.kdl_diagnostics.specs.declared.machine.Place.TheVariants.{FaultyType};
+ghost use Rattle.kdl_diagnostics.specs.declared.machine.Context.TheVariants.{FaultyType};
 ghost use Rattle.kdl_diagnostics.specs.declared.lexemes.LexemeKind.TheVariants.{End};
 ghost use Rattle.kdl_text.specs.Internal.Reading.{Moves};
 ghost use Rattle.std.specs.Prelude.{◌≡◌, ◌+◌, ◌<◌, length, true, false, IfOk, IsSome, None};
 
 use crate::kind::Kind;
 use crate::lexemes::{Lexeme, LexemeKind};
-use crate::machine::{Move, Place, after_misfit, is_due, misfit};
+use crate::machine::{Context, LexemeMove, after_misfit, is_due, misfit};
 use crate::reader::Reader;
 use crate::whole::Whole;
 use kdl_control::Phase;
@@ -47,7 +47,7 @@ impl<'a> Reader<'a> {
         self.note_misfit(kind, lexeme)?;
         let is_last = match (self.text, self.place) {
             (Whole::Entry, _) => matches!(kind, Kind::Misplaced),
-            (_, Place::Over) => true,
+            (_, Context::Over) => true,
             _ => false,
         };
         if is_last {
@@ -57,7 +57,7 @@ impl<'a> Reader<'a> {
     }
 
     /// Notes the own fault of a lexeme that fits at the place, except for a string in a type that is faulty already.
-    fn fit(&mut self, lexeme: &Lexeme<'a>, place: Place) -> Result<(), AllocError>
+    fn fit(&mut self, lexeme: &Lexeme<'a>, place: Context) -> Result<(), AllocError>
         ensures keeps { KeepsAt lexeme.now self.old self.new }
         ensures grows { Grows self.old self.new }
         ensures noted { IfOk result (λ _. (place ≡ FaultyType → ⊥) → IsSome lexeme.now.fault → HasFault self.new) }
@@ -65,7 +65,7 @@ impl<'a> Reader<'a> {
         ensures same { self.new.is_over ≡ self.old.is_over }
     {
         self.note_left(lexeme);
-        if let Place::FaultyType = place {
+        if let Context::FaultyType = place {
             return Ok(());
         }
         match lexeme.fault {
@@ -87,8 +87,8 @@ impl<'a> Reader<'a> {
             return Ok(());
         }
         match step {
-            Move::Take => {
-                self.place = Place::Control;
+            LexemeMove::Take => {
+                self.place = Context::Control;
                 self.control.go_to(Phase::Gap);
                 self.end_node();
                 Ok(())

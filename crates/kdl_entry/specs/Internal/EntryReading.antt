@@ -12,12 +12,12 @@ use Rattle.kdl_entry.specs.Tree as tree
 use Rattle.kdl_entry.specs.declared.entry.KdlEntry.{KdlEntry}
 use Rattle.kdl_entry.specs.declared.parsing.entries.State.{State}
 use Rattle.kdl_entry.specs.declared.parsing.entries.State.TheVariants.{Start, Dropping, Under, Pending, Done}
-use Rattle.kdl_entry.specs.declared.parsing.entries.Word.{Word}
+use Rattle.kdl_entry.specs.declared.parsing.entries.PendingWord.{PendingWord}
 use Rattle.kdl_lexer.specs.declared.lexer.LexFailure.{LexFailure}
 use Rattle.kdl_lexer.specs.declared.lexer.LexFailure.TheVariants.{Faulty, Memory}
 
 -- a string that may be a key, as characters
-abbrev pub word_view : Word → machine.Word
+abbrev pub word_view : PendingWord → machine.Word
 word_view w = record { leading = text_of w.leading; value = text_of w.value; repr = w.repr; span = w.span }
 
 -- the machine's state that the reader's state represents

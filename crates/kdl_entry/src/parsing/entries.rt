@@ -1,4 +1,5 @@
 //! Entries that are a whole text, read token by token.
+#![tactic(auto, using(crate::proofs::Rules::entries))]
 
 ghost use Rattle.kdl_control.specs.Internal.EntryViews.{entry_view};
 ghost use Rattle.kdl_control.specs.Internal.Views.{phase_view};
@@ -32,7 +33,7 @@ const UNPLACED: SourceSpan = SourceSpan { offset: 0, len: 0 };
 
 /// A string that may still be a key.
 #[derive(Drop)]
-struct Word<'a> {
+struct PendingWord<'a> {
     /// The text before it.
     leading: String,
     value: String,
@@ -53,7 +54,7 @@ enum State<'a> {
     /// An entry being read, which has a type or a key, in this phase.
     Under(Phase, Parts<'a>),
     /// A string that may still be a key.
-    Pending(Word<'a>),
+    Pending(PendingWord<'a>),
     /// The entry, and where it ended.
     Done(KdlEntry, Checkpoint<'a>),
 }
@@ -81,12 +82,11 @@ fn keyed<'a>(source: &Source<'a>, leading: String, key: Key, end: &Checkpoint<'a
 }
 
 /// The string that the token is, and the text before it.
-#[tactic(auto, using(kdl_lexer::proofs::Order::ahead))]
 fn word_between<'a>(
     source: &mut Source<'a>,
     value: String,
     at: TokenSpan<'a>,
-) -> Result<Word<'a>, AllocError>
+) -> Result<PendingWord<'a>, AllocError>
     requires leading { EndsIn source.old.text at.start.rest }
     ensures is { IfOk result
         (λ w. word_view w
@@ -95,7 +95,7 @@ fn word_between<'a>(
     ensures same { Recounted source.old source.new }
 {
     let leading = source.text(&source.start(), &at.start)?;
-    Ok(Word {
+    Ok(PendingWord {
         leading,
         value,
         repr: source.piece(&at.start, &at.end),
@@ -105,7 +105,6 @@ fn word_between<'a>(
 }
 
 /// The value that the token is, as an argument, and the text before it.
-#[tactic(auto, using(kdl_lexer::proofs::Order::ahead))]
 fn argument_between<'a>(
     source: &mut Source<'a>,
     value: KdlValue,
@@ -128,10 +127,10 @@ fn argument_between<'a>(
 }
 
 /// The word as an argument.
-fn argument(alloc: Global, word: Word) -> Result<KdlEntry, AllocError>
+fn argument(alloc: Global, word: PendingWord) -> Result<KdlEntry, AllocError>
     ensures { IfOk result (λ e. entry_tree e ≡ argument_of (word_view word.entry)) }
 {
-    let Word {
+    let PendingWord {
         leading,
         value,
         repr,
@@ -191,7 +190,6 @@ fn value_of(kind: TokenKind) -> Option<KdlValue>
 }
 
 /// Takes the token that is the value of the entry.
-#[tactic(auto, using(kdl_lexer::proofs::Order::ahead))]
 fn at_value<'a>(
     phase: Phase,
     mut parts: Parts<'a>,
@@ -217,7 +215,7 @@ fn at_value<'a>(
 /// Takes a token after a string that may still be a key. The control goes to `next`.
 fn word_to<'a>(
     next: EntryControl,
-    word: Word<'a>,
+    word: PendingWord<'a>,
     source: &mut Source<'a>,
     at: &TokenSpan<'a>,
 ) -> Result<State<'a>, AllocError>
@@ -231,7 +229,7 @@ fn word_to<'a>(
         EntryControl::Word => Ok(State::Pending(word)),
         EntryControl::Under(phase) => {
             let before = source.text(&word.end, &at.start)?;
-            let Word {
+            let PendingWord {
                 leading,
                 value,
                 repr,
@@ -333,7 +331,6 @@ impl<'a> State<'a> {
 }
 
 /// Reads the entry that the text is; the source is at its start.
-#[tactic(auto, using(crate::proofs::Reading::EntryLoop::starts_going, crate::proofs::Reading::EntryLoop::next_going, crate::proofs::Reading::EntryLoop::whole_start, crate::proofs::Reading::EntryLoop::from_start, crate::proofs::Reading::EntryLoop::lexer_told, crate::proofs::Reading::EntryLoop::take_told, crate::proofs::Reading::EntryLoop::all_read, crate::proofs::Reading::EntryLoop::from_end, crate::proofs::Reading::EntryLoop::at_the_end, crate::proofs::Reading::EntryLoop::no_end))]
 fn read_tokens(source: &mut Source) -> Result<KdlEntry, LexFailure>
     requires rest { source.old.rest ≡ source.old.text }
     ensures { AnswersEntryText source.old.text result }
@@ -374,7 +371,6 @@ impl KdlEntry {
     /// let entry = KdlEntry::parse(alloc, "port=(u16)0x1F90")?; // prints the text
     /// let refused = KdlEntry::parse(alloc, "port=8080 9090"); // `Syntax`: these are two entries
     /// ```
-    #[tactic(auto, using(crate::proofs::Reading::EntryAnswers::found, crate::proofs::Reading::EntryAnswers::only, crate::proofs::Reading::EntryAnswers::laid, crate::proofs::Reading::EntryAnswers::prints, crate::proofs::Reading::EntryAnswers::refused))]
     pub fn parse(alloc: Global, text: &str) -> Result<KdlEntry, ParseFailure>
         // The result is what the grammar derives,
         ensures found { IfOk result

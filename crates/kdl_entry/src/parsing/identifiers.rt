@@ -1,4 +1,5 @@
 //! Identifiers that are a whole text.
+#![tactic(auto, using(crate::proofs::Rules::identifiers))]
 
 ghost use Rattle.kdl_entry.specs.Internal.IdentifierReading.{AnswersIdentifierText};
 ghost use Rattle.std.specs.Prelude.{◌≡◌, ◌↔◌, IsTrue, []};
@@ -13,7 +14,6 @@ use kdl_text::error::ParseFailure;
 use std::alloc::Global;
 
 /// Whether the text ends at the place.
-#[tactic(auto)]
 fn is_end(place: &Checkpoint) -> bool
     ensures { IsTrue result ↔ (place.now.rest ≡ []) }
 {
@@ -21,7 +21,6 @@ fn is_end(place: &Checkpoint) -> bool
 }
 
 /// Reads the identifier that the text is; the source is at its start.
-#[tactic(auto)]
 fn read_token(source: &mut Source) -> Result<KdlIdentifier, LexFailure>
     requires { source.old.rest ≡ source.old.text }
     ensures { AnswersIdentifierText source.old.text result }
@@ -65,7 +64,6 @@ impl KdlIdentifier {
     /// let name = KdlIdentifier::parse(alloc, "\"two words\"")?; // the string `two words`, which prints its quotes
     /// let refused = KdlIdentifier::parse(alloc, "two words"); // `Syntax`: these are two strings
     /// ```
-    #[tactic(auto, using(crate::proofs::Reading::IdentifierAnswers::found, crate::proofs::Reading::IdentifierAnswers::only, crate::proofs::Reading::IdentifierAnswers::prints))]
     pub fn parse(alloc: Global, text: &str) -> Result<KdlIdentifier, ParseFailure>
         // The result is what the grammar derives,
         ensures found { IfOk result

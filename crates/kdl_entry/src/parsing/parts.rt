@@ -1,6 +1,7 @@
 //! What is known of an entry, or of a node's name, that is being read: its type, its key, and the texts around them.
 //!
 //! The same for an entry that is a whole text and for those of a document. Which token may come is up to the control.
+#![tactic(auto, using(crate::proofs::Rules::parts))]
 
 ghost use Rattle.kdl_control.specs.Internal.Views.{phase_view};
 ghost use Rattle.kdl_entry.specs.Internal.Building.{key_view, type_view, parts_view, Holds};
@@ -87,7 +88,6 @@ pub struct Given {
 /// let nothing = empty(alloc); // ""
 /// ```
 #[inline(always)]
-#[tactic(auto, using(crate::proofs::Slicing::Between::empty_text))]
 pub fn empty(alloc: Global) -> String
     ensures { text_of result ≡ [] }
 {
@@ -344,7 +344,6 @@ impl<'a> Parts<'a> {
     }
 
     /// Continues after the `)` of the type.
-    #[tactic(auto, using(crate::proofs::Slicing::SliceCost::token_fewer))]
     pub fn close(&mut self, source: &mut Source<'a>, at: &TokenSpan<'a>) -> Result<(), AllocError>
         requires from { Within source.old self.old.from at.now.start }
         ensures closed { OnOk result
@@ -415,7 +414,6 @@ impl<'a> Parts<'a> {
     }
 
     /// Begins the type of the value at its `(`, after the key.
-    #[tactic(auto, using(crate::proofs::Slicing::SliceCost::token_fewer))]
     pub fn open_typed(
         &mut self,
         source: &mut Source<'a>,

@@ -1,4 +1,5 @@
 //! A text that is read token by token, and of which pieces are sliced.
+#![tactic(auto, using(crate::proofs::Rules::source))]
 
 ghost use Rattle.kdl_entry.specs.Internal.Counted.{EndsIn, Recounted, Sliced};
 ghost use Rattle.kdl_entry.specs.Internal.Parts.{identifier_at};
@@ -22,7 +23,6 @@ use std::marker::Model;
 
 /// Whether there is no text between two places.
 #[inline]
-#[tactic(auto, using(crate::proofs::Slicing::Between::nothing_between))]
 fn is_nothing<'a>(from: &Checkpoint<'a>, to: &Checkpoint<'a>) -> bool
     requires { Ahead from.now to.now }
     ensures { IsTrue result ↔ (between from.now.rest to.now.rest ≡ []) }
@@ -142,7 +142,6 @@ impl<'a> Source<'a> {
     /// let text = source.piece(&source.start(), &source.checkpoint()).to_string(alloc)?; // "ab"
     /// ```
     #[inline]
-    #[tactic(auto, using(crate::proofs::Slicing::Between::is_between, crate::proofs::Slicing::Between::is_part, crate::proofs::Slicing::SliceCost::piece_sliced))]
     pub fn piece(&mut self, from: &Checkpoint<'a>, to: &Checkpoint<'a>) -> Piece<'a>
         requires inside { EndsIn self.old.text from.now.rest }
         requires order { Ahead from.now to.now }
@@ -184,7 +183,6 @@ impl<'a> Source<'a> {
     /// }
     /// ```
     #[inline]
-    #[tactic(auto, using(kdl_lexer::proofs::Order::ahead))]
     pub fn token(&mut self, at: &TokenSpan<'a>) -> Result<String, AllocError>
         requires { EndsIn self.old.text at.now.start.rest }
         ensures text { IfOk result (λ s. text_of s ≡ between at.now.start.rest at.now.end.rest) }
@@ -218,7 +216,6 @@ impl<'a> Source<'a> {
     /// }
     /// ```
     #[inline(always)]
-    #[tactic(auto, using(kdl_lexer::proofs::Order::ahead))]
     pub fn identifier(
         &mut self,
         value: String,
@@ -246,7 +243,6 @@ impl<'a> Source<'a> {
     /// }
     /// ```
     #[inline(always)]
-    #[tactic(auto, using(kdl_lexer::proofs::Order::ahead))]
     pub fn bare_identifier(&mut self, at: &TokenSpan<'a>) -> Result<KdlIdentifier, AllocError>
         requires { EndsIn self.old.text at.now.start.rest }
         ensures is { IfOk result

@@ -1,16 +1,15 @@
 //! Which texts begin a document: what the machine without data reads does, and what it refuses does not.
+#![tactic(auto, using(crate::proofs::Rules::going_on))]
 
 ghost use Rattle.kdl_grammar.specs.GoingOn.{Alive, AliveInToken, DeadAtFront, DeadAtToken, DerivedAtEnd, NodeAlive, NodeDeadAtToken, RefusedAtPiece};
 
 /// What the machine reads begins a document.
-#[tactic(auto, using(crate::proofs::GoingOn::alive))]
 pub fn alive()
     ensures { Alive }
 {}
 
 /// What the machine reads begins a document together with the rest of the text, if the rest continues with a token that
 /// may come.
-#[tactic(auto, using(crate::proofs::GoingOn::alive_in_token))]
 pub fn alive_in_token()
     ensures { AliveInToken }
 {}
@@ -27,19 +26,16 @@ pub fn dead_at_front()
 {}
 
 /// If the machine reaches a place before the end of a text at which no token begins, the text is not a document.
-#[tactic(auto, using(crate::proofs::GoingOn::refused_at_piece))]
 pub fn refused_at_piece()
     ensures { RefusedAtPiece }
 {}
 
 /// A text that the machine reads to the end is a document exactly if the text may end there.
-#[tactic(auto, using(crate::proofs::GoingOn::derived_at_end))]
 pub fn derived_at_end()
     ensures { DerivedAtEnd }
 {}
 
 /// What the control of a node text goes over begins a node text.
-#[tactic(auto, using(crate::proofs::NodeTexts::node_alive))]
 pub fn node_alive()
     ensures { NodeAlive }
 {}

@@ -1,4 +1,5 @@
 //! Nodes, blocks and documents, from their parts.
+#![tactic(auto, using(crate::proofs::Rules::content))]
 
 ghost use Rattle.kdl_entry.specs.Internal.Building.{key_view, type_view};
 ghost use Rattle.kdl_entry.specs.Internal.Counted.{EndsIn, Recounted, Sliced, Within};
@@ -35,7 +36,6 @@ pub(super) fn put<T: Drop>(place: &mut T, value: T)
 }
 
 /// Adds the pending string to the current node, as an argument.
-#[tactic(auto, using(crate::proofs::Stepping::Views::entry_pushed))]
 pub(super) fn settle<'a>(
     source: &Source<'a>,
     from: &Checkpoint<'a>,
@@ -62,14 +62,13 @@ pub(super) fn settle<'a>(
 
 /// How a node ends: the text before its terminator, the terminator, and the span of the node.
 #[derive(Drop)]
-struct NodeEnd {
+struct NodeTail {
     before: String,
     terminator: String,
     span: SourceSpan,
 }
 
 /// The span from the start of the first node to the end of the last one; without nodes the given span.
-#[tactic(auto, using(crate::proofs::Stepping::NodeSpans::spans, crate::proofs::Stepping::NodeSpans::nothing, crate::proofs::Stepping::NodeSpans::no_last))]
 pub(super) fn content_span<N: ParsedNode>(nodes: &[N], place: SourceSpan) -> SourceSpan
     ensures { result ≡ laid.content_span place (nodes_tree N.tree nodes.now) }
 {
@@ -88,7 +87,6 @@ pub(super) fn content_span<N: ParsedNode>(nodes: &[N], place: SourceSpan) -> Sou
 }
 
 /// The nodes, and the text after them, up to `end`; without nodes it is the leading text.
-#[tactic(auto, using(crate::proofs::Stepping::NodeSpans::without, crate::proofs::Stepping::NodeSpans::within))]
 pub(super) fn content<N: ParsedNode>(
     source: &Source,
     nodes: Vec<N>,
@@ -132,7 +130,6 @@ pub(super) fn no_content<N: ParsedNode>(alloc: Global) -> DocumentParts<N>
 impl<'a, N: ParsedNode> Builder<'a, N> {
     /// Creates an entry whose value is the token.
     #[inline]
-    #[tactic(auto, using(kdl_lexer::proofs::Order::ahead))]
     pub(super) fn entry_between(
         &mut self,
         slot: Slot<'a>,
@@ -187,8 +184,7 @@ impl<'a, N: ParsedNode> Builder<'a, N> {
 
     /// How the node ends whose terminator is the token.
     #[inline(always)]
-    #[tactic(auto, using(kdl_lexer::proofs::Order::ahead))]
-    fn node_end(&mut self, at: &TokenSpan<'a>) -> Result<NodeEnd, AllocError>
+    fn node_end(&mut self, at: &TokenSpan<'a>) -> Result<NodeTail, AllocError>
         requires from { Within self.old.source self.old.from at.now.start }
         ensures before { IfOk result
             (λ n. text_of n.before ≡ between self.old.from.rest at.now.start.rest) }
@@ -204,7 +200,7 @@ impl<'a, N: ParsedNode> Builder<'a, N> {
         let before = self.source.text(&self.from, &at.start)?;
         let terminator = self.source.token(at)?;
         let span = self.source.span(&self.under.start, &at.start);
-        Ok(NodeEnd {
+        Ok(NodeTail {
             before,
             terminator,
             span,
@@ -218,7 +214,7 @@ impl<'a, N: ParsedNode> Builder<'a, N> {
         ty: Option<TypeParts>,
         before_children: String,
         children: Option<DocumentParts<N>>,
-        end: NodeEnd,
+        end: NodeTail,
     ) -> N
         ensures node { N.tree result ≡ node_by N.tree (record {
           leading = self.old.under.leading;
@@ -235,7 +231,7 @@ impl<'a, N: ParsedNode> Builder<'a, N> {
     {
         let alloc = self.source.alloc();
         let entries = self.under.entries.replace(Vec::new(alloc));
-        let NodeEnd {
+        let NodeTail {
             before: before_terminator,
             terminator,
             span,
@@ -306,7 +302,6 @@ impl<'a, N: ParsedNode> Builder<'a, N> {
 
     /// Takes the current node as one of this type, whose terminator is the token, and appends it to the nodes.
     #[inline(always)]
-    #[tactic(auto, using(crate::proofs::Stepping::Views::node_pushed))]
     fn push_of_type(&mut self, ty: Option<TypeParts>, at: &TokenSpan<'a>) -> Result<(), AllocError>
         requires from { Within self.old.source self.old.from at.now.start }
         ensures is { OnOk result (nodes_now N.tree self.new ≡ machine.ended
@@ -372,7 +367,6 @@ impl<'a, N: ParsedNode> Builder<'a, N> {
 
     /// Takes the node with its block as one of this type, whose terminator is the token, and appends it to the nodes.
     #[inline(always)]
-    #[tactic(auto, using(crate::proofs::Stepping::Views::node_pushed))]
     fn push_kept_of_type(
         &mut self,
         ty: Option<TypeParts>,

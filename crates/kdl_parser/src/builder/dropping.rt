@@ -1,4 +1,5 @@
 //! What is slashdashed: the control reads it, and nothing is built.
+#![tactic(auto, using(crate::proofs::Rules::dropping))]
 
 ghost use Rattle.kdl_control.specs.Internal.Views.{control_view};
 ghost use Rattle.kdl_parser.specs.Internal.Dropping.{is_before_node};
@@ -158,7 +159,6 @@ impl<'a, N: ParsedNode> Builder<'a, N> {
 
     /// Takes a token of what is slashdashed. The text of a string makes no difference.
     #[inline(always)]
-    #[tactic(auto, using(crate::proofs::Stepping::Dropped::drops_like))]
     fn drop_token(&mut self, kind: TokenKind, at: &TokenSpan<'a>) -> Result<(), TakeFailure>
         requires reading { is_reading (reading_view self.old.dropped) ≡ true }
         requires here { is_over (kind_view kind) (reading_view self.old.dropped) ≡ false }
@@ -173,7 +173,6 @@ impl<'a, N: ParsedNode> Builder<'a, N> {
 
     /// Takes the first token after a `/-`. The text of a string makes no difference.
     #[inline(always)]
-    #[tactic(auto, using(crate::proofs::Stepping::Dropped::first_like))]
     fn drop_first(&mut self, kind: TokenKind, at: &TokenSpan<'a>) -> Result<(), TakeFailure>
         requires live { self.old.dropped ≡ Nothing }
         requires phase { is_live self.old.phase ≡ false }

@@ -1,4 +1,5 @@
 //! What the builder does at a token: nodes begin and end, blocks open and close, entries are added.
+#![tactic(auto, using(crate::proofs::Rules::steps))]
 
 ghost use Rattle.kdl_entry.specs.Internal.Building.{key_view, type_view};
 ghost use Rattle.kdl_entry.specs.Internal.Counted.{EndsIn, Recounted, Within};
@@ -123,7 +124,6 @@ impl<'a, N: ParsedNode> Builder<'a, N> {
     }
 
     /// Opens the block of the current node.
-    #[tactic(auto, using(crate::proofs::Stepping::TurnCost::fewer, crate::proofs::Stepping::TurnCost::token_fewer, crate::proofs::Stepping::Views::level_pushed))]
     pub(super) fn open_block(&mut self, at: &TokenSpan<'a>) -> Result<(), TakeFailure>
         requires live { self.old.dropped ≡ Nothing }
         requires from { Within self.old.source self.old.from at.now.start }
@@ -147,7 +147,6 @@ impl<'a, N: ParsedNode> Builder<'a, N> {
     }
 
     /// Continues with the node around the block that ends here.
-    #[tactic(auto, using(crate::proofs::Stepping::TurnCost::fewer, crate::proofs::Stepping::TurnCost::token_fewer, crate::proofs::Stepping::Views::level_pushed))]
     pub(super) fn close(&mut self, at: &TokenSpan<'a>) -> Result<(), TakeFailure>
         requires live { self.old.dropped ≡ Nothing }
         requires from { Within self.old.source self.old.from at.now.start }
@@ -283,7 +282,6 @@ impl<'a, N: ParsedNode> Builder<'a, N> {
     }
 
     /// Adds an entry to the current node. Its value is the token.
-    #[tactic(auto, using(crate::proofs::Stepping::TurnCost::fewer, crate::proofs::Stepping::TurnCost::token_fewer, kdl_lexer::proofs::Order::ahead))]
     pub(super) fn add_entry(
         &mut self,
         slot: Slot<'a>,
@@ -305,7 +303,6 @@ impl<'a, N: ParsedNode> Builder<'a, N> {
     }
 
     /// Keeps a string in a node, which may be a key, as the pending one.
-    #[tactic(auto, using(kdl_lexer::proofs::Order::ahead))]
     pub(super) fn wait(&mut self, value: String, at: &TokenSpan<'a>) -> Result<(), TakeFailure>
         requires live { self.old.dropped ≡ Nothing }
         requires from { Within self.old.source self.old.from at.now.start }
@@ -330,7 +327,6 @@ impl<'a, N: ParsedNode> Builder<'a, N> {
     }
 
     /// Begins a property at its `=`. Its key is the pending string; without one the key is slashdashed.
-    #[tactic(auto, using(crate::proofs::Stepping::TurnCost::fewer, crate::proofs::Stepping::TurnCost::token_fewer))]
     pub(super) fn open_property(&mut self, at: &TokenSpan<'a>) -> Result<(), TakeFailure>
         requires live { self.old.dropped ≡ Nothing }
         requires from { Within self.old.source self.old.from at.now.start }
@@ -359,7 +355,6 @@ impl<'a, N: ParsedNode> Builder<'a, N> {
     }
 
     /// Begins the type of a node at its `(`.
-    #[tactic(auto, using(crate::proofs::Stepping::TurnCost::fewer, crate::proofs::Stepping::TurnCost::token_fewer))]
     pub(super) fn open_name(&mut self, at: &TokenSpan<'a>) -> Result<(), TakeFailure>
         requires live { self.old.dropped ≡ Nothing }
         requires from { Within self.old.source self.old.from at.now.start }
@@ -414,7 +409,6 @@ impl<'a, N: ParsedNode> Builder<'a, N> {
     }
 
     /// Begins the type of a value at its `(`.
-    #[tactic(auto, using(crate::proofs::Stepping::TurnCost::fewer, crate::proofs::Stepping::TurnCost::token_fewer))]
     pub(super) fn open_value(&mut self, at: &TokenSpan<'a>) -> Result<(), TakeFailure>
         requires live { self.old.dropped ≡ Nothing }
         requires from { Within self.old.source self.old.from at.now.start }
@@ -429,7 +423,6 @@ impl<'a, N: ParsedNode> Builder<'a, N> {
     }
 
     /// Adds a value that is an argument.
-    #[tactic(auto, using(crate::proofs::Stepping::TurnCost::fewer, crate::proofs::Stepping::TurnCost::token_fewer, kdl_lexer::proofs::Order::ahead))]
     pub(super) fn add_argument(
         &mut self,
         value: KdlValue,
@@ -492,7 +485,6 @@ impl<'a, N: ParsedNode> Builder<'a, N> {
     }
 
     /// Adds a value that has a key and no type.
-    #[tactic(auto, using(crate::proofs::Stepping::TurnCost::fewer, crate::proofs::Stepping::TurnCost::token_fewer, kdl_lexer::proofs::Order::ahead))]
     pub(super) fn add_keyed(
         &mut self,
         value: KdlValue,
@@ -517,7 +509,6 @@ impl<'a, N: ParsedNode> Builder<'a, N> {
     }
 
     /// Takes a string that is a node's name.
-    #[tactic(auto, using(crate::proofs::Stepping::TurnCost::fewer, crate::proofs::Stepping::TurnCost::token_fewer, kdl_lexer::proofs::Order::ahead))]
     pub(super) fn name_node(&mut self, name: String, at: &TokenSpan<'a>) -> Result<(), TakeFailure>
         requires live { self.old.dropped ≡ Nothing }
         requires from { Within self.old.source self.old.from at.now.start }
@@ -536,7 +527,6 @@ impl<'a, N: ParsedNode> Builder<'a, N> {
     }
 
     /// Takes a bare string that is a node's name.
-    #[tactic(auto, using(crate::proofs::Stepping::TurnCost::fewer, crate::proofs::Stepping::TurnCost::token_fewer, kdl_lexer::proofs::Order::ahead))]
     pub(super) fn name_bare(&mut self, at: &TokenSpan<'a>) -> Result<(), TakeFailure>
         requires live { self.old.dropped ≡ Nothing }
         requires from { Within self.old.source self.old.from at.now.start }
@@ -555,7 +545,6 @@ impl<'a, N: ParsedNode> Builder<'a, N> {
     }
 
     /// Takes a string that is a node's name and has a type.
-    #[tactic(auto, using(crate::proofs::Stepping::TurnCost::fewer, crate::proofs::Stepping::TurnCost::token_fewer, kdl_lexer::proofs::Order::ahead))]
     pub(super) fn name_typed(&mut self, name: String, at: &TokenSpan<'a>) -> Result<(), TakeFailure>
         requires live { self.old.dropped ≡ Nothing }
         requires from { Within self.old.source self.old.parts.from at.now.start }
@@ -586,7 +575,6 @@ impl<'a, N: ParsedNode> Builder<'a, N> {
     }
 
     /// Takes the `}` after a node without a block.
-    #[tactic(auto, using(crate::proofs::Stepping::Origins::between_none, crate::proofs::Stepping::Origins::origin_ends, crate::proofs::Stepping::StepsDone::failed))]
     pub(super) fn close_node(&mut self, at: &TokenSpan<'a>) -> Result<(), TakeFailure>
         requires live { self.old.dropped ≡ Nothing }
         requires from { Within self.old.source self.old.from at.now.start }
@@ -597,7 +585,6 @@ impl<'a, N: ParsedNode> Builder<'a, N> {
     }
 
     /// Takes the `}` after a node with a block.
-    #[tactic(auto, using(crate::proofs::Stepping::Origins::between_none, crate::proofs::Stepping::Origins::origin_ends, crate::proofs::Stepping::StepsDone::failed))]
     pub(super) fn close_kept(&mut self, at: &TokenSpan<'a>) -> Result<(), TakeFailure>
         requires live { self.old.dropped ≡ Nothing }
         requires from { Within self.old.source self.old.from at.now.start }

@@ -3,7 +3,7 @@ use Rattle.std.proofs.lemmas.List.{append-nil}
 use Rattle.kdl.specs.Internal.Copied.{outermost}
 use Rattle.kdl.specs.Internal.Count.{count_left}
 use Rattle.kdl.specs.Tree.{node_tree}
-use Rattle.kdl.specs.declared.clone.Open.{Open}
+use Rattle.kdl.specs.declared.clone.CopyFrame.{CopyFrame}
 use Rattle.kdl.specs.declared.document.KdlDocument.TheViews.{out-KdlNode}
 use Rattle.kdl.specs.declared.node.KdlNode.{KdlNode}
 use Rattle.kdl.proofs.CopyingLoop.{none_copied, line_made, block_opened, block_closed}
@@ -12,7 +12,7 @@ use Rattle.kdl.proofs.Printing.PrintingLoop.{none_left_is}
 use Rattle.kdl.proofs.clone.copy_nodes.Goals as goal
 
 -- the nodes after that of an open block
-abbrev following : Open → List KdlNode
+abbrev following : CopyFrame → List KdlNode
 following o = o.following.now
 
 pub left-init : goal.left-init
@@ -22,7 +22,7 @@ left-init c =
 
 pub left-smaller-in-Some-children : goal.left-smaller-in-Some-children
 left-smaller-in-Some-children c =
-    let o : Open = record { node = c.in-Some.node; block = c.in-Some-children.block; following = c.in-Some.following; before = c.replace-before.result } in
+    let o : CopyFrame = record { node = c.in-Some.node; block = c.in-Some-children.block; following = c.in-Some.following; before = c.replace-before.result } in
     let first : c.left.rest.now ≡ c.in-Some.node.now ∷ c.in-Some.following.now = search rules in
     let has : (out-KdlNode c.in-Some.node.now).children ≡ Some c.in-Some-children.block.now = search rules in
     let pushed : c.push.new.self.items ≡ c.left.above.items ++ o ∷ [] = search rules in
@@ -30,7 +30,7 @@ left-smaller-in-Some-children c =
 
 pub left-preserved-in-Some-children : goal.left-preserved-in-Some-children
 left-preserved-in-Some-children c =
-    let o : Open = record { node = c.in-Some.node; block = c.in-Some-children.block; following = c.in-Some.following; before = c.replace-before.result } in
+    let o : CopyFrame = record { node = c.in-Some.node; block = c.in-Some-children.block; following = c.in-Some.following; before = c.replace-before.result } in
     let above = c.left.above.items in
     let first : c.left.rest.now ≡ c.in-Some.node.now ∷ c.in-Some.following.now = search rules in
     let has : (out-KdlNode c.in-Some.node.now).children ≡ Some c.in-Some-children.block.now = search rules in

@@ -1,7 +1,7 @@
 use Rattle.std.proofs.Common.{rules, ◌++◌, ◌∷◌, [], ap, ◌∙◌}
 use Rattle.std.specs.Vec.{with_item}
 use Rattle.kdl.specs.Internal.Spacing.{whole}
-use Rattle.kdl.specs.declared.layout.Block.{Block}
+use Rattle.kdl.specs.declared.layout.LayoutFrame.{LayoutFrame}
 use Rattle.kdl.proofs.LayingOut.BlockSteps.{node_changed, end_whole, end_whole_none}
 use Rattle.kdl.proofs.layout.Blocks.close.Goals as goal
 
@@ -11,7 +11,7 @@ returns-in-Some-clause-whole c =
     let r = c.replace-done in
     let o = r.new.dest in
     let e = r.ensures in
-    let b : Block = record { nodes = with_item o.nodes o.at c.exchange_nodes.new.self; at = o.at; level = o.level; before = o.before; next = o.next; around = o.around } in
+    let b : LayoutFrame = record { nodes = with_item o.nodes o.at c.exchange_nodes.new.self; at = o.at; level = o.level; before = o.before; next = o.next; around = o.around } in
     end_whole above o r.result b c.in-Some.node.now c.exchange_nodes.new.self (search rules) (search rules)
     (node_changed c.in-Some.node.now c.exchange_nodes.new.self r.result.nodes c.exchange_nodes.ensures.has) (search rules)
     ∙ ap (λ z. whole (above ++ z ∷ []) r.result) e.after

@@ -8,7 +8,7 @@ use Rattle.kdl.specs.declared.layout.Around.{Around}
 use Rattle.kdl_value.specs.Tree.{text_of}
 use Rattle.kdl.specs.Internal.Spacing.{GoesOn, NodeStays, StayAs, whole}
 use Rattle.kdl.specs.Tree.{node_tree}
-use Rattle.kdl.specs.declared.layout.Block.{Block}
+use Rattle.kdl.specs.declared.layout.LayoutFrame.{LayoutFrame}
 use Rattle.kdl_fmt.specs.declared.blank.Before.{Before}
 use Rattle.kdl.proofs.LayingOut.BlockSteps.{Own, bare_next, bare_enclosed, line_goes_on, line_is_laid, node_is, bare_block_next, whole_block_next, block_goes_on}
 use Rattle.kdl.proofs.LayingOut.StaysReading.{next_stays}
@@ -18,7 +18,7 @@ pub returns-in_err-following-clause-stays : goal.returns-in_err-following-clause
 returns-in_err-following-clause-stays c ok level x olds u =
     let l = c.args.layout.now in
     let b = c.args.self.now.inner in
-    let b' : Block = record { nodes = with_item b.nodes b.at c.lay_out_own.new.self; at = b.at; level = b.level; before = b.before; next = b.next; around = b.around } in
+    let b' : LayoutFrame = record { nodes = with_item b.nodes b.at c.lay_out_own.new.self; at = b.at; level = b.level; before = b.before; next = b.next; around = b.around } in
     let is : chars c.as_str.result.now ≡ text_of b.before = search rules in
     next_stays l c.args.self.now.above.items b b' c.index_mut-node.result.now c.lay_out_own.new.self (search rules) (search rules) (search rules)
     (λ k h. c.lay_out_own.ensures.stays ok (is ∙ h.1 ∙ ap (indentation (settings l.config)) (sym h.0))) level x olds u
@@ -26,7 +26,7 @@ returns-in_err-following-clause-stays c ok level x olds u =
 pub returns-in_err-following-clause-kept : goal.returns-in_err-following-clause-kept
 returns-in_err-following-clause-kept c =
     let b = c.args.self.now.inner in
-    let b' : Block = record { nodes = with_item b.nodes b.at c.lay_out_own.new.self; at = b.at; level = b.level; before = b.before; next = b.next; around = b.around } in
+    let b' : LayoutFrame = record { nodes = with_item b.nodes b.at c.lay_out_own.new.self; at = b.at; level = b.level; before = b.before; next = b.next; around = b.around } in
     bare_next c.args.self.now.above.items b b' c.index_mut-node.result.now c.lay_out_own.new.self (search rules) (search rules) c.lay_out_own.ensures.kept (search rules)
 
 pub returns-then-not-has_nodes-clause-stays : goal.returns-then-not-has_nodes-clause-stays
@@ -37,7 +37,7 @@ returns-then-not-has_nodes-clause-stays c ok level x olds u =
     let n = c.index_mut-node.result.now in
     let m = c.lay_out_own.new.self in
     let g = c.in_ok-following.texts in
-    let b' : Block = record { nodes = with_item b.nodes b.at c.set_around.new.self; at = b.at + 1; level = b.level; before = b.before; next = c.in_ok-following.following; around = b.around } in
+    let b' : LayoutFrame = record { nodes = with_item b.nodes b.at c.set_around.new.self; at = b.at + 1; level = b.level; before = b.before; next = c.in_ok-following.following; around = b.around } in
     let is : chars c.as_str.result.now ≡ text_of b.before = search rules in
     next_stays l c.args.self.now.above.items b b' n c.set_around.new.self (search rules) (search rules) (search rules)
     (λ k h P y.
@@ -51,7 +51,7 @@ returns-then-not-has_nodes-clause-kept c =
     let b = c.args.self.now.inner in
     let g = c.in_ok-following.texts in
     let m = c.lay_out_own.new.self in
-    let b' : Block = record { nodes = with_item b.nodes b.at c.set_around.new.self; at = b.at + 1; level = b.level; before = b.before; next = c.in_ok-following.following; around = b.around } in
+    let b' : LayoutFrame = record { nodes = with_item b.nodes b.at c.set_around.new.self; at = b.at + 1; level = b.level; before = b.before; next = c.in_ok-following.following; around = b.around } in
     let same = ap bare_node c.set_around.ensures ∙ bare_enclosed g m (map node_tree (child_nodes m)) ∙ sym (ap bare_node (node_is m)) ∙ c.lay_out_own.ensures.kept in
     bare_next c.args.self.now.above.items b b' c.index_mut-node.result.now c.set_around.new.self (search rules) (search rules) same (search rules)
 
@@ -59,7 +59,7 @@ pub returns-then-not-has_nodes-clause-goes_on : goal.returns-then-not-has_nodes-
 returns-then-not-has_nodes-clause-goes_on c =
     let b = c.args.self.now.inner in
     let g = c.in_ok-following.texts in
-    let b' : Block = record { nodes = with_item b.nodes b.at c.set_around.new.self; at = b.at + 1; level = b.level; before = b.before; next = c.in_ok-following.following; around = b.around } in
+    let b' : LayoutFrame = record { nodes = with_item b.nodes b.at c.set_around.new.self; at = b.at + 1; level = b.level; before = b.before; next = c.in_ok-following.following; around = b.around } in
     let is : chars c.as_str.result.now ≡ text_of b.before = search rules in
     line_goes_on c.args.layout.now c.args.self.now.above.items b b' c.in_ok-following.first g c.index_mut-node.result.now c.lay_out_own.new.self c.set_around.new.self (search rules) (search rules) (search rules) (search rules) (search rules) (search rules)
     c.lay_out_own.ensures.block (λ h. search rules) c.set_around.ensures (λ e. c.in_ok-following.ensures.spaced (is ∙ e))

@@ -4,7 +4,7 @@ use Rattle.kdl_fmt.specs.Config.{settings}
 use Rattle.kdl_fmt.specs.Formatted.{bare_node}
 use Rattle.kdl.specs.Internal.Spacing.{GoesOn, StayAs, braces_of, enclosed, lined, whole, with_braces}
 use Rattle.kdl.specs.Tree.{node_tree}
-use Rattle.kdl.specs.declared.layout.Block.{Block}
+use Rattle.kdl.specs.declared.layout.LayoutFrame.{LayoutFrame}
 use Rattle.kdl.proofs.LayingOut.BlockSteps.{filled_exchanged, end_bare, end_whole_none, end_goes_on_there, end_goes_on_none}
 use Rattle.kdl.proofs.LayingOut.StaysReading.{Steps, end_stays, stay_same}
 use Rattle.kdl.proofs.layout.Blocks.leave.Goals as goal
@@ -17,7 +17,7 @@ returns-in-Some-clause-kept c =
     let e = r.ensures in
     let n = c.in-Some.node.now in
     let m = c.set_around.new.self in
-    let b : Block = record { nodes = with_item o.nodes o.at m; at = o.at + 1; level = o.level; before = o.before; next = o.next; around = c.take-around.new.self } in
+    let b : LayoutFrame = record { nodes = with_item o.nodes o.at m; at = o.at + 1; level = o.level; before = o.before; next = o.next; around = c.take-around.new.self } in
     let taken : c.take-around.result ≡ o.around = search rules in
     let tree = c.set_around.ensures
     ∙ ap (with_braces (braces_of c.take-around.result)) (filled_exchanged n c.exchange_nodes.new.self r.result.nodes (lined c.take-around.result) c.exchange_nodes.ensures.has)
@@ -34,7 +34,7 @@ returns-in-Some-clause-goes_on c all s =
     let e = r.ensures in
     let n = c.in-Some.node.now in
     let m = c.set_around.new.self in
-    let b : Block = record { nodes = with_item o.nodes o.at m; at = o.at + 1; level = o.level; before = o.before; next = o.next; around = c.take-around.new.self } in
+    let b : LayoutFrame = record { nodes = with_item o.nodes o.at m; at = o.at + 1; level = o.level; before = o.before; next = o.next; around = c.take-around.new.self } in
     let taken : c.take-around.result ≡ o.around = search rules in
     let tree = c.set_around.ensures
     ∙ ap (with_braces (braces_of c.take-around.result)) (filled_exchanged n c.exchange_nodes.new.self r.result.nodes (lined c.take-around.result) c.exchange_nodes.ensures.has)
@@ -51,7 +51,7 @@ returns-in-Some-clause-stays c all l ok =
     let e = r.ensures in
     let n = c.in-Some.node.now in
     let m = c.set_around.new.self in
-    let b : Block = record { nodes = with_item o.nodes o.at m; at = o.at + 1; level = o.level; before = o.before; next = o.next; around = c.take-around.new.self } in
+    let b : LayoutFrame = record { nodes = with_item o.nodes o.at m; at = o.at + 1; level = o.level; before = o.before; next = o.next; around = c.take-around.new.self } in
     let taken : c.take-around.result ≡ o.around = search rules in
     let tree = c.set_around.ensures
     ∙ ap (with_braces (braces_of c.take-around.result)) (filled_exchanged n c.exchange_nodes.new.self r.result.nodes (lined c.take-around.result) c.exchange_nodes.ensures.has)

@@ -1,5 +1,5 @@
 use Rattle.kdl_diagnostics.proofs.NotedSpans.{opened_more, opened_same, span_at}
-use Rattle.kdl_diagnostics.proofs.front.Front.open_block.Goals as goal
+use Rattle.kdl_diagnostics.proofs.front.Prefix.open_block.Goals as goal
 
 pub returns-in_err-push-clause-keeps : goal.returns-in_err-push-clause-keeps
 returns-in_err-push-clause-keeps c text x u v = record {

@@ -5,7 +5,7 @@ use Rattle.kdl_diagnostics.specs.Internal.Outsets.{EndsBefore, text_view}
 use Rattle.kdl_diagnostics.specs.declared.text_control.TextControl.{TextControl}
 use Rattle.kdl_diagnostics.proofs.FrontEnds.{at_the_text_end, ends_over, new_matched, no_token_here, over_token, refused, starts, stopped_at_end, stopped_before}
 use Rattle.kdl_diagnostics.proofs.FrontReads.{begun, front_begins, front_goes_on, front_counts, front_ends, front_lies, nearer, token_lies, token_end_lies}
-use Rattle.kdl_diagnostics.proofs.front.Front.read.Goals as goal
+use Rattle.kdl_diagnostics.proofs.front.Prefix.read.Goals as goal
 
 pub tokens-init : goal.tokens-init
 tokens-init c =

@@ -3,7 +3,7 @@ use Rattle.kdl_lexer.specs.Internal.Handed.{kind_view}
 use Rattle.kdl_diagnostics.specs.Internal.Outsets.{depth, text_view}
 use Rattle.kdl_diagnostics.specs.declared.text_control.TextControl.{TextControl}
 use Rattle.kdl_diagnostics.proofs.FrontEnds.{matched}
-use Rattle.kdl_diagnostics.proofs.front.Front.take.Goals as goal
+use Rattle.kdl_diagnostics.proofs.front.Prefix.take.Goals as goal
 
 pub returns-in_err-note-clause-keeps : goal.returns-in_err-note-clause-keeps
 returns-in_err-note-clause-keeps c text x u v = c.note.ensures.keeps text (record { whole = x.whole; left = x.left; place = x.place; from = x.from; blocks = x.blocks }) u v

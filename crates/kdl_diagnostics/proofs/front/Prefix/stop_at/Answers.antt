@@ -2,7 +2,7 @@ use Rattle.std.proofs.Common.{refl, ap}
 use Rattle.kdl_text.specs.Internal.Here.{Position}
 use Rattle.kdl_diagnostics.proofs.FrontEnds.{ends_at}
 use Rattle.kdl_diagnostics.proofs.NotedSpans.{same_lies}
-use Rattle.kdl_diagnostics.proofs.front.Front.stop_at.Goals as goal
+use Rattle.kdl_diagnostics.proofs.front.Prefix.stop_at.Goals as goal
 
 pub returns-clause-keeps : goal.returns-clause-keeps
 returns-clause-keeps c text x u v = record {

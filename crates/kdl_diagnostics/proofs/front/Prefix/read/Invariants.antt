@@ -4,7 +4,7 @@ use Rattle.kdl_diagnostics.specs.Internal.Noted.{IsFrontOf}
 use Rattle.kdl_diagnostics.specs.Internal.Outsets.{EndsBefore, text_view}
 use Rattle.kdl_diagnostics.specs.TextControl.{Accepts, Takes}
 use Rattle.kdl_diagnostics.proofs.FrontReads.{Fronting}
-use Rattle.kdl_diagnostics.proofs.front.Front.read.Given as goal
+use Rattle.kdl_diagnostics.proofs.front.Prefix.read.Given as goal
 
 abbrev pub invariant-tokens : goal.invariant-tokens
 invariant-tokens l = record {

@@ -4,7 +4,7 @@ use Rattle.kdl_value.specs.Data.{text}
 use Rattle.kdl_value.specs.Tree.{value_tree}
 use Rattle.kdl_fmt.specs.Internal.Whole.{whole_view}
 use Rattle.kdl_fmt.proofs.Respelling.Spellings.{text_same, text_value_is}
-use Rattle.kdl_fmt.proofs.spelling.Whole.is_text.Goals as goal
+use Rattle.kdl_fmt.proofs.spelling.WholeText.is_text.Goals as goal
 
 pub returns-in-Some : goal.returns-in-Some
 returns-in-Some c =

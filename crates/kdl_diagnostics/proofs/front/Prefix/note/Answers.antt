@@ -1,5 +1,5 @@
 use Rattle.kdl_diagnostics.proofs.NotedSpans.{opened_less}
-use Rattle.kdl_diagnostics.proofs.front.Front.note.Goals as goal
+use Rattle.kdl_diagnostics.proofs.front.Prefix.note.Goals as goal
 
 pub returns-in-Closing-clause-keeps : goal.returns-in-Closing-clause-keeps
 returns-in-Closing-clause-keeps c text x u v = record {

@@ -1,5 +1,5 @@
 use Rattle.kdl_diagnostics.proofs.NotedSpans.{same_lies}
-use Rattle.kdl_diagnostics.proofs.front.Front.go_past.Goals as goal
+use Rattle.kdl_diagnostics.proofs.front.Prefix.go_past.Goals as goal
 
 pub returns-in_default-clause-keeps : goal.returns-in_default-clause-keeps
 returns-in_default-clause-keeps c text x u v =
