@@ -100,7 +100,7 @@ value_set path i t v s h = each_entry path i (change.SetValue v s) (ValueSet t) 
 })
 
 -- an entry that is only a value, and is laid in a text
-pub spelled_value : (t : Text) (e : Entry) (v : KdlValue) (s : String Global) → LaidEntryText true t e → IsPlain e v s → IsSpelled t v s
+pub spelled_value : (t : Text) (e : Entry) (v : KdlValue) (s : String Global) → LaidEntryText t e → IsPlain e v s → IsSpelled t v s
 spelled_value t e v s l p =
     let w = value_laid t e l p.alone in
     (subst (IsValueText t) (sym p.value) w.0, w.1 (text_of s) p.spelling)

@@ -24,7 +24,7 @@ nil_bytes true (x ∷ bs) u e = let z : suc (length bs) ≡ 0 = eqb-true (length
 nil_bytes false (x ∷ bs) u e = not_nil (chars (x ∷ bs)) (λ z. let f : x ∷ bs ≡ [] = sym (encodes-chars (x ∷ bs) u) ∙ ap encode_utf8_all z in cc)
 
 -- a text that is a value is an entry
-pub value_is_entry : (t : Text) (v : Value) → IsValueText t v → IsEntryText true t (record { key = None; ty = None; value = v })
+pub value_is_entry : (t : Text) (v : Value) → IsValueText t v → IsEntryText t (record { key = None; ty = None; value = v })
 value_is_entry t v d = entry_text (before_entry none none) (argument (value untyped d)) none
 
 -- the entry that is the value alone
@@ -37,17 +37,17 @@ alone t v = record {
   span = span_of t t [];
 }
 
-alone_laid : (t : Text) (v : Value) → IsValueText t v → LaidEntryText true t (alone t v)
+alone_laid : (t : Text) (v : Value) → IsValueText t v → LaidEntryText t (alone t v)
 unfolding alone
 alone_laid t v d = laid_entry_text (record { is = before_entry none none; text = refl }) (item no_key no_type (record { is = d; text = sym (append-nil t) })) (record { is = none; text = refl }) refl
 
 -- the entry that is laid in a text that is a value is that value alone
-pub laid_in_value : (t : Text) (v : Value) (e : Entry) → LaidEntryText true t e → IsValueText t v → is_value e ≡ true
+pub laid_in_value : (t : Text) (v : Value) (e : Entry) → LaidEntryText t e → IsValueText t v → is_value e ≡ true
 unfolding alone
 laid_in_value t v e l d = subst (λ (x : Entry). is_value x ≡ true) (one_laid_entry t (alone t v) e (alone_laid t v d) l) refl
 
 -- a text in which a value alone is laid is that value, and its spelling
-pub value_laid : (t : Text) (e : Entry) → LaidEntryText true t e → is_value e ≡ true → IsValueText t e.value × ((s : Text) → IfSome e.format (λ f. s ≡ f.value_repr) → s ≡ t)
+pub value_laid : (t : Text) (e : Entry) → LaidEntryText t e → is_value e ≡ true → IsValueText t e.value × ((s : Text) → IfSome e.format (λ f. s ≡ f.value_repr) → s ≡ t)
 value_laid t e (laid_entry_text {leading = []} {trailing = []} {t = u} {r = r} b (item {repr = repr} no_key no_type d) ls x) h =
     let at : IsPlainValue true t [] e.value = subst (λ (s : Text). IsPlainValue true s [] e.value) (sym b.text) (subst (λ (s : Text). IsPlainValue true u s e.value) ls.text d.is) in
     (at, λ s z. z ∙ sym (b.text ∙ d.text ∙ ap (λ (s : Text). repr ++ s) ls.text ∙ append-nil repr))

@@ -34,7 +34,7 @@ TypeSet o e f = f ≡ record e { ty = option_map plain_identifier o }
 -- m is n with the entry of the text t, without its format and spellings, before the entry at i, or after the last one
 pub record EntryInserted (t : Text) (i : ℕ) (n m : KdlNode) : Type 0 where
   pub given : Entry
-  pub laid : LaidEntryText true t given
+  pub laid : LaidEntryText t given
   pub entry : KdlEntry
   pub is : entry_tree entry ≡ cleared given
   pub place : i ≤ length (entries_of n)
@@ -56,7 +56,7 @@ TypeSetAt i o n m = (i ≡ 2 ^ 64 - 1 → NodeTyped o n m) × ((i ≡ 2 ^ 64 - 1
 -- m is n with the node of the text t in its block, before the node at i, or after the last one; if n has no block, m
 -- has a new one
 abbrev pub ChildInserted : Text → ℕ → KdlNode → KdlNode → Type 0
-ChildInserted t i n m = (x : KdlNode) × LaidNodeText true t (node_tree x) × ChildPut i x n m
+ChildInserted t i n m = (x : KdlNode) × LaidNodeText t (node_tree x) × ChildPut i x n m
 
 -- m is n without the node at i in its block
 pub record ChildRemoved (i : ℕ) (n m : KdlNode) : Type 0 where
@@ -71,7 +71,7 @@ pub record ChildRemoved (i : ℕ) (n m : KdlNode) : Type 0 where
 -- e is d with the node of the text t before the node at i, or after the last one
 pub record FirstInserted (t : Text) (i : ℕ) (d e : KdlDocument) : Type 0 where
   pub given : KdlNode
-  pub laid : LaidNodeText true t (node_tree given)
+  pub laid : LaidNodeText t (node_tree given)
   pub put : IsPut i (node_tree given) d e
   pub prints : PrintsPut i given d e
   pub says : document_says e ≡ said_with i (node_says given) (document_says d)

@@ -8,11 +8,11 @@ pub record IsLaidOut (d : KdlDocument) (p : Text) : Type 0 where
   pub formatted : KdlDocument
   pub laid_out : DocumentLaidOut defaults d formatted
   pub prints : document_prints formatted ≡ p
-  pub derived : IsDocument true p (document_says d)
+  pub derived : IsDocument p (document_says d)
   pub comments : CommentsStay (document_tree d) p
 
 -- p is what a document of the text t prints after it is formatted with its comments
 pub record IsTextLaidOut (t p : Text) : Type 0 where
   pub read : KdlDocument
-  pub laid : LaidDocument true (document_tree read) t
+  pub laid : LaidDocument (document_tree read) t
   pub text : IsLaidOut read p

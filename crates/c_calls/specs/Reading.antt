@@ -9,9 +9,9 @@ use Rattle.c_calls.specs.declared.given_faults.Reading.TheVariants.{Read, NotVal
 
 -- the text is a document, a node, an entry, or a value, for the kinds 0 to 3; no text is of another kind
 abbrev pub IsRead : ℕ → Text → Type 0
-IsRead zero t = (x : Nodes) × IsDocument true t x
-IsRead (suc zero) t = (x : NodeData) × IsNodeText true t x
-IsRead (suc (suc zero)) t = (x : EntryData) × IsEntryText true t x
+IsRead zero t = (x : Nodes) × IsDocument t x
+IsRead (suc zero) t = (x : NodeData) × IsNodeText t x
+IsRead (suc (suc zero)) t = (x : EntryData) × IsEntryText t x
 IsRead (suc (suc (suc zero))) t = (v : Value) × IsValueText t v
 IsRead (suc (suc (suc (suc _)))) t = ⊥
 

@@ -20,9 +20,9 @@ use std::alloc::{AllocError, Global};
 
 /// Parses a text as a node.
 pub fn node(alloc: Global, text: &[u8]) -> Result<KdlNode, Unread>
-    ensures laid { IfOk result (λ n. LaidNodeText true (chars text.now) (node_tree n)) }
+    ensures laid { IfOk result (λ n. LaidNodeText (chars text.now) (node_tree n)) }
     ensures refused { IfErr result (λ r. r ≡ Faults → (x : NodeData)
-        → IsNodeText true (chars text.now) x → ⊥) }
+        → IsNodeText (chars text.now) x → ⊥) }
     ensures utf8 { IfErr result (λ r. r ≡ NotUtf8 → IsUtf8 text.now → ⊥) }
 {
     let Ok(text) = std::str::from_utf8(text) else {
@@ -37,11 +37,11 @@ pub fn node(alloc: Global, text: &[u8]) -> Result<KdlNode, Unread>
 
 /// Parses a text as an entry.
 fn entry(alloc: Global, text: &[u8]) -> Result<KdlEntry, Unread>
-    ensures laid { IfOk result (λ e. LaidEntryText true (chars text.now) (entry_tree e)) }
-    ensures only { IfOk result (λ e. (x : EntryData) → IsEntryText true (chars text.now) x
+    ensures laid { IfOk result (λ e. LaidEntryText (chars text.now) (entry_tree e)) }
+    ensures only { IfOk result (λ e. (x : EntryData) → IsEntryText (chars text.now) x
         → x ≡ entry_data (entry_tree e)) }
     ensures refused { IfErr result (λ r. r ≡ Faults → (x : EntryData)
-        → IsEntryText true (chars text.now) x → ⊥) }
+        → IsEntryText (chars text.now) x → ⊥) }
     ensures utf8 { IfErr result (λ r. r ≡ NotUtf8 → IsUtf8 text.now → ⊥) }
 {
     let Ok(text) = std::str::from_utf8(text) else {
@@ -58,7 +58,7 @@ fn entry(alloc: Global, text: &[u8]) -> Result<KdlEntry, Unread>
 pub fn plain_entry(alloc: Global, text: &[u8]) -> Result<KdlEntry, Unread>
     ensures cleared { IfOk result (λ e. IsCleared (chars text.now) (entry_tree e)) }
     ensures refused { IfErr result (λ r. r ≡ Faults → (x : EntryData)
-        → IsEntryText true (chars text.now) x → ⊥) }
+        → IsEntryText (chars text.now) x → ⊥) }
     ensures utf8 { IfErr result (λ r. r ≡ NotUtf8 → IsUtf8 text.now → ⊥) }
 {
     let mut entry = entry(alloc, text)?;

@@ -19,7 +19,7 @@ pub fn format(document: &mut KdlDocument) -> u32
         → DocumentReadsBack document.old → DocumentReadsBack document.new }
     ensures formatted { result ≡ 0 → DocumentLaidOut defaults document.old document.new }
     ensures derived { result ≡ 0 → DocumentKeepsNoForm document.old
-        → IsDocument true (document_prints document.new) (document_says document.old) }
+        → IsDocument (document_prints document.new) (document_says document.old) }
     ensures comments { result ≡ 0 → DocumentKeepsNoForm document.old
         → CommentsStay (document_tree document.old) (document_prints document.new) }
     ensures parses_nothing { result ≡ 1 → ⊥ }

@@ -24,41 +24,41 @@ use Rattle.cli.specs.declared.ask.Action.TheVariants.{Get, Set, Remove, Insert, 
 
 -- a value at the path is replaced by VALUE, and no other byte of the text; without `create`, there is one
 abbrev pub IsSet : Path → List ℕ → Bool → List ℕ → List ℕ → Type 0
-IsSet p value create text new = (x : Nodes) → IsDocument true (chars text) x
+IsSet p value create text new = (x : Nodes) → IsDocument (chars text) x
     → (IsSome (at_path p x) → IsSetAt p (chars value) (chars text) (chars new)) × (create ≡ false → IsSome (at_path p x))
 
 -- the data of the new text are those of the text without what the path names, which is there
 abbrev pub IsRemoved : Path → List ℕ → List ℕ → Type 0
-IsRemoved p text new = (x : Nodes) → IsDocument true (chars text) x
-    → IsSome (named_at p x) × IsDocument true (chars new) (without p x)
+IsRemoved p text new = (x : Nodes) → IsDocument (chars text) x
+    → IsSome (named_at p x) × IsDocument (chars new) (without p x)
 
 -- NODE is one node, which the new text has at the end of the block that the path names, and which is there
 abbrev pub IsInserted : Path → List ℕ → List ℕ → List ℕ → Type 0
 IsInserted p node text new = IsInsertedAt p (chars node) (chars text) (chars new)
-    × ((x : Nodes) → IsDocument true (chars text) x → HasPlace p.steps.items x)
+    × ((x : Nodes) → IsDocument (chars text) x → HasPlace p.steps.items x)
 
 -- the new text is what the action asks for
 abbrev pub Gives : Action → List ℕ → List ℕ → Type 0
-Gives (Get path raw all) text new = all ≡ false → (x : Nodes) → IsDocument true (chars text) x → IsSome (at_path path.now x)
+Gives (Get path raw all) text new = all ≡ false → (x : Nodes) → IsDocument (chars text) x → IsSome (at_path path.now x)
 Gives (Set path value create) text new = IsSet path.now value.now create text new
 Gives (Remove path) text new = IsRemoved path.now text new
 Gives (Insert path node) text new = IsInserted path.now node.now text new
-Gives Json text new = (x : Nodes) → IsDocument true (chars text) x → new ≡ json_text x ++ (10 ∷ [])
+Gives Json text new = (x : Nodes) → IsDocument (chars text) x → new ≡ json_text x ++ (10 ∷ [])
 Gives FromJson text new = Unit {0}
 
 -- what the action asks for is not in the text
 abbrev pub IsNotThere : Action → List ℕ → Type 0
-IsNotThere (Get path raw all) text = (x : Nodes) × IsDocument true (chars text) x × (at_path path.now x ≡ None)
-IsNotThere (Set path value create) text = (x : Nodes) × IsDocument true (chars text) x × IsUnset path.now create x
-IsNotThere (Remove path) text = (x : Nodes) × IsDocument true (chars text) x × (named_at path.now x ≡ None)
-IsNotThere (Insert path node) text = (x : Nodes) × IsDocument true (chars text) x × (HasPlace path.now.steps.items x → ⊥)
+IsNotThere (Get path raw all) text = (x : Nodes) × IsDocument (chars text) x × (at_path path.now x ≡ None)
+IsNotThere (Set path value create) text = (x : Nodes) × IsDocument (chars text) x × IsUnset path.now create x
+IsNotThere (Remove path) text = (x : Nodes) × IsDocument (chars text) x × (named_at path.now x ≡ None)
+IsNotThere (Insert path node) text = (x : Nodes) × IsDocument (chars text) x × (HasPlace path.now.steps.items x → ⊥)
 IsNotThere Json text = ⊥
 IsNotThere FromJson text = (x : Nodes) → AreWellFormed x → IsJsonOf text x → ⊥
 
 -- VALUE is no value, NODE is no node, or the path names no node where it has to
 abbrev pub IsMisused : Action → Type 0
 IsMisused (Set path value create) = (v : Value) → IsValueText (chars value.now) v → ⊥
-IsMisused (Insert path node) = (path.now.target ≡ Node → ⊥) ⊎ ((y : NodeData) → IsNodeText true (chars node.now) y → ⊥)
+IsMisused (Insert path node) = (path.now.target ≡ Node → ⊥) ⊎ ((y : NodeData) → IsNodeText (chars node.now) y → ⊥)
 IsMisused _ = ⊥
 
 -- the text is no document, where the action needs one

@@ -19,8 +19,8 @@ status_found Memory = Failed
 
 -- what is found in a file with these bytes; nothing is said if that failed
 abbrev pub IsCheck : List ℕ → Checked → Type 0
-IsCheck bytes Sound = IsUtf8 bytes × ((x : Nodes) × IsDocument true (chars bytes) x)
-IsCheck bytes (Faulty n) = IsUtf8 bytes × (0 < n) × ((x : Nodes) → IsDocument true (chars bytes) x → ⊥)
+IsCheck bytes Sound = IsUtf8 bytes × ((x : Nodes) × IsDocument (chars bytes) x)
+IsCheck bytes (Faulty n) = IsUtf8 bytes × (0 < n) × ((x : Nodes) → IsDocument (chars bytes) x → ⊥)
 IsCheck bytes NotUtf8 = IsUtf8 bytes → ⊥
 IsCheck bytes _ = Unit {0}
 

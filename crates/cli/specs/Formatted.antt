@@ -20,7 +20,7 @@ layout_settings s = record defaults { indent = indent_text s.indent }
 pub record IsFormatted (s : Settings) (text out : Text) : Type 0 where
   pub before : Document
   pub after : Document
-  pub laid : LaidDocument true before text
+  pub laid : LaidDocument before text
   pub formatted : IsLaidDocument (not s.respell) (not s.expand) s.blank_lines (layout_settings s) 0 before after
   pub prints : out ≡ print_document after 0
   pub comments : CommentsStay before out

@@ -37,7 +37,7 @@ worst_code mode (o ∷ os) = max (code_of (status_of mode o)) (worst_code mode o
 abbrev pub IsOutcome : Settings → List ℕ → Outcome → Type 0
 IsOutcome s bytes Unchanged = IsUtf8 bytes × IsFormatted s (chars bytes) (chars bytes)
 IsOutcome s bytes Changed = IsUtf8 bytes × ((out : List ℕ) × IsFormatted s (chars bytes) (chars out) × (out ≡ bytes → ⊥))
-IsOutcome s bytes Refused = IsUtf8 bytes × ((x : Nodes) → IsDocument true (chars bytes) x → ⊥)
+IsOutcome s bytes Refused = IsUtf8 bytes × ((x : Nodes) → IsDocument (chars bytes) x → ⊥)
 IsOutcome s bytes NotUtf8 = IsUtf8 bytes → ⊥
 IsOutcome s bytes _ = Unit {0}
 

@@ -36,7 +36,7 @@ pub enum Unfit {
 /// Each is there at most once, with one argument and without properties, type and block.
 pub fn given(alloc: Global, text: &str) -> Result<Given, Unfit>
     // A refused text is not a document.
-    ensures { IsRefused result → (x : Nodes) → IsDocument true (chars text.now) x → ⊥ }
+    ensures { IsRefused result → (x : Nodes) → IsDocument (chars text.now) x → ⊥ }
 {
     let document = match KdlDocument::parse(alloc, text) {
         Ok(document) => document,

@@ -15,12 +15,12 @@ use std::alloc::Global;
 /// Returns `Syntax` with the faults of the text if it is not a document, and `Memory` if an allocation fails.
 pub fn formatted(alloc: Global, text: &str, settings: &Settings) -> Result<String, ParseFailure>
     // The output is a document with the data of the text, and no others.
-    ensures says { IfOk result (λ out. (x : Nodes) → IsDocument true (chars text.now) x
-        → IsDocument true (text_of out) x) }
+    ensures says { IfOk result (λ out. (x : Nodes) → IsDocument (chars text.now) x
+        → IsDocument (text_of out) x) }
     // It is what layout makes of the text's document: its comments are kept, and a second layout changes nothing.
     ensures laid_out { IfOk result (λ out. IsFormatted settings.now (chars text.now) (text_of out)) }
     // A refused text is not a document, and the error has its faults.
-    ensures refused { IsSyntax result → (x : Nodes) → IsDocument true (chars text.now) x → ⊥ }
+    ensures refused { IsSyntax result → (x : Nodes) → IsDocument (chars text.now) x → ⊥ }
     ensures told { TellsOnSyntax text.now result }
 {
     printed_reads_once();
@@ -43,7 +43,7 @@ pub fn formatted(alloc: Global, text: &str, settings: &Settings) -> Result<Strin
 pub fn would_change(alloc: Global, text: &str, settings: &Settings) -> Result<bool, ParseFailure>
     ensures changes { IfOk result (λ b. (out : List ℕ)
         × IsFormatted settings.now (chars text.now) (chars out) × (IsTrue b ↔ (out ≡ text.now → ⊥))) }
-    ensures refused { IsSyntax result → (x : Nodes) → IsDocument true (chars text.now) x → ⊥ }
+    ensures refused { IsSyntax result → (x : Nodes) → IsDocument (chars text.now) x → ⊥ }
     ensures told { TellsOnSyntax text.now result }
 {
     let out = formatted(alloc, text, settings)?;

@@ -28,7 +28,7 @@ pub fn get<'a>(
 
 /// Returns the text with VALUE in place of the value at the PATH.
 pub fn set(alloc: Global, text: &str, path: &Path, value: &str) -> Result<String, EditFailure>
-    ensures set { IfOk result (λ out. (x : Nodes) → IsDocument true (chars text.now) x
+    ensures set { IfOk result (λ out. (x : Nodes) → IsDocument (chars text.now) x
         → IsSome (at_path path.now x)
         → IsSetAt path.now (chars value.now) (chars text.now) (text_of out)) }
     ensures fails { IfErr result

@@ -4,7 +4,7 @@ use Rattle.kdl_text.specs.Chars.{Text}
 use Rattle.kdl_text.specs.declared.span.SourceSpan.{SourceSpan}
 use Rattle.kdl_entry.specs.Laid.{LaidEntry, laid_entry}
 use Rattle.kdl_entry.specs.Tree.{Entry}
-use Rattle.kdl_grammar.specs.Laid.{LaidEntries, no_entry, an_entry, LaidNode, laid_node, LaidChildren, no_block, a_block, LaidNodes, no_node, a_node, LaidContent, without_nodes, with_nodes, LaidDocument, LaidNodeText, with_bom}
+use Rattle.kdl_grammar.specs.Laid.{LaidEntries, no_entry, an_entry, LaidNode, laid_node, LaidChildren, no_block, a_block, LaidNodes, no_node, a_node, LaidContent, without_nodes, with_nodes, LaidDocumentAs, LaidNodeTextAs, with_bom}
 use Rattle.kdl_grammar.specs.Tree.{Node, Children, Document, Nodes}
 use Rattle.kdl_fmt.specs.Kept.{is_kept_format}
 use Rattle.kdl_fmt.specs.Formatted.{EntriesKeepNone, NodeKeepsNone, ChildrenKeepNone, DocumentKeepsNone, NodesKeepNone}
@@ -37,9 +37,9 @@ bom_keeps_none : {exact : Bool} {whole : Text} {d : Document} {s r : Text} → L
 bom_keeps_none (without_nodes g z) h = h
 bom_keeps_none (with_nodes ns g z) h = h
 
-pub laid_keeps_none : (exact : Bool) (d : Document) (t : Text) → LaidDocument exact d t → DocumentKeepsNone d
-laid_keeps_none exact d t (LaidDocument.no_bom c) = content_keeps_none exact t c
-laid_keeps_none exact d t (LaidDocument.after_bom {t = u} c) = bom_keeps_none c (content_keeps_none exact t c)
+pub laid_keeps_none : (exact : Bool) (d : Document) (t : Text) → LaidDocumentAs exact d t → DocumentKeepsNone d
+laid_keeps_none exact d t (LaidDocumentAs.no_bom c) = content_keeps_none exact t c
+laid_keeps_none exact d t (LaidDocumentAs.after_bom {t = u} c) = bom_keeps_none c (content_keeps_none exact t c)
 
-pub laid_node_keeps_none : (exact : Bool) (n : Node) (t : Text) → LaidNodeText exact t n → NodeKeepsNone n
-laid_node_keeps_none exact n t (LaidNodeText.laid_node_text g l e z s) = node_keeps_none exact t l
+pub laid_node_keeps_none : (exact : Bool) (n : Node) (t : Text) → LaidNodeTextAs exact t n → NodeKeepsNone n
+laid_node_keeps_none exact n t (LaidNodeTextAs.laid_node_text g l e z s) = node_keeps_none exact t l

@@ -6,7 +6,7 @@ use Rattle.kdl_text.specs.declared.span.SourceSpan.{SourceSpan}
 use Rattle.kdl_entry.specs.Laid.{LaidEntry, laid_entry}
 use Rattle.kdl_entry.specs.Tree.{Entry, entry_tree}
 use Rattle.kdl_entry.specs.declared.entry.KdlEntry.{KdlEntry}
-use Rattle.kdl_grammar.specs.Laid.{LaidEntries, no_entry, an_entry, LaidNode, laid_node, LaidChildren, no_block, a_block, LaidNodes, no_node, a_node, LaidContent, without_nodes, with_nodes, LaidDocument, with_bom}
+use Rattle.kdl_grammar.specs.Laid.{LaidEntries, no_entry, an_entry, LaidNode, laid_node, LaidChildren, no_block, a_block, LaidNodes, no_node, a_node, LaidContent, without_nodes, with_nodes, LaidDocumentAs, with_bom}
 use Rattle.kdl_grammar.specs.Tree.{Node, node, Children, no_children, children, Document, document, Nodes, none, first}
 use Rattle.kdl.specs.DocumentLookups.{nodes_of}
 use Rattle.kdl.specs.Lookups.{entries_of}
@@ -64,9 +64,9 @@ bom_laid : {exact : Bool} {whole : Text} {d : Document} {s r : Text} → LaidCon
 bom_laid (without_nodes g z) h = h
 bom_laid (with_nodes ns g z) h = h
 
-pub laid_formats : (exact : Bool) (d : Document) (t : Text) → LaidDocument exact d t → DocumentHasFormats d
-laid_formats exact d t (LaidDocument.no_bom c) = content_laid exact t c
-laid_formats exact d t (LaidDocument.after_bom {t = u} c) = bom_laid c (content_laid exact t c)
+pub laid_formats : (exact : Bool) (d : Document) (t : Text) → LaidDocumentAs exact d t → DocumentHasFormats d
+laid_formats exact d t (LaidDocumentAs.no_bom c) = content_laid exact t c
+laid_formats exact d t (LaidDocumentAs.after_bom {t = u} c) = bom_laid c (content_laid exact t c)
 
 -- so has each node of such a document in memory
 some_of : {A B : Type 0} (f : A → B) (o : Option A) → IsSome (option_map f o) → IsSome o

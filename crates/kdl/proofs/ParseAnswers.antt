@@ -24,15 +24,15 @@ use Rattle.kdl_parser.proofs.Answering.NodeTexts as node_texts
 abbrev Read : Text → Result KdlDocument ParseFailure → Type 0
 Read t r = IfOk r (λ d. AnswersDocument t (document_tree d))
 
-pub found : (t : Text) (r : Result KdlDocument ParseFailure) → Read t r → IfOk r (λ d. IsDocument true t (document_data (document_tree d)))
+pub found : (t : Text) (r : Result KdlDocument ParseFailure) → Read t r → IfOk r (λ d. IsDocument t (document_data (document_tree d)))
 found t (Ok d) a = outcomes.found t (document_tree d) a
 found t (Err e) a = tt
 
-pub only : (t : Text) (r : Result KdlDocument ParseFailure) → Read t r → IfOk r (λ d. (x : Nodes) → IsDocument true t x → x ≡ document_data (document_tree d))
+pub only : (t : Text) (r : Result KdlDocument ParseFailure) → Read t r → IfOk r (λ d. (x : Nodes) → IsDocument t x → x ≡ document_data (document_tree d))
 only t (Ok d) a = outcomes.only t (document_tree d) a
 only t (Err e) a = tt
 
-pub laid : (t : Text) (r : Result KdlDocument ParseFailure) → Read t r → IfOk r (λ d. LaidDocument true (document_tree d) t)
+pub laid : (t : Text) (r : Result KdlDocument ParseFailure) → Read t r → IfOk r (λ d. LaidDocument (document_tree d) t)
 laid t (Ok d) a = outcomes.laid t (document_tree d) a
 laid t (Err e) a = tt
 
@@ -46,25 +46,25 @@ keeps_none t (Ok d) a = laid_keeps_none true (document_tree d) t (outcomes.laid 
 keeps_none t (Err e) a = tt
 
 -- what the former language derives is derived
-pub kept : (t : Text) (x : Nodes) → ((y : Nodes) → IsDocument true t y → ⊥) → IsFormerDocument t x → ⊥
+pub kept : (t : Text) (x : Nodes) → ((y : Nodes) → IsDocument t y → ⊥) → IsFormerDocument t x → ⊥
 kept t x n i = n x (wider false i)
 
 pub former : (t : Text) (r : Result KdlDocument ParseFailure) (x : Nodes) → Read t r → IsFormerDocument t x → IfOk r (λ d. document_data (document_tree d) ≡ x)
 former t (Ok d) x a i = outcomes.former t (document_tree d) a x i
 former t (Err e) x a i = tt
 
-pub edited : (t : Text) (r : Result KdlDocument ParseFailure) → Read t r → IfOk r (λ d. (e : Document) → EachDocument IsEdited (document_tree d) e → IsDocument true (print_document e 0) (document_data e))
+pub edited : (t : Text) (r : Result KdlDocument ParseFailure) → Read t r → IfOk r (λ d. (e : Document) → EachDocument IsEdited (document_tree d) e → IsDocument (print_document e 0) (document_data e))
 edited t (Ok d) a = λ e x. edited_outcomes.edited_found t (document_tree d) e a x
 edited t (Err e) a = tt
 
 abbrev ReadNode : Text → Result KdlNode ParseFailure → Type 0
-ReadNode t r = IfOk r (λ n. LaidNodeText true t (node_tree n))
+ReadNode t r = IfOk r (λ n. LaidNodeText t (node_tree n))
 
-pub node_found : (t : Text) (r : Result KdlNode ParseFailure) → ReadNode t r → IfOk r (λ n. IsNodeText true t (node_data (node_tree n)))
+pub node_found : (t : Text) (r : Result KdlNode ParseFailure) → ReadNode t r → IfOk r (λ n. IsNodeText t (node_data (node_tree n)))
 node_found t (Ok n) l = node_texts.found t (node_tree n) l
 node_found t (Err e) l = tt
 
-pub node_only : (t : Text) (r : Result KdlNode ParseFailure) → ReadNode t r → IfOk r (λ n. (x : data'.Node) → IsNodeText true t x → x ≡ node_data (node_tree n))
+pub node_only : (t : Text) (r : Result KdlNode ParseFailure) → ReadNode t r → IfOk r (λ n. (x : data'.Node) → IsNodeText t x → x ≡ node_data (node_tree n))
 node_only t (Ok n) l = node_texts.only t (node_tree n) l
 node_only t (Err e) l = tt
 
@@ -76,7 +76,7 @@ pub node_keeps_none : (t : Text) (r : Result KdlNode ParseFailure) → ReadNode 
 node_keeps_none t (Ok n) l = laid_node_keeps_none true (node_tree n) t l
 node_keeps_none t (Err e) l = tt
 
-pub node_kept : (t : Text) (x : data'.Node) → ((y : data'.Node) → IsNodeText true t y → ⊥) → IsFormerNodeText t x → ⊥
+pub node_kept : (t : Text) (x : data'.Node) → ((y : data'.Node) → IsNodeText t y → ⊥) → IsFormerNodeText t x → ⊥
 node_kept t x n i = n x (wider_node false i)
 
 pub node_former : (t : Text) (r : Result KdlNode ParseFailure) (x : data'.Node) → ReadNode t r → IsFormerNodeText t x → IfOk r (λ n. node_data (node_tree n) ≡ x)

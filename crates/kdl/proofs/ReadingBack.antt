@@ -226,11 +226,11 @@ block_exchanged n d e h f P x =
 
 -- what is read, and what is new
 
-pub document_read : {E : Type 0} (t : Text) (r : Result KdlDocument E) → IfOk r (λ d. LaidDocument true (document_tree d) t) → IfOk r (λ d. DocumentReadsBack d)
+pub document_read : {E : Type 0} (t : Text) (r : Result KdlDocument E) → IfOk r (λ d. LaidDocument (document_tree d) t) → IfOk r (λ d. DocumentReadsBack d)
 document_read t (Ok d) l = laid_reads true t (document_tree d) l
 document_read t (Err e) l = tt
 
-pub node_read : {E : Type 0} (t : Text) (r : Result KdlNode E) → IfOk r (λ n. LaidNodeText true t (node_tree n)) → IfOk r (λ n. NodeReads TextEnd (node_tree n))
+pub node_read : {E : Type 0} (t : Text) (r : Result KdlNode E) → IfOk r (λ n. LaidNodeText t (node_tree n)) → IfOk r (λ n. NodeReads TextEnd (node_tree n))
 node_read t (Ok n) l = laid_node_reads true t (node_tree n) l
 node_read t (Err e) l = tt
 
@@ -240,10 +240,10 @@ new_document_reads d e = subst DocumentReads (sym e) (DocumentReads.no_bom (one_
 pub new_block_reads : (d : KdlDocument) → document_tree d ≡ new_document → BlockReadsBack d
 new_block_reads d e = subst BlockReads (sym e) (block (one_text (λ r p. no_gap)))
 
-pub new_node_ends : (n : KdlNode) (name : Identifier) → node_tree n ≡ new_node name → IsIdentifierText true (print_identifier name) name.value → NodeEnds n
+pub new_node_ends : (n : KdlNode) (name : Identifier) → node_tree n ≡ new_node name → IsIdentifierText (print_identifier name) name.value → NodeEnds n
 new_node_ends n name e i = subst (λ (x : Node). NodeReads Anything x) (sym e) (new_reads name no_span i)
 
-unspelled_name : (name : Identifier) (o : Option Text) → o ≡ None → list_all is_scalar name.value ≡ true → IsIdentifierText true (print_identifier (record name { repr = o })) name.value
+unspelled_name : (name : Identifier) (o : Option Text) → o ≡ None → list_all is_scalar name.value ≡ true → IsIdentifierText (print_identifier (record name { repr = o })) name.value
 unspelled_name name None e ok = formless_reads_back.0 name.value ok
 unspelled_name name (Some r) e ok = absurd (cc)
 
@@ -256,16 +256,16 @@ module _ {E : Type 0} (name : KdlIdentifier) where
   unspelled_new_ends (Err x) e = tt
 
   pub spelled_new_ends : (r : Result KdlNode E) → IfOk r (λ (n : KdlNode). node_tree n ≡ new_node (identifier_tree name))
-      → IfOk r (λ (n : KdlNode). IsIdentifierText true (print_identifier (identifier_tree name)) (identifier_tree name).value → NodeEnds n)
+      → IfOk r (λ (n : KdlNode). IsIdentifierText (print_identifier (identifier_tree name)) (identifier_tree name).value → NodeEnds n)
   spelled_new_ends (Ok n) e = λ i. new_node_ends n (identifier_tree name) e i
   spelled_new_ends (Err x) e = tt
 
 -- what reads back
 
-pub document_derived : (d : KdlDocument) → DocumentReadsBack d → IsDocument true (print_document (document_tree d) 0) (document_data (document_tree d))
+pub document_derived : (d : KdlDocument) → DocumentReadsBack d → IsDocument (print_document (document_tree d) 0) (document_data (document_tree d))
 document_derived d x = reads_derived (document_tree d) x
 
-pub node_derived_alone : (n : KdlNode) → NodeReadsBack n → IsDocument true (print_node (node_tree n) 0) (data'.first (node_data (node_tree n)) data'.none)
+pub node_derived_alone : (n : KdlNode) → NodeReadsBack n → IsDocument (print_node (node_tree n) 0) (data'.first (node_data (node_tree n)) data'.none)
 node_derived_alone n x = node_derived (node_tree n) x
 
 last_is_end : (t : Text) {n : Node} → NodeReads (last_rests t TextEnd) n → NodeReads TextEnd n

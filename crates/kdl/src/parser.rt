@@ -35,7 +35,7 @@ fn parse_from(alloc: Global, text: &str, steps: &mut Steps) -> Result<KdlDocumen
 
 /// Reads the node that the whole text is.
 fn read_node(alloc: Global, text: &str) -> Result<KdlNode, ParseFailure>
-    ensures laid { IfOk result (λ n. LaidNodeText true (chars text.now) (node_tree n)) }
+    ensures laid { IfOk result (λ n. LaidNodeText (chars text.now) (node_tree n)) }
     ensures parses { ParsesNode text.now result }
 {
     match read_node_text(alloc, text) {
@@ -64,18 +64,18 @@ impl KdlDocument {
     /// ```
     pub fn parse(alloc: Global, text: &str) -> Result<KdlDocument, ParseFailure>
         // The data of the document is what the grammar derives,
-        ensures found { IfOk result (λ d. IsDocument true (chars text.now) (document_says d)) }
+        ensures found { IfOk result (λ d. IsDocument (chars text.now) (document_says d)) }
         // and it derives nothing else.
-        ensures only { IfOk result (λ d. (x : Nodes) → IsDocument true (chars text.now) x
+        ensures only { IfOk result (λ d. (x : Nodes) → IsDocument (chars text.now) x
             → x ≡ document_says d) }
         // The document is located in the text, with each place in its class and each span at its piece, and prints the
         // text.
-        ensures laid { IfOk result (λ d. LaidDocument true (document_tree d) (chars text.now)) }
+        ensures laid { IfOk result (λ d. LaidDocument (document_tree d) (chars text.now)) }
         ensures prints { IfOk result (λ d. document_prints d ≡ chars text.now) }
         // No entry is flagged to keep its form.
         ensures keeps_none { IfOk result (λ d. DocumentKeepsNoForm d) }
         // A refused text is not derived, and the error has the spans of its faults.
-        ensures refused { IsSyntax result → (x : Nodes) → IsDocument true (chars text.now) x → ⊥ }
+        ensures refused { IsSyntax result → (x : Nodes) → IsDocument (chars text.now) x → ⊥ }
         ensures told { TellsOnSyntax text.now result }
         // A text of the former language is not refused, and is read as before.
         ensures kept { (x : Nodes) → IsFormerDocument (chars text.now) x → IsSyntax result → ⊥ }
@@ -85,7 +85,7 @@ impl KdlDocument {
         // node has some of its own entries, flagged or not, and entries without form.
         ensures edited { IfOk result (λ d. (e : Document)
             → EachDocument IsEdited (document_tree d) e
-            → IsDocument true (print_document e 0) (document_data e)) }
+            → IsDocument (print_document e 0) (document_data e)) }
         // It reads back, also after the edits whose contracts say so.
         ensures reads { IfOk result (λ d. DocumentReadsBack d) }
     {
@@ -109,20 +109,20 @@ impl KdlDocument {
         text: &str,
         steps: &mut Steps,
     ) -> Result<KdlDocument, ParseFailure>
-        ensures found { IfOk result (λ d. IsDocument true (chars text.now) (document_says d)) }
-        ensures only { IfOk result (λ d. (x : Nodes) → IsDocument true (chars text.now) x
+        ensures found { IfOk result (λ d. IsDocument (chars text.now) (document_says d)) }
+        ensures only { IfOk result (λ d. (x : Nodes) → IsDocument (chars text.now) x
             → x ≡ document_says d) }
-        ensures laid { IfOk result (λ d. LaidDocument true (document_tree d) (chars text.now)) }
+        ensures laid { IfOk result (λ d. LaidDocument (document_tree d) (chars text.now)) }
         ensures prints { IfOk result (λ d. document_prints d ≡ chars text.now) }
         ensures keeps_none { IfOk result (λ d. DocumentKeepsNoForm d) }
-        ensures refused { IsSyntax result → (x : Nodes) → IsDocument true (chars text.now) x → ⊥ }
+        ensures refused { IsSyntax result → (x : Nodes) → IsDocument (chars text.now) x → ⊥ }
         ensures told { TellsOnSyntax text.now result }
         ensures kept { (x : Nodes) → IsFormerDocument (chars text.now) x → IsSyntax result → ⊥ }
         ensures former { (x : Nodes) → IsFormerDocument (chars text.now) x
             → IfOk result (λ d. document_says d ≡ x) }
         ensures edited { IfOk result (λ d. (e : Document)
             → EachDocument IsEdited (document_tree d) e
-            → IsDocument true (print_document e 0) (document_data e)) }
+            → IsDocument (print_document e 0) (document_data e)) }
         ensures reads { IfOk result (λ d. DocumentReadsBack d) }
         // At least a step for each character is counted, and at most 32 for each byte and 32 more. For a refused text,
         // with its diagnostics, it is at most 184.
@@ -141,20 +141,20 @@ impl KdlDocument {
     /// let on = document.get_arg("on"); // the boolean `#true`
     /// ```
     pub fn parse_v2(alloc: Global, text: &str) -> Result<KdlDocument, ParseFailure>
-        ensures found { IfOk result (λ d. IsDocument true (chars text.now) (document_says d)) }
-        ensures only { IfOk result (λ d. (x : Nodes) → IsDocument true (chars text.now) x
+        ensures found { IfOk result (λ d. IsDocument (chars text.now) (document_says d)) }
+        ensures only { IfOk result (λ d. (x : Nodes) → IsDocument (chars text.now) x
             → x ≡ document_says d) }
-        ensures laid { IfOk result (λ d. LaidDocument true (document_tree d) (chars text.now)) }
+        ensures laid { IfOk result (λ d. LaidDocument (document_tree d) (chars text.now)) }
         ensures prints { IfOk result (λ d. document_prints d ≡ chars text.now) }
         ensures keeps_none { IfOk result (λ d. DocumentKeepsNoForm d) }
-        ensures refused { IsSyntax result → (x : Nodes) → IsDocument true (chars text.now) x → ⊥ }
+        ensures refused { IsSyntax result → (x : Nodes) → IsDocument (chars text.now) x → ⊥ }
         ensures told { TellsOnSyntax text.now result }
         ensures kept { (x : Nodes) → IsFormerDocument (chars text.now) x → IsSyntax result → ⊥ }
         ensures former { (x : Nodes) → IsFormerDocument (chars text.now) x
             → IfOk result (λ d. document_says d ≡ x) }
         ensures edited { IfOk result (λ d. (e : Document)
             → EachDocument IsEdited (document_tree d) e
-            → IsDocument true (print_document e 0) (document_data e)) }
+            → IsDocument (print_document e 0) (document_data e)) }
         ensures reads { IfOk result (λ d. DocumentReadsBack d) }
     {
         KdlDocument::parse(alloc, text)
@@ -178,19 +178,19 @@ impl KdlNode {
     /// ```
     pub fn parse(alloc: Global, text: &str) -> Result<KdlNode, ParseFailure>
         // The data of the node is what the grammar derives,
-        ensures found { IfOk result (λ n. IsNodeText true (chars text.now) (node_says n)) }
+        ensures found { IfOk result (λ n. IsNodeText (chars text.now) (node_says n)) }
         // and it derives nothing else.
-        ensures only { IfOk result (λ n. (x : data'.Node) → IsNodeText true (chars text.now) x
+        ensures only { IfOk result (λ n. (x : data'.Node) → IsNodeText (chars text.now) x
             → x ≡ node_says n) }
         // The node is located in the text, with each place in its class and each span at its piece, and prints the
         // text.
-        ensures laid { IfOk result (λ n. LaidNodeText true (chars text.now) (node_tree n)) }
+        ensures laid { IfOk result (λ n. LaidNodeText (chars text.now) (node_tree n)) }
         ensures prints { IfOk result (λ n. node_prints n ≡ chars text.now) }
         // No entry is flagged to keep its form.
         ensures keeps_none { IfOk result (λ n. NodeKeepsNoForm n) }
         // A refused text is not derived, and the error has the spans of its faults.
         ensures refused { IsSyntax result → (x : data'.Node)
-            → IsNodeText true (chars text.now) x → ⊥ }
+            → IsNodeText (chars text.now) x → ⊥ }
         ensures told { TellsOnSyntax text.now result }
         // A text of the former language is not refused, and is read as before.
         ensures kept { (x : data'.Node) → IsFormerNodeText (chars text.now) x

@@ -37,8 +37,8 @@ pub extern "C" fn kdl_faults(
     ensures nothing { (result ≡ 1 → ⊥) → ListsNothing
         out.old out.new count.new strings.old strings.new string_len.new }
     ensures utf8 { result ≡ 2 → IsUtf8 text.now → ⊥ }
-    ensures refused { result ≡ 1 → (x : Nodes) → IsDocument true (chars text.now) x → ⊥ }
-    ensures accepted { result ≡ 0 → (x : Nodes) × IsDocument true (chars text.now) x }
+    ensures refused { result ≡ 1 → (x : Nodes) → IsDocument (chars text.now) x → ⊥ }
+    ensures accepted { result ≡ 0 → (x : Nodes) × IsDocument (chars text.now) x }
 {
     *count = 0;
     *string_len = 0;
@@ -125,8 +125,8 @@ pub extern "C" fn kdl_reports(
     ensures nothing { (result ≡ 1 → ⊥) → ListsNothing
         out.old out.new count.new strings.old strings.new string_len.new }
     ensures utf8 { result ≡ 2 → IsUtf8 text.now → ⊥ }
-    ensures refused { result ≡ 1 → (x : Nodes) → IsDocument true (chars text.now) x → ⊥ }
-    ensures accepted { result ≡ 0 → (x : Nodes) × IsDocument true (chars text.now) x }
+    ensures refused { result ≡ 1 → (x : Nodes) → IsDocument (chars text.now) x → ⊥ }
+    ensures accepted { result ≡ 0 → (x : Nodes) × IsDocument (chars text.now) x }
 {
     *count = 0;
     *string_len = 0;

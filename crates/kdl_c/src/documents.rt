@@ -18,15 +18,15 @@ use std::alloc::Global;
 pub extern "C" fn kdl_parse(alloc: Global, text: &[u8], document: &mut Handle) -> u32
     ensures there { result ≡ 0 → IsSome document.new.held.document }
     ensures found { result ≡ 0 → IfSome document.new.held.document (λ d.
-        IsDocument true (chars text.now) (document_says d)) }
+        IsDocument (chars text.now) (document_says d)) }
     ensures only { result ≡ 0 → IfSome document.new.held.document (λ d. (x : Nodes)
-        → IsDocument true (chars text.now) x → x ≡ document_says d) }
+        → IsDocument (chars text.now) x → x ≡ document_says d) }
     ensures laid { result ≡ 0 → IfSome document.new.held.document (λ d.
-        LaidDocument true (document_tree d) (chars text.now)) }
+        LaidDocument (document_tree d) (chars text.now)) }
     ensures prints { result ≡ 0 → IfSome document.new.held.document (λ d.
         document_prints d ≡ chars text.now) }
     ensures utf8 { result ≡ 2 → IsUtf8 text.now → ⊥ }
-    ensures refused { result ≡ 1 → (x : Nodes) → IsDocument true (chars text.now) x → ⊥ }
+    ensures refused { result ≡ 1 → (x : Nodes) → IsDocument (chars text.now) x → ⊥ }
     ensures kept { (result ≡ 0 → ⊥) → document.new.held.document ≡ document.old.held.document }
     ensures statuses { IsAmong (0 ∷ 1 ∷ 2 ∷ 3 ∷ []) result }
 {

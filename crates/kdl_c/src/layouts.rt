@@ -22,7 +22,7 @@ pub extern "C" fn kdl_format(alloc: Global, document: &mut Handle) -> u32
     ensures formatted { result ≡ 0 → Each (λ d e. DocumentLaidOut defaults d e)
         document.old.held.document document.new.held.document }
     ensures derived { result ≡ 0 → Each (λ d e. DocumentKeepsNoForm d
-        → IsDocument true (document_prints e) (document_says d))
+        → IsDocument (document_prints e) (document_says d))
         document.old.held.document document.new.held.document }
     ensures comments { result ≡ 0 → Each (λ d e. DocumentKeepsNoForm d
         → CommentsStay (document_tree d) (document_prints e))
@@ -67,7 +67,7 @@ pub extern "C" fn kdl_format_text(
 ) -> u32
     ensures kept { (result ≡ 0 → ⊥) → out.new ≡ out.old }
     ensures utf8 { result ≡ 2 → IsUtf8 text.now → ⊥ }
-    ensures refused { result ≡ 1 → (x : Nodes) → IsDocument true (chars text.now) x → ⊥ }
+    ensures refused { result ≡ 1 → (x : Nodes) → IsDocument (chars text.now) x → ⊥ }
     ensures written { result ≡ 0 → (p : Text) × IsTextLaidOut (chars text.now) p
         × (out.new ≡ encode_utf8_all p ++ drop (length (encode_utf8_all p)) out.old)
         × (needed.new ≡ length (encode_utf8_all p)) }

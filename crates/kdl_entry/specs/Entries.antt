@@ -1,6 +1,6 @@
 -- Strings, types, values and entries as they are written (KDL 2.0.0, String, Value, Type Annotation, Argument, Property).
 -- `X wide s r x`: an X begins the text s, leaves r, and represents x. Where `wide` holds, a slashdash ends a value.
-use Rattle.std.specs.Prelude.{Bool, [], ◌∷◌, Option, Some, None}
+use Rattle.std.specs.Prelude.{Bool, true, [], ◌∷◌, Option, Some, None}
 use Rattle.kdl_text.specs.Chars.{Text, Star, Plus}
 use Rattle.kdl_text.specs.Trivia.{NodeSpace, LineSpace, Slashdash, ValueEnd}
 use Rattle.kdl_value.specs.Data.{Value, text}
@@ -36,8 +36,12 @@ pub data IsEntry (wide : Bool) : Text → Text → Entry → Type 0 where
   argument : {s r : Text} {y : Option Text} {v : Value} → IsValue wide s r y v → IsEntry wide s r (record { key = None; ty = y; value = v })
 
 -- the whole text is one string
-abbrev pub IsIdentifierText : Bool → Text → Text → Type 0
-IsIdentifierText wide t v = IsString wide t [] v
+abbrev pub IsIdentifierTextIn : Bool → Text → Text → Type 0
+IsIdentifierTextIn wide t v = IsString wide t [] v
+
+-- an identifier text of the present language
+abbrev pub IsIdentifierText : Text → Text → Type 0
+IsIdentifierText t v = IsIdentifierTextIn true t v
 
 -- a slashdash, and the entry that it drops, before node-spaces
 pub data DroppedFirst (wide : Bool) : Text → Text → Type 0 where
@@ -48,5 +52,9 @@ pub data BeforeEntry (wide : Bool) : Text → Text → Type 0 where
   before_entry : {s t r : Text} → Star LineSpace s t → Star (DroppedFirst wide) t r → BeforeEntry wide s r
 
 -- the whole text is one entry, with line-spaces and slashdashed entries before it, and line-spaces after it
-pub data IsEntryText (wide : Bool) : Text → Entry → Type 0 where
-  entry_text : {t u r : Text} {e : Entry} → BeforeEntry wide t u → IsEntry wide u r e → Star LineSpace r [] → IsEntryText wide t e
+pub data IsEntryTextIn (wide : Bool) : Text → Entry → Type 0 where
+  entry_text : {t u r : Text} {e : Entry} → BeforeEntry wide t u → IsEntry wide u r e → Star LineSpace r [] → IsEntryTextIn wide t e
+
+-- an entry text of the present language
+abbrev pub IsEntryText : Text → Entry → Type 0
+IsEntryText t e = IsEntryTextIn true t e

@@ -30,4 +30,4 @@ formed e = record e { ty = option_map formed_identifier e.ty; name = option_map 
 
 -- a printed string is an identifier with that string, and what an entry without format and spelling prints is an entry with its data
 abbrev pub FormlessReadsBack : Type 0
-FormlessReadsBack = ((s : Text) → list_all is_scalar s ≡ true → IsIdentifierText true (spelled s) s) × ((e : Entry) → IsFormless e → IsEntryText true (print_entry e) (entry_data e))
+FormlessReadsBack = ((s : Text) → list_all is_scalar s ≡ true → IsIdentifierText (spelled s) s) × ((e : Entry) → IsFormless e → IsEntryText (print_entry e) (entry_data e))

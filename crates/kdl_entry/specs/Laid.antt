@@ -54,10 +54,18 @@ pub data LaidEntry (exact : Bool) (whole : Text) : Entry → Text → Text → T
       → LaidEntry exact whole e s r
 
 -- an identifier that is the whole text
-abbrev pub LaidIdentifierText : Bool → Identifier → Text → Type 0
-LaidIdentifierText exact i t = LaidIdentifier exact t i t []
+abbrev pub LaidIdentifierTextAs : Bool → Identifier → Text → Type 0
+LaidIdentifierTextAs exact i t = LaidIdentifier exact t i t []
+
+-- the same with its span
+abbrev pub LaidIdentifierText : Identifier → Text → Type 0
+LaidIdentifierText i t = LaidIdentifierTextAs true i t
 
 -- an entry that is the whole text, which is its span
-pub data LaidEntryText (exact : Bool) (whole : Text) : Entry → Type 0 where
+pub data LaidEntryTextAs (exact : Bool) (whole : Text) : Entry → Type 0 where
   laid_entry_text : {leading trailing t r : Text} {at : SourceSpan} {e : Entry} → Is (BeforeEntry true) leading whole t → LaidItem exact whole leading trailing at e t r
-      → Is (Star LineSpace) trailing r [] → Spanned exact at (span_of whole whole []) → LaidEntryText exact whole e
+      → Is (Star LineSpace) trailing r [] → Spanned exact at (span_of whole whole []) → LaidEntryTextAs exact whole e
+
+-- the same with its spans
+abbrev pub LaidEntryText : Text → Entry → Type 0
+LaidEntryText t e = LaidEntryTextAs true t e

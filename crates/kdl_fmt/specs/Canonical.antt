@@ -53,12 +53,12 @@ canonical_text ns = canonical without_comments.indent 0 ns
 
 -- the canonical text of the data is a document with these data only, and no other data have the same canonical text
 pub record Canonical (indent : Text) (level : ℕ) (x : Nodes) : Type 0 where
-  pub derived : IsDocument true (canonical indent level x) x
-  pub alone : (y : Nodes) → IsDocument true (canonical indent level x) y → y ≡ x
+  pub derived : IsDocument (canonical indent level x) x
+  pub alone : (y : Nodes) → IsDocument (canonical indent level x) y → y ≡ x
   pub apart : (y : Nodes) → AreWellFormed y → canonical indent level y ≡ canonical indent level x → y ≡ x
 
 -- the same for a node
 pub record CanonicalNode (indent : Text) (level : ℕ) (x : Node) : Type 0 where
-  pub derived : IsNodeText true (canonical_node indent level x) x
-  pub alone : (y : Node) → IsNodeText true (canonical_node indent level x) y → y ≡ x
+  pub derived : IsNodeText (canonical_node indent level x) x
+  pub alone : (y : Node) → IsNodeText (canonical_node indent level x) y → y ≡ x
   pub apart : (y : Node) → IsWellFormedNode y → canonical_node indent level y ≡ canonical_node indent level x → y ≡ x

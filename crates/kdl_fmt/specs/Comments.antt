@@ -52,8 +52,8 @@ mutual
 -- each document that is laid in the text has the items of this document, each as it is on a line
 -- (the laws `has_list`, `laid_out_has_list` and `one_list` of kdl_laws: there is exactly one such list)
 abbrev pub CommentsStay : Document → Text → Type 0
-CommentsStay d t = (e : Document) (is : List Item) → DocumentItems d is → LaidDocument true e t → DocumentItems e (map on_line is)
+CommentsStay d t = (e : Document) (is : List Item) → DocumentItems d is → LaidDocument e t → DocumentItems e (map on_line is)
 
 -- the same for a node that is printed on its own
 abbrev pub NodeCommentsStay : Node → Text → Type 0
-NodeCommentsStay n t = (e : Document) (is : List Item) → NodeItems n is → LaidDocument true e t → DocumentItems e (map on_line is)
+NodeCommentsStay n t = (e : Document) (is : List Item) → NodeItems n is → LaidDocument e t → DocumentItems e (map on_line is)

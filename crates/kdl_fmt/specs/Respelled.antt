@@ -22,8 +22,8 @@ IsSpelling v t = IsPlainValue true t [] v
 
 -- of the spelling of a string s, what is kept: the spelling if it is one of s, else nothing
 pub data KeptSpelling (s : Text) : Option Text → Option Text → Type 0 where
-  kept : {t : Text} → IsIdentifierText true t s → KeptSpelling s (Some t) (Some t)
-  other : {t : Text} → (IsIdentifierText true t s → ⊥) → KeptSpelling s (Some t) None
+  kept : {t : Text} → IsIdentifierText t s → KeptSpelling s (Some t) (Some t)
+  other : {t : Text} → (IsIdentifierText t s → ⊥) → KeptSpelling s (Some t) None
   unspelled : KeptSpelling s None None
 
 -- i' is m, the identifier i as it was laid out, with the spelling of i if spellings are kept

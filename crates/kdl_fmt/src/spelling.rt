@@ -120,7 +120,7 @@ fn read_whole(alloc: Global, text: &str) -> Result<Option<WholeText<'_>>, AllocE
 /// Returns whether the text is one string that represents `value`, in any spelling.
 pub fn spells_text(alloc: Global, text: &str, value: &str) -> Result<bool, AllocError>
     ensures { IfOk result
-        (λ b. IsTrue b ↔ IsIdentifierText true (chars text.now) (chars value.now)) }
+        (λ b. IsTrue b ↔ IsIdentifierText (chars text.now) (chars value.now)) }
 {
     match read_whole(alloc, text)? {
         Some(whole) => Ok(whole.is_text(value)),

@@ -9,7 +9,7 @@ use Rattle.kdl_lexer.proofs.Lexing.TokenUnique.{no_token}
 use Rattle.kdl_lexer.proofs.Moving.Puts.{begins_first, front_first, more_first, two_parts, two_some}
 use Rattle.kdl_grammar.specs.Data.{Nodes}
 use Rattle.kdl_grammar.specs.GoingOn.{Derived, Viable, Alive, AliveInToken, DeadAtToken, DeadAtFront, RefusedAtPiece, DerivedAtEnd}
-use Rattle.kdl_grammar.specs.Grammar.{AreNodes, IsDocument}
+use Rattle.kdl_grammar.specs.Grammar.{AreNodes, IsDocument, IsDocumentIn}
 use Rattle.kdl_control.specs.Control.{Control, at, gap, accepts, finish, step}
 use Rattle.kdl_grammar.specs.Going.{Goes, here, goes, Reaches, no_bom, after_bom}
 use Rattle.kdl_grammar.proofs.Reading.Erased.{accepted_nodes}
@@ -37,12 +37,12 @@ alive p r c g = go (went p r g refl)
     go (plain h g) =
         let v = viable g in
         let same : v.before ≡ p = append_cancel_right v.before p r (sym v.text) in
-        (v.following, (v.nodes, IsDocument.no_bom (subst (λ (z : Text). AreNodes true (z ++ v.following) [] v.nodes) same v.derived)))
+        (v.following, (v.nodes, IsDocumentIn.no_bom (subst (λ (z : Text). AreNodes true (z ++ v.following) [] v.nodes) same v.derived)))
     go (marked {q = q} e g) =
         let v = viable g in
         let same : v.before ≡ q = append_cancel_right v.before q r (sym v.text) in
-        let d : IsDocument true (0xFEFF ∷ (q ++ v.following)) v.nodes = IsDocument.after_bom (subst (λ (z : Text). AreNodes true (z ++ v.following) [] v.nodes) same v.derived) in
-        (v.following, (v.nodes, subst (λ (z : Text). IsDocument true (z ++ v.following) v.nodes) (sym e) d))
+        let d : IsDocument (0xFEFF ∷ (q ++ v.following)) v.nodes = IsDocumentIn.after_bom (subst (λ (z : Text). AreNodes true (z ++ v.following) [] v.nodes) same v.derived) in
+        (v.following, (v.nodes, subst (λ (z : Text). IsDocument (z ++ v.following) v.nodes) (sym e) d))
 
 -- one token more
 following : {c d e : Control} {s r t : Text} {k : Token} → Goes c s d r → BeginsToken r k t → step d k ≡ Some e → Goes c s e t
@@ -79,9 +79,9 @@ data Parts (t : Text) : Type 0 where
   nodes : {xs : Nodes} → AreNodes true t [] xs → Parts t
   bom_nodes : {s : Text} {xs : Nodes} → t ≡ 0xFEFF ∷ s → AreNodes true s [] xs → Parts t
 
-parts : {t : Text} {xs : Nodes} → IsDocument true t xs → Parts t
-parts (IsDocument.no_bom n) = nodes n
-parts (IsDocument.after_bom n) = bom_nodes refl n
+parts : {t : Text} {xs : Nodes} → IsDocument t xs → Parts t
+parts (IsDocumentIn.no_bom n) = nodes n
+parts (IsDocumentIn.after_bom n) = bom_nodes refl n
 
 bom_first : (s t : Text) {u : Text} → first s ≡ first t → begins 0xFEFF t ≡ false → s ≡ 0xFEFF ∷ u → ⊥
 bom_first s t e h f = let x : begins 0xFEFF s ≡ false = begins_first 0xFEFF s t e ∙ h in let y : begins 0xFEFF s ≡ true = ap (begins 0xFEFF) f in cc
@@ -92,7 +92,7 @@ deep_first [] f u r some = front_first f u r some
 deep_first (c ∷ p) f u r some = refl
 
 pub dead_at_front : DeadAtFront
-dead_at_front p f r c some g n u (xs, d) = go (went p (f ++ r) g refl) (parts (subst (λ (z : Text). IsDocument true z xs) (append_assoc p f u) d))
+dead_at_front p f r c some g n u (xs, d) = go (went p (f ++ r) g refl) (parts (subst (λ (z : Text). IsDocument z xs) (append_assoc p f u) d))
   where
     go : Went p (f ++ r) c → Parts (p ++ (f ++ u)) → ⊥
     go (plain h g) (nodes m) = dead_nodes p f r some g n u m
@@ -114,10 +114,10 @@ data Ahead (c : Control) (r : Text) : Type 0 where
   ahead : {ks : List Token} → Lexes r ks → accepts c ks ≡ true → Ahead c r
 
 ahead_of : {t : Text} {c : Control} {r : Text} → Reaches t c r → Derived t → Ahead c r
-ahead_of (no_bom h g) (xs, IsDocument.no_bom m) = let x = rest_of g m in ahead x.lexed x.accepted
-ahead_of (no_bom h g) (xs, IsDocument.after_bom m) = cc
-ahead_of (after_bom g) (xs, IsDocument.no_bom m) = absurd (no_bom_nodes m)
-ahead_of (after_bom g) (xs, IsDocument.after_bom m) = let x = rest_of g m in ahead x.lexed x.accepted
+ahead_of (no_bom h g) (xs, IsDocumentIn.no_bom m) = let x = rest_of g m in ahead x.lexed x.accepted
+ahead_of (no_bom h g) (xs, IsDocumentIn.after_bom m) = cc
+ahead_of (after_bom g) (xs, IsDocumentIn.no_bom m) = absurd (no_bom_nodes m)
+ahead_of (after_bom g) (xs, IsDocumentIn.after_bom m) = let x = rest_of g m in ahead x.lexed x.accepted
 
 stuck : {c : Control} {r : Text} → NoToken r → Ahead c r → ⊥
 stuck n (ahead done a) = n.begun refl
@@ -134,5 +134,5 @@ derived_at_end t c g = (λ d. forth (ahead_of g d) refl, λ h. back g h)
     forth (ahead (next {r = r'} {k = k} b l) a) e = absurd (no_token (subst (λ (z : Text). BeginsToken z k r') e b))
 
     back : {t : Text} → Reaches t c [] → IsTrue (finish c) → Derived t
-    back (no_bom h g) f = let x = reads g done f in let (xs, n) = derives x.lexed x.accepted in (xs, IsDocument.no_bom n)
-    back (after_bom g) f = let x = reads g done f in let (xs, n) = derives x.lexed x.accepted in (xs, IsDocument.after_bom n)
+    back (no_bom h g) f = let x = reads g done f in let (xs, n) = derives x.lexed x.accepted in (xs, IsDocumentIn.no_bom n)
+    back (after_bom g) f = let x = reads g done f in let (xs, n) = derives x.lexed x.accepted in (xs, IsDocumentIn.after_bom n)

@@ -2,7 +2,7 @@
 use Rattle.std.proofs.Common.{Bool, true, false, subst}
 use Rattle.kdl_text.specs.Chars.{Text}
 use Rattle.kdl_grammar.specs.Data as data'
-use Rattle.kdl_grammar.specs.Grammar.{last_gap, node_then, IsDocument, IsNodeText, node_text}
+use Rattle.kdl_grammar.specs.Grammar.{last_gap, node_then, IsDocument, IsDocumentIn, IsNodeTextIn, node_text}
 use Rattle.kdl_grammar.specs.Internal.MachineLaws.{IsLexed, OneAnswer, AnswersDocuments, AnswersAreLaid}
 use Rattle.kdl_grammar.specs.Laws.{OneDocument, OneNode, LaidIsDerived, LaidNodeIsDerived, NodesAreLaid, FormerIsKept}
 use Rattle.kdl_grammar.proofs.Reading.Complete.{lines_gap, built_node}
@@ -15,8 +15,8 @@ pub one_document : OneDocument
 one_document wide t x y i j = erased.one_document t x y (wider wide i) (wider wide j)
 
 -- a node text is a document with that node
-as_document : {wide : Bool} {t : Text} {x : data'.Node} → IsNodeText wide t x → IsDocument wide t (data'.first x data'.none)
-as_document (node_text g x e ls) = IsDocument.no_bom (node_then g x e (last_gap (lines_gap ls)))
+as_document : {wide : Bool} {t : Text} {x : data'.Node} → IsNodeTextIn wide t x → IsDocumentIn wide t (data'.first x data'.none)
+as_document (node_text g x e ls) = IsDocumentIn.no_bom (node_then g x e (last_gap (lines_gap ls)))
 
 pub one_node : OneNode
 one_node wide t x y i j = let e = one_document wide t (data'.first x data'.none) (data'.first y data'.none) (as_document i) (as_document j) in cc
@@ -28,7 +28,7 @@ pub one_answer : OneAnswer
 one_answer t d e a b = erased.answers_det a b
 
 pub answers_documents : AnswersDocuments
-answers_documents t x = (λ i. erased.answered t x i, λ d. subst (λ (z : data'.Nodes). IsDocument true t z) d.2 (erased.sound t d.0 d.1).1)
+answers_documents t x = (λ i. erased.answered t x i, λ d. subst (λ (z : data'.Nodes). IsDocument t z) d.2 (erased.sound t d.0 d.1).1)
 
 pub answers_are_laid : AnswersAreLaid
 answers_are_laid t d a = (erased.sound t d a).0

@@ -2,12 +2,12 @@
 use Rattle.std.specs.Prelude.{false}
 use Rattle.kdl_text.specs.Chars.{Text}
 use Rattle.kdl_grammar.specs.Data.{Node, Nodes}
-use Rattle.kdl_grammar.specs.Grammar.{IsDocument, IsNodeText}
+use Rattle.kdl_grammar.specs.Grammar.{IsDocumentIn, IsNodeTextIn}
 
 -- the text is a document of the former language with these nodes
 abbrev pub IsFormerDocument : Text → Nodes → Type 0
-IsFormerDocument = IsDocument false
+IsFormerDocument = IsDocumentIn false
 
 -- the text is a node of the former language
 abbrev pub IsFormerNodeText : Text → Node → Type 0
-IsFormerNodeText = IsNodeText false
+IsFormerNodeText = IsNodeTextIn false

@@ -18,7 +18,7 @@ BeginsNoOther derived t = (u : Text) → derived (t ++ u) → ⊥
 
 -- the text is a document
 abbrev pub Derived : Text → Type 0
-Derived t = (xs : Nodes) × IsDocument true t xs
+Derived t = (xs : Nodes) × IsDocument t xs
 
 -- some document begins with the text
 abbrev pub Viable : Text → Type 0
@@ -30,7 +30,7 @@ Dead = BeginsNoOther Derived
 
 -- the text is a node
 abbrev pub DerivedNode : Text → Type 0
-DerivedNode t = (x : Node) × IsNodeText true t x
+DerivedNode t = (x : Node) × IsNodeText t x
 
 -- what the machine reads begins a document
 abbrev pub Alive : Type 0

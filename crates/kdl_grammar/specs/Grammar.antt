@@ -62,10 +62,18 @@ mutual
     braces : {s r : Text} {xs : Nodes} → AreNodes wide s (125 ∷ r) xs → IsBlock wide (123 ∷ s) r xs
 
 -- the whole text: an optional U+FEFF, and then nodes
-pub data IsDocument (wide : Bool) : Text → Nodes → Type 0 where
-  no_bom : {t : Text} {xs : Nodes} → AreNodes wide t [] xs → IsDocument wide t xs
-  after_bom : {t : Text} {xs : Nodes} → AreNodes wide t [] xs → IsDocument wide (0xFEFF ∷ t) xs
+pub data IsDocumentIn (wide : Bool) : Text → Nodes → Type 0 where
+  no_bom : {t : Text} {xs : Nodes} → AreNodes wide t [] xs → IsDocumentIn wide t xs
+  after_bom : {t : Text} {xs : Nodes} → AreNodes wide t [] xs → IsDocumentIn wide (0xFEFF ∷ t) xs
+
+-- a document of the present language
+abbrev pub IsDocument : Text → Nodes → Type 0
+IsDocument t xs = IsDocumentIn true t xs
 
 -- the whole text: a gap, a node with its terminator, and line-spaces
-pub data IsNodeText (wide : Bool) : Text → Node → Type 0 where
-  node_text : {t u v r : Text} {x : Node} → Gap wide t u → IsNode wide u v x → Terminator v r → Star LineSpace r [] → IsNodeText wide t x
+pub data IsNodeTextIn (wide : Bool) : Text → Node → Type 0 where
+  node_text : {t u v r : Text} {x : Node} → Gap wide t u → IsNode wide u v x → Terminator v r → Star LineSpace r [] → IsNodeTextIn wide t x
+
+-- a node text of the present language
+abbrev pub IsNodeText : Text → Node → Type 0
+IsNodeText t x = IsNodeTextIn true t x

@@ -85,11 +85,19 @@ abbrev pub with_bom : Document → Document
 with_bom (document f at ns) = document (Some (bom_format f)) at ns
 
 -- a document that is the whole text: an optional U+FEFF, and then its content
-pub data LaidDocument (exact : Bool) : Document → Text → Type 0 where
-  no_bom : {d : Document} {t : Text} → LaidContent exact t d t [] → LaidDocument exact d t
-  after_bom : {d : Document} {t : Text} → LaidContent exact (0xFEFF ∷ t) d t [] → LaidDocument exact (with_bom d) (0xFEFF ∷ t)
+pub data LaidDocumentAs (exact : Bool) : Document → Text → Type 0 where
+  no_bom : {d : Document} {t : Text} → LaidContent exact t d t [] → LaidDocumentAs exact d t
+  after_bom : {d : Document} {t : Text} → LaidContent exact (0xFEFF ∷ t) d t [] → LaidDocumentAs exact (with_bom d) (0xFEFF ∷ t)
+
+-- the same with its spans
+abbrev pub LaidDocument : Document → Text → Type 0
+LaidDocument d t = LaidDocumentAs true d t
 
 -- a node that is the whole text, with line-spaces after it; its span is the whole text
-pub data LaidNodeText (exact : Bool) (whole : Text) : Node → Type 0 where
+pub data LaidNodeTextAs (exact : Bool) (whole : Text) : Node → Type 0 where
   laid_node_text : {leading end trailing t u v : Text} {at : SourceSpan} {x : Node} → Is (Gap true) leading whole t → LaidNode exact whole leading end trailing at x t u
-      → Is Terminator end u v → Is (Star LineSpace) trailing v [] → Spanned exact at (span_of whole whole []) → LaidNodeText exact whole x
+      → Is Terminator end u v → Is (Star LineSpace) trailing v [] → Spanned exact at (span_of whole whole []) → LaidNodeTextAs exact whole x
+
+-- the same with its spans
+abbrev pub LaidNodeText : Text → Node → Type 0
+LaidNodeText t x = LaidNodeTextAs true t x

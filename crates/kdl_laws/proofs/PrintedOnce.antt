@@ -18,5 +18,5 @@ text_printed s t h = printed_text {E = Unit {0}} (Ok s) t h
 pub printed : (d : KdlDocument) (s : String Global) → string_bytes s ≡ encode_utf8_all (document_prints d) → text_of s ≡ document_prints d
 printed d s h = printed_text {E = Unit {0}} (Ok s) (document_prints d) h
 
-pub printed_once : (d : KdlDocument) (s : String Global) (y : Nodes) → string_bytes s ≡ encode_utf8_all (document_prints d) → DocumentReadsBack d → IsDocument true (text_of s) y → y ≡ document_says d
-printed_once d s y h reads derived = one_document true (document_prints d) y (document_says d) (subst (λ (t : Text). IsDocument true t y) (printed d s h) derived) (document_derived d reads)
+pub printed_once : (d : KdlDocument) (s : String Global) (y : Nodes) → string_bytes s ≡ encode_utf8_all (document_prints d) → DocumentReadsBack d → IsDocument (text_of s) y → y ≡ document_says d
+printed_once d s y h reads derived = one_document true (document_prints d) y (document_says d) (subst (λ (t : Text). IsDocument t y) (printed d s h) derived) (document_derived d reads)

@@ -21,7 +21,7 @@ spaces_are : list_all is_space defaults.indent ≡ true
 unfolding is_space
 spaces_are = refl
 
-pub text_laid_out : (text : Text) (d e : KdlDocument) (s : String Global) → LaidDocument true (document_tree d) text → DocumentKeepsNoForm d → DocumentLaidOut defaults d e → CommentsStay (document_tree d) (document_prints e)
+pub text_laid_out : (text : Text) (d e : KdlDocument) (s : String Global) → LaidDocument (document_tree d) text → DocumentKeepsNoForm d → DocumentLaidOut defaults d e → CommentsStay (document_tree d) (document_prints e)
     → string_bytes s ≡ encode_utf8_all (document_prints e) → IsLaidOut text (text_of s)
 text_laid_out text d e s laid none formatted comments h =
     let p = printed e s h in
@@ -36,7 +36,7 @@ text_laid_out text d e s laid none formatted comments h =
     }
 
 -- the same with blank lines
-pub text_spaced_out : (text : Text) (l : Layout) (d e : KdlDocument) (s : String Global) → settings l.config ≡ defaults → LaidDocument true (document_tree d) text → DocumentKeepsNoForm d → DocumentSpaced l d e
+pub text_spaced_out : (text : Text) (l : Layout) (d e : KdlDocument) (s : String Global) → settings l.config ≡ defaults → LaidDocument (document_tree d) text → DocumentKeepsNoForm d → DocumentSpaced l d e
     → CommentsStay (document_tree d) (document_prints e) → string_bytes s ≡ encode_utf8_all (document_prints e) → IsSpacedOut l.keep_spelling l.keep_one_line l.blank_lines text (text_of s)
 text_spaced_out text l d e s is laid none formatted comments h =
     let p = printed e s h in

@@ -23,7 +23,7 @@ use Rattle.kdl_fmt.proofs.Formatting.FormattedUnique.{formatted_det}
 -- two canonical texts are the same exactly where the data are
 pub same_texts : (indent : Text) (level : ℕ) (x y : data'.Nodes) (t u : Text) → Canonical indent level x → Canonical indent level y → t ≡ canonical indent level x → u ≡ canonical indent level y → (t ≡ u) ↔ (x ≡ y)
 same_texts indent level x y t u c d a b =
-    (λ e. sym (c.alone y (subst (λ (s : Text). IsDocument true s y) (sym b ∙ sym e ∙ a) d.derived)), λ e. a ∙ ap (canonical indent level) e ∙ sym b)
+    (λ e. sym (c.alone y (subst (λ (s : Text). IsDocument s y) (sym b ∙ sym e ∙ a) d.derived)), λ e. a ∙ ap (canonical indent level) e ∙ sym b)
 
 pub one_layout : (s : Settings) (level : ℕ) (d x y : Document) → IsFormattedDocument s level d x → IsFormattedDocument s level d y → x ≡ y
 one_layout s level d x y a b = formatted_det s level d x y a b

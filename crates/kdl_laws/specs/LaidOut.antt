@@ -13,7 +13,7 @@ use Rattle.kdl_fmt.specs.WithComments.{IsFormattedDocument}
 pub record IsLaidOut (text out : Text) : Type 0 where
   pub before : Document
   pub after : Document
-  pub laid : LaidDocument true before text
+  pub laid : LaidDocument before text
   pub formatted : IsFormattedDocument defaults 0 before after
   pub prints : out ≡ print_document after 0
   pub comments : CommentsStay before out
@@ -24,7 +24,7 @@ pub record IsLaidOut (text out : Text) : Type 0 where
 pub record IsSpacedOut (spelling line : Bool) (number : ℕ) (text out : Text) : Type 0 where
   pub before : Document
   pub after : Document
-  pub laid : LaidDocument true before text
+  pub laid : LaidDocument before text
   pub formatted : IsLaidDocument spelling line number defaults 0 before after
   pub prints : out ≡ print_document after 0
   pub comments : CommentsStay before out

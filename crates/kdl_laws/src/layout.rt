@@ -147,7 +147,7 @@ pub fn layout_without_blank_lines()
 #[tactic(auto, using(crate::proofs::TextLaidOut::text_laid_out))]
 pub fn texts_are_laid_out()
     ensures { (text : Text) (d e : KdlDocument) (s : String Global)
-        → LaidDocument true (document_tree d) text → DocumentKeepsNoForm d
+        → LaidDocument (document_tree d) text → DocumentKeepsNoForm d
         → DocumentLaidOut defaults d e → CommentsStay (document_tree d) (document_prints e)
         → string_bytes s ≡ encode_utf8_all (document_prints e) → IsLaidOut text (text_of s) }
 {}
@@ -157,7 +157,7 @@ pub fn texts_are_laid_out()
 pub fn texts_are_spaced_out()
     ensures { (text : Text) (l : Layout) (d e : KdlDocument) (s : String Global)
         → settings l.config ≡ defaults
-        → LaidDocument true (document_tree d) text → DocumentKeepsNoForm d
+        → LaidDocument (document_tree d) text → DocumentKeepsNoForm d
         → DocumentSpaced l d e → CommentsStay (document_tree d) (document_prints e)
         → string_bytes s ≡ encode_utf8_all (document_prints e)
         → IsSpacedOut l.keep_spelling l.keep_one_line l.blank_lines text (text_of s) }

@@ -28,14 +28,14 @@ ghost use Rattle.std.specs.declared.alloc.Global.{Global};
 #[tactic(auto, using(kdl::proofs::ReadingBack::document_derived))]
 pub fn document_reads_back()
     ensures { (d : KdlDocument) → DocumentReadsBack d
-        → IsDocument true (document_prints d) (document_says d) }
+        → IsDocument (document_prints d) (document_says d) }
 {}
 
 /// The text in memory that a document prints is a document with its data, if the document reads back.
 pub fn printed_reads_back()
     ensures { (d : KdlDocument) (s : String Global)
         → string_bytes s ≡ encode_utf8_all (document_prints d) → DocumentReadsBack d
-        → IsDocument true (text_of s) (document_says d) }
+        → IsDocument (text_of s) (document_says d) }
 {}
 
 /// The text in memory that a document prints has those characters, and is not a document with other data.
@@ -45,7 +45,7 @@ pub fn printed_reads_once()
         → string_bytes s ≡ encode_utf8_all (document_prints d) → text_of s ≡ document_prints d }
     ensures once { (d : KdlDocument) (s : String Global) (y : Nodes)
         → string_bytes s ≡ encode_utf8_all (document_prints d) → DocumentReadsBack d
-        → IsDocument true (text_of s) y → y ≡ document_says d }
+        → IsDocument (text_of s) y → y ≡ document_says d }
 {}
 
 /// A text in memory that is what was printed, by the contract of a call, has those characters.
@@ -59,7 +59,7 @@ pub fn printed_is_text()
 #[tactic(auto, using(kdl::proofs::ReadingBack::node_derived_alone))]
 pub fn node_reads_back()
     ensures { (n : KdlNode) → NodeReadsBack n
-        → IsDocument true (node_prints n) (first (node_says n) none) }
+        → IsDocument (node_prints n) (first (node_says n) none) }
 {}
 
 /// Each node of a document that reads back reads back.

@@ -107,7 +107,7 @@ fn read_whole<N: ParsedNode>(alloc: Global, text: &str) -> Result<NodeText<N>, L
 /// and at least one. Returns `Memory` if an allocation fails.
 pub fn read_node_text<N: ParsedNode>(alloc: Global, text: &str) -> Result<NodeText<N>, ParseFailure>
     // The node that is returned is located in the text, which it is.
-    ensures found { IfOk result (λ n. LaidNodeText true (chars text.now) (text_by N.tree n)) }
+    ensures found { IfOk result (λ n. LaidNodeText (chars text.now) (text_by N.tree n)) }
     ensures parses { ParsesNode text.now result }
 {
     match read_whole(alloc, text) {

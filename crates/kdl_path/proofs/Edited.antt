@@ -32,17 +32,17 @@ use Rattle.kdl_path.proofs.Places.{leads_said, target_said}
 use Rattle.kdl_path.proofs.Removed.{child_put, no_leads}
 
 -- the text of a document
-out_says : (e : KdlDocument) (out : String Global) (x : nodes'.Nodes) → string_bytes out ≡ encode_utf8_all (document_prints e) → DocumentReadsBack e → document_says e ≡ x → IsDocument true (text_of out) x
+out_says : (e : KdlDocument) (out : String Global) (x : nodes'.Nodes) → string_bytes out ≡ encode_utf8_all (document_prints e) → DocumentReadsBack e → document_says e ≡ x → IsDocument (text_of out) x
 out_says e out x bytes reads says =
     let printed : text_of out ≡ document_prints e = printed_text {E = Unit {0}} (Ok out) (document_prints e) bytes in
-    subst (λ (z : nodes'.Nodes). IsDocument true (text_of out) z) says (subst (λ (z : Text). IsDocument true z (document_says e)) (sym printed) (document_derived e reads))
+    subst (λ (z : nodes'.Nodes). IsDocument (text_of out) z) says (subst (λ (z : Text). IsDocument z (document_says e)) (sym printed) (document_derived e reads))
 
-pub removed_text : (p : Path) (text : Text) (d e : KdlDocument) (out : String Global) → ((z : nodes'.Nodes) → IsDocument true text z → z ≡ document_says d) → DocumentReadsBack d → (DocumentReadsBack d → IsRemovedAt p d e)
-    → string_bytes out ≡ encode_utf8_all (document_prints e) → (x : nodes'.Nodes) → IsDocument true text x → IsDocument true (text_of out) (without p x)
+pub removed_text : (p : Path) (text : Text) (d e : KdlDocument) (out : String Global) → ((z : nodes'.Nodes) → IsDocument text z → z ≡ document_says d) → DocumentReadsBack d → (DocumentReadsBack d → IsRemovedAt p d e)
+    → string_bytes out ≡ encode_utf8_all (document_prints e) → (x : nodes'.Nodes) → IsDocument text x → IsDocument (text_of out) (without p x)
 removed_text p text d e out only reads removed bytes x y = let h = removed reads in out_says e out (without p x) bytes h.reads (h.says ∙ ap (without p) (sym (only x y)))
 
-pub inserted_text : (p : Path) (given text : Text) (n : KdlNode) (d e : KdlDocument) (out : String Global) → p.target ≡ Node → IsNodeText true given (node_says n) → NodeReadsBack n
-    → ((z : nodes'.Nodes) → IsDocument true text z → z ≡ document_says d) → DocumentReadsBack d → (NodeReadsBack n → DocumentReadsBack d → IsPutAt p.steps.items (node_says n) d e)
+pub inserted_text : (p : Path) (given text : Text) (n : KdlNode) (d e : KdlDocument) (out : String Global) → p.target ≡ Node → IsNodeText given (node_says n) → NodeReadsBack n
+    → ((z : nodes'.Nodes) → IsDocument text z → z ≡ document_says d) → DocumentReadsBack d → (NodeReadsBack n → DocumentReadsBack d → IsPutAt p.steps.items (node_says n) d e)
     → string_bytes out ≡ encode_utf8_all (document_prints e) → IsInsertedAt p given text (text_of out)
 inserted_text p given text n d e out names found ends only reads put bytes =
     let h = put ends reads in

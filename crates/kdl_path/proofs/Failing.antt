@@ -60,11 +60,11 @@ value_set p given text create (edit.Node x) h = absurd h
 value_set p given text create edit.NotNode h = absurd h
 value_set p given text create (edit.Missing m) h = absurd h
 
-pub text_set : (A : Type 0) (p : Path) (given text : Text) (create : Bool) (f : ParseFailure) → (IsSyntax {A = A} (Err f) → (x : Nodes) → IsDocument true text x → ⊥) → SetFails p given text create (edit_of f)
+pub text_set : (A : Type 0) (p : Path) (given text : Text) (create : Bool) (f : ParseFailure) → (IsSyntax {A = A} (Err f) → (x : Nodes) → IsDocument text x → ⊥) → SetFails p given text create (edit_of f)
 text_set A p given text create (parse.Syntax e) h = h tt
 text_set A p given text create parse.Memory h = tt
 
-pub missing_set : (p : Path) (given text : Text) (create : Bool) (x : Nodes) (e : EditFailure) → IsDocument true text x → MissesIf (IsUnset p create x) e → SetFails p given text create e
+pub missing_set : (p : Path) (given text : Text) (create : Bool) (x : Nodes) (e : EditFailure) → IsDocument text x → MissesIf (IsUnset p create x) e → SetFails p given text create e
 missing_set p given text create x (edit.Missing m) d h = (x, d, h)
 missing_set p given text create x edit.Memory d h = tt
 missing_set p given text create x (edit.Text y) d h = absurd h
@@ -73,11 +73,11 @@ missing_set p given text create x (edit.Node y) d h = absurd h
 missing_set p given text create x edit.NotNode d h = absurd h
 
 -- those of `remove`
-pub text_remove : (A : Type 0) (p : Path) (text : Text) (f : ParseFailure) → (IsSyntax {A = A} (Err f) → (x : Nodes) → IsDocument true text x → ⊥) → RemoveFails p text (edit_of f)
+pub text_remove : (A : Type 0) (p : Path) (text : Text) (f : ParseFailure) → (IsSyntax {A = A} (Err f) → (x : Nodes) → IsDocument text x → ⊥) → RemoveFails p text (edit_of f)
 text_remove A p text (parse.Syntax e) h = h tt
 text_remove A p text parse.Memory h = tt
 
-pub missing_remove : (p : Path) (text : Text) (x : Nodes) (e : EditFailure) → IsDocument true text x → MissesIf (named_at p x ≡ None) e → RemoveFails p text e
+pub missing_remove : (p : Path) (text : Text) (x : Nodes) (e : EditFailure) → IsDocument text x → MissesIf (named_at p x ≡ None) e → RemoveFails p text e
 missing_remove p text x (edit.Missing m) d h = (x, d, h)
 missing_remove p text x edit.Memory d h = tt
 missing_remove p text x (edit.Text y) d h = absurd h
@@ -86,7 +86,7 @@ missing_remove p text x (edit.Node y) d h = absurd h
 missing_remove p text x edit.NotNode d h = absurd h
 
 -- those of `insert`
-pub node_insert : (p : Path) (given text : Text) (e : EditFailure) → NoNodeIf ((y : NodeData) → IsNodeText true given y → ⊥) e → InsertFails p given text e
+pub node_insert : (p : Path) (given text : Text) (e : EditFailure) → NoNodeIf ((y : NodeData) → IsNodeText given y → ⊥) e → InsertFails p given text e
 node_insert p given text (edit.Node x) h = h
 node_insert p given text edit.Memory h = tt
 node_insert p given text (edit.Text x) h = absurd h
@@ -94,11 +94,11 @@ node_insert p given text edit.Value h = absurd h
 node_insert p given text edit.NotNode h = absurd h
 node_insert p given text (edit.Missing m) h = absurd h
 
-pub text_insert : (A : Type 0) (p : Path) (given text : Text) (f : ParseFailure) → (IsSyntax {A = A} (Err f) → (x : Nodes) → IsDocument true text x → ⊥) → InsertFails p given text (edit_of f)
+pub text_insert : (A : Type 0) (p : Path) (given text : Text) (f : ParseFailure) → (IsSyntax {A = A} (Err f) → (x : Nodes) → IsDocument text x → ⊥) → InsertFails p given text (edit_of f)
 text_insert A p given text (parse.Syntax e) h = h tt
 text_insert A p given text parse.Memory h = tt
 
-pub missing_insert : (p : Path) (given text : Text) (x : Nodes) (e : EditFailure) → IsDocument true text x → MissesIf (HasPlace p.steps.items x → ⊥) e → InsertFails p given text e
+pub missing_insert : (p : Path) (given text : Text) (x : Nodes) (e : EditFailure) → IsDocument text x → MissesIf (HasPlace p.steps.items x → ⊥) e → InsertFails p given text e
 missing_insert p given text x (edit.Missing m) d h = (x, d, h)
 missing_insert p given text x edit.Memory d h = tt
 missing_insert p given text x (edit.Text y) d h = absurd h

@@ -167,12 +167,12 @@ value_done p is d e n i v t leads at ok h r = go (there_same h.old n _ h.there (
         }
 
 -- the text that the document prints
-pub set_text : (p : Path) (v : Value) (given text : Text) (d e : KdlDocument) (out : String Global) → IsValueText given v → IsDoneAt p v given d e → document_prints d ≡ text → ((x : nodes'.Nodes) → IsDocument true text x → x ≡ document_says d)
+pub set_text : (p : Path) (v : Value) (given text : Text) (d e : KdlDocument) (out : String Global) → IsValueText given v → IsDoneAt p v given d e → document_prints d ≡ text → ((x : nodes'.Nodes) → IsDocument text x → x ≡ document_says d)
     → text_of out ≡ document_prints e → IsSetAt p given text (text_of out)
 set_text p v given text d e out ok h prints only printed = record {
   value = v;
   reads = ok;
-  says = λ x y. subst (λ (z : nodes'.Nodes). IsDocument true (text_of out) z) (h.says ∙ ap (with_value p v) (sym (only x y))) (subst (λ (z : Text). IsDocument true z (document_says e)) (sym printed) (document_derived e h.reads));
+  says = λ x y. subst (λ (z : nodes'.Nodes). IsDocument (text_of out) z) (h.says ∙ ap (with_value p v) (sym (only x y))) (subst (λ (z : Text). IsDocument z (document_says e)) (sym printed) (document_derived e h.reads));
   was = h.was;
   former = λ x y v there. h.former v (ap (at_path p) (sym (only x y)) ∙ there);
   bytes = subst (λ (a : Text). IsExchanged h.was given a (text_of out)) prints (subst (λ (a : Text). IsExchanged h.was given (document_prints d) a) (sym printed) h.bytes);
@@ -196,8 +196,8 @@ pub format_given : (e : Entry) (g : EntryFormat) → None ≡ e.format → g ≡
 format_given e g h k = ap (λ (o : Option EntryFormat). record e { format = o }) (spaced_new e.format g h k)
 
 -- the text after a value is set
-pub set_ends : (p : Path) (s : Spelled) (given text : Text) (d e : KdlDocument) (out : String Global) (x : nodes'.Nodes) → IsDocument true text x → IsSome (at_path p x) → text_of s.spelling ≡ given → IsValueText given (value_tree s.value)
-    → ((z : nodes'.Nodes) → IsDocument true text z → z ≡ document_says d) → document_prints d ≡ text → DocumentReadsBack d
+pub set_ends : (p : Path) (s : Spelled) (given text : Text) (d e : KdlDocument) (out : String Global) (x : nodes'.Nodes) → IsDocument text x → IsSome (at_path p x) → text_of s.spelling ≡ given → IsValueText given (value_tree s.value)
+    → ((z : nodes'.Nodes) → IsDocument text z → z ≡ document_says d) → document_prints d ≡ text → DocumentReadsBack d
     → (DocumentReadsBack d → IsValueText (text_of s.spelling) (value_tree s.value) → IsSome (at_path p (document_says d)) → IsDoneAt p (value_tree s.value) (text_of s.spelling) d e)
     → string_bytes out ≡ encode_utf8_all (document_prints e) → IsSetAt p given text (text_of out)
 set_ends p s given text d e out x y there spelled ok only prints reads set bytes =

@@ -67,9 +67,9 @@ with_value p v x = changed_at p.steps.items (node_with_value p.target v) x
 pub record IsSetAt (p : Path) (given text out : Text) : Type 0 where
   pub value : Value
   pub reads : IsValueText given value
-  pub says : (x : Nodes) → IsDocument true text x → IsDocument true out (with_value p value x)
+  pub says : (x : Nodes) → IsDocument text x → IsDocument out (with_value p value x)
   pub was : Text
-  pub former : (x : Nodes) → IsDocument true text x → (v : Value) → at_path p x ≡ Some v → IsValueText was v
+  pub former : (x : Nodes) → IsDocument text x → (v : Value) → at_path p x ≡ Some v → IsValueText was v
   pub bytes : IsExchanged was given text out
 
 -- nodes with one more at their end
@@ -132,5 +132,5 @@ HasPlace (s ∷ ss) x = IsSome (node_at (s ∷ ss) (said_nodes x))
 pub record IsInsertedAt (p : Path) (given text out : Text) : Type 0 where
   pub names : p.target ≡ Node
   pub node : NodeData
-  pub reads : IsNodeText true given node
-  pub says : (x : Nodes) → IsDocument true text x → IsDocument true out (with_node p.steps.items node x)
+  pub reads : IsNodeText given node
+  pub says : (x : Nodes) → IsDocument text x → IsDocument out (with_node p.steps.items node x)

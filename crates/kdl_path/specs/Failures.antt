@@ -63,7 +63,7 @@ makes_at (s ∷ ss) t xs = makes_on (step_node s xs) (makes_node s ss t xs) (mak
 
 -- the text is no document
 abbrev pub IsNoDocument : Text → Type 0
-IsNoDocument text = (x : Nodes) → IsDocument true text x → ⊥
+IsNoDocument text = (x : Nodes) → IsDocument text x → ⊥
 
 -- nothing is at the PATH, and with `create` it can't be made there
 abbrev pub IsUnset : Path → Bool → Nodes → Type 0
@@ -73,22 +73,22 @@ IsUnset p create x = (at_path p x ≡ None) × (create ≡ true → makes_at p.s
 abbrev pub SetFails : Path → Text → Text → Bool → EditFailure → Type 0
 SetFails p given text create edit.Value = (v : Value) → IsValueText given v → ⊥
 SetFails p given text create (edit.Text e) = IsNoDocument text
-SetFails p given text create (edit.Missing m) = (x : Nodes) × IsDocument true text x × IsUnset p create x
+SetFails p given text create (edit.Missing m) = (x : Nodes) × IsDocument text x × IsUnset p create x
 SetFails p given text create edit.Memory = Unit {0}
 SetFails p given text create _ = ⊥
 
 -- `remove` fails: the text is no document, or its document does not have what the PATH names; or memory runs out
 abbrev pub RemoveFails : Path → Text → EditFailure → Type 0
 RemoveFails p text (edit.Text e) = IsNoDocument text
-RemoveFails p text (edit.Missing m) = (x : Nodes) × IsDocument true text x × (named_at p x ≡ None)
+RemoveFails p text (edit.Missing m) = (x : Nodes) × IsDocument text x × (named_at p x ≡ None)
 RemoveFails p text edit.Memory = Unit {0}
 RemoveFails p text _ = ⊥
 
 -- `insert` fails: the PATH names an argument or a property, NODE is no node, the text is no document, or its document has no node at the PATH; or memory runs out
 abbrev pub InsertFails : Path → Text → Text → EditFailure → Type 0
 InsertFails p given text edit.NotNode = p.target ≡ Node → ⊥
-InsertFails p given text (edit.Node e) = (y : NodeData) → IsNodeText true given y → ⊥
+InsertFails p given text (edit.Node e) = (y : NodeData) → IsNodeText given y → ⊥
 InsertFails p given text (edit.Text e) = IsNoDocument text
-InsertFails p given text (edit.Missing m) = (x : Nodes) × IsDocument true text x × (HasPlace p.steps.items x → ⊥)
+InsertFails p given text (edit.Missing m) = (x : Nodes) × IsDocument text x × (HasPlace p.steps.items x → ⊥)
 InsertFails p given text edit.Memory = Unit {0}
 InsertFails p given text _ = ⊥

@@ -40,7 +40,7 @@ pub fn insert(alloc: Global, text: &str, path: &Path, node: &str) -> Result<Stri
     ensures inserted { IfOk result (λ out.
         IsInsertedAt path.now (chars node.now) (chars text.now) (text_of out)) }
     // which is there.
-    ensures found { IfOk result (λ out. (x : Nodes) → IsDocument true (chars text.now) x
+    ensures found { IfOk result (λ out. (x : Nodes) → IsDocument (chars text.now) x
         → HasPlace path.now.steps.items x) }
     // A failure is `NotNode` only if the PATH names an argument or a property, `Node` only if NODE is not a node, `Text`
     // only if the text is not a document, `Missing` only if it is one without a node at the PATH, or else `Memory`.
@@ -58,10 +58,10 @@ pub fn insert(alloc: Global, text: &str, path: &Path, node: &str) -> Result<Stri
 
 /// Reads a text as a node.
 fn read_node(alloc: Global, text: &str) -> Result<KdlNode, EditFailure>
-    ensures found { IfOk result (λ n. IsNodeText true (chars text.now) (node_says n)) }
+    ensures found { IfOk result (λ n. IsNodeText (chars text.now) (node_says n)) }
     ensures reads { IfOk result (λ n. NodeReadsBack n) }
     ensures refused { IfErr result (λ e.
-        NoNodeIf ((y : NodeData) → IsNodeText true (chars text.now) y → ⊥) e) }
+        NoNodeIf ((y : NodeData) → IsNodeText (chars text.now) y → ⊥) e) }
 {
     match KdlNode::parse(alloc, text) {
         Ok(node) => Ok(node),

@@ -34,10 +34,10 @@ use std::alloc::Global;
 /// ```
 pub fn remove(alloc: Global, text: &str, path: &Path) -> Result<String, EditFailure>
     // The result is a document with the data of the text, without what the PATH names,
-    ensures removed { IfOk result (λ out. (x : Nodes) → IsDocument true (chars text.now) x
-        → IsDocument true (text_of out) (without path.now x)) }
+    ensures removed { IfOk result (λ out. (x : Nodes) → IsDocument (chars text.now) x
+        → IsDocument (text_of out) (without path.now x)) }
     // which is there.
-    ensures found { IfOk result (λ out. (x : Nodes) → IsDocument true (chars text.now) x
+    ensures found { IfOk result (λ out. (x : Nodes) → IsDocument (chars text.now) x
         → IsSome (named_at path.now x)) }
     // A failure is `Text` only if the text is not a document, `Missing` only if it is one without what the PATH names,
     // or else `Memory`.

@@ -45,12 +45,12 @@ pub fn set(
     create: bool,
 ) -> Result<String, EditFailure>
     // A value that is there is replaced, and no other byte.
-    ensures set { IfOk result (λ out. (x : Nodes) → IsDocument true (chars text.now) x
+    ensures set { IfOk result (λ out. (x : Nodes) → IsDocument (chars text.now) x
         → IsSome (at_path path.now x)
         → IsSetAt path.now (chars value.now) (chars text.now) (text_of out)) }
     // Without `create`, there is one.
     ensures found { create ≡ false → IfOk result (λ out. (x : Nodes)
-        → IsDocument true (chars text.now) x → IsSome (at_path path.now x)) }
+        → IsDocument (chars text.now) x → IsSome (at_path path.now x)) }
     // A failure is `Value` only if VALUE is not a value, `Text` only if the text is not a document, `Missing` only if it
     // is one without a value at the PATH, and with `create` none can be made there, or else `Memory`.
     ensures fails { IfErr result (SetFails path.now (chars value.now) (chars text.now) create) }

@@ -21,9 +21,9 @@ pub(crate) struct Spelled {
 
 /// Reads a text as an entry.
 fn read_entry(alloc: Global, text: &str) -> Result<KdlEntry, EditFailure>
-    ensures laid { IfOk result (λ e. LaidEntryText true (chars text.now) (entry_tree e)) }
+    ensures laid { IfOk result (λ e. LaidEntryText (chars text.now) (entry_tree e)) }
     ensures refused { IfErr result (λ e.
-        NoValueIf ((x : EntryData) → IsEntryText true (chars text.now) x → ⊥) e) }
+        NoValueIf ((x : EntryData) → IsEntryText (chars text.now) x → ⊥) e) }
 {
     match KdlEntry::parse(alloc, text) {
         Ok(entry) => Ok(entry),

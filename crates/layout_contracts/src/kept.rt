@@ -14,7 +14,7 @@ use std::alloc::AllocError;
 pub fn autoformat(document: &mut KdlDocument) -> Result<(), AllocError>
     ensures data { document_says document.new ≡ document_says document.old }
     ensures derived { OnOk result (DocumentKeepsNoForm document.old
-        → IsDocument true (document_prints document.new) (document_says document.old)) }
+        → IsDocument (document_prints document.new) (document_says document.old)) }
     ensures comments { OnOk result (DocumentKeepsNoForm document.old
         → CommentsStay (document_tree document.old) (document_prints document.new)) }
 {

@@ -17,7 +17,7 @@ use std::alloc::Global;
 /// `KdlDocument::parse`: its document is the only one, prints the text, is that of the former language if that has one,
 /// and reads back after edits of its entries.
 pub fn parse(alloc: Global, text: &str) -> Result<KdlDocument, ParseFailure>
-    ensures only { IfOk result (λ d. (x : Nodes) → IsDocument true (chars text.now) x
+    ensures only { IfOk result (λ d. (x : Nodes) → IsDocument (chars text.now) x
         → x ≡ document_says d) }
     ensures prints { IfOk result (λ d. document_prints d ≡ chars text.now) }
     ensures kept { (x : Nodes) → IsFormerDocument (chars text.now) x → IsSyntax result → ⊥ }
@@ -25,7 +25,7 @@ pub fn parse(alloc: Global, text: &str) -> Result<KdlDocument, ParseFailure>
         → IfOk result (λ d. document_says d ≡ x) }
     ensures edited { IfOk result (λ d. (e : Document)
         → EachDocument IsEdited (document_tree d) e
-        → IsDocument true (print_document e 0) (document_data e)) }
+        → IsDocument (print_document e 0) (document_data e)) }
 {
     KdlDocument::parse(alloc, text)
 }

@@ -20,9 +20,9 @@ use std::alloc::Global;
 /// `KdlDocument::parse`: what it returns is derived and located in the text; what it refuses is not derived, and the
 /// error has its faults.
 pub fn parse(alloc: Global, text: &str) -> Result<KdlDocument, ParseFailure>
-    ensures found { IfOk result (λ d. IsDocument true (chars text.now) (document_says d)) }
-    ensures laid { IfOk result (λ d. LaidDocument true (document_tree d) (chars text.now)) }
-    ensures refused { IsSyntax result → (x : Nodes) → IsDocument true (chars text.now) x → ⊥ }
+    ensures found { IfOk result (λ d. IsDocument (chars text.now) (document_says d)) }
+    ensures laid { IfOk result (λ d. LaidDocument (document_tree d) (chars text.now)) }
+    ensures refused { IsSyntax result → (x : Nodes) → IsDocument (chars text.now) x → ⊥ }
     ensures told { TellsOnSyntax text.now result }
 {
     KdlDocument::parse(alloc, text)
@@ -44,9 +44,9 @@ pub fn parse_counted(
 
 /// `KdlNode::parse`: what it returns is derived; what it refuses is not, and the error has its faults.
 pub fn parse_node(alloc: Global, text: &str) -> Result<KdlNode, ParseFailure>
-    ensures found { IfOk result (λ n. IsNodeText true (chars text.now) (node_says n)) }
+    ensures found { IfOk result (λ n. IsNodeText (chars text.now) (node_says n)) }
     ensures refused { IsSyntax result → (x : data'.Node)
-        → IsNodeText true (chars text.now) x → ⊥ }
+        → IsNodeText (chars text.now) x → ⊥ }
     ensures told { TellsOnSyntax text.now result }
 {
     KdlNode::parse(alloc, text)
@@ -55,8 +55,8 @@ pub fn parse_node(alloc: Global, text: &str) -> Result<KdlNode, ParseFailure>
 /// `KdlEntry::parse`: the same for an entry.
 pub fn parse_entry(alloc: Global, text: &str) -> Result<KdlEntry, ParseFailure>
     ensures found { IfOk result
-        (λ e. IsEntryText true (chars text.now) (entry_data (entry_tree e))) }
-    ensures refused { IsSyntax result → (x : entries.Entry) → IsEntryText true (chars text.now) x
+        (λ e. IsEntryText (chars text.now) (entry_data (entry_tree e))) }
+    ensures refused { IsSyntax result → (x : entries.Entry) → IsEntryText (chars text.now) x
         → ⊥ }
     ensures told { TellsOnSyntax text.now result }
 {
@@ -66,8 +66,8 @@ pub fn parse_entry(alloc: Global, text: &str) -> Result<KdlEntry, ParseFailure>
 /// `KdlIdentifier::parse`: the same for an identifier.
 pub fn parse_identifier(alloc: Global, text: &str) -> Result<KdlIdentifier, ParseFailure>
     ensures found { IfOk result
-        (λ i. IsIdentifierText true (chars text.now) (identifier_tree i).value) }
-    ensures refused { IsSyntax result → (v : Text) → IsIdentifierText true (chars text.now) v
+        (λ i. IsIdentifierText (chars text.now) (identifier_tree i).value) }
+    ensures refused { IsSyntax result → (v : Text) → IsIdentifierText (chars text.now) v
         → ⊥ }
     ensures told { TellsOnSyntax text.now result }
 {

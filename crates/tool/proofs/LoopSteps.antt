@@ -43,12 +43,12 @@ pub same_word : (word text : List ℕ) (b : Bool) → b ≡ bytes_eq word text �
 same_word word text b is t = (bytes_eq-Decides word text).0 (sym is ∙ t)
 
 -- what is written of a text with these data
-pub written_is : (a : Asked) (text : List ℕ) (x : Nodes) (out : Option (List ℕ)) → IsUtf8 text → IsDocument true (chars text) x → ((y : Nodes) → IsDocument true (chars text) y → y ≡ x)
+pub written_is : (a : Asked) (text : List ℕ) (x : Nodes) (out : Option (List ℕ)) → IsUtf8 text → IsDocument (chars text) x → ((y : Nodes) → IsDocument (chars text) y → y ≡ x)
     → IsWritten a text x out → Output (words_of a) text out
 written_is a text x out u d o e = record { asked = a; by = refl; content = x; says = record { utf8 = u; derived = d; alone = o }; written = e }
 
 -- what fmt writes of a text with these data
-pub laid_out_is : (text : List ℕ) (x : Nodes) (out : Option (List ℕ)) (d e : Document) → LaidDocument true d (chars text) → IsFormattedDocument defaults 0 d e → IsDocument true (print_document e 0) x
+pub laid_out_is : (text : List ℕ) (x : Nodes) (out : Option (List ℕ)) (d e : Document) → LaidDocument d (chars text) → IsFormattedDocument defaults 0 d e → IsDocument (print_document e 0) x
     → out ≡ Some (encode_utf8_all (print_document e 0)) → IsWritten fmt text x out
 laid_out_is text x out d e l f s p = (_, record { before = d; after = e; laid = l; formatted = f; prints = refl; says = s }, p)
 

@@ -48,10 +48,10 @@ value_line = option_map (λ v. line (encode_utf8_all (print_value v)))
 pub record IsLaidOut (text : List ℕ) (x : Nodes) (out : List ℕ) : Type 0 where
   pub before : Document
   pub after : Document
-  pub laid : LaidDocument true before (chars text)
+  pub laid : LaidDocument before (chars text)
   pub formatted : IsFormattedDocument defaults 0 before after
   pub prints : out ≡ encode_utf8_all (print_document after 0)
-  pub says : IsDocument true (print_document after 0) x
+  pub says : IsDocument (print_document after 0) x
 
 -- what is written for a text with the data x; None if there is no such value
 abbrev pub IsWritten : Asked → List ℕ → Nodes → Option (List ℕ) → Type 0

@@ -42,8 +42,8 @@ IsInput had left bytes = Consumes had left bytes × IsAtEnd left
 -- the bytes are a text that the grammar derives, with these data and no others
 pub record Says (bytes : List ℕ) (x : Nodes) : Type 0 where
   pub utf8 : IsUtf8 bytes
-  pub derived : IsDocument true (chars bytes) x
-  pub alone : (y : Nodes) → IsDocument true (chars bytes) y → y ≡ x
+  pub derived : IsDocument (chars bytes) x
+  pub alone : (y : Nodes) → IsDocument (chars bytes) y → y ≡ x
 
 -- what a run with these arguments writes for these bytes; None if they have no such value
 pub record Output (words : List (List ℕ)) (bytes : List ℕ) (out : Option (List ℕ)) : Type 0 where
@@ -55,7 +55,7 @@ pub record Output (words : List (List ℕ)) (bytes : List ℕ) (out : Option (Li
 
 -- the bytes are a text that the grammar does not derive
 abbrev pub AreNoDocument : List ℕ → Type 0
-AreNoDocument bytes = IsUtf8 bytes × ((x : Nodes) → IsDocument true (chars bytes) x → ⊥)
+AreNoDocument bytes = IsUtf8 bytes × ((x : Nodes) → IsDocument (chars bytes) x → ⊥)
 
 -- what each outcome of these arguments says about the whole input, and about the bytes that the writer held and holds
 abbrev pub Answered : Outcome → List (List ℕ) → List ℕ → Option (List ℕ) → Option (List ℕ) → Type 0

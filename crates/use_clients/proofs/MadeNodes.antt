@@ -25,9 +25,9 @@ two a b c d p q = cc
 
 -- a text that says two nodes says their names and their properties
 pub two_said : {E : Type 0} (r : Result (String Global) E) (a b : NodeData) (one other port : Text) (v w : Option Value)
-    → IfOk r (λ out. (x : Nodes) × IsDocument true (text_of out) x × (said_nodes x ≡ a ∷ b ∷ []))
+    → IfOk r (λ out. (x : Nodes) × IsDocument (text_of out) x × (said_nodes x ≡ a ∷ b ∷ []))
     → said_name a ≡ one → said_name b ≡ other → said_property port a ≡ v → said_property port b ≡ w
-    → IfOk r (λ out. (x : Nodes) × IsDocument true (text_of out) x × (map said_name (said_nodes x) ≡ one ∷ other ∷ [])
+    → IfOk r (λ out. (x : Nodes) × IsDocument (text_of out) x × (map said_name (said_nodes x) ≡ one ∷ other ∷ [])
     × (map (said_property port) (said_nodes x) ≡ v ∷ w ∷ []))
 two_said (Ok out) a b one other port v w (x, d, e) p q s t =
     (x, d, ap (map said_name) e ∙ two _ _ _ _ p q, ap (map (said_property port)) e ∙ two _ _ _ _ s t)

@@ -34,7 +34,7 @@ pub fn one_node(
 pub fn two_nodes(alloc: Global, one: KdlNode, other: KdlNode) -> Result<String, AllocError>
     requires one { NodeReadsBack one }
     requires other { NodeReadsBack other }
-    ensures { IfOk result (λ out. (x : Nodes) × IsDocument true (text_of out) x
+    ensures { IfOk result (λ out. (x : Nodes) × IsDocument (text_of out) x
         × (said_nodes x ≡ node_says one ∷ node_says other ∷ [])) }
 {
     let mut document = KdlDocument::new(alloc);
@@ -63,7 +63,7 @@ pub fn with_block(mut node: KdlNode, child: KdlNode) -> Result<KdlNode, AllocErr
 /// Returns the text of two nodes, the first of which has a child. Each node has an argument and a property. The data of
 /// the text have both names and both ports.
 pub fn servers(alloc: Global, one: &str, other: &str) -> Result<String, AllocError>
-    ensures { IfOk result (λ out. (x : Nodes) × IsDocument true (text_of out) x
+    ensures { IfOk result (λ out. (x : Nodes) × IsDocument (text_of out) x
         × (map said_name (said_nodes x) ≡ chars one.now ∷ chars other.now ∷ [])
         × (map (said_property (chars (codes "port"))) (said_nodes x) ≡
         Some (integer (pos 8080)) ∷ Some (integer (pos 8081)) ∷ [])) }

@@ -31,7 +31,7 @@ pub fn tidy_node(node: &mut KdlNode) -> Result<(), AllocError>
 /// Returns whether two texts are documents with the same data.
 pub fn same_configuration(alloc: Global, one: &str, other: &str) -> Result<bool, ParseFailure>
     ensures { IfOk result (λ b. (b ≡ true) ↔ ((x : Nodes)
-        × IsDocument true (chars one.now) x × IsDocument true (chars other.now) x)) }
+        × IsDocument (chars one.now) x × IsDocument (chars other.now) x)) }
 {
     let mut a = KdlDocument::parse(alloc, one)?;
     let mut b = KdlDocument::parse(alloc, other)?;

@@ -63,7 +63,7 @@ pub fn push_to_list(document: &mut KdlDocument, node: KdlNode) -> Result<(), All
 pub fn push_to_text(alloc: Global, text: &str, node: KdlNode) -> Result<KdlDocument, ParseFailure>
     requires { NodeEnds node }
     ensures reads { IfOk result DocumentReadsBack }
-    ensures says { IfOk result (λ d. (x : Nodes) → IsDocument true (chars text.now) x
+    ensures says { IfOk result (λ d. (x : Nodes) → IsDocument (chars text.now) x
         → said_nodes (document_says d) ≡ said_nodes x ++ (node_says node ∷ [])) }
 {
     pushed_is_said_last();
@@ -101,8 +101,8 @@ pub fn with_child(
     child: &str,
 ) -> Result<KdlDocument, ParseFailure>
     ensures reads { IfOk result DocumentReadsBack }
-    ensures says { IfOk result (λ d. (x : Nodes) (y : NodeData) → IsDocument true (chars text.now) x
-        → IsNodeText true (chars child.now) y
+    ensures says { IfOk result (λ d. (x : Nodes) (y : NodeData) → IsDocument (chars text.now) x
+        → IsNodeText (chars child.now) y
         → option_map said_child_nodes (said_node (chars name.now) (document_says d)) ≡
         option_map (λ n. said_child_nodes n ++ (y ∷ [])) (said_node (chars name.now) x)) }
 {
@@ -127,7 +127,7 @@ pub fn append(document: &mut KdlDocument, node: KdlNode) -> Result<(), AllocErro
 /// then the node.
 pub fn append_to_text(alloc: Global, text: &str, node: KdlNode) -> Result<KdlDocument, ParseFailure>
     ensures { IfOk result (λ out. ((d : KdlDocument)
-        → LaidDocument true (document_tree d) (chars text.now) → NodesMayFollow d)
+        → LaidDocument (document_tree d) (chars text.now) → NodesMayFollow d)
         → document_prints out ≡ chars text.now ++ node_prints node) }
 {
     let mut longer = KdlDocument::parse(alloc, text)?;

@@ -92,9 +92,9 @@ pub fn push_typed(
 pub fn printed(alloc: Global, document: &KdlDocument) -> Result<String, AllocError>
     requires { DocumentReadsBack document.now }
     ensures document { IfOk result (λ out.
-        IsDocument true (text_of out) (document_says document.now)) }
+        IsDocument (text_of out) (document_says document.now)) }
     ensures only { IfOk result (λ out. (y : Nodes)
-        → IsDocument true (text_of out) y → y ≡ document_says document.now) }
+        → IsDocument (text_of out) y → y ≡ document_says document.now) }
 {
     printed_reads_back();
     printed_reads_once();
@@ -109,9 +109,9 @@ pub fn push_in_text(
     name: &str,
     value: KdlValue,
 ) -> Result<String, ParseFailure>
-    ensures document { IfOk result (λ out. (y : Nodes) × IsDocument true (text_of out) y) }
+    ensures document { IfOk result (λ out. (y : Nodes) × IsDocument (text_of out) y) }
     ensures says { IfOk result (λ out. (x y : Nodes)
-        → IsDocument true (chars text.now) x → IsDocument true (text_of out) y
+        → IsDocument (chars text.now) x → IsDocument (text_of out) y
         → IsSome (said_node (chars name.now) x)
         → said_args (chars name.now) y ≡ said_args (chars name.now) x ++ (value_tree value ∷ [])) }
 {

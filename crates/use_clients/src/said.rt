@@ -8,7 +8,7 @@ use std::alloc::Global;
 
 /// Returns the integer that is the first argument of the first node of a name. The text has data that say so.
 pub fn number_at(alloc: Global, text: &str, name: &str) -> Result<Option<i128>, ParseFailure>
-    ensures { IfOk result (λ o. (x : Nodes) × IsDocument true (chars text.now) x
+    ensures { IfOk result (λ o. (x : Nodes) × IsDocument (chars text.now) x
         × (o ≡ option_and_then integer_value (said_arg (chars name.now) x))) }
 {
     let document = KdlDocument::parse(alloc, text)?;
@@ -20,7 +20,7 @@ pub fn number_at(alloc: Global, text: &str, name: &str) -> Result<Option<i128>, 
 
 /// Returns the same as `number_at`. All data that the grammar derives for the text say so.
 pub fn number_said(alloc: Global, text: &str, name: &str) -> Result<Option<i128>, ParseFailure>
-    ensures { IfOk result (λ o. (x : Nodes) → IsDocument true (chars text.now) x
+    ensures { IfOk result (λ o. (x : Nodes) → IsDocument (chars text.now) x
         → o ≡ option_and_then integer_value (said_arg (chars name.now) x)) }
 {
     let document = KdlDocument::parse(alloc, text)?;
@@ -32,7 +32,7 @@ pub fn number_said(alloc: Global, text: &str, name: &str) -> Result<Option<i128>
 
 /// Returns whether a text has a node of that name.
 pub fn has_node(alloc: Global, text: &str, name: &str) -> Result<bool, ParseFailure>
-    ensures { IfOk result (λ b. (x : Nodes) → IsDocument true (chars text.now) x
+    ensures { IfOk result (λ b. (x : Nodes) → IsDocument (chars text.now) x
         → b ≡ is_some (said_node (chars name.now) x)) }
 {
     let document = KdlDocument::parse(alloc, text)?;
@@ -42,7 +42,7 @@ pub fn has_node(alloc: Global, text: &str, name: &str) -> Result<bool, ParseFail
 /// Returns the first item of a list, if it is an integer. The list is the arguments of the nodes named `-` in the block
 /// of the first node of a name.
 pub fn first_item(alloc: Global, text: &str, name: &str) -> Result<Option<i128>, ParseFailure>
-    ensures { IfOk result (λ o. (x : Nodes) → IsDocument true (chars text.now) x
+    ensures { IfOk result (λ o. (x : Nodes) → IsDocument (chars text.now) x
         → o ≡ option_and_then integer_value
         (slice_get (said_dash_args (chars name.now) x) 0)) }
 {
@@ -55,7 +55,7 @@ pub fn first_item(alloc: Global, text: &str, name: &str) -> Result<Option<i128>,
 
 /// Returns the name of the first node of a text, if it has a node.
 pub fn first_name(alloc: Global, text: &str) -> Result<Option<String>, ParseFailure>
-    ensures { IfOk result (λ o. (x : Nodes) → IsDocument true (chars text.now) x
+    ensures { IfOk result (λ o. (x : Nodes) → IsDocument (chars text.now) x
         → option_map text_of o ≡ option_map said_name (slice_get (said_nodes x) 0)) }
 {
     let document = KdlDocument::parse(alloc, text)?;

@@ -21,9 +21,9 @@ pub fn first_piece<'a>(text: &'a str, error: &KdlError) -> &'a str
 /// Returns the piece of the text at the first fault, or `None` if the text is a document.
 pub fn refusal<'a>(alloc: Global, text: &'a str) -> Result<Option<&'a str>, AllocError>
     ensures accepted { IfOk result (λ o.
-        IfNone o ((x : Nodes) × IsDocument true (chars text.now) x)) }
+        IfNone o ((x : Nodes) × IsDocument (chars text.now) x)) }
     ensures refused { IfOk result (λ o.
-        OnSome o ((x : Nodes) → IsDocument true (chars text.now) x → ⊥)) }
+        OnSome o ((x : Nodes) → IsDocument (chars text.now) x → ⊥)) }
 {
     match KdlDocument::parse(alloc, text) {
         Ok(_) => Ok(None),

@@ -14,13 +14,13 @@ use std::io;
 /// Returns the document of the text, formatted.
 fn laid_out(alloc: Global, text: &str) -> Result<String, ParseFailure>
     // The output is a document with the data of the text.
-    ensures says { IfOk result (λ out. (x : Nodes) → IsDocument true (chars text.now) x
-        → IsDocument true (text_of out) x) }
+    ensures says { IfOk result (λ out. (x : Nodes) → IsDocument (chars text.now) x
+        → IsDocument (text_of out) x) }
     // It is the text laid out, with at most one blank line between two nodes or comments: its comments are kept, and a
     // second layout changes nothing.
     ensures laid_out { IfOk result (λ out. IsSpacedOut false false 1 (chars text.now) (text_of out)) }
     // A refused text is not a document, and the error has its faults.
-    ensures refused { IsSyntax result → (x : Nodes) → IsDocument true (chars text.now) x → ⊥ }
+    ensures refused { IsSyntax result → (x : Nodes) → IsDocument (chars text.now) x → ⊥ }
     ensures told { TellsOnSyntax text.now result }
 {
     defaults_indent_by_spaces();

@@ -21,16 +21,16 @@ pub fn edit(
     number: i128,
 ) -> Result<Option<String>, ParseFailure>
     // The output is a document with the data of the text, with the number in its place.
-    ensures says { IfOk result (λ o. IfSome o (λ out. (x : Nodes) → IsDocument true (chars text.now) x
-        → IsDocument true (text_of out) (with_said_arg (chars name.now) (integer number) x))) }
+    ensures says { IfOk result (λ o. IfSome o (λ out. (x : Nodes) → IsDocument (chars text.now) x
+        → IsDocument (text_of out) (with_said_arg (chars name.now) (integer number) x))) }
     // It is the text, with the number in place of the former value: all other bytes are unchanged.
     ensures bytes { IfOk result (λ o. IfSome o (λ out.
         HasInstead (print_value (integer number)) (chars text.now) (text_of out))) }
     // Without an output, the text has no such argument.
-    ensures missing { IfOk result (λ o. IfNone o ((x : Nodes) → IsDocument true (chars text.now) x
+    ensures missing { IfOk result (λ o. IfNone o ((x : Nodes) → IsDocument (chars text.now) x
         → said_arg (chars name.now) x ≡ None)) }
     // A refused text is not a document, and the error has its faults.
-    ensures refused { IsSyntax result → (x : Nodes) → IsDocument true (chars text.now) x → ⊥ }
+    ensures refused { IsSyntax result → (x : Nodes) → IsDocument (chars text.now) x → ⊥ }
     ensures told { TellsOnSyntax text.now result }
 {
     printed_reads_back();

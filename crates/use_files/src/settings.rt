@@ -37,17 +37,17 @@ pub enum Refused {
 /// Returns the settings of a text. The host is required; by default the port is 8080, and `verbose` is off.
 pub fn load(alloc: Global, text: &str) -> Result<Settings, Refused>
     // Each setting is that of the text, or the default if the text has none.
-    ensures host { IfOk result (λ s. (x : Nodes) → IsDocument true (chars text.now) x
+    ensures host { IfOk result (λ s. (x : Nodes) → IsDocument (chars text.now) x
         → said.host x ≡ Some (text_of s.host)) }
-    ensures port { IfOk result (λ s. (x : Nodes) → IsDocument true (chars text.now) x
+    ensures port { IfOk result (λ s. (x : Nodes) → IsDocument (chars text.now) x
         → said.port x ≡ Some s.port) }
-    ensures verbose { IfOk result (λ s. (x : Nodes) → IsDocument true (chars text.now) x
+    ensures verbose { IfOk result (λ s. (x : Nodes) → IsDocument (chars text.now) x
         → said.verbose x ≡ Some s.verbose) }
     // Settings are refused if one is missing, or of another type.
-    ensures unfit { IsUnfit result → (x : Nodes) → IsDocument true (chars text.now) x
+    ensures unfit { IsUnfit result → (x : Nodes) → IsDocument (chars text.now) x
         → Fits x → ⊥ }
     // A refused text is not a document.
-    ensures refused { IsSyntax result → (x : Nodes) → IsDocument true (chars text.now) x → ⊥ }
+    ensures refused { IsSyntax result → (x : Nodes) → IsDocument (chars text.now) x → ⊥ }
 {
     let document = match KdlDocument::parse(alloc, text) {
         Ok(document) => document,

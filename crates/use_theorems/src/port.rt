@@ -56,26 +56,26 @@ pub fn set_in(
 /// changes.
 pub fn set_port(alloc: Global, text: &str) -> Result<String, ParseFailure>
     // The output is a document.
-    ensures document { IfOk result (λ out. (y : Nodes) × IsDocument true (text_of out) y) }
+    ensures document { IfOk result (λ out. (y : Nodes) × IsDocument (text_of out) y) }
     // In the data of the output, the port of the server is 8080. All else is as in the data of the text.
     ensures sets { IfOk result (λ out. (x y : Nodes)
-        → IsDocument true (chars text.now) x → IsDocument true (text_of out) y
+        → IsDocument (chars text.now) x → IsDocument (text_of out) y
         → IsSome (said_node (chars (codes "server")) x)
         → IsSetInData (chars (codes "server")) (chars (codes "port"))
         (integer (pos 8080)) x y) }
     // The output is the text with one piece replaced, by the piece of the new entry. The replaced piece is that of the
     // old port, or empty if there was no port.
-    ensures bytes { IfOk result (λ out. (x : Nodes) → IsDocument true (chars text.now) x
+    ensures bytes { IfOk result (λ out. (x : Nodes) → IsDocument (chars text.now) x
         → IsSome (said_node (chars (codes "server")) x)
         → (p : Text) × IsPieceOf (said_entry_in (chars (codes "server")) (chars (codes "port")) x) p
         × IsExchanged p (print_piece
         (plain_entry (Some (plain_identifier (chars (codes "port")))) (integer (pos 8080))))
         (chars text.now) (text_of out)) }
     // Without a server, the output is the text.
-    ensures stays { IfOk result (λ out. (x : Nodes) → IsDocument true (chars text.now) x
+    ensures stays { IfOk result (λ out. (x : Nodes) → IsDocument (chars text.now) x
         → said_node (chars (codes "server")) x ≡ None → text_of out ≡ chars text.now) }
     // A text that is refused is not a document.
-    ensures refused { IsSyntax result → (x : Nodes) → IsDocument true (chars text.now) x → ⊥ }
+    ensures refused { IsSyntax result → (x : Nodes) → IsDocument (chars text.now) x → ⊥ }
 {
     printed_reads_back();
     printed_reads_once();

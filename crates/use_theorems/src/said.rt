@@ -14,7 +14,7 @@ pub fn property_said(
     node: &str,
     name: &str,
 ) -> Result<Option<i128>, ParseFailure>
-    ensures { IfOk result (λ o. (x : Nodes) → IsDocument true (chars text.now) x
+    ensures { IfOk result (λ o. (x : Nodes) → IsDocument (chars text.now) x
         → o ≡ option_and_then integer_value
         (said_property_in (chars node.now) (chars name.now) x)) }
 {

@@ -9,7 +9,7 @@ use Rattle.kdl_value.specs.declared.value.KdlValue.{KdlValue}
 
 -- e is the entry of the text, without its format and spellings
 abbrev pub IsCleared : Text → Entry → Type 0
-IsCleared t e = (x : Entry) × LaidEntryText true t x × (e ≡ cleared x)
+IsCleared t e = (x : Entry) × LaidEntryText t x × (e ≡ cleared x)
 
 -- the entry is only a value, v, and s is the spelling in its format, if it has one
 pub record IsPlain (e : Entry) (v : KdlValue) (s : String Global) : Type 0 where

@@ -90,7 +90,7 @@ module _ {A E : Type 0} (r : Result A E) (spelling line : Bool) (number : ℕ) (
         h
 
     pub derived : document_data x ≡ document_data d → IfOk r (λ _. IsLaidDocument spelling line number s level d x) → IfOk r (λ _. AreWellFormed (document_data d))
-        → IfOk r (λ _. list_all is_space s.indent ≡ true → s.entry_autoformate_keep ≡ false → DocumentKeepsNone d → IsDocument true (print_document x 0) (document_data d))
+        → IfOk r (λ _. list_all is_space s.indent ≡ true → s.entry_autoformate_keep ≡ false → DocumentKeepsNone d → IsDocument (print_document x 0) (document_data d))
     derived e h w =
         if_both r (λ (f : IsLaid) (fit : AreWellFormed (document_data d)). λ ok flag none. document_derived number s ok line flag spelling level d x f none fit e) h w
 
@@ -99,7 +99,7 @@ module _ {A E : Type 0} (r : Result A E) (spelling line : Bool) (number : ℕ) (
     comments h w =
         if_both r
         (λ (f : IsLaid) (fit : AreWellFormed (document_data d)). λ ok flag with none e is i l.
-        comments_stay number s ok with line level 0 d f.0 e is i (written_document number s flag spelling level d f.1.0 f.0 f.1.1 f.1.2 none fit) (subst (λ (z : Document). LaidDocument true e (print_document z 0)) f.2 l))
+        comments_stay number s ok with line level 0 d f.0 e is i (written_document number s flag spelling level d f.1.0 f.0 f.1.1 f.1.2 none fit) (subst (λ (z : Document). LaidDocument e (print_document z 0)) f.2 l))
         h w
 
     pub prints : IfOk r (λ _. IsLaidDocument spelling line number s level d x) → IfOk r (λ _. number ≡ 0 → spelling ≡ false → line ≡ false → IsPlain s → DocumentKeepsNone d → print_document x 0 ≡ canonical s.indent level (document_data d))
@@ -131,7 +131,7 @@ module _ {A E : Type 0} (r : Result A E) (spelling line : Bool) (number : ℕ) (
         h
 
     pub node_derives : node_data x ≡ node_data n → IfOk r (λ _. IsLaidNode spelling line number s level at_start n x) → IfOk r (λ _. IsWellFormedNode (node_data n))
-        → IfOk r (λ _. list_all is_space s.indent ≡ true → s.entry_autoformate_keep ≡ false → NodeKeepsNone n → IsDocument true (print_node x 0) (data'.first (node_data n) data'.none))
+        → IfOk r (λ _. list_all is_space s.indent ≡ true → s.entry_autoformate_keep ≡ false → NodeKeepsNone n → IsDocument (print_node x 0) (data'.first (node_data n) data'.none))
     node_derives e h w =
         if_both r (λ (f : IsLaidOne) (fit : IsWellFormedNode (node_data n)). λ ok flag none. node_derived number s ok line flag spelling level at_start n x f none fit e) h w
 
@@ -140,7 +140,7 @@ module _ {A E : Type 0} (r : Result A E) (spelling line : Bool) (number : ℕ) (
     node_comments h w =
         if_both r
         (λ (f : IsLaidOne) (fit : IsWellFormedNode (node_data n)). λ ok flag with none e is i l.
-        node_comments_stay number s ok with line level 0 at_start n f.0 e is i (written_node number s flag spelling level at_start n f.1.0 f.0 f.1.1 f.1.2 none fit) (subst (λ (z : Node). LaidDocument true e (print_node z 0)) f.2 l))
+        node_comments_stay number s ok with line level 0 at_start n f.0 e is i (written_node number s flag spelling level at_start n f.1.0 f.0 f.1.1 f.1.2 none fit) (subst (λ (z : Node). LaidDocument e (print_node z 0)) f.2 l))
         h w
 
     pub node_prints : IfOk r (λ _. IsLaidNode spelling line number s level at_start n x) → IfOk r (λ _. number ≡ 0 → spelling ≡ false → line ≡ false → IsPlain s → NodeKeepsNone n → print_node x 0 ≡ canonical_node s.indent level (node_data n))

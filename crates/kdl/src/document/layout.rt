@@ -56,7 +56,7 @@ impl KdlDocument {
         ensures formatted { OnOk result (DocumentLaidOut defaults self.old self.new) }
         ensures keeps_none { OnOk result (DocumentKeepsNoForm self.new) }
         ensures derived { OnOk result (DocumentKeepsNoForm self.old
-            → IsDocument true (document_prints self.new) (document_says self.old)) }
+            → IsDocument (document_prints self.new) (document_says self.old)) }
         ensures comments { OnOk result (DocumentKeepsNoForm self.old
             → CommentsStay (document_tree self.old) (document_prints self.new)) }
     {
@@ -121,7 +121,7 @@ impl KdlDocument {
         ensures keeps_none { OnOk result (DocumentKeepsNoForm self.new) }
         ensures derived { OnOk result (IndentsBySpaces (settings config.now)
             → config.now.entry_autoformate_keep ≡ false → DocumentKeepsNoForm self.old
-            → IsDocument true (document_prints self.new) (document_says self.old)) }
+            → IsDocument (document_prints self.new) (document_says self.old)) }
         ensures comments { OnOk result (IndentsBySpaces (settings config.now)
             → config.now.entry_autoformate_keep ≡ false → config.now.no_comments ≡ false
             → DocumentKeepsNoForm self.old
@@ -182,7 +182,7 @@ impl KdlDocument {
         ensures keeps_none { OnOk result (DocumentKeepsNoForm self.new) }
         ensures derived { OnOk result (IndentsBySpaces (settings layout.now.config)
             → layout.now.config.entry_autoformate_keep ≡ false → DocumentKeepsNoForm self.old
-            → IsDocument true (document_prints self.new) (document_says self.old)) }
+            → IsDocument (document_prints self.new) (document_says self.old)) }
         ensures comments { OnOk result (IndentsBySpaces (settings layout.now.config)
             → layout.now.config.entry_autoformate_keep ≡ false
             → layout.now.config.no_comments ≡ false → DocumentKeepsNoForm self.old

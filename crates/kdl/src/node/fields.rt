@@ -38,7 +38,7 @@ impl KdlNode {
         ensures made { IfOk result (λ n. node_tree n ≡ new_node (identifier_tree name)) }
         // It reads back before any text, if the name has no spelling, or one that is that name.
         ensures ends { IfOk result (λ n. (identifier_tree name).repr ≡ None → NodeEnds n) }
-        ensures ends_spelled { IfOk result (λ n. IsIdentifierText true
+        ensures ends_spelled { IfOk result (λ n. IsIdentifierText
             (print_identifier (identifier_tree name)) (identifier_tree name).value → NodeEnds n) }
     {
         KdlNode::named(name)

@@ -64,7 +64,7 @@ impl KdlNode {
         ensures formatted { OnOk result (NodeLaidOut defaults self.old self.new) }
         ensures keeps_none { OnOk result (NodeKeepsNoForm self.new) }
         ensures derived { OnOk result (NodeKeepsNoForm self.old
-            → IsDocument true (node_prints self.new)
+            → IsDocument (node_prints self.new)
             (data'.first (node_says self.old) data'.none)) }
         ensures comments { OnOk result (NodeKeepsNoForm self.old
             → NodeCommentsStay (node_tree self.old) (node_prints self.new)) }
@@ -127,7 +127,7 @@ impl KdlNode {
         ensures keeps_none { OnOk result (NodeKeepsNoForm self.new) }
         ensures derived { OnOk result (IndentsBySpaces (settings config.now)
             → config.now.entry_autoformate_keep ≡ false → NodeKeepsNoForm self.old
-            → IsDocument true (node_prints self.new)
+            → IsDocument (node_prints self.new)
             (data'.first (node_says self.old) data'.none)) }
         ensures comments { OnOk result (IndentsBySpaces (settings config.now)
             → config.now.entry_autoformate_keep ≡ false → config.now.no_comments ≡ false
@@ -188,7 +188,7 @@ impl KdlNode {
         ensures keeps_none { OnOk result (NodeKeepsNoForm self.new) }
         ensures derived { OnOk result (IndentsBySpaces (settings layout.now.config)
             → layout.now.config.entry_autoformate_keep ≡ false → NodeKeepsNoForm self.old
-            → IsDocument true (node_prints self.new)
+            → IsDocument (node_prints self.new)
             (data'.first (node_says self.old) data'.none)) }
         ensures comments { OnOk result (IndentsBySpaces (settings layout.now.config)
             → layout.now.config.entry_autoformate_keep ≡ false

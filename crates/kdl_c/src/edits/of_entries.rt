@@ -124,7 +124,7 @@ pub extern "C" fn kdl_insert_entry(
     ensures done { result ≡ 0 → Each (AtNode path.now (EntryInserted (chars entry.now) index))
         document.old.held.document document.new.held.document }
     ensures refused { result ≡ 1 → (x : EntryData)
-        → IsEntryText true (chars entry.now) x → ⊥ }
+        → IsEntryText (chars entry.now) x → ⊥ }
     ensures utf8 { result ≡ 2 → IsUtf8 entry.now → ⊥ }
     ensures kept { (result ≡ 0 → ⊥)
         → Each SameTree document.old.held.document document.new.held.document }

@@ -56,7 +56,7 @@ pub extern "C" fn kdl_insert_node(
     ensures done { result ≡ 0 → Each (NodeInserted path.now (chars node.now) index)
         document.old.held.document document.new.held.document }
     ensures refused { result ≡ 1 → (x : NodeData)
-        → IsNodeText true (chars node.now) x → ⊥ }
+        → IsNodeText (chars node.now) x → ⊥ }
     ensures utf8 { result ≡ 2 → IsUtf8 node.now → ⊥ }
     ensures kept { (result ≡ 0 → ⊥)
         → Each SameTree document.old.held.document document.new.held.document }

@@ -83,12 +83,12 @@ end_before (before_entry ls ds) = then (end_lines ls) (end_star (λ s r x. end_f
     end_first : {s r : Text} → DroppedFirst true s r → End s r
     end_first (dropped_first m i n) = then (end_slashdash m) (then (end_entry i) (end_some n))
 
-pub built_entry : (t : Text) (x : data'.Entry) → IsEntryText true t x → (e : Entry) × LaidEntryText true t e × (entry_data e ≡ x)
+pub built_entry : (t : Text) (x : data'.Entry) → IsEntryText t x → (e : Entry) × LaidEntryText t e × (entry_data e ≡ x)
 built_entry t x (entry_text b i ls) =
     let q = (end_before b).piece in let w = (end_lines ls).piece in
     let I = build_item t i in
     let at = span_of t t [] in
     (I.tree q w at, laid_entry_text (place b (end_before b)) (I.laid q w at) (place ls (end_lines ls)) refl, I.same q w at)
 
-pub built_identifier : (t v : Text) → IsIdentifierText true t v → (i : Identifier) × LaidIdentifier true t i t [] × (i.value ≡ v)
+pub built_identifier : (t v : Text) → IsIdentifierText t v → (i : Identifier) × LaidIdentifier true t i t [] × (i.value ≡ v)
 built_identifier t v d = (identifier_of t d, laid_identifier t d, same_value t d)

@@ -81,7 +81,7 @@ module _ (whole : Text) where
       (subst (λ (t : Text). LaidEntry false whole (formed (cleared e)) t u) (entry_printed false whole d) d)
 
 -- and what it prints alone is an entry
-formless_entry : (e : Entry) → IsFormless e → IsEntryText true (print_entry e) (entry_data e)
+formless_entry : (e : Entry) → IsFormless e → IsEntryText (print_entry e) (entry_data e)
 unfolding AreScalars
 formless_entry e f =
     let x = item_stands [] e [] f.key f.ty f.value ValueEnd.nothing in
@@ -89,10 +89,10 @@ formless_entry e f =
     let printed : 32 ∷ x.0 ≡ 32 ∷ print_entry (cleared e) = entry_printed false [] d ∙ append-nil (print_entry (formed (cleared e))) ∙ space_before (cleared e) refl in
     let text : x.0 ≡ print_entry (cleared e) = cc in
     let i : IsEntry true x.0 [] (entry_data (cleared e)) = subst (λ (y : data'.Entry). IsEntry true x.0 [] y) (same_data (cleared e)) (item_of false [] x.1) in
-    subst (λ (e : Entry). IsEntryText true (print_entry e) (entry_data e)) f.plain
-    (subst (λ (t : Text). IsEntryText true t (entry_data (cleared e))) text (entry_text (before_entry Star.none Star.none) i Star.none))
+    subst (λ (e : Entry). IsEntryText (print_entry e) (entry_data e)) f.plain
+    (subst (λ (t : Text). IsEntryText t (entry_data (cleared e))) text (entry_text (before_entry Star.none Star.none) i Star.none))
 
-spelled_identifier : (s : Text) → list_all is_scalar s ≡ true → IsIdentifierText true (spelled s) s
+spelled_identifier : (s : Text) → list_all is_scalar s ≡ true → IsIdentifierText (spelled s) s
 spelled_identifier s ok = subst (λ (t : Text). IsString true t [] s) (append-nil (spelled s)) (printed_string s [] ok ValueEnd.nothing)
 
 pub formless_reads_back : FormlessReadsBack

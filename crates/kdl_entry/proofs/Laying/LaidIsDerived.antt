@@ -3,7 +3,7 @@ use Rattle.std.proofs.Common.{Bool, true, Option, option_map}
 use Rattle.kdl_text.specs.Chars.{Text}
 use Rattle.kdl_text.specs.declared.span.SourceSpan.{SourceSpan}
 use Rattle.kdl_entry.specs.Entries.{IsString, parens, MaybeType, untyped, typed, value, IsEntry, property, argument, IsEntryText, entry_text}
-use Rattle.kdl_entry.specs.Laid.{LaidIdentifier, spelled, LaidType, no_type, a_type, no_key, a_key, LaidItem, item, LaidEntryText, laid_entry_text}
+use Rattle.kdl_entry.specs.Laid.{LaidIdentifier, spelled, LaidType, no_type, a_type, no_key, a_key, LaidItem, item, LaidEntryTextAs, laid_entry_text}
 use Rattle.kdl_entry.specs.Tree.{Identifier, Entry, entry_data}
 
 module _ (exact : Bool) (whole : Text) where
@@ -18,5 +18,5 @@ module _ (exact : Bool) (whole : Text) where
   item_of (item no_key y v) = argument (value (type_of y) v.is)
   item_of (item (a_key k ss us) y v) = property (string_of k) ss.is us.is (value (type_of y) v.is)
 
-unfoldable pub entry_of : (exact : Bool) (t : Text) (e : Entry) → LaidEntryText exact t e → IsEntryText true t (entry_data e)
+unfoldable pub entry_of : (exact : Bool) (t : Text) (e : Entry) → LaidEntryTextAs exact t e → IsEntryText t (entry_data e)
 entry_of exact t e (laid_entry_text b i ls x) = entry_text b.is (item_of exact t i) ls.is

@@ -2,7 +2,7 @@
 use Rattle.std.proofs.Common.{◌≡◌, Bool, [], ◌∷◌, ◌++◌, Option, refl, sym, ap, ◌∙◌, append_assoc, append-nil}
 use Rattle.kdl_text.specs.Chars.{Text}
 use Rattle.kdl_text.specs.declared.span.SourceSpan.{SourceSpan}
-use Rattle.kdl_entry.specs.Laid.{LaidIdentifier, spelled, LaidType, no_type, a_type, LaidKey, no_key, a_key, LaidItem, item, LaidEntry, laid_entry, LaidEntryText, laid_entry_text}
+use Rattle.kdl_entry.specs.Laid.{LaidIdentifier, spelled, LaidType, no_type, a_type, LaidKey, no_key, a_key, LaidItem, item, LaidEntry, laid_entry, LaidEntryTextAs, laid_entry_text}
 use Rattle.kdl_entry.specs.Print.{print_identifier, print_type, print_key, print_entry}
 use Rattle.kdl_entry.specs.Tree.{Identifier, Entry}
 
@@ -29,5 +29,5 @@ module _ (exact : Bool) (whole : Text) where
   pub entry_printed : {e : Entry} {s r : Text} → LaidEntry exact whole e s r → s ≡ print_entry e ++ r
   entry_printed {r = r} (laid_entry l i x) = l.text ∙ item_printed i r refl
 
-pub entry_text_printed : (exact : Bool) (t : Text) (e : Entry) → LaidEntryText exact t e → print_entry e ≡ t
+pub entry_text_printed : (exact : Bool) (t : Text) (e : Entry) → LaidEntryTextAs exact t e → print_entry e ≡ t
 entry_text_printed exact t e (laid_entry_text l i ls x) = sym (l.text ∙ item_printed exact t i [] ls.text ∙ append-nil (print_entry e))

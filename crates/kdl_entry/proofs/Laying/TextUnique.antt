@@ -7,7 +7,7 @@ use Rattle.kdl_text.proofs.Looking.Stars.{star_map, longest_det}
 use Rattle.kdl_text.proofs.Spacing.SpaceUnique.{node_space_dets, line_space_dets}
 use Rattle.kdl_value.specs.Data.{Value, text}
 use Rattle.kdl_entry.specs.Data.{Entry}
-use Rattle.kdl_entry.specs.Entries.{IsString, string, IsPlainValue, a_string, a_plain, IsType, parens, untyped, typed, IsValue, value, IsEntry, property, argument, IsIdentifierText, DroppedFirst, dropped_first, before_entry, IsEntryText, entry_text}
+use Rattle.kdl_entry.specs.Entries.{IsString, string, IsPlainValue, a_string, a_plain, IsType, parens, untyped, typed, IsValue, value, IsEntry, property, argument, IsIdentifierTextIn, DroppedFirst, dropped_first, before_entry, IsEntryTextIn, entry_text}
 use Rattle.kdl_lexer.specs.Tokens.{Token, space, newline, string as string_token, value as value_token, left, BeginsToken, t_space, t_newline, t_slashdash, t_string, t_value, t_left, t_right, t_equals}
 use Rattle.kdl_lexer.proofs.Lexing.TokenUnique.{token_det, no_token}
 use Rattle.kdl_lexer.proofs.Lexing.StringUnique.{string_det, plain_det, string_or_plain}
@@ -184,10 +184,10 @@ last_same {a = a} {u = u} (more (dropped_first {t = p} (slashdash ls) i n) ds) d
     plus_same : {s r t : Text} → Plus NodeSpace s r → ((u : Text) → LineSpace r u → ⊥) → Plus NodeSpace s t → ((u : Text) → LineSpace t u → ⊥) → r ≡ t
     plus_same (plus n ss) x (plus m us) y = spaces_same (more n ss) (λ u h. x u (LineSpace.space h)) (more m us) (λ u h. y u (LineSpace.space h))
 
-pub one_identifier : (wide : Bool) (t v w : Text) → IsIdentifierText wide t v → IsIdentifierText wide t w → v ≡ w
+pub one_identifier : (wide : Bool) (t v w : Text) → IsIdentifierTextIn wide t v → IsIdentifierTextIn wide t w → v ≡ w
 one_identifier wide t v w a b = (string_same a b).1
 
-pub one_entry : (wide : Bool) (t : Text) (x y : Entry) → IsEntryText wide t x → IsEntryText wide t y → x ≡ y
+pub one_entry : (wide : Bool) (t : Text) (x y : Entry) → IsEntryTextIn wide t x → IsEntryTextIn wide t y → x ≡ y
 one_entry wide t x y (entry_text (before_entry ls ds) d e) (entry_text {u = u} (before_entry ls' ds') d' e') =
     let k = longest_det line_space_dets ls (items_lines (items ds d)) ls' (items_lines (items ds' d')) in
     last_same ds d e (subst (λ q. Star (DroppedFirst wide) q u) (sym k) ds') d' e'

@@ -22,7 +22,7 @@ over_entry (text.takes {d = d} {k = k} b e a) p q =
     let (r, f, g) = stepped (entry_step p k) d (ap (λ z. text_step z k) (sym q) ∙ e) in
     takes b f (over_entry a r g)
 
-pub accepted_entry : (t : Text) → Takes (in_entry ahead) t → (x : Entry) × IsEntryText true t x
+pub accepted_entry : (t : Text) → Takes (in_entry ahead) t → (x : Entry) × IsEntryText t x
 accepted_entry t a = accepts_derived (over_entry a ahead refl)
 
 -- nothing comes after the string of an identifier text
@@ -34,12 +34,12 @@ the_string : {c d : TextControl} {s r : Text} {k : Token} → BeginsToken s k r 
 the_string {k = string v} (t_string p) e q = let x = ap (λ z. text_step z (string v)) (sym q) ∙ e in (v, p, cc)
 the_string {k = k} _ e q = let x = ap (λ z. text_step z k) (sym q) ∙ e in absurd cc
 
-over_identifier : {c : TextControl} {t : Text} → Takes c t → c ≡ in_identifier false → (v : Text) × IsIdentifierText true t v
+over_identifier : {c : TextControl} {t : Text} → Takes c t → c ≡ in_identifier false → (v : Text) × IsIdentifierText t v
 over_identifier (text.ends f) q = let x = ap text_finish (sym q) ∙ f in absurd cc
 over_identifier (text.takes {s = s} b e a) q =
     let (v, p, g) = the_string b e q in
     let n = nothing_after a g in
     (v, entries.string (subst (λ (z : Text). StringPiece s z v) n p) nothing)
 
-pub accepted_identifier : (t : Text) → Takes (in_identifier false) t → (v : Text) × IsIdentifierText true t v
+pub accepted_identifier : (t : Text) → Takes (in_identifier false) t → (v : Text) × IsIdentifierText t v
 accepted_identifier t a = over_identifier a refl

@@ -183,10 +183,10 @@ end_before (before_entry ls ds) = then (end_lines ls) (end_star (λ s r x. end_f
 pub record Built (t : Text) (x : data'.Entry) : Type 0 where
   pub tree : Entry
   pub answers : AnswersEntry t tree
-  pub laid : LaidEntryText true t tree
+  pub laid : LaidEntryText t tree
   pub same : entry_data tree ≡ x
 
-pub built : {t : Text} {x : data'.Entry} → IsEntryText true t x → Built t x
+pub built : {t : Text} {x : data'.Entry} → IsEntryText t x → Built t x
 built {t = t} (entry_text {u = u} {r = r} (before_entry ls ds) i zs) =
     let I = read_item t i in
     let p = between r [] in

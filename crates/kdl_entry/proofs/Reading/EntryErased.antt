@@ -64,5 +64,5 @@ runs whole st h (takes {c = c} {d = d} {s = s} {r = r} {k = k} b e a) q =
     (y.0, reads b x.1 y.1)
 
 -- it accepts only texts that are derived
-pub accepts_derived : {t : Text} → Accepts ahead t → (x : data'.Entry) × IsEntryText true t x
+pub accepts_derived : {t : Text} → Accepts ahead t → (x : data'.Entry) × IsEntryText t x
 accepts_derived {t = t} a = let x = runs t machine.ahead tt a refl in derived t x.0 x.1

@@ -29,8 +29,8 @@ pub one_entry_answer : OneEntryAnswer
 one_entry_answer t d e a b = runs_det a b
 
 pub record Read (t : Text) (e : Entry) : Type 0 where
-  pub derived : IsEntryText true t (entry_data e)
-  pub laid : LaidEntryText true t e
+  pub derived : IsEntryText t (entry_data e)
+  pub laid : LaidEntryText t e
 
 pub read : (t : Text) (e : Entry) → AnswersEntry t e → Read t e
 read t e a =
@@ -38,10 +38,10 @@ read t e a =
     let b = built d.1 in
     let same : b.tree ≡ e = runs_det b.answers a in
     record {
-      derived = subst (λ (z : data'.Entry). IsEntryText true t z) (sym b.same ∙ ap entry_data same) d.1;
-      laid = subst (λ (z : Entry). LaidEntryText true t z) same b.laid;
+      derived = subst (λ (z : data'.Entry). IsEntryText t z) (sym b.same ∙ ap entry_data same) d.1;
+      laid = subst (λ (z : Entry). LaidEntryText t z) same b.laid;
     }
 
 pub entry_answers : EntryAnswers
 entry_answers =
-    (λ t x. (λ i. (let b = built i in (b.tree, b.answers, b.same)), λ d. subst (λ (z : data'.Entry). IsEntryText true t z) d.2 (read t d.0 d.1).derived), λ t e a. (read t e a).laid)
+    (λ t x. (λ i. (let b = built i in (b.tree, b.answers, b.same)), λ d. subst (λ (z : data'.Entry). IsEntryText t z) d.2 (read t d.0 d.1).derived), λ t e a. (read t e a).laid)

@@ -65,7 +65,7 @@ DroppedThen (in_node (spaced b)) s = SpacedThen s ⊎ Key b false s
 DroppedThen p s = InItem p false s
 
 abbrev Rest : State → Text → Type 0
-Rest ahead s = (x : data'.Entry) × IsEntryText true s x
+Rest ahead s = (x : data'.Entry) × IsEntryText s x
 Rest (dropping p) s = DroppedThen p s
 Rest (under p it) s = InItem p true s
 Rest (word w from) s = Then true s ⊎ KeyThen true s
@@ -271,5 +271,5 @@ module _ (whole : Text) (out : Entry) where
   sound (reads {st = done x from} (t_newline n) e a) = last_space (LineSpace.«break» n) (back _ (done x from) _ e (sound a))
   sound (reads t e a) = absurd cc
 
-pub derived : (t : Text) (e : Entry) → AnswersEntry t e → (x : data'.Entry) × IsEntryText true t x
+pub derived : (t : Text) (e : Entry) → AnswersEntry t e → (x : data'.Entry) × IsEntryText t x
 derived t e a = sound t e a

@@ -8,11 +8,11 @@ use Rattle.kdl_entry.specs.Tree.{Identifier}
 use Rattle.kdl_entry.proofs.Laying.TextLaws.{laid_identifier_is_derived}
 use Rattle.kdl_entry.proofs.Laying.TextUnique.{one_identifier}
 
-pub found : (t : Text) (i : Identifier) → LaidIdentifierText true i t → IsIdentifierText true t i.value
+pub found : (t : Text) (i : Identifier) → LaidIdentifierText i t → IsIdentifierText t i.value
 found t i l = (laid_identifier_is_derived true t i l).0
 
-pub only : (t : Text) (i : Identifier) → LaidIdentifierText true i t → (v : Text) → IsIdentifierText true t v → v ≡ i.value
+pub only : (t : Text) (i : Identifier) → LaidIdentifierText i t → (v : Text) → IsIdentifierText t v → v ≡ i.value
 only t i l v d = one_identifier true t v i.value d (found t i l)
 
-pub prints : (t : Text) (i : Identifier) → LaidIdentifierText true i t → print_identifier i ≡ t
+pub prints : (t : Text) (i : Identifier) → LaidIdentifierText i t → print_identifier i ≡ t
 prints t i l = (laid_identifier_is_derived true t i l).1

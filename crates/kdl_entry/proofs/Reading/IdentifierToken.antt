@@ -27,11 +27,11 @@ use Rattle.kdl_entry.proofs.Slicing.Placing.{place}
 use Rattle.kdl_lexer.proofs.Lexing.StringUnique.{string_end}
 
 -- where a token was handed out, the text is an identifier only if the token is its string, and the text ends after it
-is_string : {t r v : Text} {k : tokens.Token} → Cuts t k r → IsIdentifierText true t v → (r ≡ []) × (k ≡ tokens.string v)
+is_string : {t r v : Text} {k : tokens.Token} → Cuts t k r → IsIdentifierText t v → (r ≡ []) × (k ≡ tokens.string v)
 is_string (one u) (string p e) = token_det u (t_string p)
 is_string (spaces (plus n m)) (string p e) = let x = (token_det (t_space n) (t_string p)).1 in absurd cc
 
-laid_whole : {t r v : Text} → Cuts t (tokens.string v) r → r ≡ [] → LaidIdentifierText true (identifier_at t v t r) t
+laid_whole : {t r v : Text} → Cuts t (tokens.string v) r → r ≡ [] → LaidIdentifierText (identifier_at t v t r) t
 laid_whole {t = t} {r = r} {v = v} (one (t_string p)) e = subst (λ (z : Text). LaidIdentifier true t (identifier_at t v t r) t z) e (spelled (at_end r p e) refl)
   where
     at_end : (r : Text) → StringPiece t r v → r ≡ [] → Is (λ s q. IsString true s q v) (between t r) t r
@@ -39,17 +39,17 @@ laid_whole {t = t} {r = r} {v = v} (one (t_string p)) e = subst (λ (z : Text). 
 
 -- where no token begins
 pub no_token_told : (t : Text) (old new : Here) (e : LexFailure) → old.rest ≡ t → Lexed old (Err e) new → AnswersIdentifierText t (Err e)
-no_token_told t old new Faulty e x = λ v d. none v (subst (λ (z : Text). IsIdentifierText true z v) (sym e) d)
+no_token_told t old new Faulty e x = λ v d. none v (subst (λ (z : Text). IsIdentifierText z v) (sym e) d)
   where
-    none : (v : Text) → IsIdentifierText true old.rest v → ⊥
+    none : (v : Text) → IsIdentifierText old.rest v → ⊥
     none v (string p q) = x.none _ _ (t_string p)
 no_token_told t old new Memory e x = tt
 
 -- where the text is empty
 pub empty_told : (t : Text) (old : Here) → old.rest ≡ t → old.rest ≡ [] → AnswersIdentifierText t (Err Faulty)
-empty_told t old e n = λ v d. none v (subst (λ (z : Text). IsIdentifierText true z v) (sym e ∙ n) d)
+empty_told t old e n = λ v d. none v (subst (λ (z : Text). IsIdentifierText z v) (sym e ∙ n) d)
   where
-    none : (v : Text) → IsIdentifierText true [] v → ⊥
+    none : (v : Text) → IsIdentifierText [] v → ⊥
     none v (string p q) = no_token (t_string p)
 
 string_kind : (k : TokenKind) (v : Text) → kind_view k ≡ tokens.string v → ((s : String Global) → k ≡ StringKind s → ⊥) → ⊥
@@ -66,8 +66,8 @@ more_told t old mid k e h n = λ v d. n (h.end_rest ∙ (is_string (rw e at h.cu
 
 -- where the first token is a string, and the text ends after it
 pub whole_laid : (t : Text) (old mid : Here) (k : CodeToken) (s : String Global) (i : Identifier) → old.rest ≡ t → HandsOut old k mid → k.kind ≡ StringKind s → k.at.end.rest ≡ []
-    → i ≡ identifier_at t (text_of s) k.at.start.rest k.at.end.rest → LaidIdentifierText true i t
+    → i ≡ identifier_at t (text_of s) k.at.start.rest k.at.end.rest → LaidIdentifierText i t
 whole_laid t old mid k s i e h x n y =
     let c : Cuts old.rest (tokens.string (text_of s)) mid.rest = subst (λ (z : tokens.Token). Cuts old.rest z mid.rest) (ap kind_view x) h.cuts in
     let l = laid_whole (subst (λ (z : Text). Cuts z (tokens.string (text_of s)) mid.rest) e c) (sym h.end_rest ∙ n) in
-    subst (λ (z : Identifier). LaidIdentifierText true z t) (sym (rw (h.start_rest, e, h.end_rest) at y)) l
+    subst (λ (z : Identifier). LaidIdentifierText z t) (sym (rw (h.start_rest, e, h.end_rest) at y)) l

@@ -10,6 +10,6 @@ use Rattle.kdl_lexer.specs.declared.lexer.LexFailure.TheVariants.{Faulty, Memory
 
 -- the identifier, located in the text; a refused text is none, and an allocation failure says nothing
 abbrev pub AnswersIdentifierText : Text → Result KdlIdentifier LexFailure → Type 0
-AnswersIdentifierText t (Ok i) = LaidIdentifierText true (identifier_tree i) t
-AnswersIdentifierText t (Err Faulty) = (v : Text) → IsIdentifierText true t v → ⊥
+AnswersIdentifierText t (Ok i) = LaidIdentifierText (identifier_tree i) t
+AnswersIdentifierText t (Err Faulty) = (v : Text) → IsIdentifierText t v → ⊥
 AnswersIdentifierText t (Err Memory) = Unit {0}

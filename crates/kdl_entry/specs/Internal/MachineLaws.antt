@@ -13,4 +13,4 @@ OneEntryAnswer = (t : Text) (d e : Entry) → AnswersEntry t d → AnswersEntry 
 
 -- it returns exactly if the text is an entry, with its data, and what it returns is located in the text, with its spans
 abbrev pub EntryAnswers : Type 0
-EntryAnswers = ((t : Text) (x : data'.Entry) → IsEntryText true t x ↔ ((e : Entry) × AnswersEntry t e × (entry_data e ≡ x))) × ((t : Text) (e : Entry) → AnswersEntry t e → LaidEntryText true t e)
+EntryAnswers = ((t : Text) (x : data'.Entry) → IsEntryText t x ↔ ((e : Entry) × AnswersEntry t e × (entry_data e ≡ x))) × ((t : Text) (e : Entry) → AnswersEntry t e → LaidEntryText t e)

@@ -374,17 +374,17 @@ impl KdlEntry {
     pub fn parse(alloc: Global, text: &str) -> Result<KdlEntry, ParseFailure>
         // The result is what the grammar derives,
         ensures found { IfOk result
-            (λ e. IsEntryText true (chars text.now) (entry_data (entry_tree e))) }
+            (λ e. IsEntryText (chars text.now) (entry_data (entry_tree e))) }
         // and it derives nothing else.
         ensures only { IfOk result
-            (λ e. (x : data'.Entry) → IsEntryText true (chars text.now) x
+            (λ e. (x : data'.Entry) → IsEntryText (chars text.now) x
             → x ≡ entry_data (entry_tree e)) }
         // The entry is located in the text, with each place in its class and each span at its piece, and prints the
         // text.
-        ensures laid { IfOk result (λ e. LaidEntryText true (chars text.now) (entry_tree e)) }
+        ensures laid { IfOk result (λ e. LaidEntryText (chars text.now) (entry_tree e)) }
         ensures prints { IfOk result (λ e. print_entry (entry_tree e) ≡ chars text.now) }
         // A refused text is not derived, and the error has the spans of its faults.
-        ensures refused { IsSyntax result → (x : data'.Entry) → IsEntryText true (chars text.now) x
+        ensures refused { IsSyntax result → (x : data'.Entry) → IsEntryText (chars text.now) x
             → ⊥ }
         ensures told { TellsOnSyntax text.now result }
     {

@@ -67,17 +67,17 @@ impl KdlIdentifier {
     pub fn parse(alloc: Global, text: &str) -> Result<KdlIdentifier, ParseFailure>
         // The result is what the grammar derives,
         ensures found { IfOk result
-            (λ i. IsIdentifierText true (chars text.now) (identifier_tree i).value) }
+            (λ i. IsIdentifierText (chars text.now) (identifier_tree i).value) }
         // and it derives nothing else.
         ensures only { IfOk result
-            (λ i. (v : Text) → IsIdentifierText true (chars text.now) v
+            (λ i. (v : Text) → IsIdentifierText (chars text.now) v
             → v ≡ (identifier_tree i).value) }
         // The identifier is located in the text: its spelling and its span are the whole text, which it prints.
         ensures laid { IfOk result
-            (λ i. LaidIdentifierText true (identifier_tree i) (chars text.now)) }
+            (λ i. LaidIdentifierText (identifier_tree i) (chars text.now)) }
         ensures prints { IfOk result (λ i. print_identifier (identifier_tree i) ≡ chars text.now) }
         // A refused text is not derived, and the error has the spans of its faults.
-        ensures refused { IsSyntax result → (v : Text) → IsIdentifierText true (chars text.now) v
+        ensures refused { IsSyntax result → (v : Text) → IsIdentifierText (chars text.now) v
             → ⊥ }
         ensures told { TellsOnSyntax text.now result }
     {

@@ -13,7 +13,7 @@ use Rattle.kdl_entry.specs.Entries.{MaybeType, untyped, typed, parens, IsValue, 
 use Rattle.kdl_entry.proofs.Moving.EntryMoves.{punctuation_end}
 use Rattle.kdl_entry.proofs.Laying.ValueReadsBack.{printed_string, printed_value}
 use Rattle.kdl_grammar.specs.Data.{Node, node, Children, no_children, children, Nodes, none, first}
-use Rattle.kdl_grammar.specs.Grammar.{Terminator, IsNode, named, AfterName, kept_entry, blocks, Blocks, AfterBlock, Gap, no_gap, line_space, AreNodes, last_gap, node_then, braces, IsDocument, IsNodeText, node_text}
+use Rattle.kdl_grammar.specs.Grammar.{Terminator, IsNode, named, AfterName, kept_entry, blocks, Blocks, AfterBlock, Gap, no_gap, line_space, AreNodes, last_gap, node_then, braces, IsDocument, IsDocumentIn, IsNodeText, node_text}
 use Rattle.kdl_grammar.proofs.LawProofs.{one_document, one_node}
 use Rattle.kdl_fmt.specs.Canonical.{canonical_type, canonical_key, canonical_entries, newline_if_none, canonical_node, canonical_children, canonical, canonical_nodes, Canonical, CanonicalNode}
 use Rattle.kdl_fmt.specs.WellFormed.{AreScalars, AreWellFormedEntries, IsWellFormedNode, AreWellFormedChildren, AreWellFormed}
@@ -122,13 +122,13 @@ module _ (indent : Text) (ok : list_all is_space indent ≡ true) where
         (children_read level k (canonical_nodes indent level ns ++ t) w.0.3))
         (Terminator.newline (a_newline _)) (nodes_read level ns t r w.1 g))
 
-  document_reads : (level : ℕ) (x : Nodes) → AreWellFormed x → IsDocument true (canonical indent level x) x
+  document_reads : (level : ℕ) (x : Nodes) → AreWellFormed x → IsDocument (canonical indent level x) x
   document_reads level x w =
-      IsDocument.no_bom (nodes_read level x (newline_if_none x) [] w (subst (λ (t : Text). Gap true t []) (append-nil (newline_if_none x)) (empty_gap x [] [] no_gap)))
+      IsDocumentIn.no_bom (nodes_read level x (newline_if_none x) [] w (subst (λ (t : Text). Gap true t []) (append-nil (newline_if_none x)) (empty_gap x [] [] no_gap)))
 
-  node_reads : (level : ℕ) (x : Node) → IsWellFormedNode x → IsNodeText true (canonical_node indent level x) x
+  node_reads : (level : ℕ) (x : Node) → IsWellFormedNode x → IsNodeText (canonical_node indent level x) x
   node_reads level (node ty name es k) w =
-      subst (λ (t : Text). IsNodeText true t (node ty name es k)) (append-nil (canonical_node indent level (node ty name es k)))
+      subst (λ (t : Text). IsNodeText t (node ty name es k)) (append-nil (canonical_node indent level (node ty name es k)))
       (rw (node_joined (repeat level indent) (canonical_type ty) (spelled name) (canonical_entries es) (canonical_children indent level k) [])
       (node_text (level_gap indent ok level _ _ no_gap)
       (inner_reads ty name es k (canonical_children indent level k) [] w.0 w.1 w.2 (children_end indent level k _ (newline_ends [])) (children_read level k [] w.3))
@@ -140,7 +140,7 @@ module _ (indent : Text) (ok : list_all is_space indent ≡ true) where
       record {
         derived = here;
         alone = λ y d. one_document true (canonical indent level x) y x d here;
-        apart = λ y v e. one_document true (canonical indent level x) y x (subst (λ (t : Text). IsDocument true t y) e (document_reads level y v)) here;
+        apart = λ y v e. one_document true (canonical indent level x) y x (subst (λ (t : Text). IsDocument t y) e (document_reads level y v)) here;
       }
 
   pub canonical_node_reads : (level : ℕ) (x : Node) → IsWellFormedNode x → CanonicalNode indent level x
@@ -149,5 +149,5 @@ module _ (indent : Text) (ok : list_all is_space indent ≡ true) where
       record {
         derived = here;
         alone = λ y d. one_node true (canonical_node indent level x) y x d here;
-        apart = λ y v e. one_node true (canonical_node indent level x) y x (subst (λ (t : Text). IsNodeText true t y) e (node_reads level y v)) here;
+        apart = λ y v e. one_node true (canonical_node indent level x) y x (subst (λ (t : Text). IsNodeText t y) e (node_reads level y v)) here;
       }

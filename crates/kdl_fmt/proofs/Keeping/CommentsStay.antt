@@ -10,7 +10,7 @@ use Rattle.kdl_text.specs.declared.span.SourceSpan.{SourceSpan}
 use Rattle.kdl_entry.specs.Places.{span_of}
 use Rattle.kdl_entry.specs.Print.{print_identifier, print_type}
 use Rattle.kdl_grammar.specs.Grammar.{Terminator, Gap}
-use Rattle.kdl_grammar.specs.Laid.{node_format, content_span, laid_node, LaidChildren, no_block, a_block, LaidNodes, no_node, a_node, LaidContent, without_nodes, with_nodes, LaidDocument}
+use Rattle.kdl_grammar.specs.Laid.{node_format, content_span, laid_node, LaidChildren, no_block, a_block, LaidNodes, no_node, a_node, LaidContent, without_nodes, with_nodes, LaidDocument, LaidDocumentAs}
 use Rattle.kdl_grammar.specs.Places.{BeforeChildren, AfterChildren}
 use Rattle.kdl_grammar.specs.Print.{print_pieces, print_head, print_node, print_tail, print_nodes, print_document}
 use Rattle.kdl_grammar.specs.Tree.{NodeFormat, DocumentFormat, Head, Node, node, Children, no_children, children, Document, document, Nodes, none, first}
@@ -323,16 +323,16 @@ module _ (number : ℕ) (s : Settings) (ok : list_all is_space s.indent ≡ true
 
 -- each item of the document is one of the laid text, as it is on a line, in the same order
 pub comments_stay : (number : ℕ) (s : Settings) → list_all is_space s.indent ≡ true → s.no_comments ≡ false → (keep : Bool) (level depth : ℕ) → (d d' e : Document) → (is : List Item)
-    → DocumentItems d is → IsWrittenDocument number s level d d' → LaidDocument true e (print_document (one_lined_document keep d d') depth) → DocumentItems e (map on_line is)
+    → DocumentItems d is → IsWrittenDocument number s level d d' → LaidDocument e (print_document (one_lined_document keep d d') depth) → DocumentItems e (map on_line is)
 comments_stay number s ok with keep level depth d d' e is i f laid =
     let t = print_document (one_lined_document keep d d') depth in
     let x = document_content number s ok with keep t level depth d d' is i f in
-    subst (λ (y : Document). DocumentItems y (map on_line is)) (one_laid_document t x.tree e (LaidDocument.no_bom x.laid) laid) x.items
+    subst (λ (y : Document). DocumentItems y (map on_line is)) (one_laid_document t x.tree e (LaidDocumentAs.no_bom x.laid) laid) x.items
 
 -- the same for a node that is printed alone
 pub node_comments_stay : (number : ℕ) (s : Settings) → list_all is_space s.indent ≡ true → s.no_comments ≡ false → (keep : Bool) (level depth : ℕ) → (before : Before) (n n' : Node) → (e : Document) → (is : List Item)
-    → NodeItems n is → IsWrittenNode number s level before n n' → LaidDocument true e (print_node (one_lined_node keep n n') depth) → DocumentItems e (map on_line is)
+    → NodeItems n is → IsWrittenNode number s level before n n' → LaidDocument e (print_node (one_lined_node keep n n') depth) → DocumentItems e (map on_line is)
 node_comments_stay number s ok with keep level depth before n n' e is i f laid =
     let t = print_node (one_lined_node keep n n') depth in
     let x = node_content number s ok with keep t level depth before n n' is i f in
-    subst (λ (y : Document). DocumentItems y (map on_line is)) (one_laid_document t x.tree e (LaidDocument.no_bom x.laid) laid) x.items
+    subst (λ (y : Document). DocumentItems y (map on_line is)) (one_laid_document t x.tree e (LaidDocumentAs.no_bom x.laid) laid) x.items

@@ -179,13 +179,13 @@ module _ (number : ℕ) (s : Settings) (ok : list_all is_space s.indent ≡ true
 
   -- so its text is a document with its data
   module _ (no_keep : s.entry_autoformate_keep ≡ false) (spelling : Bool) where
-    pub document_derived : (level : ℕ) (d x : Document) → IsLaidDocument spelling keep number s level d x → DocumentKeepsNone d → AreWellFormed (document_data d) → document_data x ≡ document_data d → IsDocument true (print_document x 0) (document_data d)
+    pub document_derived : (level : ℕ) (d x : Document) → IsLaidDocument spelling keep number s level d x → DocumentKeepsNone d → AreWellFormed (document_data d) → document_data x ≡ document_data d → IsDocument (print_document x 0) (document_data d)
     document_derived level d x (r, (m, f, q), same) bare w same_data =
         let written = written_document number s no_keep spelling level d m r f q bare w in
-        subst (IsDocument true (print_document x 0)) same_data (back.reads_derived x (subst DocumentReads (sym same) (document_reads level d r written)))
+        subst (IsDocument (print_document x 0)) same_data (back.reads_derived x (subst DocumentReads (sym same) (document_reads level d r written)))
 
     pub node_derived : (level : ℕ) (b : Before) (n x : Node) → IsLaidNode spelling keep number s level b n x → NodeKeepsNone n → IsWellFormedNode (node_data n) → node_data x ≡ node_data n
-        → IsDocument true (print_node x 0) (data'.first (node_data n) data'.none)
+        → IsDocument (print_node x 0) (data'.first (node_data n) data'.none)
     node_derived level b n x (r, (m, f, q), same) bare w same_data =
         let written = written_node number s no_keep spelling level b n m r f q bare w in
-        subst (λ (y : data'.Node). IsDocument true (print_node x 0) (data'.first y data'.none)) same_data (back.node_derived x (subst (NodeReads TextEnd) (sym same) (node_reads TextEnd level b n r written)))
+        subst (λ (y : data'.Node). IsDocument (print_node x 0) (data'.first y data'.none)) same_data (back.node_derived x (subst (NodeReads TextEnd) (sym same) (node_reads TextEnd level b n r written)))

@@ -16,7 +16,7 @@ use Rattle.kdl_fmt.proofs.Respelling.Written.{plain_format, leading_is, followin
 use Rattle.kdl_fmt.proofs.Respelling.Leaves.{entry_stays}
 
 -- whether the spelling of a name is kept
-pub name_kept : (i : Identifier) (t : Text) (b : Bool) → Some t ≡ i.repr → (IsTrue b → IsIdentifierText true t i.value) × (IsIdentifierText true t i.value → IsTrue b) → KeepsName true i b
+pub name_kept : (i : Identifier) (t : Text) (b : Bool) → Some t ≡ i.repr → (IsTrue b → IsIdentifierText t i.value) × (IsIdentifierText t i.value → IsTrue b) → KeepsName true i b
 name_kept i t true e h = (Some t, subst (λ (o : Option Text). KeptSpelling i.value o (Some t)) e (KeptSpelling.kept (h.0 refl)), ap (λ (o : Option Text). record i { repr = o }) (sym e))
 name_kept i t false e h = (None, subst (λ (o : Option Text). KeptSpelling i.value o None) e (KeptSpelling.other (λ d. no (h.1 d))), refl)
   where

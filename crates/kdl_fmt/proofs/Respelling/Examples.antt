@@ -27,7 +27,7 @@ no_other_value v w ok n d = n (one_value (print_value w) w v (printed_spelling w
 
 -- a spelling of another string is not kept
 other_name : (s t u w : Text) → list_all is_scalar t ≡ true → (t ≡ s → ⊥) → u ≡ spelled t → KeptSpelling s (Some u) (Some w) → ⊥
-other_name s t u _ ok n e (KeptSpelling.kept d) = n (one_identifier true (spelled t) t s (printed_name t ok) (subst (λ (z : Text). IsIdentifierText true z s) e d))
+other_name s t u _ ok n e (KeptSpelling.kept d) = n (one_identifier true (spelled t) t s (printed_name t ok) (subst (λ (z : Text). IsIdentifierText z s) e d))
 
 pub no_other_name : (s t : Text) → list_all is_scalar t ≡ true → (t ≡ s → ⊥) → KeptSpelling s (Some (spelled t)) (Some (spelled t)) → ⊥
 no_other_name s t ok n k = other_name s t (spelled t) (spelled t) ok n refl k

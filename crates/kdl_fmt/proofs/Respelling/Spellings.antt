@@ -35,7 +35,7 @@ use Rattle.kdl_entry.proofs.Moving.EntryMoves.{move_string, move_plain}
 use Rattle.kdl_fmt.specs.Respelled.{IsSpelling}
 
 -- before each text with a value end
-pub string_before : (t s r : Text) → IsIdentifierText true t s → ValueEnd true r → IsString true (t ++ r) r s
+pub string_before : (t s r : Text) → IsIdentifierText t s → ValueEnd true r → IsString true (t ++ r) r s
 string_before t s r d e =
     let m = move_string d in
     subst (λ (z : Text). IsString true z r s) (same_piece t m.at (sym (append-nil t)) r) (m.there r e)
@@ -46,7 +46,7 @@ value_before v t r d e =
     subst (λ (z : Text). IsPlainValue true z r v) (same_piece t m.at (sym (append-nil t)) r) (m.there r e)
 
 -- what is printed without a spelling
-pub printed_name : (s : Text) → list_all is_scalar s ≡ true → IsIdentifierText true (spelled s) s
+pub printed_name : (s : Text) → list_all is_scalar s ≡ true → IsIdentifierText (spelled s) s
 printed_name s ok = subst (λ (z : Text). IsString true z [] s) (append-nil (spelled s)) (printed_string s [] ok nothing)
 
 pub printed_spelling : (v : Value) → IsWellFormed v → IsSpelling v (print_value v)
@@ -77,14 +77,14 @@ plain_no_text (PlainPiece.keyword {k = k} p e) h = no k (sym e ∙ h)
 pub text_same : {u w : Text} → text u ≡ text w → u ≡ w
 text_same h = cc
 
-spelled_text : {t s : Text} {v : Value} → IsSpelling v t → v ≡ text s → IsIdentifierText true t s
-spelled_text {t = t} (a_string d) h = subst (λ (z : Text). IsIdentifierText true t z) (text_same h) d
+spelled_text : {t s : Text} {v : Value} → IsSpelling v t → v ≡ text s → IsIdentifierText t s
+spelled_text {t = t} (a_string d) h = subst (λ (z : Text). IsIdentifierText t z) (text_same h) d
 spelled_text (a_plain p e) h = absurd (plain_no_text p h)
 
-pub text_spelling : (t s : Text) → IsSpelling (text s) t → IsIdentifierText true t s
+pub text_spelling : (t s : Text) → IsSpelling (text s) t → IsIdentifierText t s
 text_spelling t s d = spelled_text d refl
 
-pub spelling_text : (t s : Text) → IsIdentifierText true t s → IsSpelling (text s) t
+pub spelling_text : (t s : Text) → IsIdentifierText t s → IsSpelling (text s) t
 spelling_text t s d = a_string d
 
 -- a token that is a string, a number or a keyword
@@ -164,7 +164,7 @@ faulty_spells t old e h v d = none (subst (λ (z : Text). IsSpelling v z) (sym e
     none (a_plain p e) = h.none _ _ (t_value p)
 
 -- whether it spells a string or a value
-pub decides_text : (t s : Text) (v : Value) (b : Bool) → IsSpelling v t → (IsTrue b → v ≡ text s) × (v ≡ text s → IsTrue b) → (IsTrue b → IsIdentifierText true t s) × (IsIdentifierText true t s → IsTrue b)
+pub decides_text : (t s : Text) (v : Value) (b : Bool) → IsSpelling v t → (IsTrue b → v ≡ text s) × (v ≡ text s → IsTrue b) → (IsTrue b → IsIdentifierText t s) × (IsIdentifierText t s → IsTrue b)
 decides_text t s v b d h = (λ e. text_spelling t s (subst (λ (z : Value). IsSpelling z t) (h.0 e) d), λ i. h.1 (one_value t v (text s) d (spelling_text t s i)))
 
 pub decides_value : (t : Text) (v w : Value) (b : Bool) → IsSpelling w t → (IsTrue b → w ≡ v) × (w ≡ v → IsTrue b) → (IsTrue b → IsSpelling v t) × (IsSpelling v t → IsTrue b)

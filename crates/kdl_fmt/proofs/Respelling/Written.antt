@@ -29,7 +29,7 @@ use Rattle.kdl_fmt.proofs.Respelling.Spellings.{printed_name, printed_spelling}
 
 -- an identifier prints a string that is its own
 abbrev pub NameReads : Identifier → Type 0
-NameReads i = IsIdentifierText true (print_identifier i) i.value
+NameReads i = IsIdentifierText (print_identifier i) i.value
 
 abbrev pub NameReadsIf : Option Identifier → Type 0
 NameReadsIf None = Unit {0}

@@ -12,7 +12,7 @@ use Rattle.kdl_lexer.specs.Pieces.{StringPiece, PlainPiece}
 use Rattle.kdl_lexer.specs.Tokens.{Token, space, newline, slashdash, string, value, left, right, opening, closing, equals, semicolon, bom, BeginsToken, t_space, t_newline, t_slashdash, t_string, t_value, t_left, t_right, t_opening, t_closing, t_equals, t_semicolon, t_bom}
 use Rattle.kdl_lexer.proofs.Lexing.TokenUnique.{token_det, no_token}
 use Rattle.kdl_grammar.specs.Data.{Node, node, no_children, children, Nodes, none, first}
-use Rattle.kdl_grammar.specs.Grammar.{IsDocument}
+use Rattle.kdl_grammar.specs.Grammar.{IsDocument, IsDocumentIn}
 use Rattle.kdl_grammar.specs.Internal.Machine.{State, step, finish, initial, Runs, stops, reads, AnswersDocument}
 use Rattle.kdl_grammar.specs.Tree.{Document, document_data}
 use Rattle.kdl_grammar.proofs.Reading.Complete.{built}
@@ -49,24 +49,24 @@ some_document None x e = cc
 some_document (Some d) x e = (d, refl, cc)
 
 -- where the machine returns over its tokens, the text is a document with that data
-pub derived : {t : Text} {ks : List (Token × Text)} → Cut t ks → (x : Nodes) → option_map document_data (run t (initial t) t ks) ≡ Some x → IsDocument true t x
+pub derived : {t : Text} {ks : List (Token × Text)} → Cut t ks → (x : Nodes) → option_map document_data (run t (initial t) t ks) ≡ Some x → IsDocument t x
 derived {t = t} {ks = ks} l x e =
     let d = some_document (run t (initial t) t ks) x e in
-    subst (λ (z : Nodes). IsDocument true t z) d.2 (sound t d.0 (AnswersDocument.no_bom (runs_of l (initial t) d.0 d.1))).1
+    subst (λ (z : Nodes). IsDocument t z) d.2 (sound t d.0 (AnswersDocument.no_bom (runs_of l (initial t) d.0 d.1))).1
 
 -- the same after U+FEFF
-pub derived_after_bom : {t : Text} {ks : List (Token × Text)} → Cut t ks → (x : Nodes) → option_map document_data (run (0xFEFF ∷ t) (initial t) t ks) ≡ Some x → IsDocument true (0xFEFF ∷ t) x
+pub derived_after_bom : {t : Text} {ks : List (Token × Text)} → Cut t ks → (x : Nodes) → option_map document_data (run (0xFEFF ∷ t) (initial t) t ks) ≡ Some x → IsDocument (0xFEFF ∷ t) x
 derived_after_bom {t = t} {ks = ks} l x e =
     let d = some_document (run (0xFEFF ∷ t) (initial t) t ks) x e in
     let r = sound_runs (0xFEFF ∷ t) (runs_of l (initial t) d.0 d.1) in
-    IsDocument.after_bom (subst (λ (z : Nodes). Rattle.kdl_grammar.specs.Grammar.AreNodes true t [] z) d.2 r.1)
+    IsDocumentIn.after_bom (subst (λ (z : Nodes). Rattle.kdl_grammar.specs.Grammar.AreNodes true t [] z) d.2 r.1)
 
 pub refused_answer : {t : Text} {ks : List (Token × Text)} {d : Document} → Cut t ks → begins 0xFEFF t ≡ false → run t (initial t) t ks ≡ None → AnswersDocument t d → ⊥
 refused_answer l b e (AnswersDocument.no_bom a) = let x = of_runs l a in cc
 refused_answer l b e (AnswersDocument.after_bom a) = cc
 
 -- where the machine refuses them, it is none
-pub refused : {t : Text} {ks : List (Token × Text)} → Cut t ks → begins 0xFEFF t ≡ false → run t (initial t) t ks ≡ None → (x : Nodes) → IsDocument true t x → ⊥
+pub refused : {t : Text} {ks : List (Token × Text)} → Cut t ks → begins 0xFEFF t ≡ false → run t (initial t) t ks ≡ None → (x : Nodes) → IsDocument t x → ⊥
 refused l b e x i = refused_answer l b e (built i).answers
 
 -- tokens of one form each

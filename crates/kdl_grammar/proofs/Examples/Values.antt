@@ -40,67 +40,67 @@ one_char : (c : ℕ) {r : Text} → is_literal c ≡ true → QuotedString (34 �
 one_char c h = quoted_text (body (AreUnits.more (one_literal h) AreUnits.none) refl)
 
 -- `n 1.5`
-a_fraction : IsDocument true (110 ∷ 32 ∷ 49 ∷ 46 ∷ 53 ∷ []) (just (name 110 (argument (float (49 ∷ 46 ∷ 53 ∷ [])) ∷ [])))
+a_fraction : IsDocument (110 ∷ 32 ∷ 49 ∷ 46 ∷ 53 ∷ []) (just (name 110 (argument (float (49 ∷ 46 ∷ 53 ∷ [])) ∷ [])))
 unfolding is_bare is_identifier_char is_space is_newline_char is_banned is_punctuation is_digit_of is_literal
 a_fraction = derived (letter 110 refl refl (blank (a_decimal (decimal (49 ∷ 46 ∷ 53 ∷ []) (Sign.none refl) (an_integer refl (Digits.stop refl)) (part (Fraction.fraction (an_integer refl (Digits.stop refl))) (Exponent.none refl) refl refl) refl refl) end))) (just (name 110 (argument (float (49 ∷ 46 ∷ 53 ∷ [])) ∷ []))) refl
 
 -- `n -2e10`
-an_exponent : IsDocument true (110 ∷ 32 ∷ 45 ∷ 50 ∷ 101 ∷ 49 ∷ 48 ∷ []) (just (name 110 (argument (float (45 ∷ 50 ∷ 101 ∷ 49 ∷ 48 ∷ [])) ∷ [])))
+an_exponent : IsDocument (110 ∷ 32 ∷ 45 ∷ 50 ∷ 101 ∷ 49 ∷ 48 ∷ []) (just (name 110 (argument (float (45 ∷ 50 ∷ 101 ∷ 49 ∷ 48 ∷ [])) ∷ [])))
 unfolding is_bare is_identifier_char is_space is_newline_char is_banned is_punctuation is_digit_of is_literal
 an_exponent = derived (letter 110 refl refl (blank (a_decimal (decimal (45 ∷ 50 ∷ 101 ∷ 49 ∷ 48 ∷ []) (Sign.minus) (an_integer refl (Digits.stop refl)) (part (Fraction.none refl) (Exponent.exponent refl (Sign.none refl) (an_integer refl (Digits.digit refl (Digits.stop refl)))) refl refl) refl refl) end))) (just (name 110 (argument (float (45 ∷ 50 ∷ 101 ∷ 49 ∷ 48 ∷ [])) ∷ []))) refl
 
 -- `n 1_0.5E+3`
-an_underscore : IsDocument true (110 ∷ 32 ∷ 49 ∷ 95 ∷ 48 ∷ 46 ∷ 53 ∷ 69 ∷ 43 ∷ 51 ∷ []) (just (name 110 (argument (float (49 ∷ 48 ∷ 46 ∷ 53 ∷ 69 ∷ 43 ∷ 51 ∷ [])) ∷ [])))
+an_underscore : IsDocument (110 ∷ 32 ∷ 49 ∷ 95 ∷ 48 ∷ 46 ∷ 53 ∷ 69 ∷ 43 ∷ 51 ∷ []) (just (name 110 (argument (float (49 ∷ 48 ∷ 46 ∷ 53 ∷ 69 ∷ 43 ∷ 51 ∷ [])) ∷ [])))
 unfolding is_bare is_identifier_char is_space is_newline_char is_banned is_punctuation is_digit_of is_literal
 an_underscore = derived (letter 110 refl refl (blank (a_decimal (decimal (49 ∷ 95 ∷ 48 ∷ 46 ∷ 53 ∷ 69 ∷ 43 ∷ 51 ∷ []) (Sign.none refl) (an_integer refl (Digits.underscore (Digits.digit refl (Digits.stop refl)))) (part (Fraction.fraction (an_integer refl (Digits.stop refl))) (Exponent.exponent refl (Sign.plus) (an_integer refl (Digits.stop refl))) refl refl) refl refl) end))) (just (name 110 (argument (float (49 ∷ 48 ∷ 46 ∷ 53 ∷ 69 ∷ 43 ∷ 51 ∷ [])) ∷ []))) refl
 
 -- `n "a\nb"`
-an_escape : IsDocument true (110 ∷ 32 ∷ 34 ∷ 97 ∷ 92 ∷ 110 ∷ 98 ∷ 34 ∷ []) (just (name 110 (argument (text (97 ∷ 10 ∷ 98 ∷ [])) ∷ [])))
+an_escape : IsDocument (110 ∷ 32 ∷ 34 ∷ 97 ∷ 92 ∷ 110 ∷ 98 ∷ 34 ∷ []) (just (name 110 (argument (text (97 ∷ 10 ∷ 98 ∷ [])) ∷ [])))
 unfolding is_bare is_identifier_char is_space is_newline_char is_banned is_punctuation is_digit_of is_literal
 an_escape = derived (letter 110 refl refl (blank (a_string refl (quoted_text (body (AreUnits.more (one_literal refl) (AreUnits.more (one_letter refl) (AreUnits.more (one_literal refl) AreUnits.none))) refl)) end))) (just (name 110 (argument (text (97 ∷ 10 ∷ 98 ∷ [])) ∷ []))) refl
 
 -- `"a b" k="v"`
-quoted_name : IsDocument true (34 ∷ 97 ∷ 32 ∷ 98 ∷ 34 ∷ 32 ∷ 107 ∷ 61 ∷ 34 ∷ 118 ∷ 34 ∷ []) (just (Rattle.kdl_grammar.specs.Data.node None (97 ∷ 32 ∷ 98 ∷ []) (keyed 107 (text (118 ∷ [])) ∷ []) Rattle.kdl_grammar.specs.Data.no_children))
+quoted_name : IsDocument (34 ∷ 97 ∷ 32 ∷ 98 ∷ 34 ∷ 32 ∷ 107 ∷ 61 ∷ 34 ∷ 118 ∷ 34 ∷ []) (just (Rattle.kdl_grammar.specs.Data.node None (97 ∷ 32 ∷ 98 ∷ []) (keyed 107 (text (118 ∷ [])) ∷ []) Rattle.kdl_grammar.specs.Data.no_children))
 unfolding is_bare is_identifier_char is_space is_newline_char is_banned is_punctuation is_digit_of is_literal
 quoted_name = derived (a_string refl (quoted_text (body (AreUnits.more (one_literal refl) (AreUnits.more (one_literal refl) (AreUnits.more (one_literal refl) AreUnits.none))) refl)) (blank (letter 107 refl refl (equals_sign (a_string refl (one_char 118 refl) end))))) (just (Rattle.kdl_grammar.specs.Data.node None (97 ∷ 32 ∷ 98 ∷ []) (keyed 107 (text (118 ∷ [])) ∷ []) Rattle.kdl_grammar.specs.Data.no_children)) refl
 
 -- `n "k"=#false`
-quoted_key : IsDocument true (110 ∷ 32 ∷ 34 ∷ 107 ∷ 34 ∷ 61 ∷ 35 ∷ 102 ∷ 97 ∷ 108 ∷ 115 ∷ 101 ∷ []) (just (name 110 (keyed 107 (truth false) ∷ [])))
+quoted_key : IsDocument (110 ∷ 32 ∷ 34 ∷ 107 ∷ 34 ∷ 61 ∷ 35 ∷ 102 ∷ 97 ∷ 108 ∷ 115 ∷ 101 ∷ []) (just (name 110 (keyed 107 (truth false) ∷ [])))
 unfolding is_bare is_identifier_char is_space is_newline_char is_banned is_punctuation is_digit_of is_literal
 quoted_key = derived (letter 110 refl refl (blank (a_string refl (one_char 107 refl) (equals_sign (a_word False refl end))))) (just (name 110 (keyed 107 (truth false) ∷ []))) refl
 
 -- `n #null`
-a_null : IsDocument true (110 ∷ 32 ∷ 35 ∷ 110 ∷ 117 ∷ 108 ∷ 108 ∷ []) (just (name 110 (argument (null) ∷ [])))
+a_null : IsDocument (110 ∷ 32 ∷ 35 ∷ 110 ∷ 117 ∷ 108 ∷ 108 ∷ []) (just (name 110 (argument (null) ∷ [])))
 unfolding is_bare is_identifier_char is_space is_newline_char is_banned is_punctuation is_digit_of is_literal
 a_null = derived (letter 110 refl refl (blank (a_word Null refl end))) (just (name 110 (argument (null) ∷ []))) refl
 
 -- `n #inf`
-an_infinity : IsDocument true (110 ∷ 32 ∷ 35 ∷ 105 ∷ 110 ∷ 102 ∷ []) (just (name 110 (argument (float (35 ∷ 105 ∷ 110 ∷ 102 ∷ [])) ∷ [])))
+an_infinity : IsDocument (110 ∷ 32 ∷ 35 ∷ 105 ∷ 110 ∷ 102 ∷ []) (just (name 110 (argument (float (35 ∷ 105 ∷ 110 ∷ 102 ∷ [])) ∷ [])))
 unfolding is_bare is_identifier_char is_space is_newline_char is_banned is_punctuation is_digit_of is_literal
 an_infinity = derived (letter 110 refl refl (blank (a_word Infinity refl end))) (just (name 110 (argument (float (35 ∷ 105 ∷ 110 ∷ 102 ∷ [])) ∷ []))) refl
 
 -- `n #-inf`
-a_negative_infinity : IsDocument true (110 ∷ 32 ∷ 35 ∷ 45 ∷ 105 ∷ 110 ∷ 102 ∷ []) (just (name 110 (argument (float (35 ∷ 45 ∷ 105 ∷ 110 ∷ 102 ∷ [])) ∷ [])))
+a_negative_infinity : IsDocument (110 ∷ 32 ∷ 35 ∷ 45 ∷ 105 ∷ 110 ∷ 102 ∷ []) (just (name 110 (argument (float (35 ∷ 45 ∷ 105 ∷ 110 ∷ 102 ∷ [])) ∷ [])))
 unfolding is_bare is_identifier_char is_space is_newline_char is_banned is_punctuation is_digit_of is_literal
 a_negative_infinity = derived (letter 110 refl refl (blank (a_word NegativeInfinity refl end))) (just (name 110 (argument (float (35 ∷ 45 ∷ 105 ∷ 110 ∷ 102 ∷ [])) ∷ []))) refl
 
 -- `n #nan`
-not_a_number : IsDocument true (110 ∷ 32 ∷ 35 ∷ 110 ∷ 97 ∷ 110 ∷ []) (just (name 110 (argument (float (35 ∷ 110 ∷ 97 ∷ 110 ∷ [])) ∷ [])))
+not_a_number : IsDocument (110 ∷ 32 ∷ 35 ∷ 110 ∷ 97 ∷ 110 ∷ []) (just (name 110 (argument (float (35 ∷ 110 ∷ 97 ∷ 110 ∷ [])) ∷ [])))
 unfolding is_bare is_identifier_char is_space is_newline_char is_banned is_punctuation is_digit_of is_literal
 not_a_number = derived (letter 110 refl refl (blank (a_word NotANumber refl end))) (just (name 110 (argument (float (35 ∷ 110 ∷ 97 ∷ 110 ∷ [])) ∷ []))) refl
 
 -- not `n "a"b`
-letter_after_quote : (x : Nodes) → IsDocument true (110 ∷ 32 ∷ 34 ∷ 97 ∷ 34 ∷ 98 ∷ []) x → ⊥
+letter_after_quote : (x : Nodes) → IsDocument (110 ∷ 32 ∷ 34 ∷ 97 ∷ 34 ∷ 98 ∷ []) x → ⊥
 unfolding is_bare is_identifier_char is_space is_newline_char is_banned is_punctuation is_digit_of is_literal
 letter_after_quote x i = refused (letter 110 refl refl (blank (a_string refl (one_char 97 refl) (letter 98 refl refl end)))) refl refl x i
 
 -- not `1.5`
-decimal_as_name : (x : Nodes) → IsDocument true (49 ∷ 46 ∷ 53 ∷ []) x → ⊥
+decimal_as_name : (x : Nodes) → IsDocument (49 ∷ 46 ∷ 53 ∷ []) x → ⊥
 unfolding is_bare is_identifier_char is_space is_newline_char is_banned is_punctuation is_digit_of is_literal
 decimal_as_name x i = refused (a_decimal (decimal (49 ∷ 46 ∷ 53 ∷ []) (Sign.none refl) (an_integer refl (Digits.stop refl)) (part (Fraction.fraction (an_integer refl (Digits.stop refl))) (Exponent.none refl) refl refl) refl refl) end) refl refl x i
 
 -- not `n 1.5"a"`
-decimals_joined : (x : Nodes) → IsDocument true (110 ∷ 32 ∷ 49 ∷ 46 ∷ 53 ∷ 34 ∷ 97 ∷ 34 ∷ []) x → ⊥
+decimals_joined : (x : Nodes) → IsDocument (110 ∷ 32 ∷ 49 ∷ 46 ∷ 53 ∷ 34 ∷ 97 ∷ 34 ∷ []) x → ⊥
 unfolding is_bare is_identifier_char is_space is_newline_char is_banned is_punctuation is_digit_of is_literal
 decimals_joined x i = refused (letter 110 refl refl (blank (a_decimal (decimal (49 ∷ 46 ∷ 53 ∷ []) (Sign.none refl) (an_integer refl (Digits.stop refl)) (part (Fraction.fraction (an_integer refl (Digits.stop refl))) (Exponent.none refl) refl refl) refl refl) (a_string refl (one_char 97 refl) end)))) refl refl x i
 
@@ -128,7 +128,7 @@ no_token_at_point (t_value (number n e)) = let x = number_begins n in cc
 no_token_at_point (t_value (keyword n e)) = let x = keyword_front n in cc
 
 -- not `n .5`
-point_first : (x : Nodes) → IsDocument true (110 ∷ 32 ∷ 46 ∷ 53 ∷ []) x → ⊥
+point_first : (x : Nodes) → IsDocument (110 ∷ 32 ∷ 46 ∷ 53 ∷ []) x → ⊥
 unfolding is_bare is_identifier_char is_space is_newline_char is_banned is_punctuation
 point_first x i = faulty (then (t_string (bare (bare_text {w = 110 ∷ []} refl refl refl))) (then (t_space (NodeSpace.ws (Ws.space (a_space refl)))) here)) (λ e. cc) (λ k t b. no_token_at_point b) x i
 
@@ -160,7 +160,7 @@ no_token_at_true (t_value (number n e)) = let x = number_begins n in cc
 no_token_at_true {r = r} (t_value (keyword (a_keyword {k = k} e n) f)) = no_true k r e n
 
 -- not `n #true1`
-word_and_digit : (x : Nodes) → IsDocument true (110 ∷ 32 ∷ 35 ∷ 116 ∷ 114 ∷ 117 ∷ 101 ∷ 49 ∷ []) x → ⊥
+word_and_digit : (x : Nodes) → IsDocument (110 ∷ 32 ∷ 35 ∷ 116 ∷ 114 ∷ 117 ∷ 101 ∷ 49 ∷ []) x → ⊥
 unfolding is_bare is_identifier_char is_space is_newline_char is_banned is_punctuation
 word_and_digit x i = faulty (then (t_string (bare (bare_text {w = 110 ∷ []} refl refl refl))) (then (t_space (NodeSpace.ws (Ws.space (a_space refl)))) here)) (λ e. cc) (λ k t b. no_token_at_true b) x i
 
@@ -177,7 +177,7 @@ never_closed : {r : Text} → BlockComment (47 ∷ 42 ∷ 120 ∷ []) r → ⊥
 never_closed (block (Parts.other x y p)) = elim p [ ]
 
 -- not `n 1/*x`
-open_comment : (x : Nodes) → IsDocument true (110 ∷ 32 ∷ 49 ∷ 47 ∷ 42 ∷ 120 ∷ []) x → ⊥
+open_comment : (x : Nodes) → IsDocument (110 ∷ 32 ∷ 49 ∷ 47 ∷ 42 ∷ 120 ∷ []) x → ⊥
 unfolding is_bare is_identifier_char is_space is_newline_char is_banned is_punctuation
 open_comment x i =
     faulty (then (t_string (bare (bare_text {w = 110 ∷ []} refl refl refl))) (then (t_space (NodeSpace.ws (Ws.space (a_space refl)))) (then (t_value one_open) here)))

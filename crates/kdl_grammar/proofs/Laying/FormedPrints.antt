@@ -13,7 +13,7 @@ use Rattle.kdl_entry.proofs.Laying.EntryStands.{CanStand, own_stands, own_type, 
 use Rattle.kdl_grammar.specs.Data as data'
 use Rattle.kdl_grammar.specs.Edited.{IsEdited, IsFormed, EachNode, each_node, EachChildren, EachDocument, each_document, EachNodes}
 use Rattle.kdl_grammar.specs.Grammar.{IsDocument}
-use Rattle.kdl_grammar.specs.Laid.{LaidEntries, no_entry, an_entry, LaidNode, laid_node, LaidChildren, no_block, a_block, LaidNodes, no_node, a_node, LaidContent, without_nodes, with_nodes, LaidDocument}
+use Rattle.kdl_grammar.specs.Laid.{LaidEntries, no_entry, an_entry, LaidNode, laid_node, LaidChildren, no_block, a_block, LaidNodes, no_node, a_node, LaidContent, without_nodes, with_nodes, LaidDocumentAs}
 use Rattle.kdl_grammar.specs.Laws.{ReadsBack, EditedIsLaid}
 use Rattle.kdl_grammar.specs.Print.{after_brace, before_brace, before_block, end_text, format_of, print_piece, print_pieces, print_head, head_text, print_tail, print_node, print_nodes, print_document}
 use Rattle.kdl_grammar.specs.Tree.{NodeFormat, Head, Node, node, Children, no_children, children, Document, document, Nodes, none, first, node_data, children_data, document_data, nodes_data}
@@ -189,18 +189,18 @@ module _ (whole : Text) where
     same_format : {x y : Document} → EachDocument IsFormed x y → format_of x ≡ format_of y
     same_format (each_document d) = refl
 
-document_printed : {x y : Document} {t : Text} → LaidDocument false y t → EachDocument IsFormed x y → print_document x 0 ≡ print_document y 0
-document_printed {t = t} (LaidDocument.no_bom c) e = document_print t 0 c e
-document_printed (LaidDocument.after_bom (without_nodes g z)) (each_document EachNodes.last) = refl
-document_printed {t = t} (LaidDocument.after_bom (with_nodes ns g z)) (each_document d) = let a = nodes_print t 0 ns d in rw a refl
+document_printed : {x y : Document} {t : Text} → LaidDocumentAs false y t → EachDocument IsFormed x y → print_document x 0 ≡ print_document y 0
+document_printed {t = t} (LaidDocumentAs.no_bom c) e = document_print t 0 c e
+document_printed (LaidDocumentAs.after_bom (without_nodes g z)) (each_document EachNodes.last) = refl
+document_printed {t = t} (LaidDocumentAs.after_bom (with_nodes ns g z)) (each_document d) = let a = nodes_print t 0 ns d in rw a refl
 
 pub reads_back : ReadsBack
-reads_back d f x l = subst (λ (y : data'.Nodes). IsDocument true (print_document d 0) y) (document_same x) (document_of false f (print_document d 0) l)
+reads_back d f x l = subst (λ (y : data'.Nodes). IsDocument (print_document d 0) y) (document_same x) (document_of false f (print_document d 0) l)
 
 pub edited_is_laid : EditedIsLaid
 edited_is_laid exact t d e l c = (reads_back e (formed_document e) (is_formed_document e) (laid (formed_document e) (is_formed_document e)), laid)
   where
-    laid : (f : Document) → EachDocument IsFormed e f → LaidDocument false f (print_document e 0)
+    laid : (f : Document) → EachDocument IsFormed e f → LaidDocumentAs false f (print_document e 0)
     laid f x =
         let y = relaid (Both IsEdited IsFormed) replaces exact t d f l (both_document IsEdited IsFormed c x) in
-        subst (λ (s : Text). LaidDocument false f s) (sym (document_printed y x)) y
+        subst (λ (s : Text). LaidDocumentAs false f s) (sym (document_printed y x)) y

@@ -11,8 +11,8 @@ use Rattle.kdl_entry.specs.Places.{DroppedEntry, dropped as dropped_e, EntryLead
 use Rattle.kdl_entry.specs.Tree.{Entry, entry_data}
 use Rattle.kdl_entry.proofs.Laying.LaidIsDerived.{string_of, type_of, item_of}
 use Rattle.kdl_grammar.specs.Data as data'
-use Rattle.kdl_grammar.specs.Grammar.{IsNode, named, AfterName, kept_entry, dropped_entry, Blocks, dropped_block, block, no_block, AfterBlock, dropped_later, no_more, Gap, AreNodes, last_gap, node_then, IsBlock, braces, IsDocument, IsNodeText, node_text}
-use Rattle.kdl_grammar.specs.Laid.{LaidEntries, no_entry, an_entry, LaidNode, laid_node, LaidChildren, no_block as laid_no_block, a_block, LaidNodes, no_node, a_node, LaidContent, without_nodes, with_nodes, LaidDocument, LaidNodeText, laid_node_text}
+use Rattle.kdl_grammar.specs.Grammar.{IsNode, named, AfterName, kept_entry, dropped_entry, Blocks, dropped_block, block, no_block, AfterBlock, dropped_later, no_more, Gap, AreNodes, last_gap, node_then, IsBlock, braces, IsDocument, IsDocumentIn, IsNodeText, node_text}
+use Rattle.kdl_grammar.specs.Laid.{LaidEntries, no_entry, an_entry, LaidNode, laid_node, LaidChildren, no_block as laid_no_block, a_block, LaidNodes, no_node, a_node, LaidContent, without_nodes, with_nodes, LaidDocumentAs, LaidNodeTextAs, laid_node_text}
 use Rattle.kdl_grammar.specs.Places.{DroppedBlock, AfterChildren, after, BeforeChildren, before}
 use Rattle.kdl_grammar.specs.Tree.{Node, Children, Document, Nodes, node_data, children_data, document_data, nodes_data}
 use Rattle.kdl_grammar.proofs.Reading.Complete.{bom_data}
@@ -64,9 +64,9 @@ module _ (exact : Bool) (whole : Text) where
     content_of (without_nodes g z) = last_gap g.is
     content_of (with_nodes ns g z) = nodes_of ns g.is
 
-pub document_of : (exact : Bool) (d : Document) (t : Text) → LaidDocument exact d t → IsDocument true t (document_data d)
-document_of exact d t (LaidDocument.no_bom c) = IsDocument.no_bom (content_of exact t c)
-document_of exact d' t (LaidDocument.after_bom {d = d} c) = subst (λ (z : data'.Nodes). IsDocument true t z) (sym (bom_data d)) (IsDocument.after_bom (content_of exact t c))
+pub document_of : (exact : Bool) (d : Document) (t : Text) → LaidDocumentAs exact d t → IsDocument t (document_data d)
+document_of exact d t (LaidDocumentAs.no_bom c) = IsDocumentIn.no_bom (content_of exact t c)
+document_of exact d' t (LaidDocumentAs.after_bom {d = d} c) = subst (λ (z : data'.Nodes). IsDocument t z) (sym (bom_data d)) (IsDocumentIn.after_bom (content_of exact t c))
 
-pub node_text_of : (exact : Bool) (x : Node) (t : Text) → LaidNodeText exact t x → IsNodeText true t (node_data x)
+pub node_text_of : (exact : Bool) (x : Node) (t : Text) → LaidNodeTextAs exact t x → IsNodeText t (node_data x)
 node_text_of exact x t (laid_node_text g n e ls z) = node_text g.is (node_of exact t n) e.is ls.is

@@ -6,7 +6,7 @@ use Rattle.kdl_entry.specs.Laid.{LaidEntry, laid_entry}
 use Rattle.kdl_entry.specs.Print.{print_identifier, print_type}
 use Rattle.kdl_entry.specs.Tree.{Entry}
 use Rattle.kdl_entry.proofs.Laying.LaidPrints.{identifier_printed, type_printed, entry_printed}
-use Rattle.kdl_grammar.specs.Laid.{LaidEntries, no_entry, an_entry, LaidNode, laid_node, no_block, a_block, LaidNodes, no_node, a_node, LaidContent, without_nodes, with_nodes, LaidDocument, with_bom, LaidNodeText, laid_node_text}
+use Rattle.kdl_grammar.specs.Laid.{LaidEntries, no_entry, an_entry, LaidNode, laid_node, no_block, a_block, LaidNodes, no_node, a_node, LaidContent, without_nodes, with_nodes, LaidDocumentAs, with_bom, LaidNodeTextAs, laid_node_text}
 use Rattle.kdl_grammar.specs.Print.{after_brace, before_brace, format_of, print_piece, print_pieces, print_node, print_nodes, print_document, print_block}
 use Rattle.kdl_grammar.specs.Tree.{Node, Document, Nodes, first}
 
@@ -58,10 +58,10 @@ bom_printed : {exact : Bool} {whole : Text} {d : Document} {s r : Text} → Laid
 bom_printed (without_nodes g z) = refl
 bom_printed (with_nodes ns g z) = refl
 
-pub printed : (exact : Bool) (d : Document) (t : Text) → LaidDocument exact d t → print_document d 0 ≡ t
-printed exact d t (LaidDocument.no_bom c) = sym (content_printed exact t c)
-printed exact d t (LaidDocument.after_bom c) = bom_printed c ∙ ap (λ (x : Text). 0xFEFF ∷ x) (sym (content_printed exact t c))
+pub printed : (exact : Bool) (d : Document) (t : Text) → LaidDocumentAs exact d t → print_document d 0 ≡ t
+printed exact d t (LaidDocumentAs.no_bom c) = sym (content_printed exact t c)
+printed exact d t (LaidDocumentAs.after_bom c) = bom_printed c ∙ ap (λ (x : Text). 0xFEFF ∷ x) (sym (content_printed exact t c))
 
-pub node_text_printed : (exact : Bool) (x : Node) (t : Text) → LaidNodeText exact t x → print_node x 0 ≡ t
+pub node_text_printed : (exact : Bool) (x : Node) (t : Text) → LaidNodeTextAs exact t x → print_node x 0 ≡ t
 node_text_printed exact x t (laid_node_text {end = z} {trailing = w} g n e ls at) =
     sym (g.text ∙ node_printed exact t 0 n [] (e.text ∙ ap (λ (y : Text). z ++ y) ls.text) ∙ append-nil (print_node x 0))

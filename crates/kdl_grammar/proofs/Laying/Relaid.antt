@@ -13,7 +13,7 @@ use Rattle.kdl_lexer.proofs.Moving.Puts.{same, same_piece}
 use Rattle.kdl_entry.proofs.Laying.Respanned.{free_identifier, free_type, free_entry, same_identifier, same_type}
 use Rattle.kdl_entry.proofs.Laying.EntryStands.{CanStand, entry_end}
 use Rattle.kdl_grammar.specs.Edited.{EachNode, each_node, EachChildren, EachDocument, each_document, EachNodes}
-use Rattle.kdl_grammar.specs.Laid.{LaidEntries, no_entry, an_entry, LaidNode, laid_node, LaidChildren, no_block, a_block, LaidNodes, no_node, a_node, LaidContent, without_nodes, with_nodes, LaidDocument, with_bom}
+use Rattle.kdl_grammar.specs.Laid.{LaidEntries, no_entry, an_entry, LaidNode, laid_node, LaidChildren, no_block, a_block, LaidNodes, no_node, a_node, LaidContent, without_nodes, with_nodes, LaidDocumentAs, with_bom}
 use Rattle.kdl_grammar.specs.Print.{print_document}
 use Rattle.kdl_grammar.specs.Tree.{NodeFormat, Head, Node, node, Children, Document, Nodes}
 use Rattle.kdl_grammar.proofs.Laying.LaidPrints.{printed}
@@ -134,28 +134,28 @@ module _ (whole other : Text) where
 
 -- laid in some text
 LaidSomewhere : Document → Type 0
-LaidSomewhere d = (t : Text) × LaidDocument false d t
+LaidSomewhere d = (t : Text) × LaidDocumentAs false d t
 
 module _ (R : Head → Head → Type 0) (replaces : Replaces R) where
   plain_again : {exact : Bool} {whole s : Text} {d d' : Document} → LaidContent exact whole d s [] → EachDocument R d d' → LaidSomewhere d'
   unfolding LaidSomewhere
   plain_again {exact = exact} {whole = whole} c e =
       let A = relaid_content R replaces exact whole [] c e [] refl in
-      (A.text, LaidDocument.no_bom (free_content [] A.text A.laid))
+      (A.text, LaidDocumentAs.no_bom (free_content [] A.text A.laid))
 
   bom_again : {exact : Bool} {whole s : Text} {d d' : Document} → LaidContent exact whole d s [] → EachDocument R (with_bom d) d' → LaidSomewhere d'
   unfolding LaidSomewhere
   bom_again {exact = exact} {whole = whole} (without_nodes g z) (each_document {at' = at} EachNodes.last) =
       let A = relaid_content R replaces exact whole [] (without_nodes g z) (each_document {at' = at} EachNodes.last) [] refl in
-      (0xFEFF ∷ A.text, LaidDocument.after_bom (free_content [] (0xFEFF ∷ A.text) A.laid))
+      (0xFEFF ∷ A.text, LaidDocumentAs.after_bom (free_content [] (0xFEFF ∷ A.text) A.laid))
   bom_again {exact = exact} {whole = whole} (with_nodes ns g z) (each_document {at' = at} (EachNodes.next d ds)) =
       let A = relaid_content R replaces exact whole [] (with_nodes ns g z) (each_document {at' = at} (EachNodes.next d ds)) [] refl in
-      (0xFEFF ∷ A.text, LaidDocument.after_bom (free_content [] (0xFEFF ∷ A.text) A.laid))
+      (0xFEFF ∷ A.text, LaidDocumentAs.after_bom (free_content [] (0xFEFF ∷ A.text) A.laid))
 
-  pub relaid : (exact : Bool) (t : Text) (d d' : Document) → LaidDocument exact d t → EachDocument R d d' → LaidDocument false d' (print_document d' 0)
+  pub relaid : (exact : Bool) (t : Text) (d d' : Document) → LaidDocumentAs exact d t → EachDocument R d d' → LaidDocumentAs false d' (print_document d' 0)
   unfolding LaidSomewhere
-  relaid exact t d d' l e = let A = go l e in subst (λ (u : Text). LaidDocument false d' u) (sym (printed false d' A.0 A.1)) A.1
+  relaid exact t d d' l e = let A = go l e in subst (λ (u : Text). LaidDocumentAs false d' u) (sym (printed false d' A.0 A.1)) A.1
     where
-      go : {d : Document} {t : Text} → LaidDocument exact d t → EachDocument R d d' → LaidSomewhere d'
-      go (LaidDocument.no_bom c) e = plain_again c e
-      go (LaidDocument.after_bom c) e = bom_again c e
+      go : {d : Document} {t : Text} → LaidDocumentAs exact d t → EachDocument R d d' → LaidSomewhere d'
+      go (LaidDocumentAs.no_bom c) e = plain_again c e
+      go (LaidDocumentAs.after_bom c) e = bom_again c e

@@ -8,7 +8,7 @@ use Rattle.kdl_value.specs.Data.{Value}
 use Rattle.kdl_entry.specs.Data.{Entry}
 use Rattle.kdl_entry.specs.Entries.{IsString, string, IsPlainValue, a_string, a_plain, parens, MaybeType, untyped, typed, IsValue, value, IsEntry, property, argument}
 use Rattle.kdl_grammar.specs.Data.{Node, Children, Nodes}
-use Rattle.kdl_grammar.specs.Grammar.{Spaces, IsNode, named, AfterName, kept_entry, dropped_entry, Blocks, dropped_block, block, no_block, AfterBlock, dropped_later, no_more, Gap, no_gap, line_space, dropped_node, AreNodes, last_gap, node_then, IsBlock, braces, IsDocument, IsNodeText, node_text}
+use Rattle.kdl_grammar.specs.Grammar.{Spaces, IsNode, named, AfterName, kept_entry, dropped_entry, Blocks, dropped_block, block, no_block, AfterBlock, dropped_later, no_more, Gap, no_gap, line_space, dropped_node, AreNodes, last_gap, node_then, IsBlock, braces, IsDocument, IsDocumentIn, IsNodeText, IsNodeTextIn, node_text}
 
 module _ (w : Bool) where
   wide_string : {s r v : Text} → IsString w s r v → IsString true s r v
@@ -64,9 +64,9 @@ module _ (w : Bool) where
     wide_block : {s r : Text} {xs : Nodes} → IsBlock w s r xs → IsBlock true s r xs
     wide_block (braces ns) = braces (wide_nodes ns)
 
-  pub wider : {t : Text} {x : Nodes} → IsDocument w t x → IsDocument true t x
-  wider (IsDocument.no_bom d) = IsDocument.no_bom (wide_nodes d)
-  wider (IsDocument.after_bom d) = IsDocument.after_bom (wide_nodes d)
+  pub wider : {t : Text} {x : Nodes} → IsDocumentIn w t x → IsDocument t x
+  wider (IsDocumentIn.no_bom d) = IsDocumentIn.no_bom (wide_nodes d)
+  wider (IsDocumentIn.after_bom d) = IsDocumentIn.after_bom (wide_nodes d)
 
-  pub wider_node : {t : Text} {x : Node} → IsNodeText w t x → IsNodeText true t x
+  pub wider_node : {t : Text} {x : Node} → IsNodeTextIn w t x → IsNodeText t x
   wider_node (node_text g x e ls) = node_text (wide_gap g) (wide_node x) e ls

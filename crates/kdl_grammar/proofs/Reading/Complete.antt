@@ -18,9 +18,9 @@ use Rattle.kdl_lexer.proofs.Lexing.TokenUnique.{token_det, no_token}
 use Rattle.kdl_entry.proofs.Moving.EntryEnds.{end_spaces, end_lines, end_some, end_string, end_plain, end_dropped}
 use Rattle.kdl_entry.proofs.Slicing.Placing.{place}
 use Rattle.kdl_grammar.specs.Data as data'
-use Rattle.kdl_grammar.specs.Grammar.{Terminator, named, AfterName, kept_entry, dropped_entry, Blocks, dropped_block, block, no_block, AfterBlock, dropped_later, no_more, Gap, no_gap, line_space, dropped_node, AreNodes, last_gap, node_then, braces, IsDocument, IsNodeText, node_text}
+use Rattle.kdl_grammar.specs.Grammar.{Terminator, named, AfterName, kept_entry, dropped_entry, Blocks, dropped_block, block, no_block, AfterBlock, dropped_later, no_more, Gap, no_gap, line_space, dropped_node, AreNodes, last_gap, node_then, braces, IsDocument, IsDocumentIn, IsNodeText, node_text}
 use Rattle.kdl_grammar.specs.Laid.{content_span}
-use Rattle.kdl_grammar.specs.Laid.{LaidEntries, no_entry, an_entry, laid_node, LaidChildren, no_block as laid_no_block, a_block, LaidNodes, no_node, a_node, LaidContent, without_nodes, with_nodes, LaidDocument, with_bom, node_format, LaidNodeText, laid_node_text}
+use Rattle.kdl_grammar.specs.Laid.{LaidEntries, no_entry, an_entry, laid_node, LaidChildren, no_block as laid_no_block, a_block, LaidNodes, no_node, a_node, LaidContent, without_nodes, with_nodes, LaidDocument, LaidDocumentAs, with_bom, node_format, LaidNodeText, laid_node_text}
 use Rattle.kdl_grammar.specs.Places.{DroppedBlock, AfterChildren, after as after_children, before as before_children}
 use Rattle.kdl_grammar.specs.Tree.{Node, node, Children, no_children, children, Document, document, Nodes, none, first, join, node_data, children_data, document_data, nodes_data}
 use Rattle.kdl_entry.specs.Internal.Parts.{TypeParts, KeyParts, type_of, before_name, after_name, after_type, key_identifier, identifier_at, entry_at}
@@ -507,7 +507,7 @@ module _ (whole : Text) where
 
 pub record Built (t : Text) (xs : data'.Nodes) : Type 0 where
   pub tree : Document
-  pub laid : LaidDocument true tree t
+  pub laid : LaidDocument tree t
   pub same : document_data tree ≡ xs
   pub answers : AnswersDocument t tree
 
@@ -515,19 +515,19 @@ pub bom_data : (d : Document) → document_data (with_bom d) ≡ document_data d
 bom_data (document None z ns) = refl
 bom_data (document (Some f) z ns) = refl
 
-pub built : {t : Text} {xs : data'.Nodes} → IsDocument true t xs → Built t xs
-built (IsDocument.no_bom {t = t} d) = let p = placed t d in record { tree = p.tree; laid = LaidDocument.no_bom p.laid; same = p.same; answers = AnswersDocument.no_bom p.runs }
-built (IsDocument.after_bom {t = t} d) =
+pub built : {t : Text} {xs : data'.Nodes} → IsDocument t xs → Built t xs
+built (IsDocumentIn.no_bom {t = t} d) = let p = placed t d in record { tree = p.tree; laid = LaidDocumentAs.no_bom p.laid; same = p.same; answers = AnswersDocument.no_bom p.runs }
+built (IsDocumentIn.after_bom {t = t} d) =
     let p = placed (0xFEFF ∷ t) d in
-    record { tree = with_bom p.tree; laid = LaidDocument.after_bom p.laid; same = bom_data p.tree ∙ p.same; answers = AnswersDocument.after_bom p.runs }
+    record { tree = with_bom p.tree; laid = LaidDocumentAs.after_bom p.laid; same = bom_data p.tree ∙ p.same; answers = AnswersDocument.after_bom p.runs }
 
 -- a node that is the whole text
 pub record BuiltNode (t : Text) (x : data'.Node) : Type 0 where
   pub tree : Node
-  pub laid : LaidNodeText true t tree
+  pub laid : LaidNodeText t tree
   pub same : node_data tree ≡ x
 
-pub built_node : {t : Text} {x : data'.Node} → IsNodeText true t x → BuiltNode t x
+pub built_node : {t : Text} {x : data'.Node} → IsNodeText t x → BuiltNode t x
 built_node {t = t} (node_text {u = s} {v = v} {r = r} g (named {t = m} {u = w} {n = n} y z d) e ls) =
     let X = read_filled t {b = false} y (by_string z) in
     let Y = read_name t d e w no_star in
@@ -556,7 +556,7 @@ pub record OnlyNode (t : Text) : Type 0 where
   pub line_spaces : Star LineSpace trailing []
   pub runs : Runs t (document (Some (record { leading = []; trailing = trailing })) span (first tree none)) (initial t) t
 
-pub only_node : {t : Text} {x : data'.Node} → IsNodeText true t x → OnlyNode t
+pub only_node : {t : Text} {x : data'.Node} → IsNodeText t x → OnlyNode t
 only_node {t = t} (node_text {u = s} {v = v} {r = r} g (named {t = m} {u = w} {n = n} y z d) e ls) =
     let X = read_filled t {b = false} y (by_string z) in
     let Y = read_name t d e w no_star in

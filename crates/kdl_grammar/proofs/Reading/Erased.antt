@@ -4,8 +4,8 @@ use Rattle.kdl_text.specs.Chars.{Text}
 use Rattle.kdl_lexer.specs.Tokens.{Token, value, closing, bom, t_bom, Lexes, done, next}
 use Rattle.kdl_lexer.proofs.Lexing.TokenUnique.{token_det}
 use Rattle.kdl_grammar.specs.Data as data'
-use Rattle.kdl_grammar.specs.Grammar.{AreNodes, IsDocument}
-use Rattle.kdl_grammar.specs.Laid.{LaidDocument, LaidContent, with_bom}
+use Rattle.kdl_grammar.specs.Grammar.{AreNodes, IsDocument, IsDocumentIn}
+use Rattle.kdl_grammar.specs.Laid.{LaidDocument, LaidDocumentAs, LaidContent, with_bom}
 use Rattle.kdl_grammar.specs.Tree.{Document, Nodes, document_data}
 use Rattle.kdl_grammar.specs.Internal.Machine.{Pending, pending, Spot, fresh, spaced, later, Phase, gap, node_slashdash, type_open, type_name, type_done, in_node, property, entry_slashdash, block_slashdash, kept, kept_slashdash, Frame, in_block, in_dropped, in_later, State, at, popped, step, finish, initial, Runs, stops, reads, AnswersDocument}
 use Rattle.kdl_control.specs.Control as c
@@ -122,19 +122,19 @@ answers_det (AnswersDocument.after_bom a) (AnswersDocument.after_bom b) = ap wit
 answers_det (AnswersDocument.no_bom a) (AnswersDocument.after_bom b) = absurd (no_bom_here a)
 answers_det (AnswersDocument.after_bom a) (AnswersDocument.no_bom b) = absurd (no_bom_here b)
 
-pub sound : (t : Text) (d : Document) → AnswersDocument t d → LaidDocument true d t × IsDocument true t (document_data d)
-sound t d (AnswersDocument.no_bom a) = let p = sound_runs t a in (LaidDocument.no_bom p.0, IsDocument.no_bom p.1)
-sound t d' (AnswersDocument.after_bom {t = s} {d = d} a) = let p = sound_runs t a in (LaidDocument.after_bom p.0, subst (λ (z : data'.Nodes). IsDocument true t z) (sym (bom_data d)) (IsDocument.after_bom p.1))
+pub sound : (t : Text) (d : Document) → AnswersDocument t d → LaidDocument d t × IsDocument t (document_data d)
+sound t d (AnswersDocument.no_bom a) = let p = sound_runs t a in (LaidDocumentAs.no_bom p.0, IsDocumentIn.no_bom p.1)
+sound t d' (AnswersDocument.after_bom {t = s} {d = d} a) = let p = sound_runs t a in (LaidDocumentAs.after_bom p.0, subst (λ (z : data'.Nodes). IsDocument t z) (sym (bom_data d)) (IsDocumentIn.after_bom p.1))
 
-pub answered : (t : Text) (x : data'.Nodes) → IsDocument true t x → (d : Document) × AnswersDocument t d × (document_data d ≡ x)
+pub answered : (t : Text) (x : data'.Nodes) → IsDocument t x → (d : Document) × AnswersDocument t d × (document_data d ≡ x)
 answered t x i = let b = built i in (b.tree, b.answers, b.same)
 
 -- no text is two documents
-pub one_document : (t : Text) (x y : data'.Nodes) → IsDocument true t x → IsDocument true t y → x ≡ y
+pub one_document : (t : Text) (x y : data'.Nodes) → IsDocument t x → IsDocument t y → x ≡ y
 one_document t x y i j = let a = built i in let b = built j in sym a.same ∙ ap document_data (answers_det a.answers b.answers) ∙ b.same
 
 -- a text that is derived is cut into tokens
-pub lexed : (t : Text) (x : data'.Nodes) → IsDocument true t x → (ks : List Token) × Lexes t ks
+pub lexed : (t : Text) (x : data'.Nodes) → IsDocument t x → (ks : List Token) × Lexes t ks
 lexed t x i = go (built i).answers
   where
     go : {t : Text} {d : Document} → AnswersDocument t d → (ks : List Token) × Lexes t ks

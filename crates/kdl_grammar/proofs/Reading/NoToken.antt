@@ -18,5 +18,5 @@ stuck here some none (next t l) = none _ _ t
 stuck (then t b) some none done = no_token t
 stuck (then t b) some none (next {ks = js} u l) = stuck b some none (subst (λ r. Lexes r js) (sym (token_det t u).0) l)
 
-pub faulty : {s r : Text} {ks : List Token} → Begins s ks r → (r ≡ [] → ⊥) → ((k : Token) (t : Text) → BeginsToken r k t → ⊥) → (x : Nodes) → IsDocument true s x → ⊥
+pub faulty : {s r : Text} {ks : List Token} → Begins s ks r → (r ≡ [] → ⊥) → ((k : Token) (t : Text) → BeginsToken r k t → ⊥) → (x : Nodes) → IsDocument s x → ⊥
 faulty {s = s} b some none x d = stuck b some none (lexed s x d).1

@@ -68,7 +68,7 @@ pub value_reads : (e : Entry) (v : Value) → EntryReads e → IsWellFormed v �
 value_reads e v E ok = other_value e v e.format ok E
 
 -- a name that is read alone is read before each value end
-name_reads : (i : Identifier) → IsIdentifierText true (print_identifier i) i.value → (u : Text) → ValueEnd true u → IsString true (print_identifier i ++ u) u i.value
+name_reads : (i : Identifier) → IsIdentifierText (print_identifier i) i.value → (u : Text) → ValueEnd true u → IsString true (print_identifier i ++ u) u i.value
 name_reads i d u e =
     let m = move_string d in
     subst (λ (t : Text). IsString true t u i.value) (same_piece (print_identifier i) m.at (sym (append-nil (print_identifier i))) u) (m.there u e)
@@ -91,7 +91,7 @@ new_format = record {
 }
 
 -- a new node with a name
-pub new_reads : (name : Identifier) (at : SourceSpan) → IsIdentifierText true (print_identifier name) name.value
+pub new_reads : (name : Identifier) (at : SourceSpan) → IsIdentifierText (print_identifier name) name.value
     → NodeReads Anything (node (record { ty = None; name = name; entries = []; format = Some new_format; span = at }) no_children)
 new_reads name at ok = reads refl
     (record { leading = λ r. no_gap; name = λ v d. named untyped (name_reads name ok _ v) d; entries = All-nil EntryReads })

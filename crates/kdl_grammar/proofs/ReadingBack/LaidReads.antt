@@ -22,7 +22,7 @@ use Rattle.kdl_entry.proofs.Moving.EntryMoves.{move_identifier, move_laid_type, 
 use Rattle.kdl_lexer.proofs.Moving.Puts.{same, same_piece, first_piece}
 use Rattle.kdl_grammar.specs.Data as data'
 use Rattle.kdl_grammar.specs.Grammar.{Terminator, IsNode, named, AfterName, Gap, AreNodes}
-use Rattle.kdl_grammar.specs.Laid.{node_format, LaidEntries, no_entry, an_entry, LaidNode, laid_node, LaidChildren, no_block as laid_no_block, a_block as laid_a_block, LaidNodes, no_node as no_laid, a_node, LaidContent, without_nodes, with_nodes as laid_nodes, LaidDocument, with_bom, LaidNodeText, laid_node_text}
+use Rattle.kdl_grammar.specs.Laid.{node_format, LaidEntries, no_entry, an_entry, LaidNode, laid_node, LaidChildren, no_block as laid_no_block, a_block as laid_a_block, LaidNodes, no_node as no_laid, a_node, LaidContent, without_nodes, with_nodes as laid_nodes, LaidDocumentAs, with_bom, LaidNodeTextAs, laid_node_text}
 use Rattle.kdl_grammar.specs.Places.{BeforeChildren}
 use Rattle.kdl_grammar.specs.ReadsBack.{Rests, Anything, TextEnd, BlockEnd, MayFollow, EntryReads, name_text, HeadReads, terminator_text, Terminates, BeforeTerminator, EndReads, last_rests, NodeReads, reads, ChildrenRead, no_block, a_block, NodesRead, last_node, next_node, ContentReads, one_text, with_nodes, BlockReads, block, DocumentReads}
 use Rattle.kdl_grammar.specs.Tree.{NodeFormat, Head, Node, Children, Document, Nodes, none, first}
@@ -234,9 +234,9 @@ bom_document {exact = exact} {whole = whole} (without_nodes {leading = q} g sp) 
 bom_document {exact = exact} {whole = whole} (laid_nodes {trailing = t} ns g sp) = DocumentReads.after_bom {o = Some (record { leading = 0xFEFF ∷ []; trailing = t })} refl (content_reads exact whole ns g)
 
 -- a document that is laid as a whole text
-pub laid_reads : (exact : Bool) (t : Text) (d : Document) → LaidDocument exact d t → DocumentReads d
-laid_reads exact t d (LaidDocument.no_bom c) = plain_document c
-laid_reads exact t d (LaidDocument.after_bom c) = bom_document c
+pub laid_reads : (exact : Bool) (t : Text) (d : Document) → LaidDocumentAs exact d t → DocumentReads d
+laid_reads exact t d (LaidDocumentAs.no_bom c) = plain_document c
+laid_reads exact t d (LaidDocumentAs.after_bom c) = bom_document c
 
 text_parts : (z w r : Text) → z ++ (w ++ r) ≡ (z ++ w) ++ r
 text_parts z w r = simp append_assoc
@@ -251,5 +251,5 @@ whole_end z w {u = u} {v = v} e ls = record {
     same_text r p = e.text ∙ ap (λ (y : Text). z ++ y) (ls.text ∙ ap (λ (y : Text). w ++ y) (sym p)) ∙ text_parts z w r
 
 -- a node that is laid as a whole text
-pub laid_node_reads : (exact : Bool) (t : Text) (n : Node) → LaidNodeText exact t n → NodeReads TextEnd n
+pub laid_node_reads : (exact : Bool) (t : Text) (n : Node) → LaidNodeTextAs exact t n → NodeReads TextEnd n
 laid_node_reads exact t n (laid_node_text {end = z} {trailing = w} g x e ls sp) = node_reads exact t x g (whole_end z w e ls)

@@ -6,7 +6,7 @@ use Rattle.kdl_text.specs.Trivia.{LineSpace, NodeSpace, Ws, Break, ValueEnd}
 use Rattle.kdl_entry.specs.Print.{print_formatted}
 use Rattle.kdl_entry.specs.Tree.{Entry, EntryFormat, entry_data}
 use Rattle.kdl_grammar.specs.Data as data'
-use Rattle.kdl_grammar.specs.Grammar.{AfterName, Gap, no_gap, line_space, dropped_node, AreNodes, last_gap, node_then, IsBlock, braces, IsDocument}
+use Rattle.kdl_grammar.specs.Grammar.{AfterName, Gap, no_gap, line_space, dropped_node, AreNodes, last_gap, node_then, IsBlock, braces, IsDocument, IsDocumentIn}
 use Rattle.kdl_grammar.specs.Print.{leading_text, trailing_text, spaces, spaced, print_piece, print_pieces, head_text, print_head, before_block, end_text, after_brace, before_brace, format_of, print_tail, print_node, print_nodes, print_document, print_block}
 use Rattle.kdl_grammar.specs.ReadsBack.{Rests, TextEnd, MayFollow, front_text, value_text, entry_trailing, EntryReads, name_text, terminator_text, NodesEnd, BeforeTerminator, NodeReads, reads, ChildrenRead, no_block, a_block, NodesRead, no_node, last_node, next_node, ContentReads, one_text, two_texts, with_nodes, BlockReads, block, DocumentReads}
 use Rattle.kdl_grammar.specs.Tree.{NodeFormat, Head, Node, node, Children, no_children, children, Document, document, Nodes, first, node_data, children_data, document_data, nodes_data}
@@ -150,11 +150,11 @@ whole_text : (l : Text) (ns : Nodes) (t : Text) → ContentReads TextEnd l t ns 
 whole_text l ns t c = subst (λ (u : Text). AreNodes true u [] (nodes_data ns)) (document_parts l (print_nodes ns 0) t) (content_is c [] refl (inl refl) no_gap 0)
 
 -- what a document prints is one, with its data
-pub reads_derived : (d : Document) → DocumentReads d → IsDocument true (print_document d 0) (document_data d)
-reads_derived (document o at ns) (DocumentReads.no_bom c) = IsDocument.no_bom (whole_text (leading_text o) ns (trailing_text o) c)
+pub reads_derived : (d : Document) → DocumentReads d → IsDocument (print_document d 0) (document_data d)
+reads_derived (document o at ns) (DocumentReads.no_bom c) = IsDocumentIn.no_bom (whole_text (leading_text o) ns (trailing_text o) c)
 reads_derived (document o at ns) (DocumentReads.after_bom {leading = l} e c) =
-    subst (λ (u : Text). IsDocument true (u ++ print_nodes ns 0 ++ trailing_text o) (nodes_data ns)) (sym e) (IsDocument.after_bom (whole_text l ns (trailing_text o) c))
+    subst (λ (u : Text). IsDocument (u ++ print_nodes ns 0 ++ trailing_text o) (nodes_data ns)) (sym e) (IsDocumentIn.after_bom (whole_text l ns (trailing_text o) c))
 
 -- what a node prints is a document with that node alone
-pub node_derived : (n : Node) → NodeReads TextEnd n → IsDocument true (print_node n 0) (data'.first (node_data n) data'.none)
-node_derived n x = subst (λ (u : Text). IsDocument true u (data'.first (node_data n) data'.none)) (append-nil (print_node n 0)) (IsDocument.no_bom (node_are x [] refl (inl refl) (last_gap no_gap) 0))
+pub node_derived : (n : Node) → NodeReads TextEnd n → IsDocument (print_node n 0) (data'.first (node_data n) data'.none)
+node_derived n x = subst (λ (u : Text). IsDocument u (data'.first (node_data n) data'.none)) (append-nil (print_node n 0)) (IsDocumentIn.no_bom (node_are x [] refl (inl refl) (last_gap no_gap) 0))

@@ -7,7 +7,7 @@ use Rattle.kdl_control.specs.NodeControl.{NodeControl, node_start, node_step}
 use Rattle.kdl_diagnostics.specs.TextControl.{TextControl, in_document, in_node, text_step, text_finish, Takes, ends, takes, AcceptsDocument, no_bom, after_bom}
 use Rattle.kdl_grammar.specs.Going.{here, goes}
 use Rattle.kdl_grammar.specs.GoingOn.{Derived, DerivedNode}
-use Rattle.kdl_grammar.specs.Grammar.{IsDocument}
+use Rattle.kdl_grammar.specs.Grammar.{IsDocumentIn}
 use Rattle.kdl_grammar.proofs.NodeTexts.{Passes, sound}
 use Rattle.kdl_grammar.proofs.Reading.Sound.{derives}
 
@@ -24,8 +24,8 @@ lexed (takes {d = d} {k = k} b e a) m q =
     (k ∷ ks, next b l, ap (held (λ c'. accepts c' ks)) f ∙ h)
 
 pub accepted_document : {t : Text} → AcceptsDocument t → Derived t
-accepted_document (no_bom a) = let (ks, l, h) = lexed a (at gap []) refl in let (xs, n) = derives l h in (xs, IsDocument.no_bom n)
-accepted_document (after_bom a) = let (ks, l, h) = lexed a (at gap []) refl in let (xs, n) = derives l h in (xs, IsDocument.after_bom n)
+accepted_document (no_bom a) = let (ks, l, h) = lexed a (at gap []) refl in let (xs, n) = derives l h in (xs, IsDocumentIn.no_bom n)
+accepted_document (after_bom a) = let (ks, l, h) = lexed a (at gap []) refl in let (xs, n) = derives l h in (xs, IsDocumentIn.after_bom n)
 
 -- the tokens of a node text
 over_node : {c : TextControl} {t : Text} → Takes c t → (m : NodeControl) → c ≡ in_node m → Passes m t

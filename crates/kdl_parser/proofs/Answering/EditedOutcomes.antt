@@ -9,5 +9,5 @@ use Rattle.kdl_grammar.specs.Tree.{Document, document_data}
 use Rattle.kdl_grammar.proofs.Laying.FormedPrints.{edited_is_laid}
 use Rattle.kdl_parser.proofs.Answering.Outcomes.{laid}
 
-pub edited_found : (t : Text) (d e : Document) → AnswersDocument t d → EachDocument IsEdited d e → IsDocument true (print_document e 0) (document_data e)
+pub edited_found : (t : Text) (d e : Document) → AnswersDocument t d → EachDocument IsEdited d e → IsDocument (print_document e 0) (document_data e)
 edited_found t d e a x = (edited_is_laid true t d e (laid t d a) x).0

@@ -36,20 +36,20 @@ abbrev nodes_in : Document → Nodes
 nodes_in (document f at ns) = ns
 
 -- on a node's text the machine returns one node, with line-spaces after it
-one_there : (t : Text) (f : Option DocumentFormat) (ns : Nodes) (x : data'.Node) → RunsToNodes t f ns → IsNodeText true t x → (n : Node) × (ns ≡ first n none) × Star LineSpace (trailing_text f) []
+one_there : (t : Text) (f : Option DocumentFormat) (ns : Nodes) (x : data'.Node) → RunsToNodes t f ns → IsNodeText t x → (n : Node) × (ns ≡ first n none) × Star LineSpace (trailing_text f) []
 one_there t f ns x (at, a) i =
     let o = only_node i in
     let e = runs_det o.runs a in
     (o.tree, sym (ap nodes_in e), subst (λ (z : Text). Star LineSpace z []) (ap (λ (d : Document). trailing_text (format_of d)) e) o.line_spaces)
 
-pub no_lines : (t : Text) (f : Option DocumentFormat) (ns : Nodes) → RunsToNodes t f ns → (Star LineSpace (trailing_text f) [] → ⊥) → (x : data'.Node) → IsNodeText true t x → ⊥
+pub no_lines : (t : Text) (f : Option DocumentFormat) (ns : Nodes) → RunsToNodes t f ns → (Star LineSpace (trailing_text f) [] → ⊥) → (x : data'.Node) → IsNodeText t x → ⊥
 no_lines t f ns a n x i = n (one_there t f ns x a i).2
 
 -- the one node, laid as a text of its own
 node_laid : {t q z w s r : Text} {at : SourceSpan} {n : Node} → (v : Text) (place : SourceSpan) → LaidNode true t q z w at n s r → LaidNode true t q z v place (with_text_after n v place) s r
 node_laid v place (laid_node y i es k) = laid_node y i es k
 
-text_laid : {t : Text} {f : Option DocumentFormat} {at : SourceSpan} {n : Node} → LaidContent true t (document f at (first n none)) t [] → Star LineSpace (trailing_text f) [] → LaidNodeText true t (with_text_after n (trailing_text f) (span_of t t []))
+text_laid : {t : Text} {f : Option DocumentFormat} {at : SourceSpan} {n : Node} → LaidContent true t (document f at (first n none)) t [] → Star LineSpace (trailing_text f) [] → LaidNodeText t (with_text_after n (trailing_text f) (span_of t t []))
 text_laid {t = t} (with_nodes {trailing = w} {t = s} (a_node g x z l no_node) k y) ls =
     let e : s ≡ w = k.text ∙ append-nil w in
     laid_node_text g (node_laid w (span_of t t []) x) z (record { is = subst (λ (u : Text). Star LineSpace u []) (sym e) ls; text = k.text }) refl
@@ -62,20 +62,20 @@ whole_span bs v =
     ap (λ (k : ℕ). record { offset = k; len = bytes (chars bs) - 0 }) n ∙ ap (λ (k : ℕ). record { offset = 0; len = k }) m
 
 is_alone : (bs : List ℕ) (f : Option DocumentFormat) (n : Node) → IsUtf8 bs → RunsToNodes (chars bs) f (first n none) → Star LineSpace (trailing_text f) []
-    → LaidNodeText true (chars bs) (with_text_after n (trailing_text f) (record { offset = 0; len = length bs }))
-is_alone bs f n v (at, a) ls = subst (λ (p : SourceSpan). LaidNodeText true (chars bs) (with_text_after n (trailing_text f) p)) (whole_span bs v) (text_laid (sound_runs (chars bs) a).0 ls)
+    → LaidNodeText (chars bs) (with_text_after n (trailing_text f) (record { offset = 0; len = length bs }))
+is_alone bs f n v (at, a) ls = subst (λ (p : SourceSpan). LaidNodeText (chars bs) (with_text_after n (trailing_text f) p)) (whole_span bs v) (text_laid (sound_runs (chars bs) a).0 ls)
 
 -- what the text is, by the node that is laid in it
-pub found : (t : Text) (n : Node) → LaidNodeText true t n → IsNodeText true t (node_data n)
+pub found : (t : Text) (n : Node) → LaidNodeText t n → IsNodeText t (node_data n)
 found t n l = node_text_of true n t l
 
-pub only : (t : Text) (n : Node) → LaidNodeText true t n → (x : data'.Node) → IsNodeText true t x → x ≡ node_data n
+pub only : (t : Text) (n : Node) → LaidNodeText t n → (x : data'.Node) → IsNodeText t x → x ≡ node_data n
 only t n l x i = one_node true t x (node_data n) i (found t n l)
 
-pub prints : (t : Text) (n : Node) → LaidNodeText true t n → print_node n 0 ≡ t
+pub prints : (t : Text) (n : Node) → LaidNodeText t n → print_node n 0 ≡ t
 prints t n l = node_text_printed true n t l
 
-pub former : (t : Text) (n : Node) → LaidNodeText true t n → (x : data'.Node) → IsFormerNodeText t x → node_data n ≡ x
+pub former : (t : Text) (n : Node) → LaidNodeText t n → (x : data'.Node) → IsFormerNodeText t x → node_data n ≡ x
 former t n l x i = sym (only t n l x (wider_node false i))
 
 -- the nodes of a document
@@ -102,11 +102,11 @@ one_read tree t d n a e =
 
 -- the one node, with the text after it
 pub laid_there : {N : Type 0} (tree : N → Node) (bs : List ℕ) (u : Text) (f : Option DocumentFormat) (n : NodeText N) → IsUtf8 bs → RunsToNodes (chars bs) f (first (tree n.node) none) → text_of n.trailing ≡ trailing_text f
-    → u ≡ trailing_text f → Star LineSpace u [] → n.span ≡ record { offset = 0; len = length bs } → LaidNodeText true (chars bs) (text_by tree n)
+    → u ≡ trailing_text f → Star LineSpace u [] → n.span ≡ record { offset = 0; len = length bs } → LaidNodeText (chars bs) (text_by tree n)
 laid_there tree bs u f n v a w e ls g =
     let ls' = subst (λ (z : Text). Star LineSpace z []) e ls in
     let h : text_by tree n ≡ with_text_after (tree n.node) (trailing_text f) (record { offset = 0; len = length bs }) = ap (λ (p : SourceSpan). with_text_after (tree n.node) (text_of n.trailing) p) g ∙ ap (λ (z : Text). with_text_after (tree n.node) z (record { offset = 0; len = length bs })) w in
-    subst (λ (z : Node). LaidNodeText true (chars bs) z) (sym h) (is_alone bs f (tree n.node) v a ls')
+    subst (λ (z : Node). LaidNodeText (chars bs) z) (sym h) (is_alone bs f (tree n.node) v a ls')
 
 pub none_there : (t u : Text) (f : Option DocumentFormat) (n : Node) (e : LexFailure) → RunsToNodes t f (first n none) → u ≡ trailing_text f → AreLineSpaces u (Err e) → NoNode t e
 none_there t u f n Faulty a e x = no_lines t f (first n none) a (λ ls. x (subst (λ (z : Text). Star LineSpace z []) (sym e) ls))

@@ -65,19 +65,19 @@ bom_failure tree t u Faulty e a = λ d x. refused_after_bom x u e a
 bom_failure tree t u Memory e a = tt
 
 -- what is returned is what the grammar derives, laid in the text, and prints it
-pub found : (t : Text) (d : Document) → AnswersDocument t d → IsDocument true t (document_data d)
+pub found : (t : Text) (d : Document) → AnswersDocument t d → IsDocument t (document_data d)
 found t d a = (sound t d a).1
 
-pub only : (t : Text) (d : Document) → AnswersDocument t d → (x : Nodes) → IsDocument true t x → x ≡ document_data d
+pub only : (t : Text) (d : Document) → AnswersDocument t d → (x : Nodes) → IsDocument t x → x ≡ document_data d
 only t d a x i = one_document t x (document_data d) i (found t d a)
 
-pub laid : (t : Text) (d : Document) → AnswersDocument t d → LaidDocument true d t
+pub laid : (t : Text) (d : Document) → AnswersDocument t d → LaidDocument d t
 laid t d a = (sound t d a).0
 
 pub prints : (t : Text) (d : Document) → AnswersDocument t d → print_document d 0 ≡ t
 prints t d a = printed true d t (laid t d a)
 
-pub refused : (t : Text) → ((d : Document) → AnswersDocument t d → ⊥) → (x : Nodes) → IsDocument true t x → ⊥
+pub refused : (t : Text) → ((d : Document) → AnswersDocument t d → ⊥) → (x : Nodes) → IsDocument t x → ⊥
 refused t n x i = let a = answered t x i in n a.0 a.1
 
 -- the former language

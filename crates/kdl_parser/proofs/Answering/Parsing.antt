@@ -22,7 +22,7 @@ parsed text x old new u c r = record {
 }
 
 -- a refused text, and memory that ran out
-pub not_parsed : {A : Type 0} (text : List ℕ) (f : ParseFailure) (old new : ℕ) → ((x : Nodes) → IsDocument true (chars text) x → ⊥) → TellsOf text f → (IsSyntax {A = A} (Err f) → new ≤ old + 184 * (length text + 1)) → raise old 1 ≤ new
+pub not_parsed : {A : Type 0} (text : List ℕ) (f : ParseFailure) (old new : ℕ) → ((x : Nodes) → IsDocument (chars text) x → ⊥) → TellsOf text f → (IsSyntax {A = A} (Err f) → new ≤ old + 184 * (length text + 1)) → raise old 1 ≤ new
     → Parses {A = A} text (Err f) old new
 not_parsed text (Syntax e) old new n t m r = record { refused = λ s. n; told = t; least = tt; most = tt; told_most = m; raised = r }
 not_parsed text Memory old new n t m r = record { refused = λ s. absurd s; told = tt; least = tt; most = tt; told_most = λ s. absurd s; raised = r }

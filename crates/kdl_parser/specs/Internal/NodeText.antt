@@ -38,7 +38,7 @@ ReadsOne t x trailing = (leading : Text) × RunsToNodes t (Some (record { leadin
 
 -- the text is not a node; an allocation failure says nothing
 abbrev pub NoNode : Text → LexFailure → Type 0
-NoNode t Faulty = (x : data'.Node) → IsNodeText true t x → ⊥
+NoNode t Faulty = (x : data'.Node) → IsNodeText t x → ⊥
 NoNode t Memory = Unit {0}
 
 -- the only node, or none if there are more or none
@@ -48,5 +48,5 @@ IsOnly {N = N} ns None = (n : N) → ns ≡ n ∷ [] → ⊥
 
 -- the node that the text is, located in it; or the text is not a node
 abbrev pub AnswersNodeText : {N : Type 0} → (N → Node) → Text → Result (NodeText N) LexFailure → Type 0
-AnswersNodeText tree t (Ok n) = LaidNodeText true t (text_by tree n)
+AnswersNodeText tree t (Ok n) = LaidNodeText t (text_by tree n)
 AnswersNodeText tree t (Err e) = NoNode t e

@@ -24,7 +24,7 @@ CountedOn (Err Memory) t old new = Unit {0}
 
 -- what each reader of a document promises beside its result: a refused text is not derived, and its error has the spans of its faults; the bounds on the steps
 pub record Parses {A : Type 0} (text : List ℕ) (result : Result A ParseFailure) (old new : ℕ) : Type 0 where
-  pub refused : IsSyntax result → (x : Nodes) → IsDocument true (chars text) x → ⊥
+  pub refused : IsSyntax result → (x : Nodes) → IsDocument (chars text) x → ⊥
   pub told : TellsOnSyntax text result
   pub least : OnOk result (raise old (length (chars text)) ≤ new)
   pub most : OnOk result (new ≤ old + 32 * (length text + 1))
@@ -33,5 +33,5 @@ pub record Parses {A : Type 0} (text : List ℕ) (result : Result A ParseFailure
 
 -- the same of a reader of a node, without the bounds
 pub record ParsesNode {A : Type 0} (text : List ℕ) (result : Result A ParseFailure) : Type 0 where
-  pub refused : IsSyntax result → (x : data'.Node) → IsNodeText true (chars text) x → ⊥
+  pub refused : IsSyntax result → (x : data'.Node) → IsNodeText (chars text) x → ⊥
   pub told : TellsOnSyntax text result

@@ -25,5 +25,5 @@ returns-clause-refused c =
 pub returns-in_err-entry-clause-refused : goal.returns-in_err-entry-clause-refused
 returns-in_err-entry-clause-refused c =
     let t = chars c.args.text.now in
-    if_err c.from_residual.result (λ r. r ≡ Faults → (x : EntryData) → IsEntryText true t x → ⊥) (λ r. r ≡ Faults → (v : Value) → IsValueText t v → ⊥)
+    if_err c.from_residual.result (λ r. r ≡ Faults → (x : EntryData) → IsEntryText t x → ⊥) (λ r. r ≡ Faults → (v : Value) → IsValueText t v → ⊥)
     (λ r h f v d. h f _ (value_is_entry t v d)) (search rules)

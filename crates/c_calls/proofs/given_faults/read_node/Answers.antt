@@ -9,7 +9,7 @@ pub returns-in-Err-Syntax : goal.returns-in-Err-Syntax
 returns-in-Err-Syntax c =
     let t = c.args.text.now in
     let tells : Tells t c.in-Err-Syntax.error = subst (TellsOf t) c.in-Err-Syntax.field-0-is c.in-Err-Syntax.ensures.told in
-    let refused : (x : NodeData) → IsNodeText true (chars t) x → ⊥ = search rules in
+    let refused : (x : NodeData) → IsNodeText (chars t) x → ⊥ = search rules in
     (tells, λ w. refused w.0 w.1, λ k. absurd (omega (arith, k)))
 
 pub returns : goal.returns

@@ -10,7 +10,7 @@ pub returns-in-Err-Syntax : goal.returns-in-Err-Syntax
 returns-in-Err-Syntax c =
     let t = c.args.text.now in
     let tells : Tells t c.in-Err-Syntax.error = subst (TellsOf t) c.in-Err-Syntax.field-0-is c.in-Err-Syntax.ensures.told in
-    let refused : (x : EntryData) → IsEntryText true (chars t) x → ⊥ = search rules in
+    let refused : (x : EntryData) → IsEntryText (chars t) x → ⊥ = search rules in
     (tells, λ w. refused _ (value_is_entry (chars t) w.0 w.1), λ _ w. refused w.0 w.1)
 
 pub returns-then-is_value : goal.returns-then-is_value

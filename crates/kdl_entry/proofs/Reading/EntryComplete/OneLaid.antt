@@ -60,7 +60,7 @@ unfolding built
 build_same (before_entry ls ds) i zs = refl
 
 -- the entry that the machine returns is the one that is laid in the whole text
-built_same : (t : Text) (e : Entry) (l : LaidEntryText true t e) → (built (entry_of true t e l)).tree ≡ e
+built_same : (t : Text) (e : Entry) (l : LaidEntryText t e) → (built (entry_of true t e l)).tree ≡ e
 unfolding entry_of
 built_same t e (laid_entry_text {leading = leading} {trailing = trailing} {t = u} {r = r} b i ls x) =
     let I = read_item t (item_of true t i) in
@@ -70,7 +70,7 @@ built_same t e (laid_entry_text {leading = leading} {trailing = trailing} {t = u
     ∙ item_same t i x
 
 -- what is laid in a text, the machine returns
-pub entry_answered : (t : Text) (e : Entry) → LaidEntryText true t e → AnswersEntry t e
+pub entry_answered : (t : Text) (e : Entry) → LaidEntryText t e → AnswersEntry t e
 entry_answered t e l = subst (λ (z : Entry). AnswersEntry t z) (built_same t e l) (built (entry_of true t e l)).answers
 
 -- at most one entry is laid

@@ -17,7 +17,7 @@ use Rattle.kdl_entry.proofs.Laying.LaidIsDerived.{string_of, type_of as maybe_ty
 use Rattle.kdl_entry.proofs.Reading.EntryComplete.OneLaid.{identifier_same, SameType}
 use Rattle.kdl_grammar.specs.Data as data'
 use Rattle.kdl_grammar.specs.Grammar.{Terminator, named, AfterName, kept_entry, Blocks, AfterBlock, Gap, AreNodes, node_then, braces}
-use Rattle.kdl_grammar.specs.Laid.{node_format, content_span, LaidEntries, no_entry, an_entry, laid_node, LaidChildren, no_block as laid_no_block, a_block, LaidNodes, no_node, a_node, LaidContent, without_nodes, with_nodes, LaidDocument, LaidNodeText, laid_node_text}
+use Rattle.kdl_grammar.specs.Laid.{node_format, content_span, LaidEntries, no_entry, an_entry, laid_node, LaidChildren, no_block as laid_no_block, a_block, LaidNodes, no_node, a_node, LaidContent, without_nodes, with_nodes, LaidDocument, LaidDocumentAs, LaidNodeText, laid_node_text}
 use Rattle.kdl_grammar.specs.Laws.{OneLaidDocument, OneLaidNode}
 use Rattle.kdl_grammar.specs.Internal.Machine.{node_at, content_at, initial, Runs, AnswersDocument}
 use Rattle.kdl_grammar.specs.Places.{DroppedBlock, AfterChildren, after as after_children, BeforeChildren, before as before_children}
@@ -222,9 +222,9 @@ module _ (whole : Text) where
   runs_laid {s = s} c = subst (λ (z : Document). Runs whole z (initial s) s) (placed_same c) (placed whole (content_of true whole c)).runs
 
 -- what is laid in a text, the machine returns
-pub document_answered : {t : Text} {d : Document} → LaidDocument true d t → AnswersDocument t d
-document_answered (LaidDocument.no_bom {t = t} c) = AnswersDocument.no_bom (runs_laid t c)
-document_answered (LaidDocument.after_bom {t = t} c) = AnswersDocument.after_bom (runs_laid (0xFEFF ∷ t) c)
+pub document_answered : {t : Text} {d : Document} → LaidDocument d t → AnswersDocument t d
+document_answered (LaidDocumentAs.no_bom {t = t} c) = AnswersDocument.no_bom (runs_laid t c)
+document_answered (LaidDocumentAs.after_bom {t = t} c) = AnswersDocument.after_bom (runs_laid (0xFEFF ∷ t) c)
 
 -- at most one document is laid
 pub one_laid_document : OneLaidDocument
@@ -239,11 +239,11 @@ record AsDocument (t : Text) (x : Node) : Type 0 where
   inner : Node
   span : SourceSpan
   trailing : Text
-  laid : LaidDocument true (document (Some (record { leading = []; trailing = trailing })) span (first inner none)) t
+  laid : LaidDocument (document (Some (record { leading = []; trailing = trailing })) span (first inner none)) t
   same : x ≡ following trailing (span_of t t []) inner
 
 -- the document of that node
-as_document : {t : Text} {x : Node} → LaidNodeText true t x → AsDocument t x
+as_document : {t : Text} {x : Node} → LaidNodeText t x → AsDocument t x
 as_document {t = t} (laid_node_text {leading = leading} {end = end} {trailing = trailing} {t = s} {u = u} {at = at} g (laid_node {before = before} {after = after} {following = following'} {before_children = before_block} {before_terminator = place} {ty = ty} {name = name} {es = es} {k = k} y n ls c) e w z) =
     let inner : Node = node (record { ty = ty; name = name; entries = es; format = Some (node_format leading before after following' before_block place end []); span = span_of t s u }) k in
     let z' : at ≡ span_of t t [] = z in
@@ -251,7 +251,7 @@ as_document {t = t} (laid_node_text {leading = leading} {end = end} {trailing = 
       inner = inner;
       span = content_span (span_of t [] []) (first inner none);
       trailing = trailing;
-      laid = LaidDocument.no_bom (with_nodes (a_node g (laid_node y n ls c) e refl no_node) (record { is = lines_gap w.is; text = w.text }) refl);
+      laid = LaidDocumentAs.no_bom (with_nodes (a_node g (laid_node y n ls c) e refl no_node) (record { is = lines_gap w.is; text = w.text }) refl);
       same = cc;
     }
 

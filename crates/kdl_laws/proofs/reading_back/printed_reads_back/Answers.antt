@@ -7,4 +7,4 @@ use Rattle.kdl.proofs.ReadingBack.{document_derived}
 use Rattle.kdl_laws.proofs.reading_back.printed_reads_back.Goals as goal
 
 pub returns : goal.returns
-returns c = λ d s h x. subst (λ (t : Text). IsDocument true t (document_says d)) (sym (printed_text {E = Unit {0}} (Ok s) (document_prints d) h)) (document_derived d x)
+returns c = λ d s h x. subst (λ (t : Text). IsDocument t (document_says d)) (sym (printed_text {E = Unit {0}} (Ok s) (document_prints d) h)) (document_derived d x)

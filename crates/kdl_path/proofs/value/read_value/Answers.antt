@@ -15,7 +15,7 @@ different : (b : Bool) → b ≡ true → b ≡ false → ⊥
 different true h k = absurd (cc)
 different false h k = absurd (cc)
 
-no_values : (t : Text) (e : EditFailure) → NoValueIf ((x : EntryData) → IsEntryText true t x → ⊥) e → NoValueIf ((v : Value) → IsValueText t v → ⊥) e
+no_values : (t : Text) (e : EditFailure) → NoValueIf ((x : EntryData) → IsEntryText t x → ⊥) e → NoValueIf ((v : Value) → IsValueText t v → ⊥) e
 no_values t edit.Value h = λ v d. h _ (value_is_entry t v d)
 no_values t edit.Memory h = h
 no_values t (edit.Text x) h = h

@@ -18,7 +18,7 @@ returns c =
     let strings = bytes_eq-Decides (string_bytes c.in_ok-one.one) (string_bytes c.in_ok-other.other) in (
       λ e.
           let bytes = sym c.in_ok-one.ensures.ok ∙ strings.0 (sym c.eq.ensures ∙ e) ∙ c.in_ok-other.ensures.ok in
-          (document_says a.a, a.ensures.found, subst (λ (z : Nodes). IsDocument true (chars c.args.other.now) z) (sym (same.0 (encodes_same _ _ bytes))) b.ensures.found),
+          (document_says a.a, a.ensures.found, subst (λ (z : Nodes). IsDocument (chars c.args.other.now) z) (sym (same.0 (encodes_same _ _ bytes))) b.ensures.found),
       λ (z, d, e).
           let texts = same.1 (sym (a.ensures.only z d) ∙ b.ensures.only z e) in
           c.eq.ensures ∙ strings.1 (c.in_ok-one.ensures.ok ∙ ap encodes texts ∙ sym c.in_ok-other.ensures.ok),

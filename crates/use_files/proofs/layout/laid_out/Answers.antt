@@ -12,7 +12,7 @@ returns-clause-says c x h =
     let says = c.in_ok-autoformat_layout.ensures.derived (subst IndentsBySpaces (sym is) c.defaults_indent_by_spaces.ensures) keep c.in_ok-document.ensures.keeps_none in
     let same = c.in_ok-document.ensures.only x h in
     let text = c.printed_reads_once.ensures.text e c.in_ok-to_string.field-0 c.in_ok-to_string.ensures.ok in
-    subst (λ (t : Text). IsDocument true t x) (sym text) (subst (IsDocument true (document_prints e)) (sym same) says)
+    subst (λ (t : Text). IsDocument t x) (sym text) (subst (IsDocument (document_prints e)) (sym same) says)
 
 pub returns-clause-laid_out : goal.returns-clause-laid_out
 returns-clause-laid_out c =

@@ -18,7 +18,7 @@ returns-clause-formatted c =
 pub returns-clause-derived : goal.returns-clause-derived
 returns-clause-derived c =
     default_derived c.autoformat_config.result (settings c.build-config.result) (DocumentKeepsNone (document_tree c.args.self.now))
-    (IsDocument true (print_document (document_tree c.autoformat_config.new.self) 0) (document_data (document_tree c.args.self.now))) (search rules) c.autoformat_config.ensures.derived
+    (IsDocument (print_document (document_tree c.autoformat_config.new.self) 0) (document_data (document_tree c.args.self.now))) (search rules) c.autoformat_config.ensures.derived
 
 pub returns-clause-comments : goal.returns-clause-comments
 returns-clause-comments c =

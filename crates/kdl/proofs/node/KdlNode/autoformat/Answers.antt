@@ -19,7 +19,7 @@ returns-clause-formatted c =
 pub returns-clause-derived : goal.returns-clause-derived
 returns-clause-derived c =
     default_derived c.autoformat_config.result (settings c.build-config.result) (NodeKeepsNone (node_tree c.args.self.now))
-    (IsDocument true (print_node (node_tree c.autoformat_config.new.self) 0) (data'.first (node_data (node_tree c.args.self.now)) data'.none)) (search rules) c.autoformat_config.ensures.derived
+    (IsDocument (print_node (node_tree c.autoformat_config.new.self) 0) (data'.first (node_data (node_tree c.args.self.now)) data'.none)) (search rules) c.autoformat_config.ensures.derived
 
 pub returns-clause-comments : goal.returns-clause-comments
 returns-clause-comments c =
