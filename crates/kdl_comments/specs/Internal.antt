@@ -1,6 +1,6 @@
 -- Definitions that only proofs and contracts inside the crates use: no contract of a public call of `kdl` mentions them.
 
--- How the results of the readers of what a text lacks relate to the text.
+-- How the results of the readers of gaps and places relate to the text: the items, and what the text lacks at its end.
 pub mod Lacking
 -- How the results of the readers of what a slashdash drops relate to the text after the `/-`.
 pub mod Passed

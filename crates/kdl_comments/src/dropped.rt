@@ -7,13 +7,13 @@ ghost use Rattle.kdl_comments.specs.Internal.Passing.{follows_word, slashdash_in
 ghost use Rattle.kdl_comments.specs.Items.{ItemEnd};
 ghost use Rattle.kdl_comments.specs.Internal.Lacking.{HasOpenEnd};
 ghost use Rattle.kdl_control.specs.Internal.Views.{control_view, ended_view, phase_view};
-ghost use Rattle.kdl_comments.specs.Internal.Passed.{Before, AfterPart, AnswersDroppedNode, AnswersDroppedPart, PlaceTakesHeld, of_spaces};
-ghost use Rattle.kdl_comments.specs.Internal.Reading.{TakesHeld, place_view};
+ghost use Rattle.kdl_comments.specs.Internal.Passed.{AfterPart, AnswersDroppedNode, AnswersDroppedPart, Before, of_spaces};
+ghost use Rattle.kdl_comments.specs.Internal.Reading.{place_view};
 ghost use Rattle.kdl_text.specs.Chars.{Text};
-ghost use Rattle.std.specs.Prelude.{◌≡◌, ◌⊎◌, ◌∷◌, IfOk, MatchOption, [], option_map, true, false, not, ◌&&◌, if◌then◌else◌};
+ghost use Rattle.std.specs.Prelude.{◌≡◌, ◌⊎◌, IfOk, MatchOption, [], option_map, true, false, not, ◌&&◌, if◌then◌else◌};
 ghost use Rattle.std.specs.Str.{chars};
 
-use crate::item::{Item, Place};
+use crate::item::Place;
 use crate::slices::cut;
 use crate::spaces::line;
 use kdl_control::{Control, Ended, Phase, Spot};
@@ -24,7 +24,7 @@ use std::alloc::{AllocError, Global};
 /// Where a slashdashed node ends, and where the text after it begins, in bytes from the end of its `/-`.
 #[derive(Clone, Copy)]
 pub(crate) struct NodeEnd {
-    item: usize,
+    pub(crate) item: usize,
     pub(crate) following: usize,
     /// Whether it has no terminator, or a line comment without a newline.
     pub(crate) is_open: bool,
@@ -165,26 +165,6 @@ pub(crate) fn pass_node(alloc: Global, text: &str) -> Result<Option<NodeEnd>, Al
     }
 }
 
-/// Adds the node that the slashdash here drops. Returns the text after it, or `None` if it drops no node.
-pub(crate) fn dropped_node<'a>(
-    alloc: Global,
-    text: &'a str,
-    items: &mut Vec<Item<'a>>,
-) -> Result<Option<&'a str>, AllocError>
-    requires { (t : Text) × (chars text.now ≡ 47 ∷ 45 ∷ t) }
-    ensures { IfOk result (λ o. TakesHeld (chars text.now) o items.old.items items.new.items) }
-{
-    let (_, following) = cut(text, 2);
-    let Some(end) = pass_node(alloc, following)? else {
-        return Ok(None);
-    };
-    let (_, after) = cut(following, end.item);
-    let (_, rest) = cut(following, end.following);
-    let (node, _) = cut(text, text.len() - after.len());
-    items.push(Item::Piece(node))?;
-    Ok(Some(rest))
-}
-
 /// The phase after the `/-` in a place.
 fn slashdash_phase(place: Place) -> Phase
     ensures { at (phase_view result) [] ≡ slashdash_in (place_view place) }
@@ -237,29 +217,4 @@ pub(crate) fn pass_part(
             return Ok(Some(part_end(ended, last)));
         }
     }
-}
-
-/// Adds the entry or block that the slashdash here drops. Returns the text after it and the place there, or `None` if
-/// neither may be slashdashed.
-pub(crate) fn dropped_part<'a>(
-    alloc: Global,
-    place: Place,
-    text: &'a str,
-    items: &mut Vec<Item<'a>>,
-) -> Result<Option<(Place, &'a str)>, AllocError>
-    requires { (t : Text) × (chars text.now ≡ 47 ∷ 45 ∷ t) }
-    ensures { IfOk result (λ o.
-        PlaceTakesHeld place (chars text.now) o items.old.items items.new.items) }
-{
-    let (_, following) = cut(text, 2);
-    let Some(end) = pass_part(alloc, place, following)? else {
-        return Ok(None);
-    };
-    let Some(next) = after_part(place, end.is_block) else {
-        return Ok(None);
-    };
-    let (_, rest) = cut(following, end.at);
-    let (part, _) = cut(text, text.len() - rest.len());
-    items.push(Item::Piece(part))?;
-    Ok(Some((next, rest)))
 }

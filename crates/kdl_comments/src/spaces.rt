@@ -1,13 +1,16 @@
-//! Node-spaces and line-spaces, with the comments in them.
+//! Node-spaces and line-spaces, with the comments in them, and how they end.
 
 ghost use Rattle.kdl_comments.specs.Items.{SpaceItems, LineSpaceItems, line_end};
+ghost use Rattle.kdl_comments.specs.Internal.Lacking.{LineEnds, OnlySpaces, Spaces};
 ghost use Rattle.kdl_comments.specs.Internal.Passed.{Before};
-ghost use Rattle.kdl_comments.specs.Internal.Reading.{AddsHeld, Starts, found, items_view};
+ghost use Rattle.kdl_comments.specs.Internal.Reading.{Starts, added, found, held};
 ghost use Rattle.kdl_lexer.specs.Internal.Handed.{Alone, kind_view};
 ghost use Rattle.kdl_text.specs.Chars.{Text};
+ghost use Rattle.kdl_text.specs.Trivia.{Break, LineSpace, NodeSpace};
 ghost use Rattle.std.specs.Prelude.{◌≡◌, ◌++◌, ◌∷◌, IfOk, MatchOption};
 ghost use Rattle.std.specs.Str.{IsUtf8, chars};
 
+use crate::ends::{Ending, is_return};
 use crate::item::Item;
 use crate::slices::cut;
 use kdl_lexer::{LexFailure, Lexer, Token, TokenKind};
@@ -107,26 +110,45 @@ pub(crate) fn start_of(alloc: Global, text: &str) -> Result<Start<'_>, AllocErro
     }
 }
 
-/// Adds the item, if there is one.
-fn add<'a>(item: Option<Item<'a>>, items: &mut Vec<Item<'a>>) -> Result<(), AllocError>
-    ensures { IfOk result (λ _. items_view items.new.items
-        ≡ items_view items.old.items ++ found item.entry) }
+/// How the newline or line comment ends that begins the text before the rest.
+pub(crate) fn break_ending<'a>(text: &str, rest: &'a str) -> Ending<'a>
+    requires { Break (chars text.now) (chars rest.now) }
+    ensures { LineEnds (line_end (chars text.now)) result }
+{
+    let (_, end) = line(text);
+    if end.is_empty() {
+        Ending::Open
+    } else if is_return(end) {
+        Ending::InReturn
+    } else {
+        Ending::Before(rest)
+    }
+}
+
+/// Adds the item, if there is one and items are asked for.
+pub(crate) fn add<'a>(
+    item: Option<Item<'a>>,
+    items: &mut Option<Vec<Item<'a>>>,
+) -> Result<(), AllocError>
+    ensures { IfOk result (λ _. held items.new ≡ added (held items.old) (found item.entry)) }
 {
     if let Some(item) = item {
-        items.push(item)?;
+        if let Some(items) = items {
+            items.push(item)?;
+        }
     }
     Ok(())
 }
 
-/// Adds the comments of the escline whose backslash comes before the text. Returns the text after it, or `None` if
-/// there is no escline.
+/// Adds the comments of the escline whose backslash comes before the text. Returns how it ends, or `None` if there is
+/// no escline.
 fn escline<'a>(
     alloc: Global,
     text: &'a str,
-    items: &mut Vec<Item<'a>>,
-) -> Result<Option<&'a str>, AllocError>
+    items: &mut Option<Vec<Item<'a>>>,
+) -> Result<Option<Ending<'a>>, AllocError>
     ensures { IfOk result (λ o.
-        AddsHeld SpaceItems (92 ∷ chars text.now) o items.old.items items.new.items) }
+        Spaces NodeSpace SpaceItems (92 ∷ chars text.now) o (held items.old) (held items.new)) }
 {
     let mut rest = text;
     'comments: loop {
@@ -137,45 +159,69 @@ fn escline<'a>(
             }
             Start::Break(item, following) => {
                 add(item, items)?;
-                return Ok(Some(following));
+                return Ok(Some(break_ending(rest, following)));
             }
-            Start::End => return Ok(Some(rest)),
+            Start::End => return Ok(Some(Ending::Open)),
             _ => return Ok(None),
         }
     }
 }
 
-/// Adds the comments of the node-spaces that begin a text. Returns the text after them, or `None` if there are none.
+/// Adds the comments of the node-spaces that begin a text. Returns how they end, or `None` if there are none.
 pub(crate) fn node_spaces<'a>(
     alloc: Global,
     first: Start<'a>,
-    items: &mut Vec<Item<'a>>,
-) -> Result<Option<&'a str>, AllocError>
+    items: &mut Option<Vec<Item<'a>>>,
+) -> Result<Option<Ending<'a>>, AllocError>
     ensures { IfOk result (λ o. (s : Text) → Starts s first.entry
-        → AddsHeld SpaceItems s o items.old.items items.new.items) }
+        → Spaces NodeSpace SpaceItems s o (held items.old) (held items.new)) }
 {
     match first {
         Start::Space(item, rest) => {
             add(item, items)?;
-            Ok(Some(rest))
+            Ok(Some(Ending::Before(rest)))
         }
         Start::Backslash(rest) => escline(alloc, rest, items),
         _ => Ok(None),
     }
 }
 
-/// Adds the comments of the line-spaces that begin a text. Returns the text after them, or `None` if there are none.
+/// Adds the comments of the line-spaces that begin the text. Returns how they end, or `None` if there are none.
 pub(crate) fn line_spaces<'a>(
     alloc: Global,
+    text: &str,
     first: Start<'a>,
-    items: &mut Vec<Item<'a>>,
-) -> Result<Option<&'a str>, AllocError>
-    ensures { IfOk result (λ o. (s : Text) → Starts s first.entry
-        → AddsHeld LineSpaceItems s o items.old.items items.new.items) }
+    items: &mut Option<Vec<Item<'a>>>,
+) -> Result<Option<Ending<'a>>, AllocError>
+    requires { Starts (chars text.now) first }
+    ensures { IfOk result (λ o. Spaces LineSpace LineSpaceItems (chars text.now) o
+        (held items.old) (held items.new)) }
 {
     if let Start::Break(item, rest) = first {
         add(item, items)?;
-        return Ok(Some(rest));
+        return Ok(Some(break_ending(text, rest)));
     }
     node_spaces(alloc, first, items)
+}
+
+/// Adds the comments of the text, if it is node-spaces. Returns whether it is, whatever follows it.
+pub(crate) fn only_spaces<'a>(
+    alloc: Global,
+    text: &'a str,
+    items: &mut Option<Vec<Item<'a>>>,
+) -> Result<bool, AllocError>
+    ensures { IfOk result (λ b.
+        OnlySpaces (chars text.now) b (held items.old) (held items.new)) }
+{
+    let mut rest = text;
+    'spaces: while !rest.is_empty() {
+        let first = start_of(alloc, rest)?;
+        match node_spaces(alloc, first, items)? {
+            Some(Ending::Before(following)) => rest = same(following),
+            Some(Ending::InReturn) => return Ok(false),
+            Some(Ending::Open) => return Ok(false),
+            None => return Ok(false),
+        }
+    }
+    Ok(true)
 }

@@ -131,16 +131,21 @@ passes_last {t = t} {t' = t'} {u = u} {x = y} ls x ss =
     drop_node (PassesLast t' u y) (λ c d last s r k t e g o w p. (p.0, p.1, p.2, goes t e g p.3)) ls x here
     (λ c w q x' ws. tail_spaces (PassesLast t' u y) (λ c d last s r k t e g o w p. (p.0, p.1, p.2, goes t e g p.3)) q ss here (λ c' q'. (w, x', ws, ends (tail_gap q') (tail_finish q')))) t
 
+-- there are no node-spaces where the node ends tight
+pub tight_same : {t u w : Text} {x : Node} → EndsTight t u → IsNode true t w x → Star NodeSpace w u → w ≡ u
+tight_same tight x no_star = refl
+tight_same tight x (more n ss) = absurd (tight _ _ x (plus n ss))
+
 -- a gap that begins with a slashdash begins with a dropped node
 pub data DroppedItems (t : Text) : List Item → Type 0 where
   with_end : {t' u v e : Text} {x : Node} {is : List Item} → Star LineSpace t t' → IsNode true t' u x → ItemEnd u v e → GapItems v is → DroppedItems t (piece (between (47 ∷ 45 ∷ t) e) ∷ is)
   at_last : {t' u : Text} {x : Node} {is : List Item} → Star LineSpace t t' → IsNode true t' u x → EndsTight t' u → Star NodeSpace u [] → GapItems u is → DroppedItems t (piece (between (47 ∷ 45 ∷ t) u) ∷ is)
 
-pub no_dash_space : {t r : Text} → LineSpace (47 ∷ 45 ∷ t) r → ⊥
+no_dash_space : {t r : Text} → LineSpace (47 ∷ 45 ∷ t) r → ⊥
 no_dash_space (LineSpace.space n) = let e = (token_det (t_space n) t_slashdash).1 in cc
 no_dash_space (LineSpace.«break» n) = let e = (token_det (t_newline n) t_slashdash).1 in cc
 
-pub no_dash_node : {t r : Text} {x : Node} → IsNode true (47 ∷ 45 ∷ t) r x → ⊥
+no_dash_node : {t r : Text} {x : Node} → IsNode true (47 ∷ 45 ∷ t) r x → ⊥
 no_dash_node (named untyped (a_string' p e) d) = let e = (token_det (t_string p) t_slashdash).1 in cc
 no_dash_node (named (typed y ss) z d) = elim y [ ]
 
@@ -150,10 +155,10 @@ dash_items (GapItems.dropped_node (slashdash ls) x e g) = with_end ls x e g
 dash_items (GapItems.last_node (slashdash ls) x tight ss g) = at_last ls x tight ss g
 
 -- nodes that begin with a slashdash begin with a dropped node
-data DroppedThen (t : Text) : Type 0 where
-  dropped_then : {t' u v : Text} {x : Node} {xs : Nodes} → Star LineSpace t t' → IsNode true t' u x → Terminator u v → AreNodes true v [] xs → DroppedThen t
+pub data DroppedThen (t : Text) (xs : Nodes) : Type 0 where
+  dropped_then : {t' u v : Text} {x : Node} → Star LineSpace t t' → IsNode true t' u x → Terminator u v → AreNodes true v [] xs → DroppedThen t xs
 
-dash_nodes : {t : Text} {xs : Nodes} → AreNodes true (47 ∷ 45 ∷ t) [] xs → DroppedThen t
+pub dash_nodes : {t : Text} {xs : Nodes} → AreNodes true (47 ∷ 45 ∷ t) [] xs → DroppedThen t xs
 dash_nodes (last_gap (line_space n g)) = absurd (no_dash_space n)
 dash_nodes (last_gap (dropped_node (slashdash ls) x e g)) = dropped_then ls x e (last_gap g)
 dash_nodes (node_then no_gap x e ds) = absurd (no_dash_node x)
@@ -188,7 +193,7 @@ module _ {t u v e : Text} {k : Token} (p : NodePasses (at node_slashdash []) t t
   returned_back : {js : List Item} → GapItems v js → GapItems (47 ∷ 45 ∷ t) (piece (between (47 ∷ 45 ∷ t) e) ∷ js)
   returned_back {js = js} g = let a = one_more t_slashdash refl (returned_accepted p (gap_accepted g)) in go (dash_nodes (derives a.1 a.2).1)
     where
-      go : DroppedThen t → GapItems (47 ∷ 45 ∷ t) (piece (between (47 ∷ 45 ∷ t) e) ∷ js)
+      go : {xs : Nodes} → DroppedThen t xs → GapItems (47 ∷ 45 ∷ t) (piece (between (47 ∷ 45 ∷ t) e) ∷ js)
       go (dropped_then {t' = t'} {u = u'} {v = v'} {x = y} ls x tm ds) = by_end (item_end tm ds)
         where
           by_end : ((e : Text) × ItemEnd u' v' e) ⊎ (u' ≡ []) → GapItems (47 ∷ 45 ∷ t) (piece (between (47 ∷ 45 ∷ t) e) ∷ js)
@@ -229,7 +234,7 @@ module _ {t w : Text} (p : NodePasses (at node_slashdash []) t t (ended w)) wher
   ended_back : {js : List Item} → GapItems w js → GapItems (47 ∷ 45 ∷ t) (piece (between (47 ∷ 45 ∷ t) w) ∷ js)
   ended_back {js = js} g = let a = one_more t_slashdash refl (ended_accepted p) in go (dash_nodes (derives a.1 a.2).1)
     where
-      go : DroppedThen t → GapItems (47 ∷ 45 ∷ t) (piece (between (47 ∷ 45 ∷ t) w) ∷ js)
+      go : {xs : Nodes} → DroppedThen t xs → GapItems (47 ∷ 45 ∷ t) (piece (between (47 ∷ 45 ∷ t) w) ∷ js)
       go (dropped_then {t' = t'} {u = u'} {v = v'} {x = y} ls x tm ds) = by_end (item_end tm ds)
         where
           by_end : ((e : Text) × ItemEnd u' v' e) ⊎ (u' ≡ []) → GapItems (47 ∷ 45 ∷ t) (piece (between (47 ∷ 45 ∷ t) w) ∷ js)

@@ -1,5 +1,5 @@
 -- Fewer newlines are not enough.
-use Rattle.std.proofs.Common.{◌≡◌, ◌⊎◌, inl, inr, ℕ, zero, suc, ◌+◌, ◌-◌, ◌<◌, true, false, [], ◌∷◌, ◌++◌, length, Option, Some, None, refl, sym, ap, subst, ◌∙◌, arith, append_assoc}
+use Rattle.std.proofs.Common.{◌≡◌, ◌⊎◌, inl, inr, ℕ, zero, suc, ◌+◌, ◌-◌, ◌<◌, true, false, [], ◌∷◌, ◌++◌, length, List, Option, Some, None, refl, sym, ap, subst, ◌∙◌, arith, append_assoc}
 use Rattle.kdl_text.specs.Bare.{is_bare}
 use Rattle.kdl_text.specs.Bare.BareString.{bare as a_bare}
 use Rattle.kdl_text.specs.Chars.{Text, is_identifier_char, is_space, is_newline_char, is_banned, is_punctuation, Star, none as no_star, more}
@@ -15,14 +15,16 @@ use Rattle.kdl_grammar.specs.Data.{Node, node, no_children, Nodes, none, first}
 use Rattle.kdl_grammar.specs.Grammar.{Terminator, IsNode, named, AfterName, Blocks, Gap, no_gap, line_space, dropped_node, AreNodes, last_gap, node_then}
 use Rattle.kdl_control.specs.Control.{Control, at, gap, node_slashdash, step, held, is_gap}
 use Rattle.kdl_grammar.specs.ReadsBack.{AddsNothing, Anything, Terminates}
-use Rattle.kdl_comments.specs.Items.{ItemEnd}
+use Rattle.kdl_comments.specs.Items.{Item, ItemEnd, GapItems}
 use Rattle.kdl_comments.specs.Lacks.{newlines, GapLacks}
-use Rattle.kdl_comments.specs.Internal.Lacking.{letter, Fewest, GapAnswer}
+use Rattle.kdl_comments.specs.Internal.Lacking.{letter, Fewest, GapRead}
+use Rattle.kdl_comments.specs.Internal.Reading.{adding}
 use Rattle.kdl_comments.specs.Internal.Passing.{moved, returned, NodePasses, returns, goes}
-use Rattle.kdl_comments.proofs.Dropping.DroppedNodes.{passes_det, passes_last, passes_node, item_end, no_dash_space, no_dash_node, tail_gap}
+use Rattle.kdl_comments.proofs.Dropping.DroppedNodes.{passes_det, passes_last, passes_node, DroppedThen, dropped_then, dash_nodes, item_end, tail_gap}
 use Rattle.kdl_comments.proofs.Dropping.NodeLoop.{gap_turn, turn_back}
 use Rattle.kdl_comments.proofs.Dropping.Paths.{Back, Here, Halt, at_end, halts, no_node, drop_node}
 use Rattle.kdl_comments.proofs.Lacking.SpaceEnds.{lf, a_space}
+use Rattle.kdl_comments.proofs.Listing.PlaceTexts.{gap_has, gap_of}
 use Rattle.kdl_comments.proofs.Listing.SpaceItems.{dash_no_line}
 
 -- the node that is one letter
@@ -108,16 +110,6 @@ nodes_off no_star ds = ds
 nodes_off (more n ns) ds = nodes_off ns (nodes_off_one n ds)
 
 -- past a dropped node
-data DroppedThen (t : Text) (xs : Nodes) : Type 0 where
-  dropped_then : {t' u v : Text} {x : Node} → Star LineSpace t t' → IsNode true t' u x → Terminator u v → AreNodes true v [] xs → DroppedThen t xs
-
-dash_nodes : {t : Text} {xs : Nodes} → AreNodes true (47 ∷ 45 ∷ t) [] xs → DroppedThen t xs
-dash_nodes (last_gap (line_space n g)) = absurd (no_dash_space n)
-dash_nodes (last_gap (dropped_node (slashdash ls) x e g)) = dropped_then ls x e (last_gap g)
-dash_nodes (node_then no_gap x e ds) = absurd (no_dash_node x)
-dash_nodes (node_then (line_space n g) x e ds) = absurd (no_dash_space n)
-dash_nodes (node_then (dropped_node (slashdash ls) y e' g) x e ds) = dropped_then ls y e' (node_then g x e ds)
-
 dash_lines : {t u : Text} → Slashdash (47 ∷ 45 ∷ t) u → Star LineSpace t u
 dash_lines (slashdash ls) = ls
 
@@ -230,6 +222,9 @@ fewer_not P t (suc k) m f j h p = f k refl (climb (k - j) j (omega (arith, h)) p
     climb zero j e p = let i : j ≡ k = omega (arith, e) in subst (λ (n : ℕ). P (t ++ newlines n)) i p
     climb (suc d) j e p = climb d (suc j) (omega (arith, e)) (m j p)
 
-pub gap_answer : (t : Text) (o : Option ℕ) → GapAnswer t o → GapLacks t o
-gap_answer t None f = f
-gap_answer t (Some k) (b, g, f, few) = (b, g, (f, fewer_not AddsNothing t k (adds_more t) (λ j e p. some_nodes (few j e (first a none) (p letter [] (first a none) (inl refl) letter_node)))))
+pub no_gap_items : (t : Text) → ((all : List Item) → GapItems t all → ⊥) → Gap true t [] → ⊥
+no_gap_items t f g = let h = gap_has g in f h.0 h.1
+
+pub gap_answer : (t : Text) (o : Option ℕ) (old new : Option (List Item)) → GapRead t o old new → GapLacks t o
+gap_answer t None old new f = no_gap_items t f
+gap_answer t (Some k) old new (adding is i g, (b, f, few)) = (b, gap_of g, (f, fewer_not AddsNothing t k (adds_more t) (λ j e p. some_nodes (few j e (first a none) (p letter [] (first a none) (inl refl) letter_node)))))

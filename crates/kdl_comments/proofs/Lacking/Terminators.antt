@@ -7,15 +7,17 @@ use Rattle.kdl_text.proofs.Spacing.SpaceUnique.{newline_begins, break_det}
 use Rattle.kdl_grammar.specs.Data.{Nodes, none, first}
 use Rattle.kdl_grammar.specs.Grammar.{Terminator, Gap, no_gap, AreNodes}
 use Rattle.kdl_grammar.specs.ReadsBack.{NodesEnd, Anything, Terminates}
-use Rattle.kdl_comments.specs.Items.{line_end}
+use Rattle.kdl_comments.specs.Items.{Item, line_end}
 use Rattle.kdl_comments.specs.Lacks.{newlines, TerminatorLacks}
-use Rattle.kdl_comments.specs.Internal.Lacking.{letter, GapAnswer, LineEnds}
+use Rattle.kdl_comments.specs.Internal.Lacking.{letter, GapRead, LineEnds}
+use Rattle.kdl_comments.specs.Internal.Reading.{adding}
 use Rattle.kdl_comments.specs.declared.ends.Ending.TheVariants.{Before, InReturn, Open}
 use Rattle.kdl_comments.proofs.Dropping.Paths.{at_brace, halts}
-use Rattle.kdl_comments.proofs.Lacking.Fewest.{a, letter_node, some_nodes, no_nodes, fewer_not, ends_more}
+use Rattle.kdl_comments.proofs.Lacking.Fewest.{a, letter_node, some_nodes, no_nodes, fewer_not, ends_more, no_gap_items}
 use Rattle.kdl_grammar.proofs.ReadingBack.Closing.{after_lf}
 use Rattle.kdl_comments.proofs.Lacking.GapPieces.{begins_lf, break_terminator}
 use Rattle.kdl_comments.proofs.Lacking.Keeping.{alone}
+use Rattle.kdl_comments.proofs.Listing.PlaceTexts.{gap_of}
 use Rattle.kdl_comments.proofs.Lacking.SpaceEnds.{lf, cr, break_at, break_open, break_ends, letter_line, space_no_newline}
 
 semicolon_no_newline : is_newline_char 59 ≡ false
@@ -36,19 +38,19 @@ following (Terminator.comment l) = elim l [ ]
 fewer : (t : Text) (k : ℕ) → ((j : ℕ) → suc j ≡ k → (v : Text) → Terminator ((t ++ newlines j) ++ letter) v → AreNodes true v [] (first a none) → first a none ≡ none) → (j : ℕ) → j < k → Terminates Anything (t ++ newlines j) → ⊥
 fewer t k f = fewer_not (Terminates Anything) t k (ends_more t) (λ j e p. let (v, m, ds) = p letter [] (first a none) tt (inl refl) letter_node in some_nodes (f j e v m ds))
 
-semicolon_lacks : (r : Text) (o : Option ℕ) → GapAnswer r o → TerminatorLacks (59 ∷ r) o
-semicolon_lacks r None f = λ (v, t, g). f (subst (λ (y : Text). Gap true y []) (following t) g)
-semicolon_lacks r (Some k) (b, g, f, few) = (
+semicolon_lacks : (r : Text) (o : Option ℕ) (old new : Option (List Item)) → GapRead r o old new → TerminatorLacks (59 ∷ r) o
+semicolon_lacks r None old new f = λ (v, t, g). no_gap_items r f (subst (λ (y : Text). Gap true y []) (following t) g)
+semicolon_lacks r (Some k) old new (adding is i g, (b, f, few)) = (
   b,
-  (r, Terminator.semicolon, g),
+  (r, Terminator.semicolon, gap_of g),
   (
     λ w z xs x e ds. ((r ++ newlines k) ++ w, Terminator.semicolon, f w z xs e ds),
     fewer (59 ∷ r) k (λ j e v m ds. few j e (first a none) (subst (λ (y : Text). AreNodes true y [] (first a none)) (following m) ds)),
   ),
 )
 
-pub semicolon_gap : (t r : Text) (o : Option ℕ) → t ≡ 59 ∷ r → GapAnswer r o → TerminatorLacks t o
-semicolon_gap t r o e g = subst (λ (y : Text). TerminatorLacks y o) (sym e) (semicolon_lacks r o g)
+pub semicolon_gap : (t r : Text) (o : Option ℕ) (old new : Option (List Item)) → t ≡ 59 ∷ r → GapRead r o old new → TerminatorLacks t o
+semicolon_gap t r o old new e g = subst (λ (y : Text). TerminatorLacks y o) (sym e) (semicolon_lacks r o old new g)
 
 -- after a break
 empty_break : {r : Text} → Break [] r → ⊥
@@ -70,11 +72,11 @@ break_only b (Terminator.comment l) = break_det (Break.comment l) b
 break_only b Terminator.at_end = absurd (empty_break b)
 break_only b Terminator.at_close = absurd (brace_break b)
 
-break_lacks : (t r : Text) (o : Option ℕ) → ((w : Text) → Break (t ++ w) (r ++ w)) → GapAnswer r o → TerminatorLacks t o
-break_lacks t r None b f = λ (v, m, g). f (subst (λ (y : Text). Gap true y []) (break_only (alone Break t r (b [])) m) g)
-break_lacks t r (Some k) b (bound, g, f, few) = (
+break_lacks : (t r : Text) (o : Option ℕ) (old new : Option (List Item)) → ((w : Text) → Break (t ++ w) (r ++ w)) → GapRead r o old new → TerminatorLacks t o
+break_lacks t r None old new b f = λ (v, m, g). no_gap_items r f (subst (λ (y : Text). Gap true y []) (break_only (alone Break t r (b [])) m) g)
+break_lacks t r (Some k) old new b (adding is i g, (bound, f, few)) = (
   bound,
-  (r, break_terminator (alone Break t r (b [])), g),
+  (r, break_terminator (alone Break t r (b [])), gap_of g),
   (
     λ w z xs i e ds. (
       r ++ (newlines k ++ w),
@@ -87,8 +89,8 @@ break_lacks t r (Some k) b (bound, g, f, few) = (
   ),
 )
 
-pub line_gap : {t u : Text} (r : Bor (List ℕ)) (o : Option ℕ) → Break t u → LineEnds (line_end t) (Before r) → GapAnswer (chars r.now) o → TerminatorLacks t o
-line_gap {t = t} r o b n g = break_lacks t (chars r.now) o (λ w. break_at b w (chars r.now ++ w) (n w)) g
+pub line_gap : {t u : Text} (r : Bor (List ℕ)) (o : Option ℕ) (old new : Option (List Item)) → Break t u → LineEnds (line_end t) (Before r) → GapRead (chars r.now) o old new → TerminatorLacks t o
+line_gap {t = t} r o old new b n g = break_lacks t (chars r.now) o old new (λ w. break_at b w (chars r.now ++ w) (n w)) g
 
 pub return_alone : {t u : Text} → Break t u → LineEnds (line_end t) InReturn → TerminatorLacks t (Some 0)
 return_alone {t = t} b n =

@@ -1,23 +1,15 @@
 -- A gap, or a place in a node, has one list of items at most.
-use Rattle.std.proofs.Common.{◌≡◌, Bool, true, false, List, [], ◌∷◌, ◌++◌, refl, sym, ap, subst, ◌∙◌}
-use Rattle.kdl_text.specs.Chars.{Text, Star, plus}
-use Rattle.kdl_text.specs.Chars.Star.{none as no_star, more}
-use Rattle.kdl_text.specs.Trivia.{NodeSpace, slashdash}
+use Rattle.std.proofs.Common.{◌≡◌, Bool, false, List, [], ◌∷◌, ◌++◌, sym, ap, subst, ◌∙◌}
+use Rattle.kdl_text.specs.Chars.{Text}
+use Rattle.kdl_text.specs.Trivia.{slashdash}
 use Rattle.kdl_entry.specs.Places.{between}
-use Rattle.kdl_grammar.specs.Data.{Node}
-use Rattle.kdl_grammar.specs.Grammar.{IsNode}
 use Rattle.kdl_control.specs.Control.{at, node_slashdash}
-use Rattle.kdl_comments.specs.Items.{Item, piece, EndsTight, GapItems, Place, takes_entries, PlaceItems}
+use Rattle.kdl_comments.specs.Items.{Item, piece, GapItems, Place, takes_entries, PlaceItems}
 use Rattle.kdl_comments.specs.Internal.Passing.{ended, NodePasses, PartPasses, slashdash_phase, slashdash_in}
-use Rattle.kdl_comments.proofs.Dropping.DroppedNodes.{passes_node, passes_last, node_returned, node_ended}
+use Rattle.kdl_comments.proofs.Dropping.DroppedNodes.{passes_node, passes_last, tight_same, node_returned, node_ended}
 use Rattle.kdl_comments.proofs.Dropping.NoEquals.{place_quiet}
 use Rattle.kdl_comments.proofs.Dropping.DroppedParts.{entry_passes, block_passes, part_entry, part_block}
 use Rattle.kdl_comments.proofs.Listing.SpaceItems.{gap_space, gap_end, place_space, place_end}
-
--- there are no node-spaces where the node ends tight
-tight_end : {t u w : Text} {x : Node} → EndsTight t u → IsNode true t w x → Star NodeSpace w u → w ≡ u
-tight_end tight x no_star = refl
-tight_end tight x (more n ss) = absurd (tight _ _ x (plus n ss))
 
 pub gap_items_det : {s : Text} {is js : List Item} → GapItems s is → GapItems s js → is ≡ js
 gap_items_det {js = js} GapItems.none h = sym ((gap_end js).0 h)
@@ -27,7 +19,7 @@ gap_items_det {js = js} (GapItems.dropped_node {e = e} (slashdash {s = t} ls) x 
     ap (λ (l : List Item). piece (between (47 ∷ 45 ∷ t) e) ∷ l) (gap_items_det g w.2) ∙ sym w.1
 gap_items_det {js = js} (GapItems.last_node {u = u} (slashdash {s = t} ls) x tight ss g) h =
     let q = passes_last ls x ss in
-    let w = (node_ended (subst (λ (z : Text). NodePasses (at node_slashdash []) t t (ended z)) (tight_end tight q.1 q.2) q.3) js).0 h in
+    let w = (node_ended (subst (λ (z : Text). NodePasses (at node_slashdash []) t t (ended z)) (tight_same tight q.1 q.2) q.3) js).0 h in
     ap (λ (l : List Item). piece (between (47 ∷ 45 ∷ t) u) ∷ l) (gap_items_det g w.2) ∙ sym w.1
 
 pub place_items_det : {p : Place} {s : Text} {is js : List Item} → PlaceItems p s is → PlaceItems p s js → is ≡ js

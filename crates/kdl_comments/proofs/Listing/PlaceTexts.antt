@@ -14,6 +14,7 @@ use Rattle.kdl_grammar.specs.Places.{DroppedBlock, dropped as a_dropped_block, A
 use Rattle.kdl_comments.specs.Items.{Item, piece, ItemEnd, GapItems, Place, before_entry, before_block, after_block, may_end, takes_entries, takes_blocks, spaced, PlaceItems}
 use Rattle.kdl_comments.proofs.Dropping.DroppedNodes.{passes_last, node_ended}
 use Rattle.kdl_comments.proofs.Dropping.Paths.{at_brace, halts}
+use Rattle.kdl_comments.proofs.Listing.PlaceReads.{spaced_again, entries_spaced, blocks_spaced}
 use Rattle.kdl_comments.proofs.Listing.SpaceItems.{space_of, line_space_of, space_items, line_space_items}
 
 -- the text has a list of items as a gap
@@ -85,22 +86,6 @@ gap_of (GapItems.last_node m x tight ss g) = Gap.dropped_node m (node_spaces x s
 pub gap_items : (s : Text) → Gap true s [] ↔ ((is : List Item) × GapItems s is)
 gap_items s = (λ g. gap_has g, λ h. gap_of h.1)
 
--- what a place takes does not depend on the node-spaces in it
-entries_spaced : (p : Place) → takes_entries (spaced true p) ≡ takes_entries p
-entries_spaced (before_entry b) = refl
-entries_spaced before_block = refl
-entries_spaced after_block = refl
-
-blocks_spaced : (p : Place) → takes_blocks (spaced true p) ≡ takes_blocks p
-blocks_spaced (before_entry b) = refl
-blocks_spaced before_block = refl
-blocks_spaced after_block = refl
-
-unspaced : (p : Place) → spaced false (spaced true p) ≡ spaced false p
-unspaced (before_entry b) = refl
-unspaced before_block = refl
-unspaced after_block = refl
-
 -- node-spaces, a dropped entry and a dropped block in a place
 space_first : {p : Place} {s t : Text} → NodeSpace s t → Has (spaced true p) t → Has p s
 space_first n g = let d = space_items n in (d.0 ++ g.0, PlaceItems.space d.1 g.1)
@@ -111,11 +96,11 @@ spaces_first p e {s} (more {t = t} n ss) g = space_first n (subst (λ (q : Place
 
 entry_first : (p : Place) → takes_entries p ≡ true → {s t u r : Text} {e : Entry} → Star NodeSpace s t → Slashdash t u → IsEntry true u r e → Has (spaced false p) r → Has p s
 entry_first p h {s} {r = r} no_star m i g = (piece (between s r) ∷ g.0, PlaceItems.dropped_entry h m i g.1)
-entry_first p h {r = r} (more n ss) m i g = space_first n (entry_first (spaced true p) (entries_spaced p ∙ h) ss m i (subst (λ (q : Place). Has q r) (sym (unspaced p)) g))
+entry_first p h {r = r} (more n ss) m i g = space_first n (entry_first (spaced true p) (entries_spaced true p ∙ h) ss m i (subst (λ (q : Place). Has q r) (sym (spaced_again false true p)) g))
 
 block_first : (p : Place) → takes_blocks p ≡ true → {s t u r : Text} {xs : Nodes} → Star NodeSpace s t → Slashdash t u → IsBlock true u r xs → Has after_block r → Has p s
 block_first p h {s} {r = r} no_star m b g = (piece (between s r) ∷ g.0, PlaceItems.dropped_block h m b g.1)
-block_first p h (more n ss) m b g = space_first n (block_first (spaced true p) (blocks_spaced p ∙ h) ss m b g)
+block_first p h (more n ss) m b g = space_first n (block_first (spaced true p) (blocks_spaced true p ∙ h) ss m b g)
 
 -- each text of a place has items
 after_has : (p : Place) → takes_blocks p ≡ true → spaced true p ≡ p → may_end p ≡ true → {s t : Text} → Star DroppedBlock s t → Star NodeSpace t [] → Has p s
@@ -137,18 +122,31 @@ TextIn (before_entry true) s = Star NodeSpace s [] ⊎ EntryLeading s []
 TextIn before_block s = BeforeChildren s []
 TextIn after_block s = AfterChildren s []
 
-space_after : {s t : Text} → NodeSpace s t → AfterChildren t [] → AfterChildren s []
-space_after n (after no_star us) = after no_star (more n us)
-space_after n (after (more (a_dropped_block ss m b) ds) us) = after (more (a_dropped_block (more n ss) m b) ds) us
+-- the same before a rest
+pub lead_space : {s t r : Text} → NodeSpace s t → EntryLeading t r → EntryLeading s r
+lead_space n (leading no_star (plus m ms)) = leading no_star (plus n (more m ms))
+lead_space n (leading (more (a_dropped_entry ss m i) ds) ms) = leading (more (a_dropped_entry (more n ss) m i) ds) ms
 
-space_before : {s t : Text} → NodeSpace s t → BeforeChildren t [] → BeforeChildren s []
+pub lead_entry : {s t u r : Text} {e : Entry} → Slashdash s t → IsEntry true t u e → EntryLeading u r → EntryLeading s r
+lead_entry m i (leading ds n) = leading (more (a_dropped_entry no_star m i) ds) n
+
+pub space_after : {s t r : Text} → NodeSpace s t → AfterChildren t r → AfterChildren s r
+space_after n (after no_star ss) = after no_star (more n ss)
+space_after n (after (more (a_dropped_block us m b) ds) ss) = after (more (a_dropped_block (more n us) m b) ds) ss
+
+pub braces_after : {s t u r : Text} {xs : Nodes} → Slashdash s t → IsBlock true t u xs → AfterChildren u r → AfterChildren s r
+braces_after m b (after ds ss) = after (more (a_dropped_block no_star m b) ds) ss
+
+pub space_before : {s t r : Text} → NodeSpace s t → BeforeChildren t r → BeforeChildren s r
 space_before n (before no_star a) = before no_star (space_after n a)
 space_before n (before (more (a_dropped_entry ss m i) ds) a) = before (more (a_dropped_entry (more n ss) m i) ds) a
 
+pub entry_before : {s t u r : Text} {e : Entry} → Slashdash s t → IsEntry true t u e → BeforeChildren u r → BeforeChildren s r
+entry_before m i (before ds a) = before (more (a_dropped_entry no_star m i) ds) a
+
 space_leading : {s t : Text} → NodeSpace s t → TextIn (before_entry true) t → EntryLeading s []
 space_leading n (inl us) = leading no_star (plus n us)
-space_leading n (inr (leading no_star (plus m us))) = leading no_star (plus n (more m us))
-space_leading n (inr (leading (more (a_dropped_entry ss m i) ds) us)) = leading (more (a_dropped_entry (more n ss) m i) ds) us
+space_leading n (inr d) = lead_space n d
 
 text_space : (p : Place) {s t : Text} → NodeSpace s t → TextIn (spaced true p) t → TextIn p s
 text_space (before_entry false) n d = space_leading n d
@@ -156,25 +154,16 @@ text_space (before_entry true) n d = inr (space_leading n d)
 text_space before_block n d = space_before n d
 text_space after_block n d = space_after n d
 
-entry_leading : {s t u : Text} {e : Entry} → Slashdash s t → IsEntry true t u e → EntryLeading u [] → EntryLeading s []
-entry_leading m i (leading ds us) = leading (more (a_dropped_entry no_star m i) ds) us
-
-entry_before : {s t u : Text} {e : Entry} → Slashdash s t → IsEntry true t u e → BeforeChildren u [] → BeforeChildren s []
-entry_before m i (before ds a) = before (more (a_dropped_entry no_star m i) ds) a
-
 text_entry : (p : Place) → takes_entries p ≡ true → {s t u : Text} {e : Entry} → Slashdash s t → IsEntry true t u e → TextIn (spaced false p) u → TextIn p s
-text_entry (before_entry false) h m i d = entry_leading m i d
-text_entry (before_entry true) h m i d = inr (entry_leading m i d)
+text_entry (before_entry false) h m i d = lead_entry m i d
+text_entry (before_entry true) h m i d = inr (lead_entry m i d)
 text_entry before_block h m i d = entry_before m i d
 text_entry after_block h m i d = absurd cc
 
-block_after : {s t u : Text} {xs : Nodes} → Slashdash s t → IsBlock true t u xs → AfterChildren u [] → AfterChildren s []
-block_after m b (after ds us) = after (more (a_dropped_block no_star m b) ds) us
-
 text_block : (p : Place) → takes_blocks p ≡ true → {s t u : Text} {xs : Nodes} → Slashdash s t → IsBlock true t u xs → AfterChildren u [] → TextIn p s
 text_block (before_entry b) h m i d = absurd cc
-text_block before_block h m i d = before no_star (block_after m i d)
-text_block after_block h m i d = block_after m i d
+text_block before_block h m i d = before no_star (braces_after m i d)
+text_block after_block h m i d = braces_after m i d
 
 text_end : (p : Place) → may_end p ≡ true → TextIn p []
 text_end (before_entry false) h = absurd cc

@@ -4,15 +4,17 @@ use Rattle.kdl_text.specs.Chars.{Text, is_space, Space, none, more, plus, space 
 use Rattle.kdl_text.specs.Trivia.{BlockComment, LineComment, Ws, EscEnd, escline, NodeSpace, Slashdash, ValueEnd}
 use Rattle.kdl_entry.specs.Data.{Entry}
 use Rattle.kdl_entry.specs.Entries.{IsEntry}
-use Rattle.kdl_entry.specs.Places.{dropped as dropped_e, EntryLeading, leading, between}
+use Rattle.kdl_entry.specs.Places.{EntryLeading, leading, between}
 use Rattle.kdl_entry.proofs.Slicing.Between.{between_is, is_between}
 use Rattle.kdl_entry.proofs.Moving.EntryMoves.{move_slashdash, move_entry}
 use Rattle.kdl_lexer.proofs.Moving.Puts.{joined}
 use Rattle.kdl_grammar.specs.Data.{Nodes}
 use Rattle.kdl_grammar.specs.Grammar.{IsBlock}
-use Rattle.kdl_grammar.specs.Places.{dropped as dropped_b, AfterChildren, after, BeforeChildren, before}
+use Rattle.kdl_grammar.specs.Places.{AfterChildren, after, BeforeChildren, before}
 use Rattle.kdl_comments.specs.Items.{Item, comment, piece, line_end, EsclineItems, SpaceItems, Place, before_entry, before_block, after_block, may_end, takes_entries, takes_blocks, spaced, PlaceItems, ends, dropped_entry, dropped_block}
 use Rattle.kdl_comments.specs.Written.{tail}
+use Rattle.kdl_comments.proofs.Listing.PlaceReads.{ends_spaced, spaced_again, entries_spaced, blocks_spaced}
+use Rattle.kdl_comments.proofs.Listing.PlaceTexts.{lead_space, lead_entry, space_after, braces_after, space_before, entry_before}
 use Rattle.kdl_comments.proofs.Rewriting.BeforeNewlines.{closed_block, closed_braces, newline_end}
 use Rattle.kdl_comments.proofs.Rewriting.LinesAgain.{comment_part, comment_again, comment_text, comment_item}
 
@@ -36,22 +38,6 @@ data AreInPlace : Place → List Item → Place → Type 0 where
 in_join : {p q r : Place} {is js : List Item} → AreInPlace p is q → AreInPlace q js r → AreInPlace p (is ++ js) r
 in_join no_item b = b
 in_join (one_more i a) b = one_more i (in_join a b)
-
--- what a place takes does not hang on the node-spaces in it
-pub spaced_again : (a b : Bool) (p : Place) → spaced a (spaced b p) ≡ spaced a p
-spaced_again a b (before_entry c) = refl
-spaced_again a b before_block = refl
-spaced_again a b after_block = refl
-
-pub entries_spaced : (b : Bool) (p : Place) → takes_entries (spaced b p) ≡ takes_entries p
-entries_spaced b (before_entry c) = refl
-entries_spaced b before_block = refl
-entries_spaced b after_block = refl
-
-pub blocks_spaced : (b : Bool) (p : Place) → takes_blocks (spaced b p) ≡ takes_blocks p
-blocks_spaced b (before_entry c) = refl
-blocks_spaced b before_block = refl
-blocks_spaced b after_block = refl
 
 as_spaced : (p : Place) → (b : Bool) × (spaced b p ≡ p)
 as_spaced (before_entry c) = (c, refl)
@@ -205,39 +191,13 @@ tail_alone {p} {s} {is} h d =
 pub tail_spaced : {p : Place} {s : Text} {is : List Item} → PlaceItems p s is → PlaceItems p (tail is ++ (32 ∷ [])) is
 tail_spaced {p} {s} {is} d =
     subst (λ (js : List Item). PlaceItems p (tail is ++ (32 ∷ [])) js) (append-nil is)
-    (tail_again d (PlaceItems.space (SpaceItems.space (one_space [])) (ends (go (last_place d)))) (space_end []))
-  where
-    go : (q : Place) → may_end (spaced true q) ≡ true
-    go (before_entry b) = refl
-    go before_block = refl
-    go after_block = refl
+    (tail_again d (PlaceItems.space (SpaceItems.space (one_space [])) (ends (ends_spaced (last_place d)))) (space_end []))
 
 -- the text of a place comes before a rest
 abbrev pub PlaceText : Place → Text → Text → Type 0
 PlaceText (before_entry b) = EntryLeading
 PlaceText before_block = BeforeChildren
 PlaceText after_block = AfterChildren
-
-lead_space : {s t r : Text} → NodeSpace s t → EntryLeading t r → EntryLeading s r
-lead_space n (leading none (plus m ms)) = leading none (plus n (more m ms))
-lead_space n (leading (more (dropped_e ss m i) ds) ms) = leading (more (dropped_e (more n ss) m i) ds) ms
-
-lead_entry : {s t u r : Text} {e : Entry} → Slashdash s t → IsEntry true t u e → EntryLeading u r → EntryLeading s r
-lead_entry m i (leading ds n) = leading (more (dropped_e none m i) ds) n
-
-space_after : {s t r : Text} → NodeSpace s t → AfterChildren t r → AfterChildren s r
-space_after n (after none ss) = after none (more n ss)
-space_after n (after (more (dropped_b us m b) ds) ss) = after (more (dropped_b (more n us) m b) ds) ss
-
-braces_after : {s t u r : Text} {xs : Nodes} → Slashdash s t → IsBlock true t u xs → AfterChildren u r → AfterChildren s r
-braces_after m b (after ds ss) = after (more (dropped_b none m b) ds) ss
-
-space_before : {s t r : Text} → NodeSpace s t → BeforeChildren t r → BeforeChildren s r
-space_before n (before none a) = before none (space_after n a)
-space_before n (before (more (dropped_e ss m i) ds) a) = before (more (dropped_e (more n ss) m i) ds) a
-
-entry_before : {s t u r : Text} {e : Entry} → Slashdash s t → IsEntry true t u e → BeforeChildren u r → BeforeChildren s r
-entry_before m i (before ds a) = before (more (dropped_e none m i) ds) a
 
 pub text_space : (p : Place) (r : Text) {s t : Text} → NodeSpace s t → PlaceText p t r → PlaceText p s r
 text_space (before_entry b) r n d = lead_space n d

@@ -1,22 +1,22 @@
--- How the results of the readers of what a text lacks relate to the text.
+-- How the results of the readers of gaps and places relate to the text: the items, and what the text lacks at its end.
 use Rattle.std.specs.Prelude.{◌≡◌, ◌⊎◌, ℕ, suc, ◌<◌, ◌≤◌, Bool, true, false, List, [], ◌∷◌, ◌++◌, Option, Some, None, length}
 use Rattle.std.specs.Str.{chars}
 use Rattle.kdl_text.specs.Chars.{Text, begins, Newline, Star, Plus}
 use Rattle.kdl_text.specs.Trivia.{NodeSpace, Break, ValueEnd}
 use Rattle.kdl_lexer.specs.Tokens.{Token, BeginsToken, space, newline}
 use Rattle.kdl_grammar.specs.Data.{Nodes, none}
-use Rattle.kdl_grammar.specs.Grammar.{Gap, AreNodes}
+use Rattle.kdl_grammar.specs.Grammar.{AreNodes}
 use Rattle.kdl_grammar.specs.ReadsBack.{NodesEnd, AddsNothing}
-use Rattle.kdl_comments.specs.Items.{Item, Place, PlaceItems, takes_blocks, line_end}
-use Rattle.kdl_comments.specs.Lacks.{newlines, InPlace, AreNodeSpaces}
-use Rattle.kdl_comments.specs.Internal.Reading.{place_view}
+use Rattle.kdl_comments.specs.Items.{Item, GapItems, Place, PlaceItems, takes_blocks, line_end}
+use Rattle.kdl_comments.specs.Lacks.{newlines, InPlace, AreNodeSpaces, PlaceLacks}
+use Rattle.kdl_comments.specs.Internal.Reading.{Adding, Leaves, Run, place_view}
+use Rattle.kdl_comments.specs.declared.item.Place as held
+use Rattle.kdl_comments.specs.declared.places.GapPiece.{GapPiece}
+use Rattle.kdl_comments.specs.declared.places.GapPiece.TheVariants.{Until, Last}
+use Rattle.kdl_comments.specs.declared.places.PlacePiece.{PlacePiece}
+use Rattle.kdl_comments.specs.declared.places.PlacePiece.TheVariants.{Onward, InEscline}
 use Rattle.kdl_comments.specs.declared.ends.Ending.{Ending}
 use Rattle.kdl_comments.specs.declared.ends.Ending.TheVariants.{Before, InReturn, Open}
-use Rattle.kdl_comments.specs.declared.item.Place as held
-use Rattle.kdl_comments.specs.declared.lacks.GapPiece.{GapPiece}
-use Rattle.kdl_comments.specs.declared.lacks.GapPiece.TheVariants.{Until, Last}
-use Rattle.kdl_comments.specs.declared.lacks.PlacePiece.{PlacePiece}
-use Rattle.kdl_comments.specs.declared.lacks.PlacePiece.TheVariants.{Onward, InEscline}
 
 -- how a line ends: before a rest, in a CR, or at the end of the text
 abbrev pub LineEnds : Text → Ending → Type 0
@@ -39,12 +39,22 @@ pub record IsOpen (X : Text → Text → Type 0) (s : Text) : Type 0 where
   pub ended : (w : Text) → X (s ++ (10 ∷ w)) w
   pub swallows : (r : Text) (k : Token) → BeginsToken (s ++ letter) k r → ((k ≡ space) ⊎ (k ≡ newline)) × (r ≡ [])
 
--- the text begins with Xs that end before a rest, whatever follows the rest; or the whole text is one X; or no X begins it
-abbrev pub EndsAs : (Text → Text → Type 0) → Text → Option Ending → Type 0
-EndsAs X s (Some (Before r)) = ((w : Text) → Plus X (s ++ w) (chars r.now ++ w)) × (length (chars r.now) < length s)
-EndsAs X s (Some InReturn) = EndsInReturn X s
-EndsAs X s (Some Open) = IsOpen X s
-EndsAs X s None = (r : Text) → X s r → ⊥
+-- the text begins with Xs that end before a rest, whatever follows the rest; or the whole text is one X
+abbrev pub EndsAs : (Text → Text → Type 0) → Text → Ending → Type 0
+EndsAs X s (Before r) = ((w : Text) → Plus X (s ++ w) (chars r.now ++ w)) × (length (chars r.now) < length s)
+EndsAs X s InReturn = EndsInReturn X s
+EndsAs X s Open = IsOpen X s
+
+-- the text after such Xs
+abbrev pub left : Ending → Text
+left (Before r) = chars r.now
+left InReturn = []
+left Open = []
+
+-- such Xs begin the text, and their items were added; or no X begins it
+abbrev pub Spaces : (X : Text → Text → Type 0) (Y : Text → Text → List Item → Type 0) → Text → Option Ending → Option (List Item) → Option (List Item) → Type 0
+Spaces X Y s (Some y) old new = Adding (Run Y s (left y)) old new × EndsAs X s y
+Spaces X Y s None old new = (r : Text) → X s r → ⊥
 
 -- whether the terminator that is in u before v is a line comment without a newline
 pub data HasOpenEnd : Text → Text → Bool → Type 0 where
@@ -52,46 +62,49 @@ pub data HasOpenEnd : Text → Text → Bool → Type 0 where
   ended : {u v : Text} → Break u v → (line_end u ≡ [] → ⊥) → HasOpenEnd u v false
   unended : {u v : Text} → Break u v → line_end u ≡ [] → HasOpenEnd u v true
 
--- whether the whole text, which is node-spaces, needs an LF to end before whatever follows
-abbrev pub SpacesLack : Text → Bool → Type 0
-SpacesLack t true = (w : Text) → Star NodeSpace (t ++ (10 ∷ w)) w
-SpacesLack t false = AreNodeSpaces t
+-- the text is node-spaces, whatever follows it, and their items were added; or it is not, and if it is node-spaces at all, an LF ends them
+abbrev pub OnlySpaces : Text → Bool → Option (List Item) → Option (List Item) → Type 0
+OnlySpaces t true old new = AreNodeSpaces t × Adding (GapItems t) old new
+OnlySpaces t false old new = (AreNodeSpaces t → ⊥) × (Star NodeSpace t [] → Adding (GapItems t) old new × ((w : Text) → Star NodeSpace (t ++ (10 ∷ w)) w))
 
--- what comes before r in s adds nothing to the nodes after it, and s is a gap exactly if r is one
-pub record Through (s r : Text) : Type 0 where
-  pub on : Gap true s [] → Gap true r []
-  pub back : Gap true r [] → Gap true s []
-  pub adds : Gap true r [] → (w z : Text) (xs : Nodes) → NodesEnd z → AreNodes true (r ++ w) z xs → AreNodes true (s ++ w) z xs
-  pub off : Gap true r [] → (w : Text) (xs : Nodes) → AreNodes true (s ++ w) [] xs → AreNodes true (r ++ w) [] xs
+-- what comes before r in s holds these items, and adds nothing to the nodes after it
+pub record Through (s r : Text) (is : List Item) : Type 0 where
+  pub items : Leaves (GapItems s) (GapItems r) is
+  pub adds : (js : List Item) → GapItems r js → (w z : Text) (xs : Nodes) → NodesEnd z → AreNodes true (r ++ w) z xs → AreNodes true (s ++ w) z xs
+  pub off : (js : List Item) → GapItems r js → (w : Text) (xs : Nodes) → AreNodes true (s ++ w) [] xs → AreNodes true (r ++ w) [] xs
 
 -- with one newline fewer, a letter appended adds no node
 abbrev pub Fewest : Text → ℕ → Type 0
 Fewest s k = (j : ℕ) → suc j ≡ k → (xs : Nodes) → AreNodes true ((s ++ newlines j) ++ letter) [] xs → xs ≡ none
 
--- the text is a gap that lacks k newlines, at most two
+-- the text lacks k newlines, at most two
 abbrev pub GapEnds : Text → ℕ → Type 0
-GapEnds s k = (k ≤ 2) × Gap true s [] × AddsNothing (s ++ newlines k) × Fewest s k
+GapEnds s k = (k ≤ 2) × AddsNothing (s ++ newlines k) × Fewest s k
 
--- the text is such a gap; or it is not a gap
-abbrev pub GapAnswer : Text → Option ℕ → Type 0
-GapAnswer s (Some k) = GapEnds s k
-GapAnswer s None = Gap true s [] → ⊥
+-- the text is a gap that lacks k newlines, and its items were added; or it is not a gap
+abbrev pub GapRead : Text → Option ℕ → Option (List Item) → Option (List Item) → Type 0
+GapRead s (Some k) old new = Adding (GapItems s) old new × GapEnds s k
+GapRead s None old new = (all : List Item) → GapItems s all → ⊥
 
--- the first piece of a gap ends before a rest; or it is the whole text, and lacks k newlines; or the text is not a gap
-abbrev pub PieceEnds : Text → Option GapPiece → Type 0
-PieceEnds s (Some (Until r)) = Through s (chars r.now) × (length (chars r.now) < length s)
-PieceEnds s (Some (Last k)) = GapEnds s k
-PieceEnds s None = Gap true s [] → ⊥
+-- the first piece of a gap ends before a rest; or it is the whole text; or the text is not a gap
+abbrev pub GapPieceEnds : Text → Option GapPiece → Option (List Item) → Option (List Item) → Type 0
+GapPieceEnds s (Some (Until r)) old new = Adding (Through s (chars r.now)) old new × (length (chars r.now) < length s)
+GapPieceEnds s (Some (Last k)) old new = GapRead s (Some k) old new
+GapPieceEnds s None old new = GapRead s None old new
 
--- s in the place p continues as r in the place q: each of the two has items if the other has, and s may come before what r may come before
-pub record PlaceThrough (p : Place) (s : Text) (q : Place) (r : Text) : Type 0 where
-  pub on : (is : List Item) → PlaceItems p s is → (js : List Item) × PlaceItems q r js
-  pub back : (js : List Item) → PlaceItems q r js → (is : List Item) × PlaceItems p s is
+-- s in the place p has these items and continues as r in the place q, and s may come before what r may come before
+pub record PlaceThrough (p : Place) (s : Text) (q : Place) (r : Text) (is : List Item) : Type 0 where
+  pub items : Leaves (PlaceItems p s) (PlaceItems q r) is
   pub adds : (js : List Item) → PlaceItems q r js → (w z : Text) → ValueEnd true z → InPlace q (r ++ w) z → InPlace p (s ++ w) z
   pub blocks : takes_blocks p ≡ true → takes_blocks q ≡ true
 
 -- the first piece ends before a rest; or it is the whole text, and ends in an escline that lacks a newline; or the text may not be in the place
-abbrev pub PlacePieceEnds : held.Place → Text → Option PlacePiece → Type 0
-PlacePieceEnds p s (Some (Onward q r)) = PlaceThrough (place_view p) s (place_view q) (chars r.now) × (length (chars r.now) < length s)
-PlacePieceEnds p s (Some InEscline) = ((is : List Item) × PlaceItems (place_view p) s is) × ((z : Text) → InPlace (place_view p) (s ++ (10 ∷ z)) z)
-PlacePieceEnds p s None = (is : List Item) → PlaceItems (place_view p) s is → ⊥
+abbrev pub PlacePieceEnds : held.Place → Text → Option PlacePiece → Option (List Item) → Option (List Item) → Type 0
+PlacePieceEnds p s (Some (Onward q r)) old new = Adding (PlaceThrough (place_view p) s (place_view q) (chars r.now)) old new × (length (chars r.now) < length s)
+PlacePieceEnds p s (Some InEscline) old new = Adding (PlaceItems (place_view p) s) old new × ((z : Text) → InPlace (place_view p) (s ++ (10 ∷ z)) z)
+PlacePieceEnds p s None old new = (all : List Item) → PlaceItems (place_view p) s all → ⊥
+
+-- the items of the text in the place were added; or it may not be there
+abbrev pub PlaceRead : Place → Text → Option Bool → Option (List Item) → Option (List Item) → Type 0
+PlaceRead p s (Some b) old new = Adding (PlaceItems p s) old new × PlaceLacks p s (Some b)
+PlaceRead p s None old new = (all : List Item) → PlaceItems p s all → ⊥

@@ -1,7 +1,7 @@
 -- How the results of the readers of items relate to the text.
-use Rattle.std.specs.Borrow.{Bor}
-use Rattle.std.specs.Prelude.{◌≡◌, ◌↔◌, ℕ, ◌<◌, Bool, true, false, List, [], ◌∷◌, ◌++◌, Option, Some, None, map, length, option_map}
+use Rattle.std.specs.Prelude.{◌≡◌, ◌↔◌, ℕ, Bool, true, false, List, [], ◌∷◌, ◌++◌, Option, Some, None, map, option_map, Vec}
 use Rattle.std.specs.Str.{chars}
+use Rattle.std.specs.declared.alloc.Global.{Global}
 use Rattle.kdl_text.specs.Chars.{Text, Newline as IsNewline, Space as IsSpace, Plus}
 use Rattle.kdl_text.specs.Spans.{bytes}
 use Rattle.kdl_text.specs.Trivia.{BlockComment, LineComment}
@@ -56,19 +56,27 @@ abbrev pub found : Option Item → List items.Item
 found None = []
 found (Some i) = item_view i ∷ []
 
--- pieces of a kind in a row, with their items
+-- one or more pieces of a kind in a row, with their items
 pub data Run (X : Text → Text → List items.Item → Type 0) : Text → Text → List items.Item → Type 0 where
-  none : {s : Text} → Run X s s []
+  one : {s r : Text} {is : List items.Item} → X s r is → Run X s r is
   more : {s t r : Text} {is js : List items.Item} → X s t is → Run X t r js → Run X s r (is ++ js)
 
--- at least one piece of the kind begins the text, and its items were added to those before; or none begins it
-abbrev pub Adds : (X : Text → Text → List items.Item → Type 0) → Text → Option Text → List items.Item → List items.Item → Type 0
-Adds X s (Some r) old new = (is : List items.Item) × Run X s r is × (new ≡ old ++ is) × (length r < length s)
-Adds X s None old new = (r : Text) (is : List items.Item) → X s r is → ⊥
+-- the items in memory, if they are asked for
+abbrev pub held : Option (Vec Item Global) → Option (List items.Item)
+held o = option_map (λ v. items_view v.items) o
 
--- the same of a text and items in memory
-abbrev pub AddsHeld : (X : Text → Text → List items.Item → Type 0) → Text → Option (Bor (List ℕ)) → List Item → List Item → Type 0
-AddsHeld X s o old new = Adds X s (option_map (λ r. chars r.now) o) (items_view old) (items_view new)
+-- the items with more after them, if they are asked for
+abbrev pub added : Option (List items.Item) → List items.Item → Option (List items.Item)
+added None is = None
+added (Some old) is = Some (old ++ is)
+
+-- P holds of the items that were added
+pub data Adding (P : List items.Item → Type 0) (old new : Option (List items.Item)) : Type 0 where
+  adding : (is : List items.Item) → new ≡ added old is → P is → Adding P old new
+
+-- what has items of the kind X has these first, and then those of the kind Y
+abbrev pub Leaves : (X Y : List items.Item → Type 0) → List items.Item → Type 0
+Leaves X Y is = (all : List items.Item) → X all ↔ ((js : List items.Item) × (all ≡ is ++ js) × Y js)
 
 -- the text is a gap with the items that were returned, or it is not a gap
 abbrev pub IsGapWith : Text → Option (List items.Item) → Type 0
@@ -79,12 +87,3 @@ IsGapWith s None = (is : List items.Item) → GapItems s is → ⊥
 abbrev pub IsPlaceWith : items.Place → Text → Option (List items.Item) → Type 0
 IsPlaceWith p s (Some is) = PlaceItems p s is
 IsPlaceWith p s None = (is : List items.Item) → PlaceItems p s is → ⊥
-
--- the first items of the text were added to those before, and what is left of it has the others; or the text has no items
-abbrev pub Takes : (X Y : Text → List items.Item → Type 0) → Text → Option Text → List items.Item → List items.Item → Type 0
-Takes X Y s (Some r) old new = (is : List items.Item) × (new ≡ old ++ is) × (length r < length s) × ((all : List items.Item) → X s all ↔ ((js : List items.Item) × (all ≡ is ++ js) × Y r js))
-Takes X Y s None old new = (all : List items.Item) → X s all → ⊥
-
--- the same of a gap and items in memory
-abbrev pub TakesHeld : Text → Option (Bor (List ℕ)) → List Item → List Item → Type 0
-TakesHeld s o old new = Takes GapItems GapItems s (option_map (λ r. chars r.now) o) (items_view old) (items_view new)

@@ -1,28 +1,8 @@
-use Rattle.std.proofs.Common.{sym, ◌∙◌, Some, None}
+use Rattle.std.proofs.lemmas.Result.{IfOk-weaker}
 use Rattle.std.specs.Str.{chars}
-use Rattle.kdl_comments.specs.declared.ends.Ending.TheVariants.{InReturn, Open}
-use Rattle.kdl_comments.proofs.Lacking.GapPieces.{spaces_start, spaces_shorter}
-use Rattle.kdl_comments.proofs.Lacking.NodeSpaceLoop.{spaces_on, not_spaces, all_spaces}
-use Rattle.kdl_comments.proofs.Listing.SpaceReads.{no_chars, some_chars}
+use Rattle.kdl_comments.specs.Internal.Reading.{held}
+use Rattle.kdl_comments.proofs.Lacking.NodeSpaceLoop.{only_are}
 use Rattle.kdl_comments.proofs.lacks.is_node_spaces.Goals as goal
 
-pub spaces-init : goal.spaces-init
-spaces-init c = (c.utf8.text, spaces_start (chars c.args.text.now))
-
-pub spaces-smaller : goal.spaces-smaller
-spaces-smaller c = spaces_shorter (chars c.spaces.rest.now) (chars c.same-rest.result.now) c.in-Some-Before.following ((rw (c.in-Some-Before.is, c.in-Some-Before.field-0-is) at c.in_ok-following.ensures) (chars c.spaces.rest.now) c.in_ok-first.ensures) c.same-rest.ensures
-
-pub spaces-preserved : goal.spaces-preserved
-spaces-preserved c = (c.same-rest.utf8, spaces_on (chars c.args.text.now) (chars c.spaces.rest.now) (chars c.same-rest.result.now) c.in-Some-Before.following c.spaces.invariant.1 ((rw (c.in-Some-Before.is, c.in-Some-Before.field-0-is) at c.in_ok-following.ensures) (chars c.spaces.rest.now) c.in_ok-first.ensures) c.same-rest.ensures)
-
-pub returns-in-Some-InReturn : goal.returns-in-Some-InReturn
-returns-in-Some-InReturn c = not_spaces (chars c.args.text.now) (chars c.spaces.rest.now) (Some InReturn) c.spaces.invariant.1 (some_chars c.spaces.rest.now c.spaces.invariant.0 (sym c.is_empty.ensures ∙ c.spaces-test.true)) (λ r. λ e. cc) ((rw (c.in-Some-InReturn.is, c.in-Some-InReturn.field-0-is) at c.in_ok-following.ensures) (chars c.spaces.rest.now) c.in_ok-first.ensures)
-
-pub returns-in-Some-Open : goal.returns-in-Some-Open
-returns-in-Some-Open c = not_spaces (chars c.args.text.now) (chars c.spaces.rest.now) (Some Open) c.spaces.invariant.1 (some_chars c.spaces.rest.now c.spaces.invariant.0 (sym c.is_empty.ensures ∙ c.spaces-test.true)) (λ r. λ e. cc) ((rw (c.in-Some-Open.is, c.in-Some-Open.field-0-is) at c.in_ok-following.ensures) (chars c.spaces.rest.now) c.in_ok-first.ensures)
-
-pub returns-in-None : goal.returns-in-None
-returns-in-None c = not_spaces (chars c.args.text.now) (chars c.spaces.rest.now) None c.spaces.invariant.1 (some_chars c.spaces.rest.now c.spaces.invariant.0 (sym c.is_empty.ensures ∙ c.spaces-test.true)) (λ r. λ e. cc) ((rw c.in-None.is at c.in_ok-following.ensures) (chars c.spaces.rest.now) c.in_ok-first.ensures)
-
 pub returns : goal.returns
-returns c = all_spaces (chars c.args.text.now) (chars c.spaces.rest.now) c.spaces.invariant.1 (no_chars c.spaces.rest.now (sym c.is_empty.ensures ∙ c.spaces-test.false))
+returns c = IfOk-weaker c.only_spaces.result _ _ (λ b. only_are (chars c.args.text.now) b _ (held c.only_spaces.new.items)) c.only_spaces.ensures

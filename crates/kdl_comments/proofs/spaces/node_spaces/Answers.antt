@@ -1,19 +1,20 @@
 use Rattle.std.proofs.Common.{sym, subst}
 use Rattle.std.proofs.lemmas.Result.{IfOk-weaker}
 use Rattle.kdl_text.specs.Chars.{Text}
+use Rattle.kdl_text.specs.Trivia.{NodeSpace}
 use Rattle.kdl_comments.specs.Items.{SpaceItems}
-use Rattle.kdl_comments.specs.Internal.Reading.{AddsHeld, items_view}
-use Rattle.kdl_comments.proofs.Listing.SpaceItems.{space_of}
-use Rattle.kdl_comments.proofs.Listing.SpaceReads.{adds_space}
+use Rattle.kdl_comments.specs.Internal.Lacking.{Spaces}
+use Rattle.kdl_comments.specs.Internal.Reading.{held}
+use Rattle.kdl_comments.proofs.Lacking.SpaceEnds.{space_adds}
 use Rattle.kdl_comments.proofs.Listing.Starts.{no_node_space}
 use Rattle.kdl_comments.proofs.spaces.node_spaces.Goals as goal
 
 pub returns-in_ok-add-in-Space : goal.returns-in_ok-add-in-Space
-returns-in_ok-add-in-Space c = λ s h. adds_space s c.in-Space.item c.in-Space.rest (items_view c.args.items.now.items) (items_view c.add.new.items.items) (rw c.in-Space.is at h) c.in_ok-add-in-Space.ensures
+returns-in_ok-add-in-Space c = λ s h. space_adds s c.in-Space.item c.in-Space.rest (held c.args.items.now) (held c.add.new.items) (rw c.in-Space.is at h) c.in_ok-add-in-Space.ensures
 
 pub returns-in-Backslash : goal.returns-in-Backslash
 returns-in-Backslash c =
-    IfOk-weaker c.escline.result _ _ (λ o a. λ s h. subst (λ (z : Text). AddsHeld SpaceItems z o c.args.items.now.items c.escline.new.items.items) (sym (rw c.in-Backslash.is at h)) a) c.escline.ensures
+    IfOk-weaker c.escline.result _ _ (λ o a. λ s h. subst (λ (z : Text). Spaces NodeSpace SpaceItems z o (held c.args.items.now) (held c.escline.new.items)) (sym (rw c.in-Backslash.is at h)) a) c.escline.ensures
 
 pub returns-in_default : goal.returns-in_default
-returns-in_default c = λ s h r is d. no_node_space s c.args.first h c.in_default.not-Space c.in_default.not-Backslash r (space_of d)
+returns-in_default c = λ s h. no_node_space s c.args.first h c.in_default.not-Space c.in_default.not-Backslash

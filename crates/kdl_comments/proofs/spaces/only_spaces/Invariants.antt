@@ -2,11 +2,12 @@ use Rattle.std.proofs.Common.{length}
 use denote.Text.{Utf8}
 use denote.Shadow.{shadow}
 use Rattle.std.specs.Str.{chars}
+use Rattle.kdl_comments.specs.Internal.Reading.{Adding, held}
 use Rattle.kdl_comments.proofs.Lacking.NodeSpaceLoop.{SpacesFrom}
-use Rattle.kdl_comments.proofs.lacks.is_node_spaces.Given as goal
+use Rattle.kdl_comments.proofs.spaces.only_spaces.Given as goal
 
 abbrev pub invariant-spaces : goal.invariant-spaces
-invariant-spaces l = shadow (Utf8 l.rest) × SpacesFrom (chars l.fn.text) (chars l.rest)
+invariant-spaces l = shadow (Utf8 l.rest) × Adding (SpacesFrom (chars l.fn.text) (chars l.rest)) (held l.fn.items) (held l.items)
 
 abbrev pub decreases-spaces : goal.decreases-spaces
 decreases-spaces l = length (chars l.rest)

@@ -1,7 +1,7 @@
 use Rattle.std.proofs.Common.{sym, ◌∙◌}
 use Rattle.kdl_comments.proofs.Lacking.SpaceEnds.{break_before}
 use Rattle.kdl_comments.proofs.Listing.SpaceReads.{no_chars, some_chars}
-use Rattle.kdl_comments.proofs.ends.break_ending.Goals as goal
+use Rattle.kdl_comments.proofs.spaces.break_ending.Goals as goal
 
 pub returns-then-is_empty : goal.returns-then-is_empty
 returns-then-is_empty c = sym c.line.ensures.end ∙ no_chars c.line.result.1.now (sym c.is_empty.ensures ∙ c.if-is_empty.true)

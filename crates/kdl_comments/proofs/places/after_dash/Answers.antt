@@ -1,0 +1,9 @@
+use Rattle.std.specs.Str.{chars}
+use Rattle.kdl_comments.proofs.Dropping.DroppedPieces.{dash_cut, after_dash}
+use Rattle.kdl_comments.proofs.places.after_dash.Goals as goal
+
+pub cut-requires : goal.cut-requires
+cut-requires c = dash_cut (chars c.args.text.now) c.requires.0 c.requires.1
+
+pub returns : goal.returns
+returns c = after_dash (chars c.args.text.now) c.requires.0 (chars c.cut.result.0.now) (chars c.cut.result.1.now) c.requires.1 c.cut.ensures.parts
