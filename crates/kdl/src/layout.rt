@@ -17,6 +17,7 @@ ghost use Rattle.std.specs.Prelude.{◌≡◌, ◌+◌, ◌<◌, ◌≤◌, ◌+
 
 use crate::node::KdlNode;
 use kdl_fmt::layout::{further, indentation};
+use kdl_fmt::one_line::Position;
 use kdl_fmt::{Before, Layout};
 use kdl_parts::{KdlDocumentFormat, KdlNodeFormat};
 use std::alloc::AllocError;
@@ -221,7 +222,7 @@ pub(crate) fn nodes_on_line(nodes: &[KdlNode]) -> bool
     ensures { result ≡ nodes_on_line (nodes_tree nodes.now) }
 {
     for (i, node) in nodes.iter().enumerate() {
-        if !node.is_on_line(i + 1 == nodes.len()) {
+        if !node.is_on_line(Position::followed_by(nodes.len() - i - 1)) {
             return false;
         }
     }

@@ -10,6 +10,8 @@ use Rattle.kdl_fmt.specs.Formatted.{or_empty}
 use Rattle.kdl_fmt.specs.Plain.{no_newline, only_spaces}
 use Rattle.kdl_fmt.specs.Respelled.{IsSpelledDocument, IsSpelledNode}
 use Rattle.kdl_fmt.specs.declared.blank.Before.{Before}
+use Rattle.kdl_fmt.specs.declared.one_line.Position.{Position}
+use Rattle.kdl_fmt.specs.declared.one_line.Position.TheVariants.{Inner, Last}
 
 -- a name whose spelling, if it has one, contains no newline
 abbrev pub spelling_on_line : Option Text → Bool
@@ -37,6 +39,11 @@ maybe_form_on_line (Some f) = form_on_line f
 
 abbrev pub entry_on_line : Entry → Bool
 entry_on_line e = maybe_on_line e.name && maybe_on_line e.ty && maybe_form_on_line e.format
+
+-- no node follows
+abbrev pub is_last : Position → Bool
+is_last Inner = false
+is_last Last = true
 
 -- a `;` ends the node, or nothing if it is the last one
 abbrev pub end_on_line : Bool → Text → Bool
@@ -123,8 +130,8 @@ abbrev mutual
   one_lined_nodes keep (first n ns) none = none
   one_lined_nodes keep (first n ns) (first n' ns') = first (one_lined_node keep n n') (one_lined_nodes keep ns ns')
 
--- the second node is the first one, laid out at the level with blank lines; its spellings are kept if `spelling` is true,
--- and each block that is on one line stays there if `line` is true
+-- the second node is the first one, laid out at the level with blank lines; its spellings are kept if `spelling` is
+-- true, and each block that is on one line stays there if `line` is true
 abbrev pub IsLaidNode : Bool → Bool → ℕ → Settings → ℕ → Before → Node → Node → Type 0
 IsLaidNode spelling line number s level b n n' = (r : Node) × IsSpelledNode spelling number s level b n r × (n' ≡ one_lined_node line n r)
 

@@ -1,5 +1,5 @@
--- The result of layout if spellings are kept: after layout as without that, each spelling that means what it did is put back,
--- and so are comments inside an entry or a type, and lines that an entry continues.
+-- The result of layout if spellings are kept: after layout as without that, each spelling that means what it did is put
+-- back, and so are comments inside an entry or a type, and lines that an entry continues.
 use Rattle.std.specs.Prelude.{◌≡◌, ℕ, Bool, true, false, ◌&&◌, not, is_some, List, [], ◌∷◌, Option, Some, None, option_map}
 use Rattle.kdl_text.specs.Chars.{Text}
 use Rattle.kdl_value.specs.Data.{Value}
@@ -88,9 +88,9 @@ KeptTypeTextsIf true old x = KeptTypeTexts old x
 abbrev pub entry_type_texts : EntryFormat → TypeTexts
 entry_type_texts f = record { before_name = f.before_ty_name; after_name = f.after_ty_name; after = f.after_ty }
 
--- g is the format of the entry e, with its spelling, once it is laid out, if its format was f and `laid` is the text that
--- layout leaves before it; the texts around a type are kept if there is one, and those around `=` if there is a key, unless
--- comments are removed
+-- g is the format of the entry e, with its spelling, once it is laid out, if its format was f and `laid` is the text
+-- that layout leaves before it; the texts around a type are kept if there is one, and those around `=` if there is a
+-- key, unless comments are removed
 pub record KeepsForm (s : Settings) (e : Entry) (f : EntryFormat) (laid : Text) (g : EntryFormat) : Type 0 where
   pub leading : KeptLeading s f.leading laid g.leading
   pub value_repr : g.value_repr ≡ f.value_repr
@@ -100,8 +100,8 @@ pub record KeepsForm (s : Settings) (e : Entry) (f : EntryFormat) (laid : Text) 
   pub trailing : g.trailing ≡ []
   pub autoformat_keep : g.autoformat_keep ≡ false
 
--- of the formats of the entry e, before layout and after it, the one with its spelling if it has one of its value, else the
--- format that layout leaves
+-- of the formats of the entry e, before layout and after it, the one with its spelling if it has one of its value, else
+-- the format that layout leaves
 pub data KeptForm (s : Settings) (e : Entry) : Option EntryFormat → Option EntryFormat → Option EntryFormat → Type 0 where
   kept : {f g : EntryFormat} {o : Option EntryFormat} → IsSpelling e.value f.value_repr → KeepsForm s e f (text_before o) g → KeptForm s e (Some f) o (Some g)
   other : {f : EntryFormat} {o : Option EntryFormat} → (IsSpelling e.value f.value_repr → ⊥) → KeptForm s e (Some f) o o
@@ -138,7 +138,8 @@ node_type_texts f = record { before_name = f.before_ty_name; after_name = f.afte
 abbrev pub with_type_texts : TypeTexts → NodeFormat → NodeFormat
 with_type_texts x f = record f { before_ty_name = x.before_name; after_ty_name = x.after_name; after_ty = x.after }
 
--- the format of a node with the format f, where layout leaves the format m: the texts around its type are put back if `keep` is true
+-- the format of a node with the format f, where layout leaves the format m: the texts around its type are put back if
+-- `keep` is true
 abbrev pub IsTypedFormat : Bool → NodeFormat → Option NodeFormat → Option NodeFormat → Type 0
 IsTypedFormat false f m o' = o' ≡ m
 IsTypedFormat true f m o' = (x : TypeTexts) × KeptTypeTexts (node_type_texts f) x × (o' ≡ option_map (with_type_texts x) m)

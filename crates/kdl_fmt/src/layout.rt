@@ -24,7 +24,7 @@ ghost use Rattle.kdl_value.specs.Tree.{text_of, value_tree};
 ghost use Rattle.kdl_value.specs.WellFormed.{IsWellFormed};
 ghost use Rattle.std.specs.Int.{w128};
 ghost use Rattle.std.specs.List.{All, list_all, repeat};
-ghost use Rattle.std.specs.Prelude.{◌≡◌, ◌+◌, ◌==◌, ◌≤◌, ◌||◌, ◌++◌, ◌∷◌, [], ℕ, FitsSigned, IfOk, MatchOption, OnErr, OnOk, Some, is_none, length, map, false, option_map, string_capacity, true, unwrap_or};
+ghost use Rattle.std.specs.Prelude.{◌≡◌, ◌+◌, ◌==◌, ◌≤◌, ◌||◌, ◌++◌, ◌∷◌, [], ℕ, Bool, FitsSigned, IfOk, MatchOption, OnErr, OnOk, Some, is_none, length, map, false, option_map, string_capacity, true, unwrap_or};
 ghost use Rattle.std.specs.Str.{chars};
 
 use crate::blank::{
@@ -32,7 +32,7 @@ use crate::blank::{
 };
 use crate::config::{FormatConfig, Layout};
 use crate::kept::spelled_format;
-use crate::names::{autoformat_but, has_spelling, is_flagged, keeps_spelling_if};
+use crate::names::{autoformat_but, has_spelling, is_flagged, name_spelling_if};
 use kdl_comments::{Place, gap_items, line_comment, place_items, push_lines, push_tail, push_text};
 use kdl_entry::{KdlEntry, KdlEntryFormat, KdlValue};
 use kdl_parts::{KdlDocumentFormat, KdlNodeFormat};
@@ -111,16 +111,6 @@ fn is_blank_gap(text: &str) -> bool
     text.chars().all(|c| c == ' ' || c == '\n')
 }
 
-/// If `some` is `true`, reserves room for what is kept of the text `place`, after the text `before`.
-fn reserve_if(out: &mut String, some: bool, before: &str, place: &str) -> Result<(), AllocError>
-    ensures { OnOk result (text_of out.new ≡ text_of out.old) }
-{
-    if some {
-        out.reserve(place.len().saturating_add(before.len()))?;
-    }
-    Ok(())
-}
-
 /// Returns what is kept of a text between nodes: a line for each item, each after the text `before`.
 fn kept_lines(
     alloc: Global,
@@ -139,8 +129,10 @@ fn kept_lines(
         return Ok(out);
     }
     if let Some(items) = gap_items(alloc, place)? {
-        reserve_if(&mut out, !items.is_empty(), before, place)?;
-        push_lines(&mut out, before, &items)?;
+        if !items.is_empty() {
+            out.reserve(place.len().saturating_add(before.len()))?;
+            push_lines(&mut out, before, &items)?;
+        }
     }
     Ok(out)
 }
@@ -296,8 +288,8 @@ fn lay_out_spelled(alloc: Global, entry: &mut KdlEntry, layout: &Layout) -> Resu
         × HasSpellings (settings layout.now.config) (entry_tree entry.old) m
         (entry_tree entry.new)) }
 {
-    let key = keeps_spelling_if(alloc, layout, entry.name())?;
-    let ty = keeps_spelling_if(alloc, layout, entry.ty())?;
+    let key = name_spelling_if(alloc, layout, entry.name())?;
+    let ty = name_spelling_if(alloc, layout, entry.ty())?;
     let kept = kept_before(alloc, &layout.config, entry)?;
     let format = if has_spelling(alloc, entry)? {
         spelled_format(alloc, layout, entry, kept)?
@@ -384,31 +376,20 @@ fn put(old: &mut String, new: Option<String>, more: &str)
     }
 }
 
-/// Returns what is kept of the text before the block of a node. Without a block, nothing is kept.
+/// Returns what is kept of the text before the block of a node, if the place before its terminator is `last`. Without a
+/// block, nothing is kept.
 fn kept_before_block(
     alloc: Global,
     config: &FormatConfig,
-    has_block: bool,
+    last: Place,
     text: &str,
 ) -> Result<String, AllocError>
-    ensures { IfOk result (λ t.
-        KeptBeforeBlock (settings config.now) has_block (chars text.now) (text_of t)) }
+    ensures { IfOk result (λ t. (has_block : Bool) → place_view last ≡ last_place has_block
+        → KeptBeforeBlock (settings config.now) has_block (chars text.now) (text_of t)) }
 {
-    if has_block {
-        kept_tail(alloc, config, Place::BeforeBlock, text)
-    } else {
-        Ok(String::new(alloc))
-    }
-}
-
-/// Returns the place before the terminator of a node.
-fn last_place(has_block: bool) -> Place
-    ensures { place_view result ≡ last_place has_block }
-{
-    if has_block {
-        Place::AfterBlock
-    } else {
-        Place::BeforeBlock
+    match last {
+        Place::AfterBlock => kept_tail(alloc, config, Place::BeforeBlock, text),
+        _ => Ok(String::new(alloc)),
     }
 }
 
@@ -488,18 +469,20 @@ fn clear_type(format: &mut KdlNodeFormat)
 }
 
 /// Sets the texts around the parts of a node on its own line, in the memory of the old ones where nothing is kept.
-/// Returns what comes before the next thing. If an allocation fails, no text changes.
+/// `last` is the place before the node's terminator. Returns what comes before the next thing. If an allocation fails, no
+/// text changes.
 fn line_format(
     format: &mut KdlNodeFormat,
     alloc: Global,
     layout: &Layout,
     margin: &str,
-    has_block: bool,
+    last: Place,
     before: Before,
 ) -> Result<Before, AllocError>
     ensures same { OnErr result (node_format_tree format.new ≡ node_format_tree format.old) }
-    ensures spaced { IfOk result (λ next. (level : ℕ)
+    ensures spaced { IfOk result (λ next. (level : ℕ) (has_block : Bool)
         → chars margin.now ≡ indentation (settings layout.now.config) level
+        → place_view last ≡ last_place has_block
         → IsSpacedLine layout.now.blank_lines (settings layout.now.config) level has_block
         before (node_format_tree format.old) (Some (node_format_tree format.new))
         × PassesFormat layout.now.blank_lines (settings layout.now.config)
@@ -508,47 +491,48 @@ fn line_format(
     let config = &layout.config;
     let kept = before_node(alloc, layout, margin, before, format.leading.as_str())?;
     let leading = prepare(kept, &mut format.leading, margin)?;
-    let kept = kept_before_block(alloc, config, has_block, format.before_children.as_str())?;
+    let kept = kept_before_block(alloc, config, last, format.before_children.as_str())?;
     let before_children = prepare(kept, &mut format.before_children, " ")?;
-    let place = last_place(has_block);
-    let last = kept_tail(alloc, config, place, format.before_terminator.as_str())?;
-    let (last, comment) = line_end(alloc, config, last, format.terminator.as_str())?;
+    let kept = kept_tail(alloc, config, last, format.before_terminator.as_str())?;
+    let (before_end, comment) = line_end(alloc, config, kept, format.terminator.as_str())?;
     let mut next = after_end(layout, format.terminator.as_str());
     let terminator = prepare(comment, &mut format.terminator, "\n")?;
     let trailing = lines_between(alloc, layout, margin, &mut next, format.trailing.as_str())?;
     put(&mut format.leading, leading, margin);
     put(&mut format.before_children, before_children, " ");
     put(&mut format.terminator, terminator, "\n");
-    format.before_terminator = last;
+    format.before_terminator = before_end;
     format.trailing = trailing;
     clear_type(format);
     Ok(next)
 }
 
 /// Sets the texts around the parts of a node on its own line: the blank lines and the indentation before it, a space
-/// before its children, and a newline after it. They contain the comments that are kept. Returns what comes before the
-/// next thing. If an allocation fails, no text changes.
+/// before its children, and a newline after it. They contain the comments that are kept. `last` is the place before the
+/// node's terminator: after its block, or before a block if it has none. Returns what comes before the next thing. If an
+/// allocation fails, no text changes.
 pub fn lay_out_line(
     format: &mut Option<KdlNodeFormat>,
     alloc: Global,
     layout: &Layout,
     margin: &str,
-    has_block: bool,
+    last: Place,
     before: Before,
 ) -> Result<Before, AllocError>
     ensures same { OnErr result (node_texts format.new ≡ node_texts format.old) }
-    ensures spaced { IfOk result (λ next. (level : ℕ)
+    ensures spaced { IfOk result (λ next. (level : ℕ) (has_block : Bool)
         → chars margin.now ≡ indentation (settings layout.now.config) level
+        → place_view last ≡ last_place has_block
         → IsSpacedLine layout.now.blank_lines (settings layout.now.config) level has_block
         before (or_empty (node_texts format.old)) (node_texts format.new)
         × PassesFormat layout.now.blank_lines (settings layout.now.config)
         (or_empty (node_texts format.old)) next) }
 {
     match format {
-        Some(format) => line_format(format, alloc, layout, margin, has_block, before),
+        Some(format) => line_format(format, alloc, layout, margin, last, before),
         None => {
             let mut line = KdlNodeFormat::new(alloc);
-            let next = line_format(&mut line, alloc, layout, margin, has_block, before)?;
+            let next = line_format(&mut line, alloc, layout, margin, last, before)?;
             *format = Some(line);
             Ok(next)
         }
@@ -594,11 +578,12 @@ fn past_text(
     }
 }
 
-/// Appends a newline to the text if `newline` is `true`.
-fn newline_if(text: &mut String, newline: bool) -> Result<(), AllocError>
-    ensures { OnOk result (text_of text.new ≡ text_of text.old ++ newline_if newline) }
+/// Appends a newline to the text after the nodes of a document if there are no nodes. `last` is what comes before that
+/// text, or `None` if there are no nodes.
+fn newline_if_none(text: &mut String, last: Option<Before>) -> Result<(), AllocError>
+    ensures { OnOk result (text_of text.new ≡ text_of text.old ++ newline_if (is_none last)) }
 {
-    if newline {
+    if last.is_none() {
         push_text(text, "\n")?;
     }
     Ok(())
@@ -743,7 +728,7 @@ pub fn lay_out_content(
         (or_empty_document (document_texts format.old)) b (document_texts format.new)) }
 {
     let (leading, mut trailing, first) = spaced_content(alloc, layout, level, format, last)?;
-    newline_if(&mut trailing, last.is_none())?;
+    newline_if_none(&mut trailing, last)?;
     *format = Some(KdlDocumentFormat { leading, trailing });
     Ok(first)
 }
@@ -771,7 +756,7 @@ pub fn braces(
     let mut leading = String::new(alloc);
     push_text(&mut leading, "\n")?;
     push_text(&mut leading, kept.as_str())?;
-    newline_if(&mut trailing, last.is_none())?;
+    newline_if_none(&mut trailing, last)?;
     push_text(&mut trailing, margin)?;
     Ok((KdlDocumentFormat { leading, trailing }, first))
 }

@@ -1,7 +1,7 @@
 //! Spellings that layout keeps, of names, keys, types and values.
 
 ghost use Rattle.kdl_entry.specs.Tree.{entry_tree, identifier_tree, unspelled};
-ghost use Rattle.kdl_fmt.specs.Internal.Names.{HasSpelling, Keeps, KeepsName, autoformatted_but, emptied, spelling_of, unspelled_if, unspelled_unless, without_value};
+ghost use Rattle.kdl_fmt.specs.Internal.Names.{HasSpelling, Keeps, KeepsName, autoformatted_but, emptied, spelling_of, with_spelling, with_spelling_if, without_value};
 ghost use Rattle.kdl_fmt.specs.Kept.{is_kept_format};
 ghost use Rattle.kdl_value.specs.Tree.{text_of};
 ghost use Rattle.std.specs.Prelude.{◌≡◌, IfOk, option_map};
@@ -12,76 +12,89 @@ use kdl_entry::{KdlEntry, KdlIdentifier};
 use std::alloc::{AllocError, Global};
 use std::mem;
 
-/// Returns whether the layout keeps the spelling of the identifier: if it keeps spellings, and this is one of the
-/// identifier's string.
-pub fn keeps_spelling(
+/// What layout does with a spelling.
+#[derive(Clone, Copy)]
+pub enum Spelling {
+    /// It stays.
+    Kept,
+    /// It is removed.
+    Removed,
+}
+
+/// Returns what the layout does with the spelling of the identifier. It is kept if the layout keeps spellings, and this
+/// is one of the identifier's string.
+pub fn name_spelling(
     alloc: Global,
     layout: &Layout,
     identifier: &KdlIdentifier,
-) -> Result<bool, AllocError>
-    ensures { IfOk result (λ keeps.
-        KeepsName layout.now.keep_spelling (identifier_tree identifier.now) keeps) }
+) -> Result<Spelling, AllocError>
+    ensures { IfOk result (λ spelling.
+        KeepsName layout.now.keep_spelling (identifier_tree identifier.now) spelling) }
 {
     if !layout.keep_spelling {
-        return Ok(false);
+        return Ok(Spelling::Removed);
     }
-    match identifier.repr() {
-        Some(repr) => spells_text(alloc, repr, identifier.value()),
-        None => Ok(false),
+    let Some(repr) = identifier.repr() else {
+        return Ok(Spelling::Removed);
+    };
+    if spells_text(alloc, repr, identifier.value())? {
+        return Ok(Spelling::Kept);
     }
+    Ok(Spelling::Removed)
 }
 
 /// The same of a key or a type, if there is one.
-pub fn keeps_spelling_if(
+pub fn name_spelling_if(
     alloc: Global,
     layout: &Layout,
     identifier: Option<&KdlIdentifier>,
-) -> Result<bool, AllocError>
-    ensures { IfOk result (λ keeps. Keeps layout.now.keep_spelling
-        (option_map (λ i. identifier_tree i.now) identifier.entry) keeps) }
+) -> Result<Spelling, AllocError>
+    ensures { IfOk result (λ spelling. Keeps layout.now.keep_spelling
+        (option_map (λ i. identifier_tree i.now) identifier.entry) spelling) }
 {
     match identifier {
-        Some(identifier) => keeps_spelling(alloc, layout, identifier),
-        None => Ok(false),
+        Some(identifier) => name_spelling(alloc, layout, identifier),
+        None => Ok(Spelling::Removed),
     }
 }
 
 /// The same of a type in memory, if there is one.
-pub fn keeps_type_spelling(
+pub fn type_spelling(
     alloc: Global,
     layout: &Layout,
     ty: &Option<KdlIdentifier>,
-) -> Result<bool, AllocError>
-    ensures { IfOk result (λ keeps. Keeps layout.now.keep_spelling
-        (option_map identifier_tree ty.now) keeps) }
+) -> Result<Spelling, AllocError>
+    ensures { IfOk result (λ spelling. Keeps layout.now.keep_spelling
+        (option_map identifier_tree ty.now) spelling) }
 {
     match ty {
-        Some(ty) => keeps_spelling(alloc, layout, ty),
-        None => Ok(false),
+        Some(ty) => name_spelling(alloc, layout, ty),
+        None => Ok(Spelling::Removed),
     }
 }
 
 /// Removes the spelling of the identifier, unless it is kept.
-pub fn clear_unless(identifier: &mut KdlIdentifier, keeps: bool)
+pub fn respell(identifier: &mut KdlIdentifier, spelling: Spelling)
     ensures spelled { identifier_tree identifier.new ≡
-        unspelled_unless keeps (identifier_tree identifier.old) }
+        with_spelling spelling (identifier_tree identifier.old) }
     ensures same { unspelled (identifier_tree identifier.new) ≡
         unspelled (identifier_tree identifier.old) }
 {
-    if !keeps {
-        identifier.clear_format();
+    match spelling {
+        Spelling::Kept => {}
+        Spelling::Removed => identifier.clear_format(),
     }
 }
 
 /// The same of a type, if there is one.
-pub fn clear_type_unless(identifier: &mut Option<KdlIdentifier>, keeps: bool)
-    ensures spelled { option_map identifier_tree identifier.new ≡
-        unspelled_if keeps (option_map identifier_tree identifier.old) }
-    ensures same { option_map unspelled (option_map identifier_tree identifier.new) ≡
-        option_map unspelled (option_map identifier_tree identifier.old) }
+pub fn respell_type(ty: &mut Option<KdlIdentifier>, spelling: Spelling)
+    ensures spelled { option_map identifier_tree ty.new ≡
+        with_spelling_if spelling (option_map identifier_tree ty.old) }
+    ensures same { option_map unspelled (option_map identifier_tree ty.new) ≡
+        option_map unspelled (option_map identifier_tree ty.old) }
 {
-    if let Some(identifier) = identifier {
-        clear_unless(identifier, keeps);
+    if let Some(ty) = ty {
+        respell(ty, spelling);
     }
 }
 
@@ -111,18 +124,18 @@ fn take_type(alloc: Global, entry: &mut KdlEntry) -> Option<KdlIdentifier>
 
 /// Removes the format of an entry, as `KdlEntry::autoformat` does, and the spellings of its key and its type unless
 /// they are kept.
-pub(crate) fn autoformat_but(alloc: Global, entry: &mut KdlEntry, key: bool, ty: bool)
+pub(crate) fn autoformat_but(alloc: Global, entry: &mut KdlEntry, key: Spelling, ty: Spelling)
     ensures { entry_tree entry.new ≡ autoformatted_but key ty (entry_tree entry.old) }
 {
     let old_key = take_key(alloc, entry);
     let old_type = take_type(alloc, entry);
     entry.autoformat();
     if let Some(mut name) = old_key {
-        clear_unless(&mut name, key);
+        respell(&mut name, key);
         entry.set_name(Some(name));
     }
     if let Some(mut name) = old_type {
-        clear_unless(&mut name, ty);
+        respell(&mut name, ty);
         entry.set_ty(name);
     }
 }

@@ -2,7 +2,7 @@
 
 ghost use Rattle.kdl_entry.specs.Tree.{entry_format_tree, entry_tree, identifier_tree};
 ghost use Rattle.kdl_fmt.specs.Formatted.{or_empty};
-ghost use Rattle.kdl_fmt.specs.OneLine.{braces_on_line, end_on_line, entry_on_line, form_on_line, formats_in_line, line_on_line, maybe_form_on_line, maybe_on_line, name_on_line, node_in_line};
+ghost use Rattle.kdl_fmt.specs.OneLine.{braces_on_line, end_on_line, entry_on_line, form_on_line, formats_in_line, is_last, line_on_line, maybe_form_on_line, maybe_on_line, name_on_line, node_in_line};
 ghost use Rattle.kdl_fmt.specs.Plain.{no_newline};
 ghost use Rattle.kdl_parts.specs.Formats.{document_texts, node_format_tree, node_texts};
 ghost use Rattle.std.specs.List.{list_all};
@@ -15,6 +15,38 @@ use kdl_entry::{KdlEntry, KdlEntryFormat, KdlIdentifier};
 use kdl_parts::{KdlDocumentFormat, KdlNodeFormat};
 use kdl_text::chars::is_newline_char;
 use std::alloc::{AllocError, Global};
+
+/// Where a node is among the nodes of its block.
+#[derive(Clone, Copy)]
+pub enum Position {
+    /// A node follows it.
+    Inner,
+    /// No node follows it.
+    Last,
+}
+
+impl Position {
+    /// Returns the position of a node that so many nodes follow.
+    pub fn followed_by(count: usize) -> Position
+        ensures { is_last result ≡ (count == 0) }
+    {
+        if count == 0 {
+            Position::Last
+        } else {
+            Position::Inner
+        }
+    }
+
+    /// Returns whether no node follows.
+    fn is_last(self) -> bool
+        ensures { result ≡ is_last self }
+    {
+        match self {
+            Position::Inner => false,
+            Position::Last => true,
+        }
+    }
+}
 
 /// Returns whether the text contains no newline.
 pub(crate) fn has_no_newline(text: &str) -> bool
@@ -99,18 +131,18 @@ fn is_semicolons(text: &str) -> bool
 }
 
 /// Returns whether the terminator is a `;`, or empty after the last node.
-fn end_on_line(terminator: &str, last: bool) -> bool
-    ensures { result ≡ end_on_line last (chars terminator.now) }
+fn end_on_line(terminator: &str, position: Position) -> bool
+    ensures { result ≡ end_on_line (is_last position) (chars terminator.now) }
 {
     if terminator.is_empty() {
-        return last;
+        return position.is_last();
     }
     is_semicolons(terminator)
 }
 
 /// Returns whether only spaces are around the parts of the node, and a `;` ends it, or nothing if it is the last one.
-fn format_on_line(format: &KdlNodeFormat, last: bool) -> bool
-    ensures { result ≡ line_on_line last (node_format_tree format.now) }
+fn format_on_line(format: &KdlNodeFormat, position: Position) -> bool
+    ensures { result ≡ line_on_line (is_last position) (node_format_tree format.now) }
 {
     is_kdl_space(format.leading.as_str())
         && is_kdl_space(format.before_ty_name.as_str())
@@ -118,16 +150,16 @@ fn format_on_line(format: &KdlNodeFormat, last: bool) -> bool
         && is_kdl_space(format.after_ty.as_str())
         && is_kdl_space(format.before_terminator.as_str())
         && is_kdl_space(format.trailing.as_str())
-        && end_on_line(format.terminator.as_str(), last)
+        && end_on_line(format.terminator.as_str(), position)
 }
 
 /// Returns the same for the texts around a node. A node without a format has none.
-pub fn line_on_line(format: &Option<KdlNodeFormat>, last: bool) -> bool
-    ensures { result ≡ line_on_line last (or_empty (node_texts format.now)) }
+pub fn line_on_line(format: &Option<KdlNodeFormat>, position: Position) -> bool
+    ensures { result ≡ line_on_line (is_last position) (or_empty (node_texts format.now)) }
 {
     match format {
-        Some(format) => format_on_line(format, last),
-        None => last,
+        Some(format) => format_on_line(format, position),
+        None => position.is_last(),
     }
 }
 
@@ -145,16 +177,15 @@ pub fn braces_on_line(format: &Option<KdlDocumentFormat>) -> bool
 
 /// Returns the texts around a node on the line of its block: a space before it and a `;` after it, or a space after it
 /// if it is the last one.
-pub fn node_in_line(alloc: Global, last: bool) -> Result<KdlNodeFormat, AllocError>
-    ensures { IfOk result (λ f. node_format_tree f ≡ node_in_line last) }
+pub fn node_in_line(alloc: Global, position: Position) -> Result<KdlNodeFormat, AllocError>
+    ensures { IfOk result (λ f. node_format_tree f ≡ node_in_line (is_last position)) }
 {
     let mut format = KdlNodeFormat::new(alloc);
     push_text(&mut format.leading, " ")?;
     push_text(&mut format.before_children, " ")?;
-    if last {
-        push_text(&mut format.before_terminator, " ")?;
-    } else {
-        push_text(&mut format.terminator, ";")?;
+    match position {
+        Position::Inner => push_text(&mut format.terminator, ";")?,
+        Position::Last => push_text(&mut format.before_terminator, " ")?,
     }
     Ok(format)
 }
@@ -167,7 +198,7 @@ pub fn formats_in_line(alloc: Global, count: usize) -> Result<Vec<KdlNodeFormat>
     let mut left = count;
     while left > 0 {
         left -= 1;
-        formats.push(node_in_line(alloc, left == 0)?)?;
+        formats.push(node_in_line(alloc, Position::followed_by(left))?)?;
     }
     Ok(formats)
 }

@@ -1,6 +1,5 @@
 -- Nodes on one line: whether they are, and their formats.
-use Rattle.std.proofs.Common.{◌≡◌, ℕ, zero, suc, ◌+◌, ◌<◌, ◌≤◌, ◌==◌, Bool, true, false, List, [], ◌∷◌, length, map, drop, set, get_or, Option, None, Some, option_map, refl, sym, ap, ◌∙◌, subst, arith, add-one, tests}
-use Rattle.std.proofs.lemmas.Bool.{eqb-true}
+use Rattle.std.proofs.Common.{◌≡◌, ℕ, zero, suc, ◌+◌, ◌-◌, ◌<◌, ◌≤◌, ◌==◌, Bool, true, false, List, [], ◌∷◌, length, map, drop, set, get_or, Option, None, Some, option_map, refl, sym, ap, ◌∙◌, subst, arith, add-one, length-drop}
 use Rattle.std.proofs.lemmas.List.{drop_more}
 use Rattle.std.proofs.lemmas.List.Folds.{list_all-map}
 use Rattle.std.specs.List.{list_all}
@@ -67,27 +66,16 @@ pub format_put : (n : KdlNode) (f : KdlNodeFormat) → node_tree (with_format n 
 format_put n f = node_tree_roll (record (out-KdlNode n) { format = Some f }) ∙ sym (ap (put_format (node_format_tree f)) (node_tree_out n))
 
 -- whether the nodes are on the line
-end_drop : (ns : List KdlNode) (i : ℕ) → i < length ns → is_end (nodes_tree (drop (suc i) ns)) ≡ (suc i == length ns)
-end_drop [] i h = absurd (omega arith)
-end_drop (n ∷ []) zero h = refl
-end_drop (n ∷ m ∷ ns) zero h = sym (not_one (suc zero == length (n ∷ m ∷ ns)) refl)
-  where
-    not_one : (b : Bool) → (suc zero == length (n ∷ m ∷ ns)) ≡ b → b ≡ false
-    not_one true e = let z : suc zero ≡ length (n ∷ m ∷ ns) = eqb-true (suc zero) (length (n ∷ m ∷ ns)) e in absurd (omega (arith, z))
-    not_one false e = refl
-end_drop (n ∷ ns) (suc i) h = end_drop ns i (omega arith) ∙ same (suc i == length ns) (suc (suc i) == length (n ∷ ns)) refl refl
-  where
-    same : (a b : Bool) → (suc i == length ns) ≡ a → (suc (suc i) == length (n ∷ ns)) ≡ b → a ≡ b
-    same true true e f = refl
-    same false false e f = refl
-    same true false e f = let z : suc i ≡ length ns = eqb-true (suc i) (length ns) e in absurd (grind (arith, tests))
-    same false true e f = let z : suc (suc i) ≡ length (n ∷ ns) = eqb-true (suc (suc i)) (length (n ∷ ns)) f in absurd (grind (arith, tests))
+is_end_none : (ns : List KdlNode) → is_end (nodes_tree ns) ≡ (length ns == 0)
+is_end_none [] = refl
+is_end_none (n ∷ ns) = refl
 
-pub line_next : (ns : List KdlNode) (i : ℕ) (n : KdlNode) (last here : Bool) → i < length ns → get_or ns i n ≡ n → last ≡ (i + 1 == length ns) → here ≡ node_on_line last (node_tree n)
+pub line_next : (ns : List KdlNode) (i : ℕ) (n : KdlNode) (last here : Bool) → i < length ns → get_or ns i n ≡ n → last ≡ (length ns - i - 1 == 0) → here ≡ node_on_line last (node_tree n)
     → nodes_on_line (nodes_tree (drop i ns)) ≡ (here && nodes_on_line (nodes_tree (drop (i + 1) ns)))
 line_next ns i n last here h g e k =
     let first : drop i ns ≡ n ∷ drop (i + 1) ns = drop_more ns i n h ∙ ap (λ x. x ∷ drop (i + 1) ns) g in
-    let end : is_end (nodes_tree (drop (i + 1) ns)) ≡ last = rw (add-one i) (end_drop ns i h) ∙ ap (λ k. k == length ns) (sym (add-one i)) ∙ sym e in
+    let left : length (drop (i + 1) ns) ≡ length ns - i - 1 = omega (arith, length-drop (i + 1) ns) in
+    let end : is_end (nodes_tree (drop (i + 1) ns)) ≡ last = is_end_none (drop (i + 1) ns) ∙ ap (λ k. k == 0) left ∙ sym e in
     ap (λ x. nodes_on_line (nodes_tree x)) first
     ∙ ap (λ b. node_on_line b (node_tree n) && nodes_on_line (nodes_tree (drop (i + 1) ns))) end
     ∙ ap (λ b. b && nodes_on_line (nodes_tree (drop (i + 1) ns))) (sym k)

@@ -13,7 +13,7 @@ use Rattle.kdl_grammar.proofs.ReadingBack.Composing.{block_reads, with_block}
 use Rattle.kdl_parts.specs.Formats.{document_format_tree, node_format_tree}
 use Rattle.kdl_fmt.specs.Config.{IndentsBySpaces, Settings, settings}
 use Rattle.kdl_fmt.specs.Formatted.{or_empty, or_empty_document}
-use Rattle.kdl_fmt.specs.Internal.Names.{Keeps, KeepsName, unspelled_if, unspelled_unless}
+use Rattle.kdl_fmt.specs.Internal.Names.{Keeps, KeepsName, with_spelling, with_spelling_if}
 use Rattle.kdl_fmt.specs.KeptForm.{NodesKeepReading}
 use Rattle.kdl_fmt.specs.OneLine.{braces_in_line, braces_on_line, formats_in_line, in_one_line, is_on_one_line, node_in_line, nodes_in_line, nodes_on_line, one_lined_children, one_lined_document, one_lined_node, one_lined_nodes}
 use Rattle.kdl_fmt.specs.Respelled.{AreSpelledEntries, IsTypedFormat}
@@ -21,6 +21,7 @@ use Rattle.kdl_fmt.specs.Spaced.{IsSpacedBraced, IsSpacedChildren, IsSpacedLine}
 use Rattle.kdl_fmt.specs.WellFormed.{IsWellFormedNode}
 use Rattle.kdl_fmt.specs.declared.blank.Before.{Before}
 use Rattle.kdl_fmt.specs.declared.config.Layout.{Layout}
+use Rattle.kdl_fmt.specs.declared.names.Spelling.{Spelling}
 use Rattle.kdl_fmt.proofs.Formatting.PartsRead as parts
 use Rattle.kdl_fmt.proofs.Formatting.PartsRead.{AreLined, braced_reads}
 use Rattle.kdl_fmt.proofs.OneLine.Reads.{content_ends, one_line_reads}
@@ -186,9 +187,9 @@ module _ (l : Layout) (m n : KdlNode) (is : (out-KdlNode m).children ≡ (out-Kd
       subst (λ (o : Option KdlDocument). StaysAs (settings l.config) (node H (filled_block o ms)) (node H (with_texts (braces_of g) (filled_block o (lined g ms))))) (sym is) (f H)
 
 pub own_spaced : (l : Layout) (m n : KdlNode) (level : ℕ) (c : Before) (b : Bool) (g : Option Around) (ms : List Node) → b ≡ is_some (out-KdlNode n).children
-    → (keeps_type keeps_name : Bool) → Keeps l.keep_spelling (option_map identifier_tree (out-KdlNode n).ty) keeps_type → KeepsName l.keep_spelling (identifier_tree (out-KdlNode n).name) keeps_name
-    → option_map identifier_tree (out-KdlNode m).ty ≡ unspelled_if keeps_type (option_map identifier_tree (out-KdlNode n).ty)
-    → identifier_tree (out-KdlNode m).name ≡ unspelled_unless keeps_name (identifier_tree (out-KdlNode n).name)
+    → (keeps_type keeps_name : Spelling) → Keeps l.keep_spelling (option_map identifier_tree (out-KdlNode n).ty) keeps_type → KeepsName l.keep_spelling (identifier_tree (out-KdlNode n).name) keeps_name
+    → option_map identifier_tree (out-KdlNode m).ty ≡ with_spelling_if keeps_type (option_map identifier_tree (out-KdlNode n).ty)
+    → identifier_tree (out-KdlNode m).name ≡ with_spelling keeps_name (identifier_tree (out-KdlNode n).name)
     → AreSpelledEntries l.keep_spelling (settings l.config) (map entry_tree (out-KdlNode n).entries.items) (map entry_tree (out-KdlNode m).entries.items)
     → (f : Option NodeFormat) → IsSpacedLine l.blank_lines (settings l.config) level b c (or_empty (option_map node_format_tree (out-KdlNode n).format)) f
     → IsTypedFormat (l.keep_spelling && not l.config.no_comments && is_some (option_map identifier_tree (out-KdlNode n).ty)) (or_empty (option_map node_format_tree (out-KdlNode n).format)) f (option_map node_format_tree (out-KdlNode m).format)

@@ -6,7 +6,7 @@ use Rattle.kdl_entry.specs.Tree.{Identifier, identifier_tree, entry_tree, entry_
 use Rattle.kdl_text.specs.declared.span.SourceSpan.{SourceSpan}
 use Rattle.kdl_grammar.specs.Tree.{NodeFormat, document_data, Head, Node, node, Nodes, listed_nodes, Document, document, children_of, first, node_data, nodes_data, children_data, DocumentFormat}
 use Rattle.kdl_fmt.specs.Config.{Settings, settings}
-use Rattle.kdl_fmt.specs.Internal.Names.{Keeps, KeepsName, unspelled_if, unspelled_unless}
+use Rattle.kdl_fmt.specs.Internal.Names.{Keeps, KeepsName, with_spelling, with_spelling_if}
 use Rattle.kdl_fmt.specs.OneLine.{IsLaidDocument, one_lined_node, one_lined_nodes}
 use Rattle.kdl_fmt.specs.Respelled.{IsTypedFormat, IsRespelled, IsRespelledIf, AreRespelledChildren, AreRespelledNodes, AreSpelledEntries, IsSpelledNode}
 use Rattle.kdl_fmt.specs.Spaced.{IsSpacedLine, IsSpacedContent, IsSpacedChildren, AreSpacedNodes, PassesFormat, PassesNodes}
@@ -16,6 +16,7 @@ use Rattle.kdl_parts.specs.declared.format.KdlNodeFormat.{KdlNodeFormat}
 use Rattle.kdl_fmt.specs.Formatted.{or_empty, or_empty_document, bare_node, bare_nodes, bare_document}
 use Rattle.kdl_fmt.specs.WellFormed.{IsWellFormedNode, AreWellFormed, AreWellFormedChildren, AreWellFormedEntries}
 use Rattle.kdl_fmt.specs.WithComments.{has_block}
+use Rattle.kdl_fmt.specs.declared.names.Spelling.{Spelling}
 use Rattle.kdl_fmt.proofs.Entries.{scalars}
 use Rattle.kdl_parts.specs.Formats.{node_format_tree, node_texts, document_format_tree}
 use Rattle.kdl.specs.Iterators.{child_nodes, nodes_in}
@@ -81,9 +82,9 @@ respelled_block keep s (Some d) x xs ms r = rw (document_tree_out d) (refl, refl
 -- a node of which the parts are known
 module _ (m n : KdlNode) where
   pub laid_node : (keep : Bool) (number : ℕ) (s : Settings) (level : ℕ) (c : Before) (b : Bool) (xs ms : List Node) → b ≡ is_some (out-KdlNode n).children
-      → (keeps_type keeps_name : Bool) → Keeps keep (option_map identifier_tree (out-KdlNode n).ty) keeps_type → KeepsName keep (identifier_tree (out-KdlNode n).name) keeps_name
-      → option_map identifier_tree (out-KdlNode m).ty ≡ unspelled_if keeps_type (option_map identifier_tree (out-KdlNode n).ty)
-      → identifier_tree (out-KdlNode m).name ≡ unspelled_unless keeps_name (identifier_tree (out-KdlNode n).name)
+      → (keeps_type keeps_name : Spelling) → Keeps keep (option_map identifier_tree (out-KdlNode n).ty) keeps_type → KeepsName keep (identifier_tree (out-KdlNode n).name) keeps_name
+      → option_map identifier_tree (out-KdlNode m).ty ≡ with_spelling_if keeps_type (option_map identifier_tree (out-KdlNode n).ty)
+      → identifier_tree (out-KdlNode m).name ≡ with_spelling keeps_name (identifier_tree (out-KdlNode n).name)
       → AreSpelledEntries keep s (map entry_tree (out-KdlNode n).entries.items) (map entry_tree (out-KdlNode m).entries.items)
       → (f : Option NodeFormat) → IsSpacedLine number s level b c (or_empty (option_map node_format_tree (out-KdlNode n).format)) f
       → IsTypedFormat (keep && not s.no_comments && is_some (option_map identifier_tree (out-KdlNode n).ty)) (or_empty (option_map node_format_tree (out-KdlNode n).format)) f (option_map node_format_tree (out-KdlNode m).format)

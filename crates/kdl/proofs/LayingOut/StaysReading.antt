@@ -8,7 +8,7 @@ use Rattle.kdl_entry.specs.Tree.{Entry, Identifier, entry_tree, identifier_tree,
 use Rattle.kdl_fmt.specs.Config.{Settings, indentation, settings}
 use Rattle.kdl_fmt.specs.Formatted.{or_empty, or_empty_document}
 use Rattle.kdl_fmt.specs.KeptForm.{EntriesKeepReading, DocumentKeepsReading, NodesKeepReading}
-use Rattle.kdl_fmt.specs.Internal.Names.{Keeps, KeepsName, unspelled_if, unspelled_unless}
+use Rattle.kdl_fmt.specs.Internal.Names.{Keeps, KeepsName, with_spelling, with_spelling_if}
 use Rattle.kdl_fmt.specs.Spaced.{IsSpacedContent, IsSpacedLine}
 use Rattle.kdl_fmt.specs.WithComments.{has_block}
 use Rattle.kdl_fmt.specs.declared.blank.Before.{Before}
@@ -17,6 +17,7 @@ use Rattle.kdl_fmt.proofs.Entries.{scalars}
 use Rattle.kdl_fmt.proofs.Formatting.PartsRead.{document_reads, own_reads}
 use Rattle.kdl_fmt.proofs.Respelling.Written.{NameReads, NameReadsIf, respelled_reads, respelled_reads_if, typed_line}
 use Rattle.kdl_fmt.specs.Respelled.{IsRespelledIf, IsTypedFormat}
+use Rattle.kdl_fmt.specs.declared.names.Spelling.{Spelling}
 use Rattle.kdl_grammar.specs.ReadsBack.{Rests, Anything, AddsNothing, EntryReads, IsGapBefore, last_rests, NodesRead, last_node, next_node, ContentReads, two_texts, with_nodes as content_nodes, BlockReads, block, DocumentReads}
 use Rattle.kdl_grammar.specs.Tree.{DocumentFormat, NodeFormat, Head, Node, node, children_of, document, Nodes, none, first, listed_nodes}
 use Rattle.kdl_grammar.proofs.ReadingBack.Composing.{block_reads, entries_read, with_block}
@@ -175,9 +176,9 @@ end_stays l ok above outer inner b n m h g e is all level c olds u =
 
 -- a node of which all but the block is laid out
 pub own_stays : (l : Layout) → list_all is_space (settings l.config).indent ≡ true → (level : ℕ) (c : Before) (n m : KdlNode) (b : Bool) → b ≡ is_some (out-KdlNode n).children
-    → (keeps_type keeps_name : Bool) → Keeps l.keep_spelling (option_map identifier_tree (out-KdlNode n).ty) keeps_type → KeepsName l.keep_spelling (identifier_tree (out-KdlNode n).name) keeps_name
-    → option_map identifier_tree (out-KdlNode m).ty ≡ unspelled_if keeps_type (option_map identifier_tree (out-KdlNode n).ty)
-    → identifier_tree (out-KdlNode m).name ≡ unspelled_unless keeps_name (identifier_tree (out-KdlNode n).name)
+    → (keeps_type keeps_name : Spelling) → Keeps l.keep_spelling (option_map identifier_tree (out-KdlNode n).ty) keeps_type → KeepsName l.keep_spelling (identifier_tree (out-KdlNode n).name) keeps_name
+    → option_map identifier_tree (out-KdlNode m).ty ≡ with_spelling_if keeps_type (option_map identifier_tree (out-KdlNode n).ty)
+    → identifier_tree (out-KdlNode m).name ≡ with_spelling keeps_name (identifier_tree (out-KdlNode n).name)
     → (f : Option NodeFormat) → IsSpacedLine l.blank_lines (settings l.config) level b c (or_empty (option_map node_format_tree (out-KdlNode n).format)) f
     → IsTypedFormat (l.keep_spelling && not l.config.no_comments && is_some (option_map identifier_tree (out-KdlNode n).ty)) (or_empty (option_map node_format_tree (out-KdlNode n).format)) f (option_map node_format_tree (out-KdlNode m).format)
     → (olds es : List Entry) → map entry_tree (out-KdlNode n).entries.items ≡ olds → map entry_tree (out-KdlNode m).entries.items ≡ es
@@ -199,8 +200,8 @@ own_stays l ok level c n m b e kt kn keeps_type keeps_name ty name f line typed 
     let own = typed_line l.blank_lines s level (has_block k) c f' l.keep_spelling o (option_map unspelled o) (option_map identifier_tree M.ty) f (option_map node_format_tree M.format) type spaced typed in
     subst (NodeStays s P) (ap (λ (o : Option KdlDocument). node (head_tree M) (children_of (option_map document_tree o))) (sym kids) ∙ sym (node_tree_out m)) (
       own_reads l.blank_lines s ok level c (head_tree N) (head_tree M) (or_empty (option_map node_format_tree N.format)) k
-          (subst NameReadsIf (sym ty) (respelled_reads_if l.keep_spelling (option_map identifier_tree N.ty) (option_map unspelled (option_map identifier_tree N.ty)) (unspelled_if kt (option_map identifier_tree N.ty)) refl (scalars N.ty) keeps_type))
-          (subst NameReads (sym name) (respelled_reads l.keep_spelling (identifier_tree N.name) (unspelled (identifier_tree N.name)) (unspelled_unless kn (identifier_tree N.name)) refl (text_scalars N.name.value) keeps_name)) all own old.0,
+          (subst NameReadsIf (sym ty) (respelled_reads_if l.keep_spelling (option_map identifier_tree N.ty) (option_map unspelled (option_map identifier_tree N.ty)) (with_spelling_if kt (option_map identifier_tree N.ty)) refl (scalars N.ty) keeps_type))
+          (subst NameReads (sym name) (respelled_reads l.keep_spelling (identifier_tree N.name) (unspelled (identifier_tree N.name)) (with_spelling kn (identifier_tree N.name)) refl (text_scalars N.name.value) keeps_name)) all own old.0,
       (keep, old.1.1),
     )
 

@@ -9,29 +9,32 @@ ghost use Rattle.kdl.specs.ReadsBack.{ReadsAs};
 ghost use Rattle.kdl.specs.Tree.{document_tree, node_prints, node_says, node_tree};
 ghost use Rattle.kdl.specs.declared.document.KdlDocument.{out-KdlDocument};
 ghost use Rattle.kdl.specs.declared.node.KdlNode.{out-KdlNode};
+ghost use Rattle.kdl_comments.specs.Internal.Reading.{place_view};
 ghost use Rattle.kdl_fmt.specs.Blank.{at_start};
 ghost use Rattle.kdl_fmt.specs.Canonical.{CanonicalNode, canonical_node};
 ghost use Rattle.kdl_fmt.specs.Config.{IsPlain, defaults, indentation, settings, without_comments};
 ghost use Rattle.kdl_fmt.specs.Formatted.{NodeLevelsFit, bare_node, or_empty};
+ghost use Rattle.kdl_fmt.specs.Kept.{last_place};
 ghost use Rattle.kdl_fmt.specs.WellFormed.{IsWellFormedNode};
-ghost use Rattle.kdl_fmt.specs.OneLine.{IsLaidNode, entry_on_line, line_on_line, maybe_on_line, name_on_line, node_on_line};
+ghost use Rattle.kdl_fmt.specs.OneLine.{IsLaidNode, entry_on_line, is_last, line_on_line, maybe_on_line, name_on_line, node_on_line};
 ghost use Rattle.kdl_grammar.specs.Data as data';
 ghost use Rattle.kdl_grammar.specs.Grammar.{IsDocument};
 ghost use Rattle.kdl_grammar.specs.Tree.{Node, children_of};
 ghost use Rattle.kdl_entry.specs.Tree.{entry_tree, identifier_tree};
 ghost use Rattle.kdl_parts.specs.Formats.{node_texts};
 ghost use Rattle.std.specs.List.{list_all};
-ghost use Rattle.std.specs.Prelude.{◌≡◌, ◌↔◌, ◌&&◌, ◌+◌, ◌<◌, IfOk, IsTrue, List, MatchOption, OnOk, false, length, map, option_map, true};
+ghost use Rattle.std.specs.Prelude.{◌≡◌, ◌↔◌, ◌&&◌, ◌+◌, ◌<◌, IfOk, IsTrue, List, MatchOption, OnOk, false, is_some, length, map, option_map, true};
 ghost use Rattle.std.specs.Str.{chars};
 
 use crate::document::KdlDocument;
 use crate::layout::{Around, lay_out_nodes, set_formats};
 use crate::node::KdlNode;
+use kdl_comments::Place;
 use kdl_entry::{KdlEntry, KdlIdentifier};
 use kdl_fmt::kept::{kept_type_texts, put_type_texts};
 use kdl_fmt::layout::{after_line, indentation, lay_out_entries, lay_out_line};
-use kdl_fmt::names::{clear_type_unless, clear_unless, keeps_spelling, keeps_type_spelling};
-use kdl_fmt::one_line::{entries_on_line, line_on_line, name_on_line, type_on_line};
+use kdl_fmt::names::{name_spelling, respell, respell_type, type_spelling};
+use kdl_fmt::one_line::{Position, entries_on_line, line_on_line, name_on_line, type_on_line};
 use kdl_fmt::{Before, FormatConfig, Last, Layout};
 use kdl_parts::KdlNodeFormat;
 use std::alloc::AllocError;
@@ -260,16 +263,16 @@ impl KdlNode {
             (map node_tree (child_nodes self.old)) self.new) }
     {
         let alloc = *self.entries.allocator();
-        let keeps_type = keeps_type_spelling(alloc, layout, &self.ty)?;
-        let keeps_name = keeps_spelling(alloc, layout, &self.name)?;
-        let has_block = self.children.is_some();
+        let type_spelling = type_spelling(alloc, layout, &self.ty)?;
+        let name_spelling = name_spelling(alloc, layout, &self.name)?;
+        let last = last_place(&self.children);
         let (first, around) = block_around(&self.children, layout, level, before)?;
         let has_type = self.ty.is_some();
         let types = kept_type_texts(alloc, layout, has_type, &self.format)?;
-        let following = lay_out_line(&mut self.format, alloc, layout, before, has_block, next)?;
+        let following = lay_out_line(&mut self.format, alloc, layout, before, last, next)?;
         put_type_texts(&mut self.format, types);
-        clear_type_unless(&mut self.ty, keeps_type);
-        clear_unless(&mut self.name, keeps_name);
+        respell_type(&mut self.ty, type_spelling);
+        respell(&mut self.name, name_spelling);
         lay_out_entries(&mut self.entries, layout)?;
         Ok((following, first, around))
     }
@@ -282,15 +285,14 @@ impl KdlNode {
         set_around(&mut self.children, around);
     }
 
-    /// Returns whether the node can be printed on one line, without comments, and has no block. `last` is whether no node
-    /// follows.
-    pub(crate) fn is_on_line(&self, last: bool) -> bool
-        ensures { result ≡ node_on_line last (node_tree self.now) }
+    /// Returns whether the node can be printed on one line, without comments, and has no block.
+    pub(crate) fn is_on_line(&self, position: Position) -> bool
+        ensures { result ≡ node_on_line (is_last position) (node_tree self.now) }
     {
         if self.children.is_some() {
             return false;
         }
-        is_line(&self.ty, &self.name, &self.entries, &self.format, last)
+        is_line(&self.ty, &self.name, &self.entries, &self.format, position)
     }
 
     /// Returns what comes before whatever follows the node. That is not laid out.
@@ -330,14 +332,27 @@ fn is_line(
     name: &KdlIdentifier,
     entries: &[KdlEntry],
     format: &Option<KdlNodeFormat>,
-    last: bool,
+    position: Position,
 ) -> bool
     ensures { result ≡ (maybe_on_line (option_map identifier_tree ty.now)
         && name_on_line (identifier_tree name.now)
         && list_all (λ e. entry_on_line (entry_tree e)) entries.now
-        && line_on_line last (or_empty (node_texts format.now))) }
+        && line_on_line (is_last position) (or_empty (node_texts format.now))) }
 {
-    type_on_line(ty) && name_on_line(name) && entries_on_line(entries) && line_on_line(format, last)
+    type_on_line(ty)
+        && name_on_line(name)
+        && entries_on_line(entries)
+        && line_on_line(format, position)
+}
+
+/// Returns the place before the terminator of a node with this block, or without one.
+fn last_place(children: &Option<KdlDocument>) -> Place
+    ensures { place_view result ≡ last_place (is_some children.now) }
+{
+    match children {
+        Some(_) => Place::AfterBlock,
+        None => Place::BeforeBlock,
+    }
 }
 
 /// Sets the texts around the nodes of a block, if there is one.

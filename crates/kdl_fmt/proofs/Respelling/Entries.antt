@@ -1,29 +1,29 @@
 -- An entry that is laid out with its spellings, from the steps that lay it out.
 use Rattle.std.proofs.Common.{◌≡◌, Bool, true, false, [], ◌∷◌, ◌++◌, refl, sym, ap, subst, ◌∙◌, Option, Some, None, option_map, Result, Ok, Err}
-use Rattle.std.specs.Prelude.{IsTrue, OnErr, OnOk}
+use Rattle.std.specs.Prelude.{OnErr, OnOk}
 use Rattle.kdl_text.specs.Chars.{Text}
 use Rattle.kdl_entry.specs.Entries.{IsIdentifierText}
 use Rattle.kdl_entry.specs.Tree.{Identifier, EntryFormat, Entry, unspelled, cleared, autoformatted, autoformatted_format}
 use Rattle.kdl_fmt.specs.Internal.KeptTexts.{HasForm}
-use Rattle.kdl_fmt.specs.Internal.Names.{unspelled_if, Keeps, KeepsName, autoformatted_but, without_value, HasSpelling, IsLaid}
+use Rattle.kdl_fmt.specs.Internal.Names.{with_spelling_if, Keeps, KeepsName, autoformatted_but, without_value, HasSpelling, IsLaid}
 use Rattle.kdl_fmt.specs.Config.{Settings}
 use Rattle.kdl_fmt.specs.Formatted.{with_keep_if}
 use Rattle.kdl_fmt.specs.Kept.{is_kept_format}
 use Rattle.kdl_fmt.specs.Respelled.{KeptSpelling, IsRespelledIf, text_before, KeepsForm, KeptForm, HasSpellings, HasSpellingsUnless, IsRespelledEntry, IsSpelledEntry}
 use Rattle.kdl_fmt.specs.WithComments.{following, put_format}
+use Rattle.kdl_fmt.specs.declared.names.Spelling.{Spelling}
 use Rattle.kdl_fmt.proofs.EntryTexts.{no_format}
 use Rattle.kdl_fmt.proofs.Respelling.Written.{plain_format, leading_is, following_name, following_ty, after_value, after_format, unflagged_same}
 use Rattle.kdl_fmt.proofs.Respelling.Leaves.{entry_stays}
 
 -- whether the spelling of a name is kept
-pub name_kept : (i : Identifier) (t : Text) (b : Bool) → Some t ≡ i.repr → (IsTrue b → IsIdentifierText t i.value) × (IsIdentifierText t i.value → IsTrue b) → KeepsName true i b
-name_kept i t true e h = (Some t, subst (λ (o : Option Text). KeptSpelling i.value o (Some t)) e (KeptSpelling.kept (h.0 refl)), ap (λ (o : Option Text). record i { repr = o }) (sym e))
-name_kept i t false e h = (None, subst (λ (o : Option Text). KeptSpelling i.value o None) e (KeptSpelling.other (λ d. no (h.1 d))), refl)
-  where
-    no : IsTrue false → ⊥
-    no x = let z : false ≡ true = x in cc
+pub name_kept : (i : Identifier) (t : Text) → Some t ≡ i.repr → IsIdentifierText t i.value → KeepsName true i Spelling.Kept
+name_kept i t e h = (Some t, subst (λ (o : Option Text). KeptSpelling i.value o (Some t)) e (KeptSpelling.kept h), ap (λ (o : Option Text). record i { repr = o }) (sym e))
 
-pub no_name_kept : (i : Identifier) → None ≡ i.repr → KeepsName true i false
+pub name_removed : (i : Identifier) (t : Text) → Some t ≡ i.repr → (IsIdentifierText t i.value → ⊥) → KeepsName true i Spelling.Removed
+name_removed i t e h = (None, subst (λ (o : Option Text). KeptSpelling i.value o None) e (KeptSpelling.other h), refl)
+
+pub no_name_kept : (i : Identifier) → None ≡ i.repr → KeepsName true i Spelling.Removed
 no_name_kept i e = (None, subst (λ (o : Option Text). KeptSpelling i.value o None) e KeptSpelling.unspelled, refl)
 
 -- the parts of an entry with another format
@@ -48,14 +48,14 @@ after_span [] e = refl
 after_span (c ∷ t) e = refl
 
 -- an entry whose spelling was taken out
-pub taken_same : (key ty : Bool) (e : Entry) → is_kept_format e.format ≡ false → autoformatted_but key ty (record e { format = option_map without_value e.format }) ≡ autoformatted_but key ty e
+pub taken_same : (key ty : Spelling) (e : Entry) → is_kept_format e.format ≡ false → autoformatted_but key ty (record e { format = option_map without_value e.format }) ≡ autoformatted_but key ty e
 taken_same key ty e n = ap (λ (o : Option EntryFormat). record (autoformatted_but key ty e) { format = o }) (go e.format n ∙ sym (no_format e.format n))
   where
     go : (o : Option EntryFormat) → is_kept_format o ≡ false → autoformatted_format (option_map without_value o) ≡ None
     go None n = refl
     go (Some f) n = rw n refl
 
-module _ (s : Settings) (e : Entry) (t : Text) (key ty : Bool) (unflagged : is_kept_format e.format ≡ false) where
+module _ (s : Settings) (e : Entry) (t : Text) (key ty : Spelling) (unflagged : is_kept_format e.format ≡ false) where
   abbrev mid : Entry
   mid = following t (autoformatted e)
 
@@ -64,8 +64,8 @@ module _ (s : Settings) (e : Entry) (t : Text) (key ty : Bool) (unflagged : is_k
 
   pub spelled_entry : (y e' : Entry) (o : Option EntryFormat) → Keeps true e.name key → Keeps true e.ty ty → y ≡ autoformatted_but key ty e → e' ≡ put_format o y → KeptForm s e e.format mid.format e'.format → HasSpellings s e mid e'
   spelled_entry y e' o k h a b v =
-      let name : e'.name ≡ unspelled_if key e.name = ap (λ (x : Entry). x.name) b ∙ put_name o y ∙ ap (λ (x : Entry). x.name) a in
-      let type : e'.ty ≡ unspelled_if ty e.ty = ap (λ (x : Entry). x.ty) b ∙ put_ty o y ∙ ap (λ (x : Entry). x.ty) a in
+      let name : e'.name ≡ with_spelling_if key e.name = ap (λ (x : Entry). x.name) b ∙ put_name o y ∙ ap (λ (x : Entry). x.name) a in
+      let type : e'.ty ≡ with_spelling_if ty e.ty = ap (λ (x : Entry). x.ty) b ∙ put_ty o y ∙ ap (λ (x : Entry). x.ty) a in
       record {
         ty = subst (λ (z : Option Identifier). IsRespelledIf true e.ty z e'.ty) (sym (following_ty t (autoformatted e))) (subst (λ (z : Option Identifier). IsRespelledIf true e.ty (option_map unspelled e.ty) z) (sym type) h);
         name = subst (λ (z : Option Identifier). IsRespelledIf true e.name z e'.name) (sym (following_name t (autoformatted e))) (subst (λ (z : Option Identifier). IsRespelledIf true e.name (option_map unspelled e.name) z) (sym name) k);

@@ -1,17 +1,14 @@
-use Rattle.std.proofs.Common.{rules, ◌≡◌, [], ◌∷◌, ◌++◌, Some, ap, ◌∙◌}
-use Rattle.std.specs.Prelude.{is_none}
+use Rattle.std.proofs.Common.{[], ◌∷◌, ◌++◌, Some, ap, ◌∙◌}
 use Rattle.std.specs.Str.{chars}
 use Rattle.kdl_text.specs.Chars.{Text}
 use Rattle.kdl_value.specs.Tree.{text_of}
 use Rattle.kdl_fmt.specs.Formatted.{in_braces}
-use Rattle.kdl_fmt.specs.Plain.{newline_if}
 use Rattle.kdl_fmt.specs.WithComments.{content_of}
 use Rattle.kdl_fmt.proofs.Texts.{no_text, newline_text, braces_made}
 use Rattle.kdl_fmt.proofs.layout.braces.Goals as goal
 
 pub returns : goal.returns
 returns c = λ level ns i b n p.
-    let same : c.is_none.result ≡ is_none c.args.last = search rules in
     let kept = text_of c.in_ok-kept.kept in
     let trailing = text_of c.in_ok-kept.trailing in
     let empty = no_text c.new-leading.result c.new-leading.ensures.bytes in
@@ -19,7 +16,7 @@ returns c = λ level ns i b n p.
     ∙ ap (λ (t : Text). t ++ chars c.as_str.result.now) (c.in_ok-push_text.ensures ∙ ap (λ (t : Text). t ++ chars (10 ∷ [])) empty ∙ newline_text)
     ∙ ap (λ (t : Text). 10 ∷ t) (ap chars c.as_str.ensures.value) in
     let trails = c.in_ok-push_text-3.ensures
-    ∙ ap (λ (t : Text). t ++ chars c.args.margin.now) (c.in_ok-newline_if.ensures ∙ ap (λ (t : Text). trailing ++ t) (ap newline_if same ∙ n)) in (
+    ∙ ap (λ (t : Text). t ++ chars c.args.margin.now) (c.in_ok-newline_if_none.ensures ∙ ap (λ (t : Text). trailing ++ t) n) in (
       kept,
       trailing,
       rw i at (c.in_ok-kept.ensures ns p),

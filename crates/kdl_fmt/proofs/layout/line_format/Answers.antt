@@ -14,16 +14,16 @@ use Rattle.kdl_fmt.proofs.Texts.{line_put, put_text, space_text, newline_text}
 use Rattle.kdl_fmt.proofs.layout.line_format.Goals as goal
 
 pub returns-clause-spaced : goal.returns-clause-spaced
-returns-clause-spaced c = λ level h.
+returns-clause-spaced c = λ level has h p.
     let l = c.args.layout.now in
     let s = settings l.config in
     let old = c.args.format.now in
     let kept = c.in_ok-kept.ensures level h in
-    let end = c.in_ok-last-2.ensures in
+    let end = c.in_ok-before_end.ensures in
     let next = c.lines_between.new.before in
     let before = text_of c.in_ok-kept.kept in
     let block = text_of c.in_ok-kept-2.kept in
-    let comment = text_of c.in_ok-last-2.comment in
+    let comment = text_of c.in_ok-before_end.comment in
     let trailing = text_of c.in_ok-trailing.trailing in
     let following : SpacedLines l.blank_lines s level (past_node (text_of old.terminator)) (text_of old.trailing) trailing next =
     lines_after l.blank_lines s level c.after_end-next.result (past_node (text_of old.terminator)) next (text_of old.trailing) trailing
@@ -32,7 +32,7 @@ returns-clause-spaced c = λ level h.
     let k : NodeTexts = record {
       before = before;
       before_block = block;
-      last = text_of c.in_ok-last.last;
+      last = text_of c.in_ok-kept-3.kept;
       space = end.0;
       comment = comment;
       following = trailing;
@@ -50,8 +50,8 @@ returns-clause-spaced c = λ level h.
           after_it = next;
           leading = lines_as l.blank_lines s level {b = c.args.before} {c = c.args.before} kept.1 kept.0 refl (ap chars c.as_str.ensures.value) kept.2;
           before = kept.3;
-          before_block = subst (λ (t : Text). KeptBeforeBlock s c.args.has_block t block) (ap chars c.as_str-2.ensures.value) c.in_ok-kept-2.ensures;
-          last = tail_at s _ c.last_place-place.ensures (ap chars c.as_str-3.ensures.value) c.in_ok-last.ensures;
+          before_block = subst (λ (t : Text). KeptBeforeBlock s has t block) (ap chars c.as_str-2.ensures.value) (c.in_ok-kept-2.ensures has p);
+          last = tail_at s _ p (ap chars c.as_str-3.ensures.value) c.in_ok-kept-3.ensures;
           end = subst (λ (t : Text). KeptEnd l.config.no_comments t end.0 comment) (ap chars c.as_str-4.ensures.value) end.1;
           following = following;
         },

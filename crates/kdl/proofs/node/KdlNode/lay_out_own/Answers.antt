@@ -1,4 +1,5 @@
 use Rattle.std.proofs.Common.{rules, option_map, map, ◌+◌, refl}
+use Rattle.std.specs.Prelude.{is_some}
 use Rattle.kdl.specs.Iterators.{child_nodes}
 use Rattle.kdl.specs.Tree.{node_tree}
 use Rattle.kdl_entry.specs.Tree.{entry_tree}
@@ -12,14 +13,14 @@ use Rattle.kdl.proofs.node.KdlNode.lay_out_own.Goals as goal
 
 pub returns-in_err-lay_out_entries-clause-stays : goal.returns-in_err-lay_out_entries-clause-stays
 returns-in_err-lay_out_entries-clause-stays c ok e =
-    own_stays c.args.layout.now ok c.args.level c.args.next c.args.self.now _ c.is_some-has_block.result (search (rules, the_lemmas)) c.in_ok-keeps_type.keeps_type c.in_ok-keeps_name.keeps_name c.in_ok-keeps_type.ensures c.in_ok-keeps_name.ensures (search (rules, the_lemmas)) (search (rules, the_lemmas))
-    (option_map node_format_tree c.lay_out_line.new.format) (c.in_ok-following.ensures.spaced c.args.level e).0 (typed_put _ _ (out-KdlNode c.args.self.now).ty _ _ _ _ (search (rules, the_lemmas)) c.in_ok-types.ensures (search (rules, the_lemmas)))
+    own_stays c.args.layout.now ok c.args.level c.args.next c.args.self.now _ (is_some (out-KdlNode c.args.self.now).children) refl c.in_ok-type_spelling.type_spelling c.in_ok-name_spelling.name_spelling c.in_ok-type_spelling.ensures c.in_ok-name_spelling.ensures (search (rules, the_lemmas)) (search (rules, the_lemmas))
+    (option_map node_format_tree c.lay_out_line.new.format) (c.in_ok-following.ensures.spaced c.args.level (is_some (out-KdlNode c.args.self.now).children) e c.last_place-last.ensures).0 (typed_put _ _ (out-KdlNode c.args.self.now).ty _ _ _ _ (search (rules, the_lemmas)) c.in_ok-types.ensures (search (rules, the_lemmas)))
     _ (map entry_tree c.lay_out_entries.new.entries.items) (search (rules, the_lemmas)) (search (rules, the_lemmas)) c.lay_out_entries.ensures.reads (search (rules, the_lemmas))
 
 pub returns-clause-stays : goal.returns-clause-stays
 returns-clause-stays c ok e =
-    own_stays c.args.layout.now ok c.args.level c.args.next c.args.self.now _ c.is_some-has_block.result (search (rules, the_lemmas)) c.in_ok-keeps_type.keeps_type c.in_ok-keeps_name.keeps_name c.in_ok-keeps_type.ensures c.in_ok-keeps_name.ensures (search (rules, the_lemmas)) (search (rules, the_lemmas))
-    (option_map node_format_tree c.lay_out_line.new.format) (c.in_ok-following.ensures.spaced c.args.level e).0 (typed_put _ _ (out-KdlNode c.args.self.now).ty _ _ _ _ (search (rules, the_lemmas)) c.in_ok-types.ensures (search (rules, the_lemmas)))
+    own_stays c.args.layout.now ok c.args.level c.args.next c.args.self.now _ (is_some (out-KdlNode c.args.self.now).children) refl c.in_ok-type_spelling.type_spelling c.in_ok-name_spelling.name_spelling c.in_ok-type_spelling.ensures c.in_ok-name_spelling.ensures (search (rules, the_lemmas)) (search (rules, the_lemmas))
+    (option_map node_format_tree c.lay_out_line.new.format) (c.in_ok-following.ensures.spaced c.args.level (is_some (out-KdlNode c.args.self.now).children) e c.last_place-last.ensures).0 (typed_put _ _ (out-KdlNode c.args.self.now).ty _ _ _ _ (search (rules, the_lemmas)) c.in_ok-types.ensures (search (rules, the_lemmas)))
     _ (map entry_tree c.lay_out_entries.new.entries.items) (search (rules, the_lemmas)) (search (rules, the_lemmas)) c.lay_out_entries.ensures.reads (search (rules, the_lemmas))
 
 pub returns-clause-spaced : goal.returns-clause-spaced
@@ -28,10 +29,11 @@ returns-clause-spaced c e =
     let n = c.args.self.now in
     let first = c.in_ok-first.first in
     let olds = map node_tree (child_nodes n) in
-    let line = c.in_ok-following.ensures.spaced c.args.level e in (
+    let has = is_some (out-KdlNode n).children in
+    let line = c.in_ok-following.ensures.spaced c.args.level has e c.last_place-last.ensures in (
       own_passes l n c.in_ok-following.following (out-KdlNode n).format refl line.1,
-      λ ms z. own_spaced l _ n c.args.level c.args.next c.is_some-has_block.result c.in_ok-first.around ms (search (rules, the_lemmas))
-          c.in_ok-keeps_type.keeps_type c.in_ok-keeps_name.keeps_name c.in_ok-keeps_type.ensures c.in_ok-keeps_name.ensures (search (rules, the_lemmas)) (search (rules, the_lemmas)) (search (rules, the_lemmas))
+      λ ms z. own_spaced l _ n c.args.level c.args.next has c.in_ok-first.around ms refl
+          c.in_ok-type_spelling.type_spelling c.in_ok-name_spelling.name_spelling c.in_ok-type_spelling.ensures c.in_ok-name_spelling.ensures (search (rules, the_lemmas)) (search (rules, the_lemmas)) (search (rules, the_lemmas))
           (option_map node_format_tree c.lay_out_line.new.format) line.0 (typed_put _ _ (out-KdlNode c.args.self.now).ty _ _ _ _ (search (rules, the_lemmas)) c.in_ok-types.ensures (search (rules, the_lemmas)))
           (search (rules, the_lemmas)) (search (rules, the_lemmas)) (c.in_ok-first.ensures e ms z)
           (fitting_node n (search (rules, the_lemmas)) (nodes_fit l (c.args.level + 1) first olds ms z)),
