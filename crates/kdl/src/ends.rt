@@ -1,6 +1,6 @@
 //! The newlines that nodes, and the texts between them, lack at their ends for others to follow.
 
-ghost use Rattle.kdl.specs.Internal.Ends.{EndFewest, EndSays, EndsReadAs, FewestBefore, GapFewest, GapSays, IsEnded, IsEndedExactly, IsNodeEnded, Lacks, PlaceFewest, PlaceSays, block_if, with_newlines};
+ghost use Rattle.kdl.specs.Internal.Ends.{EndFewest, EndSays, EndsReadAs, FewestBefore, GapFewest, GapSays, IsEnded, IsEndedExactly, IsNodeEnded, Lacks, PlaceFewest, PlaceSays, block_if, newline_count, with_newlines};
 ghost use Rattle.kdl.specs.Nodes.{newlines, printed_format};
 ghost use Rattle.kdl_entry.specs.Tree.{entry_tree};
 ghost use Rattle.kdl_fmt.specs.Kept.{without_bom};
@@ -60,6 +60,13 @@ pub(crate) fn gap_newlines(alloc: Global, text: &str) -> Result<usize, AllocErro
     }
 }
 
+/// One newline, or none.
+fn newline_count(lacks: bool) -> usize
+    ensures { result ≡ newline_count lacks }
+{
+    if lacks { 1 } else { 0 }
+}
+
 /// How many newlines the text before a terminator lacks: one if it ends in an open escline.
 pub(crate) fn place_newlines(
     alloc: Global,
@@ -76,8 +83,8 @@ pub(crate) fn place_newlines(
         Place::BeforeBlock
     };
     match place_lacks(alloc, place, text)? {
-        Some(true) => Ok(1),
-        Some(false) | None => Ok(0),
+        Some(lacks) => Ok(newline_count(lacks)),
+        None => Ok(0),
     }
 }
 

@@ -10,7 +10,9 @@ pub mod CanonicalReadsBack
 pub mod CommentsReadBack
 -- The entries of a node that is laid out are laid in what they print.
 pub mod LaidEntries
--- A second layout changes nothing.
+-- A second layout changes no entry.
+pub mod EntriesAgain
+-- A second layout without blank lines changes nothing.
 pub mod Again
 -- An entry that is laid out reads back where it did before.
 pub mod EntriesRead

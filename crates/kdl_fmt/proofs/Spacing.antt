@@ -12,5 +12,5 @@ pub mod Lines
 pub mod Stays
 -- What is counted in the lines that are written.
 pub mod Counts
--- A second layout with blank lines changes nothing.
+-- A second layout changes nothing.
 pub mod Again

@@ -17,7 +17,7 @@ use Rattle.kdl_parts.specs.declared.format.KdlNodeFormat.{KdlNodeFormat}
 use Rattle.kdl_comments.proofs.Rewriting.Pushing.{no_bytes}
 use Rattle.kdl_fmt.specs.Formatted.{newline_if_none, in_braces}
 use Rattle.kdl_fmt.specs.Kept.{without_bom}
-use Rattle.kdl_fmt.specs.WithComments.{NodeTexts, line_of, content_of, following}
+use Rattle.kdl_fmt.specs.Parts.{NodeTexts, line_of, content_of, following}
 
 ascii : (s : Text) → list_all (λ c. nat_lt c 128) s ≡ true → IsAscii s
 ascii [] h i = lit< tt

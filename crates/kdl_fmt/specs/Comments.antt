@@ -11,7 +11,7 @@ use Rattle.kdl_comments.specs.Items.{Item, comment, line_end, GapItems, before_e
 use Rattle.kdl_comments.specs.Written.{on_line}
 use Rattle.kdl_fmt.specs.Formatted.{or_empty, or_empty_document}
 use Rattle.kdl_fmt.specs.Kept.{last_place, without_bom, entry_leading}
-use Rattle.kdl_fmt.specs.WithComments.{has_block}
+use Rattle.kdl_fmt.specs.Parts.{has_block}
 
 -- the items of a text in its place; none if the text can't be there
 pub data ItemsIn (Has : List Item → Type 0) : List Item → Type 0 where

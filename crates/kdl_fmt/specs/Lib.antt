@@ -14,15 +14,17 @@ pub mod Kept
 pub mod KeptForm
 -- Blocks that stay on one line.
 pub mod OneLine
+-- The parts of a node and a document, laid out.
+pub mod Parts
 -- The texts around nodes and documents if no comments are kept.
 pub mod Plain
 -- The result of layout if spellings are kept.
 pub mod Respelled
--- The result of layout if blank lines are kept.
+-- The result of layout, with the comments and blank lines that it keeps.
 pub mod Spaced
 -- Data that memory can hold.
 pub mod WellFormed
--- The result of layout, with the comments that it keeps.
+-- The result of layout if no blank lines are kept.
 pub mod WithComments
 -- Definitions that only proofs and contracts inside the crates use.
 pub mod Internal

@@ -13,7 +13,7 @@ use Rattle.kdl_fmt.specs.Formatted.{or_empty, with_keep_if}
 use Rattle.kdl_fmt.specs.Kept.{is_kept_format}
 use Rattle.kdl_fmt.specs.Plain.{no_newline, only_spaces}
 use Rattle.kdl_fmt.specs.Spaced.{IsSpacedNode, IsSpacedDocument}
-use Rattle.kdl_fmt.specs.WithComments.{AreFormattedEntries, IsFormattedEntry}
+use Rattle.kdl_fmt.specs.Parts.{AreFormattedEntries, IsFormattedEntry}
 use Rattle.kdl_fmt.specs.declared.blank.Before.{Before}
 
 -- the whole text is one spelling of the value: a string, a number or a keyword

@@ -1,4 +1,4 @@
--- The result of layout if blank lines are kept: at most a number of them before each thing on its own line.
+-- The result of layout: the comments that it keeps, and at most a number of blank lines before each thing on its own line.
 use Rattle.std.specs.Prelude.{◌≡◌, ℕ, zero, suc, ◌+◌, ◌<◌, ◌^◌, Bool, List, [], ◌++◌, if◌then◌else◌, Option, Some, option_map}
 use Rattle.kdl_text.specs.Chars.{Text}
 use Rattle.kdl_entry.specs.Tree.{unspelled}
@@ -8,7 +8,7 @@ use Rattle.kdl_fmt.specs.Blank.{at_start, past_items, past_node, empty_lines, sp
 use Rattle.kdl_fmt.specs.Config.{Settings, indentation}
 use Rattle.kdl_fmt.specs.Formatted.{or_empty, or_empty_document, in_braces}
 use Rattle.kdl_fmt.specs.Kept.{KeptLines, KeptTail, KeptBeforeBlock, last_place, KeptEnd, without_bom}
-use Rattle.kdl_fmt.specs.WithComments.{AreFormattedEntries, NodeTexts, line_of, content_of, has_block}
+use Rattle.kdl_fmt.specs.Parts.{AreFormattedEntries, NodeTexts, line_of, content_of, has_block}
 use Rattle.kdl_fmt.specs.declared.blank.Before.{Before}
 
 -- what comes before the thing after a text between nodes; a text that can't be in the place changes nothing

@@ -18,7 +18,6 @@ use Rattle.kdl_fmt.specs.Respelled.{IsSpelledDocument, IsSpelledNode}
 use Rattle.kdl_fmt.specs.Spaced.{IsSpacedDocument, IsSpacedNode}
 use Rattle.kdl_fmt.specs.WithComments.{IsFormattedDocument, IsFormattedNode}
 use Rattle.kdl_fmt.proofs.Spacing.Stays as spaced
-use Rattle.kdl_fmt.proofs.Spacing.Zero.{document_formatted, node_formatted}
 use Rattle.kdl_fmt.proofs.Respelling.Leaves as left
 use Rattle.kdl_fmt.proofs.Respelling.Off as off
 use Rattle.kdl_fmt.proofs.Respelling.Written.{written_document, written_node}
@@ -61,13 +60,11 @@ unspelled_node number s level n x (m, f, r) = subst (λ (z : Node). IsSpacedNode
 -- and where no blank lines stay
 unspaced : (spelling line : Bool) (number : ℕ) (s : Settings) (level : ℕ) (d x : Document) → number ≡ 0 → spelling ≡ false → line ≡ false → IsLaidDocument spelling line number s level d x → IsFormattedDocument s level d x
 unspaced spelling line number s level d x e k o f =
-    document_formatted s level d x
-    (unspelled 0 s level d x (subst (λ (z : ℕ). IsSpelledDocument false z s level d x) e (subst (λ (z : Bool). IsSpelledDocument z number s level d x) k (laid_off spelling line number s level d x o f))))
+    unspelled 0 s level d x (subst (λ (z : ℕ). IsSpelledDocument false z s level d x) e (subst (λ (z : Bool). IsSpelledDocument z number s level d x) k (laid_off spelling line number s level d x o f)))
 
 node_unspaced : (spelling line : Bool) (number : ℕ) (s : Settings) (level : ℕ) (n x : Node) → number ≡ 0 → spelling ≡ false → line ≡ false → IsLaidNode spelling line number s level at_start n x → IsFormattedNode s level n x
 node_unspaced spelling line number s level n x e k o f =
-    node_formatted s level at_start n x
-    (unspelled_node 0 s level n x (subst (λ (z : ℕ). IsSpelledNode false z s level at_start n x) e (subst (λ (z : Bool). IsSpelledNode z number s level at_start n x) k (node_laid_off spelling line number s level n x o f))))
+    unspelled_node 0 s level n x (subst (λ (z : ℕ). IsSpelledNode false z s level at_start n x) e (subst (λ (z : Bool). IsSpelledNode z number s level at_start n x) k (node_laid_off spelling line number s level n x o f)))
 
 module _ {A E : Type 0} (r : Result A E) (spelling line : Bool) (number : ℕ) (s : Settings) (level : ℕ) where
   module _ (x d : Document) where
@@ -119,7 +116,7 @@ module _ {A E : Type 0} (r : Result A E) (spelling line : Bool) (number : ℕ) (
     node_plainly h = if_ok r (λ (f : IsLaidOne). λ e k o. node_unspaced spelling line number s level n x e k o f) h
 
     pub node_plain : IfOk r (λ _. IsLaidNode spelling line number s level at_start n x) → IfOk r (λ _. number ≡ 0 → spelling ≡ false → line ≡ false → s.no_comments ≡ true → x ≡ formatted_node s level n)
-    node_plain h = if_ok r (λ (f : IsLaidOne). λ e k o c. layout.left_out s level n x c (node_unspaced spelling line number s level n x e k o f)) h
+    node_plain h = if_ok r (λ (f : IsLaidOne). λ e k o c. layout.left_out s level at_start n x c (node_unspaced spelling line number s level n x e k o f)) h
 
     pub node_levels : IfOk r (λ _. IsLaidNode spelling line number s level at_start n x) → IfOk r (λ _. NodeLevelsFit level n)
     node_levels h = if_ok r (λ (f : IsLaidOne). spaced.levels_fit number s level at_start n f.1.0 f.1.1) h
@@ -146,7 +143,7 @@ module _ {A E : Type 0} (r : Result A E) (spelling line : Bool) (number : ℕ) (
     pub node_prints : IfOk r (λ _. IsLaidNode spelling line number s level at_start n x) → IfOk r (λ _. number ≡ 0 → spelling ≡ false → line ≡ false → IsPlain s → NodeKeepsNone n → print_node x 0 ≡ canonical_node s.indent level (node_data n))
     node_prints h =
         if_ok r
-        (λ (f : IsLaidOne). λ e k o p c. ap (λ (y : Node). print_node y 0) (layout.left_out s level n x p.0 (node_unspaced spelling line number s level n x e k o f)) ∙ node_canonical s level 0 n p c)
+        (λ (f : IsLaidOne). λ e k o p c. ap (λ (y : Node). print_node y 0) (layout.left_out s level at_start n x p.0 (node_unspaced spelling line number s level n x e k o f)) ∙ node_canonical s level 0 n p c)
         h
 
     pub node_reads : IfOk r (λ _. IsWellFormedNode (node_data n)) → IfOk r (λ _. list_all is_space s.indent ≡ true → CanonicalNode s.indent level (node_data n))

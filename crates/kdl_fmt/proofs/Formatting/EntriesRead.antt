@@ -14,7 +14,7 @@ use Rattle.kdl_fmt.specs.Kept.{Written, WrittenUnless, entry_leading, is_kept_fo
 use Rattle.kdl_fmt.specs.KeptForm.{KeepsReading, EntriesKeepReading}
 use Rattle.kdl_fmt.specs.Respelled.{KeptForm, HasSpellings, HasSpellingsUnless, IsSpelledEntry}
 use Rattle.kdl_fmt.specs.WellFormed.{IsWellFormedEntry}
-use Rattle.kdl_fmt.specs.WithComments.{following, IsFormattedEntry}
+use Rattle.kdl_fmt.specs.Parts.{following, IsFormattedEntry}
 use Rattle.kdl_fmt.proofs.Formatting.CommentsReadBack.{entry_ends, entry_leads, item_reads}
 use Rattle.kdl_fmt.proofs.Formatting.FormattedUnique.{entry_keeps_none}
 use Rattle.kdl_fmt.proofs.Loops.{Each}

@@ -11,8 +11,12 @@ use Rattle.kdl_fmt.specs.Config.{Settings, indentation}
 use Rattle.kdl_fmt.specs.Formatted.{with_keep_if, formatted_entry, or_empty, or_empty_document, content_format, in_braces, formatted_head, formatted_node, formatted_children, formatted_nodes, formatted_document, EntriesKeepNone}
 use Rattle.kdl_fmt.specs.Kept.{Written, WrittenUnless, KeptLines, KeptTail, KeptBeforeBlock, last_place, WrittenEnd, KeptEnd, without_bom, entry_leading, is_kept_format, KeptBefore}
 use Rattle.kdl_fmt.specs.Plain.{plain_line}
-use Rattle.kdl_fmt.specs.WithComments.{following, IsFormattedEntry, AreFormattedEntries, NodeTexts, KeepsTexts, line_of, IsLine, content_of, ContentTexts, IsContent, IsBraced, IsFormattedHead, has_block, IsFormattedNode, IsFormattedChildren, AreFormattedNodes, IsFormattedDocument}
+use Rattle.kdl_fmt.specs.Parts.{following, IsFormattedEntry, AreFormattedEntries, NodeTexts, line_of, content_of, has_block}
+use Rattle.kdl_fmt.specs.Spaced.{SpacesTexts, IsSpacedLine, IsSpacedHead, SpacesContent, IsSpacedContent, IsSpacedBraced, IsSpacedNode, IsSpacedChildren, AreSpacedNodes}
+use Rattle.kdl_fmt.specs.WithComments.{IsFormattedDocument}
+use Rattle.kdl_fmt.specs.declared.blank.Before.{Before}
 use Rattle.kdl_fmt.proofs.Formatting.PrintsCanonical.{cleared_formatted, not_kept_again}
+use Rattle.kdl_fmt.proofs.Spacing.Zero.{no_lines_before}
 
 abbrev Has : Type 1
 Has = List Item → Type 0
@@ -50,11 +54,11 @@ or_true false b e = e
 pub before_none : (s : Settings) (f : Option EntryFormat) (t : Text) → s.no_comments ≡ true → KeptBefore s f t → t ≡ []
 before_none s f t e w = unless_none (PlaceItems (before_entry false) (entry_leading f)) tail t (is_kept_format f || s.no_comments) (or_true (is_kept_format f) s.no_comments e) w
 
-line_plain : (s : Settings) (level : ℕ) (has : Bool) (f : NodeFormat) (k : NodeTexts) → s.no_comments ≡ true → KeepsTexts s level has f k → line_of (indentation s level) k ≡ plain_line (indentation s level)
-line_plain s level has f k e w =
+line_plain : (s : Settings) (level : ℕ) (has : Bool) (b : Before) (f : NodeFormat) (k : NodeTexts) → s.no_comments ≡ true → SpacesTexts 0 s level has b f k → line_of (indentation s level) k ≡ plain_line (indentation s level)
+line_plain s level has b f k e w =
     let end = end_none s.no_comments f.terminator k.space k.comment e w.end in
     rw (
-      lines_none s level f.leading k.before e w.before,
+      no_lines_before w.at_node k.before w.lines w.before ∙ lines_none s level f.leading w.lines e w.leading,
       block_none s has f.before_children k.before_block e w.before_block,
       tail_none s (last_place has) f.before_terminator k.last e w.last,
       end.0,
@@ -62,8 +66,8 @@ line_plain s level has f k e w =
       lines_none s level f.trailing k.following e w.following,
     ) refl
 
-content_plain : (s : Settings) (level : ℕ) (ns : Nodes) (f : DocumentFormat) (a b : Text) → s.no_comments ≡ true → ContentTexts s level f a b → content_of ns a b ≡ content_format ns
-content_plain s level ns f a b e w = rw (lines_none s level (without_bom f.leading) a e w.leading, lines_none s level f.trailing b e w.trailing) refl
+content_plain : (s : Settings) (level : ℕ) (ns : Nodes) (f : DocumentFormat) (b : Before) (x y : Text) → s.no_comments ≡ true → SpacesContent 0 s level ns f b x y → content_of ns x y ≡ content_format ns
+content_plain s level ns f b x y e w = rw (lines_none s level (without_bom f.leading) x e w.leading, lines_none s level f.trailing y e w.trailing) refl
 
 -- then what layout makes is what the function gives
 pub entry_left : (s : Settings) (e e' : Entry) → s.no_comments ≡ true → IsFormattedEntry s e e' → e' ≡ formatted_entry s e
@@ -77,42 +81,42 @@ entries_left_out s (e ∷ es) (e' ∷ es') h f = let a = entry_left s e e' h f.0
 entries_left_out s [] (e' ∷ es') h f = absurd f
 entries_left_out s (e ∷ es) [] h f = absurd f
 
-pub line_left : (s : Settings) (level : ℕ) (has : Bool) (f : NodeFormat) (g : Option NodeFormat) → s.no_comments ≡ true → IsLine s level has f g → g ≡ Some (plain_line (indentation s level))
-line_left s level has f g h l = l.2 ∙ ap Some (line_plain s level has f l.0 h l.1)
+line_left : (s : Settings) (level : ℕ) (has : Bool) (b : Before) (f : NodeFormat) (g : Option NodeFormat) → s.no_comments ≡ true → IsSpacedLine 0 s level has b f g → g ≡ Some (plain_line (indentation s level))
+line_left s level has b f g h l = l.2 ∙ ap Some (line_plain s level has b f l.0 h l.1)
 
-pub head_left : (s : Settings) (level : ℕ) (has : Bool) (h h' : Head) → s.no_comments ≡ true → IsFormattedHead s level has h h' → h' ≡ formatted_head s level h
-head_left s level has h h' e f = head_same f.ty f.name (entries_left_out s h.entries h'.entries e f.entries) (line_left s level has (or_empty h.format) h'.format e f.format) f.span
+head_left : (s : Settings) (level : ℕ) (has : Bool) (b : Before) (h h' : Head) → s.no_comments ≡ true → IsSpacedHead 0 s level has b h h' → h' ≡ formatted_head s level h
+head_left s level has b h h' e f = head_same f.ty f.name (entries_left_out s h.entries h'.entries e f.entries) (line_left s level has b (or_empty h.format) h'.format e f.format) f.span
 
-pub content_left : (s : Settings) (level : ℕ) (ns : Nodes) (f : DocumentFormat) (g : Option DocumentFormat) → s.no_comments ≡ true → IsContent s level ns f g → g ≡ Some (content_format ns)
-content_left s level ns f g h c = c.3 ∙ ap Some (content_plain s level ns f c.0 c.1 h c.2)
+content_left : (s : Settings) (level : ℕ) (ns : Nodes) (f : DocumentFormat) (b : Before) (g : Option DocumentFormat) → s.no_comments ≡ true → IsSpacedContent 0 s level ns f b g → g ≡ Some (content_format ns)
+content_left s level ns f b g h c = c.3 ∙ ap Some (content_plain s level ns f b c.0 c.1 h c.2)
 
-pub braces_left : (s : Settings) (level : ℕ) (ns : Nodes) (f : DocumentFormat) (g : Option DocumentFormat) → s.no_comments ≡ true → IsBraced s level ns f g → g ≡ Some (in_braces (indentation s level) (content_format ns))
-braces_left s level ns f g h c = c.3 ∙ ap (λ (x : DocumentFormat). Some (in_braces (indentation s level) x)) (content_plain s (level + 1) ns f c.0 c.1 h c.2)
+braces_left : (s : Settings) (level : ℕ) (ns : Nodes) (f : DocumentFormat) (b : Before) (g : Option DocumentFormat) → s.no_comments ≡ true → IsSpacedBraced 0 s level ns f b g → g ≡ Some (in_braces (indentation s level) (content_format ns))
+braces_left s level ns f b g h c = c.3 ∙ ap (λ (x : DocumentFormat). Some (in_braces (indentation s level) x)) (content_plain s (level + 1) ns f b c.0 c.1 h c.2)
 
 mutual
-  pub left_out : (s : Settings) (level : ℕ) (n n' : Node) → s.no_comments ≡ true → IsFormattedNode s level n n' → n' ≡ formatted_node s level n
-  left_out s level (node h k) (node h' k') e f = let a = head_left s level (has_block k) h h' e f.0 in let b = children_left_out s level k k' e f.1 in cc
+  pub left_out : (s : Settings) (level : ℕ) (b : Before) (n n' : Node) → s.no_comments ≡ true → IsSpacedNode 0 s level b n n' → n' ≡ formatted_node s level n
+  left_out s level b (node h k) (node h' k') e f = let own = head_left s level (has_block k) b h h' e f.0 in let below = children_left_out s level k k' e f.1 in cc
 
-  pub children_left_out : (s : Settings) (level : ℕ) (k k' : Children) → s.no_comments ≡ true → IsFormattedChildren s level k k' → k' ≡ formatted_children s level k
+  children_left_out : (s : Settings) (level : ℕ) (k k' : Children) → s.no_comments ≡ true → IsSpacedChildren 0 s level k k' → k' ≡ formatted_children s level k
   children_left_out s level no_children no_children e f = refl
-  children_left_out s level (children (document f span ns)) (children (document f' span' ns')) e c =
-      let a = braces_left s level ns (or_empty_document f) f' e c.0 in
-      let b = nodes_left_out s (level + 1) ns ns' e c.2 in
-      λ i. children (document (a i) (c.1 i) (b i))
+  children_left_out s level (children (document f span ns)) (children (document f' span' ns')) e (b, c, same, nodes, fits) =
+      let braces = braces_left s level ns (or_empty_document f) b f' e c in
+      let below = nodes_left_out s (level + 1) b ns ns' e nodes in
+      λ i. children (document (braces i) (same i) (below i))
   children_left_out s level no_children (children d) e f = absurd f
   children_left_out s level (children (document f span ns)) no_children e c = absurd c
 
-  pub nodes_left_out : (s : Settings) (level : ℕ) (ns ns' : Nodes) → s.no_comments ≡ true → AreFormattedNodes s level ns ns' → ns' ≡ formatted_nodes s level ns
-  nodes_left_out s level none none e f = refl
-  nodes_left_out s level (first n ns) (first n' ns') e f = let a = left_out s level n n' e f.0 in let b = nodes_left_out s level ns ns' e f.1 in cc
-  nodes_left_out s level none (first n' ns') e f = absurd f
-  nodes_left_out s level (first n ns) none e f = absurd f
+  nodes_left_out : (s : Settings) (level : ℕ) (b : Before) (ns ns' : Nodes) → s.no_comments ≡ true → AreSpacedNodes 0 s level b ns ns' → ns' ≡ formatted_nodes s level ns
+  nodes_left_out s level b none none e f = refl
+  nodes_left_out s level b (first n ns) (first n' ns') e (b', f, p, g) = let x = left_out s level b n n' e f in let y = nodes_left_out s level b' ns ns' e g in cc
+  nodes_left_out s level b none (first n' ns') e f = absurd f
+  nodes_left_out s level b (first n ns) none e f = absurd f
 
 pub document_left_out : (s : Settings) (level : ℕ) (d d' : Document) → s.no_comments ≡ true → IsFormattedDocument s level d d' → d' ≡ formatted_document s level d
-document_left_out s level (document f span ns) (document f' span' ns') e d =
-    let a = content_left s level ns (or_empty_document f) f' e d.0 in
-    let b = nodes_left_out s level ns ns' e d.2 in
-    λ i. document (a i) (d.1 i) (b i)
+document_left_out s level (document f span ns) (document f' span' ns') e (b, c, same, nodes) =
+    let x = content_left s level ns (or_empty_document f) b f' e c in
+    let y = nodes_left_out s level b ns ns' e nodes in
+    λ i. document (x i) (same i) (y i)
 
 -- of an entry all stays but formats and spellings
 pub cleared_after : (t : Text) (e : Entry) → cleared (following t e) ≡ cleared e
@@ -123,7 +127,7 @@ pub entry_stays : (s : Settings) (e e' : Entry) → IsFormattedEntry s e e' → 
 entry_stays s e e' f = ap cleared f.2 ∙ cleared_after f.0 (autoformatted (with_keep_if s.entry_autoformate_keep e)) ∙ cleared_formatted s.entry_autoformate_keep e
 
 -- no entry is flagged any more
-after_not_kept : (t : Text) (e : Entry) → is_kept_format e.format ≡ false → is_kept_format (following t e).format ≡ false
+pub after_not_kept : (t : Text) (e : Entry) → is_kept_format e.format ≡ false → is_kept_format (following t e).format ≡ false
 after_not_kept [] e h = h
 after_not_kept (c ∷ t) e h = refl
 
@@ -172,13 +176,13 @@ pub end_det : (b : Bool) (terminator t u t' u' : Text) → KeptEnd b terminator 
 end_det true terminator t u t' u' a b = (a.0 ∙ sym b.0, a.1 ∙ sym b.1)
 end_det false terminator t u t' u' a b = written_end_det a b
 
-pub texts_det : (s : Settings) (level : ℕ) (has : Bool) (f : NodeFormat) (k k' : NodeTexts) → KeepsTexts s level has f k → KeepsTexts s level has f k' → k ≡ k'
-texts_det s level has f k k' a b =
-    let end = end_det s.no_comments f.terminator k.space k.comment k'.space k'.comment a.end b.end in
-    let before = lines_det s level f.leading k.before k'.before a.before b.before in
-    let block = block_det s has f.before_children k.before_block k'.before_block a.before_block b.before_block in
-    let last = tail_det s (last_place has) f.before_terminator k.last k'.last a.last b.last in
-    let more = lines_det s level f.trailing k.following k'.following a.following b.following in
+texts_det : (s : Settings) (level : ℕ) (has : Bool) (b c : Before) (f : NodeFormat) (k k' : NodeTexts) → SpacesTexts 0 s level has b f k → SpacesTexts 0 s level has c f k' → k ≡ k'
+texts_det s level has b c f k k' v w =
+    let end = end_det s.no_comments f.terminator k.space k.comment k'.space k'.comment v.end w.end in
+    let before = no_lines_before v.at_node k.before v.lines v.before ∙ lines_det s level f.leading v.lines w.lines v.leading w.leading ∙ sym (no_lines_before w.at_node k'.before w.lines w.before) in
+    let block = block_det s has f.before_children k.before_block k'.before_block v.before_block w.before_block in
+    let last = tail_det s (last_place has) f.before_terminator k.last k'.last v.last w.last in
+    let more = lines_det s level f.trailing k.following k'.following v.following w.following in
     λ i. record { before = before i; before_block = block i; last = last i; space = end.0 i; comment = end.1 i; following = more i }
 
 -- so what layout makes is one thing
@@ -195,59 +199,59 @@ formatted_entries_det s (e ∷ es) [] ys a b = absurd a
 formatted_entries_det s (e ∷ es) (x ∷ xs) [] a b = absurd b
 formatted_entries_det s (e ∷ es) (x ∷ xs) (y ∷ ys) a b = let c = entry_det s e x y a.0 b.0 in let d = formatted_entries_det s es xs ys a.1 b.1 in cc
 
-pub line_det : (s : Settings) (level : ℕ) (has : Bool) (f : NodeFormat) (g g' : Option NodeFormat) → IsLine s level has f g → IsLine s level has f g' → g ≡ g'
-line_det s level has f g g' a b = a.2 ∙ ap (λ (k : NodeTexts). Some (line_of (indentation s level) k)) (texts_det s level has f a.0 b.0 a.1 b.1) ∙ sym b.2
+line_det : (s : Settings) (level : ℕ) (has : Bool) (b c : Before) (f : NodeFormat) (g g' : Option NodeFormat) → IsSpacedLine 0 s level has b f g → IsSpacedLine 0 s level has c f g' → g ≡ g'
+line_det s level has b c f g g' v w = v.2 ∙ ap (λ (k : NodeTexts). Some (line_of (indentation s level) k)) (texts_det s level has b c f v.0 w.0 v.1 w.1) ∙ sym w.2
 
-content_texts_det : (s : Settings) (level : ℕ) (ns : Nodes) (f : DocumentFormat) (t u t' u' : Text) → ContentTexts s level f t u → ContentTexts s level f t' u' → content_of ns t u ≡ content_of ns t' u'
-content_texts_det s level ns f t u t' u' a b =
-    let before = lines_det s level (without_bom f.leading) t t' a.leading b.leading in
-    let more = lines_det s level f.trailing u u' a.trailing b.trailing in
+content_texts_det : (s : Settings) (level : ℕ) (ns : Nodes) (f : DocumentFormat) (b c : Before) (t u t' u' : Text) → SpacesContent 0 s level ns f b t u → SpacesContent 0 s level ns f c t' u' → content_of ns t u ≡ content_of ns t' u'
+content_texts_det s level ns f b c t u t' u' v w =
+    let before = lines_det s level (without_bom f.leading) t t' v.leading w.leading in
+    let more = lines_det s level f.trailing u u' v.trailing w.trailing in
     λ i. content_of ns (before i) (more i)
 
-pub content_det : (s : Settings) (level : ℕ) (ns : Nodes) (f : DocumentFormat) (g g' : Option DocumentFormat) → IsContent s level ns f g → IsContent s level ns f g' → g ≡ g'
-content_det s level ns f g g' a b = a.3 ∙ ap Some (content_texts_det s level ns f a.0 a.1 b.0 b.1 a.2 b.2) ∙ sym b.3
+content_det : (s : Settings) (level : ℕ) (ns : Nodes) (f : DocumentFormat) (b c : Before) (g g' : Option DocumentFormat) → IsSpacedContent 0 s level ns f b g → IsSpacedContent 0 s level ns f c g' → g ≡ g'
+content_det s level ns f b c g g' v w = v.3 ∙ ap Some (content_texts_det s level ns f b c v.0 v.1 w.0 w.1 v.2 w.2) ∙ sym w.3
 
-pub braces_det : (s : Settings) (level : ℕ) (ns : Nodes) (f : DocumentFormat) (g g' : Option DocumentFormat) → IsBraced s level ns f g → IsBraced s level ns f g' → g ≡ g'
-braces_det s level ns f g g' a b =
-    a.3 ∙ ap (λ (x : DocumentFormat). Some (in_braces (indentation s level) x)) (content_texts_det s (level + 1) ns f a.0 a.1 b.0 b.1 a.2 b.2) ∙ sym b.3
+braces_det : (s : Settings) (level : ℕ) (ns : Nodes) (f : DocumentFormat) (b c : Before) (g g' : Option DocumentFormat) → IsSpacedBraced 0 s level ns f b g → IsSpacedBraced 0 s level ns f c g' → g ≡ g'
+braces_det s level ns f b c g g' v w =
+    v.3 ∙ ap (λ (x : DocumentFormat). Some (in_braces (indentation s level) x)) (content_texts_det s (level + 1) ns f b c v.0 v.1 w.0 w.1 v.2 w.2) ∙ sym w.3
 
-pub head_det : (s : Settings) (level : ℕ) (has : Bool) (h x y : Head) → IsFormattedHead s level has h x → IsFormattedHead s level has h y → x ≡ y
-head_det s level has h x y a b =
-    head_same (a.ty ∙ sym b.ty) (a.name ∙ sym b.name) (formatted_entries_det s h.entries x.entries y.entries a.entries b.entries) (line_det s level has (or_empty h.format) x.format y.format a.format b.format) (a.span ∙ sym b.span)
+head_det : (s : Settings) (level : ℕ) (has : Bool) (b c : Before) (h x y : Head) → IsSpacedHead 0 s level has b h x → IsSpacedHead 0 s level has c h y → x ≡ y
+head_det s level has b c h x y v w =
+    head_same (v.ty ∙ sym w.ty) (v.name ∙ sym w.name) (formatted_entries_det s h.entries x.entries y.entries v.entries w.entries) (line_det s level has b c (or_empty h.format) x.format y.format v.format w.format) (v.span ∙ sym w.span)
 
 mutual
-  pub formatted_node_det : (s : Settings) (level : ℕ) (n x y : Node) → IsFormattedNode s level n x → IsFormattedNode s level n y → x ≡ y
-  formatted_node_det s level (node h k) (node h1 k1) (node h2 k2) a b =
-      let c = head_det s level (has_block k) h h1 h2 a.0 b.0 in
-      let d = formatted_children_det s level k k1 k2 a.1 b.1 in
+  formatted_node_det : (s : Settings) (level : ℕ) (b c : Before) (n x y : Node) → IsSpacedNode 0 s level b n x → IsSpacedNode 0 s level c n y → x ≡ y
+  formatted_node_det s level b c (node h k) (node h1 k1) (node h2 k2) v w =
+      let own = head_det s level (has_block k) b c h h1 h2 v.0 w.0 in
+      let below = formatted_children_det s level k k1 k2 v.1 w.1 in
       cc
 
-  pub formatted_children_det : (s : Settings) (level : ℕ) (k x y : Children) → IsFormattedChildren s level k x → IsFormattedChildren s level k y → x ≡ y
+  formatted_children_det : (s : Settings) (level : ℕ) (k x y : Children) → IsSpacedChildren 0 s level k x → IsSpacedChildren 0 s level k y → x ≡ y
   formatted_children_det s level no_children no_children no_children a b = refl
   formatted_children_det s level no_children no_children (children d) a b = absurd b
   formatted_children_det s level no_children (children d) y a b = absurd a
   formatted_children_det s level (children (document f span ns)) no_children y a b = absurd a
   formatted_children_det s level (children (document f span ns)) (children (document f1 span1 ns1)) no_children a b = absurd b
   formatted_children_det s level (children (document f span ns)) (children (document f1 span1 ns1)) (children (document f2 span2 ns2)) a b =
-      let c = braces_det s level ns (or_empty_document f) f1 f2 a.0 b.0 in
-      let at = a.1 ∙ sym b.1 in
-      let d = formatted_nodes_det s (level + 1) ns ns1 ns2 a.2 b.2 in
-      λ i. children (document (c i) (at i) (d i))
+      let braces = braces_det s level ns (or_empty_document f) a.0 b.0 f1 f2 a.1 b.1 in
+      let at = a.2 ∙ sym b.2 in
+      let below = formatted_nodes_det s (level + 1) a.0 b.0 ns ns1 ns2 a.3 b.3 in
+      λ i. children (document (braces i) (at i) (below i))
 
-  pub formatted_nodes_det : (s : Settings) (level : ℕ) (ns x y : Nodes) → AreFormattedNodes s level ns x → AreFormattedNodes s level ns y → x ≡ y
-  formatted_nodes_det s level none none none a b = refl
-  formatted_nodes_det s level none none (first m ms) a b = absurd b
-  formatted_nodes_det s level none (first m ms) y a b = absurd a
-  formatted_nodes_det s level (first n ns) none y a b = absurd a
-  formatted_nodes_det s level (first n ns) (first m ms) none a b = absurd b
-  formatted_nodes_det s level (first n ns) (first n1 ns1) (first n2 ns2) a b =
-      let c = formatted_node_det s level n n1 n2 a.0 b.0 in
-      let d = formatted_nodes_det s level ns ns1 ns2 a.1 b.1 in
+  formatted_nodes_det : (s : Settings) (level : ℕ) (b c : Before) (ns x y : Nodes) → AreSpacedNodes 0 s level b ns x → AreSpacedNodes 0 s level c ns y → x ≡ y
+  formatted_nodes_det s level b c none none none v w = refl
+  formatted_nodes_det s level b c none none (first m ms) v w = absurd w
+  formatted_nodes_det s level b c none (first m ms) y v w = absurd v
+  formatted_nodes_det s level b c (first n ns) none y v w = absurd v
+  formatted_nodes_det s level b c (first n ns) (first m ms) none v w = absurd w
+  formatted_nodes_det s level b c (first n ns) (first n1 ns1) (first n2 ns2) v w =
+      let here = formatted_node_det s level b c n n1 n2 v.1 w.1 in
+      let others = formatted_nodes_det s level v.0 w.0 ns ns1 ns2 v.3 w.3 in
       cc
 
 pub formatted_det : (s : Settings) (level : ℕ) (d x y : Document) → IsFormattedDocument s level d x → IsFormattedDocument s level d y → x ≡ y
 formatted_det s level (document f span ns) (document f1 span1 ns1) (document f2 span2 ns2) a b =
-    let c = content_det s level ns (or_empty_document f) f1 f2 a.0 b.0 in
-    let at = a.1 ∙ sym b.1 in
-    let d = formatted_nodes_det s level ns ns1 ns2 a.2 b.2 in
-    λ i. document (c i) (at i) (d i)
+    let content = content_det s level ns (or_empty_document f) a.0 b.0 f1 f2 a.1 b.1 in
+    let at = a.2 ∙ sym b.2 in
+    let nodes = formatted_nodes_det s level a.0 b.0 ns ns1 ns2 a.3 b.3 in
+    λ i. document (content i) (at i) (nodes i)

@@ -24,7 +24,7 @@ use Rattle.kdl_fmt.specs.Formatted.{or_empty, or_empty_document, newline_if_none
 use Rattle.kdl_fmt.specs.Kept.{KeptBeforeBlock, Written, WrittenUnless, last_place, without_bom}
 use Rattle.kdl_fmt.specs.Respelled.{TypeTexts, with_type_texts, IsRespelledNode, AreRespelledChildren, AreRespelledNodes}
 use Rattle.kdl_fmt.specs.Spaced.{Spaces, SpacedLines, SpacesTexts, IsSpacedContent, IsSpacedBraced, IsSpacedNode, IsSpacedChildren, AreSpacedNodes}
-use Rattle.kdl_fmt.specs.WithComments.{NodeTexts, line_of, has_block}
+use Rattle.kdl_fmt.specs.Parts.{NodeTexts, line_of, has_block}
 use Rattle.kdl_fmt.specs.declared.blank.Before.{Before}
 use Rattle.kdl_fmt.proofs.EntryTexts.{name_of}
 use Rattle.kdl_fmt.proofs.Formatting.CommentsReadBack.{type_reads, empty_gap}

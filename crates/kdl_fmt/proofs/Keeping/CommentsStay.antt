@@ -25,7 +25,7 @@ use Rattle.kdl_fmt.specs.Blank.{at_start, past_node}
 use Rattle.kdl_fmt.specs.OneLine.{braces_in_line, braces_on_line, in_one_line, is_on_one_line, nodes_in_line, nodes_on_line, one_lined_children, one_lined_document, one_lined_node, one_lined_nodes}
 use Rattle.kdl_fmt.specs.Respelled.{TypeTexts, with_type_texts}
 use Rattle.kdl_fmt.specs.Spaced.{SpacesTexts, SpacesContent}
-use Rattle.kdl_fmt.specs.WithComments.{NodeTexts, line_of, content_of, has_block}
+use Rattle.kdl_fmt.specs.Parts.{NodeTexts, line_of, content_of, has_block}
 use Rattle.kdl_fmt.specs.declared.blank.Before.{Before}
 use Rattle.kdl_fmt.proofs.Spacing.Lines.{before_front, lines_front}
 use Rattle.kdl_fmt.proofs.Keeping.GapFronts.{Front, nothing, joined, alone, here, newline, newline_if, indented, gap_without_bom}

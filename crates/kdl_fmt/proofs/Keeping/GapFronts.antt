@@ -1,11 +1,9 @@
 -- Gaps that come before any other gap, with their items.
-use Rattle.std.proofs.Common.{◌≡◌, ℕ, ◌==◌, Bool, true, false, List, [], ◌∷◌, ◌++◌, map, refl, sym, subst, ◌∙◌, append_assoc, append-nil, arith}
+use Rattle.std.proofs.Common.{◌≡◌, ℕ, ◌==◌, Bool, true, false, List, [], ◌∷◌, ◌++◌, map, refl, sym, subst, append_assoc, append-nil, arith}
 use Rattle.std.proofs.lemmas.Bool.Decides.{nat_tests}
 use Rattle.std.proofs.lemmas.Bool.{and_parts}
-use Rattle.std.proofs.lemmas.List.Folds.{list_all-append}
-use Rattle.std.specs.Cmp.Derive.{both_true}
-use Rattle.std.specs.List.{list_all, repeat}
-use Rattle.std.specs.Prelude.{zero, suc, if◌then◌else◌}
+use Rattle.std.specs.List.{list_all}
+use Rattle.std.specs.Prelude.{if◌then◌else◌}
 use Rattle.kdl_text.specs.Chars.{Text, is_space, space as a_space}
 use Rattle.kdl_text.specs.Trivia.{LineSpace}
 use Rattle.kdl_entry.specs.Places.{Is}
@@ -23,7 +21,7 @@ use Rattle.kdl_fmt.specs.Comments.{ItemsIn}
 use Rattle.kdl_fmt.specs.Config.{Settings, indentation}
 use Rattle.kdl_fmt.specs.Formatted.{newline_if_none}
 use Rattle.kdl_fmt.specs.Kept.{Written, WrittenUnless, KeptLines, without_bom}
-use Rattle.kdl_fmt.proofs.Keeping.KeptPlaces.{newline_gap, indentation_gap}
+use Rattle.kdl_fmt.proofs.Keeping.KeptPlaces.{level_spaces, newline_gap, indentation_gap}
 
 -- a gap before each other one, and its items before the other's
 pub record Front (p : Text) (is : List Item) : Type 0 where
@@ -56,10 +54,6 @@ newline_if Nodes.none = newline
 newline_if (first n ns) = nothing
 
 -- spaces
-level_spaces : (indent : Text) → list_all is_space indent ≡ true → (level : ℕ) → list_all is_space (repeat level indent) ≡ true
-level_spaces indent ok zero = refl
-level_spaces indent ok (suc level) = list_all-append is_space indent (repeat level indent) ∙ both_true ok (level_spaces indent ok level)
-
 space_items : (s : Text) → list_all is_space s ≡ true → {t : Text} {js : List Item} → GapItems t js → GapItems (s ++ t) js
 space_items [] ok g = g
 space_items (c ∷ s) ok g =

@@ -1,73 +1,19 @@
 -- What layout kept of a text is kept of the text that it wrote, and is written the same.
-use Rattle.std.proofs.Common.{◌≡◌, ℕ, zero, suc, ◌==◌, Bool, true, false, List, [], ◌∷◌, ◌++◌, map, refl, sym, ap, subst, ◌∙◌, append_assoc, append-nil, arith}
-use Rattle.std.proofs.lemmas.Bool.Decides.{nat_tests}
-use Rattle.std.proofs.lemmas.List.Folds.{list_all-append}
-use Rattle.std.specs.List.{list_all, repeat}
-use Rattle.kdl_text.specs.Chars.{Text, is_space, is_newline_char, Newline, crlf, one, space as a_space}
-use Rattle.kdl_text.specs.Trivia.{LineComment, line as a_line, block as a_block, Slashdash, slashdash}
+use Rattle.std.proofs.Common.{◌≡◌, ℕ, Bool, true, false, List, [], ◌∷◌, ◌++◌, map, refl, sym, ap, subst, ◌∙◌, append-nil}
+use Rattle.std.specs.List.{list_all}
+use Rattle.kdl_text.specs.Chars.{Text, is_space}
 use Rattle.kdl_text.proofs.Spacing.SpaceUnique.{no_line_comment}
-use Rattle.kdl_grammar.specs.Tree.{Nodes, first}
-use Rattle.kdl_comments.specs.Items.{Item, SpaceItems, LineSpaceItems, GapItems, last_node, Place, before_entry, before_block, takes_blocks, PlaceItems, ends, dropped_entry, dropped_block}
+use Rattle.kdl_comments.specs.Items.{Item, GapItems, Place, before_entry, before_block, takes_blocks, PlaceItems, ends}
 use Rattle.kdl_comments.specs.Written.{lines, tail, on_line}
-use Rattle.kdl_comments.proofs.Rewriting.BeforeNewlines.{a_newline}
 use Rattle.kdl_comments.proofs.Listing.ItemsUnique.{gap_items_det, place_items_det}
-use Rattle.kdl_comments.proofs.Rewriting.LinesAgain.{comment_part, comment_again, comment_text, comment_item, lines_again, spaces_items, lines_on_line}
+use Rattle.kdl_comments.proofs.Rewriting.LinesAgain.{comment_part, comment_again, comment_text, comment_item, lines_again, lines_on_line}
 use Rattle.kdl_comments.proofs.Rewriting.PlacesAgain.{tail_alone, tail_spaced}
 use Rattle.kdl_fmt.specs.Config.{Settings, indentation}
-use Rattle.kdl_fmt.specs.Formatted.{newline_if_none}
 use Rattle.kdl_fmt.specs.Kept.{Written, items, WrittenUnless, KeptLines, KeptTail, KeptBeforeBlock, last_place, WrittenEnd, KeptEnd, without_bom}
+use Rattle.kdl_fmt.proofs.Keeping.GapFronts.{Front, nothing, gap_without_bom}
 use Rattle.kdl_fmt.proofs.Keeping.KeptItems.{one_space, ends_spaced, ends_here}
-
--- an indent of spaces makes indentation of spaces
-indent_spaces : (n : ℕ) (s : Text) → list_all is_space s ≡ true → list_all is_space (repeat n s) ≡ true
-indent_spaces zero s h = refl
-indent_spaces (suc n) s h = list_all-append is_space s (repeat n s) ∙ rw (h, indent_spaces n s h) refl
-
--- a gap begins with no U+FEFF
-space_no_bom : (c : ℕ) → is_space c ≡ true → (c == 0xFEFF) ≡ false
-unfolding is_space
-space_no_bom c h = grind (arith, nat_tests)
-
-newline_no_bom : (c : ℕ) → is_newline_char c ≡ true → (c == 0xFEFF) ≡ false
-unfolding is_newline_char
-newline_no_bom c h = grind (arith, nat_tests)
-
-space_begins : {s r : Text} {is : List Item} → SpaceItems s r is → without_bom s ≡ s
-space_begins (SpaceItems.space (a_space {c = c} h)) = rw (space_no_bom c h) refl
-space_begins (SpaceItems.block (a_block b)) = refl
-space_begins (SpaceItems.escline d) = refl
-
-newline_begins : {s r : Text} → Newline s r → without_bom s ≡ s
-newline_begins crlf = refl
-newline_begins (one {c = c} h k) = rw (newline_no_bom c h) refl
-
-line_begins : {s r : Text} → LineComment s r → without_bom s ≡ s
-line_begins (a_line l) = refl
-
-line_space_begins : {s r : Text} {is : List Item} → LineSpaceItems s r is → without_bom s ≡ s
-line_space_begins (LineSpaceItems.space d) = space_begins d
-line_space_begins (LineSpaceItems.newline n) = newline_begins n
-line_space_begins (LineSpaceItems.line l) = line_begins l
-
-slashdash_begins : {s r : Text} → Slashdash s r → without_bom s ≡ s
-slashdash_begins (slashdash m) = refl
-
-gap_without_bom : {s : Text} {is : List Item} → GapItems s is → without_bom s ≡ s
-gap_without_bom GapItems.none = refl
-gap_without_bom (GapItems.space d g) = line_space_begins d
-gap_without_bom (GapItems.dropped_node m n e g) = slashdash_begins m
-gap_without_bom (last_node m n tight ss g) = slashdash_begins m
-
--- LF, or nothing, is a gap without items
-newline_items : (r : Text) (is : List Item) → GapItems r is → GapItems (10 ∷ r) is
-newline_items r is g = GapItems.space (LineSpaceItems.newline (a_newline r)) g
-
-no_front : (r : Text) (is : List Item) → GapItems r is → GapItems ([] ++ r) is
-no_front r is g = g
-
-end_items : (ns : Nodes) {r : Text} → GapItems r [] → GapItems (newline_if_none ns ++ r) []
-end_items Nodes.none {r} g = newline_items r [] g
-end_items (first n ns) g = g
+use Rattle.kdl_fmt.proofs.Keeping.KeptPlaces.{level_spaces}
+use Rattle.kdl_fmt.proofs.Keeping.KeptReads.{no_place}
 
 -- what may come after written items of a place
 record Follows (p : Place) (more : Text) : Type 0 where
@@ -93,19 +39,9 @@ end_follows false p h t space comment (WrittenEnd.comment l) = space_follows p
 end_follows false p h t space comment (WrittenEnd.other f) = nothing_follows p h
 
 -- before an entry that has no text before it there is nothing
-no_space : {r : Text} {is : List Item} → SpaceItems [] r is → ⊥
-no_space (SpaceItems.space n) = elim n [ ]
-no_space (SpaceItems.block b) = elim b [ ]
-
-no_items : {is : List Item} → PlaceItems (before_entry false) [] is → ⊥
-no_items (ends h) = absurd cc
-no_items (PlaceItems.space n d) = no_space n
-no_items (dropped_entry h m i d) = elim m [ ]
-no_items (dropped_block h m b d) = elim m [ ]
-
 pub none_before : (b : Bool) (t : Text) → WrittenUnless b (PlaceItems (before_entry false) []) tail t → t ≡ []
 none_before true t h = h
-none_before false t (items d) = absurd (no_items d)
+none_before false t (items {is} d) = absurd (no_place is d)
 none_before false t (Written.none f) = refl
 
 -- the items of a written text are the only ones
@@ -114,30 +50,26 @@ written_as {write = write} js h unique (items {is} d) = ap write (unique is d)
 written_as js h unique (Written.none f) = absurd (f js h)
 
 -- lines, with line-spaces around them
-lines_stay : (ind : Text) → list_all is_space ind ≡ true → (lead rest : Text) → ((r : Text) (js : List Item) → GapItems r js → GapItems (lead ++ r) js) → GapItems rest []
+lines_stay : (ind : Text) → list_all is_space ind ≡ true → (lead rest : Text) → Front lead [] → GapItems rest []
     → (p t u : Text) → Written (GapItems p) (lines ind) t → Written (GapItems (lead ++ (t ++ rest))) (lines ind) u → u ≡ t
 lines_stay ind ok lead rest front back p t u (items {is} d) w =
-    let g : GapItems (lead ++ (lines ind is ++ rest)) (map on_line is ++ []) = front (lines ind is ++ rest) (map on_line is ++ []) (lines_again ind ok d back) in
+    let g : GapItems (lead ++ (lines ind is ++ rest)) (map on_line is ++ []) = front.items (lines_again ind ok d back) in
     written_as (map on_line is ++ []) g (λ js h. gap_items_det h g) w ∙ ap (lines ind) (append-nil (map on_line is)) ∙ lines_on_line ind is
 lines_stay ind ok lead rest front back p t u (Written.none f) w =
-    let g : GapItems (lead ++ rest) [] = front rest [] back in
+    let g : GapItems (lead ++ rest) [] = front.items back in
     written_as [] g (λ js h. gap_items_det h g) w
 
-kept_lines : (s : Settings) (level : ℕ) → list_all is_space s.indent ≡ true → (lead rest : Text) → ((r : Text) (js : List Item) → GapItems r js → GapItems (lead ++ r) js) → GapItems rest []
+pub kept_lines : (s : Settings) (level : ℕ) → list_all is_space s.indent ≡ true → {lead rest : Text} → Front lead [] → GapItems rest []
     → (p t u : Text) → KeptLines s level p t → KeptLines s level (lead ++ (t ++ rest)) u → u ≡ t
-kept_lines s level ok lead rest front back p t u k m = go s.no_comments k m
+kept_lines s level ok {lead} {rest} front back p t u k m = go s.no_comments k m
   where
     go : (b : Bool) → WrittenUnless b (GapItems p) (lines (indentation s level)) t → WrittenUnless b (GapItems (lead ++ (t ++ rest))) (lines (indentation s level)) u → u ≡ t
     go true e h = h ∙ sym e
-    go false w v = lines_stay (indentation s level) (indent_spaces level s.indent ok) lead rest front back p t u w v
+    go false w v = lines_stay (indentation s level) (level_spaces s.indent ok level) lead rest front back p t u w v
 
--- before a node: with indentation after them
-pub leading_stays : (s : Settings) (level : ℕ) → list_all is_space s.indent ≡ true → (p t u : Text) → KeptLines s level p t → KeptLines s level (t ++ indentation s level) u → u ≡ t
-leading_stays s level ok p t u k m = kept_lines s level ok [] (indentation s level) no_front (spaces_items (indentation s level) (indent_spaces level s.indent ok)) p t u k m
-
--- with nothing around them
-pub trailing_stays : (s : Settings) (level : ℕ) → list_all is_space s.indent ≡ true → (p t u : Text) → KeptLines s level p t → KeptLines s level t u → u ≡ t
-trailing_stays s level ok p t u k m = kept_lines s level ok [] [] no_front GapItems.none p t u k (subst (λ (x : Text). KeptLines s level x u) (sym (append-nil t)) m)
+-- with nothing after them
+pub trailing_stays : (s : Settings) (level : ℕ) → list_all is_space s.indent ≡ true → {lead : Text} → Front lead [] → (p t u : Text) → KeptLines s level p t → KeptLines s level (lead ++ t) u → u ≡ t
+trailing_stays s level ok {lead} front p t u k m = kept_lines s level ok front GapItems.none p t u k (subst (λ (x : Text). KeptLines s level (lead ++ x) u) (sym (append-nil t)) m)
 
 -- before the nodes of a document
 lines_without_bom : (s : Settings) (level : ℕ) → list_all is_space s.indent ≡ true → (p t : Text) → KeptLines s level p t → without_bom t ≡ t
@@ -145,7 +77,7 @@ lines_without_bom s level ok p t k = go s.no_comments k
   where
     written : (u : Text) → Written (GapItems p) (lines (indentation s level)) u → without_bom u ≡ u
     written u (items {is} d) =
-        subst (λ (x : Text). without_bom x ≡ x) (append-nil (lines (indentation s level) is)) (gap_without_bom (lines_again (indentation s level) (indent_spaces level s.indent ok) d GapItems.none))
+        subst (λ (x : Text). without_bom x ≡ x) (append-nil (lines (indentation s level) is)) (gap_without_bom _ (lines_again (indentation s level) (level_spaces s.indent ok level) d GapItems.none))
     written u (Written.none f) = refl
 
     go : (b : Bool) → WrittenUnless b (GapItems p) (lines (indentation s level)) t → without_bom t ≡ t
@@ -154,23 +86,7 @@ lines_without_bom s level ok p t k = go s.no_comments k
 
 pub document_leading_stays : (s : Settings) (level : ℕ) → list_all is_space s.indent ≡ true → (p t u : Text) → KeptLines s level p t → KeptLines s level (without_bom t) u → u ≡ t
 document_leading_stays s level ok p t u k m =
-    trailing_stays s level ok p t u k (subst (λ (x : Text). KeptLines s level x u) (lines_without_bom s level ok p t k) m)
-
--- in braces, after LF
-pub block_leading_stays : (s : Settings) (level : ℕ) → list_all is_space s.indent ≡ true → (p t u : Text) → KeptLines s level p t → KeptLines s level (10 ∷ t) u → u ≡ t
-block_leading_stays s level ok p t u k m =
-    kept_lines s level ok (10 ∷ []) [] newline_items GapItems.none p t u k (subst (λ (x : Text). KeptLines s level (10 ∷ x) u) (sym (append-nil t)) m)
-
--- after the nodes
-pub document_trailing_stays : (s : Settings) (level : ℕ) → list_all is_space s.indent ≡ true → (ns : Nodes) (p t u : Text) → KeptLines s level p t → KeptLines s level (t ++ newline_if_none ns) u → u ≡ t
-document_trailing_stays s level ok ns p t u k m =
-    kept_lines s level ok [] (newline_if_none ns) no_front (subst (λ (x : Text). GapItems x []) (append-nil (newline_if_none ns)) (end_items ns GapItems.none)) p t u k m
-
-pub block_trailing_stays : (s : Settings) (level depth : ℕ) → list_all is_space s.indent ≡ true → (ns : Nodes) (p t u : Text) → KeptLines s level p t
-    → KeptLines s level (t ++ newline_if_none ns ++ indentation s depth) u → u ≡ t
-block_trailing_stays s level depth ok ns p t u k m =
-    kept_lines s level ok [] (newline_if_none ns ++ indentation s depth) no_front (end_items ns (spaces_items (indentation s depth) (indent_spaces depth s.indent ok))) p t u k
-    (subst (λ (x : Text). KeptLines s level x u) (append_assoc t (newline_if_none ns) (indentation s depth)) m)
+    trailing_stays s level ok nothing p t u k (subst (λ (x : Text). KeptLines s level x u) (lines_without_bom s level ok p t k) m)
 
 -- in a place of a node
 tail_stays : {p : Place} {more : Text} → Follows p more → (q t u : Text) → Written (PlaceItems p q) tail t → Written (PlaceItems p (t ++ more)) tail u → u ≡ t

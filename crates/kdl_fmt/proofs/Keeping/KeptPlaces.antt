@@ -47,7 +47,7 @@ gap_nodes g (last_gap h) = last_gap (join_gaps g h)
 gap_nodes g (node_then h n e d) = node_then (join_gaps g h) n e d
 
 -- an indentation of spaces in a gap
-level_spaces : (indent : Text) → list_all is_space indent ≡ true → (level : ℕ) → list_all is_space (repeat level indent) ≡ true
+pub level_spaces : (indent : Text) → list_all is_space indent ≡ true → (level : ℕ) → list_all is_space (repeat level indent) ≡ true
 level_spaces indent ok zero = refl
 level_spaces indent ok (suc level) = list_all-append is_space indent (repeat level indent) ∙ both_true ok (level_spaces indent ok level)
 

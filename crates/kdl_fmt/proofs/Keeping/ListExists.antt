@@ -6,11 +6,15 @@ use Rattle.kdl_entry.specs.Tree.{Entry, autoformatted}
 use Rattle.kdl_grammar.specs.Tree.{DocumentFormat, Node, node, Children, no_children, children, Document, document, Nodes, none, first}
 use Rattle.kdl_comments.specs.Items.{Item, comment, line_end, GapItems, before_entry, before_block, PlaceItems}
 use Rattle.kdl_comments.specs.Written.{lines, tail}
+use Rattle.kdl_fmt.specs.Blank.{at_start}
 use Rattle.kdl_fmt.specs.Comments.{ItemsIn, EndItems, EntriesItems, NodeItems, of_node, ChildrenItems, NodesItems, DocumentItems, of_document}
 use Rattle.kdl_fmt.specs.Config.{Settings, indentation}
 use Rattle.kdl_fmt.specs.Formatted.{with_keep_if, or_empty, or_empty_document, EntriesKeepNone, NodeKeepsNone, ChildrenKeepNone, DocumentKeepsNone, NodesKeepNone}
 use Rattle.kdl_fmt.specs.Kept.{Written, WrittenUnless, KeptEnd, WrittenEnd, KeptBefore, KeptBeforeBlock, last_place, without_bom, entry_leading, is_kept_format}
-use Rattle.kdl_fmt.specs.WithComments.{following, IsFormattedEntry, AreFormattedEntries, ContentTexts, has_block, IsFormattedNode, IsFormattedChildren, AreFormattedNodes, IsFormattedDocument}
+use Rattle.kdl_fmt.specs.Parts.{following, IsFormattedEntry, AreFormattedEntries, has_block}
+use Rattle.kdl_fmt.specs.Spaced.{SpacesContent, IsSpacedNode, IsSpacedChildren, AreSpacedNodes}
+use Rattle.kdl_fmt.specs.WithComments.{IsFormattedDocument, IsFormattedNode}
+use Rattle.kdl_fmt.specs.declared.blank.Before.{Before}
 
 written_in : {Has : List Item → Type 0} {write : List Item → Text} {t : Text} → Written Has write t → (is : List Item) × ItemsIn Has is
 written_in (Written.items {is = is} d) = (is, ItemsIn.items d)
@@ -38,43 +42,46 @@ module _ (s : Settings) (no_keep : s.entry_autoformate_keep ≡ false) (with : s
   entries_have (e ∷ es) (e' ∷ es') f m = let x = entry_has e e' f.0 m.0 in let y = entries_have es es' f.1 m.1 in (x.0 ++ y.0, EntriesItems.an_entry x.1 y.1)
   entries_have (e ∷ es) [] f m = absurd f
 
-  leading_has : (level : ℕ) (f : DocumentFormat) (a b : Text) → ContentTexts s level f a b → (is : List Item) × ItemsIn (GapItems (without_bom f.leading)) is
-  leading_has level f a b k = kept_in s.no_comments with (GapItems (without_bom f.leading)) (lines (indentation s level)) a k.leading
+  leading_has : (level : ℕ) (ns : Nodes) (f : DocumentFormat) (b : Before) (t u : Text) → SpacesContent 0 s level ns f b t u → (is : List Item) × ItemsIn (GapItems (without_bom f.leading)) is
+  leading_has level ns f b t u k = kept_in s.no_comments with (GapItems (without_bom f.leading)) (lines (indentation s level)) t k.leading
 
-  trailing_has : (level : ℕ) (f : DocumentFormat) (a b : Text) → ContentTexts s level f a b → (is : List Item) × ItemsIn (GapItems f.trailing) is
-  trailing_has level f a b k = kept_in s.no_comments with (GapItems f.trailing) (lines (indentation s level)) b k.trailing
+  trailing_has : (level : ℕ) (ns : Nodes) (f : DocumentFormat) (b : Before) (t u : Text) → SpacesContent 0 s level ns f b t u → (is : List Item) × ItemsIn (GapItems f.trailing) is
+  trailing_has level ns f b t u k = kept_in s.no_comments with (GapItems f.trailing) (lines (indentation s level)) u k.trailing
 
   mutual
-    pub node_has : (level : ℕ) (n n' : Node) → IsFormattedNode s level n n' → NodeKeepsNone n → (is : List Item) × NodeItems n is
-    node_has level (node h k) (node h' k') (f, c) m =
+    has_items : (level : ℕ) (b : Before) (n n' : Node) → IsSpacedNode 0 s level b n n' → NodeKeepsNone n → (is : List Item) × NodeItems n is
+    has_items level b (node h k) (node h' k') (f, c) m =
         let (t, kept, line) = f.format in
         let g = or_empty h.format in
-        let a = kept_in s.no_comments with (GapItems g.leading) (lines (indentation s level)) t.before kept.before in
-        let b = entries_have h.entries h'.entries f.entries m.0 in
+        let a = kept_in s.no_comments with (GapItems g.leading) (lines (indentation s level)) kept.lines kept.leading in
+        let es = entries_have h.entries h'.entries f.entries m.0 in
         let x = children_have level g.before_children t.before_block k k' c kept.before_block m.1 in
         let d = kept_in s.no_comments with (PlaceItems (last_place (has_block k)) g.before_terminator) tail t.last kept.last in
         let e = kept_end s.no_comments with g.terminator t.space t.comment kept.end in
         let z = kept_in s.no_comments with (GapItems g.trailing) (lines (indentation s level)) t.following kept.following in
-        (a.0 ++ b.0 ++ x.0 ++ d.0 ++ e.0 ++ z.0, of_node a.1 b.1 x.1 d.1 e.1 z.1)
+        (a.0 ++ es.0 ++ x.0 ++ d.0 ++ e.0 ++ z.0, of_node a.1 es.1 x.1 d.1 e.1 z.1)
 
-    children_have : (level : ℕ) (place t : Text) (k k' : Children) → IsFormattedChildren s level k k' → KeptBeforeBlock s (has_block k) place t → ChildrenKeepNone k → (is : List Item) × ChildrenItems place k is
+    children_have : (level : ℕ) (place t : Text) (k k' : Children) → IsSpacedChildren 0 s level k k' → KeptBeforeBlock s (has_block k) place t → ChildrenKeepNone k → (is : List Item) × ChildrenItems place k is
     children_have level place t no_children k' c b m = ([], ChildrenItems.no_block)
-    children_have level place t (children (document f span ns)) (children (document f' span' ns')) (c, same, nodes, fits) b m =
+    children_have level place t (children (document f span ns)) (children (document f' span' ns')) (b', c, same, nodes, fits) b m =
         let x = kept_in s.no_comments with (PlaceItems before_block place) tail t b in
-        let i = leading_has (level + 1) (or_empty_document f) c.0 c.1 c.2 in
-        let y = nodes_have (level + 1) ns ns' nodes m in
-        let j = trailing_has (level + 1) (or_empty_document f) c.0 c.1 c.2 in
+        let i = leading_has (level + 1) ns (or_empty_document f) b' c.0 c.1 c.2 in
+        let y = nodes_have (level + 1) b' ns ns' nodes m in
+        let j = trailing_has (level + 1) ns (or_empty_document f) b' c.0 c.1 c.2 in
         (x.0 ++ (i.0 ++ y.0 ++ j.0), ChildrenItems.block x.1 (of_document i.1 y.1 j.1))
     children_have level place t (children (document f span ns)) no_children c b m = absurd c
 
-    nodes_have : (level : ℕ) (ns ns' : Nodes) → AreFormattedNodes s level ns ns' → NodesKeepNone ns → (is : List Item) × NodesItems ns is
-    nodes_have level none ns' f m = ([], NodesItems.no_node)
-    nodes_have level (first n ns) (first n' ns') f m = let x = node_has level n n' f.0 m.0 in let y = nodes_have level ns ns' f.1 m.1 in (x.0 ++ y.0, NodesItems.a_node x.1 y.1)
-    nodes_have level (first n ns) none f m = absurd f
+    nodes_have : (level : ℕ) (b : Before) (ns ns' : Nodes) → AreSpacedNodes 0 s level b ns ns' → NodesKeepNone ns → (is : List Item) × NodesItems ns is
+    nodes_have level b none ns' f m = ([], NodesItems.no_node)
+    nodes_have level b (first n ns) (first n' ns') f m = let x = has_items level b n n' f.1 m.0 in let y = nodes_have level f.0 ns ns' f.3 m.1 in (x.0 ++ y.0, NodesItems.a_node x.1 y.1)
+    nodes_have level b (first n ns) none f m = absurd f
+
+  pub node_has : (level : ℕ) (n n' : Node) → IsFormattedNode s level n n' → NodeKeepsNone n → (is : List Item) × NodeItems n is
+  node_has level n n' f m = has_items level at_start n n' f m
 
   pub document_has_items : (level : ℕ) (d d' : Document) → IsFormattedDocument s level d d' → DocumentKeepsNone d → (is : List Item) × DocumentItems d is
-  document_has_items level (document f span ns) (document f' span' ns') (c, same, nodes) m =
-      let i = leading_has level (or_empty_document f) c.0 c.1 c.2 in
-      let y = nodes_have level ns ns' nodes m in
-      let j = trailing_has level (or_empty_document f) c.0 c.1 c.2 in
+  document_has_items level (document f span ns) (document f' span' ns') (b, c, same, nodes) m =
+      let i = leading_has level ns (or_empty_document f) b c.0 c.1 c.2 in
+      let y = nodes_have level b ns ns' nodes m in
+      let j = trailing_has level ns (or_empty_document f) b c.0 c.1 c.2 in
       (i.0 ++ y.0 ++ j.0, of_document i.1 y.1 j.1)

@@ -18,7 +18,7 @@ use Rattle.kdl_fmt.specs.OneLine.{IsLaidDocument, IsLaidNode, braces_in_line, br
 use Rattle.kdl_fmt.specs.Plain.{only_spaces, plain_line}
 use Rattle.kdl_fmt.specs.Respelled.{IsRespelledDocument, IsRespelledNode}
 use Rattle.kdl_fmt.specs.Spaced.{Passes, PassesFormat, PassesNode, PassesNodes, Spaces, SpacedLines, SpacesContent, SpacesTexts, IsSpacedHead, IsSpacedNode, IsSpacedChildren, AreSpacedNodes, IsSpacedDocument}
-use Rattle.kdl_fmt.specs.WithComments.{NodeTexts, content_of}
+use Rattle.kdl_fmt.specs.Parts.{NodeTexts, content_of}
 use Rattle.kdl_fmt.specs.declared.blank.Before.{Before}
 use Rattle.kdl_comments.proofs.Rewriting.LinesAgain.{newline_items}
 use Rattle.kdl_fmt.proofs.Keeping.GapFronts.{alone, joined, newline_if, indented}
@@ -27,7 +27,7 @@ use Rattle.kdl_fmt.proofs.OneLine.Same.{one_or_more, block_stays}
 use Rattle.kdl_fmt.proofs.OneLine.Framed.{IsFramedNode, AreFramedChildren, AreFramedNodes, IsFramedDocument}
 use Rattle.kdl_fmt.proofs.OneLine.Spelled.{document_framed, document_looks, node_framed, node_looks, spaced_framed}
 use Rattle.kdl_fmt.proofs.Respelling.Again as spelled
-use Rattle.kdl_fmt.proofs.Spacing.Lines.{level_spaces}
+use Rattle.kdl_fmt.proofs.Keeping.KeptPlaces.{level_spaces}
 
 format_again : (last : Bool) → line_on_line last (node_in_line last) ≡ true
 unfolding is_space

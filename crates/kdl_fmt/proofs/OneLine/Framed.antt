@@ -6,7 +6,7 @@ use Rattle.kdl_fmt.specs.Config.{Settings}
 use Rattle.kdl_fmt.specs.Formatted.{or_empty, or_empty_document}
 use Rattle.kdl_fmt.specs.OneLine.{entry_on_line, maybe_on_line, name_on_line}
 use Rattle.kdl_fmt.specs.Spaced.{PassesNode, IsSpacedBraced, IsSpacedContent}
-use Rattle.kdl_fmt.specs.WithComments.{has_block}
+use Rattle.kdl_fmt.specs.Parts.{has_block}
 use Rattle.kdl_fmt.specs.declared.blank.Before.{Before}
 use Rattle.kdl_fmt.proofs.Respelling.Written.{IsTypedLine}
 

@@ -21,7 +21,7 @@ use Rattle.kdl_fmt.specs.OneLine.{end_on_line, head_on_line, is_end, line_on_lin
 use Rattle.kdl_fmt.specs.Plain.{only_spaces, plain_line}
 use Rattle.kdl_fmt.specs.Respelled.{TypeTexts, node_type_texts, with_type_texts}
 use Rattle.kdl_fmt.specs.Spaced.{Passes, PassesNode, Spaces, SpacedLines, SpacesTexts}
-use Rattle.kdl_fmt.specs.WithComments.{NodeTexts, line_of}
+use Rattle.kdl_fmt.specs.Parts.{NodeTexts, line_of}
 use Rattle.kdl_fmt.proofs.Respelling.Kept.{OnlySpaces}
 use Rattle.kdl_fmt.proofs.Spacing.Counts.{space_no_newline}
 use Rattle.kdl_fmt.proofs.Respelling.Written.{IsTypedLine}

@@ -25,7 +25,7 @@ use Rattle.kdl_fmt.specs.OneLine.{IsLaidDocument, IsLaidNode, braces_in_line, br
 use Rattle.kdl_fmt.specs.Respelled.{TypeTexts, with_type_texts}
 use Rattle.kdl_fmt.specs.Spaced.{SpacesTexts}
 use Rattle.kdl_fmt.specs.WellFormed.{IsWellFormedNode, AreWellFormed}
-use Rattle.kdl_fmt.specs.WithComments.{NodeTexts, line_of, has_block}
+use Rattle.kdl_fmt.specs.Parts.{NodeTexts, line_of, has_block}
 use Rattle.kdl_fmt.specs.declared.blank.Before.{Before}
 use Rattle.kdl_fmt.proofs.Formatting.CommentsReadBack.{empty_gap}
 use Rattle.kdl_fmt.proofs.Formatting.EntriesRead.{written_reads}

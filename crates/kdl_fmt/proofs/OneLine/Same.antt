@@ -5,7 +5,7 @@ use Rattle.std.specs.Prelude.{if◌then◌else◌, ◌&&◌}
 use Rattle.kdl_grammar.specs.Tree.{Node, node, Children, no_children, children, Document, document, Nodes, none, first}
 use Rattle.kdl_fmt.specs.Formatted.{NodeKeepsNone, ChildrenKeepNone, DocumentKeepsNone, NodesKeepNone}
 use Rattle.kdl_fmt.specs.OneLine.{head_on_line, in_one_line, is_end, is_on_one_line, nodes_in_line, nodes_on_line, one_lined_node, one_lined_children, one_lined_document, one_lined_nodes}
-use Rattle.kdl_fmt.specs.WithComments.{has_block}
+use Rattle.kdl_fmt.specs.Parts.{has_block}
 
 -- a block stays on one line, or not
 pub one_or_more : (P : Document → Type 0) (b : Bool) (x y : Document) → (b ≡ true → P x) → (b ≡ false → P y) → P (if b then x else y)

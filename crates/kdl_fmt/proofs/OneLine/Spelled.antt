@@ -18,7 +18,7 @@ use Rattle.kdl_fmt.specs.OneLine.{braces_on_line, entry_on_line, form_on_line, i
 use Rattle.kdl_fmt.specs.Plain.{no_newline, only_spaces}
 use Rattle.kdl_fmt.specs.Respelled.{KeptSpelling, IsRespelled, IsRespelledIf, text_before, KeptLeading, TypeTexts, KeptTypeTexts, KeepsForm, KeptForm, IsTypedFormat, entry_type_texts, node_type_texts, HasSpellings, HasSpellingsUnless, IsRespelledEntry, AreRespelledEntries, IsRespelledNode, AreRespelledChildren, IsRespelledDocument, AreRespelledNodes}
 use Rattle.kdl_fmt.specs.Spaced.{SpacedLines, IsSpacedBraced, IsSpacedChildren, IsSpacedContent, IsSpacedDocument, IsSpacedNode, AreSpacedNodes}
-use Rattle.kdl_fmt.specs.WithComments.{AreFormattedEntries, IsFormattedEntry, following, has_block}
+use Rattle.kdl_fmt.specs.Parts.{AreFormattedEntries, IsFormattedEntry, following, has_block}
 use Rattle.kdl_fmt.specs.declared.blank.Before.{Before}
 use Rattle.kdl_fmt.proofs.Keeping.KeptReads.{no_place}
 use Rattle.kdl_fmt.proofs.OneLine.Framed.{IsFramedNode, AreFramedChildren, AreFramedNodes, IsFramedDocument}

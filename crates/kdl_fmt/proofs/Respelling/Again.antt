@@ -16,7 +16,7 @@ use Rattle.kdl_fmt.specs.Kept.{Written, WrittenUnless, KeptBefore, is_kept_forma
 use Rattle.kdl_fmt.specs.Plain.{only_spaces}
 use Rattle.kdl_fmt.specs.Respelled.{KeptSpelling, IsRespelled, IsRespelledIf, IsSpelling, text_before, KeptLeading, KeptPlaceIf, TypeTexts, KeptTypeTexts, KeptTypeTextsIf, KeepsForm, KeptForm, entry_type_texts, node_type_texts, with_type_texts, IsTypedFormat, HasSpellings, HasSpellingsUnless, IsRespelledEntry, AreRespelledEntries, IsRespelledHead, IsRespelledNode, AreRespelledChildren, IsRespelledDocument, AreRespelledNodes, IsSpelledNode, IsSpelledDocument}
 use Rattle.kdl_fmt.specs.Spaced.{SpacesContent, IsSpacedLine, IsSpacedHead, PassesNode, PassesFormat, PassesNodes, IsSpacedBraced, IsSpacedNode, IsSpacedChildren, AreSpacedNodes, IsSpacedDocument}
-use Rattle.kdl_fmt.specs.WithComments.{following, IsFormattedEntry, AreFormattedEntries, content_of, has_block}
+use Rattle.kdl_fmt.specs.Parts.{following, IsFormattedEntry, AreFormattedEntries, content_of, has_block}
 use Rattle.kdl_fmt.specs.declared.blank.Before.{Before}
 use Rattle.kdl_fmt.proofs.EntryTexts.{no_format}
 use Rattle.kdl_comments.proofs.Rewriting.PlacesAgain.{tail_spaced}

@@ -10,7 +10,7 @@ use Rattle.kdl_fmt.specs.Config.{Settings}
 use Rattle.kdl_fmt.specs.Formatted.{with_keep_if}
 use Rattle.kdl_fmt.specs.Kept.{is_kept_format}
 use Rattle.kdl_fmt.specs.Respelled.{KeptSpelling, IsRespelledIf, text_before, KeepsForm, KeptForm, HasSpellings, HasSpellingsUnless, IsRespelledEntry, IsSpelledEntry}
-use Rattle.kdl_fmt.specs.WithComments.{following, put_format}
+use Rattle.kdl_fmt.specs.Parts.{following, put_format}
 use Rattle.kdl_fmt.specs.declared.names.Spelling.{Spelling}
 use Rattle.kdl_fmt.proofs.EntryTexts.{no_format}
 use Rattle.kdl_fmt.proofs.Respelling.Written.{plain_format, leading_is, following_name, following_ty, after_value, after_format, unflagged_same}

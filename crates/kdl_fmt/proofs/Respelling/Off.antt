@@ -6,7 +6,7 @@ use Rattle.kdl_grammar.specs.Tree.{Head, Node, node, Children, no_children, chil
 use Rattle.kdl_fmt.specs.Config.{Settings}
 use Rattle.kdl_fmt.specs.Respelled.{IsRespelledIf, AreRespelledEntries, IsRespelledHead, IsRespelledNode, AreRespelledChildren, IsRespelledDocument, AreRespelledNodes}
 use Rattle.kdl_fmt.specs.Spaced.{IsSpacedNode, IsSpacedChildren, AreSpacedNodes, IsSpacedDocument}
-use Rattle.kdl_fmt.specs.WithComments.{AreFormattedEntries}
+use Rattle.kdl_fmt.specs.Parts.{AreFormattedEntries}
 use Rattle.kdl_fmt.specs.declared.blank.Before.{Before}
 
 pub same_if : (o m o' : Option Identifier) → IsRespelledIf false o m o' → o' ≡ m

@@ -21,7 +21,7 @@ use Rattle.kdl_fmt.specs.Kept.{KeptBefore, entry_leading, is_kept_format}
 use Rattle.kdl_fmt.specs.Respelled.{IsSpelling, KeptSpelling, IsRespelled, IsRespelledIf, text_before, IsContinued, KeptLeading, TypeTexts, KeptTypeTextsIf, KeepsForm, KeptForm, entry_type_texts, node_type_texts, with_type_texts, IsTypedFormat, HasSpellings, HasSpellingsUnless, IsRespelledEntry, AreRespelledEntries, IsRespelledNode, AreRespelledChildren, IsRespelledDocument, AreRespelledNodes}
 use Rattle.kdl_fmt.specs.Spaced.{SpacesTexts, IsSpacedLine, IsSpacedNode, IsSpacedChildren, AreSpacedNodes, IsSpacedBraced, IsSpacedContent, IsSpacedDocument}
 use Rattle.kdl_fmt.specs.WellFormed.{AreScalars, IsWellFormedEntry, AreWellFormedEntries, IsWellFormedNode, AreWellFormedChildren, AreWellFormed}
-use Rattle.kdl_fmt.specs.WithComments.{NodeTexts, following, IsFormattedEntry, AreFormattedEntries, has_block, line_of}
+use Rattle.kdl_fmt.specs.Parts.{NodeTexts, following, IsFormattedEntry, AreFormattedEntries, has_block, line_of}
 use Rattle.kdl_fmt.specs.declared.blank.Before.{Before}
 use Rattle.kdl_fmt.proofs.EntryTexts.{name_of, no_format}
 use Rattle.kdl_fmt.proofs.Respelling.Kept.{OnlySpaces, TypeSpaces, bare_types, no_texts, no_type_spaces, place_if_spaces, type_spaces, type_spaces_if}

@@ -1,8 +1,6 @@
 -- What is kept with blank lines is a gap before each other one, and holds the items of its text.
-use Rattle.std.proofs.Common.{◌≡◌, ℕ, zero, suc, Bool, true, false, List, [], ◌∷◌, ◌++◌, map, refl, sym, ap, subst, ◌∙◌, append_assoc, append-nil}
-use Rattle.std.proofs.lemmas.List.Folds.{list_all-append}
-use Rattle.std.specs.Cmp.Derive.{both_true}
-use Rattle.std.specs.List.{list_all, repeat}
+use Rattle.std.proofs.Common.{◌≡◌, ℕ, zero, suc, Bool, true, false, List, [], ◌∷◌, ◌++◌, map, sym, ap, subst, ◌∙◌, append_assoc, append-nil}
+use Rattle.std.specs.List.{list_all}
 use Rattle.std.specs.Prelude.{if◌then◌else◌, min}
 use Rattle.kdl_text.specs.Chars.{Text, is_space, times}
 use Rattle.kdl_grammar.specs.Grammar.{Gap}
@@ -15,10 +13,10 @@ use Rattle.kdl_fmt.specs.Blank.{after_item, blank_lines, empty_lines, past_item,
 use Rattle.kdl_fmt.specs.Comments.{ItemsIn}
 use Rattle.kdl_fmt.specs.Config.{Settings, indentation}
 use Rattle.kdl_fmt.specs.Spaced.{SpacedLines, Spaces, SpacesTexts}
-use Rattle.kdl_fmt.specs.WithComments.{NodeTexts}
+use Rattle.kdl_fmt.specs.Parts.{NodeTexts}
 use Rattle.kdl_fmt.specs.declared.blank.Before.{Before}
 use Rattle.kdl_fmt.proofs.Keeping.GapFronts.{Front, nothing, joined, newline, kept_front}
-use Rattle.kdl_fmt.proofs.Keeping.KeptPlaces.{newline_gap, kept_gap}
+use Rattle.kdl_fmt.proofs.Keeping.KeptPlaces.{level_spaces, newline_gap, kept_gap}
 
 -- empty lines
 pub times_gap : (n : ℕ) → {t r : Text} → Gap true t r → Gap true (times n 10 ++ t) r
@@ -51,11 +49,6 @@ module _ (number : ℕ) (ind : Text) (ok : list_all is_space ind ≡ true) where
 
   pub spaced_gap : (b : Before) (s : Text) {p : Text} (is : List Item) → GapItems p is → {t r : Text} → Gap true t r → Gap true (spaced_lines number ind b s is ++ t) r
   spaced_gap b s is d g = all_gap b s is (gap_items d) g
-
--- indentation of spaces
-pub level_spaces : (indent : Text) → list_all is_space indent ≡ true → (level : ℕ) → list_all is_space (repeat level indent) ≡ true
-level_spaces indent ok zero = refl
-level_spaces indent ok (suc level) = list_all-append is_space indent (repeat level indent) ∙ both_true ok (level_spaces indent ok level)
 
 module _ (s : Settings) (ok : list_all is_space s.indent ≡ true) where
   spaces_kept_gap : (number level : ℕ) (b b' : Before) (place t : Text) → Spaces number s level b place t b' → {u r : Text} → Gap true u r → Gap true (t ++ u) r

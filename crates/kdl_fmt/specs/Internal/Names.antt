@@ -6,7 +6,7 @@ use Rattle.kdl_entry.specs.Tree.{Identifier, EntryFormat, Entry, plain_identifie
 use Rattle.kdl_fmt.specs.Config.{Settings}
 use Rattle.kdl_fmt.specs.Kept.{KeptBefore}
 use Rattle.kdl_fmt.specs.Respelled.{IsRespelled, IsRespelledIf, IsSpelling}
-use Rattle.kdl_fmt.specs.WithComments.{following}
+use Rattle.kdl_fmt.specs.Parts.{following}
 use Rattle.kdl_fmt.specs.declared.names.Spelling.{Spelling}
 use Rattle.kdl_fmt.specs.declared.names.Spelling.TheVariants.{Kept, Removed}
 

@@ -3,7 +3,7 @@ use Rattle.std.specs.Str.{chars}
 use Rattle.kdl_text.specs.Chars.{Text}
 use Rattle.kdl_value.specs.Tree.{text_of}
 use Rattle.kdl_fmt.specs.Formatted.{in_braces}
-use Rattle.kdl_fmt.specs.WithComments.{content_of}
+use Rattle.kdl_fmt.specs.Parts.{content_of}
 use Rattle.kdl_fmt.proofs.Texts.{no_text, newline_text, braces_made}
 use Rattle.kdl_fmt.proofs.layout.braces.Goals as goal
 

@@ -2,7 +2,7 @@ use Rattle.std.proofs.Common.{◌++◌, sym, ap, ◌∙◌}
 use Rattle.kdl_text.specs.Chars.{Text}
 use Rattle.kdl_value.specs.Print.{print_value}
 use Rattle.kdl_value.specs.Tree.{text_of}
-use Rattle.kdl_fmt.specs.WithComments.{following}
+use Rattle.kdl_fmt.specs.Parts.{following}
 use Rattle.kdl_fmt.proofs.Texts.{empty_string, entry_made, space_text}
 use Rattle.kdl_fmt.proofs.layout.format_after.Goals as goal
 

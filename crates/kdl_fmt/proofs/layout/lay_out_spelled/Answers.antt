@@ -5,7 +5,7 @@ use Rattle.kdl_entry.specs.declared.identifier.KdlIdentifier.{KdlIdentifier}
 use Rattle.kdl_fmt.specs.Config.{settings}
 use Rattle.kdl_fmt.specs.Internal.Names.{Keeps, HasSpelling, autoformatted_but}
 use Rattle.kdl_fmt.specs.Respelled.{KeptForm}
-use Rattle.kdl_fmt.specs.WithComments.{following, put_format}
+use Rattle.kdl_fmt.specs.Parts.{following, put_format}
 use Rattle.kdl_fmt.proofs.Respelling.Entries.{respelled_form, spelled_entry, spelled_form, taken_same}
 use Rattle.kdl_fmt.proofs.layout.lay_out_spelled.Goals as goal
 use Rattle.kdl_fmt.proofs.layout.lay_out_spelled.Goals.{then-branch+in_ok-format, else-branch+in_ok-format-2}

@@ -7,7 +7,7 @@ use Rattle.kdl_fmt.specs.Blank.{past_node}
 use Rattle.kdl_fmt.specs.Config.{settings}
 use Rattle.kdl_fmt.specs.Kept.{KeptBeforeBlock, KeptEnd}
 use Rattle.kdl_fmt.specs.Spaced.{SpacedLines}
-use Rattle.kdl_fmt.specs.WithComments.{NodeTexts, line_of}
+use Rattle.kdl_fmt.specs.Parts.{NodeTexts, line_of}
 use Rattle.kdl_fmt.proofs.Keeping.KeptReads.{tail_at}
 use Rattle.kdl_fmt.proofs.Spacing.Reads.{lines_after, lines_as, lines_pass}
 use Rattle.kdl_fmt.proofs.Texts.{line_put, put_text, space_text, newline_text}

@@ -7,7 +7,7 @@ use Rattle.kdl_fmt.specs.declared.one_line.Position.{Position}
 use Rattle.kdl_fmt.proofs.OneLine.Made.{format_made}
 use Rattle.kdl_fmt.proofs.Texts.{ascii_text, space_text}
 use Rattle.kdl_fmt.proofs.one_line.node_in_line.Goals as goal
-use Rattle.kdl_fmt.proofs.one_line.node_in_line.Goals.{in-Inner+in_ok-push_text-3, in-Last+in_ok-push_text-4}
+use Rattle.kdl_fmt.proofs.one_line.node_in_line.Goals.{in-Inner+in_ok-push_text-in-Inner, in-Last+in_ok-push_text-in-Last}
 
 pub returns : goal.returns
 returns c =
@@ -16,13 +16,13 @@ returns c =
     let leading = c.in_ok-push_text.ensures ∙ ap (λ (x : NodeFormat). x.leading ++ chars (32 ∷ [])) new ∙ space_text in
     let block = c.in_ok-push_text-2.ensures ∙ ap (λ (x : NodeFormat). x.before_children ++ chars (32 ∷ [])) new ∙ space_text in
     elim c.match-position.branch [
-      | in-Inner+in_ok-push_text-3 w ↦
-          let end = w.in_ok-push_text-3.ensures ∙ ap (λ (x : NodeFormat). x.terminator ++ chars (59 ∷ [])) new ∙ ascii_text (59 ∷ []) refl in
+      | in-Inner+in_ok-push_text-in-Inner w ↦
+          let end = w.in_ok-push_text-in-Inner.ensures ∙ ap (λ (x : NodeFormat). x.terminator ++ chars (59 ∷ [])) new ∙ ascii_text (59 ∷ []) refl in
           ap node_format_tree w.format-is
           ∙ format_made false f _ _ _ _ new leading block (ap (λ (x : NodeFormat). x.before_terminator) new) end
           ∙ ap (λ (p : Position). node_in_line (is_last p)) (sym w.in-Inner.is)
-      | in-Last+in_ok-push_text-4 w ↦
-          let before = w.in_ok-push_text-4.ensures ∙ ap (λ (x : NodeFormat). x.before_terminator ++ chars (32 ∷ [])) new ∙ space_text in
+      | in-Last+in_ok-push_text-in-Last w ↦
+          let before = w.in_ok-push_text-in-Last.ensures ∙ ap (λ (x : NodeFormat). x.before_terminator ++ chars (32 ∷ [])) new ∙ space_text in
           ap node_format_tree w.format-is
           ∙ format_made true f _ _ _ _ new leading block before (ap (λ (x : NodeFormat). x.terminator) new)
           ∙ ap (λ (p : Position). node_in_line (is_last p)) (sym w.in-Last.is)
