@@ -1,5 +1,6 @@
 //! Completions for shells, made from the table of words.
 
+use crate::text::{push_all, push_escaped};
 use crate::words::{Flag, Values, Word, words};
 use std::alloc::{AllocError, Global};
 
@@ -59,7 +60,9 @@ fn push_values(out: &mut String, values: &[&str]) -> Result<(), AllocError> {
 /// Writes the short name of a flag between two texts, if it has one.
 fn push_short(out: &mut String, flag: &Flag, before: &str, after: &str) -> Result<(), AllocError> {
     if let Some(short) = flag.short {
-        write!(out, "{before}{short}{after}")?;
+        out.push_str(before)?;
+        out.push(short)?;
+        out.push_str(after)?;
     }
     Ok(())
 }
@@ -104,7 +107,7 @@ fn push_bash(out: &mut String, words: &[Word]) -> Result<(), AllocError> {
 fn push_bash_words(out: &mut String, words: &[Word]) -> Result<(), AllocError> {
     for word in words {
         if is_shown(word) {
-            write!(out, "{} ", word.name)?;
+            push_all(out, &[word.name, " "])?;
         }
     }
     Ok(())
@@ -123,11 +126,11 @@ fn push_bash_values(out: &mut String, words: &[Word]) -> Result<(), AllocError> 
 /// Writes what completes the value of a flag, if only some values are allowed.
 fn push_bash_value(out: &mut String, word: &str, flag: &Flag) -> Result<(), AllocError> {
     if let Some((_, Values::OneOf(values))) = flag.value {
-        write!(
-            out,
-            "    '{word} --{}') COMPREPLY=($(compgen -W \"",
-            flag.long
-        )?;
+        out.push_str("    '")?;
+        out.push_str(word)?;
+        out.push_str(" --")?;
+        out.push_str(flag.long)?;
+        out.push_str("') COMPREPLY=($(compgen -W \"")?;
         push_values(out, values)?;
         out.push_str("\" -- \"$this\")); return;;\n")?;
     }
@@ -137,7 +140,10 @@ fn push_bash_value(out: &mut String, word: &str, flag: &Flag) -> Result<(), Allo
 /// Writes what completes the flags of each word.
 fn push_bash_flags(out: &mut String, words: &[Word]) -> Result<(), AllocError> {
     for word in words {
-        write!(out, "    '{} '-*) COMPREPLY=($(compgen -W \"", word.name)?;
+        push_all(
+            out,
+            &["    '", word.name, " '-*) COMPREPLY=($(compgen -W \""],
+        )?;
         push_names(out, word.flags)?;
         out.push_str("--help\" -- \"$this\"));;\n")?;
     }
@@ -148,20 +154,18 @@ fn push_bash_flags(out: &mut String, words: &[Word]) -> Result<(), AllocError> {
 fn push_names(out: &mut String, flags: &[Flag]) -> Result<(), AllocError> {
     for flag in flags {
         push_short(out, flag, "-", " ")?;
-        write!(out, "--{} ", flag.long)?;
+        push_all(out, &["--", flag.long, " "])?;
     }
     Ok(())
 }
 
+/// What single quotes of a shell need.
+const QUOTED: &[(char, &str)] = &[('\'', "'\\''")];
+
 /// Writes a text in single quotes for a shell.
 fn push_quoted(out: &mut String, text: &str) -> Result<(), AllocError> {
     out.push('\'')?;
-    for c in text.chars() {
-        match c {
-            '\'' => out.push_str("'\\''")?,
-            _ => out.push(c)?,
-        }
-    }
+    push_escaped(out, text, QUOTED)?;
     out.push('\'')
 }
 
@@ -183,10 +187,13 @@ fn push_fish_words(out: &mut String, words: &[Word]) -> Result<(), AllocError> {
 
 /// Writes what completes a word.
 fn push_fish_word(out: &mut String, word: &Word) -> Result<(), AllocError> {
-    write!(
+    push_all(
         out,
-        "complete -c kdl -n __fish_use_subcommand -f -a {} -d ",
-        word.name
+        &[
+            "complete -c kdl -n __fish_use_subcommand -f -a ",
+            word.name,
+            " -d ",
+        ],
     )?;
     push_quoted(out, word.about)?;
     out.push('\n')
@@ -204,11 +211,10 @@ fn push_fish_flags(out: &mut String, words: &[Word]) -> Result<(), AllocError> {
 
 /// Writes what completes a flag.
 fn push_fish_flag(out: &mut String, word: &str, flag: &Flag) -> Result<(), AllocError> {
-    write!(
-        out,
-        "complete -c kdl -n '__fish_seen_subcommand_from {word}' -l {}",
-        flag.long
-    )?;
+    out.push_str("complete -c kdl -n '__fish_seen_subcommand_from ")?;
+    out.push_str(word)?;
+    out.push_str("' -l ")?;
+    out.push_str(flag.long)?;
     push_short(out, flag, " -s ", "")?;
     push_fish_value(out, flag)?;
     out.push_str(" -d ")?;
@@ -263,7 +269,7 @@ fn push_zsh(out: &mut String, words: &[Word]) -> Result<(), AllocError> {
 fn push_described(out: &mut String, words: &[Word]) -> Result<(), AllocError> {
     for word in words {
         if is_shown(word) {
-            write!(out, "        '{}:{}'\n", word.name, word.about)?;
+            push_all(out, &["        '", word.name, ":", word.about, "'\n"])?;
         }
     }
     Ok(())
@@ -272,7 +278,7 @@ fn push_described(out: &mut String, words: &[Word]) -> Result<(), AllocError> {
 /// Writes what completes the flags of each word.
 fn push_zsh_words(out: &mut String, words: &[Word]) -> Result<(), AllocError> {
     for word in words {
-        write!(out, "    {}) _arguments", word.name)?;
+        push_all(out, &["    ", word.name, ") _arguments"])?;
         push_zsh_flags(out, word.flags)?;
         out.push_str(" '*:file:_files';;\n")?;
     }
@@ -291,7 +297,8 @@ fn push_zsh_flags(out: &mut String, flags: &[Flag]) -> Result<(), AllocError> {
 /// Writes what completes the short name of a flag, if it has one.
 fn push_zsh_short(out: &mut String, flag: &Flag) -> Result<(), AllocError> {
     if let Some(short) = flag.short {
-        write!(out, " '-{short}")?;
+        out.push_str(" '-")?;
+        out.push(short)?;
         push_explained(out, flag.help)?;
         out.push('\'')?;
     }
@@ -300,7 +307,7 @@ fn push_zsh_short(out: &mut String, flag: &Flag) -> Result<(), AllocError> {
 
 /// Writes what completes the long name of a flag.
 fn push_zsh_flag(out: &mut String, flag: &Flag) -> Result<(), AllocError> {
-    write!(out, " '--{}", flag.long)?;
+    push_all(out, &[" '--", flag.long])?;
     push_explained(out, flag.help)?;
     push_zsh_value(out, flag)?;
     out.push('\'')
@@ -320,16 +327,12 @@ fn push_zsh_value(out: &mut String, flag: &Flag) -> Result<(), AllocError> {
     }
 }
 
+/// What square brackets inside single quotes of zsh need.
+const EXPLAINED: &[(char, &str)] = &[('[', "\\["), (']', "\\]"), ('\'', "'\\''")];
+
 /// Writes a text between `[` and `]` inside single quotes for zsh.
 fn push_explained(out: &mut String, text: &str) -> Result<(), AllocError> {
     out.push('[')?;
-    for c in text.chars() {
-        match c {
-            '[' => out.push_str("\\[")?,
-            ']' => out.push_str("\\]")?,
-            '\'' => out.push_str("'\\''")?,
-            _ => out.push(c)?,
-        }
-    }
+    push_escaped(out, text, EXPLAINED)?;
     out.push(']')
 }

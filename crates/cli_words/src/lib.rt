@@ -3,4 +3,5 @@
 
 pub mod completions;
 pub mod manual;
+mod text;
 pub mod words;

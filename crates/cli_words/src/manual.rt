@@ -1,5 +1,6 @@
 //! The manual page, made from the table of words.
 
+use crate::text::push_all;
 use crate::words::{ABOUT, Count, Flag, Operand, VERSION, Word, words};
 use std::alloc::{AllocError, Global};
 
@@ -27,9 +28,15 @@ pub fn manual(alloc: Global) -> Result<String, AllocError> {
 }
 
 fn push_manual(out: &mut String, words: &[Word]) -> Result<(), AllocError> {
-    write!(
+    push_all(
         out,
-        ".TH KDL 1 \"\" \"kdl {VERSION}\"\n.SH NAME\nkdl \\- {ABOUT}\n.SH SYNOPSIS\n"
+        &[
+            ".TH KDL 1 \"\" \"kdl ",
+            VERSION,
+            "\"\n.SH NAME\nkdl \\- ",
+            ABOUT,
+            "\n.SH SYNOPSIS\n",
+        ],
     )?;
     push_synopses(out, words)?;
     out.push_str(".SH WORDS\n")?;
@@ -49,7 +56,7 @@ fn push_synopses(out: &mut String, words: &[Word]) -> Result<(), AllocError> {
 
 /// Writes the line of a word with its flags and operands.
 fn push_synopsis(out: &mut String, word: &Word) -> Result<(), AllocError> {
-    write!(out, ".B kdl {}\n", word.name)?;
+    push_all(out, &[".B kdl ", word.name, "\n"])?;
     if !word.flags.is_empty() {
         out.push_str("[\\fIFLAGS\\fR]\n")?;
     }
@@ -66,12 +73,12 @@ fn push_operands(out: &mut String, operands: &[Operand]) -> Result<(), AllocErro
 }
 
 fn push_operand(out: &mut String, operand: &Operand) -> Result<(), AllocError> {
-    let name = operand.name;
-    match operand.count {
-        Count::Once => write!(out, "\\fI{name}\\fR\n"),
-        Count::AtMostOnce => write!(out, "[\\fI{name}\\fR]\n"),
-        Count::AnyNumber => write!(out, "[\\fI{name}\\fR]...\n"),
-    }
+    let (before, after) = match operand.count {
+        Count::Once => ("\\fI", "\\fR\n"),
+        Count::AtMostOnce => ("[\\fI", "\\fR]\n"),
+        Count::AnyNumber => ("[\\fI", "\\fR]...\n"),
+    };
+    push_all(out, &[before, operand.name, after])
 }
 
 /// Writes a section for each word.
@@ -84,7 +91,7 @@ fn push_words(out: &mut String, words: &[Word]) -> Result<(), AllocError> {
 
 /// Writes the section of a word.
 fn push_word(out: &mut String, word: &Word) -> Result<(), AllocError> {
-    write!(out, ".SS {}\n", word.name)?;
+    push_all(out, &[".SS ", word.name, "\n"])?;
     push_text(out, word.about)?;
     out.push_str(".\n")?;
     push_flags(out, word.flags)?;
@@ -111,7 +118,7 @@ fn push_all_details(out: &mut String, operands: &[Operand]) -> Result<(), AllocE
 
 /// Writes what an operand is.
 fn push_details(out: &mut String, operand: &Operand) -> Result<(), AllocError> {
-    write!(out, ".TP\n.I {}\n", operand.name)?;
+    push_all(out, &[".TP\n.I ", operand.name, "\n"])?;
     if operand.details.is_empty() {
         push_text(out, operand.help)?;
         return out.push('\n');
@@ -137,12 +144,14 @@ fn push_flag(out: &mut String, flag: &Flag) -> Result<(), AllocError> {
 fn push_names(out: &mut String, flag: &Flag) -> Result<(), AllocError> {
     out.push_str(".TP\n\\fB")?;
     if let Some(short) = flag.short {
-        write!(out, "\\-{short}\\fR, \\fB")?;
+        out.push_str("\\-")?;
+        out.push(short)?;
+        out.push_str("\\fR, \\fB")?;
     }
     out.push_str("\\-\\-")?;
     push_text(out, flag.long)?;
     match flag.value {
-        Some((name, _)) => write!(out, "\\fR \\fI{name}\\fR\n"),
+        Some((name, _)) => push_all(out, &["\\fR \\fI", name, "\\fR\n"]),
         None => out.push_str("\\fR\n"),
     }
 }
