@@ -2,5 +2,6 @@
 //! contract, or a part of it, as in `call_contracts`.
 #![tactic(auto)]
 
+pub mod entries;
 pub mod formatting;
 pub mod paths;

@@ -113,17 +113,33 @@ fn with_child(
     child: KdlNode,
     depth: usize,
 ) -> Result<KdlNode, AllocError> {
+    let block = block_of(child, lines_around(alloc, depth)?)?;
+    node.set_format(before_block(alloc)?);
+    node.set_children(block);
+    Ok(node)
+}
+
+/// Returns the texts before and after the nodes of a block, which is that of a node at that depth.
+fn lines_around(alloc: Global, depth: usize) -> Result<KdlDocumentFormat, AllocError> {
     let mut around = KdlDocumentFormat::new(alloc);
     around.leading = line_start(alloc, depth.saturating_add(1))?;
     around.trailing = line_start(alloc, depth)?;
-    let mut block = KdlDocument::new(alloc);
-    block.set_format(around);
+    Ok(around)
+}
+
+/// Returns a block with the child and the texts around it.
+fn block_of(child: KdlNode, around: KdlDocumentFormat) -> Result<KdlDocument, AllocError> {
+    let mut block = KdlDocument::new(*around.leading.allocator());
     block.nodes_mut().push(child)?;
+    block.set_format(around);
+    Ok(block)
+}
+
+/// Returns the format of a node with a space before its block, and no other text.
+fn before_block(alloc: Global) -> Result<KdlNodeFormat, AllocError> {
     let mut format = KdlNodeFormat::new(alloc);
     format.before_children = String::from_str(alloc, " ")?;
-    node.set_format(format);
-    node.set_children(block);
-    Ok(node)
+    Ok(format)
 }
 
 /// Returns a newline, and four spaces for each level.
