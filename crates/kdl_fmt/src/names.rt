@@ -14,7 +14,7 @@ use std::mem;
 
 /// What layout does with a spelling.
 #[derive(Clone, Copy)]
-pub enum Spelling {
+pub enum SpellingRule {
     /// It stays.
     Kept,
     /// It is removed.
@@ -27,20 +27,20 @@ pub fn name_spelling(
     alloc: Global,
     layout: &Layout,
     identifier: &KdlIdentifier,
-) -> Result<Spelling, AllocError>
+) -> Result<SpellingRule, AllocError>
     ensures { IfOk result (λ spelling.
         KeepsName layout.now.keep_spelling (identifier_tree identifier.now) spelling) }
 {
     if !layout.keep_spelling {
-        return Ok(Spelling::Removed);
+        return Ok(SpellingRule::Removed);
     }
     let Some(repr) = identifier.repr() else {
-        return Ok(Spelling::Removed);
+        return Ok(SpellingRule::Removed);
     };
     if spells_text(alloc, repr, identifier.value())? {
-        return Ok(Spelling::Kept);
+        return Ok(SpellingRule::Kept);
     }
-    Ok(Spelling::Removed)
+    Ok(SpellingRule::Removed)
 }
 
 /// The same of a key or a type, if there is one.
@@ -48,13 +48,13 @@ pub fn name_spelling_if(
     alloc: Global,
     layout: &Layout,
     identifier: Option<&KdlIdentifier>,
-) -> Result<Spelling, AllocError>
+) -> Result<SpellingRule, AllocError>
     ensures { IfOk result (λ spelling. Keeps layout.now.keep_spelling
         (option_map (λ i. identifier_tree i.now) identifier.entry) spelling) }
 {
     match identifier {
         Some(identifier) => name_spelling(alloc, layout, identifier),
-        None => Ok(Spelling::Removed),
+        None => Ok(SpellingRule::Removed),
     }
 }
 
@@ -63,31 +63,31 @@ pub fn type_spelling(
     alloc: Global,
     layout: &Layout,
     ty: &Option<KdlIdentifier>,
-) -> Result<Spelling, AllocError>
+) -> Result<SpellingRule, AllocError>
     ensures { IfOk result (λ spelling. Keeps layout.now.keep_spelling
         (option_map identifier_tree ty.now) spelling) }
 {
     match ty {
         Some(ty) => name_spelling(alloc, layout, ty),
-        None => Ok(Spelling::Removed),
+        None => Ok(SpellingRule::Removed),
     }
 }
 
 /// Removes the spelling of the identifier, unless it is kept.
-pub fn respell(identifier: &mut KdlIdentifier, spelling: Spelling)
+pub fn respell(identifier: &mut KdlIdentifier, spelling: SpellingRule)
     ensures spelled { identifier_tree identifier.new ≡
         with_spelling spelling (identifier_tree identifier.old) }
     ensures same { unspelled (identifier_tree identifier.new) ≡
         unspelled (identifier_tree identifier.old) }
 {
     match spelling {
-        Spelling::Kept => {}
-        Spelling::Removed => identifier.clear_format(),
+        SpellingRule::Kept => {}
+        SpellingRule::Removed => identifier.clear_format(),
     }
 }
 
 /// The same of a type, if there is one.
-pub fn respell_type(ty: &mut Option<KdlIdentifier>, spelling: Spelling)
+pub fn respell_type(ty: &mut Option<KdlIdentifier>, spelling: SpellingRule)
     ensures spelled { option_map identifier_tree ty.new ≡
         with_spelling_if spelling (option_map identifier_tree ty.old) }
     ensures same { option_map unspelled (option_map identifier_tree ty.new) ≡
@@ -124,7 +124,12 @@ fn take_type(alloc: Global, entry: &mut KdlEntry) -> Option<KdlIdentifier>
 
 /// Removes the format of an entry, as `KdlEntry::autoformat` does, and the spellings of its key and its type unless
 /// they are kept.
-pub(crate) fn autoformat_but(alloc: Global, entry: &mut KdlEntry, key: Spelling, ty: Spelling)
+pub(crate) fn autoformat_but(
+    alloc: Global,
+    entry: &mut KdlEntry,
+    key: SpellingRule,
+    ty: SpellingRule,
+)
     ensures { entry_tree entry.new ≡ autoformatted_but key ty (entry_tree entry.old) }
 {
     let old_key = take_key(alloc, entry);

@@ -21,7 +21,7 @@ use Rattle.kdl_fmt.specs.Spaced.{IsSpacedBraced, IsSpacedChildren, IsSpacedLine}
 use Rattle.kdl_fmt.specs.WellFormed.{IsWellFormedNode}
 use Rattle.kdl_fmt.specs.declared.blank.Before.{Before}
 use Rattle.kdl_fmt.specs.declared.config.Layout.{Layout}
-use Rattle.kdl_fmt.specs.declared.names.Spelling.{Spelling}
+use Rattle.kdl_fmt.specs.declared.names.SpellingRule.{SpellingRule}
 use Rattle.kdl_fmt.proofs.Formatting.PartsRead as parts
 use Rattle.kdl_fmt.proofs.Formatting.PartsRead.{AreLined, braced_reads}
 use Rattle.kdl_fmt.proofs.OneLine.Reads.{content_ends, one_line_reads}
@@ -187,7 +187,7 @@ module _ (l : Layout) (m n : KdlNode) (is : (out-KdlNode m).children ≡ (out-Kd
       subst (λ (o : Option KdlDocument). StaysAs (settings l.config) (node H (filled_block o ms)) (node H (with_texts (braces_of g) (filled_block o (lined g ms))))) (sym is) (f H)
 
 pub own_spaced : (l : Layout) (m n : KdlNode) (level : ℕ) (c : Before) (b : Bool) (g : Option Around) (ms : List Node) → b ≡ is_some (out-KdlNode n).children
-    → (keeps_type keeps_name : Spelling) → Keeps l.keep_spelling (option_map identifier_tree (out-KdlNode n).ty) keeps_type → KeepsName l.keep_spelling (identifier_tree (out-KdlNode n).name) keeps_name
+    → (keeps_type keeps_name : SpellingRule) → Keeps l.keep_spelling (option_map identifier_tree (out-KdlNode n).ty) keeps_type → KeepsName l.keep_spelling (identifier_tree (out-KdlNode n).name) keeps_name
     → option_map identifier_tree (out-KdlNode m).ty ≡ with_spelling_if keeps_type (option_map identifier_tree (out-KdlNode n).ty)
     → identifier_tree (out-KdlNode m).name ≡ with_spelling keeps_name (identifier_tree (out-KdlNode n).name)
     → AreSpelledEntries l.keep_spelling (settings l.config) (map entry_tree (out-KdlNode n).entries.items) (map entry_tree (out-KdlNode m).entries.items)

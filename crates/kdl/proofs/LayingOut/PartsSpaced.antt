@@ -16,7 +16,7 @@ use Rattle.kdl_parts.specs.declared.format.KdlNodeFormat.{KdlNodeFormat}
 use Rattle.kdl_fmt.specs.Formatted.{or_empty, or_empty_document, bare_node, bare_nodes, bare_document}
 use Rattle.kdl_fmt.specs.WellFormed.{IsWellFormedNode, AreWellFormed, AreWellFormedChildren, AreWellFormedEntries}
 use Rattle.kdl_fmt.specs.WithComments.{has_block}
-use Rattle.kdl_fmt.specs.declared.names.Spelling.{Spelling}
+use Rattle.kdl_fmt.specs.declared.names.SpellingRule.{SpellingRule}
 use Rattle.kdl_fmt.proofs.Entries.{scalars}
 use Rattle.kdl_parts.specs.Formats.{node_format_tree, node_texts, document_format_tree}
 use Rattle.kdl.specs.Iterators.{child_nodes, nodes_in}
@@ -82,7 +82,7 @@ respelled_block keep s (Some d) x xs ms r = rw (document_tree_out d) (refl, refl
 -- a node of which the parts are known
 module _ (m n : KdlNode) where
   pub laid_node : (keep : Bool) (number : ℕ) (s : Settings) (level : ℕ) (c : Before) (b : Bool) (xs ms : List Node) → b ≡ is_some (out-KdlNode n).children
-      → (keeps_type keeps_name : Spelling) → Keeps keep (option_map identifier_tree (out-KdlNode n).ty) keeps_type → KeepsName keep (identifier_tree (out-KdlNode n).name) keeps_name
+      → (keeps_type keeps_name : SpellingRule) → Keeps keep (option_map identifier_tree (out-KdlNode n).ty) keeps_type → KeepsName keep (identifier_tree (out-KdlNode n).name) keeps_name
       → option_map identifier_tree (out-KdlNode m).ty ≡ with_spelling_if keeps_type (option_map identifier_tree (out-KdlNode n).ty)
       → identifier_tree (out-KdlNode m).name ≡ with_spelling keeps_name (identifier_tree (out-KdlNode n).name)
       → AreSpelledEntries keep s (map entry_tree (out-KdlNode n).entries.items) (map entry_tree (out-KdlNode m).entries.items)

@@ -17,7 +17,7 @@ use Rattle.kdl_fmt.proofs.Entries.{scalars}
 use Rattle.kdl_fmt.proofs.Formatting.PartsRead.{document_reads, own_reads}
 use Rattle.kdl_fmt.proofs.Respelling.Written.{NameReads, NameReadsIf, respelled_reads, respelled_reads_if, typed_line}
 use Rattle.kdl_fmt.specs.Respelled.{IsRespelledIf, IsTypedFormat}
-use Rattle.kdl_fmt.specs.declared.names.Spelling.{Spelling}
+use Rattle.kdl_fmt.specs.declared.names.SpellingRule.{SpellingRule}
 use Rattle.kdl_grammar.specs.ReadsBack.{Rests, Anything, AddsNothing, EntryReads, IsGapBefore, last_rests, NodesRead, last_node, next_node, ContentReads, two_texts, with_nodes as content_nodes, BlockReads, block, DocumentReads}
 use Rattle.kdl_grammar.specs.Tree.{DocumentFormat, NodeFormat, Head, Node, node, children_of, document, Nodes, none, first, listed_nodes}
 use Rattle.kdl_grammar.proofs.ReadingBack.Composing.{block_reads, entries_read, with_block}
@@ -176,7 +176,7 @@ end_stays l ok above outer inner b n m h g e is all level c olds u =
 
 -- a node of which all but the block is laid out
 pub own_stays : (l : Layout) → list_all is_space (settings l.config).indent ≡ true → (level : ℕ) (c : Before) (n m : KdlNode) (b : Bool) → b ≡ is_some (out-KdlNode n).children
-    → (keeps_type keeps_name : Spelling) → Keeps l.keep_spelling (option_map identifier_tree (out-KdlNode n).ty) keeps_type → KeepsName l.keep_spelling (identifier_tree (out-KdlNode n).name) keeps_name
+    → (keeps_type keeps_name : SpellingRule) → Keeps l.keep_spelling (option_map identifier_tree (out-KdlNode n).ty) keeps_type → KeepsName l.keep_spelling (identifier_tree (out-KdlNode n).name) keeps_name
     → option_map identifier_tree (out-KdlNode m).ty ≡ with_spelling_if keeps_type (option_map identifier_tree (out-KdlNode n).ty)
     → identifier_tree (out-KdlNode m).name ≡ with_spelling keeps_name (identifier_tree (out-KdlNode n).name)
     → (f : Option NodeFormat) → IsSpacedLine l.blank_lines (settings l.config) level b c (or_empty (option_map node_format_tree (out-KdlNode n).format)) f

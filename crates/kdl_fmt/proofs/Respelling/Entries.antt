@@ -11,19 +11,19 @@ use Rattle.kdl_fmt.specs.Formatted.{with_keep_if}
 use Rattle.kdl_fmt.specs.Kept.{is_kept_format}
 use Rattle.kdl_fmt.specs.Respelled.{KeptSpelling, IsRespelledIf, text_before, KeepsForm, KeptForm, HasSpellings, HasSpellingsUnless, IsRespelledEntry, IsSpelledEntry}
 use Rattle.kdl_fmt.specs.Parts.{following, put_format}
-use Rattle.kdl_fmt.specs.declared.names.Spelling.{Spelling}
+use Rattle.kdl_fmt.specs.declared.names.SpellingRule.{SpellingRule}
 use Rattle.kdl_fmt.proofs.EntryTexts.{no_format}
 use Rattle.kdl_fmt.proofs.Respelling.Written.{plain_format, leading_is, following_name, following_ty, after_value, after_format, unflagged_same}
 use Rattle.kdl_fmt.proofs.Respelling.Leaves.{entry_stays}
 
 -- whether the spelling of a name is kept
-pub name_kept : (i : Identifier) (t : Text) → Some t ≡ i.repr → IsIdentifierText t i.value → KeepsName true i Spelling.Kept
+pub name_kept : (i : Identifier) (t : Text) → Some t ≡ i.repr → IsIdentifierText t i.value → KeepsName true i SpellingRule.Kept
 name_kept i t e h = (Some t, subst (λ (o : Option Text). KeptSpelling i.value o (Some t)) e (KeptSpelling.kept h), ap (λ (o : Option Text). record i { repr = o }) (sym e))
 
-pub name_removed : (i : Identifier) (t : Text) → Some t ≡ i.repr → (IsIdentifierText t i.value → ⊥) → KeepsName true i Spelling.Removed
+pub name_removed : (i : Identifier) (t : Text) → Some t ≡ i.repr → (IsIdentifierText t i.value → ⊥) → KeepsName true i SpellingRule.Removed
 name_removed i t e h = (None, subst (λ (o : Option Text). KeptSpelling i.value o None) e (KeptSpelling.other h), refl)
 
-pub no_name_kept : (i : Identifier) → None ≡ i.repr → KeepsName true i Spelling.Removed
+pub no_name_kept : (i : Identifier) → None ≡ i.repr → KeepsName true i SpellingRule.Removed
 no_name_kept i e = (None, subst (λ (o : Option Text). KeptSpelling i.value o None) e KeptSpelling.unspelled, refl)
 
 -- the parts of an entry with another format
@@ -48,14 +48,14 @@ after_span [] e = refl
 after_span (c ∷ t) e = refl
 
 -- an entry whose spelling was taken out
-pub taken_same : (key ty : Spelling) (e : Entry) → is_kept_format e.format ≡ false → autoformatted_but key ty (record e { format = option_map without_value e.format }) ≡ autoformatted_but key ty e
+pub taken_same : (key ty : SpellingRule) (e : Entry) → is_kept_format e.format ≡ false → autoformatted_but key ty (record e { format = option_map without_value e.format }) ≡ autoformatted_but key ty e
 taken_same key ty e n = ap (λ (o : Option EntryFormat). record (autoformatted_but key ty e) { format = o }) (go e.format n ∙ sym (no_format e.format n))
   where
     go : (o : Option EntryFormat) → is_kept_format o ≡ false → autoformatted_format (option_map without_value o) ≡ None
     go None n = refl
     go (Some f) n = rw n refl
 
-module _ (s : Settings) (e : Entry) (t : Text) (key ty : Spelling) (unflagged : is_kept_format e.format ≡ false) where
+module _ (s : Settings) (e : Entry) (t : Text) (key ty : SpellingRule) (unflagged : is_kept_format e.format ≡ false) where
   abbrev mid : Entry
   mid = following t (autoformatted e)
 

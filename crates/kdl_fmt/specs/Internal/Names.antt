@@ -7,28 +7,28 @@ use Rattle.kdl_fmt.specs.Config.{Settings}
 use Rattle.kdl_fmt.specs.Kept.{KeptBefore}
 use Rattle.kdl_fmt.specs.Respelled.{IsRespelled, IsRespelledIf, IsSpelling}
 use Rattle.kdl_fmt.specs.Parts.{following}
-use Rattle.kdl_fmt.specs.declared.names.Spelling.{Spelling}
-use Rattle.kdl_fmt.specs.declared.names.Spelling.TheVariants.{Kept, Removed}
+use Rattle.kdl_fmt.specs.declared.names.SpellingRule.{SpellingRule}
+use Rattle.kdl_fmt.specs.declared.names.SpellingRule.TheVariants.{Kept, Removed}
 
 -- the identifier, with its spelling only if that is kept
-abbrev pub with_spelling : Spelling → Identifier → Identifier
+abbrev pub with_spelling : SpellingRule → Identifier → Identifier
 with_spelling Kept i = i
 with_spelling Removed i = unspelled i
 
 -- the same of a key or a type, if there is one
-abbrev pub with_spelling_if : Spelling → Option Identifier → Option Identifier
+abbrev pub with_spelling_if : SpellingRule → Option Identifier → Option Identifier
 with_spelling_if x o = option_map (with_spelling x) o
 
 -- what is done with the spelling of a name
-abbrev pub KeepsName : Bool → Identifier → Spelling → Type 0
+abbrev pub KeepsName : Bool → Identifier → SpellingRule → Type 0
 KeepsName keep i x = IsRespelled keep i (unspelled i) (with_spelling x i)
 
 -- the same of a key or a type, if there is one
-abbrev pub Keeps : Bool → Option Identifier → Spelling → Type 0
+abbrev pub Keeps : Bool → Option Identifier → SpellingRule → Type 0
 Keeps keep o x = IsRespelledIf keep o (option_map unspelled o) (with_spelling_if x o)
 
 -- an entry without format, with the spellings of its key and its type only if these are kept
-abbrev pub autoformatted_but : Spelling → Spelling → Entry → Entry
+abbrev pub autoformatted_but : SpellingRule → SpellingRule → Entry → Entry
 autoformatted_but key ty e = record (autoformatted e) { name = with_spelling_if key e.name; ty = with_spelling_if ty e.ty }
 
 -- e' is e, laid out as its format says, without spellings unless the entry is flagged to keep its form
