@@ -1,5 +1,5 @@
 -- Edits: from what the changes make to what the calls say.
-use Rattle.std.proofs.Common.{◌≡◌, ℕ, List, [], ◌∷◌, ◌++◌, Option, None, Some, IfErr, IfOk, IfSome, OnErr, OnOk, Result, Ok, Err, ap, ◌∙◌, sym, subst, option_map, slice_get, String, Global, true}
+use Rattle.std.proofs.Common.{◌≡◌, ℕ, List, [], ◌∷◌, ◌++◌, Option, None, Some, IfErr, IfOk, IfSome, OnErr, OnOk, Result, Ok, Err, ap, ◌∙◌, sym, subst, option_map, slice_get, String, Global}
 use Rattle.std.specs.Prelude.{option_and_then}
 use Rattle.kdl_text.specs.Chars.{Text}
 use Rattle.kdl_entry.specs.Laid.{LaidEntryText}

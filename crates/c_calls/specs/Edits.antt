@@ -1,6 +1,6 @@
 -- The result of each edit of a node, of an entry, or of a document.
 use Rattle.std.specs.List.{insert, remove}
-use Rattle.std.specs.Prelude.{◌≡◌, ◌<◌, ◌≤◌, ◌-◌, ◌^◌, ℕ, zero, suc, List, [], ◌∷◌, Option, None, Some, IfSome, length, option_map, slice_get, true}
+use Rattle.std.specs.Prelude.{◌≡◌, ◌<◌, ◌≤◌, ◌-◌, ◌^◌, ℕ, zero, suc, List, [], ◌∷◌, Option, None, Some, IfSome, length, option_map, slice_get}
 use Rattle.kdl.specs.Words.{ChildPut, Entry, EntryFormat, IsPut, PrintsPut, PrintsWithout, Text, Value, cleared, plain_identifier, said_with, said_without}
 use Rattle.kdl.specs.Words.{LaidEntryText, LaidNodeText, document_says, entry_tree, identifier_tree, node_says, node_tree}
 use Rattle.kdl.specs.Words.{block_of, child_nodes, entries_of, held_entries, held_nodes, nodes_of, with_children, with_entries, with_name, with_nodes, with_ty}

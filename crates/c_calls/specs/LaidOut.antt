@@ -1,5 +1,5 @@
 -- What documents print after they are formatted.
-use Rattle.std.specs.Prelude.{◌≡◌, true}
+use Rattle.std.specs.Prelude.{◌≡◌}
 use Rattle.kdl.specs.Words.{CommentsStay, DocumentLaidOut, IsDocument, LaidDocument, Text, defaults, document_prints, document_says, document_tree}
 use Rattle.kdl.specs.declared.document.KdlDocument.{KdlDocument}
 

@@ -1,5 +1,5 @@
 -- Texts that are read as documents, nodes, entries or values.
-use Rattle.std.specs.Prelude.{◌≡◌, ◌⊎◌, ℕ, zero, suc, List, [], ◌∷◌, codes, length, true}
+use Rattle.std.specs.Prelude.{◌≡◌, ◌⊎◌, ℕ, zero, suc, List, [], ◌∷◌, codes, length}
 use Rattle.std.specs.Str.{chars}
 use Rattle.kdl.specs.Words.{EntryData, IsDocument, IsEntryText, IsNodeText, NodeData, Nodes, Tells, Text, Value}
 use Rattle.c_calls.specs.Entries.{IsValueText}

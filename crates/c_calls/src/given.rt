@@ -10,7 +10,7 @@ ghost use Rattle.c_calls.specs.Edits.{text_if};
 ghost use Rattle.c_calls.specs.Internal.Given.{IsCleared, IsPlain, IsSpelled};
 ghost use Rattle.kdl_value.specs.Tree.{text_of};
 ghost use Rattle.c_calls.specs.declared.status.Unread.TheVariants.{Faults, NotUtf8};
-ghost use Rattle.std.specs.Prelude.{◌≡◌, IfErr, IfOk, IfSome, false, option_map, true};
+ghost use Rattle.std.specs.Prelude.{◌≡◌, IfErr, IfOk, IfSome, false, option_map};
 ghost use Rattle.std.specs.Str.{IsUtf8, chars};
 
 use crate::status::Unread;

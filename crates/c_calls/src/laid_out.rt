@@ -2,7 +2,7 @@
 
 ghost use Rattle.kdl.specs.Words.{CommentsStay, DocumentKeepsNoForm, DocumentKeepsReading, DocumentLaidOut, DocumentReadsBack, IsDocument, Text, canonical_text, defaults, document_prints, document_says, document_tree, without_comments};
 ghost use Rattle.c_calls.specs.LaidOut.{IsLaidOut};
-ghost use Rattle.std.specs.Prelude.{◌≡◌, IfOk, string_bytes, true};
+ghost use Rattle.std.specs.Prelude.{◌≡◌, IfOk, string_bytes};
 ghost use Rattle.std.specs.Str.{encode_utf8_all};
 
 use crate::status::{OK, OUT_OF_MEMORY};

@@ -8,7 +8,7 @@ ghost use Rattle.kdl_grammar.specs.Grammar.{IsDocument};
 ghost use Rattle.kdl_grammar.specs.Print.{print_document};
 ghost use Rattle.kdl_grammar.specs.Tree.{Document, document_data};
 ghost use Rattle.kdl_text.specs.Failures.{IsSyntax};
-ghost use Rattle.std.specs.Prelude.{◌≡◌, IfOk, true};
+ghost use Rattle.std.specs.Prelude.{◌≡◌, IfOk};
 ghost use Rattle.std.specs.Str.{chars};
 
 use kdl::{KdlDocument, ParseFailure};

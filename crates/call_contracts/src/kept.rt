@@ -4,7 +4,7 @@ ghost use Rattle.kdl.specs.Layout.{DocumentKeepsNoForm};
 ghost use Rattle.kdl.specs.Tree.{document_prints, document_says, document_tree};
 ghost use Rattle.kdl_fmt.specs.Comments.{CommentsStay};
 ghost use Rattle.kdl_grammar.specs.Grammar.{IsDocument};
-ghost use Rattle.std.specs.Prelude.{◌≡◌, OnOk, true};
+ghost use Rattle.std.specs.Prelude.{◌≡◌, OnOk};
 
 use kdl::KdlDocument;
 use std::alloc::AllocError;

@@ -11,7 +11,7 @@ ghost use Rattle.kdl_grammar.specs.Laid.{LaidDocument};
 ghost use Rattle.kdl_text.specs.Chars.{Text};
 ghost use Rattle.kdl_text.specs.Failures.{IsSyntax, TellsOnSyntax};
 ghost use Rattle.kdl_text.specs.Spans.{raise};
-ghost use Rattle.std.specs.Prelude.{◌+◌, ◌*◌, ◌≤◌, IfOk, OnOk, length, true};
+ghost use Rattle.std.specs.Prelude.{◌+◌, ◌*◌, ◌≤◌, IfOk, OnOk, length};
 ghost use Rattle.std.specs.Str.{chars};
 
 use kdl::{KdlDocument, KdlEntry, KdlIdentifier, KdlNode, ParseFailure, Steps};

@@ -1,5 +1,5 @@
 -- What a check finds in files.
-use Rattle.std.specs.Prelude.{◌≡◌, ◌<◌, ℕ, max, List, [], ◌∷◌, ◌++◌, IsUtf8, Some, chars, true}
+use Rattle.std.specs.Prelude.{◌≡◌, ◌<◌, ℕ, max, List, [], ◌∷◌, ◌++◌, IsUtf8, Some, chars}
 use Rattle.kdl.specs.Words.{IsDocument, Nodes}
 use Rattle.cli_world.specs.Files.{Files}
 use Rattle.cli_world.specs.Statuses.{code_of}

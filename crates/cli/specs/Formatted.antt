@@ -1,6 +1,6 @@
 -- What layout makes of a text, by the settings of the program.
 use Rattle.std.specs.List.{repeat}
-use Rattle.std.specs.Prelude.{◌≡◌, ◌∷◌, [], not, true}
+use Rattle.std.specs.Prelude.{◌≡◌, ◌∷◌, [], not}
 use Rattle.cli.specs.declared.settings.Indent.{Indent}
 use Rattle.cli.specs.declared.settings.Indent.TheVariants.{Spaces, Tab}
 use Rattle.cli.specs.declared.settings.Settings.{Settings}

@@ -1,6 +1,6 @@
 -- What becomes of files that are formatted.
 use Rattle.std.specs.Io.KnownBytes.{Appends}
-use Rattle.std.specs.Prelude.{◌≡◌, ◌⊎◌, ℕ, max, Contains, List, [], ◌∷◌, ◌++◌, IsUtf8, Option, Some, chars, true}
+use Rattle.std.specs.Prelude.{◌≡◌, ◌⊎◌, ℕ, max, Contains, List, [], ◌∷◌, ◌++◌, IsUtf8, Option, Some, chars}
 use Rattle.kdl.specs.Words.{IsDocument, Nodes}
 use Rattle.cli_world.specs.Files.{Files, Has}
 use Rattle.cli_world.specs.Statuses.{code_of}

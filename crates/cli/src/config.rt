@@ -2,7 +2,7 @@
 
 ghost use Rattle.cli.specs.Config.{IsRefused};
 ghost use Rattle.kdl.specs.Words.{IsDocument, Nodes};
-ghost use Rattle.std.specs.Prelude.{chars, true};
+ghost use Rattle.std.specs.Prelude.{chars};
 
 use crate::settings::{Given, Indent};
 use kdl::{KdlDocument, KdlError, KdlNode, KdlValue, ParseFailure, SourceSpan};

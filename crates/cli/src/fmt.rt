@@ -2,7 +2,7 @@
 
 ghost use Rattle.cli.specs.Formatted.{IsFormatted};
 ghost use Rattle.kdl.specs.Words.{IsDocument, IsSyntax, Nodes, TellsOnSyntax, text_of};
-ghost use Rattle.std.specs.Prelude.{◌≡◌, ◌↔◌, IfOk, IsTrue, List, chars, true, ℕ};
+ghost use Rattle.std.specs.Prelude.{◌≡◌, ◌↔◌, IfOk, IsTrue, List, chars, ℕ};
 
 use crate::settings::Settings;
 use kdl::{FormatConfig, KdlDocument, Layout, ParseFailure};

@@ -5,7 +5,7 @@ ghost use Rattle.kdl_path.specs.Edits.{IsSetAt};
 ghost use Rattle.kdl_path.specs.Failures.{IsMissing, SetFails};
 ghost use Rattle.kdl_path.specs.Paths.{at_path};
 ghost use Rattle.kdl_value.specs.Tree.{text_of};
-ghost use Rattle.std.specs.Prelude.{◌≡◌, IfErr, IfOk, IsSome, None, Some, false, true};
+ghost use Rattle.std.specs.Prelude.{◌≡◌, IfErr, IfOk, IsSome, None, Some, false};
 ghost use Rattle.std.specs.Str.{chars};
 
 use kdl::{KdlDocument, KdlValue};

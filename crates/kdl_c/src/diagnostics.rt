@@ -5,7 +5,7 @@ ghost use Rattle.c_calls.specs.Listed.{AreFaultsOf, AreListed, AreReportsListed,
 ghost use Rattle.c_calls.specs.Reading.{AreFaultsAs, IsRead};
 ghost use Rattle.c_calls.specs.Reports.{AreReported};
 ghost use Rattle.c_calls.specs.Rows.{AreTold};
-ghost use Rattle.std.specs.Prelude.{◌≡◌, ◌<◌, ◌≤◌, List, true};
+ghost use Rattle.std.specs.Prelude.{◌≡◌, ◌<◌, ◌≤◌, List};
 ghost use Rattle.std.specs.Str.{IsUtf8, chars};
 
 use c_calls::faults::{KdlFault, put_faults};

@@ -3,7 +3,7 @@
 ghost use Rattle.kdl.specs.Words.{CommentsStay, DocumentKeepsNoForm, DocumentLaidOut, IsDocument, Nodes, Text, canonical_text, defaults, document_prints, document_says, document_tree};
 ghost use Rattle.c_calls.specs.Answers.{Each};
 ghost use Rattle.c_calls.specs.LaidOut.{IsTextLaidOut};
-ghost use Rattle.std.specs.Prelude.{◌≡◌, ◌++◌, drop, length, true};
+ghost use Rattle.std.specs.Prelude.{◌≡◌, ◌++◌, drop, length};
 ghost use Rattle.std.specs.Str.{IsUtf8, chars, encode_utf8_all};
 
 use c_calls::held::Handle;

@@ -1,5 +1,5 @@
 -- What is proved of the written grammar of identifiers and entries.
-use Rattle.std.specs.Prelude.{◌≡◌, Bool, true}
+use Rattle.std.specs.Prelude.{◌≡◌, Bool}
 use Rattle.kdl_text.specs.Chars.{Text}
 use Rattle.kdl_entry.specs.Data as data'
 use Rattle.kdl_entry.specs.Entries.{IsIdentifierText, IsIdentifierTextIn, IsEntryText, IsEntryTextIn}

@@ -1,5 +1,5 @@
 -- The comments and slashdashed pieces in a document, in the order of printing.
-use Rattle.std.specs.Prelude.{true, false, List, [], ◌∷◌, ◌++◌, Option, map}
+use Rattle.std.specs.Prelude.{false, List, [], ◌∷◌, ◌++◌, Option, map}
 use Rattle.kdl_text.specs.Chars.{Text}
 use Rattle.kdl_text.specs.Trivia.{LineComment}
 use Rattle.kdl_text.specs.declared.span.SourceSpan.{SourceSpan}

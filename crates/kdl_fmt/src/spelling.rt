@@ -9,7 +9,7 @@ ghost use Rattle.kdl_text.specs.Chars.{Text};
 ghost use Rattle.kdl_text.specs.Internal.Here.{Here};
 ghost use Rattle.kdl_value.specs.Data as data';
 ghost use Rattle.kdl_value.specs.Tree.{value_tree};
-ghost use Rattle.std.specs.Prelude.{◌≡◌, ◌↔◌, [], IfOk, IsTrue, Ok, true};
+ghost use Rattle.std.specs.Prelude.{◌≡◌, ◌↔◌, [], IfOk, IsTrue, Ok};
 ghost use Rattle.std.specs.Str.{chars};
 
 use kdl_entry::KdlValue;

@@ -1,5 +1,5 @@
 -- The laws, put together.
-use Rattle.std.proofs.Common.{Bool, true, false, subst}
+use Rattle.std.proofs.Common.{Bool, false, subst}
 use Rattle.kdl_text.specs.Chars.{Text}
 use Rattle.kdl_grammar.specs.Data as data'
 use Rattle.kdl_grammar.specs.Grammar.{last_gap, node_then, IsDocument, IsDocumentIn, IsNodeTextIn, node_text}

@@ -1,5 +1,5 @@
 -- Which texts begin a document or a node text, and what is proved of that. `derived` says which texts the grammar derives: documents, or node texts.
-use Rattle.std.specs.Prelude.{◌≡◌, ◌≢◌, ◌↔◌, IsTrue, true, [], ◌++◌, Some, None, take}
+use Rattle.std.specs.Prelude.{◌≡◌, ◌≢◌, ◌↔◌, IsTrue, [], ◌++◌, Some, None, take}
 use Rattle.kdl_text.specs.Chars.{Text}
 use Rattle.kdl_lexer.specs.Tokens.{Token, BeginsToken, NoToken}
 use Rattle.kdl_grammar.specs.Data.{Node, Nodes}

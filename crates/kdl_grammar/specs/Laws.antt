@@ -1,5 +1,5 @@
 -- What is proved of the written grammar of documents and nodes.
-use Rattle.std.specs.Prelude.{◌≡◌, Bool, true, false}
+use Rattle.std.specs.Prelude.{◌≡◌, Bool, false}
 use Rattle.kdl_text.specs.Chars.{Text}
 use Rattle.kdl_grammar.specs.Data as data'
 use Rattle.kdl_grammar.specs.Edited.{IsEdited, IsFormed, EachDocument}

@@ -1,5 +1,5 @@
 -- What layout makes of a text.
-use Rattle.std.specs.Prelude.{◌≡◌, ℕ, Bool, true}
+use Rattle.std.specs.Prelude.{◌≡◌, ℕ, Bool}
 use Rattle.kdl_text.specs.Chars.{Text}
 use Rattle.kdl_grammar.specs.Laid.{LaidDocument}
 use Rattle.kdl_grammar.specs.Print.{print_document}

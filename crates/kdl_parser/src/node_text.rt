@@ -6,7 +6,7 @@ ghost use Rattle.kdl_parser.specs.Internal.NodeText.{RunsOnText, ReadsOne, IsOnl
 ghost use Rattle.kdl_parser.specs.Internal.Parts.{document_by};
 ghost use Rattle.kdl_parser.specs.Internal.Steps.{ParsesNode};
 ghost use Rattle.kdl_value.specs.Tree.{text_of};
-ghost use Rattle.std.specs.Prelude.{IfOk, true};
+ghost use Rattle.std.specs.Prelude.{IfOk};
 ghost use Rattle.std.specs.Str.{chars};
 
 use crate::line_spaces::line_spaces;

@@ -1,5 +1,5 @@
 -- The texts after an edit, and what they had to have before.
-use Rattle.std.proofs.Common.{◌≡◌, ℕ, true, List, [], ◌∷◌, Option, None, Some, IsSome, Ok, option_and_then, option_map, String, Global, string_bytes, refl, ap, ◌∙◌, sym, subst}
+use Rattle.std.proofs.Common.{◌≡◌, ℕ, List, [], ◌∷◌, Option, None, Some, IsSome, Ok, option_and_then, option_map, String, Global, string_bytes, refl, ap, ◌∙◌, sym, subst}
 use Rattle.std.proofs.lemmas.Option.{none-some}
 use Rattle.std.specs.Str.{encode_utf8_all}
 use Rattle.kdl_text.specs.Chars.{Text}

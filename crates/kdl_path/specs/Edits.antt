@@ -1,6 +1,6 @@
 -- The data of a document, and its text, after an edit at a PATH.
 use Rattle.std.specs.List.{remove}
-use Rattle.std.specs.Prelude.{◌≡◌, ℕ, zero, suc, true, List, [], ◌∷◌, Option, Some, None, IsSome, option_and_then, option_map}
+use Rattle.std.specs.Prelude.{◌≡◌, ℕ, zero, suc, List, [], ◌∷◌, Option, Some, None, IsSome, option_and_then, option_map}
 use Rattle.kdl.specs.Words.{EntryData, IsDocument, IsExchanged, IsNodeText, NodeData, Nodes, Text, Value, said_entries, said_nodes, said_without}
 use Rattle.kdl.specs.Said.{has_key, has_no_key}
 use Rattle.c_calls.specs.Entries.{IsValueText}

@@ -8,7 +8,7 @@ ghost use Rattle.kdl_path.specs.Internal.Done.{IsPutAt, LeadsTo};
 ghost use Rattle.kdl_path.specs.declared.failure.EditFailure.TheVariants.{Memory};
 ghost use Rattle.kdl_path.specs.declared.path.Step.{Step};
 ghost use Rattle.kdl_value.specs.Tree.{text_of};
-ghost use Rattle.std.specs.Prelude.{◌≡◌, IfErr, IfOk, List, true};
+ghost use Rattle.std.specs.Prelude.{◌≡◌, IfErr, IfOk, List};
 ghost use Rattle.std.specs.Str.{chars};
 
 use crate::change::{Change, change_at};

@@ -12,7 +12,7 @@ ghost use Rattle.kdl_path.specs.declared.path.Path.{Path};
 ghost use Rattle.kdl_path.specs.declared.path.Step.{Step};
 ghost use Rattle.kdl_path.specs.declared.path.Target.TheVariants.{Node};
 ghost use Rattle.kdl_value.specs.Tree.{text_of};
-ghost use Rattle.std.specs.Prelude.{◌≡◌, IfErr, IfOk, IsSome, List, None, true};
+ghost use Rattle.std.specs.Prelude.{◌≡◌, IfErr, IfOk, IsSome, List, None};
 ghost use Rattle.std.specs.Str.{chars};
 
 use crate::change::{Change, change_at};

@@ -4,7 +4,7 @@ ghost use Rattle.kdl.specs.Words.{EntryData, IsEntryText, LaidEntryText, Value, 
 ghost use Rattle.c_calls.specs.Entries.{IsValueText};
 ghost use Rattle.kdl_path.specs.Internal.Failing.{NoValueIf};
 ghost use Rattle.kdl_value.specs.Tree.{text_of};
-ghost use Rattle.std.specs.Prelude.{◌≡◌, IfErr, IfOk, true};
+ghost use Rattle.std.specs.Prelude.{◌≡◌, IfErr, IfOk};
 ghost use Rattle.std.specs.Str.{chars};
 
 use crate::failure::EditFailure;

@@ -1,5 +1,5 @@
 -- The tool's commands, and what they write.
-use Rattle.std.specs.Prelude.{◌≡◌, ℕ, true, List, [], ◌∷◌, Option, Some, option_map, codes, chars, encode_utf8_all}
+use Rattle.std.specs.Prelude.{◌≡◌, ℕ, List, [], ◌∷◌, Option, Some, option_map, codes, chars, encode_utf8_all}
 use Rattle.kdl_value.specs.Data.{Value}
 use Rattle.kdl_value.specs.Print.{print_value}
 use Rattle.kdl_grammar.specs.Data.{Nodes}

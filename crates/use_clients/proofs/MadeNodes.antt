@@ -1,5 +1,5 @@
 -- What nodes say that were made.
-use Rattle.std.proofs.Common.{◌≡◌, List, [], ◌∷◌, map, option_map, Option, None, Result, Ok, Err, IfOk, String, Global, refl, ap, ◌∙◌, true}
+use Rattle.std.proofs.Common.{◌≡◌, List, [], ◌∷◌, map, option_map, Option, None, Result, Ok, Err, IfOk, String, Global, refl, ap, ◌∙◌}
 use Rattle.std.specs.List.{count_by, filter, last_or}
 use Rattle.kdl.specs.Said.{has_key}
 use Rattle.kdl.specs.Words.{EntryData, Identifier, IsDocument, Node, NodeData, Nodes, Text, Value, argument_count, entries_of, entry_data, entry_tree, is_argument, new_node, node_data, node_tree, said_entries, said_name, said_nodes, said_property, text_of}

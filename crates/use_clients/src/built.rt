@@ -1,7 +1,7 @@
 //! Documents that are built by calls. What they print reads back.
 
 ghost use Rattle.kdl.specs.Words.{ChildPut, IsDocument, NodeEnds, NodeReadsBack, Nodes, child_nodes, integer, node_says, said_argument, said_entries, said_name, said_nodes, said_property, text_of, value_tree};
-ghost use Rattle.std.specs.Prelude.{◌≡◌, [], ◌∷◌, IfOk, Some, chars, codes, length, map, pos, true};
+ghost use Rattle.std.specs.Prelude.{◌≡◌, [], ◌∷◌, IfOk, Some, chars, codes, length, map, pos};
 
 use crate::reads_back::{add_argument, insert_property, printed};
 use kdl::{KdlDocument, KdlIdentifier, KdlNode, KdlValue};

@@ -2,7 +2,7 @@
 
 ghost use Rattle.kdl.specs.Words.{DocumentReadsBack, IsDocument, IsNodeText, LaidDocument, NodeData, NodeEnds, NodeReadsBack, Nodes, NodesMayFollow, document_prints, document_says, document_tree, node_prints, node_says, nodes_of, said_child_nodes, said_node, said_nodes, said_with, said_without};
 ghost use Rattle.kdl.specs.declared.document.KdlDocument.{KdlDocument};
-ghost use Rattle.std.specs.Prelude.{◌≡◌, ◌++◌, [], ◌∷◌, IfOk, IfSome, OnOk, length, option_map, slice_get, true};
+ghost use Rattle.std.specs.Prelude.{◌≡◌, ◌++◌, [], ◌∷◌, IfOk, IfSome, OnOk, length, option_map, slice_get};
 ghost use Rattle.std.specs.Str.{chars};
 
 use kdl::{KdlDocument, KdlNode, ParseFailure};

@@ -1,7 +1,7 @@
 //! What look-ups find in a document that was parsed.
 
 ghost use Rattle.kdl.specs.Words.{IsDocument, Nodes, integer_value, said_arg, said_dash_args, said_name, said_node, said_nodes, text_of};
-ghost use Rattle.std.specs.Prelude.{◌≡◌, IfOk, chars, is_some, option_and_then, option_map, slice_get, true};
+ghost use Rattle.std.specs.Prelude.{◌≡◌, IfOk, chars, is_some, option_and_then, option_map, slice_get};
 
 use kdl::{KdlDocument, ParseFailure};
 use std::alloc::Global;

@@ -1,7 +1,7 @@
 //! The piece of a refused text that a diagnostic points at.
 
 ghost use Rattle.kdl.specs.Words.{IsDocument, Nodes, Tells};
-ghost use Rattle.std.specs.Prelude.{◌≡◌, ◌+◌, IfNone, IfOk, IfSome, OnSome, chars, slice_get, slice_range, true};
+ghost use Rattle.std.specs.Prelude.{◌≡◌, ◌+◌, IfNone, IfOk, IfSome, OnSome, chars, slice_get, slice_range};
 
 use kdl::{KdlDocument, KdlError, ParseFailure};
 use kdl_laws::spans::spans_are_pieces;

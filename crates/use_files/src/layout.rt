@@ -2,7 +2,7 @@
 
 ghost use Rattle.kdl.specs.Words.{IsDocument, IsSyntax, Nodes, TellsOnSyntax, text_of};
 ghost use Rattle.kdl_laws.specs.ClientWords.{IsSpacedOut};
-ghost use Rattle.std.specs.Prelude.{IfOk, chars, false, true};
+ghost use Rattle.std.specs.Prelude.{IfOk, chars, false};
 
 use crate::faults::report;
 use kdl::{KdlDocument, Layout, ParseFailure};

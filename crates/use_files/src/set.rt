@@ -2,7 +2,7 @@
 
 ghost use Rattle.kdl.specs.Words.{DocumentReadsBack, IsDocument, IsSyntax, Nodes, TellsOnSyntax, argument_named, document_prints, document_says, entry_tree, integer, print_value, respelled, said_arg, text_of, value_tree};
 ghost use Rattle.kdl_laws.specs.ClientWords.{HasInstead, with_said_arg};
-ghost use Rattle.std.specs.Prelude.{◌≡◌, IfNone, IfOk, IfSome, IsSome, None, chars, true};
+ghost use Rattle.std.specs.Prelude.{◌≡◌, IfNone, IfOk, IfSome, IsSome, None, chars};
 
 use crate::faults::report;
 use kdl::{KdlDocument, KdlEntry, KdlValue, NodeKey, ParseFailure};

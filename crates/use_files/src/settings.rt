@@ -1,7 +1,7 @@
 //! Settings, read from a text with their types.
 
 ghost use Rattle.kdl.specs.Words.{IsDocument, Nodes, argument_named, document_says, text_of};
-ghost use Rattle.std.specs.Prelude.{◌≡◌, ◌++◌, IfNone, IfOk, IfSome, OnOk, Some, chars, map, option_map, true};
+ghost use Rattle.std.specs.Prelude.{◌≡◌, ◌++◌, IfNone, IfOk, IfSome, OnOk, Some, chars, map, option_map};
 ghost use Rattle.use_files.specs.Settings as said;
 ghost use Rattle.use_files.specs.Settings.{Fits, IsSyntax, IsUnfit, fault_at, fault_view, faults_of, host_fault, place_of, port_fault, verbose_fault};
 

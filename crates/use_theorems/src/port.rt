@@ -2,7 +2,7 @@
 
 ghost use Rattle.kdl.specs.Words.{DocumentReadsBack, IsDocument, IsExchanged, IsSetInData, IsSyntax, Nodes, Text, document_prints, document_says, integer, plain_entry, plain_identifier, print_piece, said_node, text_of, value_tree};
 ghost use Rattle.kdl_laws.specs.ClientWords.{IsPieceOf, said_entry_in};
-ghost use Rattle.std.specs.Prelude.{◌≡◌, IfOk, IsSome, None, Some, chars, codes, pos, true};
+ghost use Rattle.std.specs.Prelude.{◌≡◌, IfOk, IsSome, None, Some, chars, codes, pos};
 
 use kdl::{KdlDocument, KdlEntry, KdlValue, NodeKey, ParseFailure};
 use kdl_laws::bytes::replaced_piece_is_said;

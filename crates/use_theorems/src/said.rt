@@ -1,7 +1,7 @@
 //! What look-ups find in a document that was parsed.
 
 ghost use Rattle.kdl.specs.Words.{IsDocument, Nodes, integer_value, said_property_in};
-ghost use Rattle.std.specs.Prelude.{◌≡◌, IfOk, chars, option_and_then, true};
+ghost use Rattle.std.specs.Prelude.{◌≡◌, IfOk, chars, option_and_then};
 
 use kdl::{KdlDocument, ParseFailure};
 use std::alloc::Global;

@@ -16,7 +16,7 @@ ghost use Rattle.kdl_entry.specs.Print.{print_identifier};
 ghost use Rattle.kdl_entry.specs.Tree.{identifier_tree};
 ghost use Rattle.kdl_text.specs.Chars.{Text};
 ghost use Rattle.std.specs.Borrow.{Lends, LendsIf, sem};
-ghost use Rattle.std.specs.Prelude.{◌≡◌, IfNone, IfOk, IfSome, None, Some, option_map, true, IsSome};
+ghost use Rattle.std.specs.Prelude.{◌≡◌, IfNone, IfOk, IfSome, None, Some, option_map, IsSome};
 
 use crate::document::KdlDocument;
 use crate::node::KdlNode;

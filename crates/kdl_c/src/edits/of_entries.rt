@@ -6,7 +6,7 @@ ghost use Rattle.c_calls.specs.Changes.{AtEntry, AtNode, SameTree};
 ghost use Rattle.c_calls.specs.Entries.{EntryRemoved, IsValueText};
 ghost use Rattle.c_calls.specs.Edits.{EntryInserted, KeySet, TypeSetAt, ValueSet, text_if};
 ghost use Rattle.c_calls.specs.Paths.{node_at};
-ghost use Rattle.std.specs.Prelude.{◌≡◌, ◌<◌, ◌≤◌, ◌-◌, ◌^◌, IfSome, IsNone, length, true};
+ghost use Rattle.std.specs.Prelude.{◌≡◌, ◌<◌, ◌≤◌, ◌-◌, ◌^◌, IfSome, IsNone, length};
 ghost use Rattle.std.specs.Str.{IsUtf8, chars};
 
 use c_calls::at_path::change_held;

@@ -5,7 +5,7 @@ ghost use Rattle.c_calls.specs.Answers.{Each};
 ghost use Rattle.c_calls.specs.Changes.{AtNode, SameTree};
 ghost use Rattle.c_calls.specs.Edits.{NoPlaceFor, NodeAbsent, NodeInserted, NodeNamed, NodeRemoved};
 ghost use Rattle.c_calls.specs.Paths.{node_at};
-ghost use Rattle.std.specs.Prelude.{◌≡◌, IfSome, IsNone, true};
+ghost use Rattle.std.specs.Prelude.{◌≡◌, IfSome, IsNone};
 ghost use Rattle.std.specs.Str.{IsUtf8, chars};
 
 use c_calls::at_path::change_held;

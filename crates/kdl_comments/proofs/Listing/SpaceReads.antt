@@ -15,7 +15,7 @@ use Rattle.kdl_text.proofs.Looking.MovesJoin.{bytes-append, moves_one}
 use Rattle.kdl_text.proofs.Spacing.SpaceReads.{moves_ran}
 use Rattle.kdl_text.proofs.Spacing.SpacePieces.{star_end, end_length, space_end, space_shorter, block_shorter}
 use Rattle.kdl_comments.specs.Items as items
-use Rattle.kdl_comments.specs.Items.{line_end, piece, EsclineItems, SpaceItems, LineSpaceItems}
+use Rattle.kdl_comments.specs.Items.{line_end, EsclineItems, SpaceItems, LineSpaceItems}
 use Rattle.kdl_comments.specs.Internal.Reading.{Cut, Run, Starts, found}
 use Rattle.kdl_comments.specs.Internal.Reading.Run.{one as one_run, more as more_run}
 use Rattle.kdl_comments.specs.declared.item.Item.{Item}

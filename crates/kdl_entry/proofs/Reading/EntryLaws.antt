@@ -1,5 +1,5 @@
 -- The laws of the machine of entries, put together.
-use Rattle.std.proofs.Common.{◌≡◌, Some, sym, subst, ap, ◌∙◌, true}
+use Rattle.std.proofs.Common.{◌≡◌, Some, sym, subst, ap, ◌∙◌}
 use Rattle.kdl_text.specs.Chars.{Text}
 use Rattle.kdl_entry.specs.Data as data'
 use Rattle.kdl_entry.specs.Entries.{IsEntryText}

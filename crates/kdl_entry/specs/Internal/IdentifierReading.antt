@@ -1,5 +1,5 @@
 -- What the reader of identifier texts returns.
-use Rattle.std.specs.Prelude.{true, Result, Ok, Err}
+use Rattle.std.specs.Prelude.{Result, Ok, Err}
 use Rattle.kdl_text.specs.Chars.{Text}
 use Rattle.kdl_entry.specs.Entries.{IsIdentifierText}
 use Rattle.kdl_entry.specs.Laid.{LaidIdentifierText}

@@ -1,5 +1,5 @@
 -- What is proved of the machine that reads entry texts.
-use Rattle.std.specs.Prelude.{◌≡◌, ◌↔◌, true}
+use Rattle.std.specs.Prelude.{◌≡◌, ◌↔◌}
 use Rattle.kdl_text.specs.Chars.{Text}
 use Rattle.kdl_entry.specs.Data as data'
 use Rattle.kdl_entry.specs.Entries.{IsEntryText}

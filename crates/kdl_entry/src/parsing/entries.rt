@@ -12,7 +12,7 @@ ghost use Rattle.kdl_lexer.specs.Internal.Handed.{kind_view};
 ghost use Rattle.kdl_entry.specs.Places.{between};
 ghost use Rattle.kdl_value.specs.Tree.{text_of, value_tree};
 ghost use Rattle.kdl_entry.specs.Tree.{entry_tree, identifier_tree};
-ghost use Rattle.std.specs.Prelude.{◌≡◌, [], None, Some, true, IfOk, option_map};
+ghost use Rattle.std.specs.Prelude.{◌≡◌, [], None, Some, IfOk, option_map};
 ghost use Rattle.std.specs.Str.{chars};
 
 use super::parts::{Given, Key, Parts, entry_from};

@@ -53,7 +53,7 @@ impl KdlIdentifier {
     ghost use Rattle.kdl_entry.specs.Tree.{identifier_tree};
     ghost use Rattle.kdl_text.specs.Chars.{Text};
     ghost use Rattle.kdl_text.specs.Failures.{IsSyntax, TellsOnSyntax};
-    ghost use Rattle.std.specs.Prelude.{true, IfOk};
+    ghost use Rattle.std.specs.Prelude.{IfOk};
 
     /// Parses a text that is exactly one identifier: one string in any spelling (KDL 2.0.0, String), with nothing
     /// before or after it. Its spelling and its span are the whole text. Returns `Syntax` if the text is not an

@@ -1,5 +1,5 @@
 -- Where no token begins before the end of the text, the text is no document.
-use Rattle.std.proofs.Common.{◌≡◌, true, List, [], ◌∷◌, refl, sym, subst}
+use Rattle.std.proofs.Common.{◌≡◌, List, [], ◌∷◌, refl, sym, subst}
 use Rattle.kdl_text.specs.Chars.{Text}
 use Rattle.kdl_lexer.specs.Tokens.{Token, BeginsToken, Lexes, done, next}
 use Rattle.kdl_lexer.proofs.Lexing.TokenUnique.{token_det, no_token}

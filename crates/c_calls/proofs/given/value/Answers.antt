@@ -1,4 +1,4 @@
-use Rattle.std.proofs.Common.{rules, ◌≡◌, false, true}
+use Rattle.std.proofs.Common.{rules, ◌≡◌, false}
 use Rattle.std.specs.Str.{chars}
 use Rattle.kdl.specs.Words.{EntryData, IsEntryText, Value, entry_tree}
 use Rattle.c_calls.proofs.ValueSteps.{laid_in_value, value_is_entry}

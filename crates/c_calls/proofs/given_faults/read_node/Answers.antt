@@ -1,4 +1,4 @@
-use Rattle.std.proofs.Common.{rules, arith, true}
+use Rattle.std.proofs.Common.{rules, arith}
 use mathlib.Core.Path.{subst}
 use Rattle.std.specs.Str.{chars}
 use Rattle.kdl.specs.Words.{IsNodeText, NodeData, Tells, node_says}

@@ -1,4 +1,4 @@
-use Rattle.std.proofs.Common.{rules, true, refl}
+use Rattle.std.proofs.Common.{rules, refl}
 use mathlib.Core.Path.{subst}
 use Rattle.std.specs.Str.{chars}
 use Rattle.kdl.specs.Words.{IsEntryText, EntryData, Tells, entry_data, entry_tree}

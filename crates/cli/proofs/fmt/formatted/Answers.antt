@@ -1,4 +1,4 @@
-use Rattle.std.proofs.Common.{◌≡◌, false, not, true, ap, refl, subst, sym}
+use Rattle.std.proofs.Common.{◌≡◌, false, not, ap, refl, subst, sym}
 use Rattle.kdl.specs.Words.{CommentsStay, IndentsBySpaces, IsDocument, IsLaidDocument, Settings, Text, document_prints, document_tree, settings}
 use Rattle.cli.specs.Formatted.{layout_settings}
 use Rattle.cli.proofs.Indents.{config_is, indents_by_spaces}

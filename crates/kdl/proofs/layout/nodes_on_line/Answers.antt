@@ -1,4 +1,4 @@
-use Rattle.std.proofs.Common.{Bool, drop, length, ap, sym, rules, ◌+◌, ◌∙◌, ◌≡◌, false, arith}
+use Rattle.std.proofs.Common.{Bool, drop, ap, sym, rules, ◌+◌, ◌∙◌, ◌≡◌, false, arith}
 use Rattle.std.specs.Prelude.{◌&&◌}
 use Rattle.kdl_fmt.specs.OneLine.{is_last, nodes_on_line}
 use Rattle.kdl.specs.Tree.{nodes_tree}

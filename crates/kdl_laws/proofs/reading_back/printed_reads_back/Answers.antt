@@ -1,4 +1,4 @@
-use Rattle.std.proofs.Common.{Ok, subst, sym, true}
+use Rattle.std.proofs.Common.{Ok, subst, sym}
 use Rattle.kdl_text.specs.Chars.{Text}
 use Rattle.kdl_grammar.specs.Grammar.{IsDocument}
 use Rattle.kdl.specs.Tree.{document_prints, document_says}

@@ -1,4 +1,4 @@
-use Rattle.std.proofs.Common.{◌≡◌, Bool, false, true, chars, ap, subst, sym}
+use Rattle.std.proofs.Common.{◌≡◌, Bool, false, chars, ap, subst, sym}
 use Rattle.kdl_laws.specs.ClientWords.{IsSpacedOut}
 use Rattle.kdl.specs.Words.{IndentsBySpaces, IsDocument, Settings, Text, defaults, document_prints, settings, text_of}
 use Rattle.use_files.proofs.layout.laid_out.Goals as goal

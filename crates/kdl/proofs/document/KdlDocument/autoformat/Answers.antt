@@ -1,4 +1,4 @@
-use Rattle.std.proofs.Common.{rules, true}
+use Rattle.std.proofs.Common.{rules}
 use Rattle.kdl.specs.Layout.{DocumentKeepsReading}
 use Rattle.kdl.specs.ReadsBack.{DocumentReadsBack}
 use Rattle.kdl.specs.Tree.{document_tree}

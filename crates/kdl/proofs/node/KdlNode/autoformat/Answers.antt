@@ -1,4 +1,4 @@
-use Rattle.std.proofs.Common.{rules, true}
+use Rattle.std.proofs.Common.{rules}
 use Rattle.kdl.specs.Layout.{NodeKeepsReading}
 use Rattle.kdl.specs.ReadsBack.{ReadsAs}
 use Rattle.kdl.specs.Tree.{node_tree}
