@@ -1,5 +1,6 @@
 -- Nodes on one line: whether they are, and their formats.
 use Rattle.std.proofs.Common.{◌≡◌, ℕ, zero, suc, ◌+◌, ◌-◌, ◌<◌, ◌≤◌, ◌==◌, Bool, true, false, List, [], ◌∷◌, length, map, drop, set, get_or, Option, None, Some, option_map, refl, sym, ap, ◌∙◌, subst, arith, add-one, length-drop}
+use Rattle.std.proofs.lemmas.Bool.{eqb-true}
 use Rattle.std.proofs.lemmas.List.{drop_more}
 use Rattle.std.proofs.lemmas.List.Folds.{list_all-map}
 use Rattle.std.specs.List.{list_all}
@@ -68,7 +69,11 @@ format_put n f = node_tree_roll (record (out-KdlNode n) { format = Some f }) ∙
 -- whether the nodes are on the line
 is_end_none : (ns : List KdlNode) → is_end (nodes_tree ns) ≡ (length ns == 0)
 is_end_none [] = refl
-is_end_none (n ∷ ns) = refl
+is_end_none (n ∷ ns) = go (suc (length ns) == 0) refl
+  where
+    go : (b : Bool) → (suc (length ns) == 0) ≡ b → false ≡ b
+    go false e = refl
+    go true e = let z : suc (length ns) ≡ 0 = eqb-true (suc (length ns)) 0 e in absurd cc
 
 pub line_next : (ns : List KdlNode) (i : ℕ) (n : KdlNode) (last here : Bool) → i < length ns → get_or ns i n ≡ n → last ≡ (length ns - i - 1 == 0) → here ≡ node_on_line last (node_tree n)
     → nodes_on_line (nodes_tree (drop i ns)) ≡ (here && nodes_on_line (nodes_tree (drop (i + 1) ns)))
