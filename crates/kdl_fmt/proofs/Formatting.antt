@@ -12,8 +12,6 @@ pub mod CommentsReadBack
 pub mod LaidEntries
 -- A second layout changes no entry.
 pub mod EntriesAgain
--- A second layout without blank lines changes nothing.
-pub mod Again
 -- An entry that is laid out reads back where it did before.
 pub mod EntriesRead
 -- A node or document of which a part is laid out reads back where it did before.

@@ -1,4 +1,4 @@
--- The result of layout: the comments that it keeps, and at most a number of blank lines before each thing on its own line.
+-- The result of layout: the comments that stay, and at most a number of blank lines before each thing on its own line.
 use Rattle.std.specs.Prelude.{◌≡◌, ℕ, zero, suc, ◌+◌, ◌<◌, ◌^◌, Bool, List, [], ◌++◌, if◌then◌else◌, Option, Some, option_map}
 use Rattle.kdl_text.specs.Chars.{Text}
 use Rattle.kdl_entry.specs.Tree.{unspelled}

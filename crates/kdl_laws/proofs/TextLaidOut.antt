@@ -10,7 +10,7 @@ use Rattle.kdl_fmt.specs.Config.{Settings, defaults, settings}
 use Rattle.kdl_fmt.specs.OneLine.{IsLaidDocument}
 use Rattle.kdl_fmt.specs.declared.config.Layout.{Layout}
 use Rattle.kdl_fmt.proofs.OneLine.Again as line
-use Rattle.kdl_fmt.proofs.Formatting.Again.{document_stays}
+use Rattle.kdl_fmt.proofs.Spacing.Again.{document_stays}
 use Rattle.kdl.specs.Layout.{DocumentKeepsNoForm, DocumentLaidOut, DocumentSpaced}
 use Rattle.kdl.specs.Tree.{document_prints, document_tree}
 use Rattle.kdl.specs.declared.document.KdlDocument.{KdlDocument}
@@ -32,7 +32,7 @@ text_laid_out text d e s laid none formatted comments h =
       formatted = formatted;
       prints = p;
       comments = subst (CommentsStay (document_tree d)) (sym p) comments;
-      again = λ y g. document_stays defaults 0 spaces_are refl (document_tree d) (document_tree e) y formatted none g;
+      again = λ y g. document_stays 0 defaults 0 spaces_are refl (document_tree d) (document_tree e) y formatted none g;
     }
 
 -- the same with blank lines

@@ -16,8 +16,7 @@ use Rattle.kdl_fmt.specs.OneLine.{IsLaidDocument, IsLaidNode}
 use Rattle.kdl_fmt.proofs.OneLine.Again as again
 use Rattle.kdl_fmt.proofs.OneLine.Same.{document_off, node_off}
 use Rattle.kdl_fmt.proofs.Respelling.Off as off
-use Rattle.kdl_fmt.proofs.Spacing.Zero.{document_formatted, document_spaced, node_formatted, node_spaced}
-use Rattle.kdl_fmt.proofs.Formatting.Again.{document_stays, node_stays}
+use Rattle.kdl_fmt.proofs.Spacing.Again.{document_stays, node_stays}
 use Rattle.kdl_fmt.proofs.Formatting.FormattedUnique.{formatted_det}
 
 -- two canonical texts are the same exactly where the data are
@@ -31,20 +30,20 @@ one_layout s level d x y a b = formatted_det s level d x y a b
 -- the second layout changes nothing
 pub twice : {A E : Type 0} (r : Result A E) (s : Settings) (level : ℕ) (d x y : Document) → list_all is_space s.indent ≡ true → s.entry_autoformate_keep ≡ false → DocumentKeepsNone d
     → IsFormattedDocument s level d x → IfOk r (λ _. IsFormattedDocument s level x y) → IfOk r (λ _. IsFormattedDocument s level d y)
-twice (Ok v) s level d x y ok keep none f g = subst (λ (z : Document). IsFormattedDocument s level d z) (sym (document_stays s level ok keep d x y f none g)) f
+twice (Ok v) s level d x y ok keep none f g = subst (λ (z : Document). IsFormattedDocument s level d z) (sym (document_stays 0 s level ok keep d x y f none g)) f
 twice (Err v) s level d x y ok keep none f g = tt
 
 pub node_twice : {A E : Type 0} (r : Result A E) (s : Settings) (level : ℕ) (n x y : Node) → list_all is_space s.indent ≡ true → s.entry_autoformate_keep ≡ false → NodeKeepsNone n
     → IsFormattedNode s level n x → IfOk r (λ _. IsFormattedNode s level x y) → IfOk r (λ _. IsFormattedNode s level n y)
-node_twice (Ok v) s level n x y ok keep none f g = subst (λ (z : Node). IsFormattedNode s level n z) (sym (node_stays s level ok keep n x y f none g)) f
+node_twice (Ok v) s level n x y ok keep none f g = subst (λ (z : Node). IsFormattedNode s level n z) (sym (node_stays 0 s level ok keep n x y f none g)) f
 node_twice (Err v) s level n x y ok keep none f g = tt
 
 -- of the two documents in sight the second is the first
 pub document_again : (s : Settings) (level : ℕ) (d x y : Document) → IndentsBySpaces s → s.entry_autoformate_keep ≡ false → DocumentKeepsNone d → IsFormattedDocument s level d x → IsFormattedDocument s level x y → y ≡ x
-document_again s level d x y ok keep none f g = document_stays s level ok keep d x y f none g
+document_again s level d x y ok keep none f g = document_stays 0 s level ok keep d x y f none g
 
 pub node_again : (s : Settings) (level : ℕ) (n x y : Node) → IndentsBySpaces s → s.entry_autoformate_keep ≡ false → NodeKeepsNone n → IsFormattedNode s level n x → IsFormattedNode s level x y → y ≡ x
-node_again s level n x y ok keep none f g = node_stays s level ok keep n x y f none g
+node_again s level n x y ok keep none f g = node_stays 0 s level ok keep n x y f none g
 
 -- the same with blank lines, and with blocks on one line
 pub spaced_again : (spelling line : Bool) (number : ℕ) (s : Settings) (level : ℕ) (d x y : Document) → IndentsBySpaces s → s.entry_autoformate_keep ≡ false → DocumentKeepsNone d → IsLaidDocument spelling line number s level d x → IsLaidDocument spelling line number s level x y
@@ -80,7 +79,7 @@ respelled_node number s level n x =
 
 -- no blank lines
 pub unspaced_document : (s : Settings) (level : ℕ) (d x : Document) → IsSpacedDocument 0 s level d x ↔ IsFormattedDocument s level d x
-unspaced_document s level d x = (document_formatted s level d x, document_spaced s level d x)
+unspaced_document s level d x = (λ f. f, λ f. f)
 
 pub unspaced_node : (s : Settings) (level : ℕ) (n x : Node) → IsSpacedNode 0 s level at_start n x ↔ IsFormattedNode s level n x
-unspaced_node s level n x = (node_formatted s level at_start n x, node_spaced s level at_start n x)
+unspaced_node s level n x = (λ f. f, λ f. f)
