@@ -1,5 +1,5 @@
 -- What each reader of a whole text promises beside its result.
-use Rattle.std.proofs.Common.{ℕ, List, ◌+◌, ◌*◌, ◌≤◌, length, true, Ok, Err}
+use Rattle.std.proofs.Common.{ℕ, List, ◌+◌, ◌*◌, ◌≤◌, length, Ok, Err}
 use Rattle.std.specs.Str.{chars, IsUtf8}
 use Rattle.kdl_text.specs.Failures.{IsSyntax, TellsOf}
 use Rattle.kdl_text.specs.Spans.{raise}

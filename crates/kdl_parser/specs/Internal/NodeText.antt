@@ -1,5 +1,5 @@
 -- Nodes that are a whole text, and what is returned on one.
-use Rattle.std.specs.Prelude.{◌≡◌, true, List, [], ◌∷◌, Option, Some, None, Result, Ok, Err}
+use Rattle.std.specs.Prelude.{◌≡◌, List, [], ◌∷◌, Option, Some, None, Result, Ok, Err}
 use Rattle.kdl_text.specs.Chars.{Text}
 use Rattle.kdl_text.specs.declared.span.SourceSpan.{SourceSpan}
 use Rattle.kdl_value.specs.Tree.{text_of}

@@ -1,5 +1,5 @@
 -- What the readers of whole texts promise, and the steps of a parse.
-use Rattle.std.specs.Prelude.{ℕ, ◌+◌, ◌*◌, ◌≤◌, length, true, List, Result, Ok, Err, OnOk}
+use Rattle.std.specs.Prelude.{ℕ, ◌+◌, ◌*◌, ◌≤◌, length, List, Result, Ok, Err, OnOk}
 use Rattle.std.specs.Str.{chars}
 use Rattle.kdl_text.specs.Chars.{Text}
 use Rattle.kdl_text.specs.Failures.{IsSyntax, TellsOnSyntax}
