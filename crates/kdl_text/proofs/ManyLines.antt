@@ -16,7 +16,5 @@ pub mod DedentReads
 pub mod Escapes
 -- What lines and their dedent cost.
 pub mod LinesCost
--- What whole strings cost.
-pub mod StringCost
 -- Whole strings, from their quotes, lines and dedent.
 pub mod StringReads

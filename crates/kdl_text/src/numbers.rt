@@ -1,13 +1,14 @@
 //! Numbers (KDL 2.0.0, Number).
+#![tactic(auto, using(crate::proofs::Looking::Returns::advancing))]
 
 ghost use Rattle.kdl_text.specs.Chars.{starts};
 ghost use Rattle.kdl_text.specs.Chars as class;
 ghost use Rattle.kdl_text.specs.Internal.Here.{IsPart, Looked, Returned, Stayed};
-ghost use Rattle.kdl_text.specs.Internal.NumberReading.{radix_of, IsBase, LooksBasePrefix, Counts, IsDigit, ReadsDigits, ReadsInteger, ReadsFront, IsFault, IsPartFault, IsPowerFault, IsNumberFault, ReadsFraction, ReadsExponent, ReadsPart, ReadsNumber, ReadsKeyword, AteExponentLetter, WordOf, is_of_number};
+ghost use Rattle.kdl_text.specs.Internal.NumberReading.{radix_of, is_minus, IsBase, LooksBasePrefix, Counts, IsDigit, ReadsDigits, ReadsInteger, ReadsDecimal, ReadsFront, IsFault, IsPartFault, IsPowerFault, IsNumberFault, ReadsFraction, ReadsExponent, ReadsPart, ReadsNumber, ReadsKeyword, AteExponentLetter, WordOf, is_of_number};
 ghost use Rattle.kdl_text.specs.Numbers as spec;
 ghost use Rattle.kdl_text.specs.declared.numbers.Magnitude.TheVariants.{Small};
-ghost use Rattle.kdl_text.specs.Numbers.{Sign, BasePrefix, Decimal, FloatKeyword, FloatText};
-ghost use Rattle.kdl_text.specs.Internal.DigitRuns.{PlainSince};
+ghost use Rattle.kdl_text.specs.Numbers.{BasePrefix, Decimal, FloatKeyword, FloatText};
+ghost use Rattle.kdl_text.specs.Internal.DigitRuns.{Contains, joined, with_underscores};
 ghost use Rattle.kdl_text.specs.Internal.Reading.{Moves, Costs};
 ghost use Rattle.kdl_text.specs.Spans.{bytes};
 ghost use Rattle.std.specs.Prelude.{◌≡◌, true, ℕ, ◌+◌, ◌*◌, ◌<◌, ◌≤◌, ◌++◌, ◌||◌, false, not, IfOk, if◌then◌else◌, ◌↔◌, IsTrue, IfSome, string_bytes, [], length, ◌==◌};
@@ -113,6 +114,37 @@ pub enum Keyword {
     NotANumber,
 }
 
+/// The sign of a number.
+#[derive(Clone, Copy)]
+enum Sign {
+    /// `+`, or no sign.
+    Plus,
+    /// `-`.
+    Minus,
+}
+
+/// Whether digits that were read may contain `_`.
+#[derive(Clone, Copy)]
+enum Underscores {
+    /// They contain none.
+    Absent,
+    /// They may contain some.
+    Possible,
+}
+
+impl Underscores {
+    /// Whether two pieces of a number may contain `_`, of which each is as said here.
+    #[inline(always)]
+    fn with(self, other: Self) -> Self
+        ensures { result ≡ with_underscores self other }
+    {
+        match self {
+            Underscores::Absent => other,
+            Underscores::Possible => self,
+        }
+    }
+}
+
 /// A number without its sign, while its digits are read.
 #[derive(Clone, Copy)]
 enum Magnitude {
@@ -149,67 +181,63 @@ impl Magnitude {
     }
 
     /// Returns the number with its sign, if it fits in an `i128`.
-    fn signed(self, minus: bool) -> Result<i128, NumberFault>
+    fn signed(self, sign: Sign) -> Result<i128, NumberFault>
         ensures { (n : ℕ) → Counts self n
-            → result ≡ (if spec.fits minus n then Ok (spec.signed minus n)
+            → result ≡ (if spec.fits (is_minus sign) n then Ok (spec.signed (is_minus sign) n)
             else Err NumberFault.OutOfRange) }
     {
         match self {
-            Magnitude::Small(n) => Ok(if minus { -(n as i128) } else { n as i128 }),
-            Magnitude::Large(n) => with_sign(minus, n).ok_or(NumberFault::OutOfRange),
+            Magnitude::Small(n) => Ok(match sign {
+                Sign::Plus => n as i128,
+                Sign::Minus => -(n as i128),
+            }),
+            Magnitude::Large(n) => with_sign(sign, n).ok_or(NumberFault::OutOfRange),
             Magnitude::Huge => Err(NumberFault::OutOfRange),
         }
     }
 }
 
 /// Returns the number with its sign, if it fits in an `i128`.
-fn with_sign(minus: bool, n: u128) -> Option<i128>
-    ensures { result ≡ (if spec.fits minus n then Some (spec.signed minus n) else None) }
+fn with_sign(sign: Sign, n: u128) -> Option<i128>
+    ensures { result ≡ (if spec.fits (is_minus sign) n
+        then Some (spec.signed (is_minus sign) n)
+        else None) }
 {
-    if minus {
-        if n == 1 << 127 {
-            return Some(i128::MIN);
-        }
-        if n > 1 << 127 {
-            return None;
-        }
-        Some(-(n as i128))
-    } else {
-        if n >= 1 << 127 {
-            return None;
-        }
-        Some(n as i128)
+    match sign {
+        Sign::Plus if n >= 1 << 127 => None,
+        Sign::Plus => Some(n as i128),
+        Sign::Minus if n > 1 << 127 => None,
+        Sign::Minus if n == 1 << 127 => Some(i128::MIN),
+        Sign::Minus => Some(-(n as i128)),
     }
 }
 
 /// The value of the character, if it is a digit of the base.
 #[inline]
 #[tactic(auto, unfolding(crate::specs::Numbers::is_digit_of))]
-fn digit_of(c: char, radix: u32) -> Option<u32>
-    requires low { 2 ≤ radix }
-    requires high { radix ≤ 16 }
-    ensures { IsDigit radix c result }
+fn digit_of(c: char, radix: Radix) -> Option<u32>
+    ensures { IsDigit (radix_of radix) c result }
 {
-    c.to_digit(radix)
+    c.to_digit(radix.value())
 }
 
-/// Advances past a sign if one is here. Returns whether it is `-`.
+/// Advances past a sign if one is here, and returns it.
 #[inline(always)]
-fn sign(cursor: &mut Cursor) -> bool
-    ensures reads { Sign cursor.old.rest cursor.new.rest result }
+fn read_sign(cursor: &mut Cursor) -> Sign
+    ensures reads { spec.Sign cursor.old.rest cursor.new.rest (is_minus result) }
     ensures moves { Moves cursor.old cursor.new }
     ensures costs { Costs 2 1 cursor.old cursor.new }
 {
     match cursor.look() {
         Some('-') => {
             cursor.step();
-            true
+            Sign::Minus
         }
         Some('+') => {
             cursor.step();
-            false
+            Sign::Plus
         }
-        _ => false,
+        _ => Sign::Plus,
     }
 }
 
@@ -245,10 +273,8 @@ fn eat_base_prefix(cursor: &mut Cursor) -> Radix
 /// Advances past the digits of the base and the `_` here. Returns the number `before` with these
 /// digits appended.
 #[inline(never)]
-fn more_digits(cursor: &mut Cursor, radix: u32, before: Magnitude) -> Magnitude
-    requires low { 2 ≤ radix }
-    requires high { radix ≤ 16 }
-    ensures reads { ReadsDigits radix before result cursor.old.rest cursor.new.rest }
+fn more_digits(cursor: &mut Cursor, radix: Radix, before: Magnitude) -> Magnitude
+    ensures reads { ReadsDigits (radix_of radix) before result cursor.old.rest cursor.new.rest }
     ensures moves { Moves cursor.old cursor.new }
     ensures costs { Costs 2 1 cursor.old cursor.new }
 {
@@ -258,7 +284,7 @@ fn more_digits(cursor: &mut Cursor, radix: u32, before: Magnitude) -> Magnitude
             Some('_') => cursor.step(),
             Some(c) => match digit_of(c, radix) {
                 Some(digit) => {
-                    magnitude = magnitude.with_digit(radix, digit);
+                    magnitude = magnitude.with_digit(radix.value(), digit);
                     cursor.step();
                 }
                 None => return magnitude,
@@ -271,10 +297,8 @@ fn more_digits(cursor: &mut Cursor, radix: u32, before: Magnitude) -> Magnitude
 /// Advances past the digits of the base and the `_` here. Returns the number `before` with these
 /// digits appended, in 64 bits as long as it is below 2^59.
 #[inline(always)]
-fn digits<'a>(cursor: &mut Cursor<'a>, radix: u32, before: u64) -> Magnitude
-    requires low { 2 ≤ radix }
-    requires high { radix ≤ 16 }
-    ensures reads { ReadsDigits radix (Small before) result cursor.old.rest cursor.new.rest }
+fn digits<'a>(cursor: &mut Cursor<'a>, radix: Radix, before: u64) -> Magnitude
+    ensures reads { ReadsDigits (radix_of radix) (Small before) result cursor.old.rest cursor.new.rest }
     ensures moves { Moves cursor.old cursor.new }
     ensures costs { Costs 2 1 cursor.old cursor.new }
 {
@@ -285,7 +309,7 @@ fn digits<'a>(cursor: &mut Cursor<'a>, radix: u32, before: u64) -> Magnitude
             Some('_') => here.step(),
             Some(c) => match digit_of(c, radix) {
                 Some(digit) => {
-                    small = small * u64::from(radix) + u64::from(digit);
+                    small = small * u64::from(radix.value()) + u64::from(digit);
                     here.step();
                 }
                 None => {
@@ -305,10 +329,8 @@ fn digits<'a>(cursor: &mut Cursor<'a>, radix: u32, before: u64) -> Magnitude
 
 /// Advances past an integer of the base, if one is here: a digit, then digits and `_`.
 #[inline(always)]
-fn integer(cursor: &mut Cursor, radix: u32) -> Option<Magnitude>
-    requires low { 2 ≤ radix }
-    requires high { radix ≤ 16 }
-    ensures reads { ReadsInteger radix result cursor.old.rest cursor.new.rest }
+fn integer(cursor: &mut Cursor, radix: Radix) -> Option<Magnitude>
+    ensures reads { ReadsInteger (radix_of radix) result cursor.old.rest cursor.new.rest }
     ensures moves { Moves cursor.old cursor.new }
     ensures costs { Costs 2 1 cursor.old cursor.new }
 {
@@ -330,15 +352,14 @@ fn more_decimals(cursor: &mut Cursor, before: u64) -> Magnitude
     ensures moves { Moves cursor.old cursor.new }
     ensures costs { Costs 2 1 cursor.old cursor.new }
 {
-    digits(cursor, 10, before)
+    digits(cursor, Radix::Decimal, before)
 }
 
 /// Advances past a decimal integer, if one is here: a digit, then digits and `_`. Most have no `_`
-/// and a small value. `plain` stays true only if no `_` was read.
+/// and a small value.
 #[inline(always)]
-fn decimal_integer(cursor: &mut Cursor, plain: &mut bool) -> Option<Magnitude>
-    ensures reads { ReadsInteger 10 result cursor.old.rest cursor.new.rest }
-    ensures plain { IfSome result (λ _. PlainSince plain.old plain.new cursor.old.rest cursor.new.rest) }
+fn decimal_integer(cursor: &mut Cursor) -> Option<(Magnitude, Underscores)>
+    ensures reads { ReadsDecimal 10 result cursor.old.rest cursor.new.rest }
     ensures moves { Moves cursor.old cursor.new }
     ensures costs { Costs 2 1 cursor.old cursor.new }
 {
@@ -347,27 +368,25 @@ fn decimal_integer(cursor: &mut Cursor, plain: &mut bool) -> Option<Magnitude>
         return None;
     }
     if more {
-        *plain = false;
-        return Some(more_decimals(cursor, value));
+        return Some((more_decimals(cursor, value), Underscores::Possible));
     }
-    Some(Magnitude::Small(value))
+    Some((Magnitude::Small(value), Underscores::Absent))
 }
 
-/// Advances past an integer of the base, if one is here. `plain` stays true only if the base is 10 and
-/// no `_` was read.
+/// Advances past an integer of the base, if one is here.
 #[inline(always)]
-fn integer_in(cursor: &mut Cursor, radix: Radix, plain: &mut bool) -> Option<Magnitude>
-    ensures reads { ReadsInteger (radix_of radix) result cursor.old.rest cursor.new.rest }
-    ensures ten { plain.new ≡ true → radix ≡ Radix.Decimal }
-    ensures plain { IfSome result (λ _. PlainSince plain.old plain.new cursor.old.rest cursor.new.rest) }
+fn integer_in(cursor: &mut Cursor, radix: Radix) -> Option<(Magnitude, Underscores)>
+    ensures reads { ReadsDecimal (radix_of radix) result cursor.old.rest cursor.new.rest }
     ensures moves { Moves cursor.old cursor.new }
     ensures costs { Costs 2 1 cursor.old cursor.new }
 {
     if let Radix::Decimal = radix {
-        return decimal_integer(cursor, plain);
+        return decimal_integer(cursor);
     }
-    *plain = false;
-    integer(cursor, radix.value())
+    match integer(cursor, radix) {
+        Some(magnitude) => Some((magnitude, Underscores::Possible)),
+        None => None,
+    }
 }
 
 /// Whether no identifier character is here. The characters that most often follow digits are tested
@@ -403,67 +422,63 @@ pub fn begins_number(cursor: &mut Cursor) -> bool
 /// The front of a number, up to the end of its first integer.
 #[derive(Clone, Copy)]
 struct Front {
-    minus: bool,
+    sign: Sign,
     radix: Radix,
     magnitude: Magnitude,
+    underscores: Underscores,
 }
 
-/// Advances past the sign, the prefix of a base and the integer with which a number begins. `plain`
-/// stays true only if no `_` was read.
+/// Advances past the sign, the prefix of a base and the integer with which a number begins.
 #[inline(always)]
-fn read_front(cursor: &mut Cursor, plain: &mut bool) -> Result<Front, NumberFault>
+fn read_front(cursor: &mut Cursor) -> Result<Front, NumberFault>
     ensures reads { ReadsFront result cursor.old.rest cursor.new.rest }
-    ensures plain { IfOk result (λ _. PlainSince plain.old plain.new cursor.old.rest cursor.new.rest) }
     ensures fault { IsFault result cursor.old.rest cursor.new.rest }
     ensures moves { Moves cursor.old cursor.new }
     ensures costs { Costs 2 4 cursor.old cursor.new }
     ensures shorter { IfOk result (λ f. length cursor.new.rest < length cursor.old.rest) }
 {
-    let minus = sign(cursor);
+    let sign = read_sign(cursor);
     let radix = eat_base_prefix(cursor);
-    match integer_in(cursor, radix, plain) {
-        Some(magnitude) => Ok(Front {
-            minus,
+    match integer_in(cursor, radix) {
+        Some((magnitude, underscores)) => Ok(Front {
+            sign,
             radix,
             magnitude,
+            underscores,
         }),
         None => Err(NumberFault::MissingDigits(radix)),
     }
 }
 
-/// Advances past a point and an integer, if a point is here. Returns whether it is. `plain` stays
-/// true only if no `_` was read.
-fn fraction(cursor: &mut Cursor, plain: &mut bool) -> Result<bool, NumberFault>
+/// Advances past a point and an integer, if a point is here. Returns `None` if no point is here.
+fn fraction(cursor: &mut Cursor) -> Result<Option<Underscores>, NumberFault>
     ensures reads { ReadsFraction result cursor.old.rest cursor.new.rest }
-    ensures plain { IfOk result (λ _. PlainSince plain.old plain.new cursor.old.rest cursor.new.rest) }
     ensures fault { IsPartFault result cursor.old.rest cursor.new.rest }
     ensures moves { Moves cursor.old cursor.new }
     ensures costs { Costs 2 2 cursor.old cursor.new }
 {
     if !cursor.eat('.') {
-        return Ok(false);
+        return Ok(None);
     }
-    match decimal_integer(cursor, plain) {
-        Some(_) => Ok(true),
+    match decimal_integer(cursor) {
+        Some((_, underscores)) => Ok(Some(underscores)),
         None => Err(NumberFault::MissingFraction),
     }
 }
 
-/// Advances past an exponent, if its letter is here. Returns whether it is. `plain` stays true only
-/// if no `_` was read.
-fn exponent(cursor: &mut Cursor, plain: &mut bool) -> Result<bool, NumberFault>
+/// Advances past an exponent, if its letter is here. Returns `None` if the letter is not here.
+fn exponent(cursor: &mut Cursor) -> Result<Option<Underscores>, NumberFault>
     ensures reads { ReadsExponent result cursor.old.rest cursor.new.rest }
-    ensures plain { IfOk result (λ _. PlainSince plain.old plain.new cursor.old.rest cursor.new.rest) }
     ensures fault { IsPowerFault result cursor.old.rest cursor.new.rest }
     ensures moves { Moves cursor.old cursor.new }
     ensures costs { Costs 2 3 cursor.old cursor.new }
 {
     if !eat_exponent_letter(cursor) {
-        return Ok(false);
+        return Ok(None);
     }
-    let _ = sign(cursor);
-    match decimal_integer(cursor, plain) {
-        Some(_) => Ok(true),
+    let _ = read_sign(cursor);
+    match decimal_integer(cursor) {
+        Some((_, underscores)) => Ok(Some(underscores)),
         None => Err(NumberFault::MissingExponent),
     }
 }
@@ -482,30 +497,39 @@ fn eat_exponent_letter(cursor: &mut Cursor) -> bool
     }
 }
 
-/// Advances past what turns an integer into a decimal: a fraction, an exponent, or both. `plain`
-/// stays true only if no `_` was read.
-fn decimal_part(cursor: &mut Cursor, plain: &mut bool) -> Result<(), NumberFault>
+/// Whether a fraction and an exponent may contain `_`, or `None` if neither is there.
+fn joined(point: Option<Underscores>, power: Option<Underscores>) -> Option<Underscores>
+    ensures { result ≡ joined point power }
+{
+    match (point, power) {
+        (Some(a), Some(b)) => Some(a.with(b)),
+        (Some(a), None) => Some(a),
+        (None, _) => power,
+    }
+}
+
+/// Advances past what turns an integer into a decimal: a fraction, an exponent, or both.
+fn decimal_part(cursor: &mut Cursor) -> Result<Underscores, NumberFault>
     ensures reads { ReadsPart result cursor.old.rest cursor.new.rest }
-    ensures plain { IfOk result (λ _. PlainSince plain.old plain.new cursor.old.rest cursor.new.rest) }
     ensures fault { IsPartFault result cursor.old.rest cursor.new.rest }
     ensures moves { Moves cursor.old cursor.new }
     ensures costs { Costs 2 6 cursor.old cursor.new }
 {
-    let point = match fraction(cursor, plain) {
+    let point = match fraction(cursor) {
         Ok(point) => point,
         Err(fault) => return Err(fault),
     };
-    let power = match exponent(cursor, plain) {
+    let power = match exponent(cursor) {
         Ok(power) => power,
         Err(fault) => return Err(fault),
     };
-    if !point && !power {
+    let Some(underscores) = joined(point, power) else {
         return Err(NumberFault::Trailing(Radix::Decimal));
-    }
+    };
     if !is_end(cursor) {
         return Err(NumberFault::TrailingDecimal);
     }
-    Ok(())
+    Ok(underscores)
 }
 
 /// Whether no character is `_`.
@@ -534,19 +558,19 @@ fn push_plain(out: &mut String, mut characters: Characters) -> Result<(), AllocE
     Ok(())
 }
 
-/// A copy of the segment without its `_`. If `plain`, it has none.
+/// A copy of the segment without its `_`.
 fn without_underscores<'a>(
     alloc: Global,
     segment: &Segment<'a>,
-    plain: bool,
+    underscores: Underscores,
     cursor: &mut Cursor<'a>,
 ) -> Result<String, AllocError>
-    requires plain { plain ≡ true → list_all (λ c. not (c == 95)) segment.now ≡ true }
+    requires underscores { Contains underscores segment.now }
     requires part { IsPart cursor.old.text segment.now }
     ensures plain { IfOk result (λ s. chars (string_bytes s) ≡ spec.plain segment.now) }
     ensures returned { Returned (2 * bytes segment.now + 1) cursor.old cursor.new }
 {
-    if plain {
+    if let Underscores::Absent = underscores {
         return cursor.characters(segment).into_piece().to_string(alloc);
     }
     if has_no_underscore(cursor.characters(segment)) {
@@ -561,11 +585,11 @@ fn without_underscores<'a>(
 /// Returns the number with its sign, if it fits in an `i128`.
 fn whole(number: Front) -> Result<Number, NumberFailure>
     ensures { (n : ℕ) → Counts number.magnitude n
-        → result ≡ (if spec.fits number.minus n
-        then Ok (Number.Integer (spec.signed number.minus n))
+        → result ≡ (if spec.fits (is_minus number.sign) n
+        then Ok (Number.Integer (spec.signed (is_minus number.sign) n))
         else Err (NumberFailure.Fault NumberFault.OutOfRange)) }
 {
-    match number.magnitude.signed(number.minus) {
+    match number.magnitude.signed(number.sign) {
         Ok(n) => Ok(Number::Integer(n)),
         Err(_) => Err(NumberFailure::Fault(NumberFault::OutOfRange)),
     }
@@ -584,8 +608,7 @@ pub fn read_number(alloc: Global, cursor: &mut Cursor) -> Result<Number, NumberF
     ensures most { Costs 4 12 cursor.old cursor.new }
 {
     let start = cursor.checkpoint();
-    let mut plain = true;
-    let number = match read_front(cursor, &mut plain) {
+    let number = match read_front(cursor) {
         Ok(number) => number,
         Err(fault) => return Err(NumberFailure::Fault(fault)),
     };
@@ -595,11 +618,12 @@ pub fn read_number(alloc: Global, cursor: &mut Cursor) -> Result<Number, NumberF
     let Radix::Decimal = number.radix else {
         return Err(NumberFailure::Fault(NumberFault::Trailing(number.radix)));
     };
-    if let Err(fault) = decimal_part(cursor, &mut plain) {
-        return Err(NumberFailure::Fault(fault));
-    }
+    let underscores = match decimal_part(cursor) {
+        Ok(underscores) => number.underscores.with(underscores),
+        Err(fault) => return Err(NumberFailure::Fault(fault)),
+    };
     let segment = start.up_to(&cursor.checkpoint());
-    match without_underscores(alloc, &segment, plain, cursor) {
+    match without_underscores(alloc, &segment, underscores, cursor) {
         Ok(text) => Ok(Number::Decimal(text)),
         Err(_) => Err(NumberFailure::Memory),
     }
@@ -650,14 +674,13 @@ fn is_plain_decimal(text: &str) -> bool
 {
     let mut cursor = Cursor::new(text, Steps::new());
     let start = cursor.checkpoint();
-    let mut plain = true;
-    let Ok(number) = read_front(&mut cursor, &mut plain) else {
+    let Ok(number) = read_front(&mut cursor) else {
         return false;
     };
     let Radix::Decimal = number.radix else {
         return false;
     };
-    let Ok(()) = decimal_part(&mut cursor, &mut plain) else {
+    let Ok(_) = decimal_part(&mut cursor) else {
         return false;
     };
     let segment = start.up_to(&cursor.checkpoint());

@@ -2,6 +2,7 @@
 //!
 //! Each reader begins at the first character of the string, and leaves the cursor after its last
 //! one.
+#![tactic(auto, using(crate::proofs::Looking::Returns::advancing))]
 
 ghost use Rattle.kdl_text.specs.Bare as bare;
 ghost use Rattle.kdl_text.specs.Bare.{BareString};

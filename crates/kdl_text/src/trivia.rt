@@ -1,4 +1,5 @@
 //! Trivia: comments, spaces, esclines, and `/-`.
+#![tactic(auto, using(crate::proofs::Looking::Returns::advancing))]
 
 ghost use Rattle.kdl_text.specs.Chars.{begins, begins_two, Space};
 ghost use Rattle.kdl_text.specs.Internal.Here.{AteTwo};

@@ -1,7 +1,7 @@
 -- What is read costs so much, whether or not it is right.
 use Rattle.std.proofs.Common.{◌≡◌, ℕ, ◌+◌, ◌*◌, ◌≤◌, ◌++◌, length, length-append, ap, arith}
 use Rattle.kdl_text.specs.Chars.{Text}
-use Rattle.kdl_text.specs.Internal.Here.{Here, Took, Ran, Returned, Stayed, sliced, looked}
+use Rattle.kdl_text.specs.Internal.Here.{Here, Took, Ran, Returned, Stayed, sliced}
 use Rattle.kdl_text.specs.Spans.{bytes}
 use Rattle.kdl_text.specs.Internal.Reading.{Moves, Costs}
 use Rattle.std.specs.Prelude.{Some, Bool}
@@ -29,10 +29,6 @@ copied_most p a b e k h r = record {
   most = omega (arith, k.most, ap bytes h, bytes-append p b.rest, r.most, ap bytes r.rest);
   least = omega (arith, k.least, r.counts, ap length r.rest);
 }
-
--- no number sign is here
-pub none_most : (a b : Here) → b ≡ looked a → Costs 4 4 a b
-none_most a b e = record { most = omega (arith, ap (λ z. bytes z.rest) e, ap (λ z. z.steps) e); least = omega (arith, ap (λ z. length z.rest) e, ap (λ z. z.steps) e) }
 
 -- a number sign, a word and a slice of it
 pub word_most : (c : ℕ) (q : ℕ → Bool) (run p : Text) (a b d e : Here) → Took (Some c) a b → Ran q run b d → b.rest ≡ p ++ d.rest → e ≡ sliced p d → Costs 4 4 a e

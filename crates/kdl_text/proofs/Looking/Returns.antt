@@ -4,6 +4,8 @@ use Rattle.kdl_text.specs.Chars.{Text}
 use Rattle.kdl_text.specs.Internal.Here.{Here, Returned, sliced}
 use Rattle.kdl_text.specs.Internal.Reading.{Moves}
 use Rattle.kdl_text.specs.Spans.{bytes}
+use Rattle.kdl_text.proofs.Looking.MovesJoin.{moves_then, moves_one, moves_two, moves_stayed, stayed_looked, took_from, fewer_bytes}
+use Rattle.kdl_text.proofs.Looking.SliceCost.{moves_ran}
 
 pub moves_returned : {k : ℕ} {a b : Here} → Returned k a b → Moves a b
 moves_returned r = record { piece = ([], sym r.rest); at = omega (arith, r.at, ap bytes r.rest); counts = r.counts; same = r.same }
@@ -25,3 +27,6 @@ sliced_returned p a b e = record { rest = ap (λ z. z.rest) e; at = ap (λ z. z.
 
 pub returned_none : (a : Here) → Returned 0 a a
 returned_none a = record { rest = refl; at = refl; most = omega arith; counts = omega arith; same = refl }
+
+-- what a cursor did, one call after another
+pub ruleset advancing = (moves_then, moves_one, moves_two, moves_stayed, moves_ran, moves_returned, stayed_looked, took_from, fewer_bytes)

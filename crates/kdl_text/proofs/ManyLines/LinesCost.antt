@@ -7,28 +7,12 @@ use Rattle.kdl_text.specs.Internal.Lines.{CostsWith, line_room, lines_room}
 use Rattle.kdl_text.specs.Spans.{bytes}
 use Rattle.kdl_text.specs.declared.strings.dedent.Line.{Line}
 use Rattle.kdl_text.specs.Internal.Reading.{Moves, Costs}
-use Rattle.kdl_text.proofs.Looking.MovesJoin.{fewer_bytes, moves_then}
+use Rattle.kdl_text.proofs.Looking.MovesJoin.{moves_then}
 use Rattle.kdl_text.proofs.Looking.Returns.{moves_returned}
 
 -- a newline, lines whose dedent takes n steps, and their dedent
 pub dedent_moves : (n : ℕ) (a m e h : Here) → Moves a m → Moves m e → Returned n e h → Moves a h
 dedent_moves n a m e h v w r = moves_then v (moves_then w (moves_returned r))
-
-pub lines_cost : (c n : ℕ) (a m e h : Here) → 2 ≤ c → Moves a m → Costs 2 1 a m → CostsWith n m e → Returned (n + 1) e h → Costs 4 c a h
-lines_cost c n a m e h le v k d r = record {
-  most = omega (arith, fewer_bytes v, k.most, d.most, r.most, ap bytes r.rest, le);
-  least = omega (arith, k.least, d.least, r.counts, ap length r.rest);
-}
-
-pub lines_fail : (c : ℕ) (a m e : Here) → 2 ≤ c → Moves a m → Costs 2 1 a m → Costs 4 1 m e → Costs 4 c a e
-lines_fail c a m e le v k d = record { most = omega (arith, fewer_bytes v, k.most, d.most, le); least = omega (arith, k.least, d.least) }
-
--- lines that were read, and one that was not
-pub lines_stop : (n : ℕ) (f a b : Here) → CostsWith n f a → Costs 4 1 a b → Costs 4 1 f b
-lines_stop n f a b i k = record { most = omega (arith, i.most, k.most); least = omega (arith, i.least, k.least) }
-
-pub two_in_four : {a b : Here} → Moves a b → Costs 2 1 a b → Costs 4 1 a b
-two_in_four m k = record { most = omega (arith, fewer_bytes m, k.most); least = k.least }
 
 -- a line without escapes, of the piece p
 pub plain_costs : (p : Text) (a b : Here) → Costs 2 0 a b → bytes p + 1 + bytes b.rest ≤ bytes a.rest → CostsWith (2 * (bytes p + 1)) a b

@@ -1,5 +1,5 @@
 -- Readers of numbers that may be decimals, a step at a time.
-use Rattle.std.proofs.Common.{◌≡◌, ℕ, ◌<◌, ◌≤◌, [], ◌∷◌, ◌++◌, Bool, true, false, not, ◌||◌, ◌==◌, length, refl, ap, sym, ◌∙◌, subst, arith, ℤ, Some, ◌↔◌, lit≤, length-append, ◌⊎◌, inl, inr, append-nil, IsTrue, cond, suc, ◌&&◌, ◌+◌, ◌*◌, eqb-true}
+use Rattle.std.proofs.Common.{◌≡◌, ℕ, ◌<◌, ◌≤◌, [], ◌∷◌, ◌++◌, Bool, true, false, not, ◌||◌, ◌==◌, length, refl, ap, sym, ◌∙◌, subst, arith, ℤ, Some, None, ◌↔◌, lit≤, length-append, append-nil, IsTrue, cond, suc, ◌&&◌, ◌+◌, ◌*◌, eqb-true}
 use Rattle.std.specs.Prelude.{if◌then◌else◌, Result, Ok, Err, IfOk, Option}
 use Rattle.std.specs.Option.{is_some}
 use Rattle.std.specs.List.{list_all}
@@ -12,7 +12,10 @@ use Rattle.kdl_text.specs.Numbers.{is_digit_of, Sign, BasePrefix, Integer, Whole
 use Rattle.kdl_text.specs.Numbers.BasePrefix.{ten, other}
 use Rattle.kdl_text.specs.Numbers.Fraction.{none as no_fraction, fraction}
 use Rattle.kdl_text.specs.Numbers.Exponent.{none as no_exponent, exponent}
-use Rattle.kdl_text.specs.Internal.NumberReading.{Begun, FaultAt, IsNumberFault, Counts, IsFront, ReadsInteger, ReadsNumber, AteExponentLetter, radix_of}
+use Rattle.kdl_text.specs.Internal.DigitRuns.{BareIf, joined, with_underscores}
+use Rattle.kdl_text.specs.Internal.NumberReading.{Begun, FaultAt, IsNumberFault, Counts, IsFront, ReadsInteger, ReadsFraction, ReadsExponent, ReadsNumber, AteExponentLetter, is_minus, radix_of}
+use Rattle.kdl_text.specs.declared.numbers.Underscores.{Underscores}
+use Rattle.kdl_text.proofs.Numeric.PlainDigits.{bare_both}
 use Rattle.kdl_text.specs.declared.numbers.Magnitude.{Magnitude}
 use Rattle.kdl_text.specs.declared.numbers.Front.{Front}
 use Rattle.kdl_text.specs.declared.numbers.Radix.{Radix}
@@ -46,31 +49,31 @@ ten_stays (other {c = c} {d = d} {r = r} h) = absurd (no_ten c d r h)
 module _ (f : Front) (t u : Text) (x : IsFront f t u) where
   -- a decimal is of base 10, and goes on
   pub front_decimal : (r w : Text) → Decimal t r w → (radix_of f.radix ≡ 10) × DecimalPart u r
-  front_decimal r w d = part_of t x.after_sign x.after_base u x.digits r f.minus (radix_of f.radix) w x.sign x.base x.int d
+  front_decimal r w d = part_of t x.after_sign x.after_base u x.digits r (is_minus f.sign) (radix_of f.radix) w x.sign x.base x.int d
 
   pub front_trailing : false ≡ not (starts is_identifier_char u) → (r : Text) (z : ℤ) → WholeNumber t r z → ⊥
   front_trailing h r z w =
-      let e = (whole_is t x.after_sign x.after_base u x.digits r f.minus (radix_of f.radix) z x.sign x.base x.int w).ends in
+      let e = (whole_is t x.after_sign x.after_base u x.digits r (is_minus f.sign) (radix_of f.radix) z x.sign x.base x.int w).ends in
       let y : false ≡ true = h ∙ ap not e in cc
 
   -- a whole number ends here, and so no decimal
   pub front_number : (rest : Text) (result : Result Number NumberFailure) → rest ≡ u → true ≡ not (starts is_identifier_char u)
-      → ((q : ℕ) → Counts f.magnitude q → result ≡ (if fits f.minus q then Ok (IntegerNumber (signed f.minus q)) else Err (Fault OutOfRange))) → ReadsNumber result t rest
-  front_number rest result r h g = rw (g (digits_value (radix_of f.radix) x.digits) x.counts) (go (fits f.minus (digits_value (radix_of f.radix) x.digits)) refl)
+      → ((q : ℕ) → Counts f.magnitude q → result ≡ (if fits (is_minus f.sign) q then Ok (IntegerNumber (signed (is_minus f.sign) q)) else Err (Fault OutOfRange))) → ReadsNumber result t rest
+  front_number rest result r h g = rw (g (digits_value (radix_of f.radix) x.digits) x.counts) (go (fits (is_minus f.sign) (digits_value (radix_of f.radix) x.digits)) refl)
     where
       ends : (b : Bool) → true ≡ not b → b ≡ false
       ends true h = cc
       ends false h = refl
 
-      found : fits f.minus (digits_value (radix_of f.radix) x.digits) ≡ true → WholeNumber t rest (signed f.minus (digits_value (radix_of f.radix) x.digits))
+      found : fits (is_minus f.sign) (digits_value (radix_of f.radix) x.digits) ≡ true → WholeNumber t rest (signed (is_minus f.sign) (digits_value (radix_of f.radix) x.digits))
       found y = rw r (whole x.sign x.base x.int (ends _ h) y refl)
 
-      none : (v : Text) (w : NumberValue) → fits f.minus (digits_value (radix_of f.radix) x.digits) ≡ false → IsNumber t v w → ⊥
-      none v w y (is_whole {z = z} i) = let c = (whole_is t x.after_sign x.after_base u x.digits v f.minus (radix_of f.radix) z x.sign x.base x.int i).fits in cc
+      none : (v : Text) (w : NumberValue) → fits (is_minus f.sign) (digits_value (radix_of f.radix) x.digits) ≡ false → IsNumber t v w → ⊥
+      none v w y (is_whole {z = z} i) = let c = (whole_is t x.after_sign x.after_base u x.digits v (is_minus f.sign) (radix_of f.radix) z x.sign x.base x.int i).fits in cc
       none v w y (is_decimal {w = w'} d) = let c = part_begins (front_decimal v w' d).1 in let e = ends _ h in cc
 
-      go : (b : Bool) → fits f.minus (digits_value (radix_of f.radix) x.digits) ≡ b
-          → ReadsNumber (if b then Ok (IntegerNumber (signed f.minus (digits_value (radix_of f.radix) x.digits))) else Err (Fault OutOfRange)) t rest
+      go : (b : Bool) → fits (is_minus f.sign) (digits_value (radix_of f.radix) x.digits) ≡ b
+          → ReadsNumber (if b then Ok (IntegerNumber (signed (is_minus f.sign) (digits_value (radix_of f.radix) x.digits))) else Err (Fault OutOfRange)) t rest
       go true y = λ v z. (λ w. number_det w (is_whole (found y)), λ (p, q). rw (p, q) (is_whole (found y)))
       go false y = λ v w i. none v w y i
 
@@ -127,13 +130,37 @@ broken {r = r} is g h (exponent {t = u} {w = w} y k i) = let z = integer_digit (
 pub exponent_broken : (n : Bool) (a b d : Here) → AteExponentLetter true a b → Sign b.rest d.rest n → starts (is_digit_of 10) d.rest ≡ false → (r : Text) (p : Bool) → Exponent a.rest r p → ⊥
 exponent_broken n a b d (c, is, t) g h r p x = broken is g h (subst (λ q. Exponent q r p) t.0 x)
 
-pub either : (a b : Bool) → ((a ≡ false) × (b ≡ true)) ⊎ (a ≡ true) → (a || b) ≡ true
-either true b h = refl
-either false b (inl h) = h.1
-either false b (inr h) = cc
+-- a fraction and an exponent, which are there or not
+pub fraction_of : (o : Option Underscores) (s r : Text) → ReadsFraction (Ok o) s r → Fraction s r (is_some o)
+fraction_of None s r h = h
+fraction_of (Some u) s r h = h.0
 
-pub neither : (a b : Bool) → a ≡ false → b ≡ false → (a || b) ≡ false
-neither a b x y = rw (x, y) refl
+pub exponent_of : (o : Option Underscores) (s r : Text) → ReadsExponent (Ok o) s r → Exponent s r (is_some o)
+exponent_of None s r h = h
+exponent_of (Some u) s r h = h.0
+
+pub joined_some : (a b : Option Underscores) (u : Underscores) → joined a b ≡ Some u → (is_some a || is_some b) ≡ true
+joined_some (Some v) b u e = refl
+joined_some None (Some v) u e = refl
+joined_some None None u e = cc
+
+pub joined_none : (a b : Option Underscores) → joined a b ≡ None → (is_some a || is_some b) ≡ false
+joined_none (Some v) (Some w) e = cc
+joined_none (Some v) None e = cc
+joined_none None (Some w) e = cc
+joined_none None None e = refl
+
+fraction_off : {s r : Text} → Fraction s r false → s ≡ r
+fraction_off (no_fraction h) = refl
+
+exponent_off : {s r : Text} → Exponent s r false → s ≡ r
+exponent_off (no_exponent h) = refl
+
+pub joined_bare : (a b : Option Underscores) (u : Underscores) (s t r : Text) → joined a b ≡ Some u → ReadsFraction (Ok a) s t → ReadsExponent (Ok b) t r → BareIf u s r
+joined_bare (Some v) (Some w) u s t r e h k = let is : with_underscores v w ≡ u = cc in subst (λ z. BareIf z s r) is (bare_both v w s t r h.1 k.1)
+joined_bare (Some v) None u s t r e h k = let is : v ≡ u = cc in subst (λ z. BareIf z s r) is (subst (BareIf v s) (exponent_off k) h.1)
+joined_bare None (Some w) u s t r e h k = let is : w ≡ u = cc in subst (λ z. BareIf z s r) is (subst (λ z. BareIf w z r) (sym (fraction_off h)) k.1)
+joined_bare None None u s t r e h k = cc
 
 -- the part that makes a decimal
 pub part_broken : (t s : Text) (a : Bool) → Fraction t s a → ((r : Text) (b : Bool) → Exponent s r b → ⊥) → (r : Text) → DecimalPart t r → ⊥
@@ -182,7 +209,7 @@ copied_costs p a b e h k r less =
 costs_stayed : (a b : Here) → Stayed 1 a b → Costs 2 1 a b
 costs_stayed a b s = record { most = omega (arith, ap bytes s.rest, s.steps); least = omega (arith, ap length s.rest, s.steps) }
 
-always : {A E : Type 0} (r : Result A E) (P : Type 0) → P → IfOk r (λ n. P)
+pub always : {A E : Type 0} (r : Result A E) (P : Type 0) → P → IfOk r (λ n. P)
 always (Ok n) P h = h
 always (Err x) P h = tt
 
@@ -284,15 +311,15 @@ no_underscore_here c s ne = go (c == 95) refl
 module _ (f : Front) (t u : Text) (x : IsFront f t u) where
   begun : (rest : Text) → rest ≡ u → Begun f.radix t rest
   begun rest e =
-      rw e (record { after_sign = x.after_sign; after_base = x.after_base; digits = x.digits; negative = f.minus; sign = x.sign; base = x.base; int = x.int })
+      rw e (record { after_sign = x.after_sign; after_base = x.after_base; digits = x.digits; negative = (is_minus f.sign); sign = x.sign; base = x.base; int = x.int })
 
-  range : (rest : Text) → rest ≡ u → fits f.minus (digits_value (radix_of f.radix) x.digits) ≡ false → FaultAt OutOfRange t rest
-  range rest e h = rw e (f.radix, record { after_sign = x.after_sign; after_base = x.after_base; digits = x.digits; negative = f.minus; sign = x.sign; base = x.base; int = x.int }, h)
+  range : (rest : Text) → rest ≡ u → fits (is_minus f.sign) (digits_value (radix_of f.radix) x.digits) ≡ false → FaultAt OutOfRange t rest
+  range rest e h = rw e (f.radix, record { after_sign = x.after_sign; after_base = x.after_base; digits = x.digits; negative = (is_minus f.sign); sign = x.sign; base = x.base; int = x.int }, h)
 
-  pub number_range : (rest : Text) (result : Result Number NumberFailure) → rest ≡ u → ((q : ℕ) → Counts f.magnitude q → result ≡ (if fits f.minus q then Ok (IntegerNumber (signed f.minus q)) else Err (Fault OutOfRange))) → IsNumberFault result t rest
-  number_range rest result e g = rw (g (digits_value (radix_of f.radix) x.digits) x.counts) (go (fits f.minus (digits_value (radix_of f.radix) x.digits)) refl)
+  pub number_range : (rest : Text) (result : Result Number NumberFailure) → rest ≡ u → ((q : ℕ) → Counts f.magnitude q → result ≡ (if fits (is_minus f.sign) q then Ok (IntegerNumber (signed (is_minus f.sign) q)) else Err (Fault OutOfRange))) → IsNumberFault result t rest
+  number_range rest result e g = rw (g (digits_value (radix_of f.radix) x.digits) x.counts) (go (fits (is_minus f.sign) (digits_value (radix_of f.radix) x.digits)) refl)
     where
-      go : (b : Bool) → fits f.minus (digits_value (radix_of f.radix) x.digits) ≡ b → IsNumberFault {A = Number} (if b then Ok (IntegerNumber (signed f.minus (digits_value (radix_of f.radix) x.digits))) else Err (Fault OutOfRange)) t rest
+      go : (b : Bool) → fits (is_minus f.sign) (digits_value (radix_of f.radix) x.digits) ≡ b → IsNumberFault {A = Number} (if b then Ok (IntegerNumber (signed (is_minus f.sign) (digits_value (radix_of f.radix) x.digits))) else Err (Fault OutOfRange)) t rest
       go true h = tt
       go false h = range rest e h
 

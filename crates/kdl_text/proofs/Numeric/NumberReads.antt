@@ -14,7 +14,7 @@ use Rattle.kdl_text.specs.Numbers.Digits.{stop, digit, underscore}
 use Rattle.kdl_text.specs.Internal.NumberReading.{Counts, IsDigit, ReadsDigits, ReadsInteger}
 use Rattle.kdl_text.specs.declared.numbers.Magnitude.{Magnitude}
 use Rattle.kdl_text.specs.declared.numbers.Magnitude.TheVariants.{Small}
-use Rattle.kdl_text.proofs.Looking.MovesJoin.{stays, moves_then, moves_one, stayed_looked, took_from, fewer_bytes, bytes-append}
+use Rattle.kdl_text.proofs.Looking.MovesJoin.{stays, moves_then, moves_one, stayed_looked, took_from, bytes-append}
 use Rattle.kdl_text.proofs.Looking.Runs.{length-bytes}
 
 pub value_after : (k : ℕ) (ds es : Text) (n : ℕ) → digits_value_after k n (ds ++ es) ≡ digits_value_after k (digits_value_after k n ds) es
@@ -60,19 +60,10 @@ pub digits_end : (k : ℕ) (before now : Magnitude) (f a b : Here) → InDigits 
 digits_end k before now f a b i x h =
     (i.read ++ [], i.on b.rest [] (subst (λ q. Digits k a.rest q []) (sym (stayed_looked a b x).rest) (stop h)), λ n g. subst (λ q. Counts now (digits_value_after k n q)) (sym (append-nil i.read)) (i.counts n g))
 
-pub digits_costs : (k : ℕ) (before now : Magnitude) (f a b : Here) → InDigits k before now f a → b ≡ looked a → Costs 2 1 f b
-digits_costs k before now f a b i x =
-    let s = stayed_looked a b x in
-    record { most = omega (arith, i.costs.most, s.steps, ap bytes s.rest, fewer_bytes i.moves); least = omega (arith, i.costs.least, s.steps, ap length s.rest) }
-
 -- the digits and `_` read so far, and the ones after them
 pub digits_more : (k : ℕ) (before now after : Magnitude) (f a : Here) (r : Text) → InDigits k before now f a → ReadsDigits k now after a.rest r → ReadsDigits k before after f.rest r
 digits_more k before now after f a r i (w, d, more) =
     (i.read ++ w, i.on r w d, λ n g. subst (Counts after) (sym (value_after k i.read w n)) (more (digits_value_after k n i.read) (i.counts n g)))
-
-pub more_costs : (k : ℕ) (before now : Magnitude) (f a e : Here) → InDigits k before now f a → Costs 2 1 a e → Costs 2 1 f e
-more_costs k before now f a e i m =
-    record { most = omega (arith, i.costs.most, m.most, fewer_bytes i.moves); least = omega (arith, i.costs.least, m.least) }
 
 pub not_part : (k c : ℕ) (s : Text) → Some c ≡ first s → (c ≡ 95 → ⊥) → is_digit_of k c ≡ false → starts (is_part k) s ≡ false
 not_part k c [] h ne n = cc

@@ -1,17 +1,19 @@
 -- Numbers in which no `_` is.
-use Rattle.std.proofs.Common.{◌≡◌, ℕ, [], ◌∷◌, ◌++◌, Bool, true, false, not, ◌==◌, ◌&&◌, refl, ap, sym, ◌∙◌, arith, append_assoc, ne_eqb}
+use Rattle.std.proofs.Common.{◌≡◌, ℕ, [], ◌∷◌, ◌++◌, Bool, true, false, not, ◌==◌, ◌&&◌, refl, ap, sym, ◌∙◌, arith, append_assoc, ne_eqb, eqb-true}
 use Rattle.std.proofs.lemmas.List.{append_cancel_right}
 use Rattle.std.proofs.lemmas.List.Folds.{list_all-append}
 use Rattle.std.proofs.lemmas.Str.Parse.{digit_from_value}
 use Rattle.std.specs.List.{list_all}
 use Rattle.std.specs.Str.Parse.{AllDigits}
 use Rattle.kdl_text.specs.Chars.{Text}
-use Rattle.kdl_text.specs.Numbers.{Sign, is_exponent_letter}
+use Rattle.std.proofs.lemmas.Bool.Decides.{nat_tests}
+use Rattle.std.specs.Prelude.{if◌then◌else◌, Some, None}
+use Rattle.kdl_text.specs.Numbers.{Sign, BasePrefix, base_of, base_prefix, is_exponent_letter}
+use Rattle.kdl_text.specs.Numbers.BasePrefix.{ten, other}
 use Rattle.kdl_text.specs.Numbers.Sign.{none, plus, minus}
-use Rattle.kdl_text.specs.Internal.DigitRuns.{Bare, PlainSince}
-
-pub bare_same : (s r : Text) → s ≡ r → Bare s r
-bare_same s r e = ([], e, refl)
+use Rattle.kdl_text.specs.Internal.DigitRuns.{Bare, BareIf, Contains, with_underscores}
+use Rattle.kdl_text.specs.declared.numbers.Underscores.{Underscores}
+use Rattle.kdl_text.specs.declared.numbers.Underscores.TheVariants.{Absent, Possible}
 
 pub bare_then : (s t r : Text) → Bare s t → Bare t r → Bare s r
 bare_then s t r (p, e, h) (q, f, k) =
@@ -37,9 +39,31 @@ bare_sign minus = (45 ∷ [], refl, refl)
 pub bare_exponent : (c : ℕ) (s r : Text) → is_exponent_letter c ≡ true → s ≡ c ∷ r → Bare s r
 bare_exponent c s r h e = bare_one c s r (ne_eqb c 95 (λ f. let x : is_exponent_letter 95 ≡ true = ap is_exponent_letter (sym f) ∙ h in cc)) e
 
-pub since_bare : (a : Bool) (s r : Text) → Bare s r → PlainSince a a s r
-since_bare a s r h e = (e, h)
+letter_bare : (d k : ℕ) → base_of d ≡ Some k → (d == 95) ≡ false
+letter_bare d k h = grind (arith, nat_tests)
+
+prefix_bare : (c d k : ℕ) (s : Text) → base_prefix (c ∷ d ∷ s) ≡ Some k → list_all (λ c. not (c == 95)) (c ∷ d ∷ []) ≡ true
+prefix_bare c d k s h = go (c == 48) refl h
+  where
+    go : (b : Bool) → (c == 48) ≡ b → (if b then base_of d else None) ≡ Some k → list_all (λ c. not (c == 95)) (c ∷ d ∷ []) ≡ true
+    go true e h = rw (eqb-true c 48 e, letter_bare d k h) refl
+    go false e h = cc
+
+pub bare_base : {s r : Text} {k : ℕ} → BasePrefix s r k → Bare s r
+bare_base (ten h) = ([], refl, refl)
+bare_base (other {c = c} {d = d} {radix = k} {r = r} h) = (c ∷ d ∷ [], refl, prefix_bare c d k r h)
+
+-- a piece without `_`, and one that may contain some
+pub bare_if : (u : Underscores) (s t r : Text) → Bare s t → BareIf u t r → BareIf u s r
+bare_if Absent s t r h k = bare_then s t r h k
+bare_if Possible s t r h k = tt
+
+-- two pieces that may contain some
+pub bare_both : (u v : Underscores) (s t r : Text) → BareIf u s t → BareIf v t r → BareIf (with_underscores u v) s r
+bare_both Absent v s t r h k = bare_if v s t r h k
+bare_both Possible v s t r h k = tt
 
 -- what was read since the start
-pub bare_piece : (p t r : Text) → t ≡ p ++ r → Bare t r → list_all (λ c. not (c == 95)) p ≡ true
-bare_piece p t r e (q, f, h) = let same : q ≡ p = append_cancel_right q p r (sym f ∙ e) in ap (list_all (λ c. not (c == 95))) (sym same) ∙ h
+pub bare_piece : (u : Underscores) (p t r : Text) → t ≡ p ++ r → BareIf u t r → Contains u p
+bare_piece Possible p t r e h = tt
+bare_piece Absent p t r e (q, f, h) = let same : q ≡ p = append_cancel_right q p r (sym f ∙ e) in ap (list_all (λ c. not (c == 95))) (sym same) ∙ h

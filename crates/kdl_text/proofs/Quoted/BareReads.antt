@@ -85,10 +85,6 @@ module _ (x t r : Text) (i : Run is_identifier_char t r) (e : t ≡ x ++ r) wher
       let (ends, same) = past_only s w (bare f h k) in
       false≢true (sym v ∙ ap bare_form (sym same) ∙ (bare_parts w h).1)
 
--- what a run and at most three looks cost
-pub past_costs : (a e d : Here) → Costs 2 1 a e → Looked 3 e d → Costs 2 4 a d
-past_costs a e d k (n, few, s) = record { most = omega (arith, k.most, few, s.steps, ap bytes s.rest); least = omega (arith, k.least, s.steps, ap length s.rest) }
-
 pub past_run : (t : Text) (e d : Here) → Run is_identifier_char t e.rest → Looked 3 e d → Run is_identifier_char t d.rest
 past_run t e d r (n, few, s) = rw s.rest r
 

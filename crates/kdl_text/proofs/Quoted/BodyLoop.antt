@@ -99,9 +99,6 @@ module _ (f a : Here) (out : Text) (i : Reading f a out) where
   pub reading_past : (c : ℕ) (b : Here) → Took (Some c) a b → Moves f b
   reading_past c b took = past c b took
 
-pub failed_early : (f a : Here) → Moves f a → Costs 2 1 f a → Costs 3 2 f a
-failed_early f a m k = let l = fewer_bytes m in record { most = omega (arith, k.most); least = k.least }
-
 pub failed : {T E : Type 0} (r : Result T E) (A : T → Type 0) (x y : E) → IsErrAnd r (λ e. e ≡ x) → x ≡ y → MatchResult r A (λ e. e ≡ y)
 failed (Ok v) A x y h k = absurd h
 failed (Err e) A x y h k = h ∙ k

@@ -1,7 +1,6 @@
 -- What the readers of comments and spaces have read: lines, runs of spaces and block comments, esclines.
-use Rattle.std.proofs.Common.{◌≡◌, ℕ, ◌≤◌, ◌↔◌, [], ◌∷◌, ◌++◌, Bool, true, false, length, refl, ap, sym, ◌∙◌, subst, arith, length-append}
+use Rattle.std.proofs.Common.{◌≡◌, ℕ, ◌↔◌, [], ◌∷◌, ◌++◌, Bool, true, false, length, refl, ap, sym, ◌∙◌, subst, arith, length-append}
 use Rattle.std.proofs.lemmas.Bool.{and_parts}
-use Rattle.std.proofs.lemmas.Str.{len_utf8_bounds}
 use Rattle.std.specs.Prelude.{Some, None}
 use Rattle.std.specs.List.{list_all}
 use Rattle.kdl_text.specs.Chars.{Text, is_space, begins, begins_two, starts, Newline, Star, Space}
@@ -15,7 +14,7 @@ use Rattle.kdl_text.specs.Trivia.BlockComment.{block}
 use Rattle.kdl_text.specs.Trivia.LineComment.{line}
 use Rattle.kdl_text.specs.Trivia.Ws.{space as ws_space, comment as ws_comment}
 use Rattle.kdl_text.specs.Trivia.EscEnd.{comment, newline, ends}
-use Rattle.kdl_text.specs.Internal.TriviaReading.{PieceCosts, Opens, RunsWs}
+use Rattle.kdl_text.specs.Internal.TriviaReading.{Opens, RunsWs}
 use Rattle.kdl_text.proofs.Looking.Runs.{length-bytes}
 use Rattle.kdl_text.proofs.Looking.Stars.{join, snoc, star_map}
 use Rattle.kdl_text.proofs.Looking.MovesJoin.{stays, moves_then, moves_stayed, moves_two, fewer_bytes, bytes-append, stayed_looked}
@@ -71,25 +70,6 @@ opens_here a m e t p = record { opens = rw t.rest refl; unclosed = block_reads f
 
 pub line_reads : (a m : Here) (e : Text) → TookTwo 47 47 a m → ((r : Text) → Line m.rest r ↔ (r ≡ e)) → (r : Text) → LineComment a.rest r ↔ (r ≡ e)
 line_reads a m e t p = let found : LineComment a.rest e = rw t.rest (line ((p e).1 refl)) in reads_found LineComment _ _ found (λ r l. line_comment_det l found)
-
-pub two_costs : (c d k : ℕ) (a m e : Here) → TookTwo c d a m → Moves m e → Costs 2 k m e → k ≤ 2 → PieceCosts 9 a e
-two_costs c d k a m e t v h s =
-    let x = ap bytes t.rest in
-    let y = (len_utf8_bounds c).0 in
-    record {
-      fewer = omega (arith, x, y, fewer_bytes v);
-      costs = record { most = omega (arith, t.steps, x, y, (len_utf8_bounds d).0, h.most, fewer_bytes v); least = omega (arith, t.steps, ap length t.rest, h.least) };
-    }
-
--- the same after looks
-pub stayed_costs : (n c d k : ℕ) (a b m e : Here) → Stayed n a b → n ≤ 4 → TookTwo c d b m → Moves m e → Costs 2 k m e → k ≤ 2 → PieceCosts 9 a e
-stayed_costs n c d k a b m e s few t v h small =
-    let x = ap bytes (sym s.rest ∙ t.rest) in
-    let y = (len_utf8_bounds c).0 in
-    record {
-      fewer = omega (arith, x, y, fewer_bytes v);
-      costs = record { most = omega (arith, s.steps, t.steps, x, y, (len_utf8_bounds d).0, h.most, fewer_bytes v); least = omega (arith, s.steps, t.steps, ap length (sym s.rest ∙ t.rest), h.least) };
-    }
 
 pub stayed_line : (n : ℕ) (a b m : Here) (e : Text) → Stayed n a b → TookTwo 47 47 b m → ((r : Text) → Line m.rest r ↔ (r ≡ e)) → (r : Text) → LineComment a.rest r ↔ (r ≡ e)
 stayed_line n a b m e s t p r = rw s.rest at (line_reads b m e t p r)

@@ -9,6 +9,10 @@ use Rattle.kdl_text.specs.Internal.Here.{Here, Stayed, Took}
 use Rattle.kdl_text.specs.Numbers.{is_digit_of, fits, base_prefix, Digits, Integer, Sign, BasePrefix, Fraction, Exponent, DecimalPart, NumberValue, whole_value, decimal_text, IsNumber, IsKeyword, keyword_text, is_exponent_letter}
 use Rattle.kdl_text.specs.declared.numbers.Magnitude.{Magnitude}
 use Rattle.kdl_text.specs.declared.numbers.Magnitude.TheVariants.{Small, Large, Huge}
+use Rattle.kdl_text.specs.Internal.DigitRuns.{BareIf}
+use Rattle.kdl_text.specs.declared.numbers.Sign.{Sign as SignRead}
+use Rattle.kdl_text.specs.declared.numbers.Sign.TheVariants.{Plus, Minus}
+use Rattle.kdl_text.specs.declared.numbers.Underscores.{Underscores}
 use Rattle.kdl_text.specs.declared.numbers.Radix.{Radix}
 use Rattle.kdl_text.specs.declared.numbers.Radix.TheVariants.{Binary, Octal, Decimal, Hexadecimal}
 use Rattle.kdl_text.specs.declared.numbers.NumberFault.{NumberFault}
@@ -27,6 +31,11 @@ radix_of Binary = 2
 radix_of Octal = 8
 radix_of Decimal = 10
 radix_of Hexadecimal = 16
+
+-- the sign is `-`
+abbrev pub is_minus : SignRead → Bool
+is_minus Plus = false
+is_minus Minus = true
 
 -- the base that a letter denotes
 abbrev pub IsBase : Option Radix → Option ℕ → Type 0
@@ -58,15 +67,21 @@ abbrev pub ReadsInteger : ℕ → Option Magnitude → Text → Text → Type 0
 ReadsInteger radix (Some m) s rest = (w : Text) × Integer radix s rest w × Counts m (digits_value radix w)
 ReadsInteger radix None s rest = (rest ≡ s) × (starts (is_digit_of radix) s ≡ false)
 
+-- likewise, and whether `_` may be in it
+abbrev pub ReadsDecimal : ℕ → Option (Magnitude × Underscores) → Text → Text → Type 0
+ReadsDecimal radix (Some (m, u)) s rest = ReadsInteger radix (Some m) s rest × BareIf u s rest
+ReadsDecimal radix None s rest = ReadsInteger radix None s rest
+
 -- the front of a number, up to the end of its first integer
 pub record IsFront (f : Front) (t rest : Text) : Type 0 where
   pub after_sign : Text
   pub after_base : Text
   pub digits : Text
-  pub sign : Sign t after_sign f.minus
+  pub sign : Sign t after_sign (is_minus f.sign)
   pub base : BasePrefix after_sign after_base (radix_of f.radix)
   pub int : Integer (radix_of f.radix) after_base rest digits
   pub counts : Counts f.magnitude (digits_value (radix_of f.radix) digits)
+  pub bare : BareIf f.underscores t rest
 
 -- a sign, the prefix of the base and an integer of it begin the text and leave u
 pub record Begun (b : Radix) (t u : Text) : Type 0 where
@@ -129,18 +144,20 @@ ReadsFront (Ok f) s rest = IsFront f s rest
 ReadsFront (Err e) s rest = (r : Text) (v : NumberValue) → IsNumber s r v → ⊥
 
 -- a fraction was read, or seen not to be here; or its point has no digit after it
-abbrev pub ReadsFraction : Result Bool NumberFault → Text → Text → Type 0
-ReadsFraction (Ok b) s rest = Fraction s rest b
+abbrev pub ReadsFraction : Result (Option Underscores) NumberFault → Text → Text → Type 0
+ReadsFraction (Ok None) s rest = Fraction s rest false
+ReadsFraction (Ok (Some u)) s rest = Fraction s rest true × BareIf u s rest
 ReadsFraction (Err e) s rest = (r : Text) (b : Bool) → Fraction s r b → ⊥
 
 -- an exponent was read, or seen not to be here; or its letter has no digit after it
-abbrev pub ReadsExponent : Result Bool NumberFault → Text → Text → Type 0
-ReadsExponent (Ok b) s rest = Exponent s rest b
+abbrev pub ReadsExponent : Result (Option Underscores) NumberFault → Text → Text → Type 0
+ReadsExponent (Ok None) s rest = Exponent s rest false
+ReadsExponent (Ok (Some u)) s rest = Exponent s rest true × BareIf u s rest
 ReadsExponent (Err e) s rest = (r : Text) (b : Bool) → Exponent s r b → ⊥
 
 -- the part was read that turns an integer into a decimal, or none is here
-abbrev pub ReadsPart : {A : Type 0} → Result A NumberFault → Text → Text → Type 0
-ReadsPart (Ok x) s rest = DecimalPart s rest
+abbrev pub ReadsPart : Result Underscores NumberFault → Text → Text → Type 0
+ReadsPart (Ok u) s rest = DecimalPart s rest × BareIf u s rest
 ReadsPart (Err e) s rest = (r : Text) → DecimalPart s r → ⊥
 
 -- the value of the number

@@ -1,4 +1,5 @@
 //! Multi-line strings, between three quotes.
+#![tactic(auto, using(crate::proofs::Looking::Returns::advancing))]
 
 ghost use Rattle.kdl_text.specs.Chars.{Newline, Text, is_newline_char};
 ghost use Rattle.kdl_text.specs.Dedent.{lines_of};

@@ -1,4 +1,5 @@
 //! Raw strings, single-line and multi-line.
+#![tactic(auto, using(crate::proofs::Looking::Returns::advancing))]
 
 ghost use Rattle.kdl_text.specs.Chars.{Text, begins, times};
 ghost use Rattle.kdl_text.specs.Dedent.{lines_of};

@@ -1,7 +1,8 @@
 use Rattle.std.proofs.Common.{refl}
 use Rattle.kdl_text.specs.Numbers.{is_part}
+use Rattle.kdl_text.specs.Internal.NumberReading.{radix_of}
 use Rattle.kdl_text.proofs.Looking.MovesJoin.{moves_then, moves_stayed, stayed_looked}
-use Rattle.kdl_text.proofs.Numeric.NumberReads.{digits_start, digits_underscore, digits_digit, digits_end, digits_costs, digits_more, more_costs, not_part, none_here}
+use Rattle.kdl_text.proofs.Numeric.NumberReads.{digits_start, digits_underscore, digits_digit, digits_end, digits_more, not_part, none_here}
 use Rattle.kdl_text.proofs.numbers.digits.Goals as goal
 
 pub digits-init : goal.digits-init
@@ -12,20 +13,14 @@ digits-preserved-in-Some-eq95 c = digits_underscore _ _ _ _ _ _ _ _ c.digits.inv
 
 pub digits-preserved : goal.digits-preserved
 digits-preserved c =
-    digits_digit _ _ _ _ _ _ _ _ c.digits.invariant c.in-Some.ensures.result c.look.ensures.moved _ _ c.in-Some-digit_of.ensures (λ n g. rw (g, c.from.ensures, c.from-in-Some-digit_of.ensures) refl) c.step-in-Some-digit_of.ensures
+    digits_digit _ _ _ _ _ _ _ _ c.digits.invariant c.in-Some.ensures.result c.look.ensures.moved _ _ c.in-Some-digit_of.ensures (λ n g. rw (g, c.from.ensures, c.value.ensures.is, c.from-in-Some-digit_of.ensures) refl) c.step-in-Some-digit_of.ensures
 
 pub returns-in-None-digit_of-clause-reads : goal.returns-in-None-digit_of-clause-reads
 returns-in-None-digit_of-clause-reads c =
     digits_end _ _ _ _ _ _ c.digits.invariant c.look.ensures.moved (not_part _ _ _ c.in-Some.ensures.result c.in-Some.c-test.1 c.in-None-digit_of.ensures)
 
-pub returns-in-None-digit_of-clause-costs : goal.returns-in-None-digit_of-clause-costs
-returns-in-None-digit_of-clause-costs c = digits_costs _ _ _ _ _ _ c.digits.invariant c.look.ensures.moved
-
 pub returns-in-None-clause-reads : goal.returns-in-None-clause-reads
-returns-in-None-clause-reads c = digits_end _ _ _ _ _ _ c.digits.invariant c.look.ensures.moved (none_here (is_part c.args.radix) _ c.in-None.ensures.result)
-
-pub returns-in-None-clause-costs : goal.returns-in-None-clause-costs
-returns-in-None-clause-costs c = digits_costs _ _ _ _ _ _ c.digits.invariant c.look.ensures.moved
+returns-in-None-clause-reads c = digits_end _ _ _ _ _ _ c.digits.invariant c.look.ensures.moved (none_here (is_part (radix_of c.args.radix)) _ c.in-None.ensures.result)
 
 pub returns-in-None-digit_of-clause-moves : goal.returns-in-None-digit_of-clause-moves
 returns-in-None-digit_of-clause-moves c = moves_then c.digits.invariant.moves (moves_stayed (stayed_looked _ _ c.look.ensures.moved))
@@ -38,6 +33,3 @@ returns-clause-reads c = digits_more _ _ _ _ _ _ _ c.digits.invariant c.more_dig
 
 pub returns-clause-moves : goal.returns-clause-moves
 returns-clause-moves c = moves_then c.digits.invariant.moves c.more_digits.ensures.moves
-
-pub returns-clause-costs : goal.returns-clause-costs
-returns-clause-costs c = more_costs _ _ _ _ _ _ c.digits.invariant c.more_digits.ensures.costs

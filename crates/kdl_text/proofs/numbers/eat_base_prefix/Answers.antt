@@ -9,6 +9,3 @@ returns-clause-reads c = (base_other _ _ _ _ _ c.in-Some.ensures.0 c.in-Some.ens
 
 pub returns-clause-moves : goal.returns-clause-moves
 returns-clause-moves c = (base_other _ _ _ _ _ c.in-Some.ensures.0 c.in-Some.ensures.1 c.step.ensures c.step-2.ensures).moves
-
-pub returns-clause-costs : goal.returns-clause-costs
-returns-clause-costs c = (base_other _ _ _ _ _ c.in-Some.ensures.0 c.in-Some.ensures.1 c.step.ensures c.step-2.ensures).costs

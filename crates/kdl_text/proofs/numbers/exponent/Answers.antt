@@ -1,4 +1,4 @@
-use Rattle.kdl_text.proofs.Numeric.PlainDigits.{bare_then, bare_exponent, bare_sign}
+use Rattle.kdl_text.proofs.Numeric.PlainDigits.{bare_if, bare_then, bare_exponent, bare_sign}
 use Rattle.kdl_text.proofs.Numeric.DecimalReads.{exponent_none, exponent_some, exponent_broken}
 use Rattle.kdl_text.proofs.Looking.MovesJoin.{moves_then, moves_one}
 use Rattle.kdl_text.proofs.numbers.exponent.Goals as goal
@@ -7,18 +7,18 @@ pub returns-then-not-eat_exponent_letter-clause-reads : goal.returns-then-not-ea
 returns-then-not-eat_exponent_letter-clause-reads c = exponent_none _ _ c.if-not-eat_exponent_letter.ensures
 
 pub returns-in-Some-clause-reads : goal.returns-in-Some-clause-reads
-returns-in-Some-clause-reads c = exponent_some _ _ _ _ c.sign.new.cursor c.decimal_integer.new.cursor c.if-not-eat_exponent_letter.ensures c.sign.ensures.reads c.in-Some.ensures.reads
+returns-in-Some-clause-reads c =
+    let (digits, bare) = c.in-Some.ensures.reads in
+    let (letter, is, t) = c.if-not-eat_exponent_letter.ensures in (
+      exponent_some _ _ _ _ c.read_sign.new.cursor c.decimal_integer.new.cursor c.if-not-eat_exponent_letter.ensures c.read_sign.ensures.reads digits,
+      bare_if _ _ _ _ (bare_then _ _ _ (bare_exponent letter _ _ is t.0) (bare_sign c.read_sign.ensures.reads)) bare,
+    )
 
 pub returns-in-Some-clause-moves : goal.returns-in-Some-clause-moves
-returns-in-Some-clause-moves c = moves_then (moves_one c.if-not-eat_exponent_letter.ensures.2) (moves_then c.sign.ensures.moves c.decimal_integer.ensures.moves)
+returns-in-Some-clause-moves c = moves_then (moves_one c.if-not-eat_exponent_letter.ensures.2) (moves_then c.read_sign.ensures.moves c.decimal_integer.ensures.moves)
 
 pub returns-in-None-clause-reads : goal.returns-in-None-clause-reads
-returns-in-None-clause-reads c = exponent_broken _ _ _ c.sign.new.cursor c.if-not-eat_exponent_letter.ensures c.sign.ensures.reads c.in-None.ensures.reads.1
+returns-in-None-clause-reads c = exponent_broken _ _ _ c.read_sign.new.cursor c.if-not-eat_exponent_letter.ensures c.read_sign.ensures.reads c.in-None.ensures.reads.1
 
 pub returns-in-None-clause-moves : goal.returns-in-None-clause-moves
-returns-in-None-clause-moves c = moves_then (moves_one c.if-not-eat_exponent_letter.ensures.2) (moves_then c.sign.ensures.moves c.decimal_integer.ensures.moves)
-
-pub returns-in-Some-clause-plain : goal.returns-in-Some-clause-plain
-returns-in-Some-clause-plain c =
-    let (letter, is, t) = c.if-not-eat_exponent_letter.ensures in
-    λ e. let (f, k) = c.in-Some.ensures.plain e in (f, bare_then _ _ _ (bare_exponent letter _ _ is t.0) (bare_then _ _ _ (bare_sign c.sign.ensures.reads) k))
+returns-in-None-clause-moves c = moves_then (moves_one c.if-not-eat_exponent_letter.ensures.2) (moves_then c.read_sign.ensures.moves c.decimal_integer.ensures.moves)

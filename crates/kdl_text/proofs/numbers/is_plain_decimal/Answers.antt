@@ -23,10 +23,10 @@ returns-then-is_none c =
     let none = (at_end _ _ _ c.look.ensures.result c.is_none.ensures).0 c.if-is_none.true in
     let p = c.up_to-segment.result in
     let same : p ≡ chars c.args.text.now = sym (append-nil p) ∙ ap (λ z. p ++ z) (sym (c.checkpoint.ensures.rest ∙ none)) ∙ sym c.up_to-segment.ensures ∙ c.checkpoint-start.ensures.rest ∙ t in
-    plain_whole _ _ _ _ t c.in-Ok.ensures.reads _ _ none c.in-Ok-decimal_part.ensures.reads c.in-Decimal.is (c.has_no_underscore.ensures ∙ ap has_no_underscore (c.characters.ensures.result ∙ same))
+    plain_whole _ _ _ _ t c.in-Ok.ensures.reads _ _ none c.in-Ok-decimal_part.ensures.reads.0 c.in-Decimal.is (c.has_no_underscore.ensures ∙ ap has_no_underscore (c.characters.ensures.result ∙ same))
 
 pub returns-else-is_none : goal.returns-else-is_none
-returns-else-is_none c = plain_rest _ _ _ _ (ap (λ h. h.rest) c.new-cursor.ensures) c.in-Ok.ensures.reads _ _ c.if-is_none.false (at_end _ _ _ c.look.ensures.result c.is_none.ensures) c.in-Ok-decimal_part.ensures.reads
+returns-else-is_none c = plain_rest _ _ _ _ (ap (λ h. h.rest) c.new-cursor.ensures) c.in-Ok.ensures.reads _ _ c.if-is_none.false (at_end _ _ _ c.look.ensures.result c.is_none.ensures) c.in-Ok-decimal_part.ensures.reads.0
 
 pub characters-requires : goal.characters-requires
 characters-requires c =

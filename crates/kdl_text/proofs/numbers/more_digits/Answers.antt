@@ -1,5 +1,6 @@
 use Rattle.kdl_text.specs.Numbers.{is_part}
-use Rattle.kdl_text.proofs.Numeric.NumberReads.{digits_underscore, digits_digit, digits_end, digits_costs, not_part, none_here}
+use Rattle.kdl_text.specs.Internal.NumberReading.{radix_of}
+use Rattle.kdl_text.proofs.Numeric.NumberReads.{digits_underscore, digits_digit, digits_end, not_part, none_here}
 use Rattle.kdl_text.proofs.numbers.more_digits.Goals as goal
 
 pub digits-preserved-in-Some-eq95 : goal.digits-preserved-in-Some-eq95
@@ -7,14 +8,11 @@ digits-preserved-in-Some-eq95 c = digits_underscore _ _ _ _ _ _ _ _ c.digits.inv
 
 pub digits-preserved : goal.digits-preserved
 digits-preserved c =
-    digits_digit _ _ _ _ _ _ _ _ c.digits.invariant c.in-Some.ensures.result c.look.ensures.moved _ _ c.in-Some-digit_of.ensures c.with_digit-magnitude.ensures c.step-in-Some-digit_of.ensures
+    digits_digit _ _ _ _ _ _ _ _ c.digits.invariant c.in-Some.ensures.result c.look.ensures.moved _ _ c.in-Some-digit_of.ensures (rw c.value.ensures.is at c.with_digit-magnitude.ensures) c.step-in-Some-digit_of.ensures
 
 pub returns-in-None-digit_of-clause-reads : goal.returns-in-None-digit_of-clause-reads
 returns-in-None-digit_of-clause-reads c =
     digits_end _ _ _ _ _ _ c.digits.invariant c.look.ensures.moved (not_part _ _ _ c.in-Some.ensures.result c.in-Some.c-test.1 c.in-None-digit_of.ensures)
 
-pub returns-in-None-digit_of-clause-costs : goal.returns-in-None-digit_of-clause-costs
-returns-in-None-digit_of-clause-costs c = digits_costs _ _ _ _ _ _ c.digits.invariant c.look.ensures.moved
-
 pub returns-in-None-clause-reads : goal.returns-in-None-clause-reads
-returns-in-None-clause-reads c = digits_end _ _ _ _ _ _ c.digits.invariant c.look.ensures.moved (none_here (is_part c.args.radix) _ c.in-None.ensures.result)
+returns-in-None-clause-reads c = digits_end _ _ _ _ _ _ c.digits.invariant c.look.ensures.moved (none_here (is_part (radix_of c.args.radix)) _ c.in-None.ensures.result)

@@ -1,26 +1,26 @@
-use Rattle.kdl_text.specs.Internal.NumberReading.{radix_of}
-use Rattle.kdl_text.specs.Numbers.{BasePrefix}
-use Rattle.kdl_text.proofs.Numeric.PlainDigits.{bare_then, bare_sign, bare_same}
-use Rattle.kdl_text.proofs.Numeric.DecimalReads.{no_front, ten_stays}
+use Rattle.kdl_text.proofs.Numeric.PlainDigits.{bare_if, bare_then, bare_sign, bare_base}
+use Rattle.kdl_text.proofs.Numeric.DecimalReads.{no_front}
 use Rattle.kdl_text.proofs.Looking.MovesJoin.{moves_then, shorter}
 use Rattle.kdl_text.proofs.Numeric.NumberUnique.{shorter_integer}
-use Rattle.std.proofs.Common.{arith, refl, subst, ap, sym}
+use Rattle.std.proofs.Common.{arith, refl}
 use Rattle.kdl_text.proofs.numbers.read_front.Goals as goal
 
+pub returns-in-Some-clause-reads : goal.returns-in-Some-clause-reads
+returns-in-Some-clause-reads c =
+    let ((digits, int, counts), bare) = c.in-Some.ensures.reads in
+    let s = c.read_sign-sign.ensures.reads in
+    let b = c.eat_base_prefix-radix.ensures.reads in
+    record { after_sign = _; after_base = _; digits = digits; sign = s; base = b; int = int; counts = counts; bare = bare_if _ _ _ _ (bare_then _ _ _ (bare_sign s) (bare_base b)) bare }
+
 pub returns-in-Some-clause-moves : goal.returns-in-Some-clause-moves
-returns-in-Some-clause-moves c = moves_then c.sign-minus.ensures.moves (moves_then c.eat_base_prefix-radix.ensures.moves c.integer_in.ensures.moves)
+returns-in-Some-clause-moves c = moves_then c.read_sign-sign.ensures.moves (moves_then c.eat_base_prefix-radix.ensures.moves c.integer_in.ensures.moves)
 
 pub returns-in-Some-clause-shorter : goal.returns-in-Some-clause-shorter
-returns-in-Some-clause-shorter c = omega (arith, shorter_integer c.in-Some.ensures.reads.1, shorter c.sign-minus.ensures.moves, shorter c.eat_base_prefix-radix.ensures.moves)
+returns-in-Some-clause-shorter c =
+    omega (arith, shorter_integer c.in-Some.ensures.reads.0.1, shorter c.read_sign-sign.ensures.moves, shorter c.eat_base_prefix-radix.ensures.moves)
 
 pub returns-in-None-clause-reads : goal.returns-in-None-clause-reads
-returns-in-None-clause-reads c = no_front _ _ _ _ _ _ c.sign-minus.ensures.reads c.eat_base_prefix-radix.ensures.reads refl c.in-None.ensures.reads.1
+returns-in-None-clause-reads c = no_front _ _ _ _ _ _ c.read_sign-sign.ensures.reads c.eat_base_prefix-radix.ensures.reads refl c.in-None.ensures.reads.1
 
 pub returns-in-None-clause-moves : goal.returns-in-None-clause-moves
-returns-in-None-clause-moves c = moves_then c.sign-minus.ensures.moves (moves_then c.eat_base_prefix-radix.ensures.moves c.integer_in.ensures.moves)
-
-pub returns-in-Some-clause-plain : goal.returns-in-Some-clause-plain
-returns-in-Some-clause-plain c = λ e.
-    let (f, k) = c.in-Some.ensures.plain e in
-    let ten = subst (λ q. BasePrefix c.sign-minus.new.cursor.rest c.eat_base_prefix-radix.new.cursor.rest q) (ap radix_of (c.integer_in.ensures.ten e)) c.eat_base_prefix-radix.ensures.reads in
-    (f, bare_then _ _ _ (bare_sign c.sign-minus.ensures.reads) (bare_then _ _ _ (bare_same _ _ (sym (ten_stays ten))) k))
+returns-in-None-clause-moves c = moves_then c.read_sign-sign.ensures.moves (moves_then c.eat_base_prefix-radix.ensures.moves c.integer_in.ensures.moves)

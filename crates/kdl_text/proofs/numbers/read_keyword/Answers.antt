@@ -1,7 +1,7 @@
 use Rattle.std.proofs.Common.{sym, ◌∙◌}
 use Rattle.kdl_text.proofs.Numeric.KeywordUnique.{keyword_here, keyword_moves}
 use Rattle.kdl_text.proofs.Looking.Parts.{part_same}
-use Rattle.kdl_text.proofs.Looking.MostCost.{none_most, word_most}
+use Rattle.kdl_text.proofs.Looking.MostCost.{word_most}
 use Rattle.kdl_text.proofs.numbers.read_keyword.Goals as goal
 
 pub returns-clause-reads : goal.returns-clause-reads
@@ -11,11 +11,8 @@ returns-clause-reads c =
 pub returns-clause-moves : goal.returns-clause-moves
 returns-clause-moves c = keyword_moves _ _ _ _ _ _ c.if-not-eat.ensures c.skip.ensures.1 c.slice-word.ensures.moved
 
-pub returns-then-not-eat-clause-most : goal.returns-then-not-eat-clause-most
-returns-then-not-eat-clause-most c = none_most _ _ c.if-not-eat.ensures.1
+pub slice-word-requires : goal.slice-word-requires
+slice-word-requires c = (c.skip.ensures.0, c.checkpoint-start.ensures.rest ∙ c.skip.ensures.1.text, part_same c.checkpoint-start.ensures.part c.skip.ensures.1.same)
 
 pub returns-clause-most : goal.returns-clause-most
 returns-clause-most c = word_most _ _ _ _ _ _ _ _ c.if-not-eat.ensures c.skip.ensures.1 (sym c.checkpoint-start.ensures.rest ∙ c.slice-word.ensures.result) c.slice-word.ensures.moved
-
-pub slice-word-requires : goal.slice-word-requires
-slice-word-requires c = (c.skip.ensures.0, c.checkpoint-start.ensures.rest ∙ c.skip.ensures.1.text, part_same c.checkpoint-start.ensures.part c.skip.ensures.1.same)

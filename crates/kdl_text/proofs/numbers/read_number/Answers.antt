@@ -1,4 +1,5 @@
-use Rattle.kdl_text.proofs.Numeric.PlainDigits.{bare_piece, bare_then, bare_same}
+use Rattle.kdl_text.proofs.Numeric.PlainDigits.{bare_piece, bare_both}
+use Rattle.kdl_text.specs.Internal.DigitRuns.{BareIf}
 use Rattle.std.proofs.Common.{◌≡◌, ◌++◌, ◌∙◌, sym, ap, subst, lit≤}
 use Rattle.kdl_text.specs.Numbers.{DecimalPart}
 use Rattle.kdl_text.specs.Internal.NumberReading.{radix_of}
@@ -10,9 +11,6 @@ use Rattle.kdl_text.proofs.numbers.read_number.Goals as goal
 
 pub returns-then-is_end-clause-reads : goal.returns-then-is_end-clause-reads
 returns-then-is_end-clause-reads c = front_number _ _ _ c.in-Ok.ensures.reads _ _ c.is_end.ensures.stayed.rest c.if-is_end.ensures.result c.whole.ensures
-
-pub returns-then-is_end-clause-costs : goal.returns-then-is_end-clause-costs
-returns-then-is_end-clause-costs c = whole_costs _ _ _ _ c.read_front.ensures.moves c.read_front.ensures.costs c.in-Ok.ensures.shorter c.is_end.ensures.stayed
 
 pub returns-in_default : goal.returns-in_default
 returns-in_default c = record {
@@ -37,27 +35,29 @@ pub returns-in-Ok-without_underscores-clause-reads : goal.returns-in-Ok-without_
 returns-in-Ok-without_underscores-clause-reads c =
     let p = c.up_to-segment.result in
     let text : c.args.cursor.now.rest ≡ p ++ c.decimal_part.new.cursor.rest = sym c.checkpoint-start.ensures.rest ∙ c.up_to-segment.ensures ∙ ap (λ z. p ++ z) c.checkpoint.ensures.rest in
-    let part : DecimalPart c.read_front.new.cursor.rest c.decimal_part.new.cursor.rest = subst (λ q. DecimalPart q c.decimal_part.new.cursor.rest) c.is_end.ensures.stayed.rest c.in_default-decimal_part.ensures.reads in
+    let part : DecimalPart c.read_front.new.cursor.rest c.decimal_part.new.cursor.rest = subst (λ q. DecimalPart q c.decimal_part.new.cursor.rest) c.is_end.ensures.stayed.rest c.in-Ok-decimal_part.ensures.reads.0 in
     reads_number _ _ p _ c.in-Ok-without_underscores.ensures.plain (rw c.without_underscores.ensures.returned.rest (front_part _ _ _ c.in-Ok.ensures.reads _ p (ap radix_of c.in-Decimal.is) part text))
+
+pub returns-then-is_end-clause-fault : goal.returns-then-is_end-clause-fault
+returns-then-is_end-clause-fault c = number_range _ _ _ c.in-Ok.ensures.reads _ _ c.is_end.ensures.stayed.rest c.whole.ensures
+
+pub without_underscores-requires-clause-underscores : goal.without_underscores-requires-clause-underscores
+without_underscores-requires-clause-underscores c =
+    let part = subst (λ q. BareIf c.in-Ok-decimal_part.underscores q c.decimal_part.new.cursor.rest) c.is_end.ensures.stayed.rest c.in-Ok-decimal_part.ensures.reads.1 in
+    let text = sym c.checkpoint-start.ensures.rest ∙ c.up_to-segment.ensures ∙ ap (λ z. c.up_to-segment.result ++ z) c.checkpoint.ensures.rest in
+    rw c.with-underscores.ensures (bare_piece _ _ _ _ text (bare_both _ _ _ _ _ c.in-Ok.ensures.reads.bare part))
+
+pub without_underscores-requires-clause-part : goal.without_underscores-requires-clause-part
+without_underscores-requires-clause-part c =
+    part_moved (part_front _ _ _ _ c.checkpoint-start.ensures.part c.up_to-segment.ensures) (part_moves _ _ _ _ c.read_front.ensures.moves c.is_end.ensures.stayed c.decimal_part.ensures.moves)
+
+pub returns-then-is_end-clause-costs : goal.returns-then-is_end-clause-costs
+returns-then-is_end-clause-costs c = whole_costs _ _ _ _ c.read_front.ensures.moves c.read_front.ensures.costs c.in-Ok.ensures.shorter c.is_end.ensures.stayed
 
 pub returns-in-Ok-without_underscores-clause-costs : goal.returns-in-Ok-without_underscores-clause-costs
 returns-in-Ok-without_underscores-clause-costs c =
     part_costs _ _ _ _ _ _ c.read_front.ensures.moves c.read_front.ensures.costs c.in-Ok.ensures.shorter c.is_end.ensures.stayed c.decimal_part.ensures.moves c.decimal_part.ensures.costs
     (sym c.checkpoint-start.ensures.rest ∙ c.up_to-segment.ensures ∙ ap (λ z. c.up_to-segment.result ++ z) c.checkpoint.ensures.rest) c.without_underscores.ensures.returned
-
-pub returns-then-is_end-clause-fault : goal.returns-then-is_end-clause-fault
-returns-then-is_end-clause-fault c = number_range _ _ _ c.in-Ok.ensures.reads _ _ c.is_end.ensures.stayed.rest c.whole.ensures
-
-pub returns-in-Err-clause-most : goal.returns-in-Err-clause-most
-returns-in-Err-clause-most c = more _ _ _ _ c.read_front.ensures.moves c.read_front.ensures.costs (lit≤ tt)
-
-pub returns-then-is_end-clause-most : goal.returns-then-is_end-clause-most
-returns-then-is_end-clause-most c = more _ _ _ _ (moves_then c.read_front.ensures.moves (moves_stayed c.is_end.ensures.stayed)) (front_looked _ _ _ c.read_front.ensures.costs c.is_end.ensures.stayed) (lit≤ tt)
-
-pub returns-in-Err-decimal_part-clause-most : goal.returns-in-Err-decimal_part-clause-most
-returns-in-Err-decimal_part-clause-most c =
-    more _ _ _ _ (moves_then c.read_front.ensures.moves (moves_then (moves_stayed c.is_end.ensures.stayed) c.decimal_part.ensures.moves))
-    (front_all _ _ _ _ c.read_front.ensures.costs c.is_end.ensures.stayed c.decimal_part.ensures.costs) (lit≤ tt)
 
 pub returns-in-Ok-without_underscores-clause-most : goal.returns-in-Ok-without_underscores-clause-most
 returns-in-Ok-without_underscores-clause-most c =
@@ -68,14 +68,3 @@ pub returns-in-Err-without_underscores-clause-most : goal.returns-in-Err-without
 returns-in-Err-without_underscores-clause-most c =
     copied_most c.up_to-segment.result _ _ _ (front_all _ _ _ _ c.read_front.ensures.costs c.is_end.ensures.stayed c.decimal_part.ensures.costs)
     (sym c.checkpoint-start.ensures.rest ∙ c.up_to-segment.ensures ∙ ap (λ z. c.up_to-segment.result ++ z) c.checkpoint.ensures.rest) c.without_underscores.ensures.returned
-
-pub without_underscores-requires-clause-plain : goal.without_underscores-requires-clause-plain
-without_underscores-requires-clause-plain c = λ e.
-    let (f, k) = c.in_default-decimal_part.ensures.plain e in
-    let (g, h) = c.in-Ok.ensures.plain f in
-    bare_piece _ _ _ (sym c.checkpoint-start.ensures.rest ∙ c.up_to-segment.ensures ∙ ap (λ z. c.up_to-segment.result ++ z) c.checkpoint.ensures.rest)
-    (bare_then _ _ _ h (bare_then _ _ _ (bare_same _ _ (sym c.is_end.ensures.stayed.rest)) k))
-
-pub without_underscores-requires-clause-part : goal.without_underscores-requires-clause-part
-without_underscores-requires-clause-part c =
-    part_moved (part_front _ _ _ _ c.checkpoint-start.ensures.part c.up_to-segment.ensures) (part_moves _ _ _ _ c.read_front.ensures.moves c.is_end.ensures.stayed c.decimal_part.ensures.moves)

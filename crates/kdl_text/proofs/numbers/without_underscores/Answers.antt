@@ -16,7 +16,7 @@ returns-clause-plain c =
     let none = ap chars c.in_ok-text.ensures.bytes ∙ chars-nil in
     c.in_ok-push_plain.ensures ∙ ap (λ z. z ++ plain c.characters-characters.result) none ∙ ap plain c.characters-characters.ensures.result
 
-pub returns-then-plain-clause-plain : goal.returns-then-plain-clause-plain
-returns-then-plain-clause-plain c =
+pub returns-in-Absent-clause-plain : goal.returns-in-Absent-clause-plain
+returns-in-Absent-clause-plain c =
     let segment = c.args.segment.now in
-    rw (plain_same segment (c.requires.plain c.if-plain.true) ∙ sym (c.into_piece.ensures ∙ c.characters.ensures.result)) c.to_string.ensures
+    rw (plain_same segment (rw c.in-Absent.is at c.requires.underscores) ∙ sym (c.into_piece.ensures ∙ c.characters.ensures.result)) c.to_string.ensures

@@ -1,6 +1,6 @@
 use Rattle.std.proofs.Common.{sym, ◌∙◌}
 use Rattle.kdl_text.proofs.Looking.MovesJoin.{moves_then, moves_stayed}
-use Rattle.kdl_text.proofs.Quoted.BareReads.{past_found, past_only, past_none, past_cost, past_costs, past_run}
+use Rattle.kdl_text.proofs.Quoted.BareReads.{past_found, past_only, past_none, past_cost, past_run}
 use Rattle.kdl_text.proofs.strings.bare_string.Goals as goal
 
 pub returns-then-is_bare-clause-found : goal.returns-then-is_bare-clause-found
@@ -20,15 +20,6 @@ returns-then-is_bare-clause-run c = past_run _ c.run_of-word.new.cursor c.has_ba
 pub returns-then-is_bare-clause-moves : goal.returns-then-is_bare-clause-moves
 returns-then-is_bare-clause-moves c = moves_then c.run_of-word.ensures.moves (moves_stayed c.has_bare_form-is_bare.ensures.looked.2)
 
-pub returns-then-is_bare-clause-costs : goal.returns-then-is_bare-clause-costs
-returns-then-is_bare-clause-costs c = past_costs _ _ _ c.run_of-word.ensures.costs c.has_bare_form-is_bare.ensures.looked
-
-pub returns-then-is_bare-clause-cost : goal.returns-then-is_bare-clause-cost
-returns-then-is_bare-clause-cost c =
-    let run = c.run_of-word.ensures in
-    let form = c.has_bare_form-is_bare.ensures in
-    past_cost _ _ _ _ run.result (sym form.result ∙ c.if-is_bare.true) run.costs form.looked
-
 pub returns-else-is_bare-clause-only : goal.returns-else-is_bare-clause-only
 returns-else-is_bare-clause-only c =
     let run = c.run_of-word.ensures in
@@ -40,5 +31,8 @@ returns-else-is_bare-clause-run c = past_run _ c.run_of-word.new.cursor c.has_ba
 pub returns-else-is_bare-clause-moves : goal.returns-else-is_bare-clause-moves
 returns-else-is_bare-clause-moves c = moves_then c.run_of-word.ensures.moves (moves_stayed c.has_bare_form-is_bare.ensures.looked.2)
 
-pub returns-else-is_bare-clause-costs : goal.returns-else-is_bare-clause-costs
-returns-else-is_bare-clause-costs c = past_costs _ _ _ c.run_of-word.ensures.costs c.has_bare_form-is_bare.ensures.looked
+pub returns-then-is_bare-clause-cost : goal.returns-then-is_bare-clause-cost
+returns-then-is_bare-clause-cost c =
+    let run = c.run_of-word.ensures in
+    let form = c.has_bare_form-is_bare.ensures in
+    past_cost _ _ _ _ run.result (sym form.result ∙ c.if-is_bare.true) run.costs form.looked

@@ -1,14 +1,10 @@
-use Rattle.std.proofs.Common.{arith}
 use Rattle.std.proofs.Common.{String, Global}
 use Rattle.kdl_text.specs.declared.strings.StringFailure.{StringFailure}
-use Rattle.kdl_text.proofs.Quoted.BodyLoop.{reading_begins, reading_turn, reading_fails, reading_runs_out, reading_unit, failed, reading_ends, reading_over, reading_other, reading_past, failed_early}
+use Rattle.kdl_text.proofs.Quoted.BodyLoop.{reading_begins, reading_turn, reading_fails, reading_runs_out, reading_unit, failed, reading_ends, reading_over, reading_other, reading_past}
 use Rattle.kdl_text.proofs.strings.quoted_body.Goals as goal
 
 pub units-init : goal.units-init
 units-init c = reading_begins _ _ _ _ c.run_of.ensures.run c.run_of.ensures.result c.run_of.ensures.moves c.run_of.ensures.costs c.in_ok-out.ensures
-
-pub returns-in_err-out-clause-costs : goal.returns-in_err-out-clause-costs
-returns-in_err-out-clause-costs c = failed_early _ _ c.run_of.ensures.moves c.run_of.ensures.costs
 
 pub units-preserved : goal.units-preserved
 units-preserved c =
@@ -33,11 +29,6 @@ returns-in_err-escape-in-Some-eq92-clause-only c r w b =
 
 pub returns-in_err-escape-in-Some-eq92-clause-moves : goal.returns-in_err-escape-in-Some-eq92-clause-moves
 returns-in_err-escape-in-Some-eq92-clause-moves c = (reading_fails _ _ _ c.units.invariant _ _ _ c.in-Some-eq92.ensures.took c.escape.ensures.moves c.escape.ensures.costs).0
-
-pub returns-in_err-escape-in-Some-eq92-clause-costs : goal.returns-in_err-escape-in-Some-eq92-clause-costs
-returns-in_err-escape-in-Some-eq92-clause-costs c =
-    let k = (reading_fails _ _ _ c.units.invariant _ _ _ c.in-Some-eq92.ensures.took c.escape.ensures.moves c.escape.ensures.costs).1 in
-    record { most = omega (arith, k.most); least = k.least }
 
 pub returns-in-Some-clause-only : goal.returns-in-Some-clause-only
 returns-in-Some-clause-only c r w b = absurd (reading_other _ _ _ c.units.invariant _ _ c.in-Some.ensures.took c.in-Some.c-test.0.1 c.in-Some.c-test.1 r w b)

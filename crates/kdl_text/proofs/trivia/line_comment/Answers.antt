@@ -1,6 +1,5 @@
-use Rattle.std.proofs.Common.{arith}
 use Rattle.kdl_text.proofs.Looking.MovesJoin.{moves_then, moves_two}
-use Rattle.kdl_text.proofs.Spacing.SpaceReads.{ate_two_here, line_reads, two_costs}
+use Rattle.kdl_text.proofs.Spacing.SpaceReads.{ate_two_here, line_reads}
 use Rattle.kdl_text.proofs.trivia.line_comment.Goals as goal
 
 pub returns-clause-reads : goal.returns-clause-reads
@@ -8,6 +7,3 @@ returns-clause-reads c = line_reads _ _ _ (ate_two_here _ _ _ _ _ c.requires c.e
 
 pub returns-clause-moves : goal.returns-clause-moves
 returns-clause-moves c = moves_then (moves_two (ate_two_here _ _ _ _ _ c.requires c.eat_two.ensures)) c.line_end.ensures.moves
-
-pub returns-clause-costs : goal.returns-clause-costs
-returns-clause-costs c = two_costs _ _ _ _ _ _ (ate_two_here _ _ _ _ _ c.requires c.eat_two.ensures) c.line_end.ensures.moves c.line_end.ensures.costs (omega arith)

@@ -1,20 +1,14 @@
 use Rattle.kdl_text.specs.MultiLine.{Content}
 use Rattle.kdl_text.proofs.Looking.MovesJoin.{moves_then}
-use Rattle.kdl_text.proofs.ManyLines.LinesCost.{lines_stop, lines_read, two_in_four}
+use Rattle.kdl_text.proofs.ManyLines.LinesCost.{lines_read}
 use Rattle.kdl_text.proofs.ManyLines.LinesJoin.{lines_turn, lines_close}
 use Rattle.kdl_text.proofs.strings.multiline.content.Goals as goal
 
 pub returns-in_err-line-clause-moves : goal.returns-in_err-line-clause-moves
 returns-in_err-line-clause-moves c = moves_then c.lines.invariant.moves c.read_line.ensures.moves
 
-pub returns-in_err-line-clause-costs : goal.returns-in_err-line-clause-costs
-returns-in_err-line-clause-costs c = lines_stop _ _ _ _ c.lines.invariant.costs (two_in_four c.read_line.ensures.moves c.read_line.ensures.costs)
-
 pub returns-in_err-add_line-clause-moves : goal.returns-in_err-add_line-clause-moves
 returns-in_err-add_line-clause-moves c = moves_then c.lines.invariant.moves c.read_line.ensures.moves
-
-pub returns-in_err-add_line-clause-costs : goal.returns-in_err-add_line-clause-costs
-returns-in_err-add_line-clause-costs c = lines_stop _ _ _ _ c.lines.invariant.costs (two_in_four c.read_line.ensures.moves c.read_line.ensures.costs)
 
 pub returns-then-closed : goal.returns-then-closed
 returns-then-closed c =

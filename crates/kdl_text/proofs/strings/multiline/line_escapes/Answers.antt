@@ -9,9 +9,6 @@ returns-in_err-value-clause-only c r us x = let (m, u, there) = escape_there _ _
 pub returns-in_err-value-clause-moves : goal.returns-in_err-value-clause-moves
 returns-in_err-value-clause-moves c = (escape_fails _ _ _ _ c.escapes.invariant c.escaped_unit.ensures.moves c.escaped_unit.ensures.costs).0
 
-pub returns-in_err-value-clause-costs : goal.returns-in_err-value-clause-costs
-returns-in_err-value-clause-costs c = (escape_fails _ _ _ _ c.escapes.invariant c.escaped_unit.ensures.moves c.escaped_unit.ensures.costs).1
-
 pub returns-in_err-after-clause-only : goal.returns-in_err-after-clause-only
 returns-in_err-after-clause-only c r us x =
     let (v, rest) = part_there _ _ _ c.escapes.invariant c.in_ok-value.value _ c.in_ok-value.ensures.found c.escaped_unit.ensures.moves c.escaped_unit.ensures.costs r us x in
@@ -20,14 +17,8 @@ returns-in_err-after-clause-only c r us x =
 pub returns-in_err-after-clause-moves : goal.returns-in_err-after-clause-moves
 returns-in_err-after-clause-moves c = (part_fails _ _ _ c.escapes.invariant c.in_ok-value.value _ c.in_ok-value.ensures.found c.escaped_unit.ensures.moves c.escaped_unit.ensures.costs _ c.plain_part.ensures.moves c.plain_part.ensures.costs).0
 
-pub returns-in_err-after-clause-costs : goal.returns-in_err-after-clause-costs
-returns-in_err-after-clause-costs c = (part_fails _ _ _ c.escapes.invariant c.in_ok-value.value _ c.in_ok-value.ensures.found c.escaped_unit.ensures.moves c.escaped_unit.ensures.costs _ c.plain_part.ensures.moves c.plain_part.ensures.costs).1
-
 pub returns-in_err-add_escape-clause-moves : goal.returns-in_err-add_escape-clause-moves
 returns-in_err-add_escape-clause-moves c = (part_fails _ _ _ c.escapes.invariant c.in_ok-value.value _ c.in_ok-value.ensures.found c.escaped_unit.ensures.moves c.escaped_unit.ensures.costs _ c.plain_part.ensures.moves c.plain_part.ensures.costs).0
-
-pub returns-in_err-add_escape-clause-costs : goal.returns-in_err-add_escape-clause-costs
-returns-in_err-add_escape-clause-costs c = (part_fails _ _ _ c.escapes.invariant c.in_ok-value.value _ c.in_ok-value.ensures.found c.escaped_unit.ensures.moves c.escaped_unit.ensures.costs _ c.plain_part.ensures.moves c.plain_part.ensures.costs).1
 
 pub returns-in-Newline : goal.returns-in-Newline
 returns-in-Newline c =
@@ -45,3 +36,6 @@ pub escapes-preserved : goal.escapes-preserved
 escapes-preserved c =
     let part = c.in_ok-after.ensures in
     escaped_turn _ _ _ c.escapes.invariant c.in_ok-value.value _ c.in_ok-value.ensures.found c.escaped_unit.ensures.moves c.escaped_unit.ensures.costs (record { value = c.in_ok-value.value; after = c.in_ok-after.after }) _ _ c.plain_part.ensures.moves part.cost part.shorter refl c.in_ok-add_escape.ensures part.part (rw c.in-Escape.is at part.found)
+
+pub returns-in_err-after-clause-costs : goal.returns-in_err-after-clause-costs
+returns-in_err-after-clause-costs c = (part_fails _ _ _ c.escapes.invariant c.in_ok-value.value _ c.in_ok-value.ensures.found c.escaped_unit.ensures.moves c.escaped_unit.ensures.costs _ c.plain_part.ensures.moves c.plain_part.ensures.costs).1

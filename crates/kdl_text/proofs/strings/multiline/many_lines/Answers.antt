@@ -1,10 +1,10 @@
-use Rattle.std.proofs.Common.{◌∙◌, map, sym, ap, subst, arith, String, Global}
+use Rattle.std.proofs.Common.{◌∙◌, map, sym, ap, subst, String, Global}
 use Rattle.std.specs.Prelude.{string_bytes}
 use Rattle.std.specs.Str.{chars}
-use Rattle.kdl_text.specs.Internal.Lines.{LinesIn, line_units, lines_steps}
+use Rattle.kdl_text.specs.Internal.Lines.{LinesIn, line_units}
 use Rattle.kdl_text.specs.declared.strings.StringFailure.{StringFailure}
 use Rattle.kdl_text.proofs.ManyLines.StringReads.{body_found, body_only, body_content}
-use Rattle.kdl_text.proofs.ManyLines.LinesCost.{lines_cost, lines_fail, dedent_moves}
+use Rattle.kdl_text.proofs.ManyLines.LinesCost.{dedent_moves}
 use Rattle.kdl_text.proofs.Looking.MovesJoin.{moves_then}
 use Rattle.kdl_text.proofs.Quoted.BodyLoop.{failed}
 use Rattle.kdl_text.proofs.strings.multiline.many_lines.Goals as goal
@@ -18,9 +18,6 @@ returns-in_err-lines-clause-only c r w b =
 pub returns-in_err-lines-clause-moves : goal.returns-in_err-lines-clause-moves
 returns-in_err-lines-clause-moves c = moves_then c.newline.ensures.moves c.content.ensures.moves
 
-pub returns-in_err-lines-clause-costs : goal.returns-in_err-lines-clause-costs
-returns-in_err-lines-clause-costs c = lines_fail 4 _ _ _ (omega arith) c.newline.ensures.moves c.newline.ensures.costs c.content.ensures.costs
-
 pub returns-clause-found : goal.returns-clause-found
 returns-clause-found c =
     let (us, x, e) = c.in_ok-lines.ensures.found in
@@ -33,11 +30,6 @@ returns-clause-only c =
 
 pub returns-clause-moves : goal.returns-clause-moves
 returns-clause-moves c = dedent_moves _ _ _ _ _ c.newline.ensures.moves c.content.ensures.moves c.dedent.ensures.returned
-
-pub returns-clause-costs : goal.returns-clause-costs
-returns-clause-costs c =
-    let dedent = rw (c.deref.ensures.value) at c.dedent.ensures.returned in
-    lines_cost 4 (lines_steps c.in_ok-lines.lines.items) _ _ _ _ (omega arith) c.newline.ensures.moves c.newline.ensures.costs c.in_ok-lines.ensures.cost dedent
 
 pub dedent-requires : goal.dedent-requires
 dedent-requires c = subst (LinesIn c.content.new.cursor.text) (sym c.deref.ensures.value) c.in_ok-lines.ensures.part

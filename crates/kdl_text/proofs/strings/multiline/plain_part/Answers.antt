@@ -39,9 +39,6 @@ returns-in-Some-3-clause-only c = (plain_stuck _ _ c.runs.invariant _ _ c.in-Som
 pub returns-in-Some-3-clause-moves : goal.returns-in-Some-3-clause-moves
 returns-in-Some-3-clause-moves c = (plain_stuck _ _ c.runs.invariant _ _ c.in-Some.ensures.took c.in-Some.c-test.0.1 c.in-Some.c-test.1 (sym c.is_newline_char.ensures ∙ c.if-is_newline_char.false) (sym c.is_literal.ensures ∙ c.if-is_literal.false)).1
 
-pub returns-in-Some-3-clause-costs : goal.returns-in-Some-3-clause-costs
-returns-in-Some-3-clause-costs c = (plain_stuck _ _ c.runs.invariant _ _ c.in-Some.ensures.took c.in-Some.c-test.0.1 c.in-Some.c-test.1 (sym c.is_newline_char.ensures ∙ c.if-is_newline_char.false) (sym c.is_literal.ensures ∙ c.if-is_literal.false)).2
-
 pub returns-in-None : goal.returns-in-None
 returns-in-None c =
     let (none, moved, cost) = plain_over _ _ _ c.runs.invariant c.in-None.ensures.took in

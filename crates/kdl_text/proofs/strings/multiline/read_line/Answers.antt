@@ -3,20 +3,10 @@ use Rattle.kdl_text.specs.Internal.Lines.{escapes_bytes}
 use Rattle.kdl_text.proofs.Looking.MovesJoin.{fewer_bytes, moves_then}
 use Rattle.kdl_text.proofs.Looking.Parts.{part_moved}
 use Rattle.kdl_text.proofs.ManyLines.EscapedLineLoop.{escaped_costs, escaped_leaves, line_escaped}
-use Rattle.kdl_text.proofs.ManyLines.LinesCost.{plain_costs}
 use Rattle.kdl_text.proofs.strings.multiline.read_line.Goals as goal
-
-pub returns-in-Newline-clause-cost : goal.returns-in-Newline-clause-cost
-returns-in-Newline-clause-cost c = plain_costs c.in_ok-segment.segment _ _ c.in_ok-segment.ensures.cost c.in_ok-segment.ensures.shorter
-
-pub returns-in-Close-clause-cost : goal.returns-in-Close-clause-cost
-returns-in-Close-clause-cost c = plain_costs c.in_ok-segment.segment _ _ c.in_ok-segment.ensures.cost c.in_ok-segment.ensures.shorter
 
 pub returns-in_err-escapes-in-Escape-clause-moves : goal.returns-in_err-escapes-in-Escape-clause-moves
 returns-in_err-escapes-in-Escape-clause-moves c = moves_then c.plain_part.ensures.moves c.line_escapes.ensures.moves
-
-pub returns-in_err-escapes-in-Escape-clause-costs : goal.returns-in_err-escapes-in-Escape-clause-costs
-returns-in_err-escapes-in-Escape-clause-costs c = escaped_costs _ _ _ c.in_ok-segment.ensures.cost c.line_escapes.ensures.costs
 
 pub returns-in_ok-escapes-in-Escape : goal.returns-in_ok-escapes-in-Escape
 returns-in_ok-escapes-in-Escape c =

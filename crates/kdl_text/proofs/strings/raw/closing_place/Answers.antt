@@ -19,12 +19,6 @@ returns-then-eat_signs-signs-clause-none c =
 pub returns-then-eat_signs-signs-clause-moves : goal.returns-then-eat_signs-signs-clause-moves
 returns-then-eat_signs-signs-clause-moves c = moves_then c.count_quotes-more.ensures.moves c.eat_signs.ensures.moves
 
-pub returns-then-eat_signs-signs-clause-costs : goal.returns-then-eat_signs-signs-clause-costs
-returns-then-eat_signs-signs-clause-costs c =
-    let q = c.count_quotes-more.ensures in
-    let s = c.eat_signs.ensures in
-    signs_cost c.count_quotes-more.result _ _ _ q.text (omega arith) q.costs s.moves s.costs
-
 pub returns : goal.returns
 returns c =
     let q = c.count_quotes-more.ensures in
@@ -42,3 +36,9 @@ returns c =
 
 pub after_quotes-requires : goal.after_quotes-requires
 after_quotes-requires c = part_moved c.requires.part (moves_then c.count_quotes-more.ensures.moves c.eat_signs.ensures.moves)
+
+pub returns-then-eat_signs-signs-clause-costs : goal.returns-then-eat_signs-signs-clause-costs
+returns-then-eat_signs-signs-clause-costs c =
+    let q = c.count_quotes-more.ensures in
+    let s = c.eat_signs.ensures in
+    signs_cost c.count_quotes-more.result _ _ _ q.text (omega arith) q.costs s.moves s.costs

@@ -21,11 +21,6 @@ returns-in-Some-clause-moves c =
     let past = line_ran _ _ _ _ c.quotes.invariant c.skip.ensures in
     (line_fails _ _ _ _ _ past c.in-Some.ensures.took).0
 
-pub returns-in-Some-clause-costs : goal.returns-in-Some-clause-costs
-returns-in-Some-clause-costs c =
-    let past = line_ran _ _ _ _ c.quotes.invariant c.skip.ensures in
-    (line_fails _ _ _ _ _ past c.in-Some.ensures.took).1
-
 pub returns-in-None-clause-only : goal.returns-in-None-clause-only
 returns-in-None-clause-only c =
     let past = line_ran _ _ _ _ c.quotes.invariant c.skip.ensures in
@@ -35,11 +30,6 @@ pub returns-in-None-clause-moves : goal.returns-in-None-clause-moves
 returns-in-None-clause-moves c =
     let past = line_ran _ _ _ _ c.quotes.invariant c.skip.ensures in
     (line_over _ _ _ _ past c.in-None.ensures.took).1
-
-pub returns-in-None-clause-costs : goal.returns-in-None-clause-costs
-returns-in-None-clause-costs c =
-    let past = line_ran _ _ _ _ c.quotes.invariant c.skip.ensures in
-    (line_over _ _ _ _ past c.in-None.ensures.took).2
 
 pub quotes-preserved : goal.quotes-preserved
 quotes-preserved c =
@@ -80,6 +70,21 @@ returns-then-eat_signs-signs-clause-moves c =
     let text = did.text ∙ ap (λ k. times k 35 ++ c.eat_signs.new.cursor.rest) c.if-eat_signs-signs.true in
     (line_ends _ _ _ _ _ _ past c.in-Some-eq34.ensures.took c.slice_between.result _ c.in-Some-eq34.field-0-test text did.moves did.costs whole cut.moved).2
 
+pub slice_between-requires-clause-part : goal.slice_between-requires-clause-part
+slice_between-requires-clause-part c =
+    let past = line_ran _ _ _ _ c.quotes.invariant c.skip.ensures in
+    part_moved c.checkpoint-start.ensures.part (moves_then past.moves (moves_then (moves_one c.in-Some-eq34.ensures.took) c.eat_signs.ensures.moves))
+
+pub returns-in-Some-clause-costs : goal.returns-in-Some-clause-costs
+returns-in-Some-clause-costs c =
+    let past = line_ran _ _ _ _ c.quotes.invariant c.skip.ensures in
+    (line_fails _ _ _ _ _ past c.in-Some.ensures.took).1
+
+pub returns-in-None-clause-costs : goal.returns-in-None-clause-costs
+returns-in-None-clause-costs c =
+    let past = line_ran _ _ _ _ c.quotes.invariant c.skip.ensures in
+    (line_over _ _ _ _ past c.in-None.ensures.took).2
+
 pub returns-then-eat_signs-signs-clause-costs : goal.returns-then-eat_signs-signs-clause-costs
 returns-then-eat_signs-signs-clause-costs c =
     let past = line_ran _ _ _ _ c.quotes.invariant c.skip.ensures in
@@ -88,8 +93,3 @@ returns-then-eat_signs-signs-clause-costs c =
     let whole = sym c.checkpoint-start.ensures.rest ∙ cut.result ∙ ap (λ z. c.slice_between.result ++ z) c.checkpoint-end.ensures.rest in
     let text = did.text ∙ ap (λ k. times k 35 ++ c.eat_signs.new.cursor.rest) c.if-eat_signs-signs.true in
     (line_ends _ _ _ _ _ _ past c.in-Some-eq34.ensures.took c.slice_between.result _ c.in-Some-eq34.field-0-test text did.moves did.costs whole cut.moved).3
-
-pub slice_between-requires-clause-part : goal.slice_between-requires-clause-part
-slice_between-requires-clause-part c =
-    let past = line_ran _ _ _ _ c.quotes.invariant c.skip.ensures in
-    part_moved c.checkpoint-start.ensures.part (moves_then past.moves (moves_then (moves_one c.in-Some-eq34.ensures.took) c.eat_signs.ensures.moves))

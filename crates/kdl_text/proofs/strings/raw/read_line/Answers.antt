@@ -40,9 +40,6 @@ returns-in-Some-3-clause-only c = (raw_stuck c.args.signs _ _ c.parts.invariant 
 pub returns-in-Some-3-clause-moves : goal.returns-in-Some-3-clause-moves
 returns-in-Some-3-clause-moves c = (raw_stuck c.args.signs _ _ c.parts.invariant _ _ c.in-Some.ensures.took c.in-Some.c-test.1 (sym c.is_newline_char.ensures ∙ c.if-is_newline_char.false) (sym c.is_raw.ensures ∙ c.if-is_raw.false)).1
 
-pub returns-in-Some-3-clause-costs : goal.returns-in-Some-3-clause-costs
-returns-in-Some-3-clause-costs c = (raw_stuck c.args.signs _ _ c.parts.invariant _ _ c.in-Some.ensures.took c.in-Some.c-test.1 (sym c.is_newline_char.ensures ∙ c.if-is_newline_char.false) (sym c.is_raw.ensures ∙ c.if-is_raw.false)).2
-
 pub returns-in-None : goal.returns-in-None
 returns-in-None c =
     let (none, moved, cost) = raw_runs_out _ _ _ _ c.parts.invariant c.in-None.ensures.took in

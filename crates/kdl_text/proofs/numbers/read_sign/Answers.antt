@@ -1,6 +1,6 @@
 use Rattle.std.proofs.Common.{sym, ◌∙◌}
 use Rattle.kdl_text.proofs.Numeric.NumberReads.{sign_minus, sign_plus, sign_other, sign_at_end}
-use Rattle.kdl_text.proofs.numbers.sign.Goals as goal
+use Rattle.kdl_text.proofs.numbers.read_sign.Goals as goal
 
 pub returns-in-Some-eq45-clause-reads : goal.returns-in-Some-eq45-clause-reads
 returns-in-Some-eq45-clause-reads c = (sign_minus _ _ _ _ c.in-Some-eq45.ensures.result c.in-Some-eq45.field-0-test c.look.ensures.moved c.step.ensures).0
