@@ -9,7 +9,7 @@ ghost use Rattle.kdl_text.specs.Numbers as spec;
 ghost use Rattle.kdl_text.specs.declared.numbers.Magnitude.TheVariants.{Small};
 ghost use Rattle.kdl_text.specs.Numbers.{BasePrefix, Decimal, FloatKeyword, FloatText};
 ghost use Rattle.kdl_text.specs.Internal.DigitRuns.{Contains, joined, with_underscores};
-ghost use Rattle.kdl_text.specs.Internal.Reading.{Moves, Costs};
+ghost use Rattle.kdl_text.specs.Internal.Reading.{Moves, Costs, Past};
 ghost use Rattle.kdl_text.specs.Spans.{bytes};
 ghost use Rattle.std.specs.Prelude.{◌≡◌, true, ℕ, ◌+◌, ◌*◌, ◌<◌, ◌≤◌, ◌++◌, ◌||◌, false, not, IfOk, if◌then◌else◌, ◌↔◌, IsTrue, IfSome, string_bytes, [], length, ◌==◌};
 ghost use Rattle.std.specs.List.{list_all};
@@ -225,8 +225,7 @@ fn digit_of(c: char, radix: Radix) -> Option<u32>
 #[inline(always)]
 fn read_sign(cursor: &mut Cursor) -> Sign
     ensures reads { spec.Sign cursor.old.rest cursor.new.rest (is_minus result) }
-    ensures moves { Moves cursor.old cursor.new }
-    ensures costs { Costs 2 1 cursor.old cursor.new }
+    ensures past { Past 2 1 cursor.old cursor.new }
 {
     match cursor.look() {
         Some('-') => {
@@ -259,8 +258,7 @@ fn base_here(cursor: &mut Cursor) -> Option<Radix>
 #[inline(always)]
 fn eat_base_prefix(cursor: &mut Cursor) -> Radix
     ensures reads { BasePrefix cursor.old.rest cursor.new.rest (radix_of result) }
-    ensures moves { Moves cursor.old cursor.new }
-    ensures costs { Costs 2 2 cursor.old cursor.new }
+    ensures past { Past 2 2 cursor.old cursor.new }
 {
     let Some(radix) = base_here(cursor) else {
         return Radix::Decimal;
@@ -275,8 +273,7 @@ fn eat_base_prefix(cursor: &mut Cursor) -> Radix
 #[inline(never)]
 fn more_digits(cursor: &mut Cursor, radix: Radix, before: Magnitude) -> Magnitude
     ensures reads { ReadsDigits (radix_of radix) before result cursor.old.rest cursor.new.rest }
-    ensures moves { Moves cursor.old cursor.new }
-    ensures costs { Costs 2 1 cursor.old cursor.new }
+    ensures past { Past 2 1 cursor.old cursor.new }
 {
     let mut magnitude = before;
     'digits: loop {
@@ -299,8 +296,7 @@ fn more_digits(cursor: &mut Cursor, radix: Radix, before: Magnitude) -> Magnitud
 #[inline(always)]
 fn digits<'a>(cursor: &mut Cursor<'a>, radix: Radix, before: u64) -> Magnitude
     ensures reads { ReadsDigits (radix_of radix) (Small before) result cursor.old.rest cursor.new.rest }
-    ensures moves { Moves cursor.old cursor.new }
-    ensures costs { Costs 2 1 cursor.old cursor.new }
+    ensures past { Past 2 1 cursor.old cursor.new }
 {
     let mut here = cursor.take_over();
     let mut small = before;
@@ -331,8 +327,7 @@ fn digits<'a>(cursor: &mut Cursor<'a>, radix: Radix, before: u64) -> Magnitude
 #[inline(always)]
 fn integer(cursor: &mut Cursor, radix: Radix) -> Option<Magnitude>
     ensures reads { ReadsInteger (radix_of radix) result cursor.old.rest cursor.new.rest }
-    ensures moves { Moves cursor.old cursor.new }
-    ensures costs { Costs 2 1 cursor.old cursor.new }
+    ensures past { Past 2 1 cursor.old cursor.new }
 {
     let Some(c) = cursor.look() else {
         return None;
@@ -349,8 +344,7 @@ fn integer(cursor: &mut Cursor, radix: Radix) -> Option<Magnitude>
 #[inline(never)]
 fn more_decimals(cursor: &mut Cursor, before: u64) -> Magnitude
     ensures reads { ReadsDigits 10 (Small before) result cursor.old.rest cursor.new.rest }
-    ensures moves { Moves cursor.old cursor.new }
-    ensures costs { Costs 2 1 cursor.old cursor.new }
+    ensures past { Past 2 1 cursor.old cursor.new }
 {
     digits(cursor, Radix::Decimal, before)
 }
@@ -360,8 +354,7 @@ fn more_decimals(cursor: &mut Cursor, before: u64) -> Magnitude
 #[inline(always)]
 fn decimal_integer(cursor: &mut Cursor) -> Option<(Magnitude, Underscores)>
     ensures reads { ReadsDecimal 10 result cursor.old.rest cursor.new.rest }
-    ensures moves { Moves cursor.old cursor.new }
-    ensures costs { Costs 2 1 cursor.old cursor.new }
+    ensures past { Past 2 1 cursor.old cursor.new }
 {
     let (count, value, more) = cursor.skip_digits();
     if count == 0 {
@@ -377,8 +370,7 @@ fn decimal_integer(cursor: &mut Cursor) -> Option<(Magnitude, Underscores)>
 #[inline(always)]
 fn integer_in(cursor: &mut Cursor, radix: Radix) -> Option<(Magnitude, Underscores)>
     ensures reads { ReadsDecimal (radix_of radix) result cursor.old.rest cursor.new.rest }
-    ensures moves { Moves cursor.old cursor.new }
-    ensures costs { Costs 2 1 cursor.old cursor.new }
+    ensures past { Past 2 1 cursor.old cursor.new }
 {
     if let Radix::Decimal = radix {
         return decimal_integer(cursor);
@@ -433,8 +425,7 @@ struct Front {
 fn read_front(cursor: &mut Cursor) -> Result<Front, NumberFault>
     ensures reads { ReadsFront result cursor.old.rest cursor.new.rest }
     ensures fault { IsFault result cursor.old.rest cursor.new.rest }
-    ensures moves { Moves cursor.old cursor.new }
-    ensures costs { Costs 2 4 cursor.old cursor.new }
+    ensures past { Past 2 4 cursor.old cursor.new }
     ensures shorter { IfOk result (λ f. length cursor.new.rest < length cursor.old.rest) }
 {
     let sign = read_sign(cursor);
@@ -454,8 +445,7 @@ fn read_front(cursor: &mut Cursor) -> Result<Front, NumberFault>
 fn fraction(cursor: &mut Cursor) -> Result<Option<Underscores>, NumberFault>
     ensures reads { ReadsFraction result cursor.old.rest cursor.new.rest }
     ensures fault { IsPartFault result cursor.old.rest cursor.new.rest }
-    ensures moves { Moves cursor.old cursor.new }
-    ensures costs { Costs 2 2 cursor.old cursor.new }
+    ensures past { Past 2 2 cursor.old cursor.new }
 {
     if !cursor.eat('.') {
         return Ok(None);
@@ -470,8 +460,7 @@ fn fraction(cursor: &mut Cursor) -> Result<Option<Underscores>, NumberFault>
 fn exponent(cursor: &mut Cursor) -> Result<Option<Underscores>, NumberFault>
     ensures reads { ReadsExponent result cursor.old.rest cursor.new.rest }
     ensures fault { IsPowerFault result cursor.old.rest cursor.new.rest }
-    ensures moves { Moves cursor.old cursor.new }
-    ensures costs { Costs 2 3 cursor.old cursor.new }
+    ensures past { Past 2 3 cursor.old cursor.new }
 {
     if !eat_exponent_letter(cursor) {
         return Ok(None);
@@ -512,8 +501,7 @@ fn joined(point: Option<Underscores>, power: Option<Underscores>) -> Option<Unde
 fn decimal_part(cursor: &mut Cursor) -> Result<Underscores, NumberFault>
     ensures reads { ReadsPart result cursor.old.rest cursor.new.rest }
     ensures fault { IsPartFault result cursor.old.rest cursor.new.rest }
-    ensures moves { Moves cursor.old cursor.new }
-    ensures costs { Costs 2 6 cursor.old cursor.new }
+    ensures past { Past 2 6 cursor.old cursor.new }
 {
     let point = match fraction(cursor) {
         Ok(point) => point,
@@ -571,9 +559,6 @@ fn without_underscores<'a>(
     ensures returned { Returned (2 * bytes segment.now + 1) cursor.old cursor.new }
 {
     if let Underscores::Absent = underscores {
-        return cursor.characters(segment).into_piece().to_string(alloc);
-    }
-    if has_no_underscore(cursor.characters(segment)) {
         return cursor.characters(segment).into_piece().to_string(alloc);
     }
     let characters = cursor.characters(segment);

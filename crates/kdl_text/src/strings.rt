@@ -9,7 +9,7 @@ ghost use Rattle.kdl_text.specs.Bare.{BareString};
 ghost use Rattle.kdl_text.specs.Chars.{Text, is_digit, is_identifier_char, is_newline_char, within};
 ghost use Rattle.kdl_text.specs.Internal.Here.{Looked, Stayed, first, in_class};
 ghost use Rattle.kdl_text.specs.MultiLine.{IsQuoted};
-ghost use Rattle.kdl_text.specs.Internal.Reading.{Moves, Costs};
+ghost use Rattle.kdl_text.specs.Internal.Reading.{Moves, Costs, Past};
 ghost use Rattle.kdl_text.specs.Strings as spec;
 ghost use Rattle.kdl_text.specs.Strings.{QuotedBody, StringUnit, IsUnit, HexNumber, Run, unit_value};
 ghost use Rattle.kdl_text.specs.declared.strings.StringFault.TheVariants.{Newline, Banned};
@@ -19,7 +19,7 @@ ghost use Rattle.std.specs.Char.{is_ascii_alphabetic};
 ghost use Rattle.std.specs.List.{list_all};
 ghost use Rattle.std.specs.Str.{chars, bytes_eq};
 
-use self::multiline::many_lines;
+use self::multiline::{Enclosure, many_lines};
 use crate::chars::{Class, is_digit, is_newline_char, is_space};
 use crate::cursor::{Cursor, Piece};
 use std::alloc::{AllocError, Global};
@@ -84,8 +84,7 @@ impl From<StringFault> for StringFailure {
 fn run_of<'a>(class: Class, cursor: &mut Cursor<'a>) -> Piece<'a>
     ensures run { Run (in_class class) cursor.old.rest cursor.new.rest }
     ensures result { cursor.old.rest ≡ result ++ cursor.new.rest }
-    ensures moves { Moves cursor.old cursor.new }
-    ensures costs { Costs 2 1 cursor.old cursor.new }
+    ensures past { Past 2 1 cursor.old cursor.new }
 {
     let start = cursor.checkpoint();
     cursor.skip(class);
@@ -207,8 +206,7 @@ fn is_blank(c: char) -> bool
 /// Advances past spaces and newlines.
 fn skip_blanks(cursor: &mut Cursor)
     ensures run { Run spec.is_escaped_space cursor.old.rest cursor.new.rest }
-    ensures moves { Moves cursor.old cursor.new }
-    ensures costs { Costs 1 1 cursor.old cursor.new }
+    ensures past { Past 1 1 cursor.old cursor.new }
 {
     'blanks: while let Some(c) = cursor.look() {
         if !is_blank(c) {
@@ -222,8 +220,7 @@ fn skip_blanks(cursor: &mut Cursor)
 fn hex_number(cursor: &mut Cursor) -> Option<char>
     ensures found { IfSome result (λ c. HexNumber cursor.old.rest cursor.new.rest c) }
     ensures none { IfNone result ((r : Text) (c : ℕ) → HexNumber cursor.old.rest r c → ⊥) }
-    ensures moves { Moves cursor.old cursor.new }
-    ensures costs { Costs 1 1 cursor.old cursor.new }
+    ensures past { Past 1 1 cursor.old cursor.new }
 {
     let mut value = 0u32;
     let mut count = 0u8;
@@ -272,8 +269,7 @@ fn escaped_char(letter: char, cursor: &mut Cursor) -> Option<char>
     ensures none { spec.is_escaped_space letter ≡ false
         → IfNone result ((r : Text) (u : StringUnit) → IsUnit (92 ∷ letter ∷ cursor.old.rest) r u
         → ⊥) }
-    ensures moves { Moves cursor.old cursor.new }
-    ensures costs { Costs 1 1 cursor.old cursor.new }
+    ensures past { Past 1 1 cursor.old cursor.new }
 {
     if letter != 'u' {
         return letter_escape(letter);
@@ -328,8 +324,7 @@ fn escape(cursor: &mut Cursor, out: &mut String) -> Result<(), StringFailure>
         × (chars (string_bytes out.new) ≡ chars (string_bytes out.old) ++ unit_value u)) }
     ensures only { (r : Text) (u : StringUnit) → IsUnit (92 ∷ cursor.old.rest) r u
         → IfErr result (λ e. e ≡ Memory) }
-    ensures moves { Moves cursor.old cursor.new }
-    ensures costs { Costs 1 1 cursor.old cursor.new }
+    ensures past { Past 1 1 cursor.old cursor.new }
 {
     match escaped_unit(cursor)? {
         Some(c) => {
@@ -359,8 +354,7 @@ fn quoted_body(alloc: Global, cursor: &mut Cursor) -> Result<String, StringFailu
     ensures only { (r w : Text) → QuotedBody cursor.old.rest r w
         → MatchResult result (λ v. (r ≡ cursor.new.rest) × (w ≡ chars (string_bytes v)))
         (λ e. e ≡ Memory) }
-    ensures moves { Moves cursor.old cursor.new }
-    ensures costs { Costs 3 2 cursor.old cursor.new }
+    ensures past { Past 3 2 cursor.old cursor.new }
 {
     let mut out = run_of(Class::Literal, cursor).to_string(alloc)?;
     'units: loop {
@@ -391,7 +385,7 @@ pub fn quoted_string(alloc: Global, cursor: &mut Cursor) -> Result<String, Strin
         return Err(StringFailure::Fault(StringFault::Unopened));
     }
     if cursor.eat_two('"', '"') {
-        many_lines(alloc, cursor)
+        many_lines(alloc, cursor, Enclosure::Quotes)
     } else {
         quoted_body(alloc, cursor)
     }

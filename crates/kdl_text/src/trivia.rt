@@ -3,7 +3,7 @@
 
 ghost use Rattle.kdl_text.specs.Chars.{begins, begins_two, Space};
 ghost use Rattle.kdl_text.specs.Internal.Here.{AteTwo};
-ghost use Rattle.kdl_text.specs.Internal.Reading.{Reads, Moves, Costs, Longest};
+ghost use Rattle.kdl_text.specs.Internal.Reading.{Reads, Moves, Costs, Longest, Past};
 ghost use Rattle.kdl_text.specs.Trivia.{Parts, BlockComment, Line, LineComment, EscEnd, Escline};
 ghost use Rattle.kdl_text.specs.Internal.TriviaReading.{PieceCosts, RunsWs, ReadsSlash, SlashCosts};
 ghost use Rattle.std.specs.Prelude.{◌≡◌, true, false, []};
@@ -32,8 +32,7 @@ pub enum SlashRead {
 fn block_end(cursor: &mut Cursor) -> bool
     ensures reads { Reads Parts result cursor.old.rest cursor.new.rest }
     ensures ended { result ≡ false → cursor.new.rest ≡ [] }
-    ensures moves { Moves cursor.old cursor.new }
-    ensures costs { Costs 2 1 cursor.old cursor.new }
+    ensures past { Past 2 1 cursor.old cursor.new }
 {
     let mut here = cursor.take_over();
     let mut depth: u64 = 1;
@@ -79,8 +78,7 @@ pub fn block_comment(cursor: &mut Cursor) -> bool
 #[inline(always)]
 fn line_end(cursor: &mut Cursor)
     ensures reads { Reads Line true cursor.old.rest cursor.new.rest }
-    ensures moves { Moves cursor.old cursor.new }
-    ensures costs { Costs 2 2 cursor.old cursor.new }
+    ensures past { Past 2 2 cursor.old cursor.new }
 {
     'line: loop {
         match cursor.take_at(Marks::Newline) {
@@ -122,8 +120,7 @@ pub fn spaces(cursor: &mut Cursor)
 /// unclosed.
 fn ws_run(cursor: &mut Cursor) -> bool
     ensures reads { RunsWs result cursor.old cursor.new }
-    ensures moves { Moves cursor.old cursor.new }
-    ensures costs { Costs 3 3 cursor.old cursor.new }
+    ensures past { Past 3 3 cursor.old cursor.new }
 {
     'run: loop {
         spaces(cursor);
@@ -140,8 +137,7 @@ fn ws_run(cursor: &mut Cursor) -> bool
 /// text. Returns false if none of these is here.
 fn escline_end(cursor: &mut Cursor) -> bool
     ensures reads { Reads EscEnd result cursor.old.rest cursor.new.rest }
-    ensures moves { Moves cursor.old cursor.new }
-    ensures costs { Costs 2 4 cursor.old cursor.new }
+    ensures past { Past 2 4 cursor.old cursor.new }
 {
     if cursor.eat_two('/', '/') {
         line_end(cursor);

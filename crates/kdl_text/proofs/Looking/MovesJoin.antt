@@ -26,14 +26,8 @@ moves_one {c = c} (r, at, s, x) = record { piece = (c ∷ [], r); at = omega (ar
 pub moves_two : {c d : ℕ} {a b : Here} → TookTwo c d a b → Moves a b
 moves_two {c = c} {d = d} t = record { piece = (c ∷ d ∷ [], t.rest); at = omega (arith, ap bytes t.rest, t.at); counts = omega (arith, t.steps); same = t.same }
 
-pub moves_took : (c : ℕ) (f a b : Here) → Took (Some c) a b → Moves f a → Moves f b
-moves_took c f a b t m = moves_then m (moves_one t)
-
 pub shorter : {a b : Here} → Moves a b → length b.rest ≤ length a.rest
 shorter {a = a} {b = b} m = omega (arith, ap length m.piece.1, length-append m.piece.0 b.rest)
-
-pub costs_then : (k i j : ℕ) (a b e : Here) → Costs k i a b → Costs k j b e → Costs k (i + j) a e
-costs_then k i j a b e c d = record { most = omega (arith, c.most, d.most); least = omega (arith, c.least, d.least) }
 
 pub stayed_looked : (a b : Here) → b ≡ looked a → Stayed 1 a b
 stayed_looked a b e = record { rest = ap (λ z. z.rest) e; at = ap (λ z. z.at) e; steps = ap (λ z. z.steps) e; same = ap (λ z. z.text) e }

@@ -1,6 +1,6 @@
 -- What lines represent under a prefix.
-use Rattle.std.proofs.Common.{◌≡◌, ℕ, suc, ◌+◌, ◌<◌, ◌≤◌, Bool, true, false, not, ◌&&◌, List, [], ◌∷◌, ◌++◌, map, length, refl, sym, ap, ◌∙◌, append_assoc, append-nil, take, drop, get_or, eq-eqb, eqb-true, subst}
-use Rattle.std.proofs.lemmas.Bool.{false≢true, true≢false}
+use Rattle.std.proofs.Common.{◌≡◌, ℕ, suc, ◌+◌, ◌<◌, ◌≤◌, Bool, true, false, not, List, [], ◌∷◌, ◌++◌, map, length, refl, sym, ap, ◌∙◌, append_assoc, append-nil, take, drop, get_or, eq-eqb, eqb-true, subst}
+use Rattle.std.proofs.lemmas.Bool.{false≢true, true≢false, not-true, and_right}
 use Rattle.std.proofs.lemmas.List.{append_cancel_left, map-append, take-append-drop, take_all, take_more}
 use Rattle.std.proofs.Math.Seq.{drop-cons}
 use Rattle.std.proofs.lemmas.List.Folds.{list_all-append}
@@ -170,17 +170,9 @@ literals_text (c ∷ p) = ap (λ z. c ∷ z) (literals_text p)
 pub prefix_whole : (ps us rs : List LineUnit) (n : ℕ) → length ps ≤ n → us ≡ take n ps ++ rs → us ≡ ps ++ rs
 prefix_whole ps us rs n h e = e ∙ ap (λ z. z ++ rs) (take_all n ps h)
 
-pub no_text : (a b : Bool) → b ≡ false → (a && b) ≡ false
-no_text true b h = h
-no_text false b h = refl
-
-pub not_true : (b : Bool) → not b ≡ true → b ≡ false
-not_true true h = cc
-not_true false h = refl
-
 -- a line with a character that is not a space is not blank
 pub not_blank : (ps : List LineUnit) (cs rest : Text) → literals cs ≡ ps ++ literals rest → starts (λ c. not (is_space c)) rest ≡ true → is_blank_line (literals cs) ≡ false
 not_blank ps cs [] e h = cc
 not_blank ps cs (c ∷ rest) e h =
-    let space : is_space c ≡ false = not_true (is_space c) h in
-    ap is_blank_line e ∙ list_all-append is_space_unit ps (literals (c ∷ rest)) ∙ no_text (list_all is_space_unit ps) _ (rw space refl)
+    let space : is_space c ≡ false = not-true (is_space c) h in
+    ap is_blank_line e ∙ list_all-append is_space_unit ps (literals (c ∷ rest)) ∙ and_right (list_all is_space_unit ps) _ (rw space refl)

@@ -10,13 +10,14 @@ use Rattle.kdl_text.specs.Spans.{bytes}
 use Rattle.kdl_text.specs.Internal.Lines.{CostsWith, EscapesIn, escape_units, escapes_bytes, escapes_units, is_one_line, ReadsLine}
 use Rattle.kdl_text.specs.MultiLine.{kept, unit, Content}
 use Rattle.kdl_text.specs.Raw.{literals}
-use Rattle.kdl_text.specs.Internal.Reading.{Moves, Costs, Goes}
+use Rattle.kdl_text.specs.Internal.Reading.{Costs, Past, Goes}
 use Rattle.kdl_text.specs.Strings.{StringUnit, literal, escape, spaces, escape_of, IsUnit, one_literal, one_letter, one_number, one_gap}
 use Rattle.kdl_text.specs.declared.strings.dedent.Escaped.{Escaped}
 use Rattle.kdl_text.specs.declared.strings.dedent.LineUnit.{LineUnit}
 use Rattle.kdl_text.specs.declared.strings.dedent.LineUnit.TheVariants.{LineEnd}
 use Rattle.kdl_text.proofs.Looking.ValueGoes.{goes_then}
 use Rattle.kdl_text.proofs.Looking.MovesJoin.{moves_then, fewer_bytes, bytes-append}
+use Rattle.kdl_text.proofs.Looking.SliceCost.{past_then}
 use Rattle.kdl_text.proofs.Looking.Runs.{length-bytes}
 use Rattle.kdl_text.proofs.ManyLines.Escapes.{escapes_bytes-append, escapes_units-append}
 use Rattle.kdl_text.proofs.ManyLines.LineParts.{escapes_more, escapes_same}
@@ -27,8 +28,7 @@ use Rattle.kdl_text.proofs.ManyLines.LinesUnique.{goes_content, slash_unit, cont
 pub record InEscaped (f a : Here) (es : List Escaped) : Type 0 where
   pub inside : is_one_line (escapes_units es) ≡ true
   pub goes : Goes Content (92 ∷ f.rest) (escapes_units es) (92 ∷ a.rest)
-  pub moves : Moves f a
-  pub costs : Costs 2 0 f a
+  pub past : Past 2 0 f a
   pub leaves : CostsWith (2 * escapes_bytes es) f a
   pub parts : EscapesIn a.text es
 
@@ -63,17 +63,19 @@ slash_shorter {s = s} {r = r} i = go i refl
 pub record EscapesRead (f d : Here) (es : List Escaped) (closed : Bool) : Type 0 where
   pub line : ReadsLine Content closed (92 ∷ f.rest) (escapes_units es) d.rest
   pub shorter : bytes d.rest + 1 ≤ bytes f.rest
-  pub moves : Moves f d
-  pub costs : Costs 2 0 f d
+  pub past : Past 2 0 f d
   pub leaves : CostsWith (2 * escapes_bytes es) f d
   pub parts : EscapesIn d.text es
 
-module _ (f a : Here) (es : List Escaped) (i : InEscaped f a es) (o : Option ℕ) (b : Here) (unit_is : IsUnit (92 ∷ a.rest) b.rest (escape_of o)) (m : Moves a b) (k : Costs 1 1 a b) where
+module _ (f a : Here) (es : List Escaped) (i : InEscaped f a es) (o : Option ℕ) (b : Here) (unit_is : IsUnit (92 ∷ a.rest) b.rest (escape_of o)) (m : Past 1 1 a b) where
   few_read : bytes b.rest + 1 ≤ bytes a.rest
-  few_read = omega (arith, slash_shorter unit_is, ap length m.piece.1, length-append m.piece.0 b.rest, ap bytes m.piece.1, bytes-append m.piece.0 b.rest, length-bytes m.piece.0)
+  few_read = omega (arith, slash_shorter unit_is, ap length m.moves.piece.1, length-append m.moves.piece.0 b.rest, ap bytes m.moves.piece.1, bytes-append m.moves.piece.0 b.rest, length-bytes m.moves.piece.0)
 
-  escape_costs : Costs 2 0 f b
-  escape_costs = record { most = omega (arith, i.costs.most, k.most, few_read); least = omega (arith, i.costs.least, k.least) }
+  escape_past : Past 2 0 f b
+  escape_past = record {
+    moves = moves_then i.past.moves m.moves;
+    costs = record { most = omega (arith, i.past.costs.most, m.costs.most, few_read); least = omega (arith, i.past.costs.least, m.costs.least) };
+  }
 
   escape_goes : Goes Content (92 ∷ f.rest) (escapes_units es ++ kept (escape_of o)) b.rest
   escape_goes = goes_then i.goes (slash_kept unit_is)
@@ -81,7 +83,7 @@ module _ (f a : Here) (es : List Escaped) (i : InEscaped f a es) (o : Option ℕ
   escape_inside : is_one_line (escapes_units es ++ kept (escape_of o)) ≡ true
   escape_inside = joins (escapes_units es) (kept (escape_of o)) i.inside (kept_inside (escape_of o))
 
-  module _ (e : Escaped) (d : Here) (new : List Escaped) (n : Moves b d) (l : Costs 2 0 b d) (s : bytes e.after + 1 + bytes d.rest ≤ bytes b.rest) (value : e.value ≡ o) (is : new ≡ es ++ (e ∷ [])) (part : IsPart d.text e.after) where
+  module _ (e : Escaped) (d : Here) (new : List Escaped) (n : Past 2 0 b d) (s : bytes e.after + 1 + bytes d.rest ≤ bytes b.rest) (value : e.value ≡ o) (is : new ≡ es ++ (e ∷ [])) (part : IsPart d.text e.after) where
     units_are : escapes_units new ≡ (escapes_units es ++ kept (escape_of o)) ++ literals e.after
     units_are =
         ap escapes_units is ∙ escapes_units-append es (e ∷ []) ∙ ap (λ z. escapes_units es ++ z) (append-nil (escape_units e))
@@ -91,30 +93,26 @@ module _ (f a : Here) (es : List Escaped) (i : InEscaped f a es) (o : Option ℕ
     bytes_are = omega (arith, ap escapes_bytes is, escapes_bytes-append es (e ∷ []))
 
     few : bytes d.rest + 1 ≤ bytes f.rest
-    few = omega (arith, fewer_bytes i.moves, fewer_bytes m, s)
+    few = omega (arith, fewer_bytes escape_past.moves, s)
 
     all_inside : is_one_line (escapes_units new) ≡ true
     all_inside = ap is_one_line units_are ∙ joins (escapes_units es ++ kept (escape_of o)) (literals e.after) escape_inside (literals_inside e.after)
 
     all_in : EscapesIn d.text new
-    all_in = subst (EscapesIn d.text) (sym is) (escapes_more d.text es e (escapes_same es i.parts (n.same ∙ m.same)) part)
+    all_in = subst (EscapesIn d.text) (sym is) (escapes_more d.text es e (escapes_same es i.parts (n.moves.same ∙ m.moves.same)) part)
 
-    part_moves : Moves f d
-    part_moves = moves_then i.moves (moves_then m n)
-
-    part_costs : Costs 2 0 f d
-    part_costs = record { most = omega (arith, escape_costs.most, l.most); least = omega (arith, escape_costs.least, l.least) }
+    part_past : Past 2 0 f d
+    part_past = past_then escape_past n
 
     part_leaves : CostsWith (2 * escapes_bytes new) f d
-    part_leaves = record { most = omega (arith, i.leaves.most, k.most, few_read, l.most, s, bytes_are); least = part_costs.least }
+    part_leaves = record { most = omega (arith, i.leaves.most, m.costs.most, few_read, n.costs.most, s, bytes_are); least = part_past.costs.least }
 
     -- up to the next escape
     pub escaped_turn : Goes Content b.rest (literals e.after) (92 ∷ d.rest) → InEscaped f d new
     escaped_turn g = record {
       inside = all_inside;
       goes = subst (λ z. Goes Content (92 ∷ f.rest) z (92 ∷ d.rest)) (sym units_are) (goes_then escape_goes g);
-      moves = part_moves;
-      costs = part_costs;
+      past = part_past;
       leaves = part_leaves;
       parts = all_in;
     }
@@ -124,8 +122,7 @@ module _ (f a : Here) (es : List Escaped) (i : InEscaped f a es) (o : Option ℕ
     escaped_ends (one, g) = record {
       line = (all_inside, subst (λ z. Goes Content (92 ∷ f.rest) z d.rest) (sym (ap (λ z. z ++ (LineEnd ∷ [])) units_are ∙ append_assoc (escapes_units es ++ kept (escape_of o)) (literals e.after) (LineEnd ∷ []))) (goes_then escape_goes g));
       shorter = few;
-      moves = part_moves;
-      costs = part_costs;
+      past = part_past;
       leaves = part_leaves;
       parts = all_in;
     }
@@ -135,22 +132,17 @@ module _ (f a : Here) (es : List Escaped) (i : InEscaped f a es) (o : Option ℕ
     escaped_closes (one, x) = record {
       line = (all_inside, subst (Content (92 ∷ f.rest) d.rest) (sym units_are) (escape_goes.on d.rest (literals e.after) x));
       shorter = few;
-      moves = part_moves;
-      costs = part_costs;
+      past = part_past;
       leaves = part_leaves;
       parts = all_in;
     }
 
   -- where what follows was not read, or the memory ended
-  pub part_fails : (d : Here) → Moves b d → Costs 2 1 b d → Moves f d × Costs 2 1 f d
-  part_fails d n l = (moves_then i.moves (moves_then m n), record { most = omega (arith, escape_costs.most, l.most); least = omega (arith, escape_costs.least, l.least) })
+  pub part_fails : (d : Here) → Past 2 1 b d → Past 2 1 f d
+  part_fails d n = past_then escape_past n
 
   pub part_there : (r : Text) (us : List LineUnit) → Content (92 ∷ f.rest) r us → (v : List LineUnit) × Content b.rest r v
   part_there r us x = let (v, e, rest) = escape_goes.back r us x in (v, rest)
-
--- where an escape was not read
-pub escape_fails : (f a b : Here) (es : List Escaped) → InEscaped f a es → Moves a b → Costs 1 1 a b → Moves f b × Costs 2 1 f b
-escape_fails f a b es i m k = let x = fewer_bytes m in (moves_then i.moves m, record { most = omega (arith, i.costs.most, k.most); least = omega (arith, i.costs.least, k.least) })
 
 pub escape_there : (f a : Here) (es : List Escaped) → InEscaped f a es → (r : Text) (us : List LineUnit) → Content (92 ∷ f.rest) r us → (m : Text) × (u : StringUnit) × IsUnit (92 ∷ a.rest) m u
 escape_there f a es i r us x =
@@ -167,6 +159,3 @@ line_escaped f b d p us false g (one, x) = (joins (literals p) us (literals_insi
 -- what such a line costs
 pub escaped_leaves : (p : Text) (n : ℕ) (f b d : Here) → Costs 2 0 f b → bytes p + 1 + bytes b.rest ≤ bytes f.rest → CostsWith (2 * n) b d → CostsWith (2 * (bytes p + n + 1)) f d
 escaped_leaves p n f b d k s l = record { most = omega (arith, k.most, s, l.most); least = omega (arith, k.least, l.least) }
-
-pub escaped_costs : (f b d : Here) → Costs 2 0 f b → Costs 2 1 b d → Costs 2 1 f d
-escaped_costs f b d k l = record { most = omega (arith, k.most, l.most); least = omega (arith, k.least, l.least) }

@@ -1,6 +1,6 @@
 -- The escapes of a line: their units, their text and their bytes.
 use Rattle.std.proofs.Common.{◌≡◌, ℕ, ◌+◌, ◌<◌, ◌≤◌, true, false, not, ◌&&◌, List, [], ◌∷◌, ◌++◌, length, take, drop, get_or, refl, sym, ap, ◌∙◌, arith, append_assoc, append-nil}
-use Rattle.std.proofs.lemmas.Bool.{true≢false}
+use Rattle.std.proofs.lemmas.Bool.{true≢false, not-true, and_right}
 use Rattle.std.proofs.lemmas.List.{take-append-drop, take_all, take_more}
 use Rattle.std.proofs.lemmas.List.Folds.{list_all-append}
 use Rattle.std.specs.List.{list_all}
@@ -14,7 +14,7 @@ use Rattle.kdl_text.specs.Spans.{bytes}
 use Rattle.kdl_text.specs.Strings.{escape_of}
 use Rattle.kdl_text.specs.declared.strings.dedent.Escaped.{Escaped}
 use Rattle.kdl_text.specs.declared.strings.dedent.LineUnit.{LineUnit}
-use Rattle.kdl_text.proofs.ManyLines.DedentReads.{line_text-append, literals_text, no_text, not_true}
+use Rattle.kdl_text.proofs.ManyLines.DedentReads.{line_text-append, literals_text}
 
 pub escapes_units-append : (xs ys : List Escaped) → escapes_units (xs ++ ys) ≡ escapes_units xs ++ escapes_units ys
 escapes_units-append [] ys = refl
@@ -68,18 +68,18 @@ not_gaps (e ∷ es) h = list_all-append is_space_unit (escape_units e) (escapes_
   where
     by_value : (list_all (λ e. is_none e.value) es ≡ false → is_blank_line (escapes_units es) ≡ false) → (o : Option ℕ) → e.value ≡ o → (is_blank_line (escape_units e) && is_blank_line (escapes_units es)) ≡ false
     by_value others (Some c) is = rw is refl
-    by_value others None is = no_text (is_blank_line (escape_units e)) _ (others (ap (λ o. is_none o && list_all (λ e. is_none e.value) es) (sym is) ∙ h))
+    by_value others None is = and_right (is_blank_line (escape_units e)) _ (others (ap (λ o. is_none o && list_all (λ e. is_none e.value) es) (sym is) ∙ h))
 
 pub escape_not_blank : (p : Text) (es : List Escaped) → list_all (λ e. is_none e.value) es ≡ false → is_blank_line (literals p ++ escapes_units es) ≡ false
-escape_not_blank p es h = list_all-append is_space_unit (literals p) (escapes_units es) ∙ no_text (is_blank_line (literals p)) _ (not_gaps es h)
+escape_not_blank p es h = list_all-append is_space_unit (literals p) (escapes_units es) ∙ and_right (is_blank_line (literals p)) _ (not_gaps es h)
 
 pub word_not_blank : (p : Text) (es : List Escaped) → starts (λ c. not (is_space c)) p ≡ true → is_blank_line (literals p ++ escapes_units es) ≡ false
 word_not_blank [] es h = cc
-word_not_blank (c ∷ p) es h = let space : is_space c ≡ false = not_true (is_space c) h in rw space refl
+word_not_blank (c ∷ p) es h = let space : is_space c ≡ false = not-true (is_space c) h in rw space refl
 
 -- a line that begins with the prefix, and is not blank after it
 pub line_with_text : (ps : List LineUnit) (p rest : Text) (us : List LineUnit) → literals p ≡ ps ++ literals rest → is_blank_line (literals rest ++ us) ≡ false → LineValue ps (literals p ++ us) (rest ++ line_text us)
 line_with_text ps p rest us e h =
     let line : literals p ++ us ≡ ps ++ (literals rest ++ us) = ap (λ z. z ++ us) e ∙ append_assoc ps (literals rest) us in
-    let blank : is_blank_line (literals p ++ us) ≡ false = ap is_blank_line line ∙ list_all-append is_space_unit ps (literals rest ++ us) ∙ no_text (is_blank_line ps) _ h in
+    let blank : is_blank_line (literals p ++ us) ≡ false = ap is_blank_line line ∙ list_all-append is_space_unit ps (literals rest ++ us) ∙ and_right (is_blank_line ps) _ h in
     dedented (literals rest ++ us) blank line (ap (λ z. z ++ line_text us) (sym (literals_text rest)) ∙ sym (line_text-append (literals rest) us))

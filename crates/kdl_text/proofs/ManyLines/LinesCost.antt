@@ -6,21 +6,32 @@ use Rattle.kdl_text.specs.Internal.Here.{Here, Returned}
 use Rattle.kdl_text.specs.Internal.Lines.{CostsWith, line_room, lines_room}
 use Rattle.kdl_text.specs.Spans.{bytes}
 use Rattle.kdl_text.specs.declared.strings.dedent.Line.{Line}
-use Rattle.kdl_text.specs.Internal.Reading.{Moves, Costs}
-use Rattle.kdl_text.proofs.Looking.MovesJoin.{moves_then}
+use Rattle.kdl_text.specs.Internal.Reading.{Moves, Costs, Past}
+use Rattle.kdl_text.proofs.Looking.MovesJoin.{moves_then, fewer_bytes}
 use Rattle.kdl_text.proofs.Looking.Returns.{moves_returned}
 
 -- a newline, lines whose dedent takes n steps, and their dedent
-pub dedent_moves : (n : ℕ) (a m e h : Here) → Moves a m → Moves m e → Returned n e h → Moves a h
-dedent_moves n a m e h v w r = moves_then v (moves_then w (moves_returned r))
+pub many_past : {n : ℕ} {a m e h : Here} → Moves a m → Costs 2 1 a m → Moves m e → CostsWith n m e → Returned (n + 1) e h → Past 4 4 a h
+many_past v k w d r = record {
+  moves = moves_then v (moves_then w (moves_returned r));
+  costs = record { most = omega (arith, fewer_bytes v, k.most, d.most, r.most, ap bytes r.rest); least = omega (arith, k.least, d.least, r.counts, ap length r.rest) };
+}
+
+-- a newline, and lines that were not read
+pub many_fail : {a m e : Here} → Moves a m → Costs 2 1 a m → Past 4 1 m e → Past 4 4 a e
+many_fail v k p = record { moves = moves_then v p.moves; costs = record { most = omega (arith, fewer_bytes v, k.most, p.costs.most); least = omega (arith, k.least, p.costs.least) } }
+
+-- lines that were read, and one that was not
+pub lines_fail : {n : ℕ} {f a b : Here} → Moves f a → CostsWith n f a → Past 2 1 a b → Past 4 1 f b
+lines_fail v i p = record { moves = moves_then v p.moves; costs = record { most = omega (arith, fewer_bytes p.moves, i.most, p.costs.most); least = omega (arith, i.least, p.costs.least) } }
 
 -- a line without escapes, of the piece p
 pub plain_costs : (p : Text) (a b : Here) → Costs 2 0 a b → bytes p + 1 + bytes b.rest ≤ bytes a.rest → CostsWith (2 * (bytes p + 1)) a b
 plain_costs p a b k s = record { most = omega (arith, k.most, s); least = k.least }
 
 -- lines that were read, without their dedent
-pub lines_read : (n : ℕ) (f a : Here) → CostsWith n f a → Costs 4 1 f a
-lines_read n f a i = record { most = omega (arith, i.most); least = i.least }
+pub lines_read : {n : ℕ} {f a : Here} → Moves f a → CostsWith n f a → Past 4 1 f a
+lines_read m i = record { moves = m; costs = record { most = omega (arith, i.most); least = i.least } }
 
 lines_room-append : (ls ks : List Line) → lines_room (ls ++ ks) ≡ lines_room ls + lines_room ks
 lines_room-append [] ks = omega arith

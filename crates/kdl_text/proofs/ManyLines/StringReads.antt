@@ -1,15 +1,22 @@
 -- Whole strings: from their quotes, their lines and their dedent.
-use Rattle.std.proofs.Common.{◌≡◌, Bool, true, false, ◌&&◌, ◌==◌, List, [], ◌∷◌, refl, sym, ap, ◌∙◌, subst}
+use Rattle.std.proofs.Common.{◌≡◌, false, ◌&&◌, ◌==◌, List, [], ◌∷◌, refl, sym, ap, ◌∙◌, subst}
+use Rattle.std.proofs.Math.Bool.{and-true}
 use Rattle.std.proofs.lemmas.Bool.{true≢false}
 use Rattle.std.specs.Prelude.{Result, Ok, Err, IfOk, MatchResult}
 use Rattle.kdl_text.specs.Chars.{Text, Newline, begins_two, begins_with}
 use Rattle.kdl_text.specs.Dedent.{Dedents, lines_of}
 use Rattle.kdl_text.specs.Strings.{QuotedBody, quoted}
 use Rattle.kdl_text.specs.MultiLine.{Content, MultiLineBody, lines, multi_line, IsQuoted, on_one_line, on_many_lines}
+use Rattle.kdl_text.specs.Internal.Lines.{LinesOf, BodyOf}
+use Rattle.kdl_text.specs.Raw as raw
+use Rattle.kdl_text.specs.Raw.{RawContent, closing}
+use Rattle.kdl_text.specs.declared.strings.multiline.Enclosure.{Enclosure}
+use Rattle.kdl_text.specs.declared.strings.multiline.Enclosure.TheVariants.{Quotes, Signs}
 use Rattle.kdl_text.specs.declared.strings.StringFailure.{StringFailure}
 use Rattle.kdl_text.specs.declared.strings.StringFailure.TheVariants.{Memory}
 use Rattle.kdl_text.specs.declared.strings.dedent.LineUnit.{LineUnit}
 use Rattle.kdl_text.proofs.ManyLines.LinesUnique.{content_det}
+use Rattle.kdl_text.proofs.RawStrings.RawUnique.{raw_det}
 use Rattle.kdl_text.proofs.Spacing.NewlineUnique.{newline_det}
 
 dedent_made : {T : Type 0} (o : Result T StringFailure) (f : T → Text) (r e w : Text) → r ≡ e → MatchResult o (λ s. w ≡ f s) (λ x. x ≡ Memory) → MatchResult o (λ v. (r ≡ e) × (w ≡ f v)) (λ x. x ≡ Memory)
@@ -21,27 +28,37 @@ pub dedent_only : {T : Type 0} (o : Result T StringFailure) (f : T → Text) (us
     → ((us : List LineUnit) (v : Text) → lines_of us ≡ ls → Dedents us v → MatchResult o (λ s. v ≡ f s) (λ x. x ≡ Memory)) → Dedents xs w → MatchResult o (λ v. (r ≡ e) × (w ≡ f v)) (λ x. x ≡ Memory)
 dedent_only o f us xs ls r e w (ends, same) h only d = dedent_made o f r e w ends (only us w h (subst (λ z. Dedents z w) same d))
 
-pub body_found : {T E : Type 0} (o : Result T E) (f : T → Text) (t m r : Text) (us : List LineUnit) → Newline t m → Content m r us → IfOk o (λ v. Dedents us (f v)) → IfOk o (λ v. MultiLineBody t r (f v))
-body_found (Ok v) f t m r us n x d = lines n x d
-body_found (Err e) f t m r us n x d = tt
+lines_det : (d : Enclosure) (t r s : Text) (us vs : List LineUnit) → LinesOf d t r us → LinesOf d t s vs → (r ≡ s) × (us ≡ vs)
+lines_det Quotes t r s us vs x y = content_det x y
+lines_det (Signs n) t r s us vs x y = raw_det x y
 
-pub body_only : {T : Type 0} (o : Result T StringFailure) (f : T → Text) (t m e : Text) (us : List LineUnit) (ls : List (List LineUnit)) → Newline t m → Content m e us → lines_of us ≡ ls
-    → ((us : List LineUnit) (v : Text) → lines_of us ≡ ls → Dedents us v → MatchResult o (λ s. v ≡ f s) (λ x. x ≡ Memory)) → (r w : Text) → MultiLineBody t r w → MatchResult o (λ v. (r ≡ e) × (w ≡ f v)) (λ x. x ≡ Memory)
-body_only o f t m e us ls n here h dedents r w (lines {us = xs} k x d) =
-    dedent_only o f us xs ls r e w (content_det (subst (λ z. Content z r xs) (newline_det k n) x) here) h dedents d
+pub body_found : (d : Enclosure) {T E : Type 0} (o : Result T E) (f : T → Text) (t m r : Text) (us : List LineUnit) → Newline t m → LinesOf d m r us
+    → IfOk o (λ v. Dedents us (f v)) → IfOk o (λ v. BodyOf d t r (f v))
+body_found Quotes (Ok v) f t m r us n x made = lines n x made
+body_found (Signs k) (Ok v) f t m r us n x made = raw.lines n x made
+body_found d (Err e) f t m r us n x made = tt
 
-pub body_content : (t m r w : Text) → Newline t m → MultiLineBody t r w → (us : List LineUnit) × Content m r us
-body_content t m r w n (lines {us = us} k x d) = (us, subst (λ z. Content z r us) (newline_det k n) x)
+-- the newline and the lines of a body
+pub body_newline : (d : Enclosure) (t r w : Text) → BodyOf d t r w → (m : Text) × Newline t m
+body_newline Quotes t r w (lines {m = m} k x made) = (m, k)
+body_newline (Signs n) t r w (raw.lines {m = m} k x made) = (m, k)
 
-whole : (x : Bool) → (x && true) ≡ x
-whole true = refl
-whole false = refl
+pub body_lines : (d : Enclosure) (t m r w : Text) → Newline t m → BodyOf d t r w → (us : List LineUnit) × LinesOf d m r us × Dedents us w
+body_lines Quotes t m r w n (lines {us = us} k x made) = (us, subst (λ z. Content z r us) (newline_det k n) x, made)
+body_lines (Signs j) t m r w n (raw.lines {us = us} k x made) = (us, subst (λ z. RawContent (closing 3 j) z r us) (newline_det k n) x, made)
+
+pub body_only : (d : Enclosure) {T : Type 0} (o : Result T StringFailure) (f : T → Text) (t m e : Text) (us : List LineUnit) (ls : List (List LineUnit)) → Newline t m → LinesOf d m e us → lines_of us ≡ ls
+    → ((us : List LineUnit) (v : Text) → lines_of us ≡ ls → Dedents us v → MatchResult o (λ s. v ≡ f s) (λ x. x ≡ Memory))
+    → (r w : Text) → BodyOf d t r w → MatchResult o (λ v. (r ≡ e) × (w ≡ f v)) (λ x. x ≡ Memory)
+body_only d o f t m e us ls n here h dedents r w b =
+    let (xs, x, made) = body_lines d t m r w n b in
+    dedent_only o f us xs ls r e w (lines_det d m r e xs us x here) h dedents made
 
 -- three quotes are a quote and two
 pub two_of_three : (s : Text) → begins_two 34 34 s ≡ false → begins_with (34 ∷ 34 ∷ []) s ≡ false
 two_of_three [] h = refl
 two_of_three (c ∷ []) h = h
-two_of_three (c ∷ d ∷ s) h = ap (λ z. (c == 34) && z) (whole (d == 34)) ∙ h
+two_of_three (c ∷ d ∷ s) h = ap (λ z. (c == 34) && z) (and-true (d == 34)) ∙ h
 
 pub many_found : {T E : Type 0} (o : Result T E) (f : T → Text) (s m t r : Text) → s ≡ 34 ∷ m → m ≡ 34 ∷ 34 ∷ t → IfOk o (λ v. MultiLineBody t r (f v)) → IfOk o (λ v. IsQuoted s r (f v))
 many_found (Ok v) f s m t r h k b = rw (h, k) (on_many_lines (multi_line b))

@@ -1,13 +1,14 @@
 -- Readers of numbers that may be decimals, a step at a time.
-use Rattle.std.proofs.Common.{◌≡◌, ℕ, ◌<◌, ◌≤◌, [], ◌∷◌, ◌++◌, Bool, true, false, not, ◌||◌, ◌==◌, length, refl, ap, sym, ◌∙◌, subst, arith, ℤ, Some, None, ◌↔◌, lit≤, length-append, append-nil, IsTrue, cond, suc, ◌&&◌, ◌+◌, ◌*◌, eqb-true}
+use Rattle.std.proofs.Common.{◌≡◌, ℕ, ◌<◌, ◌≤◌, [], ◌∷◌, ◌++◌, Bool, true, false, not, ◌||◌, ◌==◌, length, refl, ap, sym, ◌∙◌, subst, arith, ℤ, Some, None, ◌↔◌, length-append, append-nil, IsTrue, cond, suc, ◌&&◌, ◌+◌, ◌*◌}
+use Rattle.std.proofs.lemmas.Bool.{not-true, not-false, ne_eqb}
 use Rattle.std.specs.Prelude.{if◌then◌else◌, Result, Ok, Err, IfOk, Option}
 use Rattle.std.specs.Option.{is_some}
 use Rattle.std.specs.List.{list_all}
 use Rattle.std.specs.Str.Parse.{digits_value}
 use Rattle.kdl_text.specs.Chars.{Text, is_identifier_char, starts}
-use Rattle.kdl_text.specs.Internal.Here.{Here, Returned, Stayed, Ate, first}
+use Rattle.kdl_text.specs.Internal.Here.{Here, Returned, Ate, first}
 use Rattle.kdl_text.specs.Spans.{bytes}
-use Rattle.kdl_text.specs.Internal.Reading.{Moves, Costs}
+use Rattle.kdl_text.specs.Internal.Reading.{Costs}
 use Rattle.kdl_text.specs.Numbers.{is_digit_of, Sign, BasePrefix, Integer, WholeNumber, whole, signed, fits, Fraction, Exponent, is_exponent_letter, DecimalPart, part, plain, Decimal, decimal, IsNumber, is_whole, is_decimal, NumberValue, decimal_text}
 use Rattle.kdl_text.specs.Numbers.BasePrefix.{ten, other}
 use Rattle.kdl_text.specs.Numbers.Fraction.{none as no_fraction, fraction}
@@ -26,11 +27,10 @@ use Rattle.kdl_text.specs.declared.numbers.NumberFailure.{NumberFailure}
 use Rattle.kdl_text.specs.declared.numbers.NumberFailure.TheVariants.{Fault}
 use Rattle.kdl_text.specs.declared.numbers.NumberFault.{NumberFault}
 use Rattle.kdl_text.specs.declared.numbers.NumberFault.TheVariants.{OutOfRange, Trailing}
-use Rattle.kdl_text.proofs.Looking.MovesJoin.{moves_then, moves_stayed, stayed_looked, bytes-append, shorter, costs_then}
+use Rattle.kdl_text.proofs.Looking.MovesJoin.{stayed_looked, bytes-append}
 use Rattle.kdl_text.proofs.Looking.Runs.{length-bytes}
 use Rattle.kdl_text.proofs.Numeric.NumberUnique.{sign_det, integer_digit, whole_is, whole_digit}
 use Rattle.kdl_text.proofs.Numeric.DecimalUnique.{part_det, part_is, fraction_det, no_ten, base_is_ten, part_of, part_begins, number_det}
-use Rattle.kdl_text.proofs.Numeric.NumberReads.{tight}
 
 -- no number begins where no digit comes after the sign and the prefix
 pub no_front : (t s u : Text) (n : Bool) (k j : ℕ) → Sign t s n → BasePrefix s u k → j ≡ k → starts (is_digit_of j) u ≡ false → (r : Text) (x : NumberValue) → IsNumber t r x → ⊥
@@ -61,16 +61,12 @@ module _ (f : Front) (t u : Text) (x : IsFront f t u) where
       → ((q : ℕ) → Counts f.magnitude q → result ≡ (if fits (is_minus f.sign) q then Ok (IntegerNumber (signed (is_minus f.sign) q)) else Err (Fault OutOfRange))) → ReadsNumber result t rest
   front_number rest result r h g = rw (g (digits_value (radix_of f.radix) x.digits) x.counts) (go (fits (is_minus f.sign) (digits_value (radix_of f.radix) x.digits)) refl)
     where
-      ends : (b : Bool) → true ≡ not b → b ≡ false
-      ends true h = cc
-      ends false h = refl
-
       found : fits (is_minus f.sign) (digits_value (radix_of f.radix) x.digits) ≡ true → WholeNumber t rest (signed (is_minus f.sign) (digits_value (radix_of f.radix) x.digits))
-      found y = rw r (whole x.sign x.base x.int (ends _ h) y refl)
+      found y = rw r (whole x.sign x.base x.int (not-true _ (sym h)) y refl)
 
       none : (v : Text) (w : NumberValue) → fits (is_minus f.sign) (digits_value (radix_of f.radix) x.digits) ≡ false → IsNumber t v w → ⊥
       none v w y (is_whole {z = z} i) = let c = (whole_is t x.after_sign x.after_base u x.digits v (is_minus f.sign) (radix_of f.radix) z x.sign x.base x.int i).fits in cc
-      none v w y (is_decimal {w = w'} d) = let c = part_begins (front_decimal v w' d).1 in let e = ends _ h in cc
+      none v w y (is_decimal {w = w'} d) = let c = part_begins (front_decimal v w' d).1 in let e = not-true _ (sym h) in cc
 
       go : (b : Bool) → fits (is_minus f.sign) (digits_value (radix_of f.radix) x.digits) ≡ b
           → ReadsNumber (if b then Ok (IntegerNumber (signed (is_minus f.sign) (digits_value (radix_of f.radix) x.digits))) else Err (Fault OutOfRange)) t rest
@@ -173,11 +169,7 @@ pub part_trailing : (t s r : Text) (a b : Bool) → Fraction t s a → Exponent 
 part_trailing t s r a b f e h v d = let k = (part_is t s r v a b f e d).ends in let y : false ≡ true = h ∙ ap not k in cc
 
 pub part_read : (t s r q : Text) (a b : Bool) → Fraction t s a → Exponent s r b → (a || b) ≡ true → true ≡ not (starts is_identifier_char r) → q ≡ r → DecimalPart t q
-part_read t s r q a b f e o h x = rw x (part f e o (ends _ h))
-  where
-    ends : (b : Bool) → true ≡ not b → b ≡ false
-    ends true h = cc
-    ends false h = refl
+part_read t s r q a b f e o h x = rw x (part f e o (not-true _ (sym h)))
 
 is_ten : (r : Radix) → radix_of r ≡ 10 → r ≡ TenDigits
 is_ten Binary e = absurd (omega (arith, e))
@@ -198,7 +190,7 @@ pub whole_err : (b : Bool) (e : NumberFault) (z : ℤ) → broken_result e ≡ (
 whole_err true e z h = cc
 whole_err false e z h = refl
 
-copied_costs : (p : Text) (a b e : Here) → a.rest ≡ p ++ b.rest → Costs 2 11 a b → Returned (2 * bytes p + 1) b e → length b.rest < length a.rest → Costs 20 0 a e
+pub copied_costs : (p : Text) (a b e : Here) → a.rest ≡ p ++ b.rest → Costs 2 11 a b → Returned (2 * bytes p + 1) b e → length b.rest < length a.rest → Costs 20 0 a e
 copied_costs p a b e h k r less =
     let more : 1 ≤ bytes p = omega (arith, ap length h, length-append p b.rest, less, length-bytes p) in
     record {
@@ -206,27 +198,11 @@ copied_costs p a b e h k r less =
       least = omega (arith, k.least, r.counts, ap length r.rest);
     }
 
-costs_stayed : (a b : Here) → Stayed 1 a b → Costs 2 1 a b
-costs_stayed a b s = record { most = omega (arith, ap bytes s.rest, s.steps); least = omega (arith, ap length s.rest, s.steps) }
-
 pub always : {A E : Type 0} (r : Result A E) (P : Type 0) → P → IfOk r (λ n. P)
 always (Ok n) P h = h
 always (Err x) P h = tt
 
--- what a whole number costs: its front, and a look after it
-pub whole_costs : {A E : Type 0} (r : Result A E) (f a b : Here) → Moves f a → Costs 2 4 f a → length a.rest < length f.rest → Stayed 1 a b → IfOk r (λ n. Costs 20 0 f b)
-whole_costs r f a b m c less s =
-    always r (Costs 20 0 f b) (tight 5 f b (lit≤ tt) (moves_then m (moves_stayed s)) (omega (arith, less, ap length s.rest)) (costs_then 2 4 1 f a b c (costs_stayed a b s)))
-
--- the front, a look, and the part after it
-pub part_moves : (f a b d : Here) → Moves f a → Stayed 1 a b → Moves b d → Moves f d
-part_moves f a b d m s n = moves_then m (moves_then (moves_stayed s) n)
-
-pub part_costs : (p : Text) (f a b d e : Here) → Moves f a → Costs 2 4 f a → length a.rest < length f.rest → Stayed 1 a b → Moves b d → Costs 2 6 b d → f.rest ≡ p ++ d.rest → Returned (2 * bytes p + 1) d e → Costs 20 0 f e
-part_costs p f a b d e m c less s n k h x =
-    copied_costs p f d e h (costs_then 2 4 7 f a d c (costs_then 2 1 6 a b d (costs_stayed a b s) k)) x (omega (arith, less, ap length s.rest, shorter n))
-
--- the end of a text, seen by a look
+-- the end of the text, seen by a look
 pub at_end : (s : Text) (o : Option ℕ) (b : Bool) → o ≡ first s → is_some o ≡ not b → IsTrue b ↔ (s ≡ [])
 at_end [] o true h e = (λ y. refl, λ y. refl)
 at_end [] o false h e = let x : is_some o ≡ false = ap is_some h in cc
@@ -294,18 +270,10 @@ pub plain_drops : (c : ℕ) (s : Text) → c ≡ 95 → plain (c ∷ s) ≡ plai
 plain_drops c s e = rw e refl
 
 pub plain_keeps : (c : ℕ) (s : Text) → (c ≡ 95 → ⊥) → plain (c ∷ s) ≡ c ∷ plain s
-plain_keeps c s ne = go (c == 95) refl
-  where
-    go : (b : Bool) → (c == 95) ≡ b → plain (c ∷ s) ≡ c ∷ plain s
-    go true e = absurd (ne (eqb-true c 95 e))
-    go false e = rw e refl
+plain_keeps c s ne = rw (ne_eqb c 95 ne) refl
 
 pub no_underscore_here : (c : ℕ) (s : Text) → (c ≡ 95 → ⊥) → has_no_underscore (c ∷ s) ≡ has_no_underscore s
-no_underscore_here c s ne = go (c == 95) refl
-  where
-    go : (b : Bool) → (c == 95) ≡ b → has_no_underscore (c ∷ s) ≡ has_no_underscore s
-    go true e = absurd (ne (eqb-true c 95 e))
-    go false e = rw e refl
+no_underscore_here c s ne = rw (ne_eqb c 95 ne) refl
 
 -- which fault is returned
 module _ (f : Front) (t u : Text) (x : IsFront f t u) where
@@ -324,8 +292,4 @@ module _ (f : Front) (t u : Text) (x : IsFront f t u) where
       go false h = range rest e h
 
   pub front_trails : (rest : Text) → rest ≡ u → false ≡ not (starts is_identifier_char u) → FaultAt (Trailing f.radix) t rest
-  front_trails rest e h = (begun rest e, rw e (starts_so (starts is_identifier_char u) h))
-    where
-      starts_so : (b : Bool) → false ≡ not b → b ≡ true
-      starts_so true h = refl
-      starts_so false h = cc
+  front_trails rest e h = (begun rest e, rw e (not-false (starts is_identifier_char u) (sym h)))

@@ -1,6 +1,6 @@
 -- Decimals: a text begins with one at most, and with no whole number beside it.
 use Rattle.std.proofs.Common.{◌≡◌, ℕ, ◌<◌, ◌≤◌, ◌∷◌, ◌++◌, Bool, true, false, ◌||◌, ◌==◌, length, refl, ap, sym, ◌∙◌, subst, arith, ℤ, Some, None, ◌⊎◌, inl, inr}
-use Rattle.std.proofs.lemmas.Bool.{eqb-true}
+use Rattle.std.proofs.lemmas.Bool.{eqb-true, or_cases}
 use Rattle.std.specs.Prelude.{if◌then◌else◌}
 use Rattle.std.proofs.lemmas.Bool.Decides.{nat_tests}
 use Rattle.std.proofs.lemmas.List.{append_cancel_right}
@@ -10,7 +10,7 @@ use Rattle.kdl_text.specs.Numbers.BasePrefix.{ten, other}
 use Rattle.kdl_text.specs.Numbers.Digits.{stop, digit, underscore}
 use Rattle.kdl_text.specs.Numbers.Fraction.{none as no_fraction, fraction}
 use Rattle.kdl_text.specs.Numbers.Exponent.{none as no_exponent, exponent}
-use Rattle.kdl_text.proofs.Numeric.NumberUnique.{sign_det, integer_det, whole_number_det, whole_number_begins, whole_number_shorter, shorter_integer, shorter_sign, digit_here, sign_begins, or_cases}
+use Rattle.kdl_text.proofs.Numeric.NumberUnique.{sign_det, integer_det, whole_number_det, whole_number_begins, whole_number_shorter, shorter_integer, shorter_sign, digit_here, sign_begins}
 
 ten_underscore : is_digit_of 10 95 ≡ false
 unfolding is_digit_of
@@ -56,7 +56,7 @@ unfolding is_identifier_char is_space is_newline_char is_banned is_punctuation
 large_e_identifier = refl
 
 exponent_identifier : (c : ℕ) → is_exponent_letter c ≡ true → is_identifier_char c ≡ true
-exponent_identifier c h = go (or_cases (c == 101) h)
+exponent_identifier c h = go (or_cases (c == 101) _ h)
   where
     go : ((c == 101) ≡ true) ⊎ ((c == 69) ≡ true) → is_identifier_char c ≡ true
     go (inl x) = rw (eqb-true c 101 x) e_identifier

@@ -15,7 +15,7 @@ use Rattle.kdl_text.specs.Numbers.Digits.{stop, digit}
 use Rattle.kdl_text.specs.Internal.Here.{Here}
 use Rattle.kdl_text.specs.Internal.DigitRuns.{DecimalsLen, DigitRun, RanDigits}
 use Rattle.kdl_text.specs.Internal.NumberReading.{Counts, ReadsDigits, ReadsInteger}
-use Rattle.kdl_text.specs.Internal.Reading.{Moves, Costs}
+use Rattle.kdl_text.specs.Internal.Reading.{Past}
 use Rattle.kdl_text.specs.Spans.{bytes}
 use Rattle.kdl_text.specs.declared.numbers.Magnitude.{Magnitude}
 use Rattle.kdl_text.specs.declared.numbers.Magnitude.TheVariants.{Small}
@@ -123,21 +123,17 @@ integer_on [] r q u l a d = absurd (omega arith)
 integer_on (c ∷ w) r q u l a d = integer (lt-ltb (digit_value c) 10 a.0) (digits_on w r q u a.1 d)
 
 module _ (run : Text) (n v : ℕ) (m : Bool) (a b : Here) (i : RanDigits run n v m a b) where
-  pub run_moves : Moves a b
-  run_moves = record { piece = (run, i.text); at = omega (arith, ap bytes i.text, bytes-append run b.rest, i.bytes_is, i.at); counts = omega (arith, i.steps); same = i.same }
-
-  pub run_costs : Costs 2 1 a b
-  run_costs = record {
-    most = omega (arith, i.steps, ap bytes i.text, bytes-append run b.rest, i.bytes_is);
-    least = omega (arith, i.steps, ap length i.text, length-append run b.rest, i.count_is);
+  pub run_past : Past 2 1 a b
+  run_past = record {
+    moves = record { piece = (run, i.text); at = omega (arith, ap bytes i.text, bytes-append run b.rest, i.bytes_is, i.at); counts = omega (arith, i.steps); same = i.same };
+    costs = record { most = omega (arith, i.steps, ap bytes i.text, bytes-append run b.rest, i.bytes_is); least = omega (arith, i.steps, ap length i.text, length-append run b.rest, i.count_is) };
   }
 
   -- a digit at least
-  pub run_tight : (n ≡ 0 → ⊥) → Costs 2 0 a b
-  run_tight some = record {
-    most = let h : 1 ≤ n = omega (arith, some) in omega (arith, h, i.steps, ap bytes i.text, bytes-append run b.rest, i.bytes_is);
-    least = run_costs.least;
-  }
+  pub run_tight : (n ≡ 0 → ⊥) → Past 2 0 a b
+  run_tight some =
+      let h : 1 ≤ n = omega (arith, some) in
+      record { moves = run_past.moves; costs = record { most = omega (arith, h, i.steps, ap bytes i.text, bytes-append run b.rest, i.bytes_is); least = run_past.costs.least } }
 
   pub no_integer : n ≡ 0 → ReadsInteger 10 None a.rest b.rest
   no_integer z =

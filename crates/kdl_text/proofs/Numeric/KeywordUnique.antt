@@ -16,6 +16,7 @@ use Rattle.kdl_text.specs.Internal.NumberReading.{ReadsKeyword, WordOf, is_of_nu
 use Rattle.kdl_text.specs.declared.numbers.Keyword.{Keyword}
 use Rattle.kdl_text.specs.declared.numbers.Keyword.TheVariants.{True, False, Null, Infinity, NegativeInfinity, NotANumber}
 use Rattle.kdl_text.proofs.Looking.MovesJoin.{bytes-append, moves_then, moves_one}
+use Rattle.kdl_text.proofs.Quoted.UnitUnique.{run_same}
 
 -- the word after the `#`
 abbrev pub word : Keyword → Text
@@ -66,23 +67,12 @@ which_is NotANumber = refl
 same_word : (k x : Keyword) → word k ≡ word x → k ≡ x
 same_word k x e = sym (which_is k) ∙ ap which e ∙ which_is x
 
--- the longest run of a class is one
-pub run_det : (f : ℕ → Bool) (p q r s : Text) → p ++ r ≡ q ++ s → list_all f p ≡ true → list_all f q ≡ true → starts f r ≡ false → starts f s ≡ false → (p ≡ q) × (r ≡ s)
-run_det f [] [] r s e a b x y = (refl, e)
-run_det f [] (c ∷ q) r s e a b x y = let h : starts f r ≡ f c = ap (starts f) e in let k = (and_parts (f c) (list_all f q) b).0 in cc
-run_det f (c ∷ p) [] r s e a b x y = let h : starts f s ≡ f c = ap (starts f) (sym e) in let k = (and_parts (f c) (list_all f p) a).0 in cc
-run_det f (c ∷ p) (d ∷ q) r s e a b x y =
-    let h : c ≡ d = cc in
-    let t : p ++ r ≡ q ++ s = cc in
-    let i = run_det f p q r s t (and_parts (f c) (list_all f p) a).1 (and_parts (f d) (list_all f q) b).1 x y in
-    (ap (λ z. z ∷ p) h ∙ ap (λ z. d ∷ z) i.0, i.1)
-
 -- a keyword is at the front of a text whose word is known
 pub keyword_is : (t p rest r : Text) (x : Keyword) → t ≡ 35 ∷ (p ++ rest) → list_all is_identifier_char p ≡ true → starts is_identifier_char rest ≡ false → IsKeyword t r x → (word x ≡ p) × (r ≡ rest)
 keyword_is t p rest r x e a n (keyword f m) =
     let g : 35 ∷ (word x ++ r) ≡ 35 ∷ (p ++ rest) = ap (λ z. z ++ r) (sym (text_of x)) ∙ sym f ∙ e in
     let h : word x ++ r ≡ p ++ rest = cc in
-    run_det is_identifier_char (word x) p r rest h (word_all x) a m n
+    run_same is_identifier_char (word x) p r rest (word_all x) a m n h
 
 -- a text begins with one keyword at most
 pub keyword_det : {t r s : Text} {x y : Keyword} → IsKeyword t r x → IsKeyword t s y → (r ≡ s) × (x ≡ y)

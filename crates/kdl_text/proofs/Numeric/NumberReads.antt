@@ -6,7 +6,7 @@ use Rattle.std.specs.Str.Parse.{digits_value_after}
 use Rattle.kdl_text.specs.Chars.{Text, is_sign, starts}
 use Rattle.kdl_text.specs.Internal.Here.{Here, Took, Stayed, looked, stepped, first, first_len, tail}
 use Rattle.kdl_text.specs.Spans.{bytes, raise}
-use Rattle.kdl_text.specs.Internal.Reading.{Moves, Costs}
+use Rattle.kdl_text.specs.Internal.Reading.{Costs, Past}
 use Rattle.kdl_text.specs.Numbers.{is_digit_of, is_part, Sign, BasePrefix, Digits, Integer, integer, base_prefix}
 use Rattle.kdl_text.specs.Numbers.Sign.{none, plus, minus}
 use Rattle.kdl_text.specs.Numbers.BasePrefix.{ten, other}
@@ -14,7 +14,8 @@ use Rattle.kdl_text.specs.Numbers.Digits.{stop, digit, underscore}
 use Rattle.kdl_text.specs.Internal.NumberReading.{Counts, IsDigit, ReadsDigits, ReadsInteger}
 use Rattle.kdl_text.specs.declared.numbers.Magnitude.{Magnitude}
 use Rattle.kdl_text.specs.declared.numbers.Magnitude.TheVariants.{Small}
-use Rattle.kdl_text.proofs.Looking.MovesJoin.{stays, moves_then, moves_one, stayed_looked, took_from, bytes-append}
+use Rattle.kdl_text.proofs.Looking.MovesJoin.{stayed_looked, took_from, bytes-append}
+use Rattle.kdl_text.proofs.Looking.SliceCost.{past_start, past_then, past_two, past_more, past_took}
 use Rattle.kdl_text.proofs.Looking.Runs.{length-bytes}
 
 pub value_after : (k : ℕ) (ds es : Text) (n : ℕ) → digits_value_after k n (ds ++ es) ≡ digits_value_after k (digits_value_after k n ds) es
@@ -26,11 +27,10 @@ pub record InDigits (k : ℕ) (before now : Magnitude) (f a : Here) : Type 0 whe
   pub read : Text
   pub on : (r w : Text) → Digits k a.rest r w → Digits k f.rest r (read ++ w)
   pub counts : (n : ℕ) → Counts before n → Counts now (digits_value_after k n read)
-  pub moves : Moves f a
-  pub costs : Costs 1 0 f a
+  pub past : Past 1 0 f a
 
 pub digits_start : (k : ℕ) (m : Magnitude) (f : Here) → InDigits k m m f f
-digits_start k m f = record { read = []; on = λ r w d. d; counts = λ n g. g; moves = stays f; costs = record { most = omega arith; least = omega arith } }
+digits_start k m f = record { read = []; on = λ r w d. d; counts = λ n g. g; past = past_start }
 
 module _ (k : ℕ) (before now : Magnitude) (f a b e : Here) (c : ℕ) (i : InDigits k before now f a) (h : Some c ≡ first a.rest) (x : b ≡ looked a) where
   pub digits_underscore : c ≡ 95 → e ≡ stepped b → InDigits k before now f e
@@ -40,8 +40,7 @@ module _ (k : ℕ) (before now : Magnitude) (f a b e : Here) (c : ℕ) (i : InDi
         read = i.read;
         on = λ r w d. i.on r w (subst (λ q. Digits k q r w) (sym t.0) (underscore d));
         counts = i.counts;
-        moves = moves_then i.moves (moves_one t);
-        costs = record { most = omega (arith, i.costs.most, ap bytes t.0, t.2); least = omega (arith, i.costs.least, ap length t.0, t.2) };
+        past = past_then i.past (past_took t);
       }
 
   pub digits_digit : (d : ℕ) (m : Magnitude) → IsDigit k c (Some d) → ((n : ℕ) → Counts now n → Counts m (n * k + d)) → e ≡ stepped b → InDigits k before m f e
@@ -51,9 +50,12 @@ module _ (k : ℕ) (before now : Magnitude) (f a b e : Here) (c : ℕ) (i : InDi
         read = i.read ++ c ∷ [];
         on = λ r w g. subst (Digits k f.rest r) (sym (append_assoc i.read (c ∷ []) w)) (i.on r (c ∷ w) (subst (λ q. Digits k q r (c ∷ w)) (sym t.0) (digit is g)));
         counts = λ n g. subst (Counts m) (ap (λ q. digits_value_after k n i.read * k + q) value ∙ sym (value_after k i.read (c ∷ []) n)) (more (digits_value_after k n i.read) (i.counts n g));
-        moves = moves_then i.moves (moves_one t);
-        costs = record { most = omega (arith, i.costs.most, ap bytes t.0, t.2, (len_utf8_bounds c).0); least = omega (arith, i.costs.least, ap length t.0, t.2) };
+        past = past_then i.past (past_took t);
       }
+
+-- one look more, or digits more
+pub digits_past : {k : ℕ} {before now : Magnitude} {f a e : Here} → InDigits k before now f a → Past 2 1 a e → Past 2 1 f e
+digits_past i p = past_then (past_two i.past) p
 
 -- no more digits and `_` here
 pub digits_end : (k : ℕ) (before now : Magnitude) (f a b : Here) → InDigits k before now f a → b ≡ looked a → starts (is_part k) a.rest ≡ false → ReadsDigits k before now f.rest b.rest
@@ -78,11 +80,11 @@ one_here p c [] h = cc
 one_here p c (d ∷ s) h = let e : c ≡ d = cc in rw (← e) refl
 
 -- signs
-pub sign_minus : (c : ℕ) (a b e : Here) → Some c ≡ first a.rest → c ≡ 45 → b ≡ looked a → e ≡ stepped b → Sign a.rest e.rest true × Moves a e
-sign_minus c a b e h is x y = let t = took_from 45 a b e (ap Some (sym is) ∙ h) x y in (rw t.0 minus, moves_one t)
+pub sign_minus : (c : ℕ) (a b e : Here) → Some c ≡ first a.rest → c ≡ 45 → b ≡ looked a → e ≡ stepped b → Sign a.rest e.rest true × Past 2 1 a e
+sign_minus c a b e h is x y = let t = took_from 45 a b e (ap Some (sym is) ∙ h) x y in (rw t.0 minus, past_more (omega arith) (past_two (past_took t)))
 
-pub sign_plus : (c : ℕ) (a b e : Here) → Some c ≡ first a.rest → c ≡ 43 → b ≡ looked a → e ≡ stepped b → Sign a.rest e.rest false × Moves a e
-sign_plus c a b e h is x y = let t = took_from 43 a b e (ap Some (sym is) ∙ h) x y in (rw t.0 plus, moves_one t)
+pub sign_plus : (c : ℕ) (a b e : Here) → Some c ≡ first a.rest → c ≡ 43 → b ≡ looked a → e ≡ stepped b → Sign a.rest e.rest false × Past 2 1 a e
+sign_plus c a b e h is x y = let t = took_from 43 a b e (ap Some (sym is) ∙ h) x y in (rw t.0 plus, past_more (omega arith) (past_two (past_took t)))
 
 sign_none : (a b : Here) → b ≡ looked a → starts is_sign a.rest ≡ false → Sign a.rest b.rest false
 sign_none a b x h = subst (λ q. Sign a.rest q false) (sym (stayed_looked a b x).rest) (none h)
@@ -99,8 +101,7 @@ base_ten a b h s = subst (λ q. BasePrefix a.rest q 10) (sym s.rest) (ten h)
 
 pub record BaseRead (k : ℕ) (a e : Here) : Type 0 where
   pub base : BasePrefix a.rest e.rest k
-  pub moves : Moves a e
-  pub costs : Costs 2 2 a e
+  pub past : Past 2 2 a e
 
 base_parts : (t : Text) (k : ℕ) → base_prefix t ≡ Some k → (c d : ℕ) × (t ≡ c ∷ d ∷ tail (tail t))
 base_parts [] k h = cc
@@ -120,8 +121,10 @@ base_other k a b m e h s x y =
     let steps : e.steps ≡ raise a.steps 2 = ap (λ z. z.steps) y ∙ ap (λ z. z.steps) x ∙ s.steps in
     record {
       base = subst (λ q. BasePrefix q e.rest k) (sym w) (other (ap base_prefix (sym w) ∙ h));
-      moves = record { piece = (c ∷ d ∷ [], w); at = omega (arith, ap bytes w, at); counts = omega (arith, steps); same = same };
-      costs = record { most = omega (arith, ap bytes w, steps, (len_utf8_bounds c).0, (len_utf8_bounds d).0); least = omega (arith, ap length w, steps) };
+      past = record {
+        moves = record { piece = (c ∷ d ∷ [], w); at = omega (arith, ap bytes w, at); counts = omega (arith, steps); same = same };
+        costs = record { most = omega (arith, ap bytes w, steps, (len_utf8_bounds c).0, (len_utf8_bounds d).0); least = omega (arith, ap length w, steps) };
+      };
     }
 
 -- an integer: its first digit, and those after it
@@ -131,8 +134,8 @@ integer_read k c d m a b e g h x y (is, value, small) (w, read, counts) =
     (c ∷ w, subst (λ q. Integer k q g.rest (c ∷ w)) (sym t.0) (integer is read), counts (0 * k + digit_value c) (omega (arith, value)))
 
 -- where at least one character was read, a constant cost is one for each byte
-pub tight : (c : ℕ) (a b : Here) → c ≤ 18 → Moves a b → length b.rest < length a.rest → Costs 2 c a b → Costs 20 0 a b
-tight c a b le m h k =
-    let p = m.piece.0 in
-    let more : 1 ≤ bytes p = omega (arith, ap length m.piece.1, length-append p b.rest, h, length-bytes p) in
-    record { most = omega (arith, k.most, more, le, ap bytes m.piece.1, bytes-append p b.rest); least = k.least }
+pub tight : {c : ℕ} {a b : Here} → c ≤ 18 → Past 2 c a b → length b.rest < length a.rest → Costs 20 0 a b
+tight {a = a} {b = b} le k h =
+    let (p, text) = k.moves.piece in
+    let more : 1 ≤ bytes p = omega (arith, ap length text, length-append p b.rest, h, length-bytes p) in
+    record { most = omega (arith, k.costs.most, more, le, ap bytes text, bytes-append p b.rest); least = k.costs.least }

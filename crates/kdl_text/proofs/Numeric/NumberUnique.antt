@@ -1,6 +1,7 @@
 -- Numbers: a text begins with one at most, and what begins one.
 use Rattle.std.proofs.Common.{◌≡◌, ℕ, ◌<◌, ◌≤◌, [], ◌∷◌, ◌++◌, Bool, true, false, ◌&&◌, ◌||◌, ◌==◌, length, refl, ap, sym, ◌∙◌, subst, arith, ℤ, Some, None, ◌⊎◌, inl, inr}
-use Rattle.std.proofs.lemmas.Bool.{and_parts}
+use Rattle.std.proofs.Math.Bool.{or-true}
+use Rattle.std.proofs.lemmas.Bool.{and_parts, or_cases}
 use Rattle.std.proofs.lemmas.Bool.Decides.{nat_tests}
 use Rattle.std.specs.Prelude.{if◌then◌else◌}
 use Rattle.std.specs.Str.Parse.{digits_value}
@@ -27,25 +28,17 @@ base_det (ten x) (other y) = cc
 base_det (other x) (ten y) = cc
 base_det (other x) (other y) = (refl, cc)
 
-pub or_cases : (a : Bool) {b : Bool} → (a || b) ≡ true → (a ≡ true) ⊎ (b ≡ true)
-or_cases true h = inl refl
-or_cases false h = inr h
-
 part_digit : (k c : ℕ) → is_digit_of k c ≡ true → is_part k c ≡ true
 part_digit k c x = rw x refl
-
-part_underscore : (b : Bool) → (b || true) ≡ true
-part_underscore true = refl
-part_underscore false = refl
 
 pub digits_det : {k : ℕ} {t r s v w : Text} → is_digit_of k 95 ≡ false → Digits k t r v → Digits k t s w → (r ≡ s) × (v ≡ w)
 digits_det n (stop x) (stop y) = (refl, refl)
 digits_det {k = k} n (stop x) (digit {c = c} y q) = let z = part_digit k c y in cc
-digits_det {k = k} n (stop x) (underscore q) = let z = part_underscore (is_digit_of k 95) in cc
+digits_det {k = k} n (stop x) (underscore q) = let z = or-true (is_digit_of k 95) in cc
 digits_det {k = k} n (digit {c = c} x p) (stop y) = let z = part_digit k c x in cc
 digits_det n (digit {c = c} x p) (digit y q) = let e = digits_det n p q in (e.0, ap (λ z. c ∷ z) e.1)
 digits_det n (digit x p) (underscore q) = cc
-digits_det {k = k} n (underscore p) (stop y) = let z = part_underscore (is_digit_of k 95) in cc
+digits_det {k = k} n (underscore p) (stop y) = let z = or-true (is_digit_of k 95) in cc
 digits_det n (underscore p) (digit y q) = cc
 digits_det n (underscore p) (underscore q) = digits_det n p q
 
@@ -175,12 +168,12 @@ digit_begins (c ∷ r) h = digit_identifier c h
 
 not_form : (w r : Text) → begins_number (w ++ r) ≡ true → starts is_identifier_char r ≡ false → bare_form w ≡ false
 not_form [] r h n = refl
-not_form (c ∷ []) r h n = go (or_cases (is_digit c) h)
+not_form (c ∷ []) r h n = go (or_cases (is_digit c) _ h)
   where
     go : (is_digit c ≡ true) ⊎ ((is_sign c && starts is_digit r) ≡ true) → bare_form (c ∷ []) ≡ false
     go (inl x) = digit_first c [] x
     go (inr x) = let y = digit_begins r (and_parts _ _ x).1 in cc
-not_form (c ∷ d ∷ w) r h n = go (or_cases (is_digit c) h)
+not_form (c ∷ d ∷ w) r h n = go (or_cases (is_digit c) _ h)
   where
     go : (is_digit c ≡ true) ⊎ ((is_sign c && is_digit d) ≡ true) → bare_form (c ∷ d ∷ w) ≡ false
     go (inl x) = digit_first c (d ∷ w) x

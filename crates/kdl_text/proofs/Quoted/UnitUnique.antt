@@ -8,7 +8,7 @@ use Rattle.std.specs.Str.Parse.{digits_value}
 use Rattle.kdl_text.specs.Chars.{Text, is_space, is_newline_char, is_literal, starts}
 use Rattle.kdl_text.specs.Strings.{StringUnit, escape, unit_value, values, is_escaped_space, is_hex, letter_escape, HexNumber, Run, IsUnit, one_literal, one_letter, one_number, one_gap, AreUnits, none, more, QuotedBody, body, QuotedString, quoted}
 use Rattle.kdl_text.specs.Internal.Reading.{Goes}
-use Rattle.kdl_text.proofs.Looking.ValueGoes.{goes_start, goes_then}
+use Rattle.kdl_text.proofs.Looking.ValueGoes.{goes_start, goes_then, goes_end}
 
 -- runs of a class from one place are the same
 pub run_same : (p : ℕ → Bool) (xs ys r s : Text) → list_all p xs ≡ true → list_all p ys ≡ true → starts p r ≡ false → starts p s ≡ false
@@ -117,17 +117,12 @@ pub body_none : {c : ℕ} {t r v : Text} → (c ≡ 34 → ⊥) → ((m : Text) 
 body_none h k (body none e) = h refl
 body_none h k (body (more u us) e) = k _ _ u
 
-units_det : {t r s : Text} {us ws : List StringUnit} → AreUnits t (34 ∷ r) us → AreUnits t (34 ∷ s) ws → (us ≡ ws) × (r ≡ s)
-units_det none none = (refl, refl)
-units_det none (more y ys) = absurd (unit_no_quote y)
-units_det (more x xs) none = absurd (unit_no_quote x)
-units_det {s = s} {ws = w ∷ ws} (more x xs) (more y ys) =
-    let (same, ends) = unit_det x y in
-    let (sames, end) = units_det xs (subst (λ z. AreUnits z (34 ∷ s) ws) (sym ends) ys) in
-    (cc, end)
+goes_units : {t r : Text} {us : List StringUnit} → AreUnits t r us → Goes QuotedBody t (values us) r
+goes_units none = goes_start QuotedBody _
+goes_units (more i is) = goes_then (goes_unit i) (goes_units is)
 
 pub body_det : {t r s v w : Text} → QuotedBody t r v → QuotedBody t s w → (r ≡ s) × (v ≡ w)
-body_det (body us e) (body ws f) = let (same, ends) = units_det us ws in (ends, e ∙ ap values same ∙ sym f)
+body_det (body us e) y = let (ends, same) = (goes_end (goes_units us) (body_done _) (λ r v. body_end)).1 _ _ y in (sym ends, e ∙ sym same)
 
 units_shorter : {t r : Text} {us : List StringUnit} → AreUnits t r us → length r ≤ length t
 units_shorter none = omega arith

@@ -9,15 +9,16 @@ use Rattle.kdl_text.specs.Internal.Here.{Here, Took, Ate, Skips, Returned, tail}
 use Rattle.kdl_text.specs.Spans.{bytes, raise}
 use Rattle.kdl_text.specs.Internal.Lines.{ReadsLine}
 use Rattle.kdl_text.specs.Raw.{closing, literals, line, RawUnits, none, more, RawContent, content}
-use Rattle.kdl_text.specs.Internal.Reading.{Moves, Costs}
+use Rattle.kdl_text.specs.Internal.Reading.{Past}
 use Rattle.kdl_text.specs.declared.strings.dedent.LineUnit.{LineUnit}
 use Rattle.kdl_text.specs.declared.strings.dedent.LineUnit.TheVariants.{LineEnd}
 use Rattle.kdl_text.proofs.RawStrings.ClosingPlaces.{few_signs, quotes_pass, signs_pass, quotes_before, units_then, literals-append}
-use Rattle.kdl_text.proofs.Looking.MovesJoin.{stays, moves_then, moves_one, fewer_bytes, bytes-append}
+use Rattle.kdl_text.proofs.Looking.Returns.{moves_returned}
+use Rattle.kdl_text.proofs.Looking.MovesJoin.{moves_then, fewer_bytes, bytes-append}
 use Rattle.kdl_text.proofs.ManyLines.LinesJoin.{literals_inside}
 use Rattle.kdl_text.proofs.RawStrings.LineLoop.{unquoted_pass}
 use Rattle.kdl_text.proofs.RawStrings.RawUnique.{raw_over, goes_raw, raw_char, raw_content_unit, no_raw_unit}
-use Rattle.kdl_text.proofs.Looking.SliceCost.{ended, moves_ran, costs_ran}
+use Rattle.kdl_text.proofs.Looking.SliceCost.{past_start, past_then, past_two, past_more, past_took, past_look, past_ran, past_after}
 
 times_front : (m c : ℕ) (x : Text) → c ∷ (times m c ++ x) ≡ times m c ++ (c ∷ x)
 times_front zero c x = refl
@@ -82,57 +83,66 @@ quotes_bytes zero = omega arith
 quotes_bytes (suc k) = omega (arith, quotes_bytes k, (len_utf8_bounds 34).0)
 
 -- two quotes or more, and number signs
-pub signs_cost : (k : ℕ) (a b d : Here) → a.rest ≡ times k 34 ++ b.rest → 2 ≤ k → Costs 1 1 a b → Moves b d → Costs 1 1 b d → Costs 2 1 a d
-signs_cost k a b d t h x m y = record { most = omega (arith, x.most, y.most, fewer_bytes m, ap bytes t, bytes-append (times k 34) b.rest, quotes_bytes k); least = omega (arith, x.least, y.least) }
+pub signs_past : (k : ℕ) (a b d : Here) → a.rest ≡ times k 34 ++ b.rest → 2 ≤ k → Past 1 1 a b → Past 1 1 b d → Past 2 1 a d
+signs_past k a b d t h x y = record {
+  moves = moves_then x.moves y.moves;
+  costs = record { most = omega (arith, x.costs.most, y.costs.most, fewer_bytes y.moves, ap bytes t, bytes-append (times k 34) b.rest, quotes_bytes k); least = omega (arith, x.costs.least, y.costs.least) };
+}
 
 -- and the quotes before the closing once more
-pub closing_cost : (k : ℕ) (a b d e : Here) → a.rest ≡ times k 34 ++ b.rest → 2 ≤ k → Costs 1 1 a b → Moves b d → Costs 1 1 b d → Returned (k - 2) d e → Costs 2 1 a e
-closing_cost k a b d e t h x m y r = record {
-  most = omega (arith, x.most, y.most, fewer_bytes m, ap bytes t, bytes-append (times k 34) b.rest, quotes_bytes k, r.most, ap bytes r.rest);
-  least = omega (arith, x.least, y.least, r.counts, ap length r.rest);
+pub closing_past : (k : ℕ) (a b d e : Here) → a.rest ≡ times k 34 ++ b.rest → 2 ≤ k → Past 1 1 a b → Past 1 1 b d → Returned (k - 2) d e → Past 2 1 a e
+closing_past k a b d e t h x y r = record {
+  moves = moves_then x.moves (moves_then y.moves (moves_returned r));
+  costs = record {
+    most = omega (arith, x.costs.most, y.costs.most, fewer_bytes y.moves, ap bytes t, bytes-append (times k 34) b.rest, quotes_bytes k, r.most, ap bytes r.rest);
+    least = omega (arith, x.costs.least, y.costs.least, r.counts, ap length r.rest);
+  };
 }
 
--- the line read so far
-pub record InRaw (n : ℕ) (f a : Here) : Type 0 where
+-- the line read so far of a raw string with this closing after its first quote
+pub record InRaw (q : Text) (f a : Here) : Type 0 where
   pub read : Text
   pub text : f.rest ≡ read ++ a.rest
-  pub units : RawUnits (closing 3 n) f.rest a.rest (literals read)
-  pub moves : Moves f a
-  pub costs : Costs 2 0 f a
+  pub units : RawUnits (34 ∷ q) f.rest a.rest (literals read)
+  pub past : Past 2 0 f a
 
-pub raw_begins : (n : ℕ) (f : Here) → InRaw n f f
-raw_begins n f = record { read = []; text = refl; units = none; moves = stays f; costs = record { most = omega arith; least = omega arith } }
+pub raw_begins : (q : Text) (f : Here) → InRaw q f f
+raw_begins q f = record { read = []; text = refl; units = none; past = past_start }
 
-raw_on : (n : ℕ) (f a b : Here) (p : Text) → InRaw n f a → a.rest ≡ p ++ b.rest → RawUnits (closing 3 n) a.rest b.rest (literals p) → Moves a b → Costs 2 0 a b → InRaw n f b
-raw_on n f a b p i e u m k = record {
-  read = i.read ++ p;
-  text = i.text ∙ ap (λ z. i.read ++ z) e ∙ sym (append_assoc i.read p b.rest);
-  units = subst (RawUnits (closing 3 n) f.rest b.rest) (sym (literals-append i.read p)) (units_then i.units u);
-  moves = moves_then i.moves m;
-  costs = record { most = omega (arith, i.costs.most, k.most); least = omega (arith, i.costs.least, k.least) };
-}
+module _ (q : Text) (f a : Here) (i : InRaw q f a) where
+  raw_on : (b : Here) (p : Text) → a.rest ≡ p ++ b.rest → RawUnits (34 ∷ q) a.rest b.rest (literals p) → Past 2 0 a b → InRaw q f b
+  raw_on b p e u k = record {
+    read = i.read ++ p;
+    text = i.text ∙ ap (λ z. i.read ++ z) e ∙ sym (append_assoc i.read p b.rest);
+    units = subst (RawUnits (34 ∷ q) f.rest b.rest) (sym (literals-append i.read p)) (units_then i.units u);
+    past = past_then i.past k;
+  }
 
-module _ (n : ℕ) (f a : Here) (i : InRaw n f a) (c : ℕ) (b : Here) (t : Took (Some c) a b) where
-  -- a character that is no quote, and a run of others
-  pub raw_run : (d : Here) → (c ≡ 34 → ⊥) → is_raw c ≡ true → Skips is_unquoted b d → InRaw n f d
-  raw_run d ne h (run, r) =
-      let e : a.rest ≡ (c ∷ run) ++ d.rest = t.0 ∙ ap (λ z. c ∷ z) r.text in
-      let units : RawUnits (closing 3 n) (c ∷ (run ++ d.rest)) d.rest (literals (c ∷ run)) = more (raw_char ne h) (unquoted_pass (34 ∷ 34 ∷ times n 35) run d.rest r.all) in
-      let k = costs_ran r in
-      let x = fewer_bytes (moves_ran r) in
-      raw_on n f a d (c ∷ run) i e (subst (λ z. RawUnits (closing 3 n) z d.rest (literals (c ∷ run))) (sym e) units) (moves_then (moves_one t) (moves_ran r)) (record {
-        most = omega (arith, ap bytes t.0, t.2, (len_utf8_bounds c).0, k.most);
-        least = omega (arith, ap length t.0, t.2, k.least);
-      })
+  pub raw_read : (p : Text) → f.rest ≡ p ++ a.rest → i.read ≡ p
+  raw_read p e = append_cancel_right i.read p a.rest (sym i.text ∙ e)
 
-  part_costs : (d : Here) → Costs 2 1 b d → Costs 2 0 a d
-  part_costs d k = record { most = omega (arith, ap bytes t.0, t.2, (len_utf8_bounds c).0, k.most); least = omega (arith, ap length t.0, t.2, k.least) }
+  module _ (c : ℕ) (b : Here) (t : Took (Some c) a b) where
+    -- a character that is no quote, and a run of others
+    pub raw_run : (d : Here) → (c ≡ 34 → ⊥) → is_raw c ≡ true → Skips is_unquoted b d → InRaw q f d
+    raw_run d ne h (run, r) =
+        let e : a.rest ≡ (c ∷ run) ++ d.rest = t.0 ∙ ap (λ z. c ∷ z) r.text in
+        let units : RawUnits (34 ∷ q) (c ∷ (run ++ d.rest)) d.rest (literals (c ∷ run)) = more (raw_char ne h) (unquoted_pass q run d.rest r.all) in
+        raw_on d (c ∷ run) e (subst (λ z. RawUnits (34 ∷ q) z d.rest (literals (c ∷ run))) (sym e) units) (past_after t (past_two (past_ran r)))
 
-  -- quotes and number signs that are no closing
-  pub raw_open : (q : Text) (d : Here) → q ≡ a.rest → Moves b d → Costs 2 1 b d → (p : Text) × (q ≡ p ++ d.rest) × RawUnits (closing 3 n) q d.rest (literals p) → InRaw n f d
-  raw_open q d same m k (p, e, u) = raw_on n f a d p i (sym same ∙ e) (subst (λ z. RawUnits (closing 3 n) z d.rest (literals p)) same u) (moves_then (moves_one t) m) (part_costs d k)
+    -- quotes and number signs that are no closing
+    pub raw_open : (s : Text) (d : Here) → s ≡ a.rest → Past 2 1 b d → (p : Text) × (s ≡ p ++ d.rest) × RawUnits (34 ∷ q) s d.rest (literals p) → InRaw q f d
+    raw_open s d same m (p, e, u) = raw_on d p (sym same ∙ e) (subst (λ z. RawUnits (34 ∷ q) z d.rest (literals p)) same u) (past_after t m)
 
-  module _ (q : Text) (d : Here) (r : Text) (same : q ≡ a.rest) (m : Moves b d) (k : Costs 2 1 b d) (found : (p : Text) × (q ≡ p ++ r) × RawUnits (closing 3 n) q r (literals p) × (r ≡ closing 3 n ++ d.rest)) where
+    pub raw_past : Past 2 1 f b
+    raw_past = past_more (omega arith) (past_then i.past (past_two (past_took t)))
+
+  -- the end of the text
+  pub raw_runs_out : (b : Here) → Took None a b → ((r : Text) (us : List LineUnit) → RawContent (34 ∷ q) f.rest r us → ⊥) × Past 2 1 f b
+  raw_runs_out b t = (raw_over q f.rest a.rest (literals i.read) i.units t.0, past_then i.past (past_two (past_look t.1)))
+
+-- a line of a string of many lines
+module _ (n : ℕ) (f a : Here) (i : InRaw (34 ∷ 34 ∷ times n 35) f a) (c : ℕ) (b : Here) (t : Took (Some c) a b) where
+  module _ (s : Text) (d : Here) (r : Text) (same : s ≡ a.rest) (m : Past 2 1 b d) (found : (p : Text) × (s ≡ p ++ r) × RawUnits (closing 3 n) s r (literals p) × (r ≡ closing 3 n ++ d.rest)) where
     before : f.rest ≡ (i.read ++ found.0) ++ r
     before = i.text ∙ ap (λ z. i.read ++ z) (sym same ∙ found.1) ∙ sym (append_assoc i.read found.0 r)
 
@@ -140,57 +150,31 @@ module _ (n : ℕ) (f a : Here) (i : InRaw n f a) (c : ℕ) (b : Here) (t : Took
     raw_ahead = (i.read ++ found.0, before)
 
     -- the closing
-    pub raw_close : (p : Text) → f.rest ≡ p ++ r → ReadsLine (RawContent (closing 3 n)) true f.rest (literals p) d.rest × (bytes p + 1 + bytes d.rest ≤ bytes f.rest) × Moves f d × Costs 2 0 f d
+    pub raw_close : (p : Text) → f.rest ≡ p ++ r → ReadsLine (RawContent (closing 3 n)) true f.rest (literals p) d.rest × (bytes p + 1 + bytes d.rest ≤ bytes f.rest) × Past 2 0 f d
     raw_close p e =
         let is : i.read ++ found.0 ≡ p = append_cancel_right (i.read ++ found.0) p r (sym before ∙ e) in
         let here : RawUnits (closing 3 n) a.rest r (literals found.0) = subst (λ z. RawUnits (closing 3 n) z r (literals found.0)) same found.2 in
         let units : RawUnits (closing 3 n) f.rest r (literals (i.read ++ found.0)) = subst (RawUnits (closing 3 n) f.rest r) (sym (literals-append i.read found.0)) (units_then i.units here) in
-        let l = part_costs d k in
         rw (← is) (
           (literals_inside (i.read ++ found.0), content units found.3),
           omega (arith, ap bytes before, bytes-append (i.read ++ found.0) r, ap bytes found.3, (len_utf8_bounds 34).0, bytes-append (times n 35) d.rest),
-          moves_then i.moves (moves_then (moves_one t) m),
-          record {
-            most = omega (arith, i.costs.most, l.most, ap bytes before, bytes-append (i.read ++ found.0) r, ap bytes found.3, bytes-append (times n 35) d.rest);
-            least = omega (arith, i.costs.least, l.least);
-          },
+          past_then i.past (past_after t m),
         )
 
   -- a newline
-  pub raw_newline : (d : Here) (p : Text) → Newline (c ∷ b.rest) d.rest → Moves b d → Costs 1 1 b d → f.rest ≡ p ++ a.rest
-      → ReadsLine (RawContent (closing 3 n)) false f.rest (literals p) d.rest × (bytes p + 1 + bytes d.rest ≤ bytes f.rest) × Moves f d × Costs 2 0 f d
-  raw_newline d p nl m k e =
-      let same : i.read ≡ p = append_cancel_right i.read p a.rest (sym i.text ∙ e) in
-      let x = fewer_bytes m in
+  pub raw_newline : (d : Here) (p : Text) → Newline (c ∷ b.rest) d.rest → Past 1 1 b d → f.rest ≡ p ++ a.rest
+      → ReadsLine (RawContent (closing 3 n)) false f.rest (literals p) d.rest × (bytes p + 1 + bytes d.rest ≤ bytes f.rest) × Past 2 0 f d
+  raw_newline d p nl m e =
       let end : RawUnits (closing 3 n) a.rest d.rest (LineEnd ∷ []) = subst (λ z. RawUnits (closing 3 n) z d.rest (LineEnd ∷ [])) (sym t.0) (more (line nl) none) in
-      rw (← same) (
+      rw (← raw_read _ f a i p e) (
         (literals_inside i.read, goes_raw (units_then i.units end)),
-        omega (arith, ap bytes i.text, bytes-append i.read a.rest, ap bytes t.0, (len_utf8_bounds c).0, x),
-        moves_then i.moves (moves_then (moves_one t) m),
-        record {
-          most = omega (arith, i.costs.most, ap bytes i.text, bytes-append i.read a.rest, ap bytes t.0, t.2, (len_utf8_bounds c).0, k.most, x);
-          least = omega (arith, i.costs.least, ap length t.0, t.2, k.least);
-        },
+        omega (arith, ap bytes i.text, bytes-append i.read a.rest, ap bytes t.0, (len_utf8_bounds c).0, fewer_bytes m.moves),
+        past_then i.past (past_after t (past_two m)),
       )
 
   -- a character that may not occur there
-  pub raw_stuck : (c ≡ 34 → ⊥) → is_newline_char c ≡ false → is_raw c ≡ false → ((r : Text) (us : List LineUnit) → RawContent (closing 3 n) f.rest r us → ⊥) × Moves f b × Costs 2 1 f b
-  raw_stuck ne nl bad = (
-    λ r us x.
-        let (v, e, rest) = (goes_raw i.units).back r us x in
-        let (m, u, there) = raw_content_unit ne (subst (λ z. RawContent (closing 3 n) z r v) t.0 rest) in
-        no_raw_unit nl bad there,
-    moves_then i.moves (moves_one t),
-    record { most = omega (arith, i.costs.most, fewer_bytes i.moves, ap bytes t.0, t.2, (len_utf8_bounds c).0); least = omega (arith, i.costs.least, ap length t.0, t.2) },
-  )
-
--- the end of the text
-pub raw_runs_out : (n : ℕ) (f a b : Here) → InRaw n f a → Took None a b → ((r : Text) (us : List LineUnit) → RawContent (closing 3 n) f.rest r us → ⊥) × Moves f b × Costs 2 1 f b
-raw_runs_out n f a b i t =
-    let (v, k) = ended t in
-    let x = fewer_bytes i.moves in
-    let y = fewer_bytes v in (
-      raw_over (34 ∷ 34 ∷ times n 35) f.rest a.rest (literals i.read) i.units t.0,
-      moves_then i.moves v,
-      record { most = omega (arith, i.costs.most, k.most); least = omega (arith, i.costs.least, k.least) },
-    )
+  pub raw_stuck : (c ≡ 34 → ⊥) → is_newline_char c ≡ false → is_raw c ≡ false → (r : Text) (us : List LineUnit) → RawContent (closing 3 n) f.rest r us → ⊥
+  raw_stuck ne nl bad r us x =
+      let (v, e, rest) = (goes_raw i.units).back r us x in
+      let (m, u, there) = raw_content_unit ne (subst (λ z. RawContent (closing 3 n) z r v) t.0 rest) in
+      no_raw_unit nl bad there

@@ -1,29 +1,11 @@
 -- Whole raw strings: from their number signs, their quotes and what is between these.
-use Rattle.std.proofs.Common.{◌≡◌, ℕ, zero, suc, ◌<◌, Bool, true, false, not, ◌&&◌, ◌==◌, List, [], ◌∷◌, ◌++◌, refl, sym, ap, ◌∙◌, subst, arith}
-use Rattle.std.proofs.lemmas.Bool.{false≢true, true≢false}
-use Rattle.std.specs.Prelude.{Result, Ok, Err, IfOk, MatchResult}
-use Rattle.kdl_text.specs.Chars.{Text, Newline, begins, begins_two, times}
-use Rattle.kdl_text.specs.Dedent.{Dedents, lines_of}
-use Rattle.kdl_text.specs.Raw.{closing, literals, is_single, char, RawUnits, none, more, RawContent, content, MultiLineRawBody, lines, IsRaw, on_one_line, on_many_lines}
-use Rattle.kdl_text.specs.declared.strings.StringFailure.{StringFailure}
-use Rattle.kdl_text.specs.declared.strings.StringFailure.TheVariants.{Memory}
-use Rattle.kdl_text.specs.declared.strings.dedent.LineUnit.{LineUnit}
-use Rattle.kdl_text.proofs.Spacing.NewlineUnique.{newline_det}
+use Rattle.std.proofs.Common.{◌≡◌, ℕ, zero, suc, ◌<◌, true, false, ◌&&◌, ◌==◌, [], ◌∷◌, ◌++◌, refl, sym, ap, ◌∙◌, subst, arith}
+use Rattle.std.proofs.Math.Bool.{and-true}
+use Rattle.std.proofs.lemmas.Bool.{false≢true, true≢false, not_from_false}
+use Rattle.std.specs.Prelude.{Result, Ok, Err, IfOk}
+use Rattle.kdl_text.specs.Chars.{Text, begins, begins_two, times}
+use Rattle.kdl_text.specs.Raw.{closing, literals, is_single, char, RawUnits, none, more, RawContent, content, MultiLineRawBody, IsRaw, on_one_line, on_many_lines}
 use Rattle.kdl_text.proofs.RawStrings.ClosingPlaces.{signs_same, no_signs}
-use Rattle.kdl_text.proofs.ManyLines.StringReads.{dedent_only}
-use Rattle.kdl_text.proofs.RawStrings.RawUnique.{raw_det}
-
-pub raw_body_found : {T E : Type 0} (o : Result T E) (f : T → Text) (n : ℕ) (t m r : Text) (us : List LineUnit) → Newline t m → RawContent (closing 3 n) m r us → IfOk o (λ v. Dedents us (f v)) → IfOk o (λ v. MultiLineRawBody n t r (f v))
-raw_body_found (Ok v) f n t m r us k x d = lines k x d
-raw_body_found (Err e) f n t m r us k x d = tt
-
-pub raw_body_only : {T : Type 0} (o : Result T StringFailure) (f : T → Text) (n : ℕ) (t m e : Text) (us : List LineUnit) (ls : List (List LineUnit)) → Newline t m → RawContent (closing 3 n) m e us → lines_of us ≡ ls
-    → ((us : List LineUnit) (v : Text) → lines_of us ≡ ls → Dedents us v → MatchResult o (λ s. v ≡ f s) (λ x. x ≡ Memory)) → (r w : Text) → MultiLineRawBody n t r w → MatchResult o (λ v. (r ≡ e) × (w ≡ f v)) (λ x. x ≡ Memory)
-raw_body_only o f n t m e us ls k here h dedents r w (lines {us = xs} l x d) =
-    dedent_only o f us xs ls r e w (raw_det (subst (λ z. RawContent (closing 3 n) z r xs) (newline_det l k) x) here) h dedents d
-
-pub raw_body_content : (n : ℕ) (t m r w : Text) → Newline t m → MultiLineRawBody n t r w → (us : List LineUnit) × RawContent (closing 3 n) m r us
-raw_body_content n t m r w k (lines {us = us} l x d) = (us, subst (λ z. RawContent (closing 3 n) z r us) (newline_det l k) x)
 
 no_first : (m : ℕ) (d x : Text) → 0 < m → d ≡ times m 35 ++ x → begins 35 d ≡ false → ⊥
 no_first zero d x some e h = omega arith
@@ -85,18 +67,10 @@ units_text p t m (c ∷ v) (more (char a b) is) = ap (λ z. c ∷ z) (units_text
 content_text : (p t r v : Text) → RawContent p t r (literals v) → t ≡ v ++ (p ++ r)
 content_text p t r v (content {m = m} is e) = units_text p t m v is ∙ ap (λ z. v ++ z) e
 
-lone : (x : Bool) → (x && true) ≡ false → not x ≡ true
-lone true h = absurd (true≢false h)
-lone false h = refl
-
-negated : (x : Bool) → x ≡ false → not x ≡ true
-negated true h = absurd (true≢false h)
-negated false h = refl
-
 single_before : (v x : Text) → begins_two 34 34 (v ++ (34 ∷ x)) ≡ false → is_single v ≡ true
 single_before [] x h = refl
-single_before (c ∷ []) x h = lone (c == 34) h
-single_before (c ∷ d ∷ v) x h = negated ((c == 34) && (d == 34)) h
+single_before (c ∷ []) x h = not_from_false (c == 34) (sym (and-true (c == 34)) ∙ h)
+single_before (c ∷ d ∷ v) x h = not_from_false ((c == 34) && (d == 34)) h
 
 -- a string of one line
 pub one_raw : (j : ℕ) (s m n r v w : Text) → s ≡ times j 35 ++ 34 ∷ m → 0 < j → begins_two 34 34 m ≡ false → n ≡ m → RawContent (closing 1 j) n r (literals v) → w ≡ v → IsRaw s r w

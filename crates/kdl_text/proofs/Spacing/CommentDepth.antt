@@ -1,5 +1,6 @@
 -- Block comments within one another: what a count of the open ones says.
-use Rattle.std.proofs.Common.{◌++◌, Bool, not, ◌&&◌, ◌||◌, ◌==◌, true, ◌≡◌, ℕ, zero, suc, ◌+◌, ◌-◌, ◌<◌, ◌↔◌, false, [], ◌∷◌, refl, add-one, sub-one, arith}
+use Rattle.std.proofs.Common.{◌++◌, ◌==◌, true, ◌≡◌, ℕ, zero, suc, ◌+◌, ◌-◌, ◌<◌, ◌↔◌, false, [], ◌∷◌, refl, add-one, sub-one, arith}
+use Rattle.std.proofs.lemmas.Bool.{and_parts, or_parts, not-true}
 use Rattle.std.specs.List.{list_all}
 use Rattle.kdl_text.specs.Chars.{Text, begins_two, is_comment_char}
 use Rattle.kdl_text.specs.Trivia.{Parts}
@@ -64,19 +65,10 @@ same_starts s r = (λ p. more p none, one_end)
 pub none_end : {s r : Text} → Ends zero s r → s ≡ r
 none_end none = refl
 
-neither : (a b : Bool) → not (a || b) ≡ true → (a ≡ false) × (b ≡ false)
-neither true b h = absurd (cc)
-neither false true h = absurd (cc)
-neither false false h = (refl, refl)
-
-both : (a b : Bool) → (a && b) ≡ true → (a ≡ true) × (b ≡ true)
-both true b h = (refl, h)
-both false b h = absurd (cc)
-
 -- the same over characters at which no comment begins or ends
 pub same_run : (P : Text → Type 0) (run a b : Text) (n : ℕ) → 0 < n → list_all is_comment_char run ≡ true → a ≡ run ++ b → Same P (Ends n a) → Same P (Ends n b)
 same_run P [] a b n h all e s = λ r. (λ p. rw e at ((s r).0 p), λ o. (s r).1 (rw e o))
 same_run P (c ∷ run) a b n h all e s =
-    let (here, others) = both (is_comment_char c) (list_all is_comment_char run) all in
-    let (x42, x47) = neither (c == 42) (c == 47) here in
+    let (here, others) = and_parts (is_comment_char c) (list_all is_comment_char run) all in
+    let (x42, x47) = or_parts (c == 42) (c == 47) (not-true _ here) in
     same_run P run (run ++ b) b n h others refl (same_passes P a (run ++ b) n c h e (rw x47 refl) (rw x42 refl) s)

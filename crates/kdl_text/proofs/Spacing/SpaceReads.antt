@@ -1,5 +1,5 @@
 -- What the readers of comments and spaces have read: lines, runs of spaces and block comments, esclines.
-use Rattle.std.proofs.Common.{◌≡◌, ℕ, ◌↔◌, [], ◌∷◌, ◌++◌, Bool, true, false, length, refl, ap, sym, ◌∙◌, subst, arith, length-append}
+use Rattle.std.proofs.Common.{◌≡◌, ℕ, ◌↔◌, [], ◌∷◌, ◌++◌, Bool, true, false, length, refl, ap, sym, ◌∙◌, subst, arith}
 use Rattle.std.proofs.lemmas.Bool.{and_parts}
 use Rattle.std.specs.Prelude.{Some, None}
 use Rattle.std.specs.List.{list_all}
@@ -8,30 +8,22 @@ use Rattle.kdl_text.specs.Chars.Star.{none, more}
 use Rattle.kdl_text.specs.Chars.Space.{space}
 use Rattle.kdl_text.specs.Internal.Here.{Here, Ran, Took, TookTwo, Stayed, Ate, AteTwo, looked, first}
 use Rattle.kdl_text.specs.Spans.{bytes}
-use Rattle.kdl_text.specs.Internal.Reading.{Reads, Moves, Costs, Longest, ReadsNewline}
+use Rattle.kdl_text.specs.Internal.Reading.{Reads, Moves, Past, Longest, ReadsNewline}
 use Rattle.kdl_text.specs.Trivia.{Parts, BlockComment, Line, LineComment, Ws, EscEnd}
 use Rattle.kdl_text.specs.Trivia.BlockComment.{block}
 use Rattle.kdl_text.specs.Trivia.LineComment.{line}
 use Rattle.kdl_text.specs.Trivia.Ws.{space as ws_space, comment as ws_comment}
 use Rattle.kdl_text.specs.Trivia.EscEnd.{comment, newline, ends}
 use Rattle.kdl_text.specs.Internal.TriviaReading.{Opens, RunsWs}
-use Rattle.kdl_text.proofs.Looking.Runs.{length-bytes}
 use Rattle.kdl_text.proofs.Looking.Stars.{join, snoc, star_map}
-use Rattle.kdl_text.proofs.Looking.MovesJoin.{stays, moves_then, moves_stayed, moves_two, fewer_bytes, bytes-append, stayed_looked}
+use Rattle.kdl_text.proofs.Looking.MovesJoin.{moves_then, moves_stayed, moves_two, fewer_bytes, stayed_looked}
+pub use Rattle.kdl_text.proofs.Looking.SliceCost.{moves_ran}
+use Rattle.kdl_text.proofs.Looking.SliceCost.{past_start, past_then, past_two, past_three, past_more, past_stayed}
 use Rattle.kdl_text.proofs.Spacing.SpaceUnique.{block_det, line_comment_det, esc_end_det, no_line_comment}
 
 -- one piece was found, and there is one at most
 pub reads_found : (R : Text → Text → Type 0) (s t : Text) → R s t → ((r : Text) → R s r → r ≡ t) → (r : Text) → R s r ↔ (r ≡ t)
 reads_found R s t found same r = (same r, λ x. subst (R s) (sym x) found)
-
-pub moves_ran : {p : ℕ → Bool} {run : Text} {a b : Here} → Ran p run a b → Moves a b
-moves_ran {run = run} {b = b} r = record { piece = (run, r.text); at = omega (arith, r.at, ap bytes r.text, bytes-append run b.rest); counts = omega (arith, r.steps); same = r.same }
-
-pub costs_ran : {p : ℕ → Bool} {run : Text} {a b : Here} → Ran p run a b → Costs 1 1 a b
-costs_ran {run = run} {b = b} r = record {
-  most = omega (arith, r.steps, ap bytes r.text, bytes-append run b.rest, length-bytes run);
-  least = omega (arith, r.steps, ap length r.text, length-append run b.rest);
-}
 
 -- spaces
 star_run : (run rest : Text) → list_all is_space run ≡ true → Star Space (run ++ rest) rest
@@ -77,11 +69,10 @@ stayed_line n a b m e s t p r = rw s.rest at (line_reads b m e t p r)
 -- a run of spaces and block comments so far
 pub record Running (f a : Here) : Type 0 where
   pub run : Star Ws f.rest a.rest
-  pub moves : Moves f a
-  pub costs : Costs 3 0 f a
+  pub past : Past 3 0 f a
 
 pub begun : (f : Here) → Running f f
-begun f = record { run = none; moves = stays f; costs = record { most = omega arith; least = omega arith } }
+begun f = record { run = none; past = past_start }
 
 pub no_ws_here : {s t : Text} → ((u : Text) → Space s u → ⊥) → begins_two 47 42 s ≡ false → Ws s t → ⊥
 no_ws_here n x (ws_space p) = n _ p
@@ -90,36 +81,33 @@ no_ws_here n x (ws_comment (block p)) = cc
 -- a run that was read, or stopped at a comment that isn't closed
 pub record RanWs (r : Bool) (f e : Here) : Type 0 where
   pub reads : RunsWs r f e
-  pub moves : Moves f e
-  pub costs : Costs 3 3 f e
+  pub past : Past 3 3 f e
 
-module _ (f a b : Here) (i : Running f a) (l : Longest Space a.rest b.rest) (m : Moves a b) (c : Costs 1 1 a b) where
+module _ (f a b : Here) (i : Running f a) (l : Longest Space a.rest b.rest) (m : Past 1 1 a b) where
   spaced : Star Ws f.rest b.rest
   spaced = join i.run (star_map (λ u v. ws_space) l.0)
 
   pub run_stops : (d : Here) → AteTwo 47 42 false b d → RanWs true f d
   run_stops d (x, s) = record {
     reads = let y : begins_two 47 42 d.rest ≡ false = rw s.rest x in ((subst (Star Ws f.rest) (sym s.rest) spaced, λ t. no_ws_here (rw (← s.rest) at l.1) y), y);
-    moves = moves_then i.moves (moves_then m (moves_stayed s));
-    costs = record { most = omega (arith, i.costs.most, c.most, s.steps, ap bytes s.rest, fewer_bytes m); least = omega (arith, i.costs.least, c.least, s.steps, ap length s.rest) };
+    past = past_then i.past (past_three (past_two (past_then m (past_stayed s))));
   }
 
-  module _ (d e : Here) (two : TookTwo 47 42 b d) (v : Moves d e) (h : Costs 2 1 d e) where
-    past_moves : Moves f e
-    past_moves = moves_then i.moves (moves_then m (moves_then (moves_two two) v))
-
-    past_costs : Costs 3 0 f e
-    past_costs = record { most = omega (arith, i.costs.most, c.most, two.steps, ap bytes two.rest, h.most, fewer_bytes m, fewer_bytes v); least = omega (arith, i.costs.least, c.least, two.steps, ap length two.rest, h.least) }
-
-    pub run_unclosed : Reads Parts false d.rest e.rest → RanWs false f e
-    run_unclosed p = record {
-      reads = (b.rest, spaced, opens_here b d e.rest two p);
-      moves = past_moves;
-      costs = record { most = omega (arith, past_costs.most); least = past_costs.least };
+  module _ (d e : Here) (two : TookTwo 47 42 b d) (v : Past 2 1 d e) where
+    turned : Past 3 0 f e
+    turned = record {
+      moves = moves_then i.past.moves (moves_then m.moves (moves_then (moves_two two) v.moves));
+      costs = record {
+        most = omega (arith, i.past.costs.most, m.costs.most, two.steps, ap bytes two.rest, v.costs.most, fewer_bytes m.moves, fewer_bytes v.moves);
+        least = omega (arith, i.past.costs.least, m.costs.least, two.steps, ap length two.rest, v.costs.least);
+      };
     }
 
+    pub run_unclosed : Reads Parts false d.rest e.rest → RanWs false f e
+    run_unclosed p = record { reads = (b.rest, spaced, opens_here b d e.rest two p); past = past_more (omega arith) turned }
+
     pub run_turn : Reads Parts true d.rest e.rest → Running f e
-    run_turn p = record { run = snoc spaced (ws_comment ((block_reads true b d e.rest two p e.rest).1 refl)); moves = past_moves; costs = past_costs }
+    run_turn p = record { run = snoc spaced (ws_comment ((block_reads true b d e.rest two p e.rest).1 refl)); past = turned }
 
 -- the end of an escline
 pub end_comment : (a m : Here) (e : Text) → TookTwo 47 47 a m → ((r : Text) → Line m.rest r ↔ (r ≡ e)) → (r : Text) → EscEnd a.rest r ↔ (r ≡ e)

@@ -1,12 +1,9 @@
 -- What may come after a value begins with no character of a bare string or a number; each node-space and break may.
 use Rattle.std.proofs.Common.{◌≡◌, ℕ, Bool, true, false, ◌||◌, refl, arith}
+use Rattle.std.proofs.Math.Bool.{or-true}
 use Rattle.std.proofs.lemmas.Bool.Decides.{nat_tests}
 use Rattle.kdl_text.specs.Chars.{Text, Space, Newline, is_space, is_newline_char, is_banned, is_punctuation, is_identifier_char, starts, crlf, one, space as a_space}
 use Rattle.kdl_text.specs.Trivia.{Ws, NodeSpace, Break, block, line, escline, ends_value, ValueEnd}
-
-or_true : (b : Bool) → (b || true) ≡ true
-or_true true = refl
-or_true false = refl
 
 pub space_no_identifier : (c : ℕ) → is_space c ≡ true → is_identifier_char c ≡ false
 unfolding is_identifier_char
@@ -14,11 +11,11 @@ space_no_identifier c x = rw x refl
 
 pub newline_no_identifier : (c : ℕ) → is_newline_char c ≡ true → is_identifier_char c ≡ false
 unfolding is_identifier_char
-newline_no_identifier c x = rw (x, or_true (is_space c)) refl
+newline_no_identifier c x = rw (x, or-true (is_space c)) refl
 
 pub punctuation_no_identifier : (c : ℕ) → is_punctuation c ≡ true → is_identifier_char c ≡ false
 unfolding is_identifier_char
-punctuation_no_identifier c x = rw (x, or_true ((is_space c || is_newline_char c) || is_banned c)) refl
+punctuation_no_identifier c x = rw (x, or-true ((is_space c || is_newline_char c) || is_banned c)) refl
 
 -- `= ) { } ;` end a bare string
 pub ends_value_punctuation : (c : ℕ) → ends_value c ≡ true → is_punctuation c ≡ true

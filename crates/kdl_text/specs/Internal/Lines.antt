@@ -1,19 +1,21 @@
 -- Lines of multi-line strings, as they are read.
-use Rattle.std.specs.Prelude.{◌≡◌, ℕ, ◌+◌, ◌*◌, ◌≤◌, Bool, true, false, not, List, [], ◌∷◌, ◌++◌, length}
+use Rattle.std.specs.Prelude.{◌≡◌, ℕ, ◌+◌, ◌*◌, ◌<◌, ◌≤◌, Bool, true, false, not, List, [], ◌∷◌, ◌++◌, length}
 use Rattle.std.specs.List.{list_all}
 use Rattle.kdl_text.specs.Chars.{Text}
 use Rattle.kdl_text.specs.Dedent.{is_line_end}
 use Rattle.kdl_text.specs.Spans.{bytes, raise}
 use Rattle.kdl_text.specs.Internal.Here.{Here, IsPart}
-use Rattle.kdl_text.specs.Raw.{literals}
+use Rattle.kdl_text.specs.Raw.{literals, closing, RawContent, MultiLineRawBody}
 use Rattle.kdl_text.specs.Internal.Reading.{Goes}
-use Rattle.kdl_text.specs.MultiLine.{kept}
+use Rattle.kdl_text.specs.MultiLine.{kept, Content, MultiLineBody}
 use Rattle.kdl_text.specs.Strings.{escape_of}
 use Rattle.kdl_text.specs.declared.strings.dedent.Escaped.{Escaped}
 use Rattle.kdl_text.specs.declared.strings.dedent.Line.{Line}
 use Rattle.kdl_text.specs.declared.strings.dedent.Line.TheVariants.{Plain, WithEscapes}
 use Rattle.kdl_text.specs.declared.strings.dedent.LineUnit.{LineUnit}
 use Rattle.kdl_text.specs.declared.strings.dedent.LineUnit.TheVariants.{LineEnd}
+use Rattle.kdl_text.specs.declared.strings.multiline.Enclosure.{Enclosure}
+use Rattle.kdl_text.specs.declared.strings.multiline.Enclosure.TheVariants.{Quotes, Signs}
 use Rattle.kdl_text.specs.declared.strings.multiline.Stop.{Stop}
 use Rattle.kdl_text.specs.declared.strings.multiline.Stop.TheVariants.{Newline as at_newline, Close, Escape}
 
@@ -98,6 +100,21 @@ is_one_line us = list_all (λ u. not (is_line_end u)) us
 abbrev pub ReadsLine : (Text → Text → List LineUnit → Type 0) → Bool → Text → List LineUnit → Text → Type 0
 ReadsLine X true s us t = (is_one_line us ≡ true) × X s t us
 ReadsLine X false s us t = (is_one_line us ≡ true) × Goes X s (us ++ (LineEnd ∷ [])) t
+
+-- the units of the lines in an enclosure, up to its end
+abbrev pub LinesOf : Enclosure → Text → Text → List LineUnit → Type 0
+LinesOf Quotes = Content
+LinesOf (Signs n) = RawContent (closing 3 n)
+
+-- a newline, such lines, and their value
+abbrev pub BodyOf : Enclosure → Text → Text → Text → Type 0
+BodyOf Quotes = MultiLineBody
+BodyOf (Signs n) = MultiLineRawBody n
+
+-- an enclosure with number signs has some
+abbrev pub HasSigns : Enclosure → Type 0
+HasSigns Quotes = Unit {0}
+HasSigns (Signs n) = 0 < n
 
 -- the characters of the piece p are literal at the front of s, and what ends it is before t
 abbrev pub ReadsPlain : (Text → Text → List LineUnit → Type 0) → Stop → Text → Text → Text → Type 0

@@ -21,6 +21,11 @@ pub record Costs (k c : ℕ) (old new : Here) : Type 0 where
   pub most : new.steps + k * bytes new.rest ≤ old.steps + k * bytes old.rest + c
   pub least : raise old.steps (length old.rest) ≤ raise new.steps (length new.rest)
 
+-- the cursor advanced, at such costs
+pub record Past (k c : ℕ) (old new : Here) : Type 0 where
+  pub moves : Moves old new
+  pub costs : Costs k c old new
+
 -- a run of pieces begins here, and none more after it
 abbrev pub Longest : (Text → Text → Type 0) → Text → Text → Type 0
 Longest R s rest = Star R s rest × ((t : Text) → R rest t → ⊥)

@@ -5,9 +5,9 @@ ghost use Rattle.kdl_text.specs.Chars.{Newline, Text, is_newline_char};
 ghost use Rattle.kdl_text.specs.Dedent.{lines_of};
 ghost use Rattle.kdl_text.specs.Spans.{bytes};
 ghost use Rattle.kdl_text.specs.Internal.Here.{IsPart};
-ghost use Rattle.kdl_text.specs.Internal.Lines.{CostsWith, EscapesIn, LineIn, LinesIn, ReadsLine, ReadsPlain, escapes_bytes, escapes_units, line_steps, line_units, lines_steps};
-ghost use Rattle.kdl_text.specs.MultiLine.{Content, MultiLineBody};
-ghost use Rattle.kdl_text.specs.Internal.Reading.{Moves, Costs};
+ghost use Rattle.kdl_text.specs.Internal.Lines.{BodyOf, CostsWith, EscapesIn, HasSigns, LineIn, LinesIn, LinesOf, ReadsLine, ReadsPlain, escapes_bytes, escapes_units, line_steps, line_units, lines_steps};
+ghost use Rattle.kdl_text.specs.MultiLine.{Content};
+ghost use Rattle.kdl_text.specs.Internal.Reading.{Costs, Past};
 ghost use Rattle.kdl_text.specs.declared.strings.StringFailure.TheVariants.{Memory};
 ghost use Rattle.kdl_text.specs.declared.strings.dedent.LineUnit.{LineUnit};
 ghost use Rattle.std.specs.Prelude.{◌≡◌, ◌≤◌, ◌+◌, ◌*◌, ◌∷◌, List, ℕ, true, map, string_bytes, IfOk, IfErr, MatchResult};
@@ -16,6 +16,7 @@ ghost use Rattle.std.specs.Str.{chars};
 use crate::chars::{Class, is_literal, is_newline_char};
 use crate::cursor::{Cursor, Segment, newline};
 use crate::strings::dedent::{Escaped, Line, add_escape, add_line, dedent};
+use crate::strings::raw::raw_line;
 use crate::strings::{StringFailure, StringFault, escaped_unit};
 use std::alloc::Global;
 
@@ -23,12 +24,20 @@ use std::alloc::Global;
 pub fn end_newline(c: char, cursor: &mut Cursor)
     requires { is_newline_char c ≡ true }
     ensures newline { Newline (c ∷ cursor.old.rest) cursor.new.rest }
-    ensures moves { Moves cursor.old cursor.new }
-    ensures costs { Costs 1 1 cursor.old cursor.new }
+    ensures past { Past 1 1 cursor.old cursor.new }
 {
     if c == '\r' {
         let _ = cursor.eat('\n');
     }
+}
+
+/// What begins and ends the lines of a string.
+#[derive(Clone, Copy)]
+pub enum Enclosure {
+    /// Three quotes.
+    Quotes,
+    /// Three quotes, and this many number signs around them.
+    Signs(usize),
 }
 
 /// What ends a run of literal characters.
@@ -52,8 +61,7 @@ fn plain_part<'a>(cursor: &mut Cursor<'a>) -> Result<(Segment<'a>, Stop), String
     ensures only { (r : Text) (us : List LineUnit) → Content cursor.old.rest r us
         → IfErr result (λ _. ⊥) }
     ensures part { IfOk result (λ (p, _). IsPart cursor.new.text p) }
-    ensures moves { Moves cursor.old cursor.new }
-    ensures costs { Costs 2 1 cursor.old cursor.new }
+    ensures past { Past 2 1 cursor.old cursor.new }
     ensures cost { IfOk result (λ _. Costs 2 0 cursor.old cursor.new) }
 {
     let start = cursor.checkpoint();
@@ -90,8 +98,7 @@ fn line_escapes<'a>(
     ensures only { (r : Text) (us : List LineUnit) → Content (92 ∷ cursor.old.rest) r us
         → IfErr result (λ e. e ≡ Memory) }
     ensures part { IfOk result (λ (es, _). EscapesIn cursor.new.text es.items) }
-    ensures moves { Moves cursor.old cursor.new }
-    ensures costs { Costs 2 1 cursor.old cursor.new }
+    ensures past { Past 2 1 cursor.old cursor.new }
     ensures cost { IfOk result
         (λ (es, _). CostsWith (2 * escapes_bytes es.items) cursor.old cursor.new) }
 {
@@ -109,7 +116,10 @@ fn line_escapes<'a>(
 }
 
 /// Reads a line, and the newline or the three quotes that end it. Returns whether three quotes do.
-fn read_line<'a>(alloc: Global, cursor: &mut Cursor<'a>) -> Result<(Line<'a>, bool), StringFailure>
+fn quoted_line<'a>(
+    alloc: Global,
+    cursor: &mut Cursor<'a>,
+) -> Result<(Line<'a>, bool), StringFailure>
     ensures found { IfOk result
         (λ (line, closed). ReadsLine Content closed cursor.old.rest
         (line_units line) cursor.new.rest) }
@@ -117,8 +127,7 @@ fn read_line<'a>(alloc: Global, cursor: &mut Cursor<'a>) -> Result<(Line<'a>, bo
     ensures only { (r : Text) (us : List LineUnit) → Content cursor.old.rest r us
         → IfErr result (λ e. e ≡ Memory) }
     ensures part { IfOk result (λ (line, _). LineIn cursor.new.text line) }
-    ensures moves { Moves cursor.old cursor.new }
-    ensures costs { Costs 2 1 cursor.old cursor.new }
+    ensures past { Past 2 1 cursor.old cursor.new }
     ensures cost { IfOk result (λ (line, _). CostsWith (line_steps line) cursor.old cursor.new) }
 {
     let (segment, stop) = plain_part(cursor)?;
@@ -132,21 +141,52 @@ fn read_line<'a>(alloc: Global, cursor: &mut Cursor<'a>) -> Result<(Line<'a>, bo
     }
 }
 
-/// Reads the lines up to three quotes, and the three quotes.
-fn content<'a>(alloc: Global, cursor: &mut Cursor<'a>) -> Result<Vec<Line<'a>>, StringFailure>
+/// Reads a line, and the newline or the end of the enclosure that ends it. Returns whether the end
+/// of the enclosure does.
+fn read_line<'a>(
+    alloc: Global,
+    cursor: &mut Cursor<'a>,
+    enclosure: Enclosure,
+) -> Result<(Line<'a>, bool), StringFailure>
+    requires { HasSigns enclosure }
     ensures found { IfOk result
-        (λ ls. (us : List LineUnit) × Content cursor.old.rest cursor.new.rest us
+        (λ (line, closed). ReadsLine (LinesOf enclosure) closed cursor.old.rest
+        (line_units line) cursor.new.rest) }
+    ensures shorter { IfOk result (λ _. bytes cursor.new.rest + 1 ≤ bytes cursor.old.rest) }
+    ensures only { (r : Text) (us : List LineUnit) → LinesOf enclosure cursor.old.rest r us
+        → IfErr result (λ e. e ≡ Memory) }
+    ensures part { IfOk result (λ (line, _). LineIn cursor.new.text line) }
+    ensures past { Past 2 1 cursor.old cursor.new }
+    ensures cost { IfOk result (λ (line, _). CostsWith (line_steps line) cursor.old cursor.new) }
+{
+    match enclosure {
+        Enclosure::Quotes => quoted_line(alloc, cursor),
+        Enclosure::Signs(signs) => match raw_line(cursor, signs) {
+            Ok(line) => Ok(line),
+            Err(fault) => Err(StringFailure::Fault(fault)),
+        },
+    }
+}
+
+/// Reads the lines up to the end of the enclosure, and that end.
+fn content<'a>(
+    alloc: Global,
+    cursor: &mut Cursor<'a>,
+    enclosure: Enclosure,
+) -> Result<Vec<Line<'a>>, StringFailure>
+    requires { HasSigns enclosure }
+    ensures found { IfOk result
+        (λ ls. (us : List LineUnit) × LinesOf enclosure cursor.old.rest cursor.new.rest us
         × (lines_of us ≡ map line_units ls.items)) }
-    ensures only { (r : Text) (us : List LineUnit) → Content cursor.old.rest r us
+    ensures only { (r : Text) (us : List LineUnit) → LinesOf enclosure cursor.old.rest r us
         → IfErr result (λ e. e ≡ Memory) }
     ensures part { IfOk result (λ ls. LinesIn cursor.new.text ls.items) }
-    ensures moves { Moves cursor.old cursor.new }
-    ensures costs { Costs 4 1 cursor.old cursor.new }
+    ensures past { Past 4 1 cursor.old cursor.new }
     ensures cost { IfOk result (λ ls. CostsWith (lines_steps ls.items) cursor.old cursor.new) }
 {
     let mut lines = Vec::new(alloc);
     'lines: loop {
-        let (line, closed) = read_line(alloc, cursor)?;
+        let (line, closed) = read_line(alloc, cursor, enclosure)?;
         add_line(&mut lines, line)?;
         if closed {
             return Ok(lines);
@@ -154,19 +194,27 @@ fn content<'a>(alloc: Global, cursor: &mut Cursor<'a>) -> Result<Vec<Line<'a>>, 
     }
 }
 
-/// After three quotes: reads the rest of a multi-line string, and returns its value.
-pub fn many_lines(alloc: Global, cursor: &mut Cursor) -> Result<String, StringFailure>
+/// After the three quotes that begin it: reads the rest of a multi-line string, and returns its
+/// value.
+pub fn many_lines(
+    alloc: Global,
+    cursor: &mut Cursor,
+    enclosure: Enclosure,
+) -> Result<String, StringFailure>
+    requires { HasSigns enclosure }
     ensures found { IfOk result
-        (λ v. MultiLineBody cursor.old.rest cursor.new.rest (chars (string_bytes v))) }
-    ensures only { (r w : List ℕ) → MultiLineBody cursor.old.rest r w
+        (λ v. BodyOf enclosure cursor.old.rest cursor.new.rest (chars (string_bytes v))) }
+    ensures only { (r w : List ℕ) → BodyOf enclosure cursor.old.rest r w
         → MatchResult result (λ v. (r ≡ cursor.new.rest) × (w ≡ chars (string_bytes v)))
         (λ e. e ≡ Memory) }
-    ensures moves { Moves cursor.old cursor.new }
-    ensures costs { Costs 4 4 cursor.old cursor.new }
+    ensures past { Past 4 4 cursor.old cursor.new }
 {
     if !newline(cursor) {
-        return Err(StringFailure::Fault(StringFault::NoNewline));
+        return Err(StringFailure::Fault(match enclosure {
+            Enclosure::Quotes => StringFault::NoNewline,
+            Enclosure::Signs(_) => StringFault::LooksMultiLine,
+        }));
     }
-    let lines = content(alloc, cursor)?;
+    let lines = content(alloc, cursor, enclosure)?;
     dedent(alloc, &lines, cursor)
 }

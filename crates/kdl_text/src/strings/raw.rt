@@ -2,21 +2,20 @@
 #![tactic(auto, using(crate::proofs::Looking::Returns::advancing))]
 
 ghost use Rattle.kdl_text.specs.Chars.{Text, begins, times};
-ghost use Rattle.kdl_text.specs.Dedent.{lines_of};
 ghost use Rattle.kdl_text.specs.Spans.{bytes};
 ghost use Rattle.kdl_text.specs.Internal.Here.{IsPart, Returned};
-ghost use Rattle.kdl_text.specs.Internal.Lines.{CostsWith, LinesIn, ReadsLine, line_units, lines_steps};
-ghost use Rattle.kdl_text.specs.Raw.{IsRaw, RawUnits, RawContent, MultiLineRawBody, closing, literals};
-ghost use Rattle.kdl_text.specs.Internal.Reading.{Moves, Costs};
+ghost use Rattle.kdl_text.specs.Internal.Lines.{CostsWith, LineIn, ReadsLine, line_steps, line_units};
+ghost use Rattle.kdl_text.specs.Raw.{IsRaw, RawUnits, RawContent, closing, literals};
+ghost use Rattle.kdl_text.specs.Internal.Reading.{Moves, Costs, Past};
 ghost use Rattle.kdl_text.specs.declared.strings.StringFailure.TheVariants.{Memory};
 ghost use Rattle.kdl_text.specs.declared.strings.dedent.LineUnit.{LineUnit};
-ghost use Rattle.std.specs.Prelude.{◌≡◌, ◌<◌, ◌≤◌, ◌+◌, ◌++◌, ◌∷◌, List, false, map, string_bytes, IfOk, IfErr, IfSome, IfNone, MatchResult};
+ghost use Rattle.std.specs.Prelude.{◌≡◌, ◌<◌, ◌≤◌, ◌+◌, ◌++◌, ◌∷◌, List, false, string_bytes, IfOk, IfErr, IfSome, IfNone, MatchResult};
 ghost use Rattle.std.specs.Str.{chars};
 
 use crate::chars::{Class, is_newline_char, is_raw};
-use crate::cursor::{Checkpoint, Cursor, Piece, Segment, newline};
-use crate::strings::dedent::{Line, add_line, dedent};
-use crate::strings::multiline::end_newline;
+use crate::cursor::{Checkpoint, Cursor, Piece};
+use crate::strings::dedent::Line;
+use crate::strings::multiline::{Enclosure, end_newline, many_lines};
 use crate::strings::{StringFailure, StringFault, fault_at};
 use std::alloc::Global;
 
@@ -24,8 +23,7 @@ use std::alloc::Global;
 fn count_signs(cursor: &mut Cursor) -> usize
     ensures text { cursor.old.rest ≡ times result 35 ++ cursor.new.rest }
     ensures stops { begins 35 cursor.new.rest ≡ false }
-    ensures moves { Moves cursor.old cursor.new }
-    ensures costs { Costs 1 1 cursor.old cursor.new }
+    ensures past { Past 1 1 cursor.old cursor.new }
 {
     let start = cursor.at();
     cursor.skip(Class::NumberSign);
@@ -36,8 +34,7 @@ fn count_signs(cursor: &mut Cursor) -> usize
 fn count_quotes(cursor: &mut Cursor) -> usize
     ensures text { cursor.old.rest ≡ times result 34 ++ cursor.new.rest }
     ensures stops { begins 34 cursor.new.rest ≡ false }
-    ensures moves { Moves cursor.old cursor.new }
-    ensures costs { Costs 1 1 cursor.old cursor.new }
+    ensures past { Past 1 1 cursor.old cursor.new }
 {
     let start = cursor.at();
     cursor.skip(Class::Quote);
@@ -49,8 +46,7 @@ fn eat_signs(cursor: &mut Cursor, most: usize) -> usize
     ensures text { cursor.old.rest ≡ times result 35 ++ cursor.new.rest }
     ensures few { result ≤ most }
     ensures stops { result < most → begins 35 cursor.new.rest ≡ false }
-    ensures moves { Moves cursor.old cursor.new }
-    ensures costs { Costs 1 1 cursor.old cursor.new }
+    ensures past { Past 1 1 cursor.old cursor.new }
 {
     let mut count: usize = 0;
     'signs: while count < most {
@@ -70,20 +66,20 @@ fn line_content<'a>(cursor: &mut Cursor<'a>, signs: usize) -> Result<Piece<'a>, 
         (λ p. RawContent (closing 1 signs) cursor.old.rest cursor.new.rest (literals p)) }
     ensures only { (r w : Text) → RawContent (closing 1 signs) cursor.old.rest r (literals w) →
         MatchResult result (λ p. (r ≡ cursor.new.rest) × (w ≡ p)) (λ _. ⊥) }
-    ensures moves { Moves cursor.old cursor.new }
-    ensures costs { Costs 4 2 cursor.old cursor.new }
+    ensures past { Past 4 2 cursor.old cursor.new }
 {
     let start = cursor.checkpoint();
-    'quotes: loop {
-        cursor.skip(Class::Unquoted);
+    'parts: loop {
         let end = cursor.checkpoint();
         match cursor.take() {
-            Some('"') => {}
+            Some('"') => {
+                if eat_signs(cursor, signs) == signs {
+                    return Ok(cursor.slice_between(&start, &end));
+                }
+            }
+            Some(c) if is_raw(c) => cursor.skip(Class::Unquoted),
             Some(c) => return Err(fault_at(c)),
             None => return Err(StringFault::Unclosed),
-        }
-        if eat_signs(cursor, signs) == signs {
-            return Ok(cursor.slice_between(&start, &end));
         }
     }
 }
@@ -121,8 +117,7 @@ fn closing_place<'a>(
     ensures none { IfNone result
         ((p : Text) × (quote.now.rest ≡ p ++ cursor.new.rest)
         × RawUnits (closing 3 signs) quote.now.rest cursor.new.rest (literals p)) }
-    ensures moves { Moves cursor.old cursor.new }
-    ensures costs { Costs 2 1 cursor.old cursor.new }
+    ensures past { Past 2 1 cursor.old cursor.new }
 {
     let more = count_quotes(cursor);
     if more < 2 {
@@ -136,19 +131,17 @@ fn closing_place<'a>(
 
 /// Reads a line, and the newline that ends it or the closing of three quotes and `signs` number
 /// signs. Returns whether the closing ends it.
-fn read_line<'a>(cursor: &mut Cursor<'a>, signs: usize) -> Result<(Segment<'a>, bool), StringFault>
+pub fn raw_line<'a>(cursor: &mut Cursor<'a>, signs: usize) -> Result<(Line<'a>, bool), StringFault>
     requires { 0 < signs }
     ensures found { IfOk result
-        (λ (p, closed). ReadsLine (RawContent (closing 3 signs)) closed cursor.old.rest
-        (literals p) cursor.new.rest) }
-    ensures shorter { IfOk result
-        (λ (p, _). bytes p + 1 + bytes cursor.new.rest ≤ bytes cursor.old.rest) }
+        (λ (line, closed). ReadsLine (RawContent (closing 3 signs)) closed cursor.old.rest
+        (line_units line) cursor.new.rest) }
+    ensures shorter { IfOk result (λ _. bytes cursor.new.rest + 1 ≤ bytes cursor.old.rest) }
     ensures only { (r : Text) (us : List LineUnit)
         → RawContent (closing 3 signs) cursor.old.rest r us → IfErr result (λ _. ⊥) }
-    ensures part { IfOk result (λ (p, _). IsPart cursor.new.text p) }
-    ensures moves { Moves cursor.old cursor.new }
-    ensures costs { Costs 2 1 cursor.old cursor.new }
-    ensures cost { IfOk result (λ _. Costs 2 0 cursor.old cursor.new) }
+    ensures part { IfOk result (λ (line, _). LineIn cursor.new.text line) }
+    ensures past { Past 2 1 cursor.old cursor.new }
+    ensures cost { IfOk result (λ (line, _). CostsWith (line_steps line) cursor.old cursor.new) }
 {
     let start = cursor.checkpoint();
     'parts: loop {
@@ -156,66 +149,18 @@ fn read_line<'a>(cursor: &mut Cursor<'a>, signs: usize) -> Result<(Segment<'a>, 
         match cursor.take() {
             Some('"') => {
                 if let Some(place) = closing_place(&end, cursor, signs) {
-                    return Ok((start.up_to(&place), true));
+                    return Ok((Line::Plain(start.up_to(&place)), true));
                 }
             }
             Some(c) if is_newline_char(c) => {
                 end_newline(c, cursor);
-                return Ok((start.up_to(&end), false));
+                return Ok((Line::Plain(start.up_to(&end)), false));
             }
             Some(c) if is_raw(c) => cursor.skip(Class::Unquoted),
             Some(_) => return Err(StringFault::Banned),
             None => return Err(StringFault::Unclosed),
         }
     }
-}
-
-/// Reads the lines up to the first three quotes with `signs` number signs after them, and advances
-/// past these. Returns the lines.
-fn lines_content<'a>(
-    alloc: Global,
-    cursor: &mut Cursor<'a>,
-    signs: usize,
-) -> Result<Vec<Line<'a>>, StringFailure>
-    requires { 0 < signs }
-    ensures found { IfOk result
-        (λ ls. (us : List LineUnit)
-        × RawContent (closing 3 signs) cursor.old.rest cursor.new.rest us
-        × (lines_of us ≡ map line_units ls.items)) }
-    ensures only { (r : Text) (us : List LineUnit)
-        → RawContent (closing 3 signs) cursor.old.rest r us → IfErr result (λ e. e ≡ Memory) }
-    ensures part { IfOk result (λ ls. LinesIn cursor.new.text ls.items) }
-    ensures moves { Moves cursor.old cursor.new }
-    ensures costs { Costs 4 1 cursor.old cursor.new }
-    ensures cost { IfOk result (λ ls. CostsWith (lines_steps ls.items) cursor.old cursor.new) }
-{
-    let mut lines = Vec::new(alloc);
-    'lines: loop {
-        let (segment, closed) = read_line(cursor, signs)?;
-        add_line(&mut lines, Line::Plain(segment))?;
-        if closed {
-            return Ok(lines);
-        }
-    }
-}
-
-/// After the number signs and three quotes: reads the rest of a multi-line raw string, and returns
-/// its value.
-fn raw_lines(alloc: Global, cursor: &mut Cursor, signs: usize) -> Result<String, StringFailure>
-    requires { 0 < signs }
-    ensures found { IfOk result
-        (λ v. MultiLineRawBody signs cursor.old.rest cursor.new.rest (chars (string_bytes v))) }
-    ensures only { (r w : Text) → MultiLineRawBody signs cursor.old.rest r w
-        → MatchResult result (λ v. (r ≡ cursor.new.rest) × (w ≡ chars (string_bytes v)))
-        (λ e. e ≡ Memory) }
-    ensures moves { Moves cursor.old cursor.new }
-    ensures costs { Costs 4 5 cursor.old cursor.new }
-{
-    if !newline(cursor) {
-        return Err(StringFailure::Fault(StringFault::LooksMultiLine));
-    }
-    let lines = lines_content(alloc, cursor, signs)?;
-    dedent(alloc, &lines, cursor)
 }
 
 /// Reads a raw string, single-line or multi-line (KDL 2.0.0, Raw String). Advances past the closing
@@ -240,7 +185,7 @@ pub fn raw_string(alloc: Global, cursor: &mut Cursor) -> Result<String, StringFa
         return Err(StringFailure::Fault(StringFault::Unopened));
     }
     if cursor.eat_two('"', '"') {
-        return raw_lines(alloc, cursor, signs);
+        return many_lines(alloc, cursor, Enclosure::Signs(signs));
     }
     let body = line_content(cursor, signs)?;
     Ok(body.to_string(alloc)?)

@@ -1,8 +1,8 @@
 use Rattle.std.proofs.Common.{refl}
 use Rattle.kdl_text.specs.Numbers.{is_part}
 use Rattle.kdl_text.specs.Internal.NumberReading.{radix_of}
-use Rattle.kdl_text.proofs.Looking.MovesJoin.{moves_then, moves_stayed, stayed_looked}
-use Rattle.kdl_text.proofs.Numeric.NumberReads.{digits_start, digits_underscore, digits_digit, digits_end, digits_more, not_part, none_here}
+use Rattle.kdl_text.proofs.Looking.SliceCost.{past_look, past_two}
+use Rattle.kdl_text.proofs.Numeric.NumberReads.{digits_past, digits_start, digits_underscore, digits_digit, digits_end, digits_more, not_part, none_here}
 use Rattle.kdl_text.proofs.numbers.digits.Goals as goal
 
 pub digits-init : goal.digits-init
@@ -22,14 +22,14 @@ returns-in-None-digit_of-clause-reads c =
 pub returns-in-None-clause-reads : goal.returns-in-None-clause-reads
 returns-in-None-clause-reads c = digits_end _ _ _ _ _ _ c.digits.invariant c.look.ensures.moved (none_here (is_part (radix_of c.args.radix)) _ c.in-None.ensures.result)
 
-pub returns-in-None-digit_of-clause-moves : goal.returns-in-None-digit_of-clause-moves
-returns-in-None-digit_of-clause-moves c = moves_then c.digits.invariant.moves (moves_stayed (stayed_looked _ _ c.look.ensures.moved))
-
-pub returns-in-None-clause-moves : goal.returns-in-None-clause-moves
-returns-in-None-clause-moves c = moves_then c.digits.invariant.moves (moves_stayed (stayed_looked _ _ c.look.ensures.moved))
-
 pub returns-clause-reads : goal.returns-clause-reads
 returns-clause-reads c = digits_more _ _ _ _ _ _ _ c.digits.invariant c.more_digits.ensures.reads
 
-pub returns-clause-moves : goal.returns-clause-moves
-returns-clause-moves c = moves_then c.digits.invariant.moves c.more_digits.ensures.moves
+pub returns-in-None-digit_of-clause-past : goal.returns-in-None-digit_of-clause-past
+returns-in-None-digit_of-clause-past c = digits_past c.digits.invariant (past_two (past_look c.look.ensures.moved))
+
+pub returns-in-None-clause-past : goal.returns-in-None-clause-past
+returns-in-None-clause-past c = digits_past c.digits.invariant (past_two (past_look c.look.ensures.moved))
+
+pub returns-clause-past : goal.returns-clause-past
+returns-clause-past c = digits_past c.digits.invariant c.more_digits.ensures.past

@@ -1,11 +1,13 @@
+use Rattle.kdl_text.proofs.Looking.SliceCost.{past_more, past_stayed, past_two}
 use Rattle.kdl_text.proofs.Numeric.NumberReads.{base_ten, base_other}
 use Rattle.kdl_text.proofs.numbers.eat_base_prefix.Goals as goal
 
-pub returns-in_default-clause-reads : goal.returns-in_default-clause-reads
-returns-in_default-clause-reads c = base_ten _ _ c.in_default.ensures.0 c.in_default.ensures.3
+pub returns-in_default : goal.returns-in_default
+returns-in_default c =
+    let (none, k, few, stayed) = c.in_default.ensures in
+    record { reads = base_ten _ _ none stayed; past = past_more few (past_two (past_stayed stayed)) }
 
-pub returns-clause-reads : goal.returns-clause-reads
-returns-clause-reads c = (base_other _ _ _ _ _ c.in-Some.ensures.0 c.in-Some.ensures.1 c.step.ensures c.step-2.ensures).base
-
-pub returns-clause-moves : goal.returns-clause-moves
-returns-clause-moves c = (base_other _ _ _ _ _ c.in-Some.ensures.0 c.in-Some.ensures.1 c.step.ensures c.step-2.ensures).moves
+pub returns : goal.returns
+returns c =
+    let b = base_other _ _ _ _ _ c.in-Some.ensures.0 c.in-Some.ensures.1 c.step.ensures c.step-2.ensures in
+    record { reads = b.base; past = b.past }

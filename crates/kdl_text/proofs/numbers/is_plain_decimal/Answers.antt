@@ -15,7 +15,7 @@ pub returns-in_default-decimal_part : goal.returns-in_default-decimal_part
 returns-in_default-decimal_part c = plain_no_part _ _ _ _ (ap (λ h. h.rest) c.new-cursor.ensures) c.in-Ok.ensures.reads c.in_default-decimal_part.ensures.reads
 
 pub up_to-segment-requires : goal.up_to-segment-requires
-up_to-segment-requires c = rw (c.checkpoint-start.ensures.rest, c.checkpoint.ensures.rest) (moves_then c.read_front.ensures.moves c.decimal_part.ensures.moves).piece
+up_to-segment-requires c = rw (c.checkpoint-start.ensures.rest, c.checkpoint.ensures.rest) (moves_then c.read_front.ensures.past.moves c.decimal_part.ensures.past.moves).piece
 
 pub returns-then-is_none : goal.returns-then-is_none
 returns-then-is_none c =
@@ -30,4 +30,4 @@ returns-else-is_none c = plain_rest _ _ _ _ (ap (λ h. h.rest) c.new-cursor.ensu
 
 pub characters-requires : goal.characters-requires
 characters-requires c =
-    part_same (part_moved (part_front _ _ _ _ c.checkpoint-start.ensures.part c.up_to-segment.ensures) (moves_then c.read_front.ensures.moves c.decimal_part.ensures.moves)) (ap (λ h. h.text) c.look.ensures.moved)
+    part_same (part_moved (part_front _ _ _ _ c.checkpoint-start.ensures.part c.up_to-segment.ensures) (moves_then c.read_front.ensures.past.moves c.decimal_part.ensures.past.moves)) (ap (λ h. h.text) c.look.ensures.moved)

@@ -1,6 +1,7 @@
 use Rattle.kdl_text.specs.Numbers.{is_part}
 use Rattle.kdl_text.specs.Internal.NumberReading.{radix_of}
-use Rattle.kdl_text.proofs.Numeric.NumberReads.{digits_underscore, digits_digit, digits_end, not_part, none_here}
+use Rattle.kdl_text.proofs.Looking.SliceCost.{past_look, past_two}
+use Rattle.kdl_text.proofs.Numeric.NumberReads.{digits_past, digits_underscore, digits_digit, digits_end, not_part, none_here}
 use Rattle.kdl_text.proofs.numbers.more_digits.Goals as goal
 
 pub digits-preserved-in-Some-eq95 : goal.digits-preserved-in-Some-eq95
@@ -16,3 +17,9 @@ returns-in-None-digit_of-clause-reads c =
 
 pub returns-in-None-clause-reads : goal.returns-in-None-clause-reads
 returns-in-None-clause-reads c = digits_end _ _ _ _ _ _ c.digits.invariant c.look.ensures.moved (none_here (is_part (radix_of c.args.radix)) _ c.in-None.ensures.result)
+
+pub returns-in-None-digit_of-clause-past : goal.returns-in-None-digit_of-clause-past
+returns-in-None-digit_of-clause-past c = digits_past c.digits.invariant (past_two (past_look c.look.ensures.moved))
+
+pub returns-in-None-clause-past : goal.returns-in-None-clause-past
+returns-in-None-clause-past c = digits_past c.digits.invariant (past_two (past_look c.look.ensures.moved))

@@ -1,12 +1,14 @@
 use Rattle.kdl_text.proofs.Numeric.PlainDigits.{bare_piece, bare_both}
 use Rattle.kdl_text.specs.Internal.DigitRuns.{BareIf}
-use Rattle.std.proofs.Common.{◌≡◌, ◌++◌, ◌∙◌, sym, ap, subst, lit≤}
+use Rattle.std.proofs.Common.{◌≡◌, ◌++◌, ◌∙◌, ◌<◌, sym, ap, subst, arith, length, lit≤}
 use Rattle.kdl_text.specs.Numbers.{DecimalPart}
 use Rattle.kdl_text.specs.Internal.NumberReading.{radix_of}
-use Rattle.kdl_text.proofs.Numeric.DecimalReads.{front_trails, number_range, whole_costs, front_number, front_other, front_no_part, front_part, reads_number, not_ten, part_moves, part_costs}
-use Rattle.kdl_text.proofs.Looking.MovesJoin.{moves_then, moves_stayed}
+use Rattle.kdl_text.proofs.Numeric.DecimalReads.{front_trails, number_range, front_number, front_other, front_no_part, front_part, reads_number, not_ten, copied_costs, always}
+use Rattle.kdl_text.proofs.Looking.MovesJoin.{moves_then, moves_stayed, shorter}
 use Rattle.kdl_text.proofs.Looking.Parts.{part_front, part_moved}
-use Rattle.kdl_text.proofs.Looking.MostCost.{more, front_looked, front_all, copied_most}
+use Rattle.kdl_text.proofs.Looking.MostCost.{more, copied_most}
+use Rattle.kdl_text.proofs.Looking.SliceCost.{past_then, past_two, past_stayed}
+use Rattle.kdl_text.proofs.Numeric.NumberReads.{tight}
 use Rattle.kdl_text.proofs.numbers.read_number.Goals as goal
 
 pub returns-then-is_end-clause-reads : goal.returns-then-is_end-clause-reads
@@ -16,9 +18,9 @@ pub returns-in_default : goal.returns-in_default
 returns-in_default c = record {
   reads = front_other _ _ _ c.in-Ok.ensures.reads (not_ten _ c.in_default.not-Decimal) c.if-is_end.ensures.result;
   fault = front_trails _ _ _ c.in-Ok.ensures.reads _ c.is_end.ensures.stayed.rest c.if-is_end.ensures.result;
-  moves = moves_then c.read_front.ensures.moves (moves_stayed c.is_end.ensures.stayed);
+  moves = moves_then c.read_front.ensures.past.moves (moves_stayed c.is_end.ensures.stayed);
   costs = tt;
-  most = more _ _ _ _ (moves_then c.read_front.ensures.moves (moves_stayed c.is_end.ensures.stayed)) (front_looked _ _ _ c.read_front.ensures.costs c.is_end.ensures.stayed) (lit≤ tt);
+  most = more (past_then c.read_front.ensures.past (past_two (past_stayed c.is_end.ensures.stayed))) (lit≤ tt);
 }
 
 pub returns-in-Err-decimal_part-clause-reads : goal.returns-in-Err-decimal_part-clause-reads
@@ -26,10 +28,10 @@ returns-in-Err-decimal_part-clause-reads c =
     front_no_part _ _ _ c.in-Ok.ensures.reads (λ r d. c.in-Err-decimal_part.ensures.reads r (subst (λ q. DecimalPart q r) (sym c.is_end.ensures.stayed.rest) d)) c.if-is_end.ensures.result
 
 pub returns-in-Err-decimal_part-clause-moves : goal.returns-in-Err-decimal_part-clause-moves
-returns-in-Err-decimal_part-clause-moves c = moves_then c.read_front.ensures.moves (moves_then (moves_stayed c.is_end.ensures.stayed) c.decimal_part.ensures.moves)
+returns-in-Err-decimal_part-clause-moves c = moves_then c.read_front.ensures.past.moves (moves_then (moves_stayed c.is_end.ensures.stayed) c.decimal_part.ensures.past.moves)
 
 pub up_to-segment-requires : goal.up_to-segment-requires
-up_to-segment-requires c = rw (c.checkpoint-start.ensures.rest, c.checkpoint.ensures.rest) (part_moves _ _ _ _ c.read_front.ensures.moves c.is_end.ensures.stayed c.decimal_part.ensures.moves).piece
+up_to-segment-requires c = rw (c.checkpoint-start.ensures.rest, c.checkpoint.ensures.rest) (past_then (past_then c.read_front.ensures.past (past_two (past_stayed c.is_end.ensures.stayed))) c.decimal_part.ensures.past).moves.piece
 
 pub returns-in-Ok-without_underscores-clause-reads : goal.returns-in-Ok-without_underscores-clause-reads
 returns-in-Ok-without_underscores-clause-reads c =
@@ -49,22 +51,27 @@ without_underscores-requires-clause-underscores c =
 
 pub without_underscores-requires-clause-part : goal.without_underscores-requires-clause-part
 without_underscores-requires-clause-part c =
-    part_moved (part_front _ _ _ _ c.checkpoint-start.ensures.part c.up_to-segment.ensures) (part_moves _ _ _ _ c.read_front.ensures.moves c.is_end.ensures.stayed c.decimal_part.ensures.moves)
+    part_moved (part_front _ _ _ _ c.checkpoint-start.ensures.part c.up_to-segment.ensures) (past_then (past_then c.read_front.ensures.past (past_two (past_stayed c.is_end.ensures.stayed))) c.decimal_part.ensures.past).moves
 
 pub returns-then-is_end-clause-costs : goal.returns-then-is_end-clause-costs
-returns-then-is_end-clause-costs c = whole_costs _ _ _ _ c.read_front.ensures.moves c.read_front.ensures.costs c.in-Ok.ensures.shorter c.is_end.ensures.stayed
+returns-then-is_end-clause-costs c =
+    always c.whole.result _ (tight (lit≤ tt) (past_then c.read_front.ensures.past (past_two (past_stayed c.is_end.ensures.stayed))) (omega (arith, c.in-Ok.ensures.shorter, ap length c.is_end.ensures.stayed.rest)))
 
 pub returns-in-Ok-without_underscores-clause-costs : goal.returns-in-Ok-without_underscores-clause-costs
 returns-in-Ok-without_underscores-clause-costs c =
-    part_costs _ _ _ _ _ _ c.read_front.ensures.moves c.read_front.ensures.costs c.in-Ok.ensures.shorter c.is_end.ensures.stayed c.decimal_part.ensures.moves c.decimal_part.ensures.costs
-    (sym c.checkpoint-start.ensures.rest ∙ c.up_to-segment.ensures ∙ ap (λ z. c.up_to-segment.result ++ z) c.checkpoint.ensures.rest) c.without_underscores.ensures.returned
+    let text = sym c.checkpoint-start.ensures.rest ∙ c.up_to-segment.ensures ∙ ap (λ z. c.up_to-segment.result ++ z) c.checkpoint.ensures.rest in
+    let less : length c.decimal_part.new.cursor.rest < length c.args.cursor.now.rest = omega (arith, c.in-Ok.ensures.shorter, ap length c.is_end.ensures.stayed.rest, shorter c.decimal_part.ensures.past.moves) in
+    copied_costs c.up_to-segment.result _ _ _ text (past_then (past_then c.read_front.ensures.past (past_two (past_stayed c.is_end.ensures.stayed))) c.decimal_part.ensures.past).costs c.without_underscores.ensures.returned less
 
 pub returns-in-Ok-without_underscores-clause-most : goal.returns-in-Ok-without_underscores-clause-most
 returns-in-Ok-without_underscores-clause-most c =
-    copied_most c.up_to-segment.result _ _ _ (front_all _ _ _ _ c.read_front.ensures.costs c.is_end.ensures.stayed c.decimal_part.ensures.costs)
+    copied_most c.up_to-segment.result _ _ _ (past_then (past_then c.read_front.ensures.past (past_two (past_stayed c.is_end.ensures.stayed))) c.decimal_part.ensures.past).costs
     (sym c.checkpoint-start.ensures.rest ∙ c.up_to-segment.ensures ∙ ap (λ z. c.up_to-segment.result ++ z) c.checkpoint.ensures.rest) c.without_underscores.ensures.returned
 
 pub returns-in-Err-without_underscores-clause-most : goal.returns-in-Err-without_underscores-clause-most
 returns-in-Err-without_underscores-clause-most c =
-    copied_most c.up_to-segment.result _ _ _ (front_all _ _ _ _ c.read_front.ensures.costs c.is_end.ensures.stayed c.decimal_part.ensures.costs)
+    copied_most c.up_to-segment.result _ _ _ (past_then (past_then c.read_front.ensures.past (past_two (past_stayed c.is_end.ensures.stayed))) c.decimal_part.ensures.past).costs
     (sym c.checkpoint-start.ensures.rest ∙ c.up_to-segment.ensures ∙ ap (λ z. c.up_to-segment.result ++ z) c.checkpoint.ensures.rest) c.without_underscores.ensures.returned
+
+pub returns-in-Err-decimal_part-clause-most : goal.returns-in-Err-decimal_part-clause-most
+returns-in-Err-decimal_part-clause-most c = more (past_then (past_then c.read_front.ensures.past (past_two (past_stayed c.is_end.ensures.stayed))) c.decimal_part.ensures.past) (lit≤ tt)

@@ -18,7 +18,7 @@ pub returns-then-is_bare-clause-run : goal.returns-then-is_bare-clause-run
 returns-then-is_bare-clause-run c = past_run _ c.run_of-word.new.cursor c.has_bare_form-is_bare.new.cursor c.run_of-word.ensures.run c.has_bare_form-is_bare.ensures.looked
 
 pub returns-then-is_bare-clause-moves : goal.returns-then-is_bare-clause-moves
-returns-then-is_bare-clause-moves c = moves_then c.run_of-word.ensures.moves (moves_stayed c.has_bare_form-is_bare.ensures.looked.2)
+returns-then-is_bare-clause-moves c = moves_then c.run_of-word.ensures.past.moves (moves_stayed c.has_bare_form-is_bare.ensures.looked.2)
 
 pub returns-else-is_bare-clause-only : goal.returns-else-is_bare-clause-only
 returns-else-is_bare-clause-only c =
@@ -29,10 +29,10 @@ pub returns-else-is_bare-clause-run : goal.returns-else-is_bare-clause-run
 returns-else-is_bare-clause-run c = past_run _ c.run_of-word.new.cursor c.has_bare_form-is_bare.new.cursor c.run_of-word.ensures.run c.has_bare_form-is_bare.ensures.looked
 
 pub returns-else-is_bare-clause-moves : goal.returns-else-is_bare-clause-moves
-returns-else-is_bare-clause-moves c = moves_then c.run_of-word.ensures.moves (moves_stayed c.has_bare_form-is_bare.ensures.looked.2)
+returns-else-is_bare-clause-moves c = moves_then c.run_of-word.ensures.past.moves (moves_stayed c.has_bare_form-is_bare.ensures.looked.2)
 
 pub returns-then-is_bare-clause-cost : goal.returns-then-is_bare-clause-cost
 returns-then-is_bare-clause-cost c =
     let run = c.run_of-word.ensures in
     let form = c.has_bare_form-is_bare.ensures in
-    past_cost _ _ _ _ run.result (sym form.result ∙ c.if-is_bare.true) run.costs form.looked
+    past_cost _ _ _ _ run.result (sym form.result ∙ c.if-is_bare.true) run.past.costs form.looked

@@ -1,4 +1,5 @@
-use Rattle.kdl_text.proofs.Looking.MovesJoin.{moves_then, moves_one}
+use Rattle.std.proofs.Common.{arith}
+use Rattle.kdl_text.proofs.Looking.SliceCost.{past_then, past_took, past_look, past_more, past_start}
 use Rattle.kdl_text.proofs.Quoted.EscapeReads.{number_found, number_none, brace_none, letter_found, letter_none}
 use Rattle.kdl_text.proofs.strings.escaped_char.Goals as goal
 
@@ -17,5 +18,11 @@ returns-clause-found c = number_found _ _ _ _ _ c.if-letter-ne117.false c.if-not
 pub returns-clause-none : goal.returns-clause-none
 returns-clause-none c b = number_none _ _ _ _ c.if-letter-ne117.false c.if-not-eat.ensures.0 c.hex_number.ensures.none
 
-pub returns-clause-moves : goal.returns-clause-moves
-returns-clause-moves c = moves_then (moves_one c.if-not-eat.ensures) c.hex_number.ensures.moves
+pub returns-then-not-eat-clause-past : goal.returns-then-not-eat-clause-past
+returns-then-not-eat-clause-past c = past_look c.if-not-eat.ensures.1
+
+pub returns-clause-past : goal.returns-clause-past
+returns-clause-past c = past_then (past_took c.if-not-eat.ensures) c.hex_number.ensures.past
+
+pub returns-then-letter-ne117-clause-past : goal.returns-then-letter-ne117-clause-past
+returns-then-letter-ne117-clause-past c = past_more (omega arith) past_start

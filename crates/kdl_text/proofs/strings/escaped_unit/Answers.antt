@@ -10,16 +10,16 @@ pub returns-then-is_blank-clause-found : goal.returns-then-is_blank-clause-found
 returns-then-is_blank-clause-found c = blank_found _ _ _ _ c.in-Some.ensures.took.0 (sym c.is_blank.ensures ∙ c.if-is_blank.true) c.skip_blanks.ensures.run
 
 pub returns-then-is_blank-clause-moves : goal.returns-then-is_blank-clause-moves
-returns-then-is_blank-clause-moves c = moves_then (moves_one c.in-Some.ensures.took) c.skip_blanks.ensures.moves
+returns-then-is_blank-clause-moves c = moves_then (moves_one c.in-Some.ensures.took) c.skip_blanks.ensures.past.moves
 
 pub returns-in_default-escaped_char-clause-only : goal.returns-in_default-escaped_char-clause-only
 returns-in_default-escaped_char-clause-only c r u i = char_none _ _ _ r u c.in-Some.ensures.took.0 (c.in_default-escaped_char.ensures.none (sym c.is_blank.ensures ∙ c.if-is_blank.false)) i
 
 pub returns-in_default-escaped_char-clause-moves : goal.returns-in_default-escaped_char-clause-moves
-returns-in_default-escaped_char-clause-moves c = moves_then (moves_one c.in-Some.ensures.took) c.escaped_char.ensures.moves
+returns-in_default-escaped_char-clause-moves c = moves_then (moves_one c.in-Some.ensures.took) c.escaped_char.ensures.past.moves
 
 pub returns-clause-moves : goal.returns-clause-moves
-returns-clause-moves c = moves_then (moves_one c.in-Some.ensures.took) c.escaped_char.ensures.moves
+returns-clause-moves c = moves_then (moves_one c.in-Some.ensures.took) c.escaped_char.ensures.past.moves
 
 pub returns-clause-found : goal.returns-clause-found
 returns-clause-found c = unit_at _ _ _ _ _ c.in-Some.ensures.took.0 c.in-Some-escaped_char.ensures.found

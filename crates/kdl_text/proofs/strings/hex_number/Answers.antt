@@ -1,36 +1,35 @@
 use Rattle.std.proofs.Common.{arith}
-use Rattle.kdl_text.proofs.Quoted.HexLoop.{digits_end, digits_none, digits_found, digits_unfound, digits_other, digits_long, digits_moves, digits_room, digits_turn}
+use Rattle.kdl_text.proofs.Quoted.HexLoop.{digits_end, digits_none, digits_found, digits_unfound, digits_other, digits_long, digits_past, digits_room, digits_turn}
 use Rattle.kdl_text.proofs.strings.hex_number.Goals as goal
 
-pub returns-in_default-clause-none : goal.returns-in_default-clause-none
-returns-in_default-clause-none c = (digits_end _ _ _ _ _ c.digits.invariant c.in_default.ensures.took).none
+pub returns-in_default : goal.returns-in_default
+returns-in_default c =
+    let k = digits_end _ _ _ _ _ c.digits.invariant c.in_default.ensures.took in
+    record { found = tt; none = k.none; past = k.past }
 
-pub returns-then-count-eq0-clause-none : goal.returns-then-count-eq0-clause-none
-returns-then-count-eq0-clause-none c = (digits_none _ _ _ _ _ c.digits.invariant _ c.in-Some.ensures.took c.if-c-eq125.true c.if-count-eq0.true).none
+pub returns-then-count-eq0 : goal.returns-then-count-eq0
+returns-then-count-eq0 c =
+    let k = digits_none _ _ _ _ _ c.digits.invariant _ c.in-Some.ensures.took c.if-c-eq125.true c.if-count-eq0.true in
+    record { found = tt; none = k.none; past = k.past }
 
-pub returns-then-count-eq0-clause-moves : goal.returns-then-count-eq0-clause-moves
-returns-then-count-eq0-clause-moves c = digits_moves _ _ _ _ _ c.digits.invariant _ c.in-Some.ensures.took
+pub returns-then-c-eq125 : goal.returns-then-c-eq125
+returns-then-c-eq125 c =
+    let took = c.in-Some.ensures.took in
+    record {
+      found = digits_found _ _ _ _ _ c.digits.invariant _ took _ c.if-c-eq125.true c.if-count-eq0.false c.from_u32.ensures.value;
+      none = digits_unfound _ _ _ _ _ c.digits.invariant _ took _ c.if-c-eq125.true c.from_u32.ensures.value;
+      past = digits_past _ _ _ _ _ c.digits.invariant _ took;
+    }
 
-pub returns-then-c-eq125-clause-found : goal.returns-then-c-eq125-clause-found
-returns-then-c-eq125-clause-found c = digits_found _ _ _ _ _ c.digits.invariant _ _ c.in-Some.ensures.took c.if-c-eq125.true c.if-count-eq0.false c.from_u32.ensures.value
+pub returns-in_default-to_digit : goal.returns-in_default-to_digit
+returns-in_default-to_digit c =
+    let k = digits_other _ _ _ _ _ c.digits.invariant _ c.in-Some.ensures.took c.if-c-eq125.false c.in_default-to_digit.ensures.value in
+    record { found = tt; none = k.none; past = k.past }
 
-pub returns-then-c-eq125-clause-none : goal.returns-then-c-eq125-clause-none
-returns-then-c-eq125-clause-none c = digits_unfound _ _ _ _ _ c.digits.invariant _ _ c.in-Some.ensures.took c.if-c-eq125.true c.from_u32.ensures.value
-
-pub returns-then-c-eq125-clause-moves : goal.returns-then-c-eq125-clause-moves
-returns-then-c-eq125-clause-moves c = digits_moves _ _ _ _ _ c.digits.invariant _ c.in-Some.ensures.took
-
-pub returns-in_default-to_digit-clause-none : goal.returns-in_default-to_digit-clause-none
-returns-in_default-to_digit-clause-none c = (digits_other _ _ _ _ _ c.digits.invariant _ c.in-Some.ensures.took c.if-c-eq125.false c.in_default-to_digit.ensures.value).none
-
-pub returns-in_default-to_digit-clause-moves : goal.returns-in_default-to_digit-clause-moves
-returns-in_default-to_digit-clause-moves c = digits_moves _ _ _ _ _ c.digits.invariant _ c.in-Some.ensures.took
-
-pub returns-then-count-eq6-clause-none : goal.returns-then-count-eq6-clause-none
-returns-then-count-eq6-clause-none c = (digits_long _ _ _ _ _ c.digits.invariant _ c.in-Some.ensures.took c.if-c-eq125.false c.if-count-eq6.true).none
-
-pub returns-then-count-eq6-clause-moves : goal.returns-then-count-eq6-clause-moves
-returns-then-count-eq6-clause-moves c = digits_moves _ _ _ _ _ c.digits.invariant _ c.in-Some.ensures.took
+pub returns-then-count-eq6 : goal.returns-then-count-eq6
+returns-then-count-eq6 c =
+    let k = digits_long _ _ _ _ _ c.digits.invariant _ c.in-Some.ensures.took c.if-c-eq125.false c.if-count-eq6.true in
+    record { found = tt; none = k.none; past = k.past }
 
 pub overflow_mul-value : goal.overflow_mul-value
 overflow_mul-value c = let k = digits_room _ _ c.take.new.self _ _ c.digits.invariant c.if-count-eq6.false in omega (arith, k)
@@ -44,4 +43,4 @@ overflow_add-value c =
 pub digits-preserved : goal.digits-preserved
 digits-preserved c =
     let (fits, is) = c.in-Some-to_digit.ensures.value in
-    digits_turn _ _ _ _ _ c.digits.invariant _ _ c.in-Some.ensures.took fits is c.if-count-eq6.false
+    digits_turn _ _ _ _ _ c.digits.invariant _ c.in-Some.ensures.took _ fits is c.if-count-eq6.false

@@ -1,25 +1,27 @@
+use Rattle.std.proofs.Common.{arith}
 use Rattle.std.proofs.Common.{String, Global}
 use Rattle.kdl_text.specs.declared.strings.StringFailure.{StringFailure}
+use Rattle.kdl_text.proofs.Looking.SliceCost.{past_more, past_three, past_then, past_two, past_look}
 use Rattle.kdl_text.proofs.Quoted.BodyLoop.{reading_begins, reading_turn, reading_fails, reading_runs_out, reading_unit, failed, reading_ends, reading_over, reading_other, reading_past}
 use Rattle.kdl_text.proofs.strings.quoted_body.Goals as goal
 
 pub units-init : goal.units-init
-units-init c = reading_begins _ _ _ _ c.run_of.ensures.run c.run_of.ensures.result c.run_of.ensures.moves c.run_of.ensures.costs c.in_ok-out.ensures
+units-init c = reading_begins _ _ _ _ c.run_of.ensures.run c.run_of.ensures.result c.run_of.ensures.past c.in_ok-out.ensures
+
+pub returns-in_err-out-clause-past : goal.returns-in_err-out-clause-past
+returns-in_err-out-clause-past c = past_more (omega arith) (past_three c.run_of.ensures.past)
 
 pub units-preserved : goal.units-preserved
 units-preserved c =
     let run = c.run_of-in-units.ensures in
     let did = c.in_ok-escape-in-Some-eq92.ensures in
-    reading_turn _ _ _ c.units.invariant _ _ _ _ _ _ _ c.in-Some-eq92.ensures.took c.in-Some-eq92.field-0-test did.found did.moves did.costs run.run run.result run.moves run.costs c.in_ok-push_to.ensures
+    reading_turn _ _ _ c.units.invariant _ _ _ _ _ _ _ c.in-Some-eq92.ensures.took c.in-Some-eq92.field-0-test did.found did.past run.run run.result run.past c.in_ok-push_to.ensures
 
-pub returns-in-Some-eq34-clause-found : goal.returns-in-Some-eq34-clause-found
-returns-in-Some-eq34-clause-found c = (reading_ends _ _ _ c.units.invariant _ _ c.in-Some-eq34.ensures.took c.in-Some-eq34.field-0-test).0
-
-pub returns-in-Some-eq34-clause-only : goal.returns-in-Some-eq34-clause-only
-returns-in-Some-eq34-clause-only c = (reading_ends _ _ _ c.units.invariant _ _ c.in-Some-eq34.ensures.took c.in-Some-eq34.field-0-test).1
-
-pub returns-in-Some-eq34-clause-moves : goal.returns-in-Some-eq34-clause-moves
-returns-in-Some-eq34-clause-moves c = reading_past _ _ _ c.units.invariant _ _ c.in-Some-eq34.ensures.took
+pub returns-in-Some-eq34 : goal.returns-in-Some-eq34
+returns-in-Some-eq34 c =
+    let took = c.in-Some-eq34.ensures.took in
+    let (found, only) = reading_ends _ _ _ c.units.invariant _ _ took c.in-Some-eq34.field-0-test in
+    record { found = found; only = only; past = past_more (omega arith) (reading_past _ _ _ c.units.invariant _ _ took) }
 
 pub returns-in_err-escape-in-Some-eq92-clause-only : goal.returns-in_err-escape-in-Some-eq92-clause-only
 returns-in_err-escape-in-Some-eq92-clause-only c r w b =
@@ -27,22 +29,21 @@ returns-in_err-escape-in-Some-eq92-clause-only c r w b =
     let memory = c.in_err-escape-in-Some-eq92.ensures.only m u unit in
     failed {T = String Global} {E = StringFailure} c.from_residual-in_err-escape-in-Some-eq92.result _ _ _ c.from_residual-in_err-escape-in-Some-eq92.ensures.1 memory
 
-pub returns-in_err-escape-in-Some-eq92-clause-moves : goal.returns-in_err-escape-in-Some-eq92-clause-moves
-returns-in_err-escape-in-Some-eq92-clause-moves c = (reading_fails _ _ _ c.units.invariant _ _ _ c.in-Some-eq92.ensures.took c.escape.ensures.moves c.escape.ensures.costs).0
+pub returns-in_err-escape-in-Some-eq92-clause-past : goal.returns-in_err-escape-in-Some-eq92-clause-past
+returns-in_err-escape-in-Some-eq92-clause-past c = past_more (omega arith) (reading_fails _ _ _ c.units.invariant _ _ _ c.in-Some-eq92.ensures.took c.escape.ensures.past)
 
-pub returns-in-Some-clause-only : goal.returns-in-Some-clause-only
-returns-in-Some-clause-only c r w b = absurd (reading_other _ _ _ c.units.invariant _ _ c.in-Some.ensures.took c.in-Some.c-test.0.1 c.in-Some.c-test.1 r w b)
+pub returns-in-Some : goal.returns-in-Some
+returns-in-Some c =
+    let took = c.in-Some.ensures.took in
+    let other = reading_other _ _ _ c.units.invariant _ _ took c.in-Some.c-test.0.1 c.in-Some.c-test.1 in
+    record { found = tt; only = λ r w b. absurd (other r w b); past = past_more (omega arith) (reading_past _ _ _ c.units.invariant _ _ took) }
 
-pub returns-in-Some-clause-moves : goal.returns-in-Some-clause-moves
-returns-in-Some-clause-moves c = reading_past _ _ _ c.units.invariant _ _ c.in-Some.ensures.took
+pub returns-in-None : goal.returns-in-None
+returns-in-None c =
+    let took = c.in-None.ensures.took in
+    let over = reading_over _ _ _ c.units.invariant _ took in
+    record { found = tt; only = λ r w b. absurd (over r w b); past = past_then c.units.invariant.past (past_three (past_two (past_look took.1))) }
 
-pub returns-in-None-clause-only : goal.returns-in-None-clause-only
-returns-in-None-clause-only c r w b = absurd (reading_over _ _ _ c.units.invariant _ c.in-None.ensures.took r w b)
-
-pub returns-in_err-push_to-clause-moves : goal.returns-in_err-push_to-clause-moves
-returns-in_err-push_to-clause-moves c =
-    (reading_runs_out _ _ _ c.units.invariant _ _ _ _ c.in-Some-eq92.ensures.took c.escape.ensures.moves c.escape.ensures.costs c.run_of-in-units.ensures.moves c.run_of-in-units.ensures.costs).0
-
-pub returns-in_err-push_to-clause-costs : goal.returns-in_err-push_to-clause-costs
-returns-in_err-push_to-clause-costs c =
-    (reading_runs_out _ _ _ c.units.invariant _ _ _ _ c.in-Some-eq92.ensures.took c.escape.ensures.moves c.escape.ensures.costs c.run_of-in-units.ensures.moves c.run_of-in-units.ensures.costs).1
+pub returns-in_err-push_to-clause-past : goal.returns-in_err-push_to-clause-past
+returns-in_err-push_to-clause-past c =
+    past_more (omega arith) (reading_runs_out _ _ _ c.units.invariant _ _ _ _ c.in-Some-eq92.ensures.took c.escape.ensures.past c.run_of-in-units.ensures.past)

@@ -6,4 +6,4 @@ pub returns-clause-reads : goal.returns-clause-reads
 returns-clause-reads c = block_reads _ _ _ _ (ate_two_here _ _ _ _ _ c.requires c.eat_two.ensures) c.block_end.ensures.reads
 
 pub returns-clause-moves : goal.returns-clause-moves
-returns-clause-moves c = moves_then (moves_two (ate_two_here _ _ _ _ _ c.requires c.eat_two.ensures)) c.block_end.ensures.moves
+returns-clause-moves c = moves_then (moves_two (ate_two_here _ _ _ _ _ c.requires c.eat_two.ensures)) c.block_end.ensures.past.moves

@@ -1,21 +1,36 @@
-use Rattle.kdl_text.proofs.Looking.MovesJoin.{moves_then, moves_two, moves_stayed}
+use Rattle.std.proofs.Common.{arith}
+use Rattle.kdl_text.proofs.Looking.SliceCost.{past_then, past_two, past_more, past_both, past_stayed, past_look}
 use Rattle.kdl_text.proofs.Spacing.SpaceReads.{end_comment, end_newline, end_text, end_none}
 use Rattle.kdl_text.proofs.trivia.escline_end.Goals as goal
 
-pub returns-then-eat_two-clause-reads : goal.returns-then-eat_two-clause-reads
-returns-then-eat_two-clause-reads c = end_comment _ _ _ c.if-eat_two.ensures c.line_end.ensures.reads
+pub returns-then-eat_two : goal.returns-then-eat_two
+returns-then-eat_two c = record {
+  reads = end_comment _ _ _ c.if-eat_two.ensures c.line_end.ensures.reads;
+  past = past_more (omega arith) (past_then (past_two (past_both c.if-eat_two.ensures)) c.line_end.ensures.past);
+}
 
-pub returns-then-eat_two-clause-moves : goal.returns-then-eat_two-clause-moves
-returns-then-eat_two-clause-moves c = moves_then (moves_two c.if-eat_two.ensures) c.line_end.ensures.moves
+pub returns-then-newline : goal.returns-then-newline
+returns-then-newline c =
+    let n = c.newline.ensures in
+    record {
+      reads = end_newline _ _ _ c.if-eat_two.ensures.1 c.if-newline.ensures.reads;
+      past = past_more (omega arith) (past_then (past_two (past_stayed c.if-eat_two.ensures.1)) (record { moves = n.moves; costs = n.costs }));
+    }
 
-pub returns-then-newline-clause-reads : goal.returns-then-newline-clause-reads
-returns-then-newline-clause-reads c = end_newline _ _ _ c.if-eat_two.ensures.1 c.if-newline.ensures.reads
+pub returns-in-None : goal.returns-in-None
+returns-in-None c =
+    let two = c.if-eat_two.ensures.1 in
+    let one = c.if-newline.ensures.reads.0 in
+    record {
+      reads = end_text _ _ _ _ two one c.in-None.ensures.result c.look.ensures.moved;
+      past = past_two (past_then (past_stayed two) (past_then (past_stayed one) (past_look c.look.ensures.moved)));
+    }
 
-pub returns-then-newline-clause-moves : goal.returns-then-newline-clause-moves
-returns-then-newline-clause-moves c = moves_then (moves_stayed c.if-eat_two.ensures.1) c.newline.ensures.moves
-
-pub returns-in-None-clause-reads : goal.returns-in-None-clause-reads
-returns-in-None-clause-reads c = end_text _ _ _ _ c.if-eat_two.ensures.1 c.if-newline.ensures.reads.0 c.in-None.ensures.result c.look.ensures.moved
-
-pub returns-in-Some-clause-reads : goal.returns-in-Some-clause-reads
-returns-in-Some-clause-reads c = end_none _ _ _ _ c.if-eat_two.ensures c.if-newline.ensures.reads c.in-Some.ensures.result
+pub returns-in-Some : goal.returns-in-Some
+returns-in-Some c =
+    let two = c.if-eat_two.ensures.1 in
+    let one = c.if-newline.ensures.reads.0 in
+    record {
+      reads = end_none _ _ _ _ c.if-eat_two.ensures c.if-newline.ensures.reads c.in-Some.ensures.result;
+      past = past_two (past_then (past_stayed two) (past_then (past_stayed one) (past_look c.look.ensures.moved)));
+    }

@@ -7,19 +7,19 @@ pub returns-then-block_end-clause-reads : goal.returns-then-block_end-clause-rea
 returns-then-block_end-clause-reads c = rw (← c.take_over-here.ensures.result) (block_reads true _ _ c.block_end.new.cursor.rest c.if-eat_two.ensures c.if-block_end.ensures.reads)
 
 pub returns-then-block_end-clause-moves : goal.returns-then-block_end-clause-moves
-returns-then-block_end-clause-moves c = rw (← c.take_over-here.ensures.result) (moves_then (moves_two c.if-eat_two.ensures) c.if-block_end.ensures.moves)
+returns-then-block_end-clause-moves c = rw (← c.take_over-here.ensures.result) (moves_then (moves_two c.if-eat_two.ensures) c.if-block_end.ensures.past.moves)
 
 pub returns-else-block_end-clause-reads : goal.returns-else-block_end-clause-reads
 returns-else-block_end-clause-reads c = rw (← c.take_over-here.ensures.result) ((opens_here _ _ c.block_end.new.cursor.rest c.if-eat_two.ensures c.if-block_end.ensures.reads, c.if-block_end.ensures.ended refl))
 
 pub returns-else-block_end-clause-moves : goal.returns-else-block_end-clause-moves
-returns-else-block_end-clause-moves c = rw (← c.take_over-here.ensures.result) (moves_then (moves_two c.if-eat_two.ensures) c.if-block_end.ensures.moves)
+returns-else-block_end-clause-moves c = rw (← c.take_over-here.ensures.result) (moves_then (moves_two c.if-eat_two.ensures) c.if-block_end.ensures.past.moves)
 
 pub returns-then-eat_two-2-clause-reads : goal.returns-then-eat_two-2-clause-reads
 returns-then-eat_two-2-clause-reads c = rw (← c.take_over-here.ensures.result) (stayed_line _ _ _ _ _ c.if-eat_two.ensures.1 c.if-eat_two-2.ensures c.line_end.ensures.reads)
 
 pub returns-then-eat_two-2-clause-moves : goal.returns-then-eat_two-2-clause-moves
-returns-then-eat_two-2-clause-moves c = rw (← c.take_over-here.ensures.result) (moves_then (moves_stayed c.if-eat_two.ensures.1) (moves_then (moves_two c.if-eat_two-2.ensures) c.line_end.ensures.moves))
+returns-then-eat_two-2-clause-moves c = rw (← c.take_over-here.ensures.result) (moves_then (moves_stayed c.if-eat_two.ensures.1) (moves_then (moves_two c.if-eat_two-2.ensures) c.line_end.ensures.past.moves))
 
 pub returns-then-eat_slashdash-clause-moves : goal.returns-then-eat_slashdash-clause-moves
 returns-then-eat_slashdash-clause-moves c = rw (← c.take_over-here.ensures.result) (moves_then (moves_stayed c.if-eat_two.ensures.1) (moves_then (moves_stayed c.if-eat_two-2.ensures.1) c.eat_slashdash.ensures.moves))

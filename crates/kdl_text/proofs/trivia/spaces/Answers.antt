@@ -1,4 +1,5 @@
-use Rattle.kdl_text.proofs.Spacing.SpaceReads.{spaces_ran, moves_ran, costs_ran}
+use Rattle.kdl_text.proofs.Looking.SliceCost.{moves_ran, costs_ran}
+use Rattle.kdl_text.proofs.Spacing.SpaceReads.{spaces_ran}
 use Rattle.kdl_text.proofs.trivia.spaces.Goals as goal
 
 pub returns : goal.returns

@@ -1,35 +1,41 @@
-use Rattle.std.proofs.Common.{◌∙◌, map, sym, ap, subst, String, Global}
+use Rattle.std.proofs.Common.{◌∙◌, map, sym, ap, subst, arith, String, Global}
 use Rattle.std.specs.Prelude.{string_bytes}
 use Rattle.std.specs.Str.{chars}
 use Rattle.kdl_text.specs.Internal.Lines.{LinesIn, line_units}
 use Rattle.kdl_text.specs.declared.strings.StringFailure.{StringFailure}
-use Rattle.kdl_text.proofs.ManyLines.StringReads.{body_found, body_only, body_content}
-use Rattle.kdl_text.proofs.ManyLines.LinesCost.{dedent_moves}
-use Rattle.kdl_text.proofs.Looking.MovesJoin.{moves_then}
+use Rattle.kdl_text.proofs.ManyLines.StringReads.{body_found, body_only, body_lines, body_newline}
+use Rattle.kdl_text.proofs.ManyLines.LinesCost.{many_past, many_fail}
+use Rattle.kdl_text.proofs.Looking.SliceCost.{past_four, past_more}
 use Rattle.kdl_text.proofs.Quoted.BodyLoop.{failed}
 use Rattle.kdl_text.proofs.strings.multiline.many_lines.Goals as goal
 
 pub returns-in_err-lines-clause-only : goal.returns-in_err-lines-clause-only
 returns-in_err-lines-clause-only c r w b =
-    let (us, x) = body_content _ _ r w c.if-not-newline.ensures.reads b in
+    let (us, x, made) = body_lines c.args.enclosure _ _ r w c.if-not-newline.ensures.reads b in
     let memory = c.in_err-lines.ensures.only r us x in
     failed {T = String Global} {E = StringFailure} c.from_residual.result _ _ _ c.from_residual.ensures.1 memory
 
-pub returns-in_err-lines-clause-moves : goal.returns-in_err-lines-clause-moves
-returns-in_err-lines-clause-moves c = moves_then c.newline.ensures.moves c.content.ensures.moves
+pub returns-in_err-lines-clause-past : goal.returns-in_err-lines-clause-past
+returns-in_err-lines-clause-past c = many_fail c.newline.ensures.moves c.newline.ensures.costs c.content.ensures.past
 
 pub returns-clause-found : goal.returns-clause-found
 returns-clause-found c =
     let (us, x, e) = c.in_ok-lines.ensures.found in
-    rw c.dedent.ensures.returned.rest (body_found c.dedent.result (λ v. chars (string_bytes v)) _ _ _ us c.if-not-newline.ensures.reads x (c.dedent.ensures.found us (e ∙ ap (map line_units) (sym c.deref.ensures.value))))
+    rw c.dedent.ensures.returned.rest (body_found c.args.enclosure c.dedent.result (λ v. chars (string_bytes v)) _ _ _ us c.if-not-newline.ensures.reads x (c.dedent.ensures.found us (e ∙ ap (map line_units) (sym c.deref.ensures.value))))
 
 pub returns-clause-only : goal.returns-clause-only
 returns-clause-only c =
     let (us, x, e) = c.in_ok-lines.ensures.found in
-    rw c.dedent.ensures.returned.rest (body_only c.dedent.result (λ v. chars (string_bytes v)) _ _ _ us _ c.if-not-newline.ensures.reads x (e ∙ ap (map line_units) (sym c.deref.ensures.value)) c.dedent.ensures.only)
+    rw c.dedent.ensures.returned.rest (body_only c.args.enclosure c.dedent.result (λ v. chars (string_bytes v)) _ _ _ us _ c.if-not-newline.ensures.reads x (e ∙ ap (map line_units) (sym c.deref.ensures.value)) c.dedent.ensures.only)
 
-pub returns-clause-moves : goal.returns-clause-moves
-returns-clause-moves c = dedent_moves _ _ _ _ _ c.newline.ensures.moves c.content.ensures.moves c.dedent.ensures.returned
+pub returns-clause-past : goal.returns-clause-past
+returns-clause-past c = many_past c.newline.ensures.moves c.newline.ensures.costs c.content.ensures.past.moves c.in_ok-lines.ensures.cost (rw c.deref.ensures.value at c.dedent.ensures.returned)
 
 pub dedent-requires : goal.dedent-requires
 dedent-requires c = subst (LinesIn c.content.new.cursor.text) (sym c.deref.ensures.value) c.in_ok-lines.ensures.part
+
+pub returns-then-not-newline-clause-past : goal.returns-then-not-newline-clause-past
+returns-then-not-newline-clause-past c = past_more (omega arith) (past_four (record { moves = c.newline.ensures.moves; costs = c.newline.ensures.costs }))
+
+pub returns-then-not-newline-clause-only : goal.returns-then-not-newline-clause-only
+returns-then-not-newline-clause-only c r w b = let (m, n) = body_newline c.args.enclosure _ r w b in absurd (c.if-not-newline.ensures.reads.1 m n)

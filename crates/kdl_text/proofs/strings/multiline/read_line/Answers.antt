@@ -1,23 +1,19 @@
-use Rattle.std.proofs.Common.{arith}
-use Rattle.kdl_text.specs.Internal.Lines.{escapes_bytes}
-use Rattle.kdl_text.proofs.Looking.MovesJoin.{fewer_bytes, moves_then}
-use Rattle.kdl_text.proofs.Looking.Parts.{part_moved}
-use Rattle.kdl_text.proofs.ManyLines.EscapedLineLoop.{escaped_costs, escaped_leaves, line_escaped}
 use Rattle.kdl_text.proofs.strings.multiline.read_line.Goals as goal
 
-pub returns-in_err-escapes-in-Escape-clause-moves : goal.returns-in_err-escapes-in-Escape-clause-moves
-returns-in_err-escapes-in-Escape-clause-moves c = moves_then c.plain_part.ensures.moves c.line_escapes.ensures.moves
+pub returns-in-Quotes : goal.returns-in-Quotes
+returns-in-Quotes c =
+    let q = c.quoted_line.ensures in
+    rw c.in-Quotes.is (record { found = q.found; shorter = q.shorter; only = q.only; part = q.part; past = q.past; cost = q.cost })
 
-pub returns-in_ok-escapes-in-Escape : goal.returns-in_ok-escapes-in-Escape
-returns-in_ok-escapes-in-Escape c =
-    let part = c.in_ok-segment.ensures in
-    let line = c.in_ok-escapes-in-Escape.ensures in
-    record {
-      found = line_escaped _ _ _ c.in_ok-segment.segment _ c.in_ok-escapes-in-Escape.closed (rw c.in-Escape.is at part.found) line.found;
-      shorter = omega (arith, line.shorter, fewer_bytes c.plain_part.ensures.moves);
-      only = λ r us x. tt;
-      part = (part_moved part.part c.line_escapes.ensures.moves, line.part);
-      moves = moves_then c.plain_part.ensures.moves c.line_escapes.ensures.moves;
-      costs = escaped_costs _ _ _ part.cost c.line_escapes.ensures.costs;
-      cost = escaped_leaves c.in_ok-segment.segment (escapes_bytes c.in_ok-escapes-in-Escape.escapes.items) _ _ _ part.cost part.shorter line.cost;
-    }
+pub returns-in-Ok : goal.returns-in-Ok
+returns-in-Ok c =
+    let q = c.in-Ok.ensures in
+    rw c.in-Signs.is (record { found = q.found; shorter = q.shorter; only = λ r us x. tt; part = q.part; past = q.past; cost = q.cost })
+
+pub returns-in-Err : goal.returns-in-Err
+returns-in-Err c =
+    let q = c.in-Err.ensures in
+    rw c.in-Signs.is (record { found = tt; shorter = tt; only = λ r us x. absurd (q.only r us x); part = tt; past = q.past; cost = tt })
+
+pub raw_line-requires : goal.raw_line-requires
+raw_line-requires c = rw c.in-Signs.is at c.requires

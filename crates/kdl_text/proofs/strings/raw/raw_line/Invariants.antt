@@ -1,0 +1,10 @@
+use Rattle.std.proofs.Common.{◌∷◌, length}
+use Rattle.kdl_text.specs.Chars.{times}
+use Rattle.kdl_text.proofs.RawStrings.LinesLoop.{InRaw}
+use Rattle.kdl_text.proofs.strings.raw.raw_line.Given as goal
+
+abbrev pub invariant-parts : goal.invariant-parts
+invariant-parts l = InRaw (34 ∷ 34 ∷ times l.signs 35) l.fn.cursor l.cursor
+
+abbrev pub decreases-parts : goal.decreases-parts
+decreases-parts l = length l.cursor.rest

@@ -1,9 +1,0 @@
-use Rattle.std.proofs.Common.{length}
-use Rattle.kdl_text.proofs.RawStrings.LinesLoop.{InRaw}
-use Rattle.kdl_text.proofs.strings.raw.read_line.Given as goal
-
-abbrev pub invariant-parts : goal.invariant-parts
-invariant-parts l = InRaw l.signs l.fn.cursor l.cursor
-
-abbrev pub decreases-parts : goal.decreases-parts
-decreases-parts l = length l.cursor.rest
