@@ -9,7 +9,7 @@ ghost use Rattle.kdl_text.specs.Numbers as spec;
 ghost use Rattle.kdl_text.specs.declared.numbers.Magnitude.TheVariants.{Small};
 ghost use Rattle.kdl_text.specs.Numbers.{BasePrefix, Decimal, FloatKeyword, FloatText};
 ghost use Rattle.kdl_text.specs.Internal.DigitRuns.{Contains, joined, with_underscores};
-ghost use Rattle.kdl_text.specs.Internal.Reading.{Moves, Costs, Past};
+ghost use Rattle.kdl_text.specs.Internal.Reading.{Moves, Costs, Past, Consumed};
 ghost use Rattle.kdl_text.specs.Spans.{bytes};
 ghost use Rattle.std.specs.Prelude.{◌≡◌, true, ℕ, ◌+◌, ◌*◌, ◌<◌, ◌≤◌, ◌++◌, ◌||◌, false, not, IfOk, if◌then◌else◌, ◌↔◌, IsTrue, IfSome, string_bytes, [], length, ◌==◌};
 ghost use Rattle.std.specs.List.{list_all};
@@ -272,8 +272,7 @@ fn eat_base_prefix(cursor: &mut Cursor) -> Radix
 /// digits appended.
 #[inline(never)]
 fn more_digits(cursor: &mut Cursor, radix: Radix, before: Magnitude) -> Magnitude
-    ensures reads { ReadsDigits (radix_of radix) before result cursor.old.rest cursor.new.rest }
-    ensures past { Past 2 1 cursor.old cursor.new }
+    ensures { Consumed 2 1 (ReadsDigits (radix_of radix) before result) cursor.old cursor.new }
 {
     let mut magnitude = before;
     'digits: loop {

@@ -3,9 +3,9 @@
 
 ghost use Rattle.kdl_text.specs.Chars.{begins, begins_two, Space};
 ghost use Rattle.kdl_text.specs.Internal.Here.{AteTwo};
-ghost use Rattle.kdl_text.specs.Internal.Reading.{Reads, Moves, Costs, Longest, Past};
+ghost use Rattle.kdl_text.specs.Internal.Reading.{Reads, Moves, Costs, Longest, Past, Consumed};
 ghost use Rattle.kdl_text.specs.Trivia.{Parts, BlockComment, Line, LineComment, EscEnd, Escline};
-ghost use Rattle.kdl_text.specs.Internal.TriviaReading.{PieceCosts, RunsWs, ReadsSlash, SlashCosts};
+ghost use Rattle.kdl_text.specs.Internal.TriviaReading.{PieceCosts, RanWs, ReadsSlash, SlashCosts};
 ghost use Rattle.std.specs.Prelude.{◌≡◌, true, false, []};
 
 use crate::chars::{Class, is_newline_char};
@@ -77,8 +77,7 @@ pub fn block_comment(cursor: &mut Cursor) -> bool
 /// Advances past the rest of a line, and past the newline that ends it, if one does.
 #[inline(always)]
 fn line_end(cursor: &mut Cursor)
-    ensures reads { Reads Line true cursor.old.rest cursor.new.rest }
-    ensures past { Past 2 2 cursor.old cursor.new }
+    ensures { Consumed 2 2 (Reads Line true) cursor.old cursor.new }
 {
     'line: loop {
         match cursor.take_at(Marks::Newline) {
@@ -119,8 +118,7 @@ pub fn spaces(cursor: &mut Cursor)
 /// Advances past all spaces and block comments here. Returns false if one of the comments is
 /// unclosed.
 fn ws_run(cursor: &mut Cursor) -> bool
-    ensures reads { RunsWs result cursor.old cursor.new }
-    ensures past { Past 3 3 cursor.old cursor.new }
+    ensures { RanWs result cursor.old cursor.new }
 {
     'run: loop {
         spaces(cursor);
@@ -136,8 +134,7 @@ fn ws_run(cursor: &mut Cursor) -> bool
 /// Advances past what ends an escline: a line comment, a newline, or nothing at the end of the
 /// text. Returns false if none of these is here.
 fn escline_end(cursor: &mut Cursor) -> bool
-    ensures reads { Reads EscEnd result cursor.old.rest cursor.new.rest }
-    ensures past { Past 2 4 cursor.old cursor.new }
+    ensures { Consumed 2 4 (Reads EscEnd result) cursor.old cursor.new }
 {
     if cursor.eat_two('/', '/') {
         line_end(cursor);

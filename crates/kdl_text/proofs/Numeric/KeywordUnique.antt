@@ -27,22 +27,21 @@ word Infinity = codes "inf"
 word NegativeInfinity = codes "-inf"
 word NotANumber = codes "nan"
 
+-- what holds of each keyword
+pub by_keyword : (P : Keyword → Type 0) → P True → P False → P Null → P Infinity → P NegativeInfinity → P NotANumber → (k : Keyword) → P k
+by_keyword P a b c d e f True = a
+by_keyword P a b c d e f False = b
+by_keyword P a b c d e f Null = c
+by_keyword P a b c d e f Infinity = d
+by_keyword P a b c d e f NegativeInfinity = e
+by_keyword P a b c d e f NotANumber = f
+
 text_of : (k : Keyword) → keyword_text k ≡ 35 ∷ word k
-text_of True = refl
-text_of False = refl
-text_of Null = refl
-text_of Infinity = refl
-text_of NegativeInfinity = refl
-text_of NotANumber = refl
+text_of = by_keyword (λ k. keyword_text k ≡ 35 ∷ word k) refl refl refl refl refl refl
 
 word_all : (k : Keyword) → list_all is_identifier_char (word k) ≡ true
 unfolding is_identifier_char is_space is_newline_char is_banned is_punctuation
-word_all True = refl
-word_all False = refl
-word_all Null = refl
-word_all Infinity = refl
-word_all NegativeInfinity = refl
-word_all NotANumber = refl
+word_all = by_keyword (λ k. list_all is_identifier_char (word k) ≡ true) refl refl refl refl refl refl
 
 -- a keyword by the first two characters of its word
 abbrev pub which : Text → Keyword
@@ -57,12 +56,7 @@ which (c ∷ d ∷ s) =
     else NotANumber
 
 which_is : (k : Keyword) → which (word k) ≡ k
-which_is True = refl
-which_is False = refl
-which_is Null = refl
-which_is Infinity = refl
-which_is NegativeInfinity = refl
-which_is NotANumber = refl
+which_is = by_keyword (λ k. which (word k) ≡ k) refl refl refl refl refl refl
 
 same_word : (k x : Keyword) → word k ≡ word x → k ≡ x
 same_word k x e = sym (which_is k) ∙ ap which e ∙ which_is x
@@ -81,19 +75,18 @@ keyword_det {t = t} {r = r} {s = s} {x = x} {y = y} i (keyword f m) =
     (e.1, same_word x y e.0)
 
 -- a keyword is `#` and an identifier character, and more
-word_starts : (k : Keyword) → (c : ℕ) × (w : Text) × (word k ≡ c ∷ w) × (is_identifier_char c ≡ true)
+word_starts : (k : Keyword) → starts is_identifier_char (word k) ≡ true
 unfolding is_identifier_char is_space is_newline_char is_banned is_punctuation
-word_starts True = (_, _, refl, refl)
-word_starts False = (_, _, refl, refl)
-word_starts Null = (_, _, refl, refl)
-word_starts Infinity = (_, _, refl, refl)
-word_starts NegativeInfinity = (_, _, refl, refl)
-word_starts NotANumber = (_, _, refl, refl)
+word_starts = by_keyword (λ k. starts is_identifier_char (word k) ≡ true) refl refl refl refl refl refl
+
+started : (p : ℕ → Bool) (s r : Text) → starts p s ≡ true → (c : ℕ) × (w : Text) × (35 ∷ (s ++ r) ≡ 35 ∷ c ∷ w) × (p c ≡ true)
+started p [] r h = cc
+started p (c ∷ s) r h = (c, s ++ r, refl, h)
 
 pub keyword_begins : {t r : Text} {k : Keyword} → IsKeyword t r k → (c : ℕ) × (s : Text) × (t ≡ 35 ∷ c ∷ s) × (is_identifier_char c ≡ true)
 keyword_begins {r = r} {k = k} (keyword f m) =
-    let (c, w, e, i) = word_starts k in
-    (c, w ++ r, f ∙ ap (λ z. z ++ r) (text_of k ∙ ap (λ z. 35 ∷ z) e), i)
+    let (c, s, e, i) = started is_identifier_char (word k) r (word_starts k) in
+    (c, s, f ∙ ap (λ z. z ++ r) (text_of k) ∙ e, i)
 
 pub keyword_read : (o : Option Keyword) (t p rest : Text) → t ≡ 35 ∷ (p ++ rest) → list_all is_identifier_char p ≡ true → starts is_identifier_char rest ≡ false → WordOf o p → ReadsKeyword o t rest
 keyword_read (Some k) t p rest e a n w =
@@ -107,12 +100,7 @@ ascii (c ∷ s) h zero = ltb-true c 128 (and_parts (nat_lt c 128) (list_all (λ 
 ascii (c ∷ s) h (suc i) = ascii s (and_parts (nat_lt c 128) (list_all (λ c. nat_lt c 128) s) h).1 i
 
 word_ascii : (k : Keyword) → list_all (λ c. nat_lt c 128) (word k) ≡ true
-word_ascii True = refl
-word_ascii False = refl
-word_ascii Null = refl
-word_ascii Infinity = refl
-word_ascii NegativeInfinity = refl
-word_ascii NotANumber = refl
+word_ascii = by_keyword (λ k. list_all (λ c. nat_lt c 128) (word k) ≡ true) refl refl refl refl refl refl
 
 chars_word : (k : Keyword) → chars (word k) ≡ word k
 chars_word k = chars-IsAscii (word k) (ascii (word k) (word_ascii k))
@@ -121,24 +109,14 @@ chars_word k = chars-IsAscii (word k) (ascii (word k) (word_ascii k))
 pub word_of : (k : Keyword) (p : Text) → p ≡ chars (word k) → keyword_text k ≡ 35 ∷ p
 word_of k p e = text_of k ∙ ap (λ z. 35 ∷ z) (sym (e ∙ chars_word k))
 
-pub no_word : (p : Text) → ((k : Keyword) → p ≡ chars (word k) → ⊥) → (k : Keyword) → keyword_text k ≡ 35 ∷ p → ⊥
-no_word p n k e = let h : 35 ∷ word k ≡ 35 ∷ p = sym (text_of k) ∙ e in let g : p ≡ word k = cc in n k (g ∙ sym (chars_word k))
+abbrev pub IsNot : Text → Keyword → Type 0
+IsNot p k = p ≡ chars (word k) → IsTrue false
 
-none_of : (p : Text) → (p ≡ chars (word True) → ⊥) → (p ≡ chars (word False) → ⊥) → (p ≡ chars (word Null) → ⊥) → (p ≡ chars (word Infinity) → ⊥) → (p ≡ chars (word NegativeInfinity) → ⊥) → (p ≡ chars (word NotANumber) → ⊥)
-    → (k : Keyword) → p ≡ chars (word k) → ⊥
-none_of p a b c d e f True h = a h
-none_of p a b c d e f False h = b h
-none_of p a b c d e f Null h = c h
-none_of p a b c d e f Infinity h = d h
-none_of p a b c d e f NegativeInfinity h = e h
-none_of p a b c d e f NotANumber h = f h
-
-never : {P : Type 0} → (P → IsTrue false) → P → ⊥
-never h p = let x = h p in cc
-
-pub no_keyword : (p : Text) → (p ≡ chars (word True) → IsTrue false) → (p ≡ chars (word False) → IsTrue false) → (p ≡ chars (word Null) → IsTrue false) → (p ≡ chars (word Infinity) → IsTrue false)
-    → (p ≡ chars (word NegativeInfinity) → IsTrue false) → (p ≡ chars (word NotANumber) → IsTrue false) → (k : Keyword) → keyword_text k ≡ 35 ∷ p → ⊥
-no_keyword p a b c d e f = no_word p (none_of p (never a) (never b) (never c) (never d) (never e) (never f))
+pub no_word : (p : Text) → ((k : Keyword) → IsNot p k) → (k : Keyword) → keyword_text k ≡ 35 ∷ p → ⊥
+no_word p n k e =
+    let h : 35 ∷ word k ≡ 35 ∷ p = sym (text_of k) ∙ e in
+    let g : p ≡ word k = cc in
+    let x = n k (g ∙ sym (chars_word k)) in cc
 
 -- the word after a `#`, cut out
 pub keyword_here : (o : Option Keyword) (p run : Text) (a b d e : Here) → Took (Some 35) a b → Ran is_identifier_char run b d → b.rest ≡ p ++ d.rest → e ≡ sliced p d → WordOf o p → ReadsKeyword o a.rest e.rest

@@ -14,7 +14,7 @@ use Rattle.kdl_text.specs.Trivia.BlockComment.{block}
 use Rattle.kdl_text.specs.Trivia.LineComment.{line}
 use Rattle.kdl_text.specs.Trivia.Ws.{space as ws_space, comment as ws_comment}
 use Rattle.kdl_text.specs.Trivia.EscEnd.{comment, newline, ends}
-use Rattle.kdl_text.specs.Internal.TriviaReading.{Opens, RunsWs}
+use Rattle.kdl_text.specs.Internal.TriviaReading.{Opens, RanWs}
 use Rattle.kdl_text.proofs.Looking.Stars.{join, snoc, star_map}
 use Rattle.kdl_text.proofs.Looking.MovesJoin.{moves_then, moves_stayed, moves_two, fewer_bytes, stayed_looked}
 pub use Rattle.kdl_text.proofs.Looking.SliceCost.{moves_ran}
@@ -77,11 +77,6 @@ begun f = record { run = none; past = past_start }
 pub no_ws_here : {s t : Text} → ((u : Text) → Space s u → ⊥) → begins_two 47 42 s ≡ false → Ws s t → ⊥
 no_ws_here n x (ws_space p) = n _ p
 no_ws_here n x (ws_comment (block p)) = cc
-
--- a run that was read, or stopped at a comment that isn't closed
-pub record RanWs (r : Bool) (f e : Here) : Type 0 where
-  pub reads : RunsWs r f e
-  pub past : Past 3 3 f e
 
 module _ (f a b : Here) (i : Running f a) (l : Longest Space a.rest b.rest) (m : Past 1 1 a b) where
   spaced : Star Ws f.rest b.rest

@@ -26,6 +26,11 @@ pub record Past (k c : ℕ) (old new : Here) : Type 0 where
   pub moves : Moves old new
   pub costs : Costs k c old new
 
+-- R relates the text and what is left of it, and the cursor advanced at such costs
+pub record Consumed (k c : ℕ) (R : Text → Text → Type 0) (old new : Here) : Type 0 where
+  pub reads : R old.rest new.rest
+  pub past : Past k c old new
+
 -- a run of pieces begins here, and none more after it
 abbrev pub Longest : (Text → Text → Type 0) → Text → Text → Type 0
 Longest R s rest = Star R s rest × ((t : Text) → R rest t → ⊥)

@@ -3,7 +3,7 @@ use Rattle.std.specs.Prelude.{◌≡◌, ℕ, ◌<◌, Bool, true, false, [], �
 use Rattle.kdl_text.specs.Chars.{Text, begins_two, Star}
 use Rattle.kdl_text.specs.Internal.Here.{Here, Stayed}
 use Rattle.kdl_text.specs.Spans.{bytes}
-use Rattle.kdl_text.specs.Internal.Reading.{Reads, Costs, Longest}
+use Rattle.kdl_text.specs.Internal.Reading.{Reads, Costs, Past, Longest}
 use Rattle.kdl_text.specs.Trivia.{BlockComment, LineComment, Ws}
 use Rattle.kdl_text.specs.declared.trivia.SlashRead.{SlashRead}
 use Rattle.kdl_text.specs.declared.trivia.SlashRead.TheVariants.{Block, Line, Dash, Unclosed, Other}
@@ -22,6 +22,11 @@ pub record Opens (s : Text) : Type 0 where
 abbrev pub RunsWs : Bool → Here → Here → Type 0
 RunsWs true old new = Longest Ws old.rest new.rest × (begins_two 47 42 new.rest ≡ false)
 RunsWs false old new = (u : Text) × Star Ws old.rest u × Opens u
+
+-- the same, and what it costs
+pub record RanWs (r : Bool) (old new : Here) : Type 0 where
+  pub reads : RunsWs r old new
+  pub past : Past 3 3 old new
 
 -- what begins with the slash here
 abbrev pub ReadsSlash : SlashRead → Here → Here → Type 0

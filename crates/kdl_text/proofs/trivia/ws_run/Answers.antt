@@ -6,13 +6,11 @@ run-init c = begun _
 
 pub returns-then-not-eat_two : goal.returns-then-not-eat_two
 returns-then-not-eat_two c =
-    let e = run_stops _ _ _ c.run.invariant c.spaces.ensures.reads (record { moves = c.spaces.ensures.moves; costs = c.spaces.ensures.costs }) _ c.if-not-eat_two.ensures in
-    record { reads = e.reads; past = e.past }
+    run_stops _ _ _ c.run.invariant c.spaces.ensures.reads (record { moves = c.spaces.ensures.moves; costs = c.spaces.ensures.costs }) _ c.if-not-eat_two.ensures
 
 pub returns-then-not-block_end : goal.returns-then-not-block_end
 returns-then-not-block_end c =
-    let e = run_unclosed _ _ _ c.run.invariant c.spaces.ensures.reads (record { moves = c.spaces.ensures.moves; costs = c.spaces.ensures.costs }) _ _ c.if-not-eat_two.ensures c.if-not-block_end.ensures.past c.if-not-block_end.ensures.reads in
-    record { reads = e.reads; past = e.past }
+    run_unclosed _ _ _ c.run.invariant c.spaces.ensures.reads (record { moves = c.spaces.ensures.moves; costs = c.spaces.ensures.costs }) _ _ c.if-not-eat_two.ensures c.if-not-block_end.ensures.past c.if-not-block_end.ensures.reads
 
 pub run-preserved : goal.run-preserved
 run-preserved c = run_turn _ _ _ c.run.invariant c.spaces.ensures.reads (record { moves = c.spaces.ensures.moves; costs = c.spaces.ensures.costs }) _ _ c.if-not-eat_two.ensures c.if-not-block_end.ensures.past c.if-not-block_end.ensures.reads

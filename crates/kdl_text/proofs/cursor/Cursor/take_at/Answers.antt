@@ -4,17 +4,16 @@ use Rattle.kdl_text.proofs.Looking.Parts.{part_past}
 use Rattle.kdl_text.proofs.Looking.Marks.{took_after, took_none, unmarked_bytes}
 use Rattle.kdl_text.proofs.cursor.Cursor.take_at.Goals as goal
 
-pub returns-in-Some-clause-took : goal.returns-in-Some-clause-took
-returns-in-Some-clause-took c =
+pub returns-in-Some : goal.returns-in-Some
+returns-in-Some c =
     let (e, l) = c.in-Some.ensures.parts in
-    rw (← c.self.view_is) (took_after (is_passed c.args.marks) _ _ _ c.self.inside.at c.self.inside.steps _ c.skip_unmarked-rest.ensures c.raise.ensures _ c.in-Some.c e l)
+    record {
+      took = rw (← c.self.view_is) (took_after (is_passed c.args.marks) _ _ _ c.self.inside.at c.self.inside.steps _ c.skip_unmarked-rest.ensures c.raise.ensures _ c.in-Some.c e l);
+      room = rw (← c.self.view_is) (omega (arith, c.self.invariant.0, unmarked_bytes (is_passed c.args.marks) _ _ c.skip_unmarked-rest.ensures c.in-Some.ensures.len));
+    }
 
 pub returns-in-None-clause-took : goal.returns-in-None-clause-took
 returns-in-None-clause-took c = rw (← c.self.view_is) (took_none (is_passed c.args.marks) _ _ _ c.self.inside.at c.self.inside.steps _ c.skip_unmarked-rest.ensures c.raise.ensures c.in-None.ensures.parts)
-
-pub returns-in-Some-clause-room : goal.returns-in-Some-clause-room
-returns-in-Some-clause-room c =
-    rw (← c.self.view_is) (omega (arith, c.self.invariant.0, unmarked_bytes (is_passed c.args.marks) _ _ c.skip_unmarked-rest.ensures c.in-Some.ensures.len))
 
 pub invariant_of-self : goal.invariant_of-self
 invariant_of-self c =

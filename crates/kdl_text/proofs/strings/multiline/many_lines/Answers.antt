@@ -18,18 +18,14 @@ returns-in_err-lines-clause-only c r w b =
 pub returns-in_err-lines-clause-past : goal.returns-in_err-lines-clause-past
 returns-in_err-lines-clause-past c = many_fail c.newline.ensures.moves c.newline.ensures.costs c.content.ensures.past
 
-pub returns-clause-found : goal.returns-clause-found
-returns-clause-found c =
+pub returns : goal.returns
+returns c =
     let (us, x, e) = c.in_ok-lines.ensures.found in
-    rw c.dedent.ensures.returned.rest (body_found c.args.enclosure c.dedent.result (λ v. chars (string_bytes v)) _ _ _ us c.if-not-newline.ensures.reads x (c.dedent.ensures.found us (e ∙ ap (map line_units) (sym c.deref.ensures.value))))
-
-pub returns-clause-only : goal.returns-clause-only
-returns-clause-only c =
-    let (us, x, e) = c.in_ok-lines.ensures.found in
-    rw c.dedent.ensures.returned.rest (body_only c.args.enclosure c.dedent.result (λ v. chars (string_bytes v)) _ _ _ us _ c.if-not-newline.ensures.reads x (e ∙ ap (map line_units) (sym c.deref.ensures.value)) c.dedent.ensures.only)
-
-pub returns-clause-past : goal.returns-clause-past
-returns-clause-past c = many_past c.newline.ensures.moves c.newline.ensures.costs c.content.ensures.past.moves c.in_ok-lines.ensures.cost (rw c.deref.ensures.value at c.dedent.ensures.returned)
+    record {
+      found = rw c.dedent.ensures.returned.rest (body_found c.args.enclosure c.dedent.result (λ v. chars (string_bytes v)) _ _ _ us c.if-not-newline.ensures.reads x (c.dedent.ensures.found us (e ∙ ap (map line_units) (sym c.deref.ensures.value))));
+      only = rw c.dedent.ensures.returned.rest (body_only c.args.enclosure c.dedent.result (λ v. chars (string_bytes v)) _ _ _ us _ c.if-not-newline.ensures.reads x (e ∙ ap (map line_units) (sym c.deref.ensures.value)) c.dedent.ensures.only);
+      past = many_past c.newline.ensures.moves c.newline.ensures.costs c.content.ensures.past.moves c.in_ok-lines.ensures.cost (rw c.deref.ensures.value at c.dedent.ensures.returned);
+    }
 
 pub dedent-requires : goal.dedent-requires
 dedent-requires c = subst (LinesIn c.content.new.cursor.text) (sym c.deref.ensures.value) c.in_ok-lines.ensures.part
