@@ -133,7 +133,7 @@ enum Underscores {
 }
 
 impl Underscores {
-    /// Whether two pieces of a number may contain `_`, of which each is as said here.
+    /// Returns whether a piece of a number and the one after it may contain `_`.
     #[inline(always)]
     fn with(self, other: Self) -> Self
         ensures { result ≡ with_underscores self other }
@@ -485,7 +485,7 @@ fn eat_exponent_letter(cursor: &mut Cursor) -> bool
     }
 }
 
-/// Whether a fraction and an exponent may contain `_`, or `None` if neither is there.
+/// Whether a fraction and the exponent after it may contain `_`. `None` if neither is there.
 fn joined(point: Option<Underscores>, power: Option<Underscores>) -> Option<Underscores>
     ensures { result ≡ joined point power }
 {
@@ -545,7 +545,7 @@ fn push_plain(out: &mut String, mut characters: Characters) -> Result<(), AllocE
     Ok(())
 }
 
-/// A copy of the segment without its `_`.
+/// A copy of the segment without its `_`. A segment that contains none is copied whole.
 fn without_underscores<'a>(
     alloc: Global,
     segment: &Segment<'a>,

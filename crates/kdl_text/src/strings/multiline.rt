@@ -36,7 +36,7 @@ pub fn end_newline(c: char, cursor: &mut Cursor)
 pub enum Enclosure {
     /// Three quotes.
     Quotes,
-    /// Three quotes, and this many number signs around them.
+    /// This many number signs and three quotes, and at the end the quotes first. At least one sign.
     Signs(usize),
 }
 
