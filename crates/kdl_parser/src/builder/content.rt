@@ -182,10 +182,8 @@ impl<'a, N: ParsedNode> Builder<'a, N> {
     #[inline(always)]
     fn node_end(&mut self, at: &TokenSpan<'a>) -> Result<NodeTail, AllocError>
         requires from { Within self.old.source self.old.from at.now.start }
-        ensures before { IfOk result
-            (λ n. text_of n.before ≡ between self.old.from.rest at.now.start.rest) }
-        ensures terminator { IfOk result
-            (λ n. text_of n.terminator ≡ between at.now.start.rest at.now.end.rest) }
+        ensures before { IfOk result (λ n. text_of n.before ≡ between self.old.from.rest at.now.start.rest) }
+        ensures terminator { IfOk result (λ n. text_of n.terminator ≡ between at.now.start.rest at.now.end.rest) }
         ensures span { IfOk result
             (λ n. n.span ≡ span_of self.old.source.text self.old.under.start.rest at.now.start.rest) }
         ensures slices { Slices self.old.from at.now.end self.old result self.new }

@@ -170,25 +170,10 @@ impl<'a, N: ParsedNode> Builder<'a, N> {
             return Some(self.drop_token(kind, at));
         }
         match self.leave_dropped(kind) {
-            Ok(is_over) => {
-                if is_over {
-                    None
-                } else {
-                    Some(self.drop_token(kind, at))
-                }
-            }
+            Ok(true) => None,
+            Ok(false) => Some(self.drop_token(kind, at)),
             Err(_) => Some(Err(TakeFailure::Memory)),
         }
-    }
-
-    /// Takes the token after what was slashdashed. It comes rarely, so this stays out of its callers.
-    #[inline(never)]
-    fn take_left(&mut self, kind: TokenKind, at: &TokenSpan<'a>) -> Result<(), TakeFailure>
-        requires building { is_building self.old.dropped self.old.phase ≡ true }
-        requires placed { Placed self.old.source.text (state_view N.tree self.old) at.now.start.rest }
-        ensures { TakesToken N.tree self.old (kind_view kind) at.now result self.new }
-    {
-        self.take_live(kind, at)
     }
 
     /// Takes a token in or after what is slashdashed, or the first one after a `/-`.
@@ -204,15 +189,14 @@ impl<'a, N: ParsedNode> Builder<'a, N> {
     {
         match self.drops(&kind, at) {
             Some(taken) => taken,
-            None => self.take_left(kind, at),
+            None => self.take_live(kind, at),
         }
     }
 
     /// Takes a run of spaces in or after what is slashdashed, or directly after a `/-`.
     #[inline(never)]
     pub(super) fn drop_space(&mut self, at: &TokenSpan<'a>) -> Result<(), TakeFailure>
-        requires dropping { is_building self.old.dropped self.old.phase ≡ false }
-        requires placed { Placed self.old.source.text (state_view N.tree self.old) at.now.start.rest }
+        requires { is_building self.old.dropped self.old.phase ≡ false }
         ensures { TakesToken N.tree self.old space at.now result self.new }
     {
         match self.drops(&TokenKind::Space, at) {
@@ -237,7 +221,7 @@ impl<'a, N: ParsedNode> Builder<'a, N> {
             Some(taken) => taken,
             None => {
                 let text = word.to_string(self.source.alloc())?;
-                self.take_left(TokenKind::String(text), at)
+                self.take_live(TokenKind::String(text), at)
             }
         }
     }
