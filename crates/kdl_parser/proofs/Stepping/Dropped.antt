@@ -10,8 +10,8 @@ use Rattle.kdl_parser.specs.Internal.Building.{under_view, phase_after, phase_pl
 use Rattle.kdl_control.specs.Internal.Views.{phase_view, control_view, stacked}
 use Rattle.kdl_control.specs.declared.control.Phase.{Phase}
 use Rattle.kdl_control.specs.declared.control.Phase.TheVariants.{Gap, NodeSlashdash, InNode, EntrySlashdash, BlockSlashdash, Kept, KeptSlashdash}
-use Rattle.kdl_control.specs.declared.control.Spot.TheVariants.{Fresh, Spaced, Later}
-use Rattle.kdl_control.specs.declared.control.Word.TheVariants.{MayBeKey, NoKey}
+use Rattle.kdl_control.specs.declared.control.Spot.TheVariants.{Fresh, Spaced}
+use Rattle.kdl_control.specs.declared.control.Word.TheVariants.{MayBeKey}
 use Rattle.kdl_parser.specs.Internal.Counted.{unsliced_at, unsliced_in}
 use Rattle.kdl_parser.specs.Internal.Events.{is_live}
 use Rattle.kdl_parser.specs.Internal.States.{document_now, TakesToken}

@@ -4,11 +4,11 @@ use Rattle.kdl_text.specs.Chars.{Text}
 use Rattle.kdl_text.specs.Internal.Here.{Position}
 use Rattle.kdl_text.specs.Spans.{bytes}
 use Rattle.kdl_control.specs.Internal.Events.{event_of}
-use Rattle.kdl_control.specs.declared.control.Owner.TheVariants.{Name, Value}
+use Rattle.kdl_control.specs.declared.control.Owner.TheVariants.{Name}
 use Rattle.kdl_control.specs.declared.control.Phase.{Phase}
 use Rattle.kdl_control.specs.declared.control.Phase.TheVariants.{Gap, NodeSlashdash, TypeOpen, TypeName, TypeDone, InNode, EntrySlashdash, BlockSlashdash, KeptSlashdash}
-use Rattle.kdl_control.specs.declared.control.Spot.TheVariants.{Fresh, Spaced, Later}
-use Rattle.kdl_control.specs.declared.control.Word.TheVariants.{MayBeKey, NoKey}
+use Rattle.kdl_control.specs.declared.control.Spot.TheVariants.{Fresh, Spaced}
+use Rattle.kdl_control.specs.declared.control.Word.TheVariants.{MayBeKey}
 use Rattle.kdl_control.specs.declared.events.Event.{Event}
 use Rattle.kdl_control.specs.declared.events.Event.TheVariants.{Name as NodeName}
 use Rattle.kdl_entry.proofs.Slicing.Between.{is_between}

@@ -516,8 +516,7 @@ impl<'a, N: ParsedNode> Builder<'a, N> {
     pub(super) fn name_typed(&mut self, name: String, at: &TokenSpan<'a>) -> Result<(), TakeFailure>
         requires { ReadyInside self.old at.now.start }
         ensures { Reaches N.tree (given_at N.tree self.old (parts_name_slot self.old) (type_now self.old
-            at.now.start) (text (text_of name)) at.now.start at.now.end) self.old.parts.from self.old result self.new
-            }
+            at.now.start) (text (text_of name)) at.now.start at.now.end) self.old.parts.from self.old result self.new }
     {
         let ty = self.parts.type_parts(&mut self.source, &at.start)?;
         let slot = self.parts_slot();
