@@ -8,7 +8,7 @@ use Rattle.kdl_parser.proofs.Answering.Turns.{counts_after, counts_on, end_count
 use Rattle.kdl_parser.proofs.Stepping.Dropped.{drops_like, first_like}
 use Rattle.kdl_parser.proofs.Stepping.NodeSpans.{no_last, nothing, spans, within, without}
 use Rattle.kdl_parser.proofs.Stepping.Origins.{between_none, origin_ends}
-use Rattle.kdl_parser.proofs.Stepping.StepsDone.{does_did, does_sliced, failed, none_sliced, same_state}
+use Rattle.kdl_parser.proofs.Stepping.StepsDone.{does_did, failed, none_sliced, same_state}
 use Rattle.kdl_parser.proofs.Stepping.TurnCost.{fewer, token_fewer}
 use Rattle.kdl_parser.proofs.Stepping.Views.{all_closed, entry_pushed, level_pushed, node_pushed, one_open}
 
@@ -22,7 +22,7 @@ pub ruleset content = (entry_pushed, spans, nothing, no_last, without, within, a
 pub ruleset dropping = (drops_like, first_like)
 
 -- for src/builder.rt
-pub ruleset builder = (does_did, none_sliced, does_sliced, same_state, one_open, all_closed)
+pub ruleset builder = (does_did, none_sliced, same_state, one_open, all_closed)
 
 -- for src/node_text.rt
 pub ruleset node_text = (one_read, not_one, whole_read)

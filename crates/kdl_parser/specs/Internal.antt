@@ -20,5 +20,7 @@ pub mod NodeText
 pub mod Parts
 -- What the readers of whole texts promise, and the steps of a parse.
 pub mod Steps
+-- The turn of a token: it is slashdashed, or what is slashdashed is over before it, or nothing is.
+pub mod Turns
 -- Documents that are a whole text.
 pub mod Whole

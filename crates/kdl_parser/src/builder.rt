@@ -1,23 +1,20 @@
 //! The builder: a document being read, token by token.
 #![tactic(auto, using(crate::proofs::Rules::builder))]
 
-ghost use Rattle.kdl_entry.specs.Internal.Counted.{Recounted, Within};
+ghost use Rattle.kdl_entry.specs.Internal.Counted.{Within};
 ghost use Rattle.kdl_entry.specs.Tree.{plain_identifier};
 ghost use Rattle.kdl_grammar.specs.Internal.Machine.{initial};
-ghost use Rattle.kdl_lexer.specs.Internal.Handed.{LexedNext, NextCosts};
-ghost use Rattle.kdl_lexer.specs.Tokens.{string};
-ghost use Rattle.kdl_lexer.specs.declared.lexer.TokenKind.TheVariants.{Space};
-ghost use Rattle.kdl_parser.specs.Internal.Answered.{Finished};
+ghost use Rattle.kdl_lexer.specs.Internal.Handed.{kind_view, LexedNext, NextCosts};
+ghost use Rattle.kdl_lexer.specs.Tokens.{space, string};
 ghost use Rattle.kdl_parser.specs.Internal.Building.{state_view, under_view, Placed};
-ghost use Rattle.kdl_parser.specs.Internal.Counted.{unsliced, SlicedOn};
+ghost use Rattle.kdl_parser.specs.Internal.Counted.{unsliced};
 ghost use Rattle.kdl_parser.specs.Internal.Events.{Acts, PartsAhead, is_building, mark_step, string_step, value_step};
-ghost use Rattle.kdl_parser.specs.Internal.States.{document_now, document_of_nodes, Stays, Steps, Takes, TakesToken, step_at, token_step};
+ghost use Rattle.kdl_parser.specs.Internal.States.{document_now, document_of_nodes, Ends, Ready, Stays, TakesToken, TakesTurn};
 ghost use Rattle.kdl_parser.specs.declared.builder.TakeFailure.TheVariants.{Memory};
-ghost use Rattle.kdl_parser.specs.declared.builder.dropping.Dropped.TheVariants.{Nothing};
 ghost use Rattle.kdl_text.specs.Internal.Reading.{Moves};
 ghost use Rattle.kdl_text.specs.Spans.{bytes};
 ghost use Rattle.kdl_value.specs.Tree.{text_of, value_tree};
-ghost use Rattle.std.specs.Prelude.{◌≡◌, ◌+◌, ◌++◌, [], None, true};
+ghost use Rattle.std.specs.Prelude.{◌≡◌, ◌++◌, [], None, true};
 
 mod content;
 mod dropping;
@@ -178,8 +175,7 @@ impl<'a, N: ParsedNode> Builder<'a, N> {
         value: KdlValue,
         at: &TokenSpan<'a>,
     ) -> Result<(), TakeFailure>
-        requires live { self.old.dropped ≡ Nothing }
-        requires from { Within self.old.source self.old.from at.now.start }
+        requires ready { Ready self.old at.now.start }
         requires parts { PartsAhead event self.old.source self.old.parts.from at.now.start }
         ensures { Acts N.tree event (value_step N.tree self.old event (value_tree value) at.now.start at.now.end)
             self.old result self.new }
@@ -200,8 +196,7 @@ impl<'a, N: ParsedNode> Builder<'a, N> {
         text: String,
         at: &TokenSpan<'a>,
     ) -> Result<(), TakeFailure>
-        requires live { self.old.dropped ≡ Nothing }
-        requires from { Within self.old.source self.old.from at.now.start }
+        requires ready { Ready self.old at.now.start }
         requires parts { PartsAhead event self.old.source self.old.parts.from at.now.start }
         ensures { Acts N.tree event (string_step N.tree self.old event (text_of text) at.now.start at.now.end)
             self.old result self.new }
@@ -218,8 +213,7 @@ impl<'a, N: ParsedNode> Builder<'a, N> {
     /// Takes a token that is neither a string nor a value, and does its event.
     #[inline(always)]
     fn take_mark(&mut self, event: Event, at: &TokenSpan<'a>) -> Result<(), TakeFailure>
-        requires live { self.old.dropped ≡ Nothing }
-        requires from { Within self.old.source self.old.from at.now.start }
+        requires ready { Ready self.old at.now.start }
         requires parts { PartsAhead event self.old.source self.old.parts.from at.now.start }
         ensures { Acts N.tree event (mark_step N.tree self.old event at.now.start at.now.end)
             self.old result self.new }
@@ -267,7 +261,7 @@ impl<'a, N: ParsedNode> Builder<'a, N> {
     fn take_live(&mut self, kind: TokenKind, at: &TokenSpan<'a>) -> Result<(), TakeFailure>
         requires building { is_building self.old.dropped self.old.phase ≡ true }
         requires placed { Placed self.old.source.text (state_view N.tree self.old) at.now.start.rest }
-        ensures { Takes N.tree self.old kind at.now result self.new }
+        ensures { TakesToken N.tree self.old (kind_view kind) at.now result self.new }
     {
         let Some(event) = self.phase.event(&kind) else {
             return Err(TakeFailure::Unexpected);
@@ -294,13 +288,22 @@ impl<'a, N: ParsedNode> Builder<'a, N> {
         self.take_live(TokenKind::String(text), at)
     }
 
+    /// Takes a run of spaces outside of what is slashdashed.
+    #[inline(always)]
+    fn take_blank(&mut self, at: &TokenSpan<'a>) -> Result<(), TakeFailure>
+        requires { is_building self.old.dropped self.old.phase ≡ true }
+        ensures { TakesToken N.tree self.old space at.now result self.new }
+    {
+        self.phase = self.phase.spaced();
+        Ok(())
+    }
+
     /// Takes the token of this kind at the place. Fails if the token may not be here, or if an allocation fails; the
     /// builder is then in an unspecified state.
     #[inline(always)]
     pub(crate) fn take(&mut self, kind: TokenKind, at: &TokenSpan<'a>) -> Result<(), TakeFailure>
         requires placed { Placed self.old.source.text (state_view N.tree self.old) at.now.start.rest }
-        ensures { Steps N.tree (token_step N.tree self.old kind at.now) (unsliced self.old + 1)
-            self.old result self.new }
+        ensures { TakesTurn N.tree self.old (kind_view kind) at.now result self.new }
     {
         self.source.count_look();
         if self.is_building() {
@@ -319,14 +322,13 @@ impl<'a, N: ParsedNode> Builder<'a, N> {
     ) -> Result<(), TakeFailure>
         requires placed { Placed self.old.source.text (state_view N.tree self.old) at.now.start.rest }
         requires reads { at.now.start.rest ≡ word.now ++ at.now.end.rest }
-        ensures { Steps N.tree (step_at N.tree self.old (string word.now) at.now) (unsliced self.old + 1)
-            self.old result self.new }
+        ensures { TakesTurn N.tree self.old (string word.now) at.now result self.new }
     {
         self.source.count_look();
         if self.is_building() {
             self.take_bare(word, at)
         } else {
-            self.drop_bare(word, at)
+            self.drop_word(word, at)
         }
     }
 
@@ -334,13 +336,11 @@ impl<'a, N: ParsedNode> Builder<'a, N> {
     #[inline(always)]
     pub(crate) fn take_space(&mut self, at: &TokenSpan<'a>) -> Result<(), TakeFailure>
         requires placed { Placed self.old.source.text (state_view N.tree self.old) at.now.start.rest }
-        ensures { Steps N.tree (token_step N.tree self.old Space at.now) (unsliced self.old + 1)
-            self.old result self.new }
+        ensures { TakesTurn N.tree self.old space at.now result self.new }
     {
         self.source.count_look();
         if self.is_building() {
-            self.phase = self.phase.spaced();
-            Ok(())
+            self.take_blank(at)
         } else {
             self.drop_space(at)
         }
@@ -362,24 +362,23 @@ impl<'a, N: ParsedNode> Builder<'a, N> {
     pub(crate) fn finish(&mut self, here: &Checkpoint<'a>) -> Result<DocumentParts<N>, TakeFailure>
         requires end { here.now.rest ≡ [] }
         requires from { Within self.old.source self.old.from here.now }
-        ensures finished { Finished N.tree (document_now N.tree self.old) result }
-        ensures same { Recounted self.old.source self.new.source }
-        ensures sliced { SlicedOn result (unsliced self.old) 0 self.old.source.steps self.new.source.steps }
+        ensures { Ends N.tree (document_now N.tree self.old) (unsliced self.old) self.old result self.new }
     {
-        match self.dropped {
-            Dropped::Nothing => self.finish_at(here),
-            _ => self.finish_dropped(here),
+        if let Dropped::Nothing = self.dropped {
+            return self.finish_at(here);
         }
+        // At the end of the text it is over where it is over before a `}`.
+        if self.leave_dropped(&TokenKind::Closing)? {
+            return self.finish_at(here);
+        }
+        Err(TakeFailure::Unexpected)
     }
 
-    /// Returns the document if the text ends at the place.
+    /// Returns the document at the end of the text, outside of what is slashdashed.
     fn finish_at(&mut self, here: &Checkpoint<'a>) -> Result<DocumentParts<N>, TakeFailure>
-        requires live { self.old.dropped ≡ Nothing }
         requires end { here.now.rest ≡ [] }
-        requires from { Within self.old.source self.old.from here.now }
-        ensures finished { Finished N.tree (document_now N.tree self.old) result }
-        ensures same { Recounted self.old.source self.new.source }
-        ensures sliced { SlicedOn result (unsliced self.old) 0 self.old.source.steps self.new.source.steps }
+        requires ready { Ready self.old here.now }
+        ensures { Ends N.tree (document_now N.tree self.old) (unsliced self.old) self.old result self.new }
     {
         match self.phase {
             Phase::Gap => self.finish_nodes(here),
@@ -397,11 +396,9 @@ impl<'a, N: ParsedNode> Builder<'a, N> {
 
     /// Returns the document of the nodes, if no block is open.
     fn finish_nodes(&mut self, here: &Checkpoint<'a>) -> Result<DocumentParts<N>, TakeFailure>
-        requires from { Within self.old.source self.old.from here.now }
         requires end { here.now.rest ≡ [] }
-        ensures finished { Finished N.tree (document_of_nodes N.tree self.old) result }
-        ensures same { Recounted self.old.source self.new.source }
-        ensures sliced { SlicedOn result (bytes self.old.from.rest) 0 self.old.source.steps self.new.source.steps }
+        requires from { Within self.old.source self.old.from here.now }
+        ensures { Ends N.tree (document_of_nodes N.tree self.old) (bytes self.old.from.rest) self.old result self.new }
     {
         if !self.levels.is_empty() {
             return Err(TakeFailure::Unexpected);

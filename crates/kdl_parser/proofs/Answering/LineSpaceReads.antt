@@ -10,7 +10,7 @@ use Rattle.kdl_lexer.specs.declared.lexer.LexFailure.{LexFailure}
 use Rattle.kdl_lexer.specs.declared.lexer.LexFailure.TheVariants.{Faulty, Memory}
 use Rattle.kdl_lexer.specs.declared.lexer.Token.{Token as CodeToken}
 use Rattle.kdl_lexer.specs.declared.lexer.TokenKind.{TokenKind}
-use Rattle.kdl_lexer.specs.declared.lexer.TokenKind.TheVariants.{Space, Newline, Slashdash, String, Value, Left, Right, Opening, Closing, Equals, Semicolon, Bom}
+use Rattle.kdl_lexer.specs.declared.lexer.TokenKind.TheVariants.{Space}
 use Rattle.kdl_lexer.proofs.Lexing.TokenUnique.{token_det, no_token}
 use Rattle.kdl_parser.specs.Internal.LineSpaces.{is_line_space, AreLineSpaces}
 use Rattle.kdl_parser.proofs.Answering.TokenLoop.{cut_shorter}
@@ -23,17 +23,7 @@ of_lines _ = false
 
 lines_kind : (k : TokenKind) → is_line_space k ≡ of_lines (kind_view k)
 lines_kind Space = refl
-lines_kind Newline = refl
-lines_kind Slashdash = refl
-lines_kind (String s) = refl
-lines_kind (Value v) = refl
-lines_kind Left = refl
-lines_kind Right = refl
-lines_kind Opening = refl
-lines_kind Closing = refl
-lines_kind Equals = refl
-lines_kind Semicolon = refl
-lines_kind Bom = refl
+lines_kind k = refl
 
 -- a text that begins with a token is line-spaces where the token is some and what follows it is
 begun_lines : {s r : Text} {k : Token} → BeginsToken s k r → of_lines k ≡ true → Star LineSpace r [] → Star LineSpace s []

@@ -1,5 +1,5 @@
 -- The turns of the loop over the tokens of a text, and what they return.
-use Rattle.std.proofs.Common.{◌≡◌, ◌↔◌, ◌<◌, ◌≤◌, length, [], ◌∷◌, ◌++◌, Some, None, option_map, Ok, Err, sym, subst, ◌∙◌, arith}
+use Rattle.std.proofs.Common.{◌≡◌, ◌↔◌, ◌<◌, ◌≤◌, length, [], ◌∷◌, ◌++◌, Some, None, option_map, Ok, Err, refl, sym, ap, subst, ◌∙◌, arith}
 use Rattle.kdl_text.specs.Chars.{Text, Star, plus}
 use Rattle.kdl_text.specs.Chars.Star.{none as no_star, more}
 use Rattle.kdl_text.specs.Internal.Here.{Here}
@@ -40,11 +40,9 @@ start_same t u s st e f d = rw (e, f) (λ a. a, λ a. a)
 start_placed : (t u s : Text) (st : State) → st ≡ initial u → s ≡ u → EndsIn t u → Placed t st s
 start_placed t u s st e f x = subst (λ (z : State). Placed t z s) (sym e) (in_order_on (in_order_here x) ([], sym f), tt)
 
-told_step : (w t s r s' r' : Text) (st st' : State) (k : Token) → w ≡ t → s' ≡ s → r' ≡ r → option_map held (step w st k s' r') ≡ Some (held st') → option_map held (step t st k s r) ≡ Some (held st')
-told_step w t s r s' r' st st' k e f g h = rw (e, f, g) at h
-
-told_none : (w t s r s' r' : Text) (st : State) (k : Token) → w ≡ t → s' ≡ s → r' ≡ r → step w st k s' r' ≡ None → step t st k s r ≡ None
-told_none w t s r s' r' st k e f g h = rw (e, f, g) at h
+-- the machine's step in the same text, at the same places
+told : (w t s r s' r' : Text) (st : State) (k : Token) → w ≡ t → s' ≡ s → r' ≡ r → step w st k s' r' ≡ step t st k s r
+told w t s r s' r' st k e f g = rw (e, f, g) refl
 
 turn_same : (t u s r : Text) (st st' : State) (k : Token) → Same t u st s → Cuts s k r → option_map held (step t st k s r) ≡ Some (held st') → Same t u st' r
 turn_same t u s r st st' k a c e d = let x = read_cut t d st st' s r k c e in let y = a d in (λ z. y.0 (x.0 z), λ z. x.1 (y.1 z))
@@ -57,7 +55,7 @@ starts t u st here e f x = record { same = start_same t u here.rest st e f; plac
 pub goes_on : (st st' : State) (before mid : Here) (w t u : Text) (k : Token) (ts : TokenSpan) → w ≡ t → Going st before t u → HandsOver before k ts mid → Moves before mid
     → option_map held (step w st k ts.start.rest ts.end.rest) ≡ Some (held st') → Going st' mid t u
 goes_on st st' before mid w t u k ts i g h m e =
-    let e' = told_step w t before.rest mid.rest ts.start.rest ts.end.rest st st' k i h.start_rest h.end_rest e in
+    let e' = ap (option_map held) (sym (told w t before.rest mid.rest ts.start.rest ts.end.rest st k i h.start_rest h.end_rest)) ∙ e in
     record { same = turn_same t u before.rest mid.rest st st' k g.same h.cuts e'; placed = placed_step t st st' k before.rest mid.rest e' g.placed m.piece }
 
 -- the same at another place, before the same rest
@@ -86,7 +84,7 @@ no_reading st here t u g n d a = faults t d st here.rest n.begun n.none ((g.same
 no_turn : (st : State) (before mid : Here) (w t u : Text) (k : Token) (ts : TokenSpan) → w ≡ t → Going st before t u → HandsOver before k ts mid → step w st k ts.start.rest ts.end.rest ≡ None
     → (d : Document) → Runs t d (initial u) u → ⊥
 no_turn st before mid w t u k ts i g h e d a =
-    let e' = told_none w t before.rest mid.rest ts.start.rest ts.end.rest st k i h.start_rest h.end_rest e in
+    let e' = sym (told w t before.rest mid.rest ts.start.rest ts.end.rest st k i h.start_rest h.end_rest) ∙ e in
     refuses t d st before.rest mid.rest k h.cuts e' ((g.same d).1 a)
 
 -- the lexer's failure, and a token that is refused
@@ -114,23 +112,16 @@ pub from_now : {N : Type 0} (tree : N → Node) (b : Builder N) (here : Here) (w
 from_now tree b here w t u i g = rw i (state_from tree b t here.rest g.placed)
 
 -- where the text ends, the machine's document is the result
-run_there : (t u s : Text) (st : State) (d : Document) → Same t u st s → s ≡ [] → finish t st ≡ Some d → Runs t d (initial u) u
-run_there t u s st d a e f = (a d).0 (subst (λ (z : Text). Runs t d st z) (sym e) ((at_stop t d st).1 f))
-
-no_run_there : (t u s : Text) (st : State) → Same t u st s → s ≡ [] → finish t st ≡ None → (d : Document) → Runs t d (initial u) u → ⊥
-no_run_there t u s st a e f d x =
-    let y : finish t st ≡ Some d = (at_stop t d st).0 (subst (λ (z : Text). Runs t d st z) e ((a d).1 x)) in
-    cc
-
 pub at_the_end : {N : Type 0} (tree : N → Node) (st : State) (here : Here) (w t u : Text) (d : DocumentParts N) → w ≡ t → Going st here t u → here.rest ≡ [] → finish w st ≡ Some (document_by tree d) → AnswersParts tree t u (Ok d)
 at_the_end tree st here w t u d i g e f =
-    let f' = subst (λ (z : Text). finish z st ≡ Some (document_by tree d)) i f in
-    run_there t u here.rest st (document_by tree d) g.same e f'
+    let f' : finish t st ≡ Some (document_by tree d) = subst (λ (z : Text). finish z st ≡ Some (document_by tree d)) i f in
+    (g.same (document_by tree d)).0 (subst (λ (z : Text). Runs t (document_by tree d) st z) (sym e) ((at_stop t (document_by tree d) st).1 f'))
 
 no_end : (st : State) (here : Here) (w t u : Text) → w ≡ t → Going st here t u → here.rest ≡ [] → finish w st ≡ None → (d : Document) → Runs t d (initial u) u → ⊥
-no_end st here w t u i g e f =
-    let f' = subst (λ (z : Text). finish z st ≡ None) i f in
-    no_run_there t u here.rest st g.same e f'
+no_end st here w t u i g e f d x =
+    let y : finish t st ≡ Some d = (at_stop t d st).0 (subst (λ (z : Text). Runs t d st z) e ((g.same d).1 x)) in
+    let f' : finish t st ≡ None = subst (λ (z : Text). finish z st ≡ None) i f in
+    cc
 
 pub finish_told : {N : Type 0} (tree : N → Node) (st : State) (here : Here) (w t u : Text) (f : TakeFailure) (e : LexFailure) → w ≡ t → Going st here t u → here.rest ≡ [] → Finished tree (finish w st) (Err f) → TakeFailsAs f e → AnswersParts tree t u (Err e)
 finish_told tree st here w t u Unexpected e i g n x y = rw y (no_end st here w t u i g n x)

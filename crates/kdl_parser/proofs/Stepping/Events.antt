@@ -4,11 +4,11 @@ use Rattle.kdl_text.specs.Chars.{Text}
 use Rattle.kdl_text.specs.Internal.Here.{Position}
 use Rattle.kdl_text.specs.Spans.{bytes}
 use Rattle.kdl_control.specs.Internal.Events.{event_of}
-use Rattle.kdl_control.specs.declared.control.Owner.TheVariants.{Name, Value}
+use Rattle.kdl_control.specs.declared.control.Owner.TheVariants.{Name}
 use Rattle.kdl_control.specs.declared.control.Phase.{Phase}
 use Rattle.kdl_control.specs.declared.control.Phase.TheVariants.{Gap, NodeSlashdash, TypeOpen, TypeName, TypeDone, InNode, EntrySlashdash, BlockSlashdash, KeptSlashdash}
-use Rattle.kdl_control.specs.declared.control.Spot.TheVariants.{Fresh, Spaced, Later}
-use Rattle.kdl_control.specs.declared.control.Word.TheVariants.{MayBeKey, NoKey}
+use Rattle.kdl_control.specs.declared.control.Spot.TheVariants.{Fresh, Spaced}
+use Rattle.kdl_control.specs.declared.control.Word.TheVariants.{MayBeKey}
 use Rattle.kdl_control.specs.declared.events.Event.{Event}
 use Rattle.kdl_control.specs.declared.events.Event.TheVariants.{Name as NodeName}
 use Rattle.kdl_entry.proofs.Slicing.Between.{is_between}
@@ -25,7 +25,7 @@ use Rattle.kdl_lexer.specs.declared.token_span.TokenSpan.{TokenSpan}
 use Rattle.kdl_parser.specs.Internal.Building.{in_phase, phase_now, under_view, pending_now, nodes_now, frames_view, state_view, state_by, reading_view, Did}
 use Rattle.kdl_parser.specs.Internal.Counted.{unsliced, unsliced_at, unsliced_in, SlicedOn}
 use Rattle.kdl_parser.specs.Internal.Events.{event_step, mark_step, is_building, is_live, unsliced_before, Acts}
-use Rattle.kdl_parser.specs.Internal.States.{given_at, name_slot, step_at, Reaches, Takes, TakesToken}
+use Rattle.kdl_parser.specs.Internal.States.{given_at, name_slot, step_at, Reaches, TakesToken}
 use Rattle.kdl_parser.specs.declared.builder.Builder.{Builder}
 use Rattle.kdl_parser.specs.declared.builder.dropping.Dropped.{Dropped}
 use Rattle.kdl_parser.specs.declared.builder.dropping.Dropped.TheVariants.{Nothing}
@@ -43,58 +43,30 @@ same_from None s r = refl
 same_from (Some (pending c k a)) s r = refl
 
 module _ {N : Type 0} (tree : N → Node) (b : Builder N) (s r : Position) where
-  in_live : (k : Token) (p : Phase) → is_live p ≡ true → step b.source.text (in_phase tree b (phase_now tree b p)) k s.rest r.rest ≡ stepped_by tree b (event_of p k) k s r
-  in_live k NodeSlashdash e = absurd cc
-  in_live k EntrySlashdash e = absurd cc
-  in_live k BlockSlashdash e = absurd cc
-  in_live k KeptSlashdash e = absurd cc
-  in_live space (TypeOpen Name) e = refl
-  in_live space (TypeOpen Value) e = refl
-  in_live space (TypeName Name) e = refl
-  in_live space (TypeName Value) e = refl
-  in_live space (TypeDone Name) e = refl
-  in_live space (TypeDone Value) e = refl
-  in_live space (InNode (Fresh MayBeKey)) e = refl
-  in_live space (InNode (Fresh NoKey)) e = refl
-  in_live space (InNode (Spaced MayBeKey)) e = refl
-  in_live space (InNode (Spaced NoKey)) e = refl
-  in_live space (InNode Later) e = refl
-  in_live space p e = refl
-  in_live equals (InNode (Spaced MayBeKey)) e = ap (stay (nodes_now tree b) (frames_view tree b) b.from.rest) (same_from (pending_now MayBeKey b.source.text b.from.rest b.waiting (under_view b.under)) s.rest r.rest)
-  in_live equals (InNode (Fresh MayBeKey)) e = refl
-  in_live k (TypeOpen Name) e = refl
-  in_live k (TypeOpen Value) e = refl
-  in_live k (TypeName Name) e = refl
-  in_live k (TypeName Value) e = refl
-  in_live k (TypeDone Name) e = refl
-  in_live k (TypeDone Value) e = refl
-  in_live k (InNode (Fresh MayBeKey)) e = refl
-  in_live k (InNode (Fresh NoKey)) e = refl
-  in_live k (InNode (Spaced MayBeKey)) e = refl
-  in_live k (InNode (Spaced NoKey)) e = refl
-  in_live k (InNode Later) e = refl
-  in_live k p e = refl
+  in_live : (p : Phase) (k : Token) → is_live p ≡ true → step b.source.text (in_phase tree b (phase_now tree b p)) k s.rest r.rest ≡ stepped_by tree b (event_of p k) k s r
+  in_live NodeSlashdash k e = absurd cc
+  in_live EntrySlashdash k e = absurd cc
+  in_live BlockSlashdash k e = absurd cc
+  in_live KeptSlashdash k e = absurd cc
+  in_live (InNode (Spaced MayBeKey)) equals e = ap (stay (nodes_now tree b) (frames_view tree b) b.from.rest) (same_from (pending_now MayBeKey b.source.text b.from.rest b.waiting (under_view b.under)) s.rest r.rest)
+  in_live (InNode (Fresh MayBeKey)) space e = refl
+  in_live (TypeOpen Name) space e = refl
+  in_live (TypeName Name) space e = refl
+  in_live (TypeDone Name) space e = refl
+  in_live p space e = refl
+  in_live p k e = refl
 
 -- what is not sliced before the token
 abbrev unsliced_by : Option Event → Phase → ℕ → ℕ → ℕ
 unsliced_by None p n m = unsliced_in p n m
 unsliced_by (Some e) p n m = unsliced_before e n m
 
-same_unsliced : (n m : ℕ) (k : Token) (p : Phase) → unsliced_by (event_of p k) p n m ≡ unsliced_in p n m
-same_unsliced n m space (TypeDone Name) = refl
-same_unsliced n m space (TypeDone Value) = refl
-same_unsliced n m space (InNode (Fresh w)) = refl
-same_unsliced n m space (InNode (Spaced w)) = refl
-same_unsliced n m space (InNode Later) = refl
-same_unsliced n m space p = refl
-same_unsliced n m k (TypeDone Name) = refl
-same_unsliced n m k (TypeDone Value) = refl
-same_unsliced n m k (InNode (Fresh MayBeKey)) = refl
-same_unsliced n m k (InNode (Fresh NoKey)) = refl
-same_unsliced n m k (InNode (Spaced MayBeKey)) = refl
-same_unsliced n m k (InNode (Spaced NoKey)) = refl
-same_unsliced n m k (InNode Later) = refl
-same_unsliced n m k p = refl
+same_unsliced : (n m : ℕ) (p : Phase) (k : Token) → unsliced_by (event_of p k) p n m ≡ unsliced_in p n m
+same_unsliced n m (TypeDone Name) space = refl
+same_unsliced n m (InNode (Fresh MayBeKey)) space = refl
+same_unsliced n m (InNode (Spaced MayBeKey)) space = refl
+same_unsliced n m p space = refl
+same_unsliced n m p k = refl
 
 -- outside of what is slashdashed
 is_nothing : (d : Dropped) (p : Phase) → is_building d p ≡ true → d ≡ Nothing
@@ -109,11 +81,11 @@ module _ {N : Type 0} (tree : N → Node) (b b' : Builder N) (span : TokenSpan) 
   -- the machine's step at the token
   token_is : (k : Token) (o : Option Event) → b.dropped ≡ Nothing → is_live b.phase ≡ true → o ≡ event_of b.phase k → step_at tree b k span ≡ stepped_by tree b o k span.start span.end
   token_is k o d l f =
-      ap (λ (z : Dropped). step b.source.text (state_by tree b (reading_view z)) k span.start.rest span.end.rest) d ∙ in_live tree b span.start span.end k b.phase l ∙ ap (λ (z : Option Event). stepped_by tree b z k span.start span.end) (sym f)
+      ap (λ (z : Dropped). step b.source.text (state_by tree b (reading_view z)) k span.start.rest span.end.rest) d ∙ in_live tree b span.start span.end b.phase k l ∙ ap (λ (z : Option Event). stepped_by tree b z k span.start span.end) (sym f)
 
   unsliced_is : (k : Token) → b.dropped ≡ Nothing → Some e ≡ event_of b.phase k → unsliced_before e (bytes b.from.rest) (bytes b.parts.from.rest) ≡ unsliced b
   unsliced_is k d f =
-      ap (λ (z : Option Event). unsliced_by z b.phase (bytes b.from.rest) (bytes b.parts.from.rest)) f ∙ same_unsliced (bytes b.from.rest) (bytes b.parts.from.rest) k b.phase
+      ap (λ (z : Option Event). unsliced_by z b.phase (bytes b.from.rest) (bytes b.parts.from.rest)) f ∙ same_unsliced (bytes b.from.rest) (bytes b.parts.from.rest) b.phase k
       ∙ ap (λ (z : Dropped). unsliced_at z b.phase (bytes b.from.rest) (bytes b.parts.from.rest)) (sym d)
 
   -- what a token of an event does
@@ -124,12 +96,12 @@ module _ {N : Type 0} (tree : N → Node) (b b' : Builder N) (span : TokenSpan) 
     sliced = subst (λ (n : ℕ). SlicedOn result n (unsliced b') b.source.steps b'.source.steps) (unsliced_is k d f) x.sliced;
   }
 
-  pub takes_as : (k k' : TokenKind) (o : Option State) → is_building b.dropped b.phase ≡ true → Some e ≡ event_of b.phase (kind_view k) → k ≡ k' → o ≡ event_step tree b e (kind_view k') span.start span.end → Acts tree e o b result b' → Takes tree b k span result b'
+  pub takes_as : (k k' : TokenKind) (o : Option State) → is_building b.dropped b.phase ≡ true → Some e ≡ event_of b.phase (kind_view k) → k ≡ k' → o ≡ event_step tree b e (kind_view k') span.start span.end → Acts tree e o b result b' → TakesToken tree b (kind_view k) span result b'
   takes_as k k' o h f i j x = takes (kind_view k) h f (subst (λ (z : TokenKind). Acts tree e (event_step tree b e (kind_view z) span.start span.end) b result b') (sym i) (subst (λ (z : Option State). Acts tree e z b result b') j x))
 
 -- a bare string between nodes is the name of a node
 pub takes_name : {N : Type 0} (tree : N → Node) (b b' : Builder N) (span : TokenSpan) (result : Result (Unit {0}) TakeFailure) (w : Text) → is_building b.dropped b.phase ≡ true → b.phase ≡ Gap → span.start.rest ≡ w ++ span.end.rest
-    → Reaches tree (given_at tree b (name_slot b span.start) None (text (between span.start.rest span.end.rest)) span.start span.end) (bytes b.from.rest) b result b' → TakesToken tree b (string w) span result b'
+    → Reaches tree (given_at tree b (name_slot b span.start) None (text (between span.start.rest span.end.rest)) span.start span.end) b.from b result b' → TakesToken tree b (string w) span result b'
 takes_name tree b b' span result w i p e x =
     takes tree b b' span NodeName result (string w) i (sym (ap (λ (z : Phase). event_of z (string w)) p)) (record {
       did = does_did (event_step tree b NodeName (string w) span.start span.end) (given_at tree b (name_slot b span.start) None (text (between span.start.rest span.end.rest)) span.start span.end) (state_view tree b') result x.did

@@ -1,8 +1,8 @@
 -- What the machine holds of an item that is slashdashed changes neither its steps nor its result.
-use Rattle.std.proofs.Common.{◌≡◌, true, false, List, [], ◌∷◌, Option, Some, None, option_map, map, refl, sym, ap, ◌∙◌}
+use Rattle.std.proofs.Common.{◌≡◌, false, List, [], ◌∷◌, Option, Some, None, option_map, map, refl, sym, ap, ◌∙◌}
 use Rattle.kdl_text.specs.Chars.{Text}
 use Rattle.kdl_lexer.specs.Tokens.{Token, space, value, closing}
-use Rattle.kdl_grammar.specs.Internal.Machine.{no_name, for_name, no_value, for_value, pending, fresh, spaced, later, Phase, gap, node_slashdash, type_open, type_name, type_done, in_node, property, entry_slashdash, block_slashdash, kept, kept_slashdash, Frame, in_block, in_dropped, in_later, State, at, popped, step, finish, Runs, stops, reads}
+use Rattle.kdl_grammar.specs.Internal.Machine.{no_name, pending, fresh, spaced, later, Phase, gap, type_open, type_name, type_done, in_node, property, kept, Frame, in_block, State, at, popped, step, finish, Runs, stops, reads}
 use Rattle.kdl_parser.specs.Internal.Building.{phase_held, frame_held, held}
 use Rattle.kdl_grammar.specs.Tree.{Document, Nodes}
 
@@ -18,9 +18,7 @@ module _ (whole : Text) where
   popped_stack : (l : Option Nodes) (fs : List Frame) (from s r : Text) → option_map held (popped whole l (map frame_held fs) from s r) ≡ option_map held (popped whole l fs from s r)
   popped_stack l [] from s r = refl
   popped_stack l (in_block None q m ∷ fs) from s r = let e = stack_twice fs in cc
-  popped_stack l (in_block (Some u) q m ∷ fs) from s r = let e = stack_twice fs in cc
-  popped_stack l (in_dropped u m ∷ fs) from s r = let e = stack_twice fs in cc
-  popped_stack l (in_later x m ∷ fs) from s r = let e = stack_twice fs in cc
+  popped_stack l (f ∷ fs) from s r = let e = stack_twice fs in cc
 
   stack_step : (p : Phase) (k : Token) (l : Option Nodes) (fs : List Frame) (from s r : Text) → option_map held (step whole (at p l (map frame_held fs) from) k s r) ≡ option_map held (step whole (at p l fs from) k s r)
   stack_step gap closing l fs from s r = popped_stack _ fs _ s r
@@ -30,45 +28,18 @@ module _ (whole : Text) where
   stack_step (in_node u (spaced None)) closing l fs from s r = popped_stack _ fs _ s r
   stack_step (in_node u (spaced (Some (pending c k a)))) closing l fs from s r = popped_stack _ fs _ s r
   stack_step (in_node u later) closing l fs from s r = popped_stack _ fs _ s r
-  stack_step (type_done true c q i d a) (value v) l fs from s r = let e = stack_twice fs in cc
   stack_step (type_done false c q i d a) (value v) l fs from s r = refl
-  stack_step (type_done b c q i d a) closing l fs from s r = refl
-  stack_step node_slashdash closing l fs from s r = refl
-  stack_step (type_open b c a) closing l fs from s r = refl
-  stack_step (type_name b c q y a) closing l fs from s r = refl
-  stack_step (property c k b a) closing l fs from s r = refl
-  stack_step (entry_slashdash h) closing l fs from s r = refl
-  stack_step (block_slashdash h) closing l fs from s r = refl
-  stack_step (kept_slashdash x) closing l fs from s r = refl
+  stack_step p closing l fs from s r = refl
   stack_step p k l fs from s r = let e = stack_twice fs in cc
 
   phase_step : (p : Phase) (k : Token) (l : Option Nodes) (fs : List Frame) (from s r : Text) → option_map held (step whole (at (phase_held p) l fs from) k s r) ≡ option_map held (step whole (at p l fs from) k s r)
   phase_step (type_open b no_name a) space l fs from s r = refl
-  phase_step (type_open b (for_name h c) a) space l fs from s r = refl
-  phase_step (type_open b (no_value h) a) space l fs from s r = refl
-  phase_step (type_open b (for_value h c e j) a) space l fs from s r = refl
   phase_step (type_name b no_name q i a) space l fs from s r = refl
-  phase_step (type_name b (for_name h c) q i a) space l fs from s r = refl
-  phase_step (type_name b (no_value h) q i a) space l fs from s r = refl
-  phase_step (type_name b (for_value h c e j) q i a) space l fs from s r = refl
   phase_step (type_done b no_name q i d a) space l fs from s r = refl
-  phase_step (type_done b (for_name h c) q i d a) space l fs from s r = refl
-  phase_step (type_done b (no_value h) q i d a) space l fs from s r = refl
-  phase_step (type_done b (for_value h c e j) q i d a) space l fs from s r = refl
   phase_step (property no_name i b a) space l fs from s r = refl
-  phase_step (property (for_name h c) i b a) space l fs from s r = refl
-  phase_step (property (no_value h) i b a) space l fs from s r = refl
-  phase_step (property (for_value h c e j) i b a) space l fs from s r = refl
-  phase_step (in_node u (fresh None)) space l fs from s r = refl
   phase_step (in_node u (fresh (Some (pending no_name i a)))) space l fs from s r = refl
-  phase_step (in_node u (fresh (Some (pending (for_name h c) i a)))) space l fs from s r = refl
-  phase_step (in_node u (fresh (Some (pending (no_value h) i a)))) space l fs from s r = refl
-  phase_step (in_node u (fresh (Some (pending (for_value h c e j) i a)))) space l fs from s r = refl
-  phase_step (in_node u (spaced None)) space l fs from s r = refl
   phase_step (in_node u (spaced (Some (pending no_name i a)))) space l fs from s r = refl
-  phase_step (in_node u (spaced (Some (pending (for_name h c) i a)))) space l fs from s r = refl
-  phase_step (in_node u (spaced (Some (pending (no_value h) i a)))) space l fs from s r = refl
-  phase_step (in_node u (spaced (Some (pending (for_value h c e j) i a)))) space l fs from s r = refl
+  phase_step p space l fs from s r = refl
   phase_step p k l fs from s r = refl
 
   pub held_step : (st : State) (k : Token) (s r : Text) → option_map held (step whole (held st) k s r) ≡ option_map held (step whole st k s r)
@@ -76,11 +47,7 @@ module _ (whole : Text) where
 
   pub held_finish : (st : State) → finish whole (held st) ≡ finish whole st
   held_finish (at gap l [] from) = refl
-  held_finish (at gap l (f ∷ fs) from) = refl
-  held_finish (at (in_node u p) l [] from) = refl
-  held_finish (at (in_node u p) l (f ∷ fs) from) = refl
-  held_finish (at (kept x) l [] from) = refl
-  held_finish (at (kept x) l (f ∷ fs) from) = refl
+  held_finish (at p l [] from) = refl
   held_finish (at p l fs from) = refl
 
   -- where two states hold the same, so do those after a token

@@ -6,7 +6,7 @@ use Rattle.kdl_text.specs.Trivia.{NodeSpace}
 use Rattle.kdl_lexer.specs.Internal.Handed.{Cuts, one, spaces}
 use Rattle.kdl_lexer.specs.Tokens.{Token, space, BeginsToken, t_space}
 use Rattle.kdl_lexer.proofs.Lexing.TokenUnique.{token_det, no_token}
-use Rattle.kdl_grammar.specs.Internal.Machine.{fresh, spaced, later, gap, in_node, State, at, step, finish, Runs, stops, reads}
+use Rattle.kdl_grammar.specs.Internal.Machine.{fresh, gap, in_node, State, at, step, finish, Runs, stops, reads}
 use Rattle.kdl_parser.specs.Internal.Building.{held}
 use Rattle.kdl_grammar.specs.Tree.{Document}
 use Rattle.kdl_parser.proofs.Stepping.Held.{reached, alike}
@@ -29,16 +29,12 @@ module _ (whole : Text) (d : Document) where
 
   -- a space more changes nothing
   again : (st : State) (s r t q : Text) → and_then (step whole st space s r) (λ z. step whole z space t q) ≡ step whole st space s r
-  again (at gap l fs from) s r t q = refl
   again (at (in_node u (fresh o)) l fs from) s r t q = refl
-  again (at (in_node u (spaced o)) l fs from) s r t q = refl
-  again (at (in_node u later) l fs from) s r t q = refl
   again _ s r t q = refl
 
   -- and its place does not matter
   anywhere : (st : State) (s r t q : Text) → step whole st space s r ≡ step whole st space t q
   anywhere (at gap l fs from) s r t q = refl
-  anywhere (at (in_node u p) l fs from) s r t q = refl
   anywhere _ s r t q = refl
 
   read_spaces : (st : State) (s r : Text) → ((t q : Text) → step whole st space t q ≡ Some st) → Star NodeSpace s r → Runs whole d st r ↔ Runs whole d st s

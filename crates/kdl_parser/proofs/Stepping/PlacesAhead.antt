@@ -1,9 +1,9 @@
 -- Where the place under way and the place in a type or after `=` began lies before the text that is left.
-use Rattle.std.proofs.Common.{◌≡◌, true, false, List, [], ◌∷◌, Option, Some, None, option_map, sym, subst}
+use Rattle.std.proofs.Common.{◌≡◌, ◌↔◌, true, false, List, [], ◌∷◌, Option, Some, None, option_map, sym, subst}
 use Rattle.kdl_text.specs.Chars.{Text}
 use Rattle.kdl_entry.proofs.Slicing.Between.{in_order_here, in_order_on, then_ends}
-use Rattle.kdl_lexer.specs.Tokens.{Token, space, newline, slashdash, string, value, left, right, opening, closing, equals, semicolon}
-use Rattle.kdl_grammar.specs.Internal.Machine.{Under, Kept, Slot, no_name, for_name, no_value, for_value, pending, fresh, spaced, later, Phase, gap, node_slashdash, type_open, type_name, type_done, in_node, property, entry_slashdash, block_slashdash, kept, kept_slashdash, Frame, in_block, in_dropped, in_later, State, at, origin, moved, popped, step}
+use Rattle.kdl_lexer.specs.Tokens.{Token, space, newline, string, value, left, right, opening, closing, equals, semicolon}
+use Rattle.kdl_grammar.specs.Internal.Machine.{Under, Kept, Slot, no_name, for_name, no_value, for_value, pending, fresh, spaced, Phase, gap, type_open, type_name, type_done, in_node, property, kept, Frame, in_block, in_dropped, in_later, State, at, origin, moved, popped, step}
 use Rattle.kdl_parser.specs.Internal.Building.{held, only, node_now, kept_now, nodes_now, frames_view, phase_now, reading_view, state_view, EndsIn, InOrder, place_placed, phase_placed, Placed}
 use Rattle.kdl_control.specs.Control as c
 use Rattle.kdl_grammar.specs.Tree.{Node, Nodes}
@@ -52,16 +52,9 @@ module _ (whole s r : Text) (v : EndsIn whole s) (b : EndsIn s r) where
   popped_placed l (in_later x m ∷ fs) from t a = (a, tt)
 
   all_placed : (p : Phase) (k : Token) (l : Option Nodes) (fs : List Frame) (from : Text) → InOrder whole from r → phase_placed whole p s → AllPlaced whole (step whole (at p l fs from) k s r) r
-  all_placed gap space l fs from a y = (a, tt)
-  all_placed gap newline l fs from a y = (a, tt)
-  all_placed gap slashdash l fs from a y = (a, tt)
   all_placed gap (string v) l fs from a y = (moved_ends _ a, tt)
   all_placed gap left l fs from a y = (a, place_here _)
   all_placed gap closing l fs from a y = popped_placed _ fs _ s a
-  all_placed node_slashdash space l fs from a y = (a, tt)
-  all_placed node_slashdash newline l fs from a y = (a, tt)
-  all_placed node_slashdash (string v) l fs from a y = (a, tt)
-  all_placed node_slashdash left l fs from a y = (a, tt)
   all_placed (type_open f c d) space l fs from a y = (a, place_on c d y)
   all_placed (type_open f c d) (string v) l fs from a y = (a, place_here c)
   all_placed (type_name f c q i d) space l fs from a y = (a, place_on c d y)
@@ -74,74 +67,42 @@ module _ (whole s r : Text) (v : EndsIn whole s) (b : EndsIn s r) where
   all_placed (property c i e d) (string v) l fs from a y = (moved_ends _ a, tt)
   all_placed (property c i e d) (value v) l fs from a y = (moved_ends _ a, tt)
   all_placed (property c i e d) left l fs from a y = (a, place_here _)
-  all_placed (in_node u p) space l fs from a y = (a, tt)
+  all_placed (in_node u (spaced o)) (string v) l fs from a y = (moved_ends _ a, tt)
+  all_placed (in_node u (spaced o)) (value v) l fs from a y = (moved_ends _ a, tt)
+  all_placed (in_node u (spaced o)) left l fs from a y = (a, place_here _)
+  all_placed (in_node u (spaced (Some (pending c i e)))) equals l fs from a y = (a, place_here c)
+  all_placed (in_node u (fresh (Some (pending c i e)))) equals l fs from a y = (a, place_here c)
   all_placed (in_node u p) newline l fs from a y = (origin_ends u a here, tt)
   all_placed (in_node u p) semicolon l fs from a y = (origin_ends u a here, tt)
   all_placed (in_node u p) closing l fs from a y = popped_placed _ fs _ s (origin_ends u a there)
   all_placed (in_node u p) opening l fs from a y = (origin_ends u a here, tt)
-  all_placed (in_node u (fresh o)) slashdash l fs from a y = (a, tt)
-  all_placed (in_node u (spaced o)) slashdash l fs from a y = (a, tt)
-  all_placed (in_node u later) slashdash l fs from a y = (a, tt)
-  all_placed (in_node u (spaced o)) (string v) l fs from a y = (moved_ends _ a, tt)
-  all_placed (in_node u (spaced o)) (value v) l fs from a y = (moved_ends _ a, tt)
-  all_placed (in_node u (spaced o)) left l fs from a y = (a, place_here _)
-  all_placed (in_node u (fresh (Some (pending c i e)))) equals l fs from a y = (a, place_here c)
-  all_placed (in_node u (spaced (Some (pending c i e)))) equals l fs from a y = (a, place_here c)
-  all_placed (entry_slashdash u) space l fs from a y = (a, tt)
-  all_placed (entry_slashdash u) newline l fs from a y = (a, tt)
-  all_placed (entry_slashdash u) (string v) l fs from a y = (a, tt)
-  all_placed (entry_slashdash u) (value v) l fs from a y = (a, tt)
-  all_placed (entry_slashdash u) left l fs from a y = (a, tt)
-  all_placed (entry_slashdash u) opening l fs from a y = (a, tt)
-  all_placed (block_slashdash u) space l fs from a y = (a, tt)
-  all_placed (block_slashdash u) newline l fs from a y = (a, tt)
-  all_placed (block_slashdash u) opening l fs from a y = (a, tt)
-  all_placed (kept x) space l fs from a y = (a, tt)
   all_placed (kept x) newline l fs from a y = (origin_ends x a here, tt)
   all_placed (kept x) semicolon l fs from a y = (origin_ends x a here, tt)
   all_placed (kept x) closing l fs from a y = popped_placed _ fs _ s (origin_ends x a there)
-  all_placed (kept x) slashdash l fs from a y = (a, tt)
-  all_placed (kept_slashdash x) space l fs from a y = (a, tt)
-  all_placed (kept_slashdash x) newline l fs from a y = (a, tt)
-  all_placed (kept_slashdash x) opening l fs from a y = (a, tt)
-  all_placed _ _ l fs from a y = tt
+  all_placed p space l fs from a y = (a, tt)
+  all_placed p k l fs from a y = search
 
   placed_of : (p : Phase) (k : Token) (l : Option Nodes) (fs : List Frame) (from : Text) → Placed whole (at p l fs from) s → AllPlaced whole (step whole (at p l fs from) k s r) r
   placed_of p k l fs from a = all_placed p k l fs from (in_order_on a.0 b) a.1
 
 -- a place that is kept is the same in a state that holds the same
-place_to : (t : Text) (c : Slot) (a s : Text) → place_placed t c a s → place_placed t c (only c a []) s
-place_to t no_name a s x = tt
-place_to t (for_name q h) a s x = x
-place_to t (no_value u) a s x = tt
-place_to t (for_value u q h k) a s x = x
-
-place_of : (t : Text) (c : Slot) (a s : Text) → place_placed t c (only c a []) s → place_placed t c a s
-place_of t no_name a s x = tt
-place_of t (for_name q h) a s x = x
-place_of t (no_value u) a s x = tt
-place_of t (for_value u q h k) a s x = x
+same_place : (t : Text) (c : Slot) (a s : Text) → place_placed t c a s ↔ place_placed t c (only c a []) s
+same_place t no_name a s = (λ x. x, λ x. x)
+same_place t c a s = (λ x. x, λ x. x)
 
 -- a state that holds the same has the same places
-to_held : (t : Text) (st : State) (s : Text) → Placed t st s → Placed t (held st) s
-to_held t (at (type_open b c a) l fs from) s x = (x.0, place_to t c a s x.1)
-to_held t (at (type_name b c q i a) l fs from) s x = (x.0, place_to t c a s x.1)
-to_held t (at (type_done b c q i d a) l fs from) s x = (x.0, place_to t c a s x.1)
-to_held t (at (property c k b a) l fs from) s x = (x.0, place_to t c a s x.1)
-to_held t (at p l fs from) s x = x
-
-of_held : (t : Text) (st : State) (s : Text) → Placed t (held st) s → Placed t st s
-of_held t (at (type_open b c a) l fs from) s x = (x.0, place_of t c a s x.1)
-of_held t (at (type_name b c q i a) l fs from) s x = (x.0, place_of t c a s x.1)
-of_held t (at (type_done b c q i d a) l fs from) s x = (x.0, place_of t c a s x.1)
-of_held t (at (property c k b a) l fs from) s x = (x.0, place_of t c a s x.1)
-of_held t (at p l fs from) s x = x
+same_places : (t : Text) (st : State) (s : Text) → Placed t st s ↔ Placed t (held st) s
+same_places t (at (type_open b c a) l fs from) s = let p = same_place t c a s in (λ x. (x.0, p.0 x.1), λ x. (x.0, p.1 x.1))
+same_places t (at (type_name b c q i a) l fs from) s = let p = same_place t c a s in (λ x. (x.0, p.0 x.1), λ x. (x.0, p.1 x.1))
+same_places t (at (type_done b c q i d a) l fs from) s = let p = same_place t c a s in (λ x. (x.0, p.0 x.1), λ x. (x.0, p.1 x.1))
+same_places t (at (property c k b a) l fs from) s = let p = same_place t c a s in (λ x. (x.0, p.0 x.1), λ x. (x.0, p.1 x.1))
+same_places t (at p l fs from) s = (λ x. x, λ x. x)
 
 pub placed_step : (whole : Text) (st st' : State) (k : Token) (s r : Text) → option_map held (step whole st k s r) ≡ Some (held st') → Placed whole st s → EndsIn s r → Placed whole st' r
 placed_step whole (at p l fs from) st' k s r e a b =
     let m = reached (step whole (at p l fs from) k s r) st' e in
     let x : Placed whole m.0 r = subst (λ (z : Option State). AllPlaced whole z r) m.1 (placed_of whole s r a.0.1 b p k l fs from a) in
-    of_held whole st' r (subst (λ (z : State). Placed whole z r) (sym m.2) (to_held whole m.0 r x))
+    (same_places whole st' r).1 (subst (λ (z : State). Placed whole z r) (sym m.2) ((same_places whole m.0 r).0 x))
 
 -- the place where the builder is begins before s
 reading_from : (t : Text) (u : Under) (x : Kept) (p : Phase) (l : Option Nodes) (fs : List Frame) (from s : Text) (d : Reading) → Placed t (reading_state u x l fs from (at p l fs from) d) s → InOrder t from s

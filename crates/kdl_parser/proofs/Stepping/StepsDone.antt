@@ -12,7 +12,7 @@ use Rattle.kdl_grammar.specs.Internal.Machine.{State}
 use Rattle.kdl_grammar.specs.Tree.{Node}
 use Rattle.kdl_parser.specs.Internal.Building.{held, state_view, Did, Does}
 use Rattle.kdl_parser.specs.Internal.Counted.{SlicedOn, unsliced}
-use Rattle.kdl_parser.specs.Internal.States.{Steps, TakesToken, step_at}
+use Rattle.kdl_parser.specs.Internal.States.{TakesToken, TakesTurn, step_at}
 use Rattle.kdl_parser.specs.declared.builder.Builder.{Builder}
 
 pub does_did : {A : Type 0} (o : Option State) (want st : State) (result : Result A TakeFailure) → Does want result st → o ≡ Some want → Did o result st
@@ -31,12 +31,6 @@ none_sliced m n k a (Ok x) e f = record { most = omega (arith, e, f) }
 none_sliced m n k a (Err Unexpected) e f = record { most = omega arith }
 none_sliced m n k a (Err Memory) e f = tt
 
--- the same of a step that no token refuses
-pub does_sliced : {A : Type 0} (m n k a b : ℕ) (want st : State) (result : Result A TakeFailure) → Does want result st → OnOk result (b ≡ a) → OnOk result (n ≡ m) → k ≡ m → SlicedOn result k n a b
-does_sliced m n k a b want st (Ok x) d h e f = record { most = omega (arith, h, e, f) }
-does_sliced m n k a b want st (Err Unexpected) d h e f = absurd d
-does_sliced m n k a b want st (Err Memory) d h e f = tt
-
 -- one look more
 more_sliced : {A : Type 0} (m k s t : ℕ) (result : Result A TakeFailure) → SlicedOn result m k (raise s 1) t → SlicedOn result (m + 1) k s t
 more_sliced m k s t (Ok x) d = record { most = omega (arith, d.most) }
@@ -51,9 +45,17 @@ unmoved z = record { text = refl; rest = refl; at = refl; counts = omega arith }
 pub same_state : {N : Type 0} (tree : N → Node) (b : Builder N) (z : Here) → z.text ≡ b.source.text → state_view tree (record b { source = z }) ≡ state_view tree b
 same_state tree b z e = ap (λ (t : Text). state_view tree (record b { source = record z { text = t } })) e
 
+-- where the token does the same from another state
+pub carried : {N : Type 0} (tree : N → Node) (b m : Builder N) (k : Token) (span : TokenSpan) (result : Result (Unit {0}) TakeFailure) (new : Builder N) → m.source ≡ b.source → step_at tree m k span ≡ step_at tree b k span → unsliced m ≡ unsliced b
+    → TakesToken tree m k span result new → TakesToken tree b k span result new
+carried tree b m k span result new e f g x = record {
+  did = subst (λ (o : Option State). Did o result (state_view tree new)) f x.did;
+  same = subst (λ (z : Here). Recounted z new.source) e x.same;
+  sliced = subst (λ (n : ℕ). SlicedOn result n (unsliced new) b.source.steps new.source.steps) g (subst (λ (z : Here). SlicedOn result (unsliced m) (unsliced new) z.steps new.source.steps) e x.sliced);
+}
+
 -- a step after a look that is counted
-pub looked_takes : {N : Type 0} (tree : N → Node) (b new : Builder N) (z : Here) (k : Token) (span : TokenSpan) (result : Result (Unit {0}) TakeFailure) → z ≡ looked b.source → TakesToken tree (record b { source = z }) k span result new
-    → Steps tree (step_at tree b k span) (unsliced b + 1) b result new
+pub looked_takes : {N : Type 0} (tree : N → Node) (b new : Builder N) (z : Here) (k : Token) (span : TokenSpan) (result : Result (Unit {0}) TakeFailure) → z ≡ looked b.source → TakesToken tree (record b { source = z }) k span result new → TakesTurn tree b k span result new
 looked_takes tree b new z k span result e x =
     let y : TakesToken tree (record b { source = looked b.source }) k span result new = subst (λ (s : Here). TakesToken tree (record b { source = s }) k span result new) e x in
     record {

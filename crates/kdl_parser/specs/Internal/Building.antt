@@ -82,13 +82,13 @@ slot_of Value u it = for_value u it.leading it.start it.key
 abbrev pub node_now : {N : Type 0} → Builder N → machine.Under
 node_now b = under_now b.source.text b.from.rest b.waiting (under_view b.under)
 
--- the current node with its block, without the pending string
-abbrev pub kept_by : {N : Type 0} → (N → Node) → Builder N → machine.Kept
-kept_by tree b = record { under = under_view b.under; before = text_of b.before; block = document_by tree b.block }
+-- the node u with the current block
+abbrev pub kept_of : {N : Type 0} → (N → Node) → Builder N → machine.Under → machine.Kept
+kept_of tree b u = record { under = u; before = text_of b.before; block = document_by tree b.block }
 
 -- the current node with its block
 abbrev pub kept_now : {N : Type 0} → (N → Node) → Builder N → machine.Kept
-kept_now tree b = record { under = node_now b; before = text_of b.before; block = document_by tree b.block }
+kept_now tree b = kept_of tree b (node_now b)
 
 abbrev pub phase_now : {N : Type 0} → (N → Node) → Builder N → Phase → machine.Phase
 phase_now tree b Gap = machine.gap

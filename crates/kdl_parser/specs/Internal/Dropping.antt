@@ -91,12 +91,6 @@ is_over k nothing = false
 is_over k (node d) = is_node_over k d
 is_over k (part d) = c.finish d
 
--- it may end with the text
-abbrev pub may_end : Reading → Bool
-may_end nothing = false
-may_end (node d) = c.finish d
-may_end (part d) = c.finish d
-
 -- after the token
 abbrev pub next : Token → Reading → Option Reading
 next k nothing = None

@@ -2,16 +2,16 @@
 #![tactic(auto, using(crate::proofs::Rules::content))]
 
 ghost use Rattle.kdl_entry.specs.Internal.Building.{key_view, type_view};
-ghost use Rattle.kdl_entry.specs.Internal.Counted.{EndsIn, Recounted, Sliced, Within};
+ghost use Rattle.kdl_entry.specs.Internal.Counted.{EndsIn, Within};
 ghost use Rattle.kdl_entry.specs.Internal.Parts.{entry_at};
 ghost use Rattle.kdl_entry.specs.Places.{span_of, between};
 ghost use Rattle.kdl_entry.specs.Tree.{entry_tree};
 ghost use Rattle.kdl_grammar.specs.Internal.Machine as machine;
 ghost use Rattle.kdl_grammar.specs.Laid as laid;
-ghost use Rattle.kdl_grammar.specs.Tree.{document, no_children, none};
-ghost use Rattle.kdl_parser.specs.Internal.Building.{boxed_type, under_view, under_now, kept_by, nodes_now};
+ghost use Rattle.kdl_grammar.specs.Tree.{document, none};
+ghost use Rattle.kdl_parser.specs.Internal.Building.{boxed_type, under_view, under_now};
 ghost use Rattle.kdl_parser.specs.Internal.Parts.{nodes_tree, document_by, node_by};
-ghost use Rattle.kdl_text.specs.Spans.{bytes};
+ghost use Rattle.kdl_parser.specs.Internal.States.{Appends, Slices, ended_kept, ended_node};
 ghost use Rattle.kdl_value.specs.Tree.{value_tree, text_of};
 ghost use Rattle.std.specs.Prelude.{◌≡◌, [], Some, None, IfOk, OnOk, option_map};
 
@@ -142,9 +142,7 @@ impl<'a, N: ParsedNode> Builder<'a, N> {
             (text_of slot.entry.leading) (option_map key_view given.key)
             (option_map type_view given.ty) (value_tree given.value)
             (between at.now.start.rest at.now.end.rest)) }
-        ensures rest { self.new ≡ record self.old { source = self.new.source } }
-        ensures same { Recounted self.old.source self.new.source }
-        ensures sliced { Sliced (bytes at.now.start.rest) (bytes at.now.end.rest) self.old.source.steps self.new.source.steps }
+        ensures slices { Slices at.now.start at.now.end self.old result self.new }
     {
         let repr = match self.source.token(at) {
             Ok(repr) => repr,
@@ -169,9 +167,7 @@ impl<'a, N: ParsedNode> Builder<'a, N> {
         ensures is { IfOk result (λ d. document_by N.tree d ≡ machine.content_at
             self.old.source.text (nodes_tree N.tree nodes.items)
             (between self.old.from.rest end.now.rest) end.now.rest) }
-        ensures rest { self.new ≡ record self.old { source = self.new.source } }
-        ensures same { Recounted self.old.source self.new.source }
-        ensures sliced { Sliced (bytes self.old.from.rest) (bytes end.now.rest) self.old.source.steps self.new.source.steps }
+        ensures slices { Slices self.old.from end.now self.old result self.new }
     {
         match self.source.text(&self.from, end) {
             Ok(place) => Ok(content(&self.source, nodes, place, end)),
@@ -186,16 +182,11 @@ impl<'a, N: ParsedNode> Builder<'a, N> {
     #[inline(always)]
     fn node_end(&mut self, at: &TokenSpan<'a>) -> Result<NodeTail, AllocError>
         requires from { Within self.old.source self.old.from at.now.start }
-        ensures before { IfOk result
-            (λ n. text_of n.before ≡ between self.old.from.rest at.now.start.rest) }
-        ensures terminator { IfOk result
-            (λ n. text_of n.terminator ≡ between at.now.start.rest at.now.end.rest) }
+        ensures before { IfOk result (λ n. text_of n.before ≡ between self.old.from.rest at.now.start.rest) }
+        ensures terminator { IfOk result (λ n. text_of n.terminator ≡ between at.now.start.rest at.now.end.rest) }
         ensures span { IfOk result
             (λ n. n.span ≡ span_of self.old.source.text self.old.under.start.rest at.now.start.rest) }
-        ensures rest { self.new ≡ record self.old { source = self.new.source } }
-        ensures same { Recounted self.old.source self.new.source }
-        ensures sliced { OnOk result
-            (Sliced (bytes self.old.from.rest) (bytes at.now.end.rest) self.old.source.steps self.new.source.steps) }
+        ensures slices { Slices self.old.from at.now.end self.old result self.new }
     {
         let before = self.source.text(&self.from, &at.start)?;
         let terminator = self.source.token(at)?;
@@ -264,16 +255,8 @@ impl<'a, N: ParsedNode> Builder<'a, N> {
     /// Takes the current node, whose terminator is the token, and appends it to the nodes.
     pub(super) fn push_ended(&mut self, at: &TokenSpan<'a>) -> Result<(), AllocError>
         requires from { Within self.old.source self.old.from at.now.start }
-        ensures is { OnOk result (nodes_now N.tree self.new ≡ machine.ended
-            (machine.closed self.old.source.text (Some (under_view self.old.under)) no_children []
-            (between self.old.from.rest at.now.start.rest) (between at.now.start.rest at.now.end.rest)
-            at.now.start.rest)
-            (nodes_now N.tree self.old)) }
-        ensures rest { OnOk result (self.new ≡
-            record self.old { source = self.new.source; under = self.new.under; nodes = self.new.nodes }) }
-        ensures same { Recounted self.old.source self.new.source }
-        ensures sliced { OnOk result
-            (Sliced (bytes self.old.from.rest) (bytes at.now.end.rest) self.old.source.steps self.new.source.steps) }
+        ensures { Appends N.tree (ended_node N.tree self.old (under_view self.old.under) at.now) at.now.end
+            self.old result self.new }
     {
         if self.under.ty.is_none() {
             return self.push_of_type(None, at);
@@ -285,16 +268,8 @@ impl<'a, N: ParsedNode> Builder<'a, N> {
     #[inline(never)]
     fn push_typed(&mut self, at: &TokenSpan<'a>) -> Result<(), AllocError>
         requires from { Within self.old.source self.old.from at.now.start }
-        ensures is { OnOk result (nodes_now N.tree self.new ≡ machine.ended
-            (machine.closed self.old.source.text (Some (under_view self.old.under)) no_children []
-            (between self.old.from.rest at.now.start.rest) (between at.now.start.rest at.now.end.rest)
-            at.now.start.rest)
-            (nodes_now N.tree self.old)) }
-        ensures rest { OnOk result (self.new ≡
-            record self.old { source = self.new.source; under = self.new.under; nodes = self.new.nodes }) }
-        ensures same { Recounted self.old.source self.new.source }
-        ensures sliced { OnOk result
-            (Sliced (bytes self.old.from.rest) (bytes at.now.end.rest) self.old.source.steps self.new.source.steps) }
+        ensures { Appends N.tree (ended_node N.tree self.old (under_view self.old.under) at.now) at.now.end
+            self.old result self.new }
     {
         let ty = self.take_type();
         self.push_of_type(ty, at)
@@ -304,17 +279,9 @@ impl<'a, N: ParsedNode> Builder<'a, N> {
     #[inline(always)]
     fn push_of_type(&mut self, ty: Option<TypeParts>, at: &TokenSpan<'a>) -> Result<(), AllocError>
         requires from { Within self.old.source self.old.from at.now.start }
-        ensures is { OnOk result (nodes_now N.tree self.new ≡ machine.ended
-            (machine.closed self.old.source.text
-            (Some (record (under_view self.old.under) { ty = option_map type_view ty })) no_children []
-            (between self.old.from.rest at.now.start.rest) (between at.now.start.rest at.now.end.rest)
-            at.now.start.rest)
-            (nodes_now N.tree self.old)) }
-        ensures rest { OnOk result (self.new ≡
-            record self.old { source = self.new.source; under = self.new.under; nodes = self.new.nodes }) }
-        ensures same { Recounted self.old.source self.new.source }
-        ensures sliced { OnOk result
-            (Sliced (bytes self.old.from.rest) (bytes at.now.end.rest) self.old.source.steps self.new.source.steps) }
+        ensures { Appends N.tree (ended_node N.tree self.old (record (under_view self.old.under) {
+          ty = option_map type_view ty;
+        }) at.now) at.now.end self.old result self.new }
     {
         let ending = self.node_end(at)?;
         self.under.entries.fit()?;
@@ -329,16 +296,8 @@ impl<'a, N: ParsedNode> Builder<'a, N> {
     #[inline(always)]
     pub(super) fn push_kept(&mut self, at: &TokenSpan<'a>) -> Result<(), AllocError>
         requires from { Within self.old.source self.old.from at.now.start }
-        ensures is { OnOk result (nodes_now N.tree self.new ≡ machine.ended
-            (machine.closed_kept self.old.source.text (Some (kept_by N.tree self.old))
-            (between self.old.from.rest at.now.start.rest) (between at.now.start.rest at.now.end.rest)
-            at.now.start.rest)
-            (nodes_now N.tree self.old)) }
-        ensures rest { OnOk result (self.new ≡
-            record self.old { source = self.new.source; under = self.new.under; before = self.new.before; block = self.new.block; nodes = self.new.nodes }) }
-        ensures same { Recounted self.old.source self.new.source }
-        ensures sliced { OnOk result
-            (Sliced (bytes self.old.from.rest) (bytes at.now.end.rest) self.old.source.steps self.new.source.steps) }
+        ensures { Appends N.tree (ended_kept N.tree self.old (under_view self.old.under) at.now) at.now.end
+            self.old result self.new }
     {
         if self.under.ty.is_none() {
             return self.push_kept_of_type(None, at);
@@ -350,16 +309,8 @@ impl<'a, N: ParsedNode> Builder<'a, N> {
     #[inline(never)]
     fn push_kept_typed(&mut self, at: &TokenSpan<'a>) -> Result<(), AllocError>
         requires from { Within self.old.source self.old.from at.now.start }
-        ensures is { OnOk result (nodes_now N.tree self.new ≡ machine.ended
-            (machine.closed_kept self.old.source.text (Some (kept_by N.tree self.old))
-            (between self.old.from.rest at.now.start.rest) (between at.now.start.rest at.now.end.rest)
-            at.now.start.rest)
-            (nodes_now N.tree self.old)) }
-        ensures rest { OnOk result (self.new ≡
-            record self.old { source = self.new.source; under = self.new.under; before = self.new.before; block = self.new.block; nodes = self.new.nodes }) }
-        ensures same { Recounted self.old.source self.new.source }
-        ensures sliced { OnOk result
-            (Sliced (bytes self.old.from.rest) (bytes at.now.end.rest) self.old.source.steps self.new.source.steps) }
+        ensures { Appends N.tree (ended_kept N.tree self.old (under_view self.old.under) at.now) at.now.end
+            self.old result self.new }
     {
         let ty = self.take_type();
         self.push_kept_of_type(ty, at)
@@ -373,20 +324,9 @@ impl<'a, N: ParsedNode> Builder<'a, N> {
         at: &TokenSpan<'a>,
     ) -> Result<(), AllocError>
         requires from { Within self.old.source self.old.from at.now.start }
-        ensures is { OnOk result (nodes_now N.tree self.new ≡ machine.ended
-            (machine.closed_kept self.old.source.text
-            (Some (record (kept_by N.tree self.old) {
-              under =
-                  record (under_view self.old.under) { ty = option_map type_view ty };
-            }))
-            (between self.old.from.rest at.now.start.rest) (between at.now.start.rest at.now.end.rest)
-            at.now.start.rest)
-            (nodes_now N.tree self.old)) }
-        ensures rest { OnOk result (self.new ≡
-            record self.old { source = self.new.source; under = self.new.under; before = self.new.before; block = self.new.block; nodes = self.new.nodes }) }
-        ensures same { Recounted self.old.source self.new.source }
-        ensures sliced { OnOk result
-            (Sliced (bytes self.old.from.rest) (bytes at.now.end.rest) self.old.source.steps self.new.source.steps) }
+        ensures { Appends N.tree (ended_kept N.tree self.old (record (under_view self.old.under) {
+          ty = option_map type_view ty;
+        }) at.now) at.now.end self.old result self.new }
     {
         let ending = self.node_end(at)?;
         self.nodes.make_room()?;

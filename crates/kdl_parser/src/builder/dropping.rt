@@ -7,11 +7,11 @@ ghost use Rattle.std.specs.Prelude.{◌≡◌, false};
 
 use super::content::put;
 use super::{Builder, TakeFailure};
-use crate::node_parts::{DocumentParts, ParsedNode};
+use crate::node_parts::ParsedNode;
 use kdl_control::{Control, Phase};
 use kdl_entry::parsing::parts::empty;
 use kdl_lexer::{TokenKind, TokenSpan};
-use kdl_text::cursor::{Checkpoint, Piece};
+use kdl_text::cursor::Piece;
 use std::alloc::{AllocError, Global};
 
 /// An entry or a block of the current node that is slashdashed.
@@ -55,7 +55,7 @@ impl Dropped {
     ghost use Rattle.kdl_control.specs.Internal.Views.{phase_view};
     ghost use Rattle.kdl_lexer.specs.Internal.Handed.{kind_view};
     ghost use Rattle.kdl_parser.specs.Internal.Building.{phase_after, reading_view};
-    ghost use Rattle.kdl_parser.specs.Internal.Dropping.{after_slashdash, is_over, may_end, next, part};
+    ghost use Rattle.kdl_parser.specs.Internal.Dropping.{after_slashdash, is_over, next, part};
     ghost use Rattle.std.specs.Prelude.{[], true, IfOk, MatchOption, Some, None, if◌then◌else◌};
 
     /// What is slashdashed, directly after the `/-` of the phase.
@@ -104,30 +104,6 @@ impl Dropped {
         }
     }
 
-    /// The phase at the end of the text, if what is slashdashed may end there.
-    pub(super) fn phase_at_end(&self) -> Option<Phase>
-        ensures { MatchOption result (may_end (reading_view self.now) ≡ false)
-            (λ p. (may_end (reading_view self.now) ≡ true) × (p ≡ phase_after self.now)) }
-    {
-        match self {
-            Dropped::Nothing => None,
-            Dropped::Node(control) => {
-                if control.may_end() {
-                    Some(Phase::Gap)
-                } else {
-                    None
-                }
-            }
-            Dropped::Part(part) => {
-                if part.control.may_end() {
-                    Some(part.control.phase())
-                } else {
-                    None
-                }
-            }
-        }
-    }
-
     /// Takes a token. Returns false if it may not be here.
     #[inline(always)]
     fn take(&mut self, kind: &TokenKind) -> Result<bool, AllocError>
@@ -144,71 +120,59 @@ impl Dropped {
 }
 
 impl<'a, N: ParsedNode> Builder<'a, N> {
-    ghost use Rattle.kdl_entry.specs.Internal.Counted.{Recounted, Within};
     ghost use Rattle.kdl_lexer.specs.Internal.Handed.{kind_view};
-    ghost use Rattle.kdl_lexer.specs.declared.lexer.TokenKind.TheVariants.{Space};
+    ghost use Rattle.kdl_lexer.specs.Tokens.{space, string};
     ghost use Rattle.kdl_parser.specs.Internal.Building.{reading_view, state_view, Placed};
-    ghost use Rattle.kdl_parser.specs.Internal.Answered.{Finished};
-    ghost use Rattle.kdl_parser.specs.Internal.Counted.{unsliced, SlicedOn};
     ghost use Rattle.kdl_parser.specs.Internal.Dropping.{is_over, is_reading};
-    ghost use Rattle.kdl_parser.specs.Internal.Events.{is_building, is_live};
-    ghost use Rattle.kdl_lexer.specs.Tokens.{string};
-    ghost use Rattle.kdl_parser.specs.Internal.States.{document_now, DropsLike, Takes, TakesToken};
-    ghost use Rattle.kdl_parser.specs.declared.builder.dropping.Dropped.TheVariants.{Nothing};
-    ghost use Rattle.std.specs.Prelude.{[], true};
+    ghost use Rattle.kdl_parser.specs.Internal.Events.{is_building};
+    ghost use Rattle.kdl_parser.specs.Internal.States.{TakesToken};
+    ghost use Rattle.kdl_parser.specs.Internal.Turns.{Drops, IsLeft, TakesLike};
+    ghost use Rattle.std.specs.Prelude.{true};
 
     /// Takes a token of what is slashdashed. The text of a string makes no difference.
     #[inline(always)]
-    fn drop_token(&mut self, kind: TokenKind, at: &TokenSpan<'a>) -> Result<(), TakeFailure>
+    fn drop_token(&mut self, kind: &TokenKind, at: &TokenSpan<'a>) -> Result<(), TakeFailure>
         requires reading { is_reading (reading_view self.old.dropped) ≡ true }
-        requires here { is_over (kind_view kind) (reading_view self.old.dropped) ≡ false }
-        ensures { DropsLike N.tree self.old (kind_view kind) at.now result self.new }
+        requires here { is_over (kind_view kind.now) (reading_view self.old.dropped) ≡ false }
+        ensures { TakesLike N.tree self.old (kind_view kind.now) at.now result self.new }
     {
-        if self.dropped.take(&kind)? {
+        if self.dropped.take(kind)? {
             Ok(())
         } else {
             Err(TakeFailure::Unexpected)
         }
     }
 
-    /// Takes the first token after a `/-`. The text of a string makes no difference.
+    /// Ends what is slashdashed if it is over before a token of this kind. Returns false if it is not.
     #[inline(always)]
-    fn drop_first(&mut self, kind: TokenKind, at: &TokenSpan<'a>) -> Result<(), TakeFailure>
-        requires live { self.old.dropped ≡ Nothing }
-        requires phase { is_live self.old.phase ≡ false }
-        ensures { DropsLike N.tree self.old (kind_view kind) at.now result self.new }
+    pub(super) fn leave_dropped(&mut self, kind: &TokenKind) -> Result<bool, AllocError>
+        ensures { IsLeft N.tree self.old (kind_view kind.now) result self.new }
     {
-        let dropped = Dropped::after_slashdash(self.source.alloc(), self.phase);
-        put(&mut self.dropped, dropped);
-        self.drop_token(kind, at)
+        let Some(phase) = self.dropped.phase_at(kind) else {
+            return Ok(false);
+        };
+        self.dropped = Dropped::Nothing;
+        self.settle_word()?;
+        self.phase = phase;
+        Ok(true)
     }
 
-    /// Takes a token if nothing slashdashed is being read.
+    /// Takes the first token after a `/-`, or one of what is slashdashed. Returns `None` if what is slashdashed is over
+    /// before the token, which is then still to be taken. The text of a string makes no difference.
     #[inline(always)]
-    fn take_kept(&mut self, kind: TokenKind, at: &TokenSpan<'a>) -> Result<(), TakeFailure>
-        requires live { self.old.dropped ≡ Nothing }
-        requires placed { Placed self.old.source.text (state_view N.tree self.old) at.now.start.rest }
-        ensures { Takes N.tree self.old kind at.now result self.new }
+    fn drops(&mut self, kind: &TokenKind, at: &TokenSpan<'a>) -> Option<Result<(), TakeFailure>>
+        requires { is_building self.old.dropped self.old.phase ≡ false }
+        ensures { Drops N.tree self.old (kind_view kind.now) at.now result self.new }
     {
-        if self.is_building() {
-            self.take_live(kind, at)
-        } else {
-            self.drop_first(kind, at)
+        if let Dropped::Nothing = self.dropped {
+            let dropped = Dropped::after_slashdash(self.source.alloc(), self.phase);
+            put(&mut self.dropped, dropped);
+            return Some(self.drop_token(kind, at));
         }
-    }
-
-    /// Takes a run of spaces if nothing slashdashed is being read.
-    #[inline(always)]
-    fn space_kept(&mut self, at: &TokenSpan<'a>) -> Result<(), TakeFailure>
-        requires live { self.old.dropped ≡ Nothing }
-        requires placed { Placed self.old.source.text (state_view N.tree self.old) at.now.start.rest }
-        ensures { Takes N.tree self.old Space at.now result self.new }
-    {
-        if self.is_building() {
-            self.phase = self.phase.spaced();
-            Ok(())
-        } else {
-            self.drop_first(TokenKind::Space, at)
+        match self.leave_dropped(kind) {
+            Ok(true) => None,
+            Ok(false) => Some(self.drop_token(kind, at)),
+            Err(_) => Some(Err(TakeFailure::Memory)),
         }
     }
 
@@ -221,25 +185,29 @@ impl<'a, N: ParsedNode> Builder<'a, N> {
     ) -> Result<(), TakeFailure>
         requires dropping { is_building self.old.dropped self.old.phase ≡ false }
         requires placed { Placed self.old.source.text (state_view N.tree self.old) at.now.start.rest }
-        ensures { Takes N.tree self.old kind at.now result self.new }
+        ensures { TakesToken N.tree self.old (kind_view kind) at.now result self.new }
     {
-        if let Dropped::Nothing = self.dropped {
-            return self.drop_first(kind, at);
+        match self.drops(&kind, at) {
+            Some(taken) => taken,
+            None => self.take_live(kind, at),
         }
-        match self.dropped.phase_at(&kind) {
-            Some(phase) => {
-                self.dropped = Dropped::Nothing;
-                self.settle_word()?;
-                self.phase = phase;
-                self.take_kept(kind, at)
-            }
-            None => self.drop_token(kind, at),
+    }
+
+    /// Takes a run of spaces in or after what is slashdashed, or directly after a `/-`.
+    #[inline(never)]
+    pub(super) fn drop_space(&mut self, at: &TokenSpan<'a>) -> Result<(), TakeFailure>
+        requires { is_building self.old.dropped self.old.phase ≡ false }
+        ensures { TakesToken N.tree self.old space at.now result self.new }
+    {
+        match self.drops(&TokenKind::Space, at) {
+            Some(taken) => taken,
+            None => self.take_blank(at),
         }
     }
 
     /// Takes a bare string in or after what is slashdashed, or directly after a `/-`. It is copied only if it is kept.
     #[inline(never)]
-    pub(super) fn drop_bare(
+    pub(super) fn drop_word(
         &mut self,
         word: &Piece<'a>,
         at: &TokenSpan<'a>,
@@ -248,60 +216,13 @@ impl<'a, N: ParsedNode> Builder<'a, N> {
         requires placed { Placed self.old.source.text (state_view N.tree self.old) at.now.start.rest }
         ensures { TakesToken N.tree self.old (string word.now) at.now result self.new }
     {
-        let dropped = TokenKind::String(empty(self.source.alloc()));
-        if let Dropped::Nothing = self.dropped {
-            return self.drop_first(dropped, at);
-        }
-        match self.dropped.phase_at(&dropped) {
-            Some(_) => {
+        let kind = TokenKind::String(empty(self.source.alloc()));
+        match self.drops(&kind, at) {
+            Some(taken) => taken,
+            None => {
                 let text = word.to_string(self.source.alloc())?;
-                self.take_dropped(TokenKind::String(text), at)
+                self.take_live(TokenKind::String(text), at)
             }
-            None => self.drop_token(dropped, at),
-        }
-    }
-
-    /// Takes a run of spaces in or after what is slashdashed, or directly after a `/-`.
-    #[inline(never)]
-    pub(super) fn drop_space(&mut self, at: &TokenSpan<'a>) -> Result<(), TakeFailure>
-        requires dropping { is_building self.old.dropped self.old.phase ≡ false }
-        requires placed { Placed self.old.source.text (state_view N.tree self.old) at.now.start.rest }
-        ensures { Takes N.tree self.old Space at.now result self.new }
-    {
-        if let Dropped::Nothing = self.dropped {
-            return self.drop_first(TokenKind::Space, at);
-        }
-        match self.dropped.phase_at(&TokenKind::Space) {
-            Some(phase) => {
-                self.dropped = Dropped::Nothing;
-                self.settle_word()?;
-                self.phase = phase;
-                self.space_kept(at)
-            }
-            None => self.drop_token(TokenKind::Space, at),
-        }
-    }
-
-    /// Returns the document at the end of the text, after what is slashdashed.
-    pub(super) fn finish_dropped(
-        &mut self,
-        here: &Checkpoint<'a>,
-    ) -> Result<DocumentParts<N>, TakeFailure>
-        requires reading { is_reading (reading_view self.old.dropped) ≡ true }
-        requires end { here.now.rest ≡ [] }
-        requires from { Within self.old.source self.old.from here.now }
-        ensures finished { Finished N.tree (document_now N.tree self.old) result }
-        ensures same { Recounted self.old.source self.new.source }
-        ensures sliced { SlicedOn result (unsliced self.old) 0 self.old.source.steps self.new.source.steps }
-    {
-        match self.dropped.phase_at_end() {
-            Some(phase) => {
-                self.dropped = Dropped::Nothing;
-                self.settle_word()?;
-                self.phase = phase;
-                self.finish_at(here)
-            }
-            None => Err(TakeFailure::Unexpected),
         }
     }
 }

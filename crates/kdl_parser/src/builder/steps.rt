@@ -2,11 +2,12 @@
 #![tactic(auto, using(crate::proofs::Rules::steps))]
 
 ghost use Rattle.kdl_entry.specs.Internal.Building.{key_view, type_view};
-ghost use Rattle.kdl_entry.specs.Internal.Counted.{EndsIn, Recounted, Within};
-ghost use Rattle.kdl_parser.specs.Internal.Building.{boxed_type, in_phase, node_now, state_view, under_view, Does};
+ghost use Rattle.kdl_entry.specs.Internal.Counted.{EndsIn};
+ghost use Rattle.kdl_parser.specs.Internal.Building.{boxed_type, in_phase, node_now, state_view, under_view};
 ghost use Rattle.kdl_parser.specs.Internal.Counted.{unsliced};
 ghost use Rattle.kdl_parser.specs.Internal.Events.{keyed_opened, type_ended, type_named};
 ghost use Rattle.kdl_parser.specs.Internal.States.{
+  AfterNode,
   argument_slot,
   around,
   around_kept,
@@ -23,6 +24,9 @@ ghost use Rattle.kdl_parser.specs.Internal.States.{
   node_ended,
   property_opened,
   Reaches,
+  Ready,
+  ReadyInside,
+  Settles,
   Steps,
   type_now,
   value_opened,
@@ -59,13 +63,7 @@ impl<'a, N: ParsedNode> Builder<'a, N> {
     /// Turns the pending string into an argument.
     #[inline(always)]
     pub(super) fn settle_word(&mut self) -> Result<(), AllocError>
-        ensures under { OnOk result (under_view self.new.under ≡ node_now self.old) }
-        ensures rest { OnOk result (self.new ≡ record self.old {
-          under = self.new.under;
-          waiting =
-              None;
-        }) }
-        ensures same { Recounted self.old.source self.new.source }
+        ensures { Settles self.old result self.new }
     {
         if self.waiting.is_none() {
             return Ok(());
@@ -75,13 +73,7 @@ impl<'a, N: ParsedNode> Builder<'a, N> {
 
     /// Turns the pending string, which is there, into an argument.
     fn settle_waiting(&mut self) -> Result<(), AllocError>
-        ensures under { OnOk result (under_view self.new.under ≡ node_now self.old) }
-        ensures rest { OnOk result (self.new ≡ record self.old {
-          under = self.new.under;
-          waiting =
-              None;
-        }) }
-        ensures same { Recounted self.old.source self.new.source }
+        ensures { Settles self.old result self.new }
     {
         match self.waiting.take() {
             Some(word) => settle(&self.source, &self.from, word, &mut self.under),
@@ -91,13 +83,10 @@ impl<'a, N: ParsedNode> Builder<'a, N> {
 
     /// Ends the current node, which has no block.
     pub(super) fn end_node(&mut self, at: &TokenSpan<'a>) -> Result<(), TakeFailure>
-        requires live { self.old.dropped ≡ Nothing }
-        requires from { Within self.old.source self.old.from at.now.start }
-        ensures ended { Reaches N.tree (node_ended N.tree self.old at.now.start at.now.end) (bytes
-            self.old.from.rest) self.old result self.new }
-        ensures live { OnOk result (self.new.dropped ≡ Nothing) }
-        ensures from { OnOk result (self.new.from ≡ at.now.end) }
-        ensures unsliced { OnOk result (unsliced self.new ≡ bytes self.new.from.rest) }
+        requires { Ready self.old at.now.start }
+        ensures ended { Reaches N.tree (node_ended N.tree self.old at.now.start at.now.end) self.old.from self.old
+            result self.new }
+        ensures after { OnOk result (AfterNode self.new at.now.end) }
     {
         self.settle_word()?;
         self.push_ended(at)?;
@@ -108,13 +97,10 @@ impl<'a, N: ParsedNode> Builder<'a, N> {
 
     /// Ends the current node, which has a block.
     pub(super) fn end_kept(&mut self, at: &TokenSpan<'a>) -> Result<(), TakeFailure>
-        requires live { self.old.dropped ≡ Nothing }
-        requires from { Within self.old.source self.old.from at.now.start }
-        ensures ended { Reaches N.tree (kept_ended N.tree self.old at.now.start at.now.end) (bytes
-            self.old.from.rest) self.old result self.new }
-        ensures live { OnOk result (self.new.dropped ≡ Nothing) }
-        ensures from { OnOk result (self.new.from ≡ at.now.end) }
-        ensures unsliced { OnOk result (unsliced self.new ≡ bytes self.new.from.rest) }
+        requires { Ready self.old at.now.start }
+        ensures ended { Reaches N.tree (kept_ended N.tree self.old at.now.start at.now.end) self.old.from self.old
+            result self.new }
+        ensures after { OnOk result (AfterNode self.new at.now.end) }
     {
         self.settle_word()?;
         self.push_kept(at)?;
@@ -125,10 +111,9 @@ impl<'a, N: ParsedNode> Builder<'a, N> {
 
     /// Opens the block of the current node.
     pub(super) fn open_block(&mut self, at: &TokenSpan<'a>) -> Result<(), TakeFailure>
-        requires live { self.old.dropped ≡ Nothing }
-        requires from { Within self.old.source self.old.from at.now.start }
-        ensures { Reaches N.tree (block_opened N.tree self.old at.now.start at.now.end) (bytes
-            self.old.from.rest) self.old result self.new }
+        requires { Ready self.old at.now.start }
+        ensures { Reaches N.tree (block_opened N.tree self.old at.now.start at.now.end) self.old.from self.old result
+            self.new }
     {
         self.settle_word()?;
         let before = self.source.text(&self.from, &at.start)?;
@@ -148,8 +133,7 @@ impl<'a, N: ParsedNode> Builder<'a, N> {
 
     /// Continues with the node around the block that ends here.
     pub(super) fn close(&mut self, at: &TokenSpan<'a>) -> Result<(), TakeFailure>
-        requires live { self.old.dropped ≡ Nothing }
-        requires from { Within self.old.source self.old.from at.now.start }
+        requires { Ready self.old at.now.start }
         ensures { Steps N.tree (around N.tree self.old at.now.start at.now.end) (bytes
             self.old.from.rest) self.old result self.new }
     {
@@ -290,10 +274,9 @@ impl<'a, N: ParsedNode> Builder<'a, N> {
     ) -> Result<(), TakeFailure>
         requires live { self.old.dropped ≡ Nothing }
         requires inside { EndsIn self.old.source.text at.now.start.rest }
-        ensures { Reaches N.tree (given_at N.tree self.old (valued_slot self.old slot.entry
-            (option_map key_view given.key)) (option_map type_view given.ty) (value_tree
-            given.value) at.now.start at.now.end) (bytes at.now.start.rest) self.old result
-            self.new }
+        ensures { Reaches N.tree (given_at N.tree self.old (valued_slot self.old slot.entry (option_map key_view
+            given.key)) (option_map type_view given.ty) (value_tree given.value) at.now.start at.now.end)
+            at.now.start self.old result self.new }
     {
         self.under.entries.make_room()?;
         let entry = self.entry_between(slot, given, at)?;
@@ -304,10 +287,9 @@ impl<'a, N: ParsedNode> Builder<'a, N> {
 
     /// Keeps a string in a node, which may be a key, as the pending one.
     pub(super) fn wait(&mut self, value: String, at: &TokenSpan<'a>) -> Result<(), TakeFailure>
-        requires live { self.old.dropped ≡ Nothing }
-        requires from { Within self.old.source self.old.from at.now.start }
-        ensures { Reaches N.tree (worded N.tree self.old (text_of value) at.now.start at.now.end)
-            (bytes self.old.from.rest) self.old result self.new }
+        requires { Ready self.old at.now.start }
+        ensures { Reaches N.tree (worded N.tree self.old (text_of value) at.now.start at.now.end) self.old.from
+            self.old result self.new }
     {
         self.settle_word()?;
         // There is a space before it at least, so here and before an argument `Source::text` would look in vain whether
@@ -328,8 +310,7 @@ impl<'a, N: ParsedNode> Builder<'a, N> {
 
     /// Begins a property at its `=`. Its key is the pending string; without one the key is slashdashed.
     pub(super) fn open_property(&mut self, at: &TokenSpan<'a>) -> Result<(), TakeFailure>
-        requires live { self.old.dropped ≡ Nothing }
-        requires from { Within self.old.source self.old.from at.now.start }
+        requires { Ready self.old at.now.start }
         ensures { Steps N.tree (property_opened N.tree self.old at.now.start at.now.end) (bytes self.old.from.rest) self.old result self.new }
     {
         let Some(word) = self.waiting.take() else {
@@ -356,10 +337,9 @@ impl<'a, N: ParsedNode> Builder<'a, N> {
 
     /// Begins the type of a node at its `(`.
     pub(super) fn open_name(&mut self, at: &TokenSpan<'a>) -> Result<(), TakeFailure>
-        requires live { self.old.dropped ≡ Nothing }
-        requires from { Within self.old.source self.old.from at.now.start }
-        ensures { Reaches N.tree (name_opened N.tree self.old at.now.start at.now.end) (bytes
-            self.old.from.rest) self.old result self.new }
+        requires { Ready self.old at.now.start }
+        ensures { Reaches N.tree (name_opened N.tree self.old at.now.start at.now.end) self.old.from self.old result
+            self.new }
     {
         let leading = self.source.text(&self.from, &at.start)?;
         self.parts.open(leading, at);
@@ -374,10 +354,9 @@ impl<'a, N: ParsedNode> Builder<'a, N> {
         name: String,
         at: &TokenSpan<'a>,
     ) -> Result<(), TakeFailure>
-        requires live { self.old.dropped ≡ Nothing }
-        requires from { Within self.old.source self.old.parts.from at.now.start }
+        requires { ReadyInside self.old at.now.start }
         ensures { Reaches N.tree (type_named N.tree self.old owner (text_of name) at.now.start at.now.end)
-            (bytes self.old.parts.from.rest) self.old result self.new }
+            self.old.parts.from self.old result self.new }
     {
         self.parts.take_name(&mut self.source, name, at)?;
         self.phase = Phase::TypeName(owner);
@@ -386,10 +365,9 @@ impl<'a, N: ParsedNode> Builder<'a, N> {
 
     /// Takes the `)` of a type.
     pub(super) fn end_type(&mut self, owner: Owner, at: &TokenSpan<'a>) -> Result<(), TakeFailure>
-        requires live { self.old.dropped ≡ Nothing }
-        requires from { Within self.old.source self.old.parts.from at.now.start }
-        ensures { Reaches N.tree (type_ended N.tree self.old owner at.now.start at.now.end)
-            (bytes self.old.parts.from.rest) self.old result self.new }
+        requires { ReadyInside self.old at.now.start }
+        ensures { Reaches N.tree (type_ended N.tree self.old owner at.now.start at.now.end) self.old.parts.from
+            self.old result self.new }
     {
         self.parts.close(&mut self.source, at)?;
         self.phase = Phase::TypeDone(owner);
@@ -398,10 +376,9 @@ impl<'a, N: ParsedNode> Builder<'a, N> {
 
     /// Begins the type of a value at its `(`, after a key.
     pub(super) fn open_keyed_type(&mut self, at: &TokenSpan<'a>) -> Result<(), TakeFailure>
-        requires live { self.old.dropped ≡ Nothing }
-        requires from { Within self.old.source self.old.parts.from at.now.start }
-        ensures { Reaches N.tree (keyed_opened N.tree self.old at.now.start at.now.end)
-            (bytes self.old.parts.from.rest) self.old result self.new }
+        requires { ReadyInside self.old at.now.start }
+        ensures { Reaches N.tree (keyed_opened N.tree self.old at.now.start at.now.end) self.old.parts.from self.old
+            result self.new }
     {
         self.parts.open_typed(&mut self.source, at)?;
         self.phase = Phase::TypeOpen(Owner::Value);
@@ -410,10 +387,9 @@ impl<'a, N: ParsedNode> Builder<'a, N> {
 
     /// Begins the type of a value at its `(`.
     pub(super) fn open_value(&mut self, at: &TokenSpan<'a>) -> Result<(), TakeFailure>
-        requires live { self.old.dropped ≡ Nothing }
-        requires from { Within self.old.source self.old.from at.now.start }
-        ensures { Reaches N.tree (value_opened N.tree self.old at.now.start at.now.end) (bytes
-            self.old.from.rest) self.old result self.new }
+        requires { Ready self.old at.now.start }
+        ensures { Reaches N.tree (value_opened N.tree self.old at.now.start at.now.end) self.old.from self.old result
+            self.new }
     {
         self.settle_word()?;
         let leading = self.source.text(&self.from, &at.start)?;
@@ -428,11 +404,9 @@ impl<'a, N: ParsedNode> Builder<'a, N> {
         value: KdlValue,
         at: &TokenSpan<'a>,
     ) -> Result<(), TakeFailure>
-        requires live { self.old.dropped ≡ Nothing }
-        requires from { Within self.old.source self.old.from at.now.start }
-        ensures { Reaches N.tree (given_at N.tree self.old (argument_slot self.old at.now.start)
-            None (value_tree value) at.now.start at.now.end) (bytes self.old.from.rest) self.old
-            result self.new }
+        requires { Ready self.old at.now.start }
+        ensures { Reaches N.tree (given_at N.tree self.old (argument_slot self.old at.now.start) None (value_tree
+            value) at.now.start at.now.end) self.old.from self.old result self.new }
     {
         self.settle_word()?;
         let place = self.source.piece(&self.from, &at.start);
@@ -464,11 +438,10 @@ impl<'a, N: ParsedNode> Builder<'a, N> {
         value: KdlValue,
         at: &TokenSpan<'a>,
     ) -> Result<(), TakeFailure>
-        requires live { self.old.dropped ≡ Nothing }
-        requires from { Within self.old.source self.old.parts.from at.now.start }
-        ensures { Reaches N.tree (given_at N.tree self.old (parts_value_slot self.old (option_map
-            key_view self.old.parts.key)) (type_now self.old at.now.start) (value_tree value)
-            at.now.start at.now.end) (bytes self.old.parts.from.rest) self.old result self.new }
+        requires { ReadyInside self.old at.now.start }
+        ensures { Reaches N.tree (given_at N.tree self.old (parts_value_slot self.old (option_map key_view
+            self.old.parts.key)) (type_now self.old at.now.start) (value_tree value) at.now.start at.now.end)
+            self.old.parts.from self.old result self.new }
     {
         let ty = self.parts.type_parts(&mut self.source, &at.start)?;
         let key = self.parts.key.take();
@@ -490,11 +463,10 @@ impl<'a, N: ParsedNode> Builder<'a, N> {
         value: KdlValue,
         at: &TokenSpan<'a>,
     ) -> Result<(), TakeFailure>
-        requires live { self.old.dropped ≡ Nothing }
-        requires from { Within self.old.source self.old.parts.from at.now.start }
-        ensures { Reaches N.tree (given_at N.tree self.old (parts_value_slot self.old (key_now
-            self.old at.now.start)) None (value_tree value) at.now.start at.now.end) (bytes
-            self.old.parts.from.rest) self.old result self.new }
+        requires { ReadyInside self.old at.now.start }
+        ensures { Reaches N.tree (given_at N.tree self.old (parts_value_slot self.old (key_now self.old
+            at.now.start)) None (value_tree value) at.now.start at.now.end) self.old.parts.from self.old result
+            self.new }
     {
         let key = self.parts.key_parts(&mut self.source, &at.start)?;
         let Slot { leading, start } = self.parts_slot();
@@ -510,11 +482,9 @@ impl<'a, N: ParsedNode> Builder<'a, N> {
 
     /// Takes a string that is a node's name.
     pub(super) fn name_node(&mut self, name: String, at: &TokenSpan<'a>) -> Result<(), TakeFailure>
-        requires live { self.old.dropped ≡ Nothing }
-        requires from { Within self.old.source self.old.from at.now.start }
-        ensures { Reaches N.tree (given_at N.tree self.old (name_slot self.old at.now.start) None
-            (text (text_of name)) at.now.start at.now.end) (bytes self.old.from.rest) self.old
-            result self.new }
+        requires { Ready self.old at.now.start }
+        ensures { Reaches N.tree (given_at N.tree self.old (name_slot self.old at.now.start) None (text (text_of
+            name)) at.now.start at.now.end) self.old.from self.old result self.new }
     {
         let leading = self.source.text(&self.from, &at.start)?;
         let slot = Slot {
@@ -528,11 +498,9 @@ impl<'a, N: ParsedNode> Builder<'a, N> {
 
     /// Takes a bare string that is a node's name.
     pub(super) fn name_bare(&mut self, at: &TokenSpan<'a>) -> Result<(), TakeFailure>
-        requires live { self.old.dropped ≡ Nothing }
-        requires from { Within self.old.source self.old.from at.now.start }
-        ensures { Reaches N.tree (given_at N.tree self.old (name_slot self.old at.now.start) None
-            (text (between at.now.start.rest at.now.end.rest)) at.now.start at.now.end) (bytes
-            self.old.from.rest) self.old result self.new }
+        requires { Ready self.old at.now.start }
+        ensures { Reaches N.tree (given_at N.tree self.old (name_slot self.old at.now.start) None (text (between
+            at.now.start.rest at.now.end.rest)) at.now.start at.now.end) self.old.from self.old result self.new }
     {
         let leading = self.source.text(&self.from, &at.start)?;
         let slot = Slot {
@@ -546,11 +514,9 @@ impl<'a, N: ParsedNode> Builder<'a, N> {
 
     /// Takes a string that is a node's name and has a type.
     pub(super) fn name_typed(&mut self, name: String, at: &TokenSpan<'a>) -> Result<(), TakeFailure>
-        requires live { self.old.dropped ≡ Nothing }
-        requires from { Within self.old.source self.old.parts.from at.now.start }
-        ensures { Reaches N.tree (given_at N.tree self.old (parts_name_slot self.old) (type_now
-            self.old at.now.start) (text (text_of name)) at.now.start at.now.end) (bytes
-            self.old.parts.from.rest) self.old result self.new }
+        requires { ReadyInside self.old at.now.start }
+        ensures { Reaches N.tree (given_at N.tree self.old (parts_name_slot self.old) (type_now self.old
+            at.now.start) (text (text_of name)) at.now.start at.now.end) self.old.parts.from self.old result self.new }
     {
         let ty = self.parts.type_parts(&mut self.source, &at.start)?;
         let slot = self.parts_slot();
@@ -563,11 +529,8 @@ impl<'a, N: ParsedNode> Builder<'a, N> {
     /// Takes a `/-` in a node, before its block.
     pub(super) fn go_past_slashdash(&mut self) -> Result<(), TakeFailure>
         requires live { self.old.dropped ≡ Nothing }
-        ensures did { Does (in_phase N.tree self.old (machine.entry_slashdash (Some (node_now
-            self.old)))) result (state_view N.tree self.new) }
-        ensures same { Recounted self.old.source self.new.source }
-        ensures steps { OnOk result (self.new.source.steps ≡ self.old.source.steps) }
-        ensures unsliced { OnOk result (unsliced self.new ≡ bytes self.old.from.rest) }
+        ensures { Reaches N.tree (in_phase N.tree self.old (machine.entry_slashdash (Some (node_now self.old))))
+            self.old.from self.old result self.new }
     {
         self.settle_word()?;
         self.phase = Phase::EntrySlashdash;
@@ -576,8 +539,7 @@ impl<'a, N: ParsedNode> Builder<'a, N> {
 
     /// Takes the `}` after a node without a block.
     pub(super) fn close_node(&mut self, at: &TokenSpan<'a>) -> Result<(), TakeFailure>
-        requires live { self.old.dropped ≡ Nothing }
-        requires from { Within self.old.source self.old.from at.now.start }
+        requires { Ready self.old at.now.start }
         ensures { Steps N.tree (around_node N.tree self.old at.now.start at.now.end) (bytes self.old.from.rest) self.old result self.new }
     {
         self.end_node(&nothing_at(&at.start))?;
@@ -586,8 +548,7 @@ impl<'a, N: ParsedNode> Builder<'a, N> {
 
     /// Takes the `}` after a node with a block.
     pub(super) fn close_kept(&mut self, at: &TokenSpan<'a>) -> Result<(), TakeFailure>
-        requires live { self.old.dropped ≡ Nothing }
-        requires from { Within self.old.source self.old.from at.now.start }
+        requires { Ready self.old at.now.start }
         ensures { Steps N.tree (around_kept N.tree self.old at.now.start at.now.end) (bytes self.old.from.rest) self.old result self.new }
     {
         self.end_kept(&nothing_at(&at.start))?;

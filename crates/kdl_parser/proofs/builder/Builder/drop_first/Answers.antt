@@ -1,8 +1,0 @@
-use Rattle.std.proofs.Common.{ap, ◌∙◌}
-use Rattle.kdl_lexer.specs.Internal.Handed.{kind_view}
-use Rattle.kdl_parser.specs.Internal.Building.{reading_view}
-use Rattle.kdl_parser.proofs.Stepping.Dropped.{first_like}
-use Rattle.kdl_parser.proofs.builder.Builder.drop_first.Goals as goal
-
-pub returns : goal.returns
-returns g c = first_like g.N.ParsedNode.tree c.args.self.now c.put.new.place (kind_view c.args.kind) c.args.at.now c.drop_token.result c.drop_token.new.self c.requires.live c.requires.phase (ap reading_view c.put.ensures ∙ c.after_slashdash-dropped.ensures) c.drop_token.ensures
