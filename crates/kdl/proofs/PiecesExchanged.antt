@@ -1,6 +1,6 @@
 -- Where one entry is exchanged, put in or taken out, at whatever depth of blocks, its piece of the printed text is, and no other character.
-use Rattle.std.proofs.Common.{◌≡◌, ℕ, zero, suc, ◌+◌, List, [], ◌∷◌, ◌++◌, map, take, drop, slice_get, Option, Some, None, IfSome, IsSome, Result, Ok, Err, IfOk, OnOk, is_ok, if◌then◌else◌, unwrap_or, Vec, Global, option_and_then, option_map, add-one, append_assoc, ap, refl, ◌∙◌, sym, subst}
-use Rattle.std.proofs.lemmas.List.{append-nil, map-append, take-append-drop}
+use Rattle.std.proofs.Common.{◌≡◌, ℕ, ◌+◌, List, [], ◌∷◌, ◌++◌, map, slice_get, Option, Some, None, IfSome, IsSome, Result, Ok, Err, IfOk, OnOk, is_ok, if◌then◌else◌, unwrap_or, Vec, Global, option_and_then, option_map, append_assoc, ap, refl, ◌∙◌, sym, subst}
+use Rattle.std.proofs.lemmas.List.{append-nil, map-append}
 use Rattle.std.proofs.lemmas.Option.{none-some}
 use Rattle.std.specs.Vec.{with_item}
 use Rattle.kdl_text.specs.Chars.{Text}
@@ -8,7 +8,7 @@ use Rattle.kdl_entry.specs.Tree.{Entry, entry_tree}
 use Rattle.kdl_entry.specs.declared.entry.KdlEntry.{KdlEntry}
 use Rattle.kdl_grammar.specs.Print.{after_brace, before_block, before_brace, end_text, format_of, print_document, print_head, print_node, print_piece, print_pieces}
 use Rattle.kdl_grammar.specs.Tree.{Document, DocumentFormat, Head, node, children, children_of}
-use Rattle.kdl_parts.specs.Edits.{put_before, put_for, removed, replaced_place, under, without, IsInserted}
+use Rattle.kdl_parts.specs.Edits.{removed, replaced_place, under, IsInserted}
 use Rattle.kdl_parts.specs.EntryLists.{place_of, removed_place, sought, there}
 use Rattle.kdl_parts.specs.Formats.{document_format_tree}
 use Rattle.kdl_parts.specs.declared.key.NodeKey.{NodeKey}
@@ -26,6 +26,7 @@ use Rattle.kdl.specs.declared.document.KdlDocument.{KdlDocument}
 use Rattle.kdl.specs.declared.document.KdlDocument.TheViews.{out-KdlDocument, out-KdlNode, out-roll-KdlDocument}
 use Rattle.kdl.proofs.EditLaws.{entries_exchanged, entry_exchanged, node_exchanged}
 use Rattle.kdl.proofs.Finding.DocumentLookups.{found_there}
+use Rattle.kdl.proofs.Finding.ListLookups.{Splice, listed, splice_before, splice_for, splice_push, splice_without}
 use Rattle.kdl.proofs.Trees.{document_tree_out, node_tree_out, node_tree_roll}
 
 -- a piece of a piece
@@ -58,95 +59,62 @@ loan_exchanges now key n (Some e) h = λ w f. entry_piece n (key_place key n) (n
 abbrev pieces : List KdlEntry → Text
 pieces es = print_pieces (map entry_tree es)
 
-pieces_between : (a es z : List KdlEntry) → pieces (a ++ es ++ z) ≡ pieces a ++ pieces es ++ pieces z
+pieces_between : (a es z : List KdlEntry) → pieces (a ++ (es ++ z)) ≡ pieces a ++ (pieces es ++ pieces z)
 pieces_between a es z =
-    ap print_pieces (map-append entry_tree (a ++ es) z)
-    ∙ print_pieces-append (map entry_tree (a ++ es)) (map entry_tree z)
-    ∙ ap (λ t. print_pieces t ++ pieces z) (map-append entry_tree a es)
-    ∙ ap (λ t. t ++ pieces z) (print_pieces-append (map entry_tree a) (map entry_tree es))
+    ap print_pieces (map-append entry_tree a (es ++ z))
+    ∙ print_pieces-append (map entry_tree a) (map entry_tree (es ++ z))
+    ∙ ap (λ t. pieces a ++ t) (ap print_pieces (map-append entry_tree es z) ∙ print_pieces-append (map entry_tree es) (map entry_tree z))
 
 prints_entries : (n : KdlNode) (depth : ℕ) → print_node (node_tree n) depth ≡ head_of (node_tree n) depth ++ pieces (entries_of n) ++ tail_of (node_tree n) depth
 prints_entries n depth =
     ap (λ t. print_node t depth) (node_tree_out n)
     ∙ ap (λ t. head_of t depth ++ pieces (entries_of n) ++ tail_of t depth) (sym (node_tree_out n))
 
-moved : (h t : Text) (a l z : List KdlEntry) → h ++ pieces (a ++ l ++ z) ++ t ≡ (h ++ pieces a) ++ pieces l ++ (pieces z ++ t)
+moved : (h t : Text) (a l z : List KdlEntry) → h ++ pieces (a ++ (l ++ z)) ++ t ≡ (h ++ pieces a) ++ pieces l ++ (pieces z ++ t)
 moved h t a l z = ap (λ u. h ++ u ++ t) (pieces_between a l z) ∙ seam h (pieces a) (pieces l) (pieces z) t
   where
-    seam : (h b p c t : Text) → h ++ (b ++ p ++ c) ++ t ≡ (h ++ b) ++ p ++ (c ++ t)
+    seam : (h b p c t : Text) → h ++ (b ++ (p ++ c)) ++ t ≡ (h ++ b) ++ p ++ (c ++ t)
     seam h b p c t = simp append_assoc
 
-spliced : (n : KdlNode) (v : Vec KdlEntry Global) (a es fs z : List KdlEntry) → IsSome (out-KdlNode n).format → entries_of n ≡ a ++ es ++ z → v.items ≡ a ++ fs ++ z
-    → IsExchangedInNode (pieces es) (pieces fs) n (with_entries n v)
-spliced n v a es fs z f h k = record { prints = λ depth. at depth }
+spliced : (n : KdlNode) (v : Vec KdlEntry Global) (es fs : List KdlEntry) → IsSome (out-KdlNode n).format → Splice es fs (entries_of n) v.items → IsExchangedInNode (pieces es) (pieces fs) n (with_entries n v)
+spliced n v es fs f s = record { prints = λ depth. at depth }
   where
     at : (depth : ℕ) → IsExchanged (pieces es) (pieces fs) (print_node (node_tree n) depth) (print_node (node_tree (with_entries n v)) depth)
     at depth =
         let x = head_of (node_tree n) depth in
         let y = tail_of (node_tree n) depth in
         record {
-          before = x ++ pieces a;
-          after = pieces z ++ y;
-          was = prints_entries n depth ∙ ap (λ (l : List KdlEntry). x ++ pieces l ++ y) h ∙ moved x y a es z;
-          is = entries_exchanged n v f depth ∙ ap (λ (l : List KdlEntry). x ++ pieces l ++ y) k ∙ moved x y a fs z;
+          before = x ++ pieces s.before;
+          after = pieces s.after ++ y;
+          was = prints_entries n depth ∙ ap (λ (l : List KdlEntry). x ++ pieces l ++ y) s.was ∙ moved x y s.before es s.after;
+          is = entries_exchanged n v f depth ∙ ap (λ (l : List KdlEntry). x ++ pieces l ++ y) s.is ∙ moved x y s.before fs s.after;
         }
 
--- at most one entry
-abbrev listed : Option KdlEntry → List KdlEntry
-listed None = []
-listed (Some e) = e ∷ []
-
+-- at most one entry in place of at most one
 piece_listed : (o : Option KdlEntry) → pieces (listed o) ≡ piece_of o
 piece_listed None = refl
 piece_listed (Some e) = append-nil (print_piece (entry_tree e))
 
-exchanged_one : (n : KdlNode) (v : Vec KdlEntry Global) (a z : List KdlEntry) (o r : Option KdlEntry) → IsSome (out-KdlNode n).format → entries_of n ≡ a ++ (listed o ++ z) → v.items ≡ a ++ (listed r ++ z)
-    → IsExchangedInNode (piece_of o) (piece_of r) n (with_entries n v)
-exchanged_one n v a z o r f h k =
+exchanged_one : (n : KdlNode) (v : Vec KdlEntry Global) (o r : Option KdlEntry) → IsSome (out-KdlNode n).format → Splice (listed o) (listed r) (entries_of n) v.items → IsExchangedInNode (piece_of o) (piece_of r) n (with_entries n v)
+exchanged_one n v o r f s =
     subst (λ (t : Text). IsExchangedInNode t (piece_of r) n (with_entries n v)) (piece_listed o)
-    (subst (λ (t : Text). IsExchangedInNode (pieces (listed o)) t n (with_entries n v)) (piece_listed r)
-    (spliced n v a (listed o) (listed r) z f (h ∙ sym (append_assoc a (listed o) z)) (k ∙ sym (append_assoc a (listed r) z))))
-
--- the elements around a place
-split : (xs : List KdlEntry) (i : ℕ) → xs ≡ take i xs ++ (listed (slice_get xs i) ++ drop (suc i) xs)
-split [] zero = refl
-split [] (suc i) = refl
-split (x ∷ xs) zero = refl
-split (x ∷ xs) (suc i) = ap (λ l. x ∷ l) (split xs i)
-
-parts : (xs : List KdlEntry) (i : ℕ) → xs ≡ take i xs ++ (listed (slice_get xs i) ++ drop (i + 1) xs)
-parts xs i = rw add-one (split xs i)
-
--- an entry is put in the place of one, or last
-put_exchanges : (n : KdlNode) (v : Vec KdlEntry Global) (o : Option ℕ) (e : KdlEntry) → IsSome (out-KdlNode n).format → v.items ≡ put_for o e (entries_of n)
-    → IsExchangedInNode (piece_of (there o (entries_of n))) (print_piece (entry_tree e)) n (with_entries n v)
-put_exchanges n v None e f h = exchanged_one n v (entries_of n) [] None (Some e) f (sym (append-nil (entries_of n))) h
-put_exchanges n v (Some i) e f h = exchanged_one n v (take i (entries_of n)) (drop (i + 1) (entries_of n)) (slice_get (entries_of n) i) (Some e) f (parts (entries_of n) i) h
-
--- an entry is put before one, or last
-put_before_exchanges : (n : KdlNode) (v : Vec KdlEntry Global) (o : Option ℕ) (e : KdlEntry) → IsSome (out-KdlNode n).format → v.items ≡ put_before o e (entries_of n)
-    → IsExchangedInNode [] (print_piece (entry_tree e)) n (with_entries n v)
-put_before_exchanges n v None e f h = exchanged_one n v (entries_of n) [] None (Some e) f (sym (append-nil (entries_of n))) h
-put_before_exchanges n v (Some i) e f h = exchanged_one n v (take i (entries_of n)) (drop i (entries_of n)) None (Some e) f (sym (take-append-drop i (entries_of n))) h
-
--- an entry is taken out
-pub take_exchanges : (n : KdlNode) (v : Vec KdlEntry Global) (o : Option ℕ) → IsSome (out-KdlNode n).format → v.items ≡ without o (entries_of n)
-    → IsExchangedInNode (piece_of (there o (entries_of n))) [] n (with_entries n v)
-take_exchanges n v None f h = exchanged_one n v (entries_of n) [] None None f (sym (append-nil (entries_of n))) (h ∙ sym (append-nil (entries_of n)))
-take_exchanges n v (Some i) f h = exchanged_one n v (take i (entries_of n)) (drop (i + 1) (entries_of n)) (slice_get (entries_of n) i) None f (parts (entries_of n) i) h
+    (subst (λ (t : Text). IsExchangedInNode (pieces (listed o)) t n (with_entries n v)) (piece_listed r) (spliced n v (listed o) (listed r) f s))
 
 -- what `push`, `insert` and `remove` leave
 pub push_exchanges : {T E : Type 0} (r : Result T E) (e : KdlEntry) (n : KdlNode) (v : Vec KdlEntry Global) → v.items ≡ (if is_ok r then entries_of n ++ (e ∷ []) else entries_of n)
     → OnOk r (IsSome (out-KdlNode n).format → IsExchangedInNode [] (print_piece (entry_tree e)) n (with_entries n v))
-push_exchanges (Ok x) e n v h = λ f. put_before_exchanges n v None e f h
+push_exchanges (Ok x) e n v h = λ f. exchanged_one n v None (Some e) f (splice_push (entries_of n) v.items e h)
 push_exchanges (Err x) e n v h = tt
 
 inserted_exchanges : (key : NodeKey) (e : KdlEntry) (n : KdlNode) (v : Vec KdlEntry Global) → IsInserted key e (entries_of n) v.items → IsSome (out-KdlNode n).format
     → IsExchangedInNode (piece_of (there (replaced_place key (entries_of n)) (entries_of n))) (print_piece (under (sought key) (entry_tree e))) n (with_entries n v)
 inserted_exchanges (Key k) e n v d f =
-    let o = piece_of (there (place_of (Key k) (entries_of n)) (entries_of n)) in
-    subst (λ (t : Entry). IsExchangedInNode o (print_piece t) n (with_entries n v)) d.tree (put_exchanges n v (place_of (Key k) (entries_of n)) d.entry f d.items)
-inserted_exchanges (Index i) e n v d f = subst (λ (t : Entry). IsExchangedInNode [] (print_piece t) n (with_entries n v)) d.tree (put_before_exchanges n v (place_of (Index i) (entries_of n)) d.entry f d.items)
+    let old = there (place_of (Key k) (entries_of n)) (entries_of n) in
+    subst (λ (t : Entry). IsExchangedInNode (piece_of old) (print_piece t) n (with_entries n v)) d.tree
+    (exchanged_one n v old (Some d.entry) f (splice_for (entries_of n) v.items (place_of (Key k) (entries_of n)) d.entry d.items))
+inserted_exchanges (Index i) e n v d f =
+    subst (λ (t : Entry). IsExchangedInNode [] (print_piece t) n (with_entries n v)) d.tree
+    (exchanged_one n v None (Some d.entry) f (splice_before (entries_of n) v.items (place_of (Index i) (entries_of n)) d.entry d.items))
 
 pub insert_exchanges : {E : Type 0} (r : Result (Option KdlEntry) E) (key : NodeKey) (e : KdlEntry) (n : KdlNode) (v : Vec KdlEntry Global)
     → OnOk r (IsInserted key e (entries_of n) v.items) → IfOk r (λ o. o ≡ there (replaced_place key (entries_of n)) (entries_of n))
@@ -156,7 +124,8 @@ insert_exchanges (Err x) key e n v d h = tt
 
 pub remove_exchanges : (key : NodeKey) (n : KdlNode) (v : Vec KdlEntry Global) (o : Option KdlEntry) → v.items ≡ removed key (entries_of n) → o ≡ there (removed_place key (entries_of n)) (entries_of n)
     → IsSome (out-KdlNode n).format → IsExchangedInNode (piece_of o) [] n (with_entries n v)
-remove_exchanges key n v o h k f = subst (λ (x : Option KdlEntry). IsExchangedInNode (piece_of x) [] n (with_entries n v)) (sym k) (take_exchanges n v (removed_place key (entries_of n)) f h)
+remove_exchanges key n v o h k f = subst (λ (x : Option KdlEntry). IsExchangedInNode (piece_of x) [] n (with_entries n v)) (sym k)
+    (exchanged_one n v (there (removed_place key (entries_of n)) (entries_of n)) None f (splice_without (entries_of n) v.items (removed_place key (entries_of n)) h))
 
 -- a document of which one node is exchanged keeps the texts around its nodes
 format_kept : (d : KdlDocument) (i : ℕ) (m : KdlNode) → document_format_of (with_node d i m) ≡ document_format_of d

@@ -1,7 +1,8 @@
 -- What edits make of nodes and documents that read back.
-use Rattle.std.proofs.Common.{◌≡◌, ℕ, zero, suc, ◌+◌, Bool, true, false, List, [], ◌∷◌, ◌++◌, map, take, drop, set, slice_get, Option, Some, None, IfSome, Result, Ok, Err, OnOk, OnErr, IfOk, option_map, option_and_then, Vec, Global, sym, subst, ◌∙◌, arith}
-use Rattle.std.proofs.lemmas.List.Elements.{All-append, All-cons, All-drop, All-map, All-nil, All-take}
+use Rattle.std.proofs.Common.{◌≡◌, refl, ℕ, zero, suc, ◌+◌, Bool, true, false, List, [], ◌∷◌, ◌++◌, map, set, slice_get, Option, Some, None, IfSome, Result, Ok, Err, OnOk, OnErr, IfOk, option_map, option_and_then, Vec, Global, sym, subst, ◌∙◌, arith}
+use Rattle.std.proofs.lemmas.List.Elements.{All-append, All-cons, All-head, All-map, All-nil, All-tail}
 use Rattle.std.proofs.lemmas.List.Sorted.{All-permutation}
+use Rattle.std.proofs.lemmas.Result.{IfOk-weaker}
 use Rattle.std.specs.List.{All, items_where_true, list_all}
 use Rattle.std.specs.List.Retain.{IsFiltered}
 use Rattle.std.specs.List.Sorted.{IsPermutation}
@@ -22,7 +23,7 @@ use Rattle.kdl_entry.proofs.WellFormed.{name_scalars}
 use Rattle.kdl_grammar.specs.Data as data'
 use Rattle.kdl_grammar.specs.Grammar.{IsDocument, no_gap}
 use Rattle.kdl_grammar.specs.Laid.{LaidDocument, LaidNodeText}
-use Rattle.kdl_grammar.specs.Print.{print_document, print_node, trailing_text}
+use Rattle.kdl_grammar.specs.Print.{leading_text, print_document, print_node, trailing_text}
 use Rattle.kdl_grammar.specs.ReadsBack.{Rests, Anything, TextEnd, AddsNothing, IsGapBefore, last_rests, EntryReads, NodeReads, NodesRead, last_node, next_node, ContentReads, one_text, two_texts, with_nodes as content_nodes, BlockReads, block, DocumentReads}
 use Rattle.kdl_grammar.specs.Tree.{DocumentFormat, document, Node, node, Nodes, none, first, children_of, document_data, node_data}
 use Rattle.kdl_grammar.proofs.ReadingBack.Composing as composing
@@ -30,8 +31,8 @@ use Rattle.kdl_grammar.proofs.ReadingBack.Composing.{node_before}
 use Rattle.kdl_grammar.proofs.ReadingBack.Entries.{formless_reads, new_reads, value_reads}
 use Rattle.kdl_grammar.proofs.ReadingBack.LaidReads.{laid_reads, laid_node_reads}
 use Rattle.kdl_grammar.proofs.ReadingBack.Reads.{node_derived, reads_derived}
-use Rattle.kdl_parts.specs.Edits.{IsInserted, inserted, put_before, put_for, removed, under, without}
-use Rattle.kdl_parts.specs.EntryLists.{place_of, removed_place, sought}
+use Rattle.kdl_parts.specs.Edits.{IsInserted, inserted, removed, under}
+use Rattle.kdl_parts.specs.EntryLists.{place_of, removed_place, sought, there}
 use Rattle.kdl_parts.specs.Formats.{document_format_tree}
 use Rattle.kdl_parts.specs.declared.key.NodeKey.{NodeKey}
 use Rattle.kdl_parts.specs.declared.key.NodeKey.TheVariants.{Key, Index}
@@ -45,6 +46,7 @@ use Rattle.kdl.specs.declared.document.KdlDocument.{KdlDocument}
 use Rattle.kdl.specs.declared.document.KdlDocument.TheViews.{out-KdlDocument, out-KdlNode}
 use Rattle.kdl.specs.declared.node.KdlNode.{KdlNode}
 use Rattle.kdl.proofs.Finding.DocumentLookups.{found_there}
+use Rattle.kdl.proofs.Finding.ListLookups.{Splice, listed, splice_before, splice_for, splice_push, splice_set, splice_without}
 use Rattle.kdl.proofs.Trees.{document_tree_out, document_tree_roll, node_of, node_tree_out, node_tree_roll}
 
 -- entries
@@ -73,31 +75,40 @@ entries_exchanged n v f = exchanged n v f
 pub unformed_reads : (e : KdlEntry) → IsUnformed (entry_tree e) → EntryReadsBack e
 unformed_reads e u = formless_reads (entry_tree e) (record { plain = u.plain; key = name_scalars e.name; ty = name_scalars e.ty; value = u.value })
 
-either : (b : Bool) (xs ys zs : List KdlEntry) → zs ≡ (if b then xs else ys) → AllRead xs → AllRead ys → AllRead zs
-either true xs ys zs e c d = subst AllRead (sym e) c
-either false xs ys zs e c d = subst AllRead (sym e) d
+left_read : (es fs : List KdlEntry) → AllRead (es ++ fs) → AllRead es
+unfolding AllRead
+left_read [] fs c = All-nil EntryReadsBack
+left_read (e ∷ es) fs c = All-cons EntryReadsBack e es (All-head EntryReadsBack e (es ++ fs) c) (left_read es fs (All-tail EntryReadsBack e (es ++ fs) c))
+
+right_read : (es fs : List KdlEntry) → AllRead (es ++ fs) → AllRead fs
+unfolding AllRead
+right_read [] fs c = c
+right_read (e ∷ es) fs c = right_read es fs (All-tail EntryReadsBack e (es ++ fs) c)
+
+-- entries in place of others, which read back where those do
+spliced : (old new es fs : List KdlEntry) → Splice old new es fs → (AllRead old → AllRead new) → AllRead es → AllRead fs
+unfolding AllRead
+spliced old new es fs s f c =
+    let all : AllRead (s.before ++ (old ++ s.after)) = subst AllRead s.was c in
+    let rest = right_read s.before (old ++ s.after) all in
+    subst AllRead (sym s.is)
+    (All-append EntryReadsBack s.before (new ++ s.after) (left_read s.before (old ++ s.after) all) (All-append EntryReadsBack new s.after (f (left_read old s.after rest)) (right_read old s.after rest)))
+
+one_read : (e : KdlEntry) → EntryReadsBack e → AllRead (e ∷ [])
+unfolding AllRead
+one_read e x = All-cons EntryReadsBack e [] x (All-nil EntryReadsBack)
 
 pub push_reads : {T E : Type 0} (r : Result T E) (e : KdlEntry) (n : KdlNode) (v : Vec KdlEntry Global) → v.items ≡ (if is_ok r then entries_of n ++ (e ∷ []) else entries_of n) → EntryReadsBack e → ReadsAs n (with_entries n v)
-unfolding AllRead
-push_reads r e n v h x = exchanged n v (λ c. either (is_ok r) (entries_of n ++ (e ∷ [])) (entries_of n) v.items h (All-append EntryReadsBack (entries_of n) (e ∷ []) c (All-cons EntryReadsBack e [] x (All-nil EntryReadsBack))) c)
+push_reads (Ok a) e n v h x = exchanged n v (spliced [] (e ∷ []) (entries_of n) v.items (splice_push (entries_of n) v.items e h) (λ c. one_read e x))
+push_reads (Err a) e n v h x = exchanged n v (λ c. subst AllRead (sym h) c)
 
 -- an insertion
-put_for_reads : (o : Option ℕ) (e : KdlEntry) (es : List KdlEntry) → EntryReadsBack e → AllRead es → AllRead (put_for o e es)
-unfolding AllRead
-put_for_reads None e es x c = All-append EntryReadsBack es (e ∷ []) c (All-cons EntryReadsBack e [] x (All-nil EntryReadsBack))
-put_for_reads (Some i) e es x c = All-append EntryReadsBack (take i es) (e ∷ drop (i + 1) es) (All-take EntryReadsBack i es c) (All-cons EntryReadsBack e (drop (i + 1) es) x (All-drop EntryReadsBack (i + 1) es c))
-
-put_before_reads : (o : Option ℕ) (e : KdlEntry) (es : List KdlEntry) → EntryReadsBack e → AllRead es → AllRead (put_before o e es)
-unfolding AllRead
-put_before_reads None e es x c = All-append EntryReadsBack es (e ∷ []) c (All-cons EntryReadsBack e [] x (All-nil EntryReadsBack))
-put_before_reads (Some i) e es x c = All-append EntryReadsBack (take i es) (e ∷ drop i es) (All-take EntryReadsBack i es c) (All-cons EntryReadsBack e (drop i es) x (All-drop EntryReadsBack i es c))
-
-inserted_read : (key : NodeKey) (e : KdlEntry) (es : List KdlEntry) → EntryReadsBack e → AllRead es → AllRead (inserted key e es)
-inserted_read (Key k) e es x c = put_for_reads (place_of (Key k) es) e es x c
-inserted_read (Index i) e es x c = put_before_reads (place_of (Index i) es) e es x c
+inserted_read : (key : NodeKey) (e : KdlEntry) (es fs : List KdlEntry) → fs ≡ inserted key e es → EntryReadsBack e → AllRead es → AllRead fs
+inserted_read (Key k) e es fs h x c = spliced (listed (there (place_of (Key k) es) es)) (e ∷ []) es fs (splice_for es fs (place_of (Key k) es) e h) (λ c. one_read e x) c
+inserted_read (Index i) e es fs h x c = spliced [] (e ∷ []) es fs (splice_before es fs (place_of (Index i) es) e h) (λ c. one_read e x) c
 
 goes_in : (key : NodeKey) (e : KdlEntry) (es fs : List KdlEntry) → IsInserted key e es fs → EntryReads (under (sought key) (entry_tree e)) → AllRead es → AllRead fs
-goes_in key e es fs d x c = subst AllRead (sym d.items) (inserted_read key d.entry es (subst EntryReads (sym d.tree) x) c)
+goes_in key e es fs d x c = inserted_read key d.entry es fs d.items (subst EntryReads (sym d.tree) x) c
 
 pub insert_reads : {T E : Type 0} (r : Result T E) (key : NodeKey) (e : KdlEntry) (n : KdlNode) (v : Vec KdlEntry Global) → OnOk r (IsInserted key e (entries_of n) v.items) → OnErr r (v.items ≡ entries_of n)
     → EntryReads (under (sought key) (entry_tree e)) → ReadsAs n (with_entries n v)
@@ -121,17 +132,17 @@ pub under_reads : (key : NodeKey) (e : KdlEntry) → IsUnformed (under (sought k
 under_reads key e u = formless_reads (under (sought key) (entry_tree e)) (record { plain = u.plain; key = under_scalars key e; ty = under_type key e; value = u.value })
 
 -- entries taken out, kept, sorted
-without_reads : (o : Option ℕ) (es : List KdlEntry) → AllRead es → AllRead (without o es)
+none_read : AllRead []
 unfolding AllRead
-without_reads None es c = c
-without_reads (Some i) es c = All-append EntryReadsBack (take i es) (drop (i + 1) es) (All-take EntryReadsBack i es c) (All-drop EntryReadsBack (i + 1) es c)
+none_read = All-nil EntryReadsBack
 
 pub remove_reads : (key : NodeKey) (n : KdlNode) (v : Vec KdlEntry Global) → v.items ≡ removed key (entries_of n) → ReadsAs n (with_entries n v)
-remove_reads key n v h = exchanged n v (λ c. subst AllRead (sym h) (without_reads (removed_place key (entries_of n)) (entries_of n) c))
+remove_reads key n v h =
+    let o = removed_place key (entries_of n) in
+    exchanged n v (spliced (listed (there o (entries_of n))) [] (entries_of n) v.items (splice_without (entries_of n) v.items o h) (λ c. none_read))
 
 pub clear_reads : (n : KdlNode) (v : Vec KdlEntry Global) → v.items ≡ [] → ReadsAs n (with_entries n v)
-unfolding AllRead
-clear_reads n v h = exchanged n v (λ c. subst AllRead (sym h) (All-nil EntryReadsBack))
+clear_reads n v h = exchanged n v (λ c. subst AllRead (sym h) none_read)
 
 kept_read : (bs : List Bool) (es : List KdlEntry) → AllRead es → AllRead (items_where_true bs es)
 unfolding AllRead
@@ -150,12 +161,7 @@ sort_reads n v h = exchanged n v (λ c. All-permutation EntryReadsBack (entries_
 -- an entry that is written through its loan
 set_reads : (es : List KdlEntry) (i : ℕ) (e f : KdlEntry) → slice_get es i ≡ Some e → (EntryReadsBack e → EntryReadsBack f) → AllRead es → AllRead (set es i f)
 unfolding AllRead
-set_reads [] i e f h g c = c
-set_reads (x ∷ es) zero e f h g c =
-    let own : EntryReadsBack x = c zero x (omega arith) in
-    let same : x ≡ e = cc in
-    All-cons EntryReadsBack f es (g (subst EntryReadsBack same own)) (λ k d h. c (suc k) d (omega arith))
-set_reads (x ∷ es) (suc i) e f h g c = All-cons EntryReadsBack x (set es i f) (c zero x (omega arith)) (set_reads es i e f h g (λ k d h. c (suc k) d (omega arith)))
+set_reads es i e f h g = spliced (e ∷ []) (f ∷ []) es (set es i f) (splice_set es (set es i f) i e f h refl) (λ c. one_read f (g (c zero e (omega arith))))
 
 pub entry_there_reads : (o : Option ℕ) (n : KdlNode) (e f : KdlEntry) → option_and_then (λ i. slice_get (entries_of n) i) o ≡ Some e → (EntryReadsBack e → EntryReadsBack f) → ReadsAs n (with_entry_there o n f)
 entry_there_reads None n e f h g = absurd (cc)
@@ -177,7 +183,7 @@ module _ {M : Type 0} (now : M → KdlEntry) (key : NodeKey) (n : KdlNode) where
 
 -- documents
 
-content_with : {P : Rests} {l t : Text} (ns : Nodes) → AddsNothing l → NodesRead (last_rests t P) ns → IsGapBefore P t → ContentReads P l t ns
+pub content_with : {P : Rests} {l t : Text} (ns : Nodes) → AddsNothing l → NodesRead (last_rests t P) ns → IsGapBefore P t → ContentReads P l t ns
 content_with none a x g = two_texts a g
 content_with (first n ns) a x g = content_nodes a x g
 
@@ -192,9 +198,10 @@ content_set : {P : Rests} {l t : Text} (ns : List KdlNode) (i : ℕ) (n m : KdlN
 content_set [] i n m h f c = absurd (cc)
 content_set (y ∷ ns) i n m h f (content_nodes a x g) = content_with (nodes_tree (set (y ∷ ns) i m)) a (nodes_set (y ∷ ns) i n m h f x) g
 
-whole_set : (o : Option DocumentFormat) (at : SourceSpan) (ns : List KdlNode) (i : ℕ) (n m : KdlNode) → slice_get ns i ≡ Some n → ReadsAs n m → DocumentReads (document o at (nodes_tree ns)) → DocumentReads (document o at (nodes_tree (set ns i m)))
-whole_set o at ns i n m h f (DocumentReads.no_bom c) = DocumentReads.no_bom (content_set ns i n m h f c)
-whole_set o at ns i n m h f (DocumentReads.after_bom e c) = DocumentReads.after_bom e (content_set ns i n m h f c)
+-- a whole text whose content is another
+pub whole_as : (o : Option DocumentFormat) (at to : SourceSpan) (ns ms : Nodes) → ((l : Text) → ContentReads TextEnd l (trailing_text o) ns → ContentReads TextEnd l (trailing_text o) ms) → DocumentReads (document o at ns) → DocumentReads (document o to ms)
+whole_as o at to ns ms f (DocumentReads.no_bom c) = DocumentReads.no_bom (f (leading_text o) c)
+whole_as o at to ns ms f (DocumentReads.after_bom {leading = l} e c) = DocumentReads.after_bom e (f l c)
 
 block_set : (o : Option DocumentFormat) (at : SourceSpan) (ns : List KdlNode) (i : ℕ) (n m : KdlNode) → slice_get ns i ≡ Some n → ReadsAs n m → BlockReads (document o at (nodes_tree ns)) → BlockReads (document o at (nodes_tree (set ns i m)))
 block_set o at ns i n m h f (block c) = block (content_set ns i n m h f c)
@@ -204,7 +211,7 @@ pub node_set_reads : (d : KdlDocument) (i : ℕ) (n m : KdlNode) → slice_get (
 node_set_reads d i n m h f =
     let X = out-KdlDocument d in
     let new = sym (document_tree_roll (record X { nodes = with_item X.nodes i m })) in (
-      λ x. subst DocumentReads new (whole_set (option_map document_format_tree X.format) X.span X.nodes.items i n m h f (subst DocumentReads (document_tree_out d) x)),
+      λ x. subst DocumentReads new (whole_as (option_map document_format_tree X.format) X.span X.span _ _ (λ l c. content_set X.nodes.items i n m h f c) (subst DocumentReads (document_tree_out d) x)),
       λ x. subst BlockReads new (block_set (option_map document_format_tree X.format) X.span X.nodes.items i n m h f (subst BlockReads (document_tree_out d) x)),
     )
 
@@ -227,12 +234,10 @@ block_exchanged n d e h f P x =
 -- what is read, and what is new
 
 pub document_read : {E : Type 0} (t : Text) (r : Result KdlDocument E) → IfOk r (λ d. LaidDocument (document_tree d) t) → IfOk r (λ d. DocumentReadsBack d)
-document_read t (Ok d) l = laid_reads true t (document_tree d) l
-document_read t (Err e) l = tt
+document_read t r l = IfOk-weaker r _ _ (λ d x. laid_reads true t (document_tree d) x) l
 
 pub node_read : {E : Type 0} (t : Text) (r : Result KdlNode E) → IfOk r (λ n. LaidNodeText t (node_tree n)) → IfOk r (λ n. NodeReads TextEnd (node_tree n))
-node_read t (Ok n) l = laid_node_reads true t (node_tree n) l
-node_read t (Err e) l = tt
+node_read t r l = IfOk-weaker r _ _ (λ n x. laid_node_reads true t (node_tree n) x) l
 
 pub new_document_reads : (d : KdlDocument) → document_tree d ≡ new_document → DocumentReadsBack d
 new_document_reads d e = subst DocumentReads (sym e) (DocumentReads.no_bom (one_text (λ r p. no_gap)))
@@ -252,13 +257,11 @@ unspelled_node_ends n name e h = new_node_ends n (identifier_tree name) e (unspe
 
 module _ {E : Type 0} (name : KdlIdentifier) where
   pub unspelled_new_ends : (r : Result KdlNode E) → IfOk r (λ (n : KdlNode). node_tree n ≡ new_node (identifier_tree name)) → IfOk r (λ (n : KdlNode). (identifier_tree name).repr ≡ None → NodeEnds n)
-  unspelled_new_ends (Ok n) e = λ h. unspelled_node_ends n name e h
-  unspelled_new_ends (Err x) e = tt
+  unspelled_new_ends r e = IfOk-weaker r _ _ (λ n x h. unspelled_node_ends n name x h) e
 
   pub spelled_new_ends : (r : Result KdlNode E) → IfOk r (λ (n : KdlNode). node_tree n ≡ new_node (identifier_tree name))
       → IfOk r (λ (n : KdlNode). IsIdentifierText (print_identifier (identifier_tree name)) (identifier_tree name).value → NodeEnds n)
-  spelled_new_ends (Ok n) e = λ i. new_node_ends n (identifier_tree name) e i
-  spelled_new_ends (Err x) e = tt
+  spelled_new_ends r e = IfOk-weaker r _ _ (λ n x i. new_node_ends n (identifier_tree name) x i) e
 
 -- what reads back
 

@@ -1,17 +1,19 @@
 //! The newlines that nodes, and the texts between them, lack at their ends for others to follow.
 
-ghost use Rattle.kdl.specs.Internal.Ends.{EndFewest, EndSays, EndsReadAs, FewestBefore, GapFewest, GapSays, IsEnded, IsEndedExactly, IsNodeEnded, Lacks, PlaceFewest, PlaceSays, block_if, newline_count, with_newlines};
+ghost use Rattle.kdl.specs.Internal.Ends.{EndFewest, EndSays, EndsReadAs, FewestBefore, GapFewest, GapSays, IsEndedExactly, IsNodeEnded, Lacks, PlaceFewest, PlaceSays, block_if, formless_count, newline_count, with_newlines};
 ghost use Rattle.kdl.specs.Nodes.{newlines, printed_format};
 ghost use Rattle.kdl_entry.specs.Tree.{entry_tree};
-ghost use Rattle.kdl_fmt.specs.Kept.{without_bom};
+ghost use Rattle.kdl_comments.specs.Internal.Reading.{place_view};
+ghost use Rattle.kdl_fmt.specs.Kept.{last_place, without_bom};
 ghost use Rattle.kdl_grammar.specs.Print.{before_block, last_has_format};
 ghost use Rattle.kdl_grammar.specs.ReadsBack.{terminator_text};
 ghost use Rattle.kdl_grammar.specs.Tree.{NodeFormat};
 ghost use Rattle.kdl_parts.specs.Formats.{node_format_tree, node_texts};
 ghost use Rattle.kdl_value.specs.Tree.{text_of};
-ghost use Rattle.std.specs.Prelude.{◌≡◌, ◌≢◌, ◌≤◌, ◌+◌, ◌++◌, ◌∷◌, [], IfOk, MatchBool, None, OnOk, Some, map, unwrap_or};
+ghost use Rattle.std.specs.Prelude.{◌≡◌, ◌≢◌, ◌≤◌, ◌+◌, ◌++◌, ◌∷◌, [], IfOk, MatchBool, None, OnOk, Some, is_some, map, unwrap_or};
 ghost use Rattle.std.specs.Str.{chars};
 
+use crate::document::KdlDocument;
 use kdl_comments::{Place, gap_lacks, place_lacks, push_text, terminator_lacks};
 use kdl_entry::KdlEntry;
 use kdl_parts::KdlNodeFormat;
@@ -26,6 +28,13 @@ pub(crate) enum Rest {
     Brace,
     /// Any text.
     Text,
+}
+
+/// What a document is: a whole text, or the block of a node.
+#[derive(Clone, Copy)]
+pub(crate) enum DocumentKind {
+    Text,
+    Block,
 }
 
 /// Appends that many newlines to the text.
@@ -54,38 +63,44 @@ pub(crate) fn gap_newlines(alloc: Global, text: &str) -> Result<usize, AllocErro
     ensures says { IfOk result (λ n. GapSays (without_bom (chars text.now)) n) }
     ensures fewest { IfOk result (λ n. GapFewest (without_bom (chars text.now)) n) }
 {
-    match gap_lacks(alloc, without_bom(text))? {
-        Some(lacks) => Ok(lacks),
-        None => Ok(0),
+    let lacks = gap_lacks(alloc, without_bom(text))?;
+    Ok(lacks.unwrap_or(0))
+}
+
+/// One newline, if the text before a terminator lacks it; 0 if it is not such a text.
+fn newline_count(lacks: Option<bool>) -> usize
+    ensures { result ≡ newline_count lacks }
+{
+    match lacks {
+        Some(true) => 1,
+        _ => 0,
     }
 }
 
-/// One newline, or none.
-fn newline_count(lacks: bool) -> usize
-    ensures { result ≡ newline_count lacks }
+/// The place before the terminator of a node with this block, or without one.
+pub(crate) fn last_place(children: &Option<KdlDocument>) -> Place
+    ensures { place_view result ≡ last_place (is_some children.now) }
 {
-    if lacks { 1 } else { 0 }
+    match children {
+        Some(_) => Place::AfterBlock,
+        None => Place::BeforeBlock,
+    }
 }
 
 /// How many newlines the text before a terminator lacks: one if it ends in an open escline.
 pub(crate) fn place_newlines(
     alloc: Global,
-    has_block: bool,
+    children: &Option<KdlDocument>,
     text: &str,
 ) -> Result<usize, AllocError>
     ensures few { IfOk result (λ n. n ≤ 1) }
-    ensures says { IfOk result (λ n. PlaceSays (block_if has_block) (chars text.now) n) }
-    ensures fewest { IfOk result (λ n. PlaceFewest (block_if has_block) (chars text.now) n) }
+    ensures says { IfOk result (λ n.
+        PlaceSays (block_if (is_some children.now)) (chars text.now) n) }
+    ensures fewest { IfOk result (λ n.
+        PlaceFewest (block_if (is_some children.now)) (chars text.now) n) }
 {
-    let place = if has_block {
-        Place::AfterBlock
-    } else {
-        Place::BeforeBlock
-    };
-    match place_lacks(alloc, place, text)? {
-        Some(lacks) => Ok(newline_count(lacks)),
-        None => Ok(0),
-    }
+    let lacks = place_lacks(alloc, last_place(children), text)?;
+    Ok(newline_count(lacks))
 }
 
 /// How many newlines a terminator lacks, with the text after it.
@@ -98,10 +113,8 @@ fn end_newlines(alloc: Global, terminator: &str, trailing: &str) -> Result<usize
     let mut end = String::new(alloc);
     push_text(&mut end, terminator)?;
     push_text(&mut end, trailing)?;
-    match terminator_lacks(alloc, &end)? {
-        Some(lacks) => Ok(lacks),
-        None => Ok(0),
-    }
+    let lacks = terminator_lacks(alloc, &end)?;
+    Ok(lacks.unwrap_or(0))
 }
 
 /// Whether the text has no characters.
@@ -122,28 +135,36 @@ fn has_end(format: &KdlNodeFormat) -> bool
     true
 }
 
+/// How many newlines the terminator of a node needs before the rest, if it has none.
+fn terminator_newlines(rest: Rest) -> usize
+    ensures is { result ≡ formless_count rest }
+    ensures few { result ≤ 1 }
+{
+    match rest {
+        Rest::Text => 1,
+        _ => 0,
+    }
+}
+
 /// How many newlines a node lacks: before its terminator, and at its end.
 fn newlines(
     alloc: Global,
     format: &KdlNodeFormat,
-    has_block: bool,
+    children: &Option<KdlDocument>,
     rest: Rest,
 ) -> Result<(usize, usize), AllocError>
     ensures lacks { IfOk result (λ (b, e). Lacks (node_format_tree format.now) b e) }
-    ensures reads { IfOk result (λ (b, e). EndsReadAs rest (block_if has_block)
+    ensures reads { IfOk result (λ (b, e). EndsReadAs rest (block_if (is_some children.now))
         (node_format_tree format.now) (with_newlines (node_format_tree format.now) b e)) }
-    ensures fewest { IfOk result (λ (b, e). FewestBefore rest (block_if has_block)
+    ensures fewest { IfOk result (λ (b, e). FewestBefore rest (block_if (is_some children.now))
         (node_format_tree format.now) (b + e)) }
 {
     if has_end(format) {
         let end = end_newlines(alloc, &format.terminator, &format.trailing)?;
         return Ok((0, end));
     }
-    let before = place_newlines(alloc, has_block, &format.before_terminator)?;
-    match rest {
-        Rest::Text => Ok((before, 1)),
-        _ => Ok((before, 0)),
-    }
+    let before = place_newlines(alloc, children, &format.before_terminator)?;
+    Ok((before, terminator_newlines(rest)))
 }
 
 /// The format with newlines before its terminator and at its end.
@@ -169,17 +190,15 @@ fn with_newlines(
 fn ended(
     alloc: Global,
     format: &KdlNodeFormat,
-    has_block: bool,
+    children: &Option<KdlDocument>,
     rest: Rest,
 ) -> Result<Option<KdlNodeFormat>, AllocError>
-    ensures is_ended { IfOk result (λ o.
-        IsEnded (node_format_tree format.now) (node_texts o)) }
-    ensures reads { IfOk result (λ o. EndsReadAs rest (block_if has_block)
+    ensures reads { IfOk result (λ o. EndsReadAs rest (block_if (is_some children.now))
         (node_format_tree format.now) (unwrap_or (node_texts o) (node_format_tree format.now))) }
-    ensures exact { IfOk result (λ o. IsEndedExactly rest (block_if has_block)
+    ensures exact { IfOk result (λ o. IsEndedExactly rest (block_if (is_some children.now))
         (node_format_tree format.now) (node_texts o)) }
 {
-    let (before, end) = newlines(alloc, format, has_block, rest)?;
+    let (before, end) = newlines(alloc, format, children, rest)?;
     if before == 0 && end == 0 {
         return Ok(None);
     }
@@ -226,23 +245,20 @@ pub(crate) fn ended_format(
     alloc: Global,
     format: &Option<KdlNodeFormat>,
     entries: &[KdlEntry],
-    has_block: bool,
+    children: &Option<KdlDocument>,
     rest: Rest,
 ) -> Result<Option<KdlNodeFormat>, AllocError>
-    ensures is_ended { IfOk result (λ o. IsEnded
-        (unwrap_or (node_texts format.now) (printed_format (map entry_tree entries.now)))
-        (node_texts o)) }
     ensures reads { IfOk result (λ o. (f : NodeFormat) → node_texts format.now ≡ Some f
-        → EndsReadAs rest (block_if has_block) f (unwrap_or (node_texts o) f)) }
+        → EndsReadAs rest (block_if (is_some children.now)) f (unwrap_or (node_texts o) f)) }
     ensures last { rest ≡ Rest.End → IfOk result (λ o. o ≡ None) }
-    ensures exact { IfOk result (λ o. IsNodeEnded rest (block_if has_block)
+    ensures exact { IfOk result (λ o. IsNodeEnded rest (block_if (is_some children.now))
         (node_texts format.now) (printed_format (map entry_tree entries.now)) (node_texts o)) }
 {
     if let Rest::End = rest {
         return Ok(None);
     }
     match format {
-        Some(format) => ended(alloc, format, has_block, rest),
+        Some(format) => ended(alloc, format, children, rest),
         None => match rest {
             Rest::Text => Ok(Some(ended_formless(alloc, entries)?)),
             _ => Ok(None),

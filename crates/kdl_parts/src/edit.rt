@@ -3,16 +3,12 @@
 ghost use Rattle.kdl_parts.specs.Edits.{IsInserted, put_before, put_for, removed, replaced, replaced_place, taken_out, under};
 ghost use Rattle.kdl_parts.specs.EntryLists.{property, sought, there};
 ghost use Rattle.kdl_entry.specs.Tree.{cleared, entry_tree, identifier_tree};
-ghost use Rattle.std.specs.Fn.{CalledAt};
-ghost use Rattle.std.specs.List.Retain.{IsFiltered};
-ghost use Rattle.std.specs.List.Sorted.{IsPermutation, IsSortedByClosure, IsSortedByKeyClosure, IsStableByClosure, IsStableByKeyClosure};
 ghost use Rattle.std.specs.Prelude.{◌≡◌, ◌<◌, ◌≤◌, ◌+◌, [], ◌∷◌, ◌++◌, if◌then◌else◌, IfErr, IfOk, IfSome, IsSome, IsOk, OnErr, OnOk, None, Some, drop, is_ok, length, map, slice_get, take};
 
 use crate::key::NodeKey;
 use crate::places::{place, place_to_remove};
 use kdl_entry::{KdlEntry, KdlIdentifier};
 use std::alloc::AllocError;
-use std::cmp::Ordering;
 use std::mem;
 
 /// Appends the entry. If an allocation fails, returns the entry in the error, and leaves the entries unchanged.
@@ -78,68 +74,6 @@ pub fn remove(entries: &mut Vec<KdlEntry>, key: NodeKey) -> Option<KdlEntry>
         Some(at) => Some(remove_at(entries, at)),
         None => None,
     }
-}
-
-/// Drops all entries.
-///
-/// ```
-/// clear(&mut entries); // no entry is left
-/// ```
-pub fn clear(entries: &mut Vec<KdlEntry>)
-    ensures { entries.new.items ≡ [] }
-{
-    entries.clear();
-}
-
-/// Retains, in order, the entries for which `keep` returns true. `keep` is called exactly once for each entry, in
-/// order.
-///
-/// ```
-/// retain(&mut entries, |entry| entry.name().is_none()); // `1 a=2 3` becomes `1 3`
-/// ```
-pub fn retain<F: FnMut(&KdlEntry) -> bool>(entries: &mut Vec<KdlEntry>, keep: F)
-    requires { F.IsAlwaysCallable keep }
-    ensures { IsFiltered (CalledAt F.FnMut) keep entries.old.items entries.new.items }
-{
-    entries.retain(keep);
-}
-
-/// Sorts the entries by `compare`, which has to be a total preorder; entries that compare as equal keep their order. If
-/// an allocation fails, returns an error, and the entries are in an unspecified order.
-///
-/// ```
-/// sort_by(&mut entries, |one, other| one.value().cmp(other.value()))?; // `3 1 2` becomes `1 2 3`
-/// ```
-pub fn sort_by<F: FnMut(&KdlEntry, &KdlEntry) -> Ordering>(
-    entries: &mut Vec<KdlEntry>,
-    compare: F,
-) -> Result<(), AllocError>
-    requires { F.IsAlwaysCallable compare }
-    ensures permutation { IsPermutation entries.old.items entries.new.items }
-    ensures sorted { OnOk result (IsSortedByClosure F.FnMut compare entries.new.items) }
-    ensures stable { IsStableByClosure F.FnMut compare entries.old.items entries.new.items }
-{
-    entries.sort_by(compare)
-}
-
-/// Sorts the entries by the key that `f` extracts from each; entries with equal keys keep their order. If an allocation
-/// fails, returns an error, and the entries are in an unspecified order.
-///
-/// ```
-/// sort_by_key(&mut entries, |entry| entry.name().is_some())?; // `b=1 2 c=3 4` becomes `2 4 b=1 c=3`
-/// ```
-pub fn sort_by_key<K: Ord, F: FnMut(&KdlEntry) -> K>(
-    entries: &mut Vec<KdlEntry>,
-    f: F,
-) -> Result<(), AllocError>
-where
-    K: Drop,
-    requires { F.IsAlwaysCallable f }
-    ensures permutation { IsPermutation entries.old.items entries.new.items }
-    ensures sorted { OnOk result (IsSortedByKeyClosure F.FnMut K.cmp f entries.new.items) }
-    ensures stable { IsStableByKeyClosure F.FnMut K.cmp f entries.old.items entries.new.items }
-{
-    entries.sort_by_key(f)
 }
 
 /// Drops the formats and spellings of the entries.

@@ -1,12 +1,9 @@
 -- Nodes found by their name.
-use Rattle.std.proofs.Common.{◌≡◌, ℕ, suc, ◌≤◌, List, [], ◌∷◌, length, Bool, true, false, Option, None, Some, option_and_then, option_map, refl, ap, ◌∙◌, sym, arith, position, cond, slice_get, string_bytes}
-use Rattle.std.proofs.Math.Dec.{ltb}
-use Rattle.std.proofs.lemmas.Bool.{ltb-false}
-use Rattle.std.proofs.lemmas.List.Folds.{find_at}
+use Rattle.std.proofs.Common.{◌≡◌, ℕ, suc, ◌≤◌, List, [], ◌∷◌, length, Bool, Option, None, Some, option_and_then, option_map, refl, ap, ◌∙◌, sym, arith, position, slice_get, string_bytes}
 use Rattle.std.proofs.lemmas.List.Sums.{count_by-le-length, length-filter}
-use Rattle.std.proofs.lemmas.Option.{none-some, slice_get_past}
+use Rattle.std.proofs.lemmas.Option.{none-some}
 use Rattle.std.proofs.lemmas.Str.{IsUtf8-string_bytes}
-use Rattle.std.specs.List.{cons_option, filter, filter_map, find, position_or_len}
+use Rattle.std.specs.List.{cons_option, filter, filter_map, find}
 use Rattle.std.specs.Prelude.{codes}
 use Rattle.std.specs.Str.{IsUtf8, chars}
 use Rattle.kdl_value.specs.Data.{Value}
@@ -18,18 +15,15 @@ use Rattle.kdl.specs.DocumentLookups.{argument_value, dash_arguments, first_argu
 use Rattle.kdl_parts.specs.EntryLists.{same_text}
 use Rattle.kdl.specs.declared.node.KdlNode.{KdlNode, out-KdlNode}
 use Rattle.kdl_parts.proofs.EntryLookups.{found_at, same_bytes}
+use Rattle.kdl.proofs.Finding.ListLookups.{find_first, first_is, nth_found}
 
 -- a node whose name's text was compared
 pub named_compared : (n : KdlNode) (k : KdlIdentifier) (b s : List ℕ) → k ≡ (out-KdlNode n).name → IsUtf8 b → chars b ≡ (identifier_tree k).value → same_text b s ≡ is_node_named s n
 named_compared n k b s e u c = ap (λ t. same_text t s) (same_bytes b (string_bytes (out-KdlNode n).name.value) u (IsUtf8-string_bytes (out-KdlNode n).name.value) (c ∙ ap (λ (i : KdlIdentifier). (identifier_tree i).value) e))
 
-at_place : {A : Type 0} (xs : List A) (k : ℕ) (b : Bool) → ltb k (length xs) ≡ b → slice_get xs k ≡ option_and_then (λ i. slice_get xs i) (cond b (Some k) None)
-at_place xs k true e = refl
-at_place xs k false e = slice_get_past xs k (ltb-false k (length xs) e)
-
 -- what is found is at its place
 pub found_there : {A : Type 0} (p : A → Bool) (xs : List A) → find p xs ≡ option_and_then (λ i. slice_get xs i) (position p xs)
-found_there p xs = find_at p xs ∙ at_place xs (position_or_len p xs) (ltb (position_or_len p xs) (length xs)) refl
+found_there p xs = find_first p xs ∙ sym (nth_found p xs 0) ∙ ap (λ o. option_and_then (λ i. slice_get xs i) o) (sym (first_is p xs))
 
 -- nothing is found where there is no place
 pub none_there : {A : Type 0} (p : A → Bool) (xs : List A) → None ≡ position p xs → find p xs ≡ None

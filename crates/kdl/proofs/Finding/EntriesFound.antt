@@ -1,27 +1,27 @@
--- What a node's look-ups find once an entry is inserted, pushed or removed.
-use Rattle.std.proofs.Common.{if◌then◌else◌, is_ok, Vec, Global, ◌≡◌, ℕ, suc, ◌+◌, ◌<◌, ◌≤◌, Bool, true, false, List, [], ◌∷◌, ◌++◌, take, drop, set, slice_get, string_bytes, encode_utf8_all, Option, None, Some, IfSome, IfNone, Result, Ok, Err, OnOk, option_map, unwrap_or, refl, ap, ◌∙◌, sym, subst, append-nil, add-one, is_none}
-use Rattle.std.proofs.lemmas.Option.{none-some, slice_get_within}
+-- What a node's look-ups find once entries took the place of others.
+use Rattle.std.proofs.Common.{if◌then◌else◌, is_ok, Vec, Global, ◌≡◌, ℕ, suc, ◌+◌, ◌<◌, ◌≤◌, Bool, true, false, List, [], ◌∷◌, ◌++◌, length, take, drop, slice_get, string_bytes, encode_utf8_all, Option, None, Some, IfSome, IfNone, Result, Ok, Err, OnOk, option_map, unwrap_or, refl, ap, ◌∙◌, sym, subst, arith, cond, add-one, is_none, position}
+use Rattle.std.proofs.lemmas.List.Sums.{length-filter}
+use Rattle.std.proofs.lemmas.Option.{none-some}
 use Rattle.std.proofs.lemmas.Slice.Eq.{bytes_eq-Decides}
 use Rattle.std.proofs.lemmas.Str.{IsUtf8-string_bytes, encodes-chars}
-use Rattle.std.specs.List.{count_by}
+use Rattle.std.specs.List.{filter, last_or}
 use Rattle.std.specs.Str.{chars}
 use Rattle.kdl_value.specs.Data.{Value}
 use Rattle.kdl_value.specs.Tree.{value_tree}
 use Rattle.kdl_entry.specs.Tree.{Identifier, Entry, entry_tree, identifier_tree}
 use Rattle.kdl_entry.specs.declared.entry.KdlEntry.{KdlEntry}
 use Rattle.kdl_entry.specs.declared.identifier.KdlIdentifier.{KdlIdentifier}
-use Rattle.kdl_parts.specs.Edits.{GoesUnder, HasArgumentAt, HasRoomAt, IsInserted, put_before, put_for, under, removed}
-use Rattle.kdl_parts.specs.EntryLists.{property, sought, key_name, key_index, is_argument, has_name, is_name, same_text, last_place, nth_place, there}
+use Rattle.kdl_parts.specs.Edits.{GoesUnder, HasArgumentAt, HasRoomAt, IsInserted, put_before, put_for, under, removed, without}
+use Rattle.kdl_parts.specs.EntryLists.{property, sought, key_name, key_index, is_argument, has_name, is_name, same_text, last_place, nth_place}
 use Rattle.kdl_parts.specs.declared.key.NodeKey.{NodeKey}
 use Rattle.kdl_parts.specs.declared.key.NodeKey.TheVariants.{Key, Index}
 use Rattle.kdl_parts.proofs.EntryLookups.{same_bytes}
-use Rattle.kdl_parts.proofs.EntryEdits.{set_around}
 use Rattle.kdl.specs.Change.{with_entries}
-use Rattle.kdl.specs.Found.{IsSet, IsAdded, IsPutIn, IsTakenOut, IsTakenOutAt, argument_count}
-use Rattle.kdl.specs.Lookups.{entries_of}
+use Rattle.kdl.specs.Found.{IsSet, IsAdded, IsArgumentSet, IsPutIn, IsTakenOut, IsTakenOutAt, argument_count, value_at}
+use Rattle.kdl.specs.Lookups.{entries_of, property_value}
 use Rattle.kdl.specs.declared.document.KdlDocument.TheViews.{out-KdlNode, out-roll-KdlNode}
 use Rattle.kdl.specs.declared.node.KdlNode.{KdlNode}
-use Rattle.kdl.proofs.Finding.ListLookups.{around_itself, but_first, but_nth, count-another, count-cut, count-pushed, count-put, count-skip, cut_at, cut_nth, last_holds, last_of, last_of-another, last_of-but_first, last_of-cut, last_of-only, last_of-push, last_of-put, last_of-skip, last_place-set, nth_of, nth_of-after_cut, nth_of-after_put, nth_of-another, nth_of-before_cut, nth_of-before_put, nth_of-push, nth_of-pushed, nth_of-put, nth_of-skip, put_at, put_nth, set_there}
+use Rattle.kdl.proofs.Finding.ListLookups.{LastIs, NthIs, Splice, around_itself, back, first_is, got_before, got_else, got_later, got_new, last_found, last_is, last_new, nth_found, nth_is, one_passes, rest_of_first, same_length, same_passing, splice_cut, splice_put, splice_push, spliced}
 
 -- the value of an entry that was found
 abbrev pub value_in : Option KdlEntry → Option Value
@@ -32,25 +32,25 @@ name_is : (s : List ℕ) (e : KdlEntry) (i : KdlIdentifier) → e.name ≡ Some 
 name_is s e i h k = ap (is_name s) h ∙ (bytes_eq-Decides (string_bytes i.value) s).1 k
 
 -- has no other name, and is no argument
-pub other_name : (s r : List ℕ) (e : KdlEntry) → has_name s e ≡ true → (s ≡ r → ⊥) → has_name r e ≡ false
-other_name s r e h d = go e.name h
-  where
-    differ : (b : List ℕ) (t : Bool) → same_text b r ≡ t → b ≡ s → t ≡ false
-    differ b true k q = absurd (d (sym q ∙ (bytes_eq-Decides b r).0 k))
-    differ b false k q = refl
+pub differ : (s r b : List ℕ) (t : Bool) → (s ≡ r → ⊥) → same_text b r ≡ t → b ≡ s → t ≡ false
+differ s r b true d k q = absurd (d (sym q ∙ (bytes_eq-Decides b r).0 k))
+differ s r b false d k q = refl
 
+other_name : (s r : List ℕ) → (s ≡ r → ⊥) → (e : KdlEntry) → has_name s e ≡ true → has_name r e ≡ false
+other_name s r d e h = go e.name h
+  where
     go : (o : Option KdlIdentifier) → is_name s o ≡ true → is_name r o ≡ false
     go None k = refl
-    go (Some i) k = differ (string_bytes i.value) (same_text (string_bytes i.value) r) refl ((bytes_eq-Decides (string_bytes i.value) s).0 k)
+    go (Some i) k = differ s r (string_bytes i.value) (same_text (string_bytes i.value) r) d refl ((bytes_eq-Decides (string_bytes i.value) s).0 k)
 
-pub no_argument : (s : List ℕ) (e : KdlEntry) → has_name s e ≡ true → is_argument e ≡ false
+no_argument : (s : List ℕ) (e : KdlEntry) → has_name s e ≡ true → is_argument e ≡ false
 no_argument s e h = go e.name h
   where
     go : (o : Option KdlIdentifier) → is_name s o ≡ true → is_none o ≡ false
     go None k = cc
     go (Some i) k = refl
 
-pub no_name : (s : List ℕ) (e : KdlEntry) → is_argument e ≡ true → has_name s e ≡ false
+no_name : (s : List ℕ) (e : KdlEntry) → is_argument e ≡ true → has_name s e ≡ false
 no_name s e h = go e.name h
   where
     go : (o : Option KdlIdentifier) → is_none o ≡ true → is_name s o ≡ false
@@ -58,7 +58,7 @@ no_name s e h = go e.name h
     go (Some i) k = cc
 
 -- an entry as it goes in under a name has that name
-pub named_under : (k : KdlIdentifier) (e f : KdlEntry) → GoesUnder (property (identifier_tree k)) (entry_tree e) → entry_tree f ≡ under (property (identifier_tree k)) (entry_tree e) → has_name (string_bytes k.value) f ≡ true
+named_under : (k : KdlIdentifier) (e f : KdlEntry) → GoesUnder (property (identifier_tree k)) (entry_tree e) → entry_tree f ≡ under (property (identifier_tree k)) (entry_tree e) → has_name (string_bytes k.value) f ≡ true
 named_under k e f g t = go f.name refl (ap (λ (x : Entry). x.name) t) (taken (entry_tree e).name g)
   where
     taken : (o : Option Identifier) → IfSome o (λ i. i.value ≡ (identifier_tree k).value) → (unwrap_or o (identifier_tree k)).value ≡ (identifier_tree k).value
@@ -72,58 +72,128 @@ named_under k e f g t = go f.name refl (ap (λ (x : Entry). x.name) t) (taken (e
         let texts : chars (string_bytes i.value) ≡ chars (string_bytes k.value) = ap (λ (x : Identifier). x.value) same ∙ w in
         name_is (string_bytes k.value) f i h (same_bytes (string_bytes i.value) (string_bytes k.value) (IsUtf8-string_bytes i.value) (IsUtf8-string_bytes k.value) texts)
 
--- the last property of a name and those around it, with another one in its place
-put_parts : (es : List KdlEntry) (i : ℕ) (old e : KdlEntry) → slice_get es i ≡ Some old → set es i e ≡ take i es ++ (e ∷ drop (i + 1) es)
-put_parts es i old e h = set_around es i e (slice_get_within es i old h)
+-- the arguments of a node, and its properties of that name
+abbrev args : KdlNode → List KdlEntry
+args n = filter is_argument (entries_of n)
 
-put_last : (p : KdlEntry → Bool) (e : KdlEntry) (es : List KdlEntry) → p e ≡ true → last_of p (put_for (last_place p es) e es) ≡ Some e
-put_last p e es h = go (last_place p es) refl
-  where
-    go : (o : Option ℕ) → last_place p es ≡ o → last_of p (put_for o e es) ≡ Some e
-    go None k = last_of-push p es e h
-    go (Some i) k =
-        let (old, here, passes) = last_holds p es i k in
-        let place : last_place p (set es i e) ≡ Some i = last_place-set p es i old e here (h ∙ sym passes) ∙ k in
-        ap (last_of p) (sym (put_parts es i old e here)) ∙ ap (λ o. there o (set es i e)) place ∙ set_there es i old e here
+abbrev named : List ℕ → KdlNode → List KdlEntry
+named s n = filter (has_name s) (entries_of n)
 
-put_other : (p q : KdlEntry → Bool) (e : KdlEntry) (es : List KdlEntry) → q e ≡ false → ((x : KdlEntry) → p x ≡ true → q x ≡ false) → last_of q (put_for (last_place p es) e es) ≡ last_of q es
-put_other p q e es h d = go (last_place p es) refl
-  where
-    go : (o : Option ℕ) → last_place p es ≡ o → last_of q (put_for o e es) ≡ last_of q es
-    go None k = last_of-skip q es [] e h ∙ ap (last_of q) (append-nil es)
-    go (Some i) k =
-        let (old, here, passes) = last_holds p es i k in
-        last_of-skip q (take i es) (drop (i + 1) es) e h ∙ sym (last_of-skip q (take i es) (drop (i + 1) es) old (d old passes)) ∙ ap (last_of q) (sym (around_itself es i old here))
+value_at_is : (i : ℕ) (n : KdlNode) → value_at i n ≡ value_in (slice_get (args n) i)
+value_at_is i n = ap value_in (nth_found is_argument (entries_of n) i)
 
-put_arguments : (p q : KdlEntry → Bool) (e : KdlEntry) (es : List KdlEntry) (n : ℕ) → q e ≡ false → ((x : KdlEntry) → p x ≡ true → q x ≡ false) → nth_of q (put_for (last_place p es) e es) n ≡ nth_of q es n
-put_arguments p q e es n h d = go (last_place p es) refl
-  where
-    go : (o : Option ℕ) → last_place p es ≡ o → nth_of q (put_for o e es) n ≡ nth_of q es n
-    go None k = nth_of-skip q es [] e n h ∙ ap (λ l. nth_of q l n) (append-nil es)
-    go (Some i) k =
-        let (old, here, passes) = last_holds p es i k in
-        nth_of-skip q (take i es) (drop (i + 1) es) e n h ∙ sym (nth_of-skip q (take i es) (drop (i + 1) es) old n (d old passes)) ∙ ap (λ l. nth_of q l n) (sym (around_itself es i old here))
+property_is : (s : List ℕ) (n : KdlNode) → property_value s n ≡ value_in (last_or None (named s n))
+property_is s n = ap value_in (last_found (has_name s) (entries_of n))
 
-put_count : (p q : KdlEntry → Bool) (e : KdlEntry) (es : List KdlEntry) → q e ≡ false → ((x : KdlEntry) → p x ≡ true → q x ≡ false) → count_by q (put_for (last_place p es) e es) ≡ count_by q es
-put_count p q e es h d = go (last_place p es) refl
+count_is : (n : KdlNode) → length (args n) ≡ argument_count n
+count_is n = length-filter is_argument (entries_of n)
+
+value_same : (i j : ℕ) (n m : KdlNode) → slice_get (args m) i ≡ slice_get (args n) j → value_at i m ≡ value_at j n
+value_same i j n m e = value_at_is i m ∙ ap value_in e ∙ sym (value_at_is j n)
+
+value_found : (i : ℕ) (e : KdlEntry) (m : KdlNode) → slice_get (args m) i ≡ Some e → value_at i m ≡ Some (value_tree e.value)
+value_found i e m h = value_at_is i m ∙ ap value_in h
+
+property_same : (s : List ℕ) (n m : KdlNode) → last_or None (named s m) ≡ last_or None (named s n) → property_value s m ≡ property_value s n
+property_same s n m e = property_is s m ∙ ap value_in e ∙ sym (property_is s n)
+
+count_same : (n m : KdlNode) → args m ≡ args n → argument_count m ≡ argument_count n
+count_same n m e = sym (count_is m) ∙ ap length e ∙ count_is n
+
+-- m is n with the entries `new` in place of `old`, which all pass the test
+pub record Edited (p : KdlEntry → Bool) (old new : List KdlEntry) (n m : KdlNode) : Type 0 where
+  pub splice : Splice old new (entries_of n) (entries_of m)
+  pub olds : filter p old ≡ old
+  pub news : filter p new ≡ new
+
+none_pass : (p q : KdlEntry → Bool) → ((x : KdlEntry) → p x ≡ true → q x ≡ false) → (es : List KdlEntry) → filter p es ≡ es → filter q es ≡ []
+none_pass p q d es e = ap (filter q) (sym e) ∙ go es
   where
-    go : (o : Option ℕ) → last_place p es ≡ o → count_by q (put_for o e es) ≡ count_by q es
-    go None k = count-skip q es [] e h ∙ ap (count_by q) (append-nil es)
-    go (Some i) k =
-        let (old, here, passes) = last_holds p es i k in
-        count-skip q (take i es) (drop (i + 1) es) e h ∙ sym (count-skip q (take i es) (drop (i + 1) es) old (d old passes)) ∙ ap (count_by q) (sym (around_itself es i old here))
+    go : (es : List KdlEntry) → filter q (filter p es) ≡ []
+    go [] = refl
+    go (x ∷ es) = at (p x) refl (go es)
+      where
+        at : (b : Bool) → p x ≡ b → filter q (filter p es) ≡ [] → filter q (cond b (x ∷ filter p es) (filter p es)) ≡ []
+        at true e h = ap (λ (b : Bool). cond b (x ∷ filter q (filter p es)) (filter q (filter p es))) (d x e) ∙ h
+        at false e h = h
+
+module _ (p : KdlEntry → Bool) (old new : List KdlEntry) (n m : KdlNode) (x : Edited p old new n m) where
+  -- what passes another test only is what it was
+  others_same : (q : KdlEntry → Bool) → ((x : KdlEntry) → p x ≡ true → q x ≡ false) → filter q (entries_of m) ≡ filter q (entries_of n)
+  others_same q d = same_passing q old new (entries_of n) (entries_of m) x.splice (none_pass p q d new x.news ∙ sym (none_pass p q d old x.olds))
+
+  -- what passes has the new entries in place of the old ones
+  abbrev own : Splice old new (filter p (entries_of n)) (filter p (entries_of m))
+  own =
+      let s = spliced p old new (entries_of n) (entries_of m) x.splice in
+      record { before = s.before; after = s.after; was = s.was ∙ ap (λ l. s.before ++ (l ++ s.after)) x.olds; is = s.is ∙ ap (λ l. s.before ++ (l ++ s.after)) x.news }
+
+-- an entry of that name in place of the last one, or after all others
+pub property_set : (s : List ℕ) (e : KdlEntry) (old : List KdlEntry) (n m : KdlNode) (x : Edited (has_name s) old (e ∷ []) n m) → filter (has_name s) x.splice.after ≡ [] → IsSet s (value_tree e.value) n m
+property_set s e old n m x last =
+    let same : args m ≡ args n = others_same (has_name s) old (e ∷ []) n m x is_argument (no_argument s) in
+    record {
+      found = property_is s m ∙ ap value_in (last_new old (named s n) (named s m) e (own (has_name s) old (e ∷ []) n m x) last);
+      others = λ r d. property_same r n m (ap (last_or None) (others_same (has_name s) old (e ∷ []) n m x (has_name r) (other_name s r d)));
+      arguments = λ i. value_same i i n m (ap (λ l. slice_get l i) same);
+      count = count_same n m same;
+    }
+
+pub pushed_set : (s : List ℕ) (e : KdlEntry) (n m : KdlNode) → has_name s e ≡ true → entries_of m ≡ entries_of n ++ (e ∷ []) → IsSet s (value_tree e.value) n m
+pushed_set s e n m has d = property_set s e [] n m (record { splice = splice_push (entries_of n) (entries_of m) e d; olds = refl; news = one_passes (has_name s) e true has }) refl
+
+put_set : (s : List ℕ) (e : KdlEntry) (n m : KdlNode) → has_name s e ≡ true → entries_of m ≡ put_for (last_place (has_name s) (entries_of n)) e (entries_of n) → IsSet s (value_tree e.value) n m
+put_set s e n m has = go (last_place (has_name s) (entries_of n)) (last_is (has_name s) (entries_of n))
+  where
+    go : (o : Option ℕ) → LastIs (has_name s) (entries_of n) o → entries_of m ≡ put_for o e (entries_of n) → IsSet s (value_tree e.value) n m
+    go None h d = pushed_set s e n m has d
+    go (Some i) h d =
+        let es = entries_of n in
+        let splice : Splice (h.it ∷ []) (e ∷ []) es (entries_of m) = record { before = take i es; after = drop (suc i) es; was = around_itself es i h.it h.here; is = d ∙ ap (λ l. take i es ++ (e ∷ drop l es)) (add-one i) } in
+        property_set s e (h.it ∷ []) n m (record { splice = splice; olds = one_passes (has_name s) h.it true h.passes; news = one_passes (has_name s) e true has }) h.after
 
 inserted_set : (k : KdlIdentifier) (e : KdlEntry) (n m : KdlNode) → GoesUnder (property (identifier_tree k)) (entry_tree e) → IsInserted (Key k) e (entries_of n) (entries_of m) → IsSet (string_bytes k.value) (entry_tree e).value n m
-inserted_set k e n m g d =
-    let s = string_bytes k.value in
-    let es = entries_of n in
-    let has : has_name s d.entry ≡ true = named_under k e d.entry g d.tree in
+inserted_set k e n m g d = subst (λ (x : Entry). IsSet (string_bytes k.value) x.value n m) d.tree (put_set (string_bytes k.value) d.entry n m (named_under k e d.entry g d.tree) d.items)
+
+-- the arguments, where those from i on are others
+module _ (i : ℕ) (old new : List KdlEntry) (n m : KdlNode) (x : Edited is_argument old new n m) (at : length (filter is_argument x.splice.before) ≡ i) where
+  properties_same : (s : List ℕ) → property_value s m ≡ property_value s n
+  properties_same s = property_same s n m (ap (last_or None) (others_same is_argument old new n m x (has_name s) (no_name s)))
+
+  before_same : (j : ℕ) → j < i → value_at j m ≡ value_at j n
+  before_same j h = value_same j j n m (got_before i j old new (args n) (args m) (own is_argument old new n m x) at h)
+
+  counts : argument_count m + length old ≡ argument_count n + length new
+  counts = omega (arith, count_is n, count_is m, same_length old new (args n) (args m) (own is_argument old new n m x))
+
+pub argument_set : (i : ℕ) (e f : KdlEntry) (n m : KdlNode) (x : Edited is_argument (e ∷ []) (f ∷ []) n m) → length (filter is_argument x.splice.before) ≡ i → IsArgumentSet i (value_tree f.value) n m
+argument_set i e f n m x at =
+    let s = own is_argument (e ∷ []) (f ∷ []) n m x in
     record {
-      found = ap (λ l. value_in (last_of (has_name s) l)) d.items ∙ ap value_in (put_last (has_name s) d.entry es has) ∙ ap (λ (x : Entry). Some x.value) d.tree;
-      others = λ r h. ap (λ l. value_in (last_of (has_name r) l)) d.items ∙ ap value_in (put_other (has_name s) (has_name r) d.entry es (other_name s r d.entry has h) (λ x p. other_name s r x p h));
-      arguments = λ i. ap (λ l. value_in (nth_of is_argument l i)) d.items ∙ ap value_in (put_arguments (has_name s) is_argument d.entry es i (no_argument s d.entry has) (λ x p. no_argument s x p));
-      count = ap (count_by is_argument) d.items ∙ put_count (has_name s) is_argument d.entry es (no_argument s d.entry has) (λ x p. no_argument s x p);
+      found = value_found i f m (got_new i (e ∷ []) [] (args n) (args m) f s at);
+      others = λ j d. value_same j j n m (got_else i j (args n) (args m) e f s at d);
+      properties = properties_same i (e ∷ []) (f ∷ []) n m x at;
+      count = omega (arith, counts i (e ∷ []) (f ∷ []) n m x at);
     }
+
+argument_put : (i : ℕ) (e : KdlEntry) (n m : KdlNode) (x : Edited is_argument [] (e ∷ []) n m) → length (filter is_argument x.splice.before) ≡ i → IsPutIn i (value_tree e.value) n m
+argument_put i e n m x at =
+    let s = own is_argument [] (e ∷ []) n m x in
+    record {
+      found = value_found i e m (got_new i [] [] (args n) (args m) e s at);
+      before = before_same i [] (e ∷ []) n m x at;
+      later = λ j h. ap (λ k. value_at k m) (add-one j) ∙ value_same (suc j) j n m (got_later i j (args n) (args m) e s at h);
+      properties = properties_same i [] (e ∷ []) n m x at;
+      count = omega (arith, counts i [] (e ∷ []) n m x at);
+    }
+
+argument_taken : (i : ℕ) (e : KdlEntry) (n m : KdlNode) (x : Edited is_argument (e ∷ []) [] n m) → length (filter is_argument x.splice.before) ≡ i → IsTakenOutAt i n m
+argument_taken i e n m x at = record {
+  before = before_same i (e ∷ []) [] n m x at;
+  later = λ j h. value_same j (suc j) n m (sym (got_later i j (args m) (args n) e (back (own is_argument (e ∷ []) [] n m x)) at h)) ∙ ap (λ k. value_at k n) (sym (add-one j));
+  properties = properties_same i (e ∷ []) [] n m x at;
+  count = omega (arith, counts i (e ∷ []) [] n m x at);
+}
 
 argument_tree : (e : KdlEntry) → (entry_tree e).name ≡ None → is_argument e ≡ true
 argument_tree e h = go e.name h
@@ -132,68 +202,67 @@ argument_tree e h = go e.name h
     go None k = refl
     go (Some i) k = absurd (none-some _ (sym k))
 
--- what was pushed without a name is the last argument
-argument_added : (e : KdlEntry) (n m : KdlNode) → (entry_tree e).name ≡ None → entries_of m ≡ entries_of n ++ (e ∷ []) → IsAdded (entry_tree e).value n m
-argument_added e n m h d =
-    let es = entries_of n in
-    let is : is_argument e ≡ true = argument_tree e h in
-    record {
-      found = ap (λ l. value_in (nth_of is_argument l (count_by is_argument es))) d ∙ ap value_in (nth_of-push is_argument es e is);
-      before = λ i k. ap (λ l. value_in (nth_of is_argument l i)) d ∙ ap value_in (nth_of-pushed is_argument es e i k);
-      properties = λ s. ap (λ l. value_in (last_of (has_name s) l)) d ∙ ap value_in (last_of-skip (has_name s) es [] e (no_name s e is) ∙ ap (last_of (has_name s)) (append-nil es));
-      count = ap (count_by is_argument) d ∙ count-pushed is_argument es e is;
-    }
+-- what was pushed without a name is after all arguments
+pushed_last : (e : KdlEntry) (n m : KdlNode) → is_argument e ≡ true → entries_of m ≡ entries_of n ++ (e ∷ []) → IsPutIn (argument_count n) (value_tree e.value) n m
+pushed_last e n m is d = argument_put (argument_count n) e n m (record { splice = splice_push (entries_of n) (entries_of m) e d; olds = refl; news = one_passes is_argument e true is }) (count_is n)
 
--- what was pushed under a name is what the name finds
-pub pushed_set : (s : List ℕ) (e : KdlEntry) (n m : KdlNode) → has_name s e ≡ true → entries_of m ≡ entries_of n ++ (e ∷ []) → IsSet s (entry_tree e).value n m
-pushed_set s e n m has d =
-    let es = entries_of n in
-    record {
-      found = ap (λ l. value_in (last_of (has_name s) l)) d ∙ ap value_in (last_of-push (has_name s) es e has);
-      others = λ r h. ap (λ l. value_in (last_of (has_name r) l)) d ∙ ap value_in (last_of-skip (has_name r) es [] e (other_name s r e has h) ∙ ap (last_of (has_name r)) (append-nil es));
-      arguments = λ i. ap (λ l. value_in (nth_of is_argument l i)) d ∙ ap value_in (nth_of-skip is_argument es [] e i (no_argument s e has) ∙ ap (λ l. nth_of is_argument l i) (append-nil es));
-      count = ap (count_by is_argument) d ∙ count-skip is_argument es [] e (no_argument s e has) ∙ ap (count_by is_argument) (append-nil es);
-    }
+argument_added : (e : KdlEntry) (n m : KdlNode) → (entry_tree e).name ≡ None → entries_of m ≡ entries_of n ++ (e ∷ []) → IsAdded (value_tree e.value) n m
+argument_added e n m h d = let p = pushed_last e n m (argument_tree e h) d in record { found = p.found; before = p.before; properties = p.properties; count = p.count }
 
 -- what was put in before an argument
-argument_put : (i : ℕ) (e : KdlEntry) (n m : KdlNode) → (entry_tree e).name ≡ None → i ≤ argument_count n → entries_of m ≡ put_before (nth_place is_argument (entries_of n) i) e (entries_of n) → IsPutIn i (entry_tree e).value n m
-argument_put i e n m h k d =
-    let es = entries_of n in
-    let is : is_argument e ≡ true = argument_tree e h in
-    let items : entries_of m ≡ put_nth is_argument e es i = d ∙ put_at is_argument e es i in
-    record {
-      found = ap (λ l. value_in (nth_of is_argument l i)) items ∙ ap value_in (nth_of-put is_argument e es i is k);
-      before = λ j l. ap (λ l. value_in (nth_of is_argument l j)) items ∙ ap value_in (nth_of-before_put is_argument e es i j k l);
-      later = λ j l. ap (λ k. value_in (nth_of is_argument (entries_of m) k)) (add-one j) ∙ ap (λ l. value_in (nth_of is_argument l (suc j))) items ∙ ap value_in (nth_of-after_put is_argument e es i j is l);
-      properties = λ s. ap (λ l. value_in (last_of (has_name s) l)) d ∙ ap value_in (last_of-put (has_name s) (nth_place is_argument es i) e es (no_name s e is));
-      count = ap (count_by is_argument) d ∙ count-put is_argument (nth_place is_argument es i) e es is;
-    }
+argument_inserted : (i : ℕ) (e : KdlEntry) (n m : KdlNode) → (entry_tree e).name ≡ None → i ≤ argument_count n → entries_of m ≡ put_before (nth_place is_argument (entries_of n) i) e (entries_of n) → IsPutIn i (value_tree e.value) n m
+argument_inserted i e n m h k d = go (nth_place is_argument (entries_of n) i) (nth_is is_argument (entries_of n) i) d
+  where
+    go : (o : Option ℕ) → NthIs is_argument (entries_of n) i o → entries_of m ≡ put_before o e (entries_of n) → IsPutIn i (value_tree e.value) n m
+    go None l q =
+        let last : argument_count n ≡ i = omega (arith, count_is n) in
+        subst (λ (j : ℕ). IsPutIn j (value_tree e.value) n m) last (pushed_last e n m (argument_tree e h) q)
+    go (Some j) l q = argument_put i e n m (record { splice = splice_put (entries_of n) (entries_of m) j e q; olds = refl; news = one_passes is_argument e true (argument_tree e h) }) l.before
 
 -- what was taken out of the arguments
-argument_taken : (i : ℕ) (n m : KdlNode) → i < argument_count n → entries_of m ≡ removed (Index i) (entries_of n) → IsTakenOutAt i n m
-argument_taken i n m k d =
-    let es = entries_of n in
-    let items : entries_of m ≡ but_nth is_argument es i = d ∙ cut_nth is_argument es i in
-    record {
-      before = λ j l. ap (λ l. value_in (nth_of is_argument l j)) items ∙ ap value_in (nth_of-before_cut is_argument es i j l);
-      later = λ j l. ap (λ l. value_in (nth_of is_argument l j)) items ∙ ap value_in (nth_of-after_cut is_argument es i j l) ∙ ap (λ k. value_in (nth_of is_argument es k)) (sym (add-one j));
-      properties = λ s. ap (λ l. value_in (last_of (has_name s) l)) d ∙ ap value_in (last_of-cut is_argument (has_name s) es i (λ x p. no_name s x p));
-      count = ap (λ l. count_by is_argument l + 1) items ∙ count-cut is_argument es i k;
-    }
+argument_removed : (i : ℕ) (n m : KdlNode) → i < argument_count n → entries_of m ≡ removed (Index i) (entries_of n) → IsTakenOutAt i n m
+argument_removed i n m k d = go (nth_place is_argument (entries_of n) i) (nth_is is_argument (entries_of n) i) d
+  where
+    go : (o : Option ℕ) → NthIs is_argument (entries_of n) i o → entries_of m ≡ without o (entries_of n) → IsTakenOutAt i n m
+    go None l q = absurd (omega (arith, count_is n))
+    go (Some j) l q = argument_taken i l.it n m (record { splice = splice_cut (entries_of n) (entries_of m) j l.it l.here q; olds = one_passes is_argument l.it true l.passes; news = refl }) l.before
 
 -- what was taken out under a name
-taken_out_set : (k : KdlIdentifier) (n m : KdlNode) → entries_of m ≡ removed (Key k) (entries_of n) → IsTakenOut (string_bytes k.value) n m
-taken_out_set k n m d =
-    let s = string_bytes k.value in
-    let es = entries_of n in
-    let items : entries_of m ≡ but_first (has_name s) es = d ∙ cut_at (has_name s) es in
-    record {
-      missing = λ h. ap (λ l. value_in (last_of (has_name s) l)) items ∙ ap value_in (last_of-only (has_name s) es h);
-      later = λ h. ap (λ l. value_in (last_of (has_name s) l)) items ∙ ap value_in (last_of-but_first (has_name s) es h);
-      others = λ r h. ap (λ l. value_in (last_of (has_name r) l)) items ∙ ap value_in (last_of-another (has_name s) (has_name r) es (λ x p. other_name s r x p h));
-      arguments = λ i. ap (λ l. value_in (nth_of is_argument l i)) items ∙ ap value_in (nth_of-another (has_name s) is_argument es i (λ x p. no_argument s x p));
-      count = ap (count_by is_argument) items ∙ count-another (has_name s) is_argument es (λ x p. no_argument s x p);
-    }
+first_taken : (b : List KdlEntry) (x : KdlEntry) (g : List KdlEntry) → length b ≡ 0 → b ++ g ≡ drop 1 (b ++ (x ∷ g))
+first_taken [] x g h = refl
+first_taken (y ∷ b) x g h = absurd (omega arith)
+
+nothing_taken : (l : List KdlEntry) → length l ≤ 0 → l ≡ drop 1 l
+nothing_taken [] h = refl
+nothing_taken (x ∷ l) h = absurd (omega arith)
+
+taken_out_set : (s : List ℕ) (n m : KdlNode) → entries_of m ≡ without (position (has_name s) (entries_of n)) (entries_of n) → IsTakenOut s n m
+taken_out_set s n m d = go (nth_place p es 0) (nth_is p es 0) (d ∙ ap (λ o. without o es) (first_is p es))
+  where
+    es : List KdlEntry
+    es = entries_of n
+
+    p : KdlEntry → Bool
+    p = has_name s
+
+    taken : named s m ≡ drop 1 (named s n) → ((q : KdlEntry → Bool) → ((x : KdlEntry) → p x ≡ true → q x ≡ false) → filter q (entries_of m) ≡ filter q es) → IsTakenOut s n m
+    taken own other =
+        let same : args m ≡ args n = other is_argument (no_argument s) in
+        let (missing, later) = rest_of_first (named s n) in
+        record {
+          missing = λ h. property_is s m ∙ ap value_in (ap (last_or None) own ∙ missing (omega (arith, length-filter p es)));
+          later = λ h. property_same s n m (ap (last_or None) own ∙ later (omega (arith, length-filter p es)));
+          others = λ r h. property_same r n m (ap (last_or None) (other (has_name r) (other_name s r h)));
+          arguments = λ i. value_same i i n m (ap (λ l. slice_get l i) same);
+          count = count_same n m same;
+        }
+
+    go : (o : Option ℕ) → NthIs p es 0 o → entries_of m ≡ without o es → IsTakenOut s n m
+    go None l q = taken (ap (filter p) q ∙ nothing_taken (filter p es) l) (λ r h. ap (filter r) q)
+    go (Some i) l q =
+        let x : Edited p (l.it ∷ []) [] n m = record { splice = splice_cut es (entries_of m) i l.it l.here q; olds = one_passes p l.it true l.passes; news = refl } in
+        let t = own p (l.it ∷ []) [] n m x in
+        taken (t.is ∙ first_taken t.before l.it t.after l.before ∙ ap (drop 1) (sym t.was)) (others_same p (l.it ∷ []) [] n m x)
 
 -- the entries of a node with other ones
 pub entries_with : (n : KdlNode) (v : Vec KdlEntry Global) → entries_of (with_entries n v) ≡ v.items
@@ -234,13 +303,13 @@ insert_puts (Err a) key e n v g k d = tt
 insert_puts (Ok a) (Key i) e n v g k d = tt
 insert_puts (Ok a) (Index i) e n v g k d =
     let m = with_entries n v in
-    subst (λ (x : Entry). IsPutIn i x.value n m) d.tree (argument_put i d.entry n m (ap (λ (x : Entry). x.name) d.tree ∙ g) k (entries_with n v ∙ d.items))
+    subst (λ (x : Entry). IsPutIn i x.value n m) d.tree (argument_inserted i d.entry n m (ap (λ (x : Entry). x.name) d.tree ∙ g) k (entries_with n v ∙ d.items))
 
 -- what a removal leaves, of a property and of an argument
 pub remove_takes : (key : NodeKey) (n : KdlNode) (v : Vec KdlEntry Global) → v.items ≡ removed key (entries_of n) → IfSome (key_name key) (λ s. IsTakenOut s n (with_entries n v))
-remove_takes (Key k) n v d = taken_out_set k n (with_entries n v) (entries_with n v ∙ d)
+remove_takes (Key k) n v d = taken_out_set (string_bytes k.value) n (with_entries n v) (entries_with n v ∙ d)
 remove_takes (Index i) n v d = tt
 
 pub remove_takes_at : (key : NodeKey) (n : KdlNode) (v : Vec KdlEntry Global) → HasArgumentAt (sought key) (entries_of n) → v.items ≡ removed key (entries_of n) → IfSome (key_index key) (λ i. IsTakenOutAt i n (with_entries n v))
 remove_takes_at (Key k) n v h d = tt
-remove_takes_at (Index i) n v h d = argument_taken i n (with_entries n v) h (entries_with n v ∙ d)
+remove_takes_at (Index i) n v h d = argument_removed i n (with_entries n v) h (entries_with n v ∙ d)

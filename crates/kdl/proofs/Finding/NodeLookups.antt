@@ -1,7 +1,7 @@
 -- What look-ups find, and nodes with one entry changed or pushed.
-use Rattle.std.proofs.Common.{◌≡◌, ℕ, List, [], ◌∷◌, ◌++◌, length, length-append, Option, None, Some, option_map, refl, ap, ◌∙◌, sym, arith, slice_get, slice_set, Vec, Global}
-use Rattle.std.proofs.Math.Seq.{set-append_seam, get_or-append_seam}
-use Rattle.std.proofs.lemmas.Option.{none-some, slice_get_read}
+use Rattle.std.proofs.Common.{◌≡◌, ℕ, List, [], ◌∷◌, ◌++◌, length, Option, None, Some, option_map, ap, ◌∙◌, sym, slice_get, slice_set, Vec, Global}
+use Rattle.std.proofs.Math.Seq.{set-append_seam}
+use Rattle.std.proofs.lemmas.Option.{none-some}
 use Rattle.kdl_value.specs.Data.{null}
 use Rattle.kdl_value.specs.Tree.{value_tree, or_null}
 use Rattle.kdl_entry.specs.Tree.{Entry}
@@ -11,6 +11,7 @@ use Rattle.kdl.specs.Change.{with_entries, with_value}
 use Rattle.kdl_parts.specs.Written.{set_value_at, HasProperty, IsPushed}
 pub use Rattle.kdl_parts.proofs.EntryLookups.{name_compared}
 use Rattle.kdl_parts.proofs.EntryLookups.{set_value_is}
+use Rattle.kdl.proofs.Finding.ListLookups.{get_seam}
 use Rattle.kdl.specs.Lookups.{entries_of, value_there, HasPushed, HasSameEntries, HasWritten}
 use Rattle.kdl.specs.declared.document.KdlDocument.TheViews.{out-KdlNode, roll-KdlNode, out-roll-KdlNode}
 use Rattle.kdl.specs.declared.node.KdlNode.{KdlNode}
@@ -22,12 +23,8 @@ with_entries_out n v = ap (λ x. x.entries) (out-roll-KdlNode (record (out-KdlNo
 pub with_entries_twice : (n : KdlNode) (u v : Vec KdlEntry Global) → with_entries (with_entries n u) v ≡ with_entries n v
 with_entries_twice n u v = ap (λ x. roll-KdlNode (record x { entries = v })) (out-roll-KdlNode (record (out-KdlNode n) { entries = u }))
 
--- the last of a list
-pub last_got : {A : Type 0} (xs : List A) (x : A) → slice_get (xs ++ (x ∷ [])) (length xs) ≡ Some x
-last_got xs x = slice_get_read (xs ++ (x ∷ [])) _ (length xs) x refl (omega (arith, length-append xs (x ∷ []))) (sym (get_or-append_seam xs x [] x))
-
 pushed_at : (s : List ℕ) (es fs : List KdlEntry) (i : ℕ) → i ≡ length es → (p : IsPushed s null es fs) → slice_get fs i ≡ Some p.entry
-pushed_at s es fs i e p = ap (slice_get fs) e ∙ ap (λ l. slice_get l (length es)) p.items ∙ last_got es p.entry
+pushed_at s es fs i e p = ap (slice_get fs) e ∙ ap (λ l. slice_get l (length es)) p.items ∙ get_seam es [] p.entry
 
 written_pushed : (s : List ℕ) (n : KdlNode) (v : Vec KdlEntry Global) (i : ℕ) (w : KdlValue) → i ≡ length (entries_of n) → IsPushed s null (entries_of n) v.items → HasPushed s (value_tree w) n (with_value (with_entries n v) i w)
 written_pushed s n v i w e p =

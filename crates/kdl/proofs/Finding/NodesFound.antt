@@ -1,13 +1,13 @@
 -- What a document's look-ups find once an argument is written.
-use Rattle.std.proofs.Common.{◌≡◌, ℕ, suc, ◌+◌, Bool, true, false, not, nat_lt, length, List, [], ◌∷◌, cond, set, Option, Some, None, IsSome, option_and_then, slice_get, refl, ap, ◌∙◌, sym, string_bytes, arith, Vec, Global}
+use Rattle.std.proofs.Common.{◌≡◌, ℕ, Bool, true, false, length, take, List, [], ◌∷◌, ◌++◌, set, Option, Some, None, IsSome, option_and_then, slice_get, refl, ap, ◌∙◌, sym, string_bytes, Vec, Global}
 use Rattle.std.proofs.lemmas.Option.{none-some}
 use Rattle.std.proofs.lemmas.Slice.Eq.{bytes_eq-Decides}
-use Rattle.std.specs.List.{find, position_or_len}
+use Rattle.std.specs.List.{filter}
 use Rattle.std.specs.Vec.{with_item}
 use Rattle.kdl_value.specs.Tree.{value_tree}
 use Rattle.kdl_value.specs.declared.value.KdlValue.{KdlValue}
 use Rattle.kdl_entry.specs.declared.entry.KdlEntry.{KdlEntry}
-use Rattle.kdl_parts.specs.EntryLists.{same_text}
+use Rattle.kdl_parts.specs.EntryLists.{nth_place, same_text}
 use Rattle.kdl_parts.specs.declared.key.NodeKey.TheVariants.{Index}
 use Rattle.kdl.specs.Change.{with_entries}
 use Rattle.kdl.specs.DocumentLookups.{argument_named, first_argument, is_node_named, node_named, node_place, nodes_of, with_argument_named, with_argument_in, with_argument_there, with_node_named, with_node_there}
@@ -16,72 +16,67 @@ use Rattle.kdl.specs.Lookups.{held_value, value_of, with_found_value}
 use Rattle.kdl.specs.declared.node.KdlNode.{KdlNode}
 use Rattle.kdl.specs.declared.document.KdlDocument.{KdlDocument}
 use Rattle.kdl.specs.declared.document.KdlDocument.TheViews.{out-KdlDocument, out-roll-KdlDocument, out-KdlNode, out-roll-KdlNode}
-use Rattle.kdl.proofs.Finding.DocumentLookups.{found_there, none_there}
+use Rattle.kdl.proofs.Finding.DocumentLookups.{found_there}
+use Rattle.kdl.proofs.Finding.EntriesFound.{differ}
+use Rattle.kdl.proofs.Finding.ListLookups.{NthIs, Splice, find_first, first_is, got_new, nth_found, nth_is, one_passes, same_passing, splice_set, spliced}
 use Rattle.kdl.proofs.Finding.WritesFound.{value_sets_at}
 
--- what is found passes
-find_holds : {A : Type 0} (p : A → Bool) (xs : List A) (x : A) → find p xs ≡ Some x → p x ≡ true
-find_holds p [] x h = absurd (none-some _ h)
-find_holds {A = A} p (y ∷ ys) x h = go (p y) refl h (find_holds p ys x)
-  where
-    go : (b : Bool) → p y ≡ b → cond b (Some y) (find p ys) ≡ Some x → (find p ys ≡ Some x → p x ≡ true) → p x ≡ true
-    go true e k f = let z : y ≡ x = cc in ap p (sym z) ∙ e
-    go false e k f = f k
+-- the first node of that name, and the nodes of the document with another one in its place
+record FirstAt (s : List ℕ) (d : KdlDocument) (x n : KdlNode) (i : ℕ) : Type 0 where
+  pub here : slice_get (nodes_of d) i ≡ Some x
+  pub passes : is_node_named s x ≡ true
+  pub before : length (filter (is_node_named s) (take i (nodes_of d))) ≡ 0
+  pub nodes : nodes_of (with_node_named s d n) ≡ set (nodes_of d) i n
 
--- another one in the place of the first that passes: it is found if it passes
-exchange_found : {A : Type 0} (p : A → Bool) (xs : List A) (x y : A) → find p xs ≡ Some x → p y ≡ true → find p (set xs (position_or_len p xs) y) ≡ Some y
-exchange_found p [] x y f t = absurd (none-some _ f)
-exchange_found {A = A} p (z ∷ zs) x y f t = go (p z) refl f (λ k. exchange_found p zs x y k t)
+first_at : (s : List ℕ) (x n : KdlNode) (d : KdlDocument) → node_named s d ≡ Some x → (i : ℕ) × FirstAt s d x n i
+first_at s x n d h = go (nth_place p (nodes_of d) 0) (nth_is p (nodes_of d) 0) (nth_found p (nodes_of d) 0 ∙ sym (find_first p (nodes_of d)) ∙ h) (first_is p (nodes_of d))
   where
-    go : (b : Bool) → p z ≡ b → cond b (Some z) (find p zs) ≡ Some x → (find p zs ≡ Some x → find p (set zs (position_or_len p zs) y) ≡ Some y) → find p (set (z ∷ zs) (cond (not b) (1 + position_or_len p zs) 0) y) ≡ Some y
-    go true e k ih = ap (λ b. cond b (Some y) (find p zs)) t
-    go false e k ih =
-        let one : 1 + position_or_len p zs ≡ suc (position_or_len p zs) = omega arith in
-        ap (λ n. find p (set (z ∷ zs) n y)) one ∙ ap (λ b. cond b (Some z) (find p (set zs (position_or_len p zs) y))) e ∙ ih k
+    p : KdlNode → Bool
+    p = is_node_named s
 
--- what neither passes is found as before
-exchange_other : {A : Type 0} (p q : A → Bool) (xs : List A) (y : A) → q y ≡ false → ((x : A) → p x ≡ true → q x ≡ false) → find q (set xs (position_or_len p xs) y) ≡ find q xs
-exchange_other p q [] y n d = refl
-exchange_other {A = A} p q (z ∷ zs) y n d = go (p z) refl (exchange_other p q zs y n d)
-  where
-    go : (b : Bool) → p z ≡ b → find q (set zs (position_or_len p zs) y) ≡ find q zs → find q (set (z ∷ zs) (cond (not b) (1 + position_or_len p zs) 0) y) ≡ cond (q z) (Some z) (find q zs)
-    go true e ih = ap (λ b. cond b (Some y) (find q zs)) n ∙ ap (λ b. cond b (Some z) (find q zs)) (sym (d z e))
-    go false e ih =
-        let one : 1 + position_or_len p zs ≡ suc (position_or_len p zs) = omega arith in
-        ap (λ n. find q (set (z ∷ zs) n y)) one ∙ ap (λ o. cond (q z) (Some z) o) ih
+    same_some : {x y : KdlNode} → ◌≡◌ {A = Option KdlNode} (Some x) (Some y) → x ≡ y
+    same_some e = cc
 
--- the nodes of a document with another one in the place of the first of that name
-nodes_with : (s : List ℕ) (d : KdlDocument) (x n : KdlNode) → Some x ≡ node_named s d → nodes_of (with_node_named s d n) ≡ set (nodes_of d) (position_or_len (is_node_named s) (nodes_of d)) n
-nodes_with s d x n h = go (node_place s d) refl
-  where
-    at : (b : Bool) (k i : ℕ) → cond b (Some k) None ≡ Some i → i ≡ k
-    at true k i e = cc
-    at false k i e = absurd (none-some _ e)
+    go : (o : Option ℕ) → NthIs p (nodes_of d) 0 o → option_and_then (λ i. slice_get (nodes_of d) i) o ≡ Some x → node_place s d ≡ o → (i : ℕ) × FirstAt s d x n i
+    go None at k e = absurd (none-some _ k)
+    go (Some i) at k e = (
+      i,
+      record {
+        here = k;
+        passes = ap p (same_some (sym k ∙ at.here)) ∙ at.passes;
+        before = at.before;
+        nodes = ap (λ o. nodes_of (with_node_there o d n)) e ∙ ap (λ x. x.nodes.items) (out-roll-KdlDocument (record (out-KdlDocument d) { nodes = with_item (out-KdlDocument d).nodes i n }));
+      },
+    )
 
-    go : (o : Option ℕ) → node_place s d ≡ o → nodes_of (with_node_there o d n) ≡ set (nodes_of d) (position_or_len (is_node_named s) (nodes_of d)) n
-    go None e = absurd (none-some x (sym (none_there (is_node_named s) (nodes_of d) (sym e)) ∙ sym h))
-    go (Some i) e =
-        ap (λ x. x.nodes.items) (out-roll-KdlDocument (record (out-KdlDocument d) { nodes = with_item (out-KdlDocument d).nodes i n }))
-        ∙ ap (λ k. set (nodes_of d) k n) (at (nat_lt (position_or_len (is_node_named s) (nodes_of d)) (length (nodes_of d))) (position_or_len (is_node_named s) (nodes_of d)) i e)
+-- a node with the name of another one
+named_alike : (s : List ℕ) (x n : KdlNode) → (out-KdlNode n).name ≡ (out-KdlNode x).name → is_node_named s x ≡ true → is_node_named s n ≡ true
+named_alike s x n k h = ap (λ i. same_text (string_bytes i.value) s) k ∙ h
 
 -- a node has one name
 other_node : (s r : List ℕ) (n : KdlNode) → is_node_named s n ≡ true → (s ≡ r → ⊥) → is_node_named r n ≡ false
-other_node s r n h d = differ (string_bytes (out-KdlNode n).name.value) (is_node_named r n) refl ((bytes_eq-Decides (string_bytes (out-KdlNode n).name.value) s).0 h)
-  where
-    differ : (b : List ℕ) (t : Bool) → same_text b r ≡ t → b ≡ s → t ≡ false
-    differ b true k q = absurd (d (sym q ∙ (bytes_eq-Decides b r).0 k))
-    differ b false k q = refl
+other_node s r n h d = differ s r (string_bytes (out-KdlNode n).name.value) (is_node_named r n) d refl ((bytes_eq-Decides (string_bytes (out-KdlNode n).name.value) s).0 h)
 
 -- the first node of that name, exchanged for one with the name that it had
 pub node_found : (s : List ℕ) (x n : KdlNode) (d : KdlDocument) → node_named s d ≡ Some x → (out-KdlNode n).name ≡ (out-KdlNode x).name → node_named s (with_node_named s d n) ≡ Some n
 node_found s x n d h k =
-    let is : is_node_named s n ≡ true = ap (λ i. same_text (string_bytes i.value) s) k ∙ find_holds (is_node_named s) (nodes_of d) x h in
-    ap (find (is_node_named s)) (nodes_with s d x n (sym h)) ∙ exchange_found (is_node_named s) (nodes_of d) x n h is
+    let (i, at) = first_at s x n d h in
+    let p = is_node_named s in
+    let e = with_node_named s d n in
+    let t = spliced p (x ∷ []) (n ∷ []) (nodes_of d) (nodes_of e) (splice_set (nodes_of d) (nodes_of e) i x n at.here at.nodes) in
+    let is : filter p (n ∷ []) ≡ n ∷ [] = one_passes p n true (named_alike s x n k at.passes) in
+    let own : Splice (filter p (x ∷ [])) (n ∷ []) (filter p (nodes_of d)) (filter p (nodes_of e)) = record { before = t.before; after = t.after; was = t.was; is = t.is ∙ ap (λ l. t.before ++ (l ++ t.after)) is } in
+    find_first p (nodes_of e) ∙ got_new 0 (filter p (x ∷ [])) [] (filter p (nodes_of d)) (filter p (nodes_of e)) n own at.before
 
 pub node_others : (s r : List ℕ) (x n : KdlNode) (d : KdlDocument) → node_named s d ≡ Some x → (out-KdlNode n).name ≡ (out-KdlNode x).name → (s ≡ r → ⊥) → node_named r (with_node_named s d n) ≡ node_named r d
-node_others s r x n d h k q =
-    let is : is_node_named s n ≡ true = ap (λ i. same_text (string_bytes i.value) s) k ∙ find_holds (is_node_named s) (nodes_of d) x h in
-    ap (find (is_node_named r)) (nodes_with s d x n (sym h)) ∙ exchange_other (is_node_named s) (is_node_named r) (nodes_of d) n (other_node s r n is q) (λ y t. other_node s r y t q)
+node_others s r x n d h k f =
+    let (i, at) = first_at s x n d h in
+    let q = is_node_named r in
+    let e = with_node_named s d n in
+    let new = one_passes q n false (other_node s r n (named_alike s x n k at.passes) f) in
+    let old = one_passes q x false (other_node s r x at.passes f) in
+    let same = same_passing q (x ∷ []) (n ∷ []) (nodes_of d) (nodes_of e) (splice_set (nodes_of d) (nodes_of e) i x n at.here at.nodes) (new ∙ sym old) in
+    find_first q (nodes_of e) ∙ ap (λ l. slice_get l 0) same ∙ sym (find_first q (nodes_of d))
 
 -- a node with other entries has the name that it had
 entries_keep_name : (n : KdlNode) (v : Vec KdlEntry Global) → (out-KdlNode (with_entries n v)).name ≡ (out-KdlNode n).name

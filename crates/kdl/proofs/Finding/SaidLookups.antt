@@ -1,12 +1,12 @@
 -- What look-ups find in memory is what the data say, and data that are the same are the same to each look-up.
-use Rattle.std.proofs.Common.{Bor, ◌≡◌, ℕ, zero, suc, Bool, true, false, List, [], ◌∷◌, map, Option, Some, None, is_none, is_some, option_and_then, option_map, slice_get, string_bytes, refl, ap, ◌∙◌, sym, cond}
-use Rattle.std.proofs.lemmas.Option.{none-some, slice_get-map}
+use Rattle.std.proofs.Common.{Bor, ◌≡◌, ℕ, Bool, true, false, List, [], ◌∷◌, map, Option, Some, None, is_none, is_some, option_and_then, option_map, slice_get, string_bytes, refl, ap, ◌∙◌, sym, cond}
+use Rattle.std.proofs.lemmas.Option.{slice_get-map}
 use Rattle.std.proofs.lemmas.Slice.Eq.{bytes_eq-Decides}
 use Rattle.std.proofs.lemmas.Str.{IsUtf8-string_bytes, encodes-chars}
 use lib.Utf8.{encodes}
 use Rattle.std.specs.Bool.{one_answer}
 use Rattle.std.specs.List.{cons_option, filter, filter_map, find, last_or}
-use Rattle.std.specs.Option.{option_map_or, option_or}
+use Rattle.std.specs.Option.{option_map_or}
 use Rattle.std.specs.Prelude.{codes, unwrap_or}
 use Rattle.std.specs.Str.{IsUtf8, chars}
 use Rattle.kdl_text.specs.Chars.{Text}
@@ -19,7 +19,7 @@ use Rattle.kdl_entry.specs.declared.entry.KdlEntry.{KdlEntry}
 use Rattle.kdl_entry.specs.declared.identifier.KdlIdentifier.{KdlIdentifier}
 use Rattle.kdl_grammar.specs.Data as nodes'
 use Rattle.kdl_grammar.specs.Tree.{node_data, nodes_data, document_data, children_data, children_of}
-use Rattle.kdl_parts.specs.EntryLists.{has_name, is_argument, is_name, last_place, later, nth_place, nth_step, same_text, sought, there, arguments}
+use Rattle.kdl_parts.specs.EntryLists.{has_name, is_argument, is_name, last_place, nth_place, same_text, sought, there, arguments}
 use Rattle.kdl_parts.specs.declared.key.NodeKey.{NodeKey}
 use Rattle.kdl_parts.specs.declared.key.NodeKey.TheVariants.{Key, Index}
 use Rattle.kdl_parts.proofs.EntryLookups.{same_bytes}
@@ -32,67 +32,13 @@ use Rattle.kdl.specs.Tree.{document_says, document_tree, node_says, nodes_tree}
 use Rattle.kdl.specs.declared.node.KdlNode.{KdlNode}
 use Rattle.kdl.specs.declared.document.KdlDocument.{KdlDocument}
 use Rattle.kdl.specs.declared.document.KdlDocument.TheViews.{out-KdlNode}
+use Rattle.kdl.proofs.Finding.ListLookups.{LastIs, find_first, last_found, last_is, nth_found}
 use Rattle.kdl.proofs.Trees.{document_tree_out, node_tree_out}
-
--- what is at the last place is the last of those that pass
-there_none : {A : Type 0} (p : A → Bool) (xs : List A) → there (last_place p xs) xs ≡ None → last_place p xs ≡ None
-there_none p [] h = refl
-there_none {A = A} p (x ∷ xs) h = go (p x) (last_place p xs) (there_none p xs) h
-  where
-    go : (b : Bool) (o : Option ℕ) → (there o xs ≡ None → o ≡ None) → there (later o b) (x ∷ xs) ≡ None → later o b ≡ None
-    go true None k e = absurd (none-some _ (sym e))
-    go false None k e = refl
-    go b (Some i) k e = absurd (none-some _ (sym (k e)))
-
-last_is : {A : Type 0} (p : A → Bool) (xs : List A) (o : Option A) → last_or o (filter p xs) ≡ option_or (there (last_place p xs) xs) o
-last_is p [] o = refl
-last_is {A = A} p (x ∷ xs) o = go (p x) (last_place p xs) (there_none p xs) (last_is p xs)
-  where
-    got : (i : ℕ) (r s : Option A) (y : Option A) → (y ≡ None → Some i ≡ None) → option_or y r ≡ option_or y s
-    got i r s None k = absurd (none-some _ (sym (k refl)))
-    got i r s (Some y) k = refl
-
-    go : (b : Bool) (l : Option ℕ) → (there l xs ≡ None → l ≡ None) → ((r : Option A) → last_or r (filter p xs) ≡ option_or (there l xs) r) → last_or o (cond b (x ∷ filter p xs) (filter p xs)) ≡ option_or (there (later l b) (x ∷ xs)) o
-    go true None k h = h (Some x)
-    go true (Some i) k h = h (Some x) ∙ got i (Some x) o (slice_get xs i) k
-    go false None k h = h o
-    go false (Some i) k h = h o
-
-or_none : {A : Type 0} (o : Option A) → option_or o None ≡ o
-or_none None = refl
-or_none (Some x) = refl
-
-last_found : {A : Type 0} (p : A → Bool) (xs : List A) → there (last_place p xs) xs ≡ last_or None (filter p xs)
-last_found p xs = sym (or_none (there (last_place p xs) xs)) ∙ sym (last_is p xs None)
-
--- and what is at the n-th place is the n-th of them
-there_after : {A : Type 0} (x : A) (xs : List A) (o : Option ℕ) → there (option_map suc o) (x ∷ xs) ≡ there o xs
-there_after x xs None = refl
-there_after x xs (Some i) = refl
-
-nth_found : {A : Type 0} (p : A → Bool) (xs : List A) (n : ℕ) → there (nth_place p xs n) xs ≡ slice_get (filter p xs) n
-nth_found p [] n = refl
-nth_found {A = A} p (x ∷ xs) n = go (λ k. nth_found p xs k) (p x) n
-  where
-    go : ((k : ℕ) → there (nth_place p xs k) xs ≡ slice_get (filter p xs) k) → (b : Bool) (k : ℕ) → there (nth_step b k (nth_place p xs)) (x ∷ xs) ≡ slice_get (cond b (x ∷ filter p xs) (filter p xs)) k
-    go h true zero = refl
-    go h true (suc k) = there_after x xs (nth_place p xs k) ∙ h k
-    go h false k = there_after x xs (nth_place p xs k) ∙ h k
 
 -- what is found in a list is found in the list of what its elements are mapped to
 last_mapped : {A B : Type 0} (f : A → B) (xs : List A) (o : Option A) → option_map f (last_or o xs) ≡ last_or (option_map f o) (map f xs)
 last_mapped f [] o = refl
 last_mapped f (x ∷ xs) o = last_mapped f xs (Some x)
-
-find_mapped : {A B : Type 0} (f : A → B) (p : A → Bool) (q : B → Bool) → ((x : A) → p x ≡ q (f x)) → (xs : List A) → option_map f (find p xs) ≡ find q (map f xs)
-find_mapped f p q h [] = refl
-find_mapped {A = A} {B = B} f p q h (x ∷ xs) = go (p x) (q (f x)) (h x) (find_mapped f p q h xs)
-  where
-    go : (b c : Bool) → b ≡ c → option_map f (find p xs) ≡ find q (map f xs) → option_map f (cond b (Some x) (find p xs)) ≡ cond c (Some (f x)) (find q (map f xs))
-    go true true e k = refl
-    go true false e k = cc
-    go false true e k = cc
-    go false false e k = k
 
 filter_mapped : {A B : Type 0} (f : A → B) (p : A → Bool) (q : B → Bool) → ((x : A) → p x ≡ q (f x)) → (xs : List A) → map f (filter p xs) ≡ filter q (map f xs)
 filter_mapped f p q h [] = refl
@@ -103,6 +49,9 @@ filter_mapped {A = A} {B = B} f p q h (x ∷ xs) = go (p x) (q (f x)) (h x) (fil
     go true false e k = cc
     go false true e k = cc
     go false false e k = k
+
+find_mapped : {A B : Type 0} (f : A → B) (p : A → Bool) (q : B → Bool) → ((x : A) → p x ≡ q (f x)) → (xs : List A) → option_map f (find p xs) ≡ find q (map f xs)
+find_mapped f p q h xs = ap (option_map f) (find_first p xs) ∙ sym (slice_get-map f (filter p xs) 0) ∙ ap (λ l. slice_get l 0) (filter_mapped f p q h xs) ∙ sym (find_first q (map f xs))
 
 given_mapped : {A B C : Type 0} (f : A → B) (g : A → Option C) (h : B → Option C) → ((x : A) → g x ≡ h (f x)) → (xs : List A) → filter_map g xs ≡ filter_map h (map f xs)
 given_mapped f g h e [] = refl
@@ -213,15 +162,11 @@ argument_said i n = value_said (Index i) n
 
 -- whether there is a property of that name
 some_there : {A : Type 0} (p : A → Bool) (xs : List A) → is_some (last_place p xs) ≡ is_some (there (last_place p xs) xs)
-some_there {A = A} p xs = go (last_place p xs) (there_none p xs)
+some_there {A = A} p xs = go (last_place p xs) (last_is p xs)
   where
-    told : (i : ℕ) (o : Option A) → (o ≡ None → Some i ≡ None) → true ≡ is_some o
-    told i None k = absurd (none-some _ (sym (k refl)))
-    told i (Some y) k = refl
-
-    go : (o : Option ℕ) → (there o xs ≡ None → o ≡ None) → is_some o ≡ is_some (there o xs)
-    go None k = refl
-    go (Some i) k = told i (slice_get xs i) k
+    go : (o : Option ℕ) → LastIs p xs o → is_some o ≡ is_some (there o xs)
+    go None h = refl
+    go (Some i) h = ap is_some (sym h.here)
 
 pub has_said : (s : List ℕ) (n : KdlNode) → IsUtf8 s → is_some (property_place s n) ≡ is_some (said_property (chars s) (node_says n))
 has_said s n u =
@@ -296,32 +241,11 @@ dashes_in : (o : Option KdlNode) → dash_arguments_of o ≡ dashes_all (option_
 dashes_in None = refl
 dashes_in (Some n) = dashes_said n
 
-pub arg_said : (s : List ℕ) (d : KdlDocument) → IsUtf8 s → value_of (argument_named s d) ≡ said_arg (chars s) (document_says d)
-arg_said s d u = argument_in (node_named s d) ∙ ap said_in (node_said s d u)
-
-pub args_said : (s : List ℕ) (d : KdlDocument) → IsUtf8 s → arguments_of (node_named s d) ≡ said_args (chars s) (document_says d)
-args_said s d u = arguments_in (node_named s d) ∙ ap all_in (node_said s d u)
-
-pub dash_args_said : (s : List ℕ) (d : KdlDocument) → IsUtf8 s → dash_arguments_of (node_named s d) ≡ said_dash_args (chars s) (document_says d)
-dash_args_said s d u = dashes_in (node_named s d) ∙ ap dashes_all (node_said s d u)
-
 -- so documents, and nodes, that say the same are the same to each look-up, whatever bytes it asks for
 same_node : (s : List ℕ) (d e : KdlDocument) → document_says d ≡ document_says e → option_map node_says (node_named s d) ≡ option_map node_says (node_named s e)
 same_node s d e h =
     let t = same_encoded s in
     node_tested s _ t d ∙ ap (λ x. find (λ n. same_text (encodes (said_name n)) s) (said_nodes x)) h ∙ sym (node_tested s _ t e)
-
-same_argument : (s : List ℕ) (d e : KdlDocument) → document_says d ≡ document_says e → value_of (argument_named s d) ≡ value_of (argument_named s e)
-same_argument s d e h = argument_in (node_named s d) ∙ ap said_in (same_node s d e h) ∙ sym (argument_in (node_named s e))
-
-same_arguments : (s : List ℕ) (d e : KdlDocument) → document_says d ≡ document_says e → arguments_of (node_named s d) ≡ arguments_of (node_named s e)
-same_arguments s d e h = arguments_in (node_named s d) ∙ ap all_in (same_node s d e h) ∙ sym (arguments_in (node_named s e))
-
-same_dash_arguments : (s : List ℕ) (d e : KdlDocument) → document_says d ≡ document_says e → dash_arguments_of (node_named s d) ≡ dash_arguments_of (node_named s e)
-same_dash_arguments s d e h = dashes_in (node_named s d) ∙ ap dashes_all (same_node s d e h) ∙ sym (dashes_in (node_named s e))
-
-same_value : (key : NodeKey) (n m : KdlNode) → node_says n ≡ node_says m → found_value key n ≡ found_value key m
-same_value key n m h = value_said key n ∙ ap (said_value (sought key)) h ∙ sym (value_said key m)
 
 same_property : (s : List ℕ) (n m : KdlNode) → node_says n ≡ node_says m → property_value s n ≡ property_value s m
 same_property s n m h =
@@ -355,13 +279,13 @@ pub got_node : (s : List ℕ) (d : KdlDocument) (r : Option (Bor KdlNode)) → I
 got_node s d r u h = value_mapped (λ n. n.now) node_says r ∙ ap (option_map node_says) h ∙ node_said s d u
 
 pub got_arg : (s : List ℕ) (d : KdlDocument) (r : Option (Bor KdlValue)) → IsUtf8 s → option_map (λ v. value_tree v.now) r ≡ value_of (argument_named s d) → option_map (λ v. value_tree v.now) r ≡ said_arg (chars s) (document_says d)
-got_arg s d r u h = h ∙ arg_said s d u
+got_arg s d r u h = h ∙ argument_in (node_named s d) ∙ ap said_in (node_said s d u)
 
 pub got_args : (s : List ℕ) (d : KdlDocument) (r : List Value) → IsUtf8 s → r ≡ arguments_of (node_named s d) → r ≡ said_args (chars s) (document_says d)
-got_args s d r u h = h ∙ args_said s d u
+got_args s d r u h = h ∙ arguments_in (node_named s d) ∙ ap all_in (node_said s d u)
 
 pub got_dash_args : (s : List ℕ) (d : KdlDocument) (r : List Value) → IsUtf8 s → r ≡ dash_arguments_of (node_named s d) → r ≡ said_dash_args (chars s) (document_says d)
-got_dash_args s d r u h = h ∙ dash_args_said s d u
+got_dash_args s d r u h = h ∙ dashes_in (node_named s d) ∙ ap dashes_all (node_said s d u)
 
 pub got_entry : (key : NodeKey) (n : KdlNode) (r : Option (Bor KdlEntry)) → option_map (λ e. e.now) r ≡ found_entry key n → option_map (λ e. entry_data (entry_tree e.now)) r ≡ said_entry (sought key) (node_says n)
 got_entry key n r h = value_mapped (λ e. e.now) entry_says r ∙ ap (option_map entry_says) h ∙ entry_said key n
@@ -372,31 +296,22 @@ got_value key n r h = h ∙ value_said key n
 pub got_property : (s : List ℕ) (n : KdlNode) (b : Bool) → IsUtf8 s → b ≡ is_some (property_place s n) → b ≡ is_some (said_property (chars s) (node_says n))
 got_property s n b u h = h ∙ has_said s n u
 
-same_arguments_in : (n m : KdlNode) → node_says n ≡ node_says m → arguments (entries_of n) ≡ arguments (entries_of m)
-same_arguments_in n m h = arguments_said n ∙ ap said_arguments h ∙ sym (arguments_said m)
-
-same_children : (n m : KdlNode) → node_says n ≡ node_says m → map node_says (child_nodes n) ≡ map node_says (child_nodes m)
-same_children n m h = child_nodes_said n ∙ ap (λ x. nodes_or_none (said_children x)) h ∙ sym (child_nodes_said m)
-
-same_nodes : (d e : KdlDocument) → document_says d ≡ document_says e → map node_says (nodes_of d) ≡ map node_says (nodes_of e)
-same_nodes d e h = nodes_said d ∙ ap said_nodes h ∙ sym (nodes_said e)
-
 pub finds_same : (d e : KdlDocument) → document_says e ≡ document_says d → FindsSame d e
 finds_same d e h = record {
   node = λ s. same_node s e d h;
-  argument = λ s. same_argument s e d h;
-  arguments = λ s. same_arguments s e d h;
-  dash_arguments = λ s. same_dash_arguments s e d h;
-  nodes = same_nodes e d h;
+  argument = λ s. argument_in (node_named s e) ∙ ap said_in (same_node s e d h) ∙ sym (argument_in (node_named s d));
+  arguments = λ s. arguments_in (node_named s e) ∙ ap all_in (same_node s e d h) ∙ sym (arguments_in (node_named s d));
+  dash_arguments = λ s. dashes_in (node_named s e) ∙ ap dashes_all (same_node s e d h) ∙ sym (dashes_in (node_named s d));
+  nodes = nodes_said e ∙ ap said_nodes h ∙ sym (nodes_said d);
 }
 
 pub node_finds_same : (n m : KdlNode) → node_says m ≡ node_says n → NodeFindsSame n m
 node_finds_same n m h = record {
-  value = λ key. same_value key m n h;
+  value = λ key. value_said key m ∙ ap (said_value (sought key)) h ∙ sym (value_said key n);
   property = λ s. same_property s m n h;
-  arguments = same_arguments_in m n h;
+  arguments = arguments_said m ∙ ap said_arguments h ∙ sym (arguments_said n);
   name = ap said_name h;
-  children = same_children m n h;
+  children = child_nodes_said m ∙ ap (λ x. nodes_or_none (said_children x)) h ∙ sym (child_nodes_said n);
 }
 
 -- what an index gives

@@ -1,28 +1,28 @@
 -- What a node's look-ups find once the value of an entry is written.
-use Rattle.std.proofs.Common.{Vec, Global, ◌≡◌, ℕ, true, false, List, set, slice_get, string_bytes, Option, None, Some, IfSome, IsSome, option_map, refl, ap, ◌∙◌, sym, subst, is_none}
+use Rattle.std.proofs.Common.{Vec, Global, ◌≡◌, ℕ, Bool, true, List, [], ◌∷◌, set, slice_get, string_bytes, Option, None, Some, IfSome, IsSome, option_map, refl, ap, ◌∙◌, sym, subst, is_none}
 use Rattle.std.proofs.lemmas.Option.{none-some}
 use Rattle.std.proofs.lemmas.Slice.Eq.{bytes_eq-Decides}
 use Rattle.std.proofs.lemmas.Str.{IsUtf8-string_bytes}
-use Rattle.std.specs.List.{count_by}
 use Rattle.std.specs.Str.{IsUtf8, chars}
 use Rattle.std.specs.Vec.{with_item}
+use Rattle.kdl_value.specs.Data.{Value}
 use Rattle.kdl_value.specs.Tree.{value_tree}
 use Rattle.kdl_value.specs.declared.value.KdlValue.{KdlValue}
 use Rattle.kdl_entry.specs.Tree.{Identifier, Entry, entry_tree, identifier_tree, plain_identifier}
 use Rattle.kdl_entry.specs.declared.entry.KdlEntry.{KdlEntry}
 use Rattle.kdl_entry.specs.declared.identifier.KdlIdentifier.{KdlIdentifier}
-use Rattle.kdl_parts.specs.EntryLists.{key_name, key_index, is_argument, has_name, is_name, same_text, last_place, nth_place, there}
+use Rattle.kdl_parts.specs.EntryLists.{key_name, key_index, is_argument, has_name, is_name, same_text, there}
 use Rattle.kdl_parts.specs.Written.{set_value_at}
 use Rattle.kdl_parts.specs.declared.key.NodeKey.{NodeKey}
 use Rattle.kdl_parts.specs.declared.key.NodeKey.TheVariants.{Key, Index}
-use Rattle.kdl_parts.proofs.EntryLookups.{same_bytes}
-use Rattle.kdl.specs.Change.{with_entry, with_value}
+use Rattle.kdl_parts.proofs.EntryLookups.{same_bytes, set_value_is}
+use Rattle.kdl.specs.Change.{with_value}
 use Rattle.kdl.specs.Found.{IsSet, IsArgumentSet}
 use Rattle.kdl.specs.Lookups.{entries_of, found_entry, held_value, key_place, property_place, with_entry_there, with_found_entry, with_found_value, with_value_there, HasWritten}
 use Rattle.kdl.specs.declared.document.KdlDocument.TheViews.{out-KdlNode}
 use Rattle.kdl.specs.declared.node.KdlNode.{KdlNode}
-use Rattle.kdl.proofs.Finding.EntriesFound.{entries_with, no_argument, other_name, pushed_set, value_in}
-use Rattle.kdl.proofs.Finding.ListLookups.{count-set, last_holds, last_place-set, nth_differs, nth_holds, nth_place-set, set_there, there_elsewhere}
+use Rattle.kdl.proofs.Finding.EntriesFound.{Edited, argument_set, entries_with, property_set, pushed_set}
+use Rattle.kdl.proofs.Finding.ListLookups.{LastAt, LastIs, NthAt, NthIs, last_is, nth_is, one_passes, splice_set}
 
 -- names with one tree are the same to each look-up
 name_same : (s : List ℕ) (o p : Option KdlIdentifier) → option_map identifier_tree o ≡ option_map identifier_tree p → is_name s o ≡ is_name s p
@@ -40,92 +40,41 @@ none_same (Some i) None h = absurd (none-some _ (sym h))
 none_same (Some i) (Some j) h = refl
 
 -- an entry of the same name in the place of one
-record Exchanged (i : ℕ) (old new : KdlEntry) (es fs : List KdlEntry) : Type 0 where
-  pub here : slice_get es i ≡ Some old
+record Exchanged (i : ℕ) (old new : KdlEntry) (n m : KdlNode) : Type 0 where
+  pub here : slice_get (entries_of n) i ≡ Some old
   pub name : (entry_tree new).name ≡ (entry_tree old).name
-  pub items : fs ≡ set es i new
+  pub items : entries_of m ≡ set (entries_of n) i new
 
-place_kept : (s : List ℕ) (i : ℕ) (old new : KdlEntry) (es fs : List KdlEntry) → Exchanged i old new es fs → last_place (has_name s) fs ≡ last_place (has_name s) es
-place_kept s i old new es fs x = ap (last_place (has_name s)) x.items ∙ last_place-set (has_name s) es i old new x.here (name_same s new.name old.name x.name)
+same_some : {x y : KdlEntry} → ◌≡◌ {A = Option KdlEntry} (Some x) (Some y) → x ≡ y
+same_some e = cc
 
-argument_kept : (j i : ℕ) (old new : KdlEntry) (es fs : List KdlEntry) → Exchanged i old new es fs → nth_place is_argument fs j ≡ nth_place is_argument es j
-argument_kept j i old new es fs x = ap (λ l. nth_place is_argument l j) x.items ∙ nth_place-set is_argument es i old new j x.here (none_same new.name old.name x.name)
+abbrev exchange : (p : KdlEntry → Bool) (i : ℕ) (old new it : KdlEntry) (n m : KdlNode) → Exchanged i old new n m → slice_get (entries_of n) i ≡ Some it → p it ≡ true → p new ≡ p old → Edited p (old ∷ []) (new ∷ []) n m
+exchange p i old new it n m x here h e =
+    let passes : p old ≡ true = ap p (same_some (sym x.here ∙ here)) ∙ h in
+    record { splice = splice_set (entries_of n) (entries_of m) i old new x.here x.items; olds = one_passes p old true passes; news = one_passes p new true (e ∙ passes) }
 
-count_kept : (i : ℕ) (old new : KdlEntry) (es fs : List KdlEntry) → Exchanged i old new es fs → count_by is_argument fs ≡ count_by is_argument es
-count_kept i old new es fs x = ap (count_by is_argument) x.items ∙ count-set is_argument es i old new x.here (none_same new.name old.name x.name)
+exchanged_property : (s : List ℕ) (i : ℕ) (old new : KdlEntry) (n m : KdlNode) → property_place s n ≡ Some i → Exchanged i old new n m → IsSet s (value_tree new.value) n m
+exchanged_property s i old new n m h x =
+    let at : LastAt (has_name s) (entries_of n) i = subst (LastIs (has_name s) (entries_of n)) h (last_is (has_name s) (entries_of n)) in
+    property_set s new (old ∷ []) n m (exchange (has_name s) i old new at.it n m x at.here at.passes (name_same s new.name old.name x.name)) at.after
 
-value_here : (o p : Option ℕ) (i : ℕ) (old new : KdlEntry) (es fs : List KdlEntry) → Exchanged i old new es fs → p ≡ o → o ≡ Some i → value_in (there p fs) ≡ Some (value_tree new.value)
-value_here o p i old new es fs x e h = ap (λ q. value_in (there q fs)) (e ∙ h) ∙ ap (λ l. value_in (slice_get l i)) x.items ∙ ap value_in (set_there es i old new x.here)
+-- what the key finds has another value
+abbrev Sets : NodeKey → Value → KdlNode → KdlNode → Type 0
+Sets (Key k) v n m = IsSet (string_bytes k.value) v n m
+Sets (Index i) v n m = IsArgumentSet i v n m
 
-value_elsewhere : (o p : Option ℕ) (i : ℕ) (old new : KdlEntry) (es fs : List KdlEntry) → Exchanged i old new es fs → p ≡ o → (o ≡ Some i → ⊥) → value_in (there p fs) ≡ value_in (there o es)
-value_elsewhere o p i old new es fs x e h = ap (λ q. value_in (there q fs)) e ∙ ap (λ l. value_in (there o l)) x.items ∙ ap value_in (there_elsewhere o es i new h)
+exchanged_at : (key : NodeKey) (i : ℕ) (old new : KdlEntry) (n m : KdlNode) → key_place key n ≡ Some i → Exchanged i old new n m → Sets key (value_tree new.value) n m
+exchanged_at (Key k) i old new n m h x = exchanged_property (string_bytes k.value) i old new n m h x
+exchanged_at (Index j) i old new n m h x =
+    let at : NthAt is_argument (entries_of n) j i = subst (NthIs is_argument (entries_of n) j) h (nth_is is_argument (entries_of n) j) in
+    argument_set j old new n m (exchange is_argument i old new at.it n m x at.here at.passes (none_same new.name old.name x.name)) at.before
 
-same_entry : {A : Type 0} (o : Option A) (x y : A) → o ≡ Some x → o ≡ Some y → x ≡ y
-same_entry o x y h k = cc
-
--- the place of a property is that of no other name, and of no argument
-other_place : (s r : List ℕ) (es : List KdlEntry) (i : ℕ) → last_place (has_name s) es ≡ Some i → (s ≡ r → ⊥) → last_place (has_name r) es ≡ Some i → ⊥
-other_place s r es i h d k =
-    let (x, here, is) = last_holds (has_name s) es i h in
-    let (y, there', is') = last_holds (has_name r) es i k in
-    let e : x ≡ y = same_entry (slice_get es i) x y here there' in
-    let f : has_name r y ≡ false = ap (has_name r) (sym e) ∙ other_name s r x is d in
-    cc
-
-no_place : (s : List ℕ) (es : List KdlEntry) (i j : ℕ) → last_place (has_name s) es ≡ Some i → nth_place is_argument es j ≡ Some i → ⊥
-no_place s es i j h k =
-    let (x, here, is) = last_holds (has_name s) es i h in
-    let (y, there', is') = nth_holds is_argument es j i k in
-    let e : x ≡ y = same_entry (slice_get es i) x y here there' in
-    let f : is_argument y ≡ false = ap is_argument (sym e) ∙ no_argument s x is in
-    cc
-
-exchanged_set : (s : List ℕ) (i : ℕ) (old new : KdlEntry) (n m : KdlNode) → property_place s n ≡ Some i → Exchanged i old new (entries_of n) (entries_of m) → IsSet s (value_tree new.value) n m
-exchanged_set s i old new n m h x =
-    let es = entries_of n in
-    let fs = entries_of m in
-    record {
-      found = value_here (last_place (has_name s) es) (last_place (has_name s) fs) i old new es fs x (place_kept s i old new es fs x) h;
-      others = λ r d. value_elsewhere (last_place (has_name r) es) (last_place (has_name r) fs) i old new es fs x (place_kept r i old new es fs x) (other_place s r es i h d);
-      arguments = λ j. value_elsewhere (nth_place is_argument es j) (nth_place is_argument fs j) i old new es fs x (argument_kept j i old new es fs x) (no_place s es i j h);
-      count = count_kept i old new es fs x;
-    }
-
-exchanged_argument : (k i : ℕ) (old new : KdlEntry) (n m : KdlNode) → key_place (Index k) n ≡ Some i → Exchanged i old new (entries_of n) (entries_of m) → IsArgumentSet k (value_tree new.value) n m
-exchanged_argument k i old new n m h x =
-    let es = entries_of n in
-    let fs = entries_of m in
-    record {
-      found = value_here (nth_place is_argument es k) (nth_place is_argument fs k) i old new es fs x (argument_kept k i old new es fs x) h;
-      others = λ j d. value_elsewhere (nth_place is_argument es j) (nth_place is_argument fs j) i old new es fs x (argument_kept j i old new es fs x) (nth_differs is_argument es k j i d h);
-      properties = λ r. value_elsewhere (last_place (has_name r) es) (last_place (has_name r) fs) i old new es fs x (place_kept r i old new es fs x) (λ e. no_place r es i k e h);
-      count = count_kept i old new es fs x;
-    }
-
-with_value_is : (v : Vec KdlEntry Global) (i : ℕ) (w : KdlValue) (old : KdlEntry) → slice_get v.items i ≡ Some old → (set_value_at v i w).items ≡ set v.items i (record old { value = w })
-with_value_is v i w old h = go (slice_get v.items i) h
-  where
-    go : (o : Option KdlEntry) → o ≡ Some old → (elim o as (λ _. Vec KdlEntry Global) [ None ↦ v | Some e ↦ with_item v i (record e { value = w }) ]).items ≡ set v.items i (record old { value = w })
-    go None e = absurd (none-some _ e)
-    go (Some x) e = let z : x ≡ old = cc in ap (λ (y : KdlEntry). set v.items i (record y { value = w })) z
-
-value_exchanged : (i : ℕ) (old : KdlEntry) (w : KdlValue) (n m : KdlNode) → slice_get (entries_of n) i ≡ Some old → m ≡ with_value n i w → Exchanged i old (record old { value = w }) (entries_of n) (entries_of m)
+value_exchanged : (i : ℕ) (old : KdlEntry) (w : KdlValue) (n m : KdlNode) → slice_get (entries_of n) i ≡ Some old → m ≡ with_value n i w → Exchanged i old (record old { value = w }) n m
 value_exchanged i old w n m h e = record {
   here = h;
   name = refl;
-  items = ap entries_of e ∙ entries_with n (set_value_at (out-KdlNode n).entries i w) ∙ with_value_is (out-KdlNode n).entries i w old h;
+  items = ap entries_of e ∙ entries_with n (set_value_at (out-KdlNode n).entries i w) ∙ ap (λ (v : Vec KdlEntry Global). v.items) (sym (set_value_is (out-KdlNode n).entries i old h w));
 }
-
--- what was written at the place of a property, and of an argument
-value_written : (s : List ℕ) (i : ℕ) (w : KdlValue) (n m : KdlNode) → property_place s n ≡ Some i → m ≡ with_value n i w → IsSet s (value_tree w) n m
-value_written s i w n m h e =
-    let (old, here, is) = last_holds (has_name s) (entries_of n) i h in
-    exchanged_set s i old (record old { value = w }) n m h (value_exchanged i old w n m here e)
-
-argument_written : (k i : ℕ) (w : KdlValue) (n m : KdlNode) → key_place (Index k) n ≡ Some i → m ≡ with_value n i w → IsArgumentSet k (value_tree w) n m
-argument_written k i w n m h e =
-    let (old, here, is) = nth_holds is_argument (entries_of n) k i h in
-    exchanged_argument k i old (record old { value = w }) n m h (value_exchanged i old w n m here e)
 
 -- the entry at a place that was found
 place_there : (o : Option ℕ) (es : List KdlEntry) (e : KdlEntry) → Some e ≡ there o es → (i : ℕ) × (o ≡ Some i) × (slice_get es i ≡ Some e)
@@ -136,47 +85,40 @@ held_there : (o : Option KdlEntry) (v : KdlValue) → Some v ≡ option_map (λ 
 held_there None v h = absurd (none-some _ (sym h))
 held_there (Some e) v h = (e, refl)
 
--- through the loan of an entry whose name stays
-entry_exchanged : (i : ℕ) (old new : KdlEntry) (n m : KdlNode) → slice_get (entries_of n) i ≡ Some old → (entry_tree new).name ≡ (entry_tree old).name → m ≡ with_entry n i new → Exchanged i old new (entries_of n) (entries_of m)
-entry_exchanged i old new n m h k e = record {
-  here = h;
-  name = k;
-  items = ap entries_of e ∙ entries_with n (with_item (out-KdlNode n).entries i new);
-}
+-- what is left once a value is written through its loan
+value_written : {A : Type 0} (now : A → KdlValue) (key : NodeKey) (n : KdlNode) (o : Option A) → option_map now o ≡ held_value (found_entry key n) → IsSome o → (w : KdlValue) → Sets key (value_tree w) n (with_found_value key n w)
+value_written now key n None h t w = absurd (cc)
+value_written now key n (Some v) h t w =
+    let (old, is) = held_there (found_entry key n) (now v) h in
+    let (i, at, here) = place_there (key_place key n) (entries_of n) old is in
+    exchanged_at key i old (record old { value = w }) n (with_found_value key n w) at (value_exchanged i old w n (with_found_value key n w) here (ap (λ o. with_value_there o n w) at))
 
--- what is left once a value is written through its loan, by a name and by a place
 pub value_sets : {A : Type 0} (now : A → KdlValue) (key : NodeKey) (n : KdlNode) (o : Option A) → option_map now o ≡ held_value (found_entry key n) → IsSome o → IfSome (key_name key) (λ s. (w : KdlValue) → IsSet s (value_tree w) n (with_found_value key n w))
 value_sets now (Index i) n o h t = tt
-value_sets now (Key k) n None h t = absurd (cc)
-value_sets now (Key k) n (Some v) h t = λ w.
-    let (old, is) = held_there (found_entry (Key k) n) (now v) h in
-    let (i, at, here) = place_there (key_place (Key k) n) (entries_of n) old is in
-    value_written (string_bytes k.value) i w n (with_found_value (Key k) n w) at (ap (λ o. with_value_there o n w) at)
+value_sets now (Key k) n o h t = value_written now (Key k) n o h t
 
 pub value_sets_at : {A : Type 0} (now : A → KdlValue) (key : NodeKey) (n : KdlNode) (o : Option A) → option_map now o ≡ held_value (found_entry key n) → IsSome o → IfSome (key_index key) (λ i. (w : KdlValue) → IsArgumentSet i (value_tree w) n (with_found_value key n w))
 value_sets_at now (Key k) n o h t = tt
-value_sets_at now (Index j) n None h t = absurd (cc)
-value_sets_at now (Index j) n (Some v) h t = λ w.
-    let (old, is) = held_there (found_entry (Index j) n) (now v) h in
-    let (i, at, here) = place_there (key_place (Index j) n) (entries_of n) old is in
-    argument_written j i w n (with_found_value (Index j) n w) at (ap (λ o. with_value_there o n w) at)
+value_sets_at now (Index j) n o h t = value_written now (Index j) n o h t
 
--- what is left once an entry is written through its loan, and its name is what it was
+-- and once an entry is written through its loan, whose name is what it was
+entry_written : (key : NodeKey) (n : KdlNode) (e w : KdlEntry) → Some e ≡ found_entry key n → (entry_tree w).name ≡ (entry_tree e).name → Sets key (entry_tree w).value n (with_found_entry key n w)
+entry_written key n e w h t =
+    let (i, at, here) = place_there (key_place key n) (entries_of n) e h in
+    exchanged_at key i e w n (with_found_entry key n w) at
+    (record { here = here; name = t; items = ap entries_of (ap (λ o. with_entry_there o n w) at) ∙ entries_with n (with_item (out-KdlNode n).entries i w) })
+
 pub entry_sets : {A : Type 0} (now : A → KdlEntry) (key : NodeKey) (n : KdlNode) (o : Option A) → option_map now o ≡ found_entry key n
     → IfSome o (λ e. IfSome (key_name key) (λ s. (w : KdlEntry) → (entry_tree w).name ≡ (entry_tree (now e)).name → IsSet s (entry_tree w).value n (with_found_entry key n w)))
 entry_sets now key n None h = tt
 entry_sets now (Index i) n (Some e) h = tt
-entry_sets now (Key k) n (Some e) h = λ w t.
-    let (i, at, here) = place_there (key_place (Key k) n) (entries_of n) (now e) h in
-    exchanged_set (string_bytes k.value) i (now e) w n (with_found_entry (Key k) n w) at (entry_exchanged i (now e) w n (with_found_entry (Key k) n w) here t (ap (λ o. with_entry_there o n w) at))
+entry_sets now (Key k) n (Some e) h = λ w t. entry_written (Key k) n (now e) w h t
 
 pub entry_sets_at : {A : Type 0} (now : A → KdlEntry) (key : NodeKey) (n : KdlNode) (o : Option A) → option_map now o ≡ found_entry key n
     → IfSome o (λ e. IfSome (key_index key) (λ j. (w : KdlEntry) → (entry_tree w).name ≡ (entry_tree (now e)).name → IsArgumentSet j (entry_tree w).value n (with_found_entry key n w)))
 entry_sets_at now key n None h = tt
 entry_sets_at now (Key k) n (Some e) h = tt
-entry_sets_at now (Index j) n (Some e) h = λ w t.
-    let (i, at, here) = place_there (key_place (Index j) n) (entries_of n) (now e) h in
-    exchanged_argument j i (now e) w n (with_found_entry (Index j) n w) at (entry_exchanged i (now e) w n (with_found_entry (Index j) n w) here t (ap (λ o. with_entry_there o n w) at))
+entry_sets_at now (Index j) n (Some e) h = λ w t. entry_written (Index j) n (now e) w h t
 
 -- what is left once the value of a property is written that was found or pushed
 named_bytes : (s : List ℕ) (o : Option KdlIdentifier) → IsUtf8 s → option_map identifier_tree o ≡ Some (plain_identifier (chars s)) → is_name s o ≡ true
@@ -192,4 +134,6 @@ written_or_pushed s n u w m h = go (property_place s n) refl h
     go None e k =
         let d = k.entries in
         subst (λ (x : Entry). IsSet s x.value n m) d.tree (pushed_set s d.entry n m (named_bytes s d.entry.name u (ap (λ (x : Entry). x.name) d.tree)) d.items)
-    go (Some i) e k = value_written s i w n m e k
+    go (Some i) e k =
+        let at : LastAt (has_name s) (entries_of n) i = subst (LastIs (has_name s) (entries_of n)) e (last_is (has_name s) (entries_of n)) in
+        exchanged_property s i at.it (record at.it { value = w }) n m e (value_exchanged i at.it w n m at.here k)

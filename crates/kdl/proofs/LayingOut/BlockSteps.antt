@@ -41,18 +41,6 @@ filled_changed n m v ns e =
     ap (λ x. node (head_tree x) (filled_block x.children ns)) e
     ∙ ap (λ k. node (head_tree (out-KdlNode n)) k) (block_changed (out-KdlNode n).children v ns)
 
-nodes_changed : (o : Option KdlDocument) (v : Vec KdlNode Global) → filled_block o (map node_tree (nodes_in (option_map (λ d. with_nodes d v) o))) ≡ filled_block o (map node_tree v.items)
-nodes_changed None v = refl
-nodes_changed (Some d) v = ap (λ x. filled_block (Some d) (map node_tree x.nodes.items)) (out-roll-KdlDocument (record (out-KdlDocument d) { nodes = v }))
-
-pub node_changed : (n m : KdlNode) (v : Vec KdlNode Global) → out-KdlNode m ≡ record (out-KdlNode n) { children = option_map (λ d. with_nodes d v) (out-KdlNode n).children }
-    → node_tree m ≡ filled n (map node_tree v.items)
-node_changed n m v e =
-    node_is m
-    ∙ filled_changed n m v (map node_tree (child_nodes m)) e
-    ∙ ap (λ x. filled n (map node_tree (nodes_in x.children))) e
-    ∙ ap (λ k. node (head_tree (out-KdlNode n)) k) (nodes_changed (out-KdlNode n).children v)
-
 -- what is made of the nodes that were put into a block
 nodes_exchanged : (o : Option KdlDocument) (v : Vec KdlNode Global) (F : List Node → List Node) → filled_block o (F (map node_tree (nodes_in (option_map (λ d. with_nodes d v) o)))) ≡ filled_block o (F (map node_tree v.items))
 nodes_exchanged None v F = refl
@@ -64,6 +52,10 @@ filled_exchanged n m v F e =
     filled_changed n m v (F (map node_tree (child_nodes m))) e
     ∙ ap (λ x. filled n (F (map node_tree (nodes_in x.children)))) e
     ∙ ap (λ k. node (head_tree (out-KdlNode n)) k) (nodes_exchanged (out-KdlNode n).children v F)
+
+pub node_changed : (n m : KdlNode) (v : Vec KdlNode Global) → out-KdlNode m ≡ record (out-KdlNode n) { children = option_map (λ d. with_nodes d v) (out-KdlNode n).children }
+    → node_tree m ≡ filled n (map node_tree v.items)
+node_changed n m v e = node_is m ∙ filled_exchanged n m v (λ ms. ms) e
 
 pub filled_below : (n m : KdlNode) (o : Option KdlDocument) (F : List Node → List Node) → out-KdlNode m ≡ record (out-KdlNode n) { children = o } → ((ns : List Node) → filled_block o ns ≡ filled_block (out-KdlNode n).children ns)
     → filled m (F (map node_tree (child_nodes m))) ≡ filled n (F (map node_tree (nodes_in o)))
@@ -85,10 +77,7 @@ bare_braced g (node h (children (document f at ns))) = refl
 -- a node whose block is another, of which only the nodes differ
 pub node_below : (n m : KdlNode) (o : Option KdlDocument) → out-KdlNode m ≡ record (out-KdlNode n) { children = o } → ((ns : List Node) → filled_block o ns ≡ filled_block (out-KdlNode n).children ns)
     → node_tree m ≡ filled n (map node_tree (nodes_in o))
-node_below n m o e f =
-    node_is m
-    ∙ ap (λ x. node (head_tree x) (filled_block x.children (map node_tree (nodes_in x.children)))) e
-    ∙ ap (λ k. node (head_tree (out-KdlNode n)) k) (f (map node_tree (nodes_in o)))
+node_below n m o e f = node_is m ∙ filled_below n m o (λ ms. ms) e f
 
 -- it is laid out where these are
 pub laid_below : (l : Layout) (level : ℕ) (c first : Before) (g : Option Around) (n n' m : KdlNode) (o : Option KdlDocument)

@@ -1,5 +1,5 @@
 -- What the calls that lay out promise, from what the layout makes.
-use Rattle.std.proofs.Common.{◌≡◌, ℕ, zero, Bool, true, false, refl, sym, ap, ◌∙◌, subst, Result, Ok, Err, IfOk}
+use Rattle.std.proofs.Common.{◌≡◌, ℕ, zero, Bool, true, false, refl, sym, ap, ◌∙◌, subst, Result, IfOk}
 use Rattle.std.specs.List.{list_all}
 use Rattle.kdl_text.specs.Chars.{is_space}
 use Rattle.kdl_grammar.specs.Data as data'
@@ -37,10 +37,6 @@ same_data x y e = sym (bare_document_data x) ∙ ap document_data e ∙ bare_doc
 pub same_node_data : (x y : Node) → bare_node x ≡ bare_node y → node_data x ≡ node_data y
 same_node_data x y e = sym (bare_node_data x) ∙ ap node_data e ∙ bare_node_data y
 
-if_both : {A E P Q S : Type 0} (r : Result A E) → (P → Q → S) → IfOk r (λ (a : A). P) → IfOk r (λ (a : A). Q) → IfOk r (λ (a : A). S)
-if_both (Ok a) f p q = f p q
-if_both (Err e) f p q = p
-
 -- what layout makes where no block stays on one line
 laid_off : (spelling line : Bool) (number : ℕ) (s : Settings) (level : ℕ) (d x : Document) → line ≡ false → IsLaidDocument spelling line number s level d x → IsSpelledDocument spelling number s level d x
 laid_off spelling true number s level d x e f = absurd cc
@@ -68,86 +64,82 @@ node_unspaced spelling line number s level n x e k o f =
 
 module _ {A E : Type 0} (r : Result A E) (spelling line : Bool) (number : ℕ) (s : Settings) (level : ℕ) where
   module _ (x d : Document) where
+    -- the document is laid out, and its texts can be printed
     abbrev IsLaid : Type 0
-    IsLaid = IsLaidDocument spelling line number s level d x
+    IsLaid = IsLaidDocument spelling line number s level d x × AreWellFormed (document_data d)
 
-    pub plainly : IfOk r (λ _. IsLaidDocument spelling line number s level d x) → IfOk r (λ _. number ≡ 0 → spelling ≡ false → line ≡ false → IsFormattedDocument s level d x)
-    plainly h = if_ok r (λ (f : IsLaid). λ e k o. unspaced spelling line number s level d x e k o f) h
+    pub plainly : IfOk r (λ _. IsLaid) → IfOk r (λ _. number ≡ 0 → spelling ≡ false → line ≡ false → IsFormattedDocument s level d x)
+    plainly h = if_ok r (λ (f : IsLaid). λ e k o. unspaced spelling line number s level d x e k o f.0) h
 
-    pub plain : IfOk r (λ _. IsLaidDocument spelling line number s level d x) → IfOk r (λ _. number ≡ 0 → spelling ≡ false → line ≡ false → s.no_comments ≡ true → x ≡ formatted_document s level d)
-    plain h = if_ok r (λ (f : IsLaid). λ e k o c. layout.document_left_out s level d x c (unspaced spelling line number s level d x e k o f)) h
+    pub plain : IfOk r (λ _. IsLaid) → IfOk r (λ _. number ≡ 0 → spelling ≡ false → line ≡ false → s.no_comments ≡ true → x ≡ formatted_document s level d)
+    plain h = if_ok r (λ (f : IsLaid). λ e k o c. layout.document_left_out s level d x c (unspaced spelling line number s level d x e k o f.0)) h
 
-    pub levels : IfOk r (λ _. IsLaidDocument spelling line number s level d x) → IfOk r (λ _. DocumentLevelsFit level d)
-    levels h = if_ok r (λ (f : IsLaid). spaced.document_levels_fit number s level d f.1.0 f.1.1) h
+    pub levels : IfOk r (λ _. IsLaid) → IfOk r (λ _. DocumentLevelsFit level d)
+    levels h = if_ok r (λ (f : IsLaid). spaced.document_levels_fit number s level d f.0.1.0 f.0.1.1) h
 
-    pub keeps_none : IfOk r (λ _. IsLaidDocument spelling line number s level d x) → IfOk r (λ _. DocumentKeepsNone x)
+    pub keeps_none : IfOk r (λ _. IsLaid) → IfOk r (λ _. DocumentKeepsNone x)
     keeps_none h =
         if_ok r
-        (λ (f : IsLaid). subst DocumentKeepsNone (sym f.2) (on_line.document_keeps_none line d f.0 (left.document_keeps_none spelling s d f.1.0 f.0 (spaced.document_keeps_none number s level d f.1.0 f.1.1) f.1.2)))
+        (λ (p : IsLaid). let f = p.0 in subst DocumentKeepsNone (sym f.2) (on_line.document_keeps_none line d f.0 (left.document_keeps_none spelling s d f.1.0 f.0 (spaced.document_keeps_none number s level d f.1.0 f.1.1) f.1.2)))
         h
 
-    pub derived : document_data x ≡ document_data d → IfOk r (λ _. IsLaidDocument spelling line number s level d x) → IfOk r (λ _. AreWellFormed (document_data d))
-        → IfOk r (λ _. list_all is_space s.indent ≡ true → s.entry_autoformate_keep ≡ false → DocumentKeepsNone d → IsDocument (print_document x 0) (document_data d))
-    derived e h w =
-        if_both r (λ (f : IsLaid) (fit : AreWellFormed (document_data d)). λ ok flag none. document_derived number s ok line flag spelling level d x f none fit e) h w
+    pub derived : document_data x ≡ document_data d → IfOk r (λ _. IsLaid) → IfOk r (λ _. list_all is_space s.indent ≡ true → s.entry_autoformate_keep ≡ false → DocumentKeepsNone d → IsDocument (print_document x 0) (document_data d))
+    derived e h = if_ok r (λ (f : IsLaid). λ ok flag none. document_derived number s ok line flag spelling level d x f.0 none f.1 e) h
 
-    pub comments : IfOk r (λ _. IsLaidDocument spelling line number s level d x) → IfOk r (λ _. AreWellFormed (document_data d))
-        → IfOk r (λ _. list_all is_space s.indent ≡ true → s.entry_autoformate_keep ≡ false → s.no_comments ≡ false → DocumentKeepsNone d → CommentsStay d (print_document x 0))
-    comments h w =
-        if_both r
-        (λ (f : IsLaid) (fit : AreWellFormed (document_data d)). λ ok flag with none e is i l.
-        comments_stay number s ok with line level 0 d f.0 e is i (written_document number s flag spelling level d f.1.0 f.0 f.1.1 f.1.2 none fit) (subst (λ (z : Document). LaidDocument e (print_document z 0)) f.2 l))
-        h w
+    pub comments : IfOk r (λ _. IsLaid) → IfOk r (λ _. list_all is_space s.indent ≡ true → s.entry_autoformate_keep ≡ false → s.no_comments ≡ false → DocumentKeepsNone d → CommentsStay d (print_document x 0))
+    comments h =
+        if_ok r
+        (λ (p : IsLaid). λ ok flag with none e is i l. let f = p.0 in
+        comments_stay number s ok with line level 0 d f.0 e is i (written_document number s flag spelling level d f.1.0 f.0 f.1.1 f.1.2 none p.1) (subst (λ (z : Document). LaidDocument e (print_document z 0)) f.2 l))
+        h
 
-    pub prints : IfOk r (λ _. IsLaidDocument spelling line number s level d x) → IfOk r (λ _. number ≡ 0 → spelling ≡ false → line ≡ false → IsPlain s → DocumentKeepsNone d → print_document x 0 ≡ canonical s.indent level (document_data d))
+    pub prints : IfOk r (λ _. IsLaid) → IfOk r (λ _. number ≡ 0 → spelling ≡ false → line ≡ false → IsPlain s → DocumentKeepsNone d → print_document x 0 ≡ canonical s.indent level (document_data d))
     prints h =
         if_ok r
-        (λ (f : IsLaid). λ e k o p c. ap (λ (y : Document). print_document y 0) (layout.document_left_out s level d x p.0 (unspaced spelling line number s level d x e k o f)) ∙ document_canonical s level 0 d p c)
+        (λ (f : IsLaid). λ e k o p c. ap (λ (y : Document). print_document y 0) (layout.document_left_out s level d x p.0 (unspaced spelling line number s level d x e k o f.0)) ∙ document_canonical s level 0 d p c)
         h
 
-    pub reads : IfOk r (λ _. AreWellFormed (document_data d)) → IfOk r (λ _. list_all is_space s.indent ≡ true → Canonical s.indent level (document_data d))
-    reads h = if_ok r (λ (w : AreWellFormed (document_data d)). λ ok. canonical_reads s.indent ok level (document_data d) w) h
+    pub reads : IfOk r (λ _. IsLaid) → IfOk r (λ _. list_all is_space s.indent ≡ true → Canonical s.indent level (document_data d))
+    reads h = if_ok r (λ (f : IsLaid). λ ok. canonical_reads s.indent ok level (document_data d) f.1) h
 
   module _ (x n : Node) where
     abbrev IsLaidOne : Type 0
-    IsLaidOne = IsLaidNode spelling line number s level at_start n x
+    IsLaidOne = IsLaidNode spelling line number s level at_start n x × IsWellFormedNode (node_data n)
 
-    pub node_plainly : IfOk r (λ _. IsLaidNode spelling line number s level at_start n x) → IfOk r (λ _. number ≡ 0 → spelling ≡ false → line ≡ false → IsFormattedNode s level n x)
-    node_plainly h = if_ok r (λ (f : IsLaidOne). λ e k o. node_unspaced spelling line number s level n x e k o f) h
+    pub node_plainly : IfOk r (λ _. IsLaidOne) → IfOk r (λ _. number ≡ 0 → spelling ≡ false → line ≡ false → IsFormattedNode s level n x)
+    node_plainly h = if_ok r (λ (f : IsLaidOne). λ e k o. node_unspaced spelling line number s level n x e k o f.0) h
 
-    pub node_plain : IfOk r (λ _. IsLaidNode spelling line number s level at_start n x) → IfOk r (λ _. number ≡ 0 → spelling ≡ false → line ≡ false → s.no_comments ≡ true → x ≡ formatted_node s level n)
-    node_plain h = if_ok r (λ (f : IsLaidOne). λ e k o c. layout.left_out s level at_start n x c (node_unspaced spelling line number s level n x e k o f)) h
+    pub node_plain : IfOk r (λ _. IsLaidOne) → IfOk r (λ _. number ≡ 0 → spelling ≡ false → line ≡ false → s.no_comments ≡ true → x ≡ formatted_node s level n)
+    node_plain h = if_ok r (λ (f : IsLaidOne). λ e k o c. layout.left_out s level at_start n x c (node_unspaced spelling line number s level n x e k o f.0)) h
 
-    pub node_levels : IfOk r (λ _. IsLaidNode spelling line number s level at_start n x) → IfOk r (λ _. NodeLevelsFit level n)
-    node_levels h = if_ok r (λ (f : IsLaidOne). spaced.levels_fit number s level at_start n f.1.0 f.1.1) h
+    pub node_levels : IfOk r (λ _. IsLaidOne) → IfOk r (λ _. NodeLevelsFit level n)
+    node_levels h = if_ok r (λ (f : IsLaidOne). spaced.levels_fit number s level at_start n f.0.1.0 f.0.1.1) h
 
-    pub node_keeps_none_then : IfOk r (λ _. IsLaidNode spelling line number s level at_start n x) → IfOk r (λ _. NodeKeepsNone x)
+    pub node_keeps_none_then : IfOk r (λ _. IsLaidOne) → IfOk r (λ _. NodeKeepsNone x)
     node_keeps_none_then h =
         if_ok r
-        (λ (f : IsLaidOne). subst NodeKeepsNone (sym f.2) (on_line.node_keeps_none line n f.0 (left.keeps_none spelling s n f.1.0 f.0 (spaced.keeps_none number s level at_start n f.1.0 f.1.1) f.1.2)))
+        (λ (p : IsLaidOne). let f = p.0 in subst NodeKeepsNone (sym f.2) (on_line.node_keeps_none line n f.0 (left.keeps_none spelling s n f.1.0 f.0 (spaced.keeps_none number s level at_start n f.1.0 f.1.1) f.1.2)))
         h
 
-    pub node_derives : node_data x ≡ node_data n → IfOk r (λ _. IsLaidNode spelling line number s level at_start n x) → IfOk r (λ _. IsWellFormedNode (node_data n))
+    pub node_derives : node_data x ≡ node_data n → IfOk r (λ _. IsLaidOne)
         → IfOk r (λ _. list_all is_space s.indent ≡ true → s.entry_autoformate_keep ≡ false → NodeKeepsNone n → IsDocument (print_node x 0) (data'.first (node_data n) data'.none))
-    node_derives e h w =
-        if_both r (λ (f : IsLaidOne) (fit : IsWellFormedNode (node_data n)). λ ok flag none. node_derived number s ok line flag spelling level at_start n x f none fit e) h w
+    node_derives e h = if_ok r (λ (f : IsLaidOne). λ ok flag none. node_derived number s ok line flag spelling level at_start n x f.0 none f.1 e) h
 
-    pub node_comments : IfOk r (λ _. IsLaidNode spelling line number s level at_start n x) → IfOk r (λ _. IsWellFormedNode (node_data n))
-        → IfOk r (λ _. list_all is_space s.indent ≡ true → s.entry_autoformate_keep ≡ false → s.no_comments ≡ false → NodeKeepsNone n → NodeCommentsStay n (print_node x 0))
-    node_comments h w =
-        if_both r
-        (λ (f : IsLaidOne) (fit : IsWellFormedNode (node_data n)). λ ok flag with none e is i l.
-        node_comments_stay number s ok with line level 0 at_start n f.0 e is i (written_node number s flag spelling level at_start n f.1.0 f.0 f.1.1 f.1.2 none fit) (subst (λ (z : Node). LaidDocument e (print_node z 0)) f.2 l))
-        h w
+    pub node_comments : IfOk r (λ _. IsLaidOne) → IfOk r (λ _. list_all is_space s.indent ≡ true → s.entry_autoformate_keep ≡ false → s.no_comments ≡ false → NodeKeepsNone n → NodeCommentsStay n (print_node x 0))
+    node_comments h =
+        if_ok r
+        (λ (p : IsLaidOne). λ ok flag with none e is i l. let f = p.0 in
+        node_comments_stay number s ok with line level 0 at_start n f.0 e is i (written_node number s flag spelling level at_start n f.1.0 f.0 f.1.1 f.1.2 none p.1) (subst (λ (z : Node). LaidDocument e (print_node z 0)) f.2 l))
+        h
 
-    pub node_prints : IfOk r (λ _. IsLaidNode spelling line number s level at_start n x) → IfOk r (λ _. number ≡ 0 → spelling ≡ false → line ≡ false → IsPlain s → NodeKeepsNone n → print_node x 0 ≡ canonical_node s.indent level (node_data n))
+    pub node_prints : IfOk r (λ _. IsLaidOne) → IfOk r (λ _. number ≡ 0 → spelling ≡ false → line ≡ false → IsPlain s → NodeKeepsNone n → print_node x 0 ≡ canonical_node s.indent level (node_data n))
     node_prints h =
         if_ok r
-        (λ (f : IsLaidOne). λ e k o p c. ap (λ (y : Node). print_node y 0) (layout.left_out s level at_start n x p.0 (node_unspaced spelling line number s level n x e k o f)) ∙ node_canonical s level 0 n p c)
+        (λ (f : IsLaidOne). λ e k o p c. ap (λ (y : Node). print_node y 0) (layout.left_out s level at_start n x p.0 (node_unspaced spelling line number s level n x e k o f.0)) ∙ node_canonical s level 0 n p c)
         h
 
-    pub node_reads : IfOk r (λ _. IsWellFormedNode (node_data n)) → IfOk r (λ _. list_all is_space s.indent ≡ true → CanonicalNode s.indent level (node_data n))
-    node_reads h = if_ok r (λ (w : IsWellFormedNode (node_data n)). λ ok. canonical_node_reads s.indent ok level (node_data n) w) h
+    pub node_reads : IfOk r (λ _. IsLaidOne) → IfOk r (λ _. list_all is_space s.indent ≡ true → CanonicalNode s.indent level (node_data n))
+    node_reads h = if_ok r (λ (f : IsLaidOne). λ ok. canonical_node_reads s.indent ok level (node_data n) f.1) h
 
 -- where no blank lines, no spellings and no blocks on one line are kept
 pub at_zero : {A E : Type 0} (P : Type 0) (r : Result A E) → IfOk r (λ _. zero ≡ zero → false ≡ false → false ≡ false → P) → IfOk r (λ _. P)
@@ -170,40 +162,17 @@ default_comments r s P Q e h =
     if_ok r (λ (f : list_all is_space defaults.indent ≡ true → false ≡ false → false ≡ false → P → Q). f spaces_are refl refl)
     (subst (λ (z : Settings). IfOk r (λ _. list_all is_space z.indent ≡ true → z.entry_autoformate_keep ≡ false → z.no_comments ≡ false → P → Q)) e h)
 
-pub default_formatted : {A E : Type 0} (r : Result A E) (s : Settings) (d x : Document) → s ≡ defaults → IfOk r (λ _. IsFormattedDocument s s.indent_level d x) → IfOk r (λ _. IsFormattedDocument defaults 0 d x)
-default_formatted r s d x e h = subst (λ (z : Settings). IfOk r (λ _. IsFormattedDocument z z.indent_level d x)) e h
+-- with settings that are known
+pub settled : {A E : Type 0} (r : Result A E) (s t : Settings) (P : Settings → Type 0) → s ≡ t → IfOk r (λ _. P s) → IfOk r (λ _. P t)
+settled r s t P e h = subst (λ (z : Settings). IfOk r (λ _. P z)) e h
 
-pub default_formatted_node : {A E : Type 0} (r : Result A E) (s : Settings) (n x : Node) → s ≡ defaults → IfOk r (λ _. IsFormattedNode s s.indent_level n x) → IfOk r (λ _. IsFormattedNode defaults 0 n x)
-default_formatted_node r s n x e h = subst (λ (z : Settings). IfOk r (λ _. IsFormattedNode z z.indent_level n x)) e h
+-- without comments, and with four spaces
+pub plain_settled : {A E : Type 0} (r : Result A E) (s : Settings) (P : Settings → Type 0) → s ≡ without_comments → IfOk r (λ _. s.no_comments ≡ true → P s) → IfOk r (λ _. P without_comments)
+plain_settled r s P e h = if_ok r (λ (f : true ≡ true → P without_comments). f refl) (settled r s without_comments (λ z. z.no_comments ≡ true → P z) e h)
 
--- and the same without comments
-pub plain_formatted : {A E : Type 0} (r : Result A E) (s : Settings) (d x : Document) → s ≡ without_comments → IfOk r (λ _. s.no_comments ≡ true → x ≡ formatted_document s s.indent_level d)
-    → IfOk r (λ _. x ≡ formatted_document without_comments 0 d)
-plain_formatted r s d x e h =
-    if_ok r (λ (f : true ≡ true → x ≡ formatted_document without_comments 0 d). f refl)
-    (subst (λ (z : Settings). IfOk r (λ _. z.no_comments ≡ true → x ≡ formatted_document z z.indent_level d)) e h)
-
-pub plain_formatted_node : {A E : Type 0} (r : Result A E) (s : Settings) (n x : Node) → s ≡ without_comments → IfOk r (λ _. s.no_comments ≡ true → x ≡ formatted_node s s.indent_level n)
-    → IfOk r (λ _. x ≡ formatted_node without_comments 0 n)
-plain_formatted_node r s n x e h =
-    if_ok r (λ (f : true ≡ true → x ≡ formatted_node without_comments 0 n). f refl)
-    (subst (λ (z : Settings). IfOk r (λ _. z.no_comments ≡ true → x ≡ formatted_node z z.indent_level n)) e h)
-
-pub four_spaces : {A E : Type 0} (r : Result A E) (s : Settings) (x : data'.Nodes) → s ≡ without_comments → IfOk r (λ _. list_all is_space s.indent ≡ true → Canonical s.indent s.indent_level x)
-    → IfOk r (λ _. Canonical without_comments.indent 0 x)
-four_spaces r s x e h =
-    if_ok r (λ (f : list_all is_space without_comments.indent ≡ true → Canonical without_comments.indent 0 x). f spaces_are)
-    (subst (λ (z : Settings). IfOk r (λ _. list_all is_space z.indent ≡ true → Canonical z.indent z.indent_level x)) e h)
-
-pub four_spaces_node : {A E : Type 0} (r : Result A E) (s : Settings) (x : data'.Node) → s ≡ without_comments → IfOk r (λ _. list_all is_space s.indent ≡ true → CanonicalNode s.indent s.indent_level x)
-    → IfOk r (λ _. CanonicalNode without_comments.indent 0 x)
-four_spaces_node r s x e h =
-    if_ok r (λ (f : list_all is_space without_comments.indent ≡ true → CanonicalNode without_comments.indent 0 x). f spaces_are)
-    (subst (λ (z : Settings). IfOk r (λ _. list_all is_space z.indent ≡ true → CanonicalNode z.indent z.indent_level x)) e h)
+pub spaced_settled : {A E : Type 0} (r : Result A E) (s : Settings) (P : Settings → Type 0) → s ≡ without_comments → IfOk r (λ _. list_all is_space s.indent ≡ true → P s) → IfOk r (λ _. P without_comments)
+spaced_settled r s P e h = if_ok r (λ (f : list_all is_space without_comments.indent ≡ true → P without_comments). f spaces_are) (settled r s without_comments (λ z. list_all is_space z.indent ≡ true → P z) e h)
 
 -- what still reads back
-pub default_back : (s : Settings) (P : Settings → Type 0) (Q : Type 0) → s ≡ defaults → (list_all is_space s.indent ≡ true → P s → Q) → P defaults → Q
-default_back s P Q e h = subst (λ (z : Settings). list_all is_space z.indent ≡ true → P z → Q) e h spaces_are
-
-pub plain_back : (s : Settings) (P : Settings → Type 0) (Q : Type 0) → s ≡ without_comments → (list_all is_space s.indent ≡ true → P s → Q) → P without_comments → Q
-plain_back s P Q e h = subst (λ (z : Settings). list_all is_space z.indent ≡ true → P z → Q) e h spaces_are
+pub settled_back : (s t : Settings) (P : Settings → Type 0) (Q : Type 0) → s ≡ t → t.indent ≡ defaults.indent → (list_all is_space s.indent ≡ true → P s → Q) → P t → Q
+settled_back s t P Q e i h = subst (λ (z : Settings). list_all is_space z.indent ≡ true → P z → Q) e h (ap (list_all is_space) i ∙ spaces_are)

@@ -28,7 +28,7 @@ formats_from zero fs ns = with_formats fs ns
 formats_from (suc i) fs [] = []
 formats_from (suc i) fs (n ∷ ns) = n ∷ formats_from i fs ns
 
-no_formats : (ns : List Node) → with_formats [] ns ≡ ns
+pub no_formats : (ns : List Node) → with_formats [] ns ≡ ns
 no_formats [] = refl
 no_formats (n ∷ ns) = refl
 

@@ -32,14 +32,11 @@ use Rattle.kdl.specs.declared.document.KdlDocument.{KdlDocument}
 use Rattle.kdl.specs.declared.document.KdlDocument.TheViews.{out-KdlDocument, out-KdlNode}
 use Rattle.kdl.specs.declared.layout.Around.{Around}
 use Rattle.kdl.specs.declared.node.KdlNode.{KdlNode}
+use Rattle.kdl.proofs.LayingOut.Lines.{no_formats}
 use Rattle.kdl.proofs.LayingOut.PartsSpaced.{NodesLaid, laid_node, nodes_laid}
 use Rattle.kdl.proofs.Trees.{document_tree_out, node_tree_out}
 
 -- nodes with formats
-no_formats : (ms : List Node) → with_formats [] ms ≡ ms
-no_formats [] = refl
-no_formats (m ∷ ms) = refl
-
 not_zero : (b : Bool) (n : ℕ) → (suc n == 0) ≡ b → b ≡ false
 not_zero true n e = let z : suc n ≡ 0 = eqb-true (suc n) 0 e in absurd cc
 not_zero false n e = refl

@@ -18,8 +18,8 @@ use Rattle.kdl_fmt.proofs.Formatting.PartsRead.{document_reads, own_reads}
 use Rattle.kdl_fmt.proofs.Respelling.Written.{NameReads, NameReadsIf, respelled_reads, respelled_reads_if, typed_line}
 use Rattle.kdl_fmt.specs.Respelled.{IsRespelledIf, IsTypedFormat}
 use Rattle.kdl_fmt.specs.declared.names.SpellingRule.{SpellingRule}
-use Rattle.kdl_grammar.specs.ReadsBack.{Rests, Anything, AddsNothing, EntryReads, IsGapBefore, last_rests, NodesRead, last_node, next_node, ContentReads, two_texts, with_nodes as content_nodes, BlockReads, block, DocumentReads}
-use Rattle.kdl_grammar.specs.Tree.{DocumentFormat, NodeFormat, Head, Node, node, children_of, document, Nodes, none, first, listed_nodes}
+use Rattle.kdl_grammar.specs.ReadsBack.{Rests, Anything, EntryReads, NodesRead, last_node, next_node, ContentReads, with_nodes as content_nodes, BlockReads, block, DocumentReads}
+use Rattle.kdl_grammar.specs.Tree.{DocumentFormat, NodeFormat, Head, Node, node, children_of, document, listed_nodes}
 use Rattle.kdl_grammar.proofs.ReadingBack.Composing.{block_reads, entries_read, with_block}
 use Rattle.kdl_parts.specs.Formats.{document_format_tree, node_format_tree}
 use Rattle.kdl_value.specs.Tree.{text_of}
@@ -33,6 +33,7 @@ use Rattle.kdl.specs.declared.layout.LayoutFrame.{LayoutFrame}
 use Rattle.kdl.specs.declared.node.KdlNode.{KdlNode}
 use Rattle.kdl.proofs.LayingOut.BlockSteps.{Opened, node_is, outermost_more, partly_all}
 use Rattle.kdl.proofs.LayingOut.PartsSpaced.{block_there}
+use Rattle.kdl.proofs.ReadingBack.{content_with, whole_as}
 use Rattle.kdl.proofs.Trees.{document_tree_out, node_tree_out}
 
 module _ (s : Settings) where
@@ -89,10 +90,6 @@ module _ (s : Settings) where
   set_with_stays f (n ∷ ns) (suc i) m d h a = (λ P x. x, set_with_stays f ns i m d (omega arith) a)
 
   -- the nodes in a block
-  content_with : {P : Rests} {l t : Text} (ns : Nodes) → AddsNothing l → NodesRead (last_rests t P) ns → IsGapBefore P t → ContentReads P l t ns
-  content_with none a x g = two_texts a g
-  content_with (first n ns) a x g = content_nodes a x g
-
   pub content_stays : {P : Rests} {l t : Text} (ns ms : List Node) → StayAs s ns ms → ContentReads P l t (listed_nodes ns) → NodesKeepReading s (listed_nodes ns) → ContentReads P l t (listed_nodes ms) × NodesKeepReading s (listed_nodes ms)
   content_stays {P} {l} {t} [] ms a c k = subst (λ (z : List Node). ContentReads P l t (listed_nodes z) × NodesKeepReading s (listed_nodes z)) (sym (a.0 refl)) (c, k)
   content_stays (n ∷ ns) ms a (content_nodes x y g) k = let w = a.1 _ (y, k) in (content_with (listed_nodes ms) x w.0 g, w.1)
@@ -223,10 +220,6 @@ all_stays l level before olds xs above above' b b' empty holds start y t next tr
     (subst (λ z. StayAs s (whole above b) z) (sym tree) (f level before (map node_tree olds) begun))
 
 -- a document of which the nodes are others, and the texts around them are laid out
-whole_stays : (s : Settings) (o : Option DocumentFormat) (at : SourceSpan) (ns ms : List Node) → StayAs s ns ms → NodesKeepReading s (listed_nodes ns) → DocumentReads (document o at (listed_nodes ns)) → DocumentReads (document o at (listed_nodes ms))
-whole_stays s o at ns ms a k (DocumentReads.no_bom c) = DocumentReads.no_bom (content_stays s ns ms a c k).0
-whole_stays s o at ns ms a k (DocumentReads.after_bom e c) = DocumentReads.after_bom e (content_stays s ns ms a c k).0
-
 pub document_stays : (l : Layout) → list_all is_space (settings l.config).indent ≡ true → (level : ℕ) (b : Before) (d m : KdlDocument) → (out-KdlDocument m).span ≡ (out-KdlDocument d).span
     → (v : Vec KdlNode Global) → (out-KdlDocument m).nodes ≡ v → (g : Option DocumentFormat) → option_map document_format_tree (out-KdlDocument m).format ≡ g
     → IsSpacedContent l.blank_lines (settings l.config) level (nodes_tree (out-KdlDocument d).nodes.items) (or_empty_document (option_map document_format_tree (out-KdlDocument d).format)) b g
@@ -240,7 +233,7 @@ document_stays l ok level b d m span v holds g is c a k x =
     let ns = map node_tree D.nodes.items in
     let old : DocumentReads (document f D.span (listed_nodes ns)) = subst DocumentReads (document_tree_out d) x in
     let keep : DocumentKeepsReading s (document f D.span (listed_nodes ns)) = subst (DocumentKeepsReading s) (document_tree_out d) k in
-    let new : DocumentReads (document g D.span (listed_nodes (map node_tree v.items))) = whole_stays s g D.span ns (map node_tree v.items) a keep (document_reads l.blank_lines s ok level b f g D.span (listed_nodes ns) c old) in
+    let new : DocumentReads (document g D.span (listed_nodes (map node_tree v.items))) = whole_as g D.span D.span _ _ (λ t z. (content_stays s ns (map node_tree v.items) a z keep).0) (document_reads l.blank_lines s ok level b f g D.span (listed_nodes ns) c old) in
     subst DocumentReads (sym (document_tree_out m))
     (subst (λ (z : Option DocumentFormat). DocumentReads (document z M.span (nodes_tree M.nodes.items))) (sym is)
     (subst (λ (z : SourceSpan). DocumentReads (document g z (nodes_tree M.nodes.items))) (sym span)

@@ -1,7 +1,7 @@
 -- Documents and blocks that read back, with a node added.
 use Rattle.std.proofs.Common.{◌≡◌, ℕ, suc, ◌<◌, Bool, true, false, List, [], ◌∷◌, ◌++◌, length, map, set, ap, ◌∙◌, sym, refl, subst, arith, Option, Some, None, option_map, if◌then◌else◌, ◌==◌, add-one}
 use Rattle.std.proofs.lemmas.Bool.Decides.{nat_tests}
-use Rattle.std.proofs.lemmas.List.{append-nil, length-map, map-set}
+use Rattle.std.proofs.lemmas.List.{length-map, map-set}
 use Rattle.std.proofs.lemmas.Option.{slice_get-map}
 use Rattle.std.specs.List.{insert}
 use Rattle.kdl_text.specs.Chars.{Text}
@@ -17,16 +17,18 @@ use Rattle.kdl_grammar.specs.Tree.{DocumentFormat, Node, Nodes, document, listed
 use Rattle.kdl_grammar.proofs.ReadingBack.Composing.{ends_before, weaker}
 use Rattle.kdl_parts.specs.declared.format.KdlNodeFormat.{KdlNodeFormat}
 use Rattle.kdl.specs.DocumentLookups.{nodes_of}
-use Rattle.kdl.specs.Internal.Ends.{EndsAs, GapSays, IsRestAt, LeadingEnded, PutAfter, PutFirst, ReadsIn, end_with, lead_with, led_with, rests_after}
+use Rattle.kdl.specs.Internal.Ends.{EndsAs, GapSays, IsRestAt, LeadsExactly, PutAfter, PutFirst, ReadsIn, end_with, led_with, rests_after}
 use Rattle.kdl.specs.Nodes.{newlines, texts_around, trees}
 use Rattle.kdl.specs.ReadsBack.{NodeReadsBack}
 use Rattle.kdl.specs.Tree.{document_tree, node_tree}
 use Rattle.kdl.specs.declared.document.KdlDocument.{KdlDocument}
 use Rattle.kdl.specs.declared.document.KdlDocument.TheViews.{out-KdlDocument}
+use Rattle.kdl.specs.declared.ends.DocumentKind.{DocumentKind}
 use Rattle.kdl.specs.declared.ends.Rest.{Rest}
 use Rattle.kdl.specs.declared.node.KdlNode.{KdlNode}
 use Rattle.kdl.proofs.Putting.PutReads.{content_put, content_put_first}
-use Rattle.kdl.proofs.Putting.Puts.{insert_trees, texts_kept}
+use Rattle.kdl.proofs.Putting.Puts.{insert_trees, leads_printed, leads_trailing, texts_kept}
+use Rattle.kdl.proofs.ReadingBack.{whole_as}
 use Rattle.kdl.proofs.Trees.{document_tree_out}
 
 nodes_weaker : (P Q : Rests) {ns : Nodes} → ((r : Text) → MayFollow Q r → MayFollow P r) → NodesRead P ns → NodesRead Q ns
@@ -70,17 +72,6 @@ gap_alone (c ∷ s) g = go (c == 0xFEFF) refl
 plain_says : (t : Text) (k : ℕ) → GapSays (without_bom t) k → Gap true t [] → AddsNothing (t ++ newlines k)
 plain_says t k says g = subst (λ (z : Text). GapSays z k) (gap_alone t g) says g
 
--- the leading text, with the newlines that it lacked
-leading_led : (o : Option DocumentFormat) (l : Option Text) → LeadingEnded o l
-    → (k : ℕ) × GapSays (without_bom (leading_text o)) k × (leading_text (led_with l o) ≡ leading_text o ++ newlines k) × (trailing_text (led_with l o) ≡ trailing_text o)
-leading_led o None g = (0, g, sym (append-nil (leading_text o)), refl)
-leading_led o (Some t) (f, k, l, a, b, g) = (
-  suc k,
-  subst (λ (z : Option DocumentFormat). GapSays (without_bom (leading_text z)) (suc k)) (sym a) g,
-  ap (λ (z : Option DocumentFormat). leading_text (option_map (lead_with t) z)) a ∙ b ∙ ap (λ (z : Option DocumentFormat). leading_text z ++ newlines (suc k)) (sym a),
-  ap (λ (z : Option DocumentFormat). trailing_text (option_map (lead_with t) z)) a ∙ ap trailing_text (sym a),
-)
-
 -- a block that gets another leading text is before the same rests
 same_rests : (o : Option DocumentFormat) (l : Option Text) (r : Text) → MayFollow (BlockEnd (led_with l o)) r → MayFollow (BlockEnd o) r
 same_rests o None r m = m
@@ -88,55 +79,47 @@ same_rests None (Some t) r m = m
 same_rests (Some f) (Some t) r m = m
 
 -- what may follow the node that is put in
-put_ends : (b : Bool) (i : ℕ) (d : KdlDocument) (rest : Rest) (n m : KdlNode) → IsRestAt b i d rest → EndsAs rest n m → NodeReadsBack n
+put_ends : (b : DocumentKind) (i : ℕ) (d : KdlDocument) (rest : Rest) (n m : KdlNode) → IsRestAt b i d rest → EndsAs rest n m → NodeReadsBack n
     → (i < length (trees d) → NodeReads Anything (node_tree m)) × NodeReads (last_rests (trailing_text (texts_around d)) (rests_after b (texts_around d))) (node_tree m)
 put_ends b i d Rest.End n m (e, (l, t)) s r =
     let x : NodeReads TextEnd (node_tree m) = subst (λ (z : KdlNode). NodeReads TextEnd (node_tree z)) (sym s) r in (
       λ h. absurd (omega (arith, length-map (nodes_of d) node_tree)),
       subst (λ (z : Text). NodeReads (last_rests z (rests_after b (texts_around d))) (node_tree m)) (sym t)
-          (subst (λ (z : Bool). NodeReads (rests_after z (texts_around d)) (node_tree m)) (sym e) x),
+          (subst (λ (z : DocumentKind). NodeReads (rests_after z (texts_around d)) (node_tree m)) (sym e) x),
     )
 put_ends b i d Rest.Brace n m (e, f, k, (l, t)) s r = (
   λ h. absurd (omega (arith, length-map (nodes_of d) node_tree)),
   subst (λ (z : Text). NodeReads (last_rests z (rests_after b (texts_around d))) (node_tree m)) (sym t)
-      (subst (λ (z : Bool). NodeReads (rests_after z (texts_around d)) (node_tree m)) (sym e)
+      (subst (λ (z : DocumentKind). NodeReads (rests_after z (texts_around d)) (node_tree m)) (sym e)
       (subst (λ (z : Option DocumentFormat). NodeReads (BlockEnd z) (node_tree m)) (sym k) (s TextEnd f r))),
 )
 put_ends b i d Rest.Text n m w s r = let x = s TextEnd r in (λ h. x, ends_before (last_rests (trailing_text (texts_around d)) (rests_after b (texts_around d))) x)
 
--- a text or a block whose content changes
-module _ (o p : Option DocumentFormat) (at to : SourceSpan) (ns ms : List Node) where
-  document_changed : leading_text p ≡ leading_text o → trailing_text p ≡ trailing_text o
-      → ((l : Text) → ContentReads TextEnd l (trailing_text o) (listed_nodes ns) → ContentReads TextEnd l (trailing_text o) (listed_nodes ms))
-      → DocumentReads (document o at (listed_nodes ns)) → DocumentReads (document p to (listed_nodes ms))
-  document_changed l t w (DocumentReads.no_bom c) =
-      DocumentReads.no_bom (subst (λ (z : Text). ContentReads TextEnd (leading_text p) z (listed_nodes ms)) (sym t)
-      (subst (λ (z : Text). ContentReads TextEnd z (trailing_text o) (listed_nodes ms)) (sym l) (w (leading_text o) c)))
-  document_changed l t w (DocumentReads.after_bom {leading = x} e c) =
-      DocumentReads.after_bom (l ∙ e) (subst (λ (z : Text). ContentReads TextEnd x z (listed_nodes ms)) (sym t) (w x c))
-
 -- the content of a document with a node put before all others
-document_first : (o : Option DocumentFormat) (l : Option Text) (at to : SourceSpan) (ns : List Node) (put : Node) → LeadingEnded o l → (0 < length ns → NodeReads Anything put)
+document_first : (o : Option DocumentFormat) (l : Option Text) (at to : SourceSpan) (ns : List Node) (put : Node) → LeadsExactly o l → (0 < length ns → NodeReads Anything put)
     → NodeReads (last_rests (trailing_text o) TextEnd) put → DocumentReads (document o at (listed_nodes ns)) → DocumentReads (document (led_with l o) to (listed_nodes (put ∷ ns)))
 document_first o l at to ns put e a x (DocumentReads.no_bom c) =
-    let k = leading_led o l e in
-    DocumentReads.no_bom (subst (λ (z : Text). ContentReads TextEnd (leading_text (led_with l o)) z (listed_nodes (put ∷ ns))) (sym k.3)
-    (subst (λ (z : Text). ContentReads TextEnd z (trailing_text o) (listed_nodes (put ∷ ns))) (sym k.2)
-    (content_put_first TextEnd (leading_text o) (leading_text o ++ newlines k.0) (trailing_text o) ns put (plain_says (leading_text o) k.0 k.1) a x c)))
+    let printed = leads_printed e.0 o (led_with l o) e.2 in
+    let same = leads_trailing e.0 o (led_with l o) e.2 in
+    DocumentReads.no_bom (subst (λ (z : Text). ContentReads TextEnd (leading_text (led_with l o)) z (listed_nodes (put ∷ ns))) (sym same)
+    (subst (λ (z : Text). ContentReads TextEnd z (trailing_text o) (listed_nodes (put ∷ ns))) (sym printed)
+    (content_put_first TextEnd (leading_text o) (leading_text o ++ newlines e.0) (trailing_text o) ns put (plain_says (leading_text o) e.0 e.3) a x c)))
 document_first o l at to ns put e a x (DocumentReads.after_bom {leading = m} h c) =
-    let k = leading_led o l e in
-    let says : GapSays m k.0 = subst (λ (z : Text). GapSays (without_bom z) k.0) h k.1 in
-    DocumentReads.after_bom (k.2 ∙ ap (λ (z : Text). z ++ newlines k.0) h) (subst (λ (z : Text). ContentReads TextEnd (m ++ newlines k.0) z (listed_nodes (put ∷ ns))) (sym k.3)
-    (content_put_first TextEnd m (m ++ newlines k.0) (trailing_text o) ns put says a x c))
+    let printed = leads_printed e.0 o (led_with l o) e.2 in
+    let same = leads_trailing e.0 o (led_with l o) e.2 in
+    let says : GapSays m e.0 = subst (λ (z : Text). GapSays (without_bom z) e.0) h e.3 in
+    DocumentReads.after_bom (printed ∙ ap (λ (z : Text). z ++ newlines e.0) h) (subst (λ (z : Text). ContentReads TextEnd (m ++ newlines e.0) z (listed_nodes (put ∷ ns))) (sym same)
+    (content_put_first TextEnd m (m ++ newlines e.0) (trailing_text o) ns put says a x c))
 
-block_first : (o : Option DocumentFormat) (l : Option Text) (at to : SourceSpan) (ns : List Node) (put : Node) → LeadingEnded o l → (0 < length ns → NodeReads Anything put)
+block_first : (o : Option DocumentFormat) (l : Option Text) (at to : SourceSpan) (ns : List Node) (put : Node) → LeadsExactly o l → (0 < length ns → NodeReads Anything put)
     → NodeReads (last_rests (trailing_text o) (BlockEnd o)) put → BlockReads (document o at (listed_nodes ns)) → BlockReads (document (led_with l o) to (listed_nodes (put ∷ ns)))
 block_first o l at to ns put e a x (block c) =
-    let k = leading_led o l e in
-    block (subst (λ (z : Text). ContentReads (BlockEnd (led_with l o)) (leading_text (led_with l o)) z (listed_nodes (put ∷ ns))) (sym k.3)
-    (subst (λ (z : Text). ContentReads (BlockEnd (led_with l o)) z (trailing_text o) (listed_nodes (put ∷ ns))) (sym k.2)
-    (content_weaker (BlockEnd o) (BlockEnd (led_with l o)) (leading_text o ++ newlines k.0) (trailing_text o) (listed_nodes (put ∷ ns)) (same_rests o l)
-    (content_put_first (BlockEnd o) (leading_text o) (leading_text o ++ newlines k.0) (trailing_text o) ns put (plain_says (leading_text o) k.0 k.1) a x c))))
+    let printed = leads_printed e.0 o (led_with l o) e.2 in
+    let same = leads_trailing e.0 o (led_with l o) e.2 in
+    block (subst (λ (z : Text). ContentReads (BlockEnd (led_with l o)) (leading_text (led_with l o)) z (listed_nodes (put ∷ ns))) (sym same)
+    (subst (λ (z : Text). ContentReads (BlockEnd (led_with l o)) z (trailing_text o) (listed_nodes (put ∷ ns))) (sym printed)
+    (content_weaker (BlockEnd o) (BlockEnd (led_with l o)) (leading_text o ++ newlines e.0) (trailing_text o) (listed_nodes (put ∷ ns)) (same_rests o l)
+    (content_put_first (BlockEnd o) (leading_text o) (leading_text o ++ newlines e.0) (trailing_text o) ns put (plain_says (leading_text o) e.0 e.3) a x c))))
 
 -- its tree
 tree_as : (d : KdlDocument) (o : Option DocumentFormat) (ns : List Node) → texts_around d ≡ o → trees d ≡ ns → document_tree d ≡ document o (out-KdlDocument d).span (listed_nodes ns)
@@ -148,16 +131,16 @@ first_tree : (n : KdlNode) (d e : KdlDocument) (p : PutFirst n d e) → document
 first_tree n d e p = tree_as e (led_with p.leading (texts_around d)) (node_tree n ∷ trees d) p.texts (ap (map node_tree) p.nodes ∙ insert_trees (nodes_of d) 0 n)
 
 -- what has to be allowed after a node that is put in: the nodes after it, and what follows the document
-abbrev PutEnds : Bool → ℕ → KdlDocument → Node → Type 0
+abbrev PutEnds : DocumentKind → ℕ → KdlDocument → Node → Type 0
 PutEnds b i d x = (i < length (trees d) → NodeReads Anything x) × NodeReads (last_rests (trailing_text (texts_around d)) (rests_after b (texts_around d))) x
 
-first_reads : (b : Bool) (n : KdlNode) (d e : KdlDocument) → PutFirst n d e → PutEnds b 0 d (node_tree n) → ReadsIn b d → ReadsIn b e
-first_reads false n d e p (a, x) r =
+first_reads : (b : DocumentKind) (n : KdlNode) (d e : KdlDocument) → PutFirst n d e → PutEnds b 0 d (node_tree n) → ReadsIn b d → ReadsIn b e
+first_reads DocumentKind.Text n d e p (a, x) r =
     subst DocumentReads (sym (first_tree n d e p))
-    (document_first (texts_around d) p.leading (out-KdlDocument d).span (out-KdlDocument e).span (trees d) (node_tree n) p.ended a x (subst DocumentReads (document_tree_out d) r))
-first_reads true n d e p (a, x) r =
+    (document_first (texts_around d) p.leading (out-KdlDocument d).span (out-KdlDocument e).span (trees d) (node_tree n) p.exact a x (subst DocumentReads (document_tree_out d) r))
+first_reads DocumentKind.Block n d e p (a, x) r =
     subst BlockReads (sym (first_tree n d e p))
-    (block_first (texts_around d) p.leading (out-KdlDocument d).span (out-KdlDocument e).span (trees d) (node_tree n) p.ended a x (subst BlockReads (document_tree_out d) r))
+    (block_first (texts_around d) p.leading (out-KdlDocument d).span (out-KdlDocument e).span (trees d) (node_tree n) p.exact a x (subst BlockReads (document_tree_out d) r))
 
 abbrev with_after : ℕ → KdlNode → KdlNode → KdlDocument → List Node
 with_after i m n d = insert (set (trees d) i (node_tree m)) (suc i) (node_tree n)
@@ -180,21 +163,21 @@ after_content P i n d e p l a x c =
 block_of : {o : Option DocumentFormat} {at : SourceSpan} {ns : Nodes} → BlockReads (document o at ns) → ContentReads (BlockEnd o) (leading_text o) (trailing_text o) ns
 block_of (block c) = c
 
-after_reads : (b : Bool) (i : ℕ) (n : KdlNode) (d e : KdlDocument) → PutAfter i n d e → PutEnds b (suc i) d (node_tree n) → ReadsIn b d → ReadsIn b e
-after_reads false i n d e p (a, x) r =
+after_reads : (b : DocumentKind) (i : ℕ) (n : KdlNode) (d e : KdlDocument) → PutAfter i n d e → PutEnds b (suc i) d (node_tree n) → ReadsIn b d → ReadsIn b e
+after_reads DocumentKind.Text i n d e p (a, x) r =
     subst DocumentReads (sym (after_tree i n d e p))
-    (document_changed (texts_around d) (texts_around d) (out-KdlDocument d).span (out-KdlDocument e).span (trees d) (with_after i (end_with p.format p.last) n d) refl refl
+    (whole_as (texts_around d) (out-KdlDocument d).span (out-KdlDocument e).span (listed_nodes (trees d)) (listed_nodes (with_after i (end_with p.format p.last) n d))
     (λ l c. after_content TextEnd i n d e p l a x c) (subst DocumentReads (document_tree_out d) r))
-after_reads true i n d e p (a, x) r =
+after_reads DocumentKind.Block i n d e p (a, x) r =
     subst BlockReads (sym (after_tree i n d e p)) (block (after_content (BlockEnd (texts_around d)) i n d e p (leading_text (texts_around d)) a x (block_of (subst BlockReads (document_tree_out d) r))))
 
 -- a node put in at the index j
-pub put_after_reads : (b : Bool) (i j : ℕ) (d e : KdlDocument) (rest : Rest) (n : KdlNode) (own : Option KdlNodeFormat) → suc i ≡ j → IsRestAt b j d rest → EndsAs rest n (end_with own n)
+pub put_after_reads : (b : DocumentKind) (i j : ℕ) (d e : KdlDocument) (rest : Rest) (n : KdlNode) (own : Option KdlNodeFormat) → suc i ≡ j → IsRestAt b j d rest → EndsAs rest n (end_with own n)
     → PutAfter i (end_with own n) d e → ReadsIn b d → NodeReadsBack n → ReadsIn b e
 put_after_reads b i j d e rest n own h at w p r x =
     after_reads b i (end_with own n) d e p (put_ends b (suc i) d rest n (end_with own n) (subst (λ (k : ℕ). IsRestAt b k d rest) (sym h) at) w x) r
 
-pub put_first_reads : (b : Bool) (j : ℕ) (d e : KdlDocument) (rest : Rest) (n : KdlNode) (own : Option KdlNodeFormat) → 0 ≡ j → IsRestAt b j d rest → EndsAs rest n (end_with own n)
+pub put_first_reads : (b : DocumentKind) (j : ℕ) (d e : KdlDocument) (rest : Rest) (n : KdlNode) (own : Option KdlNodeFormat) → 0 ≡ j → IsRestAt b j d rest → EndsAs rest n (end_with own n)
     → PutFirst (end_with own n) d e → ReadsIn b d → NodeReadsBack n → ReadsIn b e
 put_first_reads b j d e rest n own h at w p r x =
     first_reads b (end_with own n) d e p (put_ends b 0 d rest n (end_with own n) (subst (λ (k : ℕ). IsRestAt b k d rest) (sym h) at) w x) r

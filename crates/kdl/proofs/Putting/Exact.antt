@@ -1,11 +1,9 @@
 -- Nodes put among others with the newlines that are lacking, and no more.
-use Rattle.std.proofs.Common.{◌≡◌, ℕ, zero, suc, ◌+◌, ◌<◌, ◌≤◌, Bool, true, false, List, [], ◌∷◌, ◌++◌, length, map, set, take, drop, ap, ◌∙◌, sym, refl, subst, arith, Option, Some, None, option_map, unwrap_or, is_some, slice_get, get_or, add-one, Result, Ok, Err, IfOk, String, Vec, Global}
+use Rattle.std.proofs.Common.{◌≡◌, ℕ, zero, suc, ◌+◌, ◌<◌, ◌≤◌, Bool, List, [], ◌∷◌, ◌++◌, length, map, set, take, drop, ap, ◌∙◌, sym, refl, subst, arith, Option, Some, None, option_map, unwrap_or, is_some, slice_get, add-one, Result, Ok, Err, IfOk, Vec, Global}
 use Rattle.std.proofs.lemmas.List.{append-nil, drop_all, length-map, map-set, take_all}
 use Rattle.std.proofs.lemmas.Option.{slice_get-map}
 use Rattle.std.specs.List.{insert}
-use Rattle.std.specs.Vec.{with_item}
 use Rattle.kdl_text.specs.Chars.{Text}
-use Rattle.kdl_value.specs.Tree.{text_of}
 use Rattle.kdl_fmt.specs.Kept.{without_bom}
 use Rattle.kdl_grammar.specs.Places.{BeforeChildren}
 use Rattle.kdl_grammar.specs.ReadsBack.{AddsNothing, Anything, EndReads, NodeReads, reads, terminator_text}
@@ -18,20 +16,21 @@ use Rattle.kdl.specs.Cleared.{new_document}
 use Rattle.kdl.specs.DocumentLookups.{nodes_of}
 use Rattle.kdl.specs.Exact.{BlockBegunExactly, ChildPutExactly, ChildPutExactlyIn, EndsAt, FewerFail, HasOpenEnd, IsBeforeNewline, IsPutExactly, IsPutInBlock, LacksAt, LacksBeforeBrace, LacksBeforeText, LacksInBlock, LacksInText, NodesMayFollow, lengthened, with_more}
 use Rattle.kdl.specs.Fields.{node_format_of}
-use Rattle.kdl.specs.Internal.Ends.{BeforeNewBlock, BeginsFewest, BlockBegins, EndsAs, EndsExactly, FewestBefore, FormatFewest, GapFewest, GapSays, IsEnded, IsEndedBy, IsEndedExactly, IsNodeEnded, IsRestAt, Lacks, LacksBefore, LeadingEnded, LeadsExactly, PlaceFewest, PutAfter, PutAfterExactly, PutExactly, PutFirst, PutFirstExactly, block_format, block_if, end_with, formless_count, lead_with, led_with, with_newlines}
-use Rattle.kdl.specs.Nodes.{EndsWith, IsPut, LeadsWith, WithNewlines, format_or_printed, newlines, printed_format, text_from, text_up_to, texts_around, trees}
+use Rattle.kdl.specs.Internal.Ends.{BeginsFewest, BlockBegins, EndsAs, EndsExactly, EndsReadAs, FewestBefore, FormatFewest, GapFewest, GapSays, IsEndedBy, IsEndedExactly, IsNodeEnded, IsRestAt, Lacks, LacksBefore, LeadsExactly, PlaceFewest, PutAfter, PutExactly, PutFirst, block_format, block_if, end_with, formless_count, led_with, with_newlines}
+use Rattle.kdl.specs.Nodes.{BlockBegun, ChildPut, ChildPutIn, EndsWith, IsPut, LeadsWith, WithNewlines, format_or_printed, newlines, printed_format, text_from, text_up_to, texts_around, trees}
 use Rattle.kdl.specs.ReadsBack.{NodeEnds}
 use Rattle.kdl.specs.Tree.{document_prints, document_tree, head_tree, node_prints, node_tree, nodes_tree}
 use Rattle.kdl.specs.declared.document.KdlDocument.{KdlDocument}
 use Rattle.kdl.specs.declared.document.KdlDocument.TheViews.{out-KdlDocument, out-KdlNode}
+use Rattle.kdl.specs.declared.ends.DocumentKind.{DocumentKind}
 use Rattle.kdl.specs.declared.ends.Rest.{Rest}
 use Rattle.kdl.specs.declared.node.KdlNode.{KdlNode}
 use Rattle.kdl.proofs.Putting.Fewest.{open_fewest}
 use Rattle.kdl.proofs.Putting.NodeEnds.{ends_with}
-use Rattle.kdl.proofs.Putting.Puts.{after_put_is, insert_trees, put_printed_as, span_kept, texts_kept}
+use Rattle.kdl.proofs.Putting.Puts.{insert_trees, put_printed_as, span_kept, texts_kept}
 use Rattle.kdl.proofs.Printing.PrintedParts.{document_printed}
 use Rattle.kdl.proofs.Trees.{node_tree_out, node_tree_roll}
-use Rattle.kdl.proofs.Putting.PutReads.{block_of, is_some_mapped}
+use Rattle.kdl.proofs.Putting.PutReads.{block_of, is_some_mapped, node_ends}
 
 -- what a format lacks
 pub something_lacking : (rest : Rest) (c : Children) (f g : NodeFormat) (b e : ℕ) → Lacks f b e → 0 < b + e → g ≡ with_newlines f b e → FewestBefore rest c f (b + e) → IsEndedExactly rest c f (Some g)
@@ -58,15 +57,18 @@ as_block None f x = x
 as_block (Some d) f x = record { place = λ r p t. x.place r p t; terminator = x.terminator }
 
 -- what a node lacks before any text
-module _ (n : KdlNode) (b : Bool) (k : b ≡ is_some (out-KdlNode n).children) where
-  fewer_fail : (m : ℕ) → FormatFewest (block_if b) (format_or_printed (head_tree (out-KdlNode n))) m → FewerFail m n
+module _ (n : KdlNode) where
+  abbrev own_block : Children
+  own_block = block_if (is_some (out-KdlNode n).children)
+
+  fewer_fail : (m : ℕ) → FormatFewest own_block (format_or_printed (head_tree (out-KdlNode n))) m → FewerFail m n
   fewer_fail m less x e h r =
       let head = head_tree (out-KdlNode n) in
       let f = lengthened x e (format_or_printed head) in
       let kids = children_of (block_of n) in
       let read : NodeReads Anything (with_more x e (node head kids)) = subst (λ (z : Node). NodeReads Anything (with_more x e z)) (node_tree_out n) r in
       let end : EndReads Anything kids f = end_read kids (record head { format = Some f }) f refl read in
-      less x e h (subst (λ (z : Bool). EndReads Anything (block_if z) f) (sym (k ∙ is_some_mapped (out-KdlNode n).children)) (as_block (block_of n) f end))
+      less x e h (subst (λ (z : Bool). EndReads Anything (block_if z) f) (sym (is_some_mapped (out-KdlNode n).children)) (as_block (block_of n) f end))
 
   none_lacking : (m : ℕ) → FewerFail m n → NodeEnds n → m ≡ 0
   none_lacking zero less r = refl
@@ -76,10 +78,10 @@ module _ (n : KdlNode) (b : Bool) (k : b ≡ is_some (out-KdlNode n).children) w
       absurd (less 0 0 (omega arith) (subst (λ (z : Node). NodeReads Anything (with_more 0 0 z)) (sym (node_tree_out n)) (same_more kids (head_tree (out-KdlNode n)) read)))
 
   module _ (x : KdlNode) (m : ℕ) (w : WithNewlines m (node_tree n) (node_tree x)) where
-    before_text : FormatFewest (block_if b) (format_or_printed (head_tree (out-KdlNode n))) m → EndsAs Rest.Text n x → (node_format_of n ≡ None → m ≡ 1) → LacksBeforeText m n
+    before_text : FormatFewest own_block (format_or_printed (head_tree (out-KdlNode n))) m → EndsAs Rest.Text n x → (node_format_of n ≡ None → m ≡ 1) → LacksBeforeText m n
     before_text less ends one = record { enough = λ P r. (node_tree x, w, ends P r); fewer = fewer_fail m less; none = none_lacking m (fewer_fail m less); formless = one }
 
-    before_brace : FormatFewest (block_if b) (format_or_printed (head_tree (out-KdlNode n))) m → (HasOpenEnd n → FormatFewest (block_if b) (format_or_printed (head_tree (out-KdlNode n))) (m + 1)) → EndsAs Rest.Brace n x
+    before_brace : FormatFewest own_block (format_or_printed (head_tree (out-KdlNode n))) m → (HasOpenEnd n → FormatFewest own_block (format_or_printed (head_tree (out-KdlNode n))) (m + 1)) → EndsAs Rest.Brace n x
         → (node_format_of n ≡ None → m ≡ 0) → LacksBeforeBrace m n
     before_brace less more ends bare = record {
       enough = λ P f r. (node_tree x, w, ends P f r);
@@ -94,16 +96,16 @@ module _ (n : KdlNode) (b : Bool) (k : b ≡ is_some (out-KdlNode n).children) w
       → node_texts (node_format_of n) ≡ None → LacksBefore rest (formless_count rest) n
   formless_lacks Rest.End x w ends h e = refl
   formless_lacks Rest.Text x w ends h e =
-      before_text x 1 w (open_fewest (block_if b) (format_or_printed (head_tree (out-KdlNode n))) 0 (ap terminator_text h) (omega arith) (λ m l g. absurd (omega arith))) ends (λ x. refl)
+      before_text x 1 w (open_fewest own_block (format_or_printed (head_tree (out-KdlNode n))) 0 (ap terminator_text h) (omega arith) (λ m l g. absurd (omega arith))) ends (λ x. refl)
   formless_lacks Rest.Brace x w ends h e = before_brace x 0 w (λ x y l r. absurd (omega arith)) (λ x. absurd (cc)) ends (λ x. refl)
 
   format_lacks : (rest : Rest) (x : KdlNode) (m : ℕ) (f : NodeFormat) → WithNewlines m (node_tree n) (node_tree x) → EndsAs rest n x → format_or_printed (head_tree (out-KdlNode n)) ≡ f
-      → node_texts (node_format_of n) ≡ Some f → (rest ≡ Rest.End → m ≡ 0) → FewestBefore rest (block_if b) f m → LacksBefore rest m n
+      → node_texts (node_format_of n) ≡ Some f → (rest ≡ Rest.End → m ≡ 0) → FewestBefore rest own_block f m → LacksBefore rest m n
   format_lacks Rest.End x m f w ends h e z less = z refl
-  format_lacks Rest.Text x m f w ends h e z less = before_text x m w (subst (λ (y : NodeFormat). FormatFewest (block_if b) y m) (sym h) less) ends (λ y. absurd (cc))
+  format_lacks Rest.Text x m f w ends h e z less = before_text x m w (subst (λ (y : NodeFormat). FormatFewest own_block y m) (sym h) less) ends (λ y. absurd (cc))
   format_lacks Rest.Brace x m f w ends h e z less =
-      before_brace x m w (subst (λ (y : NodeFormat). FormatFewest (block_if b) y m) (sym h) less.0)
-      (λ (g, s, t). let same : g ≡ f = cc in subst (λ (y : NodeFormat). FormatFewest (block_if b) y (m + 1)) (sym h) (less.1 (subst (λ (y : NodeFormat). terminator_text y ≡ []) same t))) ends (λ y. absurd (cc))
+      before_brace x m w (subst (λ (y : NodeFormat). FormatFewest own_block y m) (sym h) less.0)
+      (λ (g, s, t). let same : g ≡ f = cc in subst (λ (y : NodeFormat). FormatFewest own_block y (m + 1)) (sym h) (less.1 (subst (λ (y : NodeFormat). terminator_text y ≡ []) same t))) ends (λ y. absurd (cc))
 
 -- a node with the newlines more that it lacks
 formatted : (n : KdlNode) (f : KdlNodeFormat) → node_tree (end_with (Some f) n) ≡ node (record (head_tree (out-KdlNode n)) { format = Some (node_format_tree f) }) (children_of (block_of n))
@@ -117,22 +119,30 @@ node_longer n (Some f) (suc k) (l, m, h) = (m, subst (λ (x : Node). WithNewline
 no_newline : (rest : Rest) (k : ℕ) (f : NodeFormat) (o : Option KdlNodeFormat) → (rest ≡ Rest.End → o ≡ None) → IsEndedBy k f (node_texts o) → rest ≡ Rest.End → k ≡ 0
 no_newline rest k f o last h e = subst (λ (p : Option KdlNodeFormat). IsEndedBy k f (node_texts p)) (last e) h
 
-ends_exactly : (rest : Rest) (n : KdlNode) (b : Bool) (o : Option KdlNodeFormat) (own : Option NodeFormat) → b ≡ is_some (out-KdlNode n).children → node_texts (node_format_of n) ≡ own
-    → IsNodeEnded rest (block_if b) own (printed_format (head_tree (out-KdlNode n)).entries) (node_texts o) → (rest ≡ Rest.End → o ≡ None) → EndsAs rest n (end_with o n) → EndsExactly rest n o
-ends_exactly rest n b o None k e h last ends =
+-- so the node has exactly those, and reads back before what follows
+ends_exactly : (rest : Rest) (n : KdlNode) (o : Option KdlNodeFormat) (own : Option NodeFormat) → node_texts (node_format_of n) ≡ own
+    → IsNodeEnded rest (block_if (is_some (out-KdlNode n).children)) own (printed_format (head_tree (out-KdlNode n)).entries) (node_texts o)
+    → ((f : NodeFormat) → node_texts (node_format_of n) ≡ Some f → EndsReadAs rest (block_if (is_some (out-KdlNode n).children)) f (unwrap_or (node_texts o) f)) → (rest ≡ Rest.End → o ≡ None)
+    → EndsAs rest n (end_with o n) × EndsExactly rest n o
+ends_exactly rest n o None e h back last =
     let same : format_or_printed (head_tree (out-KdlNode n)) ≡ printed_format (head_tree (out-KdlNode n)).entries = ap (λ (z : Option NodeFormat). unwrap_or z (printed_format (head_tree (out-KdlNode n)).entries)) e in
-    let w = node_longer n o (formless_count rest) (subst (λ (f : NodeFormat). IsEndedBy (formless_count rest) f (node_texts o)) (sym same) h) in
-    (formless_count rest, w.0, w.1, formless_lacks n b k rest (end_with o n) w.1 ends same e)
-ends_exactly rest n b o (Some g) k e (m, h, x) last ends =
+    let by = subst (λ (f : NodeFormat). IsEndedBy (formless_count rest) f (node_texts o)) (sym same) h in
+    let w = node_longer n o (formless_count rest) by in
+    let ends = node_ends rest (formless_count rest) n o by back last in
+    (ends, (formless_count rest, w.0, w.1, formless_lacks n rest (end_with o n) w.1 ends same e))
+ends_exactly rest n o (Some g) e (m, h, x) back last =
     let same : format_or_printed (head_tree (out-KdlNode n)) ≡ g = ap (λ (z : Option NodeFormat). unwrap_or z (printed_format (head_tree (out-KdlNode n)).entries)) e in
-    let w = node_longer n o m (subst (λ (f : NodeFormat). IsEndedBy m f (node_texts o)) (sym same) h) in
-    (m, w.0, w.1, format_lacks n b k rest (end_with o n) m g w.1 ends same e (no_newline rest m g o last h) x)
+    let by = subst (λ (f : NodeFormat). IsEndedBy m f (node_texts o)) (sym same) h in
+    let w = node_longer n o m by in
+    let ends = node_ends rest m n o by back last in
+    (ends, (m, w.0, w.1, format_lacks n rest (end_with o n) m g w.1 ends same e (no_newline rest m g o last h) x))
 
-pub ends_exactly_ok : {E : Type 0} (r : Result (Option KdlNodeFormat) E) (rest : Rest) (n : KdlNode) (b : Bool) → b ≡ is_some (out-KdlNode n).children
-    → IfOk r (λ o. IsNodeEnded rest (block_if b) (node_texts (node_format_of n)) (printed_format (head_tree (out-KdlNode n)).entries) (node_texts o)) → (rest ≡ Rest.End → IfOk r (λ o. o ≡ None))
-    → IfOk r (λ o. EndsAs rest n (end_with o n)) → IfOk r (λ o. EndsExactly rest n o)
-ends_exactly_ok (Ok o) rest n b k h last ends = ends_exactly rest n b o (node_texts (node_format_of n)) k refl h last ends
-ends_exactly_ok (Err e) rest n b k h last ends = tt
+pub ends_exactly_ok : {E : Type 0} (r : Result (Option KdlNodeFormat) E) (rest : Rest) (n : KdlNode)
+    → IfOk r (λ o. IsNodeEnded rest (block_if (is_some (out-KdlNode n).children)) (node_texts (node_format_of n)) (printed_format (head_tree (out-KdlNode n)).entries) (node_texts o))
+    → IfOk r (λ o. (f : NodeFormat) → node_texts (node_format_of n) ≡ Some f → EndsReadAs rest (block_if (is_some (out-KdlNode n).children)) f (unwrap_or (node_texts o) f)) → (rest ≡ Rest.End → IfOk r (λ o. o ≡ None))
+    → IfOk r (λ o. EndsAs rest n (end_with o n)) × IfOk r (λ o. EndsExactly rest n o)
+ends_exactly_ok (Ok o) rest n h back last = ends_exactly rest n o (node_texts (node_format_of n)) refl h back last
+ends_exactly_ok (Err e) rest n h back last = (tt, tt)
 
 -- the leading text with the newlines more that it lacks
 pub leads_exactly : (o : Option DocumentFormat) (f : DocumentFormat) (t : Text) (k : ℕ) → o ≡ Some f → 0 < k → k ≤ 2 → t ≡ f.leading ++ newlines k → GapSays (without_bom f.leading) k → GapFewest (without_bom f.leading) k
@@ -141,40 +151,24 @@ leads_exactly o f t zero h l m e says x = absurd (omega arith)
 leads_exactly o f t (suc k) h l m e says x =
     subst (λ (p : Option DocumentFormat). LeadsExactly p (Some t)) (sym h) (suc k, m, (f, refl, ap (λ (z : Text). Some (record f { leading = z })) e), says, x)
 
--- a node put after another one
-pub after_put_exactly : (d p : KdlDocument) (i : ℕ) (n b m x : KdlNode) (o : Option KdlNodeFormat) → i < length (nodes_of d) → get_or (nodes_of d) i b ≡ b
-    → IsEnded (format_or_printed (head_tree (out-KdlNode b))) (node_texts o) → EndsAs Rest.Text b (end_with o b) → EndsExactly Rest.Text b o → nodes_of p ≡ insert (nodes_of d) (i + 1) n
-    → p ≡ with_nodes d (out-KdlDocument p).nodes → get_or (nodes_of p) i m ≡ m → x ≡ end_with o m → PutAfterExactly i n d (with_nodes p (with_item (out-KdlDocument p).nodes i x))
-after_put_exactly d p i n b m x o h at c ends exact q r g w =
-    let y = after_put_is d p i n b m x o h at c ends q r g w in
-    (y.0, subst (λ (z : KdlNode). EndsExactly Rest.Text z y.0.format) (sym y.1) (subst (λ (z : Option KdlNodeFormat). EndsExactly Rest.Text b z) (sym y.2) exact))
-
 -- a node put before all others, after a leading text that took the place of the old one
-abbrev pub IsFirst : Option Text → KdlNode → KdlDocument → KdlDocument → Type 0
-IsFirst l n d e = (texts_around e ≡ led_with l (texts_around d)) × (nodes_of e ≡ insert (nodes_of d) 0 n) × ((out-KdlDocument e).span ≡ (out-KdlDocument d).span)
-
-pub first_same : (n : KdlNode) (d p e : KdlDocument) (l : Option (String Global)) → ((t : String Global) → l ≡ Some t → ⊥) → nodes_of p ≡ insert (nodes_of d) 0 n → p ≡ with_nodes d (out-KdlDocument p).nodes → e ≡ p
-    → IsFirst (option_map text_of l) n d e
-first_same n d p e None f k r h = subst (IsFirst None n d) (sym h) (texts_kept d p r, k, span_kept d p r)
-first_same n d p e (Some t) f k r h = absurd (f t refl)
-
-pub first_led : (n : KdlNode) (d p q e : KdlDocument) (l : Option (String Global)) (t : String Global) → l ≡ Some t → nodes_of p ≡ insert (nodes_of d) 0 n → p ≡ with_nodes d (out-KdlDocument p).nodes
-    → (out-KdlDocument q).nodes ≡ (out-KdlDocument p).nodes → texts_around q ≡ option_map (lead_with (text_of t)) (texts_around p) → (out-KdlDocument q).span ≡ (out-KdlDocument p).span → e ≡ q
-    → IsFirst (option_map text_of l) n d e
-first_led n d p q e l t z k r a b c h =
-    subst (λ (o : Option (String Global)). IsFirst (option_map text_of o) n d e) (sym z)
-    (subst (IsFirst (Some (text_of t)) n d) (sym h) (b ∙ ap (option_map (lead_with (text_of t))) (texts_kept d p r), ap (λ (v : Vec KdlNode Global). v.items) a ∙ k, c ∙ span_kept d p r))
-
-pub first_put : (l : Option Text) (n : KdlNode) (d e : KdlDocument) → IsFirst l n d e → LeadingEnded (texts_around d) l → LeadsExactly (texts_around d) l → PutFirstExactly n d e
-first_put l n d e (a, b, c) h x = (record { leading = l; ended = h; texts = a; nodes = b; span = c }, x)
+pub first_put : (l : Option Text) (n : KdlNode) (d p e : KdlDocument) → LeadsExactly (texts_around d) l → nodes_of p ≡ insert (nodes_of d) 0 n → p ≡ with_nodes d (out-KdlDocument p).nodes
+    → (out-KdlDocument e).nodes ≡ (out-KdlDocument p).nodes → texts_around e ≡ led_with l (texts_around p) → (out-KdlDocument e).span ≡ (out-KdlDocument p).span → PutFirst n d e
+first_put l n d p e x k r a b c = record {
+  leading = l;
+  exact = x;
+  texts = b ∙ ap (led_with l) (texts_kept d p r);
+  nodes = ap (λ (v : Vec KdlNode Global). v.items) a ∙ k;
+  span = c ∙ span_kept d p r;
+}
 
 -- what the node itself lacks there
-own_in_text : (i j : ℕ) (n : KdlNode) (d : KdlDocument) (rest : Rest) → IsRestAt false i d rest → LacksBefore rest j n → LacksInText i j n d
+own_in_text : (i j : ℕ) (n : KdlNode) (d : KdlDocument) (rest : Rest) → IsRestAt DocumentKind.Text i d rest → LacksBefore rest j n → LacksInText i j n d
 own_in_text i j n d Rest.End (e, last) x = record { at_end = λ h. x; before_text = λ f. absurd (f last) }
 own_in_text i j n d Rest.Brace (e, f, k, last) x = absurd (cc)
 own_in_text i j n d Rest.Text w x = record { at_end = λ h. let e = (w h).0 in absurd (cc); before_text = λ f. x }
 
-own_in_block : (i j : ℕ) (n : KdlNode) (d : KdlDocument) (rest : Rest) → IsRestAt true i d rest → LacksBefore rest j n → LacksInBlock i j n d
+own_in_block : (i j : ℕ) (n : KdlNode) (d : KdlDocument) (rest : Rest) → IsRestAt DocumentKind.Block i d rest → LacksBefore rest j n → LacksInBlock i j n d
 own_in_block i j n d Rest.End (e, w) x = absurd (cc)
 own_in_block i j n d Rest.Brace (e, f, k, last) x = record { at_brace = λ h g s. x; before_text = λ h. let z = h last in absurd (cc) }
 own_in_block i j n d Rest.Text w x = record { at_brace = λ h g s. let z = (w h).1 in absurd (cc); before_text = λ h. x }
@@ -183,9 +177,9 @@ same_some : (x y : KdlNode) (o : Option KdlNode) → o ≡ Some x → o ≡ Some
 same_some x y o h k = let e : Some x ≡ Some y = sym h ∙ k in cc
 
 -- a node put in at the index j, after another one
-after_is_put : (i : ℕ) (n : KdlNode) (own : Option KdlNodeFormat) (d e : KdlDocument) (rest : Rest) → EndsExactly rest n own → (p : PutAfter i (end_with own n) d e) → EndsExactly Rest.Text p.last p.format
+after_is_put : (i : ℕ) (n : KdlNode) (own : Option KdlNodeFormat) (d e : KdlDocument) (rest : Rest) → EndsExactly rest n own → (p : PutAfter i (end_with own n) d e)
     → IsPut (suc i) (node_tree n) d e
-after_is_put i n own d e rest a p b = record {
+after_is_put i n own d e rest a p = let b = p.exact in record {
   k = b.0;
   j = a.0;
   few = (b.1, a.1);
@@ -202,27 +196,26 @@ after_is_put i n own d e rest a p b = record {
   span = span_kept d e p.rest;
 }
 
-after_lacks : (i : ℕ) (n : KdlNode) (d e : KdlDocument) (p : PutAfter i n d e) (b : EndsExactly Rest.Text p.last p.format) → LacksAt (suc i) b.0 d
-after_lacks i n d e p b = λ m h. subst (LacksBeforeText b.0) (same_some p.last m (slice_get (nodes_of d) i) p.there h) b.3
+after_lacks : (i : ℕ) (n : KdlNode) (d e : KdlDocument) (p : PutAfter i n d e) → LacksAt (suc i) p.exact.0 d
+after_lacks i n d e p = λ m h. subst (LacksBeforeText p.exact.0) (same_some p.last m (slice_get (nodes_of d) i) p.there h) p.exact.3
 
-after_exactly : (b : Bool) (i : ℕ) (n : KdlNode) (own : Option KdlNodeFormat) (d e : KdlDocument) (rest : Rest) → IsRestAt b (suc i) d rest → EndsExactly rest n own
-    → PutAfterExactly i (end_with own n) d e → PutExactly b (suc i) n d e
+after_exactly : (b : DocumentKind) (i : ℕ) (n : KdlNode) (own : Option KdlNodeFormat) (d e : KdlDocument) (rest : Rest) → IsRestAt b (suc i) d rest → EndsExactly rest n own
+    → PutAfter i (end_with own n) d e → PutExactly b (suc i) n d e
 unfolding after_is_put
-after_exactly false i n own d e rest at a (p, x) =
-    let q = after_is_put i n own d e rest a p x in
-    record { put = q; prints = put_printed_as (suc i) n d e q; before = after_lacks i (end_with own n) d e p x; own = own_in_text (suc i) a.0 n d rest at a.3 }
-after_exactly true i n own d e rest at a (p, x) =
-    record { put = after_is_put i n own d e rest a p x; before = after_lacks i (end_with own n) d e p x; own = own_in_block (suc i) a.0 n d rest at a.3 }
+after_exactly DocumentKind.Text i n own d e rest at a p =
+    let q = after_is_put i n own d e rest a p in
+    record { put = q; prints = put_printed_as (suc i) n d e q; before = after_lacks i (end_with own n) d e p; own = own_in_text (suc i) a.0 n d rest at a.3 }
+after_exactly DocumentKind.Block i n own d e rest at a p =
+    record { put = after_is_put i n own d e rest a p; before = after_lacks i (end_with own n) d e p; own = own_in_block (suc i) a.0 n d rest at a.3 }
 
-pub put_after_exactly : (b : Bool) (i j : ℕ) (n : KdlNode) (own : Option KdlNodeFormat) (d e : KdlDocument) (rest : Rest) → suc i ≡ j → IsRestAt b j d rest → EndsExactly rest n own
-    → PutAfterExactly i (end_with own n) d e → PutExactly b j n d e
+pub put_after_exactly : (b : DocumentKind) (i j : ℕ) (n : KdlNode) (own : Option KdlNodeFormat) (d e : KdlDocument) (rest : Rest) → suc i ≡ j → IsRestAt b j d rest → EndsExactly rest n own
+    → PutAfter i (end_with own n) d e → PutExactly b j n d e
 put_after_exactly b i j n own d e rest h at a p =
     subst (λ (k : ℕ). PutExactly b k n d e) h (after_exactly b i n own d e rest (subst (λ (k : ℕ). IsRestAt b k d rest) (sym h) at) a p)
 
 -- and before all others
-first_is_put : (n : KdlNode) (own : Option KdlNodeFormat) (d e : KdlDocument) (rest : Rest) → EndsExactly rest n own → (p : PutFirst (end_with own n) d e) → LeadsExactly (texts_around d) p.leading
-    → IsPut 0 (node_tree n) d e
-first_is_put n own d e rest a p b = record {
+first_is_put : (n : KdlNode) (own : Option KdlNodeFormat) (d e : KdlDocument) (rest : Rest) → EndsExactly rest n own → PutFirst (end_with own n) d e → IsPut 0 (node_tree n) d e
+first_is_put n own d e rest a p = let b = p.exact in record {
   k = b.0;
   j = a.0;
   few = (b.1, a.1);
@@ -234,42 +227,62 @@ first_is_put n own d e rest a p b = record {
   span = p.span;
 }
 
-first_exactly : (b : Bool) (n : KdlNode) (own : Option KdlNodeFormat) (d e : KdlDocument) (rest : Rest) → IsRestAt b 0 d rest → EndsExactly rest n own → PutFirstExactly (end_with own n) d e → PutExactly b 0 n d e
+first_exactly : (b : DocumentKind) (n : KdlNode) (own : Option KdlNodeFormat) (d e : KdlDocument) (rest : Rest) → IsRestAt b 0 d rest → EndsExactly rest n own → PutFirst (end_with own n) d e → PutExactly b 0 n d e
 unfolding first_is_put
-first_exactly false n own d e rest at a (p, x) =
-    let q = first_is_put n own d e rest a p x in
-    record { put = q; prints = put_printed_as 0 n d e q; before = record { enough = x.3; fewer = x.4 }; own = own_in_text 0 a.0 n d rest at a.3 }
-first_exactly true n own d e rest at a (p, x) = record { put = first_is_put n own d e rest a p x; before = record { enough = x.3; fewer = x.4 }; own = own_in_block 0 a.0 n d rest at a.3 }
+first_exactly DocumentKind.Text n own d e rest at a p =
+    let q = first_is_put n own d e rest a p in
+    record { put = q; prints = put_printed_as 0 n d e q; before = record { enough = p.exact.3; fewer = p.exact.4 }; own = own_in_text 0 a.0 n d rest at a.3 }
+first_exactly DocumentKind.Block n own d e rest at a p =
+    record { put = first_is_put n own d e rest a p; before = record { enough = p.exact.3; fewer = p.exact.4 }; own = own_in_block 0 a.0 n d rest at a.3 }
 
-pub put_first_exactly : (b : Bool) (j : ℕ) (n : KdlNode) (own : Option KdlNodeFormat) (d e : KdlDocument) (rest : Rest) → 0 ≡ j → IsRestAt b j d rest → EndsExactly rest n own
-    → PutFirstExactly (end_with own n) d e → PutExactly b j n d e
+pub put_first_exactly : (b : DocumentKind) (j : ℕ) (n : KdlNode) (own : Option KdlNodeFormat) (d e : KdlDocument) (rest : Rest) → 0 ≡ j → IsRestAt b j d rest → EndsExactly rest n own
+    → PutFirst (end_with own n) d e → PutExactly b j n d e
 put_first_exactly b j n own d e rest h at a p =
     subst (λ (k : ℕ). PutExactly b k n d e) h (first_exactly b n own d e rest (subst (λ (k : ℕ). IsRestAt b k d rest) (sym h) at) a p)
 
--- what is before a new block
-pub begins_fewest : (o : Option NodeFormat) (f : NodeFormat) (t : Text) (k : ℕ) → o ≡ Some f → 0 < k → PlaceFewest no_children f.before_terminator k → BeginsFewest o (Some t)
-begins_fewest o f t k h l less g e before =
-    let same : Some f ≡ Some g = sym h ∙ e in
-    let at : g.before_terminator ≡ f.before_terminator = cc in
-    less 0 l (λ r. subst (λ (y : Text). BeforeChildren (y ++ (10 ∷ r)) (10 ∷ r)) (at ∙ sym (append-nil f.before_terminator)) (before r))
+-- the node is put in, in a text or in a block
+pub is_put : (b : DocumentKind) (i : ℕ) (n : KdlNode) (d e : KdlDocument) → PutExactly b i n d e → IsPut i (node_tree n) d e
+is_put DocumentKind.Text i n d e p = p.put
+is_put DocumentKind.Block i n d e p = p.put
 
-begun_exactly : (f : Option NodeFormat) (o : Option Text) (g : Option NodeFormat) → BeforeNewBlock f o → BeginsFewest f o → g ≡ option_map (block_format o) f → BlockBegunExactly f g
-begun_exactly None o g h w e = e
-begun_exactly (Some f) None g h w e =
+-- what is before a new block
+pub begins_fewest : (o : Option NodeFormat) (f : NodeFormat) (t : Text) (k : ℕ) → o ≡ Some f → 0 < k → k ≤ 1 → t ≡ f.before_terminator ++ newlines k → PlaceFewest no_children f.before_terminator k → BeginsFewest o (Some t)
+begins_fewest o f t k h l m e less = (
+  f,
+  h,
+  let q : k ≡ 1 = omega arith in e ∙ ap (λ (n : ℕ). f.before_terminator ++ newlines n) q,
+  λ before. less 0 l (λ r. subst (λ (y : Text). BeforeChildren (y ++ (10 ∷ r)) (10 ∷ r)) (sym (append-nil f.before_terminator)) (before r)),
+)
+
+begun_exactly : (f : Option NodeFormat) (o : Option Text) (g : Option NodeFormat) → BeginsFewest f o → g ≡ option_map (block_format o) f → BlockBegunExactly f g
+begun_exactly None o g w e = e
+begun_exactly (Some f) None g w e =
     (0, omega arith, e ∙ ap (λ (z : Text). Some (record f { before_children = z; before_terminator = [] })) (sym (append-nil f.before_terminator)), λ m l x. omega arith)
-begun_exactly (Some f) (Some t) g (x, a, b) w e =
+begun_exactly (Some f) (Some t) g (x, a, b, w) e =
     let c : x ≡ f = cc in (
       1,
       omega arith,
       e ∙ ap (λ (z : Text). Some (record f { before_children = z; before_terminator = [] })) (b ∙ ap (λ (y : NodeFormat). y.before_terminator ++ newlines 1) c),
-      λ m l h. let z : m ≡ 0 = omega arith in w f refl (subst IsBeforeNewline (ap (λ (y : ℕ). f.before_terminator ++ newlines y) z ∙ append-nil f.before_terminator) h),
+      λ m l h. let z : m ≡ 0 = omega arith in w (subst (λ (y : NodeFormat). IsBeforeNewline y.before_terminator) (sym c) (subst IsBeforeNewline (ap (λ (y : ℕ). f.before_terminator ++ newlines y) z ∙ append-nil f.before_terminator) h)),
     )
 
 pub new_block_exactly : (i : ℕ) (n m m' x : KdlNode) (d e : KdlDocument) (o : Option Text) → (out-KdlNode m).children ≡ None → document_tree d ≡ new_document → IsPutInBlock 0 n d e
-    → BeforeNewBlock (node_texts (out-KdlNode m).format) o → BeginsFewest (node_texts (out-KdlNode m).format) o → BlockBegins o m x → m' ≡ with_children x (Some e) → ChildPutExactly i n m m'
-new_block_exactly i n m m' x d e o h k p b w (g, s, t) r =
+    → BeginsFewest (node_texts (out-KdlNode m).format) o → BlockBegins o m x → m' ≡ with_children x (Some e) → ChildPutExactly i n m m'
+new_block_exactly i n m m' x d e o h k p w (g, s, t) r =
     let P : Option KdlDocument → Type 0 = λ z. ChildPutExactlyIn z i n m m' in
-    subst P (sym h) (d, e, g, k, p, begun_exactly (node_texts (out-KdlNode m).format) o (node_texts g) b w t, r ∙ ap (λ (z : KdlNode). with_children z (Some e)) s)
+    subst P (sym h) (d, e, g, k, p, begun_exactly (node_texts (out-KdlNode m).format) o (node_texts g) w t, r ∙ ap (λ (z : KdlNode). with_children z (Some e)) s)
+
+-- a child that is put in exactly is put in
+begun : (f g : Option NodeFormat) → BlockBegunExactly f g → BlockBegun f g
+begun None g e = e
+begun (Some f) g (k, l, e, w) = (k, l, e)
+
+child_put_in : (o : Option KdlDocument) (i : ℕ) (n m m' : KdlNode) → ChildPutExactlyIn o i n m m' → ChildPutIn o i n m m'
+child_put_in None i n m m' (d, e, g, k, p, b, r) = (d, e, g, k, p.put, begun (node_texts (node_format_of m)) (node_texts g) b, r)
+child_put_in (Some d) i n m m' (e, p, r) = (e, p.put, r)
+
+pub child_put : (i : ℕ) (n m m' : KdlNode) → ChildPutExactly i n m m' → ChildPut i n m m'
+child_put i n m m' p = child_put_in (out-KdlNode m).children i n m m' p
 
 -- a node put after the others, where nothing is lacking
 node_there : (ns : List KdlNode) (i : ℕ) → i < length ns → (n : KdlNode) × (slice_get ns i ≡ Some n)

@@ -1,8 +1,8 @@
 -- Fewer newlines at the ends of nodes, which do not do.
-use Rattle.std.proofs.Common.{◌≡◌, inl, ℕ, zero, suc, ◌+◌, ◌≤◌, Bool, true, false, [], ◌∷◌, ◌++◌, length, ap, ◌∙◌, sym, refl, subst, append_assoc, arith, Some, None}
+use Rattle.std.proofs.Common.{◌≡◌, inl, ℕ, zero, suc, ◌+◌, ◌≤◌, Bool, true, false, [], ◌∷◌, ◌++◌, length, ap, ◌∙◌, sym, refl, subst, append_assoc, arith, Option, Some, None, unwrap_or}
 use Rattle.std.proofs.lemmas.List.{append-nil}
 use Rattle.kdl_text.specs.Bare.BareString.{bare as a_bare}
-use Rattle.kdl_text.specs.Chars.{Text, Newline}
+use Rattle.kdl_text.specs.Chars.{Text, Newline, times}
 use Rattle.kdl_lexer.specs.Tokens.{t_newline, t_space}
 use Rattle.kdl_lexer.proofs.Lexing.TokenUnique.{token_det}
 use Rattle.kdl_comments.specs.Internal.Lacking.{letter}
@@ -14,22 +14,22 @@ use Rattle.kdl_lexer.specs.Pieces.{StringPiece}
 use Rattle.kdl_entry.specs.Entries.{string as a_string', untyped}
 use Rattle.kdl_entry.proofs.Moving.EntryMoves.{punctuation_end}
 use Rattle.kdl_grammar.specs.Data as data'
-use Rattle.kdl_grammar.specs.Grammar.{Terminator, IsNode, named, no_gap, last_gap, braces}
-use Rattle.kdl_grammar.specs.Places.{after, before}
+use Rattle.kdl_grammar.specs.Grammar.{Gap, Terminator, IsNode, named, no_gap, last_gap, braces}
+use Rattle.kdl_grammar.specs.Places.{AfterChildren, BeforeChildren, after, before}
 use Rattle.kdl_grammar.specs.ReadsBack.{Anything, AddsNothing, BeforeTerminator, Terminates, terminator_text}
 use Rattle.kdl_grammar.specs.Tree.{Children, no_children, children, NodeFormat}
 use Rattle.kdl_grammar.proofs.Laying.LaidIsDerived.{braced_of, later_of, plain_of}
 use Rattle.kdl_grammar.proofs.Moving.Moves.{before_end}
-use Rattle.kdl_comments.specs.Items.{ItemEnd, Place, before_block, after_block}
+use Rattle.kdl_comments.specs.Items.{ItemEnd}
 use Rattle.kdl_comments.specs.Lacks.{GapLacks, PlaceLacks, TerminatorLacks}
 use Rattle.kdl_comments.proofs.Dropping.DroppedNodes.{passes_det, passes_node}
 use Rattle.kdl_comments.proofs.Lacking.Fewest.{a, a_piece, letter_node}
 use Rattle.kdl_comments.proofs.Rewriting.BeforeNewlines.{a_newline, newline_end}
-use Rattle.kdl.specs.Internal.Ends.{EndFewest, FewestBefore, FormatFewest, GapFewest, PlaceFewest, block_if, newline_count}
+use Rattle.kdl_fmt.specs.Kept.{last_place}
+use Rattle.kdl.specs.Internal.Ends.{EndFewest, EndSays, FewestBefore, FormatFewest, GapFewest, GapSays, PlaceFewest, PlaceSays, block_if, formless_count, newline_count}
 use Rattle.kdl.specs.Exact.{lengthened}
 use Rattle.kdl.specs.Nodes.{newlines}
 use Rattle.kdl.specs.declared.ends.Rest.{Rest}
-use Rattle.kdl.proofs.Putting.PutReads.{place_of, times_same}
 
 -- a letter after an empty terminator is no terminator
 letter_space : NodeSpace letter (97 ∷ [])
@@ -86,24 +86,39 @@ not_before_newline c t f g =
     not_longer : (r : Text) → ◌≡◌ {A = Text} (10 ∷ r) r → ⊥
     not_longer r e = omega (arith, ap (length {A = ℕ}) e)
 
--- what the readers say of fewer newlines
-pub gap_fewest : (t u : Text) (n : ℕ) → u ≡ t → GapLacks u (Some n) → GapFewest t n
-gap_fewest t u n e (l, g, (a, less)) m h x =
-    less m h (subst (λ (z : Text). AddsNothing (u ++ z)) (sym (times_same m)) (subst (λ (z : Text). AddsNothing (z ++ newlines m)) (sym e) x))
+-- what the readers say
+times_same : (n : ℕ) → times n 10 ≡ newlines n
+times_same zero = refl
+times_same (suc n) = ap (λ (t : Text). 10 ∷ t) (times_same n)
 
-pub end_fewest : (t u : Text) (n : ℕ) → u ≡ t → TerminatorLacks u (Some n) → EndFewest t n
-end_fewest t u n e (l, g, (a, less)) m h x =
-    less m h (subst (λ (z : Text). Terminates Anything (u ++ z)) (sym (times_same m)) (subst (λ (z : Text). Terminates Anything (z ++ newlines m)) (sym e) x))
+pub gap_read : (t u : Text) (o : Option ℕ) → u ≡ t → GapLacks u o → (unwrap_or o 0 ≤ 2) × GapSays t (unwrap_or o 0) × GapFewest t (unwrap_or o 0)
+gap_read t u None e f = (omega arith, λ h. absurd (f (subst (λ (x : Text). Gap true x []) (sym e) h)), λ m l x. omega arith)
+gap_read t u (Some n) e (l, g, (a, less)) = (
+  l,
+  λ h. subst (λ (x : Text). AddsNothing (x ++ newlines n)) e (subst (λ (x : Text). AddsNothing (u ++ x)) (times_same n) a),
+  λ m h x. less m h (subst (λ (z : Text). AddsNothing (u ++ z)) (sym (times_same m)) (subst (λ (z : Text). AddsNothing (z ++ newlines m)) (sym e) x)),
+)
+
+pub end_read : (t u : Text) (o : Option ℕ) → u ≡ t → TerminatorLacks u o → (unwrap_or o 0 ≤ 2) × EndSays t (unwrap_or o 0) × EndFewest t (unwrap_or o 0)
+end_read t u None e f = (omega arith, λ v x y. absurd (f (v, subst (λ (z : Text). Terminator z v) (sym e) x, y)), λ m l x. omega arith)
+end_read t u (Some n) e (l, g, (a, less)) = (
+  l,
+  λ v x y. subst (λ (z : Text). Terminates Anything (z ++ newlines n)) e (subst (λ (z : Text). Terminates Anything (u ++ z)) (times_same n) a),
+  λ m h x. less m h (subst (λ (z : Text). Terminates Anything (u ++ z)) (sym (times_same m)) (subst (λ (z : Text). Terminates Anything (z ++ newlines m)) (sym e) x)),
+)
 
 place_one : (c : Children) (t : Text) → ((r v : Text) → Terminator r v → BeforeTerminator c ((t ++ (10 ∷ [])) ++ r) r) → PlaceFewest c t 1
 place_one c t f m h g =
     let z : m ≡ 0 = omega arith in
     not_before_newline c t f (λ r. subst (λ (y : Text). BeforeTerminator c (y ++ (10 ∷ r)) (10 ∷ r)) (ap (λ (n : ℕ). t ++ newlines n) z ∙ append-nil t) (g r))
 
-pub place_fewest : (b : Bool) (p : Place) (t : Text) (o : Bool) → p ≡ place_of b → PlaceLacks p t (Some o) → PlaceFewest (block_if b) t (newline_count o)
-place_fewest b p t false e x = λ m h g. omega arith
-place_fewest true p t true e x = let y : PlaceLacks after_block t (Some true) = subst (λ z. PlaceLacks z t (Some true)) e x in place_one (block_if true) t (λ r v q. y.1.0 r v q)
-place_fewest false p t true e x = let y : PlaceLacks before_block t (Some true) = subst (λ z. PlaceLacks z t (Some true)) e x in place_one (block_if false) t (λ r v q. y.1.0 r v q)
+pub place_read : (b : Bool) (t : Text) (o : Option Bool) → PlaceLacks (last_place b) t o → (newline_count o ≤ 1) × PlaceSays (block_if b) t (newline_count o) × PlaceFewest (block_if b) t (newline_count o)
+place_read true t None x = (omega arith, λ h. absurd (x h), λ m h g. omega arith)
+place_read true t (Some false) x = (omega arith, λ h r v q. subst (λ (z : Text). AfterChildren (z ++ r) r) (sym (append-nil t)) (x.1 r v q), λ m h g. omega arith)
+place_read true t (Some true) x = (omega arith, λ h r v q. x.1.0 r v q, place_one (block_if true) t (λ r v q. x.1.0 r v q))
+place_read false t None x = (omega arith, λ h. absurd (x h), λ m h g. omega arith)
+place_read false t (Some false) x = (omega arith, λ h r v q. subst (λ (z : Text). BeforeChildren (z ++ r) r) (sym (append-nil t)) (x.1 r v q), λ m h g. omega arith)
+place_read false t (Some true) x = (omega arith, λ h r v q. x.1.0 r v q, place_one (block_if false) t (λ r v q. x.1.0 r v q))
 
 -- a format with fewer newlines
 more_after : (f : NodeFormat) (b e : ℕ) → terminator_text (lengthened b e f) ≡ terminator_text f ++ newlines e
@@ -131,13 +146,10 @@ ended_before Rest.End c f m n e some less = tt
 ended_before Rest.Text c f m n e some less = subst (FormatFewest c f) (sym e) (ended_fewest c f n less)
 ended_before Rest.Brace c f m n e some less = (subst (FormatFewest c f) (sym e) (ended_fewest c f n less), λ z. absurd (some z))
 
-pub open_before_text : (c : Children) (f : NodeFormat) (n : ℕ) → terminator_text f ≡ [] → n ≤ 1 → PlaceFewest c f.before_terminator n → FewestBefore Rest.Text c f (n + 1)
-open_before_text c f n z few less = open_fewest c f n z few less
-
-pub open_before_else : (rest : Rest) (c : Children) (f : NodeFormat) (n : ℕ) → (rest ≡ Rest.Text → ⊥) → terminator_text f ≡ [] → n ≤ 1 → PlaceFewest c f.before_terminator n → FewestBefore rest c f (n + 0)
-open_before_else Rest.End c f n h z few less = tt
-open_before_else Rest.Brace c f n h z few less =
+pub open_before : (rest : Rest) (c : Children) (f : NodeFormat) (n e : ℕ) → e ≡ formless_count rest → terminator_text f ≡ [] → n ≤ 1 → PlaceFewest c f.before_terminator n → FewestBefore rest c f (n + e)
+open_before Rest.End c f n e h z few less = tt
+open_before Rest.Text c f n e h z few less = subst (λ (m : ℕ). FormatFewest c f (n + m)) (sym h) (open_fewest c f n z few less)
+open_before Rest.Brace c f n e h z few less =
     let more = open_fewest c f n z few less in
-    let same : n + 0 ≡ n = omega arith in
+    let same : n + e ≡ n = omega arith in
     (λ b e l x. more b e (omega arith) x, λ y. subst (λ (m : ℕ). FormatFewest c f (m + 1)) (sym same) more)
-open_before_else Rest.Text c f n h z few less = absurd (h refl)

@@ -1,28 +1,20 @@
 -- Newlines at the ends of nodes.
-use Rattle.std.proofs.Common.{◌≡◌, ◌⊎◌, inl, inr, ℕ, zero, suc, ◌+◌, ◌-◌, ◌<◌, ◌≤◌, Bool, true, false, List, [], ◌∷◌, ◌++◌, ap, ◌∙◌, sym, refl, subst, append_assoc, arith, zero-add, Option, Some, None, option_map, unwrap_or, String, Global}
+use Rattle.std.proofs.Common.{◌≡◌, ◌⊎◌, inl, inr, ℕ, zero, suc, ◌+◌, ◌-◌, Bool, true, false, List, [], ◌∷◌, ◌++◌, ap, ◌∙◌, sym, refl, append_assoc, zero-add, Option, Some, None, option_map, unwrap_or, String, Global}
 use Rattle.std.proofs.lemmas.List.{append-nil, replicate-append-replicate}
 use Rattle.std.proofs.lemmas.Str.{chars-nil}
 use Rattle.std.specs.Prelude.{string_bytes}
 use Rattle.std.specs.Str.{chars}
 use Rattle.kdl_text.specs.Chars.{Text}
 use Rattle.kdl_value.specs.Tree.{text_of}
-use Rattle.kdl_fmt.specs.Kept.{without_bom}
 use Rattle.kdl_fmt.proofs.Texts.{newline_text, space_text}
 use Rattle.kdl_grammar.specs.Print.{end_text, print_head, print_pieces, print_node, before_block, after_brace, before_brace, format_of, print_document, space_unless}
-use Rattle.kdl_grammar.specs.Tree.{DocumentFormat, Head, NodeFormat, Node, node, Children, no_children, children, children_of, node_data}
+use Rattle.kdl_grammar.specs.Tree.{Head, NodeFormat, Node, node, Children, no_children, children, node_data}
 use Rattle.kdl_entry.specs.Print.{print_identifier, print_type}
 use Rattle.kdl_entry.specs.Tree.{Entry}
-use Rattle.kdl_parts.specs.Formats.{empty_node_format, node_format_tree, node_texts}
+use Rattle.kdl_parts.specs.Formats.{empty_node_format, node_format_tree}
 use Rattle.kdl_parts.specs.declared.format.KdlNodeFormat.{KdlNodeFormat}
-use Rattle.kdl.specs.Change.{with_children}
-use Rattle.kdl.specs.Cleared.{new_document}
-use Rattle.kdl.specs.Internal.Ends.{BeforeNewBlock, BlockBegins, GapSays, IsEnded, Lacks, LeadingEnded, block_format, end_newlines, end_with, with_newlines}
-use Rattle.kdl.specs.Nodes.{BlockBegun, ChildPut, ChildPutIn, EndsWith, IsPut, WithNewlines, format_or_printed, newlines, printed_format}
-use Rattle.kdl.specs.Tree.{document_tree, head_tree, node_tree}
-use Rattle.kdl.specs.declared.document.KdlDocument.{KdlDocument}
-use Rattle.kdl.specs.declared.document.KdlDocument.TheViews.{out-KdlNode}
-use Rattle.kdl.specs.declared.node.KdlNode.{KdlNode}
-use Rattle.kdl.proofs.Trees.{node_tree_out, node_tree_roll}
+use Rattle.kdl.specs.Internal.Ends.{Lacks, block_format, end_newlines, with_newlines}
+use Rattle.kdl.specs.Nodes.{EndsWith, WithNewlines, newlines, printed_format}
 
 -- a text with characters after it
 pub more_newlines : (now was start : Text) (n : ℕ) → now ≡ was ++ chars (10 ∷ []) → was ≡ start ++ newlines n → now ≡ start ++ newlines (n + 1)
@@ -78,26 +70,6 @@ ends_with f b e l = record {
   rest = rest_stays (record f { before_terminator = f.before_terminator ++ newlines b }) f.trailing e;
 }
 
--- newlines, of which there is one at least
-pub is_ended : (f g : NodeFormat) (b e : ℕ) → Lacks f b e → 0 < b + e → g ≡ with_newlines f b e → IsEnded f (Some g)
-is_ended f g b e l h k =
-    let P : ℕ → Type 0 = λ n. EndsWith n f g in
-    let q : EndsWith (b + e) f g = subst (EndsWith (b + e) f) (sym k) (ends_with f b e l) in
-    let few = l.few in
-    (b + e - 1, omega arith, subst P (omega arith) q)
-
--- a node with another format
-formatted : (n : KdlNode) (f : KdlNodeFormat) → node_tree (end_with (Some f) n) ≡ node (record (head_tree (out-KdlNode n)) { format = Some (node_format_tree f) }) (children_of (option_map document_tree (out-KdlNode n).children))
-formatted n f = node_tree_roll (record (out-KdlNode n) { format = Some f })
-
--- a node with the newlines that it lacked
-pub node_ended : (n : KdlNode) (o : Option KdlNodeFormat) → IsEnded (format_or_printed (head_tree (out-KdlNode n))) (node_texts o)
-    → (k : ℕ) × (k ≤ 2) × WithNewlines k (node_tree n) (node_tree (end_with o n))
-node_ended n None h = (0, omega arith, refl)
-node_ended n (Some f) (k, l, h) =
-    let P : Node → Type 0 = λ x. WithNewlines (suc k) x (node_tree (end_with (Some f) n)) in
-    (suc k, omega arith, subst P (sym (node_tree_out n)) (node_format_tree f, formatted n f, h))
-
 -- a node with newlines at its end prints what it printed, and these
 end_printed : (h : Head) (c : Children) (g : NodeFormat) (t : Text) → end_text (Some g) ≡ end_text h.format ++ t → before_block (Some g) h.entries ≡ before_block h.format h.entries
     → print_head (record h { format = Some g }) 0 ≡ print_head h 0 → print_node (node (record h { format = Some g }) c) 0 ≡ print_node (node h c) 0 ++ t
@@ -132,12 +104,6 @@ newlines_said (suc k) (node h c) m (g, e, w) = ap node_data e
 pub copy_put : (now : Text) (copy old : String Global) (k : ℕ) → string_bytes copy ≡ string_bytes old → now ≡ text_of copy ++ newlines k → now ≡ text_of old ++ newlines k
 copy_put now copy old k h e = e ∙ ap (λ (z : List ℕ). chars z ++ newlines k) h
 
-pub leading_ended : (o : Option DocumentFormat) (f : DocumentFormat) (t : Text) (k : ℕ) → o ≡ Some f → 0 < k → k ≤ 2 → t ≡ f.leading ++ newlines k → GapSays (without_bom f.leading) k → LeadingEnded o (Some t)
-leading_ended o f t k h l m e x = let q : k ≡ suc (k - 1) = omega arith in (f, k - 1, omega arith, h, e ∙ ap (λ (n : ℕ). f.leading ++ newlines n) q, subst (GapSays (without_bom f.leading)) q x)
-
-pub before_begun : (o : Option NodeFormat) (f : NodeFormat) (t : Text) (k : ℕ) → o ≡ Some f → 0 < k → k ≤ 1 → t ≡ f.before_terminator ++ newlines k → BeforeNewBlock o (Some t)
-before_begun o f t k h l m e = let q : k ≡ 1 = omega arith in (f, h, e ∙ ap (λ (n : ℕ). f.before_terminator ++ newlines n) q)
-
 -- a text before a block
 chosen : (o : Option (String Global)) (p b : String Global) → b ≡ unwrap_or o p → text_of b ≡ unwrap_or (option_map text_of o) (text_of p)
 chosen None p b h = ap text_of h
@@ -148,17 +114,3 @@ pub block_begun : (f : KdlNodeFormat) (o : Option (String Global)) (p b z : Stri
 block_begun f o p b z h k e =
     let c : text_of b ≡ unwrap_or (option_map text_of o) (text_of f.before_terminator) = chosen o p b h ∙ ap (λ (s : String Global). unwrap_or (option_map text_of o) (text_of s)) k in
     rw (c, e) refl
-
-begun : (f : Option NodeFormat) (o : Option Text) (g : Option NodeFormat) → BeforeNewBlock f o → g ≡ option_map (block_format o) f → BlockBegun f g
-begun None o g h e = e
-begun (Some f) None g h e = (0, omega arith, e ∙ ap (λ (z : Text). Some (record f { before_children = z; before_terminator = [] })) (sym (append-nil f.before_terminator)))
-begun (Some f) (Some t) g (x, a, b) e =
-    let c : x ≡ f = cc in
-    (1, omega arith, e ∙ ap (λ (z : Text). Some (record f { before_children = z; before_terminator = [] })) (b ∙ ap (λ (y : NodeFormat). y.before_terminator ++ newlines 1) c))
-
--- a node in a new block
-pub new_block : (i : ℕ) (n m m' x : KdlNode) (d e : KdlDocument) (o : Option Text) → (out-KdlNode m).children ≡ None → document_tree d ≡ new_document → IsPut 0 (node_tree n) d e
-    → BeforeNewBlock (node_texts (out-KdlNode m).format) o → BlockBegins o m x → m' ≡ with_children x (Some e) → ChildPut i n m m'
-new_block i n m m' x d e o h k p b (g, s, t) r =
-    let P : Option KdlDocument → Type 0 = λ z. ChildPutIn z i n m m' in
-    subst P (sym h) (d, e, g, k, p, begun (node_texts (out-KdlNode m).format) o (node_texts g) b t, r ∙ ap (λ (z : KdlNode). with_children z (Some e)) s)

@@ -1,9 +1,9 @@
 -- Documents that read back, with a node added or removed.
-use Rattle.std.proofs.Common.{◌≡◌, ◌⊎◌, inl, inr, ℕ, zero, suc, ◌<◌, true, List, [], ◌∷◌, ◌++◌, length, map, take, drop, set, ap, ◌∙◌, sym, refl, subst, append_assoc, arith, Bool, false, is_some, unwrap_or, Option, Some, None, option_map, slice_get, Result, Ok, Err, IfOk}
+use Rattle.std.proofs.Common.{◌≡◌, ◌⊎◌, inl, inr, ℕ, zero, suc, ◌<◌, true, List, [], ◌∷◌, ◌++◌, length, map, take, drop, set, ap, ◌∙◌, sym, refl, subst, append_assoc, arith, Bool, is_some, unwrap_or, Option, Some, None, option_map, slice_get, Result, Ok, Err, IfOk}
 use Rattle.std.proofs.lemmas.List.{append-nil}
 use Rattle.std.proofs.lemmas.Option.{get_or_from_slice_get, slice_get_within, slice_get-map}
 use Rattle.std.specs.List.{insert, remove}
-use Rattle.kdl_text.specs.Chars.{Text, times}
+use Rattle.kdl_text.specs.Chars.{Text}
 use Rattle.kdl_text.specs.Internal.Here.{first as first_char}
 use Rattle.kdl_text.specs.Trivia.{ValueEnd}
 use Rattle.kdl_text.specs.declared.span.SourceSpan.{SourceSpan}
@@ -11,17 +11,16 @@ use Rattle.kdl_lexer.proofs.Moving.Puts.{same_piece}
 use Rattle.kdl_grammar.specs.Data as data'
 use Rattle.kdl_grammar.specs.Grammar.{Terminator, Gap, no_gap, AreNodes, last_gap}
 use Rattle.kdl_grammar.specs.Places.{BeforeChildren, AfterChildren}
-use Rattle.kdl_grammar.specs.Print.{leading_text, trailing_text}
+use Rattle.kdl_grammar.specs.Print.{trailing_text}
 use Rattle.kdl_grammar.specs.ReadsBack.{Rests, Anything, TextEnd, BlockEnd, MayFollow, HeadReads, terminator_text, Terminates, AddsNothing, IsGapBefore, BeforeTerminator, EndReads, last_rests, NodeReads, reads, ChildrenRead, no_block, a_block, NodesRead, last_node, next_node, ContentReads, one_text, two_texts, with_nodes, DocumentReads}
 use Rattle.kdl_grammar.specs.Tree.{DocumentFormat, NodeFormat, Head, Node, node, Children, no_children, children, children_of, Document, document, listed_nodes}
 use Rattle.kdl_grammar.proofs.Moving.Moves.{move_after, move_before, terminator_end}
-use Rattle.kdl_grammar.proofs.ReadingBack.Composing.{ends_before, node_before, nodes_append, nodes_drop, nodes_take, each_reads}
-use Rattle.kdl_comments.specs.Items.{Place, before_block, after_block}
-use Rattle.kdl_comments.specs.Lacks.{GapLacks, PlaceLacks, TerminatorLacks, Terminating}
+use Rattle.kdl_grammar.proofs.ReadingBack.Composing.{node_before, nodes_append, nodes_drop, nodes_take}
+use Rattle.kdl_comments.specs.Lacks.{Terminating}
 use Rattle.kdl_comments.proofs.Lacking.Alone.{after_before_close, before_alone, gap_before_close, terminator_before_close}
 use Rattle.kdl_comments.proofs.Rewriting.BeforeNewlines.{a_newline}
 use Rattle.kdl.specs.DocumentLookups.{nodes_of}
-use Rattle.kdl.specs.Internal.Ends.{EndSays, EndsAs, EndsReadAs, GapSays, IsEnded, PlaceSays, block_if, end_newlines, end_with, newline_count, with_newlines}
+use Rattle.kdl.specs.Internal.Ends.{EndSays, EndsAs, EndsReadAs, IsEndedBy, PlaceSays, block_if, end_newlines, end_with, formless_count, with_newlines}
 use Rattle.kdl_parts.specs.Formats.{node_format_tree, node_texts}
 use Rattle.kdl_parts.specs.declared.format.KdlNodeFormat.{KdlNodeFormat}
 use Rattle.kdl.specs.Nodes.{format_or_printed, newlines, printed_format, texts_around, trees}
@@ -34,35 +33,14 @@ use Rattle.kdl.specs.declared.document.KdlDocument.{KdlDocument}
 use Rattle.kdl.specs.declared.document.KdlDocument.TheViews.{out-KdlDocument, out-KdlNode}
 use Rattle.kdl.specs.declared.node.KdlNode.{KdlNode}
 use Rattle.kdl.proofs.Putting.Puts.{remove_trees, texts_kept}
+use Rattle.kdl.proofs.ReadingBack.{content_with, nodes_read_back, whole_as}
 use Rattle.kdl.proofs.Trees.{document_tree_out, node_tree_out, node_tree_roll}
-
--- nodes after their leading text
-content_of : (P : Rests) (l t : Text) (ms : List Node) → AddsNothing l → NodesRead (last_rests t P) (listed_nodes ms) → IsGapBefore P t → ContentReads P l t (listed_nodes ms)
-content_of P l t [] a x g = two_texts a g
-content_of P l t (m ∷ ms) a x g = with_nodes a x g
 
 -- a node removed
 content_taken : (P : Rests) (l t : Text) (ns : List Node) (i : ℕ) → i < length ns → ContentReads P l t (listed_nodes ns) → ContentReads P l t (listed_nodes (remove ns i))
 content_taken P l t [] i h c = absurd (omega arith)
 content_taken P l t (n ∷ ns) i h (with_nodes a x g) =
-    content_of P l t (remove (n ∷ ns) i) a (nodes_append (take i (n ∷ ns)) (drop (suc i) (n ∷ ns)) (nodes_take i (n ∷ ns) h x) (nodes_drop (suc i) (n ∷ ns) x)) g
-
-document_taken : (o : Option DocumentFormat) (at : SourceSpan) (ns : List Node) (i : ℕ) → i < length ns → DocumentReads (document o at (listed_nodes ns)) → DocumentReads (document o at (listed_nodes (remove ns i)))
-document_taken o at ns i h (DocumentReads.no_bom c) = DocumentReads.no_bom (content_taken TextEnd (leading_text o) (trailing_text o) ns i h c)
-document_taken o at ns i h (DocumentReads.after_bom {leading = l} e c) = DocumentReads.after_bom e (content_taken TextEnd l (trailing_text o) ns i h c)
-
-as_last : (t : Text) {n : Node} → NodeReads (last_rests t TextEnd) n → NodeReads TextEnd n
-as_last [] x = x
-as_last (c ∷ t) x = ends_before TextEnd x
-
-content_each : (l t : Text) (ns : List Node) (i : ℕ) (x : Node) → slice_get ns i ≡ Some x → ContentReads TextEnd l t (listed_nodes ns) → NodeReads TextEnd x
-content_each l t [] i x h c = absurd (cc)
-content_each l t (n ∷ ns) i x h (with_nodes a ms g) =
-    as_last t (subst (NodeReads (last_rests t TextEnd)) (get_or_from_slice_get (n ∷ ns) i x x h) (each_reads (n ∷ ns) ms i x (slice_get_within (n ∷ ns) i x h)))
-
-document_each : (o : Option DocumentFormat) (at : SourceSpan) (ns : List Node) (i : ℕ) (x : Node) → slice_get ns i ≡ Some x → DocumentReads (document o at (listed_nodes ns)) → NodeReads TextEnd x
-document_each o at ns i x h (DocumentReads.no_bom c) = content_each (leading_text o) (trailing_text o) ns i x h c
-document_each o at ns i x h (DocumentReads.after_bom {leading = l} e c) = content_each l (trailing_text o) ns i x h c
+    content_with (listed_nodes (remove (n ∷ ns) i)) a (nodes_append (take i (n ∷ ns)) (drop (suc i) (n ∷ ns)) (nodes_take i (n ∷ ns) h x) (nodes_drop (suc i) (n ∷ ns) x)) g
 
 pub taken_reads : (i : ℕ) (n : KdlNode) (d e : KdlDocument) → slice_get (nodes_of d) i ≡ Some n → nodes_of e ≡ remove (nodes_of d) i → e ≡ change.with_nodes d (out-KdlDocument e).nodes
     → (out-KdlDocument e).span ≡ (out-KdlDocument d).span → DocumentReadsBack d → DocumentReadsBack e × NodeReadsBack n
@@ -73,8 +51,9 @@ taken_reads i n d e h k r s x =
     document_tree_out e ∙ ap (λ (o : Option DocumentFormat). document o (out-KdlDocument e).span (listed_nodes (trees e))) (texts_kept d e r)
     ∙ ap (λ (z : SourceSpan). document (texts_around d) z (listed_nodes (trees e))) s
     ∙ ap (λ (z : List Node). document (texts_around d) (out-KdlDocument d).span (listed_nodes z)) (ap (λ (z : List KdlNode). map node_tree z) k ∙ remove_trees (nodes_of d) i) in (
-      subst DocumentReads (sym new) (document_taken (texts_around d) (out-KdlDocument d).span (trees d) i (slice_get_within (trees d) i (node_tree n) there) old),
-      document_each (texts_around d) (out-KdlDocument d).span (trees d) i (node_tree n) there old,
+      subst DocumentReads (sym new)
+          (whole_as (texts_around d) (out-KdlDocument d).span (out-KdlDocument d).span _ _ (λ l c. content_taken TextEnd l (trailing_text (texts_around d)) (trees d) i (slice_get_within (trees d) i (node_tree n) there) c) old),
+      subst NodeReadsBack (get_or_from_slice_get (nodes_of d) i n n h) (nodes_read_back d x i n (slice_get_within (nodes_of d) i n h)),
     )
 
 -- the end of a node, by its texts
@@ -133,23 +112,16 @@ place_alone P k f z end = elim (may_end P) [ inl m ↦ at_end m | inr m ↦ at_b
     at_brace : MayFollow P (125 ∷ []) → BeforeTerminator k f.before_terminator []
     at_brace m = before_close k f.before_terminator [] (here (125 ∷ []) (125 ∷ []) m Terminator.at_close)
 
--- a node without a terminator gets one
-open_ends : (P : Rests) (k : Children) (f : NodeFormat) (b : ℕ) → terminator_text f ≡ [] → PlaceSays k f.before_terminator b → EndReads P k f → EndReads Anything k (with_newlines f b 1)
-open_ends P k f b z says end =
+-- a node without a terminator, with the newlines that it lacks
+open_end : (P Q : Rests) (k : Children) (f : NodeFormat) (b e : ℕ) → terminator_text f ≡ [] → PlaceSays k f.before_terminator b → Terminates Q (newlines e) → EndReads P k f → EndReads Q k (with_newlines f b e)
+open_end P Q k f b e z says ends end =
     let place = says (place_alone P k f z end) in
-    end_read Anything k (with_newlines f b 1) (f.before_terminator ++ newlines b) (10 ∷ []) (texts_before f f.trailing b 1) (texts_after f f.trailing b 1 ∙ ap (λ (u : Text). u ++ newlines 1) z)
-    (λ r v p t. place (10 ∷ r) v t) lf_ends
+    end_read Q k (with_newlines f b e) (f.before_terminator ++ newlines b) (newlines e) (texts_before f f.trailing b e) (texts_after f f.trailing b e ∙ ap (λ (u : Text). u ++ newlines e) z)
+    (λ r v p t. place (newlines e ++ r) v t) ends
 
 -- before a `}` it needs none
 brace_ends : (d : DocumentFormat) → Terminates (BlockEnd (Some d)) []
 brace_ends d r s xs (t, e) z a = (r, subst (λ (u : Text). Terminator u u) (sym e) Terminator.at_close, a)
-
-open_before_brace : (P : Rests) (d : DocumentFormat) (k : Children) (f : NodeFormat) (b : ℕ) → terminator_text f ≡ [] → PlaceSays k f.before_terminator b → EndReads P k f
-    → EndReads (BlockEnd (Some d)) k (with_newlines f b 0)
-open_before_brace P d k f b z says end =
-    let place = says (place_alone P k f z end) in
-    end_read (BlockEnd (Some d)) k (with_newlines f b 0) (f.before_terminator ++ newlines b) [] (texts_before f f.trailing b 0) (texts_after f f.trailing b 0 ∙ ap (λ (u : Text). u ++ newlines 0) z)
-    (λ r v p t. place r v t) (brace_ends d)
 
 like : (z : Text) (c : ℕ) (s n r q : Text) → z ≡ c ∷ s → first_char ((z ++ n) ++ r) ≡ first_char (z ++ q)
 like z c s n r q e = rw e refl
@@ -217,7 +189,7 @@ pub content_put : (P : Rests) (i : ℕ) (l t : Text) (ns : List Node) (old new p
     → (suc i < length ns → NodeReads Anything put) → NodeReads (last_rests t P) put → ContentReads P l t (listed_nodes ns) → ContentReads P l t (listed_nodes (insert (set ns i new) (suc i) put))
 content_put P i l t [] old new put h f a p c = absurd (cc)
 content_put P i l t (n ∷ ns) old new put h f a p (with_nodes b x g) =
-    content_of P l t (insert (set (n ∷ ns) i new) (suc i) put) b (nodes_put (last_rests t P) i (n ∷ ns) old new put h f a p x) g
+    content_with (listed_nodes (insert (set (n ∷ ns) i new) (suc i) put)) b (nodes_put (last_rests t P) i (n ∷ ns) old new put h f a p x) g
 
 alone_gap : (P : Rests) (l : Text) → IsGapBefore P l → Gap true l []
 alone_gap P l g = elim (may_end P) [ inl m ↦ subst (λ (u : Text). Gap true u []) (append-nil l) (g [] m) | inr m ↦ gap_before_close l [] (g (125 ∷ []) m) ]
@@ -230,38 +202,6 @@ pub content_put_first : (P : Rests) (l m t : Text) (ns : List Node) (put : Node)
 content_put_first P l m t [] put e a p (one_text g) = with_nodes (e (alone_gap P l g)) (last_node p) (λ r q. no_gap)
 content_put_first P l m t [] put e a p (two_texts b g) = with_nodes (e (adding_gap l b)) (last_node p) g
 content_put_first P l m t (n ∷ ns) put e a p (with_nodes b x g) = with_nodes (e (adding_gap l b)) (nodes_put_first (last_rests t P) (n ∷ ns) put a p x) g
-
--- the place before the terminator, and one newline or none
-abbrev pub place_of : Bool → Place
-place_of true = after_block
-place_of false = before_block
-
--- what the readers say
-pub times_same : (n : ℕ) → times n 10 ≡ newlines n
-times_same zero = refl
-times_same (suc n) = ap (λ (t : Text). 10 ∷ t) (times_same n)
-
-pub gap_found : (t u : Text) (n : ℕ) → u ≡ t → GapLacks u (Some n) → GapSays t n
-gap_found t u n e (l, g, (a, less)) h = subst (λ (x : Text). AddsNothing (x ++ newlines n)) e (subst (λ (x : Text). AddsNothing (u ++ x)) (times_same n) a)
-
-pub gap_missing : (t u : Text) → u ≡ t → GapLacks u None → GapSays t 0
-gap_missing t u e f h = absurd (f (subst (λ (x : Text). Gap true x []) (sym e) h))
-
-pub end_found : (t u : Text) (n : ℕ) → u ≡ t → TerminatorLacks u (Some n) → EndSays t n
-end_found t u n e (l, g, (a, less)) v x y = subst (λ (z : Text). Terminates Anything (z ++ newlines n)) e (subst (λ (z : Text). Terminates Anything (u ++ z)) (times_same n) a)
-
-pub end_missing : (t u : Text) → u ≡ t → TerminatorLacks u None → EndSays t 0
-end_missing t u e f v x y = absurd (f (v, subst (λ (z : Text). Terminator z v) (sym e) x, y))
-
-pub place_found : (b : Bool) (p : Place) (t : Text) (o : Bool) → p ≡ place_of b → PlaceLacks p t (Some o) → PlaceSays (block_if b) t (newline_count o)
-place_found true p t true e x = let y : PlaceLacks after_block t (Some true) = subst (λ z. PlaceLacks z t (Some true)) e x in λ h r v q. y.1.0 r v q
-place_found true p t false e x = let y : PlaceLacks after_block t (Some false) = subst (λ z. PlaceLacks z t (Some false)) e x in λ h r v q. subst (λ (z : Text). AfterChildren (z ++ r) r) (sym (append-nil t)) (y.1 r v q)
-place_found false p t true e x = let y : PlaceLacks before_block t (Some true) = subst (λ z. PlaceLacks z t (Some true)) e x in λ h r v q. y.1.0 r v q
-place_found false p t false e x = let y : PlaceLacks before_block t (Some false) = subst (λ z. PlaceLacks z t (Some false)) e x in λ h r v q. subst (λ (z : Text). BeforeChildren (z ++ r) r) (sym (append-nil t)) (y.1 r v q)
-
-pub place_missing : (b : Bool) (p : Place) (t : Text) → p ≡ place_of b → PlaceLacks p t None → PlaceSays (block_if b) t 0
-place_missing true p t e x = let y : PlaceLacks after_block t None = subst (λ z. PlaceLacks z t None) e x in λ h. absurd (y h)
-place_missing false p t e x = let y : PlaceLacks before_block t None = subst (λ z. PlaceLacks z t None) e x in λ h. absurd (y h)
 
 -- a node that ends as its format does
 moved : (P : Rests) (d e : Document) (f : NodeFormat) → EndReads P (children d) f → EndReads P (children e) f
@@ -289,11 +229,11 @@ has_format P h c (reads {f = f} e head kids end) = (f, e)
 abbrev pub block_of : KdlNode → Option Document
 block_of n = option_map document_tree (out-KdlNode n).children
 
-node_changed : (P Q : Rests) (n : KdlNode) (o : Option KdlNodeFormat) → IsEnded (format_or_printed (head_tree (out-KdlNode n))) (node_texts o)
+node_changed : (P Q : Rests) (k : ℕ) (n : KdlNode) (o : Option KdlNodeFormat) → IsEndedBy k (format_or_printed (head_tree (out-KdlNode n))) (node_texts o)
     → ((f : NodeFormat) → node_texts (out-KdlNode n).format ≡ Some f → EndReads P (children_of (block_of n)) f → EndReads Q (children_of (block_of n)) (unwrap_or (node_texts o) f))
     → NodeReads P (node_tree n) → NodeReads Q (node_tree (end_with o n))
-node_changed P Q n None w x r = subst (NodeReads Q) (sym (node_tree_out n)) (own_format P Q (head_tree (out-KdlNode n)) (children_of (block_of n)) x (subst (NodeReads P) (node_tree_out n) r))
-node_changed P Q n (Some g) w x r =
+node_changed P Q k n None w x r = subst (NodeReads Q) (sym (node_tree_out n)) (own_format P Q (head_tree (out-KdlNode n)) (children_of (block_of n)) x (subst (NodeReads P) (node_tree_out n) r))
+node_changed P Q k n (Some g) w x r =
     let h = head_tree (out-KdlNode n) in
     let c = children_of (block_of n) in
     let old : NodeReads P (node h c) = subst (NodeReads P) (node_tree_out n) r in
@@ -307,28 +247,25 @@ pub is_some_mapped : (o : Option KdlDocument) → is_some o ≡ is_some (option_
 is_some_mapped None = refl
 is_some_mapped (Some d) = refl
 
-pub node_ends : (rest : Rest) (n : KdlNode) (b : Bool) (o : Option KdlNodeFormat) → b ≡ is_some (out-KdlNode n).children → IsEnded (format_or_printed (head_tree (out-KdlNode n))) (node_texts o)
-    → ((f : NodeFormat) → node_texts (out-KdlNode n).format ≡ Some f → EndsReadAs rest (block_if b) f (unwrap_or (node_texts o) f)) → (rest ≡ Rest.End → o ≡ None) → EndsAs rest n (end_with o n)
-node_ends rest n b o k w x last = go rest x last
+pub node_ends : (rest : Rest) (k : ℕ) (n : KdlNode) (o : Option KdlNodeFormat) → IsEndedBy k (format_or_printed (head_tree (out-KdlNode n))) (node_texts o)
+    → ((f : NodeFormat) → node_texts (out-KdlNode n).format ≡ Some f → EndsReadAs rest (block_if (is_some (out-KdlNode n).children)) f (unwrap_or (node_texts o) f)) → (rest ≡ Rest.End → o ≡ None) → EndsAs rest n (end_with o n)
+node_ends rest k n o w x last = go rest x last
   where
-    at : (rest : Rest) (f : NodeFormat) → EndsReadAs rest (block_if b) f (unwrap_or (node_texts o) f) → EndsReadAs rest (children_of (block_of n)) f (unwrap_or (node_texts o) f)
+    at : (rest : Rest) (f : NodeFormat) → EndsReadAs rest (block_if (is_some (out-KdlNode n).children)) f (unwrap_or (node_texts o) f) → EndsReadAs rest (children_of (block_of n)) f (unwrap_or (node_texts o) f)
     at rest f y =
         kept_end rest (block_of n) (children_of (block_of n)) f (unwrap_or (node_texts o) f) refl
-        (subst (λ (z : Bool). EndsReadAs rest (block_if z) f (unwrap_or (node_texts o) f)) (k ∙ is_some_mapped (out-KdlNode n).children) y)
+        (subst (λ (z : Bool). EndsReadAs rest (block_if z) f (unwrap_or (node_texts o) f)) (is_some_mapped (out-KdlNode n).children) y)
 
-    go : (rest : Rest) → ((f : NodeFormat) → node_texts (out-KdlNode n).format ≡ Some f → EndsReadAs rest (block_if b) f (unwrap_or (node_texts o) f)) → (rest ≡ Rest.End → o ≡ None) → EndsAs rest n (end_with o n)
+    go : (rest : Rest) → ((f : NodeFormat) → node_texts (out-KdlNode n).format ≡ Some f → EndsReadAs rest (block_if (is_some (out-KdlNode n).children)) f (unwrap_or (node_texts o) f)) → (rest ≡ Rest.End → o ≡ None) → EndsAs rest n (end_with o n)
     go Rest.End x last = ap (λ (z : Option KdlNodeFormat). end_with z n) (last refl)
-    go Rest.Brace x last = λ P d r. node_changed P (BlockEnd (Some d)) n o w (λ f e. at Rest.Brace f (x f e) P d) r
-    go Rest.Text x last = λ P r. node_changed P Anything n o w (λ f e. at Rest.Text f (x f e) P) r
+    go Rest.Brace x last = λ P d r. node_changed P (BlockEnd (Some d)) k n o w (λ f e. at Rest.Brace f (x f e) P d) r
+    go Rest.Text x last = λ P r. node_changed P Anything k n o w (λ f e. at Rest.Text f (x f e) P) r
 
 -- what the format of a node lacks
-pub newlines_read : (k : Children) (f : NodeFormat) (b e : ℕ) → PlaceSays k f.before_terminator b → terminator_text f ≡ [] → e ≡ 1 → EndsReadAs Rest.Text k f (with_newlines f b e)
-newlines_read k f b e says z one P end = subst (λ (n : ℕ). EndReads Anything k (with_newlines f b n)) (sym one) (open_ends P k f b z says end)
-
-pub newlines_else : (rest : Rest) (k : Children) (f : NodeFormat) (b : ℕ) → (rest ≡ Rest.Text → ⊥) → PlaceSays k f.before_terminator b → terminator_text f ≡ [] → EndsReadAs rest k f (with_newlines f b 0)
-newlines_else Rest.End k f b n says z = tt
-newlines_else Rest.Brace k f b n says z = λ P d end. open_before_brace P d k f b z says end
-newlines_else Rest.Text k f b n says z = absurd (n refl)
+pub open_read : (rest : Rest) (k : Children) (f : NodeFormat) (b e : ℕ) → e ≡ formless_count rest → PlaceSays k f.before_terminator b → terminator_text f ≡ [] → EndsReadAs rest k f (with_newlines f b e)
+open_read Rest.End k f b e h says z = tt
+open_read Rest.Brace k f b e h says z = λ P d end. open_end P (BlockEnd (Some d)) k f b e z says (subst (λ (n : ℕ). Terminates (BlockEnd (Some d)) (newlines n)) (sym h) (brace_ends d)) end
+open_read Rest.Text k f b e h says z = λ P end. open_end P Anything k f b e z says (subst (λ (n : ℕ). Terminates Anything (newlines n)) (sym h) lf_ends) end
 
 any_end : (P : Rests) (k : Children) (f : NodeFormat) → EndReads Anything k f → EndReads P k f
 any_end P k f x = record { place = λ r p t. x.place r tt t; terminator = λ r s xs p z d. x.terminator r s xs tt z d }
@@ -360,10 +297,3 @@ pub format_ok : {E : Type 0} (r : Result (Option KdlNodeFormat) E) (fmt : KdlNod
     → IfOk r (λ o. EndsReadAs rest k (node_format_tree fmt) (unwrap_or (node_texts o) (node_format_tree fmt))) → IfOk r (λ o. (f : NodeFormat) → node_texts p ≡ Some f → EndsReadAs rest k f (unwrap_or (node_texts o) f))
 format_ok (Ok o) fmt p rest k i x = λ f e. subst (λ (f : NodeFormat). EndsReadAs rest k f (unwrap_or (node_texts o) f)) (same_some (node_format_tree fmt) f (node_texts p) (ap node_texts i) e) x
 format_ok (Err e) fmt p rest k i x = tt
-
-pub node_ends_ok : {E : Type 0} (r : Result (Option KdlNodeFormat) E) (rest : Rest) (n : KdlNode) (b : Bool) → b ≡ is_some (out-KdlNode n).children
-    → IfOk r (λ o. IsEnded (format_or_printed (head_tree (out-KdlNode n))) (node_texts o))
-    → IfOk r (λ o. (f : NodeFormat) → node_texts (out-KdlNode n).format ≡ Some f → EndsReadAs rest (block_if b) f (unwrap_or (node_texts o) f))
-    → (rest ≡ Rest.End → IfOk r (λ o. o ≡ None)) → IfOk r (λ o. EndsAs rest n (end_with o n))
-node_ends_ok (Ok o) rest n b k w x l = node_ends rest n b o k w x l
-node_ends_ok (Err e) rest n b k w x l = tt

@@ -1,6 +1,6 @@
 -- Nodes added to others: their trees, what is printed, and what is said.
-use Rattle.std.proofs.Common.{◌≡◌, ℕ, zero, suc, ◌+◌, ◌<◌, ◌≤◌, List, [], ◌∷◌, ◌++◌, length, map, take, drop, set, ap, ◌∙◌, sym, refl, append_assoc, arith, Option, Some, None, option_map, slice_get, get_or, add-one, Result, Ok, Err, OnOk, Vec, Global}
-use Rattle.std.proofs.lemmas.List.{append-nil, map-append, take-map, drop-map, map-set}
+use Rattle.std.proofs.Common.{◌≡◌, ℕ, zero, suc, ◌+◌, ◌<◌, ◌≤◌, List, [], ◌∷◌, ◌++◌, length, map, take, drop, set, ap, ◌∙◌, sym, refl, append_assoc, arith, Option, Some, option_map, slice_get, get_or, add-one, Result, Ok, Err, OnOk, Vec, Global}
+use Rattle.std.proofs.lemmas.List.{append-nil, map-append, take-map, drop-map}
 use Rattle.std.proofs.lemmas.List.Edits.{get_or-insert_at, get_or-insert_below}
 use Rattle.std.proofs.lemmas.Option.{get_or_from_slice_get, slice_get-get_or, slice_get-map}
 use Rattle.std.specs.Vec.{with_item}
@@ -9,18 +9,18 @@ use Rattle.kdl_text.specs.Chars.{Text}
 use Rattle.kdl_grammar.specs.Data as data'
 use Rattle.kdl_grammar.specs.Print.{print_node, print_nodes, leading_text, trailing_text}
 use Rattle.kdl_grammar.specs.Tree.{DocumentFormat, Node, Nodes, document_data, listed_nodes, node_data, nodes_data}
-use Rattle.kdl_parts.specs.Formats.{document_format_tree, node_texts}
+use Rattle.kdl_parts.specs.Formats.{document_format_tree}
 use Rattle.kdl_parts.specs.declared.format.KdlNodeFormat.{KdlNodeFormat}
 use Rattle.kdl.specs.Change.{with_nodes}
 use Rattle.kdl.specs.DocumentLookups.{nodes_of}
-use Rattle.kdl.specs.Internal.Ends.{EndsAs, IsEnded, LeadingEnded, PutAfter, PutFirst, end_with, lead_with, led_with}
-use Rattle.kdl.specs.Nodes.{EndedBefore, IsPut, LeadsWith, PrintsPut, PrintsWithout, WithNewlines, format_or_printed, newlines, said_with, said_without, text_from, text_up_to, texts_around, trees}
-use Rattle.kdl.specs.Tree.{document_prints, document_says, head_tree, node_prints, node_says, node_tree, nodes_tree}
+use Rattle.kdl.specs.Internal.Ends.{EndsAs, EndsExactly, PutAfter, end_with}
+use Rattle.kdl.specs.Nodes.{EndedBefore, IsPut, LeadsWith, PrintsPut, PrintsWithout, WithNewlines, newlines, said_with, said_without, text_from, text_up_to, texts_around, trees}
+use Rattle.kdl.specs.Tree.{document_prints, document_says, node_prints, node_says, node_tree, nodes_tree}
 use Rattle.kdl.specs.declared.document.KdlDocument.{KdlDocument}
-use Rattle.kdl.specs.declared.document.KdlDocument.TheViews.{out-KdlDocument, out-KdlNode, out-roll-KdlDocument, roll-KdlDocument}
+use Rattle.kdl.specs.declared.document.KdlDocument.TheViews.{out-KdlDocument, out-roll-KdlDocument, roll-KdlDocument}
 use Rattle.kdl.specs.declared.ends.Rest.TheVariants as Rest
 use Rattle.kdl.specs.declared.node.KdlNode.{KdlNode}
-use Rattle.kdl.proofs.Putting.NodeEnds.{newlines_printed, newlines_said, node_ended}
+use Rattle.kdl.proofs.Putting.NodeEnds.{newlines_printed, newlines_said}
 use Rattle.kdl.proofs.Printing.PrintedParts.{document_printed, print_nodes-join}
 use Rattle.kdl.proofs.Trees.{document_tree_out, nodes_of-append}
 
@@ -61,11 +61,11 @@ put_said zero (x ∷ xs) old new put h p = let e : x ≡ old = cc in rw (p, ← 
 put_said (suc i) (x ∷ xs) old new put h p = ap (data'.first (node_data x)) (put_said i xs old new put h p)
 
 -- the texts around the nodes
-leads_printed : (k : ℕ) (o p : Option DocumentFormat) → LeadsWith k o p → leading_text p ≡ leading_text o ++ newlines k
+pub leads_printed : (k : ℕ) (o p : Option DocumentFormat) → LeadsWith k o p → leading_text p ≡ leading_text o ++ newlines k
 leads_printed zero o p w = ap leading_text w ∙ sym (append-nil (leading_text o))
 leads_printed (suc k) o p (f, a, b) = rw (b, a) refl
 
-leads_trailing : (k : ℕ) (o p : Option DocumentFormat) → LeadsWith k o p → trailing_text p ≡ trailing_text o
+pub leads_trailing : (k : ℕ) (o p : Option DocumentFormat) → LeadsWith k o p → trailing_text p ≡ trailing_text o
 leads_trailing zero o p w = ap trailing_text w
 leads_trailing (suc k) o p (f, a, b) = rw (b, a) refl
 
@@ -130,49 +130,6 @@ texts_kept d e r = ap texts_around r ∙ ap (λ x. option_map document_format_tr
 
 pub span_kept : (d e : KdlDocument) → e ≡ with_nodes d (out-KdlDocument e).nodes → (out-KdlDocument e).span ≡ (out-KdlDocument d).span
 span_kept d e r = ap (λ (z : KdlDocument). (out-KdlDocument z).span) r ∙ ap (λ x. x.span) (out-roll-KdlDocument (record (out-KdlDocument d) { nodes = (out-KdlDocument e).nodes }))
-
--- a node put after another one, and before all others
-pub put_after : (i : ℕ) (n : KdlNode) (own : Option KdlNodeFormat) (d e : KdlDocument) → IsEnded (format_or_printed (head_tree (out-KdlNode n))) (node_texts own)
-    → PutAfter i (end_with own n) d e → IsPut (suc i) (node_tree n) d e
-put_after i n own d e h p =
-    let a = node_ended n own h in
-    let b = node_ended p.last p.format p.ended in
-    let new = node_tree (end_with p.format p.last) in
-    record {
-      k = b.0;
-      j = a.0;
-      few = (b.1, a.1);
-      ended = set (trees d) i new;
-      put = node_tree (end_with own n);
-      before = (texts_kept d e p.rest, record { old = node_tree p.last; new = new; is = slice_get-map node_tree (nodes_of d) i ∙ ap (option_map node_tree) p.there; ends = b.2; nodes = refl });
-      ends = a.2;
-      nodes = ap (map node_tree) (p.nodes ∙ ap (λ (z : ℕ). insert (set (nodes_of d) i (end_with p.format p.last)) z (end_with own n)) (add-one i))
-          ∙ insert_trees (set (nodes_of d) i (end_with p.format p.last)) (suc i) (end_with own n)
-          ∙ ap (λ (z : List Node). insert z (suc i) (node_tree (end_with own n))) (map-set node_tree (nodes_of d) i (end_with p.format p.last));
-      span = span_kept d e p.rest;
-    }
-
-leading_put : (o p : Option DocumentFormat) (l : Option Text) → LeadingEnded o l → p ≡ led_with l o → (k : ℕ) × (k ≤ 2) × LeadsWith k o p
-leading_put o p None h e = (0, omega arith, e)
-leading_put o p (Some t) (f, k, l, a, b, g) e =
-    (suc k, omega arith, (f, a, e ∙ ap (option_map (lead_with t)) a ∙ ap (λ (z : Text). Some (record f { leading = z })) b))
-
-pub put_first : (n : KdlNode) (own : Option KdlNodeFormat) (d e : KdlDocument) → IsEnded (format_or_printed (head_tree (out-KdlNode n))) (node_texts own)
-    → PutFirst (end_with own n) d e → IsPut 0 (node_tree n) d e
-put_first n own d e h p =
-    let a = node_ended n own h in
-    let b = leading_put (texts_around d) (texts_around e) p.leading p.ended p.texts in
-    record {
-      k = b.0;
-      j = a.0;
-      few = (b.1, a.1);
-      ended = trees d;
-      put = node_tree (end_with own n);
-      before = (refl, b.2);
-      ends = a.2;
-      nodes = ap (map node_tree) p.nodes ∙ insert_trees (nodes_of d) 0 (end_with own n);
-      span = p.span;
-    }
 
 -- a node taken out
 taken_printed : (i : ℕ) (ns : List Node) (x : Node) (depth : ℕ) → slice_get ns i ≡ Some x
@@ -242,7 +199,7 @@ put_at d v i n m e own h z g w =
 
 -- the node before it, with its format
 pub after_put : (d p : KdlDocument) (i : ℕ) (n b m x : KdlNode) (o : Option KdlNodeFormat) → i < length (nodes_of d) → get_or (nodes_of d) i b ≡ b
-    → IsEnded (format_or_printed (head_tree (out-KdlNode b))) (node_texts o) → EndsAs Rest.Text b (end_with o b) → nodes_of p ≡ insert (nodes_of d) (i + 1) n → p ≡ with_nodes d (out-KdlDocument p).nodes
+    → EndsExactly Rest.Text b o → EndsAs Rest.Text b (end_with o b) → nodes_of p ≡ insert (nodes_of d) (i + 1) n → p ≡ with_nodes d (out-KdlDocument p).nodes
     → get_or (nodes_of p) i m ≡ m → x ≡ end_with o m → PutAfter i n d (with_nodes p (with_item (out-KdlDocument p).nodes i x))
 after_put d p i n b m x o h at c ends q r g w =
     let xs = nodes_of d in
@@ -252,20 +209,13 @@ after_put d p i n b m x o h at c ends q r g w =
       last = b;
       format = o;
       there = there;
-      ended = c;
+      exact = c;
       reads = ends;
       nodes = nodes_with p (with_item (out-KdlDocument p).nodes i x) ∙ ap (λ (l : List KdlNode). set l i x) (q ∙ ap (λ (k : ℕ). insert xs k n) (add-one i)) ∙ set_below xs i n x h
           ∙ ap (λ (y : KdlNode). insert (set xs i y) (suc i) n) (w ∙ ap (end_with o) same) ∙ ap (λ (k : ℕ). insert (set xs i (end_with o b)) k n) (sym (add-one i));
       rest = let v = with_item (out-KdlDocument p).nodes i x in
           ap (λ (z : KdlDocument). with_nodes z v) r ∙ with_nodes_twice d (out-KdlDocument p).nodes v ∙ ap (with_nodes d) (sym (ap (λ x. x.nodes) (out-roll-KdlDocument (record (out-KdlDocument p) { nodes = v }))));
     }
-
--- it is that node, and that format
-pub after_put_is : (d p : KdlDocument) (i : ℕ) (n b m x : KdlNode) (o : Option KdlNodeFormat) → i < length (nodes_of d) → get_or (nodes_of d) i b ≡ b
-    → IsEnded (format_or_printed (head_tree (out-KdlNode b))) (node_texts o) → EndsAs Rest.Text b (end_with o b) → nodes_of p ≡ insert (nodes_of d) (i + 1) n → p ≡ with_nodes d (out-KdlDocument p).nodes
-    → get_or (nodes_of p) i m ≡ m → x ≡ end_with o m → (q : PutAfter i n d (with_nodes p (with_item (out-KdlDocument p).nodes i x))) × (q.last ≡ b) × (q.format ≡ o)
-unfolding after_put
-after_put_is d p i n b m x o h at c ends q r g w = (after_put d p i n b m x o h at c ends q r g w, refl, refl)
 
 -- where a call succeeds
 pub on_ok : {T E P Q : Type 0} (r : Result T E) → (P → Q) → OnOk r P → OnOk r Q

@@ -1,11 +1,11 @@
 -- The newlines that nodes lack at their ends.
 use Rattle.std.specs.List.{insert}
-use Rattle.std.specs.Prelude.{◌≡◌, ◌⊎◌, ℕ, suc, Bool, true, false, ◌+◌, ◌<◌, ◌≤◌, [], ◌∷◌, ◌++◌, length, Option, Some, None, option_map, slice_get, slice_set, unwrap_or}
+use Rattle.std.specs.Prelude.{◌≡◌, ◌⊎◌, ℕ, Bool, true, false, ◌+◌, ◌<◌, ◌≤◌, [], ◌∷◌, ◌++◌, Option, Some, None, option_map, slice_get, slice_set, unwrap_or}
 use Rattle.kdl_text.specs.Chars.{Text}
 use Rattle.kdl_fmt.specs.Kept.{without_bom}
 use Rattle.kdl_grammar.specs.Grammar.{Terminator, Gap}
 use Rattle.kdl_grammar.specs.Places.{BeforeChildren}
-use Rattle.kdl_grammar.specs.Print.{leading_text, trailing_text}
+use Rattle.kdl_grammar.specs.Print.{leading_text}
 use Rattle.kdl_grammar.specs.ReadsBack.{Rests, Anything, TextEnd, BlockEnd, Terminates, AddsNothing, BeforeTerminator, EndReads, NodeReads, terminator_text}
 use Rattle.kdl_grammar.specs.Tree.{DocumentFormat, NodeFormat, Children, no_children, children}
 use Rattle.kdl_parts.specs.Formats.{node_texts}
@@ -13,11 +13,12 @@ use Rattle.kdl_parts.specs.declared.format.KdlNodeFormat.{KdlNodeFormat}
 use Rattle.kdl.specs.Change.{with_format, with_nodes}
 use Rattle.kdl.specs.Cleared.{new_document}
 use Rattle.kdl.specs.DocumentLookups.{nodes_of}
-use Rattle.kdl.specs.Exact.{IsBeforeNewline, IsPutExactly, IsPutInBlock, LacksBeforeBrace, LacksBeforeText, lengthened}
-use Rattle.kdl.specs.Nodes.{EndsWith, LeadsWith, WithNewlines, format_or_printed, newlines, texts_around}
+use Rattle.kdl.specs.Exact.{IsAtEnd, IsBeforeNewline, IsPutExactly, IsPutInBlock, LacksBeforeBrace, LacksBeforeText, lengthened}
+use Rattle.kdl.specs.Nodes.{EndsWith, LeadsWith, WithNewlines, newlines, texts_around}
 use Rattle.kdl.specs.ReadsBack.{BlockReadsBack, DocumentReadsBack}
-use Rattle.kdl.specs.Tree.{head_tree, node_tree}
+use Rattle.kdl.specs.Tree.{node_tree}
 use Rattle.kdl.specs.declared.document.KdlDocument.{KdlDocument, out-KdlDocument}
+use Rattle.kdl.specs.declared.ends.DocumentKind.{DocumentKind}
 use Rattle.kdl.specs.declared.ends.Rest.{Rest}
 use Rattle.kdl.specs.declared.node.KdlNode.{KdlNode, out-KdlNode}
 
@@ -34,11 +35,6 @@ with_newlines f b e = end_newlines f.trailing e (record f { before_terminator = 
 pub record Lacks (f : NodeFormat) (b e : ℕ) : Type 0 where
   pub few : b + e ≤ 2
   pub joins : (b ≡ 0) ⊎ ((f.terminator ≡ []) × (f.trailing ≡ []))
-
--- a format in place of f, if one is given: f with one or two more newlines at its end
-abbrev pub IsEnded : NodeFormat → Option NodeFormat → Type 0
-IsEnded f None = Unit {0}
-IsEnded f (Some g) = (k : ℕ) × (k < 2) × EndsWith (suc k) f g
 
 -- the children of a node with a block, or without one
 abbrev pub block_if : Bool → Children
@@ -74,21 +70,6 @@ abbrev pub end_with : Option KdlNodeFormat → KdlNode → KdlNode
 end_with None n = n
 end_with (Some f) n = with_format n (Some f)
 
--- e is d with the node n after the one at i, which got the newlines that it lacked
-pub record PutAfter (i : ℕ) (n : KdlNode) (d e : KdlDocument) : Type 0 where
-  pub last : KdlNode
-  pub format : Option KdlNodeFormat
-  pub there : slice_get (nodes_of d) i ≡ Some last
-  pub ended : IsEnded (format_or_printed (head_tree (out-KdlNode last))) (node_texts format)
-  pub nodes : nodes_of e ≡ insert (slice_set (nodes_of d) i (end_with format last)) (i + 1) n
-  pub rest : e ≡ with_nodes d (out-KdlDocument e).nodes
-  pub reads : EndsAs Rest.Text last (end_with format last)
-
--- a leading text in place of the old one, if one is given: it got the newlines that it lacked
-abbrev pub LeadingEnded : Option DocumentFormat → Option Text → Type 0
-LeadingEnded o None = GapSays (without_bom (leading_text o)) 0
-LeadingEnded o (Some t) = (f : DocumentFormat) × (k : ℕ) × (k < 2) × (o ≡ Some f) × (t ≡ f.leading ++ newlines (suc k)) × GapSays (without_bom f.leading) (suc k)
-
 -- a format with another leading text
 abbrev pub lead_with : Text → DocumentFormat → DocumentFormat
 lead_with t f = record f { leading = t }
@@ -97,20 +78,7 @@ abbrev pub led_with : Option Text → Option DocumentFormat → Option DocumentF
 led_with None o = o
 led_with (Some t) o = option_map (lead_with t) o
 
--- e is d with the node n before the others, after the leading text, which got the newlines that it lacked
-pub record PutFirst (n : KdlNode) (d e : KdlDocument) : Type 0 where
-  pub leading : Option Text
-  pub ended : LeadingEnded (texts_around d) leading
-  pub texts : texts_around e ≡ led_with leading (texts_around d)
-  pub nodes : nodes_of e ≡ insert (nodes_of d) 0 n
-  pub span : (out-KdlDocument e).span ≡ (out-KdlDocument d).span
-
--- the text before a new block, if it differs from the text before the terminator: that text with a newline
-abbrev pub BeforeNewBlock : Option NodeFormat → Option Text → Type 0
-BeforeNewBlock o None = Unit {0}
-BeforeNewBlock o (Some t) = (f : NodeFormat) × (o ≡ Some f) × (t ≡ f.before_terminator ++ newlines 1)
-
--- that text, or else the text before the terminator of the format, may be before a block, if the latter may be alone before the terminator
+-- the given text, or else the text before the terminator of the format, may be before a block, if the latter may be alone before the terminator
 abbrev pub BlockSays : Option NodeFormat → Option Text → Type 0
 BlockSays o t = (f : NodeFormat) → o ≡ Some f → BeforeChildren f.before_terminator [] → (s : Text) → BeforeChildren (unwrap_or t f.before_terminator ++ (123 ∷ s)) (123 ∷ s)
 
@@ -123,29 +91,25 @@ abbrev pub BlockBegins : Option Text → KdlNode → KdlNode → Type 0
 BlockBegins o m m' = (g : Option KdlNodeFormat) × (m' ≡ with_format m g) × (node_texts g ≡ option_map (block_format o) (node_texts (out-KdlNode m).format))
 
 -- what may follow the content of a document that is a whole text, or a block
-abbrev pub rests_after : Bool → Option DocumentFormat → Rests
-rests_after false o = TextEnd
-rests_after true o = BlockEnd o
+abbrev pub rests_after : DocumentKind → Option DocumentFormat → Rests
+rests_after DocumentKind.Text o = TextEnd
+rests_after DocumentKind.Block o = BlockEnd o
 
 -- the document reads back, as a whole text or as a block
-abbrev pub ReadsIn : Bool → KdlDocument → Type 0
-ReadsIn false d = DocumentReadsBack d
-ReadsIn true d = BlockReadsBack d
-
--- the place i is after all nodes, and the document has no trailing text
-abbrev pub IsLast : ℕ → KdlDocument → Type 0
-IsLast i d = (length (nodes_of d) ≤ i) × (trailing_text (texts_around d) ≡ [])
+abbrev pub ReadsIn : DocumentKind → KdlDocument → Type 0
+ReadsIn DocumentKind.Text d = DocumentReadsBack d
+ReadsIn DocumentKind.Block d = BlockReadsBack d
 
 -- what follows a node that is inserted at the place i, in a whole text or in a block
-abbrev pub IsRestAt : Bool → ℕ → KdlDocument → Rest → Type 0
-IsRestAt b i d Rest.End = (b ≡ false) × IsLast i d
-IsRestAt b i d Rest.Brace = (b ≡ true) × (f : DocumentFormat) × (texts_around d ≡ Some f) × IsLast i d
-IsRestAt b i d Rest.Text = IsLast i d → (b ≡ true) × (texts_around d ≡ None)
+abbrev pub IsRestAt : DocumentKind → ℕ → KdlDocument → Rest → Type 0
+IsRestAt b i d Rest.End = (b ≡ DocumentKind.Text) × IsAtEnd i d
+IsRestAt b i d Rest.Brace = (b ≡ DocumentKind.Block) × (f : DocumentFormat) × (texts_around d ≡ Some f) × IsAtEnd i d
+IsRestAt b i d Rest.Text = IsAtEnd i d → (b ≡ DocumentKind.Block) × (texts_around d ≡ None)
 
--- one newline, or none
-abbrev pub newline_count : Bool → ℕ
-newline_count true = 1
-newline_count false = 0
+-- one newline if one is lacking, and else none
+abbrev pub newline_count : Option Bool → ℕ
+newline_count (Some true) = 1
+newline_count o = 0
 
 -- with fewer newlines a text between nodes adds something to them
 abbrev pub GapFewest : Text → ℕ → Type 0
@@ -202,19 +166,30 @@ EndsExactly rest n o = (k : ℕ) × (k ≤ 2) × WithNewlines k (node_tree n) (n
 abbrev pub LeadsExactly : Option DocumentFormat → Option Text → Type 0
 LeadsExactly o l = (k : ℕ) × (k ≤ 2) × LeadsWith k o (led_with l o) × GapSays (without_bom (leading_text o)) k × GapFewest (without_bom (leading_text o)) k
 
--- e is d with the node n after the one at i, or before the others, and what is before it has exactly the newlines more that it lacked
-abbrev pub PutAfterExactly : ℕ → KdlNode → KdlDocument → KdlDocument → Type 0
-PutAfterExactly i n d e = (p : PutAfter i n d e) × EndsExactly Rest.Text p.last p.format
+-- e is d with the node n after the one at i, which has exactly the newlines more that it lacked
+pub record PutAfter (i : ℕ) (n : KdlNode) (d e : KdlDocument) : Type 0 where
+  pub last : KdlNode
+  pub format : Option KdlNodeFormat
+  pub there : slice_get (nodes_of d) i ≡ Some last
+  pub exact : EndsExactly Rest.Text last format
+  pub nodes : nodes_of e ≡ insert (slice_set (nodes_of d) i (end_with format last)) (i + 1) n
+  pub rest : e ≡ with_nodes d (out-KdlDocument e).nodes
+  pub reads : EndsAs Rest.Text last (end_with format last)
 
-abbrev pub PutFirstExactly : KdlNode → KdlDocument → KdlDocument → Type 0
-PutFirstExactly n d e = (p : PutFirst n d e) × LeadsExactly (texts_around d) p.leading
+-- e is d with the node n before the others, after the leading text, which has exactly the newlines more that it lacked
+pub record PutFirst (n : KdlNode) (d e : KdlDocument) : Type 0 where
+  pub leading : Option Text
+  pub exact : LeadsExactly (texts_around d) leading
+  pub texts : texts_around e ≡ led_with leading (texts_around d)
+  pub nodes : nodes_of e ≡ insert (nodes_of d) 0 n
+  pub span : (out-KdlDocument e).span ≡ (out-KdlDocument d).span
 
 -- a node is inserted at i, in a text or a block
-abbrev pub PutExactly : Bool → ℕ → KdlNode → KdlDocument → KdlDocument → Type 0
-PutExactly false = IsPutExactly
-PutExactly true = IsPutInBlock
+abbrev pub PutExactly : DocumentKind → ℕ → KdlNode → KdlDocument → KdlDocument → Type 0
+PutExactly DocumentKind.Text = IsPutExactly
+PutExactly DocumentKind.Block = IsPutInBlock
 
--- with fewer newlines the text before the terminator of a format may not be before a newline
+-- the text before a new block, if it differs from the text before the terminator: that text, which may not be before a newline, with one newline
 abbrev pub BeginsFewest : Option NodeFormat → Option Text → Type 0
 BeginsFewest o None = Unit {0}
-BeginsFewest o (Some t) = (f : NodeFormat) → o ≡ Some f → IsBeforeNewline f.before_terminator → ⊥
+BeginsFewest o (Some t) = (f : NodeFormat) × (o ≡ Some f) × (t ≡ f.before_terminator ++ newlines 1) × (IsBeforeNewline f.before_terminator → ⊥)

@@ -9,12 +9,13 @@ use Rattle.kdl_fmt.specs.KeptForm.{NodeKeepsReading, NodesKeepReading}
 use Rattle.kdl_fmt.specs.OneLine.{IsLaidNode, braces_in_line, formats_in_line, is_on_one_line, one_lined_children}
 use Rattle.kdl_fmt.specs.Respelled.{AreRespelledNodes}
 use Rattle.kdl_fmt.specs.Spaced.{IsSpacedChildren, PassesNode}
-use Rattle.kdl_fmt.specs.WellFormed.{IsWellFormedNode}
+use Rattle.kdl_fmt.specs.WellFormed.{AreWellFormed, IsWellFormedNode}
 use Rattle.kdl_fmt.specs.declared.blank.Before.{Before}
 use Rattle.kdl_fmt.specs.declared.config.Layout.{Layout}
 use Rattle.kdl.specs.Internal.Count.{count_left}
 use Rattle.kdl.specs.Iterators.{nodes_in}
-use Rattle.kdl.specs.Tree.{document_tree, head_tree, node_tree, nodes_tree, document_of}
+use Rattle.kdl.specs.Layout.{DocumentSpaced}
+use Rattle.kdl.specs.Tree.{document_says, document_tree, head_tree, node_tree, nodes_tree, document_of}
 use Rattle.kdl.specs.declared.node.KdlNode.{KdlNode}
 use Rattle.kdl.specs.declared.document.KdlDocument.{KdlDocument}
 use Rattle.kdl.specs.declared.document.KdlDocument.TheViews.{out-KdlDocument, out-KdlNode}
@@ -90,6 +91,10 @@ whole above inner = outermost above (map node_tree inner.nodes.items)
 -- the second node is the first one, laid out after what comes before it, and its texts can be printed
 abbrev pub NodeIsSpaced : Layout → ℕ → Before → Node → Node → Type 0
 NodeIsSpaced l level b n n' = IsLaidNode l.keep_spelling l.keep_one_line l.blank_lines (settings l.config) level b n n' × IsWellFormedNode (node_data n)
+
+-- so is the second document the first one
+abbrev pub DocumentIsSpaced : Layout → KdlDocument → KdlDocument → Type 0
+DocumentIsSpaced l d e = DocumentSpaced l d e × AreWellFormed (document_says d)
 
 -- what comes before whatever follows a node
 abbrev pub PassesAt : Layout → Node → Before → Type 0

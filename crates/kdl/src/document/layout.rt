@@ -2,7 +2,7 @@
 
 ghost use Rattle.kdl.specs.Change.{with_document_format};
 ghost use Rattle.kdl.specs.Finds.{FindsSame};
-ghost use Rattle.kdl.specs.Internal.Spacing.{IsAround};
+ghost use Rattle.kdl.specs.Internal.Spacing.{DocumentIsSpaced, IsAround};
 ghost use Rattle.kdl.specs.Layout.{DocumentLaidOut, DocumentKeepsNoForm, DocumentKeepsReading, DocumentSpaced, IndentsBySpaces, document_bare, plain_document};
 ghost use Rattle.kdl.specs.ReadsBack.{DocumentReadsBack};
 ghost use Rattle.kdl.specs.Tree.{document_prints, document_says, document_tree, nodes_tree};
@@ -12,7 +12,6 @@ ghost use Rattle.kdl_fmt.specs.Comments.{CommentsStay};
 ghost use Rattle.kdl_fmt.specs.Config.{IsPlain, defaults, indentation, settings, without_comments};
 ghost use Rattle.kdl_fmt.specs.Formatted.{DocumentLevelsFit, or_empty_document};
 ghost use Rattle.kdl_fmt.specs.OneLine.{is_on_one_line};
-ghost use Rattle.kdl_fmt.specs.WellFormed.{AreWellFormed};
 ghost use Rattle.kdl_fmt.specs.Spaced.{IsSpacedBraced};
 ghost use Rattle.kdl_grammar.specs.Grammar.{IsDocument};
 ghost use Rattle.kdl_grammar.specs.Tree.{DocumentFormat};
@@ -139,7 +138,7 @@ impl KdlDocument {
             keep_spelling: false,
             keep_one_line: false,
         };
-        self.lay_out(&layout)
+        self.autoformat_layout(&layout)
     }
 
     /// Formats the document like `autoformat_config`, and keeps blank lines between nodes, and between comments and
@@ -205,8 +204,7 @@ impl KdlDocument {
         ensures reads_back { IndentsBySpaces (settings layout.now.config)
             → DocumentKeepsReading (settings layout.now.config) self.old
             → DocumentReadsBack self.old → DocumentReadsBack self.new }
-        ensures formatted { OnOk result (DocumentSpaced layout.now self.old self.new) }
-        ensures well_formed { OnOk result (AreWellFormed (document_says self.old)) }
+        ensures spaced { OnOk result (DocumentIsSpaced layout.now self.old self.new) }
     {
         let alloc = *self.nodes.allocator();
         let level = layout.config.indent_level;

@@ -4,7 +4,7 @@ ghost use Rattle.kdl.specs.DocumentLookups.{nodes_of};
 ghost use Rattle.kdl.specs.Change.{with_nodes};
 ghost use Rattle.kdl.specs.Exact.{IsPutExactly, NodesMayFollow};
 ghost use Rattle.kdl.specs.Fields.{held_nodes};
-ghost use Rattle.kdl.specs.Internal.Ends.{LeadingEnded, LeadsExactly, PutAfter, PutAfterExactly, PutExactly, PutFirst, PutFirstExactly, end_with, lead_with, IsRestAt, ReadsIn};
+ghost use Rattle.kdl.specs.Internal.Ends.{LeadsExactly, PutAfter, PutExactly, PutFirst, end_with, led_with, IsRestAt, ReadsIn};
 ghost use Rattle.kdl.specs.Nodes.{IsPut, PrintsPut, PrintsWithout, said_with, said_without, texts_around};
 ghost use Rattle.kdl.specs.ReadsBack.{DocumentReadsBack, NodeReadsBack};
 ghost use Rattle.kdl.specs.Tree.{document_prints, document_says, document_tree, node_prints, node_says, node_tree};
@@ -15,7 +15,7 @@ ghost use Rattle.std.specs.List.{insert, remove};
 ghost use Rattle.std.specs.Prelude.{◌≡◌, ◌≢◌, ◌<◌, ◌≤◌, ◌++◌, [], IfErr, IfOk, MatchBool, OnErr, OnOk, Some, if◌then◌else◌, is_ok, length, option_map, slice_get};
 
 use crate::document::KdlDocument;
-use crate::ends::{Rest, gap_newlines, is_empty, push_newlines};
+use crate::ends::{DocumentKind, Rest, gap_newlines, is_empty, push_newlines};
 use crate::node::KdlNode;
 use kdl_parts::KdlNodeFormat;
 use std::alloc::AllocError;
@@ -85,7 +85,7 @@ impl KdlDocument {
         ensures back { IfErr result (λ e. e.0 ≡ node) }
         ensures refused { OnErr result (document_tree self.new ≡ document_tree self.old) }
     {
-        self.put(index, node, false)
+        self.put(index, node, DocumentKind::Text)
     }
 
     /// Removes and returns the node at the index, which has to exist. Everything that the node prints is removed,
@@ -114,17 +114,17 @@ impl KdlDocument {
         &mut self,
         index: usize,
         node: KdlNode,
-        in_block: bool,
+        kind: DocumentKind,
     ) -> Result<(), (KdlNode, AllocError)>
         requires { index ≤ length (nodes_of self.old) }
         ensures nodes { OnOk result (IsPut index (node_tree node) self.old self.new) }
-        ensures reads { OnOk result (ReadsIn in_block self.old → NodeReadsBack node
-            → ReadsIn in_block self.new) }
-        ensures exact { OnOk result (PutExactly in_block index node self.old self.new) }
+        ensures reads { OnOk result (ReadsIn kind self.old → NodeReadsBack node
+            → ReadsIn kind self.new) }
+        ensures exact { OnOk result (PutExactly kind index node self.old self.new) }
         ensures back { IfErr result (λ e. e.0 ≡ node) }
         ensures refused { OnErr result (document_tree self.new ≡ document_tree self.old) }
     {
-        let own = match node.ended(self.rest_at(index, in_block)) {
+        let own = match node.ended(self.rest_at(index, kind)) {
             Ok(own) => own,
             Err(error) => return Err((node, error)),
         };
@@ -146,18 +146,18 @@ impl KdlDocument {
     }
 
     /// What follows a node that is inserted at the index.
-    fn rest_at(&self, index: usize, in_block: bool) -> Rest
-        ensures { IsRestAt in_block index self.now result }
+    fn rest_at(&self, index: usize, kind: DocumentKind) -> Rest
+        ensures { IsRestAt kind index self.now result }
     {
         if index < self.nodes.len() || self.has_trailing() {
             return Rest::Text;
         }
-        if !in_block {
-            return Rest::End;
-        }
-        match &self.format {
-            Some(_) => Rest::Brace,
-            None => Rest::Text,
+        match kind {
+            DocumentKind::Text => Rest::End,
+            DocumentKind::Block => match &self.format {
+                Some(_) => Rest::Brace,
+                None => Rest::Text,
+            },
         }
     }
 
@@ -170,8 +170,6 @@ impl KdlDocument {
     ) -> Result<(), (KdlNode, AllocError)>
         requires { last < length (nodes_of self.old) }
         ensures put { OnOk result (PutAfter last (end_with own node) self.old self.new) }
-        ensures exact { OnOk result
-            (PutAfterExactly last (end_with own node) self.old self.new) }
         ensures back { IfErr result (λ e. e.0 ≡ node) }
         ensures refused { OnErr result (document_tree self.new ≡ document_tree self.old) }
     {
@@ -192,7 +190,6 @@ impl KdlDocument {
         own: Option<KdlNodeFormat>,
     ) -> Result<(), (KdlNode, AllocError)>
         ensures put { OnOk result (PutFirst (end_with own node) self.old self.new) }
-        ensures exact { OnOk result (PutFirstExactly (end_with own node) self.old self.new) }
         ensures back { IfErr result (λ e. e.0 ≡ node) }
         ensures refused { OnErr result (document_tree self.new ≡ document_tree self.old) }
     {
@@ -201,17 +198,13 @@ impl KdlDocument {
             Err(error) => return Err((node, error)),
         };
         self.put_at(0, node, own)?;
-        if let Some(leading) = leading {
-            self.lead_with(leading);
-        }
+        self.lead_with(leading);
         Ok(())
     }
 
     /// The leading text with the newlines that it lacks, or `None` if it lacks none.
     fn ended_leading(&self) -> Result<Option<String>, AllocError>
-        ensures ended { IfOk result (λ o.
-            LeadingEnded (texts_around self.now) (option_map text_of o)) }
-        ensures exact { IfOk result (λ o.
+        ensures { IfOk result (λ o.
             LeadsExactly (texts_around self.now) (option_map text_of o)) }
     {
         let Some(format) = &self.format else {
@@ -226,13 +219,16 @@ impl KdlDocument {
         Ok(Some(leading))
     }
 
-    /// Sets the leading text, if the document has a format.
-    fn lead_with(&mut self, leading: String)
+    /// Sets the leading text, if one is given and the document has a format.
+    fn lead_with(&mut self, leading: Option<String>)
         ensures nodes { (out-KdlDocument self.new).nodes ≡ (out-KdlDocument self.old).nodes }
         ensures texts { texts_around self.new ≡
-            option_map (lead_with (text_of leading)) (texts_around self.old) }
+            led_with (option_map text_of leading) (texts_around self.old) }
         ensures span { (out-KdlDocument self.new).span ≡ (out-KdlDocument self.old).span }
     {
+        let Some(leading) = leading else {
+            return;
+        };
         if let Some(format) = &mut self.format {
             format.leading = leading;
         }

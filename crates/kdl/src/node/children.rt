@@ -1,18 +1,18 @@
 //! Children added to the block of a node.
 
-ghost use Rattle.kdl.specs.Internal.Ends.{BeforeNewBlock, BeginsFewest, BlockBegins, BlockSays, EndsAs, EndsExactly, IsEnded, end_with};
+ghost use Rattle.kdl.specs.Internal.Ends.{BeginsFewest, BlockBegins, BlockSays, EndsAs, EndsExactly, end_with};
 ghost use Rattle.kdl.specs.Exact.{ChildPutExactly};
 ghost use Rattle.kdl.specs.Iterators.{child_nodes};
-ghost use Rattle.kdl.specs.Nodes.{ChildPut, format_or_printed};
+ghost use Rattle.kdl.specs.Nodes.{ChildPut};
 ghost use Rattle.kdl.specs.ReadsBack.{NodeReadsBack, ReadsAs};
-ghost use Rattle.kdl.specs.Tree.{head_tree, node_tree};
+ghost use Rattle.kdl.specs.Tree.{node_tree};
 ghost use Rattle.kdl.specs.declared.node.KdlNode.{out-KdlNode};
 ghost use Rattle.kdl_parts.specs.Formats.{node_texts};
 ghost use Rattle.kdl_value.specs.Tree.{text_of};
 ghost use Rattle.std.specs.Prelude.{◌≡◌, ◌≤◌, IfErr, IfOk, OnErr, OnOk, None, length, option_map};
 
 use crate::document::KdlDocument;
-use crate::ends::{Rest, ended_format, place_newlines, push_newlines};
+use crate::ends::{DocumentKind, Rest, ended_format, place_newlines, push_newlines};
 use crate::node::KdlNode;
 use kdl_parts::KdlNodeFormat;
 use std::alloc::AllocError;
@@ -52,7 +52,7 @@ impl KdlNode {
         match &mut self.children {
             Some(children) => {
                 let index = children.nodes().len();
-                children.put(index, node, true)
+                children.put(index, node, DocumentKind::Block)
             }
             None => self.put_in_new_block(node),
         }
@@ -77,7 +77,7 @@ impl KdlNode {
         ensures refused { OnErr result (node_tree self.new ≡ node_tree self.old) }
     {
         match &mut self.children {
-            Some(children) => children.put(index, node, true),
+            Some(children) => children.put(index, node, DocumentKind::Block),
             None => self.put_in_new_block(node),
         }
     }
@@ -97,7 +97,7 @@ impl KdlNode {
             Err(error) => return Err((node, error)),
         };
         let mut block = KdlDocument::new(*self.entries.allocator());
-        block.put(0, node, true)?;
+        block.put(0, node, DocumentKind::Block)?;
         self.begin_block(before);
         self.children = Some(block);
         Ok(())
@@ -105,8 +105,6 @@ impl KdlNode {
 
     /// The text before a new block, or `None` if it is the text before the terminator.
     fn before_new_block(&self) -> Result<Option<String>, AllocError>
-        ensures text { IfOk result (λ o. BeforeNewBlock
-            (node_texts (out-KdlNode self.now).format) (option_map text_of o)) }
         ensures says { IfOk result (λ o. BlockSays
             (node_texts (out-KdlNode self.now).format) (option_map text_of o)) }
         ensures fewest { IfOk result (λ o. BeginsFewest
@@ -116,7 +114,7 @@ impl KdlNode {
             return Ok(None);
         };
         let alloc = *self.entries.allocator();
-        let lacks = place_newlines(alloc, false, &format.before_terminator)?;
+        let lacks = place_newlines(alloc, &None, &format.before_terminator)?;
         if lacks == 0 {
             return Ok(None);
         }
@@ -138,8 +136,6 @@ impl KdlNode {
 
     /// The format that the node needs before the rest, or `None` if it keeps its own.
     pub(crate) fn ended(&self, rest: Rest) -> Result<Option<KdlNodeFormat>, AllocError>
-        ensures is_ended { IfOk result (λ o. IsEnded
-            (format_or_printed (head_tree (out-KdlNode self.now))) (node_texts o)) }
         ensures reads { IfOk result (λ o. EndsAs rest self.now (end_with o self.now)) }
         ensures exact { IfOk result (λ o. EndsExactly rest self.now o) }
     {
@@ -147,7 +143,7 @@ impl KdlNode {
             *self.entries.allocator(),
             &self.format,
             &self.entries,
-            self.children.is_some(),
+            &self.children,
             rest,
         )
     }

@@ -108,7 +108,7 @@ impl KdlNode {
         // The node reads back as before.
         ensures reads { ReadsAs self.old self.new }
     {
-        edit::clear(&mut self.entries);
+        self.entries.clear();
     }
 
     /// Appends the entry. If an allocation fails, returns the entry in the error, and leaves the node unchanged.
@@ -227,7 +227,7 @@ impl KdlNode {
         // The node reads back as before.
         ensures reads { ReadsAs self.old self.new }
     {
-        edit::retain(&mut self.entries, keep);
+        self.entries.retain(keep);
     }
 
     /// Sorts the entries by `compare`, which has to be a total preorder; entries that compare as equal keep their
@@ -250,7 +250,7 @@ impl KdlNode {
         // The node reads back as before.
         ensures reads { ReadsAs self.old self.new }
     {
-        edit::sort_by(&mut self.entries, compare)
+        self.entries.sort_by(compare)
     }
 
     /// Sorts the entries by the key that `f` returns for each; entries with equal keys keep their order. If an
@@ -272,6 +272,6 @@ impl KdlNode {
         // The node reads back as before.
         ensures reads { ReadsAs self.old self.new }
     {
-        edit::sort_by_key(&mut self.entries, f)
+        self.entries.sort_by_key(f)
     }
 }

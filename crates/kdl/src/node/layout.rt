@@ -3,33 +3,30 @@
 ghost use Rattle.kdl.specs.Change.{with_nodes};
 ghost use Rattle.kdl.specs.Finds.{NodeFindsSame};
 ghost use Rattle.kdl.specs.Iterators.{child_nodes, nodes_in};
-ghost use Rattle.kdl.specs.Internal.Spacing.{BlockIsSpaced, NodesAreSpaced, IsSpacedBut, PassesAt, StayAs, StaysAs, braces_of, enclosed, filled_block, lined, with_texts};
+ghost use Rattle.kdl.specs.Internal.Spacing.{BlockIsSpaced, NodeIsSpaced, NodesAreSpaced, IsSpacedBut, PassesAt, StayAs, StaysAs, braces_of, enclosed, filled_block, lined, with_texts};
 ghost use Rattle.kdl.specs.Layout.{IndentsBySpaces, NodeCommentsStay, NodeLaidOut, NodeKeepsNoForm, NodeKeepsReading, NodeSpaced, node_bare, plain_node};
 ghost use Rattle.kdl.specs.ReadsBack.{ReadsAs};
 ghost use Rattle.kdl.specs.Tree.{document_tree, node_prints, node_says, node_tree};
 ghost use Rattle.kdl.specs.declared.document.KdlDocument.{out-KdlDocument};
 ghost use Rattle.kdl.specs.declared.node.KdlNode.{out-KdlNode};
-ghost use Rattle.kdl_comments.specs.Internal.Reading.{place_view};
 ghost use Rattle.kdl_fmt.specs.Blank.{at_start};
 ghost use Rattle.kdl_fmt.specs.Canonical.{CanonicalNode, canonical_node};
 ghost use Rattle.kdl_fmt.specs.Config.{IsPlain, defaults, indentation, settings, without_comments};
 ghost use Rattle.kdl_fmt.specs.Formatted.{NodeLevelsFit, bare_node, or_empty};
-ghost use Rattle.kdl_fmt.specs.Kept.{last_place};
-ghost use Rattle.kdl_fmt.specs.WellFormed.{IsWellFormedNode};
-ghost use Rattle.kdl_fmt.specs.OneLine.{IsLaidNode, entry_on_line, is_last, line_on_line, maybe_on_line, name_on_line, node_on_line};
+ghost use Rattle.kdl_fmt.specs.OneLine.{entry_on_line, is_last, line_on_line, maybe_on_line, name_on_line, node_on_line};
 ghost use Rattle.kdl_grammar.specs.Data as data';
 ghost use Rattle.kdl_grammar.specs.Grammar.{IsDocument};
 ghost use Rattle.kdl_grammar.specs.Tree.{Node, children_of};
 ghost use Rattle.kdl_entry.specs.Tree.{entry_tree, identifier_tree};
 ghost use Rattle.kdl_parts.specs.Formats.{node_texts};
 ghost use Rattle.std.specs.List.{list_all};
-ghost use Rattle.std.specs.Prelude.{◌≡◌, ◌↔◌, ◌&&◌, ◌+◌, ◌<◌, IfOk, IsTrue, List, MatchOption, OnOk, false, is_some, length, map, option_map, true};
+ghost use Rattle.std.specs.Prelude.{◌≡◌, ◌↔◌, ◌&&◌, ◌+◌, ◌<◌, IfOk, IsTrue, List, MatchOption, OnOk, false, length, map, option_map, true};
 ghost use Rattle.std.specs.Str.{chars};
 
 use crate::document::KdlDocument;
+use crate::ends::last_place;
 use crate::layout::{Around, lay_out_nodes, set_formats};
 use crate::node::KdlNode;
-use kdl_comments::Place;
 use kdl_entry::{KdlEntry, KdlIdentifier};
 use kdl_fmt::kept::{kept_type_texts, put_type_texts};
 use kdl_fmt::layout::{after_line, indentation, lay_out_entries, lay_out_line};
@@ -149,7 +146,7 @@ impl KdlNode {
             keep_spelling: false,
             keep_one_line: false,
         };
-        self.lay_out_alone(&layout)
+        self.autoformat_layout(&layout)
     }
 
     /// Formats the node like `autoformat_config`, and keeps blank lines between the nodes in its blocks, and between
@@ -214,8 +211,8 @@ impl KdlNode {
         ensures kept { node_bare self.new ≡ node_bare self.old }
         ensures stays { IndentsBySpaces (settings layout.now.config)
             → StaysAs (settings layout.now.config) (node_tree self.old) (node_tree self.new) }
-        ensures formatted { OnOk result (NodeSpaced layout.now self.old self.new) }
-        ensures well_formed { OnOk result (IsWellFormedNode (node_says self.old)) }
+        ensures spaced { OnOk result (NodeIsSpaced layout.now layout.now.config.indent_level
+            at_start (node_tree self.old) (node_tree self.new)) }
     {
         let alloc = *self.entries.allocator();
         let level = layout.config.indent_level;
@@ -229,10 +226,8 @@ impl KdlNode {
         ensures kept { node_bare self.new ≡ node_bare self.old }
         ensures stays { IndentsBySpaces (settings layout.now.config)
             → StaysAs (settings layout.now.config) (node_tree self.old) (node_tree self.new) }
-        ensures formatted { OnOk result
-            (IsLaidNode layout.now.keep_spelling layout.now.keep_one_line layout.now.blank_lines
-            (settings layout.now.config) level at_start (node_tree self.old) (node_tree self.new)) }
-        ensures well_formed { OnOk result (IsWellFormedNode (node_says self.old)) }
+        ensures spaced { OnOk result
+            (NodeIsSpaced layout.now level at_start (node_tree self.old) (node_tree self.new)) }
     {
         let next = Before::Nothing(Last::Other);
         let (_, first, around) = self.lay_out_own(layout, level, before, next)?;
@@ -343,16 +338,6 @@ fn is_line(
         && name_on_line(name)
         && entries_on_line(entries)
         && line_on_line(format, position)
-}
-
-/// Returns the place before the terminator of a node with this block, or without one.
-fn last_place(children: &Option<KdlDocument>) -> Place
-    ensures { place_view result ≡ last_place (is_some children.now) }
-{
-    match children {
-        Some(_) => Place::AfterBlock,
-        None => Place::BeforeBlock,
-    }
 }
 
 /// Sets the texts around the nodes of a block, if there is one.

@@ -53,6 +53,10 @@ type_same {b = b} (parens {t = t} {u = u} ss d us) (parens {u = u'} {r = r'} {v 
     let z = spaces_same us at_right (subst (λ z. Star NodeSpace z (41 ∷ r')) (sym y.0) us') at_right in
     (cc, y.1)
 
+no_left : {a : Bool} {s r : Text} {v : Value} → IsPlainValue a (40 ∷ s) r v → ⊥
+no_left (a_string (string p e)) = let x = (token_det (t_string p) t_left).1 in cc
+no_left (a_plain p e) = let x = (token_det (t_value p) t_left).1 in cc
+
 value_same : {a b : Bool} {s r t : Text} {x y : Option Text} {v w : Value} → IsValue a s r x v → IsValue b s t y w → (r ≡ t) × (x ≡ y) × (v ≡ w)
 value_same (value untyped d) (value untyped e) = let p = plain_same d e in (p.0, refl, p.1)
 value_same {b = b} (value (typed n ss) d) (value {r = q} {v = w} (typed {t = t} {r = r} m us) e) =
@@ -61,19 +65,17 @@ value_same {b = b} (value (typed n ss) d) (value {r = q} {v = w} (typed {t = t} 
     let z = plain_same d (subst (λ z. IsPlainValue b z q w) (sym y) e) in
     (z.0, ap Some x.1, z.1)
 value_same (value untyped d) (value (typed (parens ss n us) vs) e) = absurd (no_left d)
-  where
-    no_left : {a : Bool} {s r : Text} {v : Value} → IsPlainValue a (40 ∷ s) r v → ⊥
-    no_left (a_string (string p e)) = let x = (token_det (t_string p) t_left).1 in cc
-    no_left (a_plain p e) = let x = (token_det (t_value p) t_left).1 in cc
 value_same (value (typed (parens ss n us) vs) e) (value untyped d) = absurd (no_left d)
-  where
-    no_left : {a : Bool} {s r : Text} {v : Value} → IsPlainValue a (40 ∷ s) r v → ⊥
-    no_left (a_string (string p e)) = let x = (token_det (t_string p) t_left).1 in cc
-    no_left (a_plain p e) = let x = (token_det (t_value p) t_left).1 in cc
 
 -- no `=` follows, after node-spaces or without
 abbrev pub NoEquals : Text → Type 0
 NoEquals s = (u : Text) → Star NodeSpace s (61 ∷ u) → ⊥
+
+-- a string before `=` is no value
+key_or_value : {a b : Bool} {s t u r k : Text} {y : Option Text} {v : Value} → IsString a s t k → Star NodeSpace t (61 ∷ u) → IsValue b s r y v → NoEquals r → ⊥
+key_or_value {u = u} (string p e) ss (value untyped (a_string (string q f))) m = m u (subst (λ z. Star NodeSpace z (61 ∷ u)) (string_det p q).0 ss)
+key_or_value (string p e) ss (value untyped (a_plain q f)) m = string_or_plain p q
+key_or_value (string p e) ss (value (typed (parens us n vs) ws) d) m = let x = (token_det (t_string p) t_left).1 in cc
 
 -- with no `=` after them, two entries at the front of a text are one
 pub entry_same : {a b : Bool} {s r t : Text} {x y : Entry} → IsEntry a s r x → NoEquals r → IsEntry b s t y → NoEquals t → (r ≡ t) × (x ≡ y)
@@ -91,17 +93,7 @@ entry_same {b = b} (property {t = t} {u = u} {w = p} k ss us v) n (property {t =
     at_value (value untyped d) u x = at_plain d u x
     at_value (value (typed (parens ss n us) vs) d) u x = no_space t_left (λ h. cc) x
 entry_same (property k ss us v) n (argument w) m = absurd (key_or_value k ss w m)
-  where
-    key_or_value : {a b : Bool} {s t u r k : Text} {y : Option Text} {v : Value} → IsString a s t k → Star NodeSpace t (61 ∷ u) → IsValue b s r y v → NoEquals r → ⊥
-    key_or_value {u = u} (string p e) ss (value untyped (a_string (string q f))) m = m u (subst (λ z. Star NodeSpace z (61 ∷ u)) (string_det p q).0 ss)
-    key_or_value (string p e) ss (value untyped (a_plain q f)) m = string_or_plain p q
-    key_or_value (string p e) ss (value (typed (parens us n vs) ws) d) m = let x = (token_det (t_string p) t_left).1 in cc
 entry_same (argument w) m (property k ss us v) n = absurd (key_or_value k ss w m)
-  where
-    key_or_value : {a b : Bool} {s t u r k : Text} {y : Option Text} {v : Value} → IsString a s t k → Star NodeSpace t (61 ∷ u) → IsValue b s r y v → NoEquals r → ⊥
-    key_or_value {u = u} (string p e) ss (value untyped (a_string (string q f))) m = m u (subst (λ z. Star NodeSpace z (61 ∷ u)) (string_det p q).0 ss)
-    key_or_value (string p e) ss (value untyped (a_plain q f)) m = string_or_plain p q
-    key_or_value (string p e) ss (value (typed (parens us n vs) ws) d) m = let x = (token_det (t_string p) t_left).1 in cc
 
 -- a string, a number, a keyword or `(`
 abbrev begins_entry : Token → Bool

@@ -1,5 +1,5 @@
 -- What the machine of entries reads, the grammar derives.
-use Rattle.std.proofs.Common.{◌≡◌, ◌⊎◌, inl, inr, Bool, true, false, [], ◌∷◌, Option, Some, refl, subst}
+use Rattle.std.proofs.Common.{◌≡◌, ◌⊎◌, inl, inr, Bool, true, false, [], ◌∷◌, Option, None, Some, refl, subst}
 use Rattle.kdl_text.specs.Chars.{Text, Star, Plus, plus}
 use Rattle.kdl_text.specs.Chars.Star.{none as no_star, more}
 use Rattle.kdl_text.specs.Trivia.{NodeSpace, LineSpace, slashdash, ValueEnd}
@@ -142,60 +142,32 @@ module _ (whole : Text) (out : Entry) where
   back_run : {r : Text} (x y : State) → Some x ≡ Some y → Runs whole out y r → Runs whole out x r
   back_run {r = r} x y e a = let q : y ≡ x = cc in subst (λ (z : State). Runs whole out z r) q a
 
-  -- the tokens that may come after a string or a value
-  word_ends : (w : Word) (from : Text) (k : Token) (s r : Text) (st : State) → step whole (word w from) k s r ≡ Some st → is_end k ≡ true
-  word_ends w from (string v) s r st e = absurd cc
-  word_ends w from (value v) s r st e = absurd cc
-  word_ends w from left s r st e = absurd cc
-  word_ends w from bom s r st e = absurd cc
-  word_ends w from _ s r st e = refl
-
-  done_ends : (x : Entry) (from : Text) (k : Token) (s r : Text) (st : State) → step whole (done x from) k s r ≡ Some st → is_end k ≡ true
-  done_ends x from (string v) s r st e = absurd cc
-  done_ends x from (value v) s r st e = absurd cc
-  done_ends x from left s r st e = absurd cc
-  done_ends x from bom s r st e = absurd cc
-  done_ends x from _ s r st e = refl
-
-  fresh_ends : (b : Bool) (k : Token) (s r : Text) (st : State) → step whole (dropping (in_node (fresh b))) k s r ≡ Some st → is_end k ≡ true
-  fresh_ends b (string v) s r st e = absurd cc
-  fresh_ends b (value v) s r st e = absurd cc
-  fresh_ends b left s r st e = absurd cc
-  fresh_ends b bom s r st e = absurd cc
-  fresh_ends b _ s r st e = refl
-
-  type_ends : (b : Bool) (k : Token) (s r : Text) (st : State) → step whole (dropping (type_name b)) k s r ≡ Some st → is_end k ≡ true
-  type_ends b (string v) s r st e = absurd cc
-  type_ends b (value v) s r st e = absurd cc
-  type_ends b left s r st e = absurd cc
-  type_ends b bom s r st e = absurd cc
-  type_ends b _ s r st e = refl
-
-  named_ends : (b : Bool) (it : Parts) (k : Token) (s r : Text) (st : State) → step whole (under (type_name b) it) k s r ≡ Some st → is_end k ≡ true
-  named_ends b it (string v) s r st e = absurd cc
-  named_ends b it (value v) s r st e = absurd cc
-  named_ends b it left s r st e = absurd cc
-  named_ends b it bom s r st e = absurd cc
-  named_ends b it _ s r st e = refl
+  -- a state that takes no string, value, `(` and U+FEFF is at the end of a value
+  taken : (f : Token → Option State) → ((v : Text) → f (string v) ≡ None) → ((v : Value) → f (value v) ≡ None) → f left ≡ None → f bom ≡ None → (k : Token) (st : State) → f k ≡ Some st → is_end k ≡ true
+  taken f a b c d (string v) st e = let h = a v in absurd cc
+  taken f a b c d (value v) st e = let h = b v in absurd cc
+  taken f a b c d left st e = absurd cc
+  taken f a b c d bom st e = absurd cc
+  taken f a b c d _ st e = refl
 
   ends : {s : Text} {st : State} → Runs whole out st s → ((k : Token) (s r : Text) (st' : State) → step whole st k s r ≡ Some st' → is_end k ≡ true) → ValueEnd true s
   ends (stops e) f = ValueEnd.nothing
   ends {s = s} (reads {st' = st'} {r = r} {k = k} t e a) f = end_after t (f k s r st' e)
 
   word_end : {s : Text} (w : Word) (from : Text) → Runs whole out (word w from) s → ValueEnd true s
-  word_end w from a = ends a (word_ends w from)
+  word_end w from a = ends a (λ k s r. taken (λ k. step whole (word w from) k s r) (λ v. refl) (λ v. refl) refl refl k)
 
   fresh_end : {s : Text} (b : Bool) → Runs whole out (dropping (in_node (fresh b))) s → ValueEnd true s
-  fresh_end b a = ends a (fresh_ends b)
+  fresh_end b a = ends a (λ k s r. taken (λ k. step whole (dropping (in_node (fresh b))) k s r) (λ v. refl) (λ v. refl) refl refl k)
 
   type_end : {s : Text} (b : Bool) → Runs whole out (dropping (type_name b)) s → ValueEnd true s
-  type_end b a = ends a (type_ends b)
+  type_end b a = ends a (λ k s r. taken (λ k. step whole (dropping (type_name b)) k s r) (λ v. refl) (λ v. refl) refl refl k)
 
   done_end : {s : Text} (x : Entry) (from : Text) → Runs whole out (done x from) s → ValueEnd true s
-  done_end x from a = ends a (done_ends x from)
+  done_end x from a = ends a (λ k s r. taken (λ k. step whole (done x from) k s r) (λ v. refl) (λ v. refl) refl refl k)
 
   named_end : {s : Text} (b : Bool) (it : Parts) → Runs whole out (under (type_name b) it) s → ValueEnd true s
-  named_end b it a = ends a (named_ends b it)
+  named_end b it a = ends a (λ k s r. taken (λ k. step whole (under (type_name b) it) k s r) (λ v. refl) (λ v. refl) refl refl k)
 
   in_item : {s r : Text} {k : Token} {st : State} (p : Phase) (it : Parts) → BeginsToken s k r → step whole (under p it) k s r ≡ Some st → Runs whole out st r → Rest st r → InItem p true s
   in_item (type_open b) it (t_space n) e a d = item_space (type_open b) true n (back _ (under (type_open b) it) _ e d)

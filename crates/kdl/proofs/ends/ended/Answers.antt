@@ -1,21 +1,12 @@
-use Rattle.std.proofs.Common.{◌<◌, ◌+◌, arith, sym, subst}
+use Rattle.std.proofs.Common.{◌<◌, ◌+◌, arith, is_some, sym, subst}
 use Rattle.kdl_parts.specs.Formats.{node_format_tree}
 use Rattle.kdl.specs.Internal.Ends.{EndsReadAs, block_if}
 use Rattle.kdl.proofs.Putting.Exact.{something_lacking}
-use Rattle.kdl.proofs.Putting.NodeEnds.{is_ended}
 use Rattle.kdl.proofs.ends.ended.Goals as goal
 use Rattle.kdl.proofs.ends.ended.Goals.{else-before-eq0-via-then-before-eq0+else-end-eq0, else-before-eq0-via-else-before-eq0}
 
-pub returns-clause-is_ended : goal.returns-clause-is_ended
-returns-clause-is_ended c =
-    let some : 0 < c.in_ok-before.before + c.in_ok-before.end = elim c.else-before-eq0.branch [
-      | else-before-eq0-via-then-before-eq0+else-end-eq0 w ↦ omega (arith, w.if-end-eq0.false)
-      | else-before-eq0-via-else-before-eq0 w ↦ omega (arith, w.if-before-eq0.false)
-    ] in
-    is_ended (node_format_tree c.args.format.now) (node_format_tree c.in_ok-with_newlines.field-0) c.in_ok-before.before c.in_ok-before.end c.in_ok-before.ensures.lacks some c.in_ok-with_newlines.ensures
-
 pub returns-clause-reads : goal.returns-clause-reads
-returns-clause-reads c = subst (EndsReadAs c.args.rest (block_if c.args.has_block) (node_format_tree c.args.format.now)) (sym c.in_ok-with_newlines.ensures) c.in_ok-before.ensures.reads
+returns-clause-reads c = subst (EndsReadAs c.args.rest (block_if (is_some c.args.children.now)) (node_format_tree c.args.format.now)) (sym c.in_ok-with_newlines.ensures) c.in_ok-before.ensures.reads
 
 pub returns-clause-exact : goal.returns-clause-exact
 returns-clause-exact c =
@@ -23,5 +14,5 @@ returns-clause-exact c =
       | else-before-eq0-via-then-before-eq0+else-end-eq0 w ↦ omega (arith, w.if-end-eq0.false)
       | else-before-eq0-via-else-before-eq0 w ↦ omega (arith, w.if-before-eq0.false)
     ] in
-    something_lacking c.args.rest (block_if c.args.has_block) (node_format_tree c.args.format.now) (node_format_tree c.in_ok-with_newlines.field-0) c.in_ok-before.before c.in_ok-before.end
+    something_lacking c.args.rest (block_if (is_some c.args.children.now)) (node_format_tree c.args.format.now) (node_format_tree c.in_ok-with_newlines.field-0) c.in_ok-before.before c.in_ok-before.end
     c.in_ok-before.ensures.lacks some c.in_ok-with_newlines.ensures c.in_ok-before.ensures.fewest

@@ -1,19 +1,18 @@
-use Rattle.std.proofs.Common.{rules}
-use Rattle.kdl.specs.Layout.{DocumentKeepsReading}
+use Rattle.std.proofs.Common.{refl, rules}
+use Rattle.kdl.specs.Layout.{DocumentKeepsReading, DocumentLaidOut}
 use Rattle.kdl.specs.ReadsBack.{DocumentReadsBack}
 use Rattle.kdl.specs.Tree.{document_tree}
 use Rattle.kdl_fmt.specs.Comments.{CommentsStay}
-use Rattle.kdl_fmt.specs.Config.{settings}
+use Rattle.kdl_fmt.specs.Config.{defaults, settings}
 use Rattle.kdl_fmt.specs.Formatted.{DocumentKeepsNone}
 use Rattle.kdl_grammar.specs.Grammar.{IsDocument}
 use Rattle.kdl_grammar.specs.Print.{print_document}
 use Rattle.kdl_grammar.specs.Tree.{document_data}
-use Rattle.kdl.proofs.LayingOut.LayoutCalls.{default_back, default_formatted, default_derived, default_comments}
+use Rattle.kdl.proofs.LayingOut.LayoutCalls.{default_comments, default_derived, settled, settled_back}
 use Rattle.kdl.proofs.document.KdlDocument.autoformat.Goals as goal
 
 pub returns-clause-formatted : goal.returns-clause-formatted
-returns-clause-formatted c =
-    default_formatted c.autoformat_config.result (settings c.build-config.result) (document_tree c.args.self.now) (document_tree c.autoformat_config.new.self) (search rules) c.autoformat_config.ensures.formatted
+returns-clause-formatted c = settled c.autoformat_config.result (settings c.build-config.result) defaults (λ z. DocumentLaidOut z c.args.self.now c.autoformat_config.new.self) (search rules) c.autoformat_config.ensures.formatted
 
 pub returns-clause-derived : goal.returns-clause-derived
 returns-clause-derived c =
@@ -27,4 +26,4 @@ returns-clause-comments c =
 
 pub returns-clause-reads_back : goal.returns-clause-reads_back
 returns-clause-reads_back c =
-    default_back (settings c.build-config.result) (λ s. DocumentKeepsReading s c.args.self.now) (DocumentReadsBack c.args.self.now → DocumentReadsBack c.autoformat_config.new.self) (search rules) c.autoformat_config.ensures.reads_back
+    settled_back (settings c.build-config.result) defaults (λ s. DocumentKeepsReading s c.args.self.now) (DocumentReadsBack c.args.self.now → DocumentReadsBack c.autoformat_config.new.self) (search rules) refl c.autoformat_config.ensures.reads_back

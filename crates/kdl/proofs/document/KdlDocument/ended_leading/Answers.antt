@@ -7,18 +7,11 @@ use Rattle.kdl_value.specs.Tree.{text_of}
 use Rattle.kdl_parts.specs.Formats.{document_format_tree, document_texts}
 use Rattle.kdl.specs.Internal.Ends.{GapSays, GapFewest}
 use Rattle.kdl.specs.Nodes.{texts_around}
-use Rattle.kdl.proofs.Putting.NodeEnds.{copy_put, leading_ended}
+use Rattle.kdl.proofs.Putting.NodeEnds.{copy_put}
 use Rattle.kdl.proofs.document.KdlDocument.ended_leading.Goals as goal
 
-pub returns-clause-ended : goal.returns-clause-ended
-returns-clause-ended c =
-    leading_ended (texts_around c.args.self.now) (document_format_tree c.in-Some.format) (text_of c.push_newlines.new.text) c.in_ok-lacks.lacks (ap document_texts c.in-Some.is)
-    (omega (arith, c.if-lacks-eq0.false)) c.in_ok-lacks.ensures.few
-    (copy_put (text_of c.push_newlines.new.text) c.in_ok-leading.leading c.in-Some.format.leading c.in_ok-lacks.lacks c.in_ok-leading.ensures.cases c.in_ok-push_newlines.ensures)
-    (subst (λ (t : Text). GapSays (without_bom t) c.in_ok-lacks.lacks) (ap chars c.deref.ensures) c.in_ok-lacks.ensures.says)
-
-pub returns-clause-exact : goal.returns-clause-exact
-returns-clause-exact c =
+pub returns : goal.returns
+returns c =
     leads_exactly (texts_around c.args.self.now) (document_format_tree c.in-Some.format) (text_of c.push_newlines.new.text) c.in_ok-lacks.lacks (ap document_texts c.in-Some.is)
     (omega (arith, c.if-lacks-eq0.false)) c.in_ok-lacks.ensures.few
     (copy_put (text_of c.push_newlines.new.text) c.in_ok-leading.leading c.in-Some.format.leading c.in_ok-lacks.lacks c.in_ok-leading.ensures.cases c.in_ok-push_newlines.ensures)

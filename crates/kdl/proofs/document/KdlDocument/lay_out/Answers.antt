@@ -15,8 +15,8 @@ returns-clause-kept c =
     same_content _ c.args.self.now (search (rules, the_lemmas)) c.lay_out_nodes.new.nodes (search (rules, the_lemmas))
     (c.lay_out_nodes.ensures.kept ∙ ap (λ x. map bare_node (map node_tree x.nodes.items)) (out-roll-KdlDocument fields))
 
-pub returns-clause-formatted : goal.returns-clause-formatted
-returns-clause-formatted c =
+pub returns-clause-spaced : goal.returns-clause-spaced
+returns-clause-spaced c =
     let d = out-KdlDocument c.args.self.now in
     let l = c.args.layout.now in
     let level = l.config.indent_level in
@@ -24,23 +24,12 @@ returns-clause-formatted c =
     let fields = record d { format = c.lay_out_content.new.format } in
     let new = c.lay_out_nodes.new.nodes in
     if_ok c.lay_out_nodes.result
-    (λ h. laid_content _ c.args.self.now (search (rules, the_lemmas)) new (search (rules, the_lemmas)) l level first
-    (option_map document_format_tree c.lay_out_content.new.format) (search (rules, the_lemmas))
-    (c.in_ok-first.ensures.spaced (nodes_tree d.nodes.items) (search (rules, the_lemmas)) (search (rules, the_lemmas)))
-    (subst (λ x. NodesAreSpaced l level first (map node_tree x.nodes.items) (map node_tree new.items)) (out-roll-KdlDocument fields) h))
-    c.lay_out_nodes.ensures.spaced
-
-pub returns-clause-well_formed : goal.returns-clause-well_formed
-returns-clause-well_formed c =
-    let d = out-KdlDocument c.args.self.now in
-    let l = c.args.layout.now in
-    let level = l.config.indent_level in
-    let first = c.in_ok-first.first in
-    let fields = record d { format = c.lay_out_content.new.format } in
-    let new = map node_tree c.lay_out_nodes.new.nodes.items in
-    if_ok c.lay_out_nodes.result
-    (λ h. fitting_document c.args.self.now (nodes_fit l level first (map node_tree d.nodes.items) new
-    (subst (λ x. NodesAreSpaced l level first (map node_tree x.nodes.items) new) (out-roll-KdlDocument fields) h)))
+    (λ h. let laid = subst (λ x. NodesAreSpaced l level first (map node_tree x.nodes.items) (map node_tree new.items)) (out-roll-KdlDocument fields) h in (
+      laid_content _ c.args.self.now (search (rules, the_lemmas)) new (search (rules, the_lemmas)) l level first
+          (option_map document_format_tree c.lay_out_content.new.format) (search (rules, the_lemmas))
+          (c.in_ok-first.ensures.spaced (nodes_tree d.nodes.items) (search (rules, the_lemmas)) (search (rules, the_lemmas))) laid,
+      fitting_document c.args.self.now (nodes_fit l level first (map node_tree d.nodes.items) (map node_tree new.items) laid),
+    ))
     c.lay_out_nodes.ensures.spaced
 
 pub returns-clause-reads_back : goal.returns-clause-reads_back

@@ -1,20 +1,19 @@
-use Rattle.std.proofs.Common.{rules}
-use Rattle.kdl.specs.Layout.{NodeKeepsReading}
+use Rattle.std.proofs.Common.{refl, rules}
+use Rattle.kdl.specs.Layout.{NodeKeepsReading, NodeLaidOut}
 use Rattle.kdl.specs.ReadsBack.{ReadsAs}
 use Rattle.kdl.specs.Tree.{node_tree}
 use Rattle.kdl.specs.Layout.{NodeCommentsStay}
-use Rattle.kdl_fmt.specs.Config.{settings}
+use Rattle.kdl_fmt.specs.Config.{defaults, settings}
 use Rattle.kdl_fmt.specs.Formatted.{NodeKeepsNone}
 use Rattle.kdl_grammar.specs.Data as data'
 use Rattle.kdl_grammar.specs.Grammar.{IsDocument}
 use Rattle.kdl_grammar.specs.Print.{print_node}
 use Rattle.kdl_grammar.specs.Tree.{node_data}
-use Rattle.kdl.proofs.LayingOut.LayoutCalls.{default_back, default_formatted_node, default_derived, default_comments}
+use Rattle.kdl.proofs.LayingOut.LayoutCalls.{default_comments, default_derived, settled, settled_back}
 use Rattle.kdl.proofs.node.KdlNode.autoformat.Goals as goal
 
 pub returns-clause-formatted : goal.returns-clause-formatted
-returns-clause-formatted c =
-    default_formatted_node c.autoformat_config.result (settings c.build-config.result) (node_tree c.args.self.now) (node_tree c.autoformat_config.new.self) (search rules) c.autoformat_config.ensures.formatted
+returns-clause-formatted c = settled c.autoformat_config.result (settings c.build-config.result) defaults (λ z. NodeLaidOut z c.args.self.now c.autoformat_config.new.self) (search rules) c.autoformat_config.ensures.formatted
 
 pub returns-clause-derived : goal.returns-clause-derived
 returns-clause-derived c =
@@ -28,4 +27,4 @@ returns-clause-comments c =
 
 pub returns-clause-reads_back : goal.returns-clause-reads_back
 returns-clause-reads_back c =
-    default_back (settings c.build-config.result) (λ s. NodeKeepsReading s c.args.self.now) (ReadsAs c.args.self.now c.autoformat_config.new.self) (search rules) c.autoformat_config.ensures.reads_back
+    settled_back (settings c.build-config.result) defaults (λ s. NodeKeepsReading s c.args.self.now) (ReadsAs c.args.self.now c.autoformat_config.new.self) (search rules) refl c.autoformat_config.ensures.reads_back

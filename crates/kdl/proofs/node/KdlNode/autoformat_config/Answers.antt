@@ -1,48 +1,11 @@
-use Rattle.std.proofs.Common.{false}
-use Rattle.kdl.specs.Tree.{node_tree}
-use Rattle.kdl_fmt.specs.Config.{settings}
-use Rattle.kdl.proofs.Finding.SaidLookups.{node_finds_same}
-use Rattle.kdl.proofs.LayingOut.LayoutCalls.{at_zero, same_node_data, node_plain, node_plainly, node_levels, node_keeps_none_then, node_derives, node_comments, node_prints, node_reads}
+use Rattle.kdl.proofs.LayingOut.LayoutCalls.{at_zero}
 use Rattle.kdl.proofs.node.KdlNode.autoformat_config.Goals as goal
 
-pub returns-clause-data : goal.returns-clause-data
-returns-clause-data c = same_node_data (node_tree c.lay_out_alone.new.self) (node_tree c.args.self.now) c.lay_out_alone.ensures.kept
-
-pub returns-clause-finds : goal.returns-clause-finds
-returns-clause-finds c =
-    node_finds_same c.args.self.now c.lay_out_alone.new.self (same_node_data (node_tree c.lay_out_alone.new.self) (node_tree c.args.self.now) c.lay_out_alone.ensures.kept)
-
 pub returns-clause-formatted : goal.returns-clause-formatted
-returns-clause-formatted c =
-    at_zero _ c.lay_out_alone.result (node_plainly c.lay_out_alone.result false false 0 (settings c.args.config.now) c.args.config.now.indent_level (node_tree c.lay_out_alone.new.self) (node_tree c.args.self.now) c.lay_out_alone.ensures.formatted)
+returns-clause-formatted c = at_zero _ c.autoformat_layout.result c.autoformat_layout.ensures.unspaced
 
 pub returns-clause-plain : goal.returns-clause-plain
-returns-clause-plain c =
-    at_zero _ c.lay_out_alone.result (node_plain c.lay_out_alone.result false false 0 (settings c.args.config.now) c.args.config.now.indent_level (node_tree c.lay_out_alone.new.self) (node_tree c.args.self.now) c.lay_out_alone.ensures.formatted)
-
-pub returns-clause-levels : goal.returns-clause-levels
-returns-clause-levels c =
-    node_levels c.lay_out_alone.result false false 0 (settings c.args.config.now) c.args.config.now.indent_level (node_tree c.lay_out_alone.new.self) (node_tree c.args.self.now) c.lay_out_alone.ensures.formatted
-
-pub returns-clause-keeps_none : goal.returns-clause-keeps_none
-returns-clause-keeps_none c =
-    node_keeps_none_then c.lay_out_alone.result false false 0 (settings c.args.config.now) c.args.config.now.indent_level (node_tree c.lay_out_alone.new.self) (node_tree c.args.self.now) c.lay_out_alone.ensures.formatted
-
-pub returns-clause-derived : goal.returns-clause-derived
-returns-clause-derived c =
-    node_derives c.lay_out_alone.result false false 0 (settings c.args.config.now) c.args.config.now.indent_level (node_tree c.lay_out_alone.new.self) (node_tree c.args.self.now) (same_node_data (node_tree c.lay_out_alone.new.self) (node_tree c.args.self.now) c.lay_out_alone.ensures.kept) c.lay_out_alone.ensures.formatted c.lay_out_alone.ensures.well_formed
-
-pub returns-clause-comments : goal.returns-clause-comments
-returns-clause-comments c =
-    node_comments c.lay_out_alone.result false false 0 (settings c.args.config.now) c.args.config.now.indent_level (node_tree c.lay_out_alone.new.self) (node_tree c.args.self.now) c.lay_out_alone.ensures.formatted c.lay_out_alone.ensures.well_formed
+returns-clause-plain c = at_zero _ c.autoformat_layout.result c.autoformat_layout.ensures.plain
 
 pub returns-clause-prints : goal.returns-clause-prints
-returns-clause-prints c =
-    at_zero _ c.lay_out_alone.result (node_prints c.lay_out_alone.result false false 0 (settings c.args.config.now) c.args.config.now.indent_level (node_tree c.lay_out_alone.new.self) (node_tree c.args.self.now) c.lay_out_alone.ensures.formatted)
-
-pub returns-clause-reads : goal.returns-clause-reads
-returns-clause-reads c =
-    node_reads c.lay_out_alone.result false false 0 (settings c.args.config.now) c.args.config.now.indent_level (node_tree c.lay_out_alone.new.self) (node_tree c.args.self.now) c.lay_out_alone.ensures.well_formed
-
-pub returns-clause-reads_back : goal.returns-clause-reads_back
-returns-clause-reads_back c ok k P x = (c.lay_out_alone.ensures.stays ok P (x, k)).0
+returns-clause-prints c = at_zero _ c.autoformat_layout.result c.autoformat_layout.ensures.prints

@@ -61,20 +61,11 @@ returns-clause-stays c ok P x =
     laid.1 ok P
     (subst (NodeStays s P) below (below_stays s n n1 o below (c.lay_out_below.ensures.stays ok) P (c.lay_out_own.ensures.stays ok (search rules) P x)))
 
-pub returns-clause-formatted : goal.returns-clause-formatted
-returns-clause-formatted c =
+pub returns-clause-spaced : goal.returns-clause-spaced
+returns-clause-spaced c =
     let n = c.lay_out_own.new.self in
     let o = c.lay_out_below.new.children in
     let fields = record (out-KdlNode n) { children = o } in
     let g = c.in_ok-first.around in
     let tree = c.set_around.ensures ∙ ap (with_braces (braces_of g)) (filled_below n (roll-KdlNode fields) o (lined g) (out-roll-KdlNode fields) c.lay_out_below.ensures.block) in
-    (laid_below c.args.layout.now c.args.level at_start c.in_ok-first.first g c.args.self.now n c.set_around.new.self o tree c.lay_out_own.ensures.block (c.in_ok-first.ensures.spaced (search rules)).1 c.in_ok-lay_out_below.ensures.spaced).0.0
-
-pub returns-clause-well_formed : goal.returns-clause-well_formed
-returns-clause-well_formed c =
-    let n = c.lay_out_own.new.self in
-    let o = c.lay_out_below.new.children in
-    let fields = record (out-KdlNode n) { children = o } in
-    let g = c.in_ok-first.around in
-    let tree = c.set_around.ensures ∙ ap (with_braces (braces_of g)) (filled_below n (roll-KdlNode fields) o (lined g) (out-roll-KdlNode fields) c.lay_out_below.ensures.block) in
-    (laid_below c.args.layout.now c.args.level at_start c.in_ok-first.first g c.args.self.now n c.set_around.new.self o tree c.lay_out_own.ensures.block (c.in_ok-first.ensures.spaced (search rules)).1 c.in_ok-lay_out_below.ensures.spaced).0.1
+    (laid_below c.args.layout.now c.args.level at_start c.in_ok-first.first g c.args.self.now n c.set_around.new.self o tree c.lay_out_own.ensures.block (c.in_ok-first.ensures.spaced (search rules)).1 c.in_ok-lay_out_below.ensures.spaced).0
