@@ -9,11 +9,12 @@ use Rattle.kdl_text.specs.Chars.Space.{space as a_space}
 use Rattle.kdl_text.specs.Trivia.{LineComment}
 use Rattle.kdl_entry.specs.Places.{between}
 use Rattle.kdl_entry.specs.Tree.{EntryFormat}
-use Rattle.kdl_comments.specs.Items.{Item, line_end, SpaceItems, LineSpaceItems, GapItems, Place, before_entry, before_block, after_block, may_end, spaced, PlaceItems}
+use Rattle.kdl_comments.specs.Items.{Item, line_end, SpaceItems, LineSpaceItems, GapItems, Place, before_entry, before_block, after_block, spaced, PlaceItems}
 use Rattle.kdl_comments.specs.Written.{lines, tail}
 use Rattle.kdl_comments.proofs.Listing.SpaceItems.{place_end}
 use Rattle.kdl_fmt.specs.Kept.{Written, WrittenUnless, KeptLines, KeptTail, WrittenEnd, KeptEnd, KeptBefore, is_kept_format}
 use Rattle.kdl_fmt.specs.Config.{Settings, indentation}
+use Rattle.kdl_fmt.proofs.Keeping.KeptPlaces.{ends_spaced}
 
 -- where comments are left out
 pub kept_none : (b : Bool) (has : List Item → Type 0) (write : List Item → Text) (t : Text) → b ≡ true → t ≡ [] → WrittenUnless b has write t
@@ -75,15 +76,10 @@ begins_blank : (c : ℕ) (s : Text) → (c == 32) ≡ true → SpaceItems (c ∷
 unfolding is_space
 begins_blank c s e = SpaceItems.space (a_space (subst (λ (d : ℕ). is_space d ≡ true) (sym (eqb-true c 32 e)) refl))
 
-spaced_ends : (p : Place) → may_end (spaced true p) ≡ true
-spaced_ends (before_entry b) = refl
-spaced_ends before_block = refl
-spaced_ends after_block = refl
-
 blank_place : (p : Place) (c : ℕ) (s : Text) → is_blank (c ∷ s) ≡ true → PlaceItems p (c ∷ s) []
 blank_place p c [] h =
     let e = and_parts (c == 32) (is_blank []) h in
-    PlaceItems.space {is = []} {js = []} (begins_blank c [] e.0) (PlaceItems.ends (spaced_ends p))
+    PlaceItems.space {is = []} {js = []} (begins_blank c [] e.0) (PlaceItems.ends (ends_spaced p))
 blank_place p c (d ∷ s) h =
     let e = and_parts (c == 32) (is_blank (d ∷ s)) h in
     PlaceItems.space {is = []} {js = []} (begins_blank c (d ∷ s) e.0) (blank_place (spaced true p) d s e.1)

@@ -3,6 +3,7 @@ use Rattle.std.proofs.Common.{◌≡◌, ℕ, zero, suc, ◌+◌, ◌-◌, ◌==
 use Rattle.std.proofs.Math.Seq.{drop-append_seam}
 use Rattle.std.proofs.lemmas.Bool.Decides.{nat_tests}
 use Rattle.std.proofs.lemmas.Bool.{and_parts}
+use Rattle.std.proofs.Math.Nat.{zero-min}
 use Rattle.std.specs.List.{list_all}
 use Rattle.std.specs.Prelude.{if◌then◌else◌, ◌&&◌, min, max}
 use Rattle.kdl_text.specs.Chars.{Text, is_space, is_newline_char, times}
@@ -17,7 +18,7 @@ use Rattle.kdl_fmt.specs.declared.blank.Last.{Last}
 use Rattle.kdl_fmt.specs.declared.blank.Last.TheVariants.{Cr, Escline, Other}
 
 -- a space is no slash, no newline and no backslash
-space_no_slash : (c : ℕ) → is_space c ≡ true → (c == 47) ≡ false
+pub space_no_slash : (c : ℕ) → is_space c ≡ true → (c == 47) ≡ false
 unfolding is_space
 space_no_slash c h = grind (arith, nat_tests)
 
@@ -165,30 +166,22 @@ read_line x =
     let h : 0 + newlines Other (10 ∷ x) ≡ 1 + newlines Other x = omega (arith, e) in
     ap (λ (n : ℕ). Thing 0 n (last_of Other (10 ∷ x))) h ∙ ap (Thing 0 (1 + newlines Other x)) (lf_last x)
 
-spaced_line : (number : ℕ) (ind x : Text) (is : List Item) → spaced_lines number ind (Thing 0 0 Other) (10 ∷ x) is ≡ spaced_lines number ind (Thing 0 1 Other) x is
-spaced_line number ind x [] = refl
-spaced_line number ind x (i ∷ is) =
-    ap (λ (b : Before). (empty_lines number b ++ ind ++ line_text (item_text i) ++ (10 ∷ [])) ++ spaced_lines number ind (past_item false i b) (after_item i x) is) (read_line x)
-
-past_line : (x : Text) (is : List Item) → past_items false (Thing 0 0 Other) (10 ∷ x) is ≡ past_items false (Thing 0 1 Other) x is
-past_line x [] = read_line x
-past_line x (i ∷ is) = ap (λ (b : Before). past_items false (past_item false i b) (after_item i x) is) (read_line x)
-
 -- before anything else it counts none
-read_first : (x : Text) → read (10 ∷ x) at_start ≡ read x at_start
+pub read_first : (x : Text) → read (10 ∷ x) at_start ≡ read x at_start
 read_first x = ap Nothing (lf_last x)
 
-pub spaced_first : (number : ℕ) (ind x : Text) (is : List Item) → spaced_lines number ind at_start (10 ∷ x) is ≡ spaced_lines number ind at_start x is
-spaced_first number ind x [] = refl
-spaced_first number ind x (i ∷ is) =
-    ap (λ (b : Before). (empty_lines number b ++ ind ++ line_text (item_text i) ++ (10 ∷ [])) ++ spaced_lines number ind (past_item false i b) (after_item i x) is) (read_first x)
+-- so it makes no other difference
+pub lines_first : (number : ℕ) (ind x : Text) (is : List Item) (b c : Before) → read (10 ∷ x) b ≡ read x c → spaced_lines number ind b (10 ∷ x) is ≡ spaced_lines number ind c x is
+lines_first number ind x [] b c e = refl
+lines_first number ind x (i ∷ is) b c e =
+    ap (λ (z : Before). (empty_lines number z ++ ind ++ line_text (item_text i) ++ (10 ∷ [])) ++ spaced_lines number ind (past_item false i z) (after_item i x) is) e
 
-pub past_first : (out : Bool) (x : Text) (is : List Item) → past_items out at_start (10 ∷ x) is ≡ past_items out at_start x is
-past_first out x [] = read_first x
-past_first out x (i ∷ is) = ap (λ (b : Before). past_items out (past_item out i b) (after_item i x) is) (read_first x)
+pub past_first : (out : Bool) (x : Text) (is : List Item) (b c : Before) → read (10 ∷ x) b ≡ read x c → past_items out b (10 ∷ x) is ≡ past_items out c x is
+past_first out x [] b c e = e
+past_first out x (i ∷ is) b c e = ap (λ (z : Before). past_items out (past_item out i z) (after_item i x) is) e
 
 -- a line, and what comes after it
-line_joined : (e b l m r : Text) → ((e ++ b ++ l ++ (10 ∷ [])) ++ m) ++ r ≡ e ++ (b ++ (l ++ (10 ∷ (m ++ r))))
+pub line_joined : (e b l m r : Text) → ((e ++ b ++ l ++ (10 ∷ [])) ++ m) ++ r ≡ e ++ (b ++ (l ++ (10 ∷ (m ++ r))))
 line_joined e b l m r = simp append_assoc
 
 module _ (number : ℕ) (ind : Text) (ok : list_all is_space ind ≡ true) where
@@ -223,8 +216,9 @@ module _ (number : ℕ) (ind : Text) (ok : list_all is_space ind ≡ true) where
   same_text : (i : Item) → line_text (item_text (on_line i)) ≡ line_text (item_text i)
   same_text i = ap line_text (on_line_text i) ∙ line_text_again (item_text i)
 
-  all_again : (b : Before) (s : Text) (is : List Item) → AreStanding is → (r : Text) → spaced_lines number ind (again b) (spaced_lines number ind b s is ++ r) (map on_line is) ≡ spaced_lines number ind b s is
-  all_again b s [] a r = refl
+  all_again : (b : Before) (s : Text) (is : List Item) → AreStanding is → (r : Text) → (spaced_lines number ind (again b) (spaced_lines number ind b s is ++ r) (map on_line is) ≡ spaced_lines number ind b s is)
+      × (past_items false (again b) (spaced_lines number ind b s is ++ r) (map on_line is) ≡ read r (again (past_items false b s is)))
+  all_again b s [] a r = (refl, ap (read r) (sym (again_read s b)))
   all_again b s (i ∷ is) a r =
       let l = line_text (item_text i) in
       let slash = line_slash i a.0 in
@@ -235,31 +229,31 @@ module _ (number : ℕ) (ind : Text) (ok : list_all is_space ind ≡ true) where
       let text = e ++ (ind ++ (l ++ rest)) in
       let js = map on_line is in
       let following : Before = past_item false (on_line i) (read text (again b)) in
-      ap (λ (t : Text). spaced_lines number ind (again b) t (on_line i ∷ js)) (line_joined e ind l more r)
-      ∙ ap (λ (t : Text). (t ++ ind ++ line_text (item_text (on_line i)) ++ (10 ∷ [])) ++ spaced_lines number ind following (after_item (on_line i) text) js) (read_again b s l slash.0 rest slash.1)
-      ∙ ap (λ (t : Text). (e ++ ind ++ t ++ (10 ∷ [])) ++ spaced_lines number ind following (after_item (on_line i) text) js) (same_text i)
-      ∙ ap (λ (t : Text). (e ++ ind ++ l ++ (10 ∷ [])) ++ spaced_lines number ind following t js) (after_line i (read s b) slash.0 rest slash.1)
-      ∙ ap (λ (c : Before). (e ++ ind ++ l ++ (10 ∷ [])) ++ spaced_lines number ind c rest js) (line_state i b (read s b) l slash.0 rest slash.1)
-      ∙ ap (λ (t : Text). (e ++ ind ++ l ++ (10 ∷ [])) ++ t) (spaced_line number ind (more ++ r) js ∙ all_again next (after_item i s) is a.1 r)
-
-  all_passed : (b : Before) (s : Text) (is : List Item) → AreStanding is → (r : Text) → past_items false (again b) (spaced_lines number ind b s is ++ r) (map on_line is) ≡ read r (again (past_items false b s is))
-  all_passed b s [] a r = ap (read r) (sym (again_read s b))
-  all_passed b s (i ∷ is) a r =
-      let l = line_text (item_text i) in
-      let slash = line_slash i a.0 in
-      let e = empty_lines number (read s b) in
-      let next = past_item false i (read s b) in
-      let more = spaced_lines number ind next (after_item i s) is in
-      let rest = 10 ∷ (more ++ r) in
-      let text = e ++ (ind ++ (l ++ rest)) in
-      let js = map on_line is in
-      ap (λ (t : Text). past_items false (again b) t (on_line i ∷ js)) (line_joined e ind l more r)
-      ∙ ap (λ (t : Text). past_items false (past_item false (on_line i) (read text (again b))) t js) (after_line i (read s b) slash.0 rest slash.1)
-      ∙ ap (λ (c : Before). past_items false c rest js) (line_state i b (read s b) l slash.0 rest slash.1)
-      ∙ past_line (more ++ r) js ∙ all_passed next (after_item i s) is a.1 r
+      let joined = line_joined e ind l more r in
+      let after = after_line i (read s b) slash.0 rest slash.1 in
+      let state = line_state i b (read s b) l slash.0 rest slash.1 in
+      let others = all_again next (after_item i s) is a.1 r in (
+        ap (λ (t : Text). spaced_lines number ind (again b) t (on_line i ∷ js)) joined
+            ∙ ap (λ (t : Text). (t ++ ind ++ line_text (item_text (on_line i)) ++ (10 ∷ [])) ++ spaced_lines number ind following (after_item (on_line i) text) js) (read_again b s l slash.0 rest slash.1)
+            ∙ ap (λ (t : Text). (e ++ ind ++ t ++ (10 ∷ [])) ++ spaced_lines number ind following (after_item (on_line i) text) js) (same_text i)
+            ∙ ap (λ (t : Text). (e ++ ind ++ l ++ (10 ∷ [])) ++ spaced_lines number ind following t js) after
+            ∙ ap (λ (c : Before). (e ++ ind ++ l ++ (10 ∷ [])) ++ spaced_lines number ind c rest js) state
+            ∙ ap (λ (t : Text). (e ++ ind ++ l ++ (10 ∷ [])) ++ t) (lines_first number ind (more ++ r) js (Thing 0 0 Other) (Thing 0 1 Other) (read_line (more ++ r)) ∙ others.0),
+        ap (λ (t : Text). past_items false (again b) t (on_line i ∷ js)) joined
+            ∙ ap (λ (t : Text). past_items false following t js) after
+            ∙ ap (λ (c : Before). past_items false c rest js) state
+            ∙ past_first false (more ++ r) js (Thing 0 0 Other) (Thing 0 1 Other) (read_line (more ++ r)) ∙ others.1,
+      )
 
   pub spaced_again : (b : Before) (s : Text) {p : Text} (is : List Item) → GapItems p is → (r : Text) → spaced_lines number ind (again b) (spaced_lines number ind b s is ++ r) (map on_line is) ≡ spaced_lines number ind b s is
-  spaced_again b s is d r = all_again b s is (gap_items d) r
+  spaced_again b s is d r = (all_again b s is (gap_items d) r).0
 
   pub passed_again : (b : Before) (s : Text) {p : Text} (is : List Item) → GapItems p is → (r : Text) → past_items false (again b) (spaced_lines number ind b s is ++ r) (map on_line is) ≡ read r (again (past_items false b s is))
-  passed_again b s is d r = all_passed b s is (gap_items d) r
+  passed_again b s is d r = (all_again b s is (gap_items d) r).1
+
+-- where no blank lines stay
+pub no_lines : (b : Before) → empty_lines 0 b ≡ []
+no_lines b = ap (λ (n : ℕ). times n 10) (zero-min (blank_lines b))
+
+pub no_lines_before : (b : Before) (t lines : Text) → t ≡ lines ++ empty_lines 0 b → t ≡ lines
+no_lines_before b t lines e = e ∙ ap (λ (u : Text). lines ++ u) (no_lines b) ∙ append-nil lines
