@@ -2,12 +2,10 @@
 
 -- What is read and written of a text between nodes, from its items.
 pub mod Reads
--- What is kept with blank lines is a gap, and holds the items of its text.
+-- What is counted in the lines that are written, and that what is kept is a gap, and holds the items of its text.
 pub mod Lines
 -- What layout with blank lines makes flags no entry, and no level is too great.
 pub mod Stays
--- What is counted in the lines that are written.
-pub mod Counts
 -- The texts around nodes are the same after a second layout.
 pub mod TextsAgain
 -- A second layout changes nothing.

@@ -16,7 +16,7 @@ use Rattle.kdl_fmt.specs.Spaced.{SpacesTexts, IsSpacedLine, IsSpacedHead, Spaces
 use Rattle.kdl_fmt.specs.WithComments.{IsFormattedDocument}
 use Rattle.kdl_fmt.specs.declared.blank.Before.{Before}
 use Rattle.kdl_fmt.proofs.Formatting.PrintsCanonical.{cleared_formatted, not_kept_again}
-use Rattle.kdl_fmt.proofs.Spacing.Counts.{no_lines_before}
+use Rattle.kdl_fmt.proofs.Spacing.Lines.{no_lines_before}
 
 abbrev Has : Type 1
 Has = List Item → Type 0

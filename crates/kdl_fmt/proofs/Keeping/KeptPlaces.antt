@@ -13,15 +13,15 @@ use Rattle.kdl_entry.specs.Places.{leading, between}
 use Rattle.kdl_grammar.specs.Data.{Nodes}
 use Rattle.kdl_grammar.specs.Grammar.{Terminator, Gap, no_gap, line_space, dropped_node, AreNodes, last_gap, node_then}
 use Rattle.kdl_grammar.specs.Places.{AfterChildren, BeforeChildren}
-use Rattle.kdl_comments.specs.Items.{Item, GapItems, Place, before_entry, before_block, after_block, PlaceItems, comment as a_comment, piece, line_end, EsclineItems, SpaceItems, may_end, takes_blocks, spaced}
-use Rattle.kdl_comments.specs.Written.{lines, tail, line_text, on_line}
+use Rattle.kdl_comments.specs.Items.{Item, Place, before_entry, before_block, after_block, PlaceItems, comment as a_comment, piece, line_end, EsclineItems, SpaceItems, may_end, takes_blocks, spaced}
+use Rattle.kdl_comments.specs.Written.{tail, line_text, on_line}
 use Rattle.kdl_comments.proofs.Rewriting.PlacesAgain.{PlaceText, tail_leading, tail_before, tail_before_line, tail_after, tail_after_line, tail_alone, tail_spaced as items_spaced}
-use Rattle.kdl_comments.proofs.Rewriting.LinesAgain.{comment_part, comment_again, comment_item, lines_gap, line_part, comment_text}
+use Rattle.kdl_comments.proofs.Rewriting.LinesAgain.{comment_part, comment_again, comment_item, line_part, comment_text}
 use Rattle.kdl_comments.proofs.Rewriting.BeforeNewlines.{piece_kept}
 use Rattle.kdl_comments.proofs.Listing.ItemsUnique.{place_items_det}
 use Rattle.kdl_comments.proofs.Rewriting.LastCharacters.{Last, last_after, last_end, entry_last, block_last, ws_last}
 use Rattle.kdl_fmt.specs.Config.{Settings, indentation}
-use Rattle.kdl_fmt.specs.Kept.{Written, WrittenUnless, KeptLines, last_place, WrittenEnd, KeptEnd}
+use Rattle.kdl_fmt.specs.Kept.{Written, WrittenUnless, last_place, WrittenEnd, KeptEnd}
 use Rattle.kdl_fmt.specs.Comments.{ItemsIn, EndItems}
 use Rattle.kdl_text.proofs.Spacing.SpaceUnique.{no_line_comment}
 use Rattle.kdl_entry.proofs.Slicing.Between.{is_between}
@@ -69,15 +69,6 @@ spaces_gap (c ∷ cs) ok g =
 
 pub indentation_gap : (s : Settings) → list_all is_space s.indent ≡ true → (level : ℕ) → {t r : Text} → Gap true t r → Gap true (indentation s level ++ t) r
 indentation_gap s ok level g = spaces_gap (indentation s level) (level_spaces s.indent ok level) g
-
--- what is kept of a text between nodes is a gap
-written_gap : (before : Text) → list_all is_space before ≡ true → (b : Bool) (place t : Text) → WrittenUnless b (GapItems place) (lines before) t → {u r : Text} → Gap true u r → Gap true (t ++ u) r
-written_gap before ok true place t e g = rw e g
-written_gap before ok false place _ (Written.items d) g = lines_gap before ok d g
-written_gap before ok false place _ (Written.none h) g = g
-
-pub kept_gap : (s : Settings) → list_all is_space s.indent ≡ true → (level : ℕ) (place t : Text) → KeptLines s level place t → {u r : Text} → Gap true u r → Gap true (t ++ u) r
-kept_gap s ok level place t k g = written_gap (indentation s level) (level_spaces s.indent ok level) s.no_comments place t k g
 
 -- nothing, or items of a place, each after a space
 pub data Tail (p : Place) : Text → Type 0 where

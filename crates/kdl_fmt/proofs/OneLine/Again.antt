@@ -9,7 +9,7 @@ use Rattle.kdl_text.specs.declared.span.SourceSpan.{SourceSpan}
 use Rattle.kdl_text.proofs.Spacing.SpaceUnique.{no_line_comment}
 use Rattle.kdl_grammar.specs.Tree.{NodeFormat, DocumentFormat, Head, Node, node, Children, no_children, children, Document, document, Nodes, none, first}
 use Rattle.kdl_comments.specs.Items.{GapItems, before_block, PlaceItems, before_entry}
-use Rattle.kdl_comments.specs.Written.{lines, tail}
+use Rattle.kdl_comments.specs.Written.{tail}
 use Rattle.kdl_fmt.specs.Blank.{at_start, blank_lines, past_items, past_node, read}
 use Rattle.kdl_fmt.specs.Config.{Settings, indentation}
 use Rattle.kdl_fmt.specs.Formatted.{or_empty, or_empty_document, newline_if_none, in_braces, DocumentKeepsNone, NodeKeepsNone, with_keep_if}

@@ -23,13 +23,13 @@ use Rattle.kdl_fmt.specs.Respelled.{TypeTexts, node_type_texts, with_type_texts}
 use Rattle.kdl_fmt.specs.Spaced.{Passes, PassesNode, Spaces, SpacedLines, SpacesTexts}
 use Rattle.kdl_fmt.specs.Parts.{NodeTexts, line_of}
 use Rattle.kdl_fmt.proofs.Respelling.Kept.{OnlySpaces}
-use Rattle.kdl_fmt.proofs.Spacing.Counts.{space_no_newline, space_no_slash, no_lines}
 use Rattle.kdl_fmt.proofs.Respelling.Written.{IsTypedLine, head_line}
 use Rattle.kdl_fmt.specs.declared.blank.Before.{Before}
 use Rattle.kdl_fmt.specs.declared.blank.Before.TheVariants.{Nothing, Thing}
 use Rattle.kdl_fmt.specs.declared.blank.Last.{Last}
 use Rattle.kdl_fmt.proofs.Respelling.Spelled.{spelled, blockless, spelled_block, SpelledNodes, nodeless, one_more}
 use Rattle.kdl_fmt.proofs.Keeping.KeptPlaces.{ends_spaced}
+use Rattle.kdl_fmt.proofs.Spacing.Lines.{space_no_newline, space_no_slash, no_lines}
 
 space_no_bom : (c : ℕ) → is_space c ≡ true → (c == 0xFEFF) ≡ false
 unfolding is_space

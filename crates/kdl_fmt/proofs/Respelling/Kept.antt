@@ -20,10 +20,10 @@ use Rattle.kdl_fmt.specs.Plain.{no_newline, only_spaces}
 use Rattle.kdl_fmt.specs.Formatted.{or_empty}
 use Rattle.kdl_fmt.specs.Internal.KeptTexts.{KeptTypeTextsIn, put_type_texts}
 use Rattle.kdl_fmt.specs.Respelled.{IsTypedFormat, IsContinued, KeptPlace, KeptPlaceIf, KeptLeading, TypeTexts, KeptTypeTexts, KeptTypeTextsIf, node_type_texts}
-use Rattle.kdl_fmt.proofs.Spacing.Counts.{space_no_newline}
 use Rattle.kdl_comments.specs.declared.item.Item as held
 use Rattle.kdl_comments.specs.Internal.Reading.{items_view}
 use Rattle.kdl_value.specs.Tree.{text_of}
+use Rattle.kdl_fmt.proofs.Spacing.Lines.{space_no_newline}
 
 -- what is kept of a text is node-spaces
 pub place_spaces : {t r : Text} → KeptPlace t r → AreNodeSpaces r

@@ -22,8 +22,7 @@ use Rattle.kdl_fmt.specs.Respelled.{IsTypedFormat, with_type_texts}
 use Rattle.kdl_fmt.proofs.Keeping.GapFronts.{alone, joined, newline_if, indented, gap_without_bom}
 use Rattle.kdl_fmt.proofs.Keeping.KeptAgain as kept
 use Rattle.kdl_fmt.proofs.Keeping.KeptPlaces.{level_spaces}
-use Rattle.kdl_fmt.proofs.Spacing.Counts.{again, again_past, lines_again, past_first, passed_again, spaced_again, spaces_count, lines_first, read_first, no_lines}
-use Rattle.kdl_fmt.proofs.Spacing.Lines.{spaced_items, times_front, kept_spaces}
+use Rattle.kdl_fmt.proofs.Spacing.Lines.{spaced_items, times_front, kept_spaces, again, again_past, lines_again, past_first, passed_again, spaced_again, spaces_count, lines_first, read_first, no_lines}
 use Rattle.kdl_fmt.proofs.Spacing.Reads.{read_nothing, spaces_pass, no_text}
 use Rattle.kdl_fmt.proofs.Respelling.Spelled.{SpelledNode, spelled, SpelledNodes, nodeless, one_more, same_newline}
 
