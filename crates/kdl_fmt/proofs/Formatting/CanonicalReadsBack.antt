@@ -14,9 +14,12 @@ use Rattle.kdl_entry.proofs.Laying.ValueReadsBack.{printed_string, printed_value
 use Rattle.kdl_grammar.specs.Data.{Node, node, Children, no_children, children, Nodes, none, first}
 use Rattle.kdl_grammar.specs.Grammar.{Terminator, IsNode, named, AfterName, kept_entry, blocks, Blocks, AfterBlock, Gap, no_gap, AreNodes, last_gap, node_then, braces, IsDocument, IsDocumentIn, IsNodeText, node_text}
 use Rattle.kdl_grammar.proofs.LawProofs.{one_document, one_node}
+use Rattle.kdl_grammar.proofs.ReadingBack.Reads.{newline_gap}
 use Rattle.kdl_fmt.specs.Canonical.{canonical_type, canonical_key, canonical_entries, newline_if_none, canonical_node, canonical_children, canonical, canonical_nodes, Canonical, CanonicalNode}
 use Rattle.kdl_fmt.specs.WellFormed.{AreScalars, AreWellFormedEntries, IsWellFormedNode, AreWellFormedChildren, AreWellFormed}
-use Rattle.kdl_fmt.proofs.Keeping.KeptPlaces.{one_space, space_ends, a_newline, newline_ends, newline_gap, spaces_gap, level_spaces, gap_nodes}
+use Rattle.kdl_fmt.proofs.Keeping.KeptPlaces.{one_space, space_ends, level_spaces, gap_nodes}
+use Rattle.kdl_comments.proofs.Rewriting.BeforeNewlines.{a_newline, newline_end}
+use Rattle.kdl_comments.proofs.Rewriting.LinesAgain.{spaces_gap}
 
 type_reads : (o : Option Text) (r : Text) → AreScalars o → MaybeType true (canonical_type o ++ r) r o
 type_reads None r ok = untyped
@@ -89,7 +92,7 @@ module _ (indent : Text) (ok : list_all is_space indent ≡ true) where
           node_joined (repeat level indent) (canonical_type ty) (spelled name) (canonical_entries es) (canonical_children indent level k) (canonical_nodes indent level ns ++ t),
         )
         (node_then (level_gap indent ok level no_gap)
-        (inner_reads ty name es k (canonical_children indent level k) (canonical_nodes indent level ns ++ t) w.0.0 w.0.1 w.0.2 (children_end indent level k _ (newline_ends _))
+        (inner_reads ty name es k (canonical_children indent level k) (canonical_nodes indent level ns ++ t) w.0.0 w.0.1 w.0.2 (children_end indent level k _ (newline_end _))
         (children_read level k (canonical_nodes indent level ns ++ t) w.0.3))
         (Terminator.newline (a_newline _)) (nodes_read level ns t r w.1 g))
 
@@ -102,7 +105,7 @@ module _ (indent : Text) (ok : list_all is_space indent ≡ true) where
       subst (λ (t : Text). IsNodeText t (node ty name es k)) (append-nil (canonical_node indent level (node ty name es k)))
       (rw (node_joined (repeat level indent) (canonical_type ty) (spelled name) (canonical_entries es) (canonical_children indent level k) [])
       (node_text (level_gap indent ok level no_gap)
-      (inner_reads ty name es k (canonical_children indent level k) [] w.0 w.1 w.2 (children_end indent level k _ (newline_ends [])) (children_read level k [] w.3))
+      (inner_reads ty name es k (canonical_children indent level k) [] w.0 w.1 w.2 (children_end indent level k _ (newline_end [])) (children_read level k [] w.3))
       (Terminator.newline (a_newline [])) Star.none))
 
   pub canonical_reads : (level : ℕ) (x : Nodes) → AreWellFormed x → Canonical indent level x

@@ -12,6 +12,7 @@ use Rattle.kdl_grammar.specs.ReadsBack.{EntryReads}
 use Rattle.kdl_grammar.specs.Grammar.{Gap}
 use Rattle.kdl_grammar.specs.Tree.{Nodes, none, first}
 use Rattle.kdl_grammar.proofs.Laying.LaidIsDerived.{first_entry}
+use Rattle.kdl_grammar.proofs.ReadingBack.Reads.{newline_gap}
 use Rattle.kdl_comments.specs.Items.{before_entry, PlaceItems}
 use Rattle.kdl_comments.specs.Written.{tail}
 use Rattle.kdl_fmt.specs.Config.{Settings}
@@ -29,7 +30,7 @@ use Rattle.kdl_fmt.proofs.Keeping.KeptAgain.{none_before}
 use Rattle.kdl_fmt.proofs.Formatting.PrintsCanonical.{unspelled_twice}
 use Rattle.kdl_fmt.proofs.EntryTexts.{name_of, type_joined, key_joined}
 use Rattle.kdl_fmt.proofs.Respelling.Kept.{TypeSpaces, continued_ends, continued_leads}
-use Rattle.kdl_fmt.proofs.Keeping.KeptPlaces.{newline_gap, space_ends, Tail, tail_ends, tail_of, tail_spaced}
+use Rattle.kdl_fmt.proofs.Keeping.KeptPlaces.{space_ends, Tail, tail_ends, tail_of, tail_spaced}
 use Rattle.kdl_value.specs.Data.{Value}
 use Rattle.kdl_entry.proofs.Moving.EntryMoves.{punctuation_end}
 use Rattle.kdl_comments.proofs.NodeSpaces.{spaces_end}

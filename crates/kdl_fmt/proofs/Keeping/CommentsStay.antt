@@ -36,7 +36,7 @@ use Rattle.kdl_fmt.proofs.OneLine.Same.{one_or_more}
 use Rattle.kdl_fmt.proofs.Respelling.Written.{IsWrittenNode, IsWrittenDocument, written_head, IsWrittenHead, Inside, IsGap, IsInside, NameReads, NameReadsIf, IsWrittenEntry, AreWrittenEntries, printed_front}
 use Rattle.kdl_fmt.proofs.Keeping.KeptPlaces.{space_ends, tail_ends, tail_spaced, line_end_of, line_terminator, last_text, last_ends, Tail, one_space, kept_in, kept_end, kept_last, KeptIn, place_stays}
 use Rattle.kdl_fmt.proofs.Respelling.Spelled.{SpelledNode, spelled, SpelledChildren, blockless, spelled_block, SpelledNodes, nodeless, one_more, SpelledDocument}
-use Rattle.kdl_fmt.proofs.OneLine.Nothing.{head_parts, line_parts, no_comment, spaces_in, spaces_items, spaces_without_bom}
+use Rattle.kdl_fmt.proofs.OneLine.Nothing.{head_parts, line_parts, no_comment, spaces_in, spaces_without_bom}
 use Rattle.kdl_fmt.proofs.OneLine.Reads.{nothing_before, space_before}
 use Rattle.kdl_fmt.proofs.Respelling.Kept.{no_texts, no_type_spaces, TypeSpaces, no_place_left}
 use Rattle.kdl_fmt.proofs.EntryTexts.{type_joined, key_joined}
@@ -45,6 +45,7 @@ use Rattle.kdl_fmt.proofs.Formatting.EntriesRead.{entry_ends, entry_leads}
 use Rattle.kdl_comments.proofs.Rewriting.PlacesAgain.{PlaceText}
 use Rattle.kdl_comments.proofs.Listing.ItemsUnique.{gap_items_det, place_items_det}
 use Rattle.kdl_comments.proofs.NodeSpaces.{spaces_end}
+use Rattle.kdl_comments.proofs.Rewriting.LinesAgain.{spaces_items}
 use Rattle.kdl_text.proofs.Spacing.SpaceUnique.{no_line_comment}
 use Rattle.kdl_entry.proofs.Moving.EntryMoves.{punctuation_end}
 use Rattle.kdl_entry.specs.Laid as laid

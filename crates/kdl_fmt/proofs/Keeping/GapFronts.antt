@@ -1,23 +1,24 @@
 -- Gaps that come before any other gap, with their items.
 use Rattle.std.proofs.Common.{◌≡◌, ℕ, ◌==◌, Bool, true, false, List, [], ◌∷◌, ◌++◌, refl, sym, subst, append_assoc, append-nil, arith}
 use Rattle.std.proofs.lemmas.Bool.Decides.{nat_tests}
-use Rattle.std.proofs.lemmas.Bool.{and_parts}
 use Rattle.std.specs.List.{list_all}
 use Rattle.std.specs.Prelude.{if◌then◌else◌}
-use Rattle.kdl_text.specs.Chars.{Text, is_space, space as a_space}
+use Rattle.kdl_text.specs.Chars.{Text, is_space}
 use Rattle.kdl_text.specs.Trivia.{LineSpace}
 use Rattle.kdl_entry.specs.Places.{Is}
 use Rattle.kdl_lexer.specs.Tokens.{t_space, t_newline, t_bom}
 use Rattle.kdl_lexer.proofs.Lexing.TokenUnique.{token_det}
 use Rattle.kdl_grammar.specs.Grammar.{Gap, no_gap}
 use Rattle.kdl_grammar.specs.Tree.{Nodes, first}
-use Rattle.kdl_comments.specs.Items.{Item, SpaceItems, LineSpaceItems, GapItems}
+use Rattle.kdl_comments.specs.Items.{Item, LineSpaceItems, GapItems}
 use Rattle.kdl_comments.proofs.Rewriting.BeforeNewlines.{a_newline}
 use Rattle.kdl_comments.proofs.Listing.SpaceItems.{gap_none}
+use Rattle.kdl_comments.proofs.Rewriting.LinesAgain.{spaces_before}
 use Rattle.kdl_fmt.specs.Config.{Settings, indentation}
 use Rattle.kdl_fmt.specs.Formatted.{newline_if_none}
 use Rattle.kdl_fmt.specs.Kept.{without_bom}
-use Rattle.kdl_fmt.proofs.Keeping.KeptPlaces.{level_spaces, newline_gap, indentation_gap}
+use Rattle.kdl_fmt.proofs.Keeping.KeptPlaces.{level_spaces, indentation_gap}
+use Rattle.kdl_grammar.proofs.ReadingBack.Reads.{newline_gap}
 
 -- a gap before each other one, and its items before the other's
 pub record Front (p : Text) (is : List Item) : Type 0 where
@@ -49,15 +50,8 @@ pub newline_if : (ns : Nodes) → Front (newline_if_none ns) []
 newline_if Nodes.none = newline
 newline_if (first n ns) = nothing
 
--- spaces
-space_items : (s : Text) → list_all is_space s ≡ true → {t : Text} {js : List Item} → GapItems t js → GapItems (s ++ t) js
-space_items [] ok g = g
-space_items (c ∷ s) ok g =
-    let (here, others) = and_parts (is_space c) (list_all is_space s) ok in
-    GapItems.space (LineSpaceItems.space (SpaceItems.space (a_space here))) (space_items s others g)
-
 pub indented : (s : Settings) → list_all is_space s.indent ≡ true → (level : ℕ) → Front (indentation s level) []
-indented s ok level = record { gap = λ g. indentation_gap s ok level g; items = λ g. space_items (indentation s level) (level_spaces s.indent ok level) g }
+indented s ok level = record { gap = λ g. indentation_gap s ok level g; items = λ g. spaces_before (indentation s level) (level_spaces s.indent ok level) g }
 
 -- U+FEFF begins no gap
 bom_line : (s : Text) {r : Text} → LineSpace (0xFEFF ∷ s) r → ⊥

@@ -1,23 +1,22 @@
 -- What is kept of comments may occur in the place in which it is written, and holds the items of its text.
 use Rattle.std.proofs.Common.{◌≡◌, ℕ, zero, suc, Bool, true, false, List, [], ◌∷◌, ◌++◌, refl, sym, subst, ◌∙◌, ◌==◌, map, ap, append-nil, arith}
-use Rattle.std.proofs.lemmas.Bool.{and_parts}
 use Rattle.std.proofs.lemmas.List.Folds.{list_all-append}
 use Rattle.std.proofs.lemmas.Bool.Decides.{nat_tests}
 use Rattle.std.proofs.lemmas.List.{map-append}
 use Rattle.std.specs.Cmp.Derive.{both_true}
 use Rattle.std.specs.List.{list_all, repeat}
 use Rattle.std.specs.Prelude.{if◌then◌else◌}
-use Rattle.kdl_text.specs.Chars.{Text, is_space, is_newline_char, Newline, Space, Star, plus, space as a_space}
-use Rattle.kdl_text.specs.Trivia.{Ws, NodeSpace, Break, LineSpace, ValueEnd, LineComment}
+use Rattle.kdl_text.specs.Chars.{Text, is_space, is_newline_char, Space, Star, plus, space as a_space}
+use Rattle.kdl_text.specs.Trivia.{Ws, NodeSpace, ValueEnd, LineComment}
 use Rattle.kdl_entry.specs.Places.{leading, between}
 use Rattle.kdl_grammar.specs.Data.{Nodes}
-use Rattle.kdl_grammar.specs.Grammar.{Terminator, Gap, no_gap, line_space, dropped_node, AreNodes, last_gap, node_then}
+use Rattle.kdl_grammar.specs.Grammar.{Terminator, Gap, AreNodes, last_gap, node_then}
 use Rattle.kdl_grammar.specs.Places.{AfterChildren, BeforeChildren}
 use Rattle.kdl_comments.specs.Items.{Item, Place, before_entry, before_block, after_block, PlaceItems, comment as a_comment, piece, line_end, EsclineItems, SpaceItems, may_end, takes_blocks, spaced}
 use Rattle.kdl_comments.specs.Written.{tail, line_text, on_line}
 use Rattle.kdl_comments.proofs.Rewriting.PlacesAgain.{PlaceText, tail_leading, tail_before, tail_before_line, tail_after, tail_after_line, tail_alone, tail_spaced as items_spaced}
-use Rattle.kdl_comments.proofs.Rewriting.LinesAgain.{comment_part, comment_again, comment_item, line_part, comment_text}
-use Rattle.kdl_comments.proofs.Rewriting.BeforeNewlines.{piece_kept}
+use Rattle.kdl_comments.proofs.Rewriting.LinesAgain.{comment_part, comment_again, comment_item, line_part, comment_text, spaces_gap}
+use Rattle.kdl_comments.proofs.Rewriting.BeforeNewlines.{piece_kept, a_newline, newline_end}
 use Rattle.kdl_comments.proofs.Listing.ItemsUnique.{place_items_det}
 use Rattle.kdl_comments.proofs.Rewriting.LastCharacters.{Last, last_after, last_end, entry_last, block_last, ws_last}
 use Rattle.kdl_fmt.specs.Config.{Settings, indentation}
@@ -26,6 +25,7 @@ use Rattle.kdl_fmt.specs.Comments.{ItemsIn, EndItems}
 use Rattle.kdl_text.proofs.Spacing.SpaceUnique.{no_line_comment}
 use Rattle.kdl_entry.proofs.Slicing.Between.{is_between}
 use Rattle.kdl_entry.proofs.Moving.EntryEnds.{end_slashdash}
+use Rattle.kdl_grammar.proofs.ReadingBack.Reads.{join_gaps}
 
 pub one_space : (s : Text) → NodeSpace (32 ∷ s) s
 unfolding is_space
@@ -34,22 +34,6 @@ one_space s = NodeSpace.ws (Ws.space (Space.space refl))
 pub space_ends : (s : Text) → ValueEnd true (32 ∷ s)
 unfolding is_space
 space_ends s = ValueEnd.space (Space.space refl)
-
-pub a_newline : (s : Text) → Newline (10 ∷ s) s
-unfolding is_newline_char
-a_newline s = Newline.one refl refl
-
-pub newline_ends : (s : Text) → ValueEnd true (10 ∷ s)
-newline_ends s = ValueEnd.newline (a_newline s)
-
--- a newline in a gap
-pub newline_gap : {t r : Text} → Gap true t r → Gap true (10 ∷ t) r
-newline_gap {t} g = line_space (LineSpace.«break» (Break.newline (a_newline t))) g
-
-join_gaps : {s t r : Text} → Gap true s t → Gap true t r → Gap true s r
-join_gaps no_gap h = h
-join_gaps (line_space l g) h = line_space l (join_gaps g h)
-join_gaps (dropped_node m n e g) h = dropped_node m n e (join_gaps g h)
 
 -- a gap before nodes
 pub gap_nodes : {s t r : Text} {xs : Nodes} → Gap true s t → AreNodes true t r xs → AreNodes true s r xs
@@ -60,12 +44,6 @@ gap_nodes g (node_then h n e d) = node_then (join_gaps g h) n e d
 pub level_spaces : (indent : Text) → list_all is_space indent ≡ true → (level : ℕ) → list_all is_space (repeat level indent) ≡ true
 level_spaces indent ok zero = refl
 level_spaces indent ok (suc level) = list_all-append is_space indent (repeat level indent) ∙ both_true ok (level_spaces indent ok level)
-
-pub spaces_gap : (before : Text) → list_all is_space before ≡ true → {t r : Text} → Gap true t r → Gap true (before ++ t) r
-spaces_gap [] ok g = g
-spaces_gap (c ∷ cs) ok g =
-    let (here, others) = and_parts (is_space c) (list_all is_space cs) ok in
-    line_space (LineSpace.space (NodeSpace.ws (Ws.space (Space.space here)))) (spaces_gap cs others g)
 
 pub indentation_gap : (s : Settings) → list_all is_space s.indent ≡ true → (level : ℕ) → {t r : Text} → Gap true t r → Gap true (indentation s level ++ t) r
 indentation_gap s ok level g = spaces_gap (indentation s level) (level_spaces s.indent ok level) g
@@ -124,7 +102,7 @@ last_text has k LineEnd.newline r = tail_line has k r
 last_text has k (LineEnd.comment s) r = tail_spaced (last_place has) k (comment_part s ++ (10 ∷ r))
 
 pub last_ends : {p : Place} {t space comment : Text} → Tail p t → LineEnd space comment → (r : Text) → ValueEnd true (t ++ (space ++ (comment ++ (10 ∷ r))))
-last_ends k LineEnd.newline r = tail_ends k (10 ∷ r) (newline_ends r)
+last_ends k LineEnd.newline r = tail_ends k (10 ∷ r) (newline_end r)
 last_ends k (LineEnd.comment s) r = tail_ends k (32 ∷ (comment_part s ++ (10 ∷ r))) (space_ends _)
 
 -- What is kept in a place holds the items of its text.
@@ -215,8 +193,8 @@ pub kept_in : (b : Bool) → b ≡ false → {p : Place} (place t : Text) {is : 
 kept_in b with {p} place t k i = written_in place t (subst (λ (c : Bool). WrittenUnless c (PlaceItems p place) tail t) with k) i
 
 -- a terminator that is kept
-newline_end : EndItems (10 ∷ []) []
-newline_end = EndItems.other (λ l. no_line_comment refl l)
+line_feed_end : EndItems (10 ∷ []) []
+line_feed_end = EndItems.other (λ l. no_line_comment refl l)
 
 comment_end : (s : Text) → EndItems (comment_part s ++ (10 ∷ [])) (a_comment (comment_part s) ∷ [])
 comment_end s = subst (λ (t : Text). EndItems (comment_part s ++ (10 ∷ [])) (a_comment t ∷ [])) (comment_text s []) (EndItems.line_comment (comment_again s []))
@@ -225,7 +203,7 @@ end_kept : (end space rest : Text) {is : List Item} → WrittenEnd end space res
 end_kept end _ _ (WrittenEnd.comment l) (EndItems.line_comment m) =
     let c = comment_item l in
     rw c.1 (subst (λ (t : Text). EndItems (comment_part c.0 ++ (10 ∷ [])) (a_comment t ∷ [])) (sym (comment_kept c.0)) (comment_end c.0))
-end_kept end _ _ (WrittenEnd.other f) (EndItems.other h) = newline_end
+end_kept end _ _ (WrittenEnd.other f) (EndItems.other h) = line_feed_end
 end_kept end _ _ (WrittenEnd.comment l) (EndItems.other h) = absurd (h l)
 end_kept end _ _ (WrittenEnd.other f) (EndItems.line_comment m) = absurd (f m)
 

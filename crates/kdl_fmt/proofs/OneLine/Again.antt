@@ -20,9 +20,9 @@ use Rattle.kdl_fmt.specs.Respelled.{IsTypedFormat, KeptTypeTexts, TypeTexts, nod
 use Rattle.kdl_fmt.specs.Spaced.{Passes, PassesFormat, PassesNode, PassesNodes, SpacedLines, SpacesContent, SpacesTexts, IsSpacedBraced, IsSpacedLine}
 use Rattle.kdl_fmt.specs.Parts.{NodeTexts, AreFormattedEntries, IsFormattedEntry, following}
 use Rattle.kdl_fmt.specs.declared.blank.Before.{Before}
-use Rattle.kdl_comments.proofs.Rewriting.LinesAgain.{newline_items}
+use Rattle.kdl_comments.proofs.Rewriting.LinesAgain.{newline_items, spaces_items}
 use Rattle.kdl_fmt.proofs.Keeping.GapFronts.{alone, joined, newline_if, indented}
-use Rattle.kdl_fmt.proofs.OneLine.Nothing.{ArePlain, Quiet, are_plain, head_parts, nothing_kept, nothing_spaced, quiet_lead, quiet_lines, quiet_node, quiet_start, read_spaces, spaces_items, spaces_without_bom, line_is_plain, quiet_passes, nothing_tailed, spaces_place, HeadParts}
+use Rattle.kdl_fmt.proofs.OneLine.Nothing.{ArePlain, Quiet, are_plain, head_parts, nothing_kept, nothing_spaced, quiet_lead, quiet_lines, quiet_node, quiet_start, read_spaces, spaces_without_bom, line_is_plain, quiet_passes, nothing_tailed, spaces_place, HeadParts}
 use Rattle.kdl_fmt.proofs.OneLine.Same.{one_or_more, block_stays}
 use Rattle.kdl_fmt.proofs.Keeping.KeptPlaces.{level_spaces}
 use Rattle.kdl_fmt.proofs.Respelling.Spelled.{SpelledHead, SpelledNode, spelled, SpelledChildren, blockless, spelled_block, SpelledNodes, nodeless, one_more, SpelledDocument, spelled_document, spelled_node}

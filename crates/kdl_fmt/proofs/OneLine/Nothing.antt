@@ -10,9 +10,10 @@ use Rattle.kdl_text.specs.Trivia.{LineComment}
 use Rattle.kdl_text.proofs.Spacing.SpaceUnique.{no_line_comment}
 use Rattle.kdl_entry.specs.Tree.{Identifier}
 use Rattle.kdl_grammar.specs.Tree.{NodeFormat, Head, node, Children, no_children, children, Nodes, none, first}
-use Rattle.kdl_comments.specs.Items.{Item, SpaceItems, LineSpaceItems, GapItems, Place, before_block, may_end, spaced, PlaceItems}
+use Rattle.kdl_comments.specs.Items.{Item, SpaceItems, GapItems, Place, before_block, may_end, spaced, PlaceItems}
 use Rattle.kdl_comments.specs.Written.{lines, tail}
 use Rattle.kdl_comments.proofs.Listing.ItemsUnique.{gap_items_det, place_items_det}
+use Rattle.kdl_comments.proofs.Rewriting.LinesAgain.{spaces_items}
 use Rattle.kdl_fmt.specs.Blank.{at_start, blank_lines, empty_lines, newlines, one_if, past_items, past_node, read, spaced_lines, after_char, counts}
 use Rattle.kdl_fmt.specs.Config.{Settings, indentation}
 use Rattle.kdl_fmt.specs.Formatted.{or_empty}
@@ -36,12 +37,6 @@ unfolding is_space
 space_no_bom c h = grind (arith, nat_tests)
 
 -- spaces hold no items
-pub spaces_items : (t : Text) → only_spaces t ≡ true → GapItems t []
-spaces_items [] h = GapItems.none
-spaces_items (c ∷ t) h =
-    let e = and_parts (is_space c) (only_spaces t) h in
-    GapItems.space {is = []} {js = []} (LineSpaceItems.space (SpaceItems.space (a_space {c = c} e.0))) (spaces_items t e.1)
-
 pub spaces_place : (p : Place) (c : ℕ) (t : Text) → only_spaces (c ∷ t) ≡ true → PlaceItems p (c ∷ t) []
 spaces_place p c [] h =
     let e = and_parts (is_space c) (only_spaces []) h in

@@ -13,7 +13,7 @@ use Rattle.kdl_grammar.specs.Tree.{NodeFormat}
 use Rattle.kdl_comments.specs.Items.{Item, GapItems, comment, piece}
 use Rattle.kdl_comments.specs.Written.{item_text, line_text, on_line, lines}
 use Rattle.kdl_comments.proofs.Listing.ItemsUnique.{gap_items_det}
-use Rattle.kdl_comments.proofs.Rewriting.LinesAgain.{AreStanding, gap_items, one_line, one_gap, spaces_before, spaces_gap, Standing, DroppedLine, line_text_again}
+use Rattle.kdl_comments.proofs.Rewriting.LinesAgain.{AreStanding, gap_items, one_line, one_gap, spaces_before, spaces_gap, Standing, DroppedLine, line_text_again, text_on_line}
 use Rattle.kdl_fmt.specs.Blank.{after_item, blank_lines, empty_lines, past_item, read, spaced_lines, past_items, at_start, from_item, last_after_item, last_before, last_of, newlines, one_if}
 use Rattle.kdl_fmt.specs.Comments.{ItemsIn}
 use Rattle.kdl_fmt.specs.Config.{Settings, indentation}
@@ -25,7 +25,8 @@ use Rattle.kdl_fmt.specs.declared.blank.Before.TheVariants.{Nothing, Thing}
 use Rattle.kdl_fmt.specs.declared.blank.Last.{Last}
 use Rattle.kdl_fmt.specs.declared.blank.Last.TheVariants.{Cr, Escline, Other}
 use Rattle.kdl_fmt.proofs.Keeping.GapFronts.{Front, nothing, joined, newline}
-use Rattle.kdl_fmt.proofs.Keeping.KeptPlaces.{level_spaces, newline_gap}
+use Rattle.kdl_fmt.proofs.Keeping.KeptPlaces.{level_spaces}
+use Rattle.kdl_grammar.proofs.ReadingBack.Reads.{newline_gap}
 
 -- a space is no slash, no newline and no backslash
 pub space_no_slash : (c : ℕ) → is_space c ≡ true → (c == 47) ≡ false
@@ -155,11 +156,6 @@ line_slash _ (Standing.line_comment s) = (_, refl)
 line_slash _ (Standing.block_comment {t = t} f e) = let b = block_begins (f []) in (b.0, e ∙ sym (append-nil t) ∙ b.1)
 line_slash _ (Standing.dropped_node {t = t} f) = let d = dropped_begins (f []) in begins_before (line_text t) d.0 d.1
 
--- the text of an item on a line is that of the line
-pub on_line_text : (i : Item) → item_text (on_line i) ≡ line_text (item_text i)
-on_line_text (comment t) = refl
-on_line_text (piece t) = refl
-
 -- what is known of the text before comes last nowhere in the lines that are written
 last_read : (s : Text) (b : Before) → last_before (read s (again b)) ≡ last_of Other s
 last_read s (Nothing l) = refl
@@ -207,7 +203,7 @@ module _ (number : ℕ) (ind : Text) (ok : list_all is_space ind ≡ true) where
   after_line : (i : Item) (e : Before) (x r : Text) → line_text (item_text i) ≡ 47 ∷ x → after_item (on_line i) (empty_lines number e ++ (ind ++ (line_text (item_text i) ++ r))) ≡ r
   after_line i e x r h =
       ap (λ (t : Text). drop (length (item_text (on_line i))) t) (from_line e (line_text (item_text i)) x r h)
-      ∙ ap (λ (t : Text). drop (length t) (line_text (item_text i) ++ r)) (on_line_text i)
+      ∙ ap (λ (t : Text). drop (length t) (line_text (item_text i) ++ r)) (text_on_line i)
       ∙ drop-append_seam (line_text (item_text i)) r
 
   read_again : (b : Before) (s l x r : Text) → l ≡ 47 ∷ x → empty_lines number (read (empty_lines number (read s b) ++ (ind ++ (l ++ r))) (again b)) ≡ empty_lines number (read s b)
@@ -224,7 +220,7 @@ module _ (number : ℕ) (ind : Text) (ok : list_all is_space ind ≡ true) where
       ∙ ap (Thing 0 0) (line_last i)
 
   same_text : (i : Item) → line_text (item_text (on_line i)) ≡ line_text (item_text i)
-  same_text i = ap line_text (on_line_text i) ∙ line_text_again (item_text i)
+  same_text i = ap line_text (text_on_line i) ∙ line_text_again (item_text i)
 
   all_again : (b : Before) (s : Text) (is : List Item) → AreStanding is → (r : Text) → (spaced_lines number ind (again b) (spaced_lines number ind b s is ++ r) (map on_line is) ≡ spaced_lines number ind b s is)
       × (past_items false (again b) (spaced_lines number ind b s is ++ r) (map on_line is) ≡ read r (again (past_items false b s is)))
