@@ -4,9 +4,7 @@
 pub mod KeptReads
 -- What layout kept is kept again of the text that it wrote.
 pub mod KeptAgain
--- What is kept in a place holds the items of its text.
-pub mod KeptItems
--- What is kept may occur where it is written.
+-- What is kept may occur where it is written, and holds the items of its text.
 pub mod KeptPlaces
 -- A document has one list of items at most.
 pub mod ListUnique

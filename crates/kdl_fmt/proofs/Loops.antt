@@ -28,10 +28,9 @@ module _ {A B : Type 0} (f : A → B) (R : B → B → Type 0) where
 
   turned_suc : (xs : List A) (i : ℕ) (y d : A) (start : List B) → i < length xs → R (f (get_or xs i d)) (f y) → Turned f R xs i start → Turned f R (set xs i y) (suc i) start
   turned_suc [] i y d start h r k = absurd (omega arith)
-  turned_suc (x ∷ xs) zero y d [] h r k = absurd k
-  turned_suc (x ∷ xs) (suc i) y d [] h r k = absurd k
   turned_suc (x ∷ xs) zero y d (s ∷ start) h r k = (subst (λ (z : B). R z (f y)) k.0 r, k.1)
   turned_suc (x ∷ xs) (suc i) y d (s ∷ start) h r k = (k.0, turned_suc xs i y d start (omega arith) r k.1)
+  turned_suc _ _ y d _ h r k = absurd assumption
 
   -- it has left one element more
   pub turned_more : (xs : List A) (i : ℕ) (y d : A) (start : List B) → i < length xs → R (f (get_or xs i d)) (f y) → Turned f R xs i start → Turned f R (set xs i y) (i + 1) start
@@ -39,10 +38,9 @@ module _ {A B : Type 0} (f : A → B) (R : B → B → Type 0) where
 
   turned_pairs : (xs : List A) (i : ℕ) (start : List B) → length xs ≤ i → Turned f R xs i start → Pairwise R start (map f xs)
   turned_pairs [] i [] h k = tt
-  turned_pairs [] i (s ∷ start) h k = absurd k
   turned_pairs (x ∷ xs) zero start h k = absurd (omega arith)
-  turned_pairs (x ∷ xs) (suc i) [] h k = absurd k
   turned_pairs (x ∷ xs) (suc i) (s ∷ start) h k = (k.0, turned_pairs xs i start (omega arith) k.1)
+  turned_pairs _ _ _ h k = absurd assumption
 
   -- it has left all: R holds of what it was given and of what it gives back
   pub turned_all : (n i : ℕ) (xs zs ys : List A) → zs ≡ ys → length xs ≡ n → n ≤ i → Turned f R xs i (map f zs) → Pairwise R (map f ys) (map f (take n (xs ++ drop (length xs) ys)))
@@ -52,11 +50,9 @@ module _ {A B : Type 0} (f : A → B) (R : B → B → Type 0) where
   module _ {C : Type 0} (g : B → C) (same : (s t : B) → R s t → g t ≡ g s) where
     same_so_far : (xs : List A) (i : ℕ) (start : List B) → Turned f R xs i start → map g (map f xs) ≡ map g start
     same_so_far [] i [] k = refl
-    same_so_far [] i (s ∷ start) k = absurd k
-    same_so_far (x ∷ xs) zero [] k = absurd k
-    same_so_far (x ∷ xs) (suc i) [] k = absurd k
     same_so_far (x ∷ xs) zero (s ∷ start) k = rw (k.0, same_so_far xs zero start k.1) refl
     same_so_far (x ∷ xs) (suc i) (s ∷ start) k = rw (same s (f x) k.0, same_so_far xs i start k.1) refl
+    same_so_far _ _ _ k = absurd assumption
 
     exchanged : (xs : List A) (i : ℕ) (y d : A) → i < length xs → g (f y) ≡ g (f (get_or xs i d)) → map g (map f (set xs i y)) ≡ map g (map f xs)
     exchanged [] i y d h e = absurd (omega arith)
@@ -84,15 +80,13 @@ LaidEntry keep s = And (IsSpelledEntry keep s) (λ e. IsWellFormedEntry (entry_d
 
 pub entries_laid : (keep : Bool) (s : Settings) (es es' : List Entry) → Pairwise (LaidEntry keep s) es es' → AreSpelledEntries keep s es es'
 entries_laid keep s [] [] k = ([], tt, tt)
-entries_laid keep s [] (e' ∷ es') k = absurd k
-entries_laid keep s (e ∷ es) [] k = absurd k
 entries_laid keep s (e ∷ es) (e' ∷ es') ((f, w), k) = let x = entries_laid keep s es es' k in (f.0 ∷ x.0, (f.1, x.1), (f.2, x.2))
+entries_laid keep s _ _ k = absurd assumption
 
 pub entries_fit : (keep : Bool) (s : Settings) (es es' : List Entry) → Pairwise (LaidEntry keep s) es es' → AreWellFormedEntries (map entry_data es)
 entries_fit keep s [] [] k = tt
-entries_fit keep s [] (e' ∷ es') k = absurd k
-entries_fit keep s (e ∷ es) [] k = absurd k
 entries_fit keep s (e ∷ es) (e' ∷ es') k = (k.0.1, entries_fit keep s es es' k.1)
+entries_fit keep s _ _ k = absurd assumption
 
 -- what R leads to holds of each element wherever the loop ends
 abbrev pub Each : {B : Type 0} → (B → Type 0) → List B → Type 0
@@ -102,11 +96,9 @@ Each Q (x ∷ xs) = Q x × Each Q xs
 module _ {A B : Type 0} (f : A → B) (R : B → B → Type 0) (Q : B → Type 0) (leads : (x y : B) → R x y → Q x → Q y) where
   each_so_far : (xs : List A) (i : ℕ) (start : List B) → Turned f R xs i start → Each Q start → Each Q (map f xs)
   each_so_far [] i [] k h = tt
-  each_so_far [] i (s ∷ start) k h = absurd k
-  each_so_far (x ∷ xs) zero [] k h = absurd k
-  each_so_far (x ∷ xs) (suc i) [] k h = absurd k
   each_so_far (x ∷ xs) zero (s ∷ start) k h = (subst Q (sym k.0) h.0, each_so_far xs zero start k.1 h.1)
   each_so_far (x ∷ xs) (suc i) (s ∷ start) k h = (leads s (f x) k.0 h.0, each_so_far xs i start k.1 h.1)
+  each_so_far _ _ _ k h = absurd assumption
 
   each_set : (xs : List A) (i : ℕ) (y d : A) → i < length xs → (Q (f (get_or xs i d)) → Q (f y)) → Each Q (map f xs) → Each Q (map f (set xs i y))
   each_set [] i y d l g h = tt

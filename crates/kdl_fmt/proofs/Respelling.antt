@@ -4,8 +4,6 @@
 pub mod Spellings
 -- What is kept inside an entry or a type, and before an entry that continues the line.
 pub mod Kept
--- The steps that find what is kept there.
-pub mod KeptSteps
 -- What is laid out, with or without spellings.
 pub mod Written
 -- What a layout that keeps spellings leaves as it was.
@@ -18,3 +16,5 @@ pub mod Entries
 pub mod Again
 -- What the definitions of kept spellings do not allow.
 pub mod Examples
+-- A tree that is laid out with its spellings, as one tree of steps.
+pub mod Spelled

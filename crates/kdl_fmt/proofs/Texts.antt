@@ -1,12 +1,12 @@
 -- Texts of one or four characters, and the formats of lines and documents.
-use Rattle.std.proofs.Common.{◌≡◌, ◌≢◌, ℕ, Bool, zero, suc, true, false, List, [], ◌∷◌, ◌++◌, ◌==◌, lit<, refl, sym, ap, ◌∙◌, Option, None, Some, String, string_bytes, string_len, Global, IfOk, MatchBool, MatchOption, Result, Ok, Err}
+use Rattle.std.proofs.Common.{◌≡◌, ◌≢◌, ℕ, Bool, zero, suc, true, false, List, [], ◌∷◌, ◌++◌, ◌==◌, lit<, refl, sym, ap, ◌∙◌, Option, None, Some, String, string_bytes, string_len, Global, IfOk, MatchBool, MatchOption, Result, Ok, Err, ◌+◌, add-one, append_assoc}
 use Rattle.std.proofs.lemmas.Bool.{and_parts, ltb-true, eqb-true}
 use Rattle.std.proofs.lemmas.Str.{chars-IsAscii, chars-nil, chars-append, chars_from_encodes, chars_past_char, encodes-chars, IsUtf8-string_bytes}
 use Rattle.std.specs.Char.{encode_utf8}
 use Rattle.std.specs.List.{list_all, repeat}
 use Rattle.std.specs.Prelude.{nat_lt}
 use Rattle.std.specs.Str.{chars, encode_utf8_all, IsAscii, IsUtf8}
-use Rattle.kdl_text.specs.Chars.{Text}
+use Rattle.kdl_text.specs.Chars.{Text, times}
 use Rattle.kdl_value.specs.Print.{print_value}
 use Rattle.kdl_value.specs.Tree.{text_of}
 use Rattle.kdl_entry.specs.Tree.{Entry, EntryFormat, empty_format, entry_format_tree}
@@ -93,3 +93,12 @@ chars_repeated (suc n) bs u = chars-append bs (repeat n bs) u ∙ ap (λ (t : Te
 pub text_repeated : {E : Type 0} (r : Result (String Global) E) (n : ℕ) (bs : List ℕ) → IsUtf8 bs → IfOk r (λ s. string_bytes s ≡ repeat n bs) → IfOk r (λ s. text_of s ≡ repeat n (chars bs))
 text_repeated (Ok s) n bs u h = ap chars h ∙ chars_repeated n bs u
 text_repeated (Err e) n bs u h = tt
+
+-- newlines, written one by one
+-- one newline more
+times_more : (n : ℕ) → times n 10 ++ (10 ∷ []) ≡ times (ℕ.suc n) 10
+times_more ℕ.zero = refl
+times_more (ℕ.suc n) = ap (λ (t : Text). 10 ∷ t) (times_more n)
+
+pub more_newlines : (now was start : Text) (n : ℕ) → now ≡ was ++ chars (10 ∷ []) → was ≡ start ++ times n 10 → now ≡ start ++ times (n + 1) 10
+more_newlines now was start n e h = e ∙ rw (h, newline_text) (append_assoc start (times n 10) (10 ∷ [])) ∙ ap (λ (z : Text). start ++ z) (times_more n) ∙ ap (λ (k : ℕ). start ++ times k 10) (sym (add-one n))

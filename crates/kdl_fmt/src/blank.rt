@@ -9,6 +9,7 @@ ghost use Rattle.std.specs.List.{list_any};
 ghost use Rattle.std.specs.Prelude.{◌≡◌, ◌+◌, ◌++◌, ◌∷◌, [], IfOk, MatchOption, OnOk, drop, false, length, true};
 ghost use Rattle.std.specs.Str.{chars};
 
+use crate::config::FormatConfig;
 use kdl_comments::{Item, push_lines, push_text};
 use kdl_text::chars::is_newline_char;
 use std::alloc::AllocError;
@@ -202,7 +203,7 @@ impl Before {
     }
 
     /// Returns what comes before the next thing, after an item that is removed.
-    fn past_item(self, item: Item) -> Before
+    fn past_removed_item(self, item: Item) -> Before
         ensures { result ≡ past_item true (item_view item.entry) self }
     {
         let last = self.last().after_item(item);
@@ -217,6 +218,17 @@ impl Before {
         ensures { result ≡ past_item false (item_view item.entry) self }
     {
         Before::Thing(0, 0, self.last().after_item(item))
+    }
+
+    /// Returns what comes before the next thing, after an item that is removed or written, as the configuration says.
+    fn past_item(self, config: &FormatConfig, item: Item) -> Before
+        ensures { result ≡ past_item config.now.no_comments (item_view item.entry) self }
+    {
+        if config.no_comments {
+            self.past_removed_item(item)
+        } else {
+            self.past_written_item(item)
+        }
     }
 }
 
@@ -250,32 +262,21 @@ pub(crate) fn past_node(terminator: &str) -> Before
     }
 }
 
-/// Returns what comes before the thing after a text whose items are removed.
-pub(crate) fn past_items(before: Before, text: &str, items: &[Item]) -> Result<Before, AllocError>
-    ensures { IfOk result (λ b.
-        b ≡ past_items true before (chars text.now) (items_view items.now)) }
+/// Returns what comes before the thing after a text whose items are removed or written, as the configuration says.
+pub(crate) fn past_items(
+    config: &FormatConfig,
+    before: Before,
+    text: &str,
+    items: &[Item],
+) -> Result<Before, AllocError>
+    ensures { IfOk result (λ b. b ≡
+        past_items config.now.no_comments before (chars text.now) (items_view items.now)) }
 {
     let mut before = before;
     let mut rest = text;
     for item in items {
         let (at_item, from) = before.read(rest)?;
-        before = at_item.past_item(*item);
-        rest = same(following_item(from, *item));
-    }
-    let (at_end, _) = before.read(rest)?;
-    Ok(at_end)
-}
-
-/// Returns what comes before the thing after a text whose items are written.
-pub(crate) fn past_written(before: Before, text: &str, items: &[Item]) -> Result<Before, AllocError>
-    ensures { IfOk result (λ b.
-        b ≡ past_items false before (chars text.now) (items_view items.now)) }
-{
-    let mut before = before;
-    let mut rest = text;
-    for item in items {
-        let (at_item, from) = before.read(rest)?;
-        before = at_item.past_written_item(*item);
+        before = at_item.past_item(config, *item);
         rest = same(following_item(from, *item));
     }
     let (at_end, _) = before.read(rest)?;

@@ -129,12 +129,7 @@ impl<'a> FormatConfigBuilder<'a> {
     pub fn new() -> Self
         ensures { settings_so_far result ≡ defaults }
     {
-        FormatConfigBuilder(FormatConfig {
-            indent_level: 0,
-            indent: "    ",
-            no_comments: false,
-            entry_autoformate_keep: false,
-        })
+        FormatConfigBuilder(FormatConfig::default())
     }
 
     /// Sets the level of the outermost nodes, if `indent_level` is `Some`.

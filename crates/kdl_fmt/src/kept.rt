@@ -21,7 +21,7 @@ use kdl_parts::KdlNodeFormat;
 use std::alloc::{AllocError, Global};
 
 /// Returns an empty text.
-fn no_text(alloc: Global) -> String
+pub(crate) fn no_text(alloc: Global) -> String
     ensures { text_of result ≡ [] }
 {
     String::new(alloc)

@@ -5,7 +5,7 @@ ghost use Rattle.kdl_fmt.specs.Blank.{at_start, empty_lines, past_node};
 ghost use Rattle.kdl_fmt.specs.Config.{indentation, settings};
 ghost use Rattle.kdl_fmt.specs.Formatted.{newline_if_none, or_empty, or_empty_document, with_keep_if};
 ghost use Rattle.kdl_fmt.specs.Internal.Names.{IsLaid};
-ghost use Rattle.kdl_fmt.specs.Kept.{KeptBefore, KeptBeforeBlock, KeptEnd, KeptLines, KeptTail, WrittenUnless, is_kept_format, last_place, without_bom};
+ghost use Rattle.kdl_fmt.specs.Kept.{KeptBefore, KeptBeforeBlock, KeptEnd, KeptTail, WrittenUnless, is_kept_format, last_place, without_bom};
 ghost use Rattle.kdl_fmt.specs.KeptForm.{EntriesKeepReading};
 ghost use Rattle.kdl_fmt.specs.Plain.{newline_if};
 ghost use Rattle.kdl_fmt.specs.Respelled.{AreSpelledEntries, HasSpellings, IsSpelledEntry};
@@ -24,14 +24,12 @@ ghost use Rattle.kdl_value.specs.Tree.{text_of, value_tree};
 ghost use Rattle.kdl_value.specs.WellFormed.{IsWellFormed};
 ghost use Rattle.std.specs.Int.{w128};
 ghost use Rattle.std.specs.List.{All, list_all, repeat};
-ghost use Rattle.std.specs.Prelude.{◌≡◌, ◌+◌, ◌==◌, ◌≤◌, ◌||◌, ◌++◌, ◌∷◌, [], ℕ, Bool, FitsSigned, IfOk, MatchOption, OnErr, OnOk, Some, is_none, length, map, false, option_map, string_capacity, true, unwrap_or};
+ghost use Rattle.std.specs.Prelude.{◌≡◌, ◌+◌, ◌==◌, ◌≤◌, ◌||◌, ◌++◌, ◌∷◌, [], ℕ, Bool, FitsSigned, IfOk, IsTrue, MatchOption, OnErr, OnOk, Some, is_none, length, map, false, option_map, string_capacity, true, unwrap_or};
 ghost use Rattle.std.specs.Str.{chars};
 
-use crate::blank::{
-    Before, Last, past_items, past_node, past_written, push_empty_lines, push_spaced_lines,
-};
+use crate::blank::{Before, Last, past_items, past_node, push_empty_lines, push_spaced_lines};
 use crate::config::{FormatConfig, Layout};
-use crate::kept::spelled_format;
+use crate::kept::{no_text, spelled_format};
 use crate::names::{autoformat_but, has_spelling, is_flagged, name_spelling_if};
 use kdl_comments::{Place, gap_items, line_comment, place_items, push_lines, push_tail, push_text};
 use kdl_entry::{KdlEntry, KdlEntryFormat, KdlValue};
@@ -121,7 +119,7 @@ fn kept_lines(
     ensures { IfOk result (λ t. WrittenUnless config.now.no_comments (GapItems (chars place.now))
         (lines (chars before.now)) (text_of t)) }
 {
-    let mut out = String::new(alloc);
+    let mut out = no_text(alloc);
     if config.no_comments {
         return Ok(out);
     }
@@ -151,12 +149,12 @@ fn spaced_lines(
         → Spaces layout.now.blank_lines (settings layout.now.config) level
         before.old (chars place.now) (text_of t) before.new) }
 {
-    let mut out = String::new(alloc);
+    let mut out = no_text(alloc);
     let Some(items) = gap_items(alloc, place)? else {
         return Ok(out);
     };
     if layout.config.no_comments {
-        *before = past_items(*before, place, &items)?;
+        *before = past_items(&layout.config, *before, place, &items)?;
         return Ok(out);
     }
     let number = layout.blank_lines;
@@ -195,7 +193,7 @@ fn kept_tail(
     ensures { IfOk result (λ t.
         KeptTail (settings config.now) (place_view place) (chars text.now) (text_of t)) }
 {
-    let mut out = String::new(alloc);
+    let mut out = no_text(alloc);
     if config.no_comments {
         return Ok(out);
     }
@@ -220,7 +218,7 @@ fn kept_before(alloc: Global, config: &FormatConfig, entry: &KdlEntry) -> Result
             Place::BeforeEntry(false),
             format.leading.as_str(),
         ),
-        _ => Ok(String::new(alloc)),
+        _ => Ok(no_text(alloc)),
     }
 }
 
@@ -301,9 +299,25 @@ fn lay_out_spelled(alloc: Global, entry: &mut KdlEntry, layout: &Layout) -> Resu
     Ok(())
 }
 
+/// Flags the entry to keep its form if the configuration says so of each entry that has a format.
+fn flag(entry: &mut KdlEntry, config: &FormatConfig)
+    ensures { entry_tree entry.new ≡
+        with_keep_if config.now.entry_autoformate_keep (entry_tree entry.old) }
+{
+    if config.entry_autoformate_keep {
+        entry.keep_format();
+    }
+}
+
+/// Shows that the data of an entry in memory are well formed. Does nothing at run time.
+fn well_formed_entry(entry: &KdlEntry)
+    ensures { IsWellFormedEntry (entry_data (entry_tree entry.now)) }
+{
+    well_formed(entry.value());
+}
+
 /// Lays out an entry, as `lay_out_entries` lays out each one.
 fn lay_out_entry(alloc: Global, entry: &mut KdlEntry, layout: &Layout) -> Result<(), AllocError>
-    ensures same { cleared (entry_tree entry.new) ≡ cleared (entry_tree entry.old) }
     ensures flagged { OnErr result (entry_tree entry.new ≡
         with_keep_if layout.now.config.entry_autoformate_keep (entry_tree entry.old)) }
     ensures formatted { OnOk result
@@ -311,10 +325,8 @@ fn lay_out_entry(alloc: Global, entry: &mut KdlEntry, layout: &Layout) -> Result
         (entry_tree entry.old) (entry_tree entry.new)) }
     ensures well_formed { IsWellFormedEntry (entry_data (entry_tree entry.old)) }
 {
-    well_formed(entry.value());
-    if layout.config.entry_autoformate_keep {
-        entry.keep_format();
-    }
+    well_formed_entry(entry);
+    flag(entry, &layout.config);
     if layout.keep_spelling && !is_flagged(entry) {
         lay_out_spelled(alloc, entry, layout)
     } else {
@@ -389,7 +401,7 @@ fn kept_before_block(
 {
     match last {
         Place::AfterBlock => kept_tail(alloc, config, Place::BeforeBlock, text),
-        _ => Ok(String::new(alloc)),
+        _ => Ok(no_text(alloc)),
     }
 }
 
@@ -418,7 +430,7 @@ fn line_end(
         × KeptEnd config.now.no_comments (chars terminator.now) space (text_of comment)
         × (text_of l ≡ text_of last ++ space)) }
 {
-    let mut end = String::new(alloc);
+    let mut end = no_text(alloc);
     if let Some(comment) = kept_end(config, terminator) {
         push_text(&mut last, " ")?;
         push_text(&mut end, comment)?;
@@ -571,11 +583,7 @@ fn past_text(
     let Some(items) = gap_items(alloc, place)? else {
         return Ok(before);
     };
-    if layout.config.no_comments {
-        past_items(before, place, &items)
-    } else {
-        past_written(before, place, &items)
-    }
+    past_items(&layout.config, before, place, &items)
 }
 
 /// Appends a newline to the text after the nodes of a document if there are no nodes. `last` is what comes before that
@@ -599,35 +607,27 @@ fn without_bom(text: &str) -> &str
     }
 }
 
-/// Returns what is kept of a text between nodes at a level. If nothing is kept, creates no indentation.
-fn kept_at(
-    alloc: Global,
-    config: &FormatConfig,
-    level: usize,
-    place: &str,
-) -> Result<String, AllocError>
-    ensures { IfOk result (λ t.
-        KeptLines (settings config.now) level (chars place.now) (text_of t)) }
+/// Returns whether it is clear at once that nothing is kept of a text between nodes, and nothing is counted in it.
+fn adds_nothing(layout: &Layout, place: &str) -> bool
+    ensures { IsTrue result → (level : ℕ) (b : Before)
+        → SpacedLines layout.now.blank_lines (settings layout.now.config) level
+        b (chars place.now) [] b }
 {
-    let mut out = String::new(alloc);
-    if config.no_comments {
-        return Ok(out);
+    if place.is_empty() {
+        return true;
     }
-    if is_blank_gap(place) {
-        return Ok(out);
+    if layout.blank_lines != 0 {
+        return false;
     }
-    if let Some(items) = gap_items(alloc, place)? {
-        if !items.is_empty() {
-            let before = indentation(alloc, config, level)?;
-            push_lines(&mut out, before.as_str(), &items)?;
-        }
+    if layout.config.no_comments {
+        return true;
     }
-    Ok(out)
+    is_blank_gap(place)
 }
 
 /// Returns what is kept of a text between nodes at a level, and the blank lines that are kept. `before` is what comes
-/// before the text. If blank lines are kept, sets it to what comes before the next thing. If the text is empty, does
-/// not allocate.
+/// before the text. If blank lines are kept, sets it to what comes before the next thing. Does not allocate if the text
+/// adds nothing.
 fn lines_at(
     alloc: Global,
     layout: &Layout,
@@ -639,14 +639,31 @@ fn lines_at(
         SpacedLines layout.now.blank_lines (settings layout.now.config) level
         before.old (chars place.now) (text_of t) before.new) }
 {
-    if layout.blank_lines == 0 {
-        return kept_at(alloc, &layout.config, level, place);
+    if adds_nothing(layout, place) {
+        return Ok(no_text(alloc));
     }
-    if place.is_empty() {
-        return Ok(String::new(alloc));
+    let margin = indentation(alloc, &layout.config, level)?;
+    lines_between(alloc, layout, margin.as_str(), before, place)
+}
+
+/// Returns the text before the nodes of a document.
+fn leading_of(format: &Option<KdlDocumentFormat>) -> &str
+    ensures { chars result.now ≡ (or_empty_document (document_texts format.now)).leading }
+{
+    match format {
+        Some(format) => format.leading.as_str(),
+        None => "",
     }
-    let indentation = indentation(alloc, &layout.config, level)?;
-    spaced_lines(alloc, layout, indentation.as_str(), before, place)
+}
+
+/// Returns the text after the nodes of a document.
+fn trailing_of(format: &Option<KdlDocumentFormat>) -> &str
+    ensures { chars result.now ≡ (or_empty_document (document_texts format.now)).trailing }
+{
+    match format {
+        Some(format) => format.trailing.as_str(),
+        None => "",
+    }
 }
 
 /// Returns what is kept of the text before the nodes of a document at a level, and what comes before the first node.
@@ -661,10 +678,7 @@ fn content_leading(
         (without_bom (or_empty_document (document_texts format.now)).leading) (text_of t) b) }
 {
     let mut first = Before::Nothing(Last::Other);
-    let place = match format {
-        Some(format) => without_bom(format.leading.as_str()),
-        None => "",
-    };
+    let place = without_bom(leading_of(format));
     let leading = lines_at(alloc, layout, level, &mut first, place)?;
     Ok((leading, first))
 }
@@ -682,11 +696,7 @@ fn content_trailing(
         (or_empty_document (document_texts format.now)).trailing (text_of t) b) }
 {
     let mut last = last;
-    let place = match format {
-        Some(format) => format.trailing.as_str(),
-        None => "",
-    };
-    lines_at(alloc, layout, level, &mut last, place)
+    lines_at(alloc, layout, level, &mut last, trailing_of(format))
 }
 
 /// Returns what is kept of the texts before and after the nodes of a document at a level, and what comes before the
@@ -753,7 +763,7 @@ pub fn braces(
         (or_empty_document (document_texts format.now)) b (Some (document_format_tree f))) }
 {
     let (kept, mut trailing, first) = spaced_content(alloc, layout, inner, format, last)?;
-    let mut leading = String::new(alloc);
+    let mut leading = no_text(alloc);
     push_text(&mut leading, "\n")?;
     push_text(&mut leading, kept.as_str())?;
     newline_if_none(&mut trailing, last)?;

@@ -1,9 +1,8 @@
 -- The canonical text reads back as what it is made of, so that no two data have the same.
-use Rattle.std.proofs.Common.{◌≡◌, ℕ, zero, suc, ◌+◌, true, List, [], ◌∷◌, ◌++◌, refl, subst, Option, Some, None, append_assoc, append-nil}
-use Rattle.std.proofs.lemmas.Bool.{and_parts}
+use Rattle.std.proofs.Common.{◌≡◌, ℕ, ◌+◌, true, List, [], ◌∷◌, ◌++◌, refl, subst, Option, Some, None, append_assoc, append-nil}
 use Rattle.std.specs.List.{list_all, repeat}
-use Rattle.kdl_text.specs.Chars.{Text, is_scalar, is_space, is_newline_char, Star, plus, Newline, Space}
-use Rattle.kdl_text.specs.Trivia.{Ws, NodeSpace, Break, LineSpace, ValueEnd}
+use Rattle.kdl_text.specs.Chars.{Text, is_scalar, is_space, Star, plus}
+use Rattle.kdl_text.specs.Trivia.{ValueEnd}
 use Rattle.kdl_value.specs.Data.{Value}
 use Rattle.kdl_value.specs.Print.{print_value}
 use Rattle.kdl_value.specs.Spelled.{spelled}
@@ -13,25 +12,14 @@ use Rattle.kdl_entry.specs.Entries.{MaybeType, untyped, typed, parens, IsValue, 
 use Rattle.kdl_entry.proofs.Moving.EntryMoves.{punctuation_end}
 use Rattle.kdl_entry.proofs.Laying.ValueReadsBack.{printed_string, printed_value}
 use Rattle.kdl_grammar.specs.Data.{Node, node, Children, no_children, children, Nodes, none, first}
-use Rattle.kdl_grammar.specs.Grammar.{Terminator, IsNode, named, AfterName, kept_entry, blocks, Blocks, AfterBlock, Gap, no_gap, line_space, AreNodes, last_gap, node_then, braces, IsDocument, IsDocumentIn, IsNodeText, node_text}
+use Rattle.kdl_grammar.specs.Grammar.{Terminator, IsNode, named, AfterName, kept_entry, blocks, Blocks, AfterBlock, Gap, no_gap, AreNodes, last_gap, node_then, braces, IsDocument, IsDocumentIn, IsNodeText, node_text}
 use Rattle.kdl_grammar.proofs.LawProofs.{one_document, one_node}
+use Rattle.kdl_grammar.proofs.ReadingBack.Reads.{newline_gap}
 use Rattle.kdl_fmt.specs.Canonical.{canonical_type, canonical_key, canonical_entries, newline_if_none, canonical_node, canonical_children, canonical, canonical_nodes, Canonical, CanonicalNode}
 use Rattle.kdl_fmt.specs.WellFormed.{AreScalars, AreWellFormedEntries, IsWellFormedNode, AreWellFormedChildren, AreWellFormed}
-
-one_space : (s : Text) → NodeSpace (32 ∷ s) s
-unfolding is_space
-one_space s = NodeSpace.ws (Ws.space (Space.space refl))
-
-space_ends : (s : Text) → ValueEnd true (32 ∷ s)
-unfolding is_space
-space_ends s = ValueEnd.space (Space.space refl)
-
-a_newline : (s : Text) → Newline (10 ∷ s) s
-unfolding is_newline_char
-a_newline s = Newline.one refl refl
-
-newline_space : (s : Text) → LineSpace (10 ∷ s) s
-newline_space s = LineSpace.«break» (Break.newline (a_newline s))
+use Rattle.kdl_fmt.proofs.Keeping.KeptPlaces.{one_space, space_ends, level_spaces, gap_nodes}
+use Rattle.kdl_comments.proofs.Rewriting.BeforeNewlines.{a_newline, newline_end}
+use Rattle.kdl_comments.proofs.Rewriting.LinesAgain.{spaces_gap}
 
 type_reads : (o : Option Text) (r : Text) → AreScalars o → MaybeType true (canonical_type o ++ r) r o
 type_reads None r ok = untyped
@@ -62,27 +50,13 @@ entries_read (e ∷ es) k t r ok h d =
     (item_reads e.key e.ty e.value (canonical_entries es ++ t) ok.0.0 ok.0.1 ok.0.2 (ends es t h))
     (entries_read es k t r ok.1 h d))
 
--- a text of spaces in a gap
-indent_gap : (indent : Text) → list_all is_space indent ≡ true → (t r : Text) → Gap true t r → Gap true (indent ++ t) r
-indent_gap [] ok t r g = g
-indent_gap (c ∷ cs) ok t r g =
-    let (here, others) = and_parts (is_space c) (list_all is_space cs) ok in
-    line_space (LineSpace.space (NodeSpace.ws (Ws.space (Space.space here)))) (indent_gap cs others t r g)
+-- spaces, and newlines, in a gap
+level_gap : (indent : Text) → list_all is_space indent ≡ true → (level : ℕ) → {t r : Text} → Gap true t r → Gap true (repeat level indent ++ t) r
+level_gap indent ok level g = spaces_gap (repeat level indent) (level_spaces indent ok level) g
 
-level_gap : (indent : Text) → list_all is_space indent ≡ true → (level : ℕ) (t r : Text) → Gap true t r → Gap true (repeat level indent ++ t) r
-level_gap indent ok zero t r g = g
-level_gap indent ok (suc level) t r g = rw (append_assoc indent (repeat level indent) t) (indent_gap indent ok _ r (level_gap indent ok level t r g))
-
-empty_gap : (ns : Nodes) (t r : Text) → Gap true t r → Gap true (newline_if_none ns ++ t) r
-empty_gap none t r g = line_space (newline_space t) g
-empty_gap (first n ns) t r g = g
-
-newline_before : {t r : Text} {x : Nodes} → AreNodes true t r x → AreNodes true (10 ∷ t) r x
-newline_before (last_gap g) = last_gap (line_space (newline_space _) g)
-newline_before (node_then g n e d) = node_then (line_space (newline_space _) g) n e d
-
-newline_ends : (s : Text) → ValueEnd true (10 ∷ s)
-newline_ends s = ValueEnd.newline (a_newline s)
+empty_gap : (ns : Nodes) {t r : Text} → Gap true t r → Gap true (newline_if_none ns ++ t) r
+empty_gap none g = newline_gap g
+empty_gap (first n ns) g = g
 
 children_end : (indent : Text) (level : ℕ) (k : Children) (r : Text) → ValueEnd true r → ValueEnd true (canonical_children indent level k ++ r)
 children_end indent level no_children r h = h
@@ -108,7 +82,7 @@ module _ (indent : Text) (ok : list_all is_space indent ≡ true) where
     children_read level (children ns) r w =
         rw (block_joined (canonical indent (level + 1) ns) (repeat level indent) (10 ∷ r), append_assoc (canonical_nodes indent (level + 1) ns) (newline_if_none ns) (repeat level indent ++ (125 ∷ 10 ∷ r)))
         (blocks (Blocks.block (Star.more (one_space _) Star.none)
-        (braces (newline_before (nodes_read (level + 1) ns _ _ w (empty_gap ns _ _ (level_gap indent ok level _ _ no_gap))))) (AfterBlock.no_more Star.none)))
+        (braces (gap_nodes (newline_gap no_gap) (nodes_read (level + 1) ns _ _ w (empty_gap ns (level_gap indent ok level no_gap))))) (AfterBlock.no_more Star.none)))
 
     nodes_read : (level : ℕ) (ns : Nodes) (t r : Text) → AreWellFormed ns → Gap true t r → AreNodes true (canonical_nodes indent level ns ++ t) r ns
     nodes_read level none t r w g = last_gap g
@@ -117,21 +91,21 @@ module _ (indent : Text) (ok : list_all is_space indent ≡ true) where
           append_assoc (canonical_node indent level (node ty name es k)) (canonical_nodes indent level ns) t,
           node_joined (repeat level indent) (canonical_type ty) (spelled name) (canonical_entries es) (canonical_children indent level k) (canonical_nodes indent level ns ++ t),
         )
-        (node_then (level_gap indent ok level _ _ no_gap)
-        (inner_reads ty name es k (canonical_children indent level k) (canonical_nodes indent level ns ++ t) w.0.0 w.0.1 w.0.2 (children_end indent level k _ (newline_ends _))
+        (node_then (level_gap indent ok level no_gap)
+        (inner_reads ty name es k (canonical_children indent level k) (canonical_nodes indent level ns ++ t) w.0.0 w.0.1 w.0.2 (children_end indent level k _ (newline_end _))
         (children_read level k (canonical_nodes indent level ns ++ t) w.0.3))
         (Terminator.newline (a_newline _)) (nodes_read level ns t r w.1 g))
 
   document_reads : (level : ℕ) (x : Nodes) → AreWellFormed x → IsDocument (canonical indent level x) x
   document_reads level x w =
-      IsDocumentIn.no_bom (nodes_read level x (newline_if_none x) [] w (subst (λ (t : Text). Gap true t []) (append-nil (newline_if_none x)) (empty_gap x [] [] no_gap)))
+      IsDocumentIn.no_bom (nodes_read level x (newline_if_none x) [] w (subst (λ (t : Text). Gap true t []) (append-nil (newline_if_none x)) (empty_gap x no_gap)))
 
   node_reads : (level : ℕ) (x : Node) → IsWellFormedNode x → IsNodeText (canonical_node indent level x) x
   node_reads level (node ty name es k) w =
       subst (λ (t : Text). IsNodeText t (node ty name es k)) (append-nil (canonical_node indent level (node ty name es k)))
       (rw (node_joined (repeat level indent) (canonical_type ty) (spelled name) (canonical_entries es) (canonical_children indent level k) [])
-      (node_text (level_gap indent ok level _ _ no_gap)
-      (inner_reads ty name es k (canonical_children indent level k) [] w.0 w.1 w.2 (children_end indent level k _ (newline_ends [])) (children_read level k [] w.3))
+      (node_text (level_gap indent ok level no_gap)
+      (inner_reads ty name es k (canonical_children indent level k) [] w.0 w.1 w.2 (children_end indent level k _ (newline_end [])) (children_read level k [] w.3))
       (Terminator.newline (a_newline [])) Star.none))
 
   pub canonical_reads : (level : ℕ) (x : Nodes) → AreWellFormed x → Canonical indent level x

@@ -1,26 +1,78 @@
 -- An entry that is laid out reads back where it did before.
-use Rattle.std.proofs.Common.{◌≡◌, zero, suc, Bool, true, false, ◌||◌, List, [], ◌∷◌, refl, sym, ap, subst, ◌∙◌, Option, Some, None, option_map, arith}
+use Rattle.std.proofs.Common.{◌≡◌, zero, suc, Bool, true, false, ◌||◌, List, [], ◌∷◌, refl, sym, ap, subst, ◌∙◌, Option, Some, None, option_map, arith, ◌++◌, append_assoc}
 use Rattle.std.proofs.lemmas.List.Elements.{All-cons, All-nil}
 use Rattle.std.specs.List.{All}
 use Rattle.kdl_text.specs.Chars.{Text}
-use Rattle.kdl_entry.specs.Tree.{Identifier, Entry, EntryFormat, unspelled, with_keep, autoformatted, entry_data}
+use Rattle.kdl_text.specs.Trivia.{ValueEnd}
+use Rattle.kdl_entry.specs.Tree.{Entry, EntryFormat, with_keep, autoformatted, entry_data, Identifier}
+use Rattle.kdl_entry.specs.Entries.{IsPlainValue, MaybeType, untyped, typed, parens, value, IsEntry, property, argument}
+use Rattle.kdl_entry.specs.Places.{EntryLeading}
+use Rattle.kdl_entry.specs.Print.{print_identifier, print_key, print_type}
 use Rattle.kdl_grammar.specs.ReadsBack.{EntryReads}
+use Rattle.kdl_grammar.specs.Grammar.{Gap}
+use Rattle.kdl_grammar.specs.Tree.{Nodes, none, first}
 use Rattle.kdl_grammar.proofs.Laying.LaidIsDerived.{first_entry}
+use Rattle.kdl_grammar.proofs.ReadingBack.Reads.{newline_gap}
 use Rattle.kdl_comments.specs.Items.{before_entry, PlaceItems}
 use Rattle.kdl_comments.specs.Written.{tail}
 use Rattle.kdl_fmt.specs.Config.{Settings}
-use Rattle.kdl_fmt.specs.Formatted.{with_keep_if}
-use Rattle.kdl_fmt.specs.Kept.{Written, WrittenUnless, entry_leading, is_kept_format}
+use Rattle.kdl_fmt.specs.Formatted.{with_keep_if, newline_if_none}
+use Rattle.kdl_fmt.specs.Kept.{WrittenUnless, entry_leading, is_kept_format}
 use Rattle.kdl_fmt.specs.KeptForm.{KeepsReading, EntriesKeepReading}
-use Rattle.kdl_fmt.specs.Respelled.{KeptForm, HasSpellings, HasSpellingsUnless, IsSpelledEntry}
+use Rattle.kdl_fmt.specs.Respelled.{KeptForm, HasSpellings, HasSpellingsUnless, IsSpelledEntry, TypeTexts}
 use Rattle.kdl_fmt.specs.WellFormed.{IsWellFormedEntry}
 use Rattle.kdl_fmt.specs.Parts.{following, IsFormattedEntry}
-use Rattle.kdl_fmt.proofs.Formatting.CommentsReadBack.{entry_ends, entry_leads, item_reads}
 use Rattle.kdl_fmt.proofs.Formatting.FormattedUnique.{entry_keeps_none}
 use Rattle.kdl_fmt.proofs.Loops.{Each}
-use Rattle.kdl_fmt.proofs.Keeping.KeptReads.{no_place}
-use Rattle.kdl_fmt.proofs.Respelling.Spellings.{value_before}
-use Rattle.kdl_fmt.proofs.Respelling.Written.{IsWrittenEntry, written_entry}
+use Rattle.kdl_fmt.proofs.Respelling.Spellings.{value_before, string_before}
+use Rattle.kdl_fmt.proofs.Respelling.Written.{IsWrittenEntry, written_entry, Inside, IsGap, IsInside, NameReadsIf}
+use Rattle.kdl_fmt.proofs.Keeping.KeptAgain.{none_before}
+use Rattle.kdl_fmt.proofs.Formatting.PrintsCanonical.{unspelled_twice}
+use Rattle.kdl_fmt.proofs.EntryTexts.{name_of, type_joined, key_joined}
+use Rattle.kdl_fmt.proofs.Respelling.Kept.{TypeSpaces, continued_ends, continued_leads}
+use Rattle.kdl_fmt.proofs.Keeping.KeptPlaces.{space_ends, Tail, tail_ends, tail_of, tail_spaced}
+use Rattle.kdl_value.specs.Data.{Value}
+use Rattle.kdl_entry.proofs.Moving.EntryMoves.{punctuation_end}
+use Rattle.kdl_comments.proofs.NodeSpaces.{spaces_end}
+
+-- a type between the texts that are kept around it
+pub type_reads : (o : Option Identifier) (x : TypeTexts) (r : Text) → NameReadsIf o → TypeSpaces x → (o ≡ None → x.after ≡ []) → MaybeType true (print_type o x.before_name x.after_name ++ (x.after ++ r)) r (name_of o)
+type_reads None x r ok s n = subst (λ (t : Text). MaybeType true (t ++ r) r None) (sym (n refl)) untyped
+type_reads (Some i) x r ok s n =
+    let rest = x.after_name ++ (41 ∷ (x.after ++ r)) in
+    rw (type_joined x.before_name (print_identifier i) x.after_name (x.after ++ r))
+    (typed (parens (s.before_name _) (string_before (print_identifier i) i.value rest ok (spaces_end x.after_name s.after_name _ (punctuation_end 41 refl))) (s.after_name _)) (s.after r))
+
+pub item_reads : (k o : Option Identifier) (x : Inside) {v : Value} {r u : Text} → NameReadsIf k → NameReadsIf o → IsInside o x → IsPlainValue true r u v
+    → IsEntry true (print_key k x.after_key x.after_eq ++ (print_type o x.ty.before_name x.ty.after_name ++ (x.ty.after ++ r))) u (record { key = name_of k; ty = name_of o; value = v })
+item_reads None o x {r = r} a t s p = argument (value (type_reads o x.ty r t s.ty_spaces s.untyped) p)
+item_reads (Some i) o x {r = r} a t s p =
+    let rest = print_type o x.ty.before_name x.ty.after_name ++ (x.ty.after ++ r) in
+    rw (key_joined (print_identifier i) x.after_key x.after_eq rest)
+    (property (string_before (print_identifier i) i.value (x.after_key ++ (61 ∷ (x.after_eq ++ rest))) a (spaces_end x.after_key s.after_key _ (punctuation_end 61 refl))) (s.after_key _) (s.after_eq rest) (value (type_reads o x.ty r t s.ty_spaces s.untyped) p))
+
+pub empty_gap : (ns : Nodes) {t r : Text} → Gap true t r → Gap true (newline_if_none ns ++ t) r
+empty_gap none g = newline_gap g
+empty_gap (first n ns) g = g
+
+-- what is kept before an entry
+entry_tail : (s : Settings) (e e' : Entry) (w : IsWrittenEntry s e e') → Tail (before_entry false) w.before
+entry_tail s e e' w = tail_of (is_kept_format e.format || s.no_comments) (before_entry false) (entry_leading e.format) w.before w.kept
+
+-- the text before an entry
+gap_ends : {s : Settings} {old t gap : Text} → IsGap s old t gap → Tail (before_entry false) t → (r : Text) → ValueEnd true (gap ++ r)
+gap_ends {t = t} IsGap.laid a r = rw (append_assoc t (32 ∷ []) r) (tail_ends a (32 ∷ r) (space_ends r))
+gap_ends (IsGap.continued c) a r = continued_ends c r
+
+gap_leads : {s : Settings} {old t gap : Text} → IsGap s old t gap → Tail (before_entry false) t → (r : Text) → EntryLeading (gap ++ r) r
+gap_leads {t = t} IsGap.laid a r = rw (append_assoc t (32 ∷ []) r) (tail_spaced (before_entry false) a r)
+gap_leads (IsGap.continued c) a r = continued_leads c r
+
+pub entry_ends : (s : Settings) (e e' : Entry) (w : IsWrittenEntry s e e') (r : Text) → ValueEnd true (w.form.gap ++ r)
+entry_ends s e e' w r = gap_ends w.form.is_gap (entry_tail s e e' w) r
+
+pub entry_leads : (s : Settings) (e e' : Entry) (w : IsWrittenEntry s e e') (r : Text) → EntryLeading (w.form.gap ++ r) r
+entry_leads s e e' w r = gap_leads w.form.is_gap (entry_tail s e e' w) r
 
 -- an entry reads back, and so does what it keeps of its form
 abbrev pub Stays : Settings → Entry → Type 0
@@ -29,10 +81,10 @@ Stays s e = EntryReads e × KeepsReading s e
 -- an entry that keeps no form
 pub written_reads : (s : Settings) (e e' : Entry) → IsWrittenEntry s e e' → EntryReads e'
 written_reads s e e' w = record {
-  begins = λ r. rw (w.front r) (entry_ends s e e' w _);
-  front = λ {r} p d. rw (w.front r) (first_entry (entry_leads s e e' w _) (item_reads e'.name e'.ty w.inside w.name w.ty w.is_inside p) d);
-  value = λ {r} x. rw w.value (value_before e'.value w.word r w.spelled x);
-  trailing = w.trailing;
+  begins = λ r. rw (w.form.prints.front e' refl r) (entry_ends s e e' w _);
+  front = λ {r} p d. rw (w.form.prints.front e' refl r) (first_entry (entry_leads s e e' w _) (item_reads e'.name e'.ty w.form.inside w.name w.ty w.form.is_inside p) d);
+  value = λ {r} x. rw (w.form.prints.value e' refl refl) (value_before e'.value w.form.word r w.form.spelled x);
+  trailing = w.form.prints.trailing;
 }
 
 -- the flag is set
@@ -57,16 +109,6 @@ flagged_stays s e h =
     (flagged_reads s.entry_autoformate_keep e h.0, λ k. let same = flagged_again s.entry_autoformate_keep e in rw same (h.1 (rw same at k)))
 
 -- an entry that keeps its form keeps it again
-twice : (o : Option Identifier) → option_map unspelled (option_map unspelled o) ≡ option_map unspelled o
-twice None = refl
-twice (Some i) = refl
-
--- what is kept of an entry that has no format
-nothing_kept : (b : Bool) (t : Text) → WrittenUnless b (PlaceItems (before_entry false) []) tail t → t ≡ []
-nothing_kept true t e = e
-nothing_kept false _ (Written.items d) = absurd (no_place _ d)
-nothing_kept false _ (Written.none h) = refl
-
 flag_written : (b c : Bool) (q t : Text) → b ≡ true → WrittenUnless (b || c) (PlaceItems (before_entry false) q) tail t → t ≡ []
 flag_written true c q t h k = k
 flag_written false c q t h k = absurd cc
@@ -74,7 +116,7 @@ flag_written false c q t h k = absurd cc
 kept_formed : (e : Entry) (o : Option EntryFormat) → EntryReads (autoformatted (record e { format = option_map with_keep o })) → is_kept_format (option_map with_keep o) ≡ true
     → EntryReads (autoformatted (with_keep_if true (autoformatted (record e { format = option_map with_keep o }))))
 kept_formed e None x h = absurd cc
-kept_formed e (Some f) x h = rw (twice e.ty, twice e.name) x
+kept_formed e (Some f) x h = rw (unspelled_twice e.ty, unspelled_twice e.name) x
 
 after_keeps : (keep out : Bool) (e e' : Entry) (t : Text)
     → WrittenUnless (is_kept_format (with_keep_if keep e).format || out) (PlaceItems (before_entry false) (entry_leading (with_keep_if keep e).format)) tail t
@@ -90,7 +132,7 @@ after_keeps true out e e' t k q m h y = go e.format k q h
         → (is_kept_format (option_map with_keep o) ≡ true → EntryReads (autoformatted (record e { format = option_map with_keep o })))
         → EntryReads (autoformatted (with_keep_if true e'))
     go None k q h =
-        let same = q ∙ ap (λ (x : Text). following x (autoformatted (record e { format = None }))) (nothing_kept out t k) in
+        let same = q ∙ ap (λ (x : Text). following x (autoformatted (record e { format = None }))) (none_before out t k) in
         let none : e'.format ≡ None = ap (λ (x : Entry). x.format) same in
         let bad : is_kept_format (option_map with_keep None) ≡ true = subst (λ (o : Option EntryFormat). is_kept_format (option_map with_keep o) ≡ true) none y in
         absurd cc
@@ -133,7 +175,7 @@ spelled_unflagged s false out e m e' t k q n h left = left
 spelled_unflagged s true out e m e' t k q n h left =
     let none = still_none e.format n in
     let k' = subst (λ (o : Option EntryFormat). WrittenUnless (is_kept_format (option_map with_keep o) || out) (PlaceItems (before_entry false) (entry_leading (option_map with_keep o))) tail t) none k in
-    let empty = nothing_kept out t k' in
+    let empty = none_before out t k' in
     let q' = q ∙ ap (λ (o : Option EntryFormat). following t (autoformatted (record e { format = option_map with_keep o }))) none ∙ ap (λ (u : Text). following u (autoformatted (record e { format = None }))) empty in
     let formless = formless_left s e e.format m.format e'.format none (ap (λ (x : Entry). x.format) q') h.format in
     ap (λ (o : Option EntryFormat). is_kept_format (option_map with_keep o)) formless
@@ -150,7 +192,7 @@ laid_stays true s e e' (m, f, r) w h = go (is_kept_format (with_keep_if s.entry_
     go true y x = subst (Stays s) (sym x) (plain_stays s e m f w h)
     go false y x =
         let k = written_entry s true e m e' f r y w in
-        let u = spelled_unflagged s s.entry_autoformate_keep s.no_comments e m e' f.0 f.1 f.2 y x k.left in
+        let u = spelled_unflagged s s.entry_autoformate_keep s.no_comments e m e' f.0 f.1 f.2 y x k.form.prints.unflagged in
         (written_reads s e e' k, λ z. absurd (clash _ u z))
 
 -- entries, one by one

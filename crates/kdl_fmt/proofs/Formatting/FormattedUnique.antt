@@ -16,7 +16,7 @@ use Rattle.kdl_fmt.specs.Spaced.{SpacesTexts, IsSpacedLine, IsSpacedHead, Spaces
 use Rattle.kdl_fmt.specs.WithComments.{IsFormattedDocument}
 use Rattle.kdl_fmt.specs.declared.blank.Before.{Before}
 use Rattle.kdl_fmt.proofs.Formatting.PrintsCanonical.{cleared_formatted, not_kept_again}
-use Rattle.kdl_fmt.proofs.Spacing.Zero.{no_lines_before}
+use Rattle.kdl_fmt.proofs.Spacing.Lines.{no_lines_before}
 
 abbrev Has : Type 1
 Has = List Item → Type 0
@@ -78,8 +78,7 @@ entry_left s e e' h f =
 pub entries_left_out : (s : Settings) (es es' : List Entry) → s.no_comments ≡ true → AreFormattedEntries s es es' → es' ≡ map (formatted_entry s) es
 entries_left_out s [] [] h f = refl
 entries_left_out s (e ∷ es) (e' ∷ es') h f = let a = entry_left s e e' h f.0 in let b = entries_left_out s es es' h f.1 in cc
-entries_left_out s [] (e' ∷ es') h f = absurd f
-entries_left_out s (e ∷ es) [] h f = absurd f
+entries_left_out s _ _ h f = absurd assumption
 
 line_left : (s : Settings) (level : ℕ) (has : Bool) (b : Before) (f : NodeFormat) (g : Option NodeFormat) → s.no_comments ≡ true → IsSpacedLine 0 s level has b f g → g ≡ Some (plain_line (indentation s level))
 line_left s level has b f g h l = l.2 ∙ ap Some (line_plain s level has b f l.0 h l.1)
@@ -103,14 +102,12 @@ mutual
       let braces = braces_left s level ns (or_empty_document f) b f' e c in
       let below = nodes_left_out s (level + 1) b ns ns' e nodes in
       λ i. children (document (braces i) (same i) (below i))
-  children_left_out s level no_children (children d) e f = absurd f
-  children_left_out s level (children (document f span ns)) no_children e c = absurd c
+  children_left_out s level _ _ e f = absurd assumption
 
   nodes_left_out : (s : Settings) (level : ℕ) (b : Before) (ns ns' : Nodes) → s.no_comments ≡ true → AreSpacedNodes 0 s level b ns ns' → ns' ≡ formatted_nodes s level ns
   nodes_left_out s level b none none e f = refl
   nodes_left_out s level b (first n ns) (first n' ns') e (b', f, p, g) = let x = left_out s level b n n' e f in let y = nodes_left_out s level b' ns ns' e g in cc
-  nodes_left_out s level b none (first n' ns') e f = absurd f
-  nodes_left_out s level b (first n ns) none e f = absurd f
+  nodes_left_out s level b _ _ e f = absurd assumption
 
 pub document_left_out : (s : Settings) (level : ℕ) (d d' : Document) → s.no_comments ≡ true → IsFormattedDocument s level d d' → d' ≡ formatted_document s level d
 document_left_out s level (document f span ns) (document f' span' ns') e (b, c, same, nodes) =
@@ -139,8 +136,7 @@ entry_keeps_none s e e' f =
 pub entries_keep_none : (s : Settings) (es es' : List Entry) → AreFormattedEntries s es es' → EntriesKeepNone es'
 entries_keep_none s [] [] f = tt
 entries_keep_none s (e ∷ es) (e' ∷ es') f = (entry_keeps_none s e e' f.0, entries_keep_none s es es' f.1)
-entries_keep_none s [] (e' ∷ es') f = absurd f
-entries_keep_none s (e ∷ es) [] f = absurd f
+entries_keep_none s _ _ f = absurd assumption
 
 -- what is kept of a place is one text
 written_det : {has : Has} {write : Writes} {t u : Text} → ((is js : List Item) → has is → has js → is ≡ js) → Written has write t → Written has write u → t ≡ u
@@ -193,11 +189,8 @@ entry_det s e x y a b =
 
 pub formatted_entries_det : (s : Settings) (es xs ys : List Entry) → AreFormattedEntries s es xs → AreFormattedEntries s es ys → xs ≡ ys
 formatted_entries_det s [] [] [] a b = refl
-formatted_entries_det s [] [] (y ∷ ys) a b = absurd b
-formatted_entries_det s [] (x ∷ xs) ys a b = absurd a
-formatted_entries_det s (e ∷ es) [] ys a b = absurd a
-formatted_entries_det s (e ∷ es) (x ∷ xs) [] a b = absurd b
 formatted_entries_det s (e ∷ es) (x ∷ xs) (y ∷ ys) a b = let c = entry_det s e x y a.0 b.0 in let d = formatted_entries_det s es xs ys a.1 b.1 in cc
+formatted_entries_det s _ _ _ a b = absurd assumption
 
 line_det : (s : Settings) (level : ℕ) (has : Bool) (b c : Before) (f : NodeFormat) (g g' : Option NodeFormat) → IsSpacedLine 0 s level has b f g → IsSpacedLine 0 s level has c f g' → g ≡ g'
 line_det s level has b c f g g' v w = v.2 ∙ ap (λ (k : NodeTexts). Some (line_of (indentation s level) k)) (texts_det s level has b c f v.0 w.0 v.1 w.1) ∙ sym w.2
@@ -228,26 +221,20 @@ mutual
 
   formatted_children_det : (s : Settings) (level : ℕ) (k x y : Children) → IsSpacedChildren 0 s level k x → IsSpacedChildren 0 s level k y → x ≡ y
   formatted_children_det s level no_children no_children no_children a b = refl
-  formatted_children_det s level no_children no_children (children d) a b = absurd b
-  formatted_children_det s level no_children (children d) y a b = absurd a
-  formatted_children_det s level (children (document f span ns)) no_children y a b = absurd a
-  formatted_children_det s level (children (document f span ns)) (children (document f1 span1 ns1)) no_children a b = absurd b
   formatted_children_det s level (children (document f span ns)) (children (document f1 span1 ns1)) (children (document f2 span2 ns2)) a b =
       let braces = braces_det s level ns (or_empty_document f) a.0 b.0 f1 f2 a.1 b.1 in
       let at = a.2 ∙ sym b.2 in
       let below = formatted_nodes_det s (level + 1) a.0 b.0 ns ns1 ns2 a.3 b.3 in
       λ i. children (document (braces i) (at i) (below i))
+  formatted_children_det s level _ _ _ a b = absurd assumption
 
   formatted_nodes_det : (s : Settings) (level : ℕ) (b c : Before) (ns x y : Nodes) → AreSpacedNodes 0 s level b ns x → AreSpacedNodes 0 s level c ns y → x ≡ y
   formatted_nodes_det s level b c none none none v w = refl
-  formatted_nodes_det s level b c none none (first m ms) v w = absurd w
-  formatted_nodes_det s level b c none (first m ms) y v w = absurd v
-  formatted_nodes_det s level b c (first n ns) none y v w = absurd v
-  formatted_nodes_det s level b c (first n ns) (first m ms) none v w = absurd w
   formatted_nodes_det s level b c (first n ns) (first n1 ns1) (first n2 ns2) v w =
       let here = formatted_node_det s level b c n n1 n2 v.1 w.1 in
       let others = formatted_nodes_det s level v.0 w.0 ns ns1 ns2 v.3 w.3 in
       cc
+  formatted_nodes_det s level b c _ _ _ v w = absurd assumption
 
 pub formatted_det : (s : Settings) (level : ℕ) (d x y : Document) → IsFormattedDocument s level d x → IsFormattedDocument s level d y → x ≡ y
 formatted_det s level (document f span ns) (document f1 span1 ns1) (document f2 span2 ns2) a b =

@@ -1,7 +1,6 @@
 -- A node or document of which a part is laid out reads back where it did before.
-use Rattle.std.proofs.Common.{◌≡◌, ℕ, zero, suc, ◌+◌, Bool, true, false, List, [], ◌∷◌, ◌++◌, refl, sym, ap, subst, Option, Some, None, append_assoc}
+use Rattle.std.proofs.Common.{◌≡◌, ℕ, ◌+◌, Bool, true, false, List, [], ◌∷◌, ◌++◌, refl, sym, subst, Option, Some, None, append_assoc}
 use Rattle.std.specs.List.{All, list_all}
-use Rattle.std.specs.Prelude.{if◌then◌else◌}
 use Rattle.kdl_text.specs.Chars.{Text, is_space}
 use Rattle.kdl_text.specs.Trivia.{ValueEnd}
 use Rattle.kdl_text.specs.declared.span.SourceSpan.{SourceSpan}
@@ -13,26 +12,27 @@ use Rattle.kdl_grammar.specs.Grammar.{named, IsNode, AfterName, no_gap}
 use Rattle.kdl_grammar.specs.Places.{BeforeChildren}
 use Rattle.kdl_grammar.specs.Print.{trailing_text}
 use Rattle.kdl_grammar.specs.ReadsBack.{Rests, Anything, TextEnd, EntryReads, name_text, HeadReads, AddsNothing, IsGapBefore, BeforeTerminator, EndReads, last_rests, NodeReads, reads, ChildrenRead, no_block, a_block, NodesRead, no_node, last_node, next_node, ContentReads, two_texts, with_nodes, BlockReads, block, DocumentReads}
-use Rattle.kdl_grammar.specs.Tree.{NodeFormat, DocumentFormat, Head, Node, node, Children, no_children, children, document, Nodes, none, first}
+use Rattle.kdl_grammar.specs.Tree.{NodeFormat, DocumentFormat, Head, node, Children, no_children, children, document, Nodes, none, first}
 use Rattle.kdl_grammar.proofs.ReadingBack.Composing.{block_reads, ends_before}
-use Rattle.kdl_comments.specs.Items.{Item, GapItems, before_block}
-use Rattle.kdl_comments.specs.Written.{lines}
-use Rattle.kdl_comments.proofs.Listing.ItemsUnique.{gap_items_det}
-use Rattle.kdl_fmt.specs.Blank.{at_start, past_node, spaced_lines}
+use Rattle.kdl_grammar.proofs.ReadingBack.Reads.{newline_gap}
+use Rattle.kdl_comments.specs.Items.{GapItems, before_block}
+use Rattle.kdl_fmt.specs.Blank.{at_start, past_node}
 use Rattle.kdl_fmt.specs.Config.{Settings, indentation}
-use Rattle.kdl_fmt.specs.Formatted.{or_empty, or_empty_document, newline_if_none}
-use Rattle.kdl_fmt.specs.Kept.{KeptBeforeBlock, Written, WrittenUnless, last_place, without_bom}
-use Rattle.kdl_fmt.specs.Respelled.{TypeTexts, with_type_texts, IsRespelledNode, AreRespelledChildren, AreRespelledNodes}
-use Rattle.kdl_fmt.specs.Spaced.{Spaces, SpacedLines, SpacesTexts, IsSpacedContent, IsSpacedBraced, IsSpacedNode, IsSpacedChildren, AreSpacedNodes}
+use Rattle.kdl_fmt.specs.Formatted.{or_empty_document, newline_if_none}
+use Rattle.kdl_fmt.specs.Kept.{KeptBeforeBlock, last_place, without_bom}
+use Rattle.kdl_fmt.specs.Respelled.{TypeTexts, with_type_texts, AreRespelledNodes}
+use Rattle.kdl_fmt.specs.Spaced.{SpacedLines, SpacesTexts, IsSpacedContent, IsSpacedBraced, AreSpacedNodes}
 use Rattle.kdl_fmt.specs.Parts.{NodeTexts, line_of, has_block}
 use Rattle.kdl_fmt.specs.declared.blank.Before.{Before}
 use Rattle.kdl_fmt.proofs.EntryTexts.{name_of}
-use Rattle.kdl_fmt.proofs.Formatting.CommentsReadBack.{type_reads, empty_gap}
-use Rattle.kdl_fmt.proofs.Keeping.KeptPlaces.{newline_gap, gap_nodes, indentation_gap, Tail, tail_of, tail_spaced, LineEnd, line_end_of, line_terminator, last_text}
+use Rattle.kdl_fmt.proofs.Keeping.KeptPlaces.{gap_nodes, indentation_gap, Tail, tail_of, tail_spaced, LineEnd, line_end_of, line_terminator, last_text}
 use Rattle.kdl_fmt.proofs.Respelling.Spellings.{string_before}
 use Rattle.kdl_fmt.proofs.Respelling.Kept.{TypeSpaces}
-use Rattle.kdl_fmt.proofs.Respelling.Written.{IsTypedLine, NameReads, NameReadsIf, typed_line}
+use Rattle.kdl_fmt.proofs.Respelling.Written.{IsTypedLine, NameReads, NameReadsIf}
 use Rattle.kdl_fmt.proofs.Spacing.Lines.{before_gap, lines_gap}
+use Rattle.kdl_fmt.proofs.Respelling.Spelled.{SpelledNodes, spelled_nodes}
+use Rattle.kdl_fmt.proofs.OneLine.Nothing.{nothing_kept}
+use Rattle.kdl_fmt.proofs.Formatting.EntriesRead.{type_reads, empty_gap}
 
 -- nodes that end by themselves, before any rests
 pub all_end : (P : Rests) {ns : Nodes} → NodesRead Anything ns → NodesRead P ns
@@ -54,35 +54,12 @@ end_joined c b r = simp append_assoc
 place_joined : (l s c b r : Text) → (l ++ s) ++ (((c ++ (10 ∷ [])) ++ b) ++ r) ≡ l ++ (s ++ (c ++ (10 ∷ (b ++ r))))
 place_joined l s c b r = simp append_assoc
 
--- nodes of which the texts around their parts are laid out
-abbrev pub IsLined : ℕ → Settings → ℕ → Before → Node → Node → Type 0
-IsLined number s level b (node h k) (node h' k') = IsTypedLine number s level (has_block k) b (or_empty h.format) h'.ty h'.format × (has_block k ≡ has_block k')
-
+-- nodes that are laid out, with their spellings or not
 abbrev pub AreLined : ℕ → Settings → ℕ → Before → Nodes → Nodes → Type 0
-AreLined number s level b none none = Unit {0}
-AreLined number s level b (first n ns) (first n' ns') = (b' : Before) × IsLined number s level b n n' × AreLined number s level b' ns ns'
-AreLined number s level b _ _ = ⊥
+AreLined number s level b ns xs = (keep : Bool) × SpelledNodes number s keep level b ns xs
 
-module _ (number : ℕ) (s : Settings) (keep : Bool) where
-  same_block : (level : ℕ) (k j k' : Children) → IsSpacedChildren number s level k j → AreRespelledChildren keep s k j k' → has_block k ≡ has_block k'
-  same_block level no_children no_children no_children c r = refl
-  same_block level no_children no_children (children d) c r = absurd r
-  same_block level no_children (children d) k' c r = absurd c
-  same_block level (children (document f at ns)) no_children k' c r = absurd c
-  same_block level (children d) (children m) no_children c r = absurd r
-  same_block level (children d) (children m) (children d') c r = refl
-
-  line_there : (level : ℕ) (b : Before) (n m n' : Node) → IsSpacedNode number s level b n m → IsRespelledNode keep s n m n' → IsLined number s level b n n'
-  line_there level b (node h k) (node m j) (node h' k') f r =
-      (typed_line number s level (has_block k) b (or_empty h.format) keep h.ty m.ty h'.ty m.format h'.format r.0.ty f.0.format r.0.format, same_block level k j k' f.1 r.1)
-
-  pub lined : (level : ℕ) (b : Before) (ns ms ns' : Nodes) → AreSpacedNodes number s level b ns ms → AreRespelledNodes keep s ns ms ns' → AreLined number s level b ns ns'
-  lined level b none none none f r = tt
-  lined level b none none (first n' ns') f r = absurd r
-  lined level b none (first m ms) ns' f r = absurd f
-  lined level b (first n ns) none ns' f r = absurd f
-  lined level b (first n ns) (first m ms) none f r = absurd r
-  lined level b (first n ns) (first m ms) (first n' ns') f r = (f.0, line_there level b n m n' f.1 r.0, lined level f.0 ns ms ns' f.3 r.1)
+pub lined : (number : ℕ) (s : Settings) (keep : Bool) (level : ℕ) (b : Before) (ns ms xs : Nodes) → AreSpacedNodes number s level b ns ms → AreRespelledNodes keep s ns ms xs → AreLined number s level b ns xs
+lined number s keep level b ns ms xs f r = (keep, spelled_nodes number s keep level b ns ms xs f r)
 
 -- the place before the terminator
 before_end : (k : Children) {l space c : Text} → Tail (last_place (has_block k)) l → LineEnd space c → (r : Text) → BeforeTerminator k (l ++ (space ++ (c ++ (10 ∷ r)))) (c ++ (10 ∷ r))
@@ -153,27 +130,6 @@ module _ (number : ℕ) (s : Settings) (ok : list_all is_space s.indent ≡ true
       (all_end _ d)
       (λ r p. rw (trailing_joined y (newline_if_none olds) ind r) (lines_gap s ok number (level + 1) c.last c.after_it f.trailing y c.trailing (empty_gap olds (indentation_gap s ok level no_gap))))))
 
-  -- what is kept of an empty text
-  written_nothing : (level : ℕ) (t : Text) → Written (GapItems []) (lines (indentation s level)) t → t ≡ []
-  written_nothing level _ (Written.items d) = ap (lines (indentation s level)) (gap_items_det d GapItems.none)
-  written_nothing level _ (Written.none h) = refl
-
-  lines_nothing : (level : ℕ) (no : Bool) (t : Text) → WrittenUnless no (GapItems []) (lines (indentation s level)) t → t ≡ []
-  lines_nothing level true t k = k
-  lines_nothing level false t k = written_nothing level t k
-
-  items_nothing : (level m : ℕ) (b : Before) (no : Bool) (is : List Item) → is ≡ [] → (if no then [] else spaced_lines m (indentation s level) b [] is) ≡ []
-  items_nothing level m b true is e = refl
-  items_nothing level m b false is e = ap (spaced_lines m (indentation s level) b []) e
-
-  spaces_nothing : (level m : ℕ) (b b' : Before) (t : Text) → Spaces m s level b [] t b' → t ≡ []
-  spaces_nothing level m b b' _ (Spaces.items {is = is} d) = items_nothing level m b s.no_comments is (gap_items_det d GapItems.none)
-  spaces_nothing level m b b' _ (Spaces.no_gap h) = refl
-
-  nothing_kept : (level m : ℕ) (b b' : Before) (t : Text) → SpacedLines m s level b [] t b' → t ≡ []
-  nothing_kept level zero b b' t k = lines_nothing level s.no_comments t k
-  nothing_kept level (suc m) b b' t k = spaces_nothing level (suc m) b b' t k
-
   -- a document whose own texts are laid out
   content_last : {ns : Nodes} (q y : Text) → (q ≡ [] → y ≡ []) → NodesRead (last_rests q TextEnd) ns → NodesRead (last_rests (y ++ []) TextEnd) ns
   content_last {ns} [] y h x = subst (λ (z : Text). NodesRead (last_rests (z ++ []) TextEnd) ns) (sym (h refl)) x
@@ -185,7 +141,7 @@ module _ (number : ℕ) (s : Settings) (ok : list_all is_space s.indent ≡ true
       two_texts (lines_add level at_start b q' x k) (λ r p. rw (append_assoc y (10 ∷ []) r) (lines_gap s ok number level last after q y m (newline_gap no_gap)))
   content_laid level b last after q' q x y k m (first n ns) (with_nodes a z g) =
       with_nodes (lines_add level at_start b q' x k)
-      (content_last q y (λ e. nothing_kept level number last after y (subst (λ (u : Text). SpacedLines number s level last u y after) e m)) z)
+      (content_last q y (λ e. nothing_kept number s level last after [] y GapItems.none (subst (λ (u : Text). SpacedLines number s level last u y after) e m)) z)
       (λ r p. rw (append_assoc y [] r) (lines_gap s ok number level last after q y m no_gap))
 
   trailing_is : (o : Option DocumentFormat) → (or_empty_document o).trailing ≡ trailing_text o

@@ -13,12 +13,7 @@ use Rattle.kdl_fmt.specs.Canonical as canonical'
 use Rattle.kdl_fmt.specs.Config.{Settings, indentation, IsPlain}
 use Rattle.kdl_fmt.specs.Formatted.{with_keep_if, formatted_entry, newline_if_none, formatted_head, formatted_node, formatted_children, formatted_nodes, formatted_document, bare_node, bare_children, bare_document, bare_nodes, EntriesKeepNone, NodeKeepsNone, ChildrenKeepNone, DocumentKeepsNone, NodesKeepNone}
 use Rattle.kdl_fmt.specs.Kept.{is_kept_format}
-
-abbrev Names : Type 0
-Names = Option Text
-
-abbrev name_of : Option Identifier → Names
-name_of o = option_map (λ (i : Identifier). i.value) o
+use Rattle.kdl_fmt.proofs.EntryTexts.{name_of, no_format}
 
 -- what stays says the same
 unspelled_name : (o : Option Identifier) → name_of (option_map unspelled o) ≡ name_of o
@@ -63,10 +58,6 @@ not_kept_again (Some f) = go f.autoformat_keep
     go false = refl
 
 -- and where none was, the text is the canonical one
-lost : (o : Option EntryFormat) → is_kept_format o ≡ false → autoformatted_format o ≡ None
-lost None h = refl
-lost (Some f) h = rw h refl
-
 key_canonical : (o : Option Identifier) → print_key (option_map unspelled o) [] [] ≡ canonical_key (name_of o)
 key_canonical None = refl
 key_canonical (Some i) = simp (append_assoc, append-nil)
@@ -76,7 +67,7 @@ type_canonical None = refl
 type_canonical (Some i) = simp append_assoc
 
 entry_formatted : (s : Settings) (e : Entry) → IsPlain s → is_kept_format e.format ≡ false → formatted_entry s e ≡ cleared e
-entry_formatted s e p h = rw (p.1, lost e.format h) refl
+entry_formatted s e p h = rw (p.1, no_format e.format h) refl
 
 piece_canonical : (e : Entry) → print_piece (cleared e) ≡ 32 ∷ canonical_key (name_of e.name) ++ canonical_type (name_of e.ty) ++ print_value e.value
 piece_canonical e = rw (key_canonical e.name, type_canonical e.ty) refl

@@ -1,27 +1,24 @@
 -- Gaps that come before any other gap, with their items.
-use Rattle.std.proofs.Common.{◌≡◌, ℕ, ◌==◌, Bool, true, false, List, [], ◌∷◌, ◌++◌, map, refl, sym, subst, append_assoc, append-nil, arith}
+use Rattle.std.proofs.Common.{◌≡◌, ℕ, ◌==◌, Bool, true, false, List, [], ◌∷◌, ◌++◌, refl, sym, subst, append_assoc, append-nil, arith}
 use Rattle.std.proofs.lemmas.Bool.Decides.{nat_tests}
-use Rattle.std.proofs.lemmas.Bool.{and_parts}
 use Rattle.std.specs.List.{list_all}
 use Rattle.std.specs.Prelude.{if◌then◌else◌}
-use Rattle.kdl_text.specs.Chars.{Text, is_space, space as a_space}
+use Rattle.kdl_text.specs.Chars.{Text, is_space}
 use Rattle.kdl_text.specs.Trivia.{LineSpace}
 use Rattle.kdl_entry.specs.Places.{Is}
 use Rattle.kdl_lexer.specs.Tokens.{t_space, t_newline, t_bom}
 use Rattle.kdl_lexer.proofs.Lexing.TokenUnique.{token_det}
 use Rattle.kdl_grammar.specs.Grammar.{Gap, no_gap}
 use Rattle.kdl_grammar.specs.Tree.{Nodes, first}
-use Rattle.kdl_comments.specs.Items.{Item, SpaceItems, LineSpaceItems, GapItems}
-use Rattle.kdl_comments.specs.Written.{lines, on_line}
+use Rattle.kdl_comments.specs.Items.{Item, LineSpaceItems, GapItems}
 use Rattle.kdl_comments.proofs.Rewriting.BeforeNewlines.{a_newline}
-use Rattle.kdl_comments.proofs.Listing.ItemsUnique.{gap_items_det}
 use Rattle.kdl_comments.proofs.Listing.SpaceItems.{gap_none}
-use Rattle.kdl_comments.proofs.Rewriting.LinesAgain.{lines_again, lines_gap}
-use Rattle.kdl_fmt.specs.Comments.{ItemsIn}
+use Rattle.kdl_comments.proofs.Rewriting.LinesAgain.{spaces_before}
 use Rattle.kdl_fmt.specs.Config.{Settings, indentation}
 use Rattle.kdl_fmt.specs.Formatted.{newline_if_none}
-use Rattle.kdl_fmt.specs.Kept.{Written, WrittenUnless, KeptLines, without_bom}
-use Rattle.kdl_fmt.proofs.Keeping.KeptPlaces.{level_spaces, newline_gap, indentation_gap}
+use Rattle.kdl_fmt.specs.Kept.{without_bom}
+use Rattle.kdl_fmt.proofs.Keeping.KeptPlaces.{level_spaces, indentation_gap}
+use Rattle.kdl_grammar.proofs.ReadingBack.Reads.{newline_gap}
 
 -- a gap before each other one, and its items before the other's
 pub record Front (p : Text) (is : List Item) : Type 0 where
@@ -53,27 +50,8 @@ pub newline_if : (ns : Nodes) → Front (newline_if_none ns) []
 newline_if Nodes.none = newline
 newline_if (first n ns) = nothing
 
--- spaces
-space_items : (s : Text) → list_all is_space s ≡ true → {t : Text} {js : List Item} → GapItems t js → GapItems (s ++ t) js
-space_items [] ok g = g
-space_items (c ∷ s) ok g =
-    let (here, others) = and_parts (is_space c) (list_all is_space s) ok in
-    GapItems.space (LineSpaceItems.space (SpaceItems.space (a_space here))) (space_items s others g)
-
 pub indented : (s : Settings) → list_all is_space s.indent ≡ true → (level : ℕ) → Front (indentation s level) []
-indented s ok level = record { gap = λ g. indentation_gap s ok level g; items = λ g. space_items (indentation s level) (level_spaces s.indent ok level) g }
-
--- what is kept of a text between nodes holds its items, each as it is on a line
-written : (before : Text) → list_all is_space before ≡ true → (place t : Text) {is : List Item} → Written (GapItems place) (lines before) t → ItemsIn (GapItems place) is → Front t (map on_line is)
-written before ok place _ (Written.items {is = js} d) (ItemsIn.items {is = is} e) =
-    subst (λ (l : List Item). Front (lines before js) (map on_line l)) (gap_items_det d e) (record { gap = λ g. lines_gap before ok d g; items = λ g. lines_again before ok d g })
-written before ok place _ (Written.none f) (ItemsIn.no_items h) = nothing
-written before ok place _ (Written.items {is = js} d) (ItemsIn.no_items h) = absurd (h js d)
-written before ok place _ (Written.none f) (ItemsIn.items {is = is} e) = absurd (f is e)
-
-pub kept_front : (s : Settings) → list_all is_space s.indent ≡ true → s.no_comments ≡ false → (level : ℕ) (place t : Text) {is : List Item} → KeptLines s level place t → ItemsIn (GapItems place) is → Front t (map on_line is)
-kept_front s ok with level place t k i =
-    written (indentation s level) (level_spaces s.indent ok level) place t (subst (λ (b : Bool). WrittenUnless b (GapItems place) (lines (indentation s level)) t) with k) i
+indented s ok level = record { gap = λ g. indentation_gap s ok level g; items = λ g. spaces_before (indentation s level) (level_spaces s.indent ok level) g }
 
 -- U+FEFF begins no gap
 bom_line : (s : Text) {r : Text} → LineSpace (0xFEFF ∷ s) r → ⊥

@@ -1,18 +1,15 @@
 -- What layout kept of a text is kept of the text that it wrote, and is written the same.
-use Rattle.std.proofs.Common.{◌≡◌, ℕ, Bool, true, false, List, [], ◌∷◌, ◌++◌, map, refl, sym, ap, subst, ◌∙◌, append-nil}
-use Rattle.std.specs.List.{list_all}
-use Rattle.kdl_text.specs.Chars.{Text, is_space}
+use Rattle.std.proofs.Common.{◌≡◌, Bool, true, false, List, [], ◌∷◌, ◌++◌, refl, sym, ap, subst, ◌∙◌, append-nil}
+use Rattle.kdl_text.specs.Chars.{Text}
 use Rattle.kdl_text.proofs.Spacing.SpaceUnique.{no_line_comment}
-use Rattle.kdl_comments.specs.Items.{Item, GapItems, Place, before_entry, before_block, takes_blocks, PlaceItems, ends}
-use Rattle.kdl_comments.specs.Written.{lines, tail, on_line}
-use Rattle.kdl_comments.proofs.Listing.ItemsUnique.{gap_items_det, place_items_det}
-use Rattle.kdl_comments.proofs.Rewriting.LinesAgain.{comment_part, comment_again, comment_text, comment_item, lines_again, lines_on_line}
+use Rattle.kdl_comments.specs.Items.{Item, Place, before_entry, before_block, takes_blocks, PlaceItems, ends}
+use Rattle.kdl_comments.specs.Written.{tail}
+use Rattle.kdl_comments.proofs.Listing.ItemsUnique.{place_items_det}
+use Rattle.kdl_comments.proofs.Rewriting.LinesAgain.{comment_part, comment_again, comment_text, comment_item}
 use Rattle.kdl_comments.proofs.Rewriting.PlacesAgain.{tail_alone, tail_spaced}
-use Rattle.kdl_fmt.specs.Config.{Settings, indentation}
-use Rattle.kdl_fmt.specs.Kept.{Written, items, WrittenUnless, KeptLines, KeptTail, KeptBeforeBlock, last_place, WrittenEnd, KeptEnd, without_bom}
-use Rattle.kdl_fmt.proofs.Keeping.GapFronts.{Front, nothing, gap_without_bom}
-use Rattle.kdl_fmt.proofs.Keeping.KeptItems.{one_space, ends_spaced, ends_here}
-use Rattle.kdl_fmt.proofs.Keeping.KeptPlaces.{level_spaces}
+use Rattle.kdl_fmt.specs.Config.{Settings}
+use Rattle.kdl_fmt.specs.Kept.{Written, items, WrittenUnless, KeptTail, KeptBeforeBlock, last_place, WrittenEnd, KeptEnd}
+use Rattle.kdl_fmt.proofs.Keeping.KeptPlaces.{space_item, ends_spaced, ends_here, takes_last}
 use Rattle.kdl_fmt.proofs.Keeping.KeptReads.{no_place}
 
 -- what may come after written items of a place
@@ -21,17 +18,13 @@ record Follows (p : Place) (more : Text) : Type 0 where
   alone : PlaceItems p more []
 
 space_follows : (p : Place) → Follows p (32 ∷ [])
-space_follows p = record { again = λ q is d. tail_spaced d; alone = PlaceItems.space (one_space []) (ends (ends_spaced p)) }
+space_follows p = record { again = λ q is d. tail_spaced d; alone = PlaceItems.space (space_item []) (ends (ends_spaced p)) }
 
 nothing_follows : (p : Place) → takes_blocks p ≡ true → Follows p []
 nothing_follows p h = record {
   again = λ q is d. subst (λ (t : Text). PlaceItems p t is) (sym (append-nil (tail is))) (tail_alone h d);
   alone = ends (ends_here p h);
 }
-
-takes_last : (b : Bool) → takes_blocks (last_place b) ≡ true
-takes_last false = refl
-takes_last true = refl
 
 end_follows : (b : Bool) (p : Place) → takes_blocks p ≡ true → (t space comment : Text) → KeptEnd b t space comment → Follows p space
 end_follows true p h t space comment k = subst (Follows p) (sym k.0) (nothing_follows p h)
@@ -48,45 +41,6 @@ none_before false t (Written.none f) = refl
 written_as : {Has : List Item → Type 0} {write : List Item → Text} {t : Text} (js : List Item) → Has js → ((is : List Item) → Has is → is ≡ js) → Written Has write t → t ≡ write js
 written_as {write = write} js h unique (items {is} d) = ap write (unique is d)
 written_as js h unique (Written.none f) = absurd (f js h)
-
--- lines, with line-spaces around them
-lines_stay : (ind : Text) → list_all is_space ind ≡ true → (lead rest : Text) → Front lead [] → GapItems rest []
-    → (p t u : Text) → Written (GapItems p) (lines ind) t → Written (GapItems (lead ++ (t ++ rest))) (lines ind) u → u ≡ t
-lines_stay ind ok lead rest front back p t u (items {is} d) w =
-    let g : GapItems (lead ++ (lines ind is ++ rest)) (map on_line is ++ []) = front.items (lines_again ind ok d back) in
-    written_as (map on_line is ++ []) g (λ js h. gap_items_det h g) w ∙ ap (lines ind) (append-nil (map on_line is)) ∙ lines_on_line ind is
-lines_stay ind ok lead rest front back p t u (Written.none f) w =
-    let g : GapItems (lead ++ rest) [] = front.items back in
-    written_as [] g (λ js h. gap_items_det h g) w
-
-pub kept_lines : (s : Settings) (level : ℕ) → list_all is_space s.indent ≡ true → {lead rest : Text} → Front lead [] → GapItems rest []
-    → (p t u : Text) → KeptLines s level p t → KeptLines s level (lead ++ (t ++ rest)) u → u ≡ t
-kept_lines s level ok {lead} {rest} front back p t u k m = go s.no_comments k m
-  where
-    go : (b : Bool) → WrittenUnless b (GapItems p) (lines (indentation s level)) t → WrittenUnless b (GapItems (lead ++ (t ++ rest))) (lines (indentation s level)) u → u ≡ t
-    go true e h = h ∙ sym e
-    go false w v = lines_stay (indentation s level) (level_spaces s.indent ok level) lead rest front back p t u w v
-
--- with nothing after them
-pub trailing_stays : (s : Settings) (level : ℕ) → list_all is_space s.indent ≡ true → {lead : Text} → Front lead [] → (p t u : Text) → KeptLines s level p t → KeptLines s level (lead ++ t) u → u ≡ t
-trailing_stays s level ok {lead} front p t u k m = kept_lines s level ok front GapItems.none p t u k (subst (λ (x : Text). KeptLines s level (lead ++ x) u) (sym (append-nil t)) m)
-
--- before the nodes of a document
-lines_without_bom : (s : Settings) (level : ℕ) → list_all is_space s.indent ≡ true → (p t : Text) → KeptLines s level p t → without_bom t ≡ t
-lines_without_bom s level ok p t k = go s.no_comments k
-  where
-    written : (u : Text) → Written (GapItems p) (lines (indentation s level)) u → without_bom u ≡ u
-    written u (items {is} d) =
-        subst (λ (x : Text). without_bom x ≡ x) (append-nil (lines (indentation s level) is)) (gap_without_bom _ (lines_again (indentation s level) (level_spaces s.indent ok level) d GapItems.none))
-    written u (Written.none f) = refl
-
-    go : (b : Bool) → WrittenUnless b (GapItems p) (lines (indentation s level)) t → without_bom t ≡ t
-    go true e = rw e refl
-    go false w = written t w
-
-pub document_leading_stays : (s : Settings) (level : ℕ) → list_all is_space s.indent ≡ true → (p t u : Text) → KeptLines s level p t → KeptLines s level (without_bom t) u → u ≡ t
-document_leading_stays s level ok p t u k m =
-    trailing_stays s level ok nothing p t u k (subst (λ (x : Text). KeptLines s level x u) (lines_without_bom s level ok p t k) m)
 
 -- in a place of a node
 tail_stays : {p : Place} {more : Text} → Follows p more → (q t u : Text) → Written (PlaceItems p q) tail t → Written (PlaceItems p (t ++ more)) tail u → u ≡ t

@@ -3,17 +3,18 @@ use Rattle.std.proofs.Common.{◌≡◌, ℕ, suc, Bool, true, false, ◌||◌, 
 use Rattle.std.proofs.lemmas.Bool.{and_parts, eqb-true}
 use Rattle.std.specs.List.{list_all}
 use Rattle.std.specs.Str.{chars}
-use Rattle.kdl_text.specs.Chars.{Text, Newline, is_newline_char, is_space}
-use Rattle.kdl_text.specs.Chars.Newline.{one as one_char}
+use Rattle.kdl_text.specs.Chars.{Text, Newline, is_space}
 use Rattle.kdl_text.specs.Chars.Space.{space as a_space}
 use Rattle.kdl_text.specs.Trivia.{LineComment}
 use Rattle.kdl_entry.specs.Places.{between}
 use Rattle.kdl_entry.specs.Tree.{EntryFormat}
-use Rattle.kdl_comments.specs.Items.{Item, line_end, SpaceItems, LineSpaceItems, GapItems, Place, before_entry, before_block, after_block, may_end, spaced, PlaceItems}
+use Rattle.kdl_comments.specs.Items.{Item, line_end, SpaceItems, LineSpaceItems, GapItems, Place, before_entry, before_block, after_block, spaced, PlaceItems}
 use Rattle.kdl_comments.specs.Written.{lines, tail}
 use Rattle.kdl_comments.proofs.Listing.SpaceItems.{place_end}
+use Rattle.kdl_comments.proofs.Rewriting.BeforeNewlines.{a_newline}
 use Rattle.kdl_fmt.specs.Kept.{Written, WrittenUnless, KeptLines, KeptTail, WrittenEnd, KeptEnd, KeptBefore, is_kept_format}
 use Rattle.kdl_fmt.specs.Config.{Settings, indentation}
+use Rattle.kdl_fmt.proofs.Keeping.KeptPlaces.{ends_spaced}
 
 -- where comments are left out
 pub kept_none : (b : Bool) (has : List Item → Type 0) (write : List Item → Text) (t : Text) → b ≡ true → t ≡ [] → WrittenUnless b has write t
@@ -75,15 +76,10 @@ begins_blank : (c : ℕ) (s : Text) → (c == 32) ≡ true → SpaceItems (c ∷
 unfolding is_space
 begins_blank c s e = SpaceItems.space (a_space (subst (λ (d : ℕ). is_space d ≡ true) (sym (eqb-true c 32 e)) refl))
 
-spaced_ends : (p : Place) → may_end (spaced true p) ≡ true
-spaced_ends (before_entry b) = refl
-spaced_ends before_block = refl
-spaced_ends after_block = refl
-
 blank_place : (p : Place) (c : ℕ) (s : Text) → is_blank (c ∷ s) ≡ true → PlaceItems p (c ∷ s) []
 blank_place p c [] h =
     let e = and_parts (c == 32) (is_blank []) h in
-    PlaceItems.space {is = []} {js = []} (begins_blank c [] e.0) (PlaceItems.ends (spaced_ends p))
+    PlaceItems.space {is = []} {js = []} (begins_blank c [] e.0) (PlaceItems.ends (ends_spaced p))
 blank_place p c (d ∷ s) h =
     let e = and_parts (c == 32) (is_blank (d ∷ s)) h in
     PlaceItems.space {is = []} {js = []} (begins_blank c (d ∷ s) e.0) (blank_place (spaced true p) d s e.1)
@@ -99,16 +95,12 @@ blank_tail b p (c ∷ s) t e h x = kept_items b (PlaceItems p (c ∷ s)) tail []
 abbrev pub is_blank_gap : Text → Bool
 is_blank_gap s = list_all (λ c. (c == 32) || (c == 10)) s
 
-line_feed : (s : Text) → Newline (10 ∷ s) s
-unfolding is_newline_char
-line_feed s = one_char {c = 10} refl refl
-
 begins_blank_gap : (c : ℕ) (s : Text) → ((c == 32) || (c == 10)) ≡ true → LineSpaceItems (c ∷ s) s []
 begins_blank_gap c s e = go (c == 32) refl e
   where
     go : (b : Bool) → (c == 32) ≡ b → (b || (c == 10)) ≡ true → LineSpaceItems (c ∷ s) s []
     go true h e = LineSpaceItems.space (begins_blank c s h)
-    go false h e = LineSpaceItems.newline (subst (λ (d : ℕ). Newline (d ∷ s) s) (sym (eqb-true c 10 e)) (line_feed s))
+    go false h e = LineSpaceItems.newline (subst (λ (d : ℕ). Newline (d ∷ s) s) (sym (eqb-true c 10 e)) (a_newline s))
 
 blank_gap : (s : Text) → is_blank_gap s ≡ true → GapItems s []
 blank_gap [] h = GapItems.none

@@ -10,9 +10,10 @@ use Rattle.kdl_text.specs.Trivia.{LineComment}
 use Rattle.kdl_text.proofs.Spacing.SpaceUnique.{no_line_comment}
 use Rattle.kdl_entry.specs.Tree.{Identifier}
 use Rattle.kdl_grammar.specs.Tree.{NodeFormat, Head, node, Children, no_children, children, Nodes, none, first}
-use Rattle.kdl_comments.specs.Items.{Item, SpaceItems, LineSpaceItems, GapItems, Place, before_entry, before_block, after_block, may_end, spaced, PlaceItems}
+use Rattle.kdl_comments.specs.Items.{Item, SpaceItems, GapItems, Place, before_block, may_end, spaced, PlaceItems}
 use Rattle.kdl_comments.specs.Written.{lines, tail}
 use Rattle.kdl_comments.proofs.Listing.ItemsUnique.{gap_items_det, place_items_det}
+use Rattle.kdl_comments.proofs.Rewriting.LinesAgain.{spaces_items}
 use Rattle.kdl_fmt.specs.Blank.{at_start, blank_lines, empty_lines, newlines, one_if, past_items, past_node, read, spaced_lines, after_char, counts}
 use Rattle.kdl_fmt.specs.Config.{Settings, indentation}
 use Rattle.kdl_fmt.specs.Formatted.{or_empty}
@@ -23,42 +24,23 @@ use Rattle.kdl_fmt.specs.Respelled.{TypeTexts, node_type_texts, with_type_texts}
 use Rattle.kdl_fmt.specs.Spaced.{Passes, PassesNode, Spaces, SpacedLines, SpacesTexts}
 use Rattle.kdl_fmt.specs.Parts.{NodeTexts, line_of}
 use Rattle.kdl_fmt.proofs.Respelling.Kept.{OnlySpaces}
-use Rattle.kdl_fmt.proofs.Spacing.Counts.{space_no_newline}
-use Rattle.kdl_fmt.proofs.Respelling.Written.{IsTypedLine}
+use Rattle.kdl_fmt.proofs.Respelling.Written.{IsTypedLine, head_line}
 use Rattle.kdl_fmt.specs.declared.blank.Before.{Before}
-use Rattle.kdl_fmt.proofs.Respelling.Kept.{OnlySpaces}
-use Rattle.kdl_fmt.proofs.Spacing.Counts.{space_no_newline}
-use Rattle.kdl_fmt.proofs.Respelling.Written.{IsTypedLine}
 use Rattle.kdl_fmt.specs.declared.blank.Before.TheVariants.{Nothing, Thing}
 use Rattle.kdl_fmt.specs.declared.blank.Last.{Last}
-use Rattle.kdl_fmt.proofs.OneLine.Framed.{AreFramedNodes}
-use Rattle.kdl_fmt.proofs.Spacing.Zero.{no_lines}
-
--- a space is no slash, and no newline
-space_no_slash : (c : ℕ) → is_space c ≡ true → (c == 47) ≡ false
-unfolding is_space
-space_no_slash c h = grind (arith, nat_tests)
+use Rattle.kdl_fmt.proofs.Respelling.Spelled.{spelled, blockless, spelled_block, SpelledNodes, nodeless, one_more}
+use Rattle.kdl_fmt.proofs.Keeping.KeptPlaces.{ends_spaced}
+use Rattle.kdl_fmt.proofs.Spacing.Lines.{space_no_newline, space_no_slash, no_lines}
 
 space_no_bom : (c : ℕ) → is_space c ≡ true → (c == 0xFEFF) ≡ false
 unfolding is_space
 space_no_bom c h = grind (arith, nat_tests)
 
 -- spaces hold no items
-pub spaces_items : (t : Text) → only_spaces t ≡ true → GapItems t []
-spaces_items [] h = GapItems.none
-spaces_items (c ∷ t) h =
-    let e = and_parts (is_space c) (only_spaces t) h in
-    GapItems.space {is = []} {js = []} (LineSpaceItems.space (SpaceItems.space (a_space {c = c} e.0))) (spaces_items t e.1)
-
-spaced_ends : (p : Place) → may_end (spaced true p) ≡ true
-spaced_ends (before_entry b) = refl
-spaced_ends before_block = refl
-spaced_ends after_block = refl
-
 pub spaces_place : (p : Place) (c : ℕ) (t : Text) → only_spaces (c ∷ t) ≡ true → PlaceItems p (c ∷ t) []
 spaces_place p c [] h =
     let e = and_parts (is_space c) (only_spaces []) h in
-    PlaceItems.space {is = []} {js = []} (SpaceItems.space (a_space {c = c} e.0)) (PlaceItems.ends (spaced_ends p))
+    PlaceItems.space {is = []} {js = []} (SpaceItems.space (a_space {c = c} e.0)) (PlaceItems.ends (ends_spaced p))
 spaces_place p c (d ∷ t) h =
     let e = and_parts (is_space c) (only_spaces (d ∷ t)) h in
     PlaceItems.space {is = []} {js = []} (SpaceItems.space (a_space {c = c} e.0)) (spaces_place (spaced true p) d t e.1)
@@ -225,18 +207,15 @@ ArePlain ind none = Unit {0}
 ArePlain ind (first (node h no_children) ns) = (h.format ≡ Some (plain_line ind)) × ArePlain ind ns
 ArePlain ind (first (node h (children d)) ns) = ⊥
 
-pub are_plain : (number : ℕ) (s : Settings) (level : ℕ) (b : Before) (ns ns' : Nodes) → nodes_on_line ns ≡ true → Quiet number b → AreFramedNodes number s level b ns ns' → ArePlain (indentation s level) ns'
-are_plain number s level b none none h q f = tt
-are_plain number s level b none (first n' ns') h q f = absurd f
-are_plain number s level b (first n ns) none h q f = absurd f
-are_plain number s level b (first (node x (children d)) ns) (first n' ns') h q f = absurd cc
-are_plain number s level b (first (node x no_children) ns) (first (node x' (children d)) ns') h q f = absurd f.1.1
-are_plain number s level b (first (node x no_children) ns) (first (node x' no_children) ns') h q (b', f, p, fs) =
-    let e = and_parts (head_on_line (is_end ns) x) (nodes_on_line ns) h in
-    let line = (head_parts (is_end ns) x e.0).line in
-    let format = f.0.format in (
-      bare_line number s level (is_end ns) b (or_empty x.format) x'.ty x'.format format line ∙ ap Some (line_is_plain number s level (is_end ns) b (or_empty x.format) format.texts line q format.kept),
-      are_plain number s level b' ns ns' e.1 (quiet_passes number s level (is_end ns) x no_children b' line p) fs,
+pub are_plain : {number : ℕ} {s : Settings} {keep : Bool} {level : ℕ} {b : Before} {ns xs : Nodes} → nodes_on_line ns ≡ true → Quiet number b → SpelledNodes number s keep level b ns xs → ArePlain (indentation s level) xs
+are_plain h q nodeless = tt
+are_plain h q (one_more (spelled f (spelled_block c at nodes)) p fs) = absurd cc
+are_plain {number} {s} h q (one_more {level = level} {b = b} {b' = b'} {ns = ns} (spelled {h = y} {x = x} f blockless) p fs) =
+    let e = and_parts (head_on_line (is_end ns) y) (nodes_on_line ns) h in
+    let line = (head_parts (is_end ns) y e.0).line in
+    let format = head_line level false b y x f in (
+      bare_line number s level (is_end ns) b (or_empty y.format) x.ty x.format format line ∙ ap Some (line_is_plain number s level (is_end ns) b (or_empty y.format) format.texts line q format.kept),
+      are_plain e.1 (quiet_passes number s level (is_end ns) y no_children b' line p) fs,
     )
 
 -- a text of spaces has no U+FEFF at its start

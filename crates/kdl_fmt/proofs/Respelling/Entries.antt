@@ -1,11 +1,11 @@
 -- An entry that is laid out with its spellings, from the steps that lay it out.
 use Rattle.std.proofs.Common.{◌≡◌, Bool, true, false, [], ◌∷◌, ◌++◌, refl, sym, ap, subst, ◌∙◌, Option, Some, None, option_map, Result, Ok, Err}
-use Rattle.std.specs.Prelude.{OnErr, OnOk}
+use Rattle.std.specs.Prelude.{OnOk}
 use Rattle.kdl_text.specs.Chars.{Text}
 use Rattle.kdl_entry.specs.Entries.{IsIdentifierText}
 use Rattle.kdl_entry.specs.Tree.{Identifier, EntryFormat, Entry, unspelled, cleared, autoformatted, autoformatted_format}
 use Rattle.kdl_fmt.specs.Internal.KeptTexts.{HasForm}
-use Rattle.kdl_fmt.specs.Internal.Names.{with_spelling_if, Keeps, KeepsName, autoformatted_but, without_value, HasSpelling, IsLaid}
+use Rattle.kdl_fmt.specs.Internal.Names.{Keeps, KeepsName, autoformatted_but, without_value, HasSpelling, IsLaid}
 use Rattle.kdl_fmt.specs.Config.{Settings}
 use Rattle.kdl_fmt.specs.Formatted.{with_keep_if}
 use Rattle.kdl_fmt.specs.Kept.{is_kept_format}
@@ -13,8 +13,7 @@ use Rattle.kdl_fmt.specs.Respelled.{KeptSpelling, IsRespelledIf, text_before, Ke
 use Rattle.kdl_fmt.specs.Parts.{following, put_format}
 use Rattle.kdl_fmt.specs.declared.names.SpellingRule.{SpellingRule}
 use Rattle.kdl_fmt.proofs.EntryTexts.{no_format}
-use Rattle.kdl_fmt.proofs.Respelling.Written.{plain_format, leading_is, following_name, following_ty, after_value, after_format, unflagged_same}
-use Rattle.kdl_fmt.proofs.Respelling.Leaves.{entry_stays}
+use Rattle.kdl_fmt.proofs.Respelling.Written.{plain_format, leading_is, after_format, unflagged_same, unformed, after_unformed}
 
 -- whether the spelling of a name is kept
 pub name_kept : (i : Identifier) (t : Text) → Some t ≡ i.repr → IsIdentifierText t i.value → KeepsName true i SpellingRule.Kept
@@ -26,26 +25,10 @@ name_removed i t e h = (None, subst (λ (o : Option Text). KeptSpelling i.value 
 pub no_name_kept : (i : Identifier) → None ≡ i.repr → KeepsName true i SpellingRule.Removed
 no_name_kept i e = (None, subst (λ (o : Option Text). KeptSpelling i.value o None) e KeptSpelling.unspelled, refl)
 
--- the parts of an entry with another format
-put_name : (o : Option EntryFormat) (e : Entry) → (put_format o e).name ≡ e.name
-put_name None e = refl
-put_name (Some f) e = refl
-
-put_ty : (o : Option EntryFormat) (e : Entry) → (put_format o e).ty ≡ e.ty
-put_ty None e = refl
-put_ty (Some f) e = refl
-
-put_value : (o : Option EntryFormat) (e : Entry) → (put_format o e).value ≡ e.value
-put_value None e = refl
-put_value (Some f) e = refl
-
-put_span : (o : Option EntryFormat) (e : Entry) → (put_format o e).span ≡ e.span
-put_span None e = refl
-put_span (Some f) e = refl
-
-after_span : (t : Text) (e : Entry) → (following t e).span ≡ e.span
-after_span [] e = refl
-after_span (c ∷ t) e = refl
+-- an entry with another format has the same parts
+put_unformed : (o : Option EntryFormat) (e : Entry) → unformed (put_format o e) ≡ unformed e
+put_unformed None e = refl
+put_unformed (Some f) e = refl
 
 -- an entry whose spelling was taken out
 pub taken_same : (key ty : SpellingRule) (e : Entry) → is_kept_format e.format ≡ false → autoformatted_but key ty (record e { format = option_map without_value e.format }) ≡ autoformatted_but key ty e
@@ -64,14 +47,14 @@ module _ (s : Settings) (e : Entry) (t : Text) (key ty : SpellingRule) (unflagge
 
   pub spelled_entry : (y e' : Entry) (o : Option EntryFormat) → Keeps true e.name key → Keeps true e.ty ty → y ≡ autoformatted_but key ty e → e' ≡ put_format o y → KeptForm s e e.format mid.format e'.format → HasSpellings s e mid e'
   spelled_entry y e' o k h a b v =
-      let name : e'.name ≡ with_spelling_if key e.name = ap (λ (x : Entry). x.name) b ∙ put_name o y ∙ ap (λ (x : Entry). x.name) a in
-      let type : e'.ty ≡ with_spelling_if ty e.ty = ap (λ (x : Entry). x.ty) b ∙ put_ty o y ∙ ap (λ (x : Entry). x.ty) a in
+      let p : unformed e' ≡ unformed (autoformatted_but key ty e) = ap unformed b ∙ put_unformed o y ∙ ap unformed a in
+      let q : unformed mid ≡ unformed (autoformatted e) = after_unformed t (autoformatted e) in
       record {
-        ty = subst (λ (z : Option Identifier). IsRespelledIf true e.ty z e'.ty) (sym (following_ty t (autoformatted e))) (subst (λ (z : Option Identifier). IsRespelledIf true e.ty (option_map unspelled e.ty) z) (sym type) h);
-        name = subst (λ (z : Option Identifier). IsRespelledIf true e.name z e'.name) (sym (following_name t (autoformatted e))) (subst (λ (z : Option Identifier). IsRespelledIf true e.name (option_map unspelled e.name) z) (sym name) k);
+        ty = subst (λ (x : Entry). IsRespelledIf true e.ty x.ty e'.ty) (sym q) (subst (λ (x : Entry). IsRespelledIf true e.ty (option_map unspelled e.ty) x.ty) (sym p) h);
+        name = subst (λ (x : Entry). IsRespelledIf true e.name x.name e'.name) (sym q) (subst (λ (x : Entry). IsRespelledIf true e.name (option_map unspelled e.name) x.name) (sym p) k);
         format = v;
-        value = ap (λ (x : Entry). x.value) b ∙ put_value o y ∙ ap (λ (x : Entry). x.value) a ∙ sym (after_value t (autoformatted e));
-        span = ap (λ (x : Entry). x.span) b ∙ put_span o y ∙ ap (λ (x : Entry). x.span) a ∙ sym (after_span t (autoformatted e));
+        value = ap (λ (x : Entry). x.value) p ∙ sym (ap (λ (x : Entry). x.value) q);
+        span = ap (λ (x : Entry). x.span) p ∙ sym (ap (λ (x : Entry). x.span) q);
       }
 
   -- with its spelling
@@ -132,14 +115,6 @@ respelled_is (Err z) keep s e x e' a k h = h
 respelled_is (Ok z) keep s e x e' a k h = (e', subst (λ (y : Entry). IsLaid s y e') a h, k)
 
 -- what an entry leaves as it was
-flag_cleared : (b : Bool) (e : Entry) → cleared (with_keep_if b e) ≡ cleared e
+pub flag_cleared : (b : Bool) (e : Entry) → cleared (with_keep_if b e) ≡ cleared e
 flag_cleared false e = refl
 flag_cleared true e = refl
-
-pub entry_same : {A E : Type 0} (r : Result A E) (keep : Bool) (s : Settings) (e x e' : Entry) → x ≡ with_keep_if s.entry_autoformate_keep e → OnErr r (e' ≡ x) → OnOk r (IsSpelledEntry keep s e e') → cleared e' ≡ cleared e
-entry_same (Err z) keep s e x e' a same h = ap cleared (same ∙ a) ∙ flag_cleared s.entry_autoformate_keep e
-entry_same (Ok z) keep s e x e' a same h = entry_stays keep s e e' h
-
-pub entry_flagged : {A E : Type 0} (r : Result A E) (e' x y : Entry) → x ≡ y → OnErr r (e' ≡ x) → OnErr r (e' ≡ y)
-entry_flagged (Err z) e' x y a h = h ∙ a
-entry_flagged (Ok z) e' x y a h = h

@@ -1,8 +1,9 @@
 -- What is kept inside an entry or a type, and before an entry that continues the line: it reads back, and is kept again.
-use Rattle.std.proofs.Common.{◌≡◌, Bool, true, false, List, [], ◌∷◌, ◌++◌, refl, sym, ap, subst, ◌∙◌, Option, Some, None, option_map, append-nil}
+use Rattle.std.proofs.Common.{◌≡◌, Bool, true, false, List, [], ◌∷◌, ◌++◌, refl, sym, ap, subst, ◌∙◌, Option, Some, None, option_map, append-nil, ℕ, Result, Ok, Err, String, string_bytes, Global, IfOk}
 use Rattle.std.proofs.lemmas.Bool.{and_parts}
 use Rattle.std.specs.Cmp.Derive.{both_true}
-use Rattle.std.specs.Prelude.{not, is_some, ◌&&◌}
+use Rattle.std.specs.Prelude.{not, is_some, ◌&&◌, ◌==◌, IsTrue, length}
+use Rattle.std.specs.Str.{chars}
 use Rattle.kdl_entry.specs.Tree.{identifier_tree}
 use Rattle.kdl_entry.specs.declared.identifier.KdlIdentifier.{KdlIdentifier}
 use Rattle.kdl_text.specs.Chars.{Text, Star, Plus, plus, is_space}
@@ -13,12 +14,16 @@ use Rattle.kdl_comments.specs.Items.{Item, before_entry, PlaceItems}
 use Rattle.kdl_comments.specs.Lacks.{AreNodeSpaces}
 use Rattle.kdl_comments.proofs.Listing.SpaceItems.{space_items}
 use Rattle.kdl_comments.proofs.NodeSpaces.{empty_spaces, spaces_then}
+use Rattle.kdl_comments.proofs.Listing.ItemsUnique.{place_items_det}
 use Rattle.kdl_fmt.specs.Config.{Settings}
 use Rattle.kdl_fmt.specs.Plain.{no_newline, only_spaces}
 use Rattle.kdl_fmt.specs.Formatted.{or_empty}
 use Rattle.kdl_fmt.specs.Internal.KeptTexts.{KeptTypeTextsIn, put_type_texts}
-use Rattle.kdl_fmt.specs.Respelled.{IsTypedFormat, IsContinued, KeptPlace, KeptPlaceIf, KeptLeading, TypeTexts, KeptTypeTexts, KeptTypeTextsIf}
-use Rattle.kdl_fmt.proofs.Spacing.Counts.{space_no_newline}
+use Rattle.kdl_fmt.specs.Respelled.{IsTypedFormat, IsContinued, KeptPlace, KeptPlaceIf, KeptLeading, TypeTexts, KeptTypeTexts, KeptTypeTextsIf, node_type_texts}
+use Rattle.kdl_comments.specs.declared.item.Item as held
+use Rattle.kdl_comments.specs.Internal.Reading.{items_view}
+use Rattle.kdl_value.specs.Tree.{text_of}
+use Rattle.kdl_fmt.proofs.Spacing.Lines.{space_no_newline}
 
 -- what is kept of a text is node-spaces
 pub place_spaces : {t r : Text} → KeptPlace t r → AreNodeSpaces r
@@ -41,12 +46,15 @@ no_texts = record { before_name = []; after_name = []; after = [] }
 pub no_type_spaces : TypeSpaces no_texts
 no_type_spaces = record { before_name = empty_spaces; after_name = empty_spaces; after = empty_spaces }
 
-pub type_spaces : {t x : TypeTexts} → KeptTypeTexts t x → TypeSpaces x
-type_spaces h = record { before_name = place_spaces h.before_name; after_name = place_spaces h.after_name; after = place_spaces h.after }
+-- of each of them, what is kept is kept of its place
+each_place : (b : Bool) (t x : TypeTexts) → KeptTypeTextsIf b t x → KeptPlaceIf b t.before_name x.before_name × KeptPlaceIf b t.after_name x.after_name × KeptPlaceIf b t.after x.after
+each_place false t x h = (ap (λ (z : TypeTexts). z.before_name) h, ap (λ (z : TypeTexts). z.after_name) h, ap (λ (z : TypeTexts). z.after) h)
+each_place true t x h = (h.before_name, h.after_name, h.after)
 
 pub type_spaces_if : (b : Bool) (t x : TypeTexts) → KeptTypeTextsIf b t x → TypeSpaces x
-type_spaces_if false t x h = subst TypeSpaces (sym h) no_type_spaces
-type_spaces_if true t x h = type_spaces h
+type_spaces_if b t x h =
+    let k = each_place b t x h in
+    record { before_name = place_if_spaces b t.before_name x.before_name k.0; after_name = place_if_spaces b t.after_name x.after_name k.1; after = place_if_spaces b t.after x.after k.2 }
 
 -- nothing is kept of spaces
 pub nothing_of_spaces : {t r : Text} → only_spaces t ≡ true → KeptPlace t r → r ≡ []
@@ -59,20 +67,17 @@ pub record OnlySpaces (x : TypeTexts) : Type 0 where
   pub after_name : only_spaces x.after_name ≡ true
   pub after : only_spaces x.after ≡ true
 
-pub bare_types : (t x : TypeTexts) → OnlySpaces t → KeptTypeTexts t x → x ≡ no_texts
-bare_types t x h k =
-    let a = nothing_of_spaces h.before_name k.before_name in
-    let b = nothing_of_spaces h.after_name k.after_name in
-    let c = nothing_of_spaces h.after k.after in
-    λ i. record { before_name = a i; after_name = b i; after = c i }
-
 pub place_bare_if : (b : Bool) (t r : Text) → only_spaces t ≡ true → KeptPlaceIf b t r → r ≡ []
 place_bare_if false t r e h = h
 place_bare_if true t r e h = nothing_of_spaces e h
 
 pub types_bare_if : (b : Bool) (t x : TypeTexts) → OnlySpaces t → KeptTypeTextsIf b t x → x ≡ no_texts
-types_bare_if false t x e h = h
-types_bare_if true t x e h = bare_types t x e h
+types_bare_if b t x e h =
+    let k = each_place b t x h in
+    let before_name = place_bare_if b t.before_name x.before_name e.before_name k.0 in
+    let after_name = place_bare_if b t.after_name x.after_name e.after_name k.1 in
+    let after = place_bare_if b t.after x.after e.after k.2 in
+    λ i. record { before_name = before_name i; after_name = after_name i; after = after i }
 
 -- what is kept is kept again
 pub place_again : {t r q : Text} → KeptPlace t r → KeptPlace r q → q ≡ r
@@ -84,16 +89,14 @@ pub place_again_if : (b : Bool) (t r q : Text) → KeptPlaceIf b t r → KeptPla
 place_again_if false t r q h k = k ∙ sym h
 place_again_if true t r q h k = place_again h k
 
-pub types_again : {t x y : TypeTexts} → KeptTypeTexts t x → KeptTypeTexts x y → y ≡ x
-types_again h k =
-    let a = place_again h.before_name k.before_name in
-    let b = place_again h.after_name k.after_name in
-    let c = place_again h.after k.after in
-    λ i. record { before_name = a i; after_name = b i; after = c i }
-
 pub types_again_if : (b : Bool) (t x y : TypeTexts) → KeptTypeTextsIf b t x → KeptTypeTextsIf b x y → y ≡ x
-types_again_if false t x y h k = k ∙ sym h
-types_again_if true t x y h k = types_again h k
+types_again_if b t x y h k =
+    let f = each_place b t x h in
+    let g = each_place b x y k in
+    let before_name = place_again_if b t.before_name x.before_name y.before_name f.0 g.0 in
+    let after_name = place_again_if b t.after_name x.after_name y.after_name f.1 g.1 in
+    let after = place_again_if b t.after x.after y.after f.2 g.2 in
+    λ i. record { before_name = before_name i; after_name = after_name i; after = after i }
 
 pub leading_again : {s : Settings} {old laid r q : Text} → KeptLeading s old laid r → KeptLeading s r laid q → q ≡ r
 leading_again (KeptLeading.continued c) (KeptLeading.continued d) = refl
@@ -145,9 +148,8 @@ spaces_continue_nothing {t = t} h c = let z : true ≡ false = sym (spaces_on_li
 -- what was kept of the texts around a type, put back
 texts_put : (b : Bool) (old : Option NodeFormat) (o : Option TypeTexts) (f g : Option NodeFormat) → KeptTypeTextsIn b old o → g ≡ put_type_texts o f → IsTypedFormat b (or_empty old) f g
 texts_put false old None f g k e = e
-texts_put false old (Some x) f g k e = absurd k
-texts_put true old None f g k e = absurd k
 texts_put true old (Some x) f g k e = (x, k, e)
+texts_put _ old _ f g k e = absurd assumption
 
 some_tree : (o : Option KdlIdentifier) → is_some o ≡ is_some (option_map identifier_tree o)
 some_tree None = refl
@@ -156,3 +158,38 @@ some_tree (Some i) = refl
 pub typed_put : (keep b : Bool) (ty : Option KdlIdentifier) (old : Option NodeFormat) (o : Option TypeTexts) (f g : Option NodeFormat) → b ≡ is_some ty → KeptTypeTextsIn (keep && b) old o → g ≡ put_type_texts o f
     → IsTypedFormat (keep && is_some (option_map identifier_tree ty)) (or_empty old) f g
 typed_put keep b ty old o f g h k e = subst (λ (z : Bool). IsTypedFormat (keep && z) (or_empty old) f g) (h ∙ some_tree ty) (texts_put (keep && b) old o f g k e)
+
+-- The steps that find what is kept there.
+-- a text of spaces, one that may not be between two parts, and one that is copied
+pub place_of_spaces : (t u : Text) → only_spaces t ≡ true → u ≡ [] → KeptPlace t u
+place_of_spaces t u h e = subst (KeptPlace t) (sym e) (KeptPlace.other (λ k. let z : true ≡ false = sym h ∙ k.1 in absurd cc))
+
+pub place_refused : (t u : Text) (b : Bool) → b ≡ false → (AreNodeSpaces t → IsTrue b) → u ≡ [] → KeptPlace t u
+place_refused t u b h f e = subst (KeptPlace t) (sym e) (KeptPlace.other (λ k. let z : false ≡ true = sym h ∙ f k.0 in absurd cc))
+
+pub place_copied : {E : Type 0} (r : Result (String Global) E) (t : List ℕ) → only_spaces (chars t) ≡ false → AreNodeSpaces (chars t) → IfOk r (λ s. string_bytes s ≡ t) → IfOk r (λ s. KeptPlace (chars t) (text_of s))
+place_copied (Err e) t h a x = x
+place_copied (Ok s) t h a x = subst (KeptPlace (chars t)) (sym (ap chars x)) (KeptPlace.kept (a, h))
+
+-- a place without items
+pub no_items : (t : Text) (is : List Item) (b : Bool) → PlaceItems (before_entry false) t is → (b ≡ true → is ≡ []) → (is ≡ [] → b ≡ true) → (IsTrue b → PlaceItems (before_entry false) t []) × (PlaceItems (before_entry false) t [] → IsTrue b)
+no_items t is b d f g = (λ h. subst (PlaceItems (before_entry false) t) (f h) d, λ k. g (place_items_det d k))
+
+pub empty_view : (xs : List held.Item) (n : ℕ) (b : Bool) → n ≡ length xs → b ≡ (n == 0) → items_view xs ≡ [] → b ≡ true
+empty_view [] n b l e h = e ∙ ap (λ (k : ℕ). k == 0) l
+empty_view (x ∷ xs) n b l e h = absurd cc
+
+-- the text before an entry
+pub leading_copied : {E : Type 0} (r : Result (String Global) E) (s : Settings) (t : List ℕ) (laid : Text) → IsContinued s (chars t) → IfOk r (λ x. string_bytes x ≡ t) → IfOk r (λ x. KeptLeading s (chars t) laid (text_of x))
+leading_copied (Err e) s t laid c x = x
+leading_copied (Ok y) s t laid c x = subst (KeptLeading s (chars t) laid) (sym (ap chars x)) (KeptLeading.continued c)
+
+pub leading_laid : (s : Settings) (old laid r : Text) (b : Bool) → b ≡ false → (IsContinued s old → IsTrue b) → r ≡ laid → KeptLeading s old laid r
+leading_laid s old laid r b h f e = subst (KeptLeading s old laid) (sym e) (KeptLeading.other (λ c. let z : false ≡ true = sym h ∙ f c in absurd cc))
+
+-- the texts around the type of a node
+pub nothing_around : KeptTypeTexts no_texts no_texts
+nothing_around = let p = place_of_spaces [] [] refl refl in record { before_name = p; after_name = p; after = p }
+
+pub types_kept : (a b c : Bool) (o : Option NodeFormat) (x : TypeTexts) → a ≡ true → b ≡ false → c ≡ true → KeptTypeTexts (node_type_texts (or_empty o)) x → KeptTypeTextsIn (a && not b && c) o (Some x)
+types_kept a b c o x e f g k = rw (e, f, g) k

@@ -15,11 +15,8 @@ unspelled_same true i m i' (r, k, h) = ap unspelled h
 
 pub unspelled_same_if : (keep : Bool) (o m o' : Option Identifier) → IsRespelledIf keep o m o' → option_map unspelled o' ≡ option_map unspelled m
 unspelled_same_if keep None None None h = refl
-unspelled_same_if keep None None (Some i') h = absurd h
-unspelled_same_if keep None (Some m) o' h = absurd h
-unspelled_same_if keep (Some i) None o' h = absurd h
-unspelled_same_if keep (Some i) (Some m) None h = absurd h
 unspelled_same_if keep (Some i) (Some m) (Some i') h = ap Some (unspelled_same keep i m i' h)
+unspelled_same_if keep _ _ _ h = absurd assumption
 
 cleared_spellings : (s : Settings) (e m e' : Entry) → HasSpellings s e m e' → cleared e' ≡ cleared m
 cleared_spellings s e m e' h =
@@ -57,11 +54,8 @@ entry_flag true s e m e' h r = go (is_kept_format (with_keep_if s.entry_autoform
 module _ (keep : Bool) (s : Settings) where
   entries_flag : (es ms es' : List Entry) → EntriesKeepNone ms → AreRespelledEntries keep s es ms es' → EntriesKeepNone es'
   entries_flag [] [] [] h r = tt
-  entries_flag [] [] (e' ∷ es') h r = absurd r
-  entries_flag [] (m ∷ ms) es' h r = absurd r
-  entries_flag (e ∷ es) [] es' h r = absurd r
-  entries_flag (e ∷ es) (m ∷ ms) [] h r = absurd r
   entries_flag (e ∷ es) (m ∷ ms) (e' ∷ es') h r = (entry_flag keep s e m e' h.0 r.0, entries_flag es ms es' h.1 r.1)
+  entries_flag _ _ _ h r = absurd assumption
 
   mutual
     pub keeps_none : (n m n' : Node) → NodeKeepsNone m → IsRespelledNode keep s n m n' → NodeKeepsNone n'
@@ -69,19 +63,13 @@ module _ (keep : Bool) (s : Settings) where
 
     children_keep_none : (k j k' : Children) → ChildrenKeepNone j → AreRespelledChildren keep s k j k' → ChildrenKeepNone k'
     children_keep_none no_children no_children no_children x r = tt
-    children_keep_none no_children no_children (children d') x r = absurd r
-    children_keep_none no_children (children m) k' x r = absurd r
-    children_keep_none (children d) no_children k' x r = absurd r
-    children_keep_none (children d) (children m) no_children x r = absurd r
     children_keep_none (children d) (children m) (children d') x r = document_keeps_none d m d' x r
+    children_keep_none _ _ _ x r = absurd assumption
 
     pub document_keeps_none : (d m d' : Document) → DocumentKeepsNone m → IsRespelledDocument keep s d m d' → DocumentKeepsNone d'
     document_keeps_none (document f at ns) (document g bt ms) (document f' at' ns') x r = nodes_keep_none ns ms ns' x r.2
 
     nodes_keep_none : (ns ms ns' : Nodes) → NodesKeepNone ms → AreRespelledNodes keep s ns ms ns' → NodesKeepNone ns'
     nodes_keep_none none none none x r = tt
-    nodes_keep_none none none (first n' ns') x r = absurd r
-    nodes_keep_none none (first m ms) ns' x r = absurd r
-    nodes_keep_none (first n ns) none ns' x r = absurd r
-    nodes_keep_none (first n ns) (first m ms) none x r = absurd r
     nodes_keep_none (first n ns) (first m ms) (first n' ns') x r = (keeps_none n m n' x.0 r.0, nodes_keep_none ns ms ns' x.1 r.1)
+    nodes_keep_none _ _ _ x r = absurd assumption

@@ -7,10 +7,10 @@ use Rattle.kdl_text.specs.Chars.{Text, is_scalar, plus}
 use Rattle.kdl_text.specs.Internal.Here.{Here}
 use Rattle.kdl_text.specs.Numbers.{whole_value, decimal_text}
 use Rattle.kdl_text.specs.declared.numbers.Keyword.{Keyword}
-use Rattle.kdl_text.specs.declared.numbers.Keyword.TheVariants.{True, False, Null, Infinity, NegativeInfinity, NotANumber}
+use Rattle.kdl_text.specs.declared.numbers.Keyword.TheVariants.{True}
 use Rattle.kdl_text.specs.Trivia.{NodeSpace, ValueEnd}
 use Rattle.kdl_text.specs.Trivia.ValueEnd.{nothing}
-use Rattle.kdl_value.specs.Data.{Value, text, integer, float, truth, null}
+use Rattle.kdl_value.specs.Data.{Value, text}
 use Rattle.kdl_value.specs.Tree.{text_value}
 use Rattle.kdl_value.specs.Print.{print_value}
 use Rattle.kdl_value.specs.Spelled.{spelled}
@@ -19,7 +19,7 @@ use Rattle.kdl_value.specs.WellFormed.{IsWellFormed}
 use Rattle.kdl_lexer.specs.Internal.Handed.{Cuts, one, spaces, kind_view, HandsOver, LexedNext}
 use Rattle.kdl_lexer.specs.Pieces.{PlainPiece, keyword_value}
 use Rattle.kdl_lexer.specs.declared.lexer.TokenKind.{TokenKind}
-use Rattle.kdl_lexer.specs.declared.lexer.TokenKind.TheVariants.{String as StringKind, Value as ValueKind, Space, Newline, Slashdash, Left, Right, Opening, Closing, Equals, Semicolon, Bom}
+use Rattle.kdl_lexer.specs.declared.lexer.TokenKind.TheVariants.{String as StringKind, Value as ValueKind}
 use Rattle.kdl_lexer.specs.Tokens as tokens
 use Rattle.kdl_lexer.specs.Tokens.{BeginsToken, NoToken, t_space, t_string, t_value}
 use Rattle.kdl_lexer.specs.declared.lexer.NextToken.{NextToken}
@@ -67,11 +67,7 @@ plain_no_text (PlainPiece.keyword {k = k} p e) h = no k (sym e ∙ h)
   where
     no : (k : Keyword) {w : Text} → keyword_value k ≡ text w → ⊥
     no True h = cc
-    no False h = cc
-    no Null h = cc
-    no Infinity h = cc
-    no NegativeInfinity h = cc
-    no NotANumber h = cc
+    no _ h = cc
 
 -- a text is a string exactly if it spells that
 pub text_same : {u w : Text} → text u ≡ text w → u ≡ w
@@ -116,16 +112,7 @@ cut_value t r v (one (t_value p)) e = subst (λ (z : Text). IsPlainValue true t 
 pub other_kind : (k : TokenKind) → IsValueToken (kind_view k) → ((s : String Global) → k ≡ StringKind s → ⊥) → ((v : KdlValue) → k ≡ ValueKind v → ⊥) → ⊥
 other_kind (StringKind s) h m n = m s refl
 other_kind (ValueKind v) h m n = n v refl
-other_kind Space h m n = h
-other_kind Newline h m n = h
-other_kind Slashdash h m n = h
-other_kind Left h m n = h
-other_kind Right h m n = h
-other_kind Opening h m n = h
-other_kind Closing h m n = h
-other_kind Equals h m n = h
-other_kind Semicolon h m n = h
-other_kind Bom h m n = h
+other_kind _ h m n = h
 
 -- what was handed out
 handed_cut : (s : Text) (old new : Here) (k : tokens.Token) (at : TokenSpan) → old.rest ≡ s → HandsOver old k at new → Cuts s k at.end.rest
@@ -173,7 +160,4 @@ decides_value t v w b d h = (λ e. subst (λ (z : Value). IsSpelling z t) (h.0 e
 -- the string of a value
 pub text_value_is : (v : Value) (s : Text) → Some s ≡ text_value v → v ≡ text s
 text_value_is (text t) s e = let x : t ≡ s = cc in ap text x
-text_value_is (integer z) s e = absurd (cc)
-text_value_is (float w) s e = absurd (cc)
-text_value_is (truth b) s e = absurd (cc)
-text_value_is null s e = absurd (cc)
+text_value_is _ s e = absurd cc

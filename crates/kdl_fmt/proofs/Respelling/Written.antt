@@ -1,5 +1,5 @@
 -- What is laid out, with or without spellings: what each part prints, and around it the texts that are kept.
-use Rattle.std.proofs.Common.{◌≡◌, ℕ, ◌+◌, Bool, true, false, List, [], ◌∷◌, ◌++◌, map, refl, sym, ap, subst, ◌∙◌, Option, Some, None, option_map, append_assoc, append-nil}
+use Rattle.std.proofs.Common.{◌≡◌, ℕ, Bool, true, false, List, [], ◌∷◌, ◌++◌, map, refl, sym, ap, subst, ◌∙◌, Option, Some, None, option_map, append_assoc, append-nil}
 use Rattle.std.proofs.lemmas.Bool.{and_parts}
 use Rattle.std.specs.List.{list_all}
 use Rattle.std.specs.Prelude.{◌&&◌, not, is_some}
@@ -12,20 +12,22 @@ use Rattle.kdl_entry.specs.Print.{print_identifier, print_type, print_key}
 use Rattle.kdl_entry.specs.Tree.{Identifier, EntryFormat, empty_format, Entry, unspelled, with_keep, autoformatted, entry_data}
 use Rattle.kdl_grammar.specs.Print.{print_piece}
 use Rattle.kdl_grammar.specs.ReadsBack.{front_text, value_text, entry_trailing}
-use Rattle.kdl_grammar.specs.Tree.{NodeFormat, DocumentFormat, Head, Node, node, Children, no_children, children, Document, document, Nodes, none, first, node_data, children_data, nodes_data, document_data}
+use Rattle.kdl_grammar.specs.Tree.{NodeFormat, Head, Node, node, Children, Document, node_data, document_data}
 use Rattle.kdl_fmt.specs.Config.{Settings, indentation}
-use Rattle.kdl_fmt.specs.Formatted.{with_keep_if, or_empty, or_empty_document, EntriesKeepNone, NodeKeepsNone, ChildrenKeepNone, DocumentKeepsNone, NodesKeepNone}
+use Rattle.kdl_fmt.specs.Formatted.{with_keep_if, or_empty, EntriesKeepNone, NodeKeepsNone, DocumentKeepsNone}
 use Rattle.kdl_comments.specs.Lacks.{AreNodeSpaces}
 use Rattle.kdl_comments.proofs.NodeSpaces.{empty_spaces}
 use Rattle.kdl_fmt.specs.Kept.{KeptBefore, entry_leading, is_kept_format}
-use Rattle.kdl_fmt.specs.Respelled.{IsSpelling, KeptSpelling, IsRespelled, IsRespelledIf, text_before, IsContinued, KeptLeading, TypeTexts, KeptTypeTextsIf, KeepsForm, KeptForm, entry_type_texts, node_type_texts, with_type_texts, IsTypedFormat, HasSpellings, HasSpellingsUnless, IsRespelledEntry, AreRespelledEntries, IsRespelledNode, AreRespelledChildren, IsRespelledDocument, AreRespelledNodes}
-use Rattle.kdl_fmt.specs.Spaced.{SpacesTexts, IsSpacedLine, IsSpacedNode, IsSpacedChildren, AreSpacedNodes, IsSpacedBraced, IsSpacedContent, IsSpacedDocument}
-use Rattle.kdl_fmt.specs.WellFormed.{AreScalars, IsWellFormedEntry, AreWellFormedEntries, IsWellFormedNode, AreWellFormedChildren, AreWellFormed}
-use Rattle.kdl_fmt.specs.Parts.{NodeTexts, following, IsFormattedEntry, AreFormattedEntries, has_block, line_of}
+use Rattle.kdl_fmt.specs.Respelled.{IsSpelling, KeptSpelling, IsRespelled, IsRespelledIf, text_before, IsContinued, KeptLeading, TypeTexts, KeptTypeTextsIf, KeepsForm, KeptForm, entry_type_texts, node_type_texts, with_type_texts, IsTypedFormat, HasSpellings, HasSpellingsUnless, IsRespelledEntry, AreRespelledEntries, IsRespelledNode, IsRespelledDocument}
+use Rattle.kdl_fmt.specs.Spaced.{SpacesTexts, IsSpacedLine, IsSpacedNode, IsSpacedDocument}
+use Rattle.kdl_fmt.specs.WellFormed.{AreScalars, IsWellFormedEntry, AreWellFormedEntries, IsWellFormedNode, AreWellFormed}
+use Rattle.kdl_fmt.specs.Parts.{NodeTexts, following, IsFormattedEntry, AreFormattedEntries, line_of}
 use Rattle.kdl_fmt.specs.declared.blank.Before.{Before}
 use Rattle.kdl_fmt.proofs.EntryTexts.{name_of, no_format}
-use Rattle.kdl_fmt.proofs.Respelling.Kept.{OnlySpaces, TypeSpaces, bare_types, no_texts, no_type_spaces, place_if_spaces, type_spaces, type_spaces_if}
+use Rattle.kdl_fmt.proofs.Respelling.Kept.{OnlySpaces, TypeSpaces, no_texts, no_type_spaces, place_if_spaces, type_spaces_if, types_bare_if}
 use Rattle.kdl_fmt.proofs.Respelling.Spellings.{printed_name, printed_spelling}
+use Rattle.kdl_fmt.proofs.Respelling.Spelled.{SpelledHead, SpelledNode, SpelledDocument, spelled_node, spelled_document}
+use Rattle.kdl_fmt.proofs.Respelling.Off.{itself_if}
 
 -- an identifier prints a string that is its own
 abbrev pub NameReads : Identifier → Type 0
@@ -50,11 +52,8 @@ respelled_reads true i m i' e ok (r, k, h) =
 
 pub respelled_reads_if : (keep : Bool) (o m o' : Option Identifier) → m ≡ option_map unspelled o → AreScalars (name_of o) → IsRespelledIf keep o m o' → NameReadsIf o'
 respelled_reads_if keep None None None e ok h = tt
-respelled_reads_if keep None None (Some i') e ok h = absurd h
-respelled_reads_if keep None (Some m) o' e ok h = absurd h
-respelled_reads_if keep (Some i) None o' e ok h = absurd h
-respelled_reads_if keep (Some i) (Some m) None e ok h = absurd h
 respelled_reads_if keep (Some i) (Some m) (Some i') e ok h = let x : m ≡ unspelled i = cc in respelled_reads keep i m i' x ok h
+respelled_reads_if keep _ _ _ e ok h = absurd assumption
 
 -- the format of an entry that is laid out after a text, without its spelling
 abbrev pub plain_format : Text → Value → Option EntryFormat
@@ -96,12 +95,12 @@ nothing_is_inside ty = record { ty_spaces = no_type_spaces; after_key = empty_sp
 abbrev pub printed_front : Text → Inside → Entry → Text → Text
 printed_front gap x e r = gap ++ (print_key e.name x.after_key x.after_eq ++ (print_type e.ty x.ty.before_name x.ty.after_name ++ (x.ty.after ++ r)))
 
-record Prints (q : Option EntryFormat) (gap w : Text) (x : Inside) (v : Value) : Type 0 where
-  text : (e : Entry) → e.format ≡ q → e.value ≡ v → (r : Text) → print_piece e ++ r ≡ printed_front gap x e (w ++ r)
-  front : (e : Entry) → e.format ≡ q → (r : Text) → front_text e e.format ++ r ≡ printed_front gap x e r
-  value : (e : Entry) → e.format ≡ q → e.value ≡ v → value_text e e.format ≡ w
-  trailing : entry_trailing q ≡ []
-  unflagged : is_kept_format q ≡ false
+pub record Prints (q : Option EntryFormat) (gap w : Text) (x : Inside) (v : Value) : Type 0 where
+  pub text : (e : Entry) → e.format ≡ q → e.value ≡ v → (r : Text) → print_piece e ++ r ≡ printed_front gap x e (w ++ r)
+  pub front : (e : Entry) → e.format ≡ q → (r : Text) → front_text e e.format ++ r ≡ printed_front gap x e r
+  pub value : (e : Entry) → e.format ≡ q → e.value ≡ v → value_text e e.format ≡ w
+  pub trailing : entry_trailing q ≡ []
+  pub unflagged : is_kept_format q ≡ false
 
 formless_text : (k y w r : Text) → ((32 ∷ []) ++ (k ++ y ++ w)) ++ r ≡ 32 ∷ (k ++ (y ++ (w ++ r)))
 formless_text k y w r = simp append_assoc
@@ -143,14 +142,14 @@ leading_is (c ∷ t) v = refl
 
 -- a spelling of the value, and what is printed with it; `old` is the old text before the entry, and t what is kept of its
 -- comments
-record FormWritten (q : Option EntryFormat) (s : Settings) (old t : Text) (ty : Option Identifier) (v : Value) : Type 0 where
-  word : Text
-  gap : Text
-  inside : Inside
-  spelled : IsSpelling v word
-  is_gap : IsGap s old t gap
-  is_inside : IsInside ty inside
-  prints : Prints q gap word inside v
+pub record FormWritten (q : Option EntryFormat) (s : Settings) (old t : Text) (ty : Option Identifier) (v : Value) : Type 0 where
+  pub word : Text
+  pub gap : Text
+  pub inside : Inside
+  pub spelled : IsSpelling v word
+  pub is_gap : IsGap s old t gap
+  pub is_inside : IsInside ty inside
+  pub prints : Prints q gap word inside v
 
 plain_written : (s : Settings) (old t : Text) (ty : Option Identifier) (v : Value) → IsWellFormed v → FormWritten (plain_format t v) s old t ty v
 plain_written s old t ty v ok = record {
@@ -169,16 +168,17 @@ none_typed b (Some i) t x e h = absurd cc
 none_typed false None t x e h = ap (λ (z : TypeTexts). z.after) h
 none_typed true None t x e h = ap (λ (z : TypeTexts). z.after) h
 
-form_inside : (s : Settings) (e : Entry) (f g : EntryFormat) (l : Text) → KeepsForm s e f l g → IsInside e.ty (inside_of g)
-form_inside s e f g l k = record {
+form_inside : (s : Settings) (e : Entry) (ty : Option Identifier) (f g : EntryFormat) (l : Text) → (ty ≡ None → e.ty ≡ None) → KeepsForm s e f l g → IsInside ty (inside_of g)
+form_inside s e ty f g l untyped k = record {
   ty_spaces = type_spaces_if (not s.no_comments && is_some e.ty) (entry_type_texts f) (entry_type_texts g) k.ty;
   after_key = place_if_spaces (not s.no_comments && is_some e.name) f.after_key g.after_key k.after_key;
   after_eq = place_if_spaces (not s.no_comments && is_some e.name) f.after_eq g.after_eq k.after_eq;
-  untyped = λ h. none_typed (not s.no_comments) e.ty (entry_type_texts f) (entry_type_texts g) h k.ty;
+  untyped = λ h. none_typed (not s.no_comments) e.ty (entry_type_texts f) (entry_type_texts g) (untyped h) k.ty;
 }
 
-form_written : (s : Settings) (e : Entry) (t : Text) (o p q : Option EntryFormat) → p ≡ plain_format t e.value → IsWellFormed e.value → KeptForm s e o p q → FormWritten q s (entry_leading o) t e.ty e.value
-form_written s e t _ p _ h ok (KeptForm.kept {f = f} {g = g} d k) =
+form_written : (s : Settings) (e : Entry) (ty : Option Identifier) (t : Text) (o p q : Option EntryFormat) → (ty ≡ None → e.ty ≡ None) → p ≡ plain_format t e.value → IsWellFormed e.value → KeptForm s e o p q
+    → FormWritten q s (entry_leading o) t ty e.value
+form_written s e ty t _ p _ u h ok (KeptForm.kept {f = f} {g = g} d k) =
     let l : text_before p ≡ t ++ (32 ∷ []) = ap text_before h ∙ leading_is t e.value in
     record {
       word = g.value_repr;
@@ -186,111 +186,76 @@ form_written s e t _ p _ h ok (KeptForm.kept {f = f} {g = g} d k) =
       inside = inside_of g;
       spelled = subst (IsSpelling e.value) (sym k.value_repr) d;
       is_gap = leading_gap t l k.leading;
-      is_inside = form_inside s e f g (text_before p) k;
+      is_inside = form_inside s e ty f g (text_before p) u k;
       prints = formed g e.value k.trailing k.autoformat_keep;
     }
-form_written s e t o p _ h ok (KeptForm.other n) = subst (λ (x : Option EntryFormat). FormWritten x s (entry_leading o) t e.ty e.value) (sym h) (plain_written s (entry_leading o) t e.ty e.value ok)
-form_written s e t o p _ h ok KeptForm.formless = subst (λ (x : Option EntryFormat). FormWritten x s (entry_leading o) t e.ty e.value) (sym h) (plain_written s (entry_leading o) t e.ty e.value ok)
+form_written s e ty t o p _ u h ok (KeptForm.other n) = subst (λ (x : Option EntryFormat). FormWritten x s (entry_leading o) t ty e.value) (sym h) (plain_written s (entry_leading o) t ty e.value ok)
+form_written s e ty t o p _ u h ok KeptForm.formless = subst (λ (x : Option EntryFormat). FormWritten x s (entry_leading o) t ty e.value) (sym h) (plain_written s (entry_leading o) t ty e.value ok)
 
 -- an entry that is laid out: what is kept of the text before it, and what it prints
 pub record IsWrittenEntry (s : Settings) (e e' : Entry) : Type 0 where
   pub before : Text
-  pub gap : Text
-  pub inside : Inside
-  pub word : Text
   pub kept : KeptBefore s e.format before
-  pub is_gap : IsGap s (entry_leading e.format) before gap
+  pub form : FormWritten e'.format s (entry_leading e.format) before e'.ty e'.value
   pub name : NameReadsIf e'.name
   pub ty : NameReadsIf e'.ty
-  pub is_inside : IsInside e'.ty inside
-  pub spelled : IsSpelling e'.value word
-  pub text : (r : Text) → print_piece e' ++ r ≡ printed_front gap inside e' (word ++ r)
-  pub front : (r : Text) → front_text e' e'.format ++ r ≡ printed_front gap inside e' r
-  pub value : value_text e' e'.format ≡ word
-  pub trailing : entry_trailing e'.format ≡ []
   pub unflagged : is_kept_format e.format ≡ false
-  pub left : is_kept_format e'.format ≡ false
 
 -- a type that is missing was missing
 pub none_if : (keep : Bool) (o m o' : Option Identifier) → IsRespelledIf keep o m o' → o' ≡ None → o ≡ None
 none_if keep None m o' h e = refl
-none_if keep (Some i) None o' h e = absurd h
-none_if keep (Some i) (Some m) None h e = absurd h
 none_if keep (Some i) (Some m) (Some i') h e = absurd cc
+none_if keep _ _ _ h e = absurd assumption
 
-inside_there : (ty ty' : Option Identifier) (x : Inside) → (ty' ≡ None → ty ≡ None) → IsInside ty x → IsInside ty' x
-inside_there ty ty' x h k = record { ty_spaces = k.ty_spaces; after_key = k.after_key; after_eq = k.after_eq; untyped = λ e. k.untyped (h e) }
+-- an entry but for its format: after a text it is the same
+abbrev pub unformed : Entry → Entry
+unformed e = record e { format = None }
 
-entry_written : (s : Settings) (e e' : Entry) (t : Text) → KeptBefore s e.format t → NameReadsIf e'.name → NameReadsIf e'.ty → (e'.ty ≡ None → e.ty ≡ None) → e'.value ≡ e.value → is_kept_format e.format ≡ false
-    → FormWritten e'.format s (entry_leading e.format) t e.ty e.value → IsWrittenEntry s e e'
-entry_written s e e' t k name ty untyped v n w = record {
-  before = t;
-  gap = w.gap;
-  inside = w.inside;
-  word = w.word;
-  kept = k;
-  is_gap = w.is_gap;
-  name = name;
-  ty = ty;
-  is_inside = inside_there e.ty e'.ty w.inside untyped w.is_inside;
-  spelled = subst (λ (x : Value). IsSpelling x w.word) (sym v) w.spelled;
-  text = λ r. w.prints.text e' refl v r;
-  front = λ r. w.prints.front e' refl r;
-  value = w.prints.value e' refl v;
-  trailing = w.prints.trailing;
-  unflagged = n;
-  left = w.prints.unflagged;
-}
-
--- the parts of an entry after a text
-pub following_name : (t : Text) (e : Entry) → (following t e).name ≡ e.name
-following_name [] e = refl
-following_name (c ∷ t) e = refl
-
-pub following_ty : (t : Text) (e : Entry) → (following t e).ty ≡ e.ty
-following_ty [] e = refl
-following_ty (c ∷ t) e = refl
-
-pub after_value : (t : Text) (e : Entry) → (following t e).value ≡ e.value
-after_value [] e = refl
-after_value (c ∷ t) e = refl
+pub after_unformed : (t : Text) (e : Entry) → unformed (following t e) ≡ unformed e
+after_unformed [] e = refl
+after_unformed (c ∷ t) e = refl
 
 pub after_format : (t : Text) (e : Entry) → e.format ≡ None → (following t e).format ≡ plain_format t e.value
 after_format [] e h = h
 after_format (c ∷ t) e h = refl
 
+-- the parts of an entry that is laid out
+module _ (e m : Entry) (t : Text) (is : m ≡ following t (autoformatted e)) where
+  parts_are : unformed m ≡ unformed (autoformatted e)
+  parts_are = ap unformed is ∙ after_unformed t (autoformatted e)
+
+  pub name_is : m.name ≡ option_map unspelled e.name
+  name_is = ap (λ (x : Entry). x.name) parts_are
+
+  pub ty_is : m.ty ≡ option_map unspelled e.ty
+  ty_is = ap (λ (x : Entry). x.ty) parts_are
+
+  pub value_is : m.value ≡ e.value
+  value_is = ap (λ (x : Entry). x.value) parts_are
+
+  pub format_is : is_kept_format e.format ≡ false → m.format ≡ plain_format t e.value
+  format_is n = ap (λ (x : Entry). x.format) is ∙ after_format t (autoformatted e) (no_format e.format n)
+
 -- an entry that keeps its spellings
 module _ (s : Settings) (e m : Entry) (t : Text) (k : KeptBefore s e.format t) (is : m ≡ following t (autoformatted e)) (n : is_kept_format e.format ≡ false) (w : IsWellFormedEntry (entry_data e)) where
-  name_is : m.name ≡ option_map unspelled e.name
-  name_is = ap (λ (x : Entry). x.name) is ∙ following_name t (autoformatted e)
-
-  ty_is : m.ty ≡ option_map unspelled e.ty
-  ty_is = ap (λ (x : Entry). x.ty) is ∙ following_ty t (autoformatted e)
-
-  value_is : m.value ≡ e.value
-  value_is = ap (λ (x : Entry). x.value) is ∙ after_value t (autoformatted e)
-
-  format_is : m.format ≡ plain_format t e.value
-  format_is = ap (λ (x : Entry). x.format) is ∙ after_format t (autoformatted e) (no_format e.format n)
+  entry_written : (keep : Bool) (e' : Entry) → IsRespelledIf keep e.name m.name e'.name → IsRespelledIf keep e.ty m.ty e'.ty → e'.value ≡ m.value → FormWritten e'.format s (entry_leading e.format) t e'.ty e.value → IsWrittenEntry s e e'
+  entry_written keep e' name ty v form = record {
+    before = t;
+    kept = k;
+    form = subst (FormWritten e'.format s (entry_leading e.format) t e'.ty) (sym (v ∙ value_is e m t is)) form;
+    name = respelled_reads_if keep e.name m.name e'.name (name_is e m t is) w.0 name;
+    ty = respelled_reads_if keep e.ty m.ty e'.ty (ty_is e m t is) w.1 ty;
+    unflagged = n;
+  }
 
   spelled_written : (e' : Entry) → HasSpellings s e m e' → IsWrittenEntry s e e'
-  spelled_written e' h =
-      entry_written s e e' t k (respelled_reads_if true e.name m.name e'.name name_is w.0 h.name) (respelled_reads_if true e.ty m.ty e'.ty ty_is w.1 h.ty) (none_if true e.ty m.ty e'.ty h.ty) (h.value ∙ value_is) n
-      (form_written s e t e.format m.format e'.format format_is w.2 h.format)
-
-  plain_name : (o : Option Identifier) → AreScalars (name_of o) → NameReadsIf (option_map unspelled o)
-  plain_name None ok = tt
-  plain_name (Some i) ok = unspelled_reads i ok
-
-  no_type : (o : Option Identifier) → option_map unspelled o ≡ None → o ≡ None
-  no_type None h = refl
-  no_type (Some i) h = absurd cc
+  spelled_written e' h = entry_written true e' h.name h.ty h.value (form_written s e e'.ty t e.format m.format e'.format (none_if true e.ty m.ty e'.ty h.ty) (format_is e m t is n) w.2 h.format)
 
   respelled_written : (e' : Entry) → e' ≡ m → IsWrittenEntry s e e'
   respelled_written e' h =
       subst (IsWrittenEntry s e) (sym h)
-      (entry_written s e m t k (subst NameReadsIf (sym name_is) (plain_name e.name w.0)) (subst NameReadsIf (sym ty_is) (plain_name e.ty w.1)) (λ x. no_type e.ty (sym ty_is ∙ x)) value_is n
-      (subst (λ (x : Option EntryFormat). FormWritten x s (entry_leading e.format) t e.ty e.value) (sym format_is) (plain_written s (entry_leading e.format) t e.ty e.value w.2)))
+      (entry_written false m (itself_if e.name m.name (name_is e m t is)) (itself_if e.ty m.ty (ty_is e m t is)) refl
+      (subst (λ (x : Option EntryFormat). FormWritten x s (entry_leading e.format) t m.ty e.value) (sym (format_is e m t is n)) (plain_written s (entry_leading e.format) t m.ty e.value w.2)))
 
 -- an entry that is not flagged
 pub unflagged_same : (b : Bool) (e : Entry) → is_kept_format (with_keep_if b e).format ≡ false → with_keep_if b e ≡ e
@@ -317,7 +282,7 @@ written_entry s keep e m e' (t, k, q) h n w =
     go false k q x h = respelled_written s e m t k q x w e' h
     go true k q x h = spelled (is_kept_format (with_keep_if s.entry_autoformate_keep e).format) n t k q x h
 
--- entries, a node without its children, and nodes
+-- entries, and a node without its children
 abbrev pub AreWrittenEntries : Settings → List Entry → List Entry → Type 0
 AreWrittenEntries s [] [] = Unit {0}
 AreWrittenEntries s (e ∷ es) (e' ∷ es') = IsWrittenEntry s e e' × AreWrittenEntries s es es'
@@ -344,9 +309,9 @@ typed_line number s level has b f keep o m o' g g' r (k, kept, e) t = go (keep &
       types = types;
       kept = kept;
       is = q ∙ ap (option_map (with_type_texts types)) e;
-      spaces = type_spaces kt;
+      spaces = type_spaces_if true (node_type_texts f) types kt;
       untyped = λ h. let a = none_if keep o m o' r h in let c = (and_parts (keep && not s.no_comments) (is_some o) x).1 in let z : false ≡ true = ap is_some (sym a) ∙ c in absurd cc;
-      bare = λ h. bare_types (node_type_texts f) types h kt;
+      bare = λ h. types_bare_if true (node_type_texts f) types h kt;
     }
 
 pub record IsWrittenHead (number : ℕ) (s : Settings) (level : ℕ) (has : Bool) (b : Before) (h h' : Head) : Type 0 where
@@ -355,72 +320,45 @@ pub record IsWrittenHead (number : ℕ) (s : Settings) (level : ℕ) (has : Bool
   pub entries : AreWrittenEntries s h.entries h'.entries
   pub format : IsTypedLine number s level has b (or_empty h.format) h'.ty h'.format
 
-abbrev mutual
-  pub IsWrittenNode : ℕ → Settings → ℕ → Before → Node → Node → Type 0
-  IsWrittenNode number s level b (node h k) (node h' k') = IsWrittenHead number s level (has_block k) b h h' × AreWrittenChildren number s level k k'
+pub head_line : {number : ℕ} {s : Settings} {keep : Bool} (level : ℕ) (has : Bool) (b : Before) (h x : Head) → SpelledHead number s keep level has b h x → IsTypedLine number s level has b (or_empty h.format) x.ty x.format
+head_line {number} {s} {keep} level has b h x f =
+    typed_line number s level has b (or_empty h.format) keep h.ty f.laid.ty x.ty f.laid.format x.format f.respelled.ty f.spaced.format f.respelled.format
 
-  pub AreWrittenChildren : ℕ → Settings → ℕ → Children → Children → Type 0
-  AreWrittenChildren number s level no_children no_children = Unit {0}
-  AreWrittenChildren number s level (children (document f span ns)) (children (document f' span' ns')) =
-      (b : Before) × IsSpacedBraced number s level ns (or_empty_document f) b f' × AreWrittenNodes number s (level + 1) b ns ns'
-  AreWrittenChildren number s level _ _ = ⊥
-
-  pub AreWrittenNodes : ℕ → Settings → ℕ → Before → Nodes → Nodes → Type 0
-  AreWrittenNodes number s level b none none = Unit {0}
-  AreWrittenNodes number s level b (first n ns) (first n' ns') = (b' : Before) × IsWrittenNode number s level b n n' × AreWrittenNodes number s level b' ns ns'
-  AreWrittenNodes number s level b _ _ = ⊥
-
-abbrev pub IsWrittenDocument : ℕ → Settings → ℕ → Document → Document → Type 0
-IsWrittenDocument number s level (document f span ns) (document f' span' ns') = (b : Before) × IsSpacedContent number s level ns (or_empty_document f) b f' × AreWrittenNodes number s level b ns ns'
-
--- what is laid out and has its spellings back is so
-module _ (number : ℕ) (s : Settings) (no_keep : s.entry_autoformate_keep ≡ false) (keep : Bool) where
+module _ (s : Settings) (no_keep : s.entry_autoformate_keep ≡ false) (keep : Bool) where
   no_flag : (e : Entry) → is_kept_format e.format ≡ false → is_kept_format (with_keep_if s.entry_autoformate_keep e).format ≡ false
   no_flag e h = ap (λ (b : Bool). is_kept_format (with_keep_if b e).format) no_keep ∙ h
 
   written_entries : (es ms es' : List Entry) → AreFormattedEntries s es ms → AreRespelledEntries keep s es ms es' → EntriesKeepNone es → AreWellFormedEntries (map entry_data es) → AreWrittenEntries s es es'
   written_entries [] [] [] f h n w = tt
-  written_entries [] [] (e' ∷ es') f h n w = absurd h
-  written_entries [] (m ∷ ms) es' f h n w = absurd f
-  written_entries (e ∷ es) [] es' f h n w = absurd f
-  written_entries (e ∷ es) (m ∷ ms) [] f h n w = absurd h
   written_entries (e ∷ es) (m ∷ ms) (e' ∷ es') f h n w = (written_entry s keep e m e' f.0 h.0 (no_flag e n.0) w.0, written_entries es ms es' f.1 h.1 n.1 w.1)
+  written_entries _ _ _ f h n w = absurd assumption
 
-  mutual
-    pub written_node : (level : ℕ) (b : Before) (n m n' : Node) → IsSpacedNode number s level b n m → IsRespelledNode keep s n m n' → NodeKeepsNone n → IsWellFormedNode (node_data n) → IsWrittenNode number s level b n n'
-    written_node level b (node h k) (node m j) (node h' k') f r o w = (
-      record {
-        ty = respelled_reads_if keep h.ty m.ty h'.ty f.0.ty w.0 r.0.ty;
-        name = respelled_reads keep h.name m.name h'.name f.0.name w.1 r.0.name;
-        entries = written_entries h.entries m.entries h'.entries f.0.entries r.0.entries o.0 w.2;
-        format = typed_line number s level (has_block k) b (or_empty h.format) keep h.ty m.ty h'.ty m.format h'.format r.0.ty f.0.format r.0.format;
-      },
-      written_children level k j k' f.1 r.1 o.1 w.3,
-    )
+  pub written_head : {number : ℕ} (level : ℕ) (has : Bool) (b : Before) (h x : Head) (k : Children) → SpelledHead number s keep level has b h x → EntriesKeepNone h.entries → IsWellFormedNode (node_data (node h k)) → IsWrittenHead number s level has b h x
+  written_head level has b h x k f o w = record {
+    ty = respelled_reads_if keep h.ty f.laid.ty x.ty f.spaced.ty w.0 f.respelled.ty;
+    name = respelled_reads keep h.name f.laid.name x.name f.spaced.name w.1 f.respelled.name;
+    entries = written_entries h.entries f.laid.entries x.entries f.spaced.entries f.respelled.entries o w.2;
+    format = head_line level has b h x f;
+  }
 
-    written_children : (level : ℕ) (k j k' : Children) → IsSpacedChildren number s level k j → AreRespelledChildren keep s k j k' → ChildrenKeepNone k → AreWellFormedChildren (children_data k) → AreWrittenChildren number s level k k'
-    written_children level no_children no_children no_children f r o w = tt
-    written_children level no_children no_children (children d) f r o w = absurd r
-    written_children level no_children (children d) k' f r o w = absurd f
-    written_children level (children (document f at ns)) no_children k' c r o w = absurd c
-    written_children level (children (document f at ns)) (children (document g bt ms)) no_children c r o w = absurd r
-    written_children level (children (document f at ns)) (children (document g bt ms)) (children (document f' at' ns')) (b, c, same, nodes, fits) r o w = (
-      b,
-      subst (λ (x : Option DocumentFormat). IsSpacedBraced number s level ns (or_empty_document f) b x) (sym r.0) c,
-      written_nodes (level + 1) b ns ms ns' nodes r.2 o w,
-    )
+-- a node that is laid out, where none of its entries was flagged, and memory can hold it
+pub record IsWrittenNode (number : ℕ) (s : Settings) (level : ℕ) (b : Before) (n x : Node) : Type 0 where
+  pub keep : Bool
+  pub no_keep : s.entry_autoformate_keep ≡ false
+  pub laid : SpelledNode number s keep level b n x
+  pub unflagged : NodeKeepsNone n
+  pub fit : IsWellFormedNode (node_data n)
 
-    written_nodes : (level : ℕ) (b : Before) (ns ms ns' : Nodes) → AreSpacedNodes number s level b ns ms → AreRespelledNodes keep s ns ms ns' → NodesKeepNone ns → AreWellFormed (nodes_data ns) → AreWrittenNodes number s level b ns ns'
-    written_nodes level b none none none f r o w = tt
-    written_nodes level b none none (first n' ns') f r o w = absurd r
-    written_nodes level b none (first m ms) ns' f r o w = absurd f
-    written_nodes level b (first n ns) none ns' f r o w = absurd f
-    written_nodes level b (first n ns) (first m ms) none f r o w = absurd r
-    written_nodes level b (first n ns) (first m ms) (first n' ns') f r o w = (f.0, written_node level b n m n' f.1 r.0 o.0 w.0, written_nodes level f.0 ns ms ns' f.3 r.1 o.1 w.1)
+pub record IsWrittenDocument (number : ℕ) (s : Settings) (level : ℕ) (d x : Document) : Type 0 where
+  pub keep : Bool
+  pub no_keep : s.entry_autoformate_keep ≡ false
+  pub laid : SpelledDocument number s keep level d x
+  pub unflagged : DocumentKeepsNone d
+  pub fit : AreWellFormed (document_data d)
 
-  pub written_document : (level : ℕ) (d m d' : Document) → IsSpacedDocument number s level d m → IsRespelledDocument keep s d m d' → DocumentKeepsNone d → AreWellFormed (document_data d) → IsWrittenDocument number s level d d'
-  written_document level (document f at ns) (document g bt ms) (document f' at' ns') (b, c, same, nodes) r o w = (
-    b,
-    subst (λ (x : Option DocumentFormat). IsSpacedContent number s level ns (or_empty_document f) b x) (sym r.0) c,
-    written_nodes level b ns ms ns' nodes r.2 o w,
-  )
+module _ (number : ℕ) (s : Settings) (no_keep : s.entry_autoformate_keep ≡ false) (keep : Bool) (level : ℕ) where
+  pub written_node : (b : Before) (n m x : Node) → IsSpacedNode number s level b n m → IsRespelledNode keep s n m x → NodeKeepsNone n → IsWellFormedNode (node_data n) → IsWrittenNode number s level b n x
+  written_node b n m x f r o w = record { keep = keep; no_keep = no_keep; laid = spelled_node number s keep level b n m x f r; unflagged = o; fit = w }
+
+  pub written_document : (d m x : Document) → IsSpacedDocument number s level d m → IsRespelledDocument keep s d m x → DocumentKeepsNone d → AreWellFormed (document_data d) → IsWrittenDocument number s level d x
+  written_document d m x f r o w = record { keep = keep; no_keep = no_keep; laid = spelled_document number s keep level d m x f r; unflagged = o; fit = w }

@@ -6,11 +6,12 @@ use Rattle.kdl_comments.specs.Items as items
 use Rattle.kdl_comments.specs.Items.{GapItems}
 use Rattle.kdl_comments.specs.Internal.Reading.{items_view}
 use Rattle.kdl_comments.specs.declared.item.Item.{Item}
+use Rattle.kdl_comments.specs.Written.{lines}
 use Rattle.kdl_grammar.specs.Tree.{NodeFormat}
 use Rattle.kdl_parts.specs.Formats.{empty_node_format}
 use Rattle.kdl_fmt.specs.Blank.{past_items, past_node, read, spaced_lines}
 use Rattle.kdl_fmt.specs.Config.{Settings, indentation}
-use Rattle.kdl_fmt.specs.Kept.{KeptLines}
+use Rattle.kdl_fmt.specs.Kept.{KeptLines, Written, WrittenUnless}
 use Rattle.kdl_fmt.specs.Spaced.{Passes, PassesFormat, PassesText, SpacedLines, Spaces}
 use Rattle.kdl_fmt.specs.declared.blank.Before.{Before}
 use Rattle.kdl_fmt.specs.declared.blank.Before.TheVariants.{Nothing, Thing}
@@ -26,8 +27,8 @@ module _ (number : ℕ) (s : Settings) (level : ℕ) (b b' : Before) (place t : 
         rw (f, g)
         (subst (λ (y : Bool). Spaces number s level b place (if y then [] else spaced_lines number (indentation s level) b place (items_view ys)) (past_items y b place (items_view ys))) e (Spaces.items {is = items_view ys} d))
 
-    pub spaces_left : s.no_comments ≡ true → t ≡ [] → b' ≡ past_items true b place (items_view xs) → Spaces number s level b place t b'
-    spaces_left e f g = spaces_at true e f (g ∙ ap (λ (z : List Item). past_items true b place (items_view z)) h)
+    pub spaces_left : s.no_comments ≡ true → t ≡ [] → b' ≡ past_items s.no_comments b place (items_view xs) → Spaces number s level b place t b'
+    spaces_left e f g = spaces_at true e f (g ∙ ap (λ (z : List Item). past_items s.no_comments b place (items_view z)) h ∙ ap (λ (z : Bool). past_items z b place (items_view ys)) e)
 
     pub spaces_kept : (ind old : Text) → s.no_comments ≡ false → ind ≡ indentation s level → old ≡ [] → t ≡ old ++ spaced_lines number ind b place (items_view xs) → b' ≡ past_items false b place (items_view xs)
         → Spaces number s level b place t b'
@@ -37,10 +38,8 @@ module _ (number : ℕ) (s : Settings) (level : ℕ) (b b' : Before) (place t : 
         ∙ ap (λ (z : List Item). spaced_lines number (indentation s level) b place (items_view z)) h)
         (g ∙ ap (λ (z : List Item). past_items false b place (items_view z)) h)
 
-pub passes_read : (x y : Bool) (b b' : Before) (place : Text) (xs ys : List Item) → x ≡ y → GapItems place (items_view ys) → xs ≡ ys → b' ≡ past_items y b place (items_view xs) → Passes x b place b'
-passes_read x y b b' place xs ys e d h g =
-    subst (λ (z : Before). Passes x b place z) (sym (g ∙ ap (λ (z : List Item). past_items y b place (items_view z)) h))
-    (subst (λ (z : Bool). Passes x b place (past_items z b place (items_view ys))) e (Passes.items {is = items_view ys} d))
+pub passes_read : (x : Bool) (b b' : Before) (place : Text) (xs ys : List Item) → GapItems place (items_view ys) → xs ≡ ys → b' ≡ past_items x b place (items_view xs) → Passes x b place b'
+passes_read x b b' place xs ys d h g = subst (λ (z : Before). Passes x b place z) (sym (g ∙ ap (λ (z : List Item). past_items x b place (items_view z)) h)) (Passes.items {is = items_view ys} d)
 
 -- a node without a format, or where nothing is counted
 pub format_zero : (number : ℕ) (s : Settings) (f : NodeFormat) (b : Before) → number ≡ 0 → PassesFormat number s f b
@@ -61,7 +60,7 @@ lines_some ℕ.zero s level b b' place t e k = absurd (e refl)
 lines_some (ℕ.suc number) s level b b' place t e k = k
 
 -- of an empty text
-no_text : (x : Bool) → ◌≡◌ {A = Text} (if x then [] else []) []
+pub no_text : (x : Bool) → ◌≡◌ {A = Text} (if x then [] else []) []
 no_text true = refl
 no_text false = refl
 
@@ -69,16 +68,26 @@ pub read_nothing : (b : Before) → read [] b ≡ b
 read_nothing (Nothing l) = refl
 read_nothing (Thing most n l) = let e : n + 0 ≡ n = omega arith in ap (λ (k : ℕ). Thing most k l) e
 
-pub lines_empty : (number : ℕ) (s : Settings) (level : ℕ) (b : Before) (place t : Text) → (number ≡ 0 → ⊥) → place ≡ [] → t ≡ [] → SpacedLines number s level b place t b
-lines_empty ℕ.zero s level b place t h p e = absurd (h refl)
-lines_empty (ℕ.suc number) s level b place t h p e =
-    rw p
-    (subst (λ (x : Before). Spaces (ℕ.suc number) s level b [] t x) (past s.no_comments)
-    (subst (λ (u : Text). Spaces (ℕ.suc number) s level b [] u (past_items s.no_comments b [] [])) (no_text s.no_comments ∙ sym e) (Spaces.items {is = []} GapItems.none)))
+-- of a text without items
+pub nothing_of : (number : ℕ) (s : Settings) (level : ℕ) (b : Before) (t : Text) → GapItems t [] → SpacedLines number s level b t [] (read t b)
+nothing_of number s level b t g = go number
   where
-    past : (x : Bool) → past_items x b [] [] ≡ b
-    past true = read_nothing b
-    past false = read_nothing b
+    kept : (x : Bool) → WrittenUnless x (GapItems t) (lines (indentation s level)) []
+    kept true = refl
+    kept false = Written.items {is = []} g
+
+    past : (x : Bool) → past_items x b t [] ≡ read t b
+    past true = refl
+    past false = refl
+
+    go : (number : ℕ) → SpacedLines number s level b t [] (read t b)
+    go ℕ.zero = kept s.no_comments
+    go (ℕ.suc n) =
+        subst (λ (x : Before). Spaces (ℕ.suc n) s level b t [] x) (past s.no_comments)
+        (subst (λ (u : Text). Spaces (ℕ.suc n) s level b t u (past_items s.no_comments b t [])) (no_text s.no_comments) (Spaces.items {is = []} g))
+
+pub lines_empty : (number : ℕ) (s : Settings) (level : ℕ) (b : Before) (place : Text) → place ≡ [] → SpacedLines number s level b place [] b
+lines_empty number s level b place p = rw p (subst (λ (x : Before). SpacedLines number s level b [] [] x) (read_nothing b) (nothing_of number s level b [] GapItems.none))
 
 -- what comes before the next thing
 pub spaces_pass : {number : ℕ} {s : Settings} {level : ℕ} {b b' : Before} {place t : Text} → Spaces number s level b place t b' → Passes s.no_comments b place b'

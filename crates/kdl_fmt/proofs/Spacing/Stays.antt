@@ -31,15 +31,13 @@ module _ (number : ℕ) (s : Settings) where
 
     children_keep_none : (level : ℕ) (k k' : Children) → IsSpacedChildren number s level k k' → ChildrenKeepNone k'
     children_keep_none level no_children no_children c = tt
-    children_keep_none level no_children (children d) c = absurd c
-    children_keep_none level (children (document f span ns)) no_children c = absurd c
     children_keep_none level (children (document f span ns)) (children (document f' span' ns')) (b, x, same, nodes, fits) = nodes_keep_none (level + 1) b ns ns' nodes
+    children_keep_none level _ _ c = absurd assumption
 
     nodes_keep_none : (level : ℕ) (b : Before) (ns ns' : Nodes) → AreSpacedNodes number s level b ns ns' → NodesKeepNone ns'
     nodes_keep_none level b none none f = tt
-    nodes_keep_none level b none (first n' ns') f = absurd f
-    nodes_keep_none level b (first n ns) none f = absurd f
     nodes_keep_none level b (first n ns) (first n' ns') (b', f, p, g) = (keeps_none level b n n' f, nodes_keep_none level b' ns ns' g)
+    nodes_keep_none level b _ _ f = absurd assumption
 
   pub document_keeps_none : (level : ℕ) (d d' : Document) → IsSpacedDocument number s level d d' → DocumentKeepsNone d'
   document_keeps_none level (document f span ns) (document f' span' ns') (b, x, same, nodes) = nodes_keep_none level b ns ns' nodes

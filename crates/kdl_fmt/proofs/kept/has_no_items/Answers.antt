@@ -2,8 +2,8 @@ use Rattle.std.proofs.Common.{ap}
 use Rattle.std.specs.Str.{chars}
 use Rattle.kdl_comments.specs.Internal.Reading.{items_view}
 use Rattle.kdl_fmt.proofs.Keeping.KeptReads.{no_elements}
-use Rattle.kdl_fmt.proofs.Respelling.KeptSteps.{empty_view, no_items}
 use Rattle.kdl_fmt.proofs.kept.has_no_items.Goals as goal
+use Rattle.kdl_fmt.proofs.Respelling.Kept.{empty_view, no_items}
 
 pub returns-in-Some : goal.returns-in-Some
 returns-in-Some c =

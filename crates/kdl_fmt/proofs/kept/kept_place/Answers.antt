@@ -1,7 +1,7 @@
 use Rattle.std.proofs.Common.{sym, ◌∙◌}
 use Rattle.std.specs.Str.{chars}
-use Rattle.kdl_fmt.proofs.Respelling.KeptSteps.{place_copied, place_of_spaces, place_refused}
 use Rattle.kdl_fmt.proofs.kept.kept_place.Goals as goal
+use Rattle.kdl_fmt.proofs.Respelling.Kept.{place_copied, place_of_spaces, place_refused}
 
 pub returns-then-is_kdl_space : goal.returns-then-is_kdl_space
 returns-then-is_kdl_space c = place_of_spaces (chars c.args.text.now) _ (sym c.is_kdl_space.ensures ∙ c.if-is_kdl_space.true) c.no_text.ensures

@@ -1,8 +1,8 @@
 use Rattle.kdl_fmt.specs.Internal.KeptTexts.{type_texts_view}
 use Rattle.kdl_parts.specs.Formats.{node_texts}
-use Rattle.kdl_fmt.proofs.Respelling.KeptSteps.{nothing_around, types_kept}
 use Rattle.kdl_fmt.proofs.kept.kept_type_texts.Goals as goal
 use Rattle.kdl_fmt.proofs.kept.kept_type_texts.Goals.{in-Some+in_ok-texts-in-Some, in-None}
+use Rattle.kdl_fmt.proofs.Respelling.Kept.{nothing_around, types_kept}
 
 pub returns : goal.returns
 returns c =

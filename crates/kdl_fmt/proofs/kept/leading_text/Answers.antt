@@ -3,9 +3,9 @@ use Rattle.std.specs.Str.{chars}
 use Rattle.kdl_text.specs.Chars.{Text}
 use Rattle.kdl_value.specs.Tree.{text_of}
 use Rattle.kdl_fmt.specs.Config.{settings}
-use Rattle.kdl_fmt.proofs.Respelling.KeptSteps.{leading_copied, leading_laid}
 use Rattle.kdl_fmt.proofs.Texts.{space_text}
 use Rattle.kdl_fmt.proofs.kept.leading_text.Goals as goal
+use Rattle.kdl_fmt.proofs.Respelling.Kept.{leading_copied, leading_laid}
 
 pub returns-then-branch : goal.returns-then-branch
 returns-then-branch c = leading_copied c.from_str.result (settings c.args.layout.now.config) c.args.old.now _ (c.in_ok-is_continued.ensures.0 c.if-branch.true) c.from_str.ensures.ok

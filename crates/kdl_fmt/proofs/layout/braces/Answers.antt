@@ -4,14 +4,14 @@ use Rattle.kdl_text.specs.Chars.{Text}
 use Rattle.kdl_value.specs.Tree.{text_of}
 use Rattle.kdl_fmt.specs.Formatted.{in_braces}
 use Rattle.kdl_fmt.specs.Parts.{content_of}
-use Rattle.kdl_fmt.proofs.Texts.{no_text, newline_text, braces_made}
+use Rattle.kdl_fmt.proofs.Texts.{newline_text, braces_made}
 use Rattle.kdl_fmt.proofs.layout.braces.Goals as goal
 
 pub returns : goal.returns
 returns c = λ level ns i b n p.
     let kept = text_of c.in_ok-kept.kept in
     let trailing = text_of c.in_ok-kept.trailing in
-    let empty = no_text c.new-leading.result c.new-leading.ensures.bytes in
+    let empty = c.no_text-leading.ensures in
     let leads = c.in_ok-push_text-2.ensures
     ∙ ap (λ (t : Text). t ++ chars c.as_str.result.now) (c.in_ok-push_text.ensures ∙ ap (λ (t : Text). t ++ chars (10 ∷ [])) empty ∙ newline_text)
     ∙ ap (λ (t : Text). 10 ∷ t) (ap chars c.as_str.ensures.value) in

@@ -8,7 +8,6 @@ use Rattle.kdl_comments.specs.Internal.Reading.{place_view}
 use Rattle.kdl_comments.specs.declared.item.Place.{Place}
 use Rattle.kdl_fmt.specs.Config.{Settings, settings}
 use Rattle.kdl_fmt.specs.Kept.{KeptBeforeBlock, last_place}
-use Rattle.kdl_fmt.proofs.Texts.{no_text}
 use Rattle.kdl_fmt.proofs.layout.kept_before_block.Goals as goal
 
 no_block : (s : Settings) (p : Place) (place t : Text) → (p ≡ Place.AfterBlock → ⊥) → t ≡ [] → (has : Bool) → place_view p ≡ last_place has → KeptBeforeBlock s has place t
@@ -25,4 +24,4 @@ pub returns-in-AfterBlock : goal.returns-in-AfterBlock
 returns-in-AfterBlock c = IfOk-weaker c.kept_tail.result _ _ (λ t k has h. a_block (settings c.args.config.now) (chars c.args.text.now) (text_of t) k has (rw c.in-AfterBlock.is at h)) c.kept_tail.ensures
 
 pub returns-in_default : goal.returns-in_default
-returns-in_default c = no_block (settings c.args.config.now) c.args.last (chars c.args.text.now) (text_of c.new.result) c.in_default.not-AfterBlock (no_text c.new.result c.new.ensures.bytes)
+returns-in_default c = no_block (settings c.args.config.now) c.args.last (chars c.args.text.now) (text_of c.no_text.result) c.in_default.not-AfterBlock c.no_text.ensures

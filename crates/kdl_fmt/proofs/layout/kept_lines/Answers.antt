@@ -6,21 +6,20 @@ use Rattle.kdl_comments.specs.Internal.Reading.{items_view}
 use Rattle.kdl_comments.specs.Written.{lines}
 use Rattle.kdl_comments.specs.declared.item.Item.{Item}
 use Rattle.kdl_fmt.proofs.Keeping.KeptReads.{no_elements, kept_none, kept_items, kept_nothing, written_after, blank_lines}
-use Rattle.kdl_fmt.proofs.Texts.{no_text}
 use Rattle.kdl_fmt.proofs.layout.kept_lines.Goals as goal
 use Rattle.kdl_fmt.proofs.layout.kept_lines.Goals.{in-Some, then-not-is_empty+in_ok-reserve+in_ok-push_lines, else-not-is_empty, in_default}
 
 pub returns-then-config : goal.returns-then-config
-returns-then-config c = kept_none c.args.config.now.no_comments (GapItems (chars c.args.place.now)) (lines (chars c.args.before.now)) _ c.if-config.true (no_text c.new-out.result c.new-out.ensures.bytes)
+returns-then-config c = kept_none c.args.config.now.no_comments (GapItems (chars c.args.place.now)) (lines (chars c.args.before.now)) _ c.if-config.true c.no_text-out.ensures
 
 pub returns-then-is_blank_gap : goal.returns-then-is_blank_gap
-returns-then-is_blank_gap c = blank_lines c.args.config.now.no_comments (chars c.args.before.now) (chars c.args.place.now) _ c.if-config.false (sym c.is_blank_gap.ensures ∙ c.if-is_blank_gap.true) (no_text c.new-out.result c.new-out.ensures.bytes)
+returns-then-is_blank_gap c = blank_lines c.args.config.now.no_comments (chars c.args.before.now) (chars c.args.place.now) _ c.if-config.false (sym c.is_blank_gap.ensures ∙ c.if-is_blank_gap.true) c.no_text-out.ensures
 
 pub returns : goal.returns
 returns c =
     let has = GapItems (chars c.args.place.now) in
     let write = lines (chars c.args.before.now) in
-    let empty = no_text c.new-out.result c.new-out.ensures.bytes in
+    let empty = c.no_text-out.ensures in
     elim c.match-branch-2.branch [
       | in-Some w ↦
           let is = rw w.in-Some.is at c.in_ok-items.ensures in

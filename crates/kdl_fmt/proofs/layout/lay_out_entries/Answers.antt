@@ -1,10 +1,11 @@
-use Rattle.std.proofs.Common.{arith, map, subst, sym}
+use Rattle.std.proofs.Common.{arith, map, subst, sym, ap, ◌∙◌}
 use Rattle.kdl_entry.specs.Tree.{entry_tree, cleared}
 use Rattle.kdl_fmt.specs.Config.{settings}
 use Rattle.kdl_fmt.proofs.Respelling.Leaves.{entry_stays}
 use Rattle.kdl_fmt.proofs.Formatting.EntriesRead.{Stays, all_stay, each_stays, flagged_stays, laid_stays}
 use Rattle.kdl_fmt.proofs.Loops.{LaidEntry, turned_start, turned_more, turned_all, turned_same, turned_exchanged, turned_each, turned_each_set, entries_laid, entries_fit}
 use Rattle.kdl_fmt.proofs.layout.lay_out_entries.Goals as goal
+use Rattle.kdl_fmt.proofs.Respelling.Entries.{flag_cleared}
 
 pub loop-entry-init : goal.loop-entry-init
 loop-entry-init c = turned_start entry_tree (LaidEntry c.args.layout.now.keep_spelling (settings c.args.layout.now.config)) c.deref_mut-entry-items.result.now
@@ -21,7 +22,7 @@ returns-in_err-lay_out_entry-clause-same c =
     let keep = c.args.layout.now.keep_spelling in
     let s = settings c.args.layout.now.config in
     turned_exchanged entry_tree (LaidEntry keep s) cleared (λ e e' k. entry_stays keep s e e' k.0) c.args.entries.now.len l.entry-index l.entry-items c.deref_mut-entry-items.result.now c.args.entries.now.items
-    c.lay_out_entry.new.entry c.entry-item.result c.deref_mut-entry-items.ensures.value (omega arith) (omega arith) l.invariant c.lay_out_entry.ensures.same
+    c.lay_out_entry.new.entry c.entry-item.result c.deref_mut-entry-items.ensures.value (omega arith) (omega arith) l.invariant (ap cleared c.in_err-lay_out_entry.ensures.flagged ∙ flag_cleared s.entry_autoformate_keep _)
 
 pub returns-clause-same : goal.returns-clause-same
 returns-clause-same c =

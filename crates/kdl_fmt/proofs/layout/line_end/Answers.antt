@@ -3,7 +3,7 @@ use Rattle.std.specs.Str.{chars}
 use Rattle.kdl_text.specs.Chars.{Text}
 use Rattle.kdl_value.specs.Tree.{text_of}
 use Rattle.kdl_fmt.specs.Kept.{KeptEnd}
-use Rattle.kdl_fmt.proofs.Texts.{no_text, space_text}
+use Rattle.kdl_fmt.proofs.Texts.{space_text}
 use Rattle.kdl_fmt.proofs.layout.line_end.Goals as goal
 use Rattle.kdl_fmt.proofs.layout.line_end.Goals.{in-Some+in_ok-push_text+in_ok-push_text-2, in_default}
 
@@ -12,7 +12,7 @@ returns c =
     let left = c.args.config.now.no_comments in
     let last = text_of c.args.last in
     let terminator = chars c.args.terminator.now in
-    let empty = no_text c.new-end.result c.new-end.ensures.bytes in
+    let empty = c.no_text-end.ensures in
     elim c.match-kept_end.branch [
       | in-Some+in_ok-push_text+in_ok-push_text-2 w ↦
           let comment = chars w.in-Some.comment.now in

@@ -1,4 +1,3 @@
-use Rattle.std.proofs.Common.{true, false}
 use Rattle.std.proofs.lemmas.Result.{IfOk-weaker}
 use Rattle.std.specs.Str.{chars}
 use Rattle.kdl_fmt.specs.Spaced.{Passes}
@@ -8,14 +7,7 @@ use Rattle.kdl_fmt.proofs.layout.past_text.Goals as goal
 pub returns-in_default : goal.returns-in_default
 returns-in_default c = Passes.no_gap (rw c.in_default.is at c.in_ok-items.ensures)
 
-pub returns-then-layout : goal.returns-then-layout
-returns-then-layout c =
-    IfOk-weaker c.past_items.result _ _
-    (λ b e. passes_read c.args.layout.now.config.no_comments true c.args.before b (chars c.args.place.now) c.deref.result.now c.in-Some.items.items c.if-layout.true (rw c.in-Some.is at c.in_ok-items.ensures) c.deref.ensures.value e)
-    c.past_items.ensures
-
 pub returns : goal.returns
 returns c =
-    IfOk-weaker c.past_written.result _ _
-    (λ b e. passes_read c.args.layout.now.config.no_comments false c.args.before b (chars c.args.place.now) c.deref-else-layout.result.now c.in-Some.items.items c.if-layout.false (rw c.in-Some.is at c.in_ok-items.ensures) c.deref-else-layout.ensures.value e)
-    c.past_written.ensures
+    IfOk-weaker c.past_items.result _ _
+    (λ b e. passes_read c.args.layout.now.config.no_comments c.args.before b (chars c.args.place.now) c.deref.result.now c.in-Some.items.items (rw c.in-Some.is at c.in_ok-items.ensures) c.deref.ensures.value e) c.past_items.ensures

@@ -1,9 +1,20 @@
-use Rattle.std.proofs.Common.{◌∙◌}
+use Rattle.std.proofs.Common.{◌∙◌, ◌≡◌, Bool, [], ◌∷◌, refl}
 use Rattle.std.specs.Str.{chars}
+use Rattle.std.specs.List.{list_all}
+use Rattle.std.specs.Prelude.{◌==◌}
 use Rattle.kdl_comments.proofs.Rewriting.Pushing.{no_bytes}
-use Rattle.kdl_fmt.specs.OneLine.{is_last}
-use Rattle.kdl_fmt.proofs.OneLine.Made.{empty_end, some_end}
+use Rattle.kdl_fmt.specs.OneLine.{is_last, end_on_line}
 use Rattle.kdl_fmt.proofs.one_line.end_on_line.Goals as goal
+use Rattle.kdl_text.specs.Chars.{Text}
+
+-- a terminator
+empty_end : (last : Bool) (t : Text) → t ≡ [] → last ≡ end_on_line last t
+empty_end last [] e = refl
+empty_end last (c ∷ t) e = absurd cc
+
+some_end : (last : Bool) (t : Text) (r : Bool) → (t ≡ [] → ⊥) → r ≡ list_all (λ c. c == 59) t → r ≡ end_on_line last t
+some_end last [] r f e = absurd (f refl)
+some_end last (c ∷ t) r f e = e
 
 pub returns-then-is_empty : goal.returns-then-is_empty
 returns-then-is_empty c =

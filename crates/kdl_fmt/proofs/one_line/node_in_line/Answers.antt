@@ -1,13 +1,19 @@
-use Rattle.std.proofs.Common.{[], ◌∷◌, ◌++◌, true, false, refl, ap, sym, ◌∙◌}
+use Rattle.std.proofs.Common.{[], ◌∷◌, ◌++◌, true, false, refl, ap, sym, ◌∙◌, ◌≡◌, Bool}
 use Rattle.std.specs.Str.{chars}
+use Rattle.std.specs.Prelude.{if◌then◌else◌}
 use Rattle.kdl_grammar.specs.Tree.{NodeFormat}
-use Rattle.kdl_parts.specs.Formats.{node_format_tree}
+use Rattle.kdl_parts.specs.Formats.{node_format_tree, empty_node_format}
 use Rattle.kdl_fmt.specs.OneLine.{is_last, node_in_line}
 use Rattle.kdl_fmt.specs.declared.one_line.Position.{Position}
-use Rattle.kdl_fmt.proofs.OneLine.Made.{format_made}
 use Rattle.kdl_fmt.proofs.Texts.{ascii_text, space_text}
 use Rattle.kdl_fmt.proofs.one_line.node_in_line.Goals as goal
 use Rattle.kdl_fmt.proofs.one_line.node_in_line.Goals.{in-Inner+in_ok-push_text-in-Inner, in-Last+in_ok-push_text-in-Last}
+use Rattle.kdl_text.specs.Chars.{Text}
+
+-- a format with four texts
+format_made : (last : Bool) (f : NodeFormat) (a b c d : Text) → f ≡ empty_node_format → a ≡ 32 ∷ [] → b ≡ 32 ∷ [] → c ≡ (if last then 32 ∷ [] else []) → d ≡ (if last then [] else 59 ∷ [])
+    → record f { leading = a; before_children = b; before_terminator = c; terminator = d } ≡ node_in_line last
+format_made last f a b c d e x y z w = rw (e, x, y, z, w) refl
 
 pub returns : goal.returns
 returns c =
