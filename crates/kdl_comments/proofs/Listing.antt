@@ -6,8 +6,6 @@ pub mod ItemsUnique
 pub mod SpaceItems
 -- The items of a gap and of a place, piece by piece.
 pub mod PlaceReads
--- What the readers of spaces and comments return, and the items that they add.
-pub mod SpaceReads
 -- What begins a text, by its first token.
 pub mod Starts
 -- A text that is cut at a place in bytes.

@@ -1,7 +1,8 @@
 -- What a slashdash drops is cut out of the text, and what comes after it goes on.
-use Rattle.std.proofs.Common.{◌≡◌, ◌⊎◌, inl, inr, ℕ, ◌+◌, ◌-◌, ◌<◌, ◌≤◌, ◌==◌, Bool, true, false, List, [], ◌∷◌, ◌++◌, length, None, refl, sym, ap, subst, ◌∙◌, arith, append_assoc, length-append}
+use Rattle.std.proofs.Common.{◌≡◌, ◌⊎◌, inl, inr, ℕ, ◌+◌, ◌-◌, ◌<◌, ◌≤◌, List, [], ◌∷◌, ◌++◌, length, None, Bor, refl, sym, ap, subst, ◌∙◌, arith, append_assoc, length-append}
 use Rattle.std.specs.Str.{chars, IsUtf8}
 use Rattle.kdl_text.specs.Chars.{Text}
+use Rattle.kdl_text.specs.Trivia.{Break}
 use Rattle.kdl_text.specs.Spans.{bytes}
 use Rattle.kdl_text.proofs.Looking.MovesJoin.{bytes-append}
 use Rattle.kdl_text.proofs.Looking.Texts.{bytes-chars}
@@ -12,22 +13,14 @@ use Rattle.kdl_lexer.specs.declared.lexer.TokenKind.{TokenKind}
 use Rattle.kdl_lexer.specs.declared.lexer.TokenKind.TheVariants.{Semicolon}
 use Rattle.kdl_entry.proofs.Slicing.Between.{is_between}
 use Rattle.kdl_comments.specs.Items.{Item, ItemEnd, line_end, GapItems}
-use Rattle.kdl_comments.specs.Internal.Lacking.{HasOpenEnd}
+use Rattle.kdl_comments.specs.Internal.Lacking.{EndsNode}
 use Rattle.kdl_comments.specs.Internal.Passed.{Before, AnswersDroppedNode}
 use Rattle.kdl_comments.specs.Internal.Reading.{Cut}
 use Rattle.kdl_comments.proofs.Dropping.DroppedNodes.{node_refused}
-use Rattle.kdl_comments.proofs.Listing.SpaceReads.{no_chars, some_chars}
+use Rattle.kdl_comments.specs.declared.ends.Ending.TheVariants.{Before as EndsBefore}
 use Rattle.kdl_comments.proofs.Listing.Starts.{newline_cut}
 
 -- the terminator of a node
-semicolon_cut : {s r : Text} {k : Token} → Cuts s k r → k ≡ semicolon → ItemEnd s r r
-semicolon_cut (one t_semicolon) e = ItemEnd.semicolon
-semicolon_cut _ e = absurd cc
-
-semicolon_open : {s r : Text} {k : Token} → Cuts s k r → k ≡ semicolon → HasOpenEnd s r false
-semicolon_open (one t_semicolon) e = HasOpenEnd.semicolon
-semicolon_open _ e = absurd cc
-
 a_semicolon : (k : TokenKind) → kind_view k ≡ semicolon → k ≡ Semicolon
 a_semicolon Semicolon e = refl
 a_semicolon _ e = absurd cc
@@ -38,9 +31,10 @@ len_before bs ds p u v e =
     let n : length bs ≡ bytes p + length ds = sym (bytes-chars bs u) ∙ ap bytes e ∙ bytes-append p (chars ds) ∙ ap (λ (k : ℕ). bytes p + k) (bytes-chars ds v) in
     (omega (arith, n), omega (arith, n))
 
--- the end of a node
-pub end_semicolon : (t s r : Text) (k : TokenKind) (n : ℕ) → Cuts s (kind_view k) r → k ≡ Semicolon → Before t n r → (i : Text) × ItemEnd s r i × Before t n i × Before t n r × HasOpenEnd s r false
-end_semicolon t s r k n c e b = (r, semicolon_cut c (ap kind_view e), b, b, semicolon_open c (ap kind_view e))
+-- the end of a node: a `;`
+pub semicolon_end : {s r : Text} {k : Token} (y : Bor (List ℕ)) → Cuts s k r → k ≡ semicolon → chars y.now ≡ r → ItemEnd s r r × EndsNode r s (EndsBefore y)
+semicolon_end y (one t_semicolon) e h = (ItemEnd.semicolon, EndsNode.semicolon h)
+semicolon_end y _ e h = absurd cc
 
 -- what comes after a line's text
 line_parts : (s u f e : Text) → u ≡ s → u ≡ f ++ e → e ≡ line_end u → (s ≡ f ++ e) × (e ≡ line_end s)
@@ -54,20 +48,12 @@ line_before bs ds s u f x n v w (p, e, m) h y z =
     let l = len_before bs ds (p ++ f) v w g in
     (l.0, (p ++ f, g ∙ ap (λ (q : Text). (p ++ f) ++ q) a.1, l.1))
 
-pub end_line : (s r : Text) (k : TokenKind) → Cuts s (kind_view k) r → (kind_view k ≡ newline) ⊎ (kind_view k ≡ semicolon) → (k ≡ Semicolon → ⊥) → ItemEnd s r (line_end s)
-end_line s r k c (inl e) f = ItemEnd.line (newline_cut c e)
-end_line s r k c (inr e) f = absurd (f (a_semicolon k e))
-
--- whether the line has no newline
-pub line_open : (bs : List ℕ) (s r : Text) (k : TokenKind) → Cuts s (kind_view k) r → (kind_view k ≡ newline) ⊎ (kind_view k ≡ semicolon) → (k ≡ Semicolon → ⊥) → IsUtf8 bs → chars bs ≡ line_end s → (b : Bool) → b ≡ (length bs == 0) → HasOpenEnd s r b
-line_open bs s r k c (inr e) f u l b h = absurd (f (a_semicolon k e))
-line_open bs s r k c (inl e) f u l true h = HasOpenEnd.unended (newline_cut c e) (sym l ∙ no_chars bs (sym h))
-line_open bs s r k c (inl e) f u l false h = HasOpenEnd.ended (newline_cut c e) (λ z. some_chars bs u (sym h) (l ∙ z))
+-- or a newline, or a line comment
+pub break_end : (s r : Text) (k : TokenKind) → Cuts s (kind_view k) r → (kind_view k ≡ newline) ⊎ (kind_view k ≡ semicolon) → (k ≡ Semicolon → ⊥) → Break s r
+break_end s r k c (inl e) f = newline_cut c e
+break_end s r k c (inr e) f = absurd (f (a_semicolon k e))
 
 -- after `/-`
-pub dash_cut : (s t : Text) → s ≡ 47 ∷ 45 ∷ t → Cut s 2
-dash_cut s t e = (47 ∷ 45 ∷ [], t, e, refl)
-
 pub after_dash : (s t x b : Text) → s ≡ 47 ∷ 45 ∷ t → ((p r : Text) → s ≡ p ++ r → bytes p ≡ 2 → (x ≡ p) × (b ≡ r)) → s ≡ 47 ∷ 45 ∷ b
 after_dash s t x b e h = e ∙ ap (λ (z : Text). 47 ∷ 45 ∷ z) (sym (h (47 ∷ 45 ∷ []) t e refl).1)
 

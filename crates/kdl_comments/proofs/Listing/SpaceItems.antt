@@ -1,9 +1,9 @@
 -- The items of node-spaces and line-spaces: each has some, and some alone; and what a space does in front of a gap or a place.
-use Rattle.std.proofs.Common.{◌≡◌, ◌↔◌, true, List, [], ◌∷◌, ◌++◌, length, refl, sym, ap, subst, ◌∙◌, arith}
+use Rattle.std.proofs.Common.{◌≡◌, ◌↔◌, true, List, [], ◌∷◌, ◌++◌, refl, sym, ap, subst, ◌∙◌}
 use Rattle.kdl_text.specs.Chars.{Text, Newline, Star, Space}
 use Rattle.kdl_text.specs.Chars.Star.{none as no_star, more}
 use Rattle.kdl_text.specs.Chars.Space.{space as a_space}
-use Rattle.kdl_text.specs.Trivia.{BlockComment, LineComment, Ws, EscEnd, Escline, NodeSpace, LineSpace, Slashdash}
+use Rattle.kdl_text.specs.Trivia.{BlockComment, LineComment, Ws, EscEnd, NodeSpace, LineSpace, Slashdash}
 use Rattle.kdl_text.specs.Trivia.BlockComment.{block as a_block}
 use Rattle.kdl_text.specs.Trivia.LineComment.{line as a_line}
 use Rattle.kdl_text.specs.Trivia.Ws.{space as ws_space, comment as ws_comment}
@@ -15,10 +15,9 @@ use Rattle.kdl_text.specs.Trivia.LineSpace.{space as line_space, «break» as li
 use Rattle.kdl_text.specs.Trivia.Slashdash.{slashdash as a_slashdash}
 use Rattle.kdl_text.proofs.Spacing.SpaceUnique.{slash_no_space, backslash_no_space, slash_no_newline, newline_begins, space_det, block_det, line_comment_det, esc_end_ws, space_or_break}
 use Rattle.kdl_text.proofs.Spacing.NewlineUnique.{newline_det}
-use Rattle.kdl_text.proofs.Spacing.SpacePieces.{node_space_shorter, line_space_shorter, slashdash_shorter}
 use Rattle.kdl_lexer.specs.Tokens.{t_space, t_newline, t_slashdash}
 use Rattle.kdl_entry.specs.Places.{between}
-use Rattle.kdl_lexer.proofs.Lexing.TokenUnique.{token_det}
+use Rattle.kdl_lexer.proofs.Lexing.TokenUnique.{token_det, no_token}
 use Rattle.kdl_comments.specs.Items.{Item, comment, piece, line_end, EsclineItems, SpaceItems, LineSpaceItems, GapItems, Place, may_end, spaced, PlaceItems}
 
 -- what has items is an escline, a node-space, a line-space
@@ -29,13 +28,10 @@ escline_of {s = s} (EsclineItems.line l) = (s, no_star, end_comment l)
 escline_of {s = s} (EsclineItems.newline n) = (s, no_star, end_newline n)
 escline_of EsclineItems.ends = ([], no_star, end_ends)
 
-pub escline_is : {s r : Text} {is : List Item} → EsclineItems s r is → Escline (92 ∷ s) r
-escline_is d = let e = escline_of d in an_escline e.1 e.2
-
 pub space_of : {s r : Text} {is : List Item} → SpaceItems s r is → NodeSpace s r
 space_of (SpaceItems.space p) = ws (ws_space p)
 space_of (SpaceItems.block p) = ws (ws_comment p)
-space_of (SpaceItems.escline d) = node_escline (escline_is d)
+space_of (SpaceItems.escline d) = let e = escline_of d in node_escline (an_escline e.1 e.2)
 
 pub line_space_of : {s r : Text} {is : List Item} → LineSpaceItems s r is → LineSpace s r
 line_space_of (LineSpaceItems.space d) = line_space (space_of d)
@@ -135,18 +131,16 @@ pub dash_no_line : {s r t : Text} → Slashdash s t → LineSpace s r → ⊥
 dash_no_line m (line_space n) = dash_no_space m n
 dash_no_line (a_slashdash ls) (line_break n) = let e = (token_det (t_newline n) t_slashdash).1 in cc
 
-end_no_space : {s r : Text} → s ≡ [] → NodeSpace s r → ⊥
-end_no_space e n = omega (arith, ap length e, node_space_shorter n)
+end_no_space : {r : Text} → NodeSpace [] r → ⊥
+end_no_space n = no_token (t_space n)
 
-end_no_line : {s r : Text} → s ≡ [] → LineSpace s r → ⊥
-end_no_line e n = omega (arith, ap length e, line_space_shorter n)
-
-end_no_dash : {s r : Text} → s ≡ [] → Slashdash s r → ⊥
-end_no_dash e n = omega (arith, ap length e, slashdash_shorter n)
+end_no_line : {r : Text} → LineSpace [] r → ⊥
+end_no_line (line_space n) = end_no_space n
+end_no_line (line_break n) = no_token (t_newline n)
 
 -- a gap that begins with a line-space
 space_first : {s t : Text} {is all : List Item} → LineSpaceItems s t is → GapItems s all → (js : List Item) × (all ≡ is ++ js) × GapItems t js
-space_first d GapItems.none = absurd (end_no_line refl (line_space_of d))
+space_first d GapItems.none = absurd (end_no_line (line_space_of d))
 space_first {is = is} d (GapItems.space {js = js} e g) = let f = line_space_items_det d e in (js, ap (λ (l : List Item). l ++ js) (sym f.1), subst (λ (u : Text). GapItems u js) (sym f.0) g)
 space_first d (GapItems.dropped_node m x e g) = absurd (dash_no_line m (line_space_of d))
 space_first d (GapItems.last_node m x h ss g) = absurd (dash_no_line m (line_space_of d))
@@ -156,7 +150,7 @@ gap_space {s = s} d all = (λ g. space_first d g, λ h. subst (λ (l : List Item
 
 -- a place that begins with a node-space
 place_first : {p : Place} {s t : Text} {is all : List Item} → SpaceItems s t is → PlaceItems p s all → (js : List Item) × (all ≡ is ++ js) × PlaceItems (spaced true p) t js
-place_first d (PlaceItems.ends e) = absurd (end_no_space refl (space_of d))
+place_first d (PlaceItems.ends e) = absurd (end_no_space (space_of d))
 place_first {p = p} d (PlaceItems.space {js = js} e g) = let f = space_items_det d e in (js, ap (λ (l : List Item). l ++ js) (sym f.1), subst (λ (u : Text). PlaceItems (spaced true p) u js) (sym f.0) g)
 place_first d (PlaceItems.dropped_entry e m i g) = absurd (dash_no_space m (space_of d))
 place_first d (PlaceItems.dropped_block e m b g) = absurd (dash_no_space m (space_of d))
@@ -165,23 +159,23 @@ pub place_space : {p : Place} {s t : Text} {is : List Item} → SpaceItems s t i
 place_space {p = p} {s = s} d all = (λ g. place_first d g, λ h. subst (λ (l : List Item). PlaceItems p s l) (sym h.1) (PlaceItems.space d h.2))
 
 -- an empty gap or place
-gap_empty : {s : Text} {all : List Item} → s ≡ [] → GapItems s all → all ≡ []
-gap_empty e GapItems.none = refl
-gap_empty e (GapItems.space d g) = absurd (end_no_line e (line_space_of d))
-gap_empty e (GapItems.dropped_node m x f g) = absurd (end_no_dash e m)
-gap_empty e (GapItems.last_node m x h ss g) = absurd (end_no_dash e m)
+gap_empty : {all : List Item} → GapItems [] all → all ≡ []
+gap_empty GapItems.none = refl
+gap_empty (GapItems.space d g) = absurd (end_no_line (line_space_of d))
+gap_empty (GapItems.dropped_node m x f g) = elim m [ ]
+gap_empty (GapItems.last_node m x h ss g) = elim m [ ]
 
 pub gap_end : (all : List Item) → GapItems [] all ↔ (all ≡ [])
-gap_end all = (λ g. gap_empty refl g, λ e. subst (λ (l : List Item). GapItems [] l) (sym e) GapItems.none)
+gap_end all = (λ g. gap_empty g, λ e. subst (λ (l : List Item). GapItems [] l) (sym e) GapItems.none)
 
-place_empty : {p : Place} {s : Text} {all : List Item} → s ≡ [] → PlaceItems p s all → (may_end p ≡ true) × (all ≡ [])
-place_empty e (PlaceItems.ends f) = (f, refl)
-place_empty e (PlaceItems.space d g) = absurd (end_no_space e (space_of d))
-place_empty e (PlaceItems.dropped_entry f m i g) = absurd (end_no_dash e m)
-place_empty e (PlaceItems.dropped_block f m b g) = absurd (end_no_dash e m)
+place_empty : {p : Place} {all : List Item} → PlaceItems p [] all → (may_end p ≡ true) × (all ≡ [])
+place_empty (PlaceItems.ends f) = (f, refl)
+place_empty (PlaceItems.space d g) = absurd (end_no_space (space_of d))
+place_empty (PlaceItems.dropped_entry f m i g) = elim m [ ]
+place_empty (PlaceItems.dropped_block f m b g) = elim m [ ]
 
 pub place_end : (p : Place) (all : List Item) → PlaceItems p [] all ↔ ((may_end p ≡ true) × (all ≡ []))
-place_end p all = (λ g. place_empty refl g, λ e. subst (λ (l : List Item). PlaceItems p [] l) (sym e.1) (PlaceItems.ends e.0))
+place_end p all = (λ g. place_empty g, λ e. subst (λ (l : List Item). PlaceItems p [] l) (sym e.1) (PlaceItems.ends e.0))
 
 -- a slashdash begins with `/-`
 dash_text : {s t : Text} → Slashdash s t → (u : Text) × (s ≡ 47 ∷ 45 ∷ u)
