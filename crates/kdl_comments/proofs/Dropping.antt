@@ -4,9 +4,7 @@
 pub mod DroppedNodes
 -- What a slashdash drops in a place of a node, and where it ends.
 pub mod DroppedParts
--- What a slashdash drops is cut out of the text.
-pub mod DroppedPieces
--- The loops that pass over what is dropped, token by token.
+-- The loops that pass over what is dropped, token by token, and the texts that they cut out.
 pub mod TokenLoop
 -- Where the grammar derives a piece, the control goes on over it.
 pub mod Paths

@@ -28,8 +28,7 @@ use Rattle.kdl_comments.specs.Internal.Passing.{of_spaces, moved, follows_word, 
 use Rattle.kdl_comments.proofs.Dropping.DroppedNodes.{Accepted, accepted, token_first, accepted_back, derived, passes_det}
 use Rattle.kdl_comments.proofs.Dropping.Paths.{in_block_on, slashdash_spaced, over_part, drop_entry, drop_block}
 use Rattle.kdl_comments.proofs.Dropping.TokenLoop.{Of, is_not}
-use Rattle.kdl_comments.proofs.Listing.PlaceReads.{entries_spaced}
-use Rattle.kdl_comments.proofs.Listing.SpaceItems.{space_of}
+use Rattle.kdl_comments.proofs.Listing.SpaceItems.{entries_spaced, space_of}
 use Rattle.kdl_value.specs.Data.{Value}
 
 -- the control passes over one part at most

@@ -31,10 +31,10 @@ use Rattle.kdl_comments.specs.declared.ends.Ending.TheVariants.{Before as EndsBe
 use Rattle.kdl_comments.specs.declared.places.GapPiece.TheVariants.{Until}
 use Rattle.kdl_comments.proofs.Dropping.DroppedNodes.{passes_det, passes_last, passes_node, tight_same, DroppedItems, with_end, at_last, dash_items, node_returned, node_ended}
 use Rattle.kdl_comments.proofs.Dropping.DroppedParts.{a_space}
-use Rattle.kdl_comments.proofs.Dropping.DroppedPieces.{before_shorter}
+use Rattle.kdl_comments.proofs.Dropping.TokenLoop.{before_shorter}
 use Rattle.kdl_comments.proofs.Lacking.SpaceEnds.{put_more, moved_more, lf, break_at, break_left, break_open, break_ends_as, letter_line}
 use Rattle.kdl_comments.proofs.Lacking.Fewest.{letter_end, no_nodes, swallowed, nodes_off, nodes_off_node, letter_dropped, fewest_at, fewest_none}
-use Rattle.kdl_comments.proofs.Listing.PlaceReads.{added_none, then_added, leaves_start, leaves_then, leaves_all, leaves_none, leaves_add, run_leaves, run_gap}
+use Rattle.kdl_comments.proofs.Listing.SpaceItems.{added_none, then_added, leaves_start, leaves_then, leaves_all, leaves_none, leaves_add, run_leaves, run_gap}
 use Rattle.kdl_comments.proofs.Listing.PlaceTexts.{HasGap, spaces_only, terminator_of}
 use Rattle.kdl_comments.proofs.Listing.Starts.{before_cut}
 use Rattle.kdl_comments.proofs.Rewriting.BeforeNewlines.{cut_node}

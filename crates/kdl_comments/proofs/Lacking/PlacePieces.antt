@@ -29,13 +29,12 @@ use Rattle.kdl_comments.specs.declared.ends.Ending.TheVariants.{Before as EndsBe
 use Rattle.kdl_comments.specs.declared.item.Place as held
 use Rattle.kdl_comments.specs.declared.places.PlacePiece.TheVariants.{Onward, InEscline}
 use Rattle.kdl_comments.proofs.Dropping.DroppedParts.{DropsPart, drops_entry, drops_block, part_leaves, the_part, part_nowhere, part_refused}
-use Rattle.kdl_comments.proofs.Dropping.DroppedPieces.{before_shorter}
+use Rattle.kdl_comments.proofs.Dropping.TokenLoop.{before_shorter}
 use Rattle.kdl_comments.proofs.Lacking.Fewest.{a_piece, letter_node, letter_end, some_nodes, letter_dropped}
 use Rattle.kdl_comments.proofs.Lacking.GapPieces.{in_front}
 use Rattle.kdl_comments.proofs.Lacking.SpaceEnds.{put_more, lf}
-use Rattle.kdl_comments.proofs.Listing.PlaceReads.{added_none, then_added, leaves_start, leaves_then, leaves_all, leaves_none, leaves_add, ends_spaced, blocks_spaced, run_places}
+use Rattle.kdl_comments.proofs.Listing.SpaceItems.{added_none, then_added, leaves_start, leaves_then, leaves_all, leaves_none, leaves_add, ends_spaced, blocks_spaced, run_places, place_end}
 use Rattle.kdl_comments.proofs.Listing.PlaceTexts.{Has, before_block_items, after_block_items}
-use Rattle.kdl_comments.proofs.Listing.SpaceItems.{place_end}
 use Rattle.kdl_comments.proofs.Rewriting.PlacesAgain.{DashedEntry, DashedBlock, moved_entry, moved_block, place_spaced, text_space, text_entry, text_block, no_text}
 
 -- what is in a place before a value end is one

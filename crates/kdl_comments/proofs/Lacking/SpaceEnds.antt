@@ -17,11 +17,10 @@ use Rattle.kdl_comments.specs.declared.item.Item.{Item as Found}
 use Rattle.kdl_comments.specs.declared.spaces.Start.TheVariants.{Space as ASpace, Break as ABreak}
 use Rattle.kdl_comments.specs.declared.ends.Ending.{Ending}
 use Rattle.kdl_comments.specs.declared.ends.Ending.TheVariants.{Before, InReturn, Open}
-use Rattle.kdl_comments.proofs.Listing.PlaceReads.{added_none, then_added, run_lines, leaves_start, leaves_then, leaves_all, leaves_add, run_leaves, run_gap}
+use Rattle.kdl_comments.proofs.Listing.SpaceItems.{added_none, then_added, run_lines, leaves_start, leaves_then, leaves_all, leaves_add, run_leaves, run_gap}
 use Rattle.kdl_comments.proofs.Listing.Starts.{two, slashes_end, starts_shorter, space_run, escline_space, break_items, break_escline, backslash_ws, break_of}
-use Rattle.kdl_text.specs.Internal.Here.{first}
 use Rattle.kdl_lexer.proofs.Moving.FarMoves.{any_run}
-use Rattle.kdl_lexer.proofs.Moving.Puts.{Put, Move}
+use Rattle.kdl_lexer.proofs.Moving.Puts.{Put, more_first, Move}
 use Rattle.kdl_comments.proofs.Rewriting.BeforeNewlines.{closed_block}
 use Rattle.kdl_comments.specs.Lacks.{AreNodeSpaces}
 use Rattle.kdl_comments.proofs.NodeSpaces.{some_then}
@@ -30,12 +29,8 @@ use Rattle.kdl_comments.proofs.NodeSpaces.{some_then}
 pub put_more : {s r : Text} (p : Put s r) (w : Text) → p.put (r ++ w) ≡ s ++ w
 put_more {r = r} p w = p.text (r ++ w) ∙ sym (append_assoc p.piece r w) ∙ ap (λ (z : Text). z ++ w) (sym (p.text r) ∙ sym p.here)
 
-pub first_more : (r w : Text) → (r ≡ [] → ⊥) → first (r ++ w) ≡ first r
-first_more [] w n = absurd (n refl)
-first_more (c ∷ r) w n = refl
-
 pub moved_more : {R : Text → Text → Type 0} {s r : Text} → Move R s r → (r ≡ [] → ⊥) → (w : Text) → R (s ++ w) (r ++ w)
-moved_more {R = R} {r = r} m n w = subst (λ (z : Text). R z (r ++ w)) (put_more m.at w) (m.there (r ++ w) (first_more r w n))
+moved_more {R = R} {r = r} m n w = subst (λ (z : Text). R z (r ++ w)) (put_more m.at w) (m.there (r ++ w) (more_first r w n))
 
 -- spaces, block comments, and runs of both
 pub space_more : {s r : Text} → Space s r → (w : Text) → Space (s ++ w) (r ++ w)

@@ -15,8 +15,7 @@ use Rattle.kdl_grammar.specs.Places.{DroppedBlock, dropped as a_dropped_block, A
 use Rattle.kdl_comments.specs.Items.{Item, piece, ItemEnd, GapItems, Place, before_entry, before_block, after_block, may_end, takes_entries, takes_blocks, spaced, PlaceItems}
 use Rattle.kdl_comments.proofs.Dropping.DroppedNodes.{passes_last, node_ended}
 use Rattle.kdl_comments.proofs.Dropping.Paths.{at_brace, halts}
-use Rattle.kdl_comments.proofs.Listing.PlaceReads.{spaced_again, entries_spaced, blocks_spaced}
-use Rattle.kdl_comments.proofs.Listing.SpaceItems.{space_of, line_space_of, space_items, line_space_items}
+use Rattle.kdl_comments.proofs.Listing.SpaceItems.{spaced_again, entries_spaced, blocks_spaced, space_of, line_space_of, space_items, line_space_items}
 use Rattle.kdl_comments.proofs.Rewriting.BeforeNewlines.{cut_node}
 
 -- the text has a list of items as a gap

@@ -1,9 +1,9 @@
 -- The items of node-spaces and line-spaces: each has some, and some alone; and what a space does in front of a gap or a place.
-use Rattle.std.proofs.Common.{◌≡◌, ◌↔◌, true, List, [], ◌∷◌, ◌++◌, refl, sym, ap, subst, ◌∙◌}
+use Rattle.std.proofs.Common.{◌≡◌, ◌↔◌, true, List, [], ◌∷◌, ◌++◌, refl, sym, ap, subst, ◌∙◌, Bool, Option, Some, None, append_assoc, append-nil}
 use Rattle.kdl_text.specs.Chars.{Text, Newline, Star, Space}
 use Rattle.kdl_text.specs.Chars.Star.{none as no_star, more}
 use Rattle.kdl_text.specs.Chars.Space.{space as a_space}
-use Rattle.kdl_text.specs.Trivia.{BlockComment, LineComment, Ws, EscEnd, NodeSpace, LineSpace, Slashdash}
+use Rattle.kdl_text.specs.Trivia.{BlockComment, LineComment, Ws, EscEnd, NodeSpace, LineSpace, Slashdash, slashdash}
 use Rattle.kdl_text.specs.Trivia.BlockComment.{block as a_block}
 use Rattle.kdl_text.specs.Trivia.LineComment.{line as a_line}
 use Rattle.kdl_text.specs.Trivia.Ws.{space as ws_space, comment as ws_comment}
@@ -18,7 +18,9 @@ use Rattle.kdl_text.proofs.Spacing.NewlineUnique.{newline_det}
 use Rattle.kdl_lexer.specs.Tokens.{t_space, t_newline, t_slashdash}
 use Rattle.kdl_entry.specs.Places.{between}
 use Rattle.kdl_lexer.proofs.Lexing.TokenUnique.{token_det, no_token}
-use Rattle.kdl_comments.specs.Items.{Item, comment, piece, line_end, EsclineItems, SpaceItems, LineSpaceItems, GapItems, Place, may_end, spaced, PlaceItems}
+use Rattle.kdl_comments.specs.Items.{Item, comment, piece, line_end, EsclineItems, SpaceItems, LineSpaceItems, GapItems, Place, may_end, spaced, PlaceItems, before_entry, before_block, after_block, takes_entries, takes_blocks}
+use Rattle.kdl_comments.specs.Internal.Reading.{Run, added, Adding, adding, Leaves}
+use Rattle.kdl_comments.specs.Internal.Reading.Run.{one as one_run, more as more_run}
 
 -- what has items is an escline, a node-space, a line-space
 pub escline_of : {s r : Text} {is : List Item} → EsclineItems s r is → (t : Text) × Star Ws s t × EscEnd t r
@@ -187,3 +189,80 @@ gap_none a b c all GapItems.none = a refl
 gap_none a b c all (GapItems.space d g) = b _ (line_space_of d)
 gap_none a b c all (GapItems.dropped_node m x f g) = let u = dash_text m in c u.0 u.1
 gap_none a b c all (GapItems.last_node m x h ss g) = let u = dash_text m in c u.0 u.1
+
+-- items that were added after others
+pub added_none : (o : Option (List Item)) → o ≡ added o []
+added_none None = refl
+added_none (Some is) = ap Some (sym (append-nil is))
+
+added_twice : (o : Option (List Item)) (is js : List Item) → added (added o is) js ≡ added o (is ++ js)
+added_twice None is js = refl
+added_twice (Some l) is js = ap Some (append_assoc l is js)
+
+pub then_added : {now new : Option (List Item)} (old : Option (List Item)) (is js : List Item) → now ≡ added old is → new ≡ added now js → new ≡ added old (is ++ js)
+then_added old is js e f = f ∙ ap (λ (o : Option (List Item)). added o js) e ∙ added_twice old is js
+
+-- first some items, and then the others
+pub leaves_start : (X : List Item → Type 0) → Leaves X X []
+leaves_start X all = (λ x. (all, refl, x), λ h. subst X (sym h.1) h.2)
+
+pub leaves_then : (X Y Z : List Item → Type 0) (is js : List Item) → Leaves X Y is → Leaves Y Z js → Leaves X Z (is ++ js)
+leaves_then X Y Z is js l m all = (
+  λ x. let (ks, e, y) = (l all).0 x in let (ns, f, z) = (m ks).0 y in (ns, e ∙ ap (λ (k : List Item). is ++ k) f ∙ sym (append_assoc is js ns), z),
+  λ h. (l all).1 (js ++ h.0, h.1 ∙ append_assoc is js h.0, (m (js ++ h.0)).1 (h.0, refl, h.2)),
+)
+
+pub leaves_all : (X Y : List Item → Type 0) (is : List Item) → Leaves X Y is → Y [] → X is
+leaves_all X Y is l y = (l is).1 ([], sym (append-nil is), y)
+
+pub leaves_none : (X Y : List Item → Type 0) (is : List Item) → Leaves X Y is → ((js : List Item) → Y js → ⊥) → (all : List Item) → X all → ⊥
+leaves_none X Y is l n all x = let (js, e, y) = (l all).0 x in n js y
+
+pub leaves_add : (X Y : List Item → Type 0) {old now new : Option (List Item)} → Adding (Leaves X Y) old now → Adding Y now new → Adding X old new
+leaves_add X Y {old = old} (adding is e l) (adding js f y) = adding (is ++ js) (then_added old is js e f) ((l (is ++ js)).1 (js, refl, y))
+
+-- line-spaces in a gap
+pub run_leaves : {s r : Text} {is : List Item} → Run LineSpaceItems s r is → Leaves (GapItems s) (GapItems r) is
+run_leaves (one_run d) = gap_space d
+run_leaves {s = s} {r = r} (more_run {t = t} {is = is} {js = js} d ds) = leaves_then (GapItems s) (GapItems t) (GapItems r) is js (gap_space d) (run_leaves ds)
+
+pub run_lines : {s r : Text} {is : List Item} → Run SpaceItems s r is → Run LineSpaceItems s r is
+run_lines (one_run d) = one_run (LineSpaceItems.space d)
+run_lines (more_run d ds) = more_run (LineSpaceItems.space d) (run_lines ds)
+
+pub run_gap : {s : Text} {is : List Item} → Run LineSpaceItems s [] is → GapItems s is
+run_gap {s} {is} run = leaves_all (GapItems s) (GapItems []) is (run_leaves run) GapItems.none
+
+-- what a place takes does not depend on the node-spaces in it
+pub spaced_again : (a b : Bool) (p : Place) → spaced a (spaced b p) ≡ spaced a p
+spaced_again a b (before_entry c) = refl
+spaced_again a b before_block = refl
+spaced_again a b after_block = refl
+
+pub entries_spaced : (b : Bool) (p : Place) → takes_entries (spaced b p) ≡ takes_entries p
+entries_spaced b (before_entry c) = refl
+entries_spaced b before_block = refl
+entries_spaced b after_block = refl
+
+pub blocks_spaced : (b : Bool) (p : Place) → takes_blocks (spaced b p) ≡ takes_blocks p
+blocks_spaced b (before_entry c) = refl
+blocks_spaced b before_block = refl
+blocks_spaced b after_block = refl
+
+pub ends_spaced : (p : Place) → may_end (spaced true p) ≡ true
+ends_spaced (before_entry c) = refl
+ends_spaced before_block = refl
+ends_spaced after_block = refl
+
+-- node-spaces in a place
+pub run_places : (p : Place) {s r : Text} {is : List Item} → Run SpaceItems s r is → Leaves (PlaceItems p s) (PlaceItems (spaced true p) r) is
+run_places p (one_run d) = place_space d
+run_places p {s = s} {r = r} (more_run {t = t} {is = is} {js = js} d ds) =
+    leaves_then (PlaceItems p s) (PlaceItems (spaced true p) t) (PlaceItems (spaced true p) r) is js (place_space d)
+    (subst (λ (q : Place). Leaves (PlaceItems (spaced true p) t) (PlaceItems q r) js) (spaced_again true true p) (run_places (spaced true p) ds))
+
+pub place_none : {p : Place} {s : Text} → (s ≡ [] → ⊥) → ((r : Text) → NodeSpace s r → ⊥) → ((t : Text) → s ≡ 47 ∷ 45 ∷ t → ⊥) → (all : List Item) → PlaceItems p s all → ⊥
+place_none a b c all (PlaceItems.ends e) = a refl
+place_none a b c all (PlaceItems.space d g) = b _ (space_of d)
+place_none a b c all (PlaceItems.dropped_entry e (slashdash ls) i g) = c _ refl
+place_none a b c all (PlaceItems.dropped_block e (slashdash ls) x g) = c _ refl

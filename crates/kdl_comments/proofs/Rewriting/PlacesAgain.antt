@@ -13,7 +13,7 @@ use Rattle.kdl_grammar.specs.Grammar.{IsBlock}
 use Rattle.kdl_grammar.specs.Places.{AfterChildren, after, BeforeChildren, before}
 use Rattle.kdl_comments.specs.Items.{Item, comment, piece, line_end, EsclineItems, SpaceItems, Place, before_entry, before_block, after_block, may_end, takes_entries, takes_blocks, spaced, PlaceItems, ends, dropped_entry, dropped_block}
 use Rattle.kdl_comments.specs.Written.{tail}
-use Rattle.kdl_comments.proofs.Listing.PlaceReads.{ends_spaced, spaced_again, entries_spaced, blocks_spaced}
+use Rattle.kdl_comments.proofs.Listing.SpaceItems.{ends_spaced, spaced_again, entries_spaced, blocks_spaced}
 use Rattle.kdl_comments.proofs.Listing.PlaceTexts.{lead_space, lead_entry, space_after, braces_after, space_before, entry_before}
 use Rattle.kdl_comments.proofs.Rewriting.BeforeNewlines.{closed_block, closed_braces, newline_end}
 use Rattle.kdl_comments.proofs.Rewriting.LinesAgain.{comment_part, comment_again, comment_text, comment_item}

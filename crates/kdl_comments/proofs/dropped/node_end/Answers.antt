@@ -7,7 +7,7 @@ use Rattle.kdl_comments.specs.Items.{line_end, ItemEnd}
 use Rattle.kdl_comments.specs.Internal.Lacking.{EndsNode, LineEnds}
 use Rattle.kdl_comments.specs.Internal.Passed.{Before}
 use Rattle.kdl_comments.specs.declared.ends.Ending.TheVariants.{Before as EndsBefore}
-use Rattle.kdl_comments.proofs.Dropping.DroppedPieces.{semicolon_end, line_before, break_end}
+use Rattle.kdl_comments.proofs.Dropping.TokenLoop.{semicolon_end, line_before, break_end}
 use Rattle.kdl_comments.proofs.dropped.node_end.Goals as goal
 
 pub returns-in-Semicolon : goal.returns-in-Semicolon

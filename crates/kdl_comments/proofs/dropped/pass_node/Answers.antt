@@ -6,7 +6,7 @@ use Rattle.kdl_lexer.specs.Internal.Handed.{kind_view}
 use Rattle.kdl_control.specs.Control.{at, node_slashdash}
 use Rattle.kdl_comments.specs.Internal.Passing.{for_node}
 use Rattle.kdl_comments.proofs.Dropping.Paths.{node_on}
-use Rattle.kdl_comments.proofs.Dropping.TokenLoop.{Goes, node_starts, node_refused, goes_further, node_stops, faulty, refused_here, node_returns, token_places, token_ends, cut_shorter}
+use Rattle.kdl_comments.proofs.Dropping.TokenLoop.{Goes, node_starts, refused_on, goes_further, node_stops, faulty, refused_here, node_returns, token_places, token_ends, cut_shorter}
 use Rattle.kdl_comments.proofs.dropped.pass_node.Goals as goal
 
 pub tokens-init : goal.tokens-init
@@ -23,7 +23,7 @@ returns-in-Err-Faulty c = faulty c.tokens.invariant (rw c.in-Err-Faulty.field-0-
 pub returns-then-not-branch : goal.returns-then-not-branch
 returns-then-not-branch c =
     let f = rw c.if-not-branch.true at c.in_ok-take.ensures in
-    refused_here c.tokens.invariant c.in-Ok-Some.token (rw c.in-Ok-Some.field-0-is at c.in-Ok-Some.ensures.lexed) f (node_refused (control_view c.tokens.control) (kind_view c.in-Ok-Some.token.kind) f)
+    refused_here c.tokens.invariant c.in-Ok-Some.token (rw c.in-Ok-Some.field-0-is at c.in-Ok-Some.ensures.lexed) f (refused_on (control_view c.tokens.control) (kind_view c.in-Ok-Some.token.kind) f)
 
 pub node_end-requires-clause-at : goal.node_end-requires-clause-at
 node_end-requires-clause-at c = token_places c.tokens.invariant c.in-Ok-Some.token (rw c.in-Ok-Some.field-0-is at c.in-Ok-Some.ensures.lexed) c.next.ensures.moves

@@ -1,6 +1,6 @@
 use Rattle.std.proofs.Common.{[], ◌∷◌, refl}
 use Rattle.std.specs.Str.{chars}
-use Rattle.kdl_comments.proofs.Dropping.DroppedPieces.{after_dash}
+use Rattle.kdl_comments.proofs.Dropping.TokenLoop.{after_dash}
 use Rattle.kdl_comments.proofs.places.after_dash.Goals as goal
 
 pub cut-requires : goal.cut-requires

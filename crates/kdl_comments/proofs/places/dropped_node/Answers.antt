@@ -1,7 +1,7 @@
 use Rattle.std.proofs.Common.{true, false}
 use Rattle.std.specs.Str.{chars}
 use Rattle.kdl_comments.specs.Internal.Reading.{held}
-use Rattle.kdl_comments.proofs.Dropping.DroppedPieces.{no_node}
+use Rattle.kdl_comments.proofs.Dropping.TokenLoop.{no_node}
 use Rattle.kdl_comments.proofs.Lacking.GapPieces.{item_cut, node_terminated, node_unterminated}
 use Rattle.kdl_comments.proofs.places.dropped_node.Goals as goal
 
