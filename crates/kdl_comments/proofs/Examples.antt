@@ -5,8 +5,7 @@ use Rattle.kdl_text.specs.Trivia.{Parts, block, Ws, EscEnd, escline, NodeSpace}
 use Rattle.kdl_text.proofs.Spacing.SpaceUnique.{node_space_det}
 use Rattle.kdl_text.proofs.Spacing.ValueEnds.{space_ends, value_end_no_identifier}
 use Rattle.kdl_comments.specs.Lacks.{AreNodeSpaces}
-use Rattle.kdl_comments.proofs.Lacking.NodeSpaceLoop.{goes_past}
-use Rattle.kdl_comments.proofs.Lacking.SpaceEnds.{lf}
+use Rattle.kdl_comments.proofs.Lacking.SpaceEnds.{goes_past, lf}
 use Rattle.kdl_comments.proofs.NodeSpaces.{only_spaces_are, spaces_then}
 
 -- ` `

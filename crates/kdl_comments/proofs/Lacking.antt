@@ -1,18 +1,12 @@
 -- What a text around nodes lacks, so that whatever follows it is not part of it.
 
--- A piece that comes before a rest comes before a longer rest.
-pub mod Keeping
--- How node-spaces and line-spaces end.
+-- How node-spaces and line-spaces end, and the items that they add.
 pub mod SpaceEnds
--- Whether a text is node-spaces, whatever follows it.
-pub mod NodeSpaceLoop
--- Fewer newlines are not enough.
+-- Nodes after a gap's pieces, and a letter after them that adds no node: fewer newlines are not enough.
 pub mod Fewest
--- What the first piece of a gap adds to the nodes after it.
+-- The pieces of a gap: their items, and what they add to the nodes after them.
 pub mod GapPieces
--- Before each terminator, fewer newlines are not enough.
-pub mod PlaceFewest
--- What the first piece of a place takes from what follows it.
+-- The pieces of a place in a node: their items, and what the text may come before.
 pub mod PlacePieces
 -- A terminator and the gap after it.
 pub mod Terminators

@@ -2,12 +2,8 @@
 
 -- A gap, or a place in a node, has one list of items at most.
 pub mod ItemsUnique
--- The items of node-spaces and line-spaces.
+-- The items of node-spaces and line-spaces, in a gap and in a place.
 pub mod SpaceItems
--- The items of a gap and of a place, piece by piece.
-pub mod PlaceReads
--- What the readers of spaces and comments return, and the items that they add.
-pub mod SpaceReads
 -- What begins a text, by its first token.
 pub mod Starts
 -- A text that is cut at a place in bytes.

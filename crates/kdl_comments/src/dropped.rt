@@ -3,38 +3,38 @@
 ghost use Rattle.kdl_lexer.specs.Internal.Handed.{Cuts, kind_view};
 ghost use Rattle.kdl_lexer.specs.Tokens.{newline, semicolon};
 ghost use Rattle.kdl_control.specs.Control.{at, finish, is_word};
-ghost use Rattle.kdl_comments.specs.Internal.Passing.{follows_word, slashdash_in};
+ghost use Rattle.kdl_comments.specs.Internal.Passing.{follows_word, of_spaces, slashdash_in};
 ghost use Rattle.kdl_comments.specs.Items.{ItemEnd};
-ghost use Rattle.kdl_comments.specs.Internal.Lacking.{HasOpenEnd};
+ghost use Rattle.kdl_comments.specs.Internal.Lacking.{EndsNode};
 ghost use Rattle.kdl_control.specs.Internal.Views.{control_view, ended_view, phase_view};
-ghost use Rattle.kdl_comments.specs.Internal.Passed.{AfterPart, AnswersDroppedNode, AnswersDroppedPart, Before, of_spaces};
+ghost use Rattle.kdl_comments.specs.Internal.Passed.{AfterPart, AnswersDroppedNode, AnswersDroppedPart, Before};
 ghost use Rattle.kdl_comments.specs.Internal.Reading.{place_view};
+ghost use Rattle.kdl_comments.specs.declared.ends.Ending.{Ending};
 ghost use Rattle.kdl_text.specs.Chars.{Text};
-ghost use Rattle.std.specs.Prelude.{◌≡◌, ◌⊎◌, IfOk, MatchOption, [], option_map, true, false, not, ◌&&◌, if◌then◌else◌};
+ghost use Rattle.std.specs.Prelude.{◌≡◌, ◌⊎◌, IfOk, MatchOption, None, Some, [], option_map, true, false, not, ◌&&◌, if◌then◌else◌};
 ghost use Rattle.std.specs.Str.{chars};
 
+use crate::ends::Ending;
 use crate::item::Place;
 use crate::slices::cut;
-use crate::spaces::line;
+use crate::spaces::{line, line_ending};
 use kdl_control::{Control, Ended, Phase, Spot};
 use kdl_lexer::{LexFailure, Lexer, Token, TokenKind};
 use kdl_text::cursor::Steps;
 use std::alloc::{AllocError, Global};
 
-/// Where a slashdashed node ends, and where the text after it begins, in bytes from the end of its `/-`.
+/// Where the item of a slashdashed node ends, in bytes from the end of its `/-`, and how its terminator, if any, ends.
 #[derive(Clone, Copy)]
-pub(crate) struct NodeEnd {
+pub(crate) struct NodeEnd<'a> {
     pub(crate) item: usize,
-    pub(crate) following: usize,
-    /// Whether it has no terminator, or a line comment without a newline.
-    pub(crate) is_open: bool,
+    pub(crate) ending: Option<Ending<'a>>,
 }
 
 /// Where a slashdashed entry or block ends, in bytes from the end of its `/-`, and which of the two it is.
 #[derive(Clone, Copy)]
 pub(crate) struct PartEnd {
     pub(crate) at: usize,
-    pub(crate) is_block: bool,
+    pub(crate) ended: Ended,
 }
 
 fn is_space(kind: &TokenKind) -> bool
@@ -70,44 +70,40 @@ fn end_after(token: &Token, last: usize) -> usize
 }
 
 /// The end of a node whose terminator is this token: after a `;`, or before the newline of a line.
-fn node_end(text: &str, token: &Token) -> NodeEnd
+fn node_end<'a>(text: &'a str, token: &Token) -> NodeEnd<'a>
     requires at { Before (chars text.now) token.now.at.start.at token.now.at.start.rest
         × Before (chars text.now) token.now.at.end.at token.now.at.end.rest }
     requires token { Cuts token.now.at.start.rest (kind_view token.now.kind) token.now.at.end.rest }
     requires ends { (kind_view token.now.kind ≡ newline) ⊎ (kind_view token.now.kind ≡ semicolon) }
-    ensures { (i : Text) × ItemEnd token.now.at.start.rest token.now.at.end.rest i
+    ensures { (i : Text) × (y : Ending) × ItemEnd token.now.at.start.rest token.now.at.end.rest i
         × Before (chars text.now) result.item i
-        × Before (chars text.now) result.following token.now.at.end.rest
-        × HasOpenEnd token.now.at.start.rest token.now.at.end.rest result.is_open }
+        × EndsNode token.now.at.end.rest token.now.at.start.rest y × (result.ending ≡ Some y) }
 {
     let following = token.at.end.at();
+    let (_, rest) = cut(text, following);
     if let TokenKind::Semicolon = token.kind {
         return NodeEnd {
             item: following,
-            following,
-            is_open: false,
+            ending: Some(Ending::Before(rest)),
         };
     }
     let (_, terminator) = cut(text, token.at.start.at());
     let (_, end) = line(terminator);
     NodeEnd {
         item: text.len() - end.len(),
-        following,
-        is_open: end.is_empty(),
+        ending: Some(line_ending(end, rest)),
     }
 }
 
 /// The end of a node at the end of the text, where node-spaces come after it. `None` if the node can't end here.
-fn last_end(control: &Control, last: usize) -> Option<NodeEnd>
+fn last_end<'a>(control: &Control, last: usize) -> Option<NodeEnd<'a>>
     ensures { MatchOption result (finish (control_view control.now) ≡ false)
-        (λ e. (finish (control_view control.now) ≡ true) × (e.item ≡ last) × (e.following ≡ last)
-        × (e.is_open ≡ true)) }
+        (λ e. (finish (control_view control.now) ≡ true) × (e.item ≡ last) × (e.ending ≡ None)) }
 {
     if control.may_end() {
         Some(NodeEnd {
             item: last,
-            following: last,
-            is_open: true,
+            ending: None,
         })
     } else {
         None
@@ -117,31 +113,20 @@ fn last_end(control: &Control, last: usize) -> Option<NodeEnd>
 /// The end of an entry that is a string, if it may end here.
 fn word_end(control: &Control, last: usize) -> Option<PartEnd>
     ensures { MatchOption result (is_word (control_view control.now) ≡ false)
-        (λ e. (is_word (control_view control.now) ≡ true) × (e.at ≡ last) × (e.is_block ≡ false)) }
+        (λ e. (is_word (control_view control.now) ≡ true) × (e.at ≡ last) × (ended_view e.ended ≡ false)) }
 {
     if control.is_word() {
         Some(PartEnd {
             at: last,
-            is_block: false,
+            ended: Ended::Entry,
         })
     } else {
         None
     }
 }
 
-/// The end of an entry or a block.
-fn part_end(ended: Ended, at: usize) -> PartEnd
-    ensures at { result.at ≡ at }
-    ensures block { result.is_block ≡ ended_view ended }
-{
-    PartEnd {
-        at,
-        is_block: matches!(ended, Ended::Block),
-    }
-}
-
 /// The end of the node that a `/-` before the text drops, or `None` if it drops no node.
-pub(crate) fn pass_node(alloc: Global, text: &str) -> Result<Option<NodeEnd>, AllocError>
+pub(crate) fn pass_node(alloc: Global, text: &str) -> Result<Option<NodeEnd<'_>>, AllocError>
     ensures { IfOk result (λ o. AnswersDroppedNode (chars text.now) o) }
 {
     let mut lexer = Lexer::new(text, Steps::new());
@@ -176,14 +161,14 @@ fn slashdash_phase(place: Place) -> Phase
 }
 
 /// The place after an entry or a block that is slashdashed in it, or `None` if no block may be slashdashed there.
-pub(crate) fn after_part(place: Place, is_block: bool) -> Option<Place>
-    ensures { AfterPart (place_view place) is_block (option_map place_view result) }
+pub(crate) fn after_part(place: Place, ended: Ended) -> Option<Place>
+    ensures { AfterPart (place_view place) (ended_view ended) (option_map place_view result) }
 {
-    match place {
-        Place::BeforeEntry(_) if is_block => None,
-        Place::BeforeEntry(_) => Some(Place::BeforeEntry(false)),
-        _ if is_block => Some(Place::AfterBlock),
-        _ => Some(place),
+    match (place, ended) {
+        (Place::BeforeEntry(_), Ended::Block) => None,
+        (Place::BeforeEntry(_), Ended::Entry) => Some(Place::BeforeEntry(false)),
+        (_, Ended::Block) => Some(Place::AfterBlock),
+        (_, Ended::Entry) => Some(place),
     }
 }
 
@@ -214,7 +199,7 @@ pub(crate) fn pass_part(
         last = end_after(&token, last);
         drop(token);
         if let Some(ended) = control.over() {
-            return Ok(Some(part_end(ended, last)));
+            return Ok(Some(PartEnd { at: last, ended }));
         }
     }
 }

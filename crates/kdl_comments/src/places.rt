@@ -1,7 +1,7 @@
 //! The readers of a text that is a gap, or that is in a place of a node: its items, and how it ends.
 
 ghost use Rattle.kdl_comments.specs.Items.{may_end, spaced};
-ghost use Rattle.kdl_comments.specs.Internal.Lacking.{GapPieceEnds, GapRead, PlacePieceEnds, PlaceRead};
+ghost use Rattle.kdl_comments.specs.Internal.Lacking.{GapPieceEnds, GapRead, PlacePieceEnds, PlaceRead, piece_of};
 ghost use Rattle.kdl_comments.specs.Internal.Reading.{Cut, IsGapWith, IsPlaceWith, held, items_view, place_view};
 ghost use Rattle.kdl_entry.specs.Places.{between};
 ghost use Rattle.kdl_text.specs.Chars.{Text};
@@ -25,6 +25,17 @@ enum GapPiece<'a> {
     Last(usize),
 }
 
+/// The piece of a gap that ends so.
+fn piece_of(ending: Ending<'_>) -> GapPiece<'_>
+    ensures { result ≡ piece_of ending.entry }
+{
+    match ending {
+        Ending::Before(rest) => GapPiece::Until(rest),
+        Ending::InReturn => GapPiece::Last(0),
+        Ending::Open => GapPiece::Last(1),
+    }
+}
+
 /// The text after its `/-`.
 fn after_dash(text: &str) -> &str
     requires { (t : Text) × (chars text.now ≡ 47 ∷ 45 ∷ t) }
@@ -46,7 +57,7 @@ fn piece<'a>(text: &'a str, following: &'a str, at: usize) -> (&'a str, &'a str)
     (piece, rest)
 }
 
-/// Adds the slashdashed node that begins the text. The node-spaces after a node without a terminator are of its piece.
+/// Adds the slashdashed node that begins the text. Node-spaces at the end of the text are not part of its item.
 fn dropped_node<'a>(
     alloc: Global,
     text: &'a str,
@@ -60,17 +71,15 @@ fn dropped_node<'a>(
     let Some(end) = pass_node(alloc, following)? else {
         return Ok(None);
     };
-    let (node, _) = piece(text, following, end.item);
-    let (_, rest) = cut(following, end.following);
+    let (node, rest) = piece(text, following, end.item);
     add(Some(Item::Piece(node)), items)?;
-    if end.is_open {
-        if only_spaces(alloc, rest, items)? {
-            Ok(Some(GapPiece::Last(1)))
-        } else {
-            Ok(Some(GapPiece::Last(2)))
-        }
+    if let Some(ending) = end.ending {
+        return Ok(Some(piece_of(ending)));
+    }
+    if only_spaces(alloc, rest, items)? {
+        Ok(Some(GapPiece::Last(1)))
     } else {
-        Ok(Some(GapPiece::Until(rest)))
+        Ok(Some(GapPiece::Last(2)))
     }
 }
 
@@ -89,9 +98,7 @@ fn gap_piece<'a>(
         return dropped_node(alloc, text, items);
     }
     match line_spaces(alloc, text, first, items)? {
-        Some(Ending::Before(rest)) => Ok(Some(GapPiece::Until(rest))),
-        Some(Ending::InReturn) => Ok(Some(GapPiece::Last(0))),
-        Some(Ending::Open) => Ok(Some(GapPiece::Last(1))),
+        Some(ending) => Ok(Some(piece_of(ending))),
         None => Ok(None),
     }
 }
@@ -175,7 +182,7 @@ fn dropped_part<'a>(
     let Some(end) = pass_part(alloc, place, following)? else {
         return Ok(None);
     };
-    let Some(next) = after_part(place, end.is_block) else {
+    let Some(next) = after_part(place, end.ended) else {
         return Ok(None);
     };
     let (part, rest) = piece(text, following, end.at);

@@ -110,12 +110,11 @@ pub(crate) fn start_of(alloc: Global, text: &str) -> Result<Start<'_>, AllocErro
     }
 }
 
-/// How the newline or line comment ends that begins the text before the rest.
-pub(crate) fn break_ending<'a>(text: &str, rest: &'a str) -> Ending<'a>
-    requires { Break (chars text.now) (chars rest.now) }
-    ensures { LineEnds (line_end (chars text.now)) result }
+/// How a newline or line comment before the rest ends, whose line ends with this text.
+pub(crate) fn line_ending<'a>(end: &str, rest: &'a str) -> Ending<'a>
+    requires { (s : Text) × Break s (chars rest.now) × (chars end.now ≡ line_end s) }
+    ensures { LineEnds (chars end.now) result }
 {
-    let (_, end) = line(text);
     if end.is_empty() {
         Ending::Open
     } else if is_return(end) {
@@ -123,6 +122,15 @@ pub(crate) fn break_ending<'a>(text: &str, rest: &'a str) -> Ending<'a>
     } else {
         Ending::Before(rest)
     }
+}
+
+/// How the newline or line comment ends that begins the text before the rest.
+pub(crate) fn break_ending<'a>(text: &str, rest: &'a str) -> Ending<'a>
+    requires { Break (chars text.now) (chars rest.now) }
+    ensures { LineEnds (line_end (chars text.now)) result }
+{
+    let (_, end) = line(text);
+    line_ending(end, rest)
 }
 
 /// Adds the item, if there is one and items are asked for.

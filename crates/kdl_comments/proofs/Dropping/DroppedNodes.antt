@@ -1,8 +1,9 @@
 -- After a slashdash between nodes: what the control passes over is the node that is dropped, and no other.
-use Rattle.std.proofs.Common.{◌≡◌, ◌↔◌, ◌⊎◌, inl, inr, ◌≤◌, true, false, List, [], ◌∷◌, Some, refl, sym, ap, subst, ◌∙◌, length, arith}
+use Rattle.std.proofs.Common.{◌≡◌, ◌↔◌, ◌≤◌, true, false, ◌&&◌, not, List, [], ◌∷◌, Some, refl, sym, ap, subst, ◌∙◌, length, arith}
+use Rattle.std.proofs.lemmas.Bool.{and_parts}
 use Rattle.kdl_text.specs.Chars.{Text, Star, plus}
 use Rattle.kdl_text.specs.Chars.Star.{none as no_star, more}
-use Rattle.kdl_text.specs.Trivia.{Ws, EscEnd, Escline, escline, NodeSpace, Break, LineSpace, slashdash}
+use Rattle.kdl_text.specs.Trivia.{NodeSpace, Break, LineSpace, slashdash}
 use Rattle.kdl_text.proofs.Looking.Stars.{join}
 use Rattle.kdl_text.proofs.Spacing.SpacePieces.{star_end, end_length, node_space_end, node_space_shorter}
 use Rattle.kdl_entry.specs.Entries.{string as a_string', untyped, typed}
@@ -11,115 +12,115 @@ use Rattle.kdl_lexer.specs.Tokens.{Token, newline, semicolon, BeginsToken, t_spa
 use Rattle.kdl_lexer.proofs.Lexing.TokenUnique.{token_det, no_token}
 use Rattle.kdl_grammar.specs.Data.{Node, Nodes}
 use Rattle.kdl_grammar.specs.Grammar.{Terminator, IsNode, named, no_gap, line_space, dropped_node, AreNodes, last_gap, node_then}
-use Rattle.kdl_control.specs.Control.{gap, node_slashdash, Control, at, step, finish, held, accepts, is_gap}
+use Rattle.kdl_control.specs.Control.{fresh, later, gap, node_slashdash, in_node, Control, at, step, finish, held, accepts, is_gap, is_over, is_word}
 use Rattle.kdl_grammar.proofs.Reading.Sound.{derives}
-use Rattle.kdl_comments.specs.Items.{Item, piece, EsclineItems, SpaceItems, LineSpaceItems, ItemEnd, EndsTight, GapItems}
-use Rattle.kdl_comments.specs.Internal.Passing.{moved, NodeEnd, returned, ended, NodePasses, returns, ends, goes}
-use Rattle.kdl_comments.proofs.Dropping.Paths.{Tail, before_block, after_block, at_brace, halts_nodes, Back, Here, over_node, drop_node, tail_spaces}
+use Rattle.kdl_comments.specs.Items.{Item, piece, ItemEnd, EndsTight, GapItems}
+use Rattle.kdl_comments.specs.Internal.Passed.{EndsNowhere}
+use Rattle.kdl_comments.specs.Internal.Passing.{moved, follows_word, at_end, before, Goal, for_node, End, returned, ended, Stops, returns, ends, over, word, goes_on, Passes, stops, goes, NodePasses}
+use Rattle.kdl_comments.proofs.Dropping.Paths.{Tail, before_block, after_block, at_brace, halts_nodes, Back, Here, node_on, over_node, drop_node, tail_spaces}
+use Rattle.kdl_comments.proofs.Listing.SpaceItems.{line_space_of, dash_no_line}
 
--- the control passes over a text in one way at most
-pub passes_det : {c : Control} {last s : Text} {e e' : NodeEnd} → NodePasses c last s e → NodePasses c last s e' → e ≡ e'
-passes_det (returns t f) (returns u g) = let d = token_det t u in cc
-passes_det (returns t f) (ends z g) = absurd (no_token t)
-passes_det {c = c} (returns t f) (goes {d = d'} u g z p) = let d = token_det t u in let same : d' ≡ at gap [] = cc in let x = sym (ap is_gap same) ∙ z in cc
-passes_det (ends z g) (returns u f) = absurd (no_token u)
-passes_det (ends z g) (ends y f) = refl
-passes_det (ends z g) (goes u f y p) = absurd (no_token u)
-passes_det {c = c} (goes {d = d'} t f z p) (returns u g) = let d = token_det t u in let same : d' ≡ at gap [] = cc in let x = sym (ap is_gap same) ∙ z in cc
-passes_det (goes t f z p) (ends y g) = absurd (no_token t)
-passes_det {last = last} {e' = e'} (goes {d = d} {r = r} {k = k} t f z p) (goes {d = d'} {r = r'} {k = k'} u g y q) =
+-- a string that may be a key is not over
+pub over_word : (c : Control) → is_over c ≡ true → is_word c ≡ true → ⊥
+over_word (at (in_node (fresh false)) []) a b = cc
+over_word (at (in_node later) []) a b = cc
+over_word _ a b = cc
+
+-- where the control ends it goes on over no token, and ends in one way
+pub stays : {g : Goal} {c : Control} {last s r : Text} {k : Token} {e : End} → Stops g c last s e → BeginsToken s k r → goes_on g c k ≡ true → ⊥
+stays {c = c} {k = k} (returns t f) u h = let d = token_det t u in let x : held is_gap (step c k) ≡ true = ap (λ (j : Token). held is_gap (step c j)) (sym d.1) ∙ ap (held is_gap) f in cc
+stays (ends z f) u h = no_token u
+stays (over x) u h = cc
+stays (word w at_end) u h = no_token u
+stays {c = c} {k = k} (word w (before t f)) u h = let d = token_det t u in let x = (and_parts (not (is_over c)) (not (is_word c && not (follows_word k))) h).1 in cc
+
+stops_det : {g : Goal} {c : Control} {last s : Text} {e e' : End} → Stops g c last s e → Stops g c last s e' → e ≡ e'
+stops_det (returns t f) (returns u g) = let d = token_det t u in cc
+stops_det (returns t f) (ends z g) = absurd (no_token t)
+stops_det (ends z g) (returns t f) = absurd (no_token t)
+stops_det (ends z g) (ends y f) = refl
+stops_det (over x) (over y) = refl
+stops_det {c = c} (over x) (word w i) = absurd (over_word c x w)
+stops_det {c = c} (word w i) (over x) = absurd (over_word c x w)
+stops_det (word w i) (word v j) = refl
+
+-- over one token
+pub turn_back : {g : Goal} {c d : Control} {last s r : Text} {k : Token} {e : End} → BeginsToken s k r → step c k ≡ Some d → goes_on g c k ≡ true → Passes g c last s e → Passes g d (moved k last r) r e
+turn_back t f h (stops x) = absurd (stays x t h)
+turn_back {g = g} {d = d} {last = last} {r = r} {k = k} {e = e} t f h (goes {d = d'} {r = r'} {k = k'} u f' i p) =
     let x = token_det t u in
     let same : d' ≡ d = cc in
-    let q1 : NodePasses d (moved k' last r') r' e' = subst (λ (a : Control). NodePasses a (moved k' last r') r' e') same q in
-    let q2 : NodePasses d (moved k last r') r' e' = subst (λ (j : Token). NodePasses d (moved j last r') r' e') (sym x.1) q1 in
-    passes_det p (subst (λ (a : Text). NodePasses d (moved k last a) a e') (sym x.0) q2)
+    let p1 = subst (λ (a : Control). Passes g a (moved k' last r') r' e) same p in
+    let p2 = subst (λ (j : Token). Passes g d (moved j last r') r' e) (sym x.1) p1 in
+    subst (λ (a : Text). Passes g d (moved k last a) a e) (sym x.0) p2
 
-tail_semicolon : {c : Control} → Tail [] c → step c semicolon ≡ Some (at gap [])
-tail_semicolon before_block = refl
-tail_semicolon after_block = refl
+-- the control passes over a text in one way at most
+pub passes_det : {g : Goal} {c : Control} {last s : Text} {e e' : End} → Passes g c last s e → Passes g c last s e' → e ≡ e'
+passes_det (stops x) (stops y) = stops_det x y
+passes_det (stops x) (goes t f h p) = absurd (stays x t h)
+passes_det (goes t f h p) (stops x) = absurd (stays x t h)
+passes_det (goes t f h p) (goes u i j q) = passes_det p (turn_back t f h (goes u i j q))
 
-tail_newline : {c : Control} → Tail [] c → step c newline ≡ Some (at gap [])
-tail_newline before_block = refl
-tail_newline after_block = refl
+-- after the name of a node a terminator leads between nodes, and the text may end
+pub tail_ends : {c : Control} → Tail [] c → (step c semicolon ≡ Some (at gap [])) × (step c newline ≡ Some (at gap [])) × (is_gap c ≡ false) × (finish c ≡ true)
+tail_ends before_block = (refl, refl, refl, refl)
+tail_ends after_block = (refl, refl, refl, refl)
 
-pub tail_gap : {c : Control} → Tail [] c → is_gap c ≡ false
-tail_gap before_block = refl
-tail_gap after_block = refl
+end_token : {u v e : Text} → ItemEnd u v e → (k : Token) × BeginsToken u k v × ((c : Control) → Tail [] c → step c k ≡ Some (at gap []))
+end_token ItemEnd.semicolon = (semicolon, t_semicolon, λ c q. (tail_ends q).0)
+end_token (ItemEnd.line n) = (newline, t_newline n, λ c q. (tail_ends q).1)
 
-tail_finish : {c : Control} → Tail [] c → finish c ≡ true
-tail_finish before_block = refl
-tail_finish after_block = refl
+-- the tokens of a text are accepted
+pub data Accepted (c : Control) (s : Text) : Type 0 where
+  accepted : {ks : List Token} → Lexes s ks → accepts c ks ≡ true → Accepted c s
 
--- the tokens of the text may come
-abbrev Accepted : Control → Text → Type 0
-Accepted c s = (ks : List Token) × Lexes s ks × (accepts c ks ≡ true)
+pub token_first : {c d : Control} {s r : Text} {k : Token} → BeginsToken s k r → step c k ≡ Some d → Accepted d r → Accepted c s
+token_first t e (accepted {ks = ks} l f) = accepted (next t l) (ap (held (λ (c : Control). accepts c ks)) e ∙ f)
 
-one_more : {c d : Control} {s r : Text} {k : Token} → BeginsToken s k r → step c k ≡ Some d → Accepted d r → Accepted c s
-one_more {k = k} t e (ks, l, a) = (k ∷ ks, next t l, ap (held (λ c'. accepts c' ks)) e ∙ a)
-
-all_over : Back (λ c last s. Accepted c s)
-all_over c d last s r k t e g o w x = one_more t e x
+pub accepted_back : Back (λ c last s. Accepted c s)
+accepted_back c d last s r k t e g o w x = token_first t e x
 
 all_here : Here (λ c last s. Accepted c s) []
-all_here p d last s r k t e g x = one_more t e x
+all_here p d last s r k t e g x = token_first t e x
 
--- without what they hold
-more_ws : {s t r : Text} → Ws s t → Escline (92 ∷ t) r → Escline (92 ∷ s) r
-more_ws w (escline ws e) = escline (more w ws) e
-
-escline_of : {s r : Text} {is : List Item} → EsclineItems s r is → Escline (92 ∷ s) r
-escline_of (EsclineItems.space p i) = more_ws (Ws.space p) (escline_of i)
-escline_of (EsclineItems.block p i) = more_ws (Ws.comment p) (escline_of i)
-escline_of (EsclineItems.line l) = escline no_star (EscEnd.comment l)
-escline_of (EsclineItems.newline n) = escline no_star (EscEnd.newline n)
-escline_of EsclineItems.ends = escline no_star EscEnd.ends
-
-space_of : {s r : Text} {is : List Item} → SpaceItems s r is → NodeSpace s r
-space_of (SpaceItems.space p) = NodeSpace.ws (Ws.space p)
-space_of (SpaceItems.block p) = NodeSpace.ws (Ws.comment p)
-space_of (SpaceItems.escline i) = NodeSpace.escline (escline_of i)
-
-line_space_of : {s r : Text} {is : List Item} → LineSpaceItems s r is → LineSpace s r
-line_space_of (LineSpaceItems.space i) = LineSpace.space (space_of i)
-line_space_of (LineSpaceItems.newline n) = LineSpace.«break» (Break.newline n)
-line_space_of (LineSpaceItems.line l) = LineSpace.«break» (Break.comment l)
+pub derived : {s : Text} → Accepted (at gap []) s → (xs : Nodes) × AreNodes true s [] xs
+derived (accepted l f) = derives l f
 
 line_accepted : {s r : Text} → LineSpace s r → Accepted (at gap []) r → Accepted (at gap []) s
-line_accepted (LineSpace.space n) a = one_more (t_space n) refl a
-line_accepted (LineSpace.«break» n) a = one_more (t_newline n) refl a
+line_accepted (LineSpace.space n) a = token_first (t_space n) refl a
+line_accepted (LineSpace.«break» n) a = token_first (t_newline n) refl a
 
 -- an item's end leads between nodes
 end_accepted : {u v e : Text} {c : Control} → ItemEnd u v e → Tail [] c → Accepted (at gap []) v → Accepted c u
-end_accepted ItemEnd.semicolon q a = one_more t_semicolon (tail_semicolon q) a
-end_accepted (ItemEnd.line n) q a = one_more (t_newline n) (tail_newline q) a
+end_accepted {c = c} e q a = let k = end_token e in token_first k.1 (k.2 c q) a
 
 -- what a gap to the end of the text is cut into may come between nodes
 gap_accepted : {s : Text} {is : List Item} → GapItems s is → Accepted (at gap []) s
-gap_accepted GapItems.none = ([], done, refl)
+gap_accepted GapItems.none = accepted done refl
 gap_accepted (GapItems.space n g) = line_accepted (line_space_of n) (gap_accepted g)
 gap_accepted (GapItems.dropped_node (slashdash {s = s} ls) x e g) =
     let a = gap_accepted g in
-    one_more t_slashdash refl (drop_node (λ c last s. Accepted c s) all_over ls x all_here (λ c w q x' ws. end_accepted e q a) s)
+    token_first t_slashdash refl (drop_node (λ c last s. Accepted c s) accepted_back ls x all_here (λ c w q x' ws. end_accepted e q a) s)
 gap_accepted (GapItems.last_node (slashdash {s = s} ls) x tight ss g) =
-    one_more t_slashdash refl (drop_node (λ c last s. Accepted c s) all_over ls x all_here (λ c w q x' ws. tail_spaces (λ c last s. Accepted c s) all_over {last = w} q ss all_here (λ c' q'. ([], done, tail_finish q'))) s)
+    token_first t_slashdash refl (drop_node (λ c last s. Accepted c s) accepted_back ls x all_here (λ c w q x' ws. tail_spaces (λ c last s. Accepted c s) accepted_back {last = w} q ss all_here (λ c' q'. accepted done (tail_ends q').3)) s)
 
 -- what the control passes over may come before what may come between nodes
 returned_accepted : {c : Control} {last s u v : Text} {k : Token} → NodePasses c last s (returned k u v) → Accepted (at gap []) v → Accepted c s
-returned_accepted (returns t e) a = one_more t e a
-returned_accepted (goes t e g p) a = one_more t e (returned_accepted p a)
+returned_accepted (stops (returns t e)) a = token_first t e a
+returned_accepted (goes t e g p) a = token_first t e (returned_accepted p a)
 
 ended_accepted : {c : Control} {last s w : Text} → NodePasses c last s (ended w) → Accepted c s
-ended_accepted (ends g e) = ([], done, e)
-ended_accepted (goes t e g p) = one_more t e (ended_accepted p)
+ended_accepted (stops (ends g e)) = accepted done e
+ended_accepted (goes t e g p) = token_first t e (ended_accepted p)
+
+node_back : (e : End) → Back (λ c last s. NodePasses c last s e)
+node_back e c d last s r k t f g o w p = goes t f (node_on c k f g) p
 
 -- over a node with its terminator the control passes
 pub passes_node : {t t' u v e : Text} {x : Node} → Star LineSpace t t' → IsNode true t' u x → ItemEnd u v e → (k : Token) × NodePasses (at node_slashdash []) t t (returned k u v)
-passes_node {t = t} ls x (ItemEnd.semicolon {r = r}) =
-    let e = returned semicolon (59 ∷ r) r in
-    (semicolon, drop_node (λ c last s. NodePasses c last s e) (λ c d last s r k t f g o w p. goes t f g p) ls x (over_node e) (λ c w q x' ws. returns t_semicolon (tail_semicolon q)) t)
-passes_node {t = t} {u = u} {v = v} ls x (ItemEnd.line n) =
-    let e = returned newline u v in
-    (newline, drop_node (λ c last s. NodePasses c last s e) (λ c d last s r k t f g o w p. goes t f g p) ls x (over_node e) (λ c w q x' ws. returns (t_newline n) (tail_newline q)) t)
+passes_node {t = t} {u = u} {v = v} ls x i =
+    let k = end_token i in let e = returned k.0 u v in
+    (k.0, drop_node (λ c last s. NodePasses c last s e) (node_back e) ls x (over_node e) (λ c w q x' ws. stops (returns k.1 (k.2 c q))) t)
 
 -- or over one at the end of the text, whose last node-spaces begin at w
 abbrev pub PassesLast : Text → Text → Node → Control → Text → Text → Type 0
@@ -127,9 +128,9 @@ PassesLast t u x c last s = (w : Text) × IsNode true t w x × Star NodeSpace w 
 
 pub passes_last : {t t' u : Text} {x : Node} → Star LineSpace t t' → IsNode true t' u x → Star NodeSpace u [] → PassesLast t' u x (at node_slashdash []) t t
 passes_last {t = t} {t' = t'} {u = u} {x = y} ls x ss =
-    let here : Here (PassesLast t' u y) [] = λ p d last s r k t e g p'. (p'.0, p'.1, p'.2, goes t e g p'.3) in
-    drop_node (PassesLast t' u y) (λ c d last s r k t e g o w p. (p.0, p.1, p.2, goes t e g p.3)) ls x here
-    (λ c w q x' ws. tail_spaces (PassesLast t' u y) (λ c d last s r k t e g o w p. (p.0, p.1, p.2, goes t e g p.3)) q ss here (λ c' q'. (w, x', ws, ends (tail_gap q') (tail_finish q')))) t
+    let here : Here (PassesLast t' u y) [] = λ p d last s r k t e g p'. (p'.0, p'.1, p'.2, goes t e (node_on (at p []) k e g) p'.3) in
+    drop_node (PassesLast t' u y) (λ c d last s r k t e g o w p. (p.0, p.1, p.2, goes t e (node_on c k e g) p.3)) ls x here
+    (λ c w q x' ws. tail_spaces (PassesLast t' u y) (λ c d last s r k t e g o w p. (p.0, p.1, p.2, goes t e (node_on c k e g) p.3)) q ss here (λ c' q'. (w, x', ws, stops (ends (tail_ends q').2 (tail_ends q').3)))) t
 
 -- there are no node-spaces where the node ends tight
 pub tight_same : {t u w : Text} {x : Node} → EndsTight t u → IsNode true t w x → Star NodeSpace w u → w ≡ u
@@ -141,37 +142,33 @@ pub data DroppedItems (t : Text) : List Item → Type 0 where
   with_end : {t' u v e : Text} {x : Node} {is : List Item} → Star LineSpace t t' → IsNode true t' u x → ItemEnd u v e → GapItems v is → DroppedItems t (piece (between (47 ∷ 45 ∷ t) e) ∷ is)
   at_last : {t' u : Text} {x : Node} {is : List Item} → Star LineSpace t t' → IsNode true t' u x → EndsTight t' u → Star NodeSpace u [] → GapItems u is → DroppedItems t (piece (between (47 ∷ 45 ∷ t) u) ∷ is)
 
-no_dash_space : {t r : Text} → LineSpace (47 ∷ 45 ∷ t) r → ⊥
-no_dash_space (LineSpace.space n) = let e = (token_det (t_space n) t_slashdash).1 in cc
-no_dash_space (LineSpace.«break» n) = let e = (token_det (t_newline n) t_slashdash).1 in cc
-
 no_dash_node : {t r : Text} {x : Node} → IsNode true (47 ∷ 45 ∷ t) r x → ⊥
 no_dash_node (named untyped (a_string' p e) d) = let e = (token_det (t_string p) t_slashdash).1 in cc
 no_dash_node (named (typed y ss) z d) = elim y [ ]
 
 pub dash_items : {t : Text} {is : List Item} → GapItems (47 ∷ 45 ∷ t) is → DroppedItems t is
-dash_items (GapItems.space n g) = absurd (no_dash_space (line_space_of n))
+dash_items (GapItems.space n g) = absurd (dash_no_line (slashdash no_star) (line_space_of n))
 dash_items (GapItems.dropped_node (slashdash ls) x e g) = with_end ls x e g
 dash_items (GapItems.last_node (slashdash ls) x tight ss g) = at_last ls x tight ss g
 
--- nodes that begin with a slashdash begin with a dropped node
+-- nodes that begin with a slashdash begin with a dropped node: it has an item's end, or ends with the text
 pub data DroppedThen (t : Text) (xs : Nodes) : Type 0 where
-  dropped_then : {t' u v : Text} {x : Node} → Star LineSpace t t' → IsNode true t' u x → Terminator u v → AreNodes true v [] xs → DroppedThen t xs
+  then_nodes : {t' u v e : Text} {x : Node} → Star LineSpace t t' → IsNode true t' u x → ItemEnd u v e → AreNodes true v [] xs → DroppedThen t xs
+  then_none : {t' : Text} {x : Node} → Star LineSpace t t' → IsNode true t' [] x → AreNodes true [] [] xs → DroppedThen t xs
+
+dropped_then : {t t' u v : Text} {x : Node} {xs : Nodes} → Star LineSpace t t' → IsNode true t' u x → Terminator u v → AreNodes true v [] xs → DroppedThen t xs
+dropped_then ls x Terminator.semicolon ds = then_nodes ls x ItemEnd.semicolon ds
+dropped_then ls x (Terminator.newline n) ds = then_nodes ls x (ItemEnd.line (Break.newline n)) ds
+dropped_then ls x (Terminator.comment n) ds = then_nodes ls x (ItemEnd.line (Break.comment n)) ds
+dropped_then ls x Terminator.at_end ds = then_none ls x ds
+dropped_then ls x Terminator.at_close ds = let e = halts_nodes at_brace ds in cc
 
 pub dash_nodes : {t : Text} {xs : Nodes} → AreNodes true (47 ∷ 45 ∷ t) [] xs → DroppedThen t xs
-dash_nodes (last_gap (line_space n g)) = absurd (no_dash_space n)
+dash_nodes (last_gap (line_space n g)) = absurd (dash_no_line (slashdash no_star) n)
 dash_nodes (last_gap (dropped_node (slashdash ls) x e g)) = dropped_then ls x e (last_gap g)
 dash_nodes (node_then no_gap x e ds) = absurd (no_dash_node x)
-dash_nodes (node_then (line_space n g) x e ds) = absurd (no_dash_space n)
+dash_nodes (node_then (line_space n g) x e ds) = absurd (dash_no_line (slashdash no_star) n)
 dash_nodes (node_then (dropped_node (slashdash ls) y e' g) x e ds) = dropped_then ls y e' (node_then g x e ds)
-
--- the dropped node has an item's end, or ends with the text
-pub item_end : {u v : Text} {xs : Nodes} → Terminator u v → AreNodes true v [] xs → ((e : Text) × ItemEnd u v e) ⊎ (u ≡ [])
-item_end (Terminator.semicolon {r = r}) ds = inl (r, ItemEnd.semicolon)
-item_end (Terminator.newline n) ds = inl (_, ItemEnd.line (Break.newline n))
-item_end (Terminator.comment n) ds = inl (_, ItemEnd.line (Break.comment n))
-item_end Terminator.at_end ds = inr refl
-item_end Terminator.at_close ds = let e = halts_nodes at_brace ds in cc
 
 item_end_det : {u v w e f : Text} → ItemEnd u v e → ItemEnd u w f → e ≡ f
 item_end_det ItemEnd.semicolon ItemEnd.semicolon = refl
@@ -191,17 +188,14 @@ module _ {t u v e : Text} {k : Token} (p : NodePasses (at node_slashdash []) t t
   returned_on (at_last ls x tight ss g) = let q = passes_last ls x ss in let d = passes_det q.3 p in cc
 
   returned_back : {js : List Item} → GapItems v js → GapItems (47 ∷ 45 ∷ t) (piece (between (47 ∷ 45 ∷ t) e) ∷ js)
-  returned_back {js = js} g = let a = one_more t_slashdash refl (returned_accepted p (gap_accepted g)) in go (dash_nodes (derives a.1 a.2).1)
+  returned_back {js = js} g = go (dash_nodes (derived (token_first t_slashdash refl (returned_accepted p (gap_accepted g)))).1)
     where
       go : {xs : Nodes} → DroppedThen t xs → GapItems (47 ∷ 45 ∷ t) (piece (between (47 ∷ 45 ∷ t) e) ∷ js)
-      go (dropped_then {t' = t'} {u = u'} {v = v'} {x = y} ls x tm ds) = by_end (item_end tm ds)
-        where
-          by_end : ((e : Text) × ItemEnd u' v' e) ⊎ (u' ≡ []) → GapItems (47 ∷ 45 ∷ t) (piece (between (47 ∷ 45 ∷ t) e) ∷ js)
-          by_end (inl (e', j)) =
-              let d = passes_det (passes_node ls x j).1 p in
-              let a : u' ≡ u = cc in
-              GapItems.dropped_node (slashdash ls) (subst (λ (z : Text). IsNode true t' z y) a x) i g
-          by_end (inr z) = let q = passes_last ls (subst (λ (z : Text). IsNode true t' z y) z x) no_star in let d = passes_det q.3 p in cc
+      go (then_nodes {t' = t'} {u = u'} {x = y} ls x j ds) =
+          let d = passes_det (passes_node ls x j).1 p in
+          let a : u' ≡ u = cc in
+          GapItems.dropped_node (slashdash ls) (subst (λ (z : Text). IsNode true t' z y) a x) i g
+      go (then_none ls x ds) = let d = passes_det (passes_last ls x no_star).3 p in cc
 
 -- a node that the control passes over to its terminator is dropped: the items are this piece, and those after the terminator
 pub node_returned : {t u v e : Text} {k : Token} → NodePasses (at node_slashdash []) t t (returned k u v) → ItemEnd u v e → (is : List Item) → GapItems (47 ∷ 45 ∷ t) is ↔ ((js : List Item) × (is ≡ piece (between (47 ∷ 45 ∷ t) e) ∷ js) × GapItems v js)
@@ -232,26 +226,23 @@ module _ {t w : Text} (p : NodePasses (at node_slashdash []) t t (ended w)) wher
       same_end a q.1 tight q.2 g
 
   ended_back : {js : List Item} → GapItems w js → GapItems (47 ∷ 45 ∷ t) (piece (between (47 ∷ 45 ∷ t) w) ∷ js)
-  ended_back {js = js} g = let a = one_more t_slashdash refl (ended_accepted p) in go (dash_nodes (derives a.1 a.2).1)
+  ended_back {js = js} g = go (dash_nodes (derived (token_first t_slashdash refl (ended_accepted p))).1)
     where
       go : {xs : Nodes} → DroppedThen t xs → GapItems (47 ∷ 45 ∷ t) (piece (between (47 ∷ 45 ∷ t) w) ∷ js)
-      go (dropped_then {t' = t'} {u = u'} {v = v'} {x = y} ls x tm ds) = by_end (item_end tm ds)
-        where
-          by_end : ((e : Text) × ItemEnd u' v' e) ⊎ (u' ≡ []) → GapItems (47 ∷ 45 ∷ t) (piece (between (47 ∷ 45 ∷ t) w) ∷ js)
-          by_end (inl (e', j)) = let d = passes_det (passes_node ls x j).1 p in cc
-          by_end (inr z) =
-              let q = passes_last ls (subst (λ (z : Text). IsNode true t' z y) z x) no_star in
-              let d = passes_det q.3 p in
-              let a : q.0 ≡ w = cc in
-              let ws = subst (λ (z : Text). Star NodeSpace z []) a q.2 in
-              GapItems.last_node (slashdash ls) (subst (λ (z : Text). IsNode true t' z y) a q.1) (ended_tight ls ws) ws g
+      go (then_nodes ls x j ds) = let d = passes_det (passes_node ls x j).1 p in cc
+      go (then_none {t' = t'} {x = y} ls x ds) =
+          let q = passes_last ls x no_star in
+          let d = passes_det q.3 p in
+          let a : q.0 ≡ w = cc in
+          let ws = subst (λ (z : Text). Star NodeSpace z []) a q.2 in
+          GapItems.last_node (slashdash ls) (subst (λ (z : Text). IsNode true t' z y) a q.1) (ended_tight ls ws) ws g
 
 -- so is one that it passes over to the end of the text: the items are this piece, and those of the node-spaces after it
 pub node_ended : {t w : Text} → NodePasses (at node_slashdash []) t t (ended w) → (is : List Item) → GapItems (47 ∷ 45 ∷ t) is ↔ ((js : List Item) × (is ≡ piece (between (47 ∷ 45 ∷ t) w) ∷ js) × GapItems w js)
 node_ended {t = t} p is = (λ g. ended_on p (dash_items g), λ x. subst (λ (z : List Item). GapItems (47 ∷ 45 ∷ t) z) (sym x.1) (ended_back p x.2))
 
 -- where it passes over no node, the text is no gap
-pub node_refused : {t : Text} → ((e : NodeEnd) → NodePasses (at node_slashdash []) t t e → ⊥) → (is : List Item) → GapItems (47 ∷ 45 ∷ t) is → ⊥
+pub node_refused : {t : Text} → EndsNowhere for_node (at node_slashdash []) t → (is : List Item) → GapItems (47 ∷ 45 ∷ t) is → ⊥
 node_refused {t = t} refused is g = go (dash_items g)
   where
     go : {is : List Item} → DroppedItems t is → ⊥

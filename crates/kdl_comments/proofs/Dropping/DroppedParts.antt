@@ -1,5 +1,6 @@
 -- What a slashdash drops in a place of a node: the control's passing over it says what it is, and where it ends.
-use Rattle.std.proofs.Common.{◌≡◌, ◌↔◌, Bool, true, false, List, [], ◌∷◌, Option, Some, refl, sym, ap, subst, ◌∙◌}
+use Rattle.std.proofs.Common.{◌≡◌, ◌↔◌, Bool, true, false, ◌&&◌, not, if◌then◌else◌, List, [], ◌∷◌, Option, Some, refl, sym, ap, subst, ◌∙◌}
+use Rattle.std.proofs.lemmas.Bool.{and_parts}
 use Rattle.kdl_text.specs.Chars.{Text, is_identifier_char, is_space, is_newline_char, is_banned, is_punctuation, starts, Star, Plus, plus}
 use Rattle.kdl_text.specs.Chars.Star.{none as no_star, more}
 use Rattle.kdl_text.specs.Bare.{is_bare}
@@ -11,95 +12,94 @@ use Rattle.kdl_text.specs.Trivia.Slashdash.{slashdash as a_slashdash}
 use Rattle.kdl_text.proofs.Looking.Stars.{snoc}
 use Rattle.kdl_entry.specs.Data.{Entry}
 use Rattle.kdl_lexer.specs.Pieces.{StringPiece}
-use Rattle.kdl_entry.specs.Entries.{IsString, string as a_string', parens, untyped, typed, MaybeType, IsEntry}
+use Rattle.kdl_entry.specs.Entries.{IsString, string as a_string', parens, untyped, typed, MaybeType, IsEntry, a_string, a_plain, IsValue, value as a_value, property as a_property, argument}
 use Rattle.kdl_entry.specs.Places.{between}
-use Rattle.kdl_lexer.specs.Tokens.{Token, slashdash, string, BeginsToken, t_space, t_newline, t_slashdash, t_string, t_value, t_left, t_right, t_opening, t_closing, t_equals, t_semicolon, t_bom, Lexes, done, next}
+use Rattle.kdl_lexer.specs.Tokens.{Token, slashdash, string, BeginsToken, t_space, t_newline, t_slashdash, t_string, t_left, t_opening, t_closing, t_semicolon, Lexes, done, next, t_value}
 use Rattle.kdl_lexer.specs.Tokens as token'
 use Rattle.kdl_lexer.proofs.Lexing.TokenUnique.{token_det, no_token}
 use Rattle.kdl_grammar.specs.Data.{Children, Nodes}
 use Rattle.kdl_grammar.specs.Grammar.{Terminator, named, AfterName, kept_entry, dropped_entry, blocks, Blocks, dropped_block, block, no_block, Gap, no_gap, dropped_node, AreNodes, last_gap, node_then, IsBlock, braces}
 use Rattle.kdl_grammar.specs.Grammar.Gap.{line_space as gap_space}
-use Rattle.kdl_control.specs.Control.{Control, at, Spot, fresh, spaced, later, Phase, gap, node_slashdash, type_open, type_name, type_done, in_node, property, entry_slashdash, block_slashdash, kept, kept_slashdash, Frame, in_dropped, spaced_of, slashdash_at, step, held, accepts, is_over, is_block, is_word}
-use Rattle.kdl_grammar.proofs.Reading.Sound.{derives}
+use Rattle.kdl_control.specs.Control.{Control, at, Spot, fresh, spaced, later, Phase, gap, in_node, entry_slashdash, Frame, in_dropped, spaced_of, slashdash_at, step, held, accepts, is_over, is_block, is_word}
 use Rattle.kdl_comments.specs.Items as items
-use Rattle.kdl_comments.specs.Items.{Item, piece, Place, before_entry, before_block, after_block, takes_entries, takes_blocks, PlaceItems}
-use Rattle.kdl_comments.specs.Internal.Passing.{moved, PartPasses, over, word_ends, word_over, goes, slashdash_phase, slashdash_in}
-use Rattle.kdl_comments.proofs.Dropping.Paths.{Back, over_part, drop_entry, drop_block}
-use Rattle.kdl_comments.proofs.Listing.SpaceItems.{space_of}
-use Rattle.kdl_comments.proofs.Dropping.NoEquals.{passes_det, Quiet, name_quiet, place_quiet}
+use Rattle.kdl_comments.specs.Items.{Item, piece, Place, takes_entries, takes_blocks, PlaceItems}
+use Rattle.kdl_comments.specs.Internal.Passed.{EndsNowhere, takes, next_place}
+use Rattle.kdl_comments.specs.Internal.Passing.{of_spaces, moved, follows_word, for_part, PartPasses, over, word, stops, goes, slashdash_phase, slashdash_in, EndsWord, at_end, before}
+use Rattle.kdl_comments.proofs.Dropping.DroppedNodes.{Accepted, accepted, token_first, accepted_back, derived, passes_det}
+use Rattle.kdl_comments.proofs.Dropping.Paths.{in_block_on, slashdash_spaced, over_part, drop_entry, drop_block}
+use Rattle.kdl_comments.proofs.Dropping.TokenLoop.{Of, is_not}
+use Rattle.kdl_comments.proofs.Listing.SpaceItems.{entries_spaced, space_of}
+use Rattle.kdl_value.specs.Data.{Value}
+
+-- the control passes over one part at most
+pub part_det : {c : Control} {last s e e' : Text} {b b' : Bool} → PartPasses c last s b e → PartPasses c last s b' e' → (b ≡ b') × (e ≡ e')
+part_det x y = let d = passes_det x y in (cc, cc)
+
+-- no `=` follows
+pub data Quiet : Text → Type 0 where
+  here : {s : Text} → EndsWord s → Quiet s
+  after_space : {s r : Text} → NodeSpace s r → Quiet r → Quiet s
+
+pub spaces_quiet : {s r : Text} → Star NodeSpace s r → Quiet r → Quiet s
+spaces_quiet no_star q = q
+spaces_quiet (more n m) q = Quiet.after_space n (spaces_quiet m q)
+
+pub value_quiet : {s r : Text} {y : Option Text} {v : Value} → IsValue true s r y v → Quiet s
+value_quiet (a_value untyped (a_string (a_string' p e))) = Quiet.here (before (t_string p) refl)
+value_quiet (a_value untyped (a_plain p e)) = Quiet.here (before (t_value p) refl)
+value_quiet (a_value (typed (parens ss d us) vs) z) = Quiet.here (before t_left refl)
+
+pub entry_quiet : {s r : Text} {e : Entry} → IsEntry true s r e → Quiet s
+entry_quiet (argument d) = value_quiet d
+entry_quiet (a_property (a_string' p e) ss us d) = Quiet.here (before (t_string p) refl)
+
+pub dash_quiet : {s r : Text} → Slashdash s r → Quiet s
+dash_quiet (a_slashdash ls) = Quiet.here (before t_slashdash refl)
+
+pub end_quiet : {s r : Text} → Terminator s r → Quiet s
+end_quiet Terminator.semicolon = Quiet.here (before t_semicolon refl)
+end_quiet (Terminator.newline n) = Quiet.here (before (t_newline (break_newline n)) refl)
+end_quiet (Terminator.comment l) = Quiet.here (before (t_newline (break_comment l)) refl)
+end_quiet Terminator.at_end = Quiet.here at_end
+end_quiet Terminator.at_close = Quiet.here (before t_closing refl)
+
+pub blocks_quiet : {b : Bool} {s r v : Text} {k : Children} → Blocks true b s r k → Terminator r v → Quiet s
+blocks_quiet (dropped_block ss m b d) e = spaces_quiet ss (dash_quiet m)
+blocks_quiet (block ss (braces ns) d) e = spaces_quiet ss (Quiet.here (before t_opening refl))
+blocks_quiet (no_block ss) e = spaces_quiet ss (end_quiet e)
+
+pub name_quiet : {s r v : Text} {es : List Entry} {k : Children} → AfterName true s r es k → Terminator r v → Quiet s
+name_quiet (kept_entry (plus n ss) i d) e = Quiet.after_space n (spaces_quiet ss (entry_quiet i))
+name_quiet (dropped_entry ss m i d) e = spaces_quiet ss (dash_quiet m)
+name_quiet (blocks d) e = blocks_quiet d e
+
+pub place_quiet : {p : Place} {s : Text} {is : List Item} → PlaceItems p s is → Quiet s
+place_quiet (PlaceItems.ends e) = Quiet.here at_end
+place_quiet (PlaceItems.space d g) = Quiet.after_space (space_of d) (place_quiet g)
+place_quiet (PlaceItems.dropped_entry e m i g) = dash_quiet m
+place_quiet (PlaceItems.dropped_block e m b g) = dash_quiet m
 
 -- a string ends where no `=` follows
 spaced_ends : {last s : Text} → Quiet s → PartPasses (at (in_node (spaced true)) []) last s false last
-spaced_ends Quiet.ends = word_ends refl
-spaced_ends (Quiet.token t e) = word_over refl t e
-spaced_ends (Quiet.after_space n q) = goes refl refl (t_space n) refl (spaced_ends q)
-
-word_passes : {s : Text} → Quiet s → PartPasses (at (in_node (fresh true)) []) s s false s
-word_passes Quiet.ends = word_ends refl
-word_passes (Quiet.token t e) = word_over refl t e
-word_passes (Quiet.after_space n q) = goes refl refl (t_space n) refl (spaced_ends q)
+spaced_ends (Quiet.here i) = stops (word refl i)
+spaced_ends (Quiet.after_space n q) = goes (t_space n) refl refl (spaced_ends q)
 
 value_passes : {s : Text} → Quiet s → (b : Bool) → PartPasses (at (in_node (fresh b)) []) s s false s
-value_passes q true = word_passes q
-value_passes q false = over refl
+value_passes (Quiet.here i) true = stops (word refl i)
+value_passes (Quiet.after_space n q) true = goes (t_space n) refl refl (spaced_ends q)
+value_passes q false = stops (over refl)
 
 -- the control passes over an entry, and over a block
-pub entry_passes : {s t u : Text} {e : Entry} → Star LineSpace s t → IsEntry true t u e → Quiet u → (last : Text) → PartPasses (at entry_slashdash []) last s false u
-entry_passes {u = u} ls i q last = drop_entry (λ c last s. PartPasses c last s false u) (over_part false u) ls i (value_passes q) last
+pub entry_passes : {s t u : Text} {e : Entry} → Star LineSpace s t → IsEntry true t u e → Quiet u → (b : Bool) → b ≡ true → (last : Text) → PartPasses (at (slashdash_phase b) []) last s false u
+entry_passes {u = u} ls i q true h last = drop_entry (λ c last s. PartPasses c last s false u) (over_part false u) ls i (value_passes q) last
+entry_passes ls i q false h last = cc
 
 pub block_passes : {s t u : Text} {xs : Nodes} → Star LineSpace s t → IsBlock true t u xs → (b : Bool) (last : Text) → PartPasses (at (slashdash_phase b) []) last s true u
-block_passes {u = u} ls i b last = drop_block (λ c last s. PartPasses c last s true u) (over_part true u) ls i (over refl) b last
-
--- the tokens of a text are accepted
-data Accepted (c : Control) (s : Text) : Type 0 where
-  accepted : {ks : List Token} → Lexes s ks → accepts c ks ≡ true → Accepted c s
-
-token_first : {c d : Control} {s r : Text} {k : Token} → BeginsToken s k r → step c k ≡ Some d → Accepted d r → Accepted c s
-token_first t e (accepted {ks = ks} l f) = accepted (next t l) (ap (held (λ (c : Control). accepts c ks)) e ∙ f)
-
-accepted_back : Back (λ c last s. Accepted c s)
-accepted_back c d last s r k t e g o w x = token_first t e x
-
-text_ends : (q : Spot) → Accepted (at (in_node q) []) []
-text_ends q = accepted done refl
-
-entry_accepted : {s t u : Text} {e : Entry} → Star LineSpace s t → IsEntry true t u e → ((b : Bool) → Accepted (at (in_node (fresh b)) []) u) → Accepted (at entry_slashdash []) s
-entry_accepted {s = s} ls i f = drop_entry (λ c last s. Accepted c s) accepted_back ls i f s
-
-block_accepted : {s t u : Text} {xs : Nodes} → Star LineSpace s t → IsBlock true t u xs → Accepted (at (in_node later) []) u → (b : Bool) → Accepted (at (slashdash_phase b) []) s
-block_accepted {s = s} ls i a b = drop_block (λ c last s. Accepted c s) accepted_back ls i a b s
+block_passes {u = u} ls i b last = drop_block (λ c last s. PartPasses c last s true u) (over_part true u) ls i (stops (over refl)) b last
 
 -- where the control may be in a place: after a dropped block entries come no more
-abbrev fits : Place → Spot → Bool
-fits after_block q = true
-fits p later = false
-fits p q = true
-
-fits_spaced : (p : Place) (q : Spot) → fits p q ≡ true → fits (items.spaced true p) (spaced_of q) ≡ true
-fits_spaced (before_entry b) (fresh c) e = refl
-fits_spaced (before_entry b) (spaced c) e = refl
-fits_spaced (before_entry b) later e = cc
-fits_spaced before_block (fresh c) e = refl
-fits_spaced before_block (spaced c) e = refl
-fits_spaced before_block later e = cc
-fits_spaced after_block q e = refl
-
-fits_fresh : (p : Place) (b : Bool) → fits (items.spaced false p) (fresh b) ≡ true
-fits_fresh (before_entry c) b = refl
-fits_fresh before_block b = refl
-fits_fresh after_block b = refl
-
-fits_part : (p : Place) (b : Bool) → fits (items.spaced false p) (spaced b) ≡ true
-fits_part (before_entry c) b = refl
-fits_part before_block b = refl
-fits_part after_block b = refl
-
-slashdash_entry : (p : Place) (q : Spot) → takes_entries p ≡ true → fits p q ≡ true → entry_slashdash ≡ slashdash_at q
-slashdash_entry p (fresh b) x y = refl
-slashdash_entry p (spaced b) x y = refl
-slashdash_entry (before_entry c) later x y = absurd cc
-slashdash_entry before_block later x y = absurd cc
-slashdash_entry after_block later x y = absurd cc
+abbrev Fits : Place → Spot → Type 0
+Fits p q = takes_entries p ≡ true → slashdash_at q ≡ entry_slashdash
 
 slashdash_block : (q : Spot) {s : Text} → ((b : Bool) → Accepted (at (slashdash_phase b) []) s) → Accepted (at (slashdash_at q) []) s
 slashdash_block (fresh b) f = f true
@@ -107,12 +107,12 @@ slashdash_block (spaced b) f = f true
 slashdash_block later f = f false
 
 -- what is in a place is accepted
-place_accepted : {p : Place} {s : Text} {is : List Item} → PlaceItems p s is → (q : Spot) → fits p q ≡ true → Accepted (at (in_node q) []) s
-place_accepted (PlaceItems.ends e) q h = text_ends q
-place_accepted {p = p} (PlaceItems.space d g) q h = token_first (t_space (space_of d)) refl (place_accepted g (spaced_of q) (fits_spaced p q h))
-place_accepted {p = p} (PlaceItems.dropped_entry e (a_slashdash {s = s} ls) i g) q h =
-    token_first t_slashdash refl (subst (λ (m : Phase). Accepted (at m []) s) (slashdash_entry p q e h) (entry_accepted ls i (λ b. place_accepted g (fresh b) (fits_fresh p b))))
-place_accepted (PlaceItems.dropped_block e (a_slashdash ls) b g) q h = token_first t_slashdash refl (slashdash_block q (λ c. block_accepted ls b (place_accepted g later refl) c))
+place_accepted : {p : Place} {s : Text} {is : List Item} → PlaceItems p s is → (q : Spot) → Fits p q → Accepted (at (in_node q) []) s
+place_accepted (PlaceItems.ends e) q h = accepted done refl
+place_accepted {p = p} (PlaceItems.space d g) q h = token_first (t_space (space_of d)) refl (place_accepted g (spaced_of q) (λ i. slashdash_spaced q ∙ h (sym (entries_spaced true p) ∙ i)))
+place_accepted (PlaceItems.dropped_entry e (a_slashdash {s = s} ls) i g) q h =
+    token_first t_slashdash refl (subst (λ (m : Phase). Accepted (at m []) s) (sym (h e)) (drop_entry (λ c last s. Accepted c s) accepted_back ls i (λ b. place_accepted g (fresh b) (λ j. refl)) s))
+place_accepted (PlaceItems.dropped_block e (a_slashdash {s = s} ls) b g) q h = token_first t_slashdash refl (slashdash_block q (λ c. drop_block (λ c last s. Accepted c s) accepted_back ls b (place_accepted g later (λ j. cc)) c s))
 
 -- where the last token that is no node-space ended, and which spaces come after it
 data Following : Control → Text → Text → Type 0 where
@@ -120,64 +120,42 @@ data Following : Control → Text → Text → Type 0 where
   spaces : {last s : Text} → Plus NodeSpace last s → Following (at (in_node (spaced true)) []) last s
   other : {c : Control} {last s : Text} → is_over c ≡ false → is_word c ≡ false → Following c last s
 
-plus_snoc : {s t r : Text} → Plus NodeSpace s t → NodeSpace t r → Plus NodeSpace s r
-plus_snoc (plus n ss) m = plus n (snoc ss m)
-
-inside : (p : Phase) (f : Frame) (fs : List Frame) → (is_over (at p (f ∷ fs)) ≡ false) × (is_word (at p (f ∷ fs)) ≡ false)
-inside (in_node (fresh false)) f fs = (refl, refl)
-inside (in_node (fresh true)) f fs = (refl, refl)
-inside (in_node (spaced false)) f fs = (refl, refl)
-inside (in_node (spaced true)) f fs = (refl, refl)
-inside (in_node later) f fs = (refl, refl)
-inside _ f fs = (refl, refl)
-
 -- one space more
-to_other : {c d : Control} {last r : Text} → Some c ≡ Some d → is_over c ≡ false → is_word c ≡ false → Following d last r
-to_other {c = c} {d = d} {last = last} {r = r} e o w = let x : c ≡ d = cc in subst (λ (z : Control). Following z last r) x (other o w)
+space_leads : (fs : List Frame) (p : Phase) → is_over (at p fs) ≡ false → is_word (at p fs) ≡ false → Of (λ d. (is_over d ≡ false) × (is_word d ≡ false)) (step (at p fs) token'.space)
+space_leads [] (in_node (fresh true)) o w = absurd cc
+space_leads [] (in_node (fresh false)) o w = absurd cc
+space_leads [] (in_node (spaced true)) o w = absurd cc
+space_leads [] (in_node later) o w = absurd cc
+space_leads (f ∷ fs) (in_node q) o w = in_block_on (in_node (spaced_of q)) f fs
+space_leads fs p o w = (refl, refl)
 
-to_spaced : {d : Control} {last r : Text} → Some (at (in_node (spaced true)) []) ≡ Some d → Plus NodeSpace last r → Following d last r
-to_spaced {d = d} {last = last} {r = r} e ss = let x : at (in_node (spaced true)) [] ≡ d = cc in subst (λ (z : Control). Following z last r) x (spaces ss)
+word_leads : (c : Control) → is_word c ≡ true → step c token'.space ≡ Some (at (in_node (spaced true)) [])
+word_leads (at (in_node (fresh true)) []) w = refl
+word_leads (at (in_node (spaced true)) []) w = refl
+word_leads _ w = cc
 
-fresh_plus : {last s r : Text} → Following (at (in_node (fresh true)) []) last s → NodeSpace s r → Plus NodeSpace last r
-fresh_plus directly n = plus n no_star
-fresh_plus (other o w) n = absurd cc
+after_word : {c : Control} {last s r : Text} → is_word c ≡ true → Following c last s → NodeSpace s r → Plus NodeSpace last r
+after_word w directly n = plus n no_star
+after_word w (spaces (plus m ss)) n = plus m (snoc ss n)
+after_word w (other o v) n = absurd cc
 
-spaced_plus : {last s r : Text} → Following (at (in_node (spaced true)) []) last s → NodeSpace s r → Plus NodeSpace last r
-spaced_plus directly n = plus n no_star
-spaced_plus (spaces ss) n = plus_snoc ss n
-spaced_plus (other o w) n = absurd cc
+space_after : {c d : Control} {last s r : Text} → Following c last s → is_over c ≡ false → NodeSpace s r → step c token'.space ≡ Some d → Following d last r
+space_after {c = c} {d = d} {last = last} {s = s} {r = r} x o n e = go c (is_word c) refl o e x
+  where
+    go : (c : Control) (b : Bool) → is_word c ≡ b → is_over c ≡ false → step c token'.space ≡ Some d → Following c last s → Following d last r
+    go c true w o e x = let f = word_leads c w in let g : at (in_node (spaced true)) [] ≡ d = cc in subst (λ (z : Control). Following z last r) g (spaces (after_word w x n))
+    go (at p fs) false w o e x = let i = subst (Of (λ d. (is_over d ≡ false) × (is_word d ≡ false))) e (space_leads fs p o w) in other i.0 i.1
 
-space_after : (c d : Control) {last s r : Text} → Following c last s → is_over c ≡ false → NodeSpace s r → step c token'.space ≡ Some d → Following d last r
-space_after (at (in_node (fresh true)) []) d x o n e = to_spaced e (fresh_plus x n)
-space_after (at (in_node (spaced true)) []) d x o n e = to_spaced e (spaced_plus x n)
-space_after (at (in_node (fresh false)) []) d x o n e = absurd cc
-space_after (at (in_node (spaced false)) []) d x o n e = to_other e refl refl
-space_after (at (in_node later) []) d x o n e = absurd cc
-space_after (at (in_node q) (f ∷ fs)) d x o n e = let i = inside (in_node (spaced_of q)) f fs in to_other e i.0 i.1
-space_after (at gap fs) d x o n e = to_other e refl refl
-space_after (at node_slashdash fs) d x o n e = to_other e refl refl
-space_after (at (type_open b) fs) d x o n e = to_other e refl refl
-space_after (at (type_name b) fs) d x o n e = to_other e refl refl
-space_after (at (type_done b) fs) d x o n e = to_other e refl refl
-space_after (at property fs) d x o n e = to_other e refl refl
-space_after (at entry_slashdash fs) d x o n e = to_other e refl refl
-space_after (at block_slashdash fs) d x o n e = to_other e refl refl
-space_after (at kept fs) d x o n e = to_other e refl refl
-space_after (at kept_slashdash fs) d x o n e = to_other e refl refl
+pub a_space : {s r : Text} {k : Token} → BeginsToken s k r → of_spaces k ≡ true → (k ≡ token'.space) × NodeSpace s r
+a_space (t_space n) e = (refl, n)
+a_space _ e = absurd cc
 
 token_after : {c d : Control} {last s r : Text} {k : Token} → Following c last s → is_over c ≡ false → BeginsToken s k r → step c k ≡ Some d → Following d (moved k last r) r
-token_after {c = c} {d = d} x o (t_space n) e = space_after c d x o n e
-token_after x o (t_newline n) e = directly
-token_after x o t_slashdash e = directly
-token_after x o (t_string p) e = directly
-token_after x o (t_value p) e = directly
-token_after x o t_left e = directly
-token_after x o t_right e = directly
-token_after x o t_opening e = directly
-token_after x o t_closing e = directly
-token_after x o t_equals e = directly
-token_after x o t_semicolon e = directly
-token_after x o t_bom e = directly
+token_after {c = c} {d = d} {last = last} {r = r} {k = k} x o t e = go (of_spaces k) refl
+  where
+    go : (b : Bool) → of_spaces k ≡ b → Following d (if b then last else r) r
+    go true h = let (i, n) = a_space t h in space_after x o n (subst (λ (j : Token). step c j ≡ Some d) i e)
+    go false h = directly
 
 -- after a token, what is accepted goes on
 token_off : {c d : Control} {s r : Text} {k : Token} → BeginsToken s k r → step c k ≡ Some d → Accepted c s → Accepted d r
@@ -217,10 +195,9 @@ word_after x (other o w) f = absurd cc
 
 -- where the control passes over a part, and what comes after it is accepted, all is accepted
 passes_accepted : {c : Control} {last s u : Text} {b : Bool} → PartPasses c last s b u → Following c last s → ((q : Spot) → ends_in b q ≡ true → Accepted (at (in_node q) []) u) → Accepted c s
-passes_accepted (over {c = c} x) h f = subst (λ (z : Text). Accepted c z) (over_here x h) (over_accepted c x f)
-passes_accepted (word_ends {c = c} x) h f = word_accepted c x (λ q e. text_ends q)
-passes_accepted (word_over x t e) h f = word_after x h f
-passes_accepted (goes o w t e p) h f = token_first t e (passes_accepted p (token_after h o t e) f)
+passes_accepted (stops (over {c = c} x)) h f = subst (λ (z : Text). Accepted c z) (over_here x h) (over_accepted c x f)
+passes_accepted (stops (word x i)) h f = word_after x h f
+passes_accepted {c = c} (goes {k = k} t e o p) h f = token_first t e (passes_accepted p (token_after h (is_not (is_over c) (and_parts (not (is_over c)) (not (is_word c && not (follows_word k))) o).0) t e) f)
 
 -- what is derived after a name
 data Named (s : Text) : Type 0 where
@@ -240,13 +217,10 @@ nodes_named : {s u n : Text} {xs : Nodes} → BeginsToken s (string n) u → Are
 nodes_named {u = u} {n = n} b (last_gap g) = absurd (no_token (subst (λ (z : Text). BeginsToken z (string n) u) (gap_stays b g) b))
 nodes_named {u = u} {n = n} b (node_then g (named y w d) e ds) = node_named (subst (λ (z : Text). BeginsToken z (string n) u) (gap_stays b g) b) y w d e
 
--- what a slashdash drops before the text t, by the grammar
-data BlockDropped (t : Text) : Type 0 where
-  a_block : {u v r w : Text} {xs : Nodes} {k : Children} → Star LineSpace t u → IsBlock true u v xs → Blocks true true v r k → Terminator r w → BlockDropped t
-
-data PartDropped (t : Text) : Type 0 where
-  an_entry : {u v : Text} {e : Entry} → Star LineSpace t u → IsEntry true u v e → Quiet v → PartDropped t
-  some_block : BlockDropped t → PartDropped t
+-- what a slashdash drops before the text t, by the grammar; the Bool says whether it may be an entry
+data PartDropped (b : Bool) (t : Text) : Type 0 where
+  an_entry : {u v : Text} {e : Entry} → b ≡ true → Star LineSpace t u → IsEntry true u v e → Quiet v → PartDropped b t
+  a_block : {u v r w : Text} {xs : Nodes} {k : Children} → Star LineSpace t u → IsBlock true u v xs → Blocks true true v r k → Terminator r w → PartDropped b t
 
 pub dash_space : {s t r : Text} → BeginsToken s slashdash t → NodeSpace s r → ⊥
 dash_space b n = let e = (token_det b (t_space n)).1 in cc
@@ -258,25 +232,22 @@ dash_end b (Terminator.comment l) = let e = (token_det b (t_newline (break_comme
 dash_end b Terminator.at_end = no_token b
 dash_end b Terminator.at_close = let e = (token_det b t_closing).1 in cc
 
-dash_block : {s t r : Text} {xs : Nodes} → BeginsToken s slashdash t → IsBlock true s r xs → ⊥
-dash_block b (braces ns) = let e = (token_det b t_opening).1 in cc
-
 pub dash_lines : {s t u : Text} → BeginsToken s slashdash t → Slashdash s u → Star LineSpace t u
 dash_lines {u = u} b (a_slashdash ls) = subst (λ (z : Text). Star LineSpace z u) (sym (token_det b t_slashdash).0) ls
 
-blocks_dropped : {c : Bool} {s t r v : Text} {k : Children} → BeginsToken s slashdash t → Blocks true c s r k → Terminator r v → BlockDropped t
+blocks_dropped : {b c : Bool} {s t r v : Text} {k : Children} → BeginsToken s slashdash t → Blocks true c s r k → Terminator r v → PartDropped b t
 blocks_dropped b (dropped_block no_star m x d) e = a_block (dash_lines b m) x d e
 blocks_dropped b (dropped_block (more n ss) m x d) e = absurd (dash_space b n)
-blocks_dropped b (block no_star x d) e = absurd (dash_block b x)
+blocks_dropped b (block no_star (braces ns) d) e = let f = (token_det b t_opening).1 in absurd cc
 blocks_dropped b (block (more n ss) x d) e = absurd (dash_space b n)
 blocks_dropped b (no_block no_star) e = absurd (dash_end b e)
 blocks_dropped b (no_block (more n ss)) e = absurd (dash_space b n)
 
-part_dropped : {s t r v : Text} {es : List Entry} {k : Children} → BeginsToken s slashdash t → AfterName true s r es k → Terminator r v → PartDropped t
+part_dropped : {s t r v : Text} {es : List Entry} {k : Children} → BeginsToken s slashdash t → AfterName true s r es k → Terminator r v → PartDropped true t
 part_dropped b (kept_entry (plus n ss) i d) e = absurd (dash_space b n)
-part_dropped b (dropped_entry no_star m i d) e = an_entry (dash_lines b m) i (name_quiet d e)
+part_dropped b (dropped_entry no_star m i d) e = an_entry refl (dash_lines b m) i (name_quiet d e)
 part_dropped b (dropped_entry (more n ss) m i d) e = absurd (dash_space b n)
-part_dropped b (blocks d) e = some_block (blocks_dropped b d e)
+part_dropped b (blocks d) e = blocks_dropped b d e
 
 -- before `/-` there may be a name
 slash_char : (s : Text) → starts is_identifier_char (47 ∷ s) ≡ false
@@ -290,106 +261,90 @@ bare_a = refl
 a_name : {s : Text} → BeginsToken (97 ∷ 47 ∷ s) (string (97 ∷ [])) (47 ∷ s)
 a_name {s = s} = t_string (StringPiece.bare (a_bare refl bare_a (slash_char s)))
 
-derived : {s : Text} → Accepted (at gap []) s → (xs : Nodes) × AreNodes true s [] xs
-derived (accepted l f) = derives l f
-
 -- what is accepted after `/-` is derived: after a name
-part_derived : {t : Text} → Accepted (at entry_slashdash []) t → PartDropped t
+part_derived : {t : Text} → Accepted (at entry_slashdash []) t → PartDropped true t
 part_derived {t = t} a = of (nodes_named a_name (derived (token_first a_name refl (token_first {c = at (in_node (fresh false)) []} t_slashdash refl a))).1)
   where
-    of : Named (47 ∷ 45 ∷ t) → PartDropped t
+    of : Named (47 ∷ 45 ∷ t) → PartDropped true t
     of (rest d e) = part_dropped t_slashdash d e
 
 -- and after a block
 braces_pass : {t : Text} (last : Text) → PartPasses (at entry_slashdash []) last (123 ∷ 125 ∷ t) true t
-braces_pass last = goes refl refl t_opening refl (goes {d = at (in_node later) []} refl refl t_closing refl (over refl))
+braces_pass last = goes t_opening refl refl (goes {d = at (in_node later) []} t_closing refl refl (stops (over refl)))
 
-block_derived : {t : Text} → Accepted (at block_slashdash []) t → BlockDropped t
-block_derived {t = t} a =
+any_derived : (b : Bool) {t : Text} → Accepted (at (slashdash_phase b) []) t → PartDropped b t
+any_derived true a = part_derived a
+any_derived false {t = t} a =
     of (part_derived (token_first t_opening refl (token_first {c = at gap (in_dropped ∷ [])} t_closing refl (token_first {c = at (in_node later) []} t_slashdash refl a))))
   where
-    of : PartDropped (123 ∷ 125 ∷ 47 ∷ 45 ∷ t) → BlockDropped t
-    of (an_entry ls i q) = let e = (passes_det (entry_passes ls i q []) (braces_pass [])).0 in absurd cc
-    of (some_block (a_block ls x d e)) = let f = (passes_det (block_passes ls x true []) (braces_pass [])).1 in blocks_dropped (subst (λ (z : Text). BeginsToken z slashdash t) (sym f) t_slashdash) d e
+    of : PartDropped true (123 ∷ 125 ∷ 47 ∷ 45 ∷ t) → PartDropped false t
+    of (an_entry h ls i q) = let e = (part_det (entry_passes ls i q true refl []) (braces_pass [])).0 in absurd cc
+    of (a_block ls x d e) = let f = (part_det (block_passes ls x true []) (braces_pass [])).1 in blocks_dropped (subst (λ (z : Text). BeginsToken z slashdash t) (sym f) t_slashdash) d e
 
--- what a place that begins with `/-` says
+-- what the grammar drops in the place up to u, and what a place that begins with `/-` says
+pub data DropsPart (p : Place) (t u : Text) : Bool → Type 0 where
+  drops_entry : {v : Text} {e : Entry} → takes_entries p ≡ true → Slashdash (47 ∷ 45 ∷ t) v → IsEntry true v u e → DropsPart p t u false
+  drops_block : {v : Text} {xs : Nodes} → takes_blocks p ≡ true → Slashdash (47 ∷ 45 ∷ t) v → IsBlock true v u xs → DropsPart p t u true
+
 data Dropped (p : Place) (t : Text) (all : List Item) : Type 0 where
-  by_entry : {u : Text} {is : List Item} → PartPasses (slashdash_in p) t t false u → PlaceItems (items.spaced false p) u is → all ≡ piece (between (47 ∷ 45 ∷ t) u) ∷ is → Dropped p t all
-  by_block : {u : Text} {is : List Item} → takes_blocks p ≡ true → PartPasses (slashdash_in p) t t true u → PlaceItems after_block u is → all ≡ piece (between (47 ∷ 45 ∷ t) u) ∷ is → Dropped p t all
+  dropped : {b : Bool} {u : Text} {is : List Item} → DropsPart p t u b → PartPasses (slashdash_in p) t t b u → PlaceItems (next_place p b) u is → all ≡ piece (between (47 ∷ 45 ∷ t) u) ∷ is → Dropped p t all
 
 drops : {p : Place} {s t : Text} {all : List Item} → s ≡ 47 ∷ 45 ∷ t → PlaceItems p s all → Dropped p t all
 drops q (PlaceItems.ends e) = absurd cc
 drops {t = t} q (PlaceItems.space d g) = absurd (dash_space (subst (λ (z : Text). BeginsToken z slashdash t) (sym q) t_slashdash) (space_of d))
-drops {t = t} q (PlaceItems.dropped_entry {u = u} {is = is} e m i g) =
+drops {p = p} {t = t} q (PlaceItems.dropped_entry {u = u} {is = is} e m i g) =
     let ls = dash_lines (subst (λ (z : Text). BeginsToken z slashdash t) (sym q) t_slashdash) m in
-    by_entry (subst (λ (c : Bool). PartPasses (at (slashdash_phase c) []) t t false u) (sym e) (entry_passes ls i (place_quiet g) t)) g (ap (λ (z : Text). piece (between z u) ∷ is) q)
+    dropped {b = false} (drops_entry e (a_slashdash ls) i) (entry_passes ls i (place_quiet g) (takes_entries p) e t) g (ap (λ (z : Text). piece (between z u) ∷ is) q)
 drops {p = p} {t = t} q (PlaceItems.dropped_block {u = u} {is = is} e m x g) =
     let ls = dash_lines (subst (λ (z : Text). BeginsToken z slashdash t) (sym q) t_slashdash) m in
-    by_block e (block_passes ls x (takes_entries p) t) g (ap (λ (z : Text). piece (between z u) ∷ is) q)
+    dropped {b = true} (drops_block e (a_slashdash ls) x) (block_passes ls x (takes_entries p) t) g (ap (λ (z : Text). piece (between z u) ∷ is) q)
 
--- an entry that is passed over is dropped
-fits_ends : (p : Place) (q : Spot) → ends_in false q ≡ true → fits (items.spaced false p) q ≡ true
-fits_ends p (fresh b) e = fits_fresh p b
-fits_ends p (spaced b) e = fits_part p b
+fits_ends : (p : Place) (q : Spot) → ends_in false q ≡ true → Fits p q
+fits_ends p (fresh b) e = λ h. refl
+fits_ends p (spaced b) e = λ h. refl
 fits_ends p later e = absurd cc
 
-entry_of : (p : Place) {t u : Text} {js : List Item} → takes_entries p ≡ true → PartPasses (at entry_slashdash []) t t false u → PartDropped t → PlaceItems (items.spaced false p) u js → PlaceItems p (47 ∷ 45 ∷ t) (piece (between (47 ∷ 45 ∷ t) u) ∷ js)
-entry_of p {t = t} h x (an_entry {u = w} {e = e} ls i q) g = PlaceItems.dropped_entry h (a_slashdash ls) (subst (λ (z : Text). IsEntry true w z e) (passes_det (entry_passes ls i q t) x).1 i) g
-entry_of p {t = t} h x (some_block (a_block ls b d f)) g = let e = (passes_det (block_passes ls b true t) x).0 in absurd cc
+module _ {p : Place} {t : Text} where
+  -- an entry that is passed over is dropped, and so is a block
+  back : (b : Bool) {u : Text} {js : List Item} → PartPasses (slashdash_in p) t t b u → takes p b ≡ true → PlaceItems (next_place p b) u js → PlaceItems p (47 ∷ 45 ∷ t) (piece (between (47 ∷ 45 ∷ t) u) ∷ js)
+  back false {u} {js} x h g = go (any_derived (takes_entries p) (passes_accepted x directly (λ q e. place_accepted g q (fits_ends (items.spaced false p) q e))))
+    where
+      go : PartDropped (takes_entries p) t → PlaceItems p (47 ∷ 45 ∷ t) (piece (between (47 ∷ 45 ∷ t) u) ∷ js)
+      go (an_entry {u = w} {e = e} h ls i q) = PlaceItems.dropped_entry h (a_slashdash ls) (subst (λ (z : Text). IsEntry true w z e) (part_det (entry_passes ls i q (takes_entries p) h t) x).1 i) g
+      go (a_block ls y d f) = let e = (part_det (block_passes ls y (takes_entries p) t) x).0 in absurd cc
+  back true {u} {js} x h g = go (any_derived (takes_entries p) (passes_accepted x directly (λ q e. place_accepted g q (λ i. cc))))
+    where
+      go : PartDropped (takes_entries p) t → PlaceItems p (47 ∷ 45 ∷ t) (piece (between (47 ∷ 45 ∷ t) u) ∷ js)
+      go (an_entry k ls i q) = let e = (part_det (entry_passes ls i q (takes_entries p) k t) x).0 in absurd cc
+      go (a_block {u = w} {xs = xs} ls y d f) = PlaceItems.dropped_block h (a_slashdash ls) (subst (λ (z : Text). IsBlock true w z xs) (part_det (block_passes ls y (takes_entries p) t) x).1 y) g
 
-no_entry : {t u : Text} → PartPasses (at block_slashdash []) t t false u → BlockDropped t → ⊥
-no_entry {t = t} x (a_block ls b d f) = let e = (passes_det (block_passes ls b false t) x).0 in cc
+  module _ {b : Bool} {u : Text} (x : PartPasses (slashdash_in p) t t b u) where
+    there : {all : List Item} → Dropped p t all → (js : List Item) × (all ≡ piece (between (47 ∷ 45 ∷ t) u) ∷ js) × PlaceItems (next_place p b) u js
+    there (dropped {u = v} {is = is} k y g e) =
+        let (i, f) = part_det y x in
+        (is, e ∙ ap (λ (z : Text). piece (between (47 ∷ 45 ∷ t) z) ∷ is) f, subst (λ (z : Text). PlaceItems (next_place p b) z is) f (subst (λ (z : Bool). PlaceItems (next_place p z) v is) i g))
 
-entry_back : (p : Place) {t u : Text} {js : List Item} → PartPasses (slashdash_in p) t t false u → PlaceItems (items.spaced false p) u js → PlaceItems p (47 ∷ 45 ∷ t) (piece (between (47 ∷ 45 ∷ t) u) ∷ js)
-entry_back (before_entry c) x g = entry_of (before_entry c) refl x (part_derived (passes_accepted x directly (λ q e. place_accepted g q (fits_ends (before_entry c) q e)))) g
-entry_back before_block x g = entry_of before_block refl x (part_derived (passes_accepted x directly (λ q e. place_accepted g q (fits_ends before_block q e)))) g
-entry_back after_block x g = absurd (no_entry x (block_derived (passes_accepted x directly (λ q e. place_accepted g q (fits_ends after_block q e)))))
+    -- what is passed over is the first item, and the others are those after it
+    pub part_leaves : takes p b ≡ true → (all : List Item) → PlaceItems p (47 ∷ 45 ∷ t) all ↔ ((js : List Item) × (all ≡ piece (between (47 ∷ 45 ∷ t) u) ∷ js) × PlaceItems (next_place p b) u js)
+    part_leaves h all = (λ g. there (drops refl g), λ w. subst (λ (l : List Item). PlaceItems p (47 ∷ 45 ∷ t) l) (sym w.1) (back b x h w.2))
 
--- and so is a block
-block_of : (p : Place) {t u : Text} {js : List Item} (b : Bool) → takes_blocks p ≡ true → PartPasses (at (slashdash_phase b) []) t t true u → BlockDropped t → PlaceItems after_block u js → PlaceItems p (47 ∷ 45 ∷ t) (piece (between (47 ∷ 45 ∷ t) u) ∷ js)
-block_of p {t = t} b h x (a_block {u = w} {xs = xs} ls y d f) g = PlaceItems.dropped_block h (a_slashdash ls) (subst (λ (z : Text). IsBlock true w z xs) (passes_det (block_passes ls y b t) x).1 y) g
+    pub the_part : {all : List Item} → PlaceItems p (47 ∷ 45 ∷ t) all → DropsPart p t u b
+    the_part g = go (drops refl g)
+      where
+        go : {all : List Item} → Dropped p t all → DropsPart p t u b
+        go (dropped {u = v} k y g e) = let (i, f) = part_det y x in subst (λ (z : Text). DropsPart p t z b) f (subst (DropsPart p t v) i k)
 
-some_part : {t u : Text} → PartPasses (at entry_slashdash []) t t true u → PartDropped t → BlockDropped t
-some_part {t = t} x (an_entry ls i q) = let e = (passes_det (entry_passes ls i q t) x).0 in absurd cc
-some_part x (some_block b) = b
+    -- before entries no block is dropped
+    pub part_nowhere : takes p b ≡ false → (all : List Item) → PlaceItems p (47 ∷ 45 ∷ t) all → ⊥
+    part_nowhere h all g = go (the_part g) h
+      where
+        go : {b : Bool} → DropsPart p t u b → takes p b ≡ false → ⊥
+        go (drops_entry e m i) h = cc
+        go (drops_block e m i) h = cc
 
-block_back : (p : Place) {t u : Text} {js : List Item} → PartPasses (slashdash_in p) t t true u → takes_blocks p ≡ true → PlaceItems after_block u js → PlaceItems p (47 ∷ 45 ∷ t) (piece (between (47 ∷ 45 ∷ t) u) ∷ js)
-block_back (before_entry c) x h g = absurd cc
-block_back before_block x h g = block_of before_block true refl x (some_part x (part_derived (passes_accepted x directly (λ q e. place_accepted g q refl)))) g
-block_back after_block x h g = block_of after_block false refl x (block_derived (passes_accepted x directly (λ q e. place_accepted g q refl))) g
-
--- An entry is passed over after the slashdash.
-entry_there : {p : Place} {t u : Text} {all : List Item} → PartPasses (slashdash_in p) t t false u → Dropped p t all → (js : List Item) × (all ≡ piece (between (47 ∷ 45 ∷ t) u) ∷ js) × PlaceItems (items.spaced false p) u js
-entry_there {p = p} {t = t} x (by_entry {is = is} y g e) =
-    let f = (passes_det y x).1 in
-    (is, e ∙ ap (λ (z : Text). piece (between (47 ∷ 45 ∷ t) z) ∷ is) f, subst (λ (z : Text). PlaceItems (items.spaced false p) z is) f g)
-entry_there x (by_block h y g e) = let f = (passes_det y x).0 in absurd cc
-
-pub part_entry : {p : Place} {t u : Text} → PartPasses (slashdash_in p) t t false u → (all : List Item) → PlaceItems p (47 ∷ 45 ∷ t) all ↔ ((js : List Item) × (all ≡ piece (between (47 ∷ 45 ∷ t) u) ∷ js) × PlaceItems (items.spaced false p) u js)
-part_entry {p = p} {t = t} x all = (λ g. entry_there x (drops refl g), λ h. subst (λ (l : List Item). PlaceItems p (47 ∷ 45 ∷ t) l) (sym h.1) (entry_back p x h.2))
-
--- A block is passed over.
-block_there : {p : Place} {t u : Text} {all : List Item} → PartPasses (slashdash_in p) t t true u → Dropped p t all → (js : List Item) × (all ≡ piece (between (47 ∷ 45 ∷ t) u) ∷ js) × PlaceItems after_block u js
-block_there {t = t} x (by_block {is = is} h y g e) =
-    let f = (passes_det y x).1 in
-    (is, e ∙ ap (λ (z : Text). piece (between (47 ∷ 45 ∷ t) z) ∷ is) f, subst (λ (z : Text). PlaceItems after_block z is) f g)
-block_there x (by_entry y g e) = let f = (passes_det y x).0 in absurd cc
-
-pub part_block : {p : Place} {t u : Text} → PartPasses (slashdash_in p) t t true u → takes_blocks p ≡ true → (all : List Item) → PlaceItems p (47 ∷ 45 ∷ t) all ↔ ((js : List Item) × (all ≡ piece (between (47 ∷ 45 ∷ t) u) ∷ js) × PlaceItems after_block u js)
-part_block {p = p} {t = t} x b all = (λ g. block_there x (drops refl g), λ h. subst (λ (l : List Item). PlaceItems p (47 ∷ 45 ∷ t) l) (sym h.1) (block_back p x b h.2))
-
--- before entries no block is dropped
-block_nowhere : {p : Place} {t u : Text} {all : List Item} → PartPasses (slashdash_in p) t t true u → takes_blocks p ≡ false → Dropped p t all → ⊥
-block_nowhere x b (by_block h y g e) = cc
-block_nowhere x b (by_entry y g e) = let f = (passes_det y x).0 in cc
-
-pub part_no_block : {p : Place} {t u : Text} → PartPasses (slashdash_in p) t t true u → takes_blocks p ≡ false → (all : List Item) → PlaceItems p (47 ∷ 45 ∷ t) all → ⊥
-part_no_block x b all g = block_nowhere x b (drops refl g)
-
--- nothing is passed over
-nothing_there : {p : Place} {t : Text} {all : List Item} → ((b : Bool) (u : Text) → PartPasses (slashdash_in p) t t b u → ⊥) → Dropped p t all → ⊥
-nothing_there f (by_entry y g e) = f false _ y
-nothing_there f (by_block h y g e) = f true _ y
-
-pub part_refused : {p : Place} {t : Text} → ((b : Bool) (u : Text) → PartPasses (slashdash_in p) t t b u → ⊥) → (all : List Item) → PlaceItems p (47 ∷ 45 ∷ t) all → ⊥
-part_refused f all g = nothing_there f (drops refl g)
+  -- nothing is passed over
+  pub part_refused : EndsNowhere for_part (slashdash_in p) t → (all : List Item) → PlaceItems p (47 ∷ 45 ∷ t) all → ⊥
+  part_refused f all g = go (drops refl g)
+    where
+      go : {all : List Item} → Dropped p t all → ⊥
+      go (dropped k y g e) = f _ y

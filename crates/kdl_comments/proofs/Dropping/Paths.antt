@@ -13,7 +13,7 @@ use Rattle.kdl_lexer.proofs.Lexing.TokenUnique.{token_det, no_token}
 use Rattle.kdl_grammar.specs.Data.{Node, Children, Nodes}
 use Rattle.kdl_grammar.specs.Grammar.{Terminator, IsNode, named, AfterName, kept_entry, dropped_entry, Blocks, AfterBlock, dropped_later, no_more, Gap, no_gap, line_space, dropped_node, AreNodes, last_gap, node_then, IsBlock, braces}
 use Rattle.kdl_control.specs.Control.{Spot, fresh, spaced, later, Phase, gap, node_slashdash, type_open, type_name, type_done, in_node, property, entry_slashdash, block_slashdash, kept, kept_slashdash, Frame, in_block, in_dropped, in_later, Control, at, popped, spaced_of, slashdash_at, step, is_gap, is_over, is_word}
-use Rattle.kdl_comments.specs.Internal.Passing.{moved, NodeEnd, NodePasses, follows_word, PartPasses, slashdash_phase}
+use Rattle.kdl_comments.specs.Internal.Passing.{moved, follows_word, for_node, End, goes_on, goes, NodePasses, PartPasses, slashdash_phase}
 
 -- after the name of a node
 pub data Tail (fs : List Frame) : Control → Type 0 where
@@ -49,22 +49,14 @@ halts_nodes h (last_gap g) = halts h g
 halts_nodes h (node_then g x e ds) = absurd (no_node (subst Halt (halts h g) h) x)
 
 -- in a block nothing is over
-over_inside : (p : Phase) (f : Frame) (fs : List Frame) → is_over (at p (f ∷ fs)) ≡ false
-over_inside (in_node (fresh false)) f fs = refl
-over_inside (in_node (fresh true)) f fs = refl
-over_inside (in_node (spaced b)) f fs = refl
-over_inside (in_node later) f fs = refl
-over_inside _ f fs = refl
+pub in_block_on : (p : Phase) (f : Frame) (fs : List Frame) → (is_over (at p (f ∷ fs)) ≡ false) × (is_word (at p (f ∷ fs)) ≡ false)
+in_block_on (in_node (fresh false)) f fs = (refl, refl)
+in_block_on (in_node (fresh true)) f fs = (refl, refl)
+in_block_on (in_node (spaced false)) f fs = (refl, refl)
+in_block_on (in_node (spaced true)) f fs = (refl, refl)
+in_block_on _ f fs = (refl, refl)
 
-word_inside : (p : Phase) (f : Frame) (fs : List Frame) (k : Token) → (is_word (at p (f ∷ fs)) && not (follows_word k)) ≡ false
-word_inside (in_node (fresh false)) f fs k = refl
-word_inside (in_node (fresh true)) f fs k = refl
-word_inside (in_node (spaced false)) f fs k = refl
-word_inside (in_node (spaced true)) f fs k = refl
-word_inside (in_node later) f fs k = refl
-word_inside _ f fs k = refl
-
-slashdash_spaced : (q : Spot) → slashdash_at (spaced_of q) ≡ slashdash_at q
+pub slashdash_spaced : (q : Spot) → slashdash_at (spaced_of q) ≡ slashdash_at q
 slashdash_spaced (fresh b) = refl
 slashdash_spaced (spaced b) = refl
 slashdash_spaced later = refl
@@ -109,10 +101,10 @@ module _ (P : Control → Text → Text → Type 0) (over : Back P) where
   back t e g o w x = over _ _ _ _ _ _ t e g o w x
 
   inside : (f : Frame) (fs : List Frame) → Here P (f ∷ fs)
-  inside f fs p d last s r k t e g x = back t e g (over_inside p f fs) (word_inside p f fs k) x
+  inside f fs p d last s r k t e g x = back t e g (in_block_on p f fs).0 (rw (in_block_on p f fs).1 refl) x
 
   inside_gap : (f : Frame) (fs : List Frame) → ToGap P (f ∷ fs)
-  inside_gap f fs p last s r k t e x = back t e refl (over_inside p f fs) (word_inside p f fs k) x
+  inside_gap f fs p last s r k t e x = back t e refl (in_block_on p f fs).0 (rw (in_block_on p f fs).1 refl) x
 
   stay : (c : Control) → ((last s r : Text) → NodeSpace s r → P c last r → P c last s) → {last s r : Text} → Star NodeSpace s r → P c last r → P c last s
   stay c f no_star x = x
@@ -261,8 +253,11 @@ module _ (P : Control → Text → Text → Type 0) (over : Back P) where
 
 -- the control's passing over what a slashdash drops is such a P: in a node
 pub over_part : (b : Bool) (e : Text) → Back (λ c last s. PartPasses c last s b e)
-over_part b e c d last s r k t f g o w x = PartPasses.goes o w t f x
+over_part b e c d last s r k t f g o w x = goes t f (rw (o, w) refl) x
 
 -- and between nodes, where all tokens of the node may come
-pub over_node : (e : NodeEnd) → Here (λ c last s. NodePasses c last s e) []
-over_node e p d last s r k t f g x = NodePasses.goes t f g x
+pub node_on : (c : Control) (k : Token) {d : Control} → step c k ≡ Some d → is_gap d ≡ false → goes_on for_node c k ≡ true
+node_on c k f g = rw (f, g) refl
+
+pub over_node : (e : End) → Here (λ c last s. NodePasses c last s e) []
+over_node e p d last s r k t f g x = goes t f (node_on (at p []) k f g) x

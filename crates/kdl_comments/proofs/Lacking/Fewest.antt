@@ -1,5 +1,5 @@
 -- Fewer newlines are not enough.
-use Rattle.std.proofs.Common.{◌≡◌, ◌⊎◌, inl, inr, ℕ, zero, suc, ◌+◌, ◌-◌, ◌<◌, true, false, [], ◌∷◌, ◌++◌, length, List, Option, Some, None, refl, sym, ap, subst, ◌∙◌, arith, append_assoc}
+use Rattle.std.proofs.Common.{◌≡◌, ◌⊎◌, inl, inr, ℕ, zero, suc, ◌+◌, ◌-◌, ◌<◌, true, false, not, [], ◌∷◌, ◌++◌, length, List, Option, Some, None, refl, sym, ap, subst, ◌∙◌, arith, append_assoc}
 use Rattle.kdl_text.specs.Bare.{is_bare}
 use Rattle.kdl_text.specs.Bare.BareString.{bare as a_bare}
 use Rattle.kdl_text.specs.Chars.{Text, is_identifier_char, is_space, is_newline_char, is_banned, is_punctuation, Star, none as no_star, more}
@@ -13,16 +13,16 @@ use Rattle.kdl_lexer.specs.Tokens.{Token, BeginsToken, space, newline, t_space, 
 use Rattle.kdl_lexer.proofs.Lexing.TokenUnique.{token_det, no_token}
 use Rattle.kdl_grammar.specs.Data.{Node, node, no_children, Nodes, none, first}
 use Rattle.kdl_grammar.specs.Grammar.{Terminator, IsNode, named, AfterName, Blocks, Gap, no_gap, line_space, dropped_node, AreNodes, last_gap, node_then}
-use Rattle.kdl_control.specs.Control.{Control, at, gap, node_slashdash, step, held, is_gap}
+use Rattle.kdl_control.specs.Control.{Control, at, node_slashdash, held, is_gap}
 use Rattle.kdl_grammar.specs.ReadsBack.{AddsNothing, Anything, Terminates}
 use Rattle.kdl_comments.specs.Items.{Item, ItemEnd, GapItems}
 use Rattle.kdl_comments.specs.Lacks.{newlines, GapLacks}
 use Rattle.kdl_comments.specs.Internal.Lacking.{letter, Fewest, GapRead}
 use Rattle.kdl_comments.specs.Internal.Reading.{adding}
-use Rattle.kdl_comments.specs.Internal.Passing.{moved, returned, NodePasses, returns, goes}
-use Rattle.kdl_comments.proofs.Dropping.DroppedNodes.{passes_det, passes_last, passes_node, DroppedThen, dropped_then, dash_nodes, item_end, tail_gap}
-use Rattle.kdl_comments.proofs.Dropping.NodeLoop.{gap_turn, turn_back}
-use Rattle.kdl_comments.proofs.Dropping.Paths.{Back, Here, Halt, at_end, halts, no_node, drop_node}
+use Rattle.kdl_comments.specs.Internal.Passing.{moved, returned, NodePasses, returns, stops, goes}
+use Rattle.kdl_comments.proofs.Dropping.DroppedNodes.{turn_back, passes_det, passes_last, passes_node, DroppedThen, then_nodes, then_none, dash_nodes, tail_ends}
+use Rattle.kdl_comments.proofs.Dropping.TokenLoop.{is_not, gap_turn}
+use Rattle.kdl_comments.proofs.Dropping.Paths.{Halt, at_end, halts, no_node, node_on, drop_node}
 use Rattle.kdl_comments.proofs.Lacking.SpaceEnds.{lf, a_space}
 use Rattle.kdl_comments.proofs.Listing.PlaceTexts.{gap_has, gap_of}
 use Rattle.kdl_comments.proofs.Listing.SpaceItems.{dash_no_line}
@@ -35,7 +35,7 @@ a_piece = refl
 abbrev pub a : Node
 a = node None (97 ∷ []) [] no_children
 
-letter_space : NodeSpace letter (97 ∷ [])
+pub letter_space : NodeSpace letter (97 ∷ [])
 letter_space = NodeSpace.ws (Ws.space a_space)
 
 a_string : StringPiece (97 ∷ []) [] (97 ∷ [])
@@ -57,40 +57,18 @@ pub no_nodes : {xs : Nodes} → AreNodes true [] [] xs → xs ≡ none
 no_nodes (last_gap g) = refl
 no_nodes (node_then g x e ds) = absurd (no_node (subst Halt (halts at_end g) at_end) x)
 
-one_line : {s t : Text} → LineSpace s t → (k : Token) × BeginsToken s k t
-one_line (LineSpace.space n) = (space, t_space n)
-one_line (LineSpace.«break» b) = (newline, t_newline b)
-
--- spaces and newlines alone
-abbrev OfSpaces : Token → Type 0
-OfSpaces k = (k ≡ space) ⊎ (k ≡ newline)
-
-no_string : {n : Text} → OfSpaces (token'.string n) → ⊥
-no_string (inl e) = cc
-no_string (inr e) = cc
-
-no_left : OfSpaces token'.left → ⊥
-no_left (inl e) = cc
-no_left (inr e) = cc
-
-no_dash : OfSpaces token'.slashdash → ⊥
-no_dash (inl e) = cc
-no_dash (inr e) = cc
-
-pub swallowed : {s : Text} {xs : Nodes} → ((r : Text) (k : Token) → BeginsToken s k r → ((k ≡ space) ⊎ (k ≡ newline)) × (r ≡ [])) → AreNodes true s [] xs → xs ≡ none
-swallowed f (last_gap g) = refl
-swallowed f (node_then no_gap (named untyped (a_string' p e) d) t ds) = absurd (no_string (f _ _ (t_string p)).0)
-swallowed f (node_then no_gap (named (typed (parens ss w us) vs) z d) t ds) = absurd (no_left (f _ _ t_left).0)
-swallowed {xs = xs} f (node_then (line_space {t = u} n g) x t ds) = let k = one_line n in let e = (f u k.0 k.1).1 in no_nodes (subst (λ (y : Text). AreNodes true y [] xs) e (node_then g x t ds))
-swallowed f (node_then (dropped_node (slashdash ls) y e g) x t ds) = absurd (no_dash (f _ _ t_slashdash).0)
+-- what begins nodes begins with a token
+node_token : {s t u : Text} {x : Node} → Gap true s t → IsNode true t u x → (k : Token) × (r : Text) × BeginsToken s k r
+node_token no_gap (named untyped (a_string' p e) d) = (_, _, t_string p)
+node_token no_gap (named (typed (parens ss w us) vs) z d) = (_, _, t_left)
+node_token (line_space (LineSpace.space n) g) x = (_, _, t_space n)
+node_token (line_space (LineSpace.«break» b) g) x = (_, _, t_newline b)
+node_token (dropped_node (slashdash ls) y e g) x = (_, _, t_slashdash)
 
 -- past line-spaces
 no_line_node : {s t u : Text} {x : Node} → LineSpace s t → IsNode true s u x → ⊥
-no_line_node n (named untyped (a_string' p e) d) = let k = one_line n in go k.0 k.1 (token_det k.1 (t_string p)).1 n
-  where
-    go : {s t : Text} {m : Text} (k : Token) → BeginsToken s k t → k ≡ token'.string m → LineSpace s t → ⊥
-    go k b e (LineSpace.space n) = let f = (token_det b (t_space n)).1 in cc
-    go k b e (LineSpace.«break» n) = let f = (token_det b (t_newline n)).1 in cc
+no_line_node (LineSpace.space n) (named untyped (a_string' p e) d) = let f = (token_det (t_space n) (t_string p)).1 in cc
+no_line_node (LineSpace.«break» n) (named untyped (a_string' p e) d) = let f = (token_det (t_newline n) (t_string p)).1 in cc
 no_line_node (LineSpace.space n) (named (typed (parens ss w us) vs) z d) = let f = (token_det (t_space n) t_left).1 in cc
 no_line_node (LineSpace.«break» n) (named (typed (parens ss w us) vs) z d) = let f = (token_det (t_newline n) t_left).1 in cc
 
@@ -109,6 +87,10 @@ pub nodes_off : {s t : Text} {xs : Nodes} → Star LineSpace s t → AreNodes tr
 nodes_off no_star ds = ds
 nodes_off (more n ns) ds = nodes_off ns (nodes_off_one n ds)
 
+pub swallowed : {s : Text} {xs : Nodes} → ((r : Text) (k : Token) → BeginsToken s k r → LineSpace s []) → AreNodes true s [] xs → xs ≡ none
+swallowed f (last_gap g) = refl
+swallowed f (node_then g x t ds) = let (k, r, b) = node_token g x in no_nodes (nodes_off_one (f r k b) (node_then g x t ds))
+
 -- past a dropped node
 dash_lines : {t u : Text} → Slashdash (47 ∷ 45 ∷ t) u → Star LineSpace t u
 dash_lines (slashdash ls) = ls
@@ -117,75 +99,50 @@ pub nodes_off_node : {b t u v e : Text} {x : Node} {xs : Nodes} → Slashdash (4
 nodes_off_node {b} {v = v} {xs = xs} m x i ds = go (dash_nodes ds)
   where
     go : DroppedThen b xs → AreNodes true v [] xs
-    go (dropped_then {t' = t'} {u = u'} {v = v'} {x = y} ls z tm es) = by_end (item_end tm es)
-      where
-        by_end : ((e : Text) × ItemEnd u' v' e) ⊎ (u' ≡ []) → AreNodes true v [] xs
-        by_end (inl (e', j)) =
-            let d = passes_det (passes_node ls z j).1 (passes_node (dash_lines m) x i).1 in
-            let a : v' ≡ v = cc in
-            subst (λ (c : Text). AreNodes true c [] xs) a es
-        by_end (inr k) = let d = passes_det (passes_last ls (subst (λ (c : Text). IsNode true t' c y) k z) no_star).3 (passes_node (dash_lines m) x i).1 in absurd cc
+    go (then_nodes {v = v'} ls z j es) =
+        let d = passes_det (passes_node ls z j).1 (passes_node (dash_lines m) x i).1 in
+        let a : v' ≡ v = cc in
+        subst (λ (c : Text). AreNodes true c [] xs) a es
+    go (then_none ls z es) = let d = passes_det (passes_last ls z no_star).3 (passes_node (dash_lines m) x i).1 in absurd cc
 
 -- a letter after a dropped node is part of it: the control returns to no gap
 abbrev NoReturn : Control → Text → Text → Type 0
 NoReturn c last s = (k : Token) (u v : Text) → NodePasses c last s (returned k u v) → ⊥
 
+-- over a token that is no terminator
+over_token : {c : Control} {last s r u v : Text} {j k : Token} → BeginsToken s k r → ((k ≡ newline) ⊎ (k ≡ token'.semicolon) → ⊥) → is_gap c ≡ false → NodePasses c last s (returned j u v)
+    → (d : Control) × (l : Text) × (is_gap d ≡ false) × NodePasses d l r (returned j u v)
+over_token {c = c} {k = k} t other g (stops (returns {k = i} u f)) = let d = token_det u t in absurd (other (subst (λ (z : Token). (z ≡ newline) ⊎ (z ≡ token'.semicolon)) d.1 (gap_turn c i g (ap (held is_gap) f))))
+over_token {last = last} {u = u'} {v = v'} {j = j} t other g (goes {d = d} {r = r'} {k = i} u f h p) =
+    (d, moved i last r', is_not (is_gap d) (ap (λ (o : Option Control). not (held is_gap o)) (sym f) ∙ h), subst (λ (y : Text). NodePasses d (moved i last r') y (returned j u' v')) (token_det u t).0 p)
+
 at_nothing : {c : Control} {last u v : Text} {k : Token} → NodePasses c last [] (returned k u v) → ⊥
-at_nothing (returns t f) = no_token t
+at_nothing (stops (returns t f)) = no_token t
 at_nothing (goes t f g q) = no_token t
-
-to_gap : (c : Control) (k : Token) → is_gap c ≡ false → step c k ≡ Some (at gap []) → (k ≡ newline) ⊎ (k ≡ token'.semicolon)
-to_gap c k g f = gap_turn c k g (ap (held is_gap) f)
-
-ends_node : {n : Text} → (token'.string n ≡ newline) ⊎ (token'.string n ≡ token'.semicolon) → ⊥
-ends_node (inl e) = cc
-ends_node (inr e) = cc
 
 space_ends : (space ≡ newline) ⊎ (space ≡ token'.semicolon) → ⊥
 space_ends (inl e) = cc
 space_ends (inr e) = cc
 
-at_a : {c : Control} {last u v s : Text} {k : Token} → s ≡ 97 ∷ [] → is_gap c ≡ false → NodePasses c last s (returned k u v) → ⊥
-at_a {c = c} e g (returns {r = r} {k = k} t f) =
-    let d = token_det (subst (λ (y : Text). BeginsToken y k r) e t) (t_string a_string) in
-    ends_node (subst (λ (j : Token). (j ≡ newline) ⊎ (j ≡ token'.semicolon)) d.1 (to_gap c k g f))
-at_a {u = u} {v = v} {k = j} e g (goes {d = c'} {last = l} {r = r} {k = k} t f h q) =
-    let d = token_det (subst (λ (y : Text). BeginsToken y k r) e t) (t_string a_string) in
-    at_nothing (subst (λ (y : Text). NodePasses c' (moved k l r) y (returned j u v)) d.0 q)
+ends_node : {n : Text} → (token'.string n ≡ newline) ⊎ (token'.string n ≡ token'.semicolon) → ⊥
+ends_node (inl e) = cc
+ends_node (inr e) = cc
 
-no_return : {c : Control} {last s : Text} → s ≡ letter → is_gap c ≡ false → NoReturn c last s
-no_return {c} e g j u v (returns {r = r} {k = k} t f) =
-    let d = token_det (subst (λ (y : Text). BeginsToken y k r) e t) (t_space letter_space) in
-    space_ends (subst (λ (i : Token). (i ≡ newline) ⊎ (i ≡ token'.semicolon)) d.1 (to_gap c k g f))
-no_return e g j u v (goes {r = r} {k = k} t f h q) =
-    let d = token_det (subst (λ (y : Text). BeginsToken y k r) e t) (t_space letter_space) in
-    at_a d.0 h q
-
-return_back : Back NoReturn
-return_back c d last s r k t f g o w p = λ j u v q. p j u v (turn_back t f g q)
-
-return_here : Here NoReturn []
-return_here i d last s r k t f g p = λ j u v q. p j u v (turn_back t f g q)
+no_return : {c : Control} {last : Text} → is_gap c ≡ false → NoReturn c last letter
+no_return g j u v p =
+    let (c1, l1, g1, p1) = over_token (t_space letter_space) space_ends g p in
+    let (c2, l2, g2, p2) = over_token (t_string a_string) ends_node g1 p1 in
+    at_nothing p2
 
 pub letter_dropped : {b t : Text} {x : Node} {xs : Nodes} → Slashdash (47 ∷ 45 ∷ b) t → IsNode true t letter x → AreNodes true (47 ∷ 45 ∷ b) [] xs → xs ≡ none
 letter_dropped {b} {xs = xs} m x ds = go (dash_nodes ds)
   where
     never : NoReturn (at node_slashdash []) b b
-    never = drop_node NoReturn return_back (dash_lines m) x return_here (λ c w q x' ws. no_return refl (tail_gap q)) b
+    never = drop_node NoReturn (λ c d last s r k t f g o w p j u v q. p j u v (turn_back t f (node_on c k f g) q)) (dash_lines m) x (λ i d last s r k t f g p j u v q. p j u v (turn_back t f (node_on (at i []) k f g) q)) (λ c w q x' ws. no_return (tail_ends q).2) b
 
     go : DroppedThen b xs → xs ≡ none
-    go (dropped_then {u = u'} {v = v'} ls z tm es) = by_end (item_end tm es)
-      where
-        nothing_left : {u v : Text} → Terminator u v → u ≡ [] → v ≡ []
-        nothing_left Terminator.semicolon e = cc
-        nothing_left {v = v} (Terminator.newline n) e = absurd (no_token (subst (λ (y : Text). BeginsToken y newline v) e (t_newline (Break.newline n))))
-        nothing_left {v = v} (Terminator.comment l) e = absurd (no_token (subst (λ (y : Text). BeginsToken y newline v) e (t_newline (Break.comment l))))
-        nothing_left Terminator.at_end e = refl
-        nothing_left Terminator.at_close e = cc
-
-        by_end : ((e : Text) × ItemEnd u' v' e) ⊎ (u' ≡ []) → xs ≡ none
-        by_end (inl (e', j)) = absurd (never _ _ _ (passes_node ls z j).1)
-        by_end (inr k) = no_nodes (subst (λ (y : Text). AreNodes true y [] xs) (nothing_left tm k) es)
+    go (then_nodes ls z j es) = absurd (never _ _ _ (passes_node ls z j).1)
+    go (then_none ls z es) = no_nodes es
 
 -- the fewest newlines
 pub fewest_at : (s : Text) (k m : ℕ) → suc m ≡ k → ((xs : Nodes) → AreNodes true ((s ++ newlines m) ++ letter) [] xs → xs ≡ none) → Fewest s k
@@ -208,9 +165,6 @@ lf_first : {r z : Text} {xs : Nodes} → AreNodes true r z xs → AreNodes true 
 lf_first {r} (last_gap g) = last_gap (line_space (LineSpace.«break» (Break.newline (lf r))) g)
 lf_first {r} (node_then g x e ds) = node_then (line_space (LineSpace.«break» (Break.newline (lf r))) g) x e ds
 
-adds_more : (t : Text) (j : ℕ) → AddsNothing (t ++ newlines j) → AddsNothing (t ++ newlines (suc j))
-adds_more t j f r s xs e ds = subst (λ (y : Text). AreNodes true y s xs) (sym (one_more t j r)) (f (10 ∷ r) s xs e (lf_first ds))
-
 pub ends_more : (t : Text) (j : ℕ) → Terminates Anything (t ++ newlines j) → Terminates Anything (t ++ newlines (suc j))
 ends_more t j f r s xs a e ds = let (v, m, es) = f (10 ∷ r) s xs tt e (lf_first ds) in (v, subst (λ (y : Text). Terminator y v) (sym (one_more t j r)) m, es)
 
@@ -227,4 +181,4 @@ no_gap_items t f g = let h = gap_has g in f h.0 h.1
 
 pub gap_answer : (t : Text) (o : Option ℕ) (old new : Option (List Item)) → GapRead t o old new → GapLacks t o
 gap_answer t None old new f = no_gap_items t f
-gap_answer t (Some k) old new (adding is i g, (b, f, few)) = (b, gap_of g, (f, fewer_not AddsNothing t k (adds_more t) (λ j e p. some_nodes (few j e (first a none) (p letter [] (first a none) (inl refl) letter_node)))))
+gap_answer t (Some k) old new (adding is i g, (b, f, few)) = (b, gap_of g, (f, fewer_not AddsNothing t k (λ j f r s xs e ds. subst (λ (y : Text). AreNodes true y s xs) (sym (one_more t j r)) (f (10 ∷ r) s xs e (lf_first ds))) (λ j e p. some_nodes (few j e (first a none) (p letter [] (first a none) (inl refl) letter_node)))))

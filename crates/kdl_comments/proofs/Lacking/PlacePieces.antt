@@ -1,44 +1,41 @@
 -- The pieces of a place: their items, and what the text may come before.
-use Rattle.std.proofs.Common.{◌≡◌, ℕ, ◌<◌, Bool, true, false, List, [], ◌∷◌, ◌++◌, length, Option, Some, None, Bor, refl, sym, ap, subst, ◌∙◌, arith, append_assoc, append-nil}
+use Rattle.std.proofs.Common.{◌≡◌, ℕ, ◌<◌, Bool, true, false, List, [], ◌∷◌, ◌++◌, length, Option, Some, None, Bor, refl, sym, subst, ◌∙◌, arith, append_assoc, append-nil}
 use Rattle.std.specs.Str.{chars}
+use Rattle.kdl_text.specs.Bare.BareString.{bare as a_bare}
 use Rattle.kdl_text.specs.Chars.{Text, Star, none, more, Plus, plus}
-use Rattle.kdl_text.specs.Internal.Here.{first}
 use Rattle.kdl_text.specs.Spans.{bytes}
-use Rattle.kdl_text.specs.Trivia.{NodeSpace, Slashdash, slashdash, ValueEnd}
-use Rattle.kdl_entry.specs.Data.{Entry}
-use Rattle.kdl_entry.specs.Entries.{IsEntry}
-use Rattle.kdl_lexer.specs.Tokens.{BeginsToken, t_slashdash}
-use Rattle.kdl_lexer.specs.Tokens as token'
+use Rattle.kdl_text.specs.Trivia.{NodeSpace, slashdash, ValueEnd}
+use Rattle.kdl_text.proofs.Spacing.ValueEnds.{value_end_no_identifier}
+use Rattle.kdl_lexer.specs.Pieces.{StringPiece}
+use Rattle.kdl_entry.specs.Entries.{string as a_string', untyped}
 use Rattle.kdl_entry.specs.Places.{between, leading}
-use Rattle.kdl_entry.proofs.Moving.EntryMoves.{move_slashdash, move_entry, leading_end}
-use Rattle.kdl_grammar.specs.Data.{Nodes}
-use Rattle.kdl_grammar.specs.Grammar.{IsBlock}
-use Rattle.kdl_control.specs.Control.{at}
+use Rattle.kdl_entry.proofs.Moving.EntryMoves.{leading_end, punctuation_end}
+use Rattle.kdl_grammar.specs.Data as nodes'
+use Rattle.kdl_grammar.specs.Data.{Node, node, no_children, children}
+use Rattle.kdl_grammar.specs.Grammar.{Terminator, IsNode, named, AfterName, Blocks, no_gap, dropped_node, last_gap, braces}
+use Rattle.kdl_grammar.proofs.Laying.LaidIsDerived.{later_of, plain_of}
+use Rattle.kdl_control.specs.Internal.Views.{ended_view}
 use Rattle.kdl_grammar.specs.Places.{after, before}
 use Rattle.kdl_grammar.proofs.Moving.Moves.{before_end, terminator_end}
-use Rattle.kdl_comments.specs.Items.{Item, piece, SpaceItems, Place, before_entry, before_block, after_block, may_end, takes_entries, takes_blocks, spaced, PlaceItems, ends, dropped_entry, dropped_block}
+use Rattle.kdl_comments.specs.Items.{Item, piece, SpaceItems, Place, before_entry, before_block, after_block, may_end, takes_blocks, spaced, PlaceItems, ends}
 use Rattle.kdl_comments.specs.Lacks.{newlines, Lacks, InPlace, BeforeEach, PlaceLacks}
 use Rattle.kdl_comments.specs.Internal.Lacking.{letter, Spaces, PlaceThrough, PlacePieceEnds, PlaceRead}
-use Rattle.kdl_comments.specs.Internal.Passed.{AnswersDroppedPart, AfterPart}
-use Rattle.kdl_comments.specs.Internal.Passing.{PartPasses, slashdash_phase, slashdash_in}
-use Rattle.kdl_comments.specs.Internal.Reading.{Cut, place_view, Run, added, Adding, adding, IsPlaceWith}
+use Rattle.kdl_comments.specs.Internal.Passed.{AnswersDroppedPart, takes, next_place, AfterPart}
+use Rattle.kdl_comments.specs.Internal.Passing.{PartPasses, slashdash_in}
+use Rattle.kdl_comments.specs.Internal.Reading.{place_view, Run, added, Adding, adding, IsPlaceWith}
 use Rattle.kdl_comments.specs.declared.dropped.PartEnd.{PartEnd}
 use Rattle.kdl_comments.specs.declared.ends.Ending.{Ending}
 use Rattle.kdl_comments.specs.declared.ends.Ending.TheVariants.{Before as EndsBefore, InReturn, Open}
 use Rattle.kdl_comments.specs.declared.item.Place as held
 use Rattle.kdl_comments.specs.declared.places.PlacePiece.TheVariants.{Onward, InEscline}
-use Rattle.kdl_comments.proofs.Dropping.DroppedParts.{entry_passes, block_passes, part_entry, part_block, part_no_block, part_refused, dash_space, dash_lines}
-use Rattle.kdl_comments.proofs.Dropping.DroppedPieces.{before_shorter}
-use Rattle.kdl_comments.proofs.Dropping.NoEquals.{passes_det, place_quiet}
-use Rattle.kdl_comments.proofs.Lacking.Fewest.{letter_end}
-use Rattle.kdl_comments.proofs.Lacking.Keeping.{put_more}
-use Rattle.kdl_comments.proofs.Lacking.PlaceFewest.{not_each}
-use Rattle.kdl_comments.proofs.Listing.PlaceReads.{added_none, then_added, leaves_start, leaves_then, leaves_all, leaves_none, leaves_add, ends_spaced, blocks_spaced, run_places}
+use Rattle.kdl_comments.proofs.Dropping.DroppedParts.{DropsPart, drops_entry, drops_block, part_leaves, the_part, part_nowhere, part_refused}
+use Rattle.kdl_comments.proofs.Dropping.TokenLoop.{before_shorter}
+use Rattle.kdl_comments.proofs.Lacking.Fewest.{a_piece, letter_node, letter_end, some_nodes, letter_dropped}
+use Rattle.kdl_comments.proofs.Lacking.GapPieces.{in_front}
+use Rattle.kdl_comments.proofs.Lacking.SpaceEnds.{put_more, lf}
+use Rattle.kdl_comments.proofs.Listing.SpaceItems.{added_none, then_added, leaves_start, leaves_then, leaves_all, leaves_none, leaves_add, ends_spaced, blocks_spaced, run_places, place_end}
 use Rattle.kdl_comments.proofs.Listing.PlaceTexts.{Has, before_block_items, after_block_items}
-use Rattle.kdl_comments.proofs.Listing.Starts.{before_cut}
-use Rattle.kdl_comments.proofs.Listing.SpaceItems.{space_of, place_end}
-use Rattle.kdl_comments.proofs.Rewriting.BeforeNewlines.{closed_braces}
-use Rattle.kdl_comments.proofs.Rewriting.PlacesAgain.{DashedEntry, DashedBlock, place_spaced, text_space, text_entry, text_block, no_text}
+use Rattle.kdl_comments.proofs.Rewriting.PlacesAgain.{DashedEntry, DashedBlock, moved_entry, moved_block, place_spaced, text_space, text_entry, text_block, no_text}
 
 -- what is in a place before a value end is one
 text_end : (p : Place) {s z : Text} → InPlace p s z → ValueEnd true z → ValueEnd true s
@@ -81,77 +78,36 @@ spaces_in_escline p s (EndsBefore r) old new g k = absurd (g r refl)
 spaces_in_escline p s InReturn old new g (x, k) = (all_spaces p x, λ z. one_space (place_view p) (k.before_lf z))
 spaces_in_escline p s Open old new g (x, k) = (all_spaces p x, λ z. one_space (place_view p) (k.ended z))
 
--- a dropped entry or a dropped block
-data DropsPart (p : Place) (b u : Text) : Bool → Type 0 where
-  entry : {t : Text} {e : Entry} → takes_entries p ≡ true → Slashdash (47 ∷ 45 ∷ b) t → IsEntry true t u e → DropsPart p b u false
-  block : {t : Text} {xs : Nodes} → Slashdash (47 ∷ 45 ∷ b) t → IsBlock true t u xs → DropsPart p b u true
+-- a dropped entry or a dropped block, before more of the rest
+part_more : (p : Place) {b u : Text} {c : Bool} → DropsPart p b u c → (w z : Text) → ValueEnd true z → InPlace (next_place p c) (u ++ w) z → InPlace p ((47 ∷ 45 ∷ b) ++ w) z
+part_more p {u = u} (drops_entry h m i) w z e f =
+    let (at, g) = moved_entry m i in
+    text_entry p z h (subst (λ (y : Text). DashedEntry y (u ++ w)) (put_more at w) (g (u ++ w) (text_end (spaced false p) f e))) (place_spaced false p (u ++ w) z f)
+part_more p {u = u} (drops_block h m k) w z e f = let (at, g) = moved_block m k in text_block p z h (subst (λ (y : Text). DashedBlock y (u ++ w)) (put_more at w) (g (u ++ w))) f
 
-the_part : {p : Place} {s b u : Text} {is_block : Bool} {is : List Item} → s ≡ 47 ∷ 45 ∷ b → PartPasses (slashdash_in p) b b is_block u → PlaceItems p s is → DropsPart p b u is_block
-the_part q x (ends e) = absurd cc
-the_part {b = b} q x (PlaceItems.space d g) = absurd (dash_space (subst (λ (z : Text). BeginsToken z token'.slashdash b) (sym q) t_slashdash) (space_of d))
-the_part {p = p} {b = b} {u = u} {is_block = c} q x (dropped_entry {t = t} {e = i'} e m i g) =
-    let ls = dash_lines (subst (λ (z : Text). BeginsToken z token'.slashdash b) (sym q) t_slashdash) m in
-    let y : PartPasses (at (slashdash_phase true) []) b b c u = subst (λ (z : Bool). PartPasses (at (slashdash_phase z) []) b b c u) e x in
-    let d = passes_det (entry_passes ls i (place_quiet g) b) y in
-    subst (λ (z : Bool). DropsPart p b u z) d.0 (DropsPart.entry e (slashdash ls) (subst (λ (z : Text). IsEntry true t z i') d.1 i))
-the_part {p = p} {b = b} {u = u} q x (dropped_block {t = t} {xs = xs} e m k g) =
-    let ls = dash_lines (subst (λ (z : Text). BeginsToken z token'.slashdash b) (sym q) t_slashdash) m in
-    let d = passes_det (block_passes ls k (takes_entries p) b) x in
-    subst (λ (z : Bool). DropsPart p b u z) d.0 (DropsPart.block (slashdash ls) (subst (λ (z : Text). IsBlock true t z xs) d.1 k))
+next_blocks : (p : Place) (c : Bool) → takes_blocks p ≡ true → takes_blocks (next_place p c) ≡ true
+next_blocks p true h = refl
+next_blocks p false h = blocks_spaced false p ∙ h
 
-entry_more : {p : Place} {b u : Text} → DropsPart p b u false → (w : Text) → ValueEnd true (u ++ w) → (takes_entries p ≡ true) × DashedEntry ((47 ∷ 45 ∷ b) ++ w) (u ++ w)
-entry_more {u = u} (DropsPart.entry {t = t} {e = i'} y m i) w e =
-    let o = move_slashdash m in let c = move_entry i in
-    let h : c.at.put (u ++ w) ≡ t ++ w = put_more c.at w in
-    (y, DashedEntry.dashed (subst (λ (y : Text). Slashdash y (t ++ w)) (put_more o.at w) (o.there (t ++ w) (ap first (sym h) ∙ c.full (u ++ w)))) (subst (λ (y : Text). IsEntry true y (u ++ w) i') h (c.there (u ++ w) e)))
-
-braces_more : {p : Place} {b u : Text} → DropsPart p b u true → (w : Text) → DashedBlock ((47 ∷ 45 ∷ b) ++ w) (u ++ w)
-braces_more {u = u} (DropsPart.block {t = t} {xs = xs} m k) w =
-    let o = move_slashdash m in let c = closed_braces k in
-    let h : c.at.put (u ++ w) ≡ t ++ w = put_more c.at w in
-    DashedBlock.dashed (subst (λ (y : Text). Slashdash y (t ++ w)) (put_more o.at w) (o.there (t ++ w) (ap first (sym h) ∙ c.full (u ++ w)))) (subst (λ (y : Text). IsBlock true y (u ++ w) xs) h (c.there (u ++ w)))
-
-entry_through : (p : Place) {b u : Text} → PartPasses (slashdash_in p) b b false u → PlaceThrough p (47 ∷ 45 ∷ b) (spaced false p) u (piece (between (47 ∷ 45 ∷ b) u) ∷ [])
-entry_through p {b} {u} x = record {
-  items = part_entry x;
-  adds = λ js d w z e f.
-      let all = (part_entry x _).1 (js, refl, d) in
-      let k = entry_more (the_part refl x all) w (text_end (spaced false p) f e) in
-      text_entry p z k.0 k.1 (place_spaced false p (u ++ w) z f);
-  blocks = λ h. blocks_spaced false p ∙ h;
+part_through : (p : Place) {b u : Text} {c : Bool} → PartPasses (slashdash_in p) b b c u → takes p c ≡ true → PlaceThrough p (47 ∷ 45 ∷ b) (next_place p c) u (piece (between (47 ∷ 45 ∷ b) u) ∷ [])
+part_through p {c = c} x h = record {
+  items = part_leaves x h;
+  adds = λ js d w z e f. part_more p (the_part x ((part_leaves x h _).1 (js, refl, d))) w z e f;
+  blocks = next_blocks p c;
 }
 
-block_through : (p : Place) {b u : Text} → PartPasses (slashdash_in p) b b true u → takes_blocks p ≡ true → PlaceThrough p (47 ∷ 45 ∷ b) after_block u (piece (between (47 ∷ 45 ∷ b) u) ∷ [])
-block_through p {b} {u} x h = record {
-  items = part_block x h;
-  adds = λ js d w z e f. let all = (part_block x h _).1 (js, refl, d) in text_block p z h (braces_more (the_part refl x all) w) f;
-  blocks = λ k. refl;
-}
-
-part_through : (p q : Place) (b u : Text) (is_block : Bool) (o : Option Place) → PartPasses (slashdash_in p) b b is_block u → AfterPart p is_block o → o ≡ Some q → PlaceThrough p (47 ∷ 45 ∷ b) q u (piece (between (47 ∷ 45 ∷ b) u) ∷ [])
-part_through p q b u false o x f e = let y : spaced false p ≡ q = cc in subst (λ (c : Place). PlaceThrough p (47 ∷ 45 ∷ b) c u (piece (between (47 ∷ 45 ∷ b) u) ∷ [])) y (entry_through p x)
-part_through p q b u true None x f e = absurd cc
-part_through p q b u true (Some q') x (h, f) e = let y : after_block ≡ q = cc in subst (λ (c : Place). PlaceThrough p (47 ∷ 45 ∷ b) c u (piece (between (47 ∷ 45 ∷ b) u) ∷ [])) y (block_through p x h)
-
-pub part_cut : (p : Place) (b : Text) (e : PartEnd) → AnswersDroppedPart p b (Some e) → Cut b e.at
-part_cut p b e (u, x, c) = before_cut c
-
-pub part_goes : (p q : Place) (s b node rest : Text) (e : PartEnd) (o : Option Place) {old new : Option (List Item)} → s ≡ 47 ∷ 45 ∷ b → AnswersDroppedPart p b (Some e) → ((a r : Text) → b ≡ a ++ r → bytes a ≡ e.at → (node ≡ between (47 ∷ 45 ∷ b) r) × (rest ≡ r)) → AfterPart p e.is_block o
-    → o ≡ Some q → new ≡ added old (piece node ∷ []) → Adding (PlaceThrough p s q rest) old new × (length rest < length s)
-part_goes p q s b node rest e o f (u, x, c) k g h n =
+pub part_goes : (p q : Place) (s b part rest : Text) (e : PartEnd) (o : Option Place) {old new : Option (List Item)} → s ≡ 47 ∷ 45 ∷ b → AnswersDroppedPart p b (Some e) → ((a r : Text) → b ≡ a ++ r → bytes a ≡ e.at → (part ≡ between (47 ∷ 45 ∷ b) r) × (rest ≡ r))
+    → AfterPart p (ended_view e.ended) o → o ≡ Some q → new ≡ added old (piece part ∷ []) → Adding (PlaceThrough p s q rest) old new × (length rest < length s)
+part_goes p q s b part rest e o f (u, x, c) k g h n =
     let (m, i) = k c.0 u c.1 c.2 in
-    rw (f, i) (adding (piece node ∷ []) n (rw m (part_through p q b u e.is_block o x g h)), before_shorter (47 ∷ 45 ∷ b) b u e.at refl c)
+    let (t, j) = subst (λ (o : Option Place). AfterPart p (ended_view e.ended) o) h g in
+    rw (f, i, j) (adding (piece part ∷ []) n (rw m (part_through p x t)), before_shorter (47 ∷ 45 ∷ b) b u e.at refl c)
 
 pub part_none : (p : Place) (s b : Text) → s ≡ 47 ∷ 45 ∷ b → AnswersDroppedPart p b None → (is : List Item) → PlaceItems p s is → ⊥
 part_none p s b f k is d = part_refused k is (subst (λ (y : Text). PlaceItems p y is) f d)
 
-pub part_nowhere : (p : Place) (s b : Text) (e : PartEnd) (o : Option Place) → s ≡ 47 ∷ 45 ∷ b → AnswersDroppedPart p b (Some e) → AfterPart p e.is_block o → o ≡ None → (is : List Item) → PlaceItems p s is → ⊥
-part_nowhere p s b e o f (u, x, c) h i is d = go e.is_block o x h i
-  where
-    go : (c : Bool) (o : Option Place) → PartPasses (slashdash_in p) b b c u → AfterPart p c o → o ≡ None → ⊥
-    go false o x h i = cc
-    go true None x h i = part_no_block x h is (subst (λ (y : Text). PlaceItems p y is) f d)
-    go true (Some q) x h i = cc
+pub part_not_there : (p : Place) (s b : Text) (e : PartEnd) (o : Option Place) → s ≡ 47 ∷ 45 ∷ b → AnswersDroppedPart p b (Some e) → AfterPart p (ended_view e.ended) o → o ≡ None → (is : List Item) → PlaceItems p s is → ⊥
+part_not_there p s b e o f (u, x, c) h i is d = part_nowhere x (subst (λ (o : Option Place). AfterPart p (ended_view e.ended) o) i h) is (subst (λ (y : Text). PlaceItems p y is) f d)
 
 no_blocks_end : (q : Place) → takes_blocks q ≡ true → may_end q ≡ true
 no_blocks_end (before_entry b) h = cc
@@ -168,6 +124,33 @@ text_has : (p : Place) → takes_blocks p ≡ true → {s : Text} → InPlace p 
 text_has (before_entry b) h x = cc
 text_has before_block h {s} x = (before_block_items s).0 x
 text_has after_block h {s} x = (after_block_items s).0 x
+
+-- a node of one letter, without a block or with an empty one, and the text in its place
+abbrev front : Place → Text → Text
+front (before_entry b) s = s
+front before_block s = 97 ∷ s
+front after_block s = 97 ∷ 123 ∷ 125 ∷ s
+
+letter_piece : {s : Text} → ValueEnd true s → StringPiece (97 ∷ s) s (97 ∷ [])
+letter_piece e = StringPiece.bare (a_bare refl a_piece (value_end_no_identifier e))
+
+place_node : (p : Place) → takes_blocks p ≡ true → {s r : Text} → InPlace p s r → ValueEnd true s → (x : Node) × IsNode true (front p s) r x
+place_node (before_entry b) h d e = cc
+place_node before_block h (before ds x) e = (node None (97 ∷ []) [] no_children, named untyped (a_string' (letter_piece e) e) (plain_of (before ds x)))
+place_node after_block h (after ds ss) e =
+    let k = punctuation_end 123 refl in (
+      node None (97 ∷ []) [] (children nodes'.none),
+      named untyped (a_string' (letter_piece k) k) (AfterName.blocks (Blocks.block none (braces (last_gap no_gap)) (later_of (after ds ss)))),
+    )
+
+-- a text that needs an LF to end may not be in the place before each terminator
+not_each : (p : Place) → takes_blocks p ≡ true → (t : Text) → ((s z : Text) → InPlace p s z → ValueEnd true z → ValueEnd true s) → InPlace p (t ++ (10 ∷ letter)) letter → BeforeEach p t → ⊥
+not_each p h t begins d f =
+    let r = 10 ∷ letter in
+    let m = Terminator.newline (lf letter) in
+    let x = place_node p h (f r letter m) (begins (t ++ r) letter d letter_end) in
+    let y = place_node p h d (begins (t ++ r) letter d letter_end) in
+    some_nodes (letter_dropped (slashdash none) y.1 (in_front (dropped_node (slashdash none) x.1 m no_gap) letter_node))
 
 -- the place so far
 pub place_turn : (p q w : Place) (s t v : Text) (r : Text) {old now new : Option (List Item)} → Adding (PlaceThrough p s q t) old now → Adding (PlaceThrough q t w r) now new → v ≡ r → Adding (PlaceThrough p s w v) old new

@@ -1,14 +1,13 @@
 -- A gap, or a place in a node, has one list of items at most.
-use Rattle.std.proofs.Common.{◌≡◌, Bool, false, List, [], ◌∷◌, ◌++◌, sym, ap, subst, ◌∙◌}
+use Rattle.std.proofs.Common.{◌≡◌, refl, List, [], ◌∷◌, ◌++◌, sym, ap, subst, ◌∙◌}
 use Rattle.kdl_text.specs.Chars.{Text}
 use Rattle.kdl_text.specs.Trivia.{slashdash}
 use Rattle.kdl_entry.specs.Places.{between}
 use Rattle.kdl_control.specs.Control.{at, node_slashdash}
 use Rattle.kdl_comments.specs.Items.{Item, piece, GapItems, Place, takes_entries, PlaceItems}
-use Rattle.kdl_comments.specs.Internal.Passing.{ended, NodePasses, PartPasses, slashdash_phase, slashdash_in}
+use Rattle.kdl_comments.specs.Internal.Passing.{ended, NodePasses}
 use Rattle.kdl_comments.proofs.Dropping.DroppedNodes.{passes_node, passes_last, tight_same, node_returned, node_ended}
-use Rattle.kdl_comments.proofs.Dropping.NoEquals.{place_quiet}
-use Rattle.kdl_comments.proofs.Dropping.DroppedParts.{entry_passes, block_passes, part_entry, part_block}
+use Rattle.kdl_comments.proofs.Dropping.DroppedParts.{place_quiet, entry_passes, block_passes, part_leaves}
 use Rattle.kdl_comments.proofs.Listing.SpaceItems.{gap_space, gap_end, place_space, place_end}
 
 pub gap_items_det : {s : Text} {is js : List Item} → GapItems s is → GapItems s js → is ≡ js
@@ -26,9 +25,8 @@ pub place_items_det : {p : Place} {s : Text} {is js : List Item} → PlaceItems 
 place_items_det {p = p} {js = js} (PlaceItems.ends e) h = sym ((place_end p js).0 h).1
 place_items_det {js = js} (PlaceItems.space {is = is} d g) h = let w = (place_space d js).0 h in ap (λ (l : List Item). is ++ l) (place_items_det g w.2) ∙ sym w.1
 place_items_det {p = p} {js = js} (PlaceItems.dropped_entry {u = u} e (slashdash {s = t} ls) i g) h =
-    let x : PartPasses (slashdash_in p) t t false u = subst (λ (b : Bool). PartPasses (at (slashdash_phase b) []) t t false u) (sym e) (entry_passes ls i (place_quiet g) t) in
-    let w = (part_entry x js).0 h in
+    let w = (part_leaves (entry_passes ls i (place_quiet g) (takes_entries p) e t) refl js).0 h in
     ap (λ (l : List Item). piece (between (47 ∷ 45 ∷ t) u) ∷ l) (place_items_det g w.2) ∙ sym w.1
 place_items_det {p = p} {js = js} (PlaceItems.dropped_block {u = u} e (slashdash {s = t} ls) b g) h =
-    let w = (part_block (block_passes ls b (takes_entries p) t) e js).0 h in
+    let w = (part_leaves (block_passes ls b (takes_entries p) t) e js).0 h in
     ap (λ (l : List Item). piece (between (47 ∷ 45 ∷ t) u) ∷ l) (place_items_det g w.2) ∙ sym w.1

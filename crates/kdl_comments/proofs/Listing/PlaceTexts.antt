@@ -1,21 +1,22 @@
 -- A text has a list of items exactly where it may be in its place.
-use Rattle.std.proofs.Common.{◌≡◌, ◌↔◌, ◌⊎◌, inl, inr, Bool, true, false, List, [], ◌∷◌, ◌++◌, refl, sym, subst, ◌∙◌}
+use Rattle.std.proofs.Common.{◌≡◌, ◌↔◌, ◌⊎◌, inl, inr, true, false, List, [], ◌∷◌, ◌++◌, refl, sym, subst, ◌∙◌}
 use Rattle.kdl_text.specs.Chars.{Text, Star, Plus, plus}
 use Rattle.kdl_text.specs.Chars.Star.{none as no_star, more}
 use Rattle.kdl_text.specs.Trivia.{NodeSpace, Break, LineSpace, Slashdash, slashdash}
 use Rattle.kdl_text.proofs.Looking.Stars.{join}
+use Rattle.kdl_text.proofs.Spacing.ValueEnds.{space_ends}
 use Rattle.kdl_entry.specs.Data.{Entry}
 use Rattle.kdl_entry.specs.Entries.{IsEntry}
-use Rattle.kdl_entry.specs.Places.{between}
-use Rattle.kdl_entry.specs.Places.{DroppedEntry, dropped as a_dropped_entry, EntryLeading, leading}
-use Rattle.kdl_grammar.specs.Data.{Node, Children, Nodes}
-use Rattle.kdl_grammar.specs.Grammar.{Terminator, IsNode, named, AfterName, kept_entry, Blocks, AfterBlock, dropped_later, no_more, Gap, no_gap, IsBlock}
+use Rattle.kdl_entry.specs.Places.{between, DroppedEntry, dropped as a_dropped_entry, EntryLeading, leading}
+use Rattle.kdl_entry.proofs.Moving.EntryMoves.{spaces_end}
+use Rattle.kdl_grammar.specs.Data.{Node, Nodes}
+use Rattle.kdl_grammar.specs.Grammar.{Terminator, IsNode, Gap, no_gap, IsBlock}
 use Rattle.kdl_grammar.specs.Places.{DroppedBlock, dropped as a_dropped_block, AfterChildren, after, BeforeChildren, before}
 use Rattle.kdl_comments.specs.Items.{Item, piece, ItemEnd, GapItems, Place, before_entry, before_block, after_block, may_end, takes_entries, takes_blocks, spaced, PlaceItems}
 use Rattle.kdl_comments.proofs.Dropping.DroppedNodes.{passes_last, node_ended}
 use Rattle.kdl_comments.proofs.Dropping.Paths.{at_brace, halts}
-use Rattle.kdl_comments.proofs.Listing.PlaceReads.{spaced_again, entries_spaced, blocks_spaced}
-use Rattle.kdl_comments.proofs.Listing.SpaceItems.{space_of, line_space_of, space_items, line_space_items}
+use Rattle.kdl_comments.proofs.Listing.SpaceItems.{spaced_again, entries_spaced, blocks_spaced, space_of, line_space_of, space_items, line_space_items}
+use Rattle.kdl_comments.proofs.Rewriting.BeforeNewlines.{cut_node}
 
 -- the text has a list of items as a gap
 abbrev pub HasGap : Text → Type 0
@@ -55,24 +56,14 @@ gap_has (Gap.dropped_node m x Terminator.at_end g) = node_last m x
 gap_has (Gap.dropped_node m x Terminator.at_close g) = let e = halts at_brace g in cc
 
 -- a node with more node-spaces at its end
-block_spaces : {s t r : Text} → AfterBlock true s t → Star NodeSpace t r → AfterBlock true s r
-block_spaces (dropped_later us m b d) ss = dropped_later us m b (block_spaces d ss)
-block_spaces (no_more us) ss = no_more (join us ss)
-
-blocks_spaces : {braced : Bool} {s t r : Text} {k : Children} → Blocks true braced s t k → Star NodeSpace t r → Blocks true braced s r k
-blocks_spaces (Blocks.dropped_block us m b d) ss = Blocks.dropped_block us m b (blocks_spaces d ss)
-blocks_spaces (Blocks.block us b d) ss = Blocks.block us b (block_spaces d ss)
-blocks_spaces (Blocks.no_block us) ss = Blocks.no_block (join us ss)
-
-name_spaces : {s t r : Text} {es : List Entry} {k : Children} → AfterName true s t es k → Star NodeSpace t r → AfterName true s r es k
-name_spaces (kept_entry n i d) ss = kept_entry n i (name_spaces d ss)
-name_spaces (AfterName.dropped_entry us m i d) ss = AfterName.dropped_entry us m i (name_spaces d ss)
-name_spaces (AfterName.blocks d) ss = AfterName.blocks (blocks_spaces d ss)
-
 node_spaces : {s t r : Text} {x : Node} → IsNode true s t x → Star NodeSpace t r → IsNode true s r x
-node_spaces (named y n d) ss = named y n (name_spaces d ss)
+node_spaces x no_star = x
+node_spaces {r = r} {x = y} x (more n ss) =
+    let c = cut_node x in
+    let e = spaces_end c.spaces (space_ends n) in
+    subst (λ (z : Text). IsNode true z r y) (sym c.at.here) (c.there c.rest r e (join c.spaces (more n ss)))
 
-terminator_of : {u v e : Text} → ItemEnd u v e → Terminator u v
+pub terminator_of : {u v e : Text} → ItemEnd u v e → Terminator u v
 terminator_of ItemEnd.semicolon = Terminator.semicolon
 terminator_of (ItemEnd.line (Break.newline n)) = Terminator.newline n
 terminator_of (ItemEnd.line (Break.comment l)) = Terminator.comment l

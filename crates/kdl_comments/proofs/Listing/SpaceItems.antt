@@ -1,9 +1,9 @@
 -- The items of node-spaces and line-spaces: each has some, and some alone; and what a space does in front of a gap or a place.
-use Rattle.std.proofs.Common.{◌≡◌, ◌↔◌, true, List, [], ◌∷◌, ◌++◌, length, refl, sym, ap, subst, ◌∙◌, arith}
+use Rattle.std.proofs.Common.{◌≡◌, ◌↔◌, true, List, [], ◌∷◌, ◌++◌, refl, sym, ap, subst, ◌∙◌, Bool, Option, Some, None, append_assoc, append-nil}
 use Rattle.kdl_text.specs.Chars.{Text, Newline, Star, Space}
 use Rattle.kdl_text.specs.Chars.Star.{none as no_star, more}
 use Rattle.kdl_text.specs.Chars.Space.{space as a_space}
-use Rattle.kdl_text.specs.Trivia.{BlockComment, LineComment, Ws, EscEnd, Escline, NodeSpace, LineSpace, Slashdash}
+use Rattle.kdl_text.specs.Trivia.{BlockComment, LineComment, Ws, EscEnd, NodeSpace, LineSpace, Slashdash, slashdash}
 use Rattle.kdl_text.specs.Trivia.BlockComment.{block as a_block}
 use Rattle.kdl_text.specs.Trivia.LineComment.{line as a_line}
 use Rattle.kdl_text.specs.Trivia.Ws.{space as ws_space, comment as ws_comment}
@@ -15,11 +15,12 @@ use Rattle.kdl_text.specs.Trivia.LineSpace.{space as line_space, «break» as li
 use Rattle.kdl_text.specs.Trivia.Slashdash.{slashdash as a_slashdash}
 use Rattle.kdl_text.proofs.Spacing.SpaceUnique.{slash_no_space, backslash_no_space, slash_no_newline, newline_begins, space_det, block_det, line_comment_det, esc_end_ws, space_or_break}
 use Rattle.kdl_text.proofs.Spacing.NewlineUnique.{newline_det}
-use Rattle.kdl_text.proofs.Spacing.SpacePieces.{node_space_shorter, line_space_shorter, slashdash_shorter}
 use Rattle.kdl_lexer.specs.Tokens.{t_space, t_newline, t_slashdash}
 use Rattle.kdl_entry.specs.Places.{between}
-use Rattle.kdl_lexer.proofs.Lexing.TokenUnique.{token_det}
-use Rattle.kdl_comments.specs.Items.{Item, comment, piece, line_end, EsclineItems, SpaceItems, LineSpaceItems, GapItems, Place, may_end, spaced, PlaceItems}
+use Rattle.kdl_lexer.proofs.Lexing.TokenUnique.{token_det, no_token}
+use Rattle.kdl_comments.specs.Items.{Item, comment, piece, line_end, EsclineItems, SpaceItems, LineSpaceItems, GapItems, Place, may_end, spaced, PlaceItems, before_entry, before_block, after_block, takes_entries, takes_blocks}
+use Rattle.kdl_comments.specs.Internal.Reading.{Run, added, Adding, adding, Leaves}
+use Rattle.kdl_comments.specs.Internal.Reading.Run.{one as one_run, more as more_run}
 
 -- what has items is an escline, a node-space, a line-space
 pub escline_of : {s r : Text} {is : List Item} → EsclineItems s r is → (t : Text) × Star Ws s t × EscEnd t r
@@ -29,13 +30,10 @@ escline_of {s = s} (EsclineItems.line l) = (s, no_star, end_comment l)
 escline_of {s = s} (EsclineItems.newline n) = (s, no_star, end_newline n)
 escline_of EsclineItems.ends = ([], no_star, end_ends)
 
-pub escline_is : {s r : Text} {is : List Item} → EsclineItems s r is → Escline (92 ∷ s) r
-escline_is d = let e = escline_of d in an_escline e.1 e.2
-
 pub space_of : {s r : Text} {is : List Item} → SpaceItems s r is → NodeSpace s r
 space_of (SpaceItems.space p) = ws (ws_space p)
 space_of (SpaceItems.block p) = ws (ws_comment p)
-space_of (SpaceItems.escline d) = node_escline (escline_is d)
+space_of (SpaceItems.escline d) = let e = escline_of d in node_escline (an_escline e.1 e.2)
 
 pub line_space_of : {s r : Text} {is : List Item} → LineSpaceItems s r is → LineSpace s r
 line_space_of (LineSpaceItems.space d) = line_space (space_of d)
@@ -135,18 +133,16 @@ pub dash_no_line : {s r t : Text} → Slashdash s t → LineSpace s r → ⊥
 dash_no_line m (line_space n) = dash_no_space m n
 dash_no_line (a_slashdash ls) (line_break n) = let e = (token_det (t_newline n) t_slashdash).1 in cc
 
-end_no_space : {s r : Text} → s ≡ [] → NodeSpace s r → ⊥
-end_no_space e n = omega (arith, ap length e, node_space_shorter n)
+end_no_space : {r : Text} → NodeSpace [] r → ⊥
+end_no_space n = no_token (t_space n)
 
-end_no_line : {s r : Text} → s ≡ [] → LineSpace s r → ⊥
-end_no_line e n = omega (arith, ap length e, line_space_shorter n)
-
-end_no_dash : {s r : Text} → s ≡ [] → Slashdash s r → ⊥
-end_no_dash e n = omega (arith, ap length e, slashdash_shorter n)
+end_no_line : {r : Text} → LineSpace [] r → ⊥
+end_no_line (line_space n) = end_no_space n
+end_no_line (line_break n) = no_token (t_newline n)
 
 -- a gap that begins with a line-space
 space_first : {s t : Text} {is all : List Item} → LineSpaceItems s t is → GapItems s all → (js : List Item) × (all ≡ is ++ js) × GapItems t js
-space_first d GapItems.none = absurd (end_no_line refl (line_space_of d))
+space_first d GapItems.none = absurd (end_no_line (line_space_of d))
 space_first {is = is} d (GapItems.space {js = js} e g) = let f = line_space_items_det d e in (js, ap (λ (l : List Item). l ++ js) (sym f.1), subst (λ (u : Text). GapItems u js) (sym f.0) g)
 space_first d (GapItems.dropped_node m x e g) = absurd (dash_no_line m (line_space_of d))
 space_first d (GapItems.last_node m x h ss g) = absurd (dash_no_line m (line_space_of d))
@@ -156,7 +152,7 @@ gap_space {s = s} d all = (λ g. space_first d g, λ h. subst (λ (l : List Item
 
 -- a place that begins with a node-space
 place_first : {p : Place} {s t : Text} {is all : List Item} → SpaceItems s t is → PlaceItems p s all → (js : List Item) × (all ≡ is ++ js) × PlaceItems (spaced true p) t js
-place_first d (PlaceItems.ends e) = absurd (end_no_space refl (space_of d))
+place_first d (PlaceItems.ends e) = absurd (end_no_space (space_of d))
 place_first {p = p} d (PlaceItems.space {js = js} e g) = let f = space_items_det d e in (js, ap (λ (l : List Item). l ++ js) (sym f.1), subst (λ (u : Text). PlaceItems (spaced true p) u js) (sym f.0) g)
 place_first d (PlaceItems.dropped_entry e m i g) = absurd (dash_no_space m (space_of d))
 place_first d (PlaceItems.dropped_block e m b g) = absurd (dash_no_space m (space_of d))
@@ -165,23 +161,23 @@ pub place_space : {p : Place} {s t : Text} {is : List Item} → SpaceItems s t i
 place_space {p = p} {s = s} d all = (λ g. place_first d g, λ h. subst (λ (l : List Item). PlaceItems p s l) (sym h.1) (PlaceItems.space d h.2))
 
 -- an empty gap or place
-gap_empty : {s : Text} {all : List Item} → s ≡ [] → GapItems s all → all ≡ []
-gap_empty e GapItems.none = refl
-gap_empty e (GapItems.space d g) = absurd (end_no_line e (line_space_of d))
-gap_empty e (GapItems.dropped_node m x f g) = absurd (end_no_dash e m)
-gap_empty e (GapItems.last_node m x h ss g) = absurd (end_no_dash e m)
+gap_empty : {all : List Item} → GapItems [] all → all ≡ []
+gap_empty GapItems.none = refl
+gap_empty (GapItems.space d g) = absurd (end_no_line (line_space_of d))
+gap_empty (GapItems.dropped_node m x f g) = elim m [ ]
+gap_empty (GapItems.last_node m x h ss g) = elim m [ ]
 
 pub gap_end : (all : List Item) → GapItems [] all ↔ (all ≡ [])
-gap_end all = (λ g. gap_empty refl g, λ e. subst (λ (l : List Item). GapItems [] l) (sym e) GapItems.none)
+gap_end all = (λ g. gap_empty g, λ e. subst (λ (l : List Item). GapItems [] l) (sym e) GapItems.none)
 
-place_empty : {p : Place} {s : Text} {all : List Item} → s ≡ [] → PlaceItems p s all → (may_end p ≡ true) × (all ≡ [])
-place_empty e (PlaceItems.ends f) = (f, refl)
-place_empty e (PlaceItems.space d g) = absurd (end_no_space e (space_of d))
-place_empty e (PlaceItems.dropped_entry f m i g) = absurd (end_no_dash e m)
-place_empty e (PlaceItems.dropped_block f m b g) = absurd (end_no_dash e m)
+place_empty : {p : Place} {all : List Item} → PlaceItems p [] all → (may_end p ≡ true) × (all ≡ [])
+place_empty (PlaceItems.ends f) = (f, refl)
+place_empty (PlaceItems.space d g) = absurd (end_no_space (space_of d))
+place_empty (PlaceItems.dropped_entry f m i g) = elim m [ ]
+place_empty (PlaceItems.dropped_block f m b g) = elim m [ ]
 
 pub place_end : (p : Place) (all : List Item) → PlaceItems p [] all ↔ ((may_end p ≡ true) × (all ≡ []))
-place_end p all = (λ g. place_empty refl g, λ e. subst (λ (l : List Item). PlaceItems p [] l) (sym e.1) (PlaceItems.ends e.0))
+place_end p all = (λ g. place_empty g, λ e. subst (λ (l : List Item). PlaceItems p [] l) (sym e.1) (PlaceItems.ends e.0))
 
 -- a slashdash begins with `/-`
 dash_text : {s t : Text} → Slashdash s t → (u : Text) × (s ≡ 47 ∷ 45 ∷ u)
@@ -193,3 +189,80 @@ gap_none a b c all GapItems.none = a refl
 gap_none a b c all (GapItems.space d g) = b _ (line_space_of d)
 gap_none a b c all (GapItems.dropped_node m x f g) = let u = dash_text m in c u.0 u.1
 gap_none a b c all (GapItems.last_node m x h ss g) = let u = dash_text m in c u.0 u.1
+
+-- items that were added after others
+pub added_none : (o : Option (List Item)) → o ≡ added o []
+added_none None = refl
+added_none (Some is) = ap Some (sym (append-nil is))
+
+added_twice : (o : Option (List Item)) (is js : List Item) → added (added o is) js ≡ added o (is ++ js)
+added_twice None is js = refl
+added_twice (Some l) is js = ap Some (append_assoc l is js)
+
+pub then_added : {now new : Option (List Item)} (old : Option (List Item)) (is js : List Item) → now ≡ added old is → new ≡ added now js → new ≡ added old (is ++ js)
+then_added old is js e f = f ∙ ap (λ (o : Option (List Item)). added o js) e ∙ added_twice old is js
+
+-- first some items, and then the others
+pub leaves_start : (X : List Item → Type 0) → Leaves X X []
+leaves_start X all = (λ x. (all, refl, x), λ h. subst X (sym h.1) h.2)
+
+pub leaves_then : (X Y Z : List Item → Type 0) (is js : List Item) → Leaves X Y is → Leaves Y Z js → Leaves X Z (is ++ js)
+leaves_then X Y Z is js l m all = (
+  λ x. let (ks, e, y) = (l all).0 x in let (ns, f, z) = (m ks).0 y in (ns, e ∙ ap (λ (k : List Item). is ++ k) f ∙ sym (append_assoc is js ns), z),
+  λ h. (l all).1 (js ++ h.0, h.1 ∙ append_assoc is js h.0, (m (js ++ h.0)).1 (h.0, refl, h.2)),
+)
+
+pub leaves_all : (X Y : List Item → Type 0) (is : List Item) → Leaves X Y is → Y [] → X is
+leaves_all X Y is l y = (l is).1 ([], sym (append-nil is), y)
+
+pub leaves_none : (X Y : List Item → Type 0) (is : List Item) → Leaves X Y is → ((js : List Item) → Y js → ⊥) → (all : List Item) → X all → ⊥
+leaves_none X Y is l n all x = let (js, e, y) = (l all).0 x in n js y
+
+pub leaves_add : (X Y : List Item → Type 0) {old now new : Option (List Item)} → Adding (Leaves X Y) old now → Adding Y now new → Adding X old new
+leaves_add X Y {old = old} (adding is e l) (adding js f y) = adding (is ++ js) (then_added old is js e f) ((l (is ++ js)).1 (js, refl, y))
+
+-- line-spaces in a gap
+pub run_leaves : {s r : Text} {is : List Item} → Run LineSpaceItems s r is → Leaves (GapItems s) (GapItems r) is
+run_leaves (one_run d) = gap_space d
+run_leaves {s = s} {r = r} (more_run {t = t} {is = is} {js = js} d ds) = leaves_then (GapItems s) (GapItems t) (GapItems r) is js (gap_space d) (run_leaves ds)
+
+pub run_lines : {s r : Text} {is : List Item} → Run SpaceItems s r is → Run LineSpaceItems s r is
+run_lines (one_run d) = one_run (LineSpaceItems.space d)
+run_lines (more_run d ds) = more_run (LineSpaceItems.space d) (run_lines ds)
+
+pub run_gap : {s : Text} {is : List Item} → Run LineSpaceItems s [] is → GapItems s is
+run_gap {s} {is} run = leaves_all (GapItems s) (GapItems []) is (run_leaves run) GapItems.none
+
+-- what a place takes does not depend on the node-spaces in it
+pub spaced_again : (a b : Bool) (p : Place) → spaced a (spaced b p) ≡ spaced a p
+spaced_again a b (before_entry c) = refl
+spaced_again a b before_block = refl
+spaced_again a b after_block = refl
+
+pub entries_spaced : (b : Bool) (p : Place) → takes_entries (spaced b p) ≡ takes_entries p
+entries_spaced b (before_entry c) = refl
+entries_spaced b before_block = refl
+entries_spaced b after_block = refl
+
+pub blocks_spaced : (b : Bool) (p : Place) → takes_blocks (spaced b p) ≡ takes_blocks p
+blocks_spaced b (before_entry c) = refl
+blocks_spaced b before_block = refl
+blocks_spaced b after_block = refl
+
+pub ends_spaced : (p : Place) → may_end (spaced true p) ≡ true
+ends_spaced (before_entry c) = refl
+ends_spaced before_block = refl
+ends_spaced after_block = refl
+
+-- node-spaces in a place
+pub run_places : (p : Place) {s r : Text} {is : List Item} → Run SpaceItems s r is → Leaves (PlaceItems p s) (PlaceItems (spaced true p) r) is
+run_places p (one_run d) = place_space d
+run_places p {s = s} {r = r} (more_run {t = t} {is = is} {js = js} d ds) =
+    leaves_then (PlaceItems p s) (PlaceItems (spaced true p) t) (PlaceItems (spaced true p) r) is js (place_space d)
+    (subst (λ (q : Place). Leaves (PlaceItems (spaced true p) t) (PlaceItems q r) js) (spaced_again true true p) (run_places (spaced true p) ds))
+
+pub place_none : {p : Place} {s : Text} → (s ≡ [] → ⊥) → ((r : Text) → NodeSpace s r → ⊥) → ((t : Text) → s ≡ 47 ∷ 45 ∷ t → ⊥) → (all : List Item) → PlaceItems p s all → ⊥
+place_none a b c all (PlaceItems.ends e) = a refl
+place_none a b c all (PlaceItems.space d g) = b _ (space_of d)
+place_none a b c all (PlaceItems.dropped_entry e (slashdash ls) i g) = c _ refl
+place_none a b c all (PlaceItems.dropped_block e (slashdash ls) x g) = c _ refl

@@ -2,18 +2,20 @@
 use Rattle.std.proofs.Common.{◌≡◌, ℕ, Bool, true, false, ◌&&◌, ◌==◌, List, [], ◌∷◌, ◌++◌, refl, sym, ap, subst, ◌∙◌, append_assoc}
 use Rattle.std.proofs.lemmas.List.{append_cancel_right}
 use Rattle.std.specs.Prelude.{if◌then◌else◌}
-use Rattle.kdl_text.specs.Chars.{Text, starts, begins_two, is_newline_char, Newline, crlf, one, Star, none, more, Plus, plus, space as a_space}
+use Rattle.kdl_text.specs.Chars.{Text, starts, is_newline_char, Newline, crlf, one, Star, none, more, Plus, plus, space as a_space}
 use Rattle.kdl_text.specs.Internal.Here.{first}
-use Rattle.kdl_text.specs.Trivia.{Parts, close, nested, BlockComment, block, Line, line as a_line, Ws, EscEnd, escline, NodeSpace, ValueEnd}
+use Rattle.kdl_text.specs.Trivia.{BlockComment, block, Line, line as a_line, Ws, EscEnd, escline, NodeSpace, ValueEnd}
 use Rattle.kdl_text.proofs.Looking.Ends.{then as after_end}
 use Rattle.kdl_text.proofs.Spacing.ValueEnds.{space_ends}
 use Rattle.kdl_entry.specs.Data.{Entry}
 use Rattle.kdl_entry.proofs.Moving.EntryEnds.{end_spaces, end_slashdash, end_some, end_type}
 use Rattle.kdl_entry.proofs.Moving.EntryMoves.{move_space, move_spaces, move_plus, move_slashdash, move_string, move_maybe, move_entry, punctuation_end, spaces_end, spaces_dash}
-use Rattle.kdl_lexer.proofs.Moving.Puts.{Put, stands, also, joined, same, begins_first}
+use Rattle.kdl_lexer.proofs.Moving.FarMoves.{any_run}
+use Rattle.kdl_lexer.proofs.Moving.Puts.{Put, stands, also, joined, same}
 use Rattle.kdl_grammar.specs.Data.{Node, Children, Nodes}
 use Rattle.kdl_grammar.specs.Grammar.{IsNode, named, AfterName, kept_entry, dropped_entry, Blocks, dropped_block, block as a_block, no_block, AfterBlock, dropped_later, no_more, IsBlock, braces}
 use Rattle.kdl_grammar.proofs.Moving.Moves.{move_nodes}
+use Rattle.kdl_grammar.proofs.ReadingBack.Following.{Anywhere, shift_parts}
 use Rattle.kdl_comments.specs.Written.{line_text}
 use Rattle.kdl_comments.proofs.Rewriting.LastCharacters.{Last, last_after, last_end, is_string_last, entry_last, block_last, ws_last}
 
@@ -23,56 +25,27 @@ line_after [] c q = refl
 line_after (d ∷ []) c q = refl
 line_after (d ∷ e ∷ p) c q = ap (λ (z : Text). d ∷ z) (line_after (e ∷ p) c q)
 
--- a text that does not end with CR is its own
-pub line_kept : (p : Text) (c : ℕ) → (c == 13) ≡ false → line_text (p ++ (c ∷ [])) ≡ p ++ (c ∷ [])
-line_kept p c h = line_after p c [] ∙ ap (λ (b : Bool). p ++ ((if b then 10 else c) ∷ [])) h
-
 -- the piece q in s before r
 pub piece_kept : {s r : Text} (q : Text) → s ≡ q ++ r → Last s r → (p : Text) → line_text (p ++ q) ≡ p ++ q
 piece_kept {r = r} q e l p =
     let f : q ≡ l.front ++ (l.char ∷ []) = append_cancel_right q (l.front ++ (l.char ∷ [])) r (sym e ∙ l.text ∙ sym (append_assoc l.front (l.char ∷ []) r)) in
-    rw f (sym (ap line_text (append_assoc p l.front (l.char ∷ []))) ∙ line_kept (p ++ l.front) l.char l.other ∙ append_assoc p l.front (l.char ∷ []))
+    rw f (sym (ap line_text (append_assoc p l.front (l.char ∷ []))) ∙ line_after (p ++ l.front) l.char [] ∙ ap (λ (b : Bool). (p ++ l.front) ++ ((if b then 10 else l.char) ∷ [])) l.other ∙ append_assoc p l.front (l.char ∷ []))
 
 lined_after : (q : Text) {piece line : Text} → ((p : Text) → line_text (p ++ piece) ≡ p ++ line) → (p : Text) → line_text (p ++ (q ++ piece)) ≡ p ++ (q ++ line)
 lined_after q {piece} {line} f p = ap line_text (sym (append_assoc p q piece)) ∙ f (p ++ q) ∙ append_assoc p q line
 
--- it comes before each rest
-pub record Closed (R : Text → Text → Type 0) (s r : Text) : Type 0 where
-  pub at : Put s r
-  pub full : (u : Text) → first (at.put u) ≡ first s
-  pub there : (u : Text) → R (at.put u) u
+-- what comes before each rest
+pub closed_block : {s r : Text} → BlockComment s r → Anywhere BlockComment s r
+closed_block (block p) = let m = shift_parts p in record { at = also 47 (also 42 m.at); full = λ u. refl; there = λ u. block (m.there u) }
 
-two_same : (a b c : ℕ) (s t : Text) → first s ≡ first t → begins_two a b (c ∷ s) ≡ begins_two a b (c ∷ t)
-two_same a b c s t e = ap (λ x. (c == a) && x) (begins_first b s t e)
-
-closed_parts : {s r : Text} → Parts s r → Closed Parts s r
-closed_parts close = record { at = also 42 (also 47 stands); full = λ u. refl; there = λ u. close }
-closed_parts (nested p q) =
-    let m = closed_parts p in let n = closed_parts q in
-    record { at = also 47 (also 42 (joined m.at n.at)); full = λ u. refl; there = λ u. nested (m.there (n.at.put u)) (n.there u) }
-closed_parts (Parts.other {c = c} {s = s} x y p) =
-    let m = closed_parts p in
-    record { at = also c m.at; full = λ u. refl; there = λ u. Parts.other (two_same 47 42 c (m.at.put u) s (m.full u) ∙ x) (two_same 42 47 c (m.at.put u) s (m.full u) ∙ y) (m.there u) }
-
-pub closed_block : {s r : Text} → BlockComment s r → Closed BlockComment s r
-closed_block (block p) = let m = closed_parts p in record { at = also 47 (also 42 m.at); full = λ u. refl; there = λ u. block (m.there u) }
-
-pub closed_ws : {s r : Text} → Ws s r → Closed Ws s r
+pub closed_ws : {s r : Text} → Ws s r → Anywhere Ws s r
 closed_ws (Ws.space (a_space {c = c} x)) = record { at = also c stands; full = λ u. refl; there = λ u. Ws.space (a_space x) }
 closed_ws (Ws.comment b) = let m = closed_block b in record { at = m.at; full = m.full; there = λ u. Ws.comment (m.there u) }
 
-pub closed_braces : {s r : Text} {xs : Nodes} → IsBlock true s r xs → Closed (λ s r. IsBlock true s r xs) s r
+pub closed_braces : {s r : Text} {xs : Nodes} → IsBlock true s r xs → Anywhere (λ s r. IsBlock true s r xs) s r
 closed_braces (braces ns) =
     let a = move_nodes ns in
     record { at = also 123 (joined a.at (also 125 stands)); full = λ u. refl; there = λ u. braces (a.there (125 ∷ u) refl) }
-
-pub record ClosedRun (s r : Text) : Type 0 where
-  pub at : Put s r
-  pub there : (u : Text) → Star Ws (at.put u) u
-
-pub closed_run : {s r : Text} → Star Ws s r → ClosedRun s r
-closed_run none = record { at = stands; there = λ u. none }
-closed_run (more w ws) = let m = closed_ws w in let k = closed_run ws in record { at = joined m.at k.at; there = λ u. more (m.there (k.at.put u)) (k.there u) }
 
 -- what is in s before r, and the same before LF
 pub record OnLine (R : Text → Text → Type 0) (s r : Text) : Type 0 where
@@ -153,7 +126,7 @@ record SpacesLine (R : Text → Text → Type 0) (s r : Text) : Type 0 where
   on : OnLine R s r
   begun : Begun on
 
-closed_line : {R : Text → Text → Type 0} {s r : Text} → Closed R s r → Last s r → SpacesLine R s r
+closed_line : {R : Text → Text → Type 0} {s r : Text} → Anywhere R s r → Last s r → SpacesLine R s r
 closed_line {R = R} {r = r} c l = record {
   on = record {
     piece = c.at.piece;
@@ -168,7 +141,7 @@ closed_line {R = R} {r = r} c l = record {
 space_line : {s r : Text} → NodeSpace s r → starts is_newline_char r ≡ true → SpacesLine NodeSpace s r
 space_line (NodeSpace.ws w) h = let m = closed_ws w in closed_line (record { at = m.at; full = m.full; there = λ u. NodeSpace.ws (m.there u) }) (ws_last w)
 space_line (NodeSpace.escline (escline ss f)) h =
-    let a = closed_run ss in let k = esc_line f h in
+    let a = any_run ss in let k = esc_line f h in
     record { on = following (also 92 a.at) k (λ u. NodeSpace.escline (escline (a.there (k.line ++ (10 ∷ u))) (k.there u))); begun = λ u. refl }
 
 add_space : {s t r : Text} → NodeSpace s t → Plus NodeSpace t r → Plus NodeSpace s r

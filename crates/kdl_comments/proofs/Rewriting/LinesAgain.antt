@@ -6,16 +6,18 @@ use Rattle.std.specs.List.{list_all}
 use Rattle.std.specs.Prelude.{if◌then◌else◌, map}
 use Rattle.kdl_text.specs.Chars.{Text, starts, is_space, is_newline_char, Star, none, more, plus, space as a_space}
 use Rattle.kdl_text.specs.Internal.Here.{first}
-use Rattle.kdl_text.specs.Trivia.{BlockComment, Line, LineComment, line as a_line, Ws, NodeSpace, Break, LineSpace, Slashdash, ValueEnd}
+use Rattle.kdl_text.specs.Trivia.{BlockComment, Line, LineComment, line as a_line, Ws, NodeSpace, Break, Slashdash, ValueEnd}
 use Rattle.kdl_text.proofs.Spacing.SpaceUnique.{newline_begins}
 use Rattle.kdl_entry.specs.Places.{between}
 use Rattle.kdl_entry.proofs.Slicing.Between.{between_is, is_between}
 use Rattle.kdl_entry.proofs.Moving.EntryMoves.{move_spaces, move_slashdash, punctuation_end, spaces_end}
 use Rattle.kdl_lexer.proofs.Moving.Puts.{Put, stands, also, joined, before}
 use Rattle.kdl_grammar.specs.Data.{Node}
-use Rattle.kdl_grammar.specs.Grammar.{Terminator, IsNode, Gap, line_space}
+use Rattle.kdl_grammar.specs.Grammar.{IsNode, Gap, line_space}
 use Rattle.kdl_comments.specs.Items.{Item, comment, piece, line_end, EsclineItems, SpaceItems, LineSpaceItems, ItemEnd, EndsTight, GapItems, last_node}
 use Rattle.kdl_comments.specs.Written.{item_text, line_text, lines, on_line}
+use Rattle.kdl_comments.proofs.Listing.PlaceTexts.{terminator_of}
+use Rattle.kdl_comments.proofs.Listing.SpaceItems.{line_space_of}
 use Rattle.kdl_comments.proofs.Rewriting.LastCharacters.{Last, last_here, last_after, last_also, put_end, ws_last}
 use Rattle.kdl_comments.proofs.Rewriting.BeforeNewlines.{piece_kept, closed_block, put_line, put_text, a_newline, newline_end, lf, line_char_other, cut_node, node_line}
 
@@ -132,9 +134,6 @@ node_kept {s = s} {e = e} p l f =
 item_line : (r : Text) → ItemEnd (10 ∷ r) r (10 ∷ r)
 item_line r = subst (λ (e : Text). ItemEnd (10 ∷ r) r e) (newline_here (10 ∷ r) lf) (ItemEnd.line (Break.newline (a_newline r)))
 
-item_comment : (s r : Text) → ItemEnd (comment_part s ++ (10 ∷ r)) r (10 ∷ r)
-item_comment s r = subst (λ (e : Text). ItemEnd (comment_part s ++ (10 ∷ r)) r e) (comment_end s r) (ItemEnd.line (Break.comment (comment_again s r)))
-
 node_newline : {s t u : Text} {x : Node} → Slashdash s t → IsNode true t u x → starts is_newline_char u ≡ true → Standing (piece (between s (line_end u)))
 node_newline {s = s} {t = t} {u = u} m n h =
     let o = move_slashdash m in let k = node_line n h in
@@ -152,7 +151,7 @@ node_comment {s = s} {u = u} m n =
     rw (slash_end u)
     (node_kept (joined p (before (comment_part u) (comment_cut u))) (last_after (put_end p) (comment_last u))
     (λ r. DroppedLine.dropped (o.there (c.at.put (k.at.put (last r))) (c.full (k.at.put (last r))))
-    (c.there (k.at.put (last r)) (last r) (spaces_end (spaced r) ValueEnd.line_comment) (spaced r)) (item_comment u r) Over.over))
+    (c.there (k.at.put (last r)) (last r) (spaces_end (spaced r) ValueEnd.line_comment) (spaced r)) (subst (λ (e : Text). ItemEnd (last r) r e) (comment_end u r) (ItemEnd.line (Break.comment (comment_again u r)))) Over.over))
 
 node_semicolon : {s t v : Text} {x : Node} → Slashdash s t → IsNode true t (59 ∷ v) x → Standing (piece (between s v))
 node_semicolon m n =
@@ -208,92 +207,80 @@ gap_items (GapItems.space {is = is} {js = js} d g) = standing_join is js (line_s
 gap_items (GapItems.dropped_node m n e g) = (node_ended m n e, gap_items g)
 gap_items (last_node m n tight ss g) = (node_last m n tight ss, gap_items g)
 
--- one line
-pub newline_items : {r : Text} {js : List Item} → GapItems r js → GapItems (10 ∷ r) js
-newline_items {r = r} g = GapItems.space (LineSpaceItems.newline (a_newline r)) g
-
-over_items : {v r : Text} {js : List Item} → Over v r → GapItems r js → GapItems v js
-over_items Over.over g = g
-over_items Over.line g = newline_items g
-
-dropped_items : {s r : Text} {js : List Item} → DroppedLine s r → GapItems r js → GapItems s (piece (between s (10 ∷ r)) ∷ js)
-dropped_items (DroppedLine.dropped m n e o) g = GapItems.dropped_node m n e (over_items o g)
-
-pub one_line : {i : Item} → Standing i → {r : Text} {js : List Item} → GapItems r js → GapItems (line_text (item_text i) ++ (10 ∷ r)) (on_line i ∷ js)
-one_line (Standing.line_comment s) {r} {js} g =
-    subst (λ (z : Text). GapItems (z ++ (10 ∷ r)) (comment z ∷ js)) (sym (comment_kept s))
-    (subst (λ (t : Text). GapItems (comment_part s ++ (10 ∷ r)) (comment t ∷ js)) (comment_text s r) (GapItems.space (LineSpaceItems.line (comment_again s r)) g))
-one_line (Standing.block_comment {t = t} f e) {r} {js} g =
-    rw e
-    (subst (λ (z : Text). GapItems (t ++ (10 ∷ r)) (piece z ∷ js)) (between_is t (10 ∷ r)) (GapItems.space (LineSpaceItems.space (SpaceItems.block (f (10 ∷ r)))) (newline_items g)))
-one_line (Standing.dropped_node {t = t} f) {r} {js} g =
-    subst (λ (z : Text). GapItems (line_text t ++ (10 ∷ r)) (piece z ∷ js)) (between_is (line_text t) (10 ∷ r)) (dropped_items (f r) g)
-
-newline_gap : {t r : Text} → Gap true t r → Gap true (10 ∷ t) r
-newline_gap {t = t} g = line_space (LineSpace.«break» (Break.newline (a_newline t))) g
-
-over_gap : {v t r : Text} → Over v t → Gap true t r → Gap true v r
-over_gap Over.over g = g
-over_gap Over.line g = newline_gap g
-
-item_terminator : {u v e : Text} → ItemEnd u v e → Terminator u v
-item_terminator ItemEnd.semicolon = Terminator.semicolon
-item_terminator (ItemEnd.line (Break.newline n)) = Terminator.newline n
-item_terminator (ItemEnd.line (Break.comment l)) = Terminator.comment l
-
-dropped_gap : {s t r : Text} → DroppedLine s t → Gap true t r → Gap true s r
-dropped_gap (DroppedLine.dropped m n e o) g = Gap.dropped_node m n (item_terminator e) (over_gap o g)
-
-pub one_gap : {i : Item} → Standing i → {t r : Text} → Gap true t r → Gap true (line_text (item_text i) ++ (10 ∷ t)) r
-one_gap (Standing.line_comment s) {t} {r} g = subst (λ (z : Text). Gap true (z ++ (10 ∷ t)) r) (sym (comment_kept s)) (line_space (LineSpace.«break» (Break.comment (comment_again s t))) g)
-one_gap (Standing.block_comment f e) {t} g = rw e (line_space (LineSpace.space (NodeSpace.ws (Ws.comment (f (10 ∷ t))))) (newline_gap g))
-one_gap (Standing.dropped_node f) {t} g = dropped_gap (f t) g
-
--- spaces before a line
-pub spaces_before : (before : Text) → list_all is_space before ≡ true → {r : Text} {js : List Item} → GapItems r js → GapItems (before ++ r) js
-spaces_before [] ok g = g
-spaces_before (c ∷ cs) ok g =
-    let (here, others) = and_parts (is_space c) (list_all is_space cs) ok in
-    GapItems.space (LineSpaceItems.space (SpaceItems.space (a_space here))) (spaces_before cs others g)
-
-pub spaces_gap : (before : Text) → list_all is_space before ≡ true → {t r : Text} → Gap true t r → Gap true (before ++ t) r
-spaces_gap [] ok g = g
-spaces_gap (c ∷ cs) ok g =
-    let (here, others) = and_parts (is_space c) (list_all is_space cs) ok in
-    line_space (LineSpace.space (NodeSpace.ws (Ws.space (a_space here)))) (spaces_gap cs others g)
-
 line_joined : (b l m r : Text) → ((b ++ l ++ (10 ∷ [])) ++ m) ++ r ≡ b ++ (l ++ (10 ∷ (m ++ r)))
 line_joined b l m r = simp append_assoc
 
-all_lines : (before : Text) → list_all is_space before ≡ true → (is : List Item) → AreStanding is → {r : Text} {js : List Item} → GapItems r js → GapItems (lines before is ++ r) (map on_line is ++ js)
-all_lines before ok [] a g = g
-all_lines before ok (i ∷ is) a {r} {js} g =
-    rw (line_joined before (line_text (item_text i)) (lines before is) r) (spaces_before before ok (one_line a.0 (all_lines before ok is a.1 g)))
+-- what begins with line-spaces and dropped nodes: a gap with its items, or a gap before a rest
+record Gaps (P : Text → List Item → Type 0) : Type 0 where
+  space : {s t : Text} {is js : List Item} → LineSpaceItems s t is → P t js → P s (is ++ js)
+  node : {s t u v e : Text} {x : Node} {js : List Item} → Slashdash s t → IsNode true t u x → ItemEnd u v e → P v js → P s (piece (between s e) ∷ js)
 
-all_gap : (before : Text) → list_all is_space before ≡ true → (is : List Item) → AreStanding is → {t r : Text} → Gap true t r → Gap true (lines before is ++ t) r
-all_gap before ok [] a g = g
-all_gap before ok (i ∷ is) a {t} {r} g =
-    rw (line_joined before (line_text (item_text i)) (lines before is) t) (spaces_gap before ok (one_gap a.0 (all_gap before ok is a.1 g)))
+gaps : Gaps GapItems
+gaps = record { space = λ d g. GapItems.space d g; node = λ m n e g. GapItems.dropped_node m n e g }
+
+gaps_before : (r : Text) → Gaps (λ s is. Gap true s r)
+gaps_before r = record { space = λ d g. line_space (line_space_of d) g; node = λ m n e g. Gap.dropped_node m n (terminator_of e) g }
+
+module _ {P : Text → List Item → Type 0} (g : Gaps P) where
+  newline_first : {r : Text} {js : List Item} → P r js → P (10 ∷ r) js
+  newline_first {r = r} p = g.space (LineSpaceItems.newline (a_newline r)) p
+
+  over_first : {v r : Text} {js : List Item} → Over v r → P r js → P v js
+  over_first Over.over p = p
+  over_first Over.line p = newline_first p
+
+  node_first : {s r : Text} {js : List Item} → DroppedLine s r → P r js → P s (piece (between s (10 ∷ r)) ∷ js)
+  node_first (DroppedLine.dropped m n e o) p = g.node m n e (over_first o p)
+
+  line_first : {i : Item} → Standing i → {r : Text} {js : List Item} → P r js → P (line_text (item_text i) ++ (10 ∷ r)) (on_line i ∷ js)
+  line_first (Standing.line_comment s) {r} {js} p =
+      subst (λ (z : Text). P (z ++ (10 ∷ r)) (comment z ∷ js)) (sym (comment_kept s))
+      (subst (λ (t : Text). P (comment_part s ++ (10 ∷ r)) (comment t ∷ js)) (comment_text s r) (g.space (LineSpaceItems.line (comment_again s r)) p))
+  line_first (Standing.block_comment {t = t} f e) {r} {js} p =
+      rw e
+      (subst (λ (z : Text). P (t ++ (10 ∷ r)) (piece z ∷ js)) (between_is t (10 ∷ r)) (g.space (LineSpaceItems.space (SpaceItems.block (f (10 ∷ r)))) (newline_first p)))
+  line_first (Standing.dropped_node {t = t} f) {r} {js} p =
+      subst (λ (z : Text). P (line_text t ++ (10 ∷ r)) (piece z ∷ js)) (between_is (line_text t) (10 ∷ r)) (node_first (f r) p)
+
+  spaces_first : (before : Text) → list_all is_space before ≡ true → {r : Text} {js : List Item} → P r js → P (before ++ r) js
+  spaces_first [] ok p = p
+  spaces_first (c ∷ cs) ok p =
+      let (here, others) = and_parts (is_space c) (list_all is_space cs) ok in
+      g.space (LineSpaceItems.space (SpaceItems.space (a_space here))) (spaces_first cs others p)
+
+  lines_first : (before : Text) → list_all is_space before ≡ true → (is : List Item) → AreStanding is → {r : Text} {js : List Item} → P r js → P (lines before is ++ r) (map on_line is ++ js)
+  lines_first before ok [] a p = p
+  lines_first before ok (i ∷ is) a {r} {js} p =
+      rw (line_joined before (line_text (item_text i)) (lines before is) r) (spaces_first before ok (line_first a.0 (lines_first before ok is a.1 p)))
+
+-- one line, and spaces before a line
+pub newline_items : {r : Text} {js : List Item} → GapItems r js → GapItems (10 ∷ r) js
+newline_items d = newline_first gaps d
+
+pub one_line : {i : Item} → Standing i → {r : Text} {js : List Item} → GapItems r js → GapItems (line_text (item_text i) ++ (10 ∷ r)) (on_line i ∷ js)
+one_line a d = line_first gaps a d
+
+pub one_gap : {i : Item} → Standing i → {t r : Text} → Gap true t r → Gap true (line_text (item_text i) ++ (10 ∷ t)) r
+one_gap a {r = r} d = line_first (gaps_before r) a {js = []} d
+
+pub spaces_before : (before : Text) → list_all is_space before ≡ true → {r : Text} {js : List Item} → GapItems r js → GapItems (before ++ r) js
+spaces_before before ok d = spaces_first gaps before ok d
+
+pub spaces_gap : (before : Text) → list_all is_space before ≡ true → {t r : Text} → Gap true t r → Gap true (before ++ t) r
+spaces_gap before ok {r = r} d = spaces_first (gaps_before r) before ok {js = []} d
 
 -- the lines of a gap's items are a gap whose items are those on the lines
 pub lines_again : (before : Text) → list_all is_space before ≡ true → {s : Text} {is : List Item} → GapItems s is → {r : Text} {js : List Item} → GapItems r js
     → GapItems (lines before is ++ r) (map on_line is ++ js)
-lines_again before ok {s} {is} d g = all_lines before ok is (gap_items d) g
+lines_again before ok {is = is} d g = lines_first gaps before ok is (gap_items d) g
 
 pub lines_gap : (before : Text) → list_all is_space before ≡ true → {s : Text} {is : List Item} → GapItems s is → {t r : Text} → Gap true t r → Gap true (lines before is ++ t) r
-lines_gap before ok {s} {is} d g = all_gap before ok is (gap_items d) g
-
--- a text of spaces alone is a gap without items
-pub spaces_items : (s : Text) → list_all is_space s ≡ true → GapItems s []
-spaces_items [] ok = GapItems.none
-spaces_items (c ∷ cs) ok =
-    let (here, others) = and_parts (is_space c) (list_all is_space cs) ok in
-    GapItems.space (LineSpaceItems.space (SpaceItems.space (a_space here))) (spaces_items cs others)
+lines_gap before ok {is = is} d {r = r} g = lines_first (gaps_before r) before ok is (gap_items d) {js = []} g
 
 -- with spaces alone after the lines
 pub lines_spaces : (before after : Text) → list_all is_space before ≡ true → list_all is_space after ≡ true → {s : Text} {is : List Item} → GapItems s is → GapItems (lines before is ++ after) (map on_line is)
 lines_spaces before after ok ok' {s} {is} d =
-    subst (λ (js : List Item). GapItems (lines before is ++ after) js) (append-nil (map on_line is)) (lines_again before ok d (spaces_items after ok'))
+    subst (λ (js : List Item). GapItems (lines before is ++ after) js) (append-nil (map on_line is)) (lines_again before ok d (subst (λ (z : Text). GapItems z []) (append-nil after) (spaces_before after ok' GapItems.none)))
 
 -- what is on a line is the same on a line
 line_cons : (c d : ℕ) (s : Text) → line_text (c ∷ line_text (d ∷ s)) ≡ c ∷ line_text (line_text (d ∷ s))

@@ -7,13 +7,13 @@ use Rattle.kdl_entry.specs.Entries.{IsEntry}
 use Rattle.kdl_entry.specs.Places.{EntryLeading, leading, between}
 use Rattle.kdl_entry.proofs.Slicing.Between.{between_is, is_between}
 use Rattle.kdl_entry.proofs.Moving.EntryMoves.{move_slashdash, move_entry}
-use Rattle.kdl_lexer.proofs.Moving.Puts.{joined}
+use Rattle.kdl_lexer.proofs.Moving.Puts.{Put, joined}
 use Rattle.kdl_grammar.specs.Data.{Nodes}
 use Rattle.kdl_grammar.specs.Grammar.{IsBlock}
 use Rattle.kdl_grammar.specs.Places.{AfterChildren, after, BeforeChildren, before}
 use Rattle.kdl_comments.specs.Items.{Item, comment, piece, line_end, EsclineItems, SpaceItems, Place, before_entry, before_block, after_block, may_end, takes_entries, takes_blocks, spaced, PlaceItems, ends, dropped_entry, dropped_block}
 use Rattle.kdl_comments.specs.Written.{tail}
-use Rattle.kdl_comments.proofs.Listing.PlaceReads.{ends_spaced, spaced_again, entries_spaced, blocks_spaced}
+use Rattle.kdl_comments.proofs.Listing.SpaceItems.{ends_spaced, spaced_again, entries_spaced, blocks_spaced}
 use Rattle.kdl_comments.proofs.Listing.PlaceTexts.{lead_space, lead_entry, space_after, braces_after, space_before, entry_before}
 use Rattle.kdl_comments.proofs.Rewriting.BeforeNewlines.{closed_block, closed_braces, newline_end}
 use Rattle.kdl_comments.proofs.Rewriting.LinesAgain.{comment_part, comment_again, comment_text, comment_item}
@@ -54,17 +54,22 @@ block_in {p} {s} {r} b =
     subst (λ (t : Text). InPlace p (piece t) p) (is_between s r c.at.piece (c.at.here ∙ c.at.text r))
     (InPlace.block_comment (λ z. subst (λ (y : Text). BlockComment y z) (c.at.text z) (c.there z)))
 
+-- what is slashdashed comes before each rest: an entry before each value end
+pub moved_entry : {s t u : Text} {e : Entry} → Slashdash s t → IsEntry true t u e → (p : Put s u) × ((z : Text) → ValueEnd true z → DashedEntry (p.put z) z)
+moved_entry m i = let o = move_slashdash m in let c = move_entry i in (joined o.at c.at, λ z k. DashedEntry.dashed (o.there (c.at.put z) (c.full z)) (c.there z k))
+
+pub moved_block : {s t u : Text} {xs : Nodes} → Slashdash s t → IsBlock true t u xs → (p : Put s u) × ((z : Text) → DashedBlock (p.put z) z)
+moved_block m b = let o = move_slashdash m in let c = closed_braces b in (joined o.at c.at, λ z. DashedBlock.dashed (o.there (c.at.put z) (c.full z)) (c.there z))
+
 entry_in : {p : Place} {s t u : Text} {e : Entry} → takes_entries p ≡ true → Slashdash s t → IsEntry true t u e → InPlace p (piece (between s u)) p
 entry_in {p} {s} {t} {u} h m i =
-    let o = move_slashdash m in let c = move_entry i in let at = joined o.at c.at in
-    subst (λ (t : Text). InPlace p (piece t) p) (is_between s u at.piece (at.here ∙ at.text u))
-    (InPlace.an_entry h (λ z k. subst (λ (y : Text). DashedEntry y z) (at.text z) (DashedEntry.dashed (o.there (c.at.put z) (c.full z)) (c.there z k))))
+    let (at, f) = moved_entry m i in
+    subst (λ (t : Text). InPlace p (piece t) p) (is_between s u at.piece (at.here ∙ at.text u)) (InPlace.an_entry h (λ z k. subst (λ (y : Text). DashedEntry y z) (at.text z) (f z k)))
 
 braces_in : {p : Place} {s t u : Text} {xs : Nodes} → takes_blocks p ≡ true → Slashdash s t → IsBlock true t u xs → InPlace p (piece (between s u)) after_block
 braces_in {p} {s} {t} {u} h m b =
-    let o = move_slashdash m in let c = closed_braces b in let at = joined o.at c.at in
-    subst (λ (t : Text). InPlace p (piece t) after_block) (is_between s u at.piece (at.here ∙ at.text u))
-    (InPlace.a_block h (λ z. subst (λ (y : Text). DashedBlock y z) (at.text z) (DashedBlock.dashed (o.there (c.at.put z) (c.full z)) (c.there z))))
+    let (at, f) = moved_block m b in
+    subst (λ (t : Text). InPlace p (piece t) after_block) (is_between s u at.piece (at.here ∙ at.text u)) (InPlace.a_block h (λ z. subst (λ (y : Text). DashedBlock y z) (at.text z) (f z)))
 
 esc_in : {p : Place} {s r : Text} {is : List Item} → EsclineItems s r is → AreInPlace p is p
 esc_in (EsclineItems.space n d) = esc_in d

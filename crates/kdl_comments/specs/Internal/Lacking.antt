@@ -1,9 +1,10 @@
 -- How the results of the readers of gaps and places relate to the text: the items, and what the text lacks at its end.
-use Rattle.std.specs.Prelude.{◌≡◌, ◌⊎◌, ℕ, suc, ◌<◌, ◌≤◌, Bool, true, false, List, [], ◌∷◌, ◌++◌, Option, Some, None, length}
+use Rattle.std.specs.Prelude.{◌≡◌, ℕ, suc, ◌<◌, ◌≤◌, Bool, true, false, List, [], ◌∷◌, ◌++◌, Option, Some, None, length}
+use Rattle.std.specs.Borrow.{Bor}
 use Rattle.std.specs.Str.{chars}
 use Rattle.kdl_text.specs.Chars.{Text, begins, Newline, Star, Plus}
 use Rattle.kdl_text.specs.Trivia.{NodeSpace, Break, ValueEnd}
-use Rattle.kdl_lexer.specs.Tokens.{Token, BeginsToken, space, newline}
+use Rattle.kdl_lexer.specs.Tokens.{Token, BeginsToken}
 use Rattle.kdl_grammar.specs.Data.{Nodes, none}
 use Rattle.kdl_grammar.specs.Grammar.{AreNodes}
 use Rattle.kdl_grammar.specs.ReadsBack.{NodesEnd, AddsNothing}
@@ -33,11 +34,11 @@ pub record EndsInReturn (X : Text → Text → Type 0) (s : Text) : Type 0 where
 abbrev pub letter : Text
 letter = 32 ∷ 97 ∷ []
 
--- the piece has no newline: an LF ends it, and a letter after it is part of its first token
+-- the piece has no newline: an LF ends it, and a letter after it is part of it, if a token begins there at all
 pub record IsOpen (X : Text → Text → Type 0) (s : Text) : Type 0 where
   pub alone : X s []
   pub ended : (w : Text) → X (s ++ (10 ∷ w)) w
-  pub swallows : (r : Text) (k : Token) → BeginsToken (s ++ letter) k r → ((k ≡ space) ⊎ (k ≡ newline)) × (r ≡ [])
+  pub swallows : (r : Text) (k : Token) → BeginsToken (s ++ letter) k r → X (s ++ letter) []
 
 -- the text begins with Xs that end before a rest, whatever follows the rest; or the whole text is one X
 abbrev pub EndsAs : (Text → Text → Type 0) → Text → Ending → Type 0
@@ -56,11 +57,10 @@ abbrev pub Spaces : (X : Text → Text → Type 0) (Y : Text → Text → List I
 Spaces X Y s (Some y) old new = Adding (Run Y s (left y)) old new × EndsAs X s y
 Spaces X Y s None old new = (r : Text) → X s r → ⊥
 
--- whether the terminator that is in u before v is a line comment without a newline
-pub data HasOpenEnd : Text → Text → Bool → Type 0 where
-  semicolon : {r : Text} → HasOpenEnd (59 ∷ r) r false
-  ended : {u v : Text} → Break u v → (line_end u ≡ [] → ⊥) → HasOpenEnd u v false
-  unended : {u v : Text} → Break u v → line_end u ≡ [] → HasOpenEnd u v true
+-- how the terminator ends that is in a text before v
+pub data EndsNode (v : Text) : Text → Ending → Type 0 where
+  semicolon : {r : Bor (List ℕ)} → chars r.now ≡ v → EndsNode v (59 ∷ v) (Before r)
+  line : {u : Text} {y : Ending} → Break u v → LineEnds (line_end u) y → EndsNode v u y
 
 -- the text is node-spaces, whatever follows it, and their items were added; or it is not, and if it is node-spaces at all, an LF ends them
 abbrev pub OnlySpaces : Text → Bool → Option (List Item) → Option (List Item) → Type 0
@@ -85,6 +85,12 @@ GapEnds s k = (k ≤ 2) × AddsNothing (s ++ newlines k) × Fewest s k
 abbrev pub GapRead : Text → Option ℕ → Option (List Item) → Option (List Item) → Type 0
 GapRead s (Some k) old new = Adding (GapItems s) old new × GapEnds s k
 GapRead s None old new = (all : List Item) → GapItems s all → ⊥
+
+-- a piece of a gap that ends so: what follows an escline or a comment in it may lack a newline
+abbrev pub piece_of : Ending → GapPiece
+piece_of (Before r) = Until r
+piece_of InReturn = Last 0
+piece_of Open = Last 1
 
 -- the first piece of a gap ends before a rest; or it is the whole text; or the text is not a gap
 abbrev pub GapPieceEnds : Text → Option GapPiece → Option (List Item) → Option (List Item) → Type 0

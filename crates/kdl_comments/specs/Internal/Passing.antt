@@ -1,38 +1,61 @@
 -- What the control does after a slashdash, up to the end of what the slashdash drops.
-use Rattle.std.specs.Prelude.{◌≡◌, Bool, true, false, ◌&&◌, not, [], Some}
+use Rattle.std.specs.Prelude.{◌≡◌, Bool, true, false, ◌&&◌, not, if◌then◌else◌, [], Some}
 use Rattle.kdl_text.specs.Chars.{Text}
 use Rattle.kdl_lexer.specs.Tokens.{Token, space, equals, BeginsToken}
-use Rattle.kdl_control.specs.Control.{Control, at, gap, entry_slashdash, block_slashdash, Phase, step, finish, is_gap, is_over, is_block, is_word}
+use Rattle.kdl_control.specs.Control.{Control, at, gap, entry_slashdash, block_slashdash, Phase, step, held, finish, is_gap, is_over, is_block, is_word}
 use Rattle.kdl_comments.specs.Items.{Place, takes_entries}
+
+abbrev pub of_spaces : Token → Bool
+of_spaces space = true
+of_spaces _ = false
 
 -- where the last token that is not a node-space ends
 abbrev pub moved : Token → Text → Text → Text
-moved space last r = last
-moved _ last r = r
-
--- a slashdashed node ends with its terminator, a token between two texts, or with the place: then node-spaces come after it
-pub data NodeEnd : Type 0 where
-  returned : Token → Text → Text → NodeEnd
-  ended : Text → NodeEnd
-
--- the control continues over the text s; the last token so far that is not a node-space ended before `last`
-pub data NodePasses : Control → Text → Text → NodeEnd → Type 0 where
-  returns : {c : Control} {last s r : Text} {k : Token} → BeginsToken s k r → step c k ≡ Some (at gap []) → NodePasses c last s (returned k s r)
-  ends : {c : Control} {last : Text} → is_gap c ≡ false → finish c ≡ true → NodePasses c last [] (ended last)
-  goes : {c d : Control} {last s r : Text} {k : Token} {e : NodeEnd} → BeginsToken s k r → step c k ≡ Some d → is_gap d ≡ false → NodePasses d (moved k last r) r e → NodePasses c last s e
+moved k last r = if of_spaces k then last else r
 
 abbrev pub follows_word : Token → Bool
 follows_word space = true
 follows_word equals = true
 follows_word _ = false
 
--- likewise for an entry or a block: whether it is a block, and where it ends
-pub data PartPasses : Control → Text → Text → Bool → Text → Type 0 where
-  over : {c : Control} {last s : Text} → is_over c ≡ true → PartPasses c last s (is_block c) last
-  word_ends : {c : Control} {last : Text} → is_word c ≡ true → PartPasses c last [] false last
-  word_over : {c : Control} {last s r : Text} {k : Token} → is_word c ≡ true → BeginsToken s k r → follows_word k ≡ false → PartPasses c last s false last
-  goes : {c d : Control} {last s r : Text} {k : Token} {b : Bool} {e : Text} → is_over c ≡ false → (is_word c && not (follows_word k)) ≡ false → BeginsToken s k r → step c k ≡ Some d
-      → PartPasses d (moved k last r) r b e → PartPasses c last s b e
+-- no `=` and no space begins the text: a string before it is not a key
+pub data EndsWord : Text → Type 0 where
+  at_end : EndsWord []
+  before : {s r : Text} {k : Token} → BeginsToken s k r → follows_word k ≡ false → EndsWord s
+
+-- what is dropped: a node, or an entry or a block
+pub data Goal : Type 0 where
+  for_node : Goal
+  for_part : Goal
+
+-- a slashdashed node ends with its terminator, a token between two texts, or with the place: then node-spaces come after it. An entry, or a block, ends before a text
+pub data End : Type 0 where
+  returned : Token → Text → Text → End
+  ended : Text → End
+  part_end : Bool → Text → End
+
+-- the control ends before the text s; the last token so far that is not a node-space ended before `last`
+pub data Stops : Goal → Control → Text → Text → End → Type 0 where
+  returns : {c : Control} {last s r : Text} {k : Token} → BeginsToken s k r → step c k ≡ Some (at gap []) → Stops for_node c last s (returned k s r)
+  ends : {c : Control} {last : Text} → is_gap c ≡ false → finish c ≡ true → Stops for_node c last [] (ended last)
+  over : {c : Control} {last s : Text} → is_over c ≡ true → Stops for_part c last s (part_end (is_block c) last)
+  word : {c : Control} {last s : Text} → is_word c ≡ true → EndsWord s → Stops for_part c last s (part_end false last)
+
+-- the control goes on over the token
+abbrev pub goes_on : Goal → Control → Token → Bool
+goes_on for_node c k = not (held is_gap (step c k))
+goes_on for_part c k = not (is_over c) && not (is_word c && not (follows_word k))
+
+-- the control continues over the text s up to the end
+pub data Passes (g : Goal) : Control → Text → Text → End → Type 0 where
+  stops : {c : Control} {last s : Text} {e : End} → Stops g c last s e → Passes g c last s e
+  goes : {c d : Control} {last s r : Text} {k : Token} {e : End} → BeginsToken s k r → step c k ≡ Some d → goes_on g c k ≡ true → Passes g d (moved k last r) r e → Passes g c last s e
+
+abbrev pub NodePasses : Control → Text → Text → End → Type 0
+NodePasses = Passes for_node
+
+abbrev pub PartPasses : Control → Text → Text → Bool → Text → Type 0
+PartPasses c last s b u = Passes for_part c last s (part_end b u)
 
 -- the phase after the `/-` in a place of a node
 abbrev pub slashdash_phase : Bool → Phase

@@ -2,9 +2,10 @@ use Rattle.std.proofs.Common.{sym, ap, subst, ◌∙◌, ℕ}
 use Rattle.std.specs.Str.{chars}
 use Rattle.kdl_text.specs.Internal.Here.{Here}
 use Rattle.kdl_control.specs.Internal.Views.{control_view}
+use Rattle.kdl_lexer.specs.Internal.Handed.{kind_view}
 use Rattle.kdl_comments.specs.Internal.Reading.{place_view}
-use Rattle.kdl_comments.proofs.Dropping.NodeLoop.{cut_shorter}
-use Rattle.kdl_comments.proofs.Dropping.PartLoop.{PartGoes, part_starts, part_goes_on, part_stops, part_faulty, part_refused_here, part_word, part_over}
+use Rattle.kdl_comments.specs.Internal.Passing.{for_part, slashdash_in}
+use Rattle.kdl_comments.proofs.Dropping.TokenLoop.{Goes, part_starts, part_on, goes_further, part_stops, faulty, refused_here, part_word, part_over, cut_shorter}
 use Rattle.kdl_comments.proofs.dropped.pass_part.Goals as goal
 
 pub tokens-init : goal.tokens-init
@@ -16,9 +17,7 @@ returns-in-Ok-None c =
     part_stops (place_view c.args.place) (chars c.args.text.now) c.tokens.lexer (control_view c.tokens.control) c.tokens.last c.word_end.result c.tokens.invariant (rw c.in-Ok-None.field-0-is at c.in-Ok-None.ensures.lexed) c.word_end.ensures
 
 pub returns-in-Err-Faulty : goal.returns-in-Err-Faulty
-returns-in-Err-Faulty c =
-    let x = rw c.in-Err-Faulty.field-0-is at c.in-Err-Faulty.ensures.lexed in
-    part_faulty (place_view c.args.place) (chars c.args.text.now) c.tokens.lexer (control_view c.tokens.control) c.tokens.last c.tokens.invariant x
+returns-in-Err-Faulty c = faulty c.tokens.invariant (rw c.in-Err-Faulty.field-0-is at c.in-Err-Faulty.ensures.lexed)
 
 pub returns-then-ends_word : goal.returns-then-ends_word
 returns-then-ends_word c =
@@ -29,15 +28,14 @@ returns-then-ends_word c =
 pub returns-then-not-branch : goal.returns-then-not-branch
 returns-then-not-branch c =
     let h = rw c.in-Ok-Some.field-0-is at c.in-Ok-Some.ensures.lexed in
-    let f = rw c.if-not-branch.true at c.in_ok-take.ensures in
-    part_refused_here (place_view c.args.place) (chars c.args.text.now) c.tokens.lexer c.next.new.self (control_view c.tokens.control) c.in-Ok-Some.token c.tokens.last c.tokens.invariant h (sym c.ends_word.ensures ∙ c.if-ends_word.false) f
+    refused_here c.tokens.invariant c.in-Ok-Some.token h (rw c.if-not-branch.true at c.in_ok-take.ensures) (part_on (control_view c.tokens.control) (kind_view c.in-Ok-Some.token.kind) c.tokens.invariant.under_way (sym c.ends_word.ensures ∙ c.if-ends_word.false))
 
 pub returns-in-Some : goal.returns-in-Some
 returns-in-Some c =
     let h = rw c.in-Ok-Some.field-0-is at c.in-Ok-Some.ensures.lexed in
     let f = rw c.if-not-branch.false at c.in_ok-take.ensures in
-    part_over (place_view c.args.place) (chars c.args.text.now) c.tokens.lexer c.next.new.self (control_view c.tokens.control) (control_view c.take.new.self) c.in-Ok-Some.token c.tokens.last c.part_end.result.at c.part_end.result.is_block c.tokens.invariant h
-    c.next.ensures.moves (sym c.ends_word.ensures ∙ c.if-ends_word.false) f (c.part_end.ensures.at ∙ c.end_after-last.ensures) c.in-Some.ensures.0 (c.part_end.ensures.block ∙ c.in-Some.ensures.1)
+    part_over (place_view c.args.place) (chars c.args.text.now) c.tokens.lexer c.next.new.self (control_view c.tokens.control) (control_view c.take.new.self) c.in-Ok-Some.token c.tokens.last c.end_after-last.result c.in-Some.ended c.tokens.invariant h
+    c.next.ensures.moves (sym c.ends_word.ensures ∙ c.if-ends_word.false) f c.end_after-last.ensures c.in-Some.ensures.0 c.in-Some.ensures.1
 
 pub tokens-smaller : goal.tokens-smaller
 tokens-smaller c =
@@ -47,7 +45,5 @@ tokens-smaller c =
 pub tokens-preserved : goal.tokens-preserved
 tokens-preserved c =
     let h = rw c.in-Ok-Some.field-0-is at c.in-Ok-Some.ensures.lexed in
-    let f = rw c.if-not-branch.false at c.in_ok-take.ensures in
-    subst (λ (n : ℕ). PartGoes (place_view c.args.place) c.next.new.self (control_view c.take.new.self) (chars c.args.text.now) n) (sym c.end_after-last.ensures)
-    (part_goes_on (place_view c.args.place) (chars c.args.text.now) c.tokens.lexer c.next.new.self (control_view c.tokens.control) (control_view c.take.new.self) c.in-Ok-Some.token c.tokens.last c.tokens.invariant h c.next.ensures.moves
-    (sym c.ends_word.ensures ∙ c.if-ends_word.false) f c.in_default.ensures)
+    subst (λ (n : ℕ). Goes for_part (slashdash_in (place_view c.args.place)) c.next.new.self (control_view c.take.new.self) (chars c.args.text.now) n) (sym c.end_after-last.ensures)
+    (goes_further c.tokens.invariant c.in-Ok-Some.token h c.next.ensures.moves (rw c.if-not-branch.false at c.in_ok-take.ensures) (part_on (control_view c.tokens.control) (kind_view c.in-Ok-Some.token.kind) c.tokens.invariant.under_way (sym c.ends_word.ensures ∙ c.if-ends_word.false)) c.in_default.ensures)

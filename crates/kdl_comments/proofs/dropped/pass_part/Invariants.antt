@@ -2,11 +2,12 @@ use Rattle.std.proofs.Common.{length}
 use Rattle.kdl_control.specs.Internal.Views.{control_view}
 use Rattle.kdl_comments.specs.Internal.Reading.{place_view}
 use Rattle.std.specs.Str.{chars}
-use Rattle.kdl_comments.proofs.Dropping.PartLoop.{PartGoes}
+use Rattle.kdl_comments.specs.Internal.Passing.{for_part, slashdash_in}
+use Rattle.kdl_comments.proofs.Dropping.TokenLoop.{Goes}
 use Rattle.kdl_comments.proofs.dropped.pass_part.Given as goal
 
 abbrev pub invariant-tokens : goal.invariant-tokens
-invariant-tokens l = PartGoes (place_view l.fn.place) l.lexer (control_view l.control) (chars l.fn.text) l.last
+invariant-tokens l = Goes for_part (slashdash_in (place_view l.fn.place)) l.lexer (control_view l.control) (chars l.fn.text) l.last
 
 abbrev pub decreases-tokens : goal.decreases-tokens
 decreases-tokens l = length l.lexer.rest

@@ -1,7 +1,7 @@
 use Rattle.std.proofs.lemmas.Result.{IfOk-weaker}
 use Rattle.std.specs.Str.{chars}
 use Rattle.kdl_comments.specs.Internal.Reading.{held}
-use Rattle.kdl_comments.proofs.Lacking.NodeSpaceLoop.{only_are}
+use Rattle.kdl_comments.proofs.Lacking.SpaceEnds.{only_are}
 use Rattle.kdl_comments.proofs.lacks.is_node_spaces.Goals as goal
 
 pub returns : goal.returns

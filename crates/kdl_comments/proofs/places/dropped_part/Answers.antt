@@ -1,7 +1,8 @@
 use Rattle.std.proofs.Common.{ap, option_map}
 use Rattle.std.specs.Str.{chars}
 use Rattle.kdl_comments.specs.Internal.Reading.{place_view}
-use Rattle.kdl_comments.proofs.Lacking.PlacePieces.{part_cut, part_goes, part_none, part_nowhere}
+use Rattle.kdl_comments.proofs.Lacking.PlacePieces.{part_goes, part_none, part_not_there}
+use Rattle.kdl_comments.proofs.Listing.Starts.{before_cut}
 use Rattle.kdl_comments.proofs.places.dropped_part.Goals as goal
 
 pub returns-in_default : goal.returns-in_default
@@ -9,11 +10,11 @@ returns-in_default c = part_none (place_view c.args.place) (chars c.args.text.no
 
 pub returns-in_default-after_part : goal.returns-in_default-after_part
 returns-in_default-after_part c =
-    part_nowhere (place_view c.args.place) (chars c.args.text.now) (chars c.after_dash-following.result.now) c.in-Some.end (option_map place_view c.after_part.result) c.after_dash-following.ensures (rw c.in-Some.is at c.in_ok-end.ensures)
+    part_not_there (place_view c.args.place) (chars c.args.text.now) (chars c.after_dash-following.result.now) c.in-Some.end (option_map place_view c.after_part.result) c.after_dash-following.ensures (rw c.in-Some.is at c.in_ok-end.ensures)
     c.after_part.ensures (ap (option_map place_view) c.in_default-after_part.is)
 
 pub piece-requires-clause-at : goal.piece-requires-clause-at
-piece-requires-clause-at c = part_cut (place_view c.args.place) (chars c.after_dash-following.result.now) c.in-Some.end (rw c.in-Some.is at c.in_ok-end.ensures)
+piece-requires-clause-at c = before_cut (rw c.in-Some.is at c.in_ok-end.ensures).2
 
 pub returns : goal.returns
 returns c =

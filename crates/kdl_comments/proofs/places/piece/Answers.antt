@@ -1,5 +1,5 @@
 use Rattle.std.specs.Str.{chars}
-use Rattle.kdl_comments.proofs.Dropping.DroppedPieces.{piece_of, piece_cut, piece_between}
+use Rattle.kdl_comments.proofs.Dropping.TokenLoop.{piece_of, piece_cut, piece_between}
 use Rattle.kdl_comments.proofs.places.piece.Goals as goal
 
 pub overflow_sub-text : goal.overflow_sub-text

@@ -2,7 +2,7 @@ use Rattle.std.specs.Str.{chars}
 use Rattle.kdl_comments.specs.Internal.Reading.{held}
 use Rattle.kdl_comments.specs.declared.ends.Ending.TheVariants.{InReturn, Open}
 use Rattle.kdl_comments.proofs.Lacking.PlacePieces.{spaces_onward, spaces_in_escline}
-use Rattle.kdl_comments.proofs.Listing.PlaceReads.{place_none}
+use Rattle.kdl_comments.proofs.Listing.SpaceItems.{place_none}
 use Rattle.kdl_comments.proofs.Listing.Starts.{no_dash}
 use Rattle.kdl_comments.proofs.places.place_piece.Goals as goal
 

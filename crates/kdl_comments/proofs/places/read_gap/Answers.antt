@@ -2,7 +2,7 @@ use Rattle.std.proofs.Common.{sym, ◌∙◌}
 use Rattle.std.specs.Str.{chars}
 use Rattle.kdl_comments.specs.Internal.Reading.{held}
 use Rattle.kdl_comments.proofs.Lacking.GapPieces.{through_start, gap_turn, gap_end, gap_last, gap_refused}
-use Rattle.kdl_comments.proofs.Listing.SpaceReads.{no_chars, some_chars}
+use Rattle.kdl_comments.proofs.Listing.Starts.{no_chars, some_chars}
 use Rattle.kdl_comments.proofs.places.read_gap.Goals as goal
 
 pub pieces-init : goal.pieces-init

@@ -2,7 +2,7 @@ use Rattle.std.proofs.Common.{sym, ◌∙◌}
 use Rattle.std.specs.Str.{chars}
 use Rattle.kdl_comments.specs.Internal.Reading.{held, place_view}
 use Rattle.kdl_comments.proofs.Lacking.PlacePieces.{place_start, place_turn, place_done, place_lacking, place_refused, place_undone}
-use Rattle.kdl_comments.proofs.Listing.SpaceReads.{no_chars, some_chars}
+use Rattle.kdl_comments.proofs.Listing.Starts.{no_chars, some_chars}
 use Rattle.kdl_comments.proofs.places.read_place.Goals as goal
 
 pub pieces-init : goal.pieces-init

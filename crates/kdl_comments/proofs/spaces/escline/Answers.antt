@@ -1,8 +1,7 @@
 use Rattle.std.specs.Str.{chars}
 use Rattle.kdl_comments.specs.Internal.Reading.{held}
 use Rattle.kdl_comments.proofs.Lacking.SpaceEnds.{escline_start, escline_on, escline_break, escline_ends, escline_none}
-use Rattle.kdl_comments.proofs.Listing.SpaceReads.{starts_shorter}
-use Rattle.kdl_comments.proofs.Listing.Starts.{break_of, no_ws, no_escline_end}
+use Rattle.kdl_comments.proofs.Listing.Starts.{starts_shorter, break_of, no_ws, no_escline_end}
 use Rattle.kdl_comments.proofs.spaces.escline.Goals as goal
 
 pub comments-init : goal.comments-init

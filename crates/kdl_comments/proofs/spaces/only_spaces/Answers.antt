@@ -2,8 +2,8 @@ use Rattle.std.proofs.Common.{sym, ◌∙◌, Some, None}
 use Rattle.std.specs.Str.{chars}
 use Rattle.kdl_comments.specs.Internal.Reading.{held}
 use Rattle.kdl_comments.specs.declared.ends.Ending.TheVariants.{InReturn, Open}
-use Rattle.kdl_comments.proofs.Lacking.NodeSpaceLoop.{spaces_start, spaces_on, not_spaces, all_spaces}
-use Rattle.kdl_comments.proofs.Listing.SpaceReads.{no_chars, some_chars}
+use Rattle.kdl_comments.proofs.Lacking.SpaceEnds.{spaces_start, spaces_on, not_spaces, all_spaces}
+use Rattle.kdl_comments.proofs.Listing.Starts.{no_chars, some_chars}
 use Rattle.kdl_comments.proofs.spaces.only_spaces.Goals as goal
 
 pub spaces-init : goal.spaces-init

@@ -3,7 +3,7 @@ use denote.Text.{Utf8}
 use denote.Shadow.{shadow}
 use Rattle.std.specs.Str.{chars}
 use Rattle.kdl_comments.specs.Internal.Reading.{Adding, held}
-use Rattle.kdl_comments.proofs.Lacking.NodeSpaceLoop.{SpacesFrom}
+use Rattle.kdl_comments.proofs.Lacking.SpaceEnds.{SpacesFrom}
 use Rattle.kdl_comments.proofs.spaces.only_spaces.Given as goal
 
 abbrev pub invariant-spaces : goal.invariant-spaces

@@ -3,7 +3,7 @@ use Rattle.std.specs.Str.{chars}
 use Rattle.kdl_text.specs.Chars.{Text}
 use Rattle.kdl_entry.proofs.Slicing.Between.{is_between}
 use Rattle.kdl_comments.specs.Items.{line_end}
-use Rattle.kdl_comments.proofs.Listing.SpaceReads.{whole_comment}
+use Rattle.kdl_comments.proofs.Listing.Starts.{whole_comment}
 use Rattle.kdl_comments.proofs.terminator.line_comment.Goals as goal
 
 pub returns-in-None : goal.returns-in-None
