@@ -274,9 +274,6 @@ pub lines_again : (before : Text) → list_all is_space before ≡ true → {s :
     → GapItems (lines before is ++ r) (map on_line is ++ js)
 lines_again before ok {is = is} d g = lines_first gaps before ok is (gap_items d) g
 
-pub lines_gap : (before : Text) → list_all is_space before ≡ true → {s : Text} {is : List Item} → GapItems s is → {t r : Text} → Gap true t r → Gap true (lines before is ++ t) r
-lines_gap before ok {is = is} d {r = r} g = lines_first (gaps_before r) before ok is (gap_items d) {js = []} g
-
 -- with spaces alone after the lines
 pub lines_spaces : (before after : Text) → list_all is_space before ≡ true → list_all is_space after ≡ true → {s : Text} {is : List Item} → GapItems s is → GapItems (lines before is ++ after) (map on_line is)
 lines_spaces before after ok ok' {s} {is} d =
@@ -295,7 +292,3 @@ line_text_again (c ∷ d ∷ s) = line_cons c d s ∙ ap (λ (z : Text). c ∷ z
 pub text_on_line : (i : Item) → item_text (on_line i) ≡ line_text (item_text i)
 text_on_line (comment t) = refl
 text_on_line (piece t) = refl
-
-pub lines_on_line : (before : Text) (is : List Item) → lines before (map on_line is) ≡ lines before is
-lines_on_line before [] = refl
-lines_on_line before (i ∷ is) = rw (text_on_line i, line_text_again (item_text i), lines_on_line before is) refl

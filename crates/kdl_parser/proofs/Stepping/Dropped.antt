@@ -253,7 +253,3 @@ module _ {N : Type 0} (tree : N → Node) (b : Builder N) (u : CodeUnder) (f : u
     where
       live : (is_live (phase_after b.dropped) ≡ true) × ((t s : Text) → phase_placed t (phase_now tree (ended (phase_after b.dropped)) (phase_after b.dropped)) s) × ((n m : ℕ) → unsliced_in (phase_after b.dropped) n m ≡ n)
       live = live_after b.dropped k e
-
--- the token after what was slashdashed
-pub left_takes : {N : Type 0} (tree : N → Node) (b m : Builder N) (k : Token) (span : TokenSpan) (result : Result (Unit {0}) TakeFailure) (new : Builder N) → is_over k (reading_view b.dropped) ≡ true → Leaves tree b m → TakesToken tree m k span result new → TakesToken tree b k span result new
-left_takes tree b m k span result new e l x = carried tree b m k span result new l.source (l.step k span e) l.unsliced x

@@ -1,8 +1,7 @@
 -- The document at the end of the text, after the current node.
-use Rattle.std.proofs.Common.{◌≡◌, ℕ, List, [], Option, Some, Result, refl, sym, ap, subst, ◌∙◌}
+use Rattle.std.proofs.Common.{◌≡◌, List, [], Option, Some, Result, refl, sym, ap, subst, ◌∙◌}
 use Rattle.kdl_text.specs.Chars.{Text}
-use Rattle.kdl_text.specs.Internal.Here.{Here, Position}
-use Rattle.kdl_entry.specs.Internal.Counted.{Recounted}
+use Rattle.kdl_text.specs.Internal.Here.{Position}
 use Rattle.kdl_control.specs.declared.control.Phase.TheVariants.{InNode, Kept as KeptPhase}
 use Rattle.kdl_control.specs.declared.control.Spot.{Spot}
 use Rattle.kdl_control.specs.declared.control.Spot.TheVariants.{Fresh, Spaced, Later}
@@ -12,9 +11,7 @@ use Rattle.kdl_grammar.specs.Internal.Machine.{Under, Kept, Frame, State, at, at
 use Rattle.kdl_grammar.specs.Tree.{Node, Nodes, Document, no_children}
 use Rattle.kdl_parser.specs.Internal.Answered.{Finished}
 use Rattle.kdl_parser.specs.Internal.Building.{state_view, state_by, reading_view, in_phase, phase_now, node_now, kept_now, nodes_now, frames_view}
-use Rattle.kdl_parser.specs.Internal.Counted.{SlicedOn, unsliced}
-use Rattle.kdl_parser.specs.Internal.States.{document_now, document_of_nodes, node_ended, kept_ended, Ends}
-use Rattle.kdl_parser.specs.Internal.Turns.{Leaves}
+use Rattle.kdl_parser.specs.Internal.States.{document_now, document_of_nodes, node_ended, kept_ended}
 use Rattle.kdl_parser.specs.declared.builder.Builder.{Builder}
 use Rattle.kdl_parser.specs.declared.builder.dropping.Dropped.{Dropped}
 use Rattle.kdl_parser.specs.declared.builder.dropping.Dropped.TheVariants.{Nothing}
@@ -67,11 +64,3 @@ kept_finishes tree b m here result d p e s d' w f =
     let y = kept_ends_at b.source.text b.from.rest here.rest (kept_now tree b) (nodes_now tree b) (frames_view tree b) e in
     let z : document_now tree b ≡ _ = now_is tree b d ∙ ap (λ q. finish b.source.text (in_phase tree b (phase_now tree b q))) p in
     subst (λ o. Finished tree o result) (x ∙ y ∙ sym z) f
-
--- after what was slashdashed
-pub left_ends : {N : Type 0} (tree : N → Node) (b m new : Builder N) (result : Result (DocumentParts N) TakeFailure) → Leaves tree b m → Ends tree (document_now tree m) (unsliced m) m result new → Ends tree (document_now tree b) (unsliced b) b result new
-left_ends tree b m new result l x = record {
-  finished = subst (λ (o : Option Document). Finished tree o result) l.document x.finished;
-  same = subst (λ (z : Here). Recounted z new.source) l.source x.same;
-  sliced = subst (λ (n : ℕ). SlicedOn result n 0 b.source.steps new.source.steps) l.unsliced (subst (λ (z : Here). SlicedOn result (unsliced m) 0 z.steps new.source.steps) l.source x.sliced);
-}

@@ -9,13 +9,11 @@ use Rattle.kdl_value.specs.Data.{Value}
 use Rattle.kdl_value.specs.Tree.{text_of}
 use Rattle.kdl_entry.specs.Internal.Building.{parts_view}
 use Rattle.kdl_entry.specs.Internal.Counted.{Recounted, Sliced, Within}
-use Rattle.kdl_lexer.specs.Internal.Handed.{kind_view}
 use Rattle.kdl_lexer.specs.Tokens.{Token}
 use Rattle.kdl_entry.specs.Internal.Parts as under_way
 use Rattle.kdl_entry.specs.Internal.Parts.{TypeParts, KeyParts}
 use Rattle.kdl_entry.specs.Places.{between}
 use Rattle.kdl_parser.specs.declared.builder.TakeFailure.{TakeFailure}
-use Rattle.kdl_lexer.specs.declared.lexer.TokenKind.{TokenKind}
 use Rattle.kdl_lexer.specs.declared.token_span.TokenSpan.{TokenSpan}
 use Rattle.kdl_entry.specs.Tree.{Identifier}
 use Rattle.kdl_grammar.specs.Internal.Machine as machine
@@ -29,12 +27,9 @@ use Rattle.kdl_parser.specs.declared.builder.Slot.{Slot}
 use Rattle.kdl_parser.specs.declared.builder.dropping.Dropped.TheVariants.{Nothing}
 use Rattle.kdl_parser.specs.declared.node_parts.DocumentParts.{DocumentParts}
 
--- the machine's step at the token k, and at a token of the kind
+-- the machine's step at the token k
 abbrev pub step_at : {N : Type 0} → (N → Node) → Builder N → Token → TokenSpan → Option State
 step_at tree b k span = machine.step b.source.text (state_view tree b) k span.start.rest span.end.rest
-
-abbrev pub token_step : {N : Type 0} → (N → Node) → Builder N → TokenKind → TokenSpan → Option State
-token_step tree b kind span = step_at tree b (kind_view kind) span
 
 -- the nodes, and after them the node u: it has no block, and ends at s with the terminator
 abbrev pub nodes_and : {N : Type 0} → (N → Node) → Builder N → Under → Position → Text → Option Nodes

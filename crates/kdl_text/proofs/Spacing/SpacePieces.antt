@@ -123,6 +123,3 @@ break_shorter (break_comment l) = line_comment_shorter l
 pub line_space_shorter : {s r : Text} → LineSpace s r → length r < length s
 line_space_shorter (line_space p) = node_space_shorter p
 line_space_shorter (line_break p) = break_shorter p
-
-pub slashdash_shorter : {s r : Text} → Slashdash s r → length r < length s
-slashdash_shorter (slashdash p) = omega (arith, end_length (star_end (λ u v. line_space_end) p))
