@@ -7,7 +7,7 @@ use Rattle.kdl_text.specs.Failures.{IsToldOf}
 use Rattle.kdl_text.specs.Spans.{InText}
 use Rattle.kdl_text.specs.declared.error.KdlDiagnostic.{KdlDiagnostic}
 use Rattle.kdl_diagnostics.specs.Internal.Noted.{Noted}
-use Rattle.kdl_diagnostics.specs.declared.reader.Fault.{Fault}
+use Rattle.kdl_diagnostics.specs.declared.notes.Fault.{Fault}
 
 pub noted_at : (text input : List ℕ) (fs : List Fault) (i : ℕ) (d : Fault) → input ≡ text → Noted (chars text) fs → i < length fs → InText (chars input) (get_or fs i d).span
 noted_at text input fs i d e x l = subst (λ (z : List ℕ). InText (chars z) (get_or fs i d).span) (sym e) (All-get_or (λ (f : Fault). InText (chars text) f.span) fs i d l x)

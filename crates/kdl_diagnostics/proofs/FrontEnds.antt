@@ -3,17 +3,18 @@ use Rattle.std.proofs.Common.{◌≡◌, ◌↔◌, ◌+◌, ◌<◌, ℕ, Bool,
 use Rattle.std.specs.Prelude.{IfOk, option_to_list}
 use Rattle.std.specs.Option.{IfSome}
 use Rattle.std.proofs.lemmas.List.{length_push}
-use Rattle.std.proofs.lemmas.List.Elements.{All-nil, All-pop}
+use Rattle.std.proofs.lemmas.List.Elements.{All-nil, All-pop, All-push, All-same}
 use Rattle.kdl_text.specs.Chars.{Text}
-use Rattle.kdl_text.specs.Internal.Here.{Here}
+use Rattle.kdl_text.specs.Internal.Here.{Here, Position}
 use Rattle.kdl_lexer.specs.Internal.Handed.{HandsOut, kind_view}
 use Rattle.kdl_lexer.specs.Tokens.{Token, space, newline, slashdash, string, value, left, right, opening, closing, equals, semicolon, bom, NoToken}
 use Rattle.kdl_lexer.specs.declared.lexer.Token.{Token as CodeToken}
-use Rattle.kdl_control.specs.Internal.Views.{phase_view}
-use Rattle.kdl_diagnostics.specs.Internal.Outsets.{Counts, EndsBefore, Enters, GoesOver, IsNew, BeginsAt, at_the_end, earlier, IsReady, IsStopped, Lacking, Lacks, LacksAt, Matched, Untold, depth, text_view}
+use Rattle.kdl_diagnostics.specs.Internal.Noted.{Counts, Opens, Untold}
+use Rattle.kdl_diagnostics.specs.Internal.Outsets.{EndsBefore, GoesOver, IsNew, BeginsAt, at_the_end, earlier, IsReady, IsStopped, Lacking, LacksAt, Matched, StopsAfter, depth, text_view}
 use Rattle.kdl_diagnostics.specs.TextControl.{TextControl, Takes, text_finish, text_start, text_step}
 use Rattle.kdl_diagnostics.specs.declared.front.Prefix.{Prefix}
-use Rattle.kdl_diagnostics.specs.declared.reader.Block.{Block}
+use Rattle.kdl_diagnostics.specs.declared.machine.Context.TheVariants.{FaultyType}
+use Rattle.kdl_diagnostics.specs.declared.notes.Block.{Block}
 use Rattle.kdl_diagnostics.specs.declared.reader.Reader.{Reader}
 use Rattle.kdl_diagnostics.specs.declared.text_control.Outset.{Outset}
 use Rattle.kdl_diagnostics.specs.declared.text_control.TextControl.{TextControl as Control}
@@ -28,6 +29,11 @@ pub if_ok : {A E : Type 0} {P Q : A → Type 0} (r : Result A E) → ((x : A) �
 if_ok (Ok x) f p = f x p
 if_ok (Err e) f p = tt
 
+-- what holds in any case
+pub on_ok : {A E P : Type 0} (r : Result A E) → P → IfOk r (λ (x : A). P)
+on_ok (Ok x) p = p
+on_ok (Err e) p = tt
+
 pub not_empty : {A : Type 0} (xs : List A) → (xs ≡ [] → ⊥) → 0 < length xs
 not_empty [] h = absurd (h refl)
 not_empty (x ∷ xs) h = omega arith
@@ -36,8 +42,16 @@ pub pushed : {A : Type 0} (old new : List A) (x : A) → new ≡ old ++ (x ∷ [
 pushed old new x e = ap length e ∙ length_push old x
 
 -- a front that ends after no string, number or keyword
-pub ends_at : (rest : Text) (f : Prefix) → f.place.rest ≡ rest → f.from.rest ≡ rest → (text_finish (text_view f.control) ≡ false → LacksAt f.control.whole (depth (text_view f.control)) f.before) → Matched f → EndsBefore rest f
-ends_at rest f p q h m = record { place = p; from = λ e. (sym q ∙ e, λ x. subst (λ (n : ℕ). LacksAt f.control.whole n f.before) (sym m.0) (h x)); matched = m }
+pub ends_at : (rest : Text) (f : Prefix) → f.stop.place.rest ≡ rest → f.stop.from.rest ≡ rest → (text_finish (text_view f.control) ≡ false → LacksAt f.control.whole (depth (text_view f.control)) f.stop.before) → Matched f → EndsBefore rest f
+ends_at rest f p q h m = record { place = p; from = λ e. (sym q ∙ e, λ x. subst (λ (n : ℕ). LacksAt f.control.whole n f.stop.before) (sym m.0) (h x)); matched = m }
+
+-- a front that ends after a token
+pub ends_after : (k : CodeToken) (here : Outset) (f : Prefix) → StopsAfter k here f.stop → (k.at.start.rest ≡ [] → ⊥) → (text_finish (text_view f.control) ≡ false → LacksAt f.control.whole (depth (text_view f.control)) here) → Matched f → EndsBefore k.at.end.rest f
+ends_after k here f s n h m = record {
+  place = ap (λ (p : Position). p.rest) s.place;
+  from = λ e. (let x = s.from n e in (x.0, λ y. subst (λ (i : ℕ). LacksAt f.control.whole i f.stop.before) (sym m.0) (rw x.1 (h y))));
+  matched = m;
+}
 
 -- the open blocks
 same_count : (k : Token) (m n o : ℕ) → Counts k m n → Counts k m o → n ≡ o
@@ -64,28 +78,29 @@ pub told_not : (b : Bool) → not b ≡ false → b ≡ false → ⊥
 told_not true e f = cc
 told_not false e f = cc
 
--- where the reader of faults begins
-lacking : (n : ℕ) (o : Outset) (a b : Reader) → LacksAt a.text n o → Untold a.blocks.items → a.is_cut ≡ false → n ≡ length a.blocks.items → Enters o a b → Lacking b
-lacking n o a b x u c e h =
-    let y : LacksAt b.text (length b.blocks.items) o = subst (λ w. LacksAt w (length b.blocks.items) o) (sym h.text) (subst (λ z. LacksAt a.text (length z.items) o) (sym h.blocks) (subst (λ (z : ℕ). LacksAt a.text z o) e x)) in
-    record {
-      lacks = subst (λ p. Lacks b.text (length b.blocks.items) (phase_view p) b.has_item) (sym h.phase) (subst (λ (i : Bool). Lacks b.text (length b.blocks.items) (phase_view o.phase) i) (sym h.item) y);
-      untold = subst (λ z. Untold z.items) (sym h.blocks) u;
-      cut = h.cut ∙ c;
-    }
+pub opened_count : (old new : List Block) → Opens old new → Untold old → (length new ≡ length old + 1) × Untold new
+opened_count old new (b, f, e) u = (ap length e ∙ length_push old b, All-same (λ (b : Block). b.is_told ≡ false) new (old ++ (b ∷ [])) e (All-push (λ (b : Block). b.is_told ≡ false) old b u f))
 
-pub ready : (f : Prefix) (here : Outset) (a b : Reader) → IsStopped f → (text_finish (text_view f.control) ≡ false → LacksAt f.control.whole (depth (text_view f.control)) here) → a.text ≡ f.control.whole → a.blocks ≡ f.blocks → a.is_cut ≡ false → a.cursor.rest ≡ f.place.rest → BeginsAt f.from here f.before a b → IsReady b
-ready f here a b s l t k c r (at_the_end e h) = record {
-  ends = λ n.
-      (let (g, m) = s.place (sym r ∙ sym e ∙ n) in
-      lacking (depth (text_view f.control)) here a b (subst (λ w. LacksAt w (depth (text_view f.control)) here) (sym t) (l g)) (subst (λ z. Untold z.items) (sym k) m.1) c (sym m.0 ∙ ap (λ z. length z.items) (sym k)) h);
-  place = h.place;
+-- where the reader of faults begins
+lacking : (w : Whole) (n : ℕ) (o : Outset) (r : Reader) → LacksAt w n o → Untold r.notes.blocks.items → r.is_cut ≡ false → n ≡ length r.notes.blocks.items → r.state.whole ≡ w → r.state.control.phase ≡ o.phase → r.state.has_item ≡ o.has_item → Lacking r
+lacking w n o r x u c e f g h = record {
+  lacks = rw (f, g, h) (subst (λ (z : ℕ). LacksAt w z o) e x);
+  untold = u;
+  cut = c;
 }
-ready f here a b s l t k c r (earlier e h) = record {
-  ends = λ n.
-      (let (x, u) = s.from (sym e ∙ n) in
-      lacking (length f.blocks.items) f.before a b (subst (λ w. LacksAt w (length f.blocks.items) f.before) (sym t) x) (subst (λ z. Untold z.items) (sym k) u) c (ap (λ z. length z.items) (sym k)) h);
-  place = h.place;
+
+pub ready : (f : Prefix) (o : Outset) (r : Reader) → IsStopped f → BeginsAt f o r.cursor → r.state.whole ≡ f.control.whole → r.state.control.phase ≡ o.phase → r.state.has_item ≡ o.has_item → r.notes ≡ f.notes → r.is_cut ≡ false → (r.state.context ≡ FaultyType → ⊥) → IsReady r
+ready f o r s (at_the_end e l) w p i n c x = record {
+  ends = λ z.
+      (let (g, m) = s.place (sym e ∙ z) in
+      lacking f.control.whole (depth (text_view f.control)) o r (l g) (rw n m.1) c (sym m.0 ∙ ap (λ k. length k.blocks.items) (sym n)) w p i);
+  context = x;
+}
+ready f o r s (earlier e b) w p i n c x = record {
+  ends = λ z.
+      (let (l, u) = s.from (sym e ∙ z) in
+      lacking f.control.whole (length f.notes.blocks.items) o r (rw b l) (rw n u) c (ap (λ k. length k.blocks.items) (sym n)) w p i);
+  context = x;
 }
 
 -- the front at the start of a text
@@ -118,7 +133,7 @@ pub at_the_text_end : {P : Type 0} (r : Bool) (a : Here) (t : TextControl) → a
 at_the_text_end r a t n f x = let y = at_end n in (λ q. x.0 (y.0 (sym f ∙ q)), λ p. f ∙ y.1 (x.1 p))
 
 -- where the text goes on there is nothing more to know
-pub stopped_before : (rest : Text) (f g : Prefix) → EndsBefore rest f → (rest ≡ [] → ⊥) → g.place.rest ≡ f.place.rest → g.from.rest ≡ f.from.rest → IsStopped g
+pub stopped_before : (rest : Text) (f g : Prefix) → EndsBefore rest f → (rest ≡ [] → ⊥) → g.stop.place.rest ≡ f.stop.place.rest → g.stop.from.rest ≡ f.stop.from.rest → IsStopped g
 stopped_before rest f g e n p q = record { place = λ x. absurd (n (sym e.place ∙ sym p ∙ x)); from = λ x. absurd (n (e.from (sym q ∙ x)).0) }
 
 pub stopped_at_end : (rest : Text) (f : Prefix) → EndsBefore rest f → text_finish (text_view f.control) ≡ false → IsStopped f

@@ -13,7 +13,7 @@ use Rattle.kdl_lexer.specs.Internal.Handed.{Cuts, one, spaces, HandsOut}
 use Rattle.kdl_lexer.specs.Tokens.{Token, t_space}
 use Rattle.kdl_lexer.specs.declared.lexer.Token.{Token as CodeToken}
 use Rattle.kdl_lexer.proofs.Lexing.TokenUnique.{token_shorter}
-use Rattle.kdl_diagnostics.specs.Internal.Noted.{LiesIn}
+use Rattle.kdl_diagnostics.specs.Internal.Reading.{LiesIn}
 
 -- the lexer has gone over tokens of the text
 pub record Fronting (old new : Here) : Type 0 where

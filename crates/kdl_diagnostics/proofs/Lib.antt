@@ -2,15 +2,13 @@
 pub mod Accepting
 -- How many blocks are open after a token, and what is missing where a text may not end.
 pub mod OpenCount
--- Value ends, from further back.
-pub mod ValueEnds
--- Spans between places of a text, and what a reader of faults holds.
+-- Spans between places of a text, and what a reader of faults notes.
 pub mod NotedSpans
 -- Places that a cursor went past, and what its steps cost.
 pub mod Passing
--- Where lexemes are, and how the cursor moves past them.
+-- Where lexemes are.
 pub mod LexemeMoves
--- The loops over the units of a string.
+-- The loop over the units of a string.
 pub mod StringLoops
 -- The diagnostics of a text, one for each fault.
 pub mod Diagnostics
@@ -18,5 +16,5 @@ pub mod Diagnostics
 pub mod FrontEnds
 -- The turns of the loop over the tokens of a front.
 pub mod FrontReads
--- What the turns of a reader of faults cost.
+-- What a reader of faults costs, and where its cursor goes.
 pub mod ReaderCost

@@ -1,5 +1,5 @@
--- Spans between places of a text, and what a reader of faults holds.
-use Rattle.std.proofs.Common.{◌≡◌, List, [], ◌∷◌, ◌++◌, ◌⊎◌, inl, inr, Option, Some, sym, ap, subst, ◌∙◌, arith, append_assoc, append-nil}
+-- Spans between places of a text, and what a reader of faults notes.
+use Rattle.std.proofs.Common.{◌≡◌, List, [], ◌∷◌, ◌++◌, ◌⊎◌, inl, inr, Option, Some, None, sym, ap, subst, ◌∙◌, arith, append_assoc, append-nil}
 use Rattle.std.specs.Option.{IfSome, option_to_list}
 use Rattle.std.proofs.lemmas.List.Elements.{All-push, All-pop, All-same}
 use Rattle.kdl_text.specs.Chars.{Text}
@@ -8,14 +8,16 @@ use Rattle.kdl_text.specs.Internal.Reading.{Moves}
 use Rattle.kdl_text.specs.Spans.{InText, span_between, bytes}
 use Rattle.kdl_text.specs.declared.span.SourceSpan.{SourceSpan}
 use Rattle.kdl_text.proofs.Looking.MovesJoin.{bytes-append}
-use Rattle.kdl_diagnostics.specs.Internal.Noted.{LiesIn, ReadsIn, Noted, Opened, Candidates, IsReaderOf}
-use Rattle.kdl_diagnostics.specs.Internal.Reading.{Stands}
+use Rattle.kdl_diagnostics.specs.Internal.Noted.{Candidates, IsNotesOf, Keeps, Lexed, LexedFrom, Noted, Opened, ReadsIn, Takes}
+use Rattle.kdl_diagnostics.specs.Internal.Reading.{LiesIn, Reads, Stands}
 use Rattle.kdl_diagnostics.specs.declared.ends.Unclosed.{Unclosed}
 use Rattle.kdl_diagnostics.specs.declared.esclines.Candidate.{Candidate}
 use Rattle.kdl_diagnostics.specs.declared.lexemes.Lexeme.{Lexeme}
-use Rattle.kdl_diagnostics.specs.declared.reader.Block.{Block}
-use Rattle.kdl_diagnostics.specs.declared.reader.Fault.{Fault}
+use Rattle.kdl_diagnostics.specs.declared.notes.Block.{Block}
+use Rattle.kdl_diagnostics.specs.declared.notes.Fault.{Fault}
+use Rattle.kdl_diagnostics.specs.declared.notes.Notes.{Notes}
 use Rattle.kdl_diagnostics.specs.declared.reader.Reader.{Reader}
+use Rattle.kdl_diagnostics.proofs.Passing.{after_then, reads_here, reads_more}
 
 -- of two ends of a text one is an end of the other
 pub ends_of : (p a q b : Text) → p ++ a ≡ q ++ b → ((r : Text) × (a ≡ r ++ b)) ⊎ ((r : Text) × (b ≡ r ++ a))
@@ -31,46 +33,34 @@ between text a b x y = go (ends_of x.0 a y.0 b (sym x.1 ∙ y.1))
     go (inl z) = (x.0, z.0, b, x.1 ∙ ap (λ (t : Text). x.0 ++ t) z.1 ∙ sym (append_assoc x.0 z.0 b), omega (arith, ap bytes x.1, bytes-append x.0 a), omega (arith, ap bytes z.1, bytes-append z.0 b))
     go (inr z) = (x.0, [], a, x.1 ∙ ap (λ (t : Text). t ++ a) (sym (append-nil x.0)), omega (arith, ap bytes x.1, bytes-append x.0 a), omega (arith, ap bytes z.1, bytes-append z.0 a))
 
--- the span of two places of a text
-pub span_at : (text whole : Text) (a b : Position) (s : SourceSpan) → whole ≡ text → LiesIn text a → LiesIn text b → s ≡ span_between whole a.rest b.rest → InText text s
-span_at text whole a b s w u v e = subst (λ (z : SourceSpan). InText text z) (sym (e ∙ ap (λ (z : Text). span_between z a.rest b.rest) w)) (between text a.rest b.rest u v)
+-- the span that is taken of two places of the text
+pub span_in : (text : Text) (n : Notes) (a b : Position) (s : SourceSpan) → IsNotesOf text n → LiesIn text a → LiesIn text b → s ≡ span_between n.whole.rest a.rest b.rest → InText text s
+span_in text n a b s x u v e = subst (λ (z : SourceSpan). InText text z) (sym (e ∙ ap (λ (z : Text). span_between z a.rest b.rest) x.whole)) (between text a.rest b.rest u v)
 
--- the span that the reader takes of two places of its text
-pub span_in : (text : Text) (r : Reader) (a b : Position) (s : SourceSpan) → IsReaderOf text r → LiesIn text a → LiesIn text b → s ≡ span_between r.whole.rest a.rest b.rest → InText text s
-span_in text r a b s x u v e = subst (λ (z : SourceSpan). InText text z) (sym (e ∙ ap (λ (z : Text). span_between z a.rest b.rest) x.whole)) (between text a.rest b.rest u v)
-
--- an end of an end of a text
-pub then_ends : (t s r : Text) → ((p : Text) × (t ≡ p ++ s)) → ((p : Text) × (s ≡ p ++ r)) → (p : Text) × (t ≡ p ++ r)
-then_ends t s r x y = (x.0 ++ y.0, x.1 ∙ ap (λ (z : Text). x.0 ++ z) y.1 ∙ sym (append_assoc x.0 y.0 r))
-
-pub moved_here : (text : Text) (a b : Here) → ReadsIn text a → Moves a b → ReadsIn text b
-moved_here text a b x m = let y = then_ends text a.rest b.rest (x.0, x.1) m.piece in (y.0, y.1, m.same ∙ x.2)
+-- a cursor that goes on in the text
+pub moved_here : {text : Text} {a b : Here} → ReadsIn text a → Moves a b → ReadsIn text b
+moved_here {text = text} {a = a} {b = b} x m = record { piece = after_then text a.rest b.rest x.piece m.piece; same = m.same ∙ x.same }
 
 -- a place in the text is a part of the text that the cursor was created over
 pub lies_part : (text : Text) (whole rest : Text) → whole ≡ text → ((p : Text) × (text ≡ p ++ rest)) → IsPart whole rest
 lies_part text whole rest e x = record { before = x.0; after = []; whole = e ∙ x.1 ∙ ap (λ (z : Text). x.0 ++ z) (sym (append-nil rest)) }
 
--- the places of a lexeme of the text
-pub next_lies : (text : Text) (p : Lexeme) → Stands text p → LiesIn text p.next
-next_lies text p s = then_ends text p.start.rest p.next.rest s.start s.next
-
-pub end_lies : (text : Text) (p : Lexeme) → Stands text p → LiesIn text p.end
-end_lies text p s = then_ends text p.start.rest p.end.rest s.start s.end
-
-pub comment_lies : (text : Text) (p : Lexeme) (c : Unclosed) → Stands text p → p.comment ≡ Some c → LiesIn text c.start
-comment_lies text p c s e = let x = s.comment c e in (x.0, x.2)
-
-pub comment_end_lies : (text : Text) (p : Lexeme) (c : Unclosed) → Stands text p → p.comment ≡ Some c → LiesIn text c.end
-comment_end_lies text p c s e = let x = s.comment c e in then_ends text c.start.rest c.end.rest (x.0, x.2) (x.1, x.3)
-
 -- a lexeme of an end of the text
+backslash_in : (text rest : Text) (b : Option Position) → (p : Text) × (text ≡ p ++ rest) → IfSome b (LiesIn rest) → IfSome b (LiesIn text)
+backslash_in text rest None x l = tt
+backslash_in text rest (Some b) x l = after_then text rest b.rest x l
+
+comment_in : (text rest : Text) (c : Option Unclosed) → (p : Text) × (text ≡ p ++ rest) → IfSome c (λ k. LiesIn rest k.start × LiesIn rest k.end) → IfSome c (λ k. LiesIn text k.start × LiesIn text k.end)
+comment_in text rest None x l = tt
+comment_in text rest (Some c) x l = (after_then text rest c.start.rest x l.0, after_then text rest c.end.rest x l.1)
+
 pub stands_in : (text rest : Text) (p : Lexeme) → ((q : Text) × (text ≡ q ++ rest)) → Stands rest p → Stands text p
 stands_in text rest p x s = record {
-  start = then_ends text rest p.start.rest x s.start;
-  next = s.next;
-  end = s.end;
-  backslash = s.backslash;
-  comment = λ c e. (let y = s.comment c e in let z = then_ends text rest c.start.rest x (y.0, y.2) in (z.0, y.1, z.1, y.3));
+  start = after_then text rest p.start.rest x s.start;
+  next = after_then text rest p.next.rest x s.next;
+  end = after_then text rest p.end.rest x s.end;
+  backslash = backslash_in text rest p.backslash x s.backslash;
+  comment = comment_in text rest p.comment x s.comment;
 }
 
 -- faults and blocks that are noted
@@ -94,6 +84,46 @@ candidates_same text old new e x = All-same (λ (c : Candidate). InText text c.f
 
 pub candidates_more : (text : Text) (old new : List Candidate) (c : Candidate) → new ≡ old ++ (c ∷ []) → Candidates text old → InText text c.fault.span → Candidates text new
 candidates_more text old new c e x y = All-same (λ (c : Candidate). InText text c.fault.span) new (old ++ (c ∷ [])) e (All-push (λ (c : Candidate). InText text c.fault.span) old c x y)
+
+-- notes that go on
+pub keeps_same : (P : Text → Type 0) (n : Notes) → Keeps P n n
+keeps_same P n = record { notes = λ text x p. x; grows = omega arith }
+
+pub keeps_then : {P : Text → Type 0} {a b c : Notes} → Keeps P a b → Keeps P b c → Keeps P a c
+keeps_then k l = record { notes = λ text x p. l.notes text (k.notes text x p) p; grows = omega (arith, k.grows, l.grows) }
+
+pub keeps_if : {P Q : Text → Type 0} {a b : Notes} → ((text : Text) → Q text → P text) → Keeps P a b → Keeps Q a b
+keeps_if f k = record { notes = λ text x q. k.notes text x (f text q); grows = k.grows }
+
+-- a reader whose notes go on
+pub takes_notes : {p : Lexeme} (old new : Reader) → Keeps (Lexed p) old.notes new.notes → new.cursor ≡ old.cursor → Takes p old new
+takes_notes old new k e = record {
+  keeps = λ text x s. (record { here = subst (ReadsIn text) (sym e) x.here; notes = k.notes text x.notes s });
+  grows = k.grows;
+  reads = subst (Reads 24 24 old.cursor) (sym e) (reads_more 24 (reads_here 24 old.cursor));
+}
+
+pub takes_on : {p : Lexeme} (old new : Reader) → Keeps (LexedFrom p old.cursor) old.notes new.notes → Reads 24 24 old.cursor new.cursor → Takes p old new
+takes_on old new k r = record {
+  keeps = λ text x s. (record { here = moved_here x.here r.moves; notes = k.notes text x.notes (s, x.here) });
+  grows = k.grows;
+  reads = r;
+}
+
+-- a reader that takes a lexeme after it noted it, or before
+pub takes_after : {p : Lexeme} (a b c : Reader) → Keeps (Lexed p) a.notes b.notes → b.cursor ≡ a.cursor → Takes p b c → Takes p a c
+takes_after a b c k e t = record {
+  keeps = λ text x s. t.keeps text (record { here = subst (ReadsIn text) (sym e) x.here; notes = k.notes text x.notes s }) s;
+  grows = omega (arith, k.grows, t.grows);
+  reads = subst (λ h. Reads 24 24 h c.cursor) e t.reads;
+}
+
+pub takes_before : {p : Lexeme} (a b c : Reader) → Takes p a b → Keeps (Lexed p) b.notes c.notes → c.cursor ≡ b.cursor → Takes p a c
+takes_before a b c t k e = record {
+  keeps = λ text x s. (let y = t.keeps text x s in record { here = subst (ReadsIn text) (sym e) y.here; notes = k.notes text y.notes s });
+  grows = omega (arith, t.grows, k.grows);
+  reads = subst (Reads 24 24 a.cursor) (sym e) t.reads;
+}
 
 -- a place that is another one
 pub same_lies : (text : Text) (a b : Position) → a ≡ b → LiesIn text b → LiesIn text a

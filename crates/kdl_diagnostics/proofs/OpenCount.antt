@@ -4,7 +4,8 @@ use Rattle.kdl_lexer.specs.Tokens.{Token, space, newline, slashdash, string, val
 use Rattle.kdl_control.specs.Control as c
 use Rattle.kdl_control.specs.EntryControl as e
 use Rattle.kdl_control.specs.NodeControl.{NodeControl, in_text, with_begun, between_nodes, node_step}
-use Rattle.kdl_diagnostics.specs.Internal.Outsets.{Counts, depth, open_blocks}
+use Rattle.kdl_diagnostics.specs.Internal.Noted.{Counts}
+use Rattle.kdl_diagnostics.specs.Internal.Outsets.{depth, open_blocks}
 use Rattle.kdl_diagnostics.specs.TextControl.{TextControl, in_document, in_node, in_entry, in_identifier, text_step}
 
 abbrev Of : {S : Type 0} → (S → Type 0) → Option S → Type 0

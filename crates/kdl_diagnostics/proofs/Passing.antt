@@ -1,28 +1,103 @@
 -- Places that a cursor went past, and what its steps cost.
-use Rattle.std.proofs.Common.{◌≡◌, ℕ, ◌+◌, ◌<◌, ◌≤◌, ◌==◌, [], ◌∷◌, ◌++◌, Bool, true, false, ap, sym, ◌∙◌, subst, append_assoc, arith}
+use Rattle.std.proofs.Common.{◌≡◌, ℕ, ◌+◌, ◌*◌, ◌<◌, ◌≤◌, ◌==◌, [], ◌∷◌, ◌++◌, Bool, true, false, refl, ap, sym, ◌∙◌, subst, append_assoc, arith}
+use Rattle.std.proofs.Math.Nat.{add-mul, mul-add, mul-le-mul_left}
 use Rattle.std.proofs.lemmas.Bool.{eqb-true}
 use Rattle.std.proofs.lemmas.Str.{len_utf8_bounds}
 use Rattle.std.specs.Char.{len_utf8}
+use Rattle.std.specs.Option.{IfSome}
 use Rattle.std.specs.Prelude.{Option, Some, None}
 use Rattle.kdl_text.specs.Chars.{Text, begins, starts, is_newline_char, Newline, crlf, one}
-use Rattle.kdl_text.specs.Internal.Here.{Here, Position, Skips, Ran, AteTwo, first, tail, first_len, looked, stepped}
-use Rattle.kdl_text.specs.Spans.{bytes}
+use Rattle.kdl_text.specs.Internal.Here.{Here, Position, IsPart, Skips, Ran, Ate, AteTwo, Looked, Returned, Stayed, Took, first, tail, first_len, looked, stepped}
+use Rattle.kdl_text.specs.Spans.{bytes, raise}
 use Rattle.kdl_text.specs.Strings.{Run}
-use Rattle.kdl_text.specs.Internal.Reading.{Moves, ReadsNewline}
-use Rattle.kdl_text.proofs.Looking.MovesJoin.{moves_then, moves_stayed, stayed_looked, fewer_bytes, bytes-append}
+use Rattle.kdl_text.specs.Internal.Reading.{Moves, Costs, ReadsNewline}
+use Rattle.kdl_text.proofs.Looking.MovesJoin.{stays, moves_one, moves_then, moves_stayed, stayed_looked, fewer_bytes, bytes-append}
+use Rattle.kdl_text.proofs.Looking.Parts.{part_moved, part_past}
+use Rattle.kdl_text.proofs.Looking.Returns.{moves_returned}
+use Rattle.kdl_text.proofs.Looking.SliceCost.{ate, moves_ran, costs_ran, costs_took}
 use Rattle.kdl_text.proofs.Spacing.NewlineUnique.{newline_there}
 use Rattle.kdl_text.proofs.Spacing.SpaceReads.{moves_ate_two}
-use Rattle.kdl_text.proofs.Looking.SliceCost.{moves_ran, costs_ran}
-use Rattle.kdl_diagnostics.specs.Internal.Reading.{Most, Passed, OnFound}
+use Rattle.kdl_diagnostics.specs.Internal.Reading.{EndsAfter, GoesOn, IsComment, IsEnd, IsUnclosed, OnFound, Passed, Reads, ReadsFrom, Since, gone}
+use Rattle.kdl_diagnostics.specs.declared.ends.Unclosed.{Unclosed}
+use Rattle.kdl_diagnostics.specs.declared.ends.ValueEnd.{ValueEnd}
 use Rattle.kdl_diagnostics.specs.declared.strings.Found.{Found}
 
--- a step past a character
-pub record Stepped (a b : Here) : Type 0 where
-  pub moves : Moves a b
-  pub fewer : bytes b.rest < bytes a.rest
-  pub steps : b.steps ≡ a.steps
+-- an end of an end of a text
+pub after_then : (s t u : Text) → (p : Text) × (s ≡ p ++ t) → (p : Text) × (t ≡ p ++ u) → (p : Text) × (s ≡ p ++ u)
+after_then s t u (p, e) (q, f) = (p ++ q, e ∙ ap (λ z. p ++ z) f ∙ sym (append_assoc p q u))
 
-pub stepped_past : (c : ℕ) (a b : Here) → a.rest ≡ c ∷ tail a.rest → b ≡ stepped a → Stepped a b
+pub after_same : (s t u : Text) → (p : Text) × (s ≡ p ++ t) → u ≡ t → (p : Text) × (s ≡ p ++ u)
+after_same s t u (p, e) h = (p, e ∙ ap (λ z. p ++ z) (sym h))
+
+pub after_bytes : (s t : Text) → (p : Text) × (s ≡ p ++ t) → bytes t ≤ bytes s
+after_bytes s t (p, e) = omega (arith, ap bytes e, bytes-append p t)
+
+-- reading
+pub reads_here : (k : ℕ) (a : Here) → Reads k 0 a a
+reads_here k a = record { moves = stays a; most = omega arith }
+
+pub reads_then : {k c d : ℕ} {a b e : Here} → Reads k c a b → Reads k d b e → Reads k (c + d) a e
+reads_then r s = record { moves = moves_then r.moves s.moves; most = omega (arith, r.most, s.most) }
+
+-- with more to spend
+pub reads_up : (i : ℕ) {j c : ℕ} {a b : Here} → Reads j c a b → Reads (j + i) c a b
+reads_up i {j = j} {a = a} {b = b} r = record {
+  moves = r.moves;
+  most = omega (arith, r.most, add-mul j i (bytes b.rest), add-mul j i (bytes a.rest), mul-le-mul_left i (fewer_bytes r.moves));
+}
+
+pub reads_more : (i : ℕ) {k c : ℕ} {a b : Here} → Reads k c a b → Reads k (c + i) a b
+reads_more i r = record { moves = r.moves; most = omega (arith, r.most) }
+
+-- what is not counted by bytes is paid by the first one
+pub goes_paid : {k c : ℕ} {a b : Here} → Reads k c a b → bytes b.rest < bytes a.rest → GoesOn (k + c) a b
+goes_paid {k = k} {c = c} {a = a} {b = b} r few =
+    let one : bytes b.rest + 1 ≤ bytes a.rest = omega (arith, few) in
+    let paid : c * (bytes b.rest + 1) ≤ c * bytes a.rest = mul-le-mul_left c one in
+    record {
+      reads = record {
+        moves = r.moves;
+        most = omega (arith, r.most, paid, add-mul k c (bytes b.rest), add-mul k c (bytes a.rest), mul-add c (bytes b.rest) 1);
+      };
+      went = few;
+    }
+
+pub goes_then : {k c : ℕ} {a b e : Here} → GoesOn 0 a b → Reads k c b e → GoesOn (k + c) a e
+goes_then {k = k} {b = b} s r = goes_paid (record { moves = moves_then s.reads.moves r.moves; most = omega (arith, s.reads.most, r.most, mul-le-mul_left k (fewer_bytes s.reads.moves)) }) (omega (arith, s.went, fewer_bytes r.moves))
+
+pub reads_costs : {k c : ℕ} {a b : Here} → Moves a b → Costs k c a b → Reads k c a b
+reads_costs m k = record { moves = m; most = k.most }
+
+pub reads_ran : {p : ℕ → Bool} {a b : Here} → Skips p a b → Reads 1 1 a b
+reads_ran (run, r) = reads_costs (moves_ran r) (costs_ran r)
+
+pub reads_stayed : (k : ℕ) {j : ℕ} {a b : Here} → Stayed j a b → Reads k j a b
+reads_stayed k s = record { moves = moves_stayed s; most = omega (arith, s.steps, ap (λ z. k * bytes z) s.rest) }
+
+pub reads_looked : (k : ℕ) (a b : Here) → b ≡ looked a → Reads k 1 a b
+reads_looked k a b e = reads_stayed k (stayed_looked a b e)
+
+pub reads_ate : (c : ℕ) (r : Bool) (a b : Here) → Ate c r a b → Reads 1 1 a b
+reads_ate c r a b t = let x = ate c r a b t in reads_costs x.0 x.1
+
+pub goes_took : {c : ℕ} {a b : Here} → Took (Some c) a b → GoesOn 1 a b
+goes_took {c = c} t = record { reads = reads_costs (moves_one t) (costs_took t); went = omega (arith, ap bytes t.0, (len_utf8_bounds c).0) }
+
+pub returned_few : (n : ℕ) (a b : Here) → Looked n a b → Returned n a b
+returned_few n a b (j, few, s) = record { rest = s.rest; at = s.at; most = omega (arith, few, s.steps); counts = omega (arith, s.steps); same = s.same }
+
+pub returned_looked : (a b : Here) → b ≡ looked a → Returned 1 a b
+returned_looked a b e = let s = stayed_looked a b e in record { rest = s.rest; at = s.at; most = omega (arith, s.steps); counts = omega (arith, s.steps); same = s.same }
+
+pub reads_returned : (k : ℕ) {n : ℕ} {a b : Here} → Returned n a b → Reads k n a b
+reads_returned k r = record { moves = moves_returned r; most = omega (arith, r.most, ap (λ z. k * bytes z) r.rest) }
+
+-- a run of a class, and a look after it
+pub ended : (p : ℕ → Bool) (a b e : Here) → Skips p a b → e ≡ looked b → Reads 1 2 a e
+ended p a b e r l = reads_then (reads_ran r) (reads_looked 1 b e l)
+
+-- a step past a character takes no look
+stepped_past : (c : ℕ) (a b : Here) → a.rest ≡ c ∷ tail a.rest → b ≡ stepped a → GoesOn 0 a b
 stepped_past c a b h e =
     let r : b.rest ≡ tail a.rest = ap (λ z. z.rest) e in
     let at : b.at ≡ a.at + first_len a.rest = ap (λ z. z.at) e in
@@ -31,9 +106,11 @@ stepped_past c a b h e =
     let t : bytes b.rest ≡ bytes (tail a.rest) = ap bytes r in
     let u : b.steps ≡ a.steps = ap (λ z. z.steps) e in
     record {
-      moves = record { piece = (c ∷ [], h ∙ ap (λ z. c ∷ z) (sym r)); at = omega arith; counts = omega arith; same = ap (λ z. z.text) e };
-      fewer = omega (arith, (len_utf8_bounds c).0);
-      steps = u;
+      reads = record {
+        moves = record { piece = (c ∷ [], h ∙ ap (λ z. c ∷ z) (sym r)); at = omega arith; counts = omega arith; same = ap (λ z. z.text) e };
+        most = omega arith;
+      };
+      went = omega (arith, (len_utf8_bounds c).0);
     }
 
 first_is : (s : Text) (c : ℕ) → first s ≡ Some c → s ≡ c ∷ tail s
@@ -44,11 +121,10 @@ begins_is : (s : Text) (c : ℕ) → begins c s ≡ true → s ≡ c ∷ tail s
 begins_is [] c h = cc
 begins_is (d ∷ s) c h = ap (λ z. z ∷ s) (eqb-true d c h)
 
--- a step, where the character is known
-pub stepped_first : (c : ℕ) (a b : Here) → first a.rest ≡ Some c → b ≡ stepped a → Stepped a b
+pub stepped_first : (c : ℕ) (a b : Here) → first a.rest ≡ Some c → b ≡ stepped a → GoesOn 0 a b
 stepped_first c a b h e = stepped_past c a b (first_is a.rest c h) e
 
-pub stepped_begins : (c : ℕ) (a b : Here) → begins c a.rest ≡ true → b ≡ stepped a → Stepped a b
+pub stepped_begins : (c : ℕ) (a b : Here) → begins c a.rest ≡ true → b ≡ stepped a → GoesOn 0 a b
 stepped_begins c a b h e = stepped_past c a b (begins_is a.rest c h) e
 
 -- places that were passed
@@ -60,47 +136,83 @@ passed_here a m b s r t v w = record {
 }
 
 pub passed_on : (a m b : Here) (s : Position) → Passed a s m → Moves m b → Passed a s b
-passed_on a m b s p w = record {
-  before = p.before;
-  following = (p.following.0 ++ w.piece.0, p.following.1 ∙ ap (λ z. p.following.0 ++ z) w.piece.1 ∙ sym (append_assoc p.following.0 w.piece.0 b.rest));
-  at = p.at;
-}
+passed_on a m b s p w = record { before = p.before; following = after_then _ _ _ p.following w.piece; at = p.at }
 
 pub passed_from : (a m b : Here) (s : Position) → Moves a m → Passed m s b → Passed a s b
-passed_from a m b s v p = record {
-  before = (v.piece.0 ++ p.before.0, v.piece.1 ∙ ap (λ z. v.piece.0 ++ z) p.before.1 ∙ sym (append_assoc v.piece.0 p.before.0 s.rest));
-  following = p.following;
-  at = p.at ∙ v.at;
-}
+passed_from a m b s v p = record { before = after_then _ _ _ v.piece p.before; following = p.following; at = p.at ∙ v.at }
 
 pub found_on : (a m b : Here) (f : Option Found) → OnFound a f m → Moves m b → OnFound a f b
 found_on a m b None p w = tt
 found_on a m b (Some f) p w = passed_on a m b f.place p w
 
-pub found_from : (a m b : Here) (f : Option Found) → Moves a m → OnFound m f b → OnFound a f b
-found_from a m b None v p = tt
-found_from a m b (Some f) v p = passed_from a m b f.place v p
+pub found_at : (a b e : Here) (f : Option Found) → a.rest ≡ b.rest → a.at ≡ b.at → OnFound a f e → OnFound b f e
+found_at a b e None r t p = tt
+found_at a b e (Some f) r t p = record { before = (p.before.0, sym r ∙ p.before.1); following = p.following; at = p.at ∙ ap (λ z. z + bytes a.rest) t ∙ ap (λ z. b.at + bytes z) r }
 
--- a run of a class, and a look after it
-pub record Ended (a e : Here) : Type 0 where
-  pub moves : Moves a e
-  pub most : Most 1 2 a e
+-- a comment or a value end, from further back
+pub unclosed_from : (a m b : Here) (c : Unclosed) → Moves a m → IsUnclosed m c b → IsUnclosed a c b
+unclosed_from a m b c v u = record { start = passed_from a m b c.start v u.start; end = passed_from a m b c.end v u.end }
 
-pub ended : (p : ℕ → Bool) (a b e : Here) → Skips p a b → e ≡ looked b → Ended a e
-ended p a b e (run, r) l =
-    let s = stayed_looked b e l in
-    let k = costs_ran r in
-    record { moves = moves_then (moves_ran r) (moves_stayed s); most = omega (arith, k.most, s.steps, ap bytes s.rest) }
+if_unclosed : (a m b : Here) (c : Option Unclosed) → Moves a m → IfSome c (λ k. IsUnclosed m k b) → IfSome c (λ k. IsUnclosed a k b)
+if_unclosed a m b None v u = tt
+if_unclosed a m b (Some c) v u = unclosed_from a m b c v u
 
--- a look, and a step past the character that was there
-pub looked_step : (c : ℕ) (b e d : Here) → Some c ≡ first b.rest → e ≡ looked b → d ≡ stepped e → Stepped e d
-looked_step c b e d h l s = stepped_first c e d (ap first (ap (λ z. z.rest) l) ∙ sym h) s
+pub end_from : (a m b : Here) (e : ValueEnd) → Moves a m → IsEnd m e b → IsEnd a e b
+end_from a m b e v i = record { place = passed_from a m b e.place v i.place; comment = if_unclosed a m b e.comment v i.comment }
 
+pub end_at : (a b : Here) (e : ValueEnd) (place : Position) → e.place ≡ place → e.comment ≡ None → Passed a place b → IsEnd a e b
+end_at a b e place x y p = record { place = rw x p; comment = rw y tt }
+
+-- a cursor at a place or after it
+pub since_here : (place : Position) (a : Here) → place.rest ≡ a.rest → place.at ≡ a.at → IsPart a.text place.rest → Since place a
+since_here place a r t i = record { moves = record { piece = ([], r); at = sym (ap (λ z. z + bytes place.rest) t ∙ ap (λ z. a.at + bytes z) r); counts = omega arith; same = refl }; part = i }
+
+pub since_bytes : {place : Position} {a : Here} → Since place a → bytes a.rest ≤ bytes place.rest
+since_bytes s = fewer_bytes s.moves
+
+pub since_moves : {place : Position} {a b : Here} → Since place a → Moves a b → Since place b
+since_moves s m =
+    let n = moves_then s.moves m in
+    record { moves = record { piece = n.piece; at = n.at; counts = omega arith; same = refl }; part = part_moved s.part m }
+
+pub since_place : {place : Position} {a b : Here} → Since place a → Moves (gone place a) b → Since place b
+since_place s m = record { moves = record { piece = m.piece; at = m.at; counts = omega arith; same = refl }; part = part_moved s.part m }
+
+pub since_passed : {place spot : Position} {a : Here} → Since place a → Passed (gone place a) spot a → Since spot a
+since_passed s p = record {
+  moves = record { piece = p.following; at = s.moves.at ∙ sym p.at; counts = omega arith; same = refl };
+  part = part_past _ _ p.before.0 _ s.part p.before.1;
+}
+
+-- what was read from the place on
+pub since_reads : {k c : ℕ} {place : Position} {a b : Here} → Since place a → Reads k c a b → Reads k c (gone place a) b
+since_reads {k = k} s r = record { moves = moves_then s.moves r.moves; most = omega (arith, r.most, mul-le-mul_left k (since_bytes s)) }
+
+pub since_from : {k c : ℕ} {place : Position} {a b : Here} → Since place a → ReadsFrom k c place a b → Reads k c (gone place a) b
+since_from s r = record { moves = moves_then s.moves r.moves; most = omega (arith, r.most) }
+
+-- the same, where steps were counted before
+pub since_later : {k c : ℕ} {place : Position} (n : ℕ) (a m b : Here) → m.steps ≤ a.steps + n → raise a.steps 0 ≤ raise m.steps 0 → m.text ≡ a.text → Reads k c (gone place m) b → Reads k (c + n) (gone place a) b
+since_later n a m b few more e r = record {
+  moves = record { piece = r.moves.piece; at = r.moves.at; counts = omega (arith, r.moves.counts, more); same = r.moves.same ∙ e };
+  most = omega (arith, r.most, few);
+}
+
+pub comment_after : (place : Position) (a b : Here) (c : Unclosed) → Since place a → IsUnclosed a c b → IsComment place c
+comment_after place a b c s u = record { start = after_then _ _ _ s.moves.piece u.start.before; end = after_then _ _ _ s.moves.piece u.end.before }
+
+if_comment : (place : Position) (a b : Here) (c : Option Unclosed) → Since place a → IfSome c (λ k. IsUnclosed a k b) → IfSome c (IsComment place)
+if_comment place a b None s u = tt
+if_comment place a b (Some c) s u = comment_after place a b c s u
+
+pub end_after : (place : Position) (a b : Here) (e : ValueEnd) → Since place a → IsEnd a e b → EndsAfter place e
+end_after place a b e s i = record { spot = after_then _ _ _ s.moves.piece i.place.before; comment = if_comment place a b e.comment s i.comment }
+
+-- newlines
 newline_bytes : {t r : Text} → Newline t r → bytes r < bytes t
 newline_bytes crlf = omega (arith, (len_utf8_bounds 13).0, (len_utf8_bounds 10).0)
 newline_bytes (one {c = c} h k) = omega (arith, (len_utf8_bounds c).0)
 
--- a newline, where one begins
 pub newline_first : (r : Bool) (c : ℕ) (a e : Here) → ReadsNewline r a e → first a.rest ≡ Some c → true ≡ is_newline_char c → bytes e.rest < bytes a.rest
 newline_first true c a e n h x = newline_bytes n
 newline_first false c a e (s, none) h x =
@@ -108,8 +220,12 @@ newline_first false c a e (s, none) h x =
     let there = newline_there c (tail a.rest) (sym x) in
     absurd (none there.0 (subst (λ z. Newline z there.0) (sym is) there.1))
 
-pub newline_fewer : (r : Bool) (c : ℕ) (b a e : Here) → ReadsNewline r a e → Some c ≡ first b.rest → a ≡ looked b → true ≡ is_newline_char c → bytes e.rest < bytes a.rest
-newline_fewer r c b a e n h l x = newline_first r c a e n (ap first (ap (λ z. z.rest) l) ∙ sym h) x
+-- what a look found is still there
+pub first_same : (c : ℕ) (b m : Here) → Some c ≡ first b.rest → m.rest ≡ b.rest → first m.rest ≡ Some c
+first_same c b m h r = ap first r ∙ sym h
+
+pub first_looked : (c : ℕ) (b m : Here) → Some c ≡ first b.rest → m ≡ looked b → first m.rest ≡ Some c
+first_looked c b m h l = first_same c b m h (ap (λ z. z.rest) l)
 
 -- a run that is not empty
 pub ran_fewer : (p : ℕ → Bool) (a b : Here) → Skips p a b → starts p a.rest ≡ true → bytes b.rest < bytes a.rest
@@ -130,35 +246,11 @@ pub starts_begins : (c : ℕ) (s : Text) → begins c s ≡ true → starts (λ 
 starts_begins c [] h = h
 starts_begins c (d ∷ s) h = h
 
-pub ate_two_steps : (c d : ℕ) (r : Bool) (a b : Here) → AteTwo c d r a b → b.steps ≤ a.steps + 2
-ate_two_steps c d true a b t = omega (arith, t.steps)
-ate_two_steps c d false a b (n, s) = omega (arith, s.steps)
-
--- past a quote, and two more where they are there
-pub record Opened (a e : Here) : Type 0 where
-  pub moves : Moves a e
-  pub fewer : bytes e.rest < bytes a.rest
-  pub steps : e.steps ≤ a.steps + 2
-
-pub opened : (r : Bool) (a b e : Here) → begins 34 a.rest ≡ true → b ≡ stepped a → AteTwo 34 34 r b e → Opened a e
-opened r a b e h s t =
-    let x = stepped_begins 34 a b h s in
-    let m = moves_ate_two 34 34 r b e t in
-    record { moves = moves_then x.moves m; fewer = omega (arith, x.fewer, fewer_bytes m); steps = omega (arith, x.steps, ate_two_steps 34 34 r b e t) }
-
-pub after_bytes : (s t : Text) → (p : Text) × (s ≡ p ++ t) → bytes t ≤ bytes s
-after_bytes s t (p, e) = omega (arith, ap bytes e, bytes-append p t)
-
-pub after_then : (s t u : Text) → (p : Text) × (s ≡ p ++ t) → (p : Text) × (t ≡ p ++ u) → (p : Text) × (s ≡ p ++ u)
-after_then s t u (p, e) (q, f) = (p ++ q, e ∙ ap (λ z. p ++ z) f ∙ sym (append_assoc p q u))
-
 pub starts_first : (p : ℕ → Bool) (c : ℕ) (s : Text) → first s ≡ Some c → true ≡ p c → starts p s ≡ true
 starts_first p c [] h x = cc
 starts_first p c (d ∷ s) h x = cc
 
-pub found_at : (a b e : Here) (f : Option Found) → a.rest ≡ b.rest → a.at ≡ b.at → OnFound a f e → OnFound b f e
-found_at a b e None r t p = tt
-found_at a b e (Some f) r t p = record { before = (p.before.0, sym r ∙ p.before.1); following = p.following; at = p.at ∙ ap (λ z. z + bytes a.rest) t ∙ ap (λ z. b.at + bytes z) r }
-
-pub after_same : (s t u : Text) → (p : Text) × (s ≡ p ++ t) → u ≡ t → (p : Text) × (s ≡ p ++ u)
-after_same s t u (p, e) h = (p, e ∙ ap (λ z. p ++ z) (sym h))
+-- two characters that were there, or were not
+pub reads_two : (c d : ℕ) (r : Bool) (a b : Here) → AteTwo c d r a b → Reads 0 2 a b
+reads_two c d true a b t = record { moves = moves_ate_two c d true a b t; most = omega (arith, t.steps) }
+reads_two c d false a b (n, s) = reads_stayed 0 s

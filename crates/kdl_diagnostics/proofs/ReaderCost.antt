@@ -1,111 +1,124 @@
--- What the turns of a reader of faults cost, and where its cursor goes.
-use Rattle.std.proofs.Common.{◌≡◌, ℕ, ◌+◌, ◌-◌, ◌*◌, ◌<◌, ◌≤◌, Bool, true, false, List, [], ◌∷◌, ◌++◌, length, refl, sym, ap, ◌∙◌, arith, append_assoc}
-use Rattle.std.specs.Prelude.{Option, Some, None, Result, Ok, Err, IfOk}
+-- What a reader of faults costs, and where its cursor goes.
+use Rattle.std.proofs.Common.{◌≡◌, ℕ, ◌+◌, ◌*◌, ◌<◌, ◌≤◌, List, [], ◌∷◌, ◌++◌, length, refl, sym, ap, ◌∙◌, arith, append_assoc}
+use Rattle.std.specs.Prelude.{Option, Some, None}
 use Rattle.std.specs.Str.{chars, IsUtf8}
 use Rattle.kdl_text.specs.Chars.{Text}
-use Rattle.kdl_text.specs.Internal.Here.{Here, Position, Took}
-use Rattle.kdl_text.specs.Spans.{bytes, raise}
-use Rattle.kdl_text.specs.Internal.Reading.{Moves}
-use Rattle.kdl_text.proofs.Looking.MovesJoin.{bytes-append, fewer_bytes}
+use Rattle.kdl_text.specs.Internal.Here.{Here, Took}
+use Rattle.kdl_text.specs.Spans.{bytes}
+use Rattle.kdl_text.proofs.Looking.MovesJoin.{bytes-append, fewer_bytes, moves_then}
 use Rattle.kdl_text.proofs.Looking.Texts.{bytes-chars}
-use Rattle.kdl_diagnostics.specs.Internal.Noted.{Bounded, IsReaderOf, LiesIn, ReadsAgain, ReadsIn, Recovers}
-use Rattle.kdl_diagnostics.specs.Internal.Reading.{Most, WentPast, Turning, gone, turns_left}
+use Rattle.kdl_diagnostics.specs.Internal.Noted.{Always, Counted, Goes, IsReaderOf, Keeps, LexedBetween, ReadsIn, Takes}
+use Rattle.kdl_diagnostics.specs.Internal.Reading.{Reads, Stands, WentPast, gone}
+use Rattle.kdl_diagnostics.specs.declared.lexemes.Lexeme.{Lexeme}
 use Rattle.kdl_diagnostics.specs.declared.lexemes.LexemeKind.{LexemeKind}
 use Rattle.kdl_diagnostics.specs.declared.lexemes.LexemeKind.TheVariants.{End}
 use Rattle.kdl_diagnostics.specs.declared.reader.Reader.{Reader}
-
--- a lexeme that was read, and a step after it
-pub bounded_one : (a b e : Here) → Moves a b → Most 37 41 a b → e.steps ≡ raise b.steps 1 → Bounded 124 a e
-bounded_one a b e m k s = record { most = omega (arith, s); counts = omega (arith, m.counts, s) }
-
-same_rest : (text s r : Text) → r ≡ s → ((p : Text) × (text ≡ p ++ s)) → (p : Text) × (text ≡ p ++ r)
-same_rest text s r e x = (x.0, x.1 ∙ ap (λ (t : Text). x.0 ++ t) (sym e))
+use Rattle.kdl_diagnostics.proofs.NotedSpans.{moved_here, stands_in}
+use Rattle.kdl_diagnostics.proofs.Passing.{after_same}
 
 -- a character that was taken, if there was one
 pub took_lies : (text : Text) (c : Option ℕ) (a b : Here) → ((p : Text) × (text ≡ p ++ a.rest)) → Took c a b → (p : Text) × (text ≡ p ++ b.rest)
-took_lies text None a b x t = same_rest text a.rest b.rest (ap (λ (z : Here). z.rest) t.1) x
+took_lies text None a b x t = after_same text a.rest b.rest x (ap (λ (z : Here). z.rest) t.1)
 took_lies text (Some c) a b x t = (x.0 ++ (c ∷ []), x.1 ∙ ap (λ (z : Text). x.0 ++ z) t.0 ∙ sym (append_assoc x.0 (c ∷ []) b.rest))
 
 pub took_same : (c : Option ℕ) (a b : Here) → Took c a b → b.text ≡ a.text
 took_same None a b t = ap (λ (z : Here). z.text) t.1
 took_same (Some c) a b t = t.3
 
-pub place_lies : (text : Text) (a : Here) (place : Position) → ((p : Text) × (text ≡ p ++ a.rest)) → place.rest ≡ a.rest → LiesIn text place
-place_lies text a place x e = same_rest text a.rest place.rest e x
+pub took_steps : (c : Option ℕ) (a b : Here) (n : ℕ) → a.steps ≡ n → Took c a b → Counted 1 n b.steps
+took_steps None a b n e t = record { most = omega (arith, e, ap (λ (z : Here). z.steps) t.1); counts = omega (arith, e, ap (λ (z : Here). z.steps) t.1) }
+took_steps (Some c) a b n e t = record { most = omega (arith, e, t.2); counts = omega (arith, e, t.2) }
 
-one_left : (over : Bool) → turns_left over ≤ 1
-one_left true = omega arith
-one_left false = omega arith
+-- a reader that goes on to the next lexeme, notes that, or a character further back
+next_counted : (a b : Here) → Reads 37 41 a b → Counted (124 * bytes a.rest + 99) a.steps b.steps
+next_counted a b r = record { most = omega (arith, r.most, fewer_bytes r.moves); counts = r.moves.counts }
 
-still_left : (over : Bool) → over ≡ false → turns_left over ≡ 1
-still_left over e = ap turns_left e
+pub goes_next : (a b : Reader) → b.notes ≡ a.notes → Reads 37 41 a.cursor b.cursor → Goes Always (124 * bytes a.cursor.rest + 100) a b
+goes_next a b e r =
+    let k = next_counted a.cursor b.cursor r in
+    record {
+      keeps = λ text x p. (record { here = moved_here x.here r.moves; notes = rw e x.notes });
+      grows = omega (arith, ap (λ n. length n.faults.items) e);
+      counted = record { most = omega (arith, k.most); counts = k.counts };
+    }
 
-none_left : (over : Bool) → over ≡ true → turns_left over ≡ 0
-none_left over e = ap turns_left e
+pub goes_noted : (a b : Reader) (p : Lexeme) → Stands a.cursor.rest p → Reads 37 41 a.cursor b.cursor → Keeps (LexedBetween p p.start p.end) a.notes b.notes → Goes Always (124 * bytes a.cursor.rest + 100) a b
+goes_noted a b p s r k =
+    let n = next_counted a.cursor b.cursor r in
+    record {
+      keeps = λ text x q. (let z = stands_in text a.cursor.rest p x.here.piece s in record { here = moved_here x.here r.moves; notes = k.notes text x.notes (z, (z.start, z.end)) });
+      grows = k.grows;
+      counted = record { most = omega (arith, n.most); counts = n.counts };
+    }
 
--- a lexeme that was read is shorter than what was to be read, or it is the last one
-went_on : (k : LexemeKind) (a b : Here) (over : Bool) → WentPast k a b → (k ≡ End → over ≡ true) → bytes b.rest + turns_left over ≤ bytes a.rest
-went_on End a b over w o = omega (arith, ap bytes w, none_left over (o refl))
-went_on _ a b over w o = omega (arith, w, one_left over)
+pub goes_back : {P : Text → Type 0} (a b c : Reader) → b.notes ≡ a.notes → Reads 37 41 a.cursor b.cursor → ((text : Text) → IsReaderOf text a → P text) → Goes P 1 b c → Goes Always (124 * bytes a.cursor.rest + 100) a c
+goes_back a b c e r f g =
+    let n = next_counted a.cursor b.cursor r in
+    record {
+      keeps = λ text x q. g.keeps text (record { here = moved_here x.here r.moves; notes = rw e x.notes }) (f text x);
+      grows = omega (arith, g.grows, ap (λ n. length n.faults.items) e);
+      counted = record { most = omega (arith, n.most, g.counted.most); counts = omega (arith, n.counts, g.counted.counts) };
+    }
 
-pub turning_turn : (f a b e : Here) (k : LexemeKind) (over over' : Bool) → over ≡ false → Turning f a over → Moves a b → Most 37 41 a b → WentPast k a b → Moves b e → Most 24 24 b e → (k ≡ End → over' ≡ true) → Turning f e over'
-turning_turn f a b e k over over' n t m x w m' x' o = record {
-  counts = omega (arith, t.counts, m.counts, m'.counts);
-  most = omega (arith, t.most, still_left over n, fewer_bytes m, fewer_bytes m', went_on k a b over' w o);
+-- a fault that was noted, or is noted then
+pub had : {A : Type 0} (xs ys : List A) → (length xs ≡ 0 → 0 < length ys) → length xs ≤ length ys → 0 < length ys
+had [] ys f l = f refl
+had (x ∷ xs) ys f l = omega (arith, l)
+
+-- a turn over a lexeme
+pub taken : (a b c : Reader) (p : Lexeme) (text : Text) → IsReaderOf text a → b.notes ≡ a.notes → Reads 37 41 a.cursor b.cursor → Stands a.cursor.rest p → Takes p b c → IsReaderOf text c
+taken a b c p text x e r s t = t.keeps text (record { here = moved_here x.here r.moves; notes = rw e x.notes }) (stands_in text a.cursor.rest p x.here.piece s)
+
+pub went_not : (k : LexemeKind) (a b : Here) → WentPast k a b → (k ≡ End → ⊥) → bytes b.rest < bytes a.rest
+went_not End a b w h = absurd (h refl)
+went_not _ a b w h = w
+
+pub turn_reads : {f a b e : Here} → Reads 124 0 f a → Reads 37 41 a b → bytes b.rest < bytes a.rest → Reads 24 24 b e → Reads 124 0 f e
+turn_reads i r few t = record { moves = moves_then i.moves (moves_then r.moves t.moves); most = omega (arith, i.most, r.most, few, t.most, fewer_bytes t.moves) }
+
+pub turn_ends : {f a b e : Here} → Reads 124 0 f a → Reads 37 41 a b → Reads 24 24 b e → Counted (124 * bytes f.rest + 100) f.steps e.steps
+turn_ends i r t = record {
+  most = omega (arith, i.most, r.most, t.most, fewer_bytes i.moves, fewer_bytes r.moves, fewer_bytes t.moves);
+  counts = omega (arith, i.moves.counts, r.moves.counts, t.moves.counts);
 }
-
-first_more : (k : LexemeKind) (a b : Here) (over : Bool) → WentPast k a b → (k ≡ End → over ≡ true) → 65 * turns_left over ≤ 87 * (bytes a.rest - bytes b.rest)
-first_more End a b over w o = omega (arith, none_left over (o refl))
-first_more _ a b over w o = omega (arith, w, one_left over)
-
-pub turning_first : (a b e : Here) (k : LexemeKind) (over : Bool) → Moves a b → Most 37 41 a b → WentPast k a b → Moves b e → Most 24 24 b e → (k ≡ End → over ≡ true) → Turning a e over
-turning_first a b e k over m x w m' x' o = record {
-  counts = omega (arith, m.counts, m'.counts);
-  most = omega (arith, fewer_bytes m, fewer_bytes m', first_more k a b over w o);
-}
-
--- what holds in any case
-pub on_ok : {A E P : Type 0} (r : Result A E) → P → IfOk r (λ (x : A). P)
-on_ok (Ok x) p = p
-on_ok (Err e) p = tt
-
-pub lexeme_bounded : (a b : Here) → Moves a b → Most 37 41 a b → Bounded 124 a b
-lexeme_bounded a b m x = record { most = omega (arith, x, fewer_bytes m); counts = m.counts }
-
-pub lexeme_bounded_more : (a b e : Here) → Moves a b → Most 37 41 a b → Moves b e → Most 24 24 b e → Bounded 124 a e
-lexeme_bounded_more a b e m x m' x' = record { most = omega (arith, x, x', fewer_bytes m, fewer_bytes m'); counts = omega (arith, m.counts, m'.counts) }
-
-pub turning_nearer : (a b e : Here) (k : LexemeKind) (over over' : Bool) → over ≡ false → WentPast k a b → Moves b e → (k ≡ End → over' ≡ true) → bytes e.rest + turns_left over' < bytes a.rest + turns_left over
-turning_nearer a b e k over over' n w m o = omega (arith, still_left over n, fewer_bytes m, went_on k a b over' w o)
-
--- where memory is refused, and at the end
-pub turning_fails : (f a b : Here) (over : Bool) → over ≡ false → Turning f a over → Moves a b → Most 37 41 a b → Bounded 124 f b
-turning_fails f a b over n t m x = record { most = omega (arith, t.most, still_left over n, fewer_bytes m); counts = omega (arith, t.counts, m.counts) }
-
-pub turning_stops : (f a b e : Here) (over : Bool) → over ≡ false → Turning f a over → Moves a b → Most 37 41 a b → Moves b e → Most 24 24 b e → Bounded 124 f e
-turning_stops f a b e over n t m x m' x' = record { most = omega (arith, t.most, still_left over n, fewer_bytes m, fewer_bytes m'); counts = omega (arith, t.counts, m.counts, m'.counts) }
 
 -- the text of a reader, read again from its start
-pub read_again : (old new : Reader) (a b : Here) → a ≡ gone old.whole old.cursor → Moves a b → Most 4 1 a b → new.cursor ≡ b → ReadsAgain 4 old new
-read_again old new a b e m k f =
-    let s : a.steps ≡ old.cursor.steps = ap (λ (z : Here). z.steps) e in
-    let r : bytes a.rest ≡ bytes old.whole.rest = ap (λ (z : Here). bytes z.rest) e in
-    let t : new.cursor.steps ≡ b.steps = ap (λ (z : Here). z.steps) f in
-    record { most = omega (arith, s, r, t, k); counts = omega (arith, s, t, m.counts) }
+pub goes_same : (n : ℕ) (a : Reader) → Goes Always n a a
+goes_same n a = record { keeps = λ text x p. x; grows = omega arith; counted = record { most = omega arith; counts = omega arith } }
 
-pub again_lies : (text : Text) (r : Reader) (a b : Here) → IsReaderOf text r → a ≡ gone r.whole r.cursor → Moves a b → ReadsIn text b
-again_lies text r a b x e m = (m.piece.0, sym x.whole ∙ sym (ap (λ (z : Here). z.rest) e) ∙ m.piece.1, m.same ∙ ap (λ (z : Here). z.text) e ∙ x.here.2)
+pub read_again : (a c : Reader) {here there : Here} → here ≡ gone a.notes.whole a.cursor → Reads 4 1 here there → Keeps Always a.notes c.notes → c.cursor ≡ there → Goes Always (4 * (bytes a.notes.whole.rest + 1)) a c
+read_again a c {there = there} e r k f = record {
+  keeps = λ text x p. (record {
+    here = rw f (record {
+      piece = (r.moves.piece.0, sym x.notes.whole ∙ sym (ap (λ (z : Here). z.rest) e) ∙ r.moves.piece.1);
+      same = r.moves.same ∙ ap (λ (z : Here). z.text) e ∙ x.here.same;
+    });
+    notes = k.notes text x.notes p;
+  });
+  grows = k.grows;
+  counted = record {
+    most = omega (arith, ap (λ (z : Here). z.steps) e, ap (λ (z : Here). bytes z.rest) e, r.most, ap (λ (z : Here). z.steps) f);
+    counts = omega (arith, ap (λ (z : Here). z.steps) e, r.moves.counts, ap (λ (z : Here). z.steps) f);
+  };
+}
 
 -- a text that is read, and then read again
-bytes_in : (text rest : Text) → ((p : Text) × (text ≡ p ++ rest)) → bytes rest ≤ bytes text
-bytes_in text rest x = omega (arith, ap bytes x.1, bytes-append x.0 rest)
+bytes_in : {text : Text} {here : Here} → ReadsIn text here → bytes here.rest ≤ bytes text
+bytes_in {here = here} x = omega (arith, ap bytes x.piece.1, bytes-append x.piece.0 here.rest)
 
-pub read_twice : (text : Text) (old mid new : Reader) → IsReaderOf text old → IsReaderOf text mid → Bounded 124 old.cursor mid.cursor → ReadsAgain 4 mid new → Recovers text old.cursor new.cursor
-read_twice text old mid new x y a b = record { most = omega (arith, ap bytes y.whole, bytes_in text old.cursor.rest (x.here.0, x.here.1), a.most, b.most); counts = omega (arith, a.counts, b.counts) }
+pub read_once : (text : Text) (a b : Reader) → IsReaderOf text a → Goes Always (124 * bytes a.cursor.rest + 100) a b → Goes Always (128 * bytes text + 104) a b
+read_once text a b x g = record { keeps = g.keeps; grows = g.grows; counted = record { most = omega (arith, bytes_in x.here, g.counted.most); counts = g.counted.counts } }
 
-pub read_once : (text : Text) (old : Reader) (b : Here) → IsReaderOf text old → Bounded 124 old.cursor b → Recovers text old.cursor b
-read_once text old b x a = record { most = omega (arith, bytes_in text old.cursor.rest (x.here.0, x.here.1), a.most); counts = a.counts }
+pub read_twice : (text : Text) (a b c : Reader) → IsReaderOf text a → Goes Always (124 * bytes a.cursor.rest + 100) a b → Goes Always (4 * (bytes b.notes.whole.rest + 1)) b c → Goes Always (128 * bytes text + 104) a c
+read_twice text a b c x g h = record {
+  keeps = λ t y p. h.keeps t (g.keeps t y p) p;
+  grows = omega (arith, g.grows, h.grows);
+  counted = record {
+    most = omega (arith, bytes_in x.here, ap bytes (g.keeps text x tt).notes.whole, g.counted.most, h.counted.most);
+    counts = omega (arith, g.counted.counts, h.counted.counts);
+  };
+}
 
 -- the steps over a whole text
-pub steps_bounded : (text : List ℕ) (a b : Here) (before after : ℕ) → IsUtf8 text → Recovers (chars text) a b → a.steps ≤ before + 7 → after ≡ b.steps → after ≤ before + (128 * length text + 111)
-steps_bounded text a b before after u x e g = omega (arith, x.most, bytes-chars text u, e, g)
+pub steps_bounded : (text : List ℕ) (a b before after : ℕ) → IsUtf8 text → Counted (128 * bytes (chars text) + 104) a b → Counted 7 before a → after ≡ b → Counted (128 * length text + 111) before after
+steps_bounded text a b before after u x y e = record { most = omega (arith, x.most, y.most, bytes-chars text u, e); counts = omega (arith, x.counts, y.counts, e) }

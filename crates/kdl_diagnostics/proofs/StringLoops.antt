@@ -1,45 +1,69 @@
--- The loops over the units of a string, of which the first fault is kept.
-use Rattle.std.proofs.Common.{◌≡◌, ℕ, ◌+◌, ◌-◌, ◌*◌, ◌≤◌, ◌++◌, Bool, ap, arith}
+-- The loop over the units of a string, of which the first fault is kept.
+use Rattle.std.proofs.Common.{◌≡◌, ℕ, ◌+◌, ◌-◌, ◌*◌, ◌<◌, ◌≤◌, ◌++◌, Bool, refl, ap, arith}
 use Rattle.std.specs.Prelude.{Option}
 use Rattle.kdl_text.specs.Chars.{Text}
-use Rattle.kdl_text.specs.Internal.Here.{Here, Position, Skips, looked}
+use Rattle.kdl_text.specs.Internal.Here.{Here, Position, Returned, Skips, looked}
 use Rattle.kdl_text.specs.Spans.{bytes}
-use Rattle.kdl_text.specs.Internal.Reading.{Moves, Costs}
-use Rattle.kdl_text.proofs.Looking.MovesJoin.{stays, moves_then, moves_stayed, stayed_looked, bytes-append}
-use Rattle.kdl_text.proofs.Looking.SliceCost.{moves_ran}
-use Rattle.kdl_diagnostics.specs.Internal.Reading.{Most, Passed, OnFound}
+use Rattle.kdl_text.specs.Internal.Reading.{Moves}
+use Rattle.kdl_text.proofs.Looking.MovesJoin.{moves_then, fewer_bytes, bytes-append}
+use Rattle.kdl_text.proofs.Looking.Returns.{moves_returned}
+use Rattle.kdl_diagnostics.specs.Internal.Reading.{FindsAlso, FindsOn, OnFound, Passed, Reads, ReadsFrom, Since, gone}
 use Rattle.kdl_diagnostics.specs.declared.strings.Found.{Found}
-use Rattle.kdl_diagnostics.proofs.Passing.{ended, passed_here, found_on}
+use Rattle.kdl_diagnostics.proofs.Passing.{ended, found_at, found_on, passed_here, reads_looked, reads_more, reads_ran, reads_then, since_bytes}
 
--- what was read of a string so far, and the first fault in it
-pub record Scanned (k c : ℕ) (f : Here) (kept : Option Found) (a : Here) : Type 0 where
-  pub fault : OnFound f kept a
-  pub moves : Moves f a
-  pub most : Most k c f a
+-- no other fault was found
+pub finds_same : {k c : ℕ} {a b : Here} (f : Option Found) → Reads k c a b → FindsOn k c f a f b
+finds_same {a = a} {b = b} f r = record { reads = r; finds = λ s m o. found_on s a b f o r.moves }
 
--- after a run of plain characters and a look at what follows them
-pub record AtUnit (f a b e : Here) (kept : Option Found) : Type 0 where
-  pub fault : OnFound f kept e
-  pub moves : Moves f e
-  pub turn : Moves a e
-  pub most : Most 1 2 a e
-  pub place : (s : Position) → s.rest ≡ b.rest → s.at ≡ b.at → Passed f s e
-  pub here : (s : Position) → s.rest ≡ e.rest → s.at ≡ e.at → Passed f s e
+pub finds_more : (i : ℕ) {k c : ℕ} {f g : Option Found} {a b : Here} → FindsOn k c f a g b → FindsOn k (c + i) f a g b
+finds_more i x = record { reads = reads_more i x.reads; finds = x.finds }
 
-pub at_unit : (k c : ℕ) (f a b e : Here) (kept : Option Found) (p : ℕ → Bool) → Scanned k c f kept a → Skips p a b → e ≡ looked b → AtUnit f a b e kept
-at_unit k c f a b e kept p i (run, r) l =
-    let t = ended p a b e (run, r) l in
-    let m : Moves f e = moves_then i.moves t.moves in
-    record {
-      fault = found_on f a e kept i.fault t.moves;
-      moves = m;
-      turn = t.moves;
-      most = t.most;
-      place = λ s x y. passed_here f b e s x y (moves_then i.moves (moves_ran r)) (moves_stayed (stayed_looked b e l));
-      here = λ s x y. passed_here f e e s x y m (stays e);
-    }
+pub finds_then : {k c d : ℕ} {f g h : Option Found} {a b e : Here} → FindsOn k c f a g b → FindsOn k d g b h e → FindsOn k (c + d) f a h e
+finds_then x y = record { reads = reads_then x.reads y.reads; finds = λ s m o. y.finds s (moves_then m x.reads.moves) (x.finds s m o) }
+
+-- after a run of plain characters and a look at what follows them, which begins at the place
+pub record Turn (a e : Here) (place : Position) : Type 0 where
+  pub reads : Reads 1 2 a e
+  pub passed : (s : Here) → Moves s a → Passed s place e
+
+pub turn : (p : ℕ → Bool) (a b e : Here) (place : Position) → Skips p a b → e ≡ looked b → place.rest ≡ b.rest → place.at ≡ b.at → Turn a e place
+turn p a b e place r l x y = record {
+  reads = ended p a b e r l;
+  passed = λ s m. passed_here s b e place x y (moves_then m (reads_ran r).moves) (reads_looked 1 b e l).moves;
+}
+
+-- the string ends there, with that fault or the one found before
+pub turn_ends : {f g h : Option Found} {o a e : Here} {place : Position} → FindsOn 5 0 f o g a → Turn a e place → FindsAlso g place h → FindsOn 5 2 f o h e
+turn_ends {g = g} {a = a} {e = e} i t also = record {
+  reads = record { moves = moves_then i.reads.moves t.reads.moves; most = omega (arith, i.reads.most, t.reads.most, fewer_bytes t.reads.moves) };
+  finds = λ s m x. also s e (found_on s a e g (i.finds s m x) t.reads.moves) (t.passed s (moves_then m i.reads.moves));
+}
+
+-- a unit more
+pub turn_on : {f g h : Option Found} {o a e b : Here} {place : Position} → FindsOn 5 0 f o g a → Turn a e place → FindsOn 3 0 g e h b → bytes b.rest < bytes e.rest → FindsOn 5 0 f o h b
+turn_on {g = g} {a = a} {e = e} i t u few = record {
+  reads = record { moves = moves_then i.reads.moves (moves_then t.reads.moves u.reads.moves); most = omega (arith, i.reads.most, t.reads.most, u.reads.most, fewer_bytes t.reads.moves) };
+  finds = λ s m x. u.finds s (moves_then (moves_then m i.reads.moves) t.reads.moves) (found_on s a e g (i.finds s m x) t.reads.moves);
+}
+
+pub turn_nearer : {a e : Here} {place : Position} (b : Text) → Turn a e place → bytes b < bytes e.rest → bytes b < bytes a.rest
+turn_nearer b t few = omega (arith, few, fewer_bytes t.reads.moves)
+
+-- what was found since the start of a string
+pub found_from : {k c : ℕ} {place : Position} {a b e : Here} {f g : Option Found} → Since place a → Moves a b → FindsOn k c f b g e → OnFound (gone place a) f b → OnFound (gone place e) g e
+found_from {place = place} {a = a} {e = e} {g = g} s m i o = found_at (gone place a) (gone place e) e g refl refl (i.finds (gone place a) (moves_then s.moves m) o)
+
+-- a string that is read, from its start on
+pub reads_from : {c n : ℕ} {place : Position} {a b : Here} → Since place a → Reads 5 c a b → c ≤ n → ReadsFrom 10 n place a b
+reads_from s r h = record { moves = r.moves; most = omega (arith, r.most, h, since_bytes s, fewer_bytes r.moves) }
+
+pub reads_back : {place : Position} {a b e : Here} → Since place a → Reads 5 3 a b → Returned (5 * (bytes place.rest - bytes b.rest) + 9) b e → ReadsFrom 10 12 place a e
+reads_back s r back = record { moves = moves_then r.moves (moves_returned back); most = omega (arith, r.most, since_bytes s, fewer_bytes r.moves, back.most, ap bytes back.rest) }
+
+pub reads_opened : {place : Position} {a b e : Here} → Reads 0 2 a b → ReadsFrom 10 12 place b e → ReadsFrom 10 14 place a e
+reads_opened o r = record { moves = moves_then o.moves r.moves; most = omega (arith, o.most, r.most) }
 
 -- a string that is read once more, in a segment of the text from the place on
-pub read_once_more : (c : ℕ) (s : Position) (a i o e : Here) (place : Position) (x : Text) → s.rest ≡ x ++ a.rest → i ≡ record a { rest = x; at = 0 } → Costs 4 c i o → e ≡ record o { rest = place.rest; at = place.at }
-    → e.steps ≤ a.steps + 5 * (bytes s.rest - bytes a.rest) + c
-read_once_more c s a i o e place x t is k back = omega (arith, ap bytes t, bytes-append x a.rest, ap (λ y. y.steps) is, ap (λ y. bytes y.rest) is, k.most, ap (λ y. y.steps) back)
+pub read_once_more : (s : Position) (a i o e : Here) (place : Position) (x : Text) → s.rest ≡ x ++ a.rest → i ≡ record a { rest = x; at = 0 } → Reads 4 9 i o → e ≡ record o { rest = place.rest; at = place.at }
+    → e.steps ≤ a.steps + (5 * (bytes s.rest - bytes a.rest) + 9)
+read_once_more s a i o e place x t is k back = omega (arith, ap bytes t, bytes-append x a.rest, ap (λ y. y.steps) is, ap (λ y. bytes y.rest) is, k.most, ap (λ y. y.steps) back)

@@ -1,11 +1,9 @@
 //! Value ends (KDL 2.0.0, Value): where a string, a number or a keyword may end.
 
-ghost use Rattle.kdl_diagnostics.specs.Internal.Reading.{Most, IsEnd, OnUnclosed, StandsAfter};
+ghost use Rattle.kdl_diagnostics.specs.Internal.Reading.{GoesOn, IsEnd, IsUnclosed, Reads, StandsAfter};
 ghost use Rattle.kdl_text.specs.Chars.{begins};
-ghost use Rattle.kdl_text.specs.Internal.Here.{Stayed};
-ghost use Rattle.kdl_text.specs.Spans.{bytes};
-ghost use Rattle.kdl_text.specs.Internal.Reading.{Moves};
-ghost use Rattle.std.specs.Prelude.{◌≡◌, ℕ, ◌<◌, ◌≤◌, true, IfSome};
+ghost use Rattle.kdl_text.specs.Internal.Here.{Looked, Returned};
+ghost use Rattle.std.specs.Prelude.{◌≡◌, None, true, IfSome};
 
 use kdl_text::chars::{Class, is_newline_char, is_space};
 use kdl_text::cursor::{Checkpoint, Cursor, newline};
@@ -26,6 +24,19 @@ pub(crate) struct ValueEnd<'a> {
     pub comment: Option<Unclosed<'a>>,
 }
 
+impl<'a> ValueEnd<'a> {
+    /// Creates a value end at the place, with no comment.
+    pub(crate) fn at(place: Checkpoint<'a>) -> Self
+        ensures place { result.place ≡ place.entry }
+        ensures comment { result.comment ≡ None }
+    {
+        ValueEnd {
+            place,
+            comment: None,
+        }
+    }
+}
+
 /// What follows a backslash.
 #[derive(Drop)]
 pub(crate) enum After<'a> {
@@ -40,9 +51,8 @@ pub(crate) enum After<'a> {
 /// Advances past spaces and block comments. If a comment is unclosed, returns it; the cursor is then at the end of the
 /// text.
 fn ws_run<'a>(cursor: &mut Cursor<'a>) -> Option<Unclosed<'a>>
-    ensures comment { OnUnclosed cursor.old result cursor.new }
-    ensures moves { Moves cursor.old cursor.new }
-    ensures most { Most 12 4 cursor.old cursor.new }
+    ensures comment { IfSome result (λ c. IsUnclosed cursor.old c cursor.new) }
+    ensures reads { Reads 12 4 cursor.old cursor.new }
 {
     'run: loop {
         spaces(cursor);
@@ -62,8 +72,7 @@ fn ws_run<'a>(cursor: &mut Cursor<'a>) -> Option<Unclosed<'a>>
 /// Advances past what follows a backslash.
 pub(crate) fn after_backslash<'a>(cursor: &mut Cursor<'a>) -> After<'a>
     ensures comment { StandsAfter cursor.old result cursor.new }
-    ensures moves { Moves cursor.old cursor.new }
-    ensures most { Most 12 12 cursor.old cursor.new }
+    ensures reads { Reads 12 12 cursor.old cursor.new }
 {
     if let Some(comment) = ws_run(cursor) {
         return After::Unclosed(comment);
@@ -86,19 +95,28 @@ fn ends_value(c: char) -> bool {
 
 /// Whether a comment or a `/-` begins here.
 fn begins_slash_lexeme(cursor: &mut Cursor) -> bool
-    ensures stayed { (k : ℕ) × (k ≤ 6) × Stayed k cursor.old cursor.new }
+    ensures { Looked 6 cursor.old cursor.new }
 {
     cursor.looks_two('/', '*') || cursor.looks_two('/', '/') || cursor.looks_two('/', '-')
 }
 
+/// Whether a value end is here, at the character c, which is not a backslash.
+fn ends_here(cursor: &mut Cursor, c: char) -> bool
+    ensures { Returned 6 cursor.old cursor.new }
+{
+    if c == '/' {
+        return begins_slash_lexeme(cursor);
+    }
+    ends_value(c)
+}
+
 /// Whether a value end is here that is not a backslash.
 pub(crate) fn is_value_end(cursor: &mut Cursor) -> bool
-    ensures stayed { (k : ℕ) × (k ≤ 7) × Stayed k cursor.old cursor.new }
+    ensures { Returned 7 cursor.old cursor.new }
 {
     match cursor.look() {
         None => true,
-        Some('/') => begins_slash_lexeme(cursor),
-        Some(c) => ends_value(c),
+        Some(c) => ends_here(cursor, c),
     }
 }
 
@@ -108,27 +126,19 @@ pub(crate) fn is_value_end(cursor: &mut Cursor) -> bool
 fn end_at_backslash<'a>(cursor: &mut Cursor<'a>) -> Option<ValueEnd<'a>>
     requires { begins 92 cursor.old.rest ≡ true }
     ensures end { IfSome result (λ e. IsEnd cursor.old e cursor.new) }
-    ensures moves { Moves cursor.old cursor.new }
-    ensures went { bytes cursor.new.rest < bytes cursor.old.rest }
-    ensures most { Most 12 0 cursor.old cursor.new }
+    ensures goes { GoesOn 12 cursor.old cursor.new }
 {
     let place = cursor.checkpoint();
     cursor.step();
     let after = cursor.checkpoint();
     match after_backslash(cursor) {
-        After::Escline => Some(ValueEnd {
-            place,
-            comment: None,
-        }),
+        After::Escline => Some(ValueEnd::at(place)),
         After::Unclosed(comment) => Some(ValueEnd {
             place: after,
             comment: Some(comment),
         }),
         After::Other if after.at() == cursor.at() => None,
-        After::Other => Some(ValueEnd {
-            place: after,
-            comment: None,
-        }),
+        After::Other => Some(ValueEnd::at(after)),
     }
 }
 
@@ -136,29 +146,25 @@ fn end_at_backslash<'a>(cursor: &mut Cursor<'a>) -> Option<ValueEnd<'a>>
 /// there.
 pub(crate) fn value_end<'a>(cursor: &mut Cursor<'a>) -> ValueEnd<'a>
     ensures end { IsEnd cursor.old result cursor.new }
-    ensures moves { Moves cursor.old cursor.new }
-    ensures most { Most 24 12 cursor.old cursor.new }
+    ensures reads { Reads 24 12 cursor.old cursor.new }
 {
     'ends: loop {
         cursor.skip(Class::Identifier);
         let place = cursor.checkpoint();
-        let is_end = match cursor.look() {
-            None => true,
-            Some('/') => begins_slash_lexeme(cursor),
+        match cursor.look() {
+            None => return ValueEnd::at(place),
             Some('\\') => {
                 if let Some(end) = end_at_backslash(cursor) {
                     return end;
                 }
                 continue 'ends;
             }
-            Some(c) => ends_value(c),
-        };
-        if is_end {
-            return ValueEnd {
-                place,
-                comment: None,
-            };
+            Some(c) => {
+                if ends_here(cursor, c) {
+                    return ValueEnd::at(place);
+                }
+                cursor.step();
+            }
         }
-        cursor.step();
     }
 }

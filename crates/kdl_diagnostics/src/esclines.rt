@@ -1,12 +1,11 @@
 //! Backslashes in strings that begin an escline together with the text after the string.
 
-ghost use Rattle.kdl_diagnostics.specs.Internal.Reading.{Most};
+ghost use Rattle.kdl_diagnostics.specs.Internal.Reading.{Reads};
 ghost use Rattle.kdl_diagnostics.specs.declared.esclines.Part.TheVariants.{Last};
-ghost use Rattle.kdl_text.specs.Internal.Reading.{Moves};
 ghost use Rattle.kdl_text.specs.Spans.{bytes};
-ghost use Rattle.std.specs.Prelude.{◌≡◌, ◌+◌, ◌<◌, ◌≤◌};
+ghost use Rattle.std.specs.Prelude.{◌≡◌, ◌<◌};
 
-use crate::reader::Fault;
+use crate::notes::Fault;
 use kdl_text::chars::{is_newline_char, is_space};
 use kdl_text::cursor::Cursor;
 use std::alloc::{AllocError, Global};
@@ -44,8 +43,7 @@ enum Part {
 
 /// The part that begins with a slash; the cursor is after the slash.
 fn slash_part(cursor: &mut Cursor) -> Part
-    ensures moves { Moves cursor.old cursor.new }
-    ensures most { cursor.new.steps ≤ cursor.old.steps + 2 }
+    ensures { Reads 1 2 cursor.old cursor.new }
 {
     if cursor.eat('*') {
         Part::Opening
@@ -58,8 +56,7 @@ fn slash_part(cursor: &mut Cursor) -> Part
 
 /// The part that begins with a star; the cursor is after the star.
 fn star_part(cursor: &mut Cursor) -> Part
-    ensures moves { Moves cursor.old cursor.new }
-    ensures most { cursor.new.steps ≤ cursor.old.steps + 2 }
+    ensures { Reads 1 2 cursor.old cursor.new }
 {
     if cursor.eat('/') {
         Part::Closing
@@ -80,9 +77,8 @@ fn part_of(c: char) -> Part {
 
 /// Advances past the part here, and returns it.
 fn next_part(cursor: &mut Cursor) -> Part
-    ensures moves { Moves cursor.old cursor.new }
     ensures went { (result ≡ Last → ⊥) → bytes cursor.new.rest < bytes cursor.old.rest }
-    ensures most { Most 3 1 cursor.old cursor.new }
+    ensures reads { Reads 3 1 cursor.old cursor.new }
 {
     match cursor.take() {
         None => Part::Last,
@@ -158,8 +154,7 @@ pub(crate) fn esclines(
     cursor: &mut Cursor,
     candidates: &[Candidate],
 ) -> Result<Vec<usize>, AllocError>
-    ensures moves { Moves cursor.old cursor.new }
-    ensures most { Most 4 1 cursor.old cursor.new }
+    ensures { Reads 4 1 cursor.old cursor.new }
 {
     let mut comments = Comments::new(alloc);
     'parts: loop {

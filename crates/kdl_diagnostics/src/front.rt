@@ -1,15 +1,15 @@
 //! The part of a text before its first fault: the tokens that the control takes.
 
 ghost use Rattle.kdl_diagnostics.specs.Internal.Noted.{IsFrontOf, KeepsFrontBetween};
-ghost use Rattle.kdl_diagnostics.specs.Internal.Outsets.{Counts, EndsBefore, GoesOver, IsNew, IsStopped, Matched, Untold, text_view};
+ghost use Rattle.kdl_diagnostics.specs.Internal.Outsets.{GoesOver, IsNew, IsStopped, StopsAfter, text_view};
 ghost use Rattle.kdl_diagnostics.specs.TextControl.{Accepts, Takes, text_start, text_step};
 ghost use Rattle.kdl_lexer.specs.Internal.Handed.{kind_view};
 ghost use Rattle.kdl_text.specs.Chars.{Text};
 ghost use Rattle.kdl_text.specs.Internal.Reading.{Costs, Moves};
 ghost use Rattle.kdl_text.specs.Spans.{bytes, raise};
-ghost use Rattle.std.specs.Prelude.{◌≡◌, ◌↔◌, ◌+◌, ◌*◌, ◌≤◌, [], false, length, true, IfOk, None, OnOk, Some, if◌then◌else◌};
+ghost use Rattle.std.specs.Prelude.{◌≡◌, ◌↔◌, ◌+◌, ◌*◌, ◌≤◌, false, true, IfOk, None, OnOk, Some, if◌then◌else◌};
 
-use crate::reader::Block;
+use crate::notes::Notes;
 use crate::text_control::{Outset, TextControl};
 use crate::whole::Whole;
 use kdl_control::Phase;
@@ -17,25 +17,27 @@ use kdl_lexer::{LexFailure, Lexer, Token, TokenKind};
 use kdl_text::cursor::Checkpoint;
 use std::alloc::{AllocError, Global};
 
-/// The part of a text up to a place: the tokens before it may come.
+/// Where the tokens of a front end.
 #[derive(Drop)]
-pub(crate) struct Prefix<'a> {
-    pub alloc: Global,
-    /// The start of the text.
-    pub whole: Checkpoint<'a>,
-    pub control: TextControl,
-    pub blocks: Vec<Block>,
-    /// The place after the last `(`.
-    pub left: Checkpoint<'a>,
-    /// Whether the last `(` begins the type of a property's value.
-    pub is_property: bool,
-    /// The place where the tokens end.
+pub(crate) struct Stop<'a> {
+    /// The place where they end.
     pub place: Checkpoint<'a>,
     /// The start of the string, number or keyword that ends there, or else that place.
     pub from: Checkpoint<'a>,
     /// What is known at that start.
     pub before: Outset,
-    /// Whether the place is the end of the text, which may end there.
+}
+
+/// The part of a text up to a place: the tokens before it may come.
+#[derive(Drop)]
+pub(crate) struct Prefix<'a> {
+    pub alloc: Global,
+    pub notes: Notes<'a>,
+    pub control: TextControl,
+    /// Whether the last `(` begins the type of a property's value.
+    pub is_property: bool,
+    pub stop: Stop<'a>,
+    /// Whether the tokens end with the text, which may end there.
     pub is_accepted: bool,
 }
 
@@ -50,6 +52,35 @@ fn skip_bom<'a>(whole: Whole, lexer: &mut Lexer<'a>)
     }
 }
 
+impl<'a> Stop<'a> {
+    /// The stop at the place, before which no string, number or keyword ends. It is known what is here.
+    fn at(place: Checkpoint<'a>, here: Outset) -> Self
+        ensures place { result.place ≡ place.entry }
+        ensures from { result.from ≡ place.entry }
+        ensures before { result.before ≡ here }
+    {
+        Stop {
+            from: place.copied(),
+            place,
+            before: here,
+        }
+    }
+
+    /// The stop after the token. It is known what is before and after it.
+    fn after(token: &Token<'a>, before: Outset, here: Outset) -> Self
+        ensures { StopsAfter token.now here result }
+    {
+        match token.kind {
+            TokenKind::String(_) | TokenKind::Value(_) => Stop {
+                place: token.at.end.copied(),
+                from: token.at.start.copied(),
+                before,
+            },
+            _ => Stop::at(token.at.end.copied(), here),
+        }
+    }
+}
+
 impl<'a> Prefix<'a> {
     /// Creates the empty part at the start of a text.
     pub(crate) fn new(alloc: Global, whole: Whole, start: Checkpoint<'a>) -> Self
@@ -58,17 +89,13 @@ impl<'a> Prefix<'a> {
         ensures whole { result.control.whole ≡ whole }
     {
         let control = TextControl::new(alloc, whole);
-        let before = control.outset();
+        let stop = Stop::at(start.copied(), control.outset());
         Prefix {
             alloc,
+            notes: Notes::new(alloc, start),
             control,
-            blocks: Vec::new(alloc),
-            left: start.copied(),
             is_property: false,
-            place: start.copied(),
-            from: start.copied(),
-            whole: start,
-            before,
+            stop,
             is_accepted: false,
         }
     }
@@ -84,7 +111,7 @@ impl<'a> Prefix<'a> {
         ensures counts { raise lexer.old.steps 0 ≤ raise lexer.new.steps 0 }
     {
         skip_bom(self.control.whole, lexer);
-        self.stop_at(lexer.checkpoint());
+        self.stop = Stop::at(lexer.checkpoint(), self.control.outset());
         'tokens: loop {
             let token = match lexer.next(self.alloc) {
                 Ok(Some(token)) => token,
@@ -103,18 +130,6 @@ impl<'a> Prefix<'a> {
         }
     }
 
-    /// Continues from the place, before which no string, number or keyword ends.
-    fn stop_at(&mut self, place: Checkpoint<'a>)
-        ensures keeps { KeepsFrontBetween place.entry place.entry self.old self.new }
-        ensures ends { Matched self.old → EndsBefore place.entry.rest self.new }
-        ensures control { self.new.control ≡ self.old.control }
-        ensures same { self.new.is_accepted ≡ self.old.is_accepted }
-    {
-        self.before = self.control.outset();
-        self.from = place.copied();
-        self.place = place;
-    }
-
     /// Takes the token if it may come here, and returns whether it may.
     fn take(&mut self, token: &Token<'a>) -> Result<bool, AllocError>
         ensures keeps { KeepsFrontBetween token.now.at.start token.now.at.end self.old self.new }
@@ -128,62 +143,12 @@ impl<'a> Prefix<'a> {
         if !self.control.take(&token.kind)? {
             return Ok(false);
         }
-        self.note(token, before.phase)?;
-        self.go_past(token, before);
+        self.notes.note_token(token)?;
+        self.is_property = match token.kind {
+            TokenKind::Left => matches!(before.phase, Phase::Property),
+            _ => self.is_property,
+        };
+        self.stop = Stop::after(token, before, self.control.outset());
         Ok(true)
-    }
-
-    /// Continues after the token, before which the control was at the outset.
-    fn go_past(&mut self, token: &Token<'a>, before: Outset)
-        ensures keeps { KeepsFrontBetween token.now.at.start token.now.at.end self.old self.new }
-        ensures ends { (token.now.at.start.rest ≡ [] → ⊥) → Matched self.old → EndsBefore token.now.at.end.rest self.new }
-        ensures control { self.new.control ≡ self.old.control }
-        ensures same { self.new.is_accepted ≡ self.old.is_accepted }
-    {
-        match token.kind {
-            TokenKind::String(_) | TokenKind::Value(_) => {
-                self.place = token.at.end.copied();
-                self.from = token.at.start.copied();
-                self.before = before;
-            }
-            _ => self.stop_at(token.at.end.copied()),
-        }
-    }
-
-    /// Opens a block with the token.
-    fn open_block(&mut self, token: &Token<'a>) -> Result<(), AllocError>
-        ensures keeps { KeepsFrontBetween token.now.at.start token.now.at.end self.old self.new }
-        ensures blocks { IfOk result (λ _. Untold self.old.blocks.items → (length self.new.blocks.items ≡ length self.old.blocks.items + 1) × Untold self.new.blocks.items) }
-        ensures control { self.new.control ≡ self.old.control }
-        ensures same { self.new.is_accepted ≡ self.old.is_accepted }
-    {
-        let span = self.whole.span_between(&token.at.start, &token.at.end);
-        self.blocks.push(Block {
-            span,
-            is_told: false,
-        })?;
-        Ok(())
-    }
-
-    /// Notes the block or the type that the token opens or closes, where the control was in the phase.
-    fn note(&mut self, token: &Token<'a>, phase: Phase) -> Result<(), AllocError>
-        ensures keeps { KeepsFrontBetween token.now.at.start token.now.at.end self.old self.new }
-        ensures blocks { IfOk result (λ _. Untold self.old.blocks.items → Counts (kind_view token.now.kind) (length self.old.blocks.items) (length self.new.blocks.items) × Untold self.new.blocks.items) }
-        ensures control { self.new.control ≡ self.old.control }
-        ensures same { self.new.is_accepted ≡ self.old.is_accepted }
-    {
-        match token.kind {
-            TokenKind::Left => {
-                self.left = token.at.end.copied();
-                self.is_property = matches!(phase, Phase::Property);
-                Ok(())
-            }
-            TokenKind::Opening => self.open_block(token),
-            TokenKind::Closing => {
-                let _ = self.blocks.pop();
-                Ok(())
-            }
-            _ => Ok(()),
-        }
     }
 }

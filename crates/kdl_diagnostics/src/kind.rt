@@ -27,6 +27,17 @@ impl Form {
             Radix::Hexadecimal => Form::Hexadecimal,
         }
     }
+
+    /// The message and label of a faulty number of the form.
+    fn message(self) -> (&'static str, &'static str) {
+        match self {
+            Form::Integer => ("Expected integer", "not integer"),
+            Form::Hexadecimal => ("Expected hexadecimal number", "not hexadecimal number"),
+            Form::Octal => ("Expected octal number", "not octal number"),
+            Form::Binary => ("Expected binary number", "not binary number"),
+            Form::Float => ("Expected float", "not float"),
+        }
+    }
 }
 
 /// What is wrong at a place of a text.
@@ -97,144 +108,53 @@ impl Kind {
 
     /// Returns the message, label and hint for the kind.
     pub fn words(self) -> Words {
-        match self {
-            Kind::Nameless | Kind::Name => self.words_of_names(),
-            Kind::BareEnd | Kind::Bare | Kind::RawEnd | Kind::RawQuotes | Kind::Raw => {
-                self.words_of_strings()
-            }
-            Kind::QuotedEnd | Kind::Quoted | Kind::QuotedNewline | Kind::Opening | Kind::Prefix =>
-                self.words_of_quoted(),
-            Kind::NumberEnd(form) => Words {
-                help: Some(VALUE_END),
-                ..words_of_number(form)
-            },
-            Kind::Digits(form) => words_of_number(form),
-            Kind::Fraction | Kind::Exponent | Kind::Range => self.words_of_digits(),
-            _ => self.words_of_places(),
+        let (message, label) = self.message();
+        Words {
+            message,
+            label,
+            help: self.help(),
         }
     }
 
-    /// The message, label and hint of a fault where a name is expected.
-    fn words_of_names(self) -> Words {
+    /// The message and label for the kind.
+    fn message(self) -> (&'static str, &'static str) {
         match self {
-            Kind::Nameless => Words {
-                message: "Found child block instead of node name",
-                label: "not node name",
-                help: Some(
-                    "Did you forget to add the node name itself? Or perhaps terminated the node before its child block?",
-                ),
-            },
-            _ => Words {
-                message: "Found invalid node name",
-                label: "not node name",
-                help: Some(
-                    "This can be any string type, including a quoted, raw, or multiline string, as well as a plain identifier string.",
-                ),
-            },
+            Kind::BareEnd | Kind::Bare => ("Expected identifier string", "not identifier string"),
+            Kind::QuotedEnd | Kind::Quoted => ("Expected quoted string", "not quoted string"),
+            Kind::QuotedNewline => (
+                "Unexpected newline in single-line quoted string",
+                "not quoted string",
+            ),
+            Kind::Opening => (
+                "Multi-line string opening quotes must be immediately followed by a newline",
+                "not quoted string",
+            ),
+            Kind::Prefix => ("matching multiline string prefix", "not quoted string"),
+            Kind::RawEnd | Kind::Raw => ("Expected raw string", "not raw string"),
+            Kind::RawQuotes => (
+                "Single-line raw strings cannot look like multi-line ones",
+                "not raw string",
+            ),
+            Kind::NumberEnd(form) | Kind::Digits(form) => form.message(),
+            Kind::Fraction => (
+                "Non-digit character found after the '.' of a float",
+                "not float",
+            ),
+            Kind::Exponent => (
+                "Non-digit character found in the exponent part of a float",
+                "not float",
+            ),
+            Kind::Range => ("Whole number out of range", "not integer"),
+            Kind::Keyword => ("Expected keyword", "not keyword"),
+            _ => self.message_of_place(),
         }
     }
 
-    /// The message, label and hint of a fault in a bare or a raw string.
-    fn words_of_strings(self) -> Words {
+    /// The message and label of a fault in a name, a type, a property, a block or a comment, and of anything misplaced.
+    fn message_of_place(self) -> (&'static str, &'static str) {
         match self {
-            Kind::BareEnd => Words {
-                message: "Expected identifier string",
-                label: "not identifier string",
-                help: Some(VALUE_END),
-            },
-            Kind::Bare => Words {
-                message: "Expected identifier string",
-                label: "not identifier string",
-                help: None,
-            },
-            Kind::RawEnd => Words {
-                message: "Expected raw string",
-                label: "not raw string",
-                help: Some(VALUE_END),
-            },
-            Kind::RawQuotes => Words {
-                message: "Single-line raw strings cannot look like multi-line ones",
-                label: "not raw string",
-                help: Some(
-                    "Consider using a regular escaped string if all you want is a single quote: \"\\\"\"",
-                ),
-            },
-            _ => Words {
-                message: "Expected raw string",
-                label: "not raw string",
-                help: None,
-            },
-        }
-    }
-
-    /// The message, label and hint of a fault in a quoted string.
-    fn words_of_quoted(self) -> Words {
-        let label = "not quoted string";
-        match self {
-            Kind::QuotedEnd => Words {
-                message: "Expected quoted string",
-                label,
-                help: Some(VALUE_END),
-            },
-            Kind::QuotedNewline => Words {
-                message: "Unexpected newline in single-line quoted string",
-                label,
-                help: Some(
-                    "You can make a string multi-line by wrapping it in '\"\"\"', with a newline immediately after the opening quotes.",
-                ),
-            },
-            Kind::Opening => Words {
-                message: "Multi-line string opening quotes must be immediately followed by a newline",
-                label,
-                help: None,
-            },
-            Kind::Prefix => Words {
-                message: "matching multiline string prefix",
-                label,
-                help: Some(
-                    "Multi-line string bodies must be prefixed by the exact same whitespace as the leading whitespace before the closing '\"\"\"'",
-                ),
-            },
-            _ => Words {
-                message: "Expected quoted string",
-                label,
-                help: None,
-            },
-        }
-    }
-
-    /// The message, label and hint of a fault in the digits of a number.
-    fn words_of_digits(self) -> Words {
-        match self {
-            Kind::Fraction => Words {
-                message: "Non-digit character found after the '.' of a float",
-                label: "not float",
-                help: None,
-            },
-            Kind::Exponent => Words {
-                message: "Non-digit character found in the exponent part of a float",
-                label: "not float",
-                help: Some("Floats with exponent parts should look like '2.0e123', or '43.3E-4'."),
-            },
-            _ => Words {
-                message: "Whole number out of range",
-                label: "not integer",
-                help: None,
-            },
-        }
-    }
-
-    /// The message, label and hint of a fault in a keyword, a type, a property, a block or a comment, and of anything
-    /// misplaced.
-    fn words_of_places(self) -> Words {
-        let (message, label) = match self {
-            Kind::Keyword => {
-                return Words {
-                    message: "Expected keyword",
-                    label: "not keyword",
-                    help: Some(KEYWORDS),
-                };
-            }
+            Kind::Nameless => ("Found child block instead of node name", "not node name"),
+            Kind::Name => ("Found invalid node name", "not node name"),
             Kind::Type => ("invalid contents inside type annotation", "not type name"),
             Kind::Value => ("Expected property value", "not property value"),
             Kind::Block => ("No closing '}' for child block", "not closed"),
@@ -243,11 +163,37 @@ impl Kind {
                 "not closing of multi-line comment",
             ),
             _ => ("Expected end of document", "not EOF"),
-        };
-        Words {
-            message,
-            label,
-            help: None,
+        }
+    }
+
+    /// The hint for the kind.
+    fn help(self) -> Option<&'static str> {
+        match self {
+            Kind::BareEnd | Kind::QuotedEnd | Kind::RawEnd | Kind::NumberEnd(_) => Some(
+                "A valid value was partially parsed, but was not followed by a value terminator. Did you want a space here?",
+            ),
+            Kind::Nameless => Some(
+                "Did you forget to add the node name itself? Or perhaps terminated the node before its child block?",
+            ),
+            Kind::Name => Some(
+                "This can be any string type, including a quoted, raw, or multiline string, as well as a plain identifier string.",
+            ),
+            Kind::RawQuotes => Some(
+                "Consider using a regular escaped string if all you want is a single quote: \"\\\"\"",
+            ),
+            Kind::QuotedNewline => Some(
+                "You can make a string multi-line by wrapping it in '\"\"\"', with a newline immediately after the opening quotes.",
+            ),
+            Kind::Prefix => Some(
+                "Multi-line string bodies must be prefixed by the exact same whitespace as the leading whitespace before the closing '\"\"\"'",
+            ),
+            Kind::Exponent => {
+                Some("Floats with exponent parts should look like '2.0e123', or '43.3E-4'.")
+            }
+            Kind::Keyword => Some(
+                "Available keywords in KDL are '#true', '#false', '#null', '#nan', '#inf', and '#-inf'; they are case-sensitive.",
+            ),
+            _ => None,
         }
     }
 }
@@ -258,28 +204,4 @@ pub struct Words {
     pub message: &'static str,
     pub label: &'static str,
     pub help: Option<&'static str>,
-}
-
-/// The hint for a value without a value end after it.
-const VALUE_END: &str =
-    "A valid value was partially parsed, but was not followed by a value terminator. Did you want a space here?";
-
-/// The hint where a keyword is expected.
-const KEYWORDS: &str =
-    "Available keywords in KDL are '#true', '#false', '#null', '#nan', '#inf', and '#-inf'; they are case-sensitive.";
-
-/// The message, label and hint of a faulty number of the form.
-fn words_of_number(form: Form) -> Words {
-    let (message, label) = match form {
-        Form::Integer => ("Expected integer", "not integer"),
-        Form::Hexadecimal => ("Expected hexadecimal number", "not hexadecimal number"),
-        Form::Octal => ("Expected octal number", "not octal number"),
-        Form::Binary => ("Expected binary number", "not binary number"),
-        Form::Float => ("Expected float", "not float"),
-    };
-    Words {
-        message,
-        label,
-        help: None,
-    }
 }

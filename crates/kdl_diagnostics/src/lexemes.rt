@@ -2,16 +2,16 @@
 //!
 //! Nothing is built: the reader finds where a string, a number or a keyword ends, and its fault.
 
-ghost use Rattle.kdl_diagnostics.specs.Internal.Reading.{Begins, FindsAlso, Follows, IsLexeme, Most, MostFrom, NoEarlier, OnFound, Spans, Stands, WentPast, gone};
-ghost use Rattle.kdl_text.specs.Chars.{Text, is_identifier_char, is_number_sign, starts};
-ghost use Rattle.kdl_text.specs.Internal.Here.{Ahead, IsPart, Returned, Position, first};
+ghost use Rattle.kdl_diagnostics.specs.Internal.Reading.{At, EndsAfter, FindsAlso, IsComment, IsLexeme, IsNext, NoEarlier, OnFound, Past, Reads, ReadsFrom, Since, Stands, gone};
+ghost use Rattle.kdl_text.specs.Chars.{Text, begins, is_identifier_char, is_number_sign, starts};
+ghost use Rattle.kdl_text.specs.Internal.Here.{Ahead, IsPart, Returned, first};
 ghost use Rattle.kdl_text.specs.Spans.{bytes};
 ghost use Rattle.kdl_text.specs.Internal.Reading.{Moves};
-ghost use Rattle.std.specs.Prelude.{◌≡◌, ◌+◌, ◌*◌, ◌≤◌, ◌++◌, [], true, IfOk, IfSome};
+ghost use Rattle.std.specs.Prelude.{◌≡◌, ◌+◌, ◌-◌, ◌*◌, ◌≤◌, ◌++◌, true, IfOk, IfSome};
 
-use crate::ends::{After, Unclosed, after_backslash, value_end};
+use crate::ends::{After, Unclosed, ValueEnd, after_backslash, value_end};
 use crate::kind::{Form, Kind};
-use crate::strings::{Found, Scan, scan_quoted, scan_raw};
+use crate::strings::{Found, Scan, scan_string};
 use kdl_text::chars::{Class, is_identifier_char, is_newline_char, is_space};
 use kdl_text::cursor::{Checkpoint, Cursor, Segment, newline};
 use kdl_text::numbers::{Number, NumberFailure, begins_number, read_keyword, read_number};
@@ -91,28 +91,41 @@ struct LexemeStart<'a> {
     next: Checkpoint<'a>,
 }
 
-/// A lexeme that ends a value, or spaces.
-fn plain<'a>(kind: LexemeKind, start: LexemeStart<'a>) -> Lexeme<'a>
-    requires { Spans start }
-    ensures stands { Stands start.entry.place.rest result }
-    ensures kind { result.kind ≡ kind }
-{
-    Lexeme {
-        kind,
-        end: start.place.copied(),
-        start: start.place,
-        next: start.next,
-        fault: None,
-        backslash: None,
-        comment: None,
-        cut: false,
+impl<'a> Lexeme<'a> {
+    /// Creates a lexeme without a fault, up to the end.
+    fn new(kind: LexemeKind, start: LexemeStart<'a>, end: ValueEnd<'a>) -> Self
+        requires next { Ahead start.place start.next }
+        requires end { EndsAfter start.place end }
+        ensures stands { Stands start.entry.place.rest result }
+        ensures kind { result.kind ≡ kind }
+    {
+        Lexeme {
+            kind,
+            start: start.place,
+            next: start.next,
+            end: end.place,
+            fault: None,
+            backslash: None,
+            comment: end.comment,
+            cut: false,
+        }
     }
 }
 
-/// An unclosed block comment.
-fn unclosed<'a>(comment: Unclosed<'a>) -> Lexeme<'a>
-    requires { Ahead comment.start comment.end }
-    ensures stands { (from : Position) → Ahead from comment.entry.start → Stands from.rest result }
+/// A lexeme that ends a value, or spaces.
+fn plain<'a>(kind: LexemeKind, start: LexemeStart<'a>) -> Lexeme<'a>
+    requires { Ahead start.place start.next }
+    ensures stands { Stands start.entry.place.rest result }
+    ensures kind { result.kind ≡ kind }
+{
+    let place = start.place.copied();
+    Lexeme::new(kind, start, ValueEnd::at(place))
+}
+
+/// An unclosed block comment, which begins at the place or after it.
+fn unclosed<'a>(comment: Unclosed<'a>, from: &Checkpoint<'a>) -> Lexeme<'a>
+    requires { IsComment from.now comment }
+    ensures stands { Stands from.now.rest result }
     ensures kind { result.kind ≡ LexemeKind.Comment }
 {
     Lexeme {
@@ -129,70 +142,51 @@ fn unclosed<'a>(comment: Unclosed<'a>) -> Lexeme<'a>
 
 /// Advances past a character with which no lexeme begins, and on to the next value end.
 fn other<'a>(cursor: &mut Cursor<'a>, start: LexemeStart<'a>) -> Lexeme<'a>
-    requires start { Begins start }
-    requires part { IsPart cursor.old.text start.place.rest }
+    requires { At start cursor.old }
     ensures lexeme { IsLexeme start.entry.place result cursor.new }
-    ensures moves { Moves (gone start.entry.place cursor.old) cursor.new }
-    ensures most { Most 24 12 (gone start.entry.place cursor.old) cursor.new }
+    ensures reads { Reads 24 12 (gone start.entry.place cursor.old) cursor.new }
 {
     cursor.go_to(&start.next);
     let end = value_end(cursor);
-    Lexeme {
-        kind: LexemeKind::Other,
-        start: start.place,
-        next: start.next,
-        end: end.place,
-        fault: None,
-        backslash: None,
-        comment: end.comment,
-        cut: false,
-    }
+    Lexeme::new(LexemeKind::Other, start, end)
 }
 
 /// Advances past what begins with the slash here.
 fn slash_lexeme<'a>(cursor: &mut Cursor<'a>, start: LexemeStart<'a>) -> Lexeme<'a>
-    requires start { Begins start }
-    requires here { cursor.old ≡ gone start.place cursor.old }
-    requires part { IsPart cursor.old.text start.place.rest }
+    requires { At start cursor.old }
     ensures lexeme { IsLexeme start.entry.place result cursor.new }
-    ensures moves { Moves (gone start.entry.place cursor.old) cursor.new }
-    ensures most { Most 24 18 (gone start.entry.place cursor.old) cursor.new }
+    ensures reads { Reads 24 18 (gone start.entry.place cursor.old) cursor.new }
 {
     match slash(cursor) {
         SlashRead::Block => plain(LexemeKind::Space, start),
         SlashRead::Line => plain(LexemeKind::Newline, start),
         SlashRead::Dash => plain(LexemeKind::Slashdash, start),
-        SlashRead::Unclosed => unclosed(Unclosed {
-            start: start.place,
-            end: cursor.checkpoint(),
-        }),
+        SlashRead::Unclosed => {
+            let comment = Unclosed {
+                start: start.place.copied(),
+                end: cursor.checkpoint(),
+            };
+            unclosed(comment, &start.place)
+        }
         SlashRead::Other => other(cursor, start),
     }
 }
 
 /// Advances past what begins with the backslash here.
 fn backslash_lexeme<'a>(cursor: &mut Cursor<'a>, start: LexemeStart<'a>) -> Lexeme<'a>
-    requires start { Begins start }
-    requires part { IsPart cursor.old.text start.place.rest }
+    requires { At start cursor.old }
     ensures lexeme { IsLexeme start.entry.place result cursor.new }
-    ensures moves { Moves (gone start.entry.place cursor.old) cursor.new }
-    ensures most { Most 24 24 (gone start.entry.place cursor.old) cursor.new }
+    ensures reads { Reads 24 24 (gone start.entry.place cursor.old) cursor.new }
 {
     cursor.go_to(&start.next);
     match after_backslash(cursor) {
         After::Escline => plain(LexemeKind::Space, start),
-        After::Unclosed(comment) => unclosed(comment),
+        After::Unclosed(comment) => unclosed(comment, &start.place),
         After::Other if cursor.at() == start.next.at() => other(cursor, start),
-        After::Other => Lexeme {
-            kind: LexemeKind::Other,
-            end: start.next.copied(),
-            start: start.place,
-            next: start.next,
-            fault: None,
-            backslash: None,
-            comment: None,
-            cut: false,
-        },
+        After::Other => {
+            let place = start.next.copied();
+            Lexeme::new(LexemeKind::Other, start, ValueEnd::at(place))
+        }
     }
 }
 
@@ -205,30 +199,20 @@ fn word<'a>(
     fault: Option<Kind>,
     without_end: Kind,
 ) -> Lexeme<'a>
-    requires start { Spans start }
-    requires here { Follows start.place cursor.old }
-    ensures stands { Stands start.entry.place.rest result }
-    ensures kind { result.kind ≡ kind }
-    ensures moves { Moves cursor.old cursor.new }
-    ensures most { Most 24 12 cursor.old cursor.new }
+    requires start { Past start cursor.old }
+    requires kind { kind ≡ LexemeKind.End → ⊥ }
+    ensures lexeme { IsLexeme start.entry.place result cursor.new }
+    ensures reads { Reads 24 12 cursor.old cursor.new }
 {
     let here = cursor.at();
     let end = value_end(cursor);
     let is_ended = end.place.at() == here;
-    let fault = match fault {
+    let mut lexeme = Lexeme::new(kind, start, end);
+    lexeme.fault = match fault {
         None | Some(Kind::Range) if !is_ended => Some(without_end),
         fault => fault,
     };
-    Lexeme {
-        kind,
-        start: start.place,
-        next: start.next,
-        end: end.place,
-        fault,
-        backslash: None,
-        comment: end.comment,
-        cut: false,
-    }
+    lexeme
 }
 
 /// Advances by the given number of bytes, or to the end of the text. Returns the place before the last character that
@@ -259,13 +243,10 @@ struct EndWithin<'a> {
 
 /// The first value end from the place on in the part of the text up to here, or its end.
 fn end_within<'a>(cursor: &mut Cursor<'a>, from: &Checkpoint<'a>) -> EndWithin<'a>
-    requires here { Follows from.now cursor.old }
-    requires part { IsPart cursor.old.text from.now.rest }
+    requires { Since from.now cursor.old }
     ensures place { Ahead from.now result.place }
     ensures backslash { IfSome result.backslash (λ b. Ahead from.now b) }
-    ensures rest { cursor.new.rest ≡ cursor.old.rest }
-    ensures moves { Moves cursor.old cursor.new }
-    ensures most { MostFrom 26 12 from.now cursor.old cursor.old cursor.new }
+    ensures back { Returned (26 * (bytes from.now.rest - bytes cursor.old.rest) + 12) cursor.old cursor.new }
 {
     let here = cursor.enter(&from.up_to(&cursor.checkpoint()));
     let end = value_end(cursor);
@@ -332,14 +313,11 @@ fn string<'a>(
     role: StringRole,
     without_end: Kind,
 ) -> Lexeme<'a>
-    requires start { Spans start }
-    requires here { Follows start.place cursor.old }
-    requires part { IsPart cursor.old.text start.place.rest }
+    requires start { Past start cursor.old }
     requires fault { OnFound (gone start.place cursor.old) scan.fault cursor.old }
-    ensures stands { Stands start.entry.place.rest result }
-    ensures kind { result.kind ≡ LexemeKind.String }
+    ensures lexeme { IsLexeme start.entry.place result cursor.new }
     ensures moves { Moves cursor.old cursor.new }
-    ensures most { Most 26 24 (gone start.entry.place cursor.old) cursor.new }
+    ensures reads { Reads 26 24 (gone start.entry.place cursor.old) cursor.new }
 {
     let Scan { fault, cut } = scan;
     let Some(found) = fault_in_role(role, &start.place, fault) else {
@@ -348,16 +326,16 @@ fn string<'a>(
     let inside = end_within(cursor, &found.place);
     let after = cursor.checkpoint();
     let end = value_end(cursor);
-    Lexeme {
-        kind: LexemeKind::String,
-        start: start.place,
-        next: start.next,
-        end: end_of_fault(found.kind, inside.place, after, end.place),
-        fault: Some(found.kind),
-        backslash: inside.backslash,
+    let place = end_of_fault(found.kind, inside.place, after, end.place);
+    let end = ValueEnd {
+        place,
         comment: end.comment,
-        cut,
-    }
+    };
+    let mut lexeme = Lexeme::new(LexemeKind::String, start, end);
+    lexeme.fault = Some(found.kind);
+    lexeme.backslash = inside.backslash;
+    lexeme.cut = cut;
+    lexeme
 }
 
 /// The form of the whole number that the segment begins with, by its prefix.
@@ -404,13 +382,10 @@ fn number_lexeme<'a>(
     cursor: &mut Cursor<'a>,
     start: LexemeStart<'a>,
 ) -> Result<Lexeme<'a>, AllocError>
-    requires start { Spans start }
-    requires here { cursor.old ≡ gone start.place cursor.old }
-    requires part { IsPart cursor.old.text start.place.rest }
+    requires start { At start cursor.old }
     requires number { starts is_identifier_char cursor.old.rest ≡ true }
     ensures lexeme { IfOk result (λ p. IsLexeme start.entry.place p cursor.new) }
-    ensures moves { Moves cursor.old cursor.new }
-    ensures most { Most 24 29 cursor.old cursor.new }
+    ensures reads { ReadsFrom 24 29 start.entry.place cursor.old cursor.new }
 {
     cursor.skip(Class::Identifier);
     let number = start.place.up_to(&cursor.checkpoint());
@@ -421,12 +396,10 @@ fn number_lexeme<'a>(
 
 /// Advances past the identifier characters here, which are not a number.
 fn bare_lexeme<'a>(cursor: &mut Cursor<'a>, start: LexemeStart<'a>) -> Lexeme<'a>
-    requires start { Spans start }
-    requires here { cursor.old ≡ gone start.place cursor.old }
+    requires start { At start cursor.old }
     requires string { starts is_identifier_char cursor.old.rest ≡ true }
     ensures lexeme { IsLexeme start.entry.place result cursor.new }
-    ensures moves { Moves cursor.old cursor.new }
-    ensures most { Most 24 16 cursor.old cursor.new }
+    ensures reads { Reads 24 16 cursor.old cursor.new }
 {
     let fault = match bare_string(cursor) {
         Some(_) => None,
@@ -451,13 +424,9 @@ fn keyword_fault<'a>(cursor: &mut Cursor<'a>, word: &Segment<'a>) -> Option<Kind
 
 /// Advances past what follows the number signs of a keyword.
 fn keyword_lexeme<'a>(cursor: &mut Cursor<'a>, start: LexemeStart<'a>) -> Lexeme<'a>
-    requires start { Spans start }
-    requires here { Follows start.place cursor.old }
-    requires part { IsPart cursor.old.text start.place.rest }
-    ensures stands { Stands start.entry.place.rest result }
-    ensures kind { result.kind ≡ LexemeKind.Value }
-    ensures moves { Moves cursor.old cursor.new }
-    ensures most { Most 24 17 (gone start.entry.place cursor.old) cursor.new }
+    requires { Past start cursor.old }
+    ensures lexeme { IsLexeme start.entry.place result cursor.new }
+    ensures reads { ReadsFrom 24 17 start.entry.place cursor.old cursor.new }
 {
     cursor.skip(Class::Identifier);
     let text = start.place.up_to(&cursor.checkpoint());
@@ -472,22 +441,35 @@ fn sign_lexeme<'a>(
     start: LexemeStart<'a>,
     role: StringRole,
 ) -> Result<Lexeme<'a>, AllocError>
-    requires start { Spans start }
-    requires here { cursor.old ≡ gone start.place cursor.old }
-    requires part { IsPart cursor.old.text start.place.rest }
+    requires start { At start cursor.old }
     requires sign { starts is_number_sign cursor.old.rest ≡ true }
     ensures lexeme { IfOk result (λ p. IsLexeme start.entry.place p cursor.new) }
-    ensures moves { Moves cursor.old cursor.new }
-    ensures most { Most 37 40 cursor.old cursor.new }
+    ensures reads { ReadsFrom 37 40 start.entry.place cursor.old cursor.new }
 {
     let at = cursor.at();
     cursor.skip(Class::NumberSign);
     let signs = cursor.at() - at;
     if cursor.look() == Some('"') {
-        let scan = scan_raw(alloc, cursor, &start.place, signs)?;
+        let scan = scan_string(alloc, cursor, &start.place, Some(signs))?;
         return Ok(string(cursor, start, scan, role, Kind::RawEnd));
     }
     Ok(keyword_lexeme(cursor, start))
+}
+
+/// Advances past the quoted string here.
+fn quoted_lexeme<'a>(
+    alloc: Global,
+    cursor: &mut Cursor<'a>,
+    start: LexemeStart<'a>,
+    role: StringRole,
+) -> Result<Lexeme<'a>, AllocError>
+    requires start { At start cursor.old }
+    requires quote { begins 34 cursor.old.rest ≡ true }
+    ensures lexeme { IfOk result (λ p. IsLexeme start.entry.place p cursor.new) }
+    ensures reads { ReadsFrom 37 40 start.entry.place cursor.old cursor.new }
+{
+    let scan = scan_string(alloc, cursor, &start.place, None)?;
+    Ok(string(cursor, start, scan, role, Kind::QuotedEnd))
 }
 
 /// The kind of a lexeme that is only this character.
@@ -508,13 +490,10 @@ fn sign_kind(c: char) -> Option<LexemeKind>
 /// Advances past the lexeme that begins with the character c here, which is neither one of `" # / \` nor an identifier
 /// character.
 fn plain_lexeme<'a>(c: char, cursor: &mut Cursor<'a>, start: LexemeStart<'a>) -> Lexeme<'a>
-    requires start { Begins start }
-    requires here { cursor.old ≡ gone start.place cursor.old }
-    requires part { IsPart cursor.old.text start.place.rest }
+    requires start { At start cursor.old }
     requires first { first cursor.old.rest ≡ Some c }
     ensures lexeme { IsLexeme start.entry.place result cursor.new }
-    ensures moves { Moves cursor.old cursor.new }
-    ensures most { Most 24 12 cursor.old cursor.new }
+    ensures reads { Reads 37 40 (gone start.entry.place cursor.old) cursor.new }
 {
     if is_space(c) {
         cursor.skip(Class::Space);
@@ -541,19 +520,13 @@ fn lexeme_of<'a>(
     start: LexemeStart<'a>,
     role: StringRole,
 ) -> Result<Lexeme<'a>, AllocError>
-    requires start { Begins start }
-    requires here { cursor.old ≡ gone start.place cursor.old }
-    requires part { IsPart cursor.old.text start.place.rest }
+    requires start { At start cursor.old }
     requires first { first cursor.old.rest ≡ Some c }
     ensures lexeme { IfOk result (λ p. IsLexeme start.entry.place p cursor.new) }
-    ensures moves { Moves cursor.old cursor.new }
-    ensures most { Most 37 40 cursor.old cursor.new }
+    ensures reads { Reads 37 40 (gone start.entry.place cursor.old) cursor.new }
 {
     match c {
-        '"' => {
-            let scan = scan_quoted(alloc, cursor)?;
-            Ok(string(cursor, start, scan, role, Kind::QuotedEnd))
-        }
+        '"' => quoted_lexeme(alloc, cursor, start, role),
         '#' => sign_lexeme(alloc, cursor, start, role),
         '/' => Ok(slash_lexeme(cursor, start)),
         '\\' => Ok(backslash_lexeme(cursor, start)),
@@ -575,11 +548,8 @@ pub(crate) fn next_lexeme<'a>(
     cursor: &mut Cursor<'a>,
     role: StringRole,
 ) -> Result<Lexeme<'a>, AllocError>
-    ensures lexeme { IfOk result (λ p. Stands cursor.old.rest p) }
-    ensures went { IfOk result (λ p. WentPast p.kind cursor.old cursor.new) }
-    ensures end { IfOk result (λ p. p.kind ≡ LexemeKind.End → cursor.old.rest ≡ []) }
-    ensures moves { Moves cursor.old cursor.new }
-    ensures most { Most 37 41 cursor.old cursor.new }
+    ensures next { IfOk result (λ p. IsNext cursor.old p cursor.new) }
+    ensures reads { Reads 37 41 cursor.old cursor.new }
 {
     let place = cursor.checkpoint();
     let Some(c) = cursor.take() else {

@@ -11,13 +11,15 @@ mod front;
 mod kind;
 mod lexemes;
 mod machine;
+mod notes;
 mod reader;
+mod state;
 mod strings;
 mod text_control;
 mod told;
 mod whole;
 
 pub use kind::{Form, Kind, Words};
-pub use reader::Fault;
+pub use notes::Fault;
 pub use told::{failure, faults};
 pub use whole::Whole;

@@ -7,7 +7,6 @@ ghost use Rattle.kdl_control.specs.Control.{at, finish};
 ghost use Rattle.kdl_control.specs.Internal.Views.{phase_view};
 ghost use Rattle.std.specs.Prelude.{◌≡◌, [], false, if◌then◌else◌, true};
 
-use crate::kind::Kind;
 use crate::lexemes::{LexemeKind, StringRole};
 use kdl_control::{Owner, Phase, Spot, Word};
 use kdl_lexer::TokenKind;
@@ -58,17 +57,6 @@ pub(crate) fn token_kind(alloc: Global, kind: LexemeKind) -> Option<TokenKind> {
         LexemeKind::Equals => Some(TokenKind::Equals),
         LexemeKind::Semicolon => Some(TokenKind::Semicolon),
         LexemeKind::Comment | LexemeKind::Other | LexemeKind::End => None,
-    }
-}
-
-/// The fault if a lexeme does not fit in the phase. `is_property` is whether the last type is that of a property's value.
-pub(crate) fn misfit(phase: Phase, is_property: bool) -> Kind {
-    match phase {
-        Phase::Gap | Phase::NodeSlashdash | Phase::TypeDone(Owner::Name) => Kind::Name,
-        Phase::Property => Kind::Value,
-        Phase::TypeDone(Owner::Value) if is_property => Kind::Value,
-        Phase::TypeOpen(_) | Phase::TypeName(_) => Kind::Type,
-        _ => Kind::Misplaced,
     }
 }
 

@@ -1,224 +1,258 @@
 //! The reader of faults: it reads a refused text, and notes each fault.
 
-ghost use Rattle.kdl_diagnostics.specs.Internal.Noted.{Bounded, IsFrontOf, Keeps, KeepsBetween, IsReader, IsReaderOf, Recovers};
-ghost use Rattle.kdl_diagnostics.specs.Internal.Outsets.{BeginsAt, Enters, Grows, HasFault, IsReady, IsReadyAt, IsStopped};
-ghost use Rattle.kdl_diagnostics.specs.Internal.Reading.{Most, Stands, Turning, WentPast};
+ghost use Rattle.kdl_diagnostics.specs.Internal.Noted.{Always, Counted, Goes, HasFault, IsFrontOf, IsReader, IsReaderOf, ReadsIn, Takes};
+ghost use Rattle.kdl_diagnostics.specs.Internal.Outsets.{BeginsAt, IsReady, IsReadyAt, IsStopped, Lacking, NotesAlone};
+ghost use Rattle.kdl_diagnostics.specs.Internal.Reading.{LiesIn};
+ghost use Rattle.kdl_diagnostics.specs.declared.machine.Context.TheVariants.{FaultyType};
 ghost use Rattle.kdl_text.specs.Internal.Here.{IsPart};
-ghost use Rattle.kdl_text.specs.Internal.Reading.{Moves};
 ghost use Rattle.kdl_text.specs.Chars.{Text};
-ghost use Rattle.kdl_text.specs.Spans.{raise};
-ghost use Rattle.std.specs.Prelude.{◌≡◌, ◌+◌, ◌≤◌, IfOk};
+ghost use Rattle.kdl_text.specs.Spans.{bytes};
+ghost use Rattle.std.specs.Prelude.{◌≡◌, ◌+◌, ◌*◌, length, IfOk, IsSome};
 ghost use Rattle.std.specs.Str.{chars};
 
-mod moves;
-mod notes;
-mod take;
-
 use crate::ends::is_value_end;
-use crate::esclines::Candidate;
+use crate::esclines::esclines;
 use crate::front::Prefix;
 use crate::kind::Kind;
 use crate::lexemes::{Lexeme, LexemeKind, StringRole, next_lexeme};
-use crate::machine::Context;
+use crate::machine::is_due;
+use crate::notes::{Fault, Notes};
+use crate::state::State;
 use crate::text_control::Outset;
 use crate::whole::Whole;
-use kdl_control::Control;
 use kdl_text::cursor::{Checkpoint, Cursor, Steps};
-use kdl_text::span::SourceSpan;
 use std::alloc::{AllocError, Global};
-
-/// A fault of a text, and the span at which it is reported.
-#[derive(Clone, Copy)]
-pub struct Fault {
-    pub kind: Kind,
-    pub span: SourceSpan,
-}
-
-/// An open block: its `{`, and whether a fault was noted at its `{`.
-#[derive(Clone, Copy)]
-pub(crate) struct Block {
-    pub span: SourceSpan,
-    pub is_told: bool,
-}
 
 /// A reader of faults.
 #[derive(Drop)]
 pub(crate) struct Reader<'a> {
     alloc: Global,
-    /// What the text is read as.
-    text: Whole,
-    /// The start of the text.
-    whole: Checkpoint<'a>,
     cursor: Cursor<'a>,
-    /// The phase of the grammar. Spaces count as read after each lexeme.
-    control: Control,
-    place: Context,
-    blocks: Vec<Block>,
-    /// The place after the last `(` that was read.
-    left: Checkpoint<'a>,
-    /// Whether the last `(` begins the type of a property's value.
-    is_property: bool,
-    /// Whether the only node or entry of the text has begun.
-    has_item: bool,
-    /// Whether an entry was slashdashed.
-    has_dropped: bool,
-    /// Whether the last lexeme that was read is a space.
-    is_apart: bool,
+    state: State,
+    notes: Notes<'a>,
     /// Whether the text ended in a string or a comment.
     is_cut: bool,
-    /// Whether reading has ended.
+    /// Whether reading has ended before the end of the text.
     is_over: bool,
-    faults: Vec<Fault>,
-    /// The faults that may end a byte earlier, in the order of the text.
-    candidates: Vec<Candidate>,
+}
+
+/// Goes to the end of the front if a value end is there, and else to the string, number or keyword that ends there. An
+/// identifier is read again from its start. Returns what is known there.
+fn begin<'a>(cursor: &mut Cursor<'a>, front: &Prefix<'a>) -> Outset
+    requires { IsFrontOf cursor.old.text front.now }
+    ensures begins { BeginsAt front.now result cursor.new }
+    ensures here { ReadsIn cursor.old.text cursor.new }
+    ensures counted { Counted 7 cursor.old.steps cursor.new.steps }
+{
+    cursor.go_to(&front.stop.place);
+    if is_value_end(cursor) && !matches!(front.control.whole, Whole::Identifier) {
+        return front.control.outset();
+    }
+    cursor.go_to(&front.stop.from);
+    front.stop.before
 }
 
 impl<'a> Reader<'a> {
-    /// Creates a reader that continues after the front of the text, and adds to the given count of steps. If no value
-    /// end is there, it begins at the string, number or keyword that ends there.
+    /// Creates a reader that continues after the front of the text, and adds to the given count of steps.
     pub(crate) fn new(text: &'a str, front: Prefix<'a>, steps: Steps) -> Self
         requires { IsFrontOf (chars text.now) front }
         ensures reads { IsReaderOf (chars text.now) result }
         ensures ready { IsStopped front.entry → IsReady result }
-        ensures most { result.cursor.steps ≤ steps + 7 }
-        ensures counts { raise steps 0 ≤ raise result.cursor.steps 0 }
+        ensures counted { Counted 7 steps result.cursor.steps }
     {
+        let mut cursor = Cursor::new(text, steps);
+        let outset = begin(&mut cursor, &front);
         let Prefix {
             alloc,
-            whole,
+            notes,
             control,
-            blocks,
-            left,
             is_property,
-            place,
-            from,
-            before,
             ..
         } = front;
-        let here = control.outset();
-        let mut cursor = Cursor::new(text, steps);
-        cursor.go_to(&place);
-        let mut reader = Reader {
+        let mut state = State::new(alloc, control.whole, control.node.control, outset);
+        state.is_property = is_property;
+        Reader {
             alloc,
-            text: control.whole,
-            whole,
-            left,
-            is_property,
             cursor,
-            control: control.node.control,
-            place: Context::Control,
-            blocks,
-            has_item: false,
-            has_dropped: false,
-            is_apart: false,
+            state,
+            notes,
             is_cut: false,
             is_over: false,
-            faults: Vec::new(alloc),
-            candidates: Vec::new(alloc),
-        };
-        reader.begin_at(here, &from, before);
-        reader
-    }
-
-    /// Begins here if a value end is here, and else at the earlier place. An identifier is read again from its start.
-    fn begin_at(&mut self, here: Outset, from: &Checkpoint<'a>, before: Outset)
-        requires { IsPart self.old.cursor.text from.now.rest }
-        ensures keeps { KeepsBetween from.now from.now self.old self.new }
-        ensures begins { BeginsAt from.now here before self.old self.new }
-        ensures most { self.new.cursor.steps ≤ self.old.cursor.steps + 7 }
-        ensures counts { raise self.old.cursor.steps 0 ≤ raise self.new.cursor.steps 0 }
-    {
-        if is_value_end(&mut self.cursor) && !matches!(self.text, Whole::Identifier) {
-            return self.enter(here);
         }
-        self.cursor.go_to(from);
-        self.enter(before);
-    }
-
-    /// Continues at the outset.
-    fn enter(&mut self, outset: Outset)
-        ensures keeps { Keeps self.old self.new }
-        ensures cursor { self.new.cursor ≡ self.old.cursor }
-        ensures enters { Enters outset self.old self.new }
-    {
-        self.control.go_to(outset.phase);
-        self.place = if outset.is_over {
-            Context::Over
-        } else {
-            Context::Control
-        };
-        self.has_item = outset.has_item;
-        self.has_dropped = outset.has_dropped;
-        self.is_apart = outset.is_apart;
     }
 
     /// The faults that were noted, and the count of steps.
     pub(crate) fn into_parts(self) -> (Vec<Fault>, Steps)
-        ensures faults { result.0 ≡ self.entry.faults }
+        ensures faults { result.0 ≡ self.entry.notes.faults }
         ensures steps { result.1 ≡ self.entry.cursor.steps }
     {
-        (self.faults, self.cursor.into_steps())
+        let Reader { cursor, notes, .. } = self;
+        let Notes { faults, .. } = notes;
+        (faults, cursor.into_steps())
     }
 
-    /// Reads the next lexeme.
-    fn next(&mut self) -> Result<Lexeme<'a>, AllocError>
-        ensures keeps { Keeps self.old self.new }
-        ensures grows { Grows self.old self.new }
-        ensures ready { IfOk result (λ p. IsReady self.old → IsReadyAt p self.new) }
-        ensures lexeme { IfOk result (λ p. Stands self.old.cursor.rest p) }
-        ensures went { IfOk result (λ p. WentPast p.kind self.old.cursor self.new.cursor) }
-        ensures moves { Moves self.old.cursor self.new.cursor }
-        ensures most { Most 37 41 self.old.cursor self.new.cursor }
-        ensures same { self.new.is_over ≡ self.old.is_over }
+    /// Takes a lexeme that does not fit, and notes that. What was expected counts as read; then the lexeme ends or begins
+    /// a node, a block or what a `/-` drops, if it is such a lexeme.
+    fn mend(&mut self, lexeme: &Lexeme<'a>) -> Result<(), AllocError>
+        ensures takes { Takes lexeme.now self.old self.new }
+        ensures noted { IfOk result (λ _. HasFault self.new.notes) }
     {
-        let role = self.string_role();
-        next_lexeme(self.alloc, &mut self.cursor, role)
+        let kind = self.state.misfit(lexeme.kind, &self.notes);
+        self.notes.note_misfit(&mut self.cursor, kind, lexeme)?;
+        self.is_over = self.is_over || self.state.is_last(kind);
+        self.notes.note_left(lexeme);
+        if self.state.skip(lexeme.kind) && !self.is_over {
+            return self.state.go_on(&mut self.notes, lexeme);
+        }
+        Ok(())
     }
 
-    /// Notes the first fault, where the front ends.
-    fn note_first(&mut self) -> Result<(), AllocError>
-        ensures keeps { Keeps self.old self.new }
-        ensures grows { Grows self.old self.new }
-        ensures noted { IfOk result (λ _. IsReady self.old → HasFault self.new) }
-        ensures turning { IfOk result (λ _. Turning self.old.cursor self.new.cursor self.new.is_over) }
-        ensures bounded { Bounded 124 self.old.cursor self.new.cursor }
+    /// Takes the end of the text: what is expected is missing, and open blocks are unclosed, the innermost first.
+    fn end(&mut self, lexeme: &Lexeme<'a>) -> Result<(), AllocError>
+        ensures takes { Takes lexeme.now self.old self.new }
+        ensures noted { IfOk result (λ _. Lacking self.old → HasFault self.new.notes) }
     {
-        let lexeme = self.next()?;
-        self.take_refused(&lexeme)
+        if self.is_cut {
+            return Ok(());
+        }
+        if is_due(self.state.control.phase()) {
+            let kind = self.state.misfit(lexeme.kind, &self.notes);
+            return self.notes.note_misfit(&mut self.cursor, kind, lexeme);
+        }
+        if let Some(kind) = self.state.missing(&self.notes) {
+            return self.notes.note(kind, &lexeme.start, &lexeme.next);
+        }
+        self.notes.note_blocks()
+    }
+
+    /// Takes a lexeme of the grammar, whether it fits or not.
+    fn take_part(&mut self, lexeme: &Lexeme<'a>) -> Result<(), AllocError>
+        ensures takes { Takes lexeme.now self.old self.new }
+        ensures noted { IfOk result (λ _. (self.old.state.context ≡ FaultyType → ⊥) → IsSome lexeme.now.fault → HasFault self.new.notes) }
+    {
+        let step = self.state.move_of(lexeme);
+        let context = self.state.context;
+        self.state.begin(lexeme.kind, &self.notes);
+        if self.state.apply(&mut self.notes, lexeme, step)? {
+            self.notes.note_own(lexeme, context)
+        } else {
+            self.mend(lexeme)
+        }
+    }
+
+    /// Takes a lexeme, without what follows it.
+    fn take_alone(&mut self, lexeme: &Lexeme<'a>) -> Result<(), AllocError>
+        ensures takes { Takes lexeme.now self.old self.new }
+        ensures noted { IfOk result (λ _. IsReadyAt lexeme.now self.old → NotesAlone lexeme.now.kind (HasFault self.new.notes)) }
+    {
+        match lexeme.kind {
+            LexemeKind::Space => Ok(()),
+            LexemeKind::Comment => self.notes.note(Kind::Comment, &lexeme.start, &lexeme.end),
+            LexemeKind::End => self.end(lexeme),
+            _ => self.take_part(lexeme),
+        }
+    }
+
+    /// Takes the first lexeme, which has a fault, or else does not fit.
+    fn refuse(&mut self, lexeme: &Lexeme<'a>) -> Result<(), AllocError>
+        ensures takes { Takes lexeme.now self.old self.new }
+        ensures noted { IfOk result (λ _. IsReadyAt lexeme.now self.old → HasFault self.new.notes) }
+    {
+        match lexeme.kind {
+            LexemeKind::Comment | LexemeKind::End => self.take_alone(lexeme),
+            _ if lexeme.fault.is_some() => self.take_part(lexeme),
+            _ => {
+                self.state.begin(lexeme.kind, &self.notes);
+                self.mend(lexeme)
+            }
+        }
+    }
+
+    /// Takes a lexeme, without what follows it. The first one is refused.
+    fn take_one(&mut self, lexeme: &Lexeme<'a>) -> Result<(), AllocError>
+        ensures takes { Takes lexeme.now self.old self.new }
+        ensures noted { length self.old.notes.faults.items ≡ 0 → IfOk result (λ _. IsReadyAt lexeme.now self.old → HasFault self.new.notes) }
+    {
+        if self.notes.faults.len() == 0 {
+            self.refuse(lexeme)
+        } else {
+            self.take_alone(lexeme)
+        }
+    }
+
+    /// Takes a lexeme, and what follows it: an unclosed block comment, in what begins as an escline.
+    fn take(&mut self, lexeme: &Lexeme<'a>) -> Result<(), AllocError>
+        ensures takes { Takes lexeme.now self.old self.new }
+        ensures noted { length self.old.notes.faults.items ≡ 0 → IfOk result (λ _. IsReadyAt lexeme.now self.old → HasFault self.new.notes) }
+    {
+        self.take_one(lexeme)?;
+        self.state.is_apart = matches!(lexeme.kind, LexemeKind::Space);
+        self.is_cut = self.is_cut || lexeme.cut || lexeme.comment.is_some();
+        self.notes.note_comment(lexeme)
+    }
+
+    /// Notes that the character at the place can't be there, or that something is expected where the text ends.
+    fn note_character(&mut self, from: &Checkpoint<'a>) -> Result<(), AllocError>
+        requires { IsPart self.old.cursor.text from.now.rest }
+        ensures goes { Goes (λ text. LiesIn text from.now) 1 self.old self.new }
+        ensures noted { IfOk result (λ _. HasFault self.new.notes) }
+    {
+        self.cursor.go_to(from);
+        let _ = self.cursor.take();
+        let next = self.cursor.checkpoint();
+        self.notes.note(Kind::Misplaced, from, &next)
     }
 
     /// Notes the fault of a text that is read as an identifier.
     fn read_identifier(&mut self) -> Result<(), AllocError>
-        ensures keeps { Keeps self.old self.new }
-        ensures grows { Grows self.old self.new }
-        ensures noted { IfOk result (λ _. HasFault self.new) }
-        ensures bounded { Bounded 124 self.old.cursor self.new.cursor }
+        ensures goes { Goes Always (124 * bytes self.old.cursor.rest + 100) self.old self.new }
+        ensures noted { IfOk result (λ _. HasFault self.new.notes) }
     {
         let start = self.cursor.checkpoint();
         let lexeme = next_lexeme(self.alloc, &mut self.cursor, StringRole::Plain)?;
-        let (LexemeKind::String, fault) = (lexeme.kind, lexeme.fault) else {
-            return self.note_character(&start);
-        };
-        if let Some(kind) = fault {
-            return self.note_up_to(kind, &lexeme.start, &lexeme.end, &lexeme);
+        match (lexeme.kind, lexeme.fault) {
+            (LexemeKind::String, Some(kind)) => {
+                self.notes
+                    .note_up_to(kind, &lexeme.start, &lexeme.end, &lexeme)
+            }
+            (LexemeKind::String, None) => self.note_character(&lexeme.end),
+            _ => self.note_character(&start),
         }
-        self.note_character(&lexeme.end)
     }
 
     /// Notes the faults of the text, as if no candidate began an escline.
     fn read(&mut self) -> Result<(), AllocError>
-        ensures keeps { Keeps self.old self.new }
-        ensures grows { Grows self.old self.new }
-        ensures noted { IfOk result (λ _. IsReady self.old → HasFault self.new) }
-        ensures bounded { Bounded 124 self.old.cursor self.new.cursor }
+        ensures goes { Goes Always (124 * bytes self.old.cursor.rest + 100) self.old self.new }
+        ensures noted { IfOk result (λ _. IsReady self.old → HasFault self.new.notes) }
     {
-        if let Whole::Identifier = self.text {
+        if matches!(self.state.whole, Whole::Identifier) {
             return self.read_identifier();
         }
-        self.note_first()?;
-        'lexemes: while !self.is_over {
-            let lexeme = self.next()?;
+        'lexemes: loop {
+            let role = self.state.string_role();
+            let lexeme = next_lexeme(self.alloc, &mut self.cursor, role)?;
             self.take(&lexeme)?;
+            if self.is_over {
+                return Ok(());
+            }
+            if let LexemeKind::End = lexeme.kind {
+                return Ok(());
+            }
+        }
+    }
+
+    /// Ends the faults of all candidates that begin an escline at their backslashes.
+    fn settle_all(&mut self) -> Result<(), AllocError>
+        requires { IsReader self.old }
+        ensures { Goes Always (4 * (bytes self.old.notes.whole.rest + 1)) self.old self.new }
+    {
+        if self.notes.candidates.is_empty() {
+            return Ok(());
+        }
+        self.cursor.go_to(&self.notes.whole);
+        let found = esclines(self.alloc, &mut self.cursor, &self.notes.candidates)?;
+        for candidate in &found {
+            self.notes.settle(*candidate);
         }
         Ok(())
     }
@@ -226,10 +260,8 @@ impl<'a> Reader<'a> {
     /// Notes the faults of the text.
     pub(crate) fn find(&mut self) -> Result<(), AllocError>
         requires { IsReader self.old }
-        ensures keeps { Keeps self.old self.new }
-        ensures grows { Grows self.old self.new }
-        ensures noted { IfOk result (λ _. IsReady self.old → HasFault self.new) }
-        ensures bounded { (text : Text) → IsReaderOf text self.old → Recovers text self.old.cursor self.new.cursor }
+        ensures goes { (text : Text) → IsReaderOf text self.old → Goes Always (128 * bytes text + 104) self.old self.new }
+        ensures noted { IfOk result (λ _. IsReady self.old → HasFault self.new.notes) }
     {
         self.read()?;
         self.settle_all()

@@ -1,11 +1,10 @@
 //! Quoted and raw strings, faulty or not, and the first fault in them.
 
-ghost use Rattle.kdl_diagnostics.specs.Internal.Reading.{FindsAlso, FindsOn, Follows, Most, MostFrom, OnFound};
+ghost use Rattle.kdl_diagnostics.specs.Internal.Reading.{FindsAlso, FindsOn, GoesOn, OnFound, Reads, ReadsFrom, Since, gone};
 ghost use Rattle.kdl_text.specs.Chars.{begins};
-ghost use Rattle.kdl_text.specs.Internal.Here.{IsPart, first};
+ghost use Rattle.kdl_text.specs.Internal.Here.{Returned, first};
 ghost use Rattle.kdl_text.specs.Spans.{bytes};
-ghost use Rattle.kdl_text.specs.Internal.Reading.{Moves};
-ghost use Rattle.std.specs.Prelude.{◌≡◌, ◌<◌, Some, true, IfOk};
+ghost use Rattle.std.specs.Prelude.{◌≡◌, ◌+◌, ◌-◌, ◌*◌, ◌<◌, None, Some, true, IfOk};
 
 use crate::kind::Kind;
 use kdl_text::chars::{Class, is_newline_char};
@@ -29,6 +28,19 @@ pub(crate) struct Scan<'a> {
     pub cut: bool,
 }
 
+/// How a string is written.
+#[derive(Clone, Copy)]
+enum Style {
+    /// Quoted, on one line.
+    Quoted,
+    /// Quoted, on several lines.
+    QuotedLines,
+    /// Raw, on one line, with this many number signs.
+    Raw(usize),
+    /// Raw, on several lines, with this many number signs.
+    RawLines(usize),
+}
+
 /// The fault that was found already, if there is one, or else this one.
 fn earlier<'a>(fault: Option<Found<'a>>, kind: Kind, place: Checkpoint<'a>) -> Option<Found<'a>>
     ensures { FindsAlso fault.entry place.entry result }
@@ -39,168 +51,9 @@ fn earlier<'a>(fault: Option<Found<'a>>, kind: Kind, place: Checkpoint<'a>) -> O
     }
 }
 
-/// A string that ends with the text, without its closing quotes.
-fn cut<'a>(fault: Option<Found<'a>>, kind: Kind, place: Checkpoint<'a>) -> Scan<'a>
-    ensures { FindsAlso fault.entry place.entry result.fault }
-{
-    Scan {
-        fault: earlier(fault, kind, place),
-        cut: true,
-    }
-}
-
-/// A string that ends here.
-fn ended<'a>(fault: Option<Found<'a>>) -> Scan<'a>
-    ensures { result.fault ≡ fault.entry }
-{
-    Scan { fault, cut: false }
-}
-
-/// Advances past a backslash and what belongs to it. Returns whether it is an escape.
-fn escape(cursor: &mut Cursor) -> bool
-    requires { begins 92 cursor.old.rest ≡ true }
-    ensures moves { Moves cursor.old cursor.new }
-    ensures went { bytes cursor.new.rest < bytes cursor.old.rest }
-    ensures most { Most 1 0 cursor.old cursor.new }
-{
-    cursor.step();
-    escaped_unit(cursor).is_ok()
-}
-
-/// Advances past a character that does not represent itself in a quoted string: past an escape, or past a character
-/// that can't be there.
-fn odd_unit<'a>(cursor: &mut Cursor<'a>, c: char, fault: Option<Found<'a>>) -> Option<Found<'a>>
-    requires here { first cursor.old.rest ≡ Some c }
-    ensures fault { FindsOn fault.entry cursor.old result cursor.new }
-    ensures moves { Moves cursor.old cursor.new }
-    ensures went { bytes cursor.new.rest < bytes cursor.old.rest }
-    ensures most { Most 1 0 cursor.old cursor.new }
-{
-    let place = cursor.checkpoint();
-    if c == '\\' {
-        if escape(cursor) {
-            return fault;
-        }
-    } else {
-        cursor.step();
-    }
-    earlier(fault, Kind::Quoted, place)
-}
-
-/// After the opening quote of a single-line string: advances past the string, or to a newline or the end of the text
-/// before its closing quote.
-fn quoted_line<'a>(cursor: &mut Cursor<'a>) -> Scan<'a>
-    ensures fault { OnFound cursor.old result.fault cursor.new }
-    ensures moves { Moves cursor.old cursor.new }
-    ensures most { Most 3 2 cursor.old cursor.new }
-{
-    let mut fault = None;
-    'units: loop {
-        cursor.skip(Class::Literal);
-        match cursor.look() {
-            None => return cut(fault, Kind::Quoted, cursor.checkpoint()),
-            Some('"') => {
-                cursor.step();
-                return ended(fault);
-            }
-            Some(c) if is_newline_char(c) => {
-                return ended(earlier(fault, Kind::QuotedNewline, cursor.checkpoint()));
-            }
-            Some(c) => fault = odd_unit(cursor, c, fault),
-        }
-    }
-}
-
-/// After three quotes: advances past the string that they begin. It is faulty if no newline follows the quotes.
-fn quoted_lines<'a>(cursor: &mut Cursor<'a>) -> Scan<'a>
-    ensures fault { OnFound cursor.old result.fault cursor.new }
-    ensures moves { Moves cursor.old cursor.new }
-    ensures most { Most 5 3 cursor.old cursor.new }
-{
-    let place = cursor.checkpoint();
-    let mut fault = if newline(cursor) {
-        None
-    } else {
-        Some(Found {
-            kind: Kind::Opening,
-            place,
-        })
-    };
-    'units: loop {
-        cursor.skip(Class::Literal);
-        match cursor.look() {
-            None => return cut(fault, Kind::Quoted, cursor.checkpoint()),
-            Some('"') => {
-                cursor.step();
-                if cursor.eat_two('"', '"') {
-                    return ended(fault);
-                }
-            }
-            Some(c) if is_newline_char(c) => {
-                let _ = newline(cursor);
-            }
-            Some(c) => fault = odd_unit(cursor, c, fault),
-        }
-    }
-}
-
-/// The fault in the lines of a multi-line quoted string that is closed and has no fault in its units.
-fn fault_of_lines<'a>(
-    alloc: Global,
-    cursor: &mut Cursor<'a>,
-    start: &Checkpoint<'a>,
-) -> Result<Option<Found<'a>>, AllocError>
-    requires here { Follows start.now cursor.old }
-    requires part { IsPart cursor.old.text start.now.rest }
-    ensures fault { IfOk result (λ f. OnFound cursor.old f cursor.new) }
-    ensures rest { cursor.new.rest ≡ cursor.old.rest }
-    ensures moves { Moves cursor.old cursor.new }
-    ensures most { MostFrom 5 7 start.now cursor.old cursor.old cursor.new }
-{
-    let place = cursor.enter(&start.up_to(&cursor.checkpoint()));
-    let answer = quoted_string(alloc, cursor);
-    cursor.go_to(&place);
-    match answer {
-        Ok(_) => Ok(None),
-        Err(StringFailure::Fault(StringFault::NoPrefix)) => Ok(Some(Found {
-            kind: Kind::Prefix,
-            place,
-        })),
-        Err(StringFailure::Fault(_)) => Ok(Some(Found {
-            kind: Kind::Quoted,
-            place,
-        })),
-        Err(StringFailure::Memory) => Err(AllocError),
-    }
-}
-
-/// Advances past the quoted string whose opening quote is here.
-pub(crate) fn scan_quoted<'a>(
-    alloc: Global,
-    cursor: &mut Cursor<'a>,
-) -> Result<Scan<'a>, AllocError>
-    requires { begins 34 cursor.old.rest ≡ true }
-    ensures fault { IfOk result (λ s. OnFound cursor.old s.fault cursor.new) }
-    ensures moves { Moves cursor.old cursor.new }
-    ensures went { bytes cursor.new.rest < bytes cursor.old.rest }
-    ensures most { Most 10 12 cursor.old cursor.new }
-{
-    let start = cursor.checkpoint();
-    cursor.step();
-    if !cursor.eat_two('"', '"') {
-        return Ok(quoted_line(cursor));
-    }
-    let scan = quoted_lines(cursor);
-    if scan.fault.is_some() {
-        return Ok(scan);
-    }
-    Ok(ended(fault_of_lines(alloc, cursor, &start)?))
-}
-
 /// Advances past at most `most` number signs. Returns whether there were that many.
 fn eat_signs(cursor: &mut Cursor, most: usize) -> bool
-    ensures moves { Moves cursor.old cursor.new }
-    ensures most { Most 1 1 cursor.old cursor.new }
+    ensures { Reads 1 1 cursor.old cursor.new }
 {
     let mut count: usize = 0;
     'signs: while count < most {
@@ -212,95 +65,178 @@ fn eat_signs(cursor: &mut Cursor, most: usize) -> bool
     true
 }
 
-/// After the opening quote of a single-line raw string: advances past the string, or to a newline or the end of the
-/// text before its closing.
-fn raw_line<'a>(cursor: &mut Cursor<'a>, signs: usize) -> Scan<'a>
-    ensures fault { OnFound cursor.old result.fault cursor.new }
-    ensures moves { Moves cursor.old cursor.new }
-    ensures most { Most 3 2 cursor.old cursor.new }
-{
-    let mut fault = None;
-    'units: loop {
-        cursor.skip(Class::Unquoted);
-        let place = cursor.checkpoint();
-        match cursor.look() {
-            None => return cut(fault, Kind::Raw, place),
-            Some('"') => {
-                cursor.step();
-                if eat_signs(cursor, signs) {
-                    return ended(fault);
-                }
-            }
-            Some(c) if is_newline_char(c) => return ended(earlier(fault, Kind::Raw, place)),
-            Some(_) => {
-                cursor.step();
-                fault = earlier(fault, Kind::Raw, place);
-            }
-        }
-    }
-}
-
 /// Advances past the quotes here. Returns whether there are at least three, with `signs` number signs after them.
 fn closes_lines(cursor: &mut Cursor, signs: usize) -> bool
     requires { begins 34 cursor.old.rest ≡ true }
-    ensures moves { Moves cursor.old cursor.new }
-    ensures went { bytes cursor.new.rest < bytes cursor.old.rest }
-    ensures most { Most 1 2 cursor.old cursor.new }
+    ensures { GoesOn 3 cursor.old cursor.new }
 {
     let start = cursor.at();
     cursor.skip(Class::Quote);
     cursor.at() - start >= 3 && eat_signs(cursor, signs)
 }
 
-/// After the first newline of a multi-line raw string: advances past the string, or to the end of the text if it is
-/// unclosed.
-fn raw_lines<'a>(cursor: &mut Cursor<'a>, signs: usize) -> Scan<'a>
-    ensures fault { OnFound cursor.old result.fault cursor.new }
-    ensures moves { Moves cursor.old cursor.new }
-    ensures most { Most 5 2 cursor.old cursor.new }
-{
-    let mut fault = None;
-    'units: loop {
-        cursor.skip(Class::Unquoted);
-        let place = cursor.checkpoint();
-        match cursor.look() {
-            None => return cut(fault, Kind::Raw, place),
-            Some('"') => {
-                if closes_lines(cursor, signs) {
-                    return ended(fault);
-                }
-            }
-            Some(c) if is_newline_char(c) => {
-                let _ = newline(cursor);
-            }
-            Some(_) => {
-                cursor.step();
-                fault = earlier(fault, Kind::Raw, place);
-            }
+impl Style {
+    /// The style of a string on one line, with the number signs of a raw one.
+    fn of_line(signs: Option<usize>) -> Style {
+        match signs {
+            Some(signs) => Style::Raw(signs),
+            None => Style::Quoted,
+        }
+    }
+
+    /// The style of a string on several lines, with the number signs of a raw one.
+    fn of_lines(signs: Option<usize>) -> Style {
+        match signs {
+            Some(signs) => Style::RawLines(signs),
+            None => Style::QuotedLines,
+        }
+    }
+
+    /// The characters that represent themselves in the string.
+    fn class(self) -> Class {
+        match self {
+            Style::Quoted | Style::QuotedLines => Class::Literal,
+            Style::Raw(_) | Style::RawLines(_) => Class::Unquoted,
+        }
+    }
+
+    /// The fault of a string that is unclosed, or has a character that it can't have.
+    fn fault(self) -> Kind {
+        match self {
+            Style::Quoted | Style::QuotedLines => Kind::Quoted,
+            Style::Raw(_) | Style::RawLines(_) => Kind::Raw,
+        }
+    }
+
+    /// The fault of a newline, if the string is on one line.
+    fn newline_fault(self) -> Option<Kind> {
+        match self {
+            Style::Quoted => Some(Kind::QuotedNewline),
+            Style::Raw(_) => Some(Kind::Raw),
+            Style::QuotedLines | Style::RawLines(_) => None,
+        }
+    }
+
+    /// The kind of a fault in the lines of the string.
+    fn lines_fault(self, fault: StringFault) -> Kind {
+        match (self, fault) {
+            (Style::QuotedLines, StringFault::NoPrefix) => Kind::Prefix,
+            _ => self.fault(),
+        }
+    }
+
+    /// Advances past a quote here, and what may follow it. Returns whether that closes the string.
+    fn closes(self, cursor: &mut Cursor) -> bool
+        requires { begins 34 cursor.old.rest ≡ true }
+        ensures { GoesOn 3 cursor.old cursor.new }
+    {
+        if let Style::RawLines(signs) = self {
+            return closes_lines(cursor, signs);
+        }
+        cursor.step();
+        match self {
+            Style::QuotedLines => cursor.eat_two('"', '"'),
+            Style::Raw(signs) => eat_signs(cursor, signs),
+            _ => true,
+        }
+    }
+
+    /// Reads a string without faults in its units, for the faults in its lines.
+    fn read(self, alloc: Global, cursor: &mut Cursor) -> Result<String, StringFailure>
+        ensures { Reads 4 9 cursor.old cursor.new }
+    {
+        match self {
+            Style::Quoted | Style::QuotedLines => quoted_string(alloc, cursor),
+            Style::Raw(_) | Style::RawLines(_) => raw_string(alloc, cursor),
         }
     }
 }
 
-/// The fault in the lines of a multi-line raw string that is closed and has no fault in its characters.
-fn fault_of_raw_lines<'a>(
+/// Advances past a backslash and what belongs to it. Returns whether it is an escape.
+fn escape(cursor: &mut Cursor) -> bool
+    requires { begins 92 cursor.old.rest ≡ true }
+    ensures { GoesOn 3 cursor.old cursor.new }
+{
+    cursor.step();
+    escaped_unit(cursor).is_ok()
+}
+
+/// Advances past a character that does not represent itself in a string: past an escape, or past a character that can't
+/// be there.
+fn odd_unit<'a>(
+    cursor: &mut Cursor<'a>,
+    c: char,
+    kind: Kind,
+    fault: Option<Found<'a>>,
+) -> Option<Found<'a>>
+    requires here { first cursor.old.rest ≡ Some c }
+    ensures fault { FindsOn 3 0 fault.entry cursor.old result cursor.new }
+    ensures went { bytes cursor.new.rest < bytes cursor.old.rest }
+{
+    let place = cursor.checkpoint();
+    if c == '\\' {
+        if escape(cursor) {
+            return fault;
+        }
+    } else {
+        cursor.step();
+    }
+    earlier(fault, kind, place)
+}
+
+/// After its opening quotes: advances past a string, to a newline that it can't have, or to the end of the text. Its
+/// fault is the one that was found already, or else the first one here.
+fn units<'a>(cursor: &mut Cursor<'a>, style: Style, found: Option<Found<'a>>) -> Scan<'a>
+    ensures { FindsOn 5 2 found.entry cursor.old result.fault cursor.new }
+{
+    let mut fault = found;
+    'units: loop {
+        cursor.skip(style.class());
+        let place = cursor.checkpoint();
+        match cursor.look() {
+            None => {
+                return Scan {
+                    fault: earlier(fault, style.fault(), place),
+                    cut: true,
+                };
+            }
+            Some('"') => {
+                if style.closes(cursor) {
+                    return Scan { fault, cut: false };
+                }
+            }
+            Some(c) if is_newline_char(c) => {
+                if let Some(kind) = style.newline_fault() {
+                    return Scan {
+                        fault: earlier(fault, kind, place),
+                        cut: false,
+                    };
+                }
+                let _ = newline(cursor);
+            }
+            Some(c) => fault = odd_unit(cursor, c, style.fault(), fault),
+        }
+    }
+}
+
+/// The fault in the lines of a string that begins at the place, is closed, and has no fault in its units.
+fn fault_of_lines<'a>(
     alloc: Global,
     cursor: &mut Cursor<'a>,
     start: &Checkpoint<'a>,
+    style: Style,
 ) -> Result<Option<Found<'a>>, AllocError>
-    requires here { Follows start.now cursor.old }
-    requires part { IsPart cursor.old.text start.now.rest }
-    ensures fault { IfOk result (λ f. OnFound cursor.old f cursor.new) }
-    ensures rest { cursor.new.rest ≡ cursor.old.rest }
-    ensures moves { Moves cursor.old cursor.new }
-    ensures most { MostFrom 5 9 start.now cursor.old cursor.old cursor.new }
+    requires { Since start.now cursor.old }
+    ensures fault { IfOk result (λ f. OnFound (gone start.now cursor.new) f cursor.new) }
+    ensures back { Returned (5 * (bytes start.now.rest - bytes cursor.old.rest) + 9) cursor.old cursor.new }
 {
     let place = cursor.enter(&start.up_to(&cursor.checkpoint()));
-    let answer = raw_string(alloc, cursor);
+    let answer = style.read(alloc, cursor);
     cursor.go_to(&place);
     match answer {
         Ok(_) => Ok(None),
-        Err(StringFailure::Fault(_)) => Ok(Some(Found {
-            kind: Kind::Raw,
+        Err(StringFailure::Fault(fault)) => Ok(Some(Found {
+            kind: style.lines_fault(fault),
             place,
         })),
         Err(StringFailure::Memory) => Err(AllocError),
@@ -310,47 +246,68 @@ fn fault_of_raw_lines<'a>(
 /// After number signs and three quotes with no newline after them: advances past a single-line raw string. If it is
 /// closed on its line, it looks like a multi-line string.
 fn raw_quotes<'a>(cursor: &mut Cursor<'a>, signs: usize) -> Scan<'a>
-    ensures fault { OnFound cursor.old result.fault cursor.new }
-    ensures moves { Moves cursor.old cursor.new }
-    ensures most { Most 3 3 cursor.old cursor.new }
+    ensures { FindsOn 5 3 None cursor.old result.fault cursor.new }
 {
     if !eat_signs(cursor, signs) {
-        let scan = raw_line(cursor, signs);
+        let scan = units(cursor, Style::Raw(signs), None);
         if scan.fault.is_some() {
             return scan;
         }
     }
-    ended(Some(Found {
-        kind: Kind::RawQuotes,
-        place: cursor.checkpoint(),
-    }))
+    Scan {
+        fault: Some(Found {
+            kind: Kind::RawQuotes,
+            place: cursor.checkpoint(),
+        }),
+        cut: false,
+    }
 }
 
-/// Advances past the raw string that begins at the place; its opening quote is here, after `signs` number signs.
-pub(crate) fn scan_raw<'a>(
+/// After the three quotes of a string that begins at the place: advances past it. A quoted string is faulty if no
+/// newline follows the quotes, and a raw one is then on one line.
+fn scan_lines<'a>(
     alloc: Global,
     cursor: &mut Cursor<'a>,
     start: &Checkpoint<'a>,
-    signs: usize,
+    signs: Option<usize>,
 ) -> Result<Scan<'a>, AllocError>
-    requires quote { begins 34 cursor.old.rest ≡ true }
-    requires start { Follows start.now cursor.old }
-    requires part { IsPart cursor.old.text start.now.rest }
-    ensures fault { IfOk result (λ s. OnFound cursor.old s.fault cursor.new) }
-    ensures moves { Moves cursor.old cursor.new }
-    ensures went { bytes cursor.new.rest < bytes cursor.old.rest }
-    ensures most { MostFrom 10 14 start.now cursor.new cursor.old cursor.new }
+    requires { Since start.now cursor.old }
+    ensures fault { IfOk result (λ s. OnFound (gone start.now cursor.new) s.fault cursor.new) }
+    ensures reads { ReadsFrom 10 12 start.now cursor.old cursor.new }
 {
-    cursor.step();
-    if !cursor.eat_two('"', '"') {
-        return Ok(raw_line(cursor, signs));
+    let style = Style::of_lines(signs);
+    let place = cursor.checkpoint();
+    if newline(cursor) {
+        let scan = units(cursor, style, None);
+        if scan.fault.is_some() {
+            return Ok(scan);
+        }
+        let fault = fault_of_lines(alloc, cursor, start, style)?;
+        return Ok(Scan { fault, cut: false });
     }
-    if !newline(cursor) {
+    if let Some(signs) = signs {
         return Ok(raw_quotes(cursor, signs));
     }
-    let scan = raw_lines(cursor, signs);
-    if scan.fault.is_some() {
-        return Ok(scan);
+    let kind = Kind::Opening;
+    Ok(units(cursor, style, Some(Found { kind, place })))
+}
+
+/// Advances past the string that begins at the place. Its opening quote is here, after the number signs of a raw string.
+pub(crate) fn scan_string<'a>(
+    alloc: Global,
+    cursor: &mut Cursor<'a>,
+    start: &Checkpoint<'a>,
+    signs: Option<usize>,
+) -> Result<Scan<'a>, AllocError>
+    requires quote { begins 34 cursor.old.rest ≡ true }
+    requires since { Since start.now cursor.old }
+    ensures fault { IfOk result (λ s. OnFound (gone start.now cursor.new) s.fault cursor.new) }
+    ensures reads { ReadsFrom 10 14 start.now cursor.old cursor.new }
+    ensures went { bytes cursor.new.rest < bytes cursor.old.rest }
+{
+    cursor.step();
+    if cursor.eat_two('"', '"') {
+        return scan_lines(alloc, cursor, start, signs);
     }
-    Ok(ended(fault_of_raw_lines(alloc, cursor, start)?))
+    Ok(units(cursor, Style::of_line(signs), None))
 }

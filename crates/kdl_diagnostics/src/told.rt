@@ -1,6 +1,6 @@
 //! The error of a refused text.
 
-ghost use Rattle.kdl_diagnostics.specs.Internal.Noted.{IsFrontOf, Noted, OnRefused};
+ghost use Rattle.kdl_diagnostics.specs.Internal.Noted.{Counted, IsFrontOf, Noted, OnRefused};
 ghost use Rattle.kdl_diagnostics.specs.Internal.Outsets.{IsStopped};
 ghost use Rattle.kdl_diagnostics.specs.TextControl.{Accepts};
 ghost use Rattle.kdl_text.specs.Failures.{IsToldOf, Tells, TellsOf};
@@ -10,7 +10,8 @@ ghost use Rattle.std.specs.Rc.{rc_str_bytes};
 ghost use Rattle.std.specs.Str.{chars};
 
 use crate::front::Prefix;
-use crate::reader::{Fault, Reader};
+use crate::notes::Fault;
+use crate::reader::Reader;
 use crate::whole::Whole;
 use kdl_lexer::Lexer;
 use kdl_text::cursor::Steps;
@@ -81,8 +82,7 @@ fn recovered(text: &str, front: Prefix<'_>, steps: &mut Steps) -> Result<Vec<Fau
     requires stopped { IsStopped front }
     ensures some { IfOk result (λ fs. 0 < length fs.items) }
     ensures noted { IfOk result (λ fs. Noted (chars text.now) fs.items) }
-    ensures most { steps.new ≤ steps.old + (128 * length text.now + 111) }
-    ensures raised { raise steps.old 0 ≤ raise steps.new 0 }
+    ensures counted { Counted (128 * length text.now + 111) steps.old steps.new }
 {
     let mut reader = Reader::new(text, front, mem::replace(steps, Steps::new()));
     let answer = reader.find();

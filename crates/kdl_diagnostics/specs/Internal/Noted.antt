@@ -1,25 +1,24 @@
 -- The places and spans that a reader of faults keeps are in the text that it reads.
-use Rattle.std.specs.Prelude.{◌≡◌, ℕ, ◌+◌, ◌*◌, ◌≤◌, ◌++◌, List, All}
+use Rattle.std.specs.Prelude.{◌≡◌, ℕ, ◌+◌, ◌-◌, ◌<◌, ◌≤◌, ◌++◌, false, List, [], ◌∷◌, length, All}
 use Rattle.kdl_text.specs.Chars.{Text}
 use Rattle.kdl_text.specs.Internal.Here.{Here, Position}
-use Rattle.kdl_text.specs.Spans.{InText, bytes, raise}
+use Rattle.kdl_text.specs.Spans.{InText, raise}
 use Rattle.kdl_text.specs.declared.error.ParseFailure.{ParseFailure}
 use Rattle.kdl_text.specs.declared.error.ParseFailure.TheVariants.{Syntax, Memory}
-use Rattle.kdl_diagnostics.specs.Internal.Reading.{Stands}
+use Rattle.kdl_lexer.specs.Tokens.{Token, opening, closing}
+use Rattle.kdl_diagnostics.specs.Internal.Reading.{LiesIn, Reads, Stands}
 use Rattle.kdl_diagnostics.specs.declared.lexemes.Lexeme.{Lexeme}
-use Rattle.kdl_diagnostics.specs.declared.reader.Block.{Block}
-use Rattle.kdl_diagnostics.specs.declared.reader.Fault.{Fault}
+use Rattle.kdl_diagnostics.specs.declared.notes.Block.{Block}
+use Rattle.kdl_diagnostics.specs.declared.notes.Fault.{Fault}
+use Rattle.kdl_diagnostics.specs.declared.notes.Notes.{Notes}
 use Rattle.kdl_diagnostics.specs.declared.esclines.Candidate.{Candidate}
 use Rattle.kdl_diagnostics.specs.declared.front.Prefix.{Prefix}
 use Rattle.kdl_diagnostics.specs.declared.reader.Reader.{Reader}
 
--- the place is in the text
-abbrev pub LiesIn : Text → Position → Type 0
-LiesIn text place = (p : Text) × (text ≡ p ++ place.rest)
-
 -- the cursor was created over the text, and is in it
-abbrev pub ReadsIn : Text → Here → Type 0
-ReadsIn text here = (p : Text) × (text ≡ p ++ here.rest) × (here.text ≡ text)
+pub record ReadsIn (text : Text) (here : Here) : Type 0 where
+  pub piece : (p : Text) × (text ≡ p ++ here.rest)
+  pub same : here.text ≡ text
 
 -- each fault has a span in the text
 abbrev pub Noted : Text → List Fault → Type 0
@@ -33,65 +32,104 @@ Opened text blocks = All (λ (b : Block). InText text b.span) blocks
 abbrev pub Candidates : Text → List Candidate → Type 0
 Candidates text candidates = All (λ (c : Candidate). InText text c.fault.span) candidates
 
--- a reader of the text: all its places and all its spans are in the text
+-- notes of the text: all their places and all their spans are in it
+pub record IsNotesOf (text : Text) (n : Notes) : Type 0 where
+  pub whole : n.whole.rest ≡ text
+  pub left : LiesIn text n.left
+  pub faults : Noted text n.faults.items
+  pub blocks : Opened text n.blocks.items
+  pub candidates : Candidates text n.candidates.items
+
+-- a reader of the text
 pub record IsReaderOf (text : Text) (r : Reader) : Type 0 where
-  pub whole : r.whole.rest ≡ text
   pub here : ReadsIn text r.cursor
-  pub left : LiesIn text r.left
-  pub faults : Noted text r.faults.items
-  pub blocks : Opened text r.blocks.items
-  pub candidates : Candidates text r.candidates.items
+  pub notes : IsNotesOf text r.notes
 
 -- the reader of some text
 abbrev pub IsReader : Reader → Type 0
 IsReader r = (text : Text) × IsReaderOf text r
 
--- a front of the text: all its places and all its spans are in the text
+-- a front of the text
 pub record IsFrontOf (text : Text) (f : Prefix) : Type 0 where
-  pub whole : f.whole.rest ≡ text
-  pub left : LiesIn text f.left
-  pub place : LiesIn text f.place
-  pub from : LiesIn text f.from
-  pub blocks : Opened text f.blocks.items
+  pub notes : IsNotesOf text f.notes
+  pub place : LiesIn text f.stop.place
+  pub from : LiesIn text f.stop.from
 
 -- if two places are in the text, a front of the text stays one
 abbrev pub KeepsFrontBetween : Position → Position → Prefix → Prefix → Type 0
 KeepsFrontBetween a b old new = (text : Text) → IsFrontOf text old → LiesIn text a → LiesIn text b → IsFrontOf text new
 
--- a reader of a text stays a reader of the text
-abbrev pub Keeps : Reader → Reader → Type 0
-Keeps old new = (text : Text) → IsReaderOf text old → IsReaderOf text new
+-- what holds of every text
+abbrev pub Always : Text → Type 0
+Always text = Unit {0}
 
--- if two places are in the text, a reader of the text stays one
-abbrev pub KeepsBetween : Position → Position → Reader → Reader → Type 0
-KeepsBetween a b old new = (text : Text) → IsReaderOf text old → LiesIn text a → LiesIn text b → IsReaderOf text new
+-- two places are in the text
+abbrev pub Between : Position → Position → Text → Type 0
+Between a b text = LiesIn text a × LiesIn text b
 
--- if a lexeme is of the text, a reader of the text stays one
-abbrev pub KeepsAt : Lexeme → Reader → Reader → Type 0
-KeepsAt p old new = (text : Text) → IsReaderOf text old → Stands text p → IsReaderOf text new
+-- a lexeme is of the text
+abbrev pub Lexed : Lexeme → Text → Type 0
+Lexed p text = Stands text p
 
--- if a lexeme is of the text and two places are in it, a reader of the text stays one
-abbrev pub KeepsUpTo : Lexeme → Position → Position → Reader → Reader → Type 0
-KeepsUpTo p a b old new = (text : Text) → IsReaderOf text old → Stands text p → LiesIn text a → LiesIn text b → IsReaderOf text new
+-- a lexeme is of the text, and two places are in it
+abbrev pub LexedBetween : Lexeme → Position → Position → Text → Type 0
+LexedBetween p a b text = Stands text p × Between a b text
 
--- if a lexeme is of the text that is read, the place is in that text
-abbrev pub IsPlaceAt : Reader → Lexeme → Position → Type 0
-IsPlaceAt r p place = (text : Text) → IsReaderOf text r → Stands text p → LiesIn text place
+-- a lexeme is of the text, and a cursor is in it
+abbrev pub LexedFrom : Lexeme → Here → Text → Type 0
+LexedFrom p here text = Stands text p × ReadsIn text here
 
--- at most k steps for each byte that was to be read, and 100 more; the count did not fall
-pub record Bounded (k : ℕ) (old new : Here) : Type 0 where
-  pub most : new.steps ≤ old.steps + (k * bytes old.rest + 100)
-  pub counts : raise old.steps 0 ≤ raise new.steps 0
+-- the notes went on
+pub record Keeps (P : Text → Type 0) (old new : Notes) : Type 0 where
+  -- notes of a text in which P holds are notes of it still
+  pub notes : (text : Text) → IsNotesOf text old → P text → IsNotesOf text new
+  -- no fault is forgotten
+  pub grows : length old.faults.items ≤ length new.faults.items
 
--- at most k steps for each byte of the text that is read again, and k more; the count did not fall
-pub record ReadsAgain (k : ℕ) (old new : Reader) : Type 0 where
-  pub most : new.cursor.steps ≤ old.cursor.steps + k * (bytes old.whole.rest + 1)
-  pub counts : raise old.cursor.steps 0 ≤ raise new.cursor.steps 0
+-- a fault was noted
+abbrev pub HasFault : Notes → Type 0
+HasFault n = 0 < length n.faults.items
 
--- at most 128 steps for each byte of the text, and 104 more; the count did not fall
-pub record Recovers (text : Text) (old new : Here) : Type 0 where
-  pub most : new.steps ≤ old.steps + (128 * bytes text + 104)
-  pub counts : raise old.steps 0 ≤ raise new.steps 0
+-- no fault was noted at the `{` of a block
+abbrev pub Untold : List Block → Type 0
+Untold blocks = All (λ (b : Block). b.is_told ≡ false) blocks
+
+-- a block was opened
+abbrev pub Opens : List Block → List Block → Type 0
+Opens old new = (b : Block) × (b.is_told ≡ false) × (new ≡ old ++ (b ∷ []))
+
+-- how many blocks are open after a token, if m were open before it: the `{` opens one, and the `}` closes one
+abbrev pub Counts : Token → ℕ → ℕ → Type 0
+Counts opening m n = n ≡ m + 1
+Counts closing m n = n ≡ m - 1
+Counts _ m n = n ≡ m
+
+-- the open blocks after a token
+abbrev pub CountsOpen : Token → List Block → List Block → Type 0
+CountsOpen k old new = Untold old → Counts k (length old) (length new) × Untold new
+
+-- at most n steps were counted, and the count did not fall
+pub record Counted (n : ℕ) (old new : ℕ) : Type 0 where
+  pub most : new ≤ old + n
+  pub counts : raise old 0 ≤ raise new 0
+
+-- the reader went on, perhaps back in the text
+pub record Goes (P : Text → Type 0) (n : ℕ) (old new : Reader) : Type 0 where
+  -- a reader of a text in which P holds is a reader of it still
+  pub keeps : (text : Text) → IsReaderOf text old → P text → IsReaderOf text new
+  -- no fault is forgotten
+  pub grows : length old.notes.faults.items ≤ length new.notes.faults.items
+  -- at most n steps were counted
+  pub counted : Counted n old.cursor.steps new.cursor.steps
+
+-- the reader took a lexeme that it had read
+pub record Takes (p : Lexeme) (old new : Reader) : Type 0 where
+  -- a reader of the text of the lexeme is a reader of it still
+  pub keeps : (text : Text) → IsReaderOf text old → Stands text p → IsReaderOf text new
+  -- no fault is forgotten
+  pub grows : length old.notes.faults.items ≤ length new.notes.faults.items
+  -- the cursor may go on to a value end
+  pub reads : Reads 24 24 old.cursor new.cursor
 
 -- if the text was refused, and memory did not run out, P
 abbrev pub OnRefused : ParseFailure → Type 0 → Type 0

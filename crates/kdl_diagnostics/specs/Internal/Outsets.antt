@@ -1,21 +1,22 @@
 -- Where the reader of faults begins, and what is missing where a text ends.
-use Rattle.std.specs.Prelude.{◌≡◌, ℕ, ◌+◌, ◌-◌, ◌<◌, ◌≤◌, Bool, true, false, List, [], All, length}
+use Rattle.std.specs.Prelude.{◌≡◌, ℕ, ◌<◌, Bool, true, false, [], length}
 use Rattle.kdl_text.specs.Chars.{Text}
-use Rattle.kdl_text.specs.Internal.Here.{Position}
-use Rattle.kdl_lexer.specs.Tokens as tokens
+use Rattle.kdl_text.specs.Internal.Here.{Here}
 use Rattle.kdl_lexer.specs.declared.lexer.Token.{Token}
 use Rattle.kdl_control.specs.Control as c
 use Rattle.kdl_control.specs.NodeControl.{in_text}
 use Rattle.kdl_control.specs.Internal.EntryViews.{entry_view, node_view}
 use Rattle.kdl_control.specs.Internal.Views.{control_view, phase_view}
+use Rattle.kdl_diagnostics.specs.Internal.Noted.{Untold}
+use Rattle.kdl_diagnostics.specs.Internal.Reading.{LiesIn}
 use Rattle.kdl_diagnostics.specs.TextControl as spec
 use Rattle.kdl_diagnostics.specs.TextControl.{text_finish, text_start}
 use Rattle.kdl_diagnostics.specs.declared.front.Prefix.{Prefix}
+use Rattle.kdl_diagnostics.specs.declared.front.Stop.{Stop}
 use Rattle.kdl_diagnostics.specs.declared.machine.Context.TheVariants.{FaultyType}
 use Rattle.kdl_diagnostics.specs.declared.lexemes.Lexeme.{Lexeme}
 use Rattle.kdl_diagnostics.specs.declared.lexemes.LexemeKind.{LexemeKind}
 use Rattle.kdl_diagnostics.specs.declared.lexemes.LexemeKind.TheVariants.{Comment, End}
-use Rattle.kdl_diagnostics.specs.declared.reader.Block.{Block}
 use Rattle.kdl_diagnostics.specs.declared.reader.Reader.{Reader}
 use Rattle.kdl_diagnostics.specs.declared.text_control.Outset.{Outset}
 use Rattle.kdl_diagnostics.specs.declared.text_control.TextControl.{TextControl}
@@ -42,7 +43,6 @@ depth (spec.in_node (in_text b m)) = open_blocks m
 depth (spec.in_entry e) = 0
 depth (spec.in_identifier b) = 0
 
--- where the text ends, something is due in the phase, or n blocks are open, or the only node or entry has not begun
 -- the text is one node or one entry
 abbrev pub IsSingle : Whole → Type 0
 IsSingle Node = Unit {0}
@@ -58,82 +58,61 @@ pub data Lacks (w : Whole) (n : ℕ) (p : c.Phase) (has_item : Bool) : Type 0 wh
 abbrev pub LacksAt : Whole → ℕ → Outset → Type 0
 LacksAt w n o = Lacks w n (phase_view o.phase) o.has_item
 
--- no fault was noted at the `{` of a block
-abbrev pub Untold : List Block → Type 0
-Untold blocks = All (λ (b : Block). b.is_told ≡ false) blocks
-
 -- the open blocks are those of the control
 abbrev pub Matched : Prefix → Type 0
-Matched f = (length f.blocks.items ≡ depth (text_view f.control)) × Untold f.blocks.items
-
--- how many blocks are open after a token, if m were open before it: the `{` opens one, and the `}` closes one
-abbrev pub Counts : tokens.Token → ℕ → ℕ → Type 0
-Counts tokens.opening m n = n ≡ m + 1
-Counts tokens.closing m n = n ≡ m - 1
-Counts _ m n = n ≡ m
+Matched f = (length f.notes.blocks.items ≡ depth (text_view f.control)) × Untold f.notes.blocks.items
 
 -- the front is at the start of a text
 pub record IsNew (f : Prefix) : Type 0 where
   pub control : text_view f.control ≡ text_start f.control.whole
-  pub blocks : f.blocks.items ≡ []
+  pub blocks : f.notes.blocks.items ≡ []
   pub accepted : f.is_accepted ≡ false
+
+-- the tokens end after the token, where `here` is known
+pub record StopsAfter (k : Token) (here : Outset) (s : Stop) : Type 0 where
+  pub place : s.place ≡ k.at.end
+  pub lies : (text : Text) → LiesIn text k.at.start → LiesIn text k.at.end → LiesIn text s.from
+  pub from : (k.at.start.rest ≡ [] → ⊥) → s.from.rest ≡ [] → (k.at.end.rest ≡ []) × (s.before ≡ here)
 
 -- the front ends before the rest of the text
 pub record EndsBefore (rest : Text) (f : Prefix) : Type 0 where
-  pub place : f.place.rest ≡ rest
-  pub from : f.from.rest ≡ [] → (rest ≡ []) × (text_finish (text_view f.control) ≡ false → LacksAt f.control.whole (length f.blocks.items) f.before)
+  pub place : f.stop.place.rest ≡ rest
+  pub from : f.stop.from.rest ≡ [] → (rest ≡ []) × (text_finish (text_view f.control) ≡ false → LacksAt f.control.whole (length f.notes.blocks.items) f.stop.before)
   pub matched : Matched f
 
 -- the front goes on over the token, if it is taken; else it ends where it did
 abbrev pub GoesOver : Token → Prefix → Prefix → Bool → Type 0
 GoesOver k old new true = (k.at.start.rest ≡ [] → ⊥) → Matched old → EndsBefore k.at.end.rest new
-GoesOver k old new false = (new.place ≡ old.place) × (new.from ≡ old.from)
+GoesOver k old new false = new.stop ≡ old.stop
 
 -- the front ends where the text is refused: where the text ends there, something is missing
 pub record IsStopped (f : Prefix) : Type 0 where
-  pub place : f.place.rest ≡ [] → (text_finish (text_view f.control) ≡ false) × Matched f
-  pub from : f.from.rest ≡ [] → LacksAt f.control.whole (length f.blocks.items) f.before × Untold f.blocks.items
+  pub place : f.stop.place.rest ≡ [] → (text_finish (text_view f.control) ≡ false) × Matched f
+  pub from : f.stop.from.rest ≡ [] → LacksAt f.control.whole (length f.notes.blocks.items) f.stop.before × Untold f.notes.blocks.items
+
+-- a cursor over the text of a front begins where it ends, or at the start of what ends there
+pub data BeginsAt (f : Prefix) (o : Outset) (here : Here) : Type 0 where
+  at_the_end : here.rest ≡ f.stop.place.rest → (text_finish (text_view f.control) ≡ false → LacksAt f.control.whole (depth (text_view f.control)) o) → BeginsAt f o here
+  earlier : here.rest ≡ f.stop.from.rest → o ≡ f.stop.before → BeginsAt f o here
 
 -- something is missing if the text ends where the reader is
 pub record Lacking (r : Reader) : Type 0 where
-  pub lacks : Lacks r.text (length r.blocks.items) (phase_view r.control.phase) r.has_item
-  pub untold : Untold r.blocks.items
+  pub lacks : Lacks r.state.whole (length r.notes.blocks.items) (phase_view r.state.control.phase) r.state.has_item
+  pub untold : Untold r.notes.blocks.items
   pub cut : r.is_cut ≡ false
 
 -- the reader is where the text is refused
 pub record IsReady (r : Reader) : Type 0 where
   pub ends : r.cursor.rest ≡ [] → Lacking r
-  pub place : r.place ≡ FaultyType → ⊥
+  pub context : r.state.context ≡ FaultyType → ⊥
 
 -- the same after the next lexeme was read
 pub record IsReadyAt (p : Lexeme) (r : Reader) : Type 0 where
   pub ends : p.kind ≡ End → Lacking r
-  pub place : r.place ≡ FaultyType → ⊥
-
--- the reader goes on at the outset
-pub record Enters (o : Outset) (old new : Reader) : Type 0 where
-  pub phase : new.control.phase ≡ o.phase
-  pub item : new.has_item ≡ o.has_item
-  pub text : new.text ≡ old.text
-  pub blocks : new.blocks ≡ old.blocks
-  pub cut : new.is_cut ≡ old.is_cut
-  pub place : new.place ≡ FaultyType → ⊥
-
--- the reader begins here, or at the earlier place
-pub data BeginsAt (from : Position) (here before : Outset) (old new : Reader) : Type 0 where
-  at_the_end : new.cursor.rest ≡ old.cursor.rest → Enters here old new → BeginsAt from here before old new
-  earlier : new.cursor.rest ≡ from.rest → Enters before old new → BeginsAt from here before old new
-
--- a fault was noted
-abbrev pub HasFault : Reader → Type 0
-HasFault r = 0 < length r.faults.items
+  pub context : r.state.context ≡ FaultyType → ⊥
 
 -- a lexeme that is no part of the grammar is noted by itself
 abbrev pub NotesAlone : LexemeKind → Type 0 → Type 0
 NotesAlone End P = P
 NotesAlone Comment P = P
 NotesAlone _ P = Unit {0}
-
--- no fault is forgotten
-abbrev pub Grows : Reader → Reader → Type 0
-Grows old new = length old.faults.items ≤ length new.faults.items

@@ -1,9 +1,10 @@
-use Rattle.std.proofs.Common.{◌+◌, ◌∙◌, arith}
-use Rattle.kdl_text.proofs.Looking.MovesJoin.{stayed_looked}
+use Rattle.std.proofs.Common.{arith}
+use Rattle.kdl_text.proofs.Looking.Returns.{returned_less, returned_then}
+use Rattle.kdl_diagnostics.proofs.Passing.{returned_looked}
 use Rattle.kdl_diagnostics.proofs.ends.is_value_end.Goals as goal
 
-pub returns-in-Some-eq47 : goal.returns-in-Some-eq47
-returns-in-Some-eq47 c =
-    let a = stayed_looked _ _ c.in-Some-eq47.ensures.moved in
-    let b = c.begins_slash_lexeme.ensures.stayed in
-    record { stayed = (1 + b.0, omega (arith, b.1), record { rest = b.2.rest ∙ a.rest; at = b.2.at ∙ a.at; steps = omega (arith, a.steps, b.2.steps); same = b.2.same ∙ a.same }) }
+pub returns-in-None : goal.returns-in-None
+returns-in-None c = returned_less 1 7 _ _ (omega arith) (returned_looked _ _ c.look.ensures.moved)
+
+pub returns-in-Some : goal.returns-in-Some
+returns-in-Some c = returned_then 1 6 _ _ _ (returned_looked _ _ c.look.ensures.moved) c.ends_here.ensures

@@ -1,107 +1,57 @@
-use Rattle.std.proofs.Common.{ℕ, ◌≤◌, ap, arith}
-use Rattle.kdl_text.specs.Internal.Here.{Stayed}
-use Rattle.kdl_text.specs.Spans.{bytes}
-use Rattle.kdl_text.proofs.Looking.MovesJoin.{moves_then, moves_stayed, fewer_bytes}
-use Rattle.kdl_diagnostics.proofs.ValueEnds.{end_from, stayed_more, stayed_one, first_same, ran_moves, ran_costs}
-use Rattle.kdl_diagnostics.proofs.Passing.{Stepped, ended, passed_here, stepped_first}
+use Rattle.std.proofs.Common.{ap, ◌∙◌, arith}
+use Rattle.kdl_text.specs.Internal.Here.{Here}
+use Rattle.kdl_text.proofs.Looking.MovesJoin.{moves_then, fewer_bytes}
+use Rattle.kdl_diagnostics.specs.Internal.Reading.{GoesOn, Reads}
+use Rattle.kdl_diagnostics.proofs.Passing.{end_at, end_from, ended, first_same, passed_here, reads_looked, reads_more, reads_ran, reads_returned, reads_then, reads_up, stepped_first}
 use Rattle.kdl_diagnostics.proofs.ends.value_end.Goals as goal
-use Rattle.kdl_diagnostics.proofs.ends.value_end.Goals.{in-None, in-Some-eq47, in-Some}
+
+-- looks, and at least a byte more
+turn : {f a b e : Here} → Reads 24 0 f a → Reads 1 8 a b → GoesOn 12 b e → Reads 24 0 f e
+turn i t g = record { moves = moves_then i.moves (moves_then t.moves g.reads.moves); most = omega (arith, i.most, t.most, g.reads.most, g.went, fewer_bytes t.moves) }
+
+pub returns-in-None-clause-end : goal.returns-in-None-clause-end
+returns-in-None-clause-end c =
+    let r = reads_ran c.skip.ensures in
+    end_at _ _ _ _ c.at.ensures.place c.at.ensures.comment (passed_here _ _ _ _ c.checkpoint-place.ensures.rest c.checkpoint-place.ensures.at (moves_then c.ends.invariant.moves r.moves) (reads_looked 1 _ _ c.look.ensures.moved).moves)
+
+pub returns-in-None-clause-reads : goal.returns-in-None-clause-reads
+returns-in-None-clause-reads c = reads_more 10 (reads_then c.ends.invariant (reads_up 23 (ended _ _ _ _ c.skip.ensures c.look.ensures.moved)))
 
 pub returns-in-Some-end_at_backslash-clause-end : goal.returns-in-Some-end_at_backslash-clause-end
 returns-in-Some-end_at_backslash-clause-end c =
-    let t = ended _ c.ends.cursor c.skip.new.self c.look.new.self c.skip.ensures c.look.ensures.moved in
-    let e = c.end_at_backslash.ensures in
-    let m = moves_then c.ends.invariant.moves t.moves in
-    end_from c.args.cursor.now c.look.new.self c.end_at_backslash.new.cursor _ m c.in-Some-end_at_backslash.ensures.end
+    let t = ended _ _ _ _ c.skip.ensures c.look.ensures.moved in
+    end_from _ _ _ _ (moves_then c.ends.invariant.moves t.moves) c.in-Some-end_at_backslash.ensures.end
 
-pub returns-in-Some-end_at_backslash-clause-moves : goal.returns-in-Some-end_at_backslash-clause-moves
-returns-in-Some-end_at_backslash-clause-moves c =
-    let t = ended _ c.ends.cursor c.skip.new.self c.look.new.self c.skip.ensures c.look.ensures.moved in
-    let e = c.end_at_backslash.ensures in
-    moves_then c.ends.invariant.moves (moves_then t.moves e.moves)
-
-pub returns-in-Some-end_at_backslash-clause-most : goal.returns-in-Some-end_at_backslash-clause-most
-returns-in-Some-end_at_backslash-clause-most c =
-    let t = ended _ c.ends.cursor c.skip.new.self c.look.new.self c.skip.ensures c.look.ensures.moved in
-    let e = c.end_at_backslash.ensures in
-    omega (arith, c.ends.invariant.most, t.most, fewer_bytes t.moves, e.went, e.most)
+pub returns-in-Some-end_at_backslash-clause-reads : goal.returns-in-Some-end_at_backslash-clause-reads
+returns-in-Some-end_at_backslash-clause-reads c = reads_more 12 (turn c.ends.invariant (reads_more 6 (ended _ _ _ _ c.skip.ensures c.look.ensures.moved)) c.end_at_backslash.ensures.goes)
 
 pub ends-smaller-in-Some-eq92 : goal.ends-smaller-in-Some-eq92
 ends-smaller-in-Some-eq92 c =
-    let t = ended _ c.ends.cursor c.skip.new.self c.look.new.self c.skip.ensures c.look.ensures.moved in
-    let e = c.end_at_backslash.ensures in
-    omega (arith, fewer_bytes t.moves, e.went)
+    let t = ended _ _ _ _ c.skip.ensures c.look.ensures.moved in
+    omega (arith, fewer_bytes t.moves, c.end_at_backslash.ensures.goes.went)
 
 pub ends-preserved-in-Some-eq92 : goal.ends-preserved-in-Some-eq92
-ends-preserved-in-Some-eq92 c =
-    let t = ended _ c.ends.cursor c.skip.new.self c.look.new.self c.skip.ensures c.look.ensures.moved in
-    let e = c.end_at_backslash.ensures in
-    record { moves = moves_then c.ends.invariant.moves (moves_then t.moves e.moves); most = omega (arith, c.ends.invariant.most, t.most, fewer_bytes t.moves, e.went, e.most) }
+ends-preserved-in-Some-eq92 c = turn c.ends.invariant (reads_more 6 (ended _ _ _ _ c.skip.ensures c.look.ensures.moved)) c.end_at_backslash.ensures.goes
 
-pub returns-then-is_end-clause-end : goal.returns-then-is_end-clause-end
-returns-then-is_end-clause-end c =
-    let r = ran_moves _ _ _ c.skip.ensures in
-    let k = ran_costs _ _ _ c.skip.ensures in
-    let stay : (k : ℕ) × (k ≤ 7) × Stayed k c.skip.new.self c.match-look.cursor = elim c.match-look.branch [
-      | in-None w ↦ rw w.cursor-is (stayed_one _ _ c.look.ensures.moved)
-      | in-Some-eq47 w ↦ let b = w.begins_slash_lexeme-is_end.ensures.stayed in rw w.cursor-is (stayed_more b.0 _ _ _ c.look.ensures.moved b.1 b.2)
-      | in-Some w ↦ rw w.cursor-is (stayed_one _ _ c.look.ensures.moved)
-    ] in
-    record { place = passed_here _ _ _ _ c.checkpoint-place.ensures.rest c.checkpoint-place.ensures.at (moves_then c.ends.invariant.moves r) (moves_stayed stay.2); comment = tt }
+pub returns-then-ends_here-clause-end : goal.returns-then-ends_here-clause-end
+returns-then-ends_here-clause-end c =
+    let r = reads_ran c.skip.ensures in
+    let look = moves_then (reads_looked 1 _ _ c.look.ensures.moved).moves (reads_returned 1 c.ends_here.ensures).moves in
+    end_at _ _ _ _ c.at-then-ends_here.ensures.place c.at-then-ends_here.ensures.comment (passed_here _ _ _ _ c.checkpoint-place.ensures.rest c.checkpoint-place.ensures.at (moves_then c.ends.invariant.moves r.moves) look)
 
-pub returns-then-is_end-clause-moves : goal.returns-then-is_end-clause-moves
-returns-then-is_end-clause-moves c =
-    let r = ran_moves _ _ _ c.skip.ensures in
-    let k = ran_costs _ _ _ c.skip.ensures in
-    let stay : (k : ℕ) × (k ≤ 7) × Stayed k c.skip.new.self c.match-look.cursor = elim c.match-look.branch [
-      | in-None w ↦ rw w.cursor-is (stayed_one _ _ c.look.ensures.moved)
-      | in-Some-eq47 w ↦ let b = w.begins_slash_lexeme-is_end.ensures.stayed in rw w.cursor-is (stayed_more b.0 _ _ _ c.look.ensures.moved b.1 b.2)
-      | in-Some w ↦ rw w.cursor-is (stayed_one _ _ c.look.ensures.moved)
-    ] in
-    moves_then c.ends.invariant.moves (moves_then r (moves_stayed stay.2))
-
-pub returns-then-is_end-clause-most : goal.returns-then-is_end-clause-most
-returns-then-is_end-clause-most c =
-    let r = ran_moves _ _ _ c.skip.ensures in
-    let k = ran_costs _ _ _ c.skip.ensures in
-    let stay : (k : ℕ) × (k ≤ 7) × Stayed k c.skip.new.self c.match-look.cursor = elim c.match-look.branch [
-      | in-None w ↦ rw w.cursor-is (stayed_one _ _ c.look.ensures.moved)
-      | in-Some-eq47 w ↦ let b = w.begins_slash_lexeme-is_end.ensures.stayed in rw w.cursor-is (stayed_more b.0 _ _ _ c.look.ensures.moved b.1 b.2)
-      | in-Some w ↦ rw w.cursor-is (stayed_one _ _ c.look.ensures.moved)
-    ] in
-    omega (arith, c.ends.invariant.most, k.most, fewer_bytes r, stay.1, stay.2.steps, ap bytes stay.2.rest)
+pub returns-then-ends_here-clause-reads : goal.returns-then-ends_here-clause-reads
+returns-then-ends_here-clause-reads c =
+    let t = reads_then (ended _ _ _ _ c.skip.ensures c.look.ensures.moved) (reads_returned 1 c.ends_here.ensures) in
+    reads_more 4 (reads_then c.ends.invariant (reads_up 23 t))
 
 pub ends-smaller : goal.ends-smaller
 ends-smaller c =
-    let r = ran_moves _ _ _ c.skip.ensures in
-    let k = ran_costs _ _ _ c.skip.ensures in
-    let stay : (k : ℕ) × (k ≤ 7) × Stayed k c.skip.new.self c.match-look.cursor = elim c.match-look.branch [
-      | in-None w ↦ rw w.cursor-is (stayed_one _ _ c.look.ensures.moved)
-      | in-Some-eq47 w ↦ let b = w.begins_slash_lexeme-is_end.ensures.stayed in rw w.cursor-is (stayed_more b.0 _ _ _ c.look.ensures.moved b.1 b.2)
-      | in-Some w ↦ rw w.cursor-is (stayed_one _ _ c.look.ensures.moved)
-    ] in
-    let step : Stepped c.match-look.cursor c.step.new.self = elim c.match-look.branch [
-      | in-None w ↦ let y = w.is_end-is in let n = c.if-is_end.false in absurd (cc)
-      | in-Some-eq47 w ↦ stepped_first _ _ _ (first_same _ c.skip.new.self c.match-look.cursor w.in-Some-eq47.ensures.result stay.2.rest) c.step.ensures
-      | in-Some w ↦ stepped_first _ _ _ (first_same _ c.skip.new.self c.match-look.cursor w.in-Some.ensures.result stay.2.rest) c.step.ensures
-    ] in
-    omega (arith, fewer_bytes r, ap bytes stay.2.rest, step.fewer)
+    let t = reads_then (ended _ _ _ _ c.skip.ensures c.look.ensures.moved) (reads_returned 1 c.ends_here.ensures) in
+    let step = stepped_first _ _ _ (first_same _ c.skip.new.self c.ends_here.new.cursor c.in-Some.ensures.result (c.ends_here.ensures.rest ∙ ap (λ z. z.rest) c.look.ensures.moved)) c.step.ensures in
+    omega (arith, fewer_bytes t.moves, step.went)
 
 pub ends-preserved : goal.ends-preserved
 ends-preserved c =
-    let r = ran_moves _ _ _ c.skip.ensures in
-    let k = ran_costs _ _ _ c.skip.ensures in
-    let stay : (k : ℕ) × (k ≤ 7) × Stayed k c.skip.new.self c.match-look.cursor = elim c.match-look.branch [
-      | in-None w ↦ rw w.cursor-is (stayed_one _ _ c.look.ensures.moved)
-      | in-Some-eq47 w ↦ let b = w.begins_slash_lexeme-is_end.ensures.stayed in rw w.cursor-is (stayed_more b.0 _ _ _ c.look.ensures.moved b.1 b.2)
-      | in-Some w ↦ rw w.cursor-is (stayed_one _ _ c.look.ensures.moved)
-    ] in
-    let step : Stepped c.match-look.cursor c.step.new.self = elim c.match-look.branch [
-      | in-None w ↦ let y = w.is_end-is in let n = c.if-is_end.false in absurd (cc)
-      | in-Some-eq47 w ↦ stepped_first _ _ _ (first_same _ c.skip.new.self c.match-look.cursor w.in-Some-eq47.ensures.result stay.2.rest) c.step.ensures
-      | in-Some w ↦ stepped_first _ _ _ (first_same _ c.skip.new.self c.match-look.cursor w.in-Some.ensures.result stay.2.rest) c.step.ensures
-    ] in
-    record {
-      moves = moves_then c.ends.invariant.moves (moves_then r (moves_then (moves_stayed {k = stay.0} stay.2) step.moves));
-      most = omega (arith, c.ends.invariant.most, k.most, fewer_bytes r, stay.1, stay.2.steps, ap bytes stay.2.rest, step.fewer, step.steps);
-    }
+    let t = reads_then (ended _ _ _ _ c.skip.ensures c.look.ensures.moved) (reads_returned 1 c.ends_here.ensures) in
+    let step = stepped_first _ _ _ (first_same _ c.skip.new.self c.ends_here.new.cursor c.in-Some.ensures.result (c.ends_here.ensures.rest ∙ ap (λ z. z.rest) c.look.ensures.moved)) c.step.ensures in
+    turn c.ends.invariant t (record { reads = reads_up 12 step.reads; went = step.went })

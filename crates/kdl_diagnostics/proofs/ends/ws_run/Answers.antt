@@ -1,30 +1,38 @@
-use Rattle.std.proofs.Common.{ap, arith}
-use Rattle.kdl_text.specs.Spans.{bytes}
-use Rattle.kdl_text.proofs.Looking.MovesJoin.{moves_then, moves_stayed, fewer_bytes}
-use Rattle.kdl_diagnostics.proofs.Passing.{passed_here, after_same}
+use Rattle.std.proofs.Common.{arith}
+use Rattle.kdl_text.specs.Internal.Here.{Here, Stayed}
+use Rattle.kdl_text.specs.Internal.Reading.{Costs, Moves}
+use Rattle.kdl_text.specs.Internal.TriviaReading.{PieceCosts}
+use Rattle.kdl_text.proofs.Looking.MovesJoin.{stays, moves_then, fewer_bytes}
+use Rattle.kdl_diagnostics.specs.Internal.Reading.{GoesOn}
+use Rattle.kdl_diagnostics.proofs.Passing.{goes_paid, passed_here, reads_costs, reads_more, reads_stayed, reads_then, reads_up}
 use Rattle.kdl_diagnostics.proofs.ends.ws_run.Goals as goal
 
-pub returns-then-not-looks_two-clause-moves : goal.returns-then-not-looks_two-clause-moves
-returns-then-not-looks_two-clause-moves c = moves_then c.run.invariant.moves (moves_then c.spaces.ensures.moves (moves_stayed c.looks_two.ensures.stayed))
+-- past spaces and a comment
+turn : {a b d e : Here} → Moves a b → Costs 1 1 a b → Stayed 2 b d → Moves d e → PieceCosts 9 d e → GoesOn 12 a e
+turn m k s n p =
+    let spaces = reads_then (reads_costs m k) (reads_stayed 1 s) in
+    goes_paid (reads_then (reads_up 8 spaces) (reads_costs n p.costs)) (omega (arith, fewer_bytes spaces.moves, p.fewer))
 
-pub returns-then-not-looks_two-clause-most : goal.returns-then-not-looks_two-clause-most
-returns-then-not-looks_two-clause-most c = omega (arith, c.run.invariant.most, c.spaces.ensures.costs.most, fewer_bytes c.spaces.ensures.moves, c.looks_two.ensures.stayed.steps, ap bytes c.looks_two.ensures.stayed.rest)
-
-pub returns-then-not-block_comment-clause-moves : goal.returns-then-not-block_comment-clause-moves
-returns-then-not-block_comment-clause-moves c = moves_then c.run.invariant.moves (moves_then c.spaces.ensures.moves (moves_then (moves_stayed c.looks_two.ensures.stayed) c.block_comment.ensures.moves))
-
-pub returns-then-not-block_comment-clause-most : goal.returns-then-not-block_comment-clause-most
-returns-then-not-block_comment-clause-most c = omega (arith, c.run.invariant.most, c.spaces.ensures.costs.most, fewer_bytes c.spaces.ensures.moves, c.looks_two.ensures.stayed.steps, ap bytes c.looks_two.ensures.stayed.rest, c.block_comment.ensures.costs.fewer, c.block_comment.ensures.costs.costs.most)
+pub returns-then-not-looks_two-clause-reads : goal.returns-then-not-looks_two-clause-reads
+returns-then-not-looks_two-clause-reads c =
+    let spaces = reads_costs c.spaces.ensures.moves c.spaces.ensures.costs in
+    reads_more 1 (reads_then c.run.invariant (reads_up 11 (reads_then spaces (reads_stayed 1 c.looks_two.ensures.stayed))))
 
 pub returns-then-not-block_comment-clause-comment : goal.returns-then-not-block_comment-clause-comment
 returns-then-not-block_comment-clause-comment c =
     let first = moves_then c.run.invariant.moves c.spaces.ensures.moves in
-    let rest = moves_then (moves_stayed c.looks_two.ensures.stayed) c.block_comment.ensures.moves in
-    let start = passed_here c.args.cursor.now c.spaces.new.cursor c.block_comment.new.cursor c.checkpoint-start.result c.checkpoint-start.ensures.rest c.checkpoint-start.ensures.at first rest in
-    record { start = start; end = after_same _ _ _ start.following c.checkpoint.ensures.rest }
+    let rest = moves_then (reads_stayed 1 c.looks_two.ensures.stayed).moves c.block_comment.ensures.moves in
+    record {
+      start = passed_here _ _ _ _ c.checkpoint-start.ensures.rest c.checkpoint-start.ensures.at first rest;
+      end = passed_here _ _ _ _ c.checkpoint.ensures.rest c.checkpoint.ensures.at (moves_then first rest) (stays _);
+    }
+
+pub returns-then-not-block_comment-clause-reads : goal.returns-then-not-block_comment-clause-reads
+returns-then-not-block_comment-clause-reads c =
+    reads_more 4 (reads_then c.run.invariant (turn c.spaces.ensures.moves c.spaces.ensures.costs c.looks_two.ensures.stayed c.block_comment.ensures.moves c.block_comment.ensures.costs).reads)
 
 pub run-smaller : goal.run-smaller
-run-smaller c = omega (arith, c.run.invariant.most, c.spaces.ensures.costs.most, fewer_bytes c.spaces.ensures.moves, c.looks_two.ensures.stayed.steps, ap bytes c.looks_two.ensures.stayed.rest, c.block_comment.ensures.costs.fewer, c.block_comment.ensures.costs.costs.most)
+run-smaller c = (turn c.spaces.ensures.moves c.spaces.ensures.costs c.looks_two.ensures.stayed c.block_comment.ensures.moves c.block_comment.ensures.costs).went
 
 pub run-preserved : goal.run-preserved
-run-preserved c = record { moves = moves_then c.run.invariant.moves (moves_then c.spaces.ensures.moves (moves_then (moves_stayed c.looks_two.ensures.stayed) c.block_comment.ensures.moves)); most = omega (arith, c.run.invariant.most, c.spaces.ensures.costs.most, fewer_bytes c.spaces.ensures.moves, c.looks_two.ensures.stayed.steps, ap bytes c.looks_two.ensures.stayed.rest, c.block_comment.ensures.costs.fewer, c.block_comment.ensures.costs.costs.most) }
+run-preserved c = reads_then c.run.invariant (turn c.spaces.ensures.moves c.spaces.ensures.costs c.looks_two.ensures.stayed c.block_comment.ensures.moves c.block_comment.ensures.costs).reads

@@ -1,21 +1,11 @@
-use Rattle.std.proofs.Common.{arith}
-use Rattle.kdl_text.proofs.Looking.MovesJoin.{moves_then, fewer_bytes}
+use Rattle.kdl_diagnostics.proofs.Passing.{goes_paid, reads_then, reads_up}
 use Rattle.kdl_diagnostics.proofs.esclines.esclines.Goals as goal
 
-pub returns-in_err-take-clause-moves : goal.returns-in_err-take-clause-moves
-returns-in_err-take-clause-moves c = moves_then c.parts.invariant.moves c.next_part-part.ensures.moves
+pub returns-in_err-take : goal.returns-in_err-take
+returns-in_err-take c = reads_then c.parts.invariant (reads_up 1 c.next_part-part.ensures.reads)
 
-pub returns-in-Last-clause-moves : goal.returns-in-Last-clause-moves
-returns-in-Last-clause-moves c = moves_then c.parts.invariant.moves c.next_part-part.ensures.moves
+pub returns-in-Last : goal.returns-in-Last
+returns-in-Last c = reads_then c.parts.invariant (reads_up 1 c.next_part-part.ensures.reads)
 
 pub parts-preserved : goal.parts-preserved
-parts-preserved c = record {
-  moves = moves_then c.parts.invariant.moves c.next_part-part.ensures.moves;
-  most = omega (arith, c.parts.invariant.most, c.next_part-part.ensures.most, c.next_part-part.ensures.went c.in_default.not-Last);
-}
-
-pub returns-in_err-take-clause-most : goal.returns-in_err-take-clause-most
-returns-in_err-take-clause-most c = omega (arith, c.parts.invariant.most, c.next_part-part.ensures.most, fewer_bytes c.next_part-part.ensures.moves)
-
-pub returns-in-Last-clause-most : goal.returns-in-Last-clause-most
-returns-in-Last-clause-most c = omega (arith, c.parts.invariant.most, c.next_part-part.ensures.most, fewer_bytes c.next_part-part.ensures.moves)
+parts-preserved c = reads_then c.parts.invariant (goes_paid c.next_part-part.ensures.reads (c.next_part-part.ensures.went c.in_default.not-Last)).reads

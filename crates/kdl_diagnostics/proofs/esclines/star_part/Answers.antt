@@ -1,5 +1,5 @@
-use Rattle.kdl_text.proofs.Looking.SliceCost.{ate}
+use Rattle.kdl_diagnostics.proofs.Passing.{reads_ate, reads_more}
 use Rattle.kdl_diagnostics.proofs.esclines.star_part.Goals as goal
 
-pub returns-then-eat-clause-moves : goal.returns-then-eat-clause-moves
-returns-then-eat-clause-moves c = (ate _ _ _ _ c.eat.ensures).0
+pub returns-then-eat : goal.returns-then-eat
+returns-then-eat c = reads_more 1 (reads_ate _ _ _ _ c.eat.ensures)

@@ -1,20 +1,16 @@
-use Rattle.std.proofs.Common.{ap, arith}
-use Rattle.kdl_text.specs.Spans.{bytes}
+use Rattle.std.proofs.Common.{arith}
 use Rattle.kdl_text.proofs.Looking.MovesJoin.{moves_then, fewer_bytes}
-use Rattle.kdl_diagnostics.proofs.Passing.{run_fewer}
+use Rattle.kdl_diagnostics.proofs.LexemeMoves.{past_moves}
+use Rattle.kdl_diagnostics.proofs.Passing.{run_fewer, since_bytes}
 use Rattle.kdl_diagnostics.proofs.lexemes.bare_lexeme.Goals as goal
 
-pub returns-clause-moves : goal.returns-clause-moves
-returns-clause-moves c = moves_then c.bare_string.ensures.moves c.word.ensures.moves
-
-pub returns-clause-most : goal.returns-clause-most
-returns-clause-most c = omega (arith, c.bare_string.ensures.costs.most, fewer_bytes c.bare_string.ensures.moves, c.word.ensures.most)
-
-pub returns-clause-lexeme : goal.returns-clause-lexeme
-returns-clause-lexeme c =
+pub word-requires-clause-start : goal.word-requires-clause-start
+word-requires-clause-start c =
     let few = run_fewer _ _ _ c.bare_string.ensures.run c.requires.string in
-    record {
-      stands = c.word.ensures.stands;
-      more = λ e. cc;
-      went = omega (arith, few, fewer_bytes c.word.ensures.moves, ap (λ z. bytes z.rest) c.requires.here);
-    }
+    past_moves c.requires.start c.bare_string.ensures.moves (omega (arith, few, since_bytes c.requires.start.since))
+
+pub returns-clause-reads : goal.returns-clause-reads
+returns-clause-reads c =
+    let m = c.bare_string.ensures.moves in
+    let r = c.word.ensures.reads in
+    record { moves = moves_then m r.moves; most = omega (arith, c.bare_string.ensures.costs.most, fewer_bytes m, r.most) }

@@ -1,38 +1,32 @@
-use Rattle.std.proofs.Common.{ap, arith}
-use Rattle.kdl_text.specs.Spans.{bytes}
+use Rattle.std.proofs.Common.{arith}
 use Rattle.kdl_text.proofs.Looking.MovesJoin.{moves_then, fewer_bytes}
-use Rattle.kdl_text.proofs.Looking.Parts.{part_moved, part_same}
+use Rattle.kdl_diagnostics.proofs.LexemeMoves.{at_moves}
+use Rattle.kdl_diagnostics.proofs.Passing.{reads_more, reads_returned, reads_then, reads_up, returned_few, since_bytes, since_from, since_reads}
 use Rattle.kdl_diagnostics.proofs.lexemes.lexeme_of.Goals as goal
 
-pub returns-in_ok-scan-in-34-clause-lexeme : goal.returns-in_ok-scan-in-34-clause-lexeme
-returns-in_ok-scan-in-34-clause-lexeme c =
-    record {
-      stands = c.string.ensures.stands;
-      more = λ e. cc;
-      went = omega (arith, c.scan_quoted.ensures.went, fewer_bytes c.string.ensures.moves, ap (λ z. bytes z.rest) c.requires.here);
-    }
+pub returns-in-34-clause-reads : goal.returns-in-34-clause-reads
+returns-in-34-clause-reads c = since_from c.requires.start.since c.quoted_lexeme.ensures.reads
 
-pub returns-in_ok-scan-in-34-clause-moves : goal.returns-in_ok-scan-in-34-clause-moves
-returns-in_ok-scan-in-34-clause-moves c = moves_then c.scan_quoted.ensures.moves c.string.ensures.moves
+pub returns-in-35-clause-reads : goal.returns-in-35-clause-reads
+returns-in-35-clause-reads c = since_from c.requires.start.since c.sign_lexeme.ensures.reads
 
-pub returns-in_ok-scan-in-34-clause-most : goal.returns-in_ok-scan-in-34-clause-most
-returns-in_ok-scan-in-34-clause-most c =
-    omega (
-      arith,
-      c.scan_quoted.ensures.most,
-      fewer_bytes c.scan_quoted.ensures.moves,
-      c.string.ensures.most,
-      fewer_bytes c.string.ensures.moves,
-      ap (λ z. bytes z.rest) c.requires.here,
-    )
+pub returns-in-47-clause-reads : goal.returns-in-47-clause-reads
+returns-in-47-clause-reads c = reads_more 22 (reads_up 13 c.slash_lexeme.ensures.reads)
 
-pub returns-then-begins_number-clause-most : goal.returns-then-begins_number-clause-most
-returns-then-begins_number-clause-most c =
-    let b = c.begins_number.ensures.stayed in
-    omega (arith, b.1, b.2.steps, ap bytes b.2.rest, c.number_lexeme.ensures.most, fewer_bytes c.number_lexeme.ensures.moves)
+pub returns-in-92-clause-reads : goal.returns-in-92-clause-reads
+returns-in-92-clause-reads c = reads_more 16 (reads_up 13 c.backslash_lexeme.ensures.reads)
 
-pub string-requires-clause-part : goal.string-requires-clause-part
-string-requires-clause-part c = part_moved c.requires.part c.scan_quoted.ensures.moves
+pub number_lexeme-requires-clause-start : goal.number_lexeme-requires-clause-start
+number_lexeme-requires-clause-start c = at_moves c.requires.start (reads_returned 24 (returned_few 2 c.args.cursor.now c.begins_number.new.cursor c.begins_number.ensures.stayed)).moves
 
-pub number_lexeme-requires-clause-part : goal.number_lexeme-requires-clause-part
-number_lexeme-requires-clause-part c = part_same c.requires.part c.begins_number.ensures.stayed.2.same
+pub returns-then-begins_number-clause-reads : goal.returns-then-begins_number-clause-reads
+returns-then-begins_number-clause-reads c =
+    let b = reads_returned 0 (returned_few 2 c.args.cursor.now c.begins_number.new.cursor c.begins_number.ensures.stayed) in
+    let r = c.number_lexeme.ensures.reads in
+    record { moves = moves_then c.requires.start.since.moves (moves_then b.moves r.moves); most = omega (arith, b.most, r.most, since_bytes c.requires.start.since, fewer_bytes b.moves, fewer_bytes r.moves) }
+
+pub bare_lexeme-requires-clause-start : goal.bare_lexeme-requires-clause-start
+bare_lexeme-requires-clause-start c = at_moves c.requires.start (reads_returned 24 (returned_few 2 c.args.cursor.now c.begins_number.new.cursor c.begins_number.ensures.stayed)).moves
+
+pub returns-else-begins_number-clause-reads : goal.returns-else-begins_number-clause-reads
+returns-else-begins_number-clause-reads c = since_reads c.requires.start.since (reads_more 22 (reads_up 13 (reads_then (reads_returned 24 (returned_few 2 c.args.cursor.now c.begins_number.new.cursor c.begins_number.ensures.stayed)) c.bare_lexeme.ensures.reads)))

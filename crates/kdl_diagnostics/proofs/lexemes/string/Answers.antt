@@ -1,34 +1,49 @@
-use Rattle.std.proofs.Common.{refl, ap, arith}
+use Rattle.std.proofs.Common.{ap, arith}
 use Rattle.kdl_text.specs.Spans.{bytes}
-use Rattle.kdl_text.proofs.Looking.MovesJoin.{fewer_bytes}
-use Rattle.kdl_text.proofs.Looking.Parts.{part_past}
-use Rattle.kdl_diagnostics.proofs.Passing.{after_then, after_same, after_bytes}
-use Rattle.kdl_diagnostics.proofs.LexemeMoves.{ahead_if, found_in_role, stands_at}
+use Rattle.kdl_text.proofs.Looking.MovesJoin.{moves_then, fewer_bytes}
+use Rattle.kdl_text.proofs.Looking.Returns.{moves_returned}
+use Rattle.kdl_diagnostics.proofs.LexemeMoves.{ahead_if, found_in_role}
+use Rattle.kdl_diagnostics.proofs.Passing.{after_bytes, after_same, after_then, end_after, reads_more, reads_up, since_moves, since_passed, since_reads}
 use Rattle.kdl_diagnostics.proofs.lexemes.string.Goals as goal
 
-pub returns-in_default-clause-most : goal.returns-in_default-clause-most
-returns-in_default-clause-most c =
-    let back = after_bytes c.args.start.place.rest c.args.cursor.now.rest c.requires.here in
-    omega (arith, back, c.word.ensures.most, fewer_bytes c.word.ensures.moves)
+pub returns-in_default-clause-reads : goal.returns-in_default-clause-reads
+returns-in_default-clause-reads c = since_reads c.requires.start.at.since (reads_more 12 (reads_up 2 c.word.ensures.reads))
 
-pub returns-clause-stands : goal.returns-clause-stands
-returns-clause-stands c =
-    let found = rw c.in-Some.is at (found_in_role c.args.start c.args.cursor.now _ _ c.requires.here c.requires.fault c.fault_in_role.ensures) in
-    let back = after_same _ _ _ c.requires.here c.end_within-inside.ensures.rest in
+pub end_within-inside-requires : goal.end_within-inside-requires
+end_within-inside-requires c =
+    let found = rw c.in-Some.is at (found_in_role c.args.start c.args.cursor.now _ _ c.requires.start.at.since c.requires.fault c.fault_in_role.ensures) in
+    since_passed c.requires.start.at.since found
+
+pub new-lexeme-requires-clause-end : goal.new-lexeme-requires-clause-end
+new-lexeme-requires-clause-end c =
+    let found = rw c.in-Some.is at (found_in_role c.args.start c.args.cursor.now _ _ c.requires.start.at.since c.requires.fault c.fault_in_role.ensures) in
+    let back = since_moves c.requires.start.at.since (moves_returned c.end_within-inside.ensures.back) in
     let inside = after_then _ _ _ found.before c.end_within-inside.ensures.place in
-    let following = after_same _ _ _ back c.checkpoint-after.ensures.rest in
-    let end = after_then _ _ _ back c.value_end-end.ensures.end.place.before in
-    stands_at c.args.start _ c.end_within-inside.new.cursor c.value_end-end.new.cursor _ refl refl refl c.requires.start (c.end_of_fault.ensures c.args.start.place inside following end) back c.value_end-end.ensures.end.comment
-    (ahead_if _ _ _ found.before c.end_within-inside.ensures.backslash)
+    let after = after_same _ _ _ back.moves.piece c.checkpoint-after.ensures.rest in
+    let end = end_after _ _ _ _ back c.value_end-end.ensures.end in
+    record { spot = c.end_of_fault-place.ensures c.args.start.place inside after end.spot; comment = end.comment }
 
-pub returns-clause-most : goal.returns-clause-most
-returns-clause-most c =
-    let found = rw c.in-Some.is at (found_in_role c.args.start c.args.cursor.now _ _ c.requires.here c.requires.fault c.fault_in_role.ensures) in
+pub returns-clause-lexeme : goal.returns-clause-lexeme
+returns-clause-lexeme c =
+    let found = rw c.in-Some.is at (found_in_role c.args.start c.args.cursor.now _ _ c.requires.start.at.since c.requires.fault c.fault_in_role.ensures) in
+    let s = c.new-lexeme.ensures.stands in
+    record {
+      stands = record { start = s.start; next = s.next; end = s.end; backslash = ahead_if _ _ _ found.before c.end_within-inside.ensures.backslash; comment = s.comment };
+      more = λ e. cc;
+      went = omega (arith, c.requires.start.went, ap bytes c.end_within-inside.ensures.back.rest, fewer_bytes c.value_end-end.ensures.reads.moves);
+    }
+
+pub returns-clause-moves : goal.returns-clause-moves
+returns-clause-moves c = moves_then (moves_returned c.end_within-inside.ensures.back) c.value_end-end.ensures.reads.moves
+
+pub returns-clause-reads : goal.returns-clause-reads
+returns-clause-reads c =
+    let found = rw c.in-Some.is at (found_in_role c.args.start c.args.cursor.now _ _ c.requires.start.at.since c.requires.fault c.fault_in_role.ensures) in
     let first = after_bytes c.args.start.place.rest c.in-Some.found.place.rest found.before in
     let last = after_bytes c.in-Some.found.place.rest c.args.cursor.now.rest found.following in
-    omega (arith, first, last, c.end_within-inside.ensures.most, ap bytes c.end_within-inside.ensures.rest, c.value_end-end.ensures.most, fewer_bytes c.value_end-end.ensures.moves)
-
-pub end_within-inside-requires-clause-part : goal.end_within-inside-requires-clause-part
-end_within-inside-requires-clause-part c =
-    let found = rw c.in-Some.is at (found_in_role c.args.start c.args.cursor.now _ _ c.requires.here c.requires.fault c.fault_in_role.ensures) in
-    part_past _ _ found.before.0 _ c.requires.part found.before.1
+    let back = c.end_within-inside.ensures.back in
+    let r = c.value_end-end.ensures.reads in
+    record {
+      moves = moves_then c.requires.start.at.since.moves (moves_then (moves_returned back) r.moves);
+      most = omega (arith, first, last, back.most, ap bytes back.rest, r.most, fewer_bytes r.moves);
+    }

@@ -1,10 +1,9 @@
 use Rattle.std.proofs.Common.{◌-◌}
-use Rattle.kdl_text.specs.Internal.Reading.{Moves}
-use Rattle.kdl_diagnostics.specs.Internal.Reading.{Most}
+use Rattle.kdl_diagnostics.specs.Internal.Reading.{Reads}
 use Rattle.kdl_diagnostics.proofs.strings.eat_signs.Given as goal
 
 abbrev pub invariant-signs : goal.invariant-signs
-invariant-signs l = Moves l.fn.cursor l.cursor × Most 1 0 l.fn.cursor l.cursor
+invariant-signs l = Reads 1 0 l.fn.cursor l.cursor
 
 abbrev pub decreases-signs : goal.decreases-signs
 decreases-signs l = l.most - l.count

@@ -7,9 +7,7 @@ pub returns : goal.returns
 returns c =
     let s = stepped_begins _ _ _ c.requires c.step.ensures in
     let m = c.escaped_unit.ensures.moves in
-    let less = fewer_bytes m in
     record {
-      moves = moves_then s.moves m;
-      went = omega (arith, s.fewer, less);
-      most = omega (arith, s.fewer, s.steps, c.escaped_unit.ensures.costs.most, less);
+      reads = record { moves = moves_then s.reads.moves m; most = omega (arith, s.went, s.reads.most, c.escaped_unit.ensures.costs.most, fewer_bytes m) };
+      went = omega (arith, s.went, fewer_bytes m);
     }

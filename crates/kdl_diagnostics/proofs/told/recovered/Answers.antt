@@ -1,33 +1,30 @@
-use Rattle.std.proofs.Common.{ap, arith}
+use Rattle.std.proofs.Common.{length, ap, arith}
 use Rattle.std.specs.Global.{Vec}
 use Rattle.std.specs.Str.{chars}
-use Rattle.kdl_diagnostics.specs.declared.reader.Fault.{Fault}
+use Rattle.kdl_diagnostics.specs.declared.notes.Fault.{Fault}
 use Rattle.kdl_diagnostics.proofs.NotedSpans.{noted_same}
 use Rattle.kdl_diagnostics.proofs.ReaderCost.{steps_bounded}
 use Rattle.kdl_diagnostics.proofs.told.recovered.Goals as goal
 
-pub returns-in_err-answer-clause-most : goal.returns-in_err-answer-clause-most
-returns-in_err-answer-clause-most c =
-    steps_bounded c.args.text.now c.new-reader.result.cursor c.find-answer.new.self.cursor c.args.steps.now c.into_parts-faults.result.1 c.utf8.text (c.find-answer.ensures.bounded (chars c.args.text.now) c.new-reader.ensures.reads) (omega (arith, c.new-reader.ensures.most, c.replace.ensures.value)) c.into_parts-faults.ensures.steps
+pub find-answer-requires : goal.find-answer-requires
+find-answer-requires c = (chars c.args.text.now, c.new-reader.ensures.reads)
+
+pub returns-in_err-answer-clause-counted : goal.returns-in_err-answer-clause-counted
+returns-in_err-answer-clause-counted c =
+    let k = c.find-answer.ensures.goes (chars c.args.text.now) c.new-reader.ensures.reads in
+    let n = c.new-reader.ensures.counted in
+    steps_bounded c.args.text.now _ _ _ _ c.utf8.text k.counted (record { most = omega (arith, n.most, c.replace.ensures.value); counts = omega (arith, n.counts, c.replace.ensures.value) }) c.into_parts-faults.ensures.steps
+
+pub returns-clause-counted : goal.returns-clause-counted
+returns-clause-counted c =
+    let k = c.find-answer.ensures.goes (chars c.args.text.now) c.new-reader.ensures.reads in
+    let n = c.new-reader.ensures.counted in
+    steps_bounded c.args.text.now _ _ _ _ c.utf8.text k.counted (record { most = omega (arith, n.most, c.replace.ensures.value); counts = omega (arith, n.counts, c.replace.ensures.value) }) c.into_parts-faults.ensures.steps
 
 pub returns-clause-noted : goal.returns-clause-noted
 returns-clause-noted c =
-    let x = c.find-answer.ensures.keeps (chars c.args.text.now) c.new-reader.ensures.reads in
-    noted_same (chars c.args.text.now) c.find-answer.new.self.faults.items c.into_parts-faults.result.0.items (ap (λ (v : Vec Fault). v.items) c.into_parts-faults.ensures.faults) x.faults
+    let k = c.find-answer.ensures.goes (chars c.args.text.now) c.new-reader.ensures.reads in
+    noted_same (chars c.args.text.now) _ _ (ap (λ (v : Vec Fault). v.items) c.into_parts-faults.ensures.faults) (k.keeps (chars c.args.text.now) c.new-reader.ensures.reads tt).notes.faults
 
-pub returns-clause-most : goal.returns-clause-most
-returns-clause-most c =
-    steps_bounded c.args.text.now c.new-reader.result.cursor c.find-answer.new.self.cursor c.args.steps.now c.into_parts-faults.result.1 c.utf8.text (c.find-answer.ensures.bounded (chars c.args.text.now) c.new-reader.ensures.reads) (omega (arith, c.new-reader.ensures.most, c.replace.ensures.value)) c.into_parts-faults.ensures.steps
-
-pub returns-in_err-answer-clause-raised : goal.returns-in_err-answer-clause-raised
-returns-in_err-answer-clause-raised c =
-    let b = c.find-answer.ensures.bounded (chars c.args.text.now) c.new-reader.ensures.reads in
-    omega (arith, c.new-reader.ensures.counts, b.counts, c.replace.ensures.value, c.into_parts-faults.ensures.steps)
-
-pub returns-clause-raised : goal.returns-clause-raised
-returns-clause-raised c =
-    let b = c.find-answer.ensures.bounded (chars c.args.text.now) c.new-reader.ensures.reads in
-    omega (arith, c.new-reader.ensures.counts, b.counts, c.replace.ensures.value, c.into_parts-faults.ensures.steps)
-
-pub find-answer-requires : goal.find-answer-requires
-find-answer-requires c = (chars c.args.text.now, c.new-reader.ensures.reads)
+pub returns-clause-some : goal.returns-clause-some
+returns-clause-some c = omega (arith, c.in_ok-answer.ensures.noted (c.new-reader.ensures.ready c.requires.stopped), ap (λ (v : Vec Fault). length v.items) c.into_parts-faults.ensures.faults)

@@ -1,11 +1,15 @@
-use Rattle.kdl_diagnostics.proofs.NotedSpans.{next_lies}
+use Rattle.std.proofs.Common.{refl}
+use Rattle.kdl_diagnostics.proofs.NotedSpans.{keeps_if, keeps_same, takes_notes, takes_on}
 use Rattle.kdl_diagnostics.proofs.reader.Reader.end.Goals as goal
 
-pub returns-then-is_due-clause-keeps : goal.returns-then-is_due-clause-keeps
-returns-then-is_due-clause-keeps c text x s = c.misfit.ensures.keeps text (record { whole = x.whole; here = x.here; left = x.left; faults = x.faults; blocks = x.blocks; candidates = x.candidates }) s
+pub returns-then-self-clause-takes : goal.returns-then-self-clause-takes
+returns-then-self-clause-takes c = takes_notes _ _ (keeps_same _ _) refl
 
-pub returns-in-Some-clause-keeps : goal.returns-in-Some-clause-keeps
-returns-in-Some-clause-keeps c text x s = c.note.ensures.keeps text (record { whole = x.whole; here = x.here; left = x.left; faults = x.faults; blocks = x.blocks; candidates = x.candidates }) s.start (next_lies text c.args.lexeme.now s)
+pub returns-then-is_due-clause-takes : goal.returns-then-is_due-clause-takes
+returns-then-is_due-clause-takes c = takes_on _ _ c.note_misfit.ensures.keeps c.note_misfit.ensures.reads
 
-pub returns-clause-keeps : goal.returns-clause-keeps
-returns-clause-keeps c text x s = c.note_blocks.ensures.keeps text (record { whole = x.whole; here = x.here; left = x.left; faults = x.faults; blocks = x.blocks; candidates = x.candidates })
+pub returns-in-Some-clause-takes : goal.returns-in-Some-clause-takes
+returns-in-Some-clause-takes c = takes_notes _ _ (keeps_if (λ text s. (s.start, s.next)) c.note.ensures.keeps) refl
+
+pub returns-clause-takes : goal.returns-clause-takes
+returns-clause-takes c = takes_notes _ _ (keeps_if (λ text s. tt) c.note_blocks.ensures.keeps) refl

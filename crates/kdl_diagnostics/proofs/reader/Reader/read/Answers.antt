@@ -1,45 +1,62 @@
-use Rattle.std.proofs.Common.{arith}
-use Rattle.kdl_diagnostics.specs.Internal.Outsets.{HasFault, IsReady}
-use Rattle.kdl_diagnostics.proofs.NotedSpans.{stands_in}
-use Rattle.kdl_diagnostics.proofs.ReaderCost.{on_ok, turning_turn, turning_nearer, turning_fails, turning_stops}
+use Rattle.std.proofs.Common.{refl, arith}
+use Rattle.kdl_text.proofs.Looking.MovesJoin.{fewer_bytes}
+use Rattle.kdl_diagnostics.proofs.NotedSpans.{moved_here}
+use Rattle.kdl_diagnostics.proofs.Passing.{reads_here, reads_more}
+use Rattle.kdl_diagnostics.proofs.ReaderCost.{had, taken, turn_ends, turn_reads, went_not}
 use Rattle.kdl_diagnostics.proofs.reader.Reader.read.Goals as goal
 
 pub lexemes-init : goal.lexemes-init
-lexemes-init c = record {
-  keeps = c.note_first.ensures.keeps;
-  grows = c.note_first.ensures.grows;
-  noted = c.in_ok-note_first.ensures.noted;
-  turning = c.in_ok-note_first.ensures.turning;
+lexemes-init c = record { keeps = λ text x. x; grows = omega arith; reads = reads_here 124 _; ready = λ s e. s }
+
+pub returns-in_err-lexeme-clause-goes : goal.returns-in_err-lexeme-clause-goes
+returns-in_err-lexeme-clause-goes c = record {
+  keeps = λ text x p. (let y = c.lexemes.invariant.keeps text x in record { here = moved_here y.here c.next_lexeme.ensures.reads.moves; notes = y.notes });
+  grows = c.lexemes.invariant.grows;
+  counted = turn_ends c.lexemes.invariant.reads c.next_lexeme.ensures.reads (reads_more 24 (reads_here 24 _));
 }
 
-pub returns-in_err-lexeme : goal.returns-in_err-lexeme
-returns-in_err-lexeme c = record {
-  keeps = λ text x. c.next.ensures.keeps text (c.lexemes.invariant.keeps text x);
-  grows = omega (arith, c.lexemes.invariant.grows, c.next.ensures.grows);
-  noted = on_ok {P = IsReady c.args.self.now → HasFault c.next.new.self} c.from_residual-in_err-lexeme.result (λ s. omega (arith, c.lexemes.invariant.noted s, c.next.ensures.grows));
-  bounded = turning_fails c.args.self.now.cursor c.lexemes.self.cursor c.next.new.self.cursor c.lexemes.self.is_over c.lexemes-test.true c.lexemes.invariant.turning c.next.ensures.moves c.next.ensures.most;
+pub returns-in_err-take-clause-goes : goal.returns-in_err-take-clause-goes
+returns-in_err-take-clause-goes c = record {
+  keeps = λ text x p. taken _ _ _ c.in_ok-lexeme.lexeme text (c.lexemes.invariant.keeps text x) refl c.next_lexeme.ensures.reads c.in_ok-lexeme.ensures.next.stands c.take.ensures.takes;
+  grows = omega (arith, c.lexemes.invariant.grows, c.take.ensures.takes.grows);
+  counted = turn_ends c.lexemes.invariant.reads c.next_lexeme.ensures.reads c.take.ensures.takes.reads;
 }
+
+pub returns-then-self-clause-goes : goal.returns-then-self-clause-goes
+returns-then-self-clause-goes c = record {
+  keeps = λ text x p. taken _ _ _ c.in_ok-lexeme.lexeme text (c.lexemes.invariant.keeps text x) refl c.next_lexeme.ensures.reads c.in_ok-lexeme.ensures.next.stands c.take.ensures.takes;
+  grows = omega (arith, c.lexemes.invariant.grows, c.take.ensures.takes.grows);
+  counted = turn_ends c.lexemes.invariant.reads c.next_lexeme.ensures.reads c.take.ensures.takes.reads;
+}
+
+pub returns-in-End-clause-goes : goal.returns-in-End-clause-goes
+returns-in-End-clause-goes c = record {
+  keeps = λ text x p. taken _ _ _ c.in_ok-lexeme.lexeme text (c.lexemes.invariant.keeps text x) refl c.next_lexeme.ensures.reads c.in_ok-lexeme.ensures.next.stands c.take.ensures.takes;
+  grows = omega (arith, c.lexemes.invariant.grows, c.take.ensures.takes.grows);
+  counted = turn_ends c.lexemes.invariant.reads c.next_lexeme.ensures.reads c.take.ensures.takes.reads;
+}
+
+pub returns-then-self-clause-noted : goal.returns-then-self-clause-noted
+returns-then-self-clause-noted c s =
+    had _ _ (λ e. c.in_ok-take.ensures.noted e (let r = c.lexemes.invariant.ready s e in record { ends = λ k. (let x = r.ends (c.in_ok-lexeme.ensures.next.end k) in record { lacks = x.lacks; untold = x.untold; cut = x.cut }); context = r.context })) c.take.ensures.takes.grows
+
+pub returns-in-End-clause-noted : goal.returns-in-End-clause-noted
+returns-in-End-clause-noted c s =
+    had _ _ (λ e. c.in_ok-take.ensures.noted e (let r = c.lexemes.invariant.ready s e in record { ends = λ k. (let x = r.ends (c.in_ok-lexeme.ensures.next.end k) in record { lacks = x.lacks; untold = x.untold; cut = x.cut }); context = r.context })) c.take.ensures.takes.grows
 
 pub lexemes-smaller : goal.lexemes-smaller
 lexemes-smaller c =
-    turning_nearer c.lexemes.self.cursor c.next.new.self.cursor c.take.new.self.cursor c.in_ok-lexeme.lexeme.kind c.lexemes.self.is_over c.take.new.self.is_over c.lexemes-test.true c.in_ok-lexeme.ensures.went c.take.ensures.moves c.take.ensures.over
+    let few = went_not _ _ _ c.in_ok-lexeme.ensures.next.went c.in_default-kind.not-End in
+    omega (arith, few, fewer_bytes c.take.ensures.takes.reads.moves)
 
 pub lexemes-preserved : goal.lexemes-preserved
-lexemes-preserved c = record {
-  keeps = λ text x.
-      (let y = c.lexemes.invariant.keeps text x in
-      c.take.ensures.keeps text (c.next.ensures.keeps text y) (stands_in text c.lexemes.self.cursor.rest c.in_ok-lexeme.lexeme (y.here.0, y.here.1) c.in_ok-lexeme.ensures.lexeme));
-  grows = omega (arith, c.lexemes.invariant.grows, c.next.ensures.grows, c.take.ensures.grows);
-  noted = λ s. omega (arith, c.lexemes.invariant.noted s, c.next.ensures.grows, c.take.ensures.grows);
-  turning = turning_turn c.args.self.now.cursor c.lexemes.self.cursor c.next.new.self.cursor c.take.new.self.cursor c.in_ok-lexeme.lexeme.kind c.lexemes.self.is_over c.take.new.self.is_over c.lexemes-test.true c.lexemes.invariant.turning c.next.ensures.moves c.next.ensures.most c.in_ok-lexeme.ensures.went c.take.ensures.moves c.take.ensures.most c.take.ensures.over;
-}
-
-pub returns-in_err-take : goal.returns-in_err-take
-returns-in_err-take c = record {
-  keeps = λ text x.
-      (let y = c.lexemes.invariant.keeps text x in
-      c.take.ensures.keeps text (c.next.ensures.keeps text y) (stands_in text c.lexemes.self.cursor.rest c.in_ok-lexeme.lexeme (y.here.0, y.here.1) c.in_ok-lexeme.ensures.lexeme));
-  grows = omega (arith, c.lexemes.invariant.grows, c.next.ensures.grows, c.take.ensures.grows);
-  noted = on_ok {P = IsReady c.args.self.now → HasFault c.take.new.self} c.from_residual-in_err-take.result (λ s. omega (arith, c.lexemes.invariant.noted s, c.next.ensures.grows, c.take.ensures.grows));
-  bounded = turning_stops c.args.self.now.cursor c.lexemes.self.cursor c.next.new.self.cursor c.take.new.self.cursor c.lexemes.self.is_over c.lexemes-test.true c.lexemes.invariant.turning c.next.ensures.moves c.next.ensures.most c.take.ensures.moves c.take.ensures.most;
-}
+lexemes-preserved c =
+    let few = went_not _ _ _ c.in_ok-lexeme.ensures.next.went c.in_default-kind.not-End in
+    record {
+      keeps = λ text x. taken _ _ _ c.in_ok-lexeme.lexeme text (c.lexemes.invariant.keeps text x) refl c.next_lexeme.ensures.reads c.in_ok-lexeme.ensures.next.stands c.take.ensures.takes;
+      grows = omega (arith, c.lexemes.invariant.grows, c.take.ensures.takes.grows);
+      reads = turn_reads c.lexemes.invariant.reads c.next_lexeme.ensures.reads few c.take.ensures.takes.reads;
+      ready = λ s n.
+          (let h = had _ _ (λ e. c.in_ok-take.ensures.noted e (let r = c.lexemes.invariant.ready s e in record { ends = λ k. (let x = r.ends (c.in_ok-lexeme.ensures.next.end k) in record { lacks = x.lacks; untold = x.untold; cut = x.cut }); context = r.context })) c.take.ensures.takes.grows in
+          absurd (omega (arith, h, n)));
+    }
