@@ -3,13 +3,13 @@ use Rattle.std.proofs.Common.{◌≡◌, ◌↔◌, ◌+◌, ◌<◌, ℕ, Bool,
 use Rattle.std.specs.Prelude.{IfOk, option_to_list}
 use Rattle.std.specs.Option.{IfSome}
 use Rattle.std.proofs.lemmas.List.{length_push}
-use Rattle.std.proofs.lemmas.List.Elements.{All-nil, All-pop, All-push, All-same}
+use Rattle.std.proofs.lemmas.List.Elements.{All-nil, All-pop}
 use Rattle.kdl_text.specs.Chars.{Text}
 use Rattle.kdl_text.specs.Internal.Here.{Here, Position}
 use Rattle.kdl_lexer.specs.Internal.Handed.{HandsOut, kind_view}
 use Rattle.kdl_lexer.specs.Tokens.{Token, space, newline, slashdash, string, value, left, right, opening, closing, equals, semicolon, bom, NoToken}
 use Rattle.kdl_lexer.specs.declared.lexer.Token.{Token as CodeToken}
-use Rattle.kdl_diagnostics.specs.Internal.Noted.{Counts, Opens, Untold}
+use Rattle.kdl_diagnostics.specs.Internal.Noted.{Counts, Untold}
 use Rattle.kdl_diagnostics.specs.Internal.Outsets.{EndsBefore, GoesOver, IsNew, BeginsAt, at_the_end, earlier, IsReady, IsStopped, Lacking, LacksAt, Matched, StopsAfter, depth, text_view}
 use Rattle.kdl_diagnostics.specs.TextControl.{TextControl, Takes, text_finish, text_start, text_step}
 use Rattle.kdl_diagnostics.specs.declared.front.Prefix.{Prefix}
@@ -77,9 +77,6 @@ untold_less old new r e x = All-pop (λ (b : Block). b.is_told ≡ false) old ne
 pub told_not : (b : Bool) → not b ≡ false → b ≡ false → ⊥
 told_not true e f = cc
 told_not false e f = cc
-
-pub opened_count : (old new : List Block) → Opens old new → Untold old → (length new ≡ length old + 1) × Untold new
-opened_count old new (b, f, e) u = (ap length e ∙ length_push old b, All-same (λ (b : Block). b.is_told ≡ false) new (old ++ (b ∷ [])) e (All-push (λ (b : Block). b.is_told ≡ false) old b u f))
 
 -- where the reader of faults begins
 lacking : (w : Whole) (n : ℕ) (o : Outset) (r : Reader) → LacksAt w n o → Untold r.notes.blocks.items → r.is_cut ≡ false → n ≡ length r.notes.blocks.items → r.state.whole ≡ w → r.state.control.phase ≡ o.phase → r.state.has_item ≡ o.has_item → Lacking r

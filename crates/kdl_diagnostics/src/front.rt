@@ -19,7 +19,7 @@ use std::alloc::{AllocError, Global};
 
 /// Where the tokens of a front end.
 #[derive(Drop)]
-pub(crate) struct Stop<'a> {
+pub(crate) struct FrontEnd<'a> {
     /// The place where they end.
     pub place: Checkpoint<'a>,
     /// The start of the string, number or keyword that ends there, or else that place.
@@ -36,7 +36,7 @@ pub(crate) struct Prefix<'a> {
     pub control: TextControl,
     /// Whether the last `(` begins the type of a property's value.
     pub is_property: bool,
-    pub stop: Stop<'a>,
+    pub stop: FrontEnd<'a>,
     /// Whether the tokens end with the text, which may end there.
     pub is_accepted: bool,
 }
@@ -52,14 +52,14 @@ fn skip_bom<'a>(whole: Whole, lexer: &mut Lexer<'a>)
     }
 }
 
-impl<'a> Stop<'a> {
+impl<'a> FrontEnd<'a> {
     /// The stop at the place, before which no string, number or keyword ends. It is known what is here.
     fn at(place: Checkpoint<'a>, here: Outset) -> Self
         ensures place { result.place ≡ place.entry }
         ensures from { result.from ≡ place.entry }
         ensures before { result.before ≡ here }
     {
-        Stop {
+        FrontEnd {
             from: place.copied(),
             place,
             before: here,
@@ -71,12 +71,12 @@ impl<'a> Stop<'a> {
         ensures { StopsAfter token.now here result }
     {
         match token.kind {
-            TokenKind::String(_) | TokenKind::Value(_) => Stop {
+            TokenKind::String(_) | TokenKind::Value(_) => FrontEnd {
                 place: token.at.end.copied(),
                 from: token.at.start.copied(),
                 before,
             },
-            _ => Stop::at(token.at.end.copied(), here),
+            _ => FrontEnd::at(token.at.end.copied(), here),
         }
     }
 }
@@ -89,7 +89,7 @@ impl<'a> Prefix<'a> {
         ensures whole { result.control.whole ≡ whole }
     {
         let control = TextControl::new(alloc, whole);
-        let stop = Stop::at(start.copied(), control.outset());
+        let stop = FrontEnd::at(start.copied(), control.outset());
         Prefix {
             alloc,
             notes: Notes::new(alloc, start),
@@ -111,7 +111,7 @@ impl<'a> Prefix<'a> {
         ensures counts { raise lexer.old.steps 0 ≤ raise lexer.new.steps 0 }
     {
         skip_bom(self.control.whole, lexer);
-        self.stop = Stop::at(lexer.checkpoint(), self.control.outset());
+        self.stop = FrontEnd::at(lexer.checkpoint(), self.control.outset());
         'tokens: loop {
             let token = match lexer.next(self.alloc) {
                 Ok(Some(token)) => token,
@@ -148,7 +148,7 @@ impl<'a> Prefix<'a> {
             TokenKind::Left => matches!(before.phase, Phase::Property),
             _ => self.is_property,
         };
-        self.stop = Stop::after(token, before, self.control.outset());
+        self.stop = FrontEnd::after(token, before, self.control.outset());
         Ok(true)
     }
 }

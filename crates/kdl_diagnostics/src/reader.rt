@@ -17,7 +17,7 @@ use crate::kind::Kind;
 use crate::lexemes::{Lexeme, LexemeKind, StringRole, next_lexeme};
 use crate::machine::is_due;
 use crate::notes::{Fault, Notes};
-use crate::state::State;
+use crate::state::Progress;
 use crate::text_control::Outset;
 use crate::whole::Whole;
 use kdl_text::cursor::{Checkpoint, Cursor, Steps};
@@ -28,7 +28,7 @@ use std::alloc::{AllocError, Global};
 pub(crate) struct Reader<'a> {
     alloc: Global,
     cursor: Cursor<'a>,
-    state: State,
+    state: Progress,
     notes: Notes<'a>,
     /// Whether the text ended in a string or a comment.
     is_cut: bool,
@@ -69,7 +69,7 @@ impl<'a> Reader<'a> {
             is_property,
             ..
         } = front;
-        let mut state = State::new(alloc, control.whole, control.node.control, outset);
+        let mut state = Progress::new(alloc, control.whole, control.node.control, outset);
         state.is_property = is_property;
         Reader {
             alloc,

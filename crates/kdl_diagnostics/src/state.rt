@@ -19,7 +19,7 @@ use std::alloc::{AllocError, Global};
 
 /// Where a reader of faults is.
 #[derive(Drop)]
-pub(crate) struct State {
+pub(crate) struct Progress {
     alloc: Global,
     /// What the text is read as.
     pub whole: Whole,
@@ -56,7 +56,7 @@ fn goes_on(kind: LexemeKind) -> bool {
     )
 }
 
-impl State {
+impl Progress {
     /// Creates the state at an outset.
     pub(crate) fn new(alloc: Global, whole: Whole, control: Control, outset: Outset) -> Self
         ensures whole { result.whole ≡ whole }
@@ -66,7 +66,7 @@ impl State {
     {
         let mut control = control;
         control.go_to(outset.phase);
-        State {
+        Progress {
             alloc,
             whole,
             control,

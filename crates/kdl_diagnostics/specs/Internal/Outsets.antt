@@ -12,7 +12,7 @@ use Rattle.kdl_diagnostics.specs.Internal.Reading.{LiesIn}
 use Rattle.kdl_diagnostics.specs.TextControl as spec
 use Rattle.kdl_diagnostics.specs.TextControl.{text_finish, text_start}
 use Rattle.kdl_diagnostics.specs.declared.front.Prefix.{Prefix}
-use Rattle.kdl_diagnostics.specs.declared.front.Stop.{Stop}
+use Rattle.kdl_diagnostics.specs.declared.front.FrontEnd.{FrontEnd}
 use Rattle.kdl_diagnostics.specs.declared.machine.Context.TheVariants.{FaultyType}
 use Rattle.kdl_diagnostics.specs.declared.lexemes.Lexeme.{Lexeme}
 use Rattle.kdl_diagnostics.specs.declared.lexemes.LexemeKind.{LexemeKind}
@@ -69,7 +69,7 @@ pub record IsNew (f : Prefix) : Type 0 where
   pub accepted : f.is_accepted ≡ false
 
 -- the tokens end after the token, where `here` is known
-pub record StopsAfter (k : Token) (here : Outset) (s : Stop) : Type 0 where
+pub record StopsAfter (k : Token) (here : Outset) (s : FrontEnd) : Type 0 where
   pub place : s.place ≡ k.at.end
   pub lies : (text : Text) → LiesIn text k.at.start → LiesIn text k.at.end → LiesIn text s.from
   pub from : (k.at.start.rest ≡ [] → ⊥) → s.from.rest ≡ [] → (k.at.end.rest ≡ []) × (s.before ≡ here)

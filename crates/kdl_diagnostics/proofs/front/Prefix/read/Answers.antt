@@ -1,7 +1,7 @@
 use Rattle.std.proofs.Common.{refl, sym, ap, ◌∙◌, arith}
 use Rattle.kdl_text.specs.Internal.Here.{Position}
 use Rattle.kdl_diagnostics.specs.Internal.Outsets.{text_view}
-use Rattle.kdl_diagnostics.specs.declared.front.Stop.{Stop}
+use Rattle.kdl_diagnostics.specs.declared.front.FrontEnd.{FrontEnd}
 use Rattle.kdl_diagnostics.proofs.FrontEnds.{at_the_text_end, ends_at, ends_over, new_matched, no_token_here, over_token, refused, starts, stopped_at_end, stopped_before}
 use Rattle.kdl_diagnostics.proofs.FrontReads.{begun, front_begins, front_goes_on, front_counts, front_ends, front_lies, nearer, token_lies, token_end_lies}
 use Rattle.kdl_diagnostics.proofs.NotedSpans.{same_lies}
@@ -88,7 +88,7 @@ pub returns-then-not-is_taken-clause-stopped : goal.returns-then-not-is_taken-cl
 returns-then-not-is_taken-clause-stopped c x =
     let h = rw c.in-Ok-Some.field-0-is at c.in-Ok-Some.ensures.lexed in
     let o = rw c.if-not-is_taken.true at c.in_ok-is_taken.ensures.over in
-    stopped_before c.tokens.lexer.rest c.tokens.self c.take.new.self c.tokens.invariant.ends (begun c.tokens.lexer c.next.new.self c.in-Ok-Some.token h) (ap (λ (s : Stop). s.place.rest) o) (ap (λ (s : Stop). s.from.rest) o)
+    stopped_before c.tokens.lexer.rest c.tokens.self c.take.new.self c.tokens.invariant.ends (begun c.tokens.lexer c.next.new.self c.in-Ok-Some.token h) (ap (λ (s : FrontEnd). s.place.rest) o) (ap (λ (s : FrontEnd). s.from.rest) o)
 
 pub returns-in-Ok-None-clause-exact : goal.returns-in-Ok-None-clause-exact
 returns-in-Ok-None-clause-exact c = at_the_text_end c.may_end-self.result c.tokens.lexer (text_view c.tokens.self.control) (rw c.in-Ok-None.field-0-is at c.in-Ok-None.ensures.lexed) c.may_end-self.ensures c.tokens.invariant.exact

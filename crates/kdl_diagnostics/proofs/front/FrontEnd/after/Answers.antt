@@ -1,7 +1,7 @@
 use Rattle.std.proofs.Common.{ap, sym, ◌∙◌}
 use Rattle.kdl_text.specs.Internal.Here.{Position}
 use Rattle.kdl_diagnostics.proofs.NotedSpans.{same_lies}
-use Rattle.kdl_diagnostics.proofs.front.Stop.after.Goals as goal
+use Rattle.kdl_diagnostics.proofs.front.FrontEnd.after.Goals as goal
 
 pub returns-in-String : goal.returns-in-String
 returns-in-String c = record {
