@@ -2,7 +2,7 @@
 
 ghost use Rattle.kdl.specs.Layout.{DocumentKeepsNoForm};
 ghost use Rattle.kdl.specs.Tree.{document_prints, document_says, document_tree};
-ghost use Rattle.kdl_fmt.specs.Comments.{CommentsStay};
+ghost use Rattle.kdl_layout.specs.Comments.{CommentsStay};
 ghost use Rattle.kdl_grammar.specs.Grammar.{IsDocument};
 ghost use Rattle.std.specs.Prelude.{◌≡◌, OnOk};
 

@@ -2,9 +2,9 @@
 
 ghost use Rattle.kdl.specs.Layout.{DocumentKeepsNoForm, DocumentLaidOut, DocumentSpaced, NodeLaidOut, NodeSpaced};
 ghost use Rattle.kdl.specs.Tree.{document_prints, document_says, document_tree};
-ghost use Rattle.kdl_fmt.specs.Canonical.{Canonical, canonical_text};
-ghost use Rattle.kdl_fmt.specs.Config.{defaults, without_comments};
-ghost use Rattle.kdl_fmt.specs.Formatted.{DocumentLevelsFit};
+ghost use Rattle.kdl_layout.specs.Canonical.{Canonical, canonical_text};
+ghost use Rattle.kdl_layout.specs.Config.{defaults, without_comments};
+ghost use Rattle.kdl_layout.specs.Formatted.{DocumentLevelsFit};
 ghost use Rattle.std.specs.Prelude.{◌≡◌, OnOk};
 
 use kdl::{FormatConfig, KdlDocument, KdlNode, Layout};

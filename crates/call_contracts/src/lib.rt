@@ -3,7 +3,7 @@
 //! a wrong body: if the contract here refuses it, the call's own contract does too. In a small crate such an edit is
 //! cheap to check.
 //!
-//! `callers` has what a caller proves for the edits with a `requires`; `lines` has a call of `kdl_comments` that layout
+//! `callers` has what a caller proves for the edits with a `requires`; `lines` has a call of `kdl_layout` that layout
 //! makes.
 #![tactic(auto)]
 

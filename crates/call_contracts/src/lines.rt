@@ -1,12 +1,12 @@
 //! The lines of comments, and of slashdashed pieces.
 
-ghost use Rattle.kdl_comments.specs.Internal.Reading.{item_view};
-ghost use Rattle.kdl_comments.specs.Written.{lines};
+ghost use Rattle.kdl_layout.specs.Internal.Reading.{item_view};
+ghost use Rattle.kdl_layout.specs.Written.{lines};
 ghost use Rattle.kdl_value.specs.Tree.{text_of};
 ghost use Rattle.std.specs.Prelude.{◌≡◌, ◌∷◌, ◌++◌, [], OnOk};
 ghost use Rattle.std.specs.Str.{chars};
 
-use kdl_comments::{Item, push_lines};
+use kdl_layout::{Item, push_lines};
 use std::alloc::AllocError;
 
 /// `push_lines` of one item, which layout keeps on its own line.

@@ -2,7 +2,7 @@
 
 ghost use Rattle.kdl.specs.Layout.{DocumentKeepsReading};
 ghost use Rattle.kdl.specs.ReadsBack.{DocumentReadsBack};
-ghost use Rattle.kdl_fmt.specs.Config.{defaults};
+ghost use Rattle.kdl_layout.specs.Config.{defaults};
 
 use kdl::KdlDocument;
 use std::alloc::AllocError;

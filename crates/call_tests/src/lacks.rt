@@ -1,7 +1,7 @@
 //! How many newlines a text around nodes lacks for what follows it not to become part of it.
 
 use crate::reading::equal;
-use kdl_comments::{Place, gap_lacks, is_node_spaces, place_lacks, terminator_lacks};
+use kdl_layout::{Place, gap_lacks, is_node_spaces, place_lacks, terminator_lacks};
 use std::alloc::Global;
 use std::process::Abort;
 

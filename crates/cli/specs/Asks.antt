@@ -2,7 +2,7 @@
 use Rattle.std.specs.Prelude.{Bool, ◌≡◌, ◌⊎◌, ◌++◌, ◌∷◌, [], List, ℕ, IsSome, IsUtf8, None, Ok, Err, Result, Some, chars, false, string_bytes, true}
 use Rattle.kdl.specs.Words.{IsDocument, IsNodeText, NodeData, Nodes, Value}
 use Rattle.c_calls.specs.Entries.{IsValueText}
-use Rattle.kdl_fmt.specs.WellFormed.{AreWellFormed}
+use Rattle.kdl_layout.specs.WellFormed.{AreWellFormed}
 use Rattle.kdl_json.specs.Form.{IsJsonOf, json_text}
 use Rattle.kdl_path.specs.Edits.{HasPlace, IsInsertedAt, IsSetAt, named_at, without}
 use Rattle.kdl_path.specs.Failures.{IsNoDocument, IsUnset}

@@ -6,8 +6,8 @@ use Rattle.kdl_entry.specs.Laid.{LaidEntry, laid_entry}
 use Rattle.kdl_entry.specs.Tree.{Entry}
 use Rattle.kdl_grammar.specs.Laid.{LaidEntries, no_entry, an_entry, LaidNode, laid_node, LaidChildren, no_block, a_block, LaidNodes, no_node, a_node, LaidContent, without_nodes, with_nodes, LaidDocumentAs, LaidNodeTextAs, with_bom}
 use Rattle.kdl_grammar.specs.Tree.{Node, Children, Document, Nodes}
-use Rattle.kdl_fmt.specs.Kept.{is_kept_format}
-use Rattle.kdl_fmt.specs.Formatted.{EntriesKeepNone, NodeKeepsNone, ChildrenKeepNone, DocumentKeepsNone, NodesKeepNone}
+use Rattle.kdl_layout.specs.Kept.{is_kept_format}
+use Rattle.kdl_layout.specs.Formatted.{EntriesKeepNone, NodeKeepsNone, ChildrenKeepNone, DocumentKeepsNone, NodesKeepNone}
 
 module _ (exact : Bool) (whole : Text) where
   entry_keeps_none : {e : Entry} {s r : Text} → LaidEntry exact whole e s r → is_kept_format e.format ≡ false

@@ -1,7 +1,7 @@
 -- Nodes inserted among others without superfluous newlines: each part gets the newlines that it lacks, and no more.
 use Rattle.std.specs.Prelude.{◌≡◌, ℕ, zero, suc, true, ◌+◌, ◌<◌, ◌≤◌, [], ◌∷◌, ◌++◌, length, Option, Some, None, slice_get}
 use Rattle.kdl_text.specs.Chars.{Text}
-use Rattle.kdl_fmt.specs.Kept.{without_bom}
+use Rattle.kdl_layout.specs.Kept.{without_bom}
 use Rattle.kdl_grammar.specs.Grammar.{Gap}
 use Rattle.kdl_grammar.specs.Places.{BeforeChildren}
 use Rattle.kdl_grammar.specs.Print.{leading_text, trailing_text}

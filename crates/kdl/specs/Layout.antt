@@ -1,13 +1,13 @@
 -- What layout makes of nodes and documents in memory.
-pub use Rattle.kdl_fmt.specs.Comments.{NodeCommentsStay}
-pub use Rattle.kdl_fmt.specs.Config.{IndentsBySpaces}
-use Rattle.kdl_fmt.specs.Blank.{at_start}
-use Rattle.kdl_fmt.specs.Config.{Settings, settings}
-use Rattle.kdl_fmt.specs.OneLine.{IsLaidDocument, IsLaidNode}
-use Rattle.kdl_fmt.specs.declared.config.Layout.{Layout}
-use Rattle.kdl_fmt.specs.Formatted.{DocumentKeepsNone, NodeKeepsNone, bare_document, bare_node, formatted_document, formatted_node}
-use Rattle.kdl_fmt.specs.KeptForm as kept'
-use Rattle.kdl_fmt.specs.WithComments.{IsFormattedDocument, IsFormattedNode}
+pub use Rattle.kdl_layout.specs.Comments.{NodeCommentsStay}
+pub use Rattle.kdl_layout.specs.Config.{IndentsBySpaces}
+use Rattle.kdl_layout.specs.Blank.{at_start}
+use Rattle.kdl_layout.specs.Config.{Settings, settings}
+use Rattle.kdl_layout.specs.OneLine.{IsLaidDocument, IsLaidNode}
+use Rattle.kdl_layout.specs.declared.config.Layout.{Layout}
+use Rattle.kdl_layout.specs.Formatted.{DocumentKeepsNone, NodeKeepsNone, bare_document, bare_node, formatted_document, formatted_node}
+use Rattle.kdl_layout.specs.KeptForm as kept'
+use Rattle.kdl_layout.specs.WithComments.{IsFormattedDocument, IsFormattedNode}
 use Rattle.kdl_grammar.specs.Tree.{Document, Node}
 use Rattle.kdl.specs.Tree.{document_tree, node_tree}
 use Rattle.kdl.specs.declared.document.KdlDocument.{KdlDocument}

@@ -76,23 +76,23 @@ pub use Rattle.kdl_parts.specs.Edits.{GoesUnder, HasArgumentAt, HasRoomAt, IsIns
 -- What is printed after entries or nodes are replaced.
 pub use Rattle.kdl.specs.EditLaw.{EntriesExchanged, EntryExchanged, FormedPiece, NodeExchanged, NodesExchanged, PrintsAtPlace, PrintsInstead}
 -- Layout: its settings.
-pub use Rattle.kdl_fmt.specs.Config.{IsPlain, Settings, defaults, settings, settings_so_far, without_comments}
+pub use Rattle.kdl_layout.specs.Config.{IsPlain, Settings, defaults, settings, settings_so_far, without_comments}
 pub use Rattle.kdl.specs.Layout.{IndentsBySpaces}
 -- What it requires: no entry that keeps its form, levels that a machine can count.
-pub use Rattle.kdl_fmt.specs.Formatted.{DocumentKeepsNone, DocumentLevelsFit, NodeKeepsNone, NodeLevelsFit}
+pub use Rattle.kdl_layout.specs.Formatted.{DocumentKeepsNone, DocumentLevelsFit, NodeKeepsNone, NodeLevelsFit}
 pub use Rattle.kdl.specs.Layout.{DocumentKeepsNoForm, DocumentKeepsReading, NodeKeepsNoForm, NodeKeepsReading}
 -- Its result, with comments and without, and what is unchanged.
-pub use Rattle.kdl_fmt.specs.WithComments.{IsFormattedDocument, IsFormattedNode}
+pub use Rattle.kdl_layout.specs.WithComments.{IsFormattedDocument, IsFormattedNode}
 pub use Rattle.kdl.specs.Layout.{DocumentLaidOut, DocumentSpaced, NodeLaidOut, NodeSpaced}
-pub use Rattle.kdl_fmt.specs.OneLine.{IsLaidDocument, IsLaidNode}
-pub use Rattle.kdl_fmt.specs.Respelled.{IsSpelledDocument, IsSpelledNode}
-pub use Rattle.kdl_fmt.specs.Spaced.{IsSpacedDocument, IsSpacedNode}
-pub use Rattle.kdl_fmt.specs.Formatted.{formatted_document}
+pub use Rattle.kdl_layout.specs.OneLine.{IsLaidDocument, IsLaidNode}
+pub use Rattle.kdl_layout.specs.Respelled.{IsSpelledDocument, IsSpelledNode}
+pub use Rattle.kdl_layout.specs.Spaced.{IsSpacedDocument, IsSpacedNode}
+pub use Rattle.kdl_layout.specs.Formatted.{formatted_document}
 pub use Rattle.kdl.specs.Layout.{document_bare, node_bare, plain_document, plain_node}
-pub use Rattle.kdl_fmt.specs.Comments.{CommentsStay}
+pub use Rattle.kdl_layout.specs.Comments.{CommentsStay}
 pub use Rattle.kdl.specs.Layout.{NodeCommentsStay}
 -- The canonical text of a document's data.
-pub use Rattle.kdl_fmt.specs.Canonical.{Canonical, CanonicalNode, canonical, canonical_node, canonical_text}
+pub use Rattle.kdl_layout.specs.Canonical.{Canonical, CanonicalNode, canonical, canonical_node, canonical_text}
 -- What look-ups find after an edit.
 pub use Rattle.kdl_parts.specs.EntryLists.{key_index, key_name}
 pub use Rattle.kdl.specs.Found.{IsAdded, IsArgumentSet, IsPutIn, IsSet, IsSetIn, IsTakenOut, IsTakenOutAt, argument_count, property_count, value_at, value_named}

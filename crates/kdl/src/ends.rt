@@ -3,8 +3,8 @@
 ghost use Rattle.kdl.specs.Internal.Ends.{EndFewest, EndSays, EndsReadAs, FewestBefore, GapFewest, GapSays, IsEndedExactly, IsNodeEnded, Lacks, PlaceFewest, PlaceSays, block_if, formless_count, newline_count, with_newlines};
 ghost use Rattle.kdl.specs.Nodes.{newlines, printed_format};
 ghost use Rattle.kdl_entry.specs.Tree.{entry_tree};
-ghost use Rattle.kdl_comments.specs.Internal.Reading.{place_view};
-ghost use Rattle.kdl_fmt.specs.Kept.{last_place, without_bom};
+ghost use Rattle.kdl_layout.specs.Internal.Reading.{place_view};
+ghost use Rattle.kdl_layout.specs.Kept.{last_place, without_bom};
 ghost use Rattle.kdl_grammar.specs.Print.{before_block, last_has_format};
 ghost use Rattle.kdl_grammar.specs.ReadsBack.{terminator_text};
 ghost use Rattle.kdl_grammar.specs.Tree.{NodeFormat};
@@ -14,8 +14,8 @@ ghost use Rattle.std.specs.Prelude.{◌≡◌, ◌≢◌, ◌≤◌, ◌+◌, �
 ghost use Rattle.std.specs.Str.{chars};
 
 use crate::document::KdlDocument;
-use kdl_comments::{Place, gap_lacks, place_lacks, push_text, terminator_lacks};
 use kdl_entry::KdlEntry;
+use kdl_layout::{Place, gap_lacks, place_lacks, push_text, terminator_lacks};
 use kdl_parts::KdlNodeFormat;
 use std::alloc::{AllocError, Global};
 

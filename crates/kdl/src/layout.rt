@@ -2,23 +2,23 @@
 
 ghost use Rattle.kdl.specs.Internal.Spacing.{NodesAreSpaced, GoesOn, IsUnderWay, StayAs, whole, with_formats};
 ghost use Rattle.kdl.specs.Tree.{node_tree, nodes_tree};
-ghost use Rattle.kdl_fmt.specs.Config.{IndentsBySpaces, indentation, settings};
-ghost use Rattle.kdl_fmt.specs.Formatted.{bare_node};
-ghost use Rattle.kdl_fmt.specs.OneLine.{nodes_on_line};
-ghost use Rattle.kdl_fmt.specs.Plain.{newline_if};
-ghost use Rattle.kdl_fmt.specs.Spaced.{PassesNodes};
-ghost use Rattle.kdl_fmt.specs.declared.blank.Before.{Before};
-ghost use Rattle.kdl_fmt.specs.declared.config.Layout.{Layout};
-ghost use Rattle.kdl_fmt.specs.Formatted.{newline_if_none};
+ghost use Rattle.kdl_layout.specs.Config.{IndentsBySpaces, indentation, settings};
+ghost use Rattle.kdl_layout.specs.Formatted.{bare_node};
+ghost use Rattle.kdl_layout.specs.OneLine.{nodes_on_line};
+ghost use Rattle.kdl_layout.specs.Plain.{newline_if};
+ghost use Rattle.kdl_layout.specs.Spaced.{PassesNodes};
+ghost use Rattle.kdl_layout.specs.declared.blank.Before.{Before};
+ghost use Rattle.kdl_layout.specs.declared.config.Layout.{Layout};
+ghost use Rattle.kdl_layout.specs.Formatted.{newline_if_none};
 ghost use Rattle.kdl_grammar.specs.Tree.{Node};
 ghost use Rattle.kdl_parts.specs.Formats.{node_format_tree};
 ghost use Rattle.kdl_value.specs.Tree.{text_of};
 ghost use Rattle.std.specs.Prelude.{◌≡◌, ◌+◌, ◌<◌, ◌≤◌, ◌++◌, ◌∷◌, [], ℕ, IfOk, List, OnOk, is_none, map, unwrap_or, vec_len, vec_capacity};
 
 use crate::node::KdlNode;
-use kdl_fmt::layout::{further, indentation};
-use kdl_fmt::one_line::Position;
-use kdl_fmt::{Before, Layout};
+use kdl_layout::layout::{further, indentation};
+use kdl_layout::one_line::Position;
+use kdl_layout::{Before, Layout};
 use kdl_parts::{KdlDocumentFormat, KdlNodeFormat};
 use std::alloc::AllocError;
 use std::mem;

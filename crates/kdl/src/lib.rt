@@ -68,7 +68,7 @@ mod print;
 pub use document::KdlDocument;
 pub use document::args::DashArgsIter;
 pub use kdl_entry::{KdlEntry, KdlEntryFormat, KdlFloat, KdlIdentifier, KdlValue};
-pub use kdl_fmt::{FormatConfig, FormatConfigBuilder, Layout, is_kdl_space};
+pub use kdl_layout::{FormatConfig, FormatConfigBuilder, Layout, is_kdl_space};
 pub use kdl_parts::iter::{ArgsIter, EntryIter, EntryIterMut};
 pub use kdl_parts::{KdlDocumentFormat, KdlNodeFormat, NodeKey};
 pub use kdl_text::cursor::Steps;

@@ -4,12 +4,12 @@ use Rattle.kdl_text.specs.Chars.{Text, Star, plus, begins}
 use Rattle.kdl_text.specs.Chars.Star.{none as no_star, more}
 use Rattle.kdl_text.specs.Internal.Here.{Here, Ate}
 use Rattle.kdl_text.specs.Trivia.{NodeSpace}
-use Rattle.kdl_lexer.specs.Internal.Handed.{Cuts, one, spaces}
-use Rattle.kdl_lexer.specs.Tokens.{Token, space, BeginsToken, t_space, t_bom, NoToken}
-use Rattle.kdl_lexer.proofs.Lexing.TokenUnique.{token_det, no_token}
-use Rattle.kdl_control.specs.Control as c
-use Rattle.kdl_control.specs.EntryControl as e
-use Rattle.kdl_control.specs.NodeControl.{NodeControl, in_text, node_step}
+use Rattle.kdl_syntax.specs.Internal.Handed.{Cuts, one, spaces}
+use Rattle.kdl_syntax.specs.Tokens.{Token, space, BeginsToken, t_space, t_bom, NoToken}
+use Rattle.kdl_syntax.proofs.Lexing.TokenUnique.{token_det, no_token}
+use Rattle.kdl_syntax.specs.Control as c
+use Rattle.kdl_syntax.specs.EntryControl as e
+use Rattle.kdl_syntax.specs.NodeControl.{NodeControl, in_text, node_step}
 use Rattle.kdl_diagnostics.specs.TextControl.{TextControl, in_document, in_node, in_entry, in_identifier, text_step, text_finish, text_start, Takes, ends, takes, AcceptsDocument, no_bom, after_bom}
 use Rattle.kdl_diagnostics.specs.declared.whole.Whole.TheVariants.{Document}
 

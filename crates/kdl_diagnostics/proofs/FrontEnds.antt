@@ -6,9 +6,9 @@ use Rattle.std.proofs.lemmas.List.{length_push}
 use Rattle.std.proofs.lemmas.List.Elements.{All-nil, All-pop}
 use Rattle.kdl_text.specs.Chars.{Text}
 use Rattle.kdl_text.specs.Internal.Here.{Here, Position}
-use Rattle.kdl_lexer.specs.Internal.Handed.{HandsOut, kind_view}
-use Rattle.kdl_lexer.specs.Tokens.{Token, space, newline, slashdash, string, value, left, right, opening, closing, equals, semicolon, bom, NoToken}
-use Rattle.kdl_lexer.specs.declared.lexer.Token.{Token as CodeToken}
+use Rattle.kdl_syntax.specs.Internal.Handed.{HandsOut, kind_view}
+use Rattle.kdl_syntax.specs.Tokens.{Token, space, newline, slashdash, string, value, left, right, opening, closing, equals, semicolon, bom, NoToken}
+use Rattle.kdl_syntax.specs.declared.lexer.Token.{Token as CodeToken}
 use Rattle.kdl_diagnostics.specs.Internal.Noted.{Counts, Untold}
 use Rattle.kdl_diagnostics.specs.Internal.Outsets.{EndsBefore, GoesOver, IsNew, BeginsAt, at_the_end, earlier, IsReady, IsStopped, Lacking, LacksAt, Matched, StopsAfter, depth, text_view}
 use Rattle.kdl_diagnostics.specs.TextControl.{TextControl, Takes, text_finish, text_start, text_step}

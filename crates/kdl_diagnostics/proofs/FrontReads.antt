@@ -9,10 +9,10 @@ use Rattle.kdl_text.specs.Spans.{bytes, raise}
 use Rattle.kdl_text.specs.Trivia.{NodeSpace}
 use Rattle.kdl_text.proofs.Looking.MovesJoin.{moves_then}
 use Rattle.kdl_text.proofs.Looking.Texts.{bytes-chars}
-use Rattle.kdl_lexer.specs.Internal.Handed.{Cuts, one, spaces, HandsOut}
-use Rattle.kdl_lexer.specs.Tokens.{Token, t_space}
-use Rattle.kdl_lexer.specs.declared.lexer.Token.{Token as CodeToken}
-use Rattle.kdl_lexer.proofs.Lexing.TokenUnique.{token_shorter}
+use Rattle.kdl_syntax.specs.Internal.Handed.{Cuts, one, spaces, HandsOut}
+use Rattle.kdl_syntax.specs.Tokens.{Token, t_space}
+use Rattle.kdl_syntax.specs.declared.lexer.Token.{Token as CodeToken}
+use Rattle.kdl_syntax.proofs.Lexing.TokenUnique.{token_shorter}
 use Rattle.kdl_diagnostics.specs.Internal.Reading.{LiesIn}
 
 -- the lexer has gone over tokens of the text

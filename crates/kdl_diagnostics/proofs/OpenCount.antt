@@ -1,9 +1,9 @@
 -- How many blocks are open after a token, and what is missing where a text may not end.
 use Rattle.std.proofs.Common.{◌≡◌, ◌+◌, ◌-◌, ℕ, Bool, true, false, List, [], ◌∷◌, length, Option, Some, None, option_map, refl, subst, arith}
-use Rattle.kdl_lexer.specs.Tokens.{Token, space, newline, slashdash, string, value, left, right, opening, closing, equals, semicolon}
-use Rattle.kdl_control.specs.Control as c
-use Rattle.kdl_control.specs.EntryControl as e
-use Rattle.kdl_control.specs.NodeControl.{NodeControl, in_text, with_begun, between_nodes, node_step}
+use Rattle.kdl_syntax.specs.Tokens.{Token, space, newline, slashdash, string, value, left, right, opening, closing, equals, semicolon}
+use Rattle.kdl_syntax.specs.Control as c
+use Rattle.kdl_syntax.specs.EntryControl as e
+use Rattle.kdl_syntax.specs.NodeControl.{NodeControl, in_text, with_begun, between_nodes, node_step}
 use Rattle.kdl_diagnostics.specs.Internal.Noted.{Counts}
 use Rattle.kdl_diagnostics.specs.Internal.Outsets.{depth, open_blocks}
 use Rattle.kdl_diagnostics.specs.TextControl.{TextControl, in_document, in_node, in_entry, in_identifier, text_step}

@@ -1,10 +1,10 @@
 -- Which token may come where in a text, and which texts are accepted.
 use Rattle.std.specs.Prelude.{◌≡◌, Bool, true, false, [], ◌∷◌, Option, Some, None, option_map}
 use Rattle.kdl_text.specs.Chars.{Text}
-use Rattle.kdl_lexer.specs.Tokens.{Token, string, BeginsToken}
-use Rattle.kdl_control.specs.Control.{Control, at, gap, step, finish}
-use Rattle.kdl_control.specs.EntryControl.{EntryControl, ahead, entry_step, entry_finish}
-use Rattle.kdl_control.specs.NodeControl.{NodeControl, node_start, node_step, node_finish}
+use Rattle.kdl_syntax.specs.Tokens.{Token, string, BeginsToken}
+use Rattle.kdl_syntax.specs.Control.{Control, at, gap, step, finish}
+use Rattle.kdl_syntax.specs.EntryControl.{EntryControl, ahead, entry_step, entry_finish}
+use Rattle.kdl_syntax.specs.NodeControl.{NodeControl, node_start, node_step, node_finish}
 use Rattle.kdl_diagnostics.specs.declared.whole.Whole.{Whole}
 use Rattle.kdl_diagnostics.specs.declared.whole.Whole.TheVariants.{Document, Node, Entry, Identifier}
 

@@ -3,7 +3,7 @@
 ghost use Rattle.kdl_diagnostics.specs.Internal.Noted.{IsFrontOf, KeepsFrontBetween};
 ghost use Rattle.kdl_diagnostics.specs.Internal.Outsets.{GoesOver, IsNew, IsStopped, StopsAfter, text_view};
 ghost use Rattle.kdl_diagnostics.specs.TextControl.{Accepts, Takes, text_start, text_step};
-ghost use Rattle.kdl_lexer.specs.Internal.Handed.{kind_view};
+ghost use Rattle.kdl_syntax.specs.Internal.Handed.{kind_view};
 ghost use Rattle.kdl_text.specs.Chars.{Text};
 ghost use Rattle.kdl_text.specs.Internal.Reading.{Costs, Moves};
 ghost use Rattle.kdl_text.specs.Spans.{bytes, raise};
@@ -12,8 +12,7 @@ ghost use Rattle.std.specs.Prelude.{◌≡◌, ◌↔◌, ◌+◌, ◌*◌, ◌�
 use crate::notes::Notes;
 use crate::text_control::{Outset, TextControl};
 use crate::whole::Whole;
-use kdl_control::Phase;
-use kdl_lexer::{LexFailure, Lexer, Token, TokenKind};
+use kdl_syntax::{LexFailure, Lexer, Phase, Token, TokenKind};
 use kdl_text::cursor::Checkpoint;
 use std::alloc::{AllocError, Global};
 

@@ -3,13 +3,12 @@
 //! Which lexeme may come where is up to the `Control`. If a lexeme does not fit, what was expected counts as read, and
 //! the control continues from there.
 
-ghost use Rattle.kdl_control.specs.Control.{at, finish};
-ghost use Rattle.kdl_control.specs.Internal.Views.{phase_view};
+ghost use Rattle.kdl_syntax.specs.Control.{at, finish};
+ghost use Rattle.kdl_syntax.specs.Internal.Views.{phase_view};
 ghost use Rattle.std.specs.Prelude.{◌≡◌, [], false, if◌then◌else◌, true};
 
 use crate::lexemes::{LexemeKind, StringRole};
-use kdl_control::{Owner, Phase, Spot, Word};
-use kdl_lexer::TokenKind;
+use kdl_syntax::{Owner, Phase, Spot, TokenKind, Word};
 use kdl_value::KdlValue;
 use std::alloc::Global;
 

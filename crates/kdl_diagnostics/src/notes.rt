@@ -3,7 +3,7 @@
 ghost use Rattle.kdl_diagnostics.specs.Internal.Noted.{Always, Between, CountsOpen, HasFault, IsNotesOf, Keeps, Lexed, LexedBetween, LexedFrom, Opens, Untold};
 ghost use Rattle.kdl_diagnostics.specs.Internal.Reading.{LiesIn, Reads, Stands};
 ghost use Rattle.kdl_diagnostics.specs.declared.machine.Context.TheVariants.{FaultyType};
-ghost use Rattle.kdl_lexer.specs.Internal.Handed.{kind_view};
+ghost use Rattle.kdl_syntax.specs.Internal.Handed.{kind_view};
 ghost use Rattle.kdl_text.specs.Chars.{Text};
 ghost use Rattle.std.specs.Prelude.{◌≡◌, ◌-◌, ◌<◌, [], length, IfOk, IsSome};
 
@@ -12,7 +12,7 @@ use crate::esclines::Candidate;
 use crate::kind::Kind;
 use crate::lexemes::{Lexeme, LexemeKind};
 use crate::machine::Context;
-use kdl_lexer::{Token, TokenKind};
+use kdl_syntax::{Token, TokenKind};
 use kdl_text::cursor::{Checkpoint, Cursor};
 use kdl_text::span::SourceSpan;
 use std::alloc::{AllocError, Global};

@@ -13,8 +13,7 @@ use crate::machine::{
 use crate::notes::Notes;
 use crate::text_control::Outset;
 use crate::whole::Whole;
-use kdl_control::{Control, Owner, Phase};
-use kdl_lexer::TokenKind;
+use kdl_syntax::{Control, Owner, Phase, TokenKind};
 use std::alloc::{AllocError, Global};
 
 /// Where a reader of faults is.

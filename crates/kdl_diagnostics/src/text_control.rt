@@ -1,17 +1,16 @@
 //! Which token may come where in a text, and where the reader of faults may begin.
 
-ghost use Rattle.kdl_control.specs.EntryControl.{entry_finish};
-ghost use Rattle.kdl_control.specs.Internal.EntryViews.{entry_view};
+ghost use Rattle.kdl_syntax.specs.EntryControl.{entry_finish};
+ghost use Rattle.kdl_syntax.specs.Internal.EntryViews.{entry_view};
 ghost use Rattle.kdl_diagnostics.specs.Internal.Outsets.{LacksAt, depth, text_view};
 ghost use Rattle.kdl_diagnostics.specs.TextControl.{text_finish, text_start, text_step};
 ghost use Rattle.kdl_diagnostics.specs.declared.whole.Whole.TheVariants.{Entry, Identifier, Node};
-ghost use Rattle.kdl_lexer.specs.Internal.Handed.{kind_view};
+ghost use Rattle.kdl_syntax.specs.Internal.Handed.{kind_view};
 ghost use Rattle.std.specs.Prelude.{◌≡◌, false, IfOk, None, Some, if◌then◌else◌};
 
 use crate::machine::{in_node, is_dropping, is_due};
 use crate::whole::Whole;
-use kdl_control::{EntryControl, NodeControl, Owner, Phase, Spot, Word};
-use kdl_lexer::TokenKind;
+use kdl_syntax::{EntryControl, NodeControl, Owner, Phase, Spot, TokenKind, Word};
 use std::alloc::{AllocError, Global};
 
 /// What the reader of faults knows of a place that the control has reached.

@@ -13,7 +13,7 @@ use crate::front::Prefix;
 use crate::notes::Fault;
 use crate::reader::Reader;
 use crate::whole::Whole;
-use kdl_lexer::Lexer;
+use kdl_syntax::Lexer;
 use kdl_text::cursor::Steps;
 use kdl_text::error::{KdlDiagnostic, KdlError, ParseFailure};
 use kdl_text::span::Severity;

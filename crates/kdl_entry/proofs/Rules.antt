@@ -4,7 +4,7 @@ use Rattle.kdl_entry.proofs.Reading.EntryLoop.{all_read, at_the_end, from_end, f
 use Rattle.kdl_entry.proofs.Reading.IdentifierAnswers.{found as identifier_found, only as identifier_only, prints as identifier_prints}
 use Rattle.kdl_entry.proofs.Slicing.Between.{empty_text, is_between, is_part, nothing_between}
 use Rattle.kdl_entry.proofs.Slicing.SliceCost.{piece_sliced, token_fewer}
-use Rattle.kdl_lexer.proofs.Order.{ahead}
+use Rattle.kdl_syntax.proofs.Order.{ahead}
 
 -- for src/parsing/source.rt
 pub ruleset source = (nothing_between, is_between, is_part, piece_sliced, ahead)

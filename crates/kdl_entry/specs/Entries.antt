@@ -4,7 +4,7 @@ use Rattle.std.specs.Prelude.{Bool, true, [], ◌∷◌, Option, Some, None}
 use Rattle.kdl_text.specs.Chars.{Text, Star, Plus}
 use Rattle.kdl_text.specs.Trivia.{NodeSpace, LineSpace, Slashdash, ValueEnd}
 use Rattle.kdl_value.specs.Data.{Value, text}
-use Rattle.kdl_lexer.specs.Pieces.{StringPiece, PlainPiece}
+use Rattle.kdl_syntax.specs.Pieces.{StringPiece, PlainPiece}
 use Rattle.kdl_entry.specs.Data.{Entry}
 
 -- a string, followed by a value end

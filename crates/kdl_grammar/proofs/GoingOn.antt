@@ -4,13 +4,13 @@ use Rattle.std.proofs.lemmas.List.{append_cancel_right, append-nil}
 use Rattle.std.specs.Prelude.{IsTrue}
 use Rattle.kdl_text.specs.Chars.{Text, begins}
 use Rattle.kdl_text.specs.Internal.Here.{first}
-use Rattle.kdl_lexer.specs.Tokens.{Token, BeginsToken, t_bom, Lexes, done, next, NoToken}
-use Rattle.kdl_lexer.proofs.Lexing.TokenUnique.{no_token}
-use Rattle.kdl_lexer.proofs.Moving.Puts.{begins_first, front_first, more_first, two_parts, two_some}
+use Rattle.kdl_syntax.specs.Tokens.{Token, BeginsToken, t_bom, Lexes, done, next, NoToken}
+use Rattle.kdl_syntax.proofs.Lexing.TokenUnique.{no_token}
+use Rattle.kdl_syntax.proofs.Moving.Puts.{begins_first, front_first, more_first, two_parts, two_some}
 use Rattle.kdl_grammar.specs.Data.{Nodes}
 use Rattle.kdl_grammar.specs.GoingOn.{Derived, Viable, Alive, AliveInToken, DeadAtToken, DeadAtFront, RefusedAtPiece, DerivedAtEnd}
 use Rattle.kdl_grammar.specs.Grammar.{AreNodes, IsDocument, IsDocumentIn}
-use Rattle.kdl_control.specs.Control.{Control, at, gap, accepts, finish, step}
+use Rattle.kdl_syntax.specs.Control.{Control, at, gap, accepts, finish, step}
 use Rattle.kdl_grammar.specs.Going.{Goes, here, goes, Reaches, no_bom, after_bom}
 use Rattle.kdl_grammar.proofs.Reading.Erased.{accepted_nodes}
 use Rattle.kdl_grammar.proofs.Reading.Refusing.{near_goes, rest_of, dead_nodes, refused_here, refuses_two}

@@ -4,13 +4,13 @@ use Rattle.std.proofs.lemmas.List.{append_cancel_right}
 use Rattle.kdl_text.specs.Chars.{Text, Star, begins, starts, is_identifier_char}
 use Rattle.kdl_text.specs.Chars.Star.{none as no_star, more}
 use Rattle.kdl_text.specs.Trivia.{LineSpace}
-use Rattle.kdl_lexer.specs.Tokens.{Token, space, newline, slashdash, string, value, left, right, opening, closing, equals, semicolon, bom, BeginsToken, t_space, t_newline, t_right, t_opening, t_closing, t_semicolon, done}
-use Rattle.kdl_lexer.proofs.Lexing.TokenUnique.{token_det, no_token}
-use Rattle.kdl_lexer.proofs.Moving.Puts.{front_first, two_parts, two_some}
+use Rattle.kdl_syntax.specs.Tokens.{Token, space, newline, slashdash, string, value, left, right, opening, closing, equals, semicolon, bom, BeginsToken, t_space, t_newline, t_right, t_opening, t_closing, t_semicolon, done}
+use Rattle.kdl_syntax.proofs.Lexing.TokenUnique.{token_det, no_token}
+use Rattle.kdl_syntax.proofs.Moving.Puts.{front_first, two_parts, two_some}
 use Rattle.kdl_grammar.specs.Data.{Nodes}
 use Rattle.kdl_grammar.specs.GoingOn.{BeginsNoOther, DerivedNode, NodeAlive, NodeDeadAtToken}
 use Rattle.kdl_grammar.specs.Grammar.{AreNodes, last_gap, node_then, node_text}
-use Rattle.kdl_control.specs.Control.{fresh, spaced, later, Phase, gap, node_slashdash, type_open, type_name, type_done, in_node, property, entry_slashdash, block_slashdash, kept, kept_slashdash, Frame, in_block, in_dropped, in_later, Control, at, step, finish}
+use Rattle.kdl_syntax.specs.Control.{fresh, spaced, later, Phase, gap, node_slashdash, type_open, type_name, type_done, in_node, property, entry_slashdash, block_slashdash, kept, kept_slashdash, Frame, in_block, in_dropped, in_later, Control, at, step, finish}
 use Rattle.kdl_grammar.specs.Going.{Goes, here, goes}
 use Rattle.kdl_grammar.specs.NodeControl.{NodeControl, in_text, node_step, node_finish, node_start, NodeReaches, NodeRefusesFront}
 use Rattle.kdl_grammar.proofs.Reading.NodeComplete.{NodeGoes, and_then, lines_stay, at_end, at_close, Stands, between, in_open, kept_open, no_line, found_node, gap_only}

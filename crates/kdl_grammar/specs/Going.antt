@@ -1,8 +1,8 @@
 -- How far the control reads in a text.
 use Rattle.std.specs.Prelude.{◌≡◌, false, [], ◌∷◌, ◌++◌, Option, Some, None}
 use Rattle.kdl_text.specs.Chars.{Text, begins}
-use Rattle.kdl_lexer.specs.Tokens.{Token, BeginsToken}
-use Rattle.kdl_control.specs.Control.{Control, at, gap, step}
+use Rattle.kdl_syntax.specs.Tokens.{Token, BeginsToken}
+use Rattle.kdl_syntax.specs.Control.{Control, at, gap, step}
 
 -- by these steps, from one state to the other over the tokens of s up to the rest r
 pub data GoesBy {S : Type 0} (step : S → Token → Option S) : S → Text → S → Text → Type 0 where

@@ -1,10 +1,10 @@
 -- Which texts begin a document or a node text, and what is proved of that. `derived` says which texts the grammar derives: documents, or node texts.
 use Rattle.std.specs.Prelude.{◌≡◌, ◌≢◌, ◌↔◌, IsTrue, [], ◌++◌, Some, None, take}
 use Rattle.kdl_text.specs.Chars.{Text}
-use Rattle.kdl_lexer.specs.Tokens.{Token, BeginsToken, NoToken}
+use Rattle.kdl_syntax.specs.Tokens.{Token, BeginsToken, NoToken}
 use Rattle.kdl_grammar.specs.Data.{Node, Nodes}
 use Rattle.kdl_grammar.specs.Grammar.{IsDocument, IsNodeText}
-use Rattle.kdl_control.specs.Control.{Control, step, finish}
+use Rattle.kdl_syntax.specs.Control.{Control, step, finish}
 use Rattle.kdl_grammar.specs.Going.{Reaches, RefusesFront}
 use Rattle.kdl_grammar.specs.NodeControl.{NodeControl, node_step, NodeReaches}
 

@@ -1,8 +1,8 @@
 -- The control of a node text, and how far it reads.
 use Rattle.std.specs.Prelude.{◌≡◌, ◌++◌, None}
 use Rattle.kdl_text.specs.Chars.{Text}
-use Rattle.kdl_lexer.specs.Tokens.{Token, BeginsToken}
-pub use Rattle.kdl_control.specs.NodeControl.{NodeControl, in_text, with_begun, between_nodes, node_step, node_finish, node_start}
+use Rattle.kdl_syntax.specs.Tokens.{Token, BeginsToken}
+pub use Rattle.kdl_syntax.specs.NodeControl.{NodeControl, in_text, with_begun, between_nodes, node_step, node_finish, node_start}
 use Rattle.kdl_grammar.specs.Going.{GoesBy}
 
 -- it goes over the text t of a node up to the rest r

@@ -7,7 +7,7 @@ use Rattle.kdl.specs.Said.{said_nodes}
 use Rattle.kdl_entry.specs.Data.{Entry}
 use Rattle.kdl_text.specs.Chars.{Text}
 use Rattle.std.specs.Prelude.{Option}
-use Rattle.kdl_fmt.specs.WellFormed.{AreWellFormed, AreWellFormedChildren, AreWellFormedEntries, IsWellFormedNode}
+use Rattle.kdl_layout.specs.WellFormed.{AreWellFormed, AreWellFormedChildren, AreWellFormedEntries, IsWellFormedNode}
 use Rattle.kdl_grammar.specs.Data.{Node, node, Children, Nodes, none, first}
 use Rattle.kdl_json.specs.Form.{children_tokens, head_tokens, node_tokens, nodes_tokens}
 use Rattle.kdl_json.specs.Heads.{IsHead, head_of, with_block}

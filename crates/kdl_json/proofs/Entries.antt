@@ -7,7 +7,7 @@ use Rattle.kdl_entry.specs.declared.entry.KdlEntry.{KdlEntry}
 use Rattle.json.specs.Token as json'
 use Rattle.json.specs.Token.{Token}
 use Rattle.kdl_entry.specs.Data.{Entry}
-use Rattle.kdl_fmt.specs.WellFormed.{AreWellFormedEntries, IsWellFormedEntry}
+use Rattle.kdl_layout.specs.WellFormed.{AreWellFormedEntries, IsWellFormedEntry}
 use Rattle.kdl_grammar.specs.Data.{Node, node}
 use Rattle.kdl_json.specs.Form.{entries_tokens, entry_tokens}
 use Rattle.kdl_json.specs.Heads.{HasTaken, with_more}

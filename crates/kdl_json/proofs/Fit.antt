@@ -3,7 +3,7 @@ use Rattle.std.proofs.Common.{◌≡◌, Option, Some, None, List, [], ◌∷◌
 use Rattle.kdl_entry.specs.Tree.{entry_data, entry_tree, identifier_tree}
 use Rattle.kdl_entry.specs.declared.entry.KdlEntry.{KdlEntry}
 use Rattle.kdl_entry.specs.declared.identifier.KdlIdentifier.{KdlIdentifier}
-use Rattle.kdl_fmt.specs.WellFormed.{AreScalars, AreWellFormedEntries, IsWellFormedEntry}
+use Rattle.kdl_layout.specs.WellFormed.{AreScalars, AreWellFormedEntries, IsWellFormedEntry}
 use Rattle.kdl_value.specs.Tree.{value_tree}
 use Rattle.kdl_value.specs.WellFormed.{IsWellFormed}
 use Rattle.kdl_value.proofs.WellFormed.{text_scalars}

@@ -5,7 +5,7 @@ use Rattle.std.specs.Prelude.{codes}
 use Rattle.json.specs.Token.{Token, begin_array, end_array, end_object, key}
 use Rattle.kdl.specs.Said.{said_nodes}
 use Rattle.kdl.specs.Tree.{document_says, node_says}
-use Rattle.kdl_fmt.specs.WellFormed.{AreWellFormed}
+use Rattle.kdl_layout.specs.WellFormed.{AreWellFormed}
 use Rattle.kdl_grammar.specs.Data.{Node, Nodes, none}
 use Rattle.kdl_json.specs.Form.{nodes_tokens}
 use Rattle.kdl_json.specs.declared.read.Open.{Open}

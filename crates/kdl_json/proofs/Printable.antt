@@ -10,7 +10,7 @@ use Rattle.kdl_value.specs.Data.{Value, text, integer, float, truth, null}
 use Rattle.kdl_value.specs.WellFormed.{IsWellFormed}
 use Rattle.kdl_entry.specs.Data.{Entry}
 use Rattle.kdl_grammar.specs.Data.{Node, node, Children, no_children, children, Nodes, none, first}
-use Rattle.kdl_fmt.specs.WellFormed.{AreWellFormed, AreWellFormedChildren, AreWellFormedEntries, IsWellFormedEntry, IsWellFormedNode}
+use Rattle.kdl_layout.specs.WellFormed.{AreWellFormed, AreWellFormedChildren, AreWellFormedEntries, IsWellFormedEntry, IsWellFormedNode}
 use Rattle.kdl_json.specs.Form.{IsJsonOf, children_tokens, document_tokens, entries_tokens, entry_tokens, float_tokens, is_json_number, json_text, member_tokens, node_tokens, nodes_tokens, value_tokens}
 use Rattle.kdl_json.proofs.Numbers.{IsNumber-from_test, IsNumber-written}
 use Rattle.kdl_json.proofs.Unique.{one_document}

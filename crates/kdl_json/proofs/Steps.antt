@@ -6,7 +6,7 @@ use Rattle.json.specs.Token.{Token}
 use Rattle.kdl.specs.Said.{said_nodes}
 use Rattle.kdl_entry.specs.Data.{Entry}
 use Rattle.kdl_text.specs.Chars.{Text}
-use Rattle.kdl_fmt.specs.WellFormed.{AreWellFormedChildren, AreWellFormedEntries}
+use Rattle.kdl_layout.specs.WellFormed.{AreWellFormedChildren, AreWellFormedEntries}
 use Rattle.kdl_grammar.specs.Data.{Node, node, Children, no_children, children, Nodes}
 use Rattle.kdl_json.specs.Form.{children_tokens, head_tokens}
 use Rattle.kdl_json.specs.Heads.{with_block}

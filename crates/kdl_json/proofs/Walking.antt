@@ -8,7 +8,7 @@ use Rattle.json.specs.Token as json'
 use Rattle.json.specs.Token.{Token}
 use Rattle.json.specs.Written.{Written}
 use Rattle.kdl.specs.Said.{said_children, said_nodes}
-use Rattle.kdl_fmt.specs.WellFormed.{AreWellFormed, IsWellFormedNode}
+use Rattle.kdl_layout.specs.WellFormed.{AreWellFormed, IsWellFormedNode}
 use Rattle.kdl_grammar.specs.Data.{Node, node, no_children, children, Nodes}
 use Rattle.kdl_json.specs.Form.{node_tokens, nodes_tokens}
 use Rattle.kdl_json.specs.Heads.{head_of}

@@ -4,7 +4,7 @@ use Rattle.std.specs.List.{list_all}
 use Rattle.json.specs.Token.{Token}
 use Rattle.json.specs.Written.{Written}
 use Rattle.kdl_text.specs.Chars.{is_scalar}
-use Rattle.kdl_fmt.specs.WellFormed.{AreScalars, AreWellFormedEntries}
+use Rattle.kdl_layout.specs.WellFormed.{AreScalars, AreWellFormedEntries}
 use Rattle.kdl_grammar.specs.Data.{Node, node}
 
 -- what stood before stays, and the tokens are appended unless an allocation fails

@@ -2,7 +2,7 @@
 
 ghost use Rattle.json.specs.Token.{Token as Spec, begin_object, end_array, string};
 ghost use Rattle.kdl.specs.Words.{EntryData, IsWellFormed, Text, Value, entry_data, entry_tree, identifier_tree, node_says, value_tree};
-ghost use Rattle.kdl_fmt.specs.WellFormed.{AreWellFormedEntries, IsWellFormedEntry};
+ghost use Rattle.kdl_layout.specs.WellFormed.{AreWellFormedEntries, IsWellFormedEntry};
 ghost use Rattle.kdl_grammar.specs.Data.{no_children, node};
 ghost use Rattle.kdl_json.specs.Form.{entries_tokens, entry_tokens, head_tokens, member_tokens, name_tokens, value_tokens};
 ghost use Rattle.kdl_json.specs.Heads.{HasTaken, IsHead, IsNamed, with_more};

@@ -1,7 +1,7 @@
 //! What the JSON of a document says of its data.
 
 ghost use Rattle.kdl.specs.Words.{Nodes, document_says};
-ghost use Rattle.kdl_fmt.specs.WellFormed.{AreWellFormed};
+ghost use Rattle.kdl_layout.specs.WellFormed.{AreWellFormed};
 ghost use Rattle.kdl_json.specs.Form.{IsJsonOf, json_text};
 ghost use Rattle.kdl_json.specs.declared.failure.JsonFailure.TheVariants.{Memory};
 ghost use Rattle.std.specs.Prelude.{◌≡◌, ◌↔◌, List, MatchResult, ℕ};

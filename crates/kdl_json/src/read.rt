@@ -2,7 +2,7 @@
 
 ghost use Rattle.json.specs.Token.{end_array};
 ghost use Rattle.kdl.specs.Words.{Nodes, document_says};
-ghost use Rattle.kdl_fmt.specs.WellFormed.{AreWellFormed};
+ghost use Rattle.kdl_layout.specs.WellFormed.{AreWellFormed};
 ghost use Rattle.kdl_json.specs.Form.{IsJsonOf, nodes_tokens};
 ghost use Rattle.kdl_json.specs.Reading.{left};
 ghost use Rattle.kdl_json.specs.declared.failure.JsonFailure.TheVariants.{Memory};

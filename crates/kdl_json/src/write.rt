@@ -2,7 +2,7 @@
 
 ghost use Rattle.json.specs.Token.{begin_array, end_array, key as token_key, string};
 ghost use Rattle.kdl.specs.Words.{document_says, entry_data, entry_tree, identifier_tree, node_says, value_tree};
-ghost use Rattle.kdl_fmt.specs.WellFormed.{AreWellFormed, AreWellFormedEntries, IsWellFormedEntry};
+ghost use Rattle.kdl_layout.specs.WellFormed.{AreWellFormed, AreWellFormedEntries, IsWellFormedEntry};
 ghost use Rattle.kdl_json.specs.Form.{entries_tokens, entry_tokens, float_tokens, is_json_number, json_text, member_tokens, nodes_tokens, value_tokens};
 ghost use Rattle.kdl_json.specs.Heads.{head_of};
 ghost use Rattle.kdl_json.specs.Writing.{Appends, IsFitHead};
@@ -10,7 +10,7 @@ ghost use Rattle.std.specs.Prelude.{◌≡◌, ◌∷◌, IfOk, Some, OnOk, code
 
 use json::{Writer, is_number};
 use kdl::{KdlDocument, KdlEntry, KdlIdentifier, KdlNode, KdlValue};
-use kdl_fmt::layout::well_formed;
+use kdl_layout::layout::well_formed;
 use std::alloc::{AllocError, Global};
 
 /// Writes a float: a number if its text is one, else its text in an object.

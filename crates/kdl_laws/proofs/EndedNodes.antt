@@ -5,13 +5,13 @@ use Rattle.kdl_text.specs.Chars.{Text}
 use Rattle.kdl_value.specs.Tree.{text_of}
 use Rattle.kdl_text.specs.Internal.Here.{first as first_char}
 use Rattle.kdl_text.specs.Trivia.{ValueEnd}
-use Rattle.kdl_lexer.proofs.Moving.Puts.{same_piece}
+use Rattle.kdl_syntax.proofs.Moving.Puts.{same_piece}
 use Rattle.kdl_grammar.specs.Grammar.{Terminator}
 use Rattle.kdl_grammar.specs.Places.{BeforeChildren, AfterChildren}
 use Rattle.kdl_grammar.specs.ReadsBack.{Anything, TextEnd, BeforeTerminator, EndReads, NodeReads, reads, Terminates, terminator_text}
 use Rattle.kdl_grammar.specs.Tree.{NodeFormat, Head, node, Children, no_children, children, children_of}
 use Rattle.kdl_grammar.proofs.Moving.Moves.{move_after, move_before, terminator_end}
-use Rattle.kdl_comments.proofs.Rewriting.BeforeNewlines.{a_newline}
+use Rattle.kdl_layout.proofs.Rewriting.BeforeNewlines.{a_newline}
 use Rattle.kdl_parts.specs.Formats.{node_format_tree}
 use Rattle.kdl_parts.specs.declared.format.KdlNodeFormat.{KdlNodeFormat}
 use Rattle.kdl.specs.Fields.{node_format_of}

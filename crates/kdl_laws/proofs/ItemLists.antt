@@ -3,13 +3,13 @@ use Rattle.std.proofs.Common.{◌≡◌, true, List, [], ◌∷◌, ◌++◌, ma
 use Rattle.std.specs.List.{list_all}
 use Rattle.kdl_text.specs.Chars.{Text, is_space}
 use Rattle.kdl_grammar.specs.Tree.{Document, Node}
-use Rattle.kdl_comments.specs.Items.{Item, GapItems, Place, PlaceItems}
-use Rattle.kdl_comments.specs.Written.{lines, on_line, tail}
-use Rattle.kdl_comments.proofs.Listing.ItemsUnique.{gap_items_det, place_items_det}
-use Rattle.kdl_comments.proofs.Rewriting.PlacesAgain.{tail_spaced}
-use Rattle.kdl_comments.proofs.Rewriting.LinesAgain.{lines_spaces}
-use Rattle.kdl_fmt.specs.Comments.{DocumentItems, NodeItems}
-use Rattle.kdl_fmt.proofs.Keeping.ListUnique.{document_items_det, node_items_det}
+use Rattle.kdl_layout.specs.Items.{Item, GapItems, Place, PlaceItems}
+use Rattle.kdl_layout.specs.Written.{lines, on_line, tail}
+use Rattle.kdl_layout.proofs.Listing.ItemsUnique.{gap_items_det, place_items_det}
+use Rattle.kdl_layout.proofs.Rewriting.PlacesAgain.{tail_spaced}
+use Rattle.kdl_layout.proofs.Rewriting.LinesAgain.{lines_spaces}
+use Rattle.kdl_layout.specs.Comments.{DocumentItems, NodeItems}
+use Rattle.kdl_layout.proofs.Keeping.ListUnique.{document_items_det, node_items_det}
 
 pub one_list : (s : Text) (is js : List Item) → GapItems s is → GapItems s js → is ≡ js
 one_list s is js a b = gap_items_det a b

@@ -4,10 +4,10 @@ use Rattle.kdl_text.proofs.Spacing.ValueEnds.{value_end_no_identifier}
 use Rattle.kdl_text.specs.Chars.{is_banned, is_identifier_char, is_newline_char, is_punctuation, is_space}
 use Rattle.kdl_entry.specs.Tree.{Entry}
 use Rattle.kdl_grammar.specs.Tree.{Node, node, Children, no_children, children, Document, document, Nodes, none, first}
-use Rattle.kdl_fmt.specs.Config.{Settings, defaults}
-use Rattle.kdl_fmt.specs.Formatted.{with_keep_if, EntriesKeepNone, NodeKeepsNone, ChildrenKeepNone, DocumentKeepsNone, NodesKeepNone}
-use Rattle.kdl_fmt.specs.Kept.{is_kept_format}
-use Rattle.kdl_fmt.specs.KeptForm.{KeepsReading, EntriesKeepReading, NodeKeepsReading, ChildrenKeepReading, DocumentKeepsReading, NodesKeepReading}
+use Rattle.kdl_layout.specs.Config.{Settings, defaults}
+use Rattle.kdl_layout.specs.Formatted.{with_keep_if, EntriesKeepNone, NodeKeepsNone, ChildrenKeepNone, DocumentKeepsNone, NodesKeepNone}
+use Rattle.kdl_layout.specs.Kept.{is_kept_format}
+use Rattle.kdl_layout.specs.KeptForm.{KeepsReading, EntriesKeepReading, NodeKeepsReading, ChildrenKeepReading, DocumentKeepsReading, NodesKeepReading}
 use Rattle.kdl_laws.specs.KeptForm.{EmptyFormFails, UnflaggedKeepReading, empty_form}
 
 not_flagged : (keep : Bool) (e : Entry) → keep ≡ false → is_kept_format e.format ≡ false → is_kept_format (with_keep_if keep e).format ≡ true → ⊥

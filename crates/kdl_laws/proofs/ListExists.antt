@@ -4,13 +4,13 @@ use Rattle.kdl_text.specs.Chars.{Text}
 use Rattle.kdl_entry.specs.Tree.{Entry}
 use Rattle.kdl_entry.specs.Places.{between}
 use Rattle.kdl_grammar.specs.Tree.{Node, node, Children, no_children, children, Document, document, Nodes, none, first}
-use Rattle.kdl_comments.specs.Items.{Item, comment, line_end, GapItems, before_entry, before_block, PlaceItems}
-use Rattle.kdl_fmt.specs.Comments.{ItemsIn, EndItems, EntriesItems, NodeItems, of_node, ChildrenItems, NodesItems, DocumentItems, of_document}
-use Rattle.kdl_fmt.specs.Config.{Settings}
-use Rattle.kdl_fmt.specs.Formatted.{or_empty, or_empty_document, DocumentKeepsNone, NodeKeepsNone}
-use Rattle.kdl_fmt.specs.Kept.{last_place, without_bom, entry_leading}
-use Rattle.kdl_fmt.specs.WithComments.{has_block, IsFormattedDocument, IsFormattedNode}
-use Rattle.kdl_fmt.proofs.Keeping.ListExists.{document_has_items, node_has}
+use Rattle.kdl_layout.specs.Items.{Item, comment, line_end, GapItems, before_entry, before_block, PlaceItems}
+use Rattle.kdl_layout.specs.Comments.{ItemsIn, EndItems, EntriesItems, NodeItems, of_node, ChildrenItems, NodesItems, DocumentItems, of_document}
+use Rattle.kdl_layout.specs.Config.{Settings}
+use Rattle.kdl_layout.specs.Formatted.{or_empty, or_empty_document, DocumentKeepsNone, NodeKeepsNone}
+use Rattle.kdl_layout.specs.Kept.{last_place, without_bom, entry_leading}
+use Rattle.kdl_layout.specs.WithComments.{has_block, IsFormattedDocument, IsFormattedNode}
+use Rattle.kdl_layout.proofs.Keeping.ListExists.{document_has_items, node_has}
 
 -- it can't be that no list is of the kind
 abbrev SomeList : (List Item → Type 0) → Type 0

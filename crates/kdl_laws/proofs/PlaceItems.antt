@@ -5,11 +5,11 @@ use Rattle.std.specs.Prelude.{◌≢◌, if◌then◌else◌}
 use Rattle.kdl_text.specs.Chars.{Text}
 use Rattle.kdl_text.specs.Trivia.{LineComment}
 use Rattle.kdl_grammar.specs.Grammar.{no_gap}
-use Rattle.kdl_comments.specs.Items.{Item, GapItems}
-use Rattle.kdl_comments.proofs.Listing.PlaceTexts.{HasGap, gap_has, gap_of}
-use Rattle.kdl_fmt.specs.Comments.{EndItems}
-use Rattle.kdl_fmt.specs.Kept.{without_bom}
-use Rattle.kdl_fmt.proofs.Keeping.GapFronts.{gap_without_bom}
+use Rattle.kdl_layout.specs.Items.{Item, GapItems}
+use Rattle.kdl_layout.proofs.Listing.PlaceTexts.{HasGap, gap_has, gap_of}
+use Rattle.kdl_layout.specs.Comments.{EndItems}
+use Rattle.kdl_layout.specs.Kept.{without_bom}
+use Rattle.kdl_layout.proofs.Keeping.GapFronts.{gap_without_bom}
 use Rattle.kdl_laws.specs.Leading.{DocumentLeading, no_bom, after_bom}
 
 -- before the nodes of a document

@@ -6,7 +6,7 @@ use Rattle.kdl_value.specs.Tree.{text_of}
 use Rattle.kdl_grammar.specs.Data.{Nodes}
 use Rattle.kdl_grammar.specs.Grammar.{IsDocument}
 use Rattle.kdl_grammar.proofs.LawProofs.{one_document}
-use Rattle.kdl_fmt.proofs.Texts.{printed_text}
+use Rattle.kdl_layout.proofs.Texts.{printed_text}
 use Rattle.kdl.specs.ReadsBack.{DocumentReadsBack}
 use Rattle.kdl.specs.Tree.{document_prints, document_says}
 use Rattle.kdl.specs.declared.document.KdlDocument.{KdlDocument}

@@ -10,8 +10,8 @@ use Rattle.kdl_grammar.specs.Print.{leading_text, trailing_text}
 use Rattle.kdl_grammar.specs.ReadsBack.{Rests, Anything, TextEnd, AddsNothing, NodeReads, NodesRead, last_node, next_node, ContentReads, one_text, two_texts, with_nodes, last_rests, DocumentReads}
 use Rattle.kdl_grammar.specs.Tree.{DocumentFormat, Node, document, document_data, listed_nodes, node_data, nodes_data}
 use Rattle.kdl_grammar.proofs.ReadingBack.Composing.{ends_before}
-use Rattle.kdl_fmt.specs.Kept.{without_bom}
-use Rattle.kdl_fmt.proofs.Keeping.GapFronts.{gap_without_bom}
+use Rattle.kdl_layout.specs.Kept.{without_bom}
+use Rattle.kdl_layout.proofs.Keeping.GapFronts.{gap_without_bom}
 use Rattle.kdl.specs.Change as change
 use Rattle.kdl.specs.DocumentLookups.{nodes_of}
 use Rattle.kdl.specs.Nodes.{said_with, texts_around, trees}
@@ -24,7 +24,7 @@ use Rattle.kdl.specs.declared.document.KdlDocument.TheViews.{out-KdlDocument}
 use Rattle.kdl.proofs.ReadingBack.{nodes_read_back}
 use Rattle.kdl.proofs.Trees.{document_tree_out, document_tree_roll}
 use Rattle.kdl_laws.specs.Pushed.{EndsBefore, LastEnds}
-use Rattle.kdl_comments.proofs.Listing.PlaceTexts.{gap_items}
+use Rattle.kdl_layout.proofs.Listing.PlaceTexts.{gap_items}
 
 -- a node after the last one, which ends by itself
 nodes_pushed : {P : Rests} (n : KdlNode) (ns : List KdlNode) (put : Node) → ((x : KdlNode) → slice_get (n ∷ ns) (length ns) ≡ Some x → NodeEnds x) → NodeReads P put → NodesRead P (nodes_tree (n ∷ ns))

@@ -5,12 +5,12 @@ use Rattle.std.specs.List.{list_all}
 use Rattle.kdl_text.specs.Chars.{Text, is_space}
 use Rattle.kdl_value.specs.Tree.{text_of}
 use Rattle.kdl_grammar.specs.Laid.{LaidDocument}
-use Rattle.kdl_fmt.specs.Comments.{CommentsStay}
-use Rattle.kdl_fmt.specs.Config.{Settings, defaults, settings}
-use Rattle.kdl_fmt.specs.OneLine.{IsLaidDocument}
-use Rattle.kdl_fmt.specs.declared.config.Layout.{Layout}
-use Rattle.kdl_fmt.proofs.OneLine.Again as line
-use Rattle.kdl_fmt.proofs.Spacing.Again.{document_stays}
+use Rattle.kdl_layout.specs.Comments.{CommentsStay}
+use Rattle.kdl_layout.specs.Config.{Settings, defaults, settings}
+use Rattle.kdl_layout.specs.OneLine.{IsLaidDocument}
+use Rattle.kdl_layout.specs.declared.config.Layout.{Layout}
+use Rattle.kdl_layout.proofs.OneLine.Again as line
+use Rattle.kdl_layout.proofs.Spacing.Again.{document_stays}
 use Rattle.kdl.specs.Layout.{DocumentKeepsNoForm, DocumentLaidOut, DocumentSpaced}
 use Rattle.kdl.specs.Tree.{document_prints, document_tree}
 use Rattle.kdl.specs.declared.document.KdlDocument.{KdlDocument}

@@ -5,19 +5,19 @@ use Rattle.kdl_text.specs.Chars.{Text, is_space}
 use Rattle.kdl_grammar.specs.Data as data'
 use Rattle.kdl_grammar.specs.Grammar.{IsDocument}
 use Rattle.kdl_grammar.specs.Tree.{Document, Node}
-use Rattle.kdl_fmt.specs.Blank.{at_start}
-use Rattle.kdl_fmt.specs.Canonical.{canonical, Canonical}
-use Rattle.kdl_fmt.specs.Config.{IndentsBySpaces, Settings}
-use Rattle.kdl_fmt.specs.Formatted.{DocumentKeepsNone, NodeKeepsNone}
-use Rattle.kdl_fmt.specs.WithComments.{IsFormattedDocument, IsFormattedNode}
-use Rattle.kdl_fmt.specs.Respelled.{IsSpelledDocument, IsSpelledNode}
-use Rattle.kdl_fmt.specs.Spaced.{IsSpacedDocument, IsSpacedNode}
-use Rattle.kdl_fmt.specs.OneLine.{IsLaidDocument, IsLaidNode}
-use Rattle.kdl_fmt.proofs.OneLine.Again as again
-use Rattle.kdl_fmt.proofs.OneLine.Same.{document_off, node_off}
-use Rattle.kdl_fmt.proofs.Respelling.Off as off
-use Rattle.kdl_fmt.proofs.Spacing.Again.{document_stays, node_stays}
-use Rattle.kdl_fmt.proofs.Formatting.FormattedUnique.{formatted_det}
+use Rattle.kdl_layout.specs.Blank.{at_start}
+use Rattle.kdl_layout.specs.Canonical.{canonical, Canonical}
+use Rattle.kdl_layout.specs.Config.{IndentsBySpaces, Settings}
+use Rattle.kdl_layout.specs.Formatted.{DocumentKeepsNone, NodeKeepsNone}
+use Rattle.kdl_layout.specs.WithComments.{IsFormattedDocument, IsFormattedNode}
+use Rattle.kdl_layout.specs.Respelled.{IsSpelledDocument, IsSpelledNode}
+use Rattle.kdl_layout.specs.Spaced.{IsSpacedDocument, IsSpacedNode}
+use Rattle.kdl_layout.specs.OneLine.{IsLaidDocument, IsLaidNode}
+use Rattle.kdl_layout.proofs.OneLine.Again as again
+use Rattle.kdl_layout.proofs.OneLine.Same.{document_off, node_off}
+use Rattle.kdl_layout.proofs.Respelling.Off as off
+use Rattle.kdl_layout.proofs.Spacing.Again.{document_stays, node_stays}
+use Rattle.kdl_layout.proofs.Formatting.FormattedUnique.{formatted_det}
 
 -- two canonical texts are the same exactly where the data are
 pub same_texts : (indent : Text) (level : ℕ) (x y : data'.Nodes) (t u : Text) → Canonical indent level x → Canonical indent level y → t ≡ canonical indent level x → u ≡ canonical indent level y → (t ≡ u) ↔ (x ≡ y)

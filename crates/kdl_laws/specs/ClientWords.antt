@@ -11,8 +11,8 @@ pub use Rattle.kdl_value.specs.Spelled.{SpelledReadsBack, SpelledReadsBackBefore
 pub use Rattle.kdl_value.specs.Floats.{DecimalsAreFloats}
 pub use Rattle.kdl_entry.specs.Formless.{FormlessReadsBack}
 -- Items: the lists of a place, of a node and of a document.
-pub use Rattle.kdl_comments.specs.Items.{GapItems, Item, Place, PlaceItems, before_block, before_entry, after_block}
-pub use Rattle.kdl_fmt.specs.Comments.{DocumentItems, EndItems, NodeItems}
+pub use Rattle.kdl_layout.specs.Items.{GapItems, Item, Place, PlaceItems, before_block, before_entry, after_block}
+pub use Rattle.kdl_layout.specs.Comments.{DocumentItems, EndItems, NodeItems}
 -- Entries that keep their form.
 pub use Rattle.kdl_laws.specs.KeptForm.{EmptyFormFails, UnflaggedKeepReading}
 -- The texts that may be in a place.
@@ -20,10 +20,10 @@ pub use Rattle.kdl_text.specs.Trivia.{LineComment}
 pub use Rattle.kdl_entry.specs.Places.{EntryLeading}
 pub use Rattle.kdl_grammar.specs.Grammar.{Gap}
 pub use Rattle.kdl_grammar.specs.Places.{AfterChildren, BeforeChildren}
-pub use Rattle.kdl_fmt.specs.Kept.{without_bom}
+pub use Rattle.kdl_layout.specs.Kept.{without_bom}
 pub use Rattle.kdl_laws.specs.Leading.{DocumentLeading}
 -- Written items.
-pub use Rattle.kdl_comments.specs.Written.{lines, on_line, tail}
+pub use Rattle.kdl_layout.specs.Written.{lines, on_line, tail}
 -- Keys, errors and their parts, which `==` compares.
 pub use Rattle.kdl_laws.specs.Keys.{sought_anywhere}
 pub use Rattle.kdl_laws.specs.Errors.{Diagnostic, Failure, Refusal, diagnostic_tree, error_tree, failure_tree, memory, syntax'}
@@ -34,7 +34,7 @@ pub use Rattle.kdl_laws.specs.Pushed.{IsLineEnded, LastEnds}
 -- The data of a document with another value for an argument, and texts with another piece.
 pub use Rattle.kdl_laws.specs.ArgumentSet.{HasInstead, with_said_arg}
 -- What comes before a node that is laid out alone; what layout makes of a text.
-pub use Rattle.kdl_fmt.specs.Blank.{at_start}
+pub use Rattle.kdl_layout.specs.Blank.{at_start}
 pub use Rattle.kdl_laws.specs.LaidOut.{IsLaidOut, IsSpacedOut}
 -- Whether two texts have the same bytes, or the same characters.
 pub use Rattle.kdl_parts.specs.EntryLists.{same_text}

@@ -1,9 +1,9 @@
 -- Whether the entries of a document read back in the form that they keep.
 use Rattle.std.specs.Prelude.{◌≡◌, true, false, [], ◌∷◌, None, Some}
 use Rattle.kdl_entry.specs.Tree.{Entry, empty_format, no_span}
-use Rattle.kdl_fmt.specs.Config.{Settings, defaults}
-use Rattle.kdl_fmt.specs.Formatted.{DocumentKeepsNone, NodeKeepsNone}
-use Rattle.kdl_fmt.specs.KeptForm.{DocumentKeepsReading, NodeKeepsReading}
+use Rattle.kdl_layout.specs.Config.{Settings, defaults}
+use Rattle.kdl_layout.specs.Formatted.{DocumentKeepsNone, NodeKeepsNone}
+use Rattle.kdl_layout.specs.KeptForm.{DocumentKeepsReading, NodeKeepsReading}
 use Rattle.kdl_grammar.specs.Tree.{Document, document, Head, Node, node, no_children, first, none}
 use Rattle.kdl_value.specs.Data.{null}
 

@@ -4,10 +4,10 @@ use Rattle.kdl_text.specs.Chars.{Text}
 use Rattle.kdl_grammar.specs.Laid.{LaidDocument}
 use Rattle.kdl_grammar.specs.Print.{print_document}
 use Rattle.kdl_grammar.specs.Tree.{Document}
-use Rattle.kdl_fmt.specs.Comments.{CommentsStay}
-use Rattle.kdl_fmt.specs.Config.{defaults}
-use Rattle.kdl_fmt.specs.OneLine.{IsLaidDocument}
-use Rattle.kdl_fmt.specs.WithComments.{IsFormattedDocument}
+use Rattle.kdl_layout.specs.Comments.{CommentsStay}
+use Rattle.kdl_layout.specs.Config.{defaults}
+use Rattle.kdl_layout.specs.OneLine.{IsLaidDocument}
+use Rattle.kdl_layout.specs.WithComments.{IsFormattedDocument}
 
 -- out is what the document of the text prints after layout; the comments are kept, and a second layout changes nothing
 pub record IsLaidOut (text out : Text) : Type 0 where

@@ -2,7 +2,7 @@
 use Rattle.std.specs.Prelude.{◌≡◌, ◌⊎◌, ◌-◌, [], Option, Some, None, codes, length, slice_get}
 use Rattle.kdl_text.specs.Chars.{Text}
 use Rattle.kdl_value.specs.Tree.{text_of}
-use Rattle.kdl_fmt.specs.Kept.{without_bom}
+use Rattle.kdl_layout.specs.Kept.{without_bom}
 use Rattle.kdl_grammar.specs.Print.{leading_text}
 use Rattle.kdl_grammar.specs.ReadsBack.{AddsNothing}
 use Rattle.kdl_grammar.specs.Tree.{DocumentFormat}

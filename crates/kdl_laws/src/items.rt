@@ -2,16 +2,16 @@
 //! document and a node have one; and written items are the items of the written text.
 
 ghost use Rattle.kdl_entry.specs.Places.{EntryLeading};
-ghost use Rattle.kdl_fmt.specs.Comments.{DocumentItems, EndItems, NodeItems};
-ghost use Rattle.kdl_fmt.specs.Config.{Settings};
-ghost use Rattle.kdl_fmt.specs.Formatted.{DocumentKeepsNone, NodeKeepsNone};
-ghost use Rattle.kdl_fmt.specs.Kept.{without_bom};
-ghost use Rattle.kdl_fmt.specs.WithComments.{IsFormattedDocument, IsFormattedNode};
+ghost use Rattle.kdl_layout.specs.Comments.{DocumentItems, EndItems, NodeItems};
+ghost use Rattle.kdl_layout.specs.Config.{Settings};
+ghost use Rattle.kdl_layout.specs.Formatted.{DocumentKeepsNone, NodeKeepsNone};
+ghost use Rattle.kdl_layout.specs.Kept.{without_bom};
+ghost use Rattle.kdl_layout.specs.WithComments.{IsFormattedDocument, IsFormattedNode};
 ghost use Rattle.kdl_grammar.specs.Grammar.{Gap};
 ghost use Rattle.kdl_grammar.specs.Places.{AfterChildren, BeforeChildren};
 ghost use Rattle.kdl_grammar.specs.Tree.{Document, Node};
-ghost use Rattle.kdl_comments.specs.Items.{GapItems, Item, Place, PlaceItems, before_block, before_entry, after_block};
-ghost use Rattle.kdl_comments.specs.Written.{lines, on_line, tail};
+ghost use Rattle.kdl_layout.specs.Items.{GapItems, Item, Place, PlaceItems, before_block, before_entry, after_block};
+ghost use Rattle.kdl_layout.specs.Written.{lines, on_line, tail};
 ghost use Rattle.kdl_laws.specs.Leading.{DocumentLeading};
 ghost use Rattle.kdl_text.specs.Chars.{Text, is_space};
 ghost use Rattle.kdl_text.specs.Trivia.{LineComment};

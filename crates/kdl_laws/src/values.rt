@@ -8,7 +8,7 @@ ghost use Rattle.kdl_value.specs.WellFormed.{IsWellFormed};
 ghost use Rattle.std.specs.Cmp.{IsTotalOrder};
 ghost use Rattle.std.specs.Prelude.{◌≡◌, IsTrue, ◌↔◌, fold};
 
-use kdl_fmt::layout::well_formed;
+use kdl_layout::layout::well_formed;
 use kdl_value::{KdlFloat, KdlValue};
 use std::cmp::Ordering;
 use std::hash::{Hash, Hasher};

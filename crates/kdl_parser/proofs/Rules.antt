@@ -1,5 +1,5 @@
 -- The lemmas that the functions of a file cite.
-use Rattle.kdl_lexer.proofs.Order.{ahead}
+use Rattle.kdl_syntax.proofs.Order.{ahead}
 use Rattle.kdl_parser.proofs.Answering.LeadingBom.{bom_ends, whole_answer}
 use Rattle.kdl_parser.proofs.Answering.LineSpaceReads.{lines_fail, lines_nearer, lines_start}
 use Rattle.kdl_parser.proofs.Answering.NodeTexts.{not_one, one_read, whole_read}

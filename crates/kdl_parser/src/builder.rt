@@ -4,8 +4,8 @@
 ghost use Rattle.kdl_entry.specs.Internal.Counted.{Within};
 ghost use Rattle.kdl_entry.specs.Tree.{plain_identifier};
 ghost use Rattle.kdl_grammar.specs.Internal.Machine.{initial};
-ghost use Rattle.kdl_lexer.specs.Internal.Handed.{kind_view, LexedNext, NextCosts};
-ghost use Rattle.kdl_lexer.specs.Tokens.{space, string};
+ghost use Rattle.kdl_syntax.specs.Internal.Handed.{kind_view, LexedNext, NextCosts};
+ghost use Rattle.kdl_syntax.specs.Tokens.{space, string};
 ghost use Rattle.kdl_parser.specs.Internal.Building.{state_view, under_view, Placed};
 ghost use Rattle.kdl_parser.specs.Internal.Counted.{unsliced};
 ghost use Rattle.kdl_parser.specs.Internal.Events.{Acts, PartsAhead, is_building, mark_step, string_step, value_step};
@@ -25,11 +25,10 @@ use self::content::{no_content, nothing_at};
 use self::dropping::Dropped;
 use self::growing::Growing;
 use crate::node_parts::{DocumentParts, ParsedNode};
-use kdl_control::{Event, Phase};
 use kdl_entry::parsing::parts::{Parts, TypeParts, empty};
 use kdl_entry::parsing::source::Source;
 use kdl_entry::{KdlEntry, KdlIdentifier, KdlValue};
-use kdl_lexer::{LexFailure, NextToken, TokenKind, TokenSpan};
+use kdl_syntax::{Event, LexFailure, NextToken, Phase, TokenKind, TokenSpan};
 use kdl_text::cursor::{Checkpoint, Piece};
 use std::alloc::{AllocError, AllocFailed, Global};
 

@@ -12,7 +12,7 @@ use crate::node_parts::{DocumentParts, ParsedNode};
 use crate::token_loop::build;
 use kdl_diagnostics::{Whole, failure};
 use kdl_entry::parsing::source::Source;
-use kdl_lexer::LexFailure;
+use kdl_syntax::LexFailure;
 use kdl_text::cursor::Steps;
 use kdl_text::error::ParseFailure;
 use std::alloc::Global;

@@ -6,7 +6,7 @@ ghost use Rattle.kdl_parser.specs.Internal.LineSpaces.{AreLineSpaces};
 ghost use Rattle.std.specs.Prelude.{◌≡◌};
 ghost use Rattle.std.specs.Str.{chars};
 
-use kdl_lexer::{LexFailure, Lexer, TokenKind};
+use kdl_syntax::{LexFailure, Lexer, TokenKind};
 use kdl_text::cursor::Steps;
 use std::alloc::Global;
 

@@ -11,7 +11,7 @@ ghost use Rattle.std.specs.Prelude.{◌≡◌, ◌≤◌};
 use crate::builder::{Builder, TakeFailure};
 use crate::node_parts::{DocumentParts, ParsedNode};
 use kdl_entry::parsing::source::Source;
-use kdl_lexer::{LexFailure, NextToken, Token, TokenKind};
+use kdl_syntax::{LexFailure, NextToken, Token, TokenKind};
 use kdl_text::cursor::Steps;
 
 /// Returns the failure of a text, for one of the builder.

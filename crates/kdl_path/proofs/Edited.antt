@@ -3,7 +3,7 @@ use Rattle.std.proofs.Common.{◌≡◌, ℕ, List, [], ◌∷◌, Option, None,
 use Rattle.std.proofs.lemmas.Option.{none-some}
 use Rattle.std.specs.Str.{encode_utf8_all}
 use Rattle.kdl_text.specs.Chars.{Text}
-use Rattle.kdl_fmt.proofs.Texts.{printed_text}
+use Rattle.kdl_layout.proofs.Texts.{printed_text}
 use Rattle.kdl_grammar.specs.Data as nodes'
 use Rattle.kdl_grammar.specs.Grammar.{IsDocument, IsNodeText}
 use Rattle.kdl_value.specs.Tree.{text_of}

@@ -6,7 +6,7 @@ use Rattle.std.specs.List.{list_all}
 use Rattle.std.specs.Str.{chars}
 use Rattle.kdl_text.specs.Chars.{Newline, Space, Star, Text, is_newline_char, is_space}
 use Rattle.kdl_text.specs.Trivia.{Break, LineSpace, NodeSpace, Ws}
-use Rattle.kdl_fmt.proofs.Texts.{ascii_text, newline_text, space_text}
+use Rattle.kdl_layout.proofs.Texts.{ascii_text, newline_text, space_text}
 use Rattle.kdl_grammar.specs.Data as nodes'
 use Rattle.kdl_grammar.specs.Grammar.{AreNodes, Gap, Terminator, last_gap, line_space, node_then}
 use Rattle.kdl_grammar.specs.Places.{BeforeChildren, after, before}

@@ -3,7 +3,7 @@ use Rattle.std.proofs.Common.{◌≡◌, All, ℕ, zero, suc, true, List, [], �
 use Rattle.std.proofs.lemmas.Option.{get_or_from_slice_get, none-some, slice_get-map, slice_get_within}
 use Rattle.kdl_text.specs.Chars.{Text}
 use Rattle.kdl_text.specs.Trivia.{ValueEnd}
-use Rattle.kdl_lexer.proofs.Moving.Puts.{same_piece}
+use Rattle.kdl_syntax.proofs.Moving.Puts.{same_piece}
 use Rattle.kdl_value.specs.Data.{Value}
 use Rattle.kdl_value.specs.Print.{print_value}
 use Rattle.kdl_entry.specs.Data as data'
@@ -32,7 +32,7 @@ use Rattle.kdl.proofs.EditLaws.{entry_exchanged}
 use Rattle.kdl.proofs.Finding.SaidLookups.{entry_says}
 use Rattle.kdl.proofs.ReadingBack.{document_derived, entry_there_reads}
 use Rattle.kdl.proofs.Trees.{node_tree_out, node_tree_roll}
-use Rattle.kdl_fmt.proofs.Texts.{printed_text}
+use Rattle.kdl_layout.proofs.Texts.{printed_text}
 use Rattle.std.specs.Str.{encode_utf8_all}
 use Rattle.c_calls.specs.Changes.{AtNode}
 use Rattle.c_calls.specs.Entries.{IsValueText}

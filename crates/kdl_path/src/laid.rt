@@ -9,7 +9,7 @@ ghost use Rattle.std.specs.Str.{chars};
 
 use crate::layout::{End, Layout, begins_line, is_bare};
 use kdl::{KdlDocument, KdlNode};
-use kdl_comments::push_text;
+use kdl_layout::push_text;
 use std::alloc::{AllocError, Global};
 
 /// The texts at the end of a node.

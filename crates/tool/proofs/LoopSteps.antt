@@ -12,8 +12,8 @@ use Rattle.kdl_grammar.specs.Grammar.{IsDocument}
 use Rattle.kdl_grammar.specs.Laid.{LaidDocument}
 use Rattle.kdl_grammar.specs.Print.{print_document}
 use Rattle.kdl_grammar.specs.Tree.{Document}
-use Rattle.kdl_fmt.specs.Config.{defaults}
-use Rattle.kdl_fmt.specs.WithComments.{IsFormattedDocument}
+use Rattle.kdl_layout.specs.Config.{defaults}
+use Rattle.kdl_layout.specs.WithComments.{IsFormattedDocument}
 use Rattle.tool.specs.Commands.{Asked, fmt, IsWritten, words_of}
 use Rattle.tool.specs.Runs.{Output}
 use Rattle.tool.specs.Writing.{Writes}

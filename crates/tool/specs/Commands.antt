@@ -7,9 +7,9 @@ use Rattle.kdl_grammar.specs.Grammar.{IsDocument}
 use Rattle.kdl_grammar.specs.Laid.{LaidDocument}
 use Rattle.kdl_grammar.specs.Print.{print_document}
 use Rattle.kdl_grammar.specs.Tree.{Document}
-use Rattle.kdl_fmt.specs.Canonical.{canonical_text}
-use Rattle.kdl_fmt.specs.Config.{defaults}
-use Rattle.kdl_fmt.specs.WithComments.{IsFormattedDocument}
+use Rattle.kdl_layout.specs.Canonical.{canonical_text}
+use Rattle.kdl_layout.specs.Config.{defaults}
+use Rattle.kdl_layout.specs.WithComments.{IsFormattedDocument}
 use Rattle.kdl.specs.Said.{said_arg}
 use Rattle.tool.specs.Reports.{line}
 use Rattle.tool.specs.declared.Command.{Command}

@@ -3,10 +3,10 @@ use Rattle.std.proofs.Common.{◌≡◌, ℕ, zero, suc, ◌+◌, ◌<◌, ◌�
 use Rattle.std.specs.Prelude.{MatchOption}
 use Rattle.std.proofs.lemmas.List.{append-nil, drop_more, drop_all, drop-set-lt, get_or-set_same}
 use Rattle.kdl_value.specs.Tree.{text_of}
-use Rattle.kdl_fmt.specs.Config.{IndentsBySpaces, indentation, settings}
-use Rattle.kdl_fmt.specs.declared.blank.Before.{Before}
-use Rattle.kdl_fmt.specs.declared.config.Layout.{Layout}
-use Rattle.kdl_fmt.specs.Formatted.{bare_node, bare_children, bare_nodes}
+use Rattle.kdl_layout.specs.Config.{IndentsBySpaces, indentation, settings}
+use Rattle.kdl_layout.specs.declared.blank.Before.{Before}
+use Rattle.kdl_layout.specs.declared.config.Layout.{Layout}
+use Rattle.kdl_layout.specs.Formatted.{bare_node, bare_children, bare_nodes}
 use Rattle.kdl_grammar.specs.Tree.{DocumentFormat, NodeFormat, Node, node, no_children, children, children_of, document, listed_nodes}
 use Rattle.kdl.specs.declared.layout.Around.{Around}
 use Rattle.kdl_parts.specs.Formats.{document_format_tree}

@@ -7,27 +7,27 @@ use Rattle.kdl_grammar.specs.Grammar.{IsDocument}
 use Rattle.kdl_grammar.specs.Laid.{LaidDocument}
 use Rattle.kdl_grammar.specs.Print.{print_document, print_node}
 use Rattle.kdl_grammar.specs.Tree.{Document, document_data, Node, node_data}
-use Rattle.kdl_fmt.specs.Blank.{at_start}
-use Rattle.kdl_fmt.specs.Canonical.{canonical, canonical_node, Canonical, CanonicalNode}
-use Rattle.kdl_fmt.specs.Comments.{CommentsStay}
-use Rattle.kdl_fmt.specs.Config.{Settings, IsPlain, defaults, without_comments}
-use Rattle.kdl_fmt.specs.Formatted.{formatted_document, formatted_node, DocumentLevelsFit, NodeLevelsFit, bare_document, bare_node, DocumentKeepsNone, NodeKeepsNone}
-use Rattle.kdl_fmt.specs.WellFormed.{AreWellFormed, IsWellFormedNode}
-use Rattle.kdl_fmt.specs.OneLine.{IsLaidDocument, IsLaidNode}
-use Rattle.kdl_fmt.specs.Respelled.{IsSpelledDocument, IsSpelledNode}
-use Rattle.kdl_fmt.specs.Spaced.{IsSpacedDocument, IsSpacedNode}
-use Rattle.kdl_fmt.specs.WithComments.{IsFormattedDocument, IsFormattedNode}
-use Rattle.kdl_fmt.proofs.Spacing.Stays as spaced
-use Rattle.kdl_fmt.proofs.Respelling.Leaves as left
-use Rattle.kdl_fmt.proofs.Respelling.Off as off
-use Rattle.kdl_fmt.proofs.Respelling.Written.{written_document, written_node}
-use Rattle.kdl_fmt.proofs.OneLine.Reads.{document_derived, node_derived}
-use Rattle.kdl_fmt.proofs.OneLine.Same as on_line
-use Rattle.kdl_fmt.proofs.OneLine.Same.{document_off, node_off}
-use Rattle.kdl_fmt.proofs.Keeping.CommentsStay.{comments_stay, node_comments_stay}
-use Rattle.kdl_fmt.proofs.Formatting.FormattedUnique as layout
-use Rattle.kdl_fmt.proofs.Formatting.PrintsCanonical.{bare_document_data, bare_node_data, document_canonical, node_canonical}
-use Rattle.kdl_fmt.proofs.Formatting.CanonicalReadsBack.{canonical_reads, canonical_node_reads}
+use Rattle.kdl_layout.specs.Blank.{at_start}
+use Rattle.kdl_layout.specs.Canonical.{canonical, canonical_node, Canonical, CanonicalNode}
+use Rattle.kdl_layout.specs.Comments.{CommentsStay}
+use Rattle.kdl_layout.specs.Config.{Settings, IsPlain, defaults, without_comments}
+use Rattle.kdl_layout.specs.Formatted.{formatted_document, formatted_node, DocumentLevelsFit, NodeLevelsFit, bare_document, bare_node, DocumentKeepsNone, NodeKeepsNone}
+use Rattle.kdl_layout.specs.WellFormed.{AreWellFormed, IsWellFormedNode}
+use Rattle.kdl_layout.specs.OneLine.{IsLaidDocument, IsLaidNode}
+use Rattle.kdl_layout.specs.Respelled.{IsSpelledDocument, IsSpelledNode}
+use Rattle.kdl_layout.specs.Spaced.{IsSpacedDocument, IsSpacedNode}
+use Rattle.kdl_layout.specs.WithComments.{IsFormattedDocument, IsFormattedNode}
+use Rattle.kdl_layout.proofs.Spacing.Stays as spaced
+use Rattle.kdl_layout.proofs.Respelling.Leaves as left
+use Rattle.kdl_layout.proofs.Respelling.Off as off
+use Rattle.kdl_layout.proofs.Respelling.Written.{written_document, written_node}
+use Rattle.kdl_layout.proofs.OneLine.Reads.{document_derived, node_derived}
+use Rattle.kdl_layout.proofs.OneLine.Same as on_line
+use Rattle.kdl_layout.proofs.OneLine.Same.{document_off, node_off}
+use Rattle.kdl_layout.proofs.Keeping.CommentsStay.{comments_stay, node_comments_stay}
+use Rattle.kdl_layout.proofs.Formatting.FormattedUnique as layout
+use Rattle.kdl_layout.proofs.Formatting.PrintsCanonical.{bare_document_data, bare_node_data, document_canonical, node_canonical}
+use Rattle.kdl_layout.proofs.Formatting.CanonicalReadsBack.{canonical_reads, canonical_node_reads}
 use Rattle.kdl.specs.Layout.{NodeCommentsStay}
 use Rattle.kdl.proofs.LayingOut.PartsSpaced.{if_ok}
 

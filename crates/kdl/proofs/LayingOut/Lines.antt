@@ -9,9 +9,9 @@ use Rattle.kdl_entry.specs.Tree.{entry_tree, identifier_tree}
 use Rattle.kdl_grammar.specs.Tree.{DocumentFormat, NodeFormat, Head, Node, node, children, children_of, document, listed_nodes}
 use Rattle.kdl_parts.specs.Formats.{node_format_tree, node_texts}
 use Rattle.kdl_parts.specs.declared.format.KdlNodeFormat.{KdlNodeFormat}
-use Rattle.kdl_fmt.specs.Formatted.{or_empty}
-use Rattle.kdl_fmt.specs.OneLine.{entry_on_line, head_on_line, is_end, is_on_one_line, line_on_line, maybe_on_line, name_on_line, node_on_line, nodes_on_line}
-use Rattle.kdl_fmt.specs.declared.config.Layout.{Layout}
+use Rattle.kdl_layout.specs.Formatted.{or_empty}
+use Rattle.kdl_layout.specs.OneLine.{entry_on_line, head_on_line, is_end, is_on_one_line, line_on_line, maybe_on_line, name_on_line, node_on_line, nodes_on_line}
+use Rattle.kdl_layout.specs.declared.config.Layout.{Layout}
 use Rattle.kdl.specs.Change.{with_document_format, with_format}
 use Rattle.kdl.specs.Internal.Spacing.{IsAround, IsAroundIf, braces_of, filled_block, lined, put_format, with_formats, with_texts}
 use Rattle.kdl.specs.Iterators.{nodes_in}

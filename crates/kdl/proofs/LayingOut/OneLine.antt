@@ -11,21 +11,21 @@ use Rattle.kdl_grammar.specs.Print.{leading_text, trailing_text}
 use Rattle.kdl_grammar.specs.Tree.{DocumentFormat, NodeFormat, Head, Node, node, children, children_of, Document, document, Nodes, listed_nodes, node_data}
 use Rattle.kdl_grammar.proofs.ReadingBack.Composing.{block_reads, with_block}
 use Rattle.kdl_parts.specs.Formats.{document_format_tree, node_format_tree}
-use Rattle.kdl_fmt.specs.Config.{IndentsBySpaces, Settings, settings}
-use Rattle.kdl_fmt.specs.Formatted.{or_empty, or_empty_document}
-use Rattle.kdl_fmt.specs.Internal.Names.{Keeps, KeepsName, with_spelling, with_spelling_if}
-use Rattle.kdl_fmt.specs.KeptForm.{NodesKeepReading}
-use Rattle.kdl_fmt.specs.OneLine.{braces_in_line, braces_on_line, formats_in_line, in_one_line, is_on_one_line, node_in_line, nodes_in_line, nodes_on_line, one_lined_children, one_lined_document, one_lined_node, one_lined_nodes}
-use Rattle.kdl_fmt.specs.Respelled.{AreSpelledEntries, IsTypedFormat}
-use Rattle.kdl_fmt.specs.Spaced.{IsSpacedBraced, IsSpacedChildren, IsSpacedLine}
-use Rattle.kdl_fmt.specs.WellFormed.{IsWellFormedNode}
-use Rattle.kdl_fmt.specs.declared.blank.Before.{Before}
-use Rattle.kdl_fmt.specs.declared.config.Layout.{Layout}
-use Rattle.kdl_fmt.specs.declared.names.SpellingRule.{SpellingRule}
-use Rattle.kdl_fmt.proofs.Formatting.PartsRead as parts
-use Rattle.kdl_fmt.proofs.Formatting.PartsRead.{AreLined, braced_reads}
-use Rattle.kdl_fmt.proofs.OneLine.Reads.{content_ends, one_line_reads}
-use Rattle.kdl_fmt.proofs.OneLine.Same.{nodes_flat}
+use Rattle.kdl_layout.specs.Config.{IndentsBySpaces, Settings, settings}
+use Rattle.kdl_layout.specs.Formatted.{or_empty, or_empty_document}
+use Rattle.kdl_layout.specs.Internal.Names.{Keeps, KeepsName, with_spelling, with_spelling_if}
+use Rattle.kdl_layout.specs.KeptForm.{NodesKeepReading}
+use Rattle.kdl_layout.specs.OneLine.{braces_in_line, braces_on_line, formats_in_line, in_one_line, is_on_one_line, node_in_line, nodes_in_line, nodes_on_line, one_lined_children, one_lined_document, one_lined_node, one_lined_nodes}
+use Rattle.kdl_layout.specs.Respelled.{AreSpelledEntries, IsTypedFormat}
+use Rattle.kdl_layout.specs.Spaced.{IsSpacedBraced, IsSpacedChildren, IsSpacedLine}
+use Rattle.kdl_layout.specs.WellFormed.{IsWellFormedNode}
+use Rattle.kdl_layout.specs.declared.blank.Before.{Before}
+use Rattle.kdl_layout.specs.declared.config.Layout.{Layout}
+use Rattle.kdl_layout.specs.declared.names.SpellingRule.{SpellingRule}
+use Rattle.kdl_layout.proofs.Formatting.PartsRead as parts
+use Rattle.kdl_layout.proofs.Formatting.PartsRead.{AreLined, braced_reads}
+use Rattle.kdl_layout.proofs.OneLine.Reads.{content_ends, one_line_reads}
+use Rattle.kdl_layout.proofs.OneLine.Same.{nodes_flat}
 use Rattle.kdl.specs.Internal.Spacing.{BlockIsSpaced, BlockSpacing, IsAround, IsAroundIf, NodeIsSpaced, NodesAreSpaced, StaysAs, braces_of, enclosed, filled, filled_block, lined, with_braces, with_formats, with_texts}
 use Rattle.kdl.specs.Tree.{document_tree, head_tree, node_tree, nodes_tree}
 use Rattle.kdl.specs.declared.document.KdlDocument.{KdlDocument}

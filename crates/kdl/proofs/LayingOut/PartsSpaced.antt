@@ -5,19 +5,19 @@ use Rattle.kdl_value.proofs.WellFormed.{text_scalars}
 use Rattle.kdl_entry.specs.Tree.{Identifier, identifier_tree, entry_tree, entry_data, unspelled}
 use Rattle.kdl_text.specs.declared.span.SourceSpan.{SourceSpan}
 use Rattle.kdl_grammar.specs.Tree.{NodeFormat, document_data, Head, Node, node, Nodes, listed_nodes, Document, document, children_of, first, node_data, nodes_data, children_data, DocumentFormat}
-use Rattle.kdl_fmt.specs.Config.{Settings, settings}
-use Rattle.kdl_fmt.specs.Internal.Names.{Keeps, KeepsName, with_spelling, with_spelling_if}
-use Rattle.kdl_fmt.specs.OneLine.{IsLaidDocument, one_lined_node, one_lined_nodes}
-use Rattle.kdl_fmt.specs.Respelled.{IsTypedFormat, IsRespelled, IsRespelledIf, AreRespelledChildren, AreRespelledNodes, AreSpelledEntries, IsSpelledNode}
-use Rattle.kdl_fmt.specs.Spaced.{IsSpacedLine, IsSpacedContent, IsSpacedChildren, AreSpacedNodes, PassesFormat, PassesNodes}
-use Rattle.kdl_fmt.specs.declared.blank.Before.{Before}
-use Rattle.kdl_fmt.specs.declared.config.Layout.{Layout}
+use Rattle.kdl_layout.specs.Config.{Settings, settings}
+use Rattle.kdl_layout.specs.Internal.Names.{Keeps, KeepsName, with_spelling, with_spelling_if}
+use Rattle.kdl_layout.specs.OneLine.{IsLaidDocument, one_lined_node, one_lined_nodes}
+use Rattle.kdl_layout.specs.Respelled.{IsTypedFormat, IsRespelled, IsRespelledIf, AreRespelledChildren, AreRespelledNodes, AreSpelledEntries, IsSpelledNode}
+use Rattle.kdl_layout.specs.Spaced.{IsSpacedLine, IsSpacedContent, IsSpacedChildren, AreSpacedNodes, PassesFormat, PassesNodes}
+use Rattle.kdl_layout.specs.declared.blank.Before.{Before}
+use Rattle.kdl_layout.specs.declared.config.Layout.{Layout}
 use Rattle.kdl_parts.specs.declared.format.KdlNodeFormat.{KdlNodeFormat}
-use Rattle.kdl_fmt.specs.Formatted.{or_empty, or_empty_document, bare_node, bare_nodes, bare_document}
-use Rattle.kdl_fmt.specs.WellFormed.{IsWellFormedNode, AreWellFormed, AreWellFormedChildren, AreWellFormedEntries}
-use Rattle.kdl_fmt.specs.WithComments.{has_block}
-use Rattle.kdl_fmt.specs.declared.names.SpellingRule.{SpellingRule}
-use Rattle.kdl_fmt.proofs.Entries.{scalars}
+use Rattle.kdl_layout.specs.Formatted.{or_empty, or_empty_document, bare_node, bare_nodes, bare_document}
+use Rattle.kdl_layout.specs.WellFormed.{IsWellFormedNode, AreWellFormed, AreWellFormedChildren, AreWellFormedEntries}
+use Rattle.kdl_layout.specs.WithComments.{has_block}
+use Rattle.kdl_layout.specs.declared.names.SpellingRule.{SpellingRule}
+use Rattle.kdl_layout.proofs.Entries.{scalars}
 use Rattle.kdl_parts.specs.Formats.{node_format_tree, node_texts, document_format_tree}
 use Rattle.kdl.specs.Iterators.{child_nodes, nodes_in}
 use Rattle.kdl.specs.Internal.Spacing.{NodesAreSpaced, PassesAt, filled_block, filled, with_braces, with_texts}

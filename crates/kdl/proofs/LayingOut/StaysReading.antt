@@ -5,19 +5,19 @@ use Rattle.std.specs.Prelude.{◌&&◌, is_some, not}
 use Rattle.kdl_text.specs.Chars.{Text, is_space}
 use Rattle.kdl_text.specs.declared.span.SourceSpan.{SourceSpan}
 use Rattle.kdl_entry.specs.Tree.{Entry, Identifier, entry_tree, identifier_tree, unspelled}
-use Rattle.kdl_fmt.specs.Config.{Settings, indentation, settings}
-use Rattle.kdl_fmt.specs.Formatted.{or_empty, or_empty_document}
-use Rattle.kdl_fmt.specs.KeptForm.{EntriesKeepReading, DocumentKeepsReading, NodesKeepReading}
-use Rattle.kdl_fmt.specs.Internal.Names.{Keeps, KeepsName, with_spelling, with_spelling_if}
-use Rattle.kdl_fmt.specs.Spaced.{IsSpacedContent, IsSpacedLine}
-use Rattle.kdl_fmt.specs.WithComments.{has_block}
-use Rattle.kdl_fmt.specs.declared.blank.Before.{Before}
-use Rattle.kdl_fmt.specs.declared.config.Layout.{Layout}
-use Rattle.kdl_fmt.proofs.Entries.{scalars}
-use Rattle.kdl_fmt.proofs.Formatting.PartsRead.{document_reads, own_reads}
-use Rattle.kdl_fmt.proofs.Respelling.Written.{NameReads, NameReadsIf, respelled_reads, respelled_reads_if, typed_line}
-use Rattle.kdl_fmt.specs.Respelled.{IsRespelledIf, IsTypedFormat}
-use Rattle.kdl_fmt.specs.declared.names.SpellingRule.{SpellingRule}
+use Rattle.kdl_layout.specs.Config.{Settings, indentation, settings}
+use Rattle.kdl_layout.specs.Formatted.{or_empty, or_empty_document}
+use Rattle.kdl_layout.specs.KeptForm.{EntriesKeepReading, DocumentKeepsReading, NodesKeepReading}
+use Rattle.kdl_layout.specs.Internal.Names.{Keeps, KeepsName, with_spelling, with_spelling_if}
+use Rattle.kdl_layout.specs.Spaced.{IsSpacedContent, IsSpacedLine}
+use Rattle.kdl_layout.specs.WithComments.{has_block}
+use Rattle.kdl_layout.specs.declared.blank.Before.{Before}
+use Rattle.kdl_layout.specs.declared.config.Layout.{Layout}
+use Rattle.kdl_layout.proofs.Entries.{scalars}
+use Rattle.kdl_layout.proofs.Formatting.PartsRead.{document_reads, own_reads}
+use Rattle.kdl_layout.proofs.Respelling.Written.{NameReads, NameReadsIf, respelled_reads, respelled_reads_if, typed_line}
+use Rattle.kdl_layout.specs.Respelled.{IsRespelledIf, IsTypedFormat}
+use Rattle.kdl_layout.specs.declared.names.SpellingRule.{SpellingRule}
 use Rattle.kdl_grammar.specs.ReadsBack.{Rests, Anything, EntryReads, NodesRead, last_node, next_node, ContentReads, with_nodes as content_nodes, BlockReads, block, DocumentReads}
 use Rattle.kdl_grammar.specs.Tree.{DocumentFormat, NodeFormat, Head, Node, node, children_of, document, listed_nodes}
 use Rattle.kdl_grammar.proofs.ReadingBack.Composing.{block_reads, entries_read, with_block}

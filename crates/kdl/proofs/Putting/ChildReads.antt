@@ -6,7 +6,7 @@ use Rattle.kdl_grammar.specs.Grammar.{Terminator, no_gap, last_gap}
 use Rattle.kdl_grammar.specs.Places.{BeforeChildren, after}
 use Rattle.kdl_grammar.specs.ReadsBack.{Rests, MayFollow, terminator_text, NodesEnd, EndReads, NodeReads, reads, a_block, BlockReads}
 use Rattle.kdl_grammar.specs.Tree.{NodeFormat, Head, node, no_children, children, children_of, Document}
-use Rattle.kdl_comments.proofs.Lacking.Alone.{before_alone, before_brace}
+use Rattle.kdl_layout.proofs.Lacking.Alone.{before_alone, before_brace}
 use Rattle.kdl_parts.specs.Formats.{node_texts}
 use Rattle.kdl_parts.specs.declared.format.KdlNodeFormat.{KdlNodeFormat}
 use Rattle.kdl.specs.Change.{with_children, with_format}

@@ -7,9 +7,9 @@ use Rattle.std.specs.List.{insert}
 use Rattle.kdl_text.specs.Chars.{Text}
 use Rattle.kdl_text.specs.Trivia.{LineSpace, Slashdash, slashdash}
 use Rattle.kdl_text.specs.declared.span.SourceSpan.{SourceSpan}
-use Rattle.kdl_lexer.specs.Tokens.{t_space, t_newline, t_bom}
-use Rattle.kdl_lexer.proofs.Lexing.TokenUnique.{token_det}
-use Rattle.kdl_fmt.specs.Kept.{without_bom}
+use Rattle.kdl_syntax.specs.Tokens.{t_space, t_newline, t_bom}
+use Rattle.kdl_syntax.proofs.Lexing.TokenUnique.{token_det}
+use Rattle.kdl_layout.specs.Kept.{without_bom}
 use Rattle.kdl_grammar.specs.Grammar.{Gap, no_gap, line_space, dropped_node}
 use Rattle.kdl_grammar.specs.Print.{leading_text, trailing_text}
 use Rattle.kdl_grammar.specs.ReadsBack.{Rests, Anything, TextEnd, BlockEnd, MayFollow, AddsNothing, last_rests, NodeReads, NodesRead, no_node, last_node, next_node, ContentReads, one_text, two_texts, with_nodes, BlockReads, block, DocumentReads}

@@ -4,7 +4,7 @@ use Rattle.std.proofs.lemmas.List.{append-nil, drop_all, length-map, map-set, ta
 use Rattle.std.proofs.lemmas.Option.{slice_get-map}
 use Rattle.std.specs.List.{insert}
 use Rattle.kdl_text.specs.Chars.{Text}
-use Rattle.kdl_fmt.specs.Kept.{without_bom}
+use Rattle.kdl_layout.specs.Kept.{without_bom}
 use Rattle.kdl_grammar.specs.Places.{BeforeChildren}
 use Rattle.kdl_grammar.specs.ReadsBack.{AddsNothing, Anything, EndReads, NodeReads, reads, terminator_text}
 use Rattle.kdl_grammar.specs.Print.{leading_text, print_nodes, trailing_text}

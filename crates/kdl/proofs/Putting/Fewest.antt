@@ -3,14 +3,14 @@ use Rattle.std.proofs.Common.{◌≡◌, inl, ℕ, zero, suc, ◌+◌, ◌≤◌
 use Rattle.std.proofs.lemmas.List.{append-nil}
 use Rattle.kdl_text.specs.Bare.BareString.{bare as a_bare}
 use Rattle.kdl_text.specs.Chars.{Text, Newline, times}
-use Rattle.kdl_lexer.specs.Tokens.{t_newline, t_space}
-use Rattle.kdl_lexer.proofs.Lexing.TokenUnique.{token_det}
-use Rattle.kdl_comments.specs.Internal.Lacking.{letter}
-use Rattle.kdl_comments.proofs.Lacking.SpaceEnds.{a_space}
+use Rattle.kdl_syntax.specs.Tokens.{t_newline, t_space}
+use Rattle.kdl_syntax.proofs.Lexing.TokenUnique.{token_det}
+use Rattle.kdl_layout.specs.Internal.Lacking.{letter}
+use Rattle.kdl_layout.proofs.Lacking.SpaceEnds.{a_space}
 use Rattle.kdl_text.specs.Chars.Star.{none as no_star}
 use Rattle.kdl_text.specs.Trivia.{Break, LineComment, NodeSpace, ValueEnd, Ws}
 use Rattle.kdl_text.proofs.Spacing.ValueEnds.{value_end_no_identifier}
-use Rattle.kdl_lexer.specs.Pieces.{StringPiece}
+use Rattle.kdl_syntax.specs.Pieces.{StringPiece}
 use Rattle.kdl_entry.specs.Entries.{string as a_string', untyped}
 use Rattle.kdl_entry.proofs.Moving.EntryMoves.{punctuation_end}
 use Rattle.kdl_grammar.specs.Data as data'
@@ -20,12 +20,12 @@ use Rattle.kdl_grammar.specs.ReadsBack.{Anything, AddsNothing, BeforeTerminator,
 use Rattle.kdl_grammar.specs.Tree.{Children, no_children, children, NodeFormat}
 use Rattle.kdl_grammar.proofs.Laying.LaidIsDerived.{braced_of, later_of, plain_of}
 use Rattle.kdl_grammar.proofs.Moving.Moves.{before_end}
-use Rattle.kdl_comments.specs.Items.{ItemEnd}
-use Rattle.kdl_comments.specs.Lacks.{GapLacks, PlaceLacks, TerminatorLacks}
-use Rattle.kdl_comments.proofs.Dropping.DroppedNodes.{passes_det, passes_node}
-use Rattle.kdl_comments.proofs.Lacking.Fewest.{a, a_piece, letter_node}
-use Rattle.kdl_comments.proofs.Rewriting.BeforeNewlines.{a_newline, newline_end}
-use Rattle.kdl_fmt.specs.Kept.{last_place}
+use Rattle.kdl_layout.specs.Items.{ItemEnd}
+use Rattle.kdl_layout.specs.Lacks.{GapLacks, PlaceLacks, TerminatorLacks}
+use Rattle.kdl_layout.proofs.Dropping.DroppedNodes.{passes_det, passes_node}
+use Rattle.kdl_layout.proofs.Lacking.Fewest.{a, a_piece, letter_node}
+use Rattle.kdl_layout.proofs.Rewriting.BeforeNewlines.{a_newline, newline_end}
+use Rattle.kdl_layout.specs.Kept.{last_place}
 use Rattle.kdl.specs.Internal.Ends.{EndFewest, EndSays, FewestBefore, FormatFewest, GapFewest, GapSays, PlaceFewest, PlaceSays, block_if, formless_count, newline_count}
 use Rattle.kdl.specs.Exact.{lengthened}
 use Rattle.kdl.specs.Nodes.{newlines}

@@ -6,7 +6,7 @@ use Rattle.std.specs.Prelude.{string_bytes}
 use Rattle.std.specs.Str.{chars}
 use Rattle.kdl_text.specs.Chars.{Text}
 use Rattle.kdl_value.specs.Tree.{text_of}
-use Rattle.kdl_fmt.proofs.Texts.{newline_text, space_text}
+use Rattle.kdl_layout.proofs.Texts.{newline_text, space_text}
 use Rattle.kdl_grammar.specs.Print.{end_text, print_head, print_pieces, print_node, before_block, after_brace, before_brace, format_of, print_document, space_unless}
 use Rattle.kdl_grammar.specs.Tree.{Head, NodeFormat, Node, node, Children, no_children, children, node_data}
 use Rattle.kdl_entry.specs.Print.{print_identifier, print_type}

@@ -7,7 +7,7 @@ use Rattle.kdl_text.specs.Chars.{Text}
 use Rattle.kdl_text.specs.Internal.Here.{first as first_char}
 use Rattle.kdl_text.specs.Trivia.{ValueEnd}
 use Rattle.kdl_text.specs.declared.span.SourceSpan.{SourceSpan}
-use Rattle.kdl_lexer.proofs.Moving.Puts.{same_piece}
+use Rattle.kdl_syntax.proofs.Moving.Puts.{same_piece}
 use Rattle.kdl_grammar.specs.Data as data'
 use Rattle.kdl_grammar.specs.Grammar.{Terminator, Gap, no_gap, AreNodes, last_gap}
 use Rattle.kdl_grammar.specs.Places.{BeforeChildren, AfterChildren}
@@ -16,9 +16,9 @@ use Rattle.kdl_grammar.specs.ReadsBack.{Rests, Anything, TextEnd, BlockEnd, MayF
 use Rattle.kdl_grammar.specs.Tree.{DocumentFormat, NodeFormat, Head, Node, node, Children, no_children, children, children_of, Document, document, listed_nodes}
 use Rattle.kdl_grammar.proofs.Moving.Moves.{move_after, move_before, terminator_end}
 use Rattle.kdl_grammar.proofs.ReadingBack.Composing.{node_before, nodes_append, nodes_drop, nodes_take}
-use Rattle.kdl_comments.specs.Lacks.{Terminating}
-use Rattle.kdl_comments.proofs.Lacking.Alone.{after_before_close, before_alone, gap_before_close, terminator_before_close}
-use Rattle.kdl_comments.proofs.Rewriting.BeforeNewlines.{a_newline}
+use Rattle.kdl_layout.specs.Lacks.{Terminating}
+use Rattle.kdl_layout.proofs.Lacking.Alone.{after_before_close, before_alone, gap_before_close, terminator_before_close}
+use Rattle.kdl_layout.proofs.Rewriting.BeforeNewlines.{a_newline}
 use Rattle.kdl.specs.DocumentLookups.{nodes_of}
 use Rattle.kdl.specs.Internal.Ends.{EndSays, EndsAs, EndsReadAs, IsEndedBy, PlaceSays, block_if, end_newlines, end_with, formless_count, with_newlines}
 use Rattle.kdl_parts.specs.Formats.{node_format_tree, node_texts}

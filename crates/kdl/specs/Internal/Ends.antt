@@ -2,7 +2,7 @@
 use Rattle.std.specs.List.{insert}
 use Rattle.std.specs.Prelude.{◌≡◌, ◌⊎◌, ℕ, Bool, true, false, ◌+◌, ◌<◌, ◌≤◌, [], ◌∷◌, ◌++◌, Option, Some, None, option_map, slice_get, slice_set, unwrap_or}
 use Rattle.kdl_text.specs.Chars.{Text}
-use Rattle.kdl_fmt.specs.Kept.{without_bom}
+use Rattle.kdl_layout.specs.Kept.{without_bom}
 use Rattle.kdl_grammar.specs.Grammar.{Terminator, Gap}
 use Rattle.kdl_grammar.specs.Places.{BeforeChildren}
 use Rattle.kdl_grammar.specs.Print.{leading_text}

@@ -4,14 +4,14 @@ use Rattle.kdl_value.specs.Tree.{text_of}
 use Rattle.kdl_grammar.specs.ReadsBack.{Rests, NodeReads, NodesRead}
 use Rattle.kdl_grammar.specs.Tree.{DocumentFormat, NodeFormat, Head, Node, node, node_data, Children, no_children, children, children_of, document, listed_nodes}
 use Rattle.kdl_parts.specs.Formats.{document_format_tree, node_format_tree}
-use Rattle.kdl_fmt.specs.Config.{IndentsBySpaces, Settings, indentation, settings}
-use Rattle.kdl_fmt.specs.KeptForm.{NodeKeepsReading, NodesKeepReading}
-use Rattle.kdl_fmt.specs.OneLine.{IsLaidNode, braces_in_line, formats_in_line, is_on_one_line, one_lined_children}
-use Rattle.kdl_fmt.specs.Respelled.{AreRespelledNodes}
-use Rattle.kdl_fmt.specs.Spaced.{IsSpacedChildren, PassesNode}
-use Rattle.kdl_fmt.specs.WellFormed.{AreWellFormed, IsWellFormedNode}
-use Rattle.kdl_fmt.specs.declared.blank.Before.{Before}
-use Rattle.kdl_fmt.specs.declared.config.Layout.{Layout}
+use Rattle.kdl_layout.specs.Config.{IndentsBySpaces, Settings, indentation, settings}
+use Rattle.kdl_layout.specs.KeptForm.{NodeKeepsReading, NodesKeepReading}
+use Rattle.kdl_layout.specs.OneLine.{IsLaidNode, braces_in_line, formats_in_line, is_on_one_line, one_lined_children}
+use Rattle.kdl_layout.specs.Respelled.{AreRespelledNodes}
+use Rattle.kdl_layout.specs.Spaced.{IsSpacedChildren, PassesNode}
+use Rattle.kdl_layout.specs.WellFormed.{AreWellFormed, IsWellFormedNode}
+use Rattle.kdl_layout.specs.declared.blank.Before.{Before}
+use Rattle.kdl_layout.specs.declared.config.Layout.{Layout}
 use Rattle.kdl.specs.Internal.Count.{count_left}
 use Rattle.kdl.specs.Iterators.{nodes_in}
 use Rattle.kdl.specs.Layout.{DocumentSpaced}

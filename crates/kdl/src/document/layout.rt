@@ -7,12 +7,12 @@ ghost use Rattle.kdl.specs.Layout.{DocumentLaidOut, DocumentKeepsNoForm, Documen
 ghost use Rattle.kdl.specs.ReadsBack.{DocumentReadsBack};
 ghost use Rattle.kdl.specs.Tree.{document_prints, document_says, document_tree, nodes_tree};
 ghost use Rattle.kdl.specs.declared.document.KdlDocument.{out-KdlDocument};
-ghost use Rattle.kdl_fmt.specs.Canonical.{Canonical, canonical, canonical_text};
-ghost use Rattle.kdl_fmt.specs.Comments.{CommentsStay};
-ghost use Rattle.kdl_fmt.specs.Config.{IsPlain, defaults, indentation, settings, without_comments};
-ghost use Rattle.kdl_fmt.specs.Formatted.{DocumentLevelsFit, or_empty_document};
-ghost use Rattle.kdl_fmt.specs.OneLine.{is_on_one_line};
-ghost use Rattle.kdl_fmt.specs.Spaced.{IsSpacedBraced};
+ghost use Rattle.kdl_layout.specs.Canonical.{Canonical, canonical, canonical_text};
+ghost use Rattle.kdl_layout.specs.Comments.{CommentsStay};
+ghost use Rattle.kdl_layout.specs.Config.{IsPlain, defaults, indentation, settings, without_comments};
+ghost use Rattle.kdl_layout.specs.Formatted.{DocumentLevelsFit, or_empty_document};
+ghost use Rattle.kdl_layout.specs.OneLine.{is_on_one_line};
+ghost use Rattle.kdl_layout.specs.Spaced.{IsSpacedBraced};
 ghost use Rattle.kdl_grammar.specs.Grammar.{IsDocument};
 ghost use Rattle.kdl_grammar.specs.Tree.{DocumentFormat};
 ghost use Rattle.kdl_parts.specs.Formats.{document_format_tree};
@@ -21,9 +21,9 @@ ghost use Rattle.std.specs.Str.{chars};
 
 use crate::document::KdlDocument;
 use crate::layout::{Around, before_trailing, lay_out_nodes, nodes_on_line};
-use kdl_fmt::layout::{braces, lay_out_content};
-use kdl_fmt::one_line::{braces_on_line, formats_in_line};
-use kdl_fmt::{Before, FormatConfig, Layout};
+use kdl_layout::layout::{braces, lay_out_content};
+use kdl_layout::one_line::{braces_on_line, formats_in_line};
+use kdl_layout::{Before, FormatConfig, Layout};
 use kdl_parts::KdlDocumentFormat;
 use std::alloc::AllocError;
 

@@ -5,7 +5,7 @@ use Rattle.kdl_text.specs.Internal.Here.{Here, Position}
 use Rattle.kdl_text.specs.Spans.{InText, raise}
 use Rattle.kdl_text.specs.declared.error.ParseFailure.{ParseFailure}
 use Rattle.kdl_text.specs.declared.error.ParseFailure.TheVariants.{Syntax, Memory}
-use Rattle.kdl_lexer.specs.Tokens.{Token, opening, closing}
+use Rattle.kdl_syntax.specs.Tokens.{Token, opening, closing}
 use Rattle.kdl_diagnostics.specs.Internal.Reading.{LiesIn, Reads, Stands}
 use Rattle.kdl_diagnostics.specs.declared.lexemes.Lexeme.{Lexeme}
 use Rattle.kdl_diagnostics.specs.declared.notes.Block.{Block}

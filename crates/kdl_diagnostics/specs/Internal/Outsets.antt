@@ -2,11 +2,11 @@
 use Rattle.std.specs.Prelude.{◌≡◌, ℕ, ◌<◌, Bool, true, false, [], length}
 use Rattle.kdl_text.specs.Chars.{Text}
 use Rattle.kdl_text.specs.Internal.Here.{Here}
-use Rattle.kdl_lexer.specs.declared.lexer.Token.{Token}
-use Rattle.kdl_control.specs.Control as c
-use Rattle.kdl_control.specs.NodeControl.{in_text}
-use Rattle.kdl_control.specs.Internal.EntryViews.{entry_view, node_view}
-use Rattle.kdl_control.specs.Internal.Views.{control_view, phase_view}
+use Rattle.kdl_syntax.specs.declared.lexer.Token.{Token}
+use Rattle.kdl_syntax.specs.Control as c
+use Rattle.kdl_syntax.specs.NodeControl.{in_text}
+use Rattle.kdl_syntax.specs.Internal.EntryViews.{entry_view, node_view}
+use Rattle.kdl_syntax.specs.Internal.Views.{control_view, phase_view}
 use Rattle.kdl_diagnostics.specs.Internal.Noted.{Untold}
 use Rattle.kdl_diagnostics.specs.Internal.Reading.{LiesIn}
 use Rattle.kdl_diagnostics.specs.TextControl as spec

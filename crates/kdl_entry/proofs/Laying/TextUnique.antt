@@ -8,9 +8,9 @@ use Rattle.kdl_text.proofs.Spacing.SpaceUnique.{node_space_dets, line_space_dets
 use Rattle.kdl_value.specs.Data.{Value, text}
 use Rattle.kdl_entry.specs.Data.{Entry}
 use Rattle.kdl_entry.specs.Entries.{IsString, string, IsPlainValue, a_string, a_plain, IsType, parens, untyped, typed, IsValue, value, IsEntry, property, argument, IsIdentifierTextIn, DroppedFirst, dropped_first, before_entry, IsEntryTextIn, entry_text}
-use Rattle.kdl_lexer.specs.Tokens.{Token, space, newline, string as string_token, value as value_token, left, BeginsToken, t_space, t_newline, t_slashdash, t_string, t_value, t_left, t_right, t_equals}
-use Rattle.kdl_lexer.proofs.Lexing.TokenUnique.{token_det, no_token}
-use Rattle.kdl_lexer.proofs.Lexing.StringUnique.{string_det, plain_det, string_or_plain}
+use Rattle.kdl_syntax.specs.Tokens.{Token, space, newline, string as string_token, value as value_token, left, BeginsToken, t_space, t_newline, t_slashdash, t_string, t_value, t_left, t_right, t_equals}
+use Rattle.kdl_syntax.proofs.Lexing.TokenUnique.{token_det, no_token}
+use Rattle.kdl_syntax.proofs.Lexing.StringUnique.{string_det, plain_det, string_or_plain}
 
 -- where a token begins that is no node-space, none begins
 no_space : {s r t : Text} {k : Token} → BeginsToken s k t → (space ≡ k → ⊥) → NodeSpace s r → ⊥

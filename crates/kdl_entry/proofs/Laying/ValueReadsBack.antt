@@ -13,16 +13,16 @@ use Rattle.kdl_text.specs.declared.numbers.Keyword.TheVariants.{True, False, Nul
 use Rattle.kdl_text.proofs.Quoted.BareReads.{bare_begins}
 use Rattle.kdl_text.proofs.Spacing.ValueEnds.{value_end_no_identifier}
 use Rattle.kdl_value.specs.Data.{Value, text, integer, float, truth, null}
-use Rattle.kdl_lexer.specs.Pieces.{StringPiece, bare, quoted, PlainPiece, number, keyword, keyword_value}
+use Rattle.kdl_syntax.specs.Pieces.{StringPiece, bare, quoted, PlainPiece, number, keyword, keyword_value}
 use Rattle.kdl_entry.specs.Entries.{IsString, string, IsPlainValue, a_string, a_plain}
 use Rattle.kdl_value.specs.WellFormed.{IsWellFormed}
 use Rattle.kdl_value.specs.Print.{print_value}
 use Rattle.kdl_value.specs.Spelled.{char_text, escape_letter, escaped_text, prints_bare, spelled, StandsFor}
 use Rattle.kdl_value.proofs.Spelling.NumberReadsBack.{printed_number}
-use Rattle.kdl_lexer.proofs.Moving.PieceMoves.{move_plain_piece}
-use Rattle.kdl_lexer.proofs.Moving.Puts.{same_piece}
+use Rattle.kdl_syntax.proofs.Moving.PieceMoves.{move_plain_piece}
+use Rattle.kdl_syntax.proofs.Moving.Puts.{same_piece}
 use Rattle.kdl_value.proofs.Spelling.StringReadsBack.{spelled_alone}
-use Rattle.kdl_lexer.proofs.Moving.StringMoves.{move_piece, value_end_no_quote}
+use Rattle.kdl_syntax.proofs.Moving.StringMoves.{move_piece, value_end_no_quote}
 
 no_quote : (c : ℕ) → is_identifier_char c ≡ true → (c == 34) ≡ false
 unfolding is_identifier_char is_space is_newline_char is_banned is_punctuation

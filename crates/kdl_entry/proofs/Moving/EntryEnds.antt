@@ -8,8 +8,8 @@ use Rattle.kdl_value.specs.Data.{Value}
 use Rattle.kdl_entry.specs.Data.{Entry}
 use Rattle.kdl_entry.specs.Entries.{IsString, string, IsPlainValue, a_string, a_plain, IsType, parens, MaybeType, untyped, typed, IsValue, value, IsEntry, property, argument}
 use Rattle.kdl_entry.specs.Places.{DroppedEntry, dropped}
-use Rattle.kdl_lexer.proofs.Lexing.TokenUnique.{end_of}
-use Rattle.kdl_lexer.proofs.Lexing.StringUnique.{string_end, plain_end}
+use Rattle.kdl_syntax.proofs.Lexing.TokenUnique.{end_of}
+use Rattle.kdl_syntax.proofs.Lexing.StringUnique.{string_end, plain_end}
 
 pub end_node_space : {s r : Text} → NodeSpace s r → End s r
 end_node_space n = end_of (node_space_end n)

@@ -12,9 +12,9 @@ use Rattle.kdl_entry.specs.Entries.{IsString, string, IsPlainValue, a_string, a_
 use Rattle.kdl_entry.specs.Laid.{LaidIdentifier, spelled, LaidType, no_type, a_type, no_key, a_key, LaidItem, item}
 use Rattle.kdl_entry.specs.Places.{Is, DroppedEntry, dropped, EntryLeading, leading}
 use Rattle.kdl_entry.specs.Tree.{Identifier, Entry}
-use Rattle.kdl_lexer.proofs.Moving.PieceMoves.{move_plain_piece}
-use Rattle.kdl_lexer.proofs.Moving.StringMoves.{move_piece, value_end_no_quote, move_newline}
-use Rattle.kdl_lexer.proofs.Moving.Puts.{Put, stands, also, joined, same, same_piece, begins_first, nothing, Move}
+use Rattle.kdl_syntax.proofs.Moving.PieceMoves.{move_plain_piece}
+use Rattle.kdl_syntax.proofs.Moving.StringMoves.{move_piece, value_end_no_quote, move_newline}
+use Rattle.kdl_syntax.proofs.Moving.Puts.{Put, stands, also, joined, same, same_piece, begins_first, nothing, Move}
 
 pub is_move : {R : Text → Text → Type 0} {p s r : Text} (m : Move R s r) → Is R p s r → (u : Text) → first u ≡ first r → Is R p (m.at.put u) u
 is_move m d u e = record { is = m.there u e; text = same_piece _ m.at d.text u }

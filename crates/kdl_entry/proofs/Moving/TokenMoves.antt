@@ -5,12 +5,12 @@ use Rattle.kdl_text.specs.Internal.Here.{first}
 use Rattle.kdl_text.specs.Numbers.{whole, part, decimal, is_whole, is_decimal, keyword as a_keyword}
 use Rattle.kdl_text.specs.Trivia.{Break}
 use Rattle.kdl_value.specs.Data.{Value}
-use Rattle.kdl_lexer.specs.Pieces.{PlainPiece, number, keyword}
-use Rattle.kdl_lexer.specs.Tokens.{Token, string, value, BeginsToken, t_space, t_newline, t_slashdash, t_string, t_value, t_left, t_right, t_opening, t_closing, t_equals, t_semicolon, t_bom}
-use Rattle.kdl_lexer.proofs.Moving.FarMoves.{far_space, far_break}
-use Rattle.kdl_lexer.proofs.Moving.PieceMoves.{move_plain_piece}
-use Rattle.kdl_lexer.proofs.Moving.Puts.{Put, stands, also, starts_first, begins_first}
-use Rattle.kdl_lexer.proofs.Moving.StringMoves.{move_piece, move_piece_first, move_newline}
+use Rattle.kdl_syntax.specs.Pieces.{PlainPiece, number, keyword}
+use Rattle.kdl_syntax.specs.Tokens.{Token, string, value, BeginsToken, t_space, t_newline, t_slashdash, t_string, t_value, t_left, t_right, t_opening, t_closing, t_equals, t_semicolon, t_bom}
+use Rattle.kdl_syntax.proofs.Moving.FarMoves.{far_space, far_break}
+use Rattle.kdl_syntax.proofs.Moving.PieceMoves.{move_plain_piece}
+use Rattle.kdl_syntax.proofs.Moving.Puts.{Put, stands, also, starts_first, begins_first}
+use Rattle.kdl_syntax.proofs.Moving.StringMoves.{move_piece, move_piece_first, move_newline}
 use Rattle.kdl_entry.proofs.Moving.EntryMoves.{move_space, move_comment}
 
 -- what may follow a string, a number or a keyword without going on with it

@@ -2,9 +2,9 @@
 use Rattle.std.proofs.Common.{◌≡◌, true, false, [], Option, Some, None, option_map, refl, sym, ap, subst, ◌∙◌}
 use Rattle.kdl_text.specs.Chars.{Text}
 use Rattle.kdl_text.specs.Trivia.ValueEnd.{nothing}
-use Rattle.kdl_lexer.specs.Pieces.{StringPiece}
-use Rattle.kdl_lexer.specs.Tokens.{Token, string, BeginsToken, t_string}
-use Rattle.kdl_control.specs.EntryControl.{EntryControl, ahead, entry_step}
+use Rattle.kdl_syntax.specs.Pieces.{StringPiece}
+use Rattle.kdl_syntax.specs.Tokens.{Token, string, BeginsToken, t_string}
+use Rattle.kdl_syntax.specs.EntryControl.{EntryControl, ahead, entry_step}
 use Rattle.kdl_diagnostics.specs.TextControl.{TextControl, in_entry, in_identifier, text_step, text_finish, Takes}
 use Rattle.kdl_diagnostics.specs.TextControl as text
 use Rattle.kdl_entry.specs.Data.{Entry}

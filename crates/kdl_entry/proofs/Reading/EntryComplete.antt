@@ -9,10 +9,10 @@ use Rattle.kdl_value.specs.Data.{Value, text}
 use Rattle.kdl_entry.specs.Entries.{IsString, string as a_string', IsPlainValue, a_string, a_plain, parens, MaybeType, untyped, typed, value as a_value, IsEntry, property, argument, DroppedFirst, dropped_first, BeforeEntry, before_entry, IsEntryText, entry_text}
 use Rattle.kdl_entry.specs.Internal.EntryMachine.{Word, State, ahead, dropping, under, word, done, opened_parts, word_at, entry_by, argument_of, step, ended, Runs, stops, reads, AnswersEntry}
 use Rattle.kdl_entry.specs.Internal.Parts.{TypeParts, KeyParts, type_of, before_name, after_name, after_type, identifier_at, Parts}
-use Rattle.kdl_control.specs.Control.{fresh, spaced, type_open, type_name, type_done, in_node, property as in_property, entry_slashdash}
+use Rattle.kdl_syntax.specs.Control.{fresh, spaced, type_open, type_name, type_done, in_node, property as in_property, entry_slashdash}
 use Rattle.kdl_entry.specs.Laid.{LaidIdentifier, spelled, LaidType, no_type, a_type, no_key, a_key, LaidItem, item, LaidEntryText, laid_entry_text}
 use Rattle.kdl_entry.specs.Places.{span_of, between}
-use Rattle.kdl_lexer.specs.Tokens.{space, newline, slashdash as a_slashdash, string, value, left, t_space, t_newline, t_slashdash, t_string, t_value, t_left, t_right, t_equals}
+use Rattle.kdl_syntax.specs.Tokens.{space, newline, slashdash as a_slashdash, string, value, left, t_space, t_newline, t_slashdash, t_string, t_value, t_left, t_right, t_equals}
 use Rattle.kdl_entry.specs.Tree.{Identifier, Entry, entry_data, plain_identifier}
 use Rattle.kdl_entry.proofs.Moving.EntryEnds.{end_spaces, end_lines, end_some, end_slashdash, end_string, end_plain, end_entry}
 use Rattle.kdl_entry.proofs.Slicing.Placing.{place}

@@ -1,10 +1,10 @@
 -- The control of entry texts takes only the tokens that the machine takes, so it accepts only texts that the grammar derives.
 use Rattle.std.proofs.Common.{◌≡◌, true, false, [], Option, Some, None, option_map, refl, sym, ap, subst, ◌∙◌}
 use Rattle.kdl_text.specs.Chars.{Text}
-use Rattle.kdl_lexer.specs.Tokens.{Token, space, string, value, left, BeginsToken}
-use Rattle.kdl_control.specs.Control as control
-use Rattle.kdl_control.specs.Control.{spaced, type_open, type_name, type_done, in_node, property}
-use Rattle.kdl_control.specs.EntryControl.{EntryControl, ahead, dropping, entry_step, entry_finish, dropped_turn}
+use Rattle.kdl_syntax.specs.Tokens.{Token, space, string, value, left, BeginsToken}
+use Rattle.kdl_syntax.specs.Control as control
+use Rattle.kdl_syntax.specs.Control.{spaced, type_open, type_name, type_done, in_node, property}
+use Rattle.kdl_syntax.specs.EntryControl.{EntryControl, ahead, dropping, entry_step, entry_finish, dropped_turn}
 use Rattle.kdl_entry.specs.Data as data'
 use Rattle.kdl_entry.specs.Entries.{IsEntryText}
 use Rattle.kdl_entry.specs.Internal.EntryMachine as machine

@@ -6,9 +6,9 @@ use Rattle.kdl_entry.specs.Entries.{IsEntryText}
 use Rattle.kdl_entry.specs.Internal.EntryMachine.{State, step, Runs, stops, reads, AnswersEntry}
 use Rattle.kdl_entry.specs.Laid.{LaidEntryText}
 use Rattle.kdl_entry.specs.Internal.MachineLaws.{OneEntryAnswer, EntryAnswers}
-use Rattle.kdl_lexer.specs.Tokens.{Token, BeginsToken}
+use Rattle.kdl_syntax.specs.Tokens.{Token, BeginsToken}
 use Rattle.kdl_entry.specs.Tree.{Entry, entry_data}
-use Rattle.kdl_lexer.proofs.Lexing.TokenUnique.{token_det, no_token}
+use Rattle.kdl_syntax.proofs.Lexing.TokenUnique.{token_det, no_token}
 use Rattle.kdl_entry.proofs.Reading.EntryComplete.{built}
 use Rattle.kdl_entry.proofs.Reading.EntrySound.{derived}
 

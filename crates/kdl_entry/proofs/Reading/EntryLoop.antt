@@ -5,22 +5,22 @@ use Rattle.kdl_text.specs.Chars.Star.{none as no_star, more}
 use Rattle.kdl_text.specs.Internal.Here.{Here}
 use Rattle.kdl_text.specs.Internal.Reading.{Moves}
 use Rattle.kdl_text.specs.Trivia.{NodeSpace}
-use Rattle.kdl_control.specs.Control.{Phase, fresh, spaced, type_open, type_name, in_node, property}
-use Rattle.kdl_control.specs.EntryControl as control
-use Rattle.kdl_control.specs.EntryControl.{EntryControl, entry_step}
+use Rattle.kdl_syntax.specs.Control.{Phase, fresh, spaced, type_open, type_name, in_node, property}
+use Rattle.kdl_syntax.specs.EntryControl as control
+use Rattle.kdl_syntax.specs.EntryControl.{EntryControl, entry_step}
 use Rattle.kdl_entry.specs.Internal.EntryMachine.{Word, State, ahead, dropping, under, word, done, phase_of, valued, begin_to, value_of, under_to, word_to, go_to, if_taken, step, finish, Runs, stops, reads, AnswersEntry}
 use Rattle.kdl_entry.specs.Internal.Counted.{EndsIn, InOrder, Recounted}
 use Rattle.kdl_entry.specs.Internal.EntryReading.{AnswersEntryText, Ended, Same, Stands, Stepped}
 use Rattle.kdl_value.specs.Data.{Value}
-use Rattle.kdl_lexer.specs.Internal.Handed.{Cuts, one, spaces, HandsOut, Lexed, kind_view}
+use Rattle.kdl_syntax.specs.Internal.Handed.{Cuts, one, spaces, HandsOut, Lexed, kind_view}
 use Rattle.kdl_entry.specs.Internal.Parts.{Parts, taken}
-use Rattle.kdl_lexer.specs.Tokens.{Token, space, string, value, left, right, BeginsToken, t_space, NoToken}
+use Rattle.kdl_syntax.specs.Tokens.{Token, space, string, value, left, right, BeginsToken, t_space, NoToken}
 use Rattle.kdl_entry.specs.Tree.{Entry, entry_tree}
 use Rattle.kdl_entry.specs.declared.entry.KdlEntry.{KdlEntry}
-use Rattle.kdl_lexer.specs.declared.lexer.LexFailure.{LexFailure}
-use Rattle.kdl_lexer.specs.declared.lexer.LexFailure.TheVariants.{Faulty, Memory}
-use Rattle.kdl_lexer.specs.declared.lexer.Token.{Token as CodeToken}
-use Rattle.kdl_lexer.proofs.Lexing.TokenUnique.{no_token, token_shorter}
+use Rattle.kdl_syntax.specs.declared.lexer.LexFailure.{LexFailure}
+use Rattle.kdl_syntax.specs.declared.lexer.LexFailure.TheVariants.{Faulty, Memory}
+use Rattle.kdl_syntax.specs.declared.lexer.Token.{Token as CodeToken}
+use Rattle.kdl_syntax.proofs.Lexing.TokenUnique.{no_token, token_shorter}
 use Rattle.kdl_entry.proofs.Reading.EntryLaws.{goes_on}
 use Rattle.kdl_entry.proofs.Slicing.Between.{in_order_here, in_order_on, then_ends}
 

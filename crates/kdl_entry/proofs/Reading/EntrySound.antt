@@ -7,11 +7,11 @@ use Rattle.kdl_entry.specs.Data as data'
 use Rattle.kdl_value.specs.Data.{Value}
 use Rattle.kdl_entry.specs.Entries.{IsString, string as a_string', IsPlainValue, a_string, a_plain, parens, untyped, typed, IsValue, value as a_value, IsEntry, property, argument, DroppedFirst, dropped_first, before_entry, IsEntryText, entry_text}
 use Rattle.kdl_entry.specs.Internal.EntryMachine.{Word, State, ahead, dropping, under, word, done, step, Runs, stops, reads, AnswersEntry}
-use Rattle.kdl_control.specs.Control.{Phase, fresh, spaced, later, gap, node_slashdash, type_open, type_name, type_done, in_node, property as in_property, entry_slashdash, block_slashdash, kept, kept_slashdash}
+use Rattle.kdl_syntax.specs.Control.{Phase, fresh, spaced, later, gap, node_slashdash, type_open, type_name, type_done, in_node, property as in_property, entry_slashdash, block_slashdash, kept, kept_slashdash}
 use Rattle.kdl_entry.specs.Internal.Parts.{Parts}
-use Rattle.kdl_lexer.specs.Tokens.{Token, string, value, left, bom, BeginsToken, t_space, t_newline, t_slashdash, t_string, t_value, t_left, t_right, t_equals}
+use Rattle.kdl_syntax.specs.Tokens.{Token, string, value, left, bom, BeginsToken, t_space, t_newline, t_slashdash, t_string, t_value, t_left, t_right, t_equals}
 use Rattle.kdl_entry.specs.Tree.{Entry}
-use Rattle.kdl_lexer.proofs.Lexing.TokenUnique.{is_end, end_after}
+use Rattle.kdl_syntax.proofs.Lexing.TokenUnique.{is_end, end_after}
 
 -- What is left of the text, by what is under way. The flag: the entry is kept.
 

@@ -6,25 +6,25 @@ use Rattle.kdl_text.specs.Chars.{Text, plus}
 use Rattle.kdl_text.specs.Internal.Here.{Here}
 use Rattle.kdl_text.specs.Trivia.{ValueEnd}
 use Rattle.kdl_text.specs.Trivia.ValueEnd.{nothing}
-use Rattle.kdl_lexer.specs.Pieces.{StringPiece}
+use Rattle.kdl_syntax.specs.Pieces.{StringPiece}
 use Rattle.kdl_entry.specs.Entries.{IsString, string, IsIdentifierText}
-use Rattle.kdl_lexer.specs.Internal.Handed.{Cuts, one, spaces, HandsOut, Lexed, kind_view}
+use Rattle.kdl_syntax.specs.Internal.Handed.{Cuts, one, spaces, HandsOut, Lexed, kind_view}
 use Rattle.kdl_entry.specs.Internal.IdentifierReading.{AnswersIdentifierText}
 use Rattle.kdl_entry.specs.Internal.Parts.{identifier_at}
 use Rattle.kdl_entry.specs.Laid.{LaidIdentifier, LaidIdentifierText, spelled}
 use Rattle.kdl_entry.specs.Places.{Is, between}
-use Rattle.kdl_lexer.specs.Tokens as tokens
-use Rattle.kdl_lexer.specs.Tokens.{t_space, t_string}
+use Rattle.kdl_syntax.specs.Tokens as tokens
+use Rattle.kdl_syntax.specs.Tokens.{t_space, t_string}
 use Rattle.kdl_value.specs.Tree.{text_of}
 use Rattle.kdl_entry.specs.Tree.{Identifier}
-use Rattle.kdl_lexer.specs.declared.lexer.LexFailure.{LexFailure}
-use Rattle.kdl_lexer.specs.declared.lexer.LexFailure.TheVariants.{Faulty, Memory}
-use Rattle.kdl_lexer.specs.declared.lexer.Token.{Token as CodeToken}
-use Rattle.kdl_lexer.specs.declared.lexer.TokenKind.{TokenKind}
-use Rattle.kdl_lexer.specs.declared.lexer.TokenKind.TheVariants.{String as StringKind}
-use Rattle.kdl_lexer.proofs.Lexing.TokenUnique.{no_token, token_det}
+use Rattle.kdl_syntax.specs.declared.lexer.LexFailure.{LexFailure}
+use Rattle.kdl_syntax.specs.declared.lexer.LexFailure.TheVariants.{Faulty, Memory}
+use Rattle.kdl_syntax.specs.declared.lexer.Token.{Token as CodeToken}
+use Rattle.kdl_syntax.specs.declared.lexer.TokenKind.{TokenKind}
+use Rattle.kdl_syntax.specs.declared.lexer.TokenKind.TheVariants.{String as StringKind}
+use Rattle.kdl_syntax.proofs.Lexing.TokenUnique.{no_token, token_det}
 use Rattle.kdl_entry.proofs.Slicing.Placing.{place}
-use Rattle.kdl_lexer.proofs.Lexing.StringUnique.{string_end}
+use Rattle.kdl_syntax.proofs.Lexing.StringUnique.{string_end}
 
 -- where a token was handed out, the text is an identifier only if the token is its string, and the text ends after it
 is_string : {t r v : Text} {k : tokens.Token} → Cuts t k r → IsIdentifierText t v → (r ≡ []) × (k ≡ tokens.string v)

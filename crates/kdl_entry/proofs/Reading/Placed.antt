@@ -1,9 +1,9 @@
 -- The phases that the control of entry texts reaches.
 use Rattle.std.proofs.Common.{◌≡◌, Bool, true, false, Option, Some, None, option_map, refl, subst}
-use Rattle.kdl_lexer.specs.Tokens.{Token, space, newline, slashdash, string, value, left, right, equals}
-use Rattle.kdl_control.specs.Control as control
-use Rattle.kdl_control.specs.Control.{fresh, spaced, type_open, type_name, type_done, in_node, property, entry_slashdash}
-use Rattle.kdl_control.specs.EntryControl.{EntryControl, ahead, dropping, under, word, done, entry_step, dropped_turn}
+use Rattle.kdl_syntax.specs.Tokens.{Token, space, newline, slashdash, string, value, left, right, equals}
+use Rattle.kdl_syntax.specs.Control as control
+use Rattle.kdl_syntax.specs.Control.{fresh, spaced, type_open, type_name, type_done, in_node, property, entry_slashdash}
+use Rattle.kdl_syntax.specs.EntryControl.{EntryControl, ahead, dropping, under, word, done, entry_step, dropped_turn}
 
 -- the phases from a slashdash on
 abbrev pub in_dropped : control.Phase → Bool

@@ -4,8 +4,8 @@ use Rattle.kdl_text.specs.Chars.{Text}
 use Rattle.kdl_text.specs.Internal.Here.{Position, Ahead}
 use Rattle.kdl_text.specs.Spans.{bytes, raise}
 use Rattle.kdl_text.proofs.Looking.MovesJoin.{bytes-append}
-use Rattle.kdl_lexer.specs.Internal.Order.{IsEndOf}
-use Rattle.kdl_lexer.proofs.Order.{ahead}
+use Rattle.kdl_syntax.specs.Internal.Order.{IsEndOf}
+use Rattle.kdl_syntax.proofs.Order.{ahead}
 use Rattle.kdl_entry.specs.Internal.Counted.{Sliced}
 
 -- a slice

@@ -1,15 +1,15 @@
 -- The machine that reads a text that is one entry: it reads the tokens once. The token k is in the text s before r, in the text `whole`.
 -- The control says which token may come. The start of a place is kept as the text from there on; of a slashdashed entry only the phase is kept.
 use Rattle.std.specs.Prelude.{◌≡◌, [], Option, Some, None, option_map}
-use Rattle.kdl_control.specs.Control.{Phase}
-use Rattle.kdl_control.specs.EntryControl as control
-use Rattle.kdl_control.specs.EntryControl.{entry_step}
+use Rattle.kdl_syntax.specs.Control.{Phase}
+use Rattle.kdl_syntax.specs.EntryControl as control
+use Rattle.kdl_syntax.specs.EntryControl.{entry_step}
 use Rattle.kdl_text.specs.Chars.{Text}
 use Rattle.kdl_text.specs.declared.span.SourceSpan.{SourceSpan}
 use Rattle.kdl_value.specs.Data.{Value, text}
 use Rattle.kdl_entry.specs.Internal.Parts.{entry_at, KeyParts, TypeParts, Parts, taken, key_given, type_given}
 use Rattle.kdl_entry.specs.Places.{span_of, between}
-use Rattle.kdl_lexer.specs.Tokens.{Token, string, value, BeginsToken}
+use Rattle.kdl_syntax.specs.Tokens.{Token, string, value, BeginsToken}
 use Rattle.kdl_entry.specs.Tree.{Identifier, EntryFormat, Entry, no_span, plain_identifier}
 
 -- a string that may still be a key: what comes before it, what it represents, its spelling, and its span

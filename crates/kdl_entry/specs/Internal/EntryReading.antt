@@ -1,7 +1,7 @@
 -- The machine's state that a reader of an entry holds, and what its steps return.
 use Rattle.std.specs.Prelude.{◌≡◌, ◌↔◌, Option, Some, None, Result, Ok, Err}
 use Rattle.kdl_text.specs.Chars.{Text}
-use Rattle.kdl_control.specs.Internal.Views.{phase_view}
+use Rattle.kdl_syntax.specs.Internal.Views.{phase_view}
 use Rattle.kdl_entry.specs.Internal.Building.{parts_view}
 use Rattle.kdl_entry.specs.Internal.Counted.{InOrder}
 use Rattle.kdl_entry.specs.Internal.EntryMachine as machine
@@ -13,8 +13,8 @@ use Rattle.kdl_entry.specs.declared.entry.KdlEntry.{KdlEntry}
 use Rattle.kdl_entry.specs.declared.parsing.entries.State.{State}
 use Rattle.kdl_entry.specs.declared.parsing.entries.State.TheVariants.{Start, Dropping, Under, Pending, Done}
 use Rattle.kdl_entry.specs.declared.parsing.entries.PendingWord.{PendingWord}
-use Rattle.kdl_lexer.specs.declared.lexer.LexFailure.{LexFailure}
-use Rattle.kdl_lexer.specs.declared.lexer.LexFailure.TheVariants.{Faulty, Memory}
+use Rattle.kdl_syntax.specs.declared.lexer.LexFailure.{LexFailure}
+use Rattle.kdl_syntax.specs.declared.lexer.LexFailure.TheVariants.{Faulty, Memory}
 
 -- a string that may be a key, as characters
 abbrev pub word_view : PendingWord → machine.Word

@@ -5,8 +5,8 @@ use Rattle.kdl_entry.specs.Entries.{IsIdentifierText}
 use Rattle.kdl_entry.specs.Laid.{LaidIdentifierText}
 use Rattle.kdl_entry.specs.Tree.{identifier_tree}
 use Rattle.kdl_entry.specs.declared.identifier.KdlIdentifier.{KdlIdentifier}
-use Rattle.kdl_lexer.specs.declared.lexer.LexFailure.{LexFailure}
-use Rattle.kdl_lexer.specs.declared.lexer.LexFailure.TheVariants.{Faulty, Memory}
+use Rattle.kdl_syntax.specs.declared.lexer.LexFailure.{LexFailure}
+use Rattle.kdl_syntax.specs.declared.lexer.LexFailure.TheVariants.{Faulty, Memory}
 
 -- the identifier, located in the text; a refused text is none, and an allocation failure says nothing
 abbrev pub AnswersIdentifierText : Text → Result KdlIdentifier LexFailure → Type 0

@@ -5,8 +5,8 @@ use Rattle.kdl_text.specs.Chars.{Text}
 use Rattle.kdl_text.specs.declared.span.SourceSpan.{SourceSpan}
 use Rattle.kdl_value.specs.Data.{Value}
 use Rattle.kdl_entry.specs.Places.{between, span_of}
-use Rattle.kdl_lexer.specs.Tokens.{Token, string, left, right}
-use Rattle.kdl_control.specs.Control.{Phase, type_open, type_name, property}
+use Rattle.kdl_syntax.specs.Tokens.{Token, string, left, right}
+use Rattle.kdl_syntax.specs.Control.{Phase, type_open, type_name, property}
 use Rattle.kdl_entry.specs.Tree.{Identifier, plain_identifier, Entry}
 
 -- a type, and the texts before its name, after it, and after the `)`

@@ -1,14 +1,14 @@
 //! Entries that are a whole text, read token by token.
 #![tactic(auto, using(crate::proofs::Rules::entries))]
 
-ghost use Rattle.kdl_control.specs.Internal.EntryViews.{entry_view};
-ghost use Rattle.kdl_control.specs.Internal.Views.{phase_view};
+ghost use Rattle.kdl_syntax.specs.Internal.EntryViews.{entry_view};
+ghost use Rattle.kdl_syntax.specs.Internal.Views.{phase_view};
 ghost use Rattle.kdl_entry.specs.Internal.Building.{parts_view};
 ghost use Rattle.kdl_entry.specs.Internal.EntryMachine as machine;
 ghost use Rattle.kdl_entry.specs.Internal.EntryMachine.{argument_of, begin_to, ended, entry_by, finish, keyed_parts, opened_parts, phase_of, step, value_of, value_to, word_at, word_to};
 ghost use Rattle.kdl_entry.specs.Internal.Counted.{EndsIn, Recounted, Within};
 ghost use Rattle.kdl_entry.specs.Internal.EntryReading.{word_view, state_view, AnswersEntryText, Stands, Stepped, Ended};
-ghost use Rattle.kdl_lexer.specs.Internal.Handed.{kind_view};
+ghost use Rattle.kdl_syntax.specs.Internal.Handed.{kind_view};
 ghost use Rattle.kdl_entry.specs.Places.{between};
 ghost use Rattle.kdl_value.specs.Tree.{text_of, value_tree};
 ghost use Rattle.kdl_entry.specs.Tree.{entry_tree, identifier_tree};
@@ -19,9 +19,8 @@ use super::parts::{Given, Key, Parts, entry_from};
 use super::source::Source;
 use crate::entry::KdlEntry;
 use crate::identifier::sliced_identifier;
-use kdl_control::{EntryControl, Phase};
 use kdl_diagnostics::{Whole, failure};
-use kdl_lexer::{LexFailure, Token, TokenKind, TokenSpan};
+use kdl_syntax::{EntryControl, LexFailure, Phase, Token, TokenKind, TokenSpan};
 use kdl_text::cursor::{Checkpoint, Piece, Steps};
 use kdl_text::error::ParseFailure;
 use kdl_text::span::SourceSpan;

@@ -8,7 +8,7 @@ ghost use Rattle.std.specs.Str.{chars};
 use super::source::Source;
 use crate::identifier::KdlIdentifier;
 use kdl_diagnostics::{Whole, failure};
-use kdl_lexer::{LexFailure, Token, TokenKind};
+use kdl_syntax::{LexFailure, Token, TokenKind};
 use kdl_text::cursor::{Checkpoint, Steps};
 use kdl_text::error::ParseFailure;
 use std::alloc::Global;

@@ -3,10 +3,10 @@
 //! The same for an entry that is a whole text and for those of a document. Which token may come is up to the control.
 #![tactic(auto, using(crate::proofs::Rules::parts))]
 
-ghost use Rattle.kdl_control.specs.Internal.Views.{phase_view};
+ghost use Rattle.kdl_syntax.specs.Internal.Views.{phase_view};
 ghost use Rattle.kdl_entry.specs.Internal.Building.{key_view, type_view, parts_view, Holds};
 ghost use Rattle.kdl_entry.specs.Internal.Counted.{Recounted, Sliced, Within};
-ghost use Rattle.kdl_lexer.specs.Internal.Handed.{kind_view};
+ghost use Rattle.kdl_syntax.specs.Internal.Handed.{kind_view};
 ghost use Rattle.kdl_entry.specs.Internal.Parts as spec;
 ghost use Rattle.kdl_entry.specs.Internal.Parts.{entry_at, identifier_at};
 ghost use Rattle.kdl_entry.specs.Places.{between};
@@ -19,8 +19,7 @@ ghost use Rattle.std.specs.Prelude.{◌≡◌, [], Some, None, IfOk, OnOk, optio
 use super::source::Source;
 use crate::entry::{KdlEntry, KdlEntryFormat};
 use crate::identifier::KdlIdentifier;
-use kdl_control::Phase;
-use kdl_lexer::{Token, TokenKind, TokenSpan};
+use kdl_syntax::{Phase, Token, TokenKind, TokenSpan};
 use kdl_text::cursor::Checkpoint;
 use kdl_text::span::SourceSpan;
 use kdl_value::KdlValue;

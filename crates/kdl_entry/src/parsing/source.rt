@@ -5,7 +5,7 @@ ghost use Rattle.kdl_entry.specs.Internal.Counted.{EndsIn, Recounted, Sliced};
 ghost use Rattle.kdl_entry.specs.Internal.Parts.{identifier_at};
 ghost use Rattle.kdl_entry.specs.Places.{between, span_of};
 ghost use Rattle.kdl_entry.specs.Tree.{identifier_tree};
-ghost use Rattle.kdl_lexer.specs.Internal.Handed.{Lexed, LexedNext, NextCosts};
+ghost use Rattle.kdl_syntax.specs.Internal.Handed.{Lexed, LexedNext, NextCosts};
 ghost use Rattle.kdl_text.specs.Internal.Here.{Ahead, Ate, looked};
 ghost use Rattle.kdl_text.specs.Internal.Reading.{Moves};
 ghost use Rattle.kdl_text.specs.Spans.{bytes};
@@ -15,7 +15,7 @@ ghost use Rattle.std.specs.Str.{chars};
 
 use super::parts::empty;
 use crate::identifier::{KdlIdentifier, bare_identifier, sliced_identifier};
-use kdl_lexer::{LexFailure, Lexer, NextToken, Token, TokenSpan};
+use kdl_syntax::{LexFailure, Lexer, NextToken, Token, TokenSpan};
 use kdl_text::cursor::{Checkpoint, Piece, Steps};
 use kdl_text::span::SourceSpan;
 use std::alloc::{AllocError, Global};

@@ -6,9 +6,9 @@ use Rattle.kdl_text.specs.Bare.{is_bare}
 use Rattle.kdl_text.specs.Numbers.{is_digit_of}
 use Rattle.kdl_text.specs.Trivia.{NodeSpace, Break}
 use Rattle.kdl_value.specs.Data.{text, integer, truth}
-use Rattle.kdl_lexer.specs.Pieces.{StringPiece}
-use Rattle.kdl_lexer.specs.Tokens.{Token, BeginsToken, t_space, t_newline, t_string, t_value}
-use Rattle.kdl_lexer.proofs.Lexing.StringUnique.{string_begins, plain_begins}
+use Rattle.kdl_syntax.specs.Pieces.{StringPiece}
+use Rattle.kdl_syntax.specs.Tokens.{Token, BeginsToken, t_space, t_newline, t_string, t_value}
+use Rattle.kdl_syntax.proofs.Lexing.StringUnique.{string_begins, plain_begins}
 use Rattle.kdl_grammar.proofs.Reading.NoToken.{here, then, faulty}
 use Rattle.kdl_grammar.specs.Data.{node, no_children, Nodes, none, first}
 use Rattle.kdl_grammar.specs.Grammar.{IsDocument}

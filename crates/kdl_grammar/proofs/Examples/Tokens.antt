@@ -8,9 +8,9 @@ use Rattle.kdl_text.specs.Numbers.{is_digit_of, is_part, base_prefix, fits}
 use Rattle.kdl_text.specs.Trivia.{NodeSpace, Break}
 use Rattle.kdl_entry.specs.Data as entry_data'
 use Rattle.kdl_value.specs.Data.{Value, integer, truth}
-use Rattle.kdl_lexer.specs.Pieces.{StringPiece, PlainPiece}
-use Rattle.kdl_lexer.specs.Tokens.{Token, space, newline, slashdash, string, value, left, right, opening, closing, equals, semicolon, bom, BeginsToken, t_space, t_newline, t_slashdash, t_string, t_value, t_left, t_right, t_opening, t_closing, t_equals, t_semicolon, t_bom}
-use Rattle.kdl_lexer.proofs.Lexing.TokenUnique.{token_det, no_token}
+use Rattle.kdl_syntax.specs.Pieces.{StringPiece, PlainPiece}
+use Rattle.kdl_syntax.specs.Tokens.{Token, space, newline, slashdash, string, value, left, right, opening, closing, equals, semicolon, bom, BeginsToken, t_space, t_newline, t_slashdash, t_string, t_value, t_left, t_right, t_opening, t_closing, t_equals, t_semicolon, t_bom}
+use Rattle.kdl_syntax.proofs.Lexing.TokenUnique.{token_det, no_token}
 use Rattle.kdl_grammar.specs.Data.{Node, node, no_children, children, Nodes, none, first}
 use Rattle.kdl_grammar.specs.Grammar.{IsDocument, IsDocumentIn}
 use Rattle.kdl_grammar.specs.Internal.Machine.{State, step, finish, initial, Runs, stops, reads, AnswersDocument}

@@ -16,11 +16,11 @@ use Rattle.kdl_text.proofs.Quoted.BareReads.{bare_begins}
 use Rattle.kdl_text.proofs.Numeric.DecimalUnique.{number_begins}
 use Rattle.kdl_text.proofs.Quoted.StringUnique.{is_quoted_begins, is_raw_begins, is_raw_front}
 use Rattle.kdl_value.specs.Data.{text, integer, float, truth, null}
-use Rattle.kdl_lexer.specs.Pieces.{StringPiece, bare, quoted, raw, PlainPiece, number, keyword, keyword_value}
+use Rattle.kdl_syntax.specs.Pieces.{StringPiece, bare, quoted, raw, PlainPiece, number, keyword, keyword_value}
 use Rattle.kdl_entry.specs.Entries.{IsPlainValue, a_plain}
-use Rattle.kdl_lexer.specs.Tokens.{Token, string, value, BeginsToken, t_space, t_newline, t_string, t_value}
-use Rattle.kdl_lexer.proofs.Lexing.TokenUnique.{no_slash}
-use Rattle.kdl_lexer.proofs.Lexing.StringUnique.{keyword_front}
+use Rattle.kdl_syntax.specs.Tokens.{Token, string, value, BeginsToken, t_space, t_newline, t_string, t_value}
+use Rattle.kdl_syntax.proofs.Lexing.TokenUnique.{no_slash}
+use Rattle.kdl_syntax.proofs.Lexing.StringUnique.{keyword_front}
 use Rattle.kdl_grammar.specs.Data.{Nodes}
 use Rattle.kdl_grammar.specs.Grammar.{IsDocument}
 use Rattle.kdl_grammar.proofs.Examples.Tokens.{Cut, end, next, derived, refused, blank, letter, equals_sign, argument, keyed, name, just}

@@ -9,7 +9,7 @@ use Rattle.kdl_entry.specs.Print.{print_entry}
 use Rattle.kdl_entry.specs.Laid.{LaidIdentifier, LaidType}
 use Rattle.kdl_entry.specs.Tree.{Entry, without_span}
 use Rattle.kdl_entry.proofs.Moving.EntryMoves.{move_identifier, move_laid_type, punctuation_end, is_move}
-use Rattle.kdl_lexer.proofs.Moving.Puts.{same, same_piece}
+use Rattle.kdl_syntax.proofs.Moving.Puts.{same, same_piece}
 use Rattle.kdl_entry.proofs.Laying.Respanned.{free_identifier, free_type, free_entry, same_identifier, same_type}
 use Rattle.kdl_entry.proofs.Laying.EntryStands.{CanStand, entry_end}
 use Rattle.kdl_grammar.specs.Edited.{EachNode, each_node, EachChildren, EachDocument, each_document, EachNodes}

@@ -4,7 +4,7 @@ use Rattle.kdl_text.specs.Chars.{Text}
 use Rattle.kdl_text.proofs.Looking.Ends.{End, here, also, then, past, end_newline}
 use Rattle.kdl_text.proofs.Spacing.SpacePieces.{line_comment_end}
 use Rattle.kdl_entry.specs.Data.{Entry}
-use Rattle.kdl_lexer.proofs.Lexing.TokenUnique.{end_of}
+use Rattle.kdl_syntax.proofs.Lexing.TokenUnique.{end_of}
 use Rattle.kdl_entry.proofs.Moving.EntryEnds.{end_line_space, end_spaces, end_some, end_slashdash, end_string, end_type, end_entry}
 use Rattle.kdl_grammar.specs.Data.{Children, Nodes}
 use Rattle.kdl_grammar.specs.Grammar.{Terminator, named, AfterName, kept_entry, dropped_entry, Blocks, dropped_block, block, no_block, AfterBlock, dropped_later, no_more, Gap, no_gap, line_space, dropped_node, AreNodes, last_gap, node_then, IsBlock, braces}

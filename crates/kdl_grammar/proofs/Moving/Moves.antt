@@ -7,9 +7,9 @@ use Rattle.kdl_text.proofs.Spacing.ValueEnds.{space_ends, break_ends}
 use Rattle.kdl_entry.specs.Data.{Entry}
 use Rattle.kdl_entry.specs.Entries.{IsString, MaybeType, IsEntry}
 use Rattle.kdl_entry.specs.Places.{DroppedEntry, dropped as dropped_e}
-use Rattle.kdl_lexer.proofs.Moving.StringMoves.{move_newline}
+use Rattle.kdl_syntax.proofs.Moving.StringMoves.{move_newline}
 use Rattle.kdl_entry.proofs.Moving.EntryMoves.{move_comment, move_spaces, move_plus, move_slashdash, move_line_space, move_string, move_maybe, move_entry, punctuation_end, spaces_end, spaces_dash}
-use Rattle.kdl_lexer.proofs.Moving.Puts.{Put, stands, also, joined, same, nothing, Move}
+use Rattle.kdl_syntax.proofs.Moving.Puts.{Put, stands, also, joined, same, nothing, Move}
 use Rattle.kdl_grammar.specs.Data as data'
 use Rattle.kdl_grammar.specs.Data.{Node, Children, Nodes}
 use Rattle.kdl_grammar.specs.Grammar.{Terminator, IsNode, named, AfterName, kept_entry, dropped_entry, Blocks, dropped_block, block, no_block, AfterBlock, dropped_later, no_more, Gap, no_gap, line_space, dropped_node, AreNodes, last_gap, node_then, IsBlock, braces}

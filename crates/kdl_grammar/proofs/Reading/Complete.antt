@@ -8,13 +8,13 @@ use Rattle.kdl_text.proofs.Looking.Ends.{then, end_star}
 use Rattle.kdl_text.proofs.Looking.Stars.{snoc}
 use Rattle.kdl_entry.specs.Data as entry_data'
 use Rattle.kdl_value.specs.Data.{Value, text}
-use Rattle.kdl_lexer.specs.Pieces.{PlainPiece}
+use Rattle.kdl_syntax.specs.Pieces.{PlainPiece}
 use Rattle.kdl_entry.specs.Entries.{IsString, string as a_string', IsPlainValue, a_string, a_plain, parens, MaybeType, untyped, typed as a_typed, value as a_value, IsEntry, property as a_property, argument}
 use Rattle.kdl_entry.specs.Laid.{LaidIdentifier, spelled, LaidType, no_type, a_type, no_key, a_key, LaidItem, item, laid_entry}
 use Rattle.kdl_entry.specs.Places.{Is, DroppedEntry, leading as an_entry_leading, span_of, between}
-use Rattle.kdl_lexer.specs.Tokens.{Token, space, newline, string, value, left, closing, semicolon, t_space, t_newline, t_slashdash, t_string, t_value, t_left, t_right, t_opening, t_closing, t_equals, t_semicolon}
+use Rattle.kdl_syntax.specs.Tokens.{Token, space, newline, string, value, left, closing, semicolon, t_space, t_newline, t_slashdash, t_string, t_value, t_left, t_right, t_opening, t_closing, t_equals, t_semicolon}
 use Rattle.kdl_entry.specs.Tree.{Identifier, Entry, entry_data}
-use Rattle.kdl_lexer.proofs.Lexing.TokenUnique.{token_det, no_token}
+use Rattle.kdl_syntax.proofs.Lexing.TokenUnique.{token_det, no_token}
 use Rattle.kdl_entry.proofs.Moving.EntryEnds.{end_spaces, end_lines, end_some, end_string, end_plain, end_dropped}
 use Rattle.kdl_entry.proofs.Slicing.Placing.{place}
 use Rattle.kdl_grammar.specs.Data as data'

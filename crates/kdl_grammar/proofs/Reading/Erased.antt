@@ -1,14 +1,14 @@
 -- Without data and places the machine is the one that says which tokens may come; so what it returns is derived.
 use Rattle.std.proofs.Common.{◌≡◌, Bool, true, false, List, [], ◌∷◌, Option, Some, None, option_map, refl, sym, ap, subst, ◌∙◌}
 use Rattle.kdl_text.specs.Chars.{Text}
-use Rattle.kdl_lexer.specs.Tokens.{Token, value, closing, bom, t_bom, Lexes, done, next}
-use Rattle.kdl_lexer.proofs.Lexing.TokenUnique.{token_det}
+use Rattle.kdl_syntax.specs.Tokens.{Token, value, closing, bom, t_bom, Lexes, done, next}
+use Rattle.kdl_syntax.proofs.Lexing.TokenUnique.{token_det}
 use Rattle.kdl_grammar.specs.Data as data'
 use Rattle.kdl_grammar.specs.Grammar.{AreNodes, IsDocument, IsDocumentIn}
 use Rattle.kdl_grammar.specs.Laid.{LaidDocument, LaidDocumentAs, LaidContent, with_bom}
 use Rattle.kdl_grammar.specs.Tree.{Document, Nodes, document_data}
 use Rattle.kdl_grammar.specs.Internal.Machine.{Pending, pending, Spot, fresh, spaced, later, Phase, gap, node_slashdash, type_open, type_name, type_done, in_node, property, entry_slashdash, block_slashdash, kept, kept_slashdash, Frame, in_block, in_dropped, in_later, State, at, popped, step, finish, initial, Runs, stops, reads, AnswersDocument}
-use Rattle.kdl_control.specs.Control as c
+use Rattle.kdl_syntax.specs.Control as c
 use Rattle.kdl_grammar.proofs.Reading.Complete.{runs_det, placed, built, bom_data}
 use Rattle.kdl_grammar.proofs.Reading.Sound.{derives}
 

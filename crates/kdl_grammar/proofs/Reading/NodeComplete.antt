@@ -6,11 +6,11 @@ use Rattle.kdl_text.specs.Trivia.{NodeSpace, Break, LineSpace, slashdash}
 use Rattle.kdl_value.specs.Data.{Value}
 use Rattle.kdl_entry.specs.Data.{Entry}
 use Rattle.kdl_entry.specs.Entries.{IsString, string as a_string', IsPlainValue, a_string, a_plain, parens, MaybeType, untyped, typed, IsValue, value as a_value, IsEntry, property as a_property, argument}
-use Rattle.kdl_lexer.specs.Tokens.{Token, space, newline, slashdash as a_slashdash, string, value, left, closing, BeginsToken, t_space, t_newline, t_slashdash, t_string, t_value, t_left, t_right, t_opening, t_closing, t_equals, t_semicolon}
-use Rattle.kdl_lexer.proofs.Lexing.TokenUnique.{token_det, no_token}
+use Rattle.kdl_syntax.specs.Tokens.{Token, space, newline, slashdash as a_slashdash, string, value, left, closing, BeginsToken, t_space, t_newline, t_slashdash, t_string, t_value, t_left, t_right, t_opening, t_closing, t_equals, t_semicolon}
+use Rattle.kdl_syntax.proofs.Lexing.TokenUnique.{token_det, no_token}
 use Rattle.kdl_grammar.specs.Data.{Node, Children, Nodes}
 use Rattle.kdl_grammar.specs.Grammar.{Terminator, IsNode, named, AfterName, kept_entry, dropped_entry, Blocks, dropped_block, block, no_block, AfterBlock, dropped_later, no_more, Gap, no_gap, line_space, dropped_node, AreNodes, last_gap, node_then, braces}
-use Rattle.kdl_control.specs.Control.{Spot, fresh, spaced, later, Phase, gap, node_slashdash, type_open, type_done, in_node, property, entry_slashdash, block_slashdash, kept, kept_slashdash, Frame, in_block, in_dropped, in_later, at, spaced_of, slashdash_at, popped}
+use Rattle.kdl_syntax.specs.Control.{Spot, fresh, spaced, later, Phase, gap, node_slashdash, type_open, type_done, in_node, property, entry_slashdash, block_slashdash, kept, kept_slashdash, Frame, in_block, in_dropped, in_later, at, spaced_of, slashdash_at, popped}
 use Rattle.kdl_grammar.specs.Going.{GoesBy, here, goes}
 use Rattle.kdl_grammar.specs.NodeControl.{NodeControl, in_text, with_begun, node_step, node_finish, node_start}
 

@@ -1,9 +1,9 @@
 -- The steps of the control of a node text.
 use Rattle.std.proofs.Common.{◌≡◌, Bool, true, false, [], ◌∷◌, take, Option, Some, None, refl, sym, ap, ◌∙◌}
 use Rattle.kdl_text.specs.Chars.{Text}
-use Rattle.kdl_lexer.specs.Tokens.{Token, space, newline, slashdash, string, value, left, right, opening, closing, equals, semicolon, bom, BeginsToken}
-use Rattle.kdl_lexer.proofs.Lexing.TokenFronts.{RefusedWith, refused_with}
-use Rattle.kdl_control.specs.Control.{gap, node_slashdash, type_open, type_name, type_done, in_node, property, entry_slashdash, block_slashdash, kept, kept_slashdash, Control, at, step}
+use Rattle.kdl_syntax.specs.Tokens.{Token, space, newline, slashdash, string, value, left, right, opening, closing, equals, semicolon, bom, BeginsToken}
+use Rattle.kdl_syntax.proofs.Lexing.TokenFronts.{RefusedWith, refused_with}
+use Rattle.kdl_syntax.specs.Control.{gap, node_slashdash, type_open, type_name, type_done, in_node, property, entry_slashdash, block_slashdash, kept, kept_slashdash, Control, at, step}
 use Rattle.kdl_grammar.specs.NodeControl.{NodeControl, in_text, with_begun, between_nodes, node_step, NodeRefusesFront}
 use Rattle.kdl_grammar.proofs.Reading.Refusing.{refused_too}
 use Rattle.kdl_grammar.proofs.Reading.Viable.{Steps}

@@ -3,15 +3,15 @@ use Rattle.std.proofs.Common.{◌≡◌, ◌≢◌, true, false, List, [], ◌�
 use Rattle.std.proofs.lemmas.List.{append_cancel_right}
 use Rattle.kdl_text.specs.Chars.{Text}
 use Rattle.kdl_text.specs.Internal.Here.{first}
-use Rattle.kdl_lexer.specs.Tokens.{Token, space, newline, slashdash, string, value, left, right, opening, closing, equals, semicolon, bom, BeginsToken, Lexes, done, next}
-use Rattle.kdl_lexer.proofs.Lexing.TokenFronts.{RefusedWith, refused_with}
-use Rattle.kdl_lexer.proofs.Lexing.TokenUnique.{token_det, no_token, token_shorter}
-use Rattle.kdl_lexer.proofs.Moving.Puts.{Put, stands, joined, front_first}
+use Rattle.kdl_syntax.specs.Tokens.{Token, space, newline, slashdash, string, value, left, right, opening, closing, equals, semicolon, bom, BeginsToken, Lexes, done, next}
+use Rattle.kdl_syntax.proofs.Lexing.TokenFronts.{RefusedWith, refused_with}
+use Rattle.kdl_syntax.proofs.Lexing.TokenUnique.{token_det, no_token, token_shorter}
+use Rattle.kdl_syntax.proofs.Moving.Puts.{Put, stands, joined, front_first}
 use Rattle.kdl_entry.proofs.Moving.TokenMoves.{near, full_of}
 use Rattle.kdl_value.specs.Data.{Value}
 use Rattle.kdl_grammar.specs.Data.{Nodes}
 use Rattle.kdl_grammar.specs.Grammar.{AreNodes}
-use Rattle.kdl_control.specs.Control.{fresh, spaced, later, gap, node_slashdash, type_open, type_name, type_done, in_node, property, entry_slashdash, block_slashdash, kept, kept_slashdash, Control, at, step, held, accepts}
+use Rattle.kdl_syntax.specs.Control.{fresh, spaced, later, gap, node_slashdash, type_open, type_name, type_done, in_node, property, entry_slashdash, block_slashdash, kept, kept_slashdash, Control, at, step, held, accepts}
 use Rattle.kdl_grammar.specs.Going.{GoesBy, Goes, here, goes, RefusesFront}
 use Rattle.kdl_grammar.proofs.Reading.Erased.{accepted_nodes}
 use Rattle.kdl_grammar.proofs.Reading.Viable.{goes_length, Reads}

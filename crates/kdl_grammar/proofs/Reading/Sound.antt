@@ -5,13 +5,13 @@ use Rattle.kdl_text.specs.Chars.Star.{none as no_star, more}
 use Rattle.kdl_text.specs.Trivia.{NodeSpace, Break, newline as b_newline, comment as b_comment, LineSpace, slashdash, ValueEnd}
 use Rattle.kdl_value.specs.Data.{Value, text}
 use Rattle.kdl_entry.specs.Data.{Entry}
-use Rattle.kdl_lexer.specs.Pieces.{StringPiece, PlainPiece}
+use Rattle.kdl_syntax.specs.Pieces.{StringPiece, PlainPiece}
 use Rattle.kdl_entry.specs.Entries.{IsString, string as a_string', IsPlainValue, a_string, a_plain, parens, untyped, typed, IsValue, value as a_value, IsEntry, property as a_property, argument}
-use Rattle.kdl_lexer.specs.Tokens.{Token, string, value, left, bom, t_space, t_newline, t_slashdash, t_string, t_value, t_left, t_right, t_opening, t_closing, t_equals, t_semicolon, t_bom, Lexes, done, next}
-use Rattle.kdl_lexer.proofs.Lexing.TokenUnique.{may_end, value_end}
+use Rattle.kdl_syntax.specs.Tokens.{Token, string, value, left, bom, t_space, t_newline, t_slashdash, t_string, t_value, t_left, t_right, t_opening, t_closing, t_equals, t_semicolon, t_bom, Lexes, done, next}
+use Rattle.kdl_syntax.proofs.Lexing.TokenUnique.{may_end, value_end}
 use Rattle.kdl_grammar.specs.Data.{Node, Children, Nodes}
 use Rattle.kdl_grammar.specs.Grammar.{Terminator, IsNode, named, AfterName, kept_entry, dropped_entry, blocks, Blocks, dropped_block, block, no_block, AfterBlock, dropped_later, no_more, no_gap, line_space, dropped_node, AreNodes, last_gap, node_then, IsBlock, braces}
-use Rattle.kdl_control.specs.Control.{Spot, fresh, spaced, later, Phase, gap, node_slashdash, type_open, type_name, type_done, in_node, property, entry_slashdash, block_slashdash, kept, kept_slashdash, Frame, in_block, in_dropped, in_later, at, spaced_of, slashdash_at, popped, finish, held, accepts}
+use Rattle.kdl_syntax.specs.Control.{Spot, fresh, spaced, later, Phase, gap, node_slashdash, type_open, type_name, type_done, in_node, property, entry_slashdash, block_slashdash, kept, kept_slashdash, Frame, in_block, in_dropped, in_later, at, spaced_of, slashdash_at, popped, finish, held, accepts}
 
 -- What is left of the text, by what is under way. `after` says it of the text after the nodes.
 abbrev Left : Type 1

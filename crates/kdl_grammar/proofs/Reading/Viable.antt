@@ -4,15 +4,15 @@ use Rattle.kdl_text.specs.Chars.{Text, begins, starts, is_identifier_char}
 use Rattle.kdl_text.specs.Bare.{bare as bare_text, is_bare}
 use Rattle.kdl_text.proofs.Spacing.ValueEnds.{value_end_no_identifier}
 use Rattle.kdl_value.specs.Data.{Value}
-use Rattle.kdl_lexer.specs.Pieces.{bare}
-use Rattle.kdl_lexer.specs.Tokens.{Token, space, newline, slashdash, string, value, left, right, opening, closing, equals, semicolon, bom, BeginsToken, t_string, t_right, t_opening, t_closing, Lexes, done, next}
-use Rattle.kdl_lexer.proofs.Lexing.TokenUnique.{token_shorter, is_end, end_after}
-use Rattle.kdl_lexer.proofs.Moving.Puts.{Put, stands, joined}
-use Rattle.kdl_lexer.proofs.Moving.StringMoves.{value_end_no_quote}
+use Rattle.kdl_syntax.specs.Pieces.{bare}
+use Rattle.kdl_syntax.specs.Tokens.{Token, space, newline, slashdash, string, value, left, right, opening, closing, equals, semicolon, bom, BeginsToken, t_string, t_right, t_opening, t_closing, Lexes, done, next}
+use Rattle.kdl_syntax.proofs.Lexing.TokenUnique.{token_shorter, is_end, end_after}
+use Rattle.kdl_syntax.proofs.Moving.Puts.{Put, stands, joined}
+use Rattle.kdl_syntax.proofs.Moving.StringMoves.{value_end_no_quote}
 use Rattle.kdl_entry.proofs.Moving.TokenMoves.{Fits, last_token, near_token, full_of}
 use Rattle.kdl_grammar.specs.Data.{Nodes}
 use Rattle.kdl_grammar.specs.Grammar.{AreNodes}
-use Rattle.kdl_control.specs.Control.{Spot, fresh, spaced, later, Phase, gap, node_slashdash, type_open, type_name, type_done, in_node, property, entry_slashdash, block_slashdash, kept, kept_slashdash, Frame, in_block, in_dropped, in_later, Control, at, step, held, accepts}
+use Rattle.kdl_syntax.specs.Control.{Spot, fresh, spaced, later, Phase, gap, node_slashdash, type_open, type_name, type_done, in_node, property, entry_slashdash, block_slashdash, kept, kept_slashdash, Frame, in_block, in_dropped, in_later, Control, at, step, held, accepts}
 use Rattle.kdl_grammar.specs.Going.{GoesBy, Goes, here, goes}
 use Rattle.kdl_grammar.proofs.Reading.Sound.{derives}
 

@@ -8,10 +8,10 @@ use Rattle.kdl_text.specs.Trivia.{Line, LineComment, line, Ws, block, EscEnd, es
 use Rattle.kdl_text.proofs.Looking.Ends.{then, end_star}
 use Rattle.kdl_value.specs.Data.{Value}
 use Rattle.kdl_entry.specs.Entries.{string, IsPlainValue, a_string, a_plain, parens, untyped, typed}
-use Rattle.kdl_lexer.specs.Tokens.{Token, BeginsToken, t_space, t_newline, t_closing}
+use Rattle.kdl_syntax.specs.Tokens.{Token, BeginsToken, t_space, t_newline, t_closing}
 use Rattle.kdl_entry.specs.Places.{dropped, EntryLeading, leading}
-use Rattle.kdl_lexer.proofs.Lexing.StringUnique.{begins_piece, string_begins, plain_begins}
-use Rattle.kdl_lexer.proofs.Lexing.TokenUnique.{token_det, no_token}
+use Rattle.kdl_syntax.proofs.Lexing.StringUnique.{begins_piece, string_begins, plain_begins}
+use Rattle.kdl_syntax.proofs.Lexing.TokenUnique.{token_det, no_token}
 use Rattle.kdl_entry.proofs.Moving.EntryEnds.{end_lines, end_spaces, end_some, end_slashdash, end_entry, end_dropped}
 use Rattle.kdl_grammar.specs.Data as data'
 use Rattle.kdl_grammar.specs.Grammar.{Terminator, IsNode, named, Gap, no_gap, line_space, dropped_node, AreNodes, last_gap, node_then}

@@ -15,7 +15,7 @@ use Rattle.kdl_entry.specs.Tree.{Identifier, EntryFormat, Entry, unspelled}
 use Rattle.kdl_entry.proofs.Laying.FormlessLaid.{formless_stands}
 use Rattle.kdl_entry.proofs.Laying.ValueReadsBack.{printed_value}
 use Rattle.kdl_entry.proofs.Moving.EntryMoves.{move_string}
-use Rattle.kdl_lexer.proofs.Moving.Puts.{same_piece}
+use Rattle.kdl_syntax.proofs.Moving.Puts.{same_piece}
 use Rattle.kdl_grammar.specs.Data as data'
 use Rattle.kdl_grammar.specs.Grammar.{Terminator, named, AfterName, no_gap}
 use Rattle.kdl_grammar.specs.Places.{after, before}

@@ -7,7 +7,7 @@ use Rattle.kdl_entry.specs.Laid.{LaidType, no_type, a_type, LaidKey, no_key, a_k
 use Rattle.kdl_entry.specs.Places.{Is, DroppedEntry, dropped, EntryLeading, leading}
 use Rattle.kdl_entry.specs.Tree.{Identifier}
 use Rattle.kdl_entry.proofs.Moving.EntryMoves.{move_spaces, move_slashdash, move_identifier, punctuation_end, spaces_end, leading_end, move_entry, is_move}
-use Rattle.kdl_lexer.proofs.Moving.Puts.{Put, stands, also, joined, same, same_piece, begins_first, nothing}
+use Rattle.kdl_syntax.proofs.Moving.Puts.{Put, stands, also, joined, same, same_piece, begins_first, nothing}
 
 pub record Follows (u r : Text) : Type 0 where
   pub lf : begins 10 r ≡ false → begins 10 u ≡ false

@@ -19,7 +19,7 @@ use Rattle.kdl_entry.proofs.Laying.LaidPrints.{identifier_printed, type_printed,
 use Rattle.kdl_entry.proofs.Laying.Respanned.{free_identifier, free_type, free_entry}
 use Rattle.kdl_entry.proofs.Moving.EntryEnds.{end_plain}
 use Rattle.kdl_entry.proofs.Moving.EntryMoves.{move_identifier, move_laid_type, move_plain, is_move_value, punctuation_end, is_move}
-use Rattle.kdl_lexer.proofs.Moving.Puts.{same, same_piece, first_piece}
+use Rattle.kdl_syntax.proofs.Moving.Puts.{same, same_piece, first_piece}
 use Rattle.kdl_grammar.specs.Data as data'
 use Rattle.kdl_grammar.specs.Grammar.{Terminator, IsNode, named, AfterName, Gap, AreNodes}
 use Rattle.kdl_grammar.specs.Laid.{node_format, LaidEntries, no_entry, an_entry, LaidNode, laid_node, LaidChildren, no_block as laid_no_block, a_block as laid_a_block, LaidNodes, no_node as no_laid, a_node, LaidContent, without_nodes, with_nodes as laid_nodes, LaidDocumentAs, with_bom, LaidNodeTextAs, laid_node_text}

@@ -1,7 +1,7 @@
 -- What is proved of the machine that builds the tree, and of the tokens of a document.
 use Rattle.std.specs.Prelude.{◌≡◌, ◌↔◌, Bool, List}
 use Rattle.kdl_text.specs.Chars.{Text}
-use Rattle.kdl_lexer.specs.Tokens.{Token, Lexes}
+use Rattle.kdl_syntax.specs.Tokens.{Token, Lexes}
 use Rattle.kdl_grammar.specs.Data as data'
 use Rattle.kdl_grammar.specs.Grammar.{IsDocument, IsDocumentIn}
 use Rattle.kdl_grammar.specs.Laid.{LaidDocument}

@@ -1,9 +1,9 @@
 -- An accepted document is derived, and so is an accepted node text.
 use Rattle.std.proofs.Common.{◌≡◌, true, List, [], ◌∷◌, Option, Some, None, option_map, refl, sym, ap, ◌∙◌}
 use Rattle.kdl_text.specs.Chars.{Text}
-use Rattle.kdl_lexer.specs.Tokens.{Token, Lexes, done, next}
-use Rattle.kdl_control.specs.Control.{Control, at, gap, step, accepts, held}
-use Rattle.kdl_control.specs.NodeControl.{NodeControl, node_start, node_step}
+use Rattle.kdl_syntax.specs.Tokens.{Token, Lexes, done, next}
+use Rattle.kdl_syntax.specs.Control.{Control, at, gap, step, accepts, held}
+use Rattle.kdl_syntax.specs.NodeControl.{NodeControl, node_start, node_step}
 use Rattle.kdl_diagnostics.specs.TextControl.{TextControl, in_document, in_node, text_step, text_finish, Takes, ends, takes, AcceptsDocument, no_bom, after_bom}
 use Rattle.kdl_grammar.specs.Going.{here, goes}
 use Rattle.kdl_grammar.specs.GoingOn.{Derived, DerivedNode}

@@ -4,14 +4,14 @@ use Rattle.kdl_text.specs.Chars.{Text, Star, plus}
 use Rattle.kdl_text.specs.Chars.Star.{none as no_star, more}
 use Rattle.kdl_text.specs.Internal.Here.{Here}
 use Rattle.kdl_text.specs.Trivia.{NodeSpace, LineSpace}
-use Rattle.kdl_lexer.specs.Internal.Handed.{Cuts, one, spaces, kind_view, HandsOut, Lexed}
-use Rattle.kdl_lexer.specs.Tokens.{Token, space, newline, t_space, t_newline, BeginsToken, NoToken}
-use Rattle.kdl_lexer.specs.declared.lexer.LexFailure.{LexFailure}
-use Rattle.kdl_lexer.specs.declared.lexer.LexFailure.TheVariants.{Faulty, Memory}
-use Rattle.kdl_lexer.specs.declared.lexer.Token.{Token as CodeToken}
-use Rattle.kdl_lexer.specs.declared.lexer.TokenKind.{TokenKind}
-use Rattle.kdl_lexer.specs.declared.lexer.TokenKind.TheVariants.{Space}
-use Rattle.kdl_lexer.proofs.Lexing.TokenUnique.{token_det, no_token}
+use Rattle.kdl_syntax.specs.Internal.Handed.{Cuts, one, spaces, kind_view, HandsOut, Lexed}
+use Rattle.kdl_syntax.specs.Tokens.{Token, space, newline, t_space, t_newline, BeginsToken, NoToken}
+use Rattle.kdl_syntax.specs.declared.lexer.LexFailure.{LexFailure}
+use Rattle.kdl_syntax.specs.declared.lexer.LexFailure.TheVariants.{Faulty, Memory}
+use Rattle.kdl_syntax.specs.declared.lexer.Token.{Token as CodeToken}
+use Rattle.kdl_syntax.specs.declared.lexer.TokenKind.{TokenKind}
+use Rattle.kdl_syntax.specs.declared.lexer.TokenKind.TheVariants.{Space}
+use Rattle.kdl_syntax.proofs.Lexing.TokenUnique.{token_det, no_token}
 use Rattle.kdl_parser.specs.Internal.LineSpaces.{is_line_space, AreLineSpaces}
 use Rattle.kdl_parser.proofs.Answering.TokenLoop.{cut_shorter}
 

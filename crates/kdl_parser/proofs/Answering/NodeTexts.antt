@@ -8,8 +8,8 @@ use Rattle.kdl_text.specs.Trivia.{LineSpace}
 use Rattle.kdl_text.specs.declared.span.SourceSpan.{SourceSpan}
 use Rattle.kdl_text.proofs.Looking.Texts.{chars_bytes}
 use Rattle.kdl_entry.specs.Places.{span_of}
-use Rattle.kdl_lexer.specs.declared.lexer.LexFailure.{LexFailure}
-use Rattle.kdl_lexer.specs.declared.lexer.LexFailure.TheVariants.{Faulty, Memory}
+use Rattle.kdl_syntax.specs.declared.lexer.LexFailure.{LexFailure}
+use Rattle.kdl_syntax.specs.declared.lexer.LexFailure.TheVariants.{Faulty, Memory}
 use Rattle.kdl_grammar.specs.Data as data'
 use Rattle.kdl_grammar.specs.Former.{IsFormerNodeText}
 use Rattle.kdl_grammar.specs.Grammar.{IsNodeText}

@@ -6,12 +6,12 @@ use Rattle.kdl_text.specs.Internal.Here.{Here}
 use Rattle.kdl_text.specs.Internal.Reading.{Moves}
 use Rattle.kdl_text.specs.Trivia.{NodeSpace}
 use Rattle.kdl_entry.proofs.Slicing.Between.{in_order_here, in_order_on}
-use Rattle.kdl_lexer.specs.Internal.Handed.{Cuts, one, spaces, HandsOver, Lexed}
-use Rattle.kdl_lexer.specs.Tokens.{Token, t_space, NoToken}
-use Rattle.kdl_lexer.specs.declared.lexer.LexFailure.{LexFailure}
-use Rattle.kdl_lexer.specs.declared.lexer.LexFailure.TheVariants.{Faulty, Memory as LexMemory}
-use Rattle.kdl_lexer.specs.declared.token_span.TokenSpan.{TokenSpan}
-use Rattle.kdl_lexer.proofs.Lexing.TokenUnique.{token_shorter}
+use Rattle.kdl_syntax.specs.Internal.Handed.{Cuts, one, spaces, HandsOver, Lexed}
+use Rattle.kdl_syntax.specs.Tokens.{Token, t_space, NoToken}
+use Rattle.kdl_syntax.specs.declared.lexer.LexFailure.{LexFailure}
+use Rattle.kdl_syntax.specs.declared.lexer.LexFailure.TheVariants.{Faulty, Memory as LexMemory}
+use Rattle.kdl_syntax.specs.declared.token_span.TokenSpan.{TokenSpan}
+use Rattle.kdl_syntax.proofs.Lexing.TokenUnique.{token_shorter}
 use Rattle.kdl_parser.specs.Internal.Answered.{AnswersParts, Finished, TakeFailsAs}
 use Rattle.kdl_grammar.specs.Internal.Machine.{State, step, finish, initial, Runs}
 use Rattle.kdl_parser.specs.Internal.Building.{state_view, held, Did, EndsIn, InOrder, Placed}

@@ -4,11 +4,11 @@ use Rattle.kdl_text.specs.Internal.Here.{Here, Position}
 use Rattle.kdl_text.specs.Internal.Reading.{Moves, Costs}
 use Rattle.kdl_text.specs.Spans.{bytes, raise}
 use Rattle.kdl_entry.specs.Internal.Counted.{Recounted}
-use Rattle.kdl_lexer.specs.Internal.Handed.{HandsOver, Lexed, LexCosts}
-use Rattle.kdl_lexer.specs.Tokens.{Token}
-use Rattle.kdl_lexer.specs.declared.lexer.LexFailure.{LexFailure}
-use Rattle.kdl_lexer.specs.declared.lexer.LexFailure.TheVariants.{Faulty, Memory as LexMemory}
-use Rattle.kdl_lexer.specs.declared.token_span.TokenSpan.{TokenSpan}
+use Rattle.kdl_syntax.specs.Internal.Handed.{HandsOver, Lexed, LexCosts}
+use Rattle.kdl_syntax.specs.Tokens.{Token}
+use Rattle.kdl_syntax.specs.declared.lexer.LexFailure.{LexFailure}
+use Rattle.kdl_syntax.specs.declared.lexer.LexFailure.TheVariants.{Faulty, Memory as LexMemory}
+use Rattle.kdl_syntax.specs.declared.token_span.TokenSpan.{TokenSpan}
 use Rattle.kdl_grammar.specs.Internal.Machine.{State, initial}
 use Rattle.kdl_grammar.specs.Tree.{Node}
 use Rattle.kdl_parser.specs.Internal.Answered.{AnswersParts, Finished, TakeFailsAs}

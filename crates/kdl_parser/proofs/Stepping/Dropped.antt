@@ -1,17 +1,17 @@
 -- Inside what is slashdashed the machine's step is that of the machine without data.
 use Rattle.std.proofs.Common.{◌≡◌, ℕ, true, false, List, [], ◌∷◌, Option, Some, None, option_map, Result, Ok, Err, refl, sym, ap, subst, ◌∙◌}
 use Rattle.kdl_text.specs.Chars.{Text}
-use Rattle.kdl_control.specs.Control as c
-use Rattle.kdl_lexer.specs.Tokens.{Token, space, string, closing}
+use Rattle.kdl_syntax.specs.Control as c
+use Rattle.kdl_syntax.specs.Tokens.{Token, space, string, closing}
 use Rattle.kdl_grammar.specs.Internal.Machine.{Under, Kept as MachineKept, Frame, State, gap, popped, step, finish}
 use Rattle.kdl_grammar.specs.Tree.{Node, Nodes}
-use Rattle.kdl_lexer.specs.declared.token_span.TokenSpan.{TokenSpan}
+use Rattle.kdl_syntax.specs.declared.token_span.TokenSpan.{TokenSpan}
 use Rattle.kdl_parser.specs.Internal.Building.{under_view, phase_after, phase_placed, held, reading_view, state_by, state_view, in_phase, phase_now, node_now, kept_now, nodes_now, frames_view}
-use Rattle.kdl_control.specs.Internal.Views.{phase_view, control_view, stacked}
-use Rattle.kdl_control.specs.declared.control.Phase.{Phase}
-use Rattle.kdl_control.specs.declared.control.Phase.TheVariants.{Gap, NodeSlashdash, InNode, EntrySlashdash, BlockSlashdash, Kept, KeptSlashdash}
-use Rattle.kdl_control.specs.declared.control.Spot.TheVariants.{Fresh, Spaced}
-use Rattle.kdl_control.specs.declared.control.Word.TheVariants.{MayBeKey}
+use Rattle.kdl_syntax.specs.Internal.Views.{phase_view, control_view, stacked}
+use Rattle.kdl_syntax.specs.declared.control.Phase.{Phase}
+use Rattle.kdl_syntax.specs.declared.control.Phase.TheVariants.{Gap, NodeSlashdash, InNode, EntrySlashdash, BlockSlashdash, Kept, KeptSlashdash}
+use Rattle.kdl_syntax.specs.declared.control.Spot.TheVariants.{Fresh, Spaced}
+use Rattle.kdl_syntax.specs.declared.control.Word.TheVariants.{MayBeKey}
 use Rattle.kdl_parser.specs.Internal.Counted.{unsliced_at, unsliced_in}
 use Rattle.kdl_parser.specs.Internal.Events.{is_live}
 use Rattle.kdl_parser.specs.Internal.States.{document_now, TakesToken}

@@ -2,9 +2,9 @@
 use Rattle.std.proofs.Common.{◌≡◌, List, [], Option, Some, Result, refl, sym, ap, subst, ◌∙◌}
 use Rattle.kdl_text.specs.Chars.{Text}
 use Rattle.kdl_text.specs.Internal.Here.{Position}
-use Rattle.kdl_control.specs.declared.control.Phase.TheVariants.{InNode, Kept as KeptPhase}
-use Rattle.kdl_control.specs.declared.control.Spot.{Spot}
-use Rattle.kdl_control.specs.declared.control.Spot.TheVariants.{Fresh, Spaced, Later}
+use Rattle.kdl_syntax.specs.declared.control.Phase.TheVariants.{InNode, Kept as KeptPhase}
+use Rattle.kdl_syntax.specs.declared.control.Spot.{Spot}
+use Rattle.kdl_syntax.specs.declared.control.Spot.TheVariants.{Fresh, Spaced, Later}
 use Rattle.kdl_entry.specs.Places.{between}
 use Rattle.kdl_parser.specs.declared.builder.TakeFailure.{TakeFailure}
 use Rattle.kdl_grammar.specs.Internal.Machine.{Under, Kept, Frame, State, at, at_end, closed, closed_kept, ended, finish}

@@ -3,25 +3,25 @@ use Rattle.std.proofs.Common.{◌≡◌, ℕ, true, ◌++◌, Option, Some, None
 use Rattle.kdl_text.specs.Chars.{Text}
 use Rattle.kdl_text.specs.Internal.Here.{Position}
 use Rattle.kdl_text.specs.Spans.{bytes}
-use Rattle.kdl_control.specs.Internal.Events.{event_of}
-use Rattle.kdl_control.specs.declared.control.Owner.TheVariants.{Name}
-use Rattle.kdl_control.specs.declared.control.Phase.{Phase}
-use Rattle.kdl_control.specs.declared.control.Phase.TheVariants.{Gap, NodeSlashdash, TypeOpen, TypeName, TypeDone, InNode, EntrySlashdash, BlockSlashdash, KeptSlashdash}
-use Rattle.kdl_control.specs.declared.control.Spot.TheVariants.{Fresh, Spaced}
-use Rattle.kdl_control.specs.declared.control.Word.TheVariants.{MayBeKey}
-use Rattle.kdl_control.specs.declared.events.Event.{Event}
-use Rattle.kdl_control.specs.declared.events.Event.TheVariants.{Name as NodeName}
+use Rattle.kdl_syntax.specs.Internal.Events.{event_of}
+use Rattle.kdl_syntax.specs.declared.control.Owner.TheVariants.{Name}
+use Rattle.kdl_syntax.specs.declared.control.Phase.{Phase}
+use Rattle.kdl_syntax.specs.declared.control.Phase.TheVariants.{Gap, NodeSlashdash, TypeOpen, TypeName, TypeDone, InNode, EntrySlashdash, BlockSlashdash, KeptSlashdash}
+use Rattle.kdl_syntax.specs.declared.control.Spot.TheVariants.{Fresh, Spaced}
+use Rattle.kdl_syntax.specs.declared.control.Word.TheVariants.{MayBeKey}
+use Rattle.kdl_syntax.specs.declared.events.Event.{Event}
+use Rattle.kdl_syntax.specs.declared.events.Event.TheVariants.{Name as NodeName}
 use Rattle.kdl_entry.proofs.Slicing.Between.{is_between}
 use Rattle.kdl_entry.specs.Places.{between}
 use Rattle.kdl_grammar.specs.Internal.Machine as machine
 use Rattle.kdl_grammar.specs.Internal.Machine.{State, step, Pending, pending, value_from, stay}
 use Rattle.kdl_grammar.specs.Tree.{Node}
-use Rattle.kdl_lexer.specs.Internal.Handed.{kind_view}
-use Rattle.kdl_lexer.specs.Tokens.{Token, space, equals, string}
+use Rattle.kdl_syntax.specs.Internal.Handed.{kind_view}
+use Rattle.kdl_syntax.specs.Tokens.{Token, space, equals, string}
 use Rattle.kdl_parser.specs.declared.builder.TakeFailure.{TakeFailure}
-use Rattle.kdl_lexer.specs.declared.lexer.TokenKind.{TokenKind}
-use Rattle.kdl_lexer.specs.declared.lexer.TokenKind.TheVariants.{String as StringKind, Value as ValueKind}
-use Rattle.kdl_lexer.specs.declared.token_span.TokenSpan.{TokenSpan}
+use Rattle.kdl_syntax.specs.declared.lexer.TokenKind.{TokenKind}
+use Rattle.kdl_syntax.specs.declared.lexer.TokenKind.TheVariants.{String as StringKind, Value as ValueKind}
+use Rattle.kdl_syntax.specs.declared.token_span.TokenSpan.{TokenSpan}
 use Rattle.kdl_parser.specs.Internal.Building.{in_phase, phase_now, under_view, pending_now, nodes_now, frames_view, state_view, state_by, reading_view, Did}
 use Rattle.kdl_parser.specs.Internal.Counted.{unsliced, unsliced_at, unsliced_in, SlicedOn}
 use Rattle.kdl_parser.specs.Internal.Events.{event_step, mark_step, is_building, is_live, unsliced_before, Acts}

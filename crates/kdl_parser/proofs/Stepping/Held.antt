@@ -1,7 +1,7 @@
 -- What the machine holds of an item that is slashdashed changes neither its steps nor its result.
 use Rattle.std.proofs.Common.{◌≡◌, false, List, [], ◌∷◌, Option, Some, None, option_map, map, refl, sym, ap, ◌∙◌}
 use Rattle.kdl_text.specs.Chars.{Text}
-use Rattle.kdl_lexer.specs.Tokens.{Token, space, value, closing}
+use Rattle.kdl_syntax.specs.Tokens.{Token, space, value, closing}
 use Rattle.kdl_grammar.specs.Internal.Machine.{no_name, pending, fresh, spaced, later, Phase, gap, type_open, type_name, type_done, in_node, property, kept, Frame, in_block, State, at, popped, step, finish, Runs, stops, reads}
 use Rattle.kdl_parser.specs.Internal.Building.{phase_held, frame_held, held}
 use Rattle.kdl_grammar.specs.Tree.{Document, Nodes}

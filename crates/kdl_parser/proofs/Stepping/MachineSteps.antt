@@ -3,9 +3,9 @@ use Rattle.std.proofs.Common.{◌≡◌, ◌↔◌, [], Option, Some, None, opti
 use Rattle.kdl_text.specs.Chars.{Text, Star, Plus, plus}
 use Rattle.kdl_text.specs.Chars.Star.{none, more}
 use Rattle.kdl_text.specs.Trivia.{NodeSpace}
-use Rattle.kdl_lexer.specs.Internal.Handed.{Cuts, one, spaces}
-use Rattle.kdl_lexer.specs.Tokens.{Token, space, BeginsToken, t_space}
-use Rattle.kdl_lexer.proofs.Lexing.TokenUnique.{token_det, no_token}
+use Rattle.kdl_syntax.specs.Internal.Handed.{Cuts, one, spaces}
+use Rattle.kdl_syntax.specs.Tokens.{Token, space, BeginsToken, t_space}
+use Rattle.kdl_syntax.proofs.Lexing.TokenUnique.{token_det, no_token}
 use Rattle.kdl_grammar.specs.Internal.Machine.{fresh, gap, in_node, State, at, step, finish, Runs, stops, reads}
 use Rattle.kdl_parser.specs.Internal.Building.{held}
 use Rattle.kdl_grammar.specs.Tree.{Document}

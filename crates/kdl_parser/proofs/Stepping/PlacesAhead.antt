@@ -2,10 +2,10 @@
 use Rattle.std.proofs.Common.{◌≡◌, ◌↔◌, true, false, List, [], ◌∷◌, Option, Some, None, option_map, sym, subst}
 use Rattle.kdl_text.specs.Chars.{Text}
 use Rattle.kdl_entry.proofs.Slicing.Between.{in_order_here, in_order_on, then_ends}
-use Rattle.kdl_lexer.specs.Tokens.{Token, space, newline, string, value, left, right, opening, closing, equals, semicolon}
+use Rattle.kdl_syntax.specs.Tokens.{Token, space, newline, string, value, left, right, opening, closing, equals, semicolon}
 use Rattle.kdl_grammar.specs.Internal.Machine.{Under, Kept, Slot, no_name, for_name, no_value, for_value, pending, fresh, spaced, Phase, gap, type_open, type_name, type_done, in_node, property, kept, Frame, in_block, in_dropped, in_later, State, at, origin, moved, popped, step}
 use Rattle.kdl_parser.specs.Internal.Building.{held, only, node_now, kept_now, nodes_now, frames_view, phase_now, reading_view, state_view, EndsIn, InOrder, place_placed, phase_placed, Placed}
-use Rattle.kdl_control.specs.Control as c
+use Rattle.kdl_syntax.specs.Control as c
 use Rattle.kdl_grammar.specs.Tree.{Node, Nodes}
 use Rattle.kdl_parser.specs.Internal.Dropping.{Reading, nothing, node, part, reading_state}
 use Rattle.kdl_parser.specs.declared.builder.Builder.{Builder}

@@ -6,8 +6,8 @@ use Rattle.kdl_entry.specs.Internal.Counted.{Recounted}
 use Rattle.kdl_text.specs.Internal.Here.{Here, looked}
 use Rattle.kdl_parser.specs.declared.builder.TakeFailure.{TakeFailure}
 use Rattle.kdl_parser.specs.declared.builder.TakeFailure.TheVariants.{Unexpected, Memory}
-use Rattle.kdl_lexer.specs.Tokens.{Token}
-use Rattle.kdl_lexer.specs.declared.token_span.TokenSpan.{TokenSpan}
+use Rattle.kdl_syntax.specs.Tokens.{Token}
+use Rattle.kdl_syntax.specs.declared.token_span.TokenSpan.{TokenSpan}
 use Rattle.kdl_grammar.specs.Internal.Machine.{State}
 use Rattle.kdl_grammar.specs.Tree.{Node}
 use Rattle.kdl_parser.specs.Internal.Building.{held, state_view, Did, Does}

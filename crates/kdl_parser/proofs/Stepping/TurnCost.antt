@@ -6,12 +6,12 @@ use Rattle.kdl_text.specs.Internal.Reading.{Moves, Costs}
 use Rattle.kdl_text.proofs.Looking.MovesJoin.{bytes-append}
 use Rattle.kdl_text.proofs.Looking.Runs.{length-bytes}
 use Rattle.kdl_entry.specs.Internal.Counted.{Recounted, Sliced}
-use Rattle.kdl_lexer.specs.Internal.Handed.{HandsOver}
-use Rattle.kdl_lexer.specs.Tokens.{Token}
-use Rattle.kdl_lexer.specs.Internal.Order.{IsEndOf}
-use Rattle.kdl_lexer.proofs.Order.{ahead}
-use Rattle.kdl_lexer.specs.declared.LexFailure.{LexFailure}
-use Rattle.kdl_lexer.specs.declared.token_span.TokenSpan.{TokenSpan}
+use Rattle.kdl_syntax.specs.Internal.Handed.{HandsOver}
+use Rattle.kdl_syntax.specs.Tokens.{Token}
+use Rattle.kdl_syntax.specs.Internal.Order.{IsEndOf}
+use Rattle.kdl_syntax.proofs.Order.{ahead}
+use Rattle.kdl_syntax.specs.declared.LexFailure.{LexFailure}
+use Rattle.kdl_syntax.specs.declared.token_span.TokenSpan.{TokenSpan}
 use Rattle.kdl_entry.proofs.Slicing.SliceCost.{ahead_fewer}
 use Rattle.kdl_parser.specs.Internal.Answered.{TakeFailsAs}
 use Rattle.kdl_parser.specs.Internal.Counted.{SlicedOn, ReadOn, ReadThrough}

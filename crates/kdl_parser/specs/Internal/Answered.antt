@@ -1,8 +1,8 @@
 -- What is returned for the text before the lexer, in terms of the tree of a node.
 use Rattle.std.specs.Prelude.{◌≡◌, Option, Some, None, Result, Ok, Err}
 use Rattle.kdl_text.specs.Chars.{Text}
-use Rattle.kdl_lexer.specs.declared.lexer.LexFailure.{LexFailure}
-use Rattle.kdl_lexer.specs.declared.lexer.LexFailure.TheVariants.{Faulty, Memory as LexMemory}
+use Rattle.kdl_syntax.specs.declared.lexer.LexFailure.{LexFailure}
+use Rattle.kdl_syntax.specs.declared.lexer.LexFailure.TheVariants.{Faulty, Memory as LexMemory}
 use Rattle.kdl_grammar.specs.Internal.Machine.{initial, Runs}
 use Rattle.kdl_grammar.specs.Tree.{Node, Document}
 use Rattle.kdl_parser.specs.Internal.Parts.{document_by}

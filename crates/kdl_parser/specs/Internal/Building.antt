@@ -2,14 +2,14 @@
 use Rattle.std.specs.Prelude.{◌≡◌, List, [], ◌∷◌, map, Option, Some, None, option_map, Result, Ok, Err}
 use Rattle.std.specs.Global.{Box}
 use Rattle.kdl_text.specs.Chars.{Text}
-use Rattle.kdl_control.specs.Internal.Views.{owner_view, control_view}
-use Rattle.kdl_control.specs.declared.control.Owner.{Owner}
-use Rattle.kdl_control.specs.declared.control.Owner.TheVariants.{Name, Value}
-use Rattle.kdl_control.specs.declared.control.Phase.{Phase}
-use Rattle.kdl_control.specs.declared.control.Phase.TheVariants.{Gap, NodeSlashdash, TypeOpen, TypeName, TypeDone, InNode, Property, EntrySlashdash, BlockSlashdash, Kept, KeptSlashdash}
-use Rattle.kdl_control.specs.declared.control.Spot.TheVariants.{Fresh, Spaced, Later}
-use Rattle.kdl_control.specs.declared.control.Word.{Word}
-use Rattle.kdl_control.specs.declared.control.Word.TheVariants.{MayBeKey, NoKey}
+use Rattle.kdl_syntax.specs.Internal.Views.{owner_view, control_view}
+use Rattle.kdl_syntax.specs.declared.control.Owner.{Owner}
+use Rattle.kdl_syntax.specs.declared.control.Owner.TheVariants.{Name, Value}
+use Rattle.kdl_syntax.specs.declared.control.Phase.{Phase}
+use Rattle.kdl_syntax.specs.declared.control.Phase.TheVariants.{Gap, NodeSlashdash, TypeOpen, TypeName, TypeDone, InNode, Property, EntrySlashdash, BlockSlashdash, Kept, KeptSlashdash}
+use Rattle.kdl_syntax.specs.declared.control.Spot.TheVariants.{Fresh, Spaced, Later}
+use Rattle.kdl_syntax.specs.declared.control.Word.{Word}
+use Rattle.kdl_syntax.specs.declared.control.Word.TheVariants.{MayBeKey, NoKey}
 use Rattle.kdl_entry.specs.Internal.Building.{type_view, parts_view}
 use Rattle.kdl_entry.specs.declared.parsing.parts.TypeParts.{TypeParts}
 use Rattle.kdl_value.specs.Data.{text}

@@ -3,8 +3,8 @@
 use Rattle.std.specs.Prelude.{◌≡◌, Bool, true, false, List, [], ◌∷◌, Option, Some, None, option_map}
 use Rattle.kdl_text.specs.Chars.{Text}
 use Rattle.kdl_entry.specs.Tree.{plain_identifier}
-use Rattle.kdl_control.specs.Control as c
-use Rattle.kdl_lexer.specs.Tokens.{Token, closing}
+use Rattle.kdl_syntax.specs.Control as c
+use Rattle.kdl_syntax.specs.Tokens.{Token, closing}
 use Rattle.kdl_grammar.specs.Internal.Machine.{Under, Kept, Slot, no_name, no_value, pending, Pending, Spot, fresh, spaced, later, Phase, gap, node_slashdash, type_open, type_name, type_done, in_node, property, entry_slashdash, block_slashdash, kept, kept_slashdash, Frame, in_block, in_dropped, in_later, State, at}
 use Rattle.kdl_grammar.specs.Tree.{Nodes}
 

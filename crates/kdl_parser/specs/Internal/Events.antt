@@ -4,12 +4,12 @@ use Rattle.std.specs.Prelude.{ℕ, Bool, true, false, Option, Some, None, option
 use Rattle.kdl_text.specs.Chars.{Text}
 use Rattle.kdl_text.specs.Internal.Here.{Here, Position}
 use Rattle.kdl_text.specs.Spans.{bytes}
-use Rattle.kdl_control.specs.Internal.Views.{owner_view}
-use Rattle.kdl_control.specs.declared.control.Owner.{Owner}
-use Rattle.kdl_control.specs.declared.control.Phase.{Phase}
-use Rattle.kdl_control.specs.declared.control.Phase.TheVariants.{NodeSlashdash, EntrySlashdash as PhaseEntrySlashdash, BlockSlashdash, KeptSlashdash}
-use Rattle.kdl_control.specs.declared.events.Event.{Event}
-use Rattle.kdl_control.specs.declared.events.Event.TheVariants.{Skip, Name, TypedName, NameType, ValueType, KeyedType, TypeName, TypeEnd, Word, Argument, TypedValue, KeyedValue, Equals, EntrySlashdash, NodeEnd, KeptEnd, Opening, GapClosing, NodeClosing, KeptClosing}
+use Rattle.kdl_syntax.specs.Internal.Views.{owner_view}
+use Rattle.kdl_syntax.specs.declared.control.Owner.{Owner}
+use Rattle.kdl_syntax.specs.declared.control.Phase.{Phase}
+use Rattle.kdl_syntax.specs.declared.control.Phase.TheVariants.{NodeSlashdash, EntrySlashdash as PhaseEntrySlashdash, BlockSlashdash, KeptSlashdash}
+use Rattle.kdl_syntax.specs.declared.events.Event.{Event}
+use Rattle.kdl_syntax.specs.declared.events.Event.TheVariants.{Skip, Name, TypedName, NameType, ValueType, KeyedType, TypeName, TypeEnd, Word, Argument, TypedValue, KeyedValue, Equals, EntrySlashdash, NodeEnd, KeptEnd, Opening, GapClosing, NodeClosing, KeptClosing}
 use Rattle.kdl_entry.specs.Internal.Building.{key_view, parts_view}
 use Rattle.kdl_entry.specs.Internal.Counted.{Within}
 use Rattle.kdl_entry.specs.Internal.Parts.{identifier_at, key_at}
@@ -17,8 +17,8 @@ use Rattle.kdl_entry.specs.Places.{between}
 use Rattle.kdl_grammar.specs.Internal.Machine as machine
 use Rattle.kdl_grammar.specs.Internal.Machine.{State, for_value, keyed}
 use Rattle.kdl_grammar.specs.Tree.{Node}
-use Rattle.kdl_lexer.specs.Tokens as token
-use Rattle.kdl_lexer.specs.Tokens.{Token}
+use Rattle.kdl_syntax.specs.Tokens as token
+use Rattle.kdl_syntax.specs.Tokens.{Token}
 use Rattle.kdl_parser.specs.declared.builder.TakeFailure.{TakeFailure}
 use Rattle.kdl_parser.specs.Internal.Building.{under_view, node_now, in_phase, phase_now, slot_of}
 use Rattle.kdl_parser.specs.Internal.Counted.{unsliced_in}

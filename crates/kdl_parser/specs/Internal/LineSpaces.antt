@@ -2,10 +2,10 @@
 use Rattle.std.specs.Prelude.{Bool, true, false, [], Result, Ok, Err}
 use Rattle.kdl_text.specs.Chars.{Text, Star}
 use Rattle.kdl_text.specs.Trivia.{LineSpace}
-use Rattle.kdl_lexer.specs.declared.lexer.LexFailure.{LexFailure}
-use Rattle.kdl_lexer.specs.declared.lexer.LexFailure.TheVariants.{Faulty, Memory}
-use Rattle.kdl_lexer.specs.declared.lexer.TokenKind.{TokenKind}
-use Rattle.kdl_lexer.specs.declared.lexer.TokenKind.TheVariants.{Space, Newline}
+use Rattle.kdl_syntax.specs.declared.lexer.LexFailure.{LexFailure}
+use Rattle.kdl_syntax.specs.declared.lexer.LexFailure.TheVariants.{Faulty, Memory}
+use Rattle.kdl_syntax.specs.declared.lexer.TokenKind.{TokenKind}
+use Rattle.kdl_syntax.specs.declared.lexer.TokenKind.TheVariants.{Space, Newline}
 
 -- a token that is made of line-spaces
 abbrev pub is_line_space : TokenKind → Bool

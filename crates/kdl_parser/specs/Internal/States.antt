@@ -4,17 +4,17 @@ use Rattle.std.specs.Prelude.{◌≡◌, ℕ, ◌+◌, true, false, [], ◌∷�
 use Rattle.kdl_text.specs.Chars.{Text}
 use Rattle.kdl_text.specs.Internal.Here.{Position}
 use Rattle.kdl_text.specs.Spans.{bytes}
-use Rattle.kdl_control.specs.declared.control.Word.TheVariants.{MayBeKey}
+use Rattle.kdl_syntax.specs.declared.control.Word.TheVariants.{MayBeKey}
 use Rattle.kdl_value.specs.Data.{Value}
 use Rattle.kdl_value.specs.Tree.{text_of}
 use Rattle.kdl_entry.specs.Internal.Building.{parts_view}
 use Rattle.kdl_entry.specs.Internal.Counted.{Recounted, Sliced, Within}
-use Rattle.kdl_lexer.specs.Tokens.{Token}
+use Rattle.kdl_syntax.specs.Tokens.{Token}
 use Rattle.kdl_entry.specs.Internal.Parts as under_way
 use Rattle.kdl_entry.specs.Internal.Parts.{TypeParts, KeyParts}
 use Rattle.kdl_entry.specs.Places.{between}
 use Rattle.kdl_parser.specs.declared.builder.TakeFailure.{TakeFailure}
-use Rattle.kdl_lexer.specs.declared.token_span.TokenSpan.{TokenSpan}
+use Rattle.kdl_syntax.specs.declared.token_span.TokenSpan.{TokenSpan}
 use Rattle.kdl_entry.specs.Tree.{Identifier}
 use Rattle.kdl_grammar.specs.Internal.Machine as machine
 use Rattle.kdl_grammar.specs.Internal.Machine.{Under, State, at, for_name, for_value}

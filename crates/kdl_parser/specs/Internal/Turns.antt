@@ -3,8 +3,8 @@ use Rattle.std.specs.Prelude.{◌≡◌, Bool, true, false, Option, Some, None, 
 use Rattle.kdl_text.specs.Chars.{Text}
 use Rattle.kdl_entry.specs.Internal.Counted.{Recounted}
 use Rattle.kdl_grammar.specs.Tree.{Node}
-use Rattle.kdl_lexer.specs.Tokens.{Token, string}
-use Rattle.kdl_lexer.specs.declared.token_span.TokenSpan.{TokenSpan}
+use Rattle.kdl_syntax.specs.Tokens.{Token, string}
+use Rattle.kdl_syntax.specs.declared.token_span.TokenSpan.{TokenSpan}
 use Rattle.kdl_parser.specs.Internal.Building.{reading_view, state_view, Placed}
 use Rattle.kdl_parser.specs.Internal.Counted.{unsliced}
 use Rattle.kdl_parser.specs.Internal.Dropping.{is_over}

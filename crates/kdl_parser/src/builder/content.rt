@@ -20,7 +20,7 @@ use crate::node_parts::{DocumentParts, NodeParts, ParsedNode};
 use kdl_entry::parsing::parts::{Given, TypeParts, argument_from, empty, entry_from};
 use kdl_entry::parsing::source::Source;
 use kdl_entry::{KdlEntry, KdlIdentifier, KdlValue};
-use kdl_lexer::TokenSpan;
+use kdl_syntax::TokenSpan;
 use kdl_text::cursor::Checkpoint;
 use kdl_text::span::SourceSpan;
 use std::alloc::{AllocError, Global};

@@ -1,16 +1,15 @@
 //! What is slashdashed: the control reads it, and nothing is built.
 #![tactic(auto, using(crate::proofs::Rules::dropping))]
 
-ghost use Rattle.kdl_control.specs.Internal.Views.{control_view};
+ghost use Rattle.kdl_syntax.specs.Internal.Views.{control_view};
 ghost use Rattle.kdl_parser.specs.Internal.Dropping.{is_before_node};
 ghost use Rattle.std.specs.Prelude.{◌≡◌, false};
 
 use super::content::put;
 use super::{Builder, TakeFailure};
 use crate::node_parts::ParsedNode;
-use kdl_control::{Control, Phase};
 use kdl_entry::parsing::parts::empty;
-use kdl_lexer::{TokenKind, TokenSpan};
+use kdl_syntax::{Control, Phase, TokenKind, TokenSpan};
 use kdl_text::cursor::Piece;
 use std::alloc::{AllocError, Global};
 
@@ -22,8 +21,8 @@ pub(super) struct DroppedPart {
 }
 
 impl DroppedPart {
-    ghost use Rattle.kdl_control.specs.Control as control;
-    ghost use Rattle.kdl_lexer.specs.Internal.Handed.{kind_view};
+    ghost use Rattle.kdl_syntax.specs.Control as control;
+    ghost use Rattle.kdl_syntax.specs.Internal.Handed.{kind_view};
     ghost use Rattle.std.specs.Prelude.{Some, None, IfOk, if◌then◌else◌};
 
     /// Takes a token. Returns false if it may not be here.
@@ -51,9 +50,9 @@ pub(super) enum Dropped {
 }
 
 impl Dropped {
-    ghost use Rattle.kdl_control.specs.Control as control;
-    ghost use Rattle.kdl_control.specs.Internal.Views.{phase_view};
-    ghost use Rattle.kdl_lexer.specs.Internal.Handed.{kind_view};
+    ghost use Rattle.kdl_syntax.specs.Control as control;
+    ghost use Rattle.kdl_syntax.specs.Internal.Views.{phase_view};
+    ghost use Rattle.kdl_syntax.specs.Internal.Handed.{kind_view};
     ghost use Rattle.kdl_parser.specs.Internal.Building.{phase_after, reading_view};
     ghost use Rattle.kdl_parser.specs.Internal.Dropping.{after_slashdash, is_over, next, part};
     ghost use Rattle.std.specs.Prelude.{[], true, IfOk, MatchOption, Some, None, if◌then◌else◌};
@@ -120,8 +119,8 @@ impl Dropped {
 }
 
 impl<'a, N: ParsedNode> Builder<'a, N> {
-    ghost use Rattle.kdl_lexer.specs.Internal.Handed.{kind_view};
-    ghost use Rattle.kdl_lexer.specs.Tokens.{space, string};
+    ghost use Rattle.kdl_syntax.specs.Internal.Handed.{kind_view};
+    ghost use Rattle.kdl_syntax.specs.Tokens.{space, string};
     ghost use Rattle.kdl_parser.specs.Internal.Building.{reading_view, state_view, Placed};
     ghost use Rattle.kdl_parser.specs.Internal.Dropping.{is_over, is_reading};
     ghost use Rattle.kdl_parser.specs.Internal.Events.{is_building};

@@ -33,9 +33,9 @@ ghost use Rattle.kdl_parser.specs.Internal.States.{
   valued_slot,
   worded,
 };
-ghost use Rattle.kdl_control.specs.declared.control.Phase.TheVariants.{InNode};
-ghost use Rattle.kdl_control.specs.declared.control.Spot.TheVariants.{Fresh};
-ghost use Rattle.kdl_control.specs.declared.control.Word.TheVariants.{NoKey};
+ghost use Rattle.kdl_syntax.specs.declared.control.Phase.TheVariants.{InNode};
+ghost use Rattle.kdl_syntax.specs.declared.control.Spot.TheVariants.{Fresh};
+ghost use Rattle.kdl_syntax.specs.declared.control.Word.TheVariants.{NoKey};
 ghost use Rattle.kdl_entry.specs.Places.{between};
 ghost use Rattle.kdl_entry.specs.Tree.{identifier_tree, plain_identifier};
 ghost use Rattle.kdl_grammar.specs.Internal.Machine as machine;
@@ -50,12 +50,11 @@ use super::dropping::Dropped;
 use super::growing::Growing;
 use super::{Builder, Level, Slot, TakeFailure, Under, WaitingWord};
 use crate::node_parts::ParsedNode;
-use kdl_control::{Owner, Phase, Spot, Word};
 use kdl_entry::parsing::parts::{
     Given, Key, TypeParts, ValueParts, argument_from, empty, property_from,
 };
 use kdl_entry::{KdlEntry, KdlIdentifier, KdlValue, sliced_identifier};
-use kdl_lexer::{TokenKind, TokenSpan};
+use kdl_syntax::{Owner, Phase, Spot, TokenKind, TokenSpan, Word};
 use std::alloc::AllocError;
 use std::mem;
 

@@ -1,4 +1,4 @@
-use Rattle.kdl_comments.proofs.Rewriting.Pushing.{no_bytes}
+use Rattle.kdl_layout.proofs.Rewriting.Pushing.{no_bytes}
 use Rattle.kdl.proofs.ends.is_empty.Goals as goal
 
 pub returns : goal.returns

@@ -1,6 +1,6 @@
 use Rattle.std.proofs.Common.{◌≤◌, is_some, subst, sym}
 use Rattle.std.specs.Str.{chars}
-use Rattle.kdl_comments.specs.Lacks.{PlaceLacks}
+use Rattle.kdl_layout.specs.Lacks.{PlaceLacks}
 use Rattle.kdl.specs.Internal.Ends.{PlaceFewest, PlaceSays, block_if}
 use Rattle.kdl.proofs.Putting.Fewest.{place_read}
 use Rattle.kdl.proofs.ends.place_newlines.Goals as goal

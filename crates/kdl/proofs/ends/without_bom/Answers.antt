@@ -1,6 +1,6 @@
 use Rattle.std.proofs.Common.{◌++◌, ap, ◌∙◌, sym, List, ℕ}
 use Rattle.std.specs.Char.{encode_utf8}
-use Rattle.kdl_fmt.proofs.Texts.{bom_cut, no_bom}
+use Rattle.kdl_layout.proofs.Texts.{bom_cut, no_bom}
 use Rattle.kdl.proofs.ends.without_bom.Goals as goal
 
 pub returns-in-Some : goal.returns-in-Some

@@ -1,5 +1,5 @@
 use Rattle.std.proofs.Common.{None, map, rules}
-use Rattle.kdl_fmt.specs.Config.{settings}
+use Rattle.kdl_layout.specs.Config.{settings}
 use Rattle.kdl.specs.Tree.{node_tree}
 use Rattle.kdl.specs.declared.layout.LayoutFrame.{LayoutFrame}
 use Rattle.kdl.proofs.LayingOut.BlockSteps.{all_laid}

@@ -1,6 +1,6 @@
 use Rattle.std.proofs.Common.{Bool, drop, ap, sym, rules, ◌+◌, ◌∙◌, ◌≡◌, false, arith}
 use Rattle.std.specs.Prelude.{◌&&◌}
-use Rattle.kdl_fmt.specs.OneLine.{is_last, nodes_on_line}
+use Rattle.kdl_layout.specs.OneLine.{is_last, nodes_on_line}
 use Rattle.kdl.specs.Tree.{nodes_tree}
 use Rattle.kdl.proofs.LayingOut.Lines.{line_next}
 use Rattle.kdl.proofs.layout.nodes_on_line.Goals as goal

@@ -1,5 +1,5 @@
 use Rattle.std.proofs.Common.{◌≡◌, drop}
-use Rattle.kdl_fmt.specs.OneLine.{nodes_on_line}
+use Rattle.kdl_layout.specs.OneLine.{nodes_on_line}
 use Rattle.kdl.specs.Tree.{nodes_tree}
 use Rattle.kdl.proofs.layout.nodes_on_line.Given as goal
 

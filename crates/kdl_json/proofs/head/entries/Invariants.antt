@@ -1,7 +1,7 @@
 use Rattle.std.proofs.Common.{◌≡◌, ◌∷◌, List}
 use Rattle.json.specs.Token.{Token, end_array}
 use Rattle.kdl_entry.specs.Data.{Entry}
-use Rattle.kdl_fmt.specs.WellFormed.{AreWellFormedEntries}
+use Rattle.kdl_layout.specs.WellFormed.{AreWellFormedEntries}
 use Rattle.kdl.specs.Tree.{node_says}
 use Rattle.kdl_json.specs.Form.{entries_tokens}
 use Rattle.kdl_json.specs.Heads.{HasTaken}

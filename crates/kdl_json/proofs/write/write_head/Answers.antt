@@ -4,7 +4,7 @@ use Rattle.std.specs.Prelude.{codes}
 use Rattle.json.specs.Token.{begin_array, begin_object, end_array, key}
 use Rattle.kdl_entry.specs.Tree.{entry_data, entry_tree, identifier_tree}
 use Rattle.kdl_entry.specs.declared.entry.KdlEntry.{KdlEntry}
-use Rattle.kdl_fmt.specs.WellFormed.{AreWellFormedEntries}
+use Rattle.kdl_layout.specs.WellFormed.{AreWellFormedEntries}
 use Rattle.kdl.specs.Lookups.{entries_of}
 use Rattle.kdl.specs.Tree.{node_says}
 use Rattle.kdl_json.proofs.Appending.{and_part, and_token, append_same, last_token, nothing}

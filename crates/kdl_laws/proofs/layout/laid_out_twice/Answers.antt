@@ -1,5 +1,5 @@
 use Rattle.kdl.specs.Tree.{document_tree}
-use Rattle.kdl_fmt.specs.Config.{settings}
+use Rattle.kdl_layout.specs.Config.{settings}
 use Rattle.kdl_laws.proofs.TwoLayouts.{twice}
 use Rattle.kdl_laws.proofs.layout.laid_out_twice.Goals as goal
 

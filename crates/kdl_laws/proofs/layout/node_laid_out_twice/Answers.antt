@@ -1,5 +1,5 @@
 use Rattle.kdl.specs.Tree.{node_tree}
-use Rattle.kdl_fmt.specs.Config.{settings}
+use Rattle.kdl_layout.specs.Config.{settings}
 use Rattle.kdl_laws.proofs.TwoLayouts.{node_twice}
 use Rattle.kdl_laws.proofs.layout.node_laid_out_twice.Goals as goal
 

@@ -1,5 +1,5 @@
-use Rattle.kdl_lexer.specs.Internal.Handed.{kind_view}
-use Rattle.kdl_lexer.specs.Tokens.{space, newline, string}
+use Rattle.kdl_syntax.specs.Internal.Handed.{kind_view}
+use Rattle.kdl_syntax.specs.Tokens.{space, newline, string}
 use Rattle.kdl_parser.proofs.Answering.TokenLoop.{nearer}
 use Rattle.kdl_parser.proofs.Answering.Turns.{end_placed, reading_starts, turn}
 use Rattle.kdl_parser.proofs.token_loop.build_with.Goals as goal

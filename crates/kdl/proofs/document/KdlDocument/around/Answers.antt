@@ -2,7 +2,7 @@ use Rattle.std.proofs.Common.{◌≡◌, ap, ◌∙◌, false, length, refl, rul
 use Rattle.kdl.specs.Tree.{document_tree}
 use Rattle.kdl.specs.declared.document.KdlDocument.TheViews.{the_lemmas, out-KdlDocument}
 use Rattle.kdl.specs.declared.layout.Around.{Around}
-use Rattle.kdl_fmt.specs.OneLine.{formats_in_line, is_on_one_line}
+use Rattle.kdl_layout.specs.OneLine.{formats_in_line, is_on_one_line}
 use Rattle.kdl_parts.specs.Formats.{document_format_tree}
 use Rattle.kdl.proofs.LayingOut.Lines.{around_if}
 use Rattle.kdl.proofs.document.KdlDocument.around.Goals as goal

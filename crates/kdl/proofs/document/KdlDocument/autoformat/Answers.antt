@@ -2,9 +2,9 @@ use Rattle.std.proofs.Common.{refl, rules}
 use Rattle.kdl.specs.Layout.{DocumentKeepsReading, DocumentLaidOut}
 use Rattle.kdl.specs.ReadsBack.{DocumentReadsBack}
 use Rattle.kdl.specs.Tree.{document_tree}
-use Rattle.kdl_fmt.specs.Comments.{CommentsStay}
-use Rattle.kdl_fmt.specs.Config.{defaults, settings}
-use Rattle.kdl_fmt.specs.Formatted.{DocumentKeepsNone}
+use Rattle.kdl_layout.specs.Comments.{CommentsStay}
+use Rattle.kdl_layout.specs.Config.{defaults, settings}
+use Rattle.kdl_layout.specs.Formatted.{DocumentKeepsNone}
 use Rattle.kdl_grammar.specs.Grammar.{IsDocument}
 use Rattle.kdl_grammar.specs.Print.{print_document}
 use Rattle.kdl_grammar.specs.Tree.{document_data}

@@ -1,5 +1,5 @@
 use Rattle.kdl.specs.Tree.{document_tree}
-use Rattle.kdl_fmt.specs.Config.{settings}
+use Rattle.kdl_layout.specs.Config.{settings}
 use Rattle.kdl.proofs.Finding.SaidLookups.{finds_same}
 use Rattle.kdl.proofs.LayingOut.PartsSpaced.{if_ok}
 use Rattle.kdl.proofs.LayingOut.LayoutCalls.{same_data, plain, plainly, levels, keeps_none, derived, comments, prints, reads}

@@ -2,8 +2,8 @@ use Rattle.std.proofs.Common.{◌≡◌, refl, rules}
 use Rattle.kdl.specs.Layout.{DocumentKeepsReading, plain_document}
 use Rattle.kdl.specs.ReadsBack.{DocumentReadsBack}
 use Rattle.kdl.specs.Tree.{document_says, document_tree}
-use Rattle.kdl_fmt.specs.Canonical.{Canonical}
-use Rattle.kdl_fmt.specs.Config.{settings, without_comments}
+use Rattle.kdl_layout.specs.Canonical.{Canonical}
+use Rattle.kdl_layout.specs.Config.{settings, without_comments}
 use Rattle.kdl.proofs.LayingOut.LayoutCalls.{plain_settled, settled_back, spaced_settled}
 use Rattle.kdl.proofs.document.KdlDocument.autoformat_no_comments.Goals as goal
 

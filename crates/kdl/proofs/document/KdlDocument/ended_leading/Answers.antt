@@ -1,7 +1,7 @@
 use Rattle.kdl.proofs.Putting.Exact.{leads_exactly}
 use Rattle.std.proofs.Common.{ap, arith, subst}
 use Rattle.std.specs.Str.{chars}
-use Rattle.kdl_fmt.specs.Kept.{without_bom}
+use Rattle.kdl_layout.specs.Kept.{without_bom}
 use Rattle.kdl_text.specs.Chars.{Text}
 use Rattle.kdl_value.specs.Tree.{text_of}
 use Rattle.kdl_parts.specs.Formats.{document_format_tree, document_texts}

@@ -1,7 +1,7 @@
 use Rattle.std.proofs.Common.{rules, refl, sym, subst, ap, ◌≡◌, ◌∙◌, ◌<◌, map}
 use Rattle.kdl.specs.Internal.Spacing.{IsUnderWay, StayAs, left, whole}
-use Rattle.kdl_fmt.specs.Config.{settings}
-use Rattle.kdl_fmt.specs.Formatted.{bare_node}
+use Rattle.kdl_layout.specs.Config.{settings}
+use Rattle.kdl_layout.specs.Formatted.{bare_node}
 use Rattle.kdl.proofs.LayingOut.BlockSteps.{all_done}
 use Rattle.kdl.proofs.LayingOut.StaysReading.{stay_same, stay_then}
 use Rattle.kdl.proofs.layout.Blocks.lay_out.Goals as goal

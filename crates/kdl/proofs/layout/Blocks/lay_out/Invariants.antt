@@ -1,8 +1,8 @@
 use Rattle.std.proofs.Common.{◌≡◌, ℕ, List, map}
 use Rattle.kdl.specs.Internal.Spacing.{IsUnderWay, left, whole}
-use Rattle.kdl_fmt.specs.Config.{IndentsBySpaces, settings}
-use Rattle.kdl_fmt.specs.declared.blank.Before.{Before}
-use Rattle.kdl_fmt.specs.Formatted.{bare_node}
+use Rattle.kdl_layout.specs.Config.{IndentsBySpaces, settings}
+use Rattle.kdl_layout.specs.declared.blank.Before.{Before}
+use Rattle.kdl_layout.specs.Formatted.{bare_node}
 use Rattle.kdl_grammar.specs.Tree.{Node}
 use Rattle.kdl.proofs.LayingOut.StaysReading.{Steps}
 use Rattle.kdl.proofs.layout.Blocks.lay_out.Given as goal

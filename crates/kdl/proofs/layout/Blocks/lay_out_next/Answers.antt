@@ -1,15 +1,15 @@
 use Rattle.std.proofs.Common.{rules, sym, subst, ◌≡◌, ◌++◌, ◌∷◌, [], ap, ◌∙◌, ◌+◌, Option, map}
 use Rattle.std.specs.Str.{chars}
 use Rattle.std.specs.Vec.{with_item}
-use Rattle.kdl_fmt.specs.Config.{indentation, settings}
-use Rattle.kdl_fmt.specs.Formatted.{bare_node}
+use Rattle.kdl_layout.specs.Config.{indentation, settings}
+use Rattle.kdl_layout.specs.Formatted.{bare_node}
 use Rattle.kdl.specs.Iterators.{child_nodes}
 use Rattle.kdl.specs.declared.layout.Around.{Around}
 use Rattle.kdl_value.specs.Tree.{text_of}
 use Rattle.kdl.specs.Internal.Spacing.{GoesOn, NodeStays, StayAs, whole}
 use Rattle.kdl.specs.Tree.{node_tree}
 use Rattle.kdl.specs.declared.layout.LayoutFrame.{LayoutFrame}
-use Rattle.kdl_fmt.specs.declared.blank.Before.{Before}
+use Rattle.kdl_layout.specs.declared.blank.Before.{Before}
 use Rattle.kdl.proofs.LayingOut.BlockSteps.{Own, bare_next, bare_enclosed, line_goes_on, line_is_laid, node_is, bare_block_next, whole_block_next, block_goes_on}
 use Rattle.kdl.proofs.LayingOut.StaysReading.{next_stays}
 use Rattle.kdl.proofs.layout.Blocks.lay_out_next.Goals as goal

@@ -1,7 +1,7 @@
 use Rattle.std.proofs.Common.{rules, subst, ◌+◌, ◌++◌, ◌∷◌, [], ap, ◌∙◌, ◌≡◌, map}
 use Rattle.std.specs.Vec.{with_item}
-use Rattle.kdl_fmt.specs.Config.{settings}
-use Rattle.kdl_fmt.specs.Formatted.{bare_node}
+use Rattle.kdl_layout.specs.Config.{settings}
+use Rattle.kdl_layout.specs.Formatted.{bare_node}
 use Rattle.kdl.specs.Internal.Spacing.{GoesOn, StayAs, braces_of, enclosed, lined, whole, with_braces}
 use Rattle.kdl.specs.Tree.{node_tree}
 use Rattle.kdl.specs.declared.layout.LayoutFrame.{LayoutFrame}

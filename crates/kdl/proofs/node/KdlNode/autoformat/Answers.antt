@@ -3,8 +3,8 @@ use Rattle.kdl.specs.Layout.{NodeKeepsReading, NodeLaidOut}
 use Rattle.kdl.specs.ReadsBack.{ReadsAs}
 use Rattle.kdl.specs.Tree.{node_tree}
 use Rattle.kdl.specs.Layout.{NodeCommentsStay}
-use Rattle.kdl_fmt.specs.Config.{defaults, settings}
-use Rattle.kdl_fmt.specs.Formatted.{NodeKeepsNone}
+use Rattle.kdl_layout.specs.Config.{defaults, settings}
+use Rattle.kdl_layout.specs.Formatted.{NodeKeepsNone}
 use Rattle.kdl_grammar.specs.Data as data'
 use Rattle.kdl_grammar.specs.Grammar.{IsDocument}
 use Rattle.kdl_grammar.specs.Print.{print_node}

@@ -1,5 +1,5 @@
 use Rattle.kdl.specs.Tree.{node_tree}
-use Rattle.kdl_fmt.specs.Config.{settings}
+use Rattle.kdl_layout.specs.Config.{settings}
 use Rattle.kdl.proofs.Finding.SaidLookups.{node_finds_same}
 use Rattle.kdl.proofs.LayingOut.PartsSpaced.{if_ok}
 use Rattle.kdl.proofs.LayingOut.LayoutCalls.{same_node_data, node_plain, node_plainly, node_levels, node_keeps_none_then, node_derives, node_comments, node_prints, node_reads}

@@ -2,8 +2,8 @@ use Rattle.std.proofs.Common.{◌≡◌, refl, rules}
 use Rattle.kdl.specs.Layout.{NodeKeepsReading, plain_node}
 use Rattle.kdl.specs.ReadsBack.{ReadsAs}
 use Rattle.kdl.specs.Tree.{node_says, node_tree}
-use Rattle.kdl_fmt.specs.Canonical.{CanonicalNode}
-use Rattle.kdl_fmt.specs.Config.{settings, without_comments}
+use Rattle.kdl_layout.specs.Canonical.{CanonicalNode}
+use Rattle.kdl_layout.specs.Config.{settings, without_comments}
 use Rattle.kdl.proofs.LayingOut.LayoutCalls.{plain_settled, settled_back, spaced_settled}
 use Rattle.kdl.proofs.node.KdlNode.autoformat_no_comments.Goals as goal
 

@@ -1,5 +1,5 @@
 use Rattle.std.proofs.Common.{rules}
-use Rattle.kdl_fmt.specs.OneLine.{is_last}
+use Rattle.kdl_layout.specs.OneLine.{is_last}
 use Rattle.kdl.specs.declared.document.KdlDocument.TheViews.{the_lemmas}
 use Rattle.kdl.proofs.LayingOut.Lines.{node_block, node_line}
 use Rattle.kdl.proofs.node.KdlNode.is_on_line.Goals as goal

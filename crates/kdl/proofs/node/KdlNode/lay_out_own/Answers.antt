@@ -5,7 +5,7 @@ use Rattle.kdl.specs.Tree.{node_tree}
 use Rattle.kdl_entry.specs.Tree.{entry_tree}
 use Rattle.kdl_parts.specs.Formats.{node_format_tree}
 use Rattle.kdl.specs.declared.document.KdlDocument.TheViews.{the_lemmas, out-KdlNode}
-use Rattle.kdl_fmt.proofs.Respelling.Kept.{typed_put}
+use Rattle.kdl_layout.proofs.Respelling.Kept.{typed_put}
 use Rattle.kdl.proofs.LayingOut.OneLine.{own_spaced}
 use Rattle.kdl.proofs.LayingOut.PartsSpaced.{own_passes, fitting_node, nodes_fit}
 use Rattle.kdl.proofs.LayingOut.StaysReading.{own_stays}

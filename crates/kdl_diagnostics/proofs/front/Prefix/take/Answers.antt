@@ -1,4 +1,4 @@
-use Rattle.kdl_lexer.specs.Internal.Handed.{kind_view}
+use Rattle.kdl_syntax.specs.Internal.Handed.{kind_view}
 use Rattle.kdl_diagnostics.specs.Internal.Outsets.{text_view}
 use Rattle.kdl_diagnostics.proofs.FrontEnds.{ends_after, matched}
 use Rattle.kdl_diagnostics.proofs.NotedSpans.{same_lies}

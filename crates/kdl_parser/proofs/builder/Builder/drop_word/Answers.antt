@@ -1,5 +1,5 @@
 use Rattle.std.proofs.Common.{refl}
-use Rattle.kdl_lexer.specs.Tokens.{string}
+use Rattle.kdl_syntax.specs.Tokens.{string}
 use Rattle.kdl_parser.proofs.builder.Builder.drop_word.Goals as goal
 
 pub returns-in-Some : goal.returns-in-Some

@@ -1,5 +1,5 @@
 use Rattle.std.proofs.Common.{ap, ◌∙◌}
-use Rattle.kdl_lexer.specs.Internal.Handed.{kind_view}
+use Rattle.kdl_syntax.specs.Internal.Handed.{kind_view}
 use Rattle.kdl_parser.specs.Internal.Building.{reading_view}
 use Rattle.kdl_parser.proofs.Stepping.Dropped.{first_like}
 use Rattle.kdl_parser.proofs.builder.Builder.drops.Goals as goal

@@ -1,5 +1,5 @@
 use Rattle.std.proofs.Common.{sym, subst}
-use Rattle.kdl_lexer.specs.Internal.Handed.{kind_view}
+use Rattle.kdl_syntax.specs.Internal.Handed.{kind_view}
 use Rattle.kdl_parser.specs.Internal.Turns.{Leaves}
 use Rattle.kdl_parser.proofs.Stepping.Dropped.{leaves}
 use Rattle.kdl_parser.proofs.builder.Builder.leave_dropped.Goals as goal

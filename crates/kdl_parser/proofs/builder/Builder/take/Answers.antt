@@ -1,4 +1,4 @@
-use Rattle.kdl_lexer.specs.Internal.Handed.{kind_view}
+use Rattle.kdl_syntax.specs.Internal.Handed.{kind_view}
 use Rattle.kdl_parser.proofs.Stepping.StepsDone.{looked_takes}
 use Rattle.kdl_parser.proofs.builder.Builder.take.Goals as goal
 

@@ -1,5 +1,5 @@
 use Rattle.std.proofs.Common.{refl}
-use Rattle.kdl_lexer.specs.declared.lexer.TokenKind.TheVariants.{String, Value}
+use Rattle.kdl_syntax.specs.declared.lexer.TokenKind.TheVariants.{String, Value}
 use Rattle.kdl_parser.proofs.Stepping.Events.{takes_as, is_mark}
 use Rattle.kdl_parser.proofs.builder.Builder.take_live.Goals as goal
 

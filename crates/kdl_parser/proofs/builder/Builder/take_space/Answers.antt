@@ -1,4 +1,4 @@
-use Rattle.kdl_lexer.specs.Tokens.{space}
+use Rattle.kdl_syntax.specs.Tokens.{space}
 use Rattle.kdl_parser.proofs.Stepping.StepsDone.{looked_takes}
 use Rattle.kdl_parser.proofs.builder.Builder.take_space.Goals as goal
 

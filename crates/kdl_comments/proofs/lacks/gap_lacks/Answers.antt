@@ -1,8 +1,0 @@
-use Rattle.std.proofs.lemmas.Result.{IfOk-weaker}
-use Rattle.std.specs.Str.{chars}
-use Rattle.kdl_comments.specs.Internal.Reading.{held}
-use Rattle.kdl_comments.proofs.Lacking.Fewest.{gap_answer}
-use Rattle.kdl_comments.proofs.lacks.gap_lacks.Goals as goal
-
-pub returns : goal.returns
-returns c = IfOk-weaker c.read_gap.result _ _ (λ o. gap_answer (chars c.args.text.now) o _ (held c.read_gap.new.items)) c.read_gap.ensures

@@ -1,8 +1,0 @@
-use Rattle.std.proofs.Common.{Some, ap}
-use Rattle.std.specs.Str.{chars}
-use Rattle.kdl_comments.specs.Internal.Reading.{items_view, place_view}
-use Rattle.kdl_comments.proofs.Lacking.PlacePieces.{place_listed}
-use Rattle.kdl_comments.proofs.places.place_items.Goals as goal
-
-pub returns-in-Some : goal.returns-in-Some
-returns-in-Some c = place_listed (place_view c.args.place) (chars c.args.text.now) c.in-Some.field-0 (ap (λ l. Some (items_view l)) c.new.ensures.items) (rw c.in-Some.is at c.in_ok-read_place.ensures)

@@ -1,8 +1,0 @@
--- The control grammar: which tokens may come.
-pub mod Control
--- The control of an entry text: which token may come where.
-pub mod EntryControl
--- The control of a node text.
-pub mod NodeControl
--- Definitions that only proofs and contracts inside the crates use.
-pub mod Internal

@@ -1,8 +1,0 @@
-use Rattle.std.proofs.Common.{ap, refl, ◌∷◌, []}
-use Rattle.kdl_text.specs.Chars.{Text}
-use Rattle.kdl_fmt.specs.Config.{defaults}
-use Rattle.kdl_fmt.proofs.Texts.{ascii_text}
-use Rattle.kdl_fmt.proofs.config.FormatConfigDefault.default.Goals as goal
-
-pub returns : goal.returns
-returns c = ap (λ (t : Text). record defaults { indent = t }) (ascii_text (32 ∷ 32 ∷ 32 ∷ 32 ∷ []) refl)

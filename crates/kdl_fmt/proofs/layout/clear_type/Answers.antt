@@ -1,7 +1,0 @@
-use Rattle.kdl_fmt.proofs.Texts.{no_text, type_cleared}
-use Rattle.kdl_fmt.proofs.layout.clear_type.Goals as goal
-
-pub returns : goal.returns
-returns c =
-    type_cleared c.args.format.now c.clear.new.self c.clear-2.new.self c.clear-3.new.self (no_text c.clear.new.self c.clear.ensures.bytes) (no_text c.clear-2.new.self c.clear-2.ensures.bytes)
-    (no_text c.clear-3.new.self c.clear-3.ensures.bytes)

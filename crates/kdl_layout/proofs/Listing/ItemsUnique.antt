@@ -1,0 +1,32 @@
+-- A gap, or a place in a node, has one list of items at most.
+use Rattle.std.proofs.Common.{◌≡◌, refl, List, [], ◌∷◌, ◌++◌, sym, ap, subst, ◌∙◌}
+use Rattle.kdl_text.specs.Chars.{Text}
+use Rattle.kdl_text.specs.Trivia.{slashdash}
+use Rattle.kdl_entry.specs.Places.{between}
+use Rattle.kdl_syntax.specs.Control.{at, node_slashdash}
+use Rattle.kdl_layout.specs.Items.{Item, piece, GapItems, Place, takes_entries, PlaceItems}
+use Rattle.kdl_layout.specs.Internal.Passing.{ended, NodePasses}
+use Rattle.kdl_layout.proofs.Dropping.DroppedNodes.{passes_node, passes_last, tight_same, node_returned, node_ended}
+use Rattle.kdl_layout.proofs.Dropping.DroppedParts.{place_quiet, entry_passes, block_passes, part_leaves}
+use Rattle.kdl_layout.proofs.Listing.SpaceItems.{gap_space, gap_end, place_space, place_end}
+
+pub gap_items_det : {s : Text} {is js : List Item} → GapItems s is → GapItems s js → is ≡ js
+gap_items_det {js = js} GapItems.none h = sym ((gap_end js).0 h)
+gap_items_det {js = js} (GapItems.space {is = is} d g) h = let w = (gap_space d js).0 h in ap (λ (l : List Item). is ++ l) (gap_items_det g w.2) ∙ sym w.1
+gap_items_det {js = js} (GapItems.dropped_node {e = e} (slashdash {s = t} ls) x i g) h =
+    let w = (node_returned (passes_node ls x i).1 i js).0 h in
+    ap (λ (l : List Item). piece (between (47 ∷ 45 ∷ t) e) ∷ l) (gap_items_det g w.2) ∙ sym w.1
+gap_items_det {js = js} (GapItems.last_node {u = u} (slashdash {s = t} ls) x tight ss g) h =
+    let q = passes_last ls x ss in
+    let w = (node_ended (subst (λ (z : Text). NodePasses (at node_slashdash []) t t (ended z)) (tight_same tight q.1 q.2) q.3) js).0 h in
+    ap (λ (l : List Item). piece (between (47 ∷ 45 ∷ t) u) ∷ l) (gap_items_det g w.2) ∙ sym w.1
+
+pub place_items_det : {p : Place} {s : Text} {is js : List Item} → PlaceItems p s is → PlaceItems p s js → is ≡ js
+place_items_det {p = p} {js = js} (PlaceItems.ends e) h = sym ((place_end p js).0 h).1
+place_items_det {js = js} (PlaceItems.space {is = is} d g) h = let w = (place_space d js).0 h in ap (λ (l : List Item). is ++ l) (place_items_det g w.2) ∙ sym w.1
+place_items_det {p = p} {js = js} (PlaceItems.dropped_entry {u = u} e (slashdash {s = t} ls) i g) h =
+    let w = (part_leaves (entry_passes ls i (place_quiet g) (takes_entries p) e t) refl js).0 h in
+    ap (λ (l : List Item). piece (between (47 ∷ 45 ∷ t) u) ∷ l) (place_items_det g w.2) ∙ sym w.1
+place_items_det {p = p} {js = js} (PlaceItems.dropped_block {u = u} e (slashdash {s = t} ls) b g) h =
+    let w = (part_leaves (block_passes ls b (takes_entries p) t) e js).0 h in
+    ap (λ (l : List Item). piece (between (47 ∷ 45 ∷ t) u) ∷ l) (place_items_det g w.2) ∙ sym w.1

@@ -1,0 +1,58 @@
+-- Values that are not on one line, and others that are.
+use Rattle.std.proofs.Common.{◌≡◌, true, false, [], ◌∷◌, refl, Some, None}
+use Rattle.kdl_text.specs.Chars.{is_newline_char, is_space}
+use Rattle.kdl_entry.specs.Tree.{empty_format, no_span}
+use Rattle.kdl_grammar.specs.Tree.{Head, node, no_children, children, document, none, first}
+use Rattle.kdl_layout.specs.OneLine.{end_on_line, form_on_line, is_on_one_line, node_on_line}
+use Rattle.kdl_layout.specs.Plain.{no_newline, only_spaces}
+
+-- `a`
+abbrev named : Head
+named = record { ty = None; name = record { value = 97 ∷ []; repr = None; span = no_span }; entries = []; format = None; span = no_span }
+
+-- a slash is no space, and a newline is none either
+slash_no_space : only_spaces (32 ∷ 47 ∷ []) ≡ false
+unfolding is_space
+slash_no_space = refl
+
+newline_no_space : only_spaces (10 ∷ []) ≡ false
+unfolding is_space
+newline_no_space = refl
+
+spaces_are : only_spaces (32 ∷ 9 ∷ []) ≡ true
+unfolding is_space
+spaces_are = refl
+
+-- U+0085 is a newline
+a_newline : no_newline (97 ∷ 0x85 ∷ []) ≡ false
+unfolding is_newline_char
+a_newline = refl
+
+-- a spelling of a value over two lines
+two_lines : form_on_line (record empty_format { value_repr = 34 ∷ 92 ∷ 10 ∷ 34 ∷ [] }) ≡ false
+unfolding is_newline_char
+two_lines = refl
+
+-- a newline ends the node, or nothing where another follows
+line_ended : end_on_line true (10 ∷ []) ≡ false
+line_ended = refl
+
+not_ended : end_on_line false [] ≡ false
+not_ended = refl
+
+ended : end_on_line false (59 ∷ []) ≡ true
+ended = refl
+
+-- a block in a block, and a block without a format, which prints newlines
+block_inside : node_on_line true (node named (children (document None no_span none))) ≡ false
+block_inside = refl
+
+no_format : is_on_one_line (document None no_span none) ≡ false
+no_format = refl
+
+-- `{}`, and `{a}`
+no_nodes : is_on_one_line (document (Some (record { leading = []; trailing = [] })) no_span none) ≡ true
+no_nodes = refl
+
+one_node : is_on_one_line (document (Some (record { leading = []; trailing = [] })) no_span (first (node named no_children) none)) ≡ true
+one_node = refl

@@ -1,0 +1,224 @@
+-- Of the texts of a node that is on one line, layout keeps no comment, and no blank line.
+use Rattle.std.proofs.Common.{◌≡◌, ℕ, zero, suc, ◌+◌, ◌-◌, ◌==◌, Bool, true, false, List, [], ◌∷◌, ◌++◌, refl, ap, subst, ◌∙◌, Option, Some, arith}
+use Rattle.std.proofs.lemmas.Bool.Decides.{nat_tests}
+use Rattle.std.proofs.lemmas.Bool.{and_parts, eqb-true}
+use Rattle.std.specs.List.{list_all, list_any}
+use Rattle.std.specs.Prelude.{if◌then◌else◌, ◌&&◌, min, max}
+use Rattle.kdl_text.specs.Chars.{Text, is_space, is_newline_char, times}
+use Rattle.kdl_text.specs.Chars.Space.{space as a_space}
+use Rattle.kdl_text.specs.Trivia.{LineComment}
+use Rattle.kdl_text.proofs.Spacing.SpaceUnique.{no_line_comment}
+use Rattle.kdl_entry.specs.Tree.{Identifier}
+use Rattle.kdl_grammar.specs.Tree.{NodeFormat, Head, node, Children, no_children, children, Nodes, none, first}
+use Rattle.kdl_layout.specs.Items.{Item, SpaceItems, GapItems, Place, before_block, may_end, spaced, PlaceItems}
+use Rattle.kdl_layout.specs.Written.{lines, tail}
+use Rattle.kdl_layout.proofs.Listing.ItemsUnique.{gap_items_det, place_items_det}
+use Rattle.kdl_layout.proofs.Rewriting.LinesAgain.{spaces_items}
+use Rattle.kdl_layout.specs.Blank.{at_start, blank_lines, empty_lines, newlines, one_if, past_items, past_node, read, spaced_lines, after_char, counts}
+use Rattle.kdl_layout.specs.Config.{Settings, indentation}
+use Rattle.kdl_layout.specs.Formatted.{or_empty}
+use Rattle.kdl_layout.specs.Kept.{KeptEnd, Written, WrittenUnless, WrittenEnd, without_bom}
+use Rattle.kdl_layout.specs.OneLine.{end_on_line, head_on_line, is_end, line_on_line, nodes_on_line, maybe_on_line, name_on_line, entry_on_line}
+use Rattle.kdl_layout.specs.Plain.{only_spaces, plain_line}
+use Rattle.kdl_layout.specs.Respelled.{TypeTexts, node_type_texts, with_type_texts}
+use Rattle.kdl_layout.specs.Spaced.{Passes, PassesNode, Spaces, SpacedLines, SpacesTexts}
+use Rattle.kdl_layout.specs.Parts.{NodeTexts, line_of}
+use Rattle.kdl_layout.proofs.Respelling.Kept.{OnlySpaces}
+use Rattle.kdl_layout.proofs.Respelling.Written.{IsTypedLine, head_line}
+use Rattle.kdl_layout.specs.declared.blank.Before.{Before}
+use Rattle.kdl_layout.specs.declared.blank.Before.TheVariants.{Nothing, Thing}
+use Rattle.kdl_layout.specs.declared.blank.Last.{Last}
+use Rattle.kdl_layout.proofs.Respelling.Spelled.{spelled, blockless, spelled_block, SpelledNodes, nodeless, one_more}
+use Rattle.kdl_layout.proofs.Keeping.KeptPlaces.{ends_spaced}
+use Rattle.kdl_layout.proofs.Spacing.Lines.{space_no_newline, space_no_slash, no_lines}
+
+space_no_bom : (c : ℕ) → is_space c ≡ true → (c == 0xFEFF) ≡ false
+unfolding is_space
+space_no_bom c h = grind (arith, nat_tests)
+
+-- spaces hold no items
+pub spaces_place : (p : Place) (c : ℕ) (t : Text) → only_spaces (c ∷ t) ≡ true → PlaceItems p (c ∷ t) []
+spaces_place p c [] h =
+    let e = and_parts (is_space c) (only_spaces []) h in
+    PlaceItems.space {is = []} {js = []} (SpaceItems.space (a_space {c = c} e.0)) (PlaceItems.ends (ends_spaced p))
+spaces_place p c (d ∷ t) h =
+    let e = and_parts (is_space c) (only_spaces (d ∷ t)) h in
+    PlaceItems.space {is = []} {js = []} (SpaceItems.space (a_space {c = c} e.0)) (spaces_place (spaced true p) d t e.1)
+
+pub spaces_in : (p : Place) → may_end p ≡ true → (t : Text) → only_spaces t ≡ true → PlaceItems p t []
+spaces_in p m [] h = PlaceItems.ends m
+spaces_in p m (c ∷ t) h = spaces_place p c t h
+
+-- so nothing is kept of them
+pub nothing_written : (no : Bool) (before t u : Text) → GapItems t [] → WrittenUnless no (GapItems t) (lines before) u → u ≡ []
+nothing_written true before t u g k = k
+nothing_written false before t _ g (Written.items d) = ap (lines before) (gap_items_det d g)
+nothing_written false before t _ g (Written.none f) = refl
+
+pub nothing_tailed : (no : Bool) (p : Place) (t u : Text) → PlaceItems p t [] → WrittenUnless no (PlaceItems p t) tail u → u ≡ []
+nothing_tailed true p t u g k = k
+nothing_tailed false p t _ g (Written.items d) = ap tail (place_items_det d g)
+nothing_tailed false p t _ g (Written.none f) = refl
+
+no_lines_of : (no : Bool) (number : ℕ) (ind : Text) (b : Before) (t : Text) (is : List Item) → is ≡ [] → (if no then [] else spaced_lines number ind b t is) ≡ []
+no_lines_of true number ind b t is e = refl
+no_lines_of false number ind b t is e = ap (spaced_lines number ind b t) e
+
+pub nothing_spaced : (number : ℕ) (s : Settings) (level : ℕ) (b b' : Before) (t u : Text) → GapItems t [] → Spaces number s level b t u b' → (u ≡ []) × (b' ≡ read t b)
+nothing_spaced number s level b b' t _ g (Spaces.items {is = is} d) =
+    let e : is ≡ [] = gap_items_det d g in
+    (no_lines_of s.no_comments number (indentation s level) b t is e, ap (past_items s.no_comments b t) e)
+nothing_spaced number s level b b' t _ g (Spaces.no_gap f) = absurd (f [] g)
+
+pub nothing_kept : (number : ℕ) (s : Settings) (level : ℕ) (b b' : Before) (t u : Text) → GapItems t [] → SpacedLines number s level b t u b' → u ≡ []
+nothing_kept zero s level b b' t u g k = nothing_written s.no_comments (indentation s level) t u g k
+nothing_kept (suc number) s level b b' t u g k = (nothing_spaced (suc number) s level b b' t u g k).0
+
+-- spaces hold no newlines
+no_newline_here : (slash newline k : Bool) (l : Last) (t : Text) → slash ≡ false → newline ≡ false → newlines l t ≡ 0 → (if slash then 0 else one_if (newline && k) + newlines l t) ≡ 0
+no_newline_here slash newline k l t e f g = rw (e, f, g) refl
+
+no_newlines : (l : Last) (t : Text) → only_spaces t ≡ true → newlines l t ≡ 0
+no_newlines l [] h = refl
+no_newlines l (c ∷ t) h =
+    let e = and_parts (is_space c) (only_spaces t) h in
+    no_newline_here (c == 47) (is_newline_char c) (counts l c) (after_char l c) t (space_no_slash c e.0) (space_no_newline c e.0) (no_newlines (after_char l c) t e.1)
+
+-- no blank line comes before a thing
+abbrev pub Quiet : ℕ → Before → Type 0
+Quiet zero b = Unit {0}
+Quiet (suc number) b = blank_lines b ≡ 0
+
+pub read_spaces : (t : Text) (b : Before) → only_spaces t ≡ true → blank_lines b ≡ 0 → blank_lines (read t b) ≡ 0
+read_spaces t (Nothing l) h q = refl
+read_spaces t (Thing most n l) h q = let e : n + newlines l t ≡ n = omega (arith, no_newlines l t h) in ap (λ (k : ℕ). max most (k - 1)) e ∙ q
+
+one_at_most : (x : Bool) → max 0 (one_if x - 1) ≡ 0
+one_at_most true = refl
+one_at_most false = refl
+
+pub quiet_node : (terminator : Text) → blank_lines (past_node terminator) ≡ 0
+quiet_node terminator = one_at_most (list_any is_newline_char terminator)
+
+pub quiet_lines : (number : ℕ) (b : Before) → Quiet number b → empty_lines number b ≡ []
+quiet_lines zero b q = no_lines b
+quiet_lines (suc number) b q = let e : min (suc number) (blank_lines b) ≡ 0 = omega (arith, q) in ap (λ (k : ℕ). times k 10) e
+
+pub quiet_start : (number : ℕ) → Quiet number at_start
+quiet_start zero = tt
+quiet_start (suc number) = refl
+
+pub quiet_lead : (number : ℕ) (s : Settings) (level : ℕ) (b b' : Before) (t u : Text) → only_spaces t ≡ true → SpacedLines number s level b t u b' → Quiet number b → Quiet number b'
+quiet_lead zero s level b b' t u h k q = tt
+quiet_lead (suc number) s level b b' t u h k q = (ap blank_lines (nothing_spaced (suc number) s level b b' t u (spaces_items t h) k).1) ∙ read_spaces t b h q
+
+-- of a terminator nothing is kept
+pub no_comment : (last : Bool) (terminator : Text) → end_on_line last terminator ≡ true → LineComment terminator [] → ⊥
+no_comment last [] h l = no_line_comment refl l
+no_comment last (c ∷ s) h l =
+    let e : c ≡ 59 = eqb-true c 59 (and_parts (c == 59) (list_all (λ d. d == 59) s) h).0 in
+    no_line_comment {s = 59 ∷ s} refl (subst (λ (x : ℕ). LineComment (x ∷ s) []) e l)
+
+written_end : (terminator space comment : Text) → (LineComment terminator [] → ⊥) → WrittenEnd terminator space comment → (space ≡ []) × (comment ≡ [])
+written_end terminator _ _ bare (WrittenEnd.comment l) = absurd (bare l)
+written_end terminator _ _ bare (WrittenEnd.other f) = (refl, refl)
+
+pub nothing_ended : (b : Bool) (terminator space comment : Text) → (LineComment terminator [] → ⊥) → KeptEnd b terminator space comment → (space ≡ []) × (comment ≡ [])
+nothing_ended true terminator space comment bare k = k
+nothing_ended false terminator space comment bare k = written_end terminator space comment bare k
+
+-- the parts of a node's format
+pub record LineParts (last : Bool) (f : NodeFormat) : Type 0 where
+  pub leading : only_spaces f.leading ≡ true
+  pub types : OnlySpaces (node_type_texts f)
+  pub before_terminator : only_spaces f.before_terminator ≡ true
+  pub trailing : only_spaces f.trailing ≡ true
+  pub terminator : end_on_line last f.terminator ≡ true
+
+pub line_parts : (last : Bool) (f : NodeFormat) → line_on_line last f ≡ true → LineParts last f
+line_parts last f h =
+    let a = only_spaces f.leading in
+    let b = only_spaces f.before_ty_name in
+    let c = only_spaces f.after_ty_name in
+    let d = only_spaces f.after_ty in
+    let e = only_spaces f.before_terminator in
+    let t = only_spaces f.trailing in
+    let end = and_parts (a && b && c && d && e && t) (end_on_line last f.terminator) h in
+    let trailing = and_parts (a && b && c && d && e) t end.0 in
+    let before = and_parts (a && b && c && d) e trailing.0 in
+    let three = and_parts (a && b && c) d before.0 in
+    let two = and_parts (a && b) c three.0 in
+    let first = and_parts a b two.0 in
+    record { leading = first.0; types = record { before_name = first.1; after_name = two.1; after = three.1 }; before_terminator = before.1; trailing = trailing.1; terminator = end.1 }
+
+pub record HeadParts (last : Bool) (h : Head) : Type 0 where
+  pub ty : maybe_on_line h.ty ≡ true
+  pub name : name_on_line h.name ≡ true
+  pub entries : list_all entry_on_line h.entries ≡ true
+  pub line : line_on_line last (or_empty h.format) ≡ true
+
+pub head_parts : (last : Bool) (h : Head) → head_on_line last h ≡ true → HeadParts last h
+head_parts last h e =
+    let a = maybe_on_line h.ty in
+    let b = name_on_line h.name in
+    let c = list_all entry_on_line h.entries in
+    let line = and_parts (a && b && c) (line_on_line last (or_empty h.format)) e in
+    let entries = and_parts (a && b) c line.0 in
+    let names = and_parts a b entries.0 in
+    record { ty = names.0; name = names.1; entries = entries.1; line = line.1 }
+
+-- a node on one line, laid out on a line of its own
+module _ (number : ℕ) (s : Settings) (level : ℕ) where
+  pub line_is_plain : (last : Bool) (b : Before) (f : NodeFormat) (k : NodeTexts) → line_on_line last f ≡ true → Quiet number b → SpacesTexts number s level false b f k → line_of (indentation s level) k ≡ plain_line (indentation s level)
+  line_is_plain last b f k h q w =
+      let p = line_parts last f h in
+      let lines = nothing_kept number s level b w.at_node f.leading w.lines (spaces_items f.leading p.leading) w.leading in
+      let before : k.before ≡ [] = w.before ∙ ap (λ (t : Text). t ++ empty_lines number w.at_node) lines ∙ quiet_lines number w.at_node (quiet_lead number s level b w.at_node f.leading w.lines p.leading w.leading q) in
+      let end = nothing_ended s.no_comments f.terminator k.space k.comment (no_comment last f.terminator p.terminator) w.end in
+      let last_text : k.last ≡ [] = nothing_tailed s.no_comments before_block f.before_terminator k.last (spaces_in before_block refl f.before_terminator p.before_terminator) w.last in
+      let following : k.following ≡ [] = nothing_kept number s level (past_node f.terminator) w.after_it f.trailing k.following (spaces_items f.trailing p.trailing) w.following in
+      rw (before, w.before_block, last_text, end.0, end.1, following) refl
+
+  pub quiet_passes : (last : Bool) (h : Head) (k : Children) (b : Before) → line_on_line last (or_empty h.format) ≡ true → PassesNode number s (node h k) b → Quiet number b
+  quiet_passes last h k b e p = go number p
+    where
+      f : NodeFormat
+      f = or_empty h.format
+
+      trailing : only_spaces f.trailing ≡ true
+      trailing = (line_parts last f e).trailing
+
+      passed : (b : Before) → Passes s.no_comments (past_node f.terminator) f.trailing b → b ≡ read f.trailing (past_node f.terminator)
+      passed b (Passes.items {is = is} d) = ap (past_items s.no_comments (past_node f.terminator) f.trailing) (gap_items_det d (spaces_items f.trailing trailing))
+      passed b (Passes.no_gap g) = absurd (g [] (spaces_items f.trailing trailing))
+
+      go : (number : ℕ) → PassesNode number s (node h k) b → Quiet number b
+      go zero p = tt
+      go (suc number) p = ap blank_lines (passed b p) ∙ read_spaces f.trailing (past_node f.terminator) trailing (quiet_node f.terminator)
+
+-- around the type of a node on one line nothing is kept
+pub bare_line : (number : ℕ) (s : Settings) (level : ℕ) (last : Bool) (b : Before) (f : NodeFormat) (ty : Option Identifier) (g : Option NodeFormat) (l : IsTypedLine number s level false b f ty g) → line_on_line last f ≡ true
+    → g ≡ Some (line_of (indentation s level) l.texts)
+bare_line number s level last b f ty g l h = l.is ∙ ap (λ (x : TypeTexts). Some (with_type_texts x (line_of (indentation s level) l.texts))) (l.bare (line_parts last f h).types)
+
+-- nodes without blocks, each on a line of its own without comments
+abbrev pub ArePlain : Text → Nodes → Type 0
+ArePlain ind none = Unit {0}
+ArePlain ind (first (node h no_children) ns) = (h.format ≡ Some (plain_line ind)) × ArePlain ind ns
+ArePlain ind (first (node h (children d)) ns) = ⊥
+
+pub are_plain : {number : ℕ} {s : Settings} {keep : Bool} {level : ℕ} {b : Before} {ns xs : Nodes} → nodes_on_line ns ≡ true → Quiet number b → SpelledNodes number s keep level b ns xs → ArePlain (indentation s level) xs
+are_plain h q nodeless = tt
+are_plain h q (one_more (spelled f (spelled_block c at nodes)) p fs) = absurd cc
+are_plain {number} {s} h q (one_more {level = level} {b = b} {b' = b'} {ns = ns} (spelled {h = y} {x = x} f blockless) p fs) =
+    let e = and_parts (head_on_line (is_end ns) y) (nodes_on_line ns) h in
+    let line = (head_parts (is_end ns) y e.0).line in
+    let format = head_line level false b y x f in (
+      bare_line number s level (is_end ns) b (or_empty y.format) x.ty x.format format line ∙ ap Some (line_is_plain number s level (is_end ns) b (or_empty y.format) format.texts line q format.kept),
+      are_plain e.1 (quiet_passes number s level (is_end ns) y no_children b' line p) fs,
+    )
+
+-- a text of spaces has no U+FEFF at its start
+pub spaces_without_bom : (t : Text) → only_spaces t ≡ true → without_bom t ≡ t
+spaces_without_bom [] h = refl
+spaces_without_bom (c ∷ t) h = rw (space_no_bom c (and_parts (is_space c) (only_spaces t) h).0) refl

@@ -1,0 +1,106 @@
+-- What the definitions of kept spellings do not allow: for each of them something that is no instance.
+use Rattle.std.proofs.Common.{◌≡◌, Bool, true, false, [], ◌∷◌, refl, subst, sym, ap, ◌∙◌, Option, Some, None}
+use Rattle.std.specs.List.{list_all}
+use Rattle.std.specs.Prelude.{◌&&◌, not, is_some}
+use Rattle.kdl_text.specs.Chars.{Text, is_scalar, is_space}
+use Rattle.kdl_text.specs.declared.span.SourceSpan.{SourceSpan}
+use Rattle.kdl_value.specs.Data.{Value}
+use Rattle.kdl_value.specs.Print.{print_value}
+use Rattle.kdl_value.specs.Spelled.{spelled}
+use Rattle.kdl_value.specs.WellFormed.{IsWellFormed}
+use Rattle.kdl_entry.specs.Entries.{IsIdentifierText}
+use Rattle.kdl_entry.specs.Tree.{Identifier, EntryFormat, Entry}
+use Rattle.kdl_entry.proofs.Laying.TextUnique.{one_identifier}
+use Rattle.kdl_grammar.specs.Tree.{DocumentFormat, Head, Document, document, Nodes, no_children, children}
+use Rattle.kdl_layout.specs.Lacks.{AreNodeSpaces}
+use Rattle.kdl_layout.specs.Config.{Settings}
+use Rattle.kdl_layout.specs.Formatted.{or_empty}
+use Rattle.kdl_layout.specs.Plain.{only_spaces}
+use Rattle.kdl_layout.specs.Respelled.{IsSpelling, KeptSpelling, IsRespelled, IsRespelledIf, IsCommented, IsContinued, KeptForm, KeptLeading, KeptPlace, KeptPlaceIf, KeepsForm, IsTypedFormat, entry_type_texts, HasSpellings, HasSpellingsUnless, IsRespelledHead, AreRespelledChildren, IsRespelledDocument}
+use Rattle.kdl_layout.proofs.Respelling.Kept.{spaces_continue_nothing}
+use Rattle.kdl_layout.proofs.Respelling.Written.{none_typed}
+use Rattle.kdl_layout.proofs.Respelling.Spellings.{one_value, printed_name, printed_spelling}
+
+-- the text that one value prints spells no other value
+pub no_other_value : (v w : Value) → IsWellFormed w → (w ≡ v → ⊥) → IsSpelling v (print_value w) → ⊥
+no_other_value v w ok n d = n (one_value (print_value w) w v (printed_spelling w ok) d)
+
+-- a spelling of another string is not kept
+other_name : (s t u w : Text) → list_all is_scalar t ≡ true → (t ≡ s → ⊥) → u ≡ spelled t → KeptSpelling s (Some u) (Some w) → ⊥
+other_name s t u _ ok n e (KeptSpelling.kept d) = n (one_identifier true (spelled t) t s (printed_name t ok) (subst (λ (z : Text). IsIdentifierText z s) e d))
+
+pub no_other_name : (s t : Text) → list_all is_scalar t ≡ true → (t ≡ s → ⊥) → KeptSpelling s (Some (spelled t)) (Some (spelled t)) → ⊥
+no_other_name s t ok n k = other_name s t (spelled t) (spelled t) ok n refl k
+
+-- and one of the string is not removed
+pub no_name_lost : (s : Text) → list_all is_scalar s ≡ true → KeptSpelling s (Some (spelled s)) None → ⊥
+no_name_lost s ok (KeptSpelling.other n) = n (printed_name s ok)
+
+-- no spelling is put where none was
+pub no_name_made : (i m i' : Identifier) (t : Text) → i.repr ≡ None → m.repr ≡ None → i'.repr ≡ Some t → IsRespelled true i m i' → ⊥
+no_name_made i m i' t a b c (r, k, e) = go i.repr r k a (sym c ∙ ap (λ (x : Identifier). x.repr) e)
+  where
+    go : (o r : Option Text) → KeptSpelling i.value o r → o ≡ None → Some t ≡ r → ⊥
+    go _ _ (KeptSpelling.kept d) h k = cc
+    go _ _ (KeptSpelling.other n) h k = cc
+    go _ _ KeptSpelling.unspelled h k = cc
+
+-- no key is lost
+pub no_key_lost : (keep : Bool) (i m : Identifier) → IsRespelledIf keep (Some i) (Some m) None → ⊥
+no_key_lost keep i m h = h
+
+-- a format of another value is not kept
+pub no_other_format : (s : Settings) (x : Entry) (w : Value) (f g : EntryFormat) → IsWellFormed w → f.value_repr ≡ print_value w → (w ≡ x.value → ⊥) → KeptForm s x (Some f) None (Some g) → ⊥
+no_other_format s x w f g ok e n (KeptForm.kept d k) = no_other_value x.value w ok n (rw e at d)
+
+-- spaces are not kept, nor a text that may not be between two parts; a comment is not lost
+pub no_spaces_kept : KeptPlace (32 ∷ []) (32 ∷ []) → ⊥
+unfolding is_space
+no_spaces_kept (KeptPlace.kept h) = let z : true ≡ false = h.1 in cc
+
+pub no_other_place : (t r : Text) → (AreNodeSpaces t → ⊥) → (r ≡ [] → ⊥) → KeptPlace t r → ⊥
+no_other_place t _ n f (KeptPlace.kept h) = n h.0
+no_other_place t _ n f (KeptPlace.other m) = f refl
+
+pub no_comment_lost : (t : Text) → IsCommented t → KeptPlace t [] → ⊥
+no_comment_lost _ h (KeptPlace.kept (a, e)) = let z : true ≡ false = e in cc
+no_comment_lost t h (KeptPlace.other n) = n h
+
+-- a line that an entry continues is not joined, and no line is continued that was not
+pub no_line_joined : (s : Settings) (old laid r : Text) → IsContinued s old → (r ≡ old → ⊥) → KeptLeading s old laid r → ⊥
+no_line_joined s old laid _ c n (KeptLeading.continued d) = n refl
+no_line_joined s old laid _ c n (KeptLeading.other m) = m c
+
+pub no_line_made : (s : Settings) (old laid r : Text) → only_spaces old ≡ true → (r ≡ laid → ⊥) → KeptLeading s old laid r → ⊥
+no_line_made s old laid _ h n (KeptLeading.continued c) = spaces_continue_nothing h c
+no_line_made s old laid _ h n (KeptLeading.other m) = n refl
+
+-- without a type nothing is kept around it, and without comments neither
+pub no_type_made : (s : Settings) (e : Entry) (f g : EntryFormat) (laid : Text) → e.ty ≡ None → (g.after_ty ≡ [] → ⊥) → KeepsForm s e f laid g → ⊥
+no_type_made s e f g laid h n k = n (none_typed (not s.no_comments) e.ty (entry_type_texts f) (entry_type_texts g) h k.ty)
+
+pub no_comment_made : (s : Settings) (e : Entry) (f g : EntryFormat) (laid : Text) → s.no_comments ≡ true → (g.after_key ≡ [] → ⊥) → KeepsForm s e f laid g → ⊥
+no_comment_made s e f g laid h n k = n (subst (λ (b : Bool). KeptPlaceIf (not b && is_some e.name) f.after_key g.after_key) h k.after_key)
+
+-- an entry keeps its value
+pub no_other_entry : (s : Settings) (e m e' : Entry) → (e'.value ≡ m.value → ⊥) → HasSpellings s e m e' → ⊥
+no_other_entry s e m e' n h = n h.value
+
+-- an entry that is flagged is as it was laid out
+pub no_flagged : (s : Settings) (e m e' : Entry) → (e' ≡ m → ⊥) → HasSpellingsUnless true s e m e' → ⊥
+no_flagged s e m e' n h = n h
+
+-- a node without a type has the texts around its parts that layout leaves, and a block stays
+pub no_other_head : (s : Settings) (h m h' : Head) → h.ty ≡ None → (h'.format ≡ m.format → ⊥) → IsRespelledHead true s h m h' → ⊥
+no_other_head s h m h' e n r = n (subst (λ (b : Bool). IsTypedFormat b (or_empty h.format) m.format h'.format) (ap (λ (o : Option Identifier). not s.no_comments && is_some o) e ∙ and_never (not s.no_comments)) r.format)
+  where
+    and_never : (b : Bool) → (b && false) ≡ false
+    and_never true = refl
+    and_never false = refl
+
+pub no_block_lost : (keep : Bool) (s : Settings) (d m : Document) → AreRespelledChildren keep s (children d) (children m) no_children → ⊥
+no_block_lost keep s d m h = h
+
+-- a document keeps its span
+pub no_other_span : (keep : Bool) (s : Settings) (f g h : Option DocumentFormat) (a b c : SourceSpan) (ns ms xs : Nodes) → (c ≡ b → ⊥) → IsRespelledDocument keep s (document f a ns) (document g b ms) (document h c xs) → ⊥
+no_other_span keep s f g h a b c ns ms xs n r = n r.1

@@ -1,0 +1,195 @@
+-- What is kept inside an entry or a type, and before an entry that continues the line: it reads back, and is kept again.
+use Rattle.std.proofs.Common.{◌≡◌, Bool, true, false, List, [], ◌∷◌, ◌++◌, refl, sym, ap, subst, ◌∙◌, Option, Some, None, option_map, append-nil, ℕ, Result, Ok, Err, String, string_bytes, Global, IfOk}
+use Rattle.std.proofs.lemmas.Bool.{and_parts}
+use Rattle.std.specs.Cmp.Derive.{both_true}
+use Rattle.std.specs.Prelude.{not, is_some, ◌&&◌, ◌==◌, IsTrue, length}
+use Rattle.std.specs.Str.{chars}
+use Rattle.kdl_entry.specs.Tree.{identifier_tree}
+use Rattle.kdl_entry.specs.declared.identifier.KdlIdentifier.{KdlIdentifier}
+use Rattle.kdl_text.specs.Chars.{Text, Star, Plus, plus, is_space}
+use Rattle.kdl_text.specs.Trivia.{BlockComment, Ws, NodeSpace, ValueEnd}
+use Rattle.kdl_entry.specs.Places.{EntryLeading, leading}
+use Rattle.kdl_grammar.specs.Tree.{NodeFormat}
+use Rattle.kdl_layout.specs.Items.{Item, before_entry, PlaceItems}
+use Rattle.kdl_layout.specs.Lacks.{AreNodeSpaces}
+use Rattle.kdl_layout.proofs.Listing.SpaceItems.{space_items}
+use Rattle.kdl_layout.proofs.NodeSpaces.{empty_spaces, spaces_then}
+use Rattle.kdl_layout.proofs.Listing.ItemsUnique.{place_items_det}
+use Rattle.kdl_layout.specs.Config.{Settings}
+use Rattle.kdl_layout.specs.Plain.{no_newline, only_spaces}
+use Rattle.kdl_layout.specs.Formatted.{or_empty}
+use Rattle.kdl_layout.specs.Internal.KeptTexts.{KeptTypeTextsIn, put_type_texts}
+use Rattle.kdl_layout.specs.Respelled.{IsTypedFormat, IsContinued, KeptPlace, KeptPlaceIf, KeptLeading, TypeTexts, KeptTypeTexts, KeptTypeTextsIf, node_type_texts}
+use Rattle.kdl_layout.specs.declared.item.Item as held
+use Rattle.kdl_layout.specs.Internal.Reading.{items_view}
+use Rattle.kdl_value.specs.Tree.{text_of}
+use Rattle.kdl_layout.proofs.Spacing.Lines.{space_no_newline}
+
+-- what is kept of a text is node-spaces
+pub place_spaces : {t r : Text} → KeptPlace t r → AreNodeSpaces r
+place_spaces (KeptPlace.kept h) = h.0
+place_spaces (KeptPlace.other n) = empty_spaces
+
+pub place_if_spaces : (b : Bool) (t r : Text) → KeptPlaceIf b t r → AreNodeSpaces r
+place_if_spaces false t r h = subst AreNodeSpaces (sym h) empty_spaces
+place_if_spaces true t r h = place_spaces h
+
+-- around a type
+pub record TypeSpaces (x : TypeTexts) : Type 0 where
+  pub before_name : AreNodeSpaces x.before_name
+  pub after_name : AreNodeSpaces x.after_name
+  pub after : AreNodeSpaces x.after
+
+abbrev pub no_texts : TypeTexts
+no_texts = record { before_name = []; after_name = []; after = [] }
+
+pub no_type_spaces : TypeSpaces no_texts
+no_type_spaces = record { before_name = empty_spaces; after_name = empty_spaces; after = empty_spaces }
+
+-- of each of them, what is kept is kept of its place
+each_place : (b : Bool) (t x : TypeTexts) → KeptTypeTextsIf b t x → KeptPlaceIf b t.before_name x.before_name × KeptPlaceIf b t.after_name x.after_name × KeptPlaceIf b t.after x.after
+each_place false t x h = (ap (λ (z : TypeTexts). z.before_name) h, ap (λ (z : TypeTexts). z.after_name) h, ap (λ (z : TypeTexts). z.after) h)
+each_place true t x h = (h.before_name, h.after_name, h.after)
+
+pub type_spaces_if : (b : Bool) (t x : TypeTexts) → KeptTypeTextsIf b t x → TypeSpaces x
+type_spaces_if b t x h =
+    let k = each_place b t x h in
+    record { before_name = place_if_spaces b t.before_name x.before_name k.0; after_name = place_if_spaces b t.after_name x.after_name k.1; after = place_if_spaces b t.after x.after k.2 }
+
+-- nothing is kept of spaces
+pub nothing_of_spaces : {t r : Text} → only_spaces t ≡ true → KeptPlace t r → r ≡ []
+nothing_of_spaces e (KeptPlace.kept h) = let z : true ≡ false = sym e ∙ h.1 in absurd cc
+nothing_of_spaces e (KeptPlace.other n) = refl
+
+-- no more than spaces around a type
+pub record OnlySpaces (x : TypeTexts) : Type 0 where
+  pub before_name : only_spaces x.before_name ≡ true
+  pub after_name : only_spaces x.after_name ≡ true
+  pub after : only_spaces x.after ≡ true
+
+pub place_bare_if : (b : Bool) (t r : Text) → only_spaces t ≡ true → KeptPlaceIf b t r → r ≡ []
+place_bare_if false t r e h = h
+place_bare_if true t r e h = nothing_of_spaces e h
+
+pub types_bare_if : (b : Bool) (t x : TypeTexts) → OnlySpaces t → KeptTypeTextsIf b t x → x ≡ no_texts
+types_bare_if b t x e h =
+    let k = each_place b t x h in
+    let before_name = place_bare_if b t.before_name x.before_name e.before_name k.0 in
+    let after_name = place_bare_if b t.after_name x.after_name e.after_name k.1 in
+    let after = place_bare_if b t.after x.after e.after k.2 in
+    λ i. record { before_name = before_name i; after_name = after_name i; after = after i }
+
+-- what is kept is kept again
+pub place_again : {t r q : Text} → KeptPlace t r → KeptPlace r q → q ≡ r
+place_again (KeptPlace.kept h) (KeptPlace.kept k) = refl
+place_again (KeptPlace.kept h) (KeptPlace.other n) = absurd (n h)
+place_again (KeptPlace.other n) k = nothing_of_spaces refl k
+
+pub place_again_if : (b : Bool) (t r q : Text) → KeptPlaceIf b t r → KeptPlaceIf b r q → q ≡ r
+place_again_if false t r q h k = k ∙ sym h
+place_again_if true t r q h k = place_again h k
+
+pub types_again_if : (b : Bool) (t x y : TypeTexts) → KeptTypeTextsIf b t x → KeptTypeTextsIf b x y → y ≡ x
+types_again_if b t x y h k =
+    let f = each_place b t x h in
+    let g = each_place b x y k in
+    let before_name = place_again_if b t.before_name x.before_name y.before_name f.0 g.0 in
+    let after_name = place_again_if b t.after_name x.after_name y.after_name f.1 g.1 in
+    let after = place_again_if b t.after x.after y.after f.2 g.2 in
+    λ i. record { before_name = before_name i; after_name = after_name i; after = after i }
+
+pub leading_again : {s : Settings} {old laid r q : Text} → KeptLeading s old laid r → KeptLeading s r laid q → q ≡ r
+leading_again (KeptLeading.continued c) (KeptLeading.continued d) = refl
+leading_again (KeptLeading.continued c) (KeptLeading.other n) = absurd (n c)
+leading_again (KeptLeading.other n) (KeptLeading.continued d) = refl
+leading_again (KeptLeading.other n) (KeptLeading.other m) = refl
+
+-- a text that continues the line
+pub not_empty : {s : Settings} {t : Text} → IsContinued s t → t ≡ [] → ⊥
+not_empty c e = let z : true ≡ false = sym (ap no_newline e) ∙ c.newline in cc
+
+node_space_ends : {s r : Text} → NodeSpace s r → ValueEnd true s
+node_space_ends (NodeSpace.ws (Ws.space p)) = ValueEnd.space p
+node_space_ends (NodeSpace.ws (Ws.comment (BlockComment.block p))) = ValueEnd.block_comment
+node_space_ends (NodeSpace.escline e) = ValueEnd.escline e
+
+plus_ends : {s r : Text} → Plus NodeSpace s r → ValueEnd true s
+plus_ends (plus n m) = node_space_ends n
+
+pub continued_ends : {s : Settings} {t : Text} → IsContinued s t → (r : Text) → ValueEnd true (t ++ r)
+continued_ends {t = t} c r = plus_ends (spaces_then t c.spaces (not_empty c) r)
+
+pub continued_leads : {s : Settings} {t : Text} → IsContinued s t → (r : Text) → EntryLeading (t ++ r) r
+continued_leads {t = t} c r = leading Star.none (spaces_then t c.spaces (not_empty c) r)
+
+-- such a text may be before an entry
+spaces_place : {s r : Text} → Star NodeSpace s r → r ≡ [] → (is : List Item) × PlaceItems (before_entry true) s is
+spaces_place Star.none e = ([], subst (λ (t : Text). PlaceItems (before_entry true) t []) (sym e) (PlaceItems.ends refl))
+spaces_place (Star.more n ns) e = let (is, d) = space_items n in let (js, k) = spaces_place ns e in (is ++ js, PlaceItems.space d k)
+
+place_there : {s : Text} → Plus NodeSpace s [] → (is : List Item) × PlaceItems (before_entry false) s is
+place_there (plus n ns) = let (is, d) = space_items n in let (js, k) = spaces_place ns refl in (is ++ js, PlaceItems.space d k)
+
+pub no_place_left : {s : Settings} {t : Text} → IsContinued s t → ((is : List Item) → PlaceItems (before_entry false) t is → ⊥) → ⊥
+no_place_left {t = t} c n =
+    let x = place_there (subst (λ (u : Text). Plus NodeSpace u []) (append-nil t) (spaces_then t c.spaces (not_empty c) [])) in
+    n x.0 x.1
+
+-- spaces hold no newline
+spaces_on_line : (t : Text) → only_spaces t ≡ true → no_newline t ≡ true
+spaces_on_line [] h = refl
+spaces_on_line (c ∷ t) h =
+    let e = and_parts (is_space c) (only_spaces t) h in
+    both_true (ap not (space_no_newline c e.0)) (spaces_on_line t e.1)
+
+pub spaces_continue_nothing : {s : Settings} {t : Text} → only_spaces t ≡ true → IsContinued s t → ⊥
+spaces_continue_nothing {t = t} h c = let z : true ≡ false = sym (spaces_on_line t h) ∙ c.newline in cc
+
+-- what was kept of the texts around a type, put back
+texts_put : (b : Bool) (old : Option NodeFormat) (o : Option TypeTexts) (f g : Option NodeFormat) → KeptTypeTextsIn b old o → g ≡ put_type_texts o f → IsTypedFormat b (or_empty old) f g
+texts_put false old None f g k e = e
+texts_put true old (Some x) f g k e = (x, k, e)
+texts_put _ old _ f g k e = absurd assumption
+
+some_tree : (o : Option KdlIdentifier) → is_some o ≡ is_some (option_map identifier_tree o)
+some_tree None = refl
+some_tree (Some i) = refl
+
+pub typed_put : (keep b : Bool) (ty : Option KdlIdentifier) (old : Option NodeFormat) (o : Option TypeTexts) (f g : Option NodeFormat) → b ≡ is_some ty → KeptTypeTextsIn (keep && b) old o → g ≡ put_type_texts o f
+    → IsTypedFormat (keep && is_some (option_map identifier_tree ty)) (or_empty old) f g
+typed_put keep b ty old o f g h k e = subst (λ (z : Bool). IsTypedFormat (keep && z) (or_empty old) f g) (h ∙ some_tree ty) (texts_put (keep && b) old o f g k e)
+
+-- The steps that find what is kept there.
+-- a text of spaces, one that may not be between two parts, and one that is copied
+pub place_of_spaces : (t u : Text) → only_spaces t ≡ true → u ≡ [] → KeptPlace t u
+place_of_spaces t u h e = subst (KeptPlace t) (sym e) (KeptPlace.other (λ k. let z : true ≡ false = sym h ∙ k.1 in absurd cc))
+
+pub place_refused : (t u : Text) (b : Bool) → b ≡ false → (AreNodeSpaces t → IsTrue b) → u ≡ [] → KeptPlace t u
+place_refused t u b h f e = subst (KeptPlace t) (sym e) (KeptPlace.other (λ k. let z : false ≡ true = sym h ∙ f k.0 in absurd cc))
+
+pub place_copied : {E : Type 0} (r : Result (String Global) E) (t : List ℕ) → only_spaces (chars t) ≡ false → AreNodeSpaces (chars t) → IfOk r (λ s. string_bytes s ≡ t) → IfOk r (λ s. KeptPlace (chars t) (text_of s))
+place_copied (Err e) t h a x = x
+place_copied (Ok s) t h a x = subst (KeptPlace (chars t)) (sym (ap chars x)) (KeptPlace.kept (a, h))
+
+-- a place without items
+pub no_items : (t : Text) (is : List Item) (b : Bool) → PlaceItems (before_entry false) t is → (b ≡ true → is ≡ []) → (is ≡ [] → b ≡ true) → (IsTrue b → PlaceItems (before_entry false) t []) × (PlaceItems (before_entry false) t [] → IsTrue b)
+no_items t is b d f g = (λ h. subst (PlaceItems (before_entry false) t) (f h) d, λ k. g (place_items_det d k))
+
+pub empty_view : (xs : List held.Item) (n : ℕ) (b : Bool) → n ≡ length xs → b ≡ (n == 0) → items_view xs ≡ [] → b ≡ true
+empty_view [] n b l e h = e ∙ ap (λ (k : ℕ). k == 0) l
+empty_view (x ∷ xs) n b l e h = absurd cc
+
+-- the text before an entry
+pub leading_copied : {E : Type 0} (r : Result (String Global) E) (s : Settings) (t : List ℕ) (laid : Text) → IsContinued s (chars t) → IfOk r (λ x. string_bytes x ≡ t) → IfOk r (λ x. KeptLeading s (chars t) laid (text_of x))
+leading_copied (Err e) s t laid c x = x
+leading_copied (Ok y) s t laid c x = subst (KeptLeading s (chars t) laid) (sym (ap chars x)) (KeptLeading.continued c)
+
+pub leading_laid : (s : Settings) (old laid r : Text) (b : Bool) → b ≡ false → (IsContinued s old → IsTrue b) → r ≡ laid → KeptLeading s old laid r
+leading_laid s old laid r b h f e = subst (KeptLeading s old laid) (sym e) (KeptLeading.other (λ c. let z : false ≡ true = sym h ∙ f c in absurd cc))
+
+-- the texts around the type of a node
+pub nothing_around : KeptTypeTexts no_texts no_texts
+nothing_around = let p = place_of_spaces [] [] refl refl in record { before_name = p; after_name = p; after = p }
+
+pub types_kept : (a b c : Bool) (o : Option NodeFormat) (x : TypeTexts) → a ≡ true → b ≡ false → c ≡ true → KeptTypeTexts (node_type_texts (or_empty o)) x → KeptTypeTextsIn (a && not b && c) o (Some x)
+types_kept a b c o x e f g k = rw (e, f, g) k

@@ -1,0 +1,258 @@
+-- What is laid out is the same once it is laid out again, however many blank lines are kept.
+use Rattle.std.proofs.Common.{◌≡◌, ℕ, zero, suc, ◌+◌, Bool, true, false, List, ◌∷◌, ◌++◌, map, refl, sym, ap, subst, ◌∙◌, append_assoc, append-nil, Option, Some, option_map, None, []}
+use Rattle.std.proofs.lemmas.List.Folds.{list_any-append}
+use Rattle.std.specs.List.{list_all, list_any}
+use Rattle.std.specs.Prelude.{if◌then◌else◌, ◌||◌, ◌&&◌, not, is_some}
+use Rattle.kdl_text.specs.Chars.{Text, is_space, is_newline_char}
+use Rattle.kdl_grammar.specs.Tree.{NodeFormat, DocumentFormat, Node, Nodes}
+use Rattle.kdl_layout.specs.Items.{Item, GapItems}
+use Rattle.kdl_layout.specs.Written.{on_line, lines}
+use Rattle.kdl_layout.proofs.Listing.ItemsUnique.{gap_items_det}
+use Rattle.kdl_layout.proofs.Rewriting.LinesAgain.{newline_items}
+use Rattle.kdl_layout.specs.Blank.{at_start, empty_lines, last_in, one_if, past_items, past_node, read, spaced_lines, newlines}
+use Rattle.kdl_layout.specs.Config.{Settings, indentation}
+use Rattle.kdl_layout.specs.Formatted.{or_empty, or_empty_document, newline_if_none, in_braces}
+use Rattle.kdl_layout.specs.Kept.{without_bom, KeptLines, WrittenUnless}
+use Rattle.kdl_layout.specs.Spaced.{Passes, Spaces, SpacesTexts, IsSpacedLine, PassesNode, PassesNodes, IsSpacedContent, IsSpacedBraced, SpacedLines, SpacesContent, PassesFormat}
+use Rattle.kdl_layout.specs.Parts.{NodeTexts, line_of, has_block, content_of}
+use Rattle.kdl_layout.specs.declared.blank.Before.{Before}
+use Rattle.kdl_layout.specs.declared.blank.Before.TheVariants.{Thing}
+use Rattle.kdl_layout.specs.declared.blank.Last.TheVariants.{Other}
+use Rattle.kdl_layout.specs.Respelled.{IsTypedFormat, with_type_texts}
+use Rattle.kdl_layout.proofs.Keeping.GapFronts.{alone, joined, newline_if, indented, gap_without_bom}
+use Rattle.kdl_layout.proofs.Keeping.KeptAgain as kept
+use Rattle.kdl_layout.proofs.Keeping.KeptPlaces.{level_spaces}
+use Rattle.kdl_layout.proofs.Spacing.Lines.{spaced_items, times_front, kept_spaces, again, again_past, lines_again, past_first, passed_again, spaced_again, spaces_count, lines_first, read_first, no_lines}
+use Rattle.kdl_layout.proofs.Spacing.Reads.{read_nothing, spaces_pass, no_text}
+use Rattle.kdl_layout.proofs.Respelling.Spelled.{SpelledNode, spelled, SpelledNodes, nodeless, one_more, same_newline}
+
+-- the items of what is kept, with a rest after it, and what they make again
+record Known (out : Bool) (number : ℕ) (ind : Text) (b b' : Before) (t r : Text) : Type 0 where
+  items : List Item
+  gap : GapItems (t ++ r) items
+  text : (if out then [] else spaced_lines number ind (again b) (t ++ r) items) ≡ t
+  state : past_items out (again b) (t ++ r) items ≡ read r (again b')
+
+same_det : {p : Text} {is js : List Item} → GapItems p is → GapItems p js → js ≡ is
+same_det d e = gap_items_det e d
+
+module _ (number : ℕ) (s : Settings) (ok : list_all is_space s.indent ≡ true) (level : ℕ) where
+  known : (b b' : Before) (place t : Text) → Spaces number s level b place t b' → (r : Text) → GapItems r [] → Known s.no_comments number (indentation s level) b b' t r
+  known b b' place _ (Spaces.no_gap f) r g = record { items = []; gap = g; text = no_text s.no_comments; state = refl }
+  known b b' place _ (Spaces.items {is = is} d) r g = go s.no_comments
+    where
+      ind : Text
+      ind = indentation s level
+
+      spaces : list_all is_space ind ≡ true
+      spaces = level_spaces s.indent ok level
+
+      go : (x : Bool) → Known x number ind b (past_items x b place is) (if x then [] else spaced_lines number ind b place is) r
+      go true = record { items = []; gap = g; text = refl; state = ap (read r) (sym (again_past b place is)) }
+      go false = record {
+        items = map on_line is;
+        gap = subst (λ (l : List Item). GapItems (spaced_lines number ind b place is ++ r) l) (append-nil (map on_line is)) (spaced_items number ind spaces b place is d g);
+        text = spaced_again number ind spaces b place is d r;
+        state = passed_again number ind spaces b place is d r;
+      }
+
+  -- a second layout of it, and of each text with its items
+  kept_of : (b c e : Before) (p t u : Text) (is : List Item) → GapItems p is → (if s.no_comments then [] else spaced_lines number (indentation s level) b p is) ≡ t → past_items s.no_comments b p is ≡ e
+      → Spaces number s level b p u c → (u ≡ t) × (c ≡ e)
+  kept_of b c e p t _ is g x y (Spaces.no_gap f) = absurd (f is g)
+  kept_of b c e p t _ is g x y (Spaces.items {is = js} d) =
+      let same = same_det g d in
+      (ap (λ (l : List Item). if s.no_comments then [] else spaced_lines number (indentation s level) b p l) same ∙ x, ap (past_items s.no_comments b p) same ∙ y)
+
+  stay : (b b' c : Before) (t r u : Text) → Known s.no_comments number (indentation s level) b b' t r → Spaces number s level (again b) (t ++ r) u c → (u ≡ t) × (c ≡ read r (again b'))
+  stay b b' c t r u k w = kept_of (again b) c (read r (again b')) (t ++ r) t u k.items k.gap k.text k.state w
+
+  pass_stays : (b b' c : Before) (t r : Text) → Known s.no_comments number (indentation s level) b b' t r → Passes s.no_comments (again b) (t ++ r) c → c ≡ read r (again b')
+  pass_stays b b' c t r k (Passes.no_gap f) = absurd (f k.items k.gap)
+  pass_stays b b' c t r k (Passes.items {is = js} d) = ap (past_items s.no_comments (again b) (t ++ r)) (same_det k.gap d) ∙ k.state
+
+  -- after the LF of a block
+  stay_first : (b' c : Before) (t u : Text) → Known s.no_comments number (indentation s level) at_start b' t [] → Spaces number s level at_start (10 ∷ t) u c → (u ≡ t) × (c ≡ again b')
+  stay_first b' c t u k w =
+      let g : GapItems t k.items = subst (λ (x : Text). GapItems x k.items) (append-nil t) k.gap in
+      let x = subst (λ (y : Text). (if s.no_comments then [] else spaced_lines number (indentation s level) at_start y k.items) ≡ t) (append-nil t) k.text in
+      let z = subst (λ (y : Text). past_items s.no_comments at_start y k.items ≡ read [] (again b')) (append-nil t) k.state in
+      kept_of at_start c (again b') (10 ∷ t) t u k.items (newline_items g)
+      (ap (λ (y : Text). if s.no_comments then [] else y) (lines_first number (indentation s level) t k.items at_start at_start (read_first t)) ∙ x)
+      (past_first s.no_comments t k.items at_start at_start (read_first t) ∙ z ∙ read_nothing (again b')) w
+
+pass_det : {x : Bool} {b p q : Before} {place : Text} → Passes x b place p → Passes x b place q → q ≡ p
+pass_det {x} {b} {place = place} (Passes.items d) (Passes.items e) = ap (past_items x b place) (same_det d e)
+pass_det (Passes.items {is = is} d) (Passes.no_gap f) = absurd (f is d)
+pass_det (Passes.no_gap f) (Passes.items {is = is} e) = absurd (f is e)
+pass_det (Passes.no_gap f) (Passes.no_gap g) = refl
+
+-- each node that is laid out ends its line
+or_true : (x : Bool) → (x || true) ≡ true
+or_true true = refl
+or_true false = refl
+
+newline_there : list_any is_newline_char (10 ∷ []) ≡ true
+unfolding is_newline_char
+newline_there = refl
+
+lf_last : (t : Text) → last_in (t ++ (10 ∷ [])) ≡ Other
+lf_last [] = refl
+lf_last (c ∷ []) = refl
+lf_last (c ∷ d ∷ t) = lf_last (d ∷ t)
+
+line_ended : (t : Text) → past_node (t ++ (10 ∷ [])) ≡ Thing 0 1 Other
+line_ended t =
+    ap (Thing 0 (one_if (list_any is_newline_char (t ++ (10 ∷ []))))) (lf_last t)
+    ∙ ap (λ (x : Bool). Thing 0 (one_if x) Other) (list_any-append is_newline_char t (10 ∷ []) ∙ ap (λ (x : Bool). list_any is_newline_char t || x) newline_there ∙ or_true (list_any is_newline_char t))
+
+-- what comes before the next thing when it is laid out again, if blank lines are counted
+abbrev pub IsAgain : ℕ → Before → Before → Type 0
+IsAgain zero b c = Unit {0}
+IsAgain (suc n) b c = c ≡ again b
+
+-- and after a rest
+abbrev AfterRest : ℕ → Text → Before → Before → Type 0
+AfterRest zero r b c = Unit {0}
+AfterRest (suc n) r b c = c ≡ read r (again b)
+
+ended : (number : ℕ) (t u : Text) → IsAgain number (past_node t) (past_node (u ++ (10 ∷ [])))
+ended zero t u = tt
+ended (suc n) t u = line_ended u
+
+pub start_again : (number : ℕ) → IsAgain number at_start at_start
+start_again zero = tt
+start_again (suc n) = refl
+
+-- layout does not look at the texts around the type of a node
+typed_passes : (number : ℕ) (s : Settings) (c : Bool) (f : NodeFormat) (m x : Option NodeFormat) (b : Before) → IsTypedFormat c f m x → PassesFormat number s (or_empty x) b → PassesFormat number s (or_empty m) b
+typed_passes number s false f m x b h p = subst (λ (z : Option NodeFormat). PassesFormat number s (or_empty z) b) h p
+typed_passes number s true f m x b (t, k, h) p = go m (subst (λ (z : Option NodeFormat). PassesFormat number s (or_empty z) b) h p)
+  where
+    go : (m : Option NodeFormat) → PassesFormat number s (or_empty (option_map (with_type_texts t) m)) b → PassesFormat number s (or_empty m) b
+    go None p = p
+    go (Some g) p = p
+
+module _ (s : Settings) (ok : list_all is_space s.indent ≡ true) where
+  zero_stays : (level : ℕ) (p q t u : Text) → KeptLines s level p t → KeptLines s level q u → ((b c : Before) → Spaces 0 s level at_start p t b → Spaces 0 s level at_start q u c → u ≡ t) → u ≡ t
+  zero_stays level p q t u k m f = go s.no_comments refl k m
+    where
+      go : (x : Bool) → s.no_comments ≡ x → WrittenUnless x (GapItems p) (lines (indentation s level)) t → WrittenUnless x (GapItems q) (lines (indentation s level)) u → u ≡ t
+      go true e k m = m ∙ sym k
+      go false e k m = let x = kept_spaces s e level at_start p t k in let y = kept_spaces s e level at_start q u m in f x.0 y.0 x.1 y.1
+
+  -- what is kept of a text is kept again, before a rest without items
+  lines_stay : (number level : ℕ) (b b' c c' : Before) (place t r u : Text) → SpacedLines number s level b place t b' → GapItems r [] → IsAgain number b c → SpacedLines number s level c (t ++ r) u c'
+      → (u ≡ t) × AfterRest number r b' c'
+  lines_stay zero level b b' c c' place t r u w g i v =
+      (zero_stays level place (t ++ r) t u w v (λ d e x y. (stay 0 s ok level at_start d e t r u (known 0 s ok level at_start d place t x r g) y).0), tt)
+  lines_stay (suc n) level b b' c c' place t r u w g i v =
+      stay (suc n) s ok level b b' c' t r u (known (suc n) s ok level b b' place t w r g) (subst (λ (d : Before). Spaces (suc n) s level d (t ++ r) u c') i v)
+
+  -- at the start of a document, and after the LF of a block
+  start_spaces : (number level : ℕ) (b c : Before) (place t u : Text) → Spaces number s level at_start place t b → Spaces number s level at_start (without_bom t) u c → (u ≡ t) × (c ≡ again b)
+  start_spaces number level b c place t u w v =
+      let k = known number s ok level at_start b place t w [] GapItems.none in
+      let g : GapItems t k.items = subst (λ (x : Text). GapItems x k.items) (append-nil t) k.gap in
+      let z = stay number s ok level at_start b c t [] u k (subst (λ (x : Text). Spaces number s level at_start x u c) (gap_without_bom t g ∙ sym (append-nil t)) v) in
+      (z.0, z.1 ∙ read_nothing (again b))
+
+  start_stays : (number level : ℕ) (b c : Before) (place t u : Text) → SpacedLines number s level at_start place t b → SpacedLines number s level at_start (without_bom t) u c → (u ≡ t) × IsAgain number b c
+  start_stays zero level b c place t u w v = (zero_stays level place (without_bom t) t u w v (λ d e x y. (start_spaces 0 level d e place t u x y).0), tt)
+  start_stays (suc n) level b c place t u w v = start_spaces (suc n) level b c place t u w v
+
+  first_spaces : (number level : ℕ) (b c : Before) (place t u : Text) → Spaces number s level at_start place t b → Spaces number s level at_start (10 ∷ t) u c → (u ≡ t) × (c ≡ again b)
+  first_spaces number level b c place t u w v = stay_first number s ok level b c t u (known number s ok level at_start b place t w [] GapItems.none) v
+
+  first_stays : (number level : ℕ) (b c : Before) (place t u : Text) → SpacedLines number s level at_start place t b → SpacedLines number s level at_start (10 ∷ t) u c → (u ≡ t) × IsAgain number b c
+  first_stays zero level b c place t u w v = (zero_stays level place (10 ∷ t) t u w v (λ d e x y. (first_spaces 0 level d e place t u x y).0), tt)
+  first_stays (suc n) level b c place t u w v = first_spaces (suc n) level b c place t u w v
+
+  -- the texts around the parts of a node
+  spaces_none : (level : ℕ) → newlines Other (indentation s level) ≡ 0
+  spaces_none level = subst (λ (t : Text). newlines Other t ≡ 0) (append-nil (indentation s level)) (spaces_count (indentation s level) [] (level_spaces s.indent ok level) tt)
+
+  empty_again : (number level : ℕ) (b c : Before) → AfterRest number (empty_lines number b ++ indentation s level) b c → empty_lines number c ≡ empty_lines number b
+  empty_again zero level b c h = no_lines c ∙ sym (no_lines b)
+  empty_again (suc n) level b c h = ap (empty_lines (suc n)) h ∙ lines_again (suc n) b (indentation s level) (spaces_none level)
+
+  before_stays : (number level : ℕ) (has : Bool) (b c : Before) (f : NodeFormat) (k l : NodeTexts) → IsAgain number b c → SpacesTexts number s level has b f k → SpacesTexts number s level has c (line_of (indentation s level) k) l
+      → l.before ≡ k.before
+  before_stays number level has b c f k l i w v =
+      let ind = indentation s level in
+      let lines = empty_lines number w.at_node in
+      let g : GapItems (lines ++ ind) [] = alone (joined (times_front _) (indented s ok level)) in
+      let e : k.before ++ ind ≡ w.lines ++ (lines ++ ind) = ap (λ (t : Text). t ++ ind) w.before ∙ append_assoc w.lines lines ind in
+      let x = lines_stay number level b w.at_node c v.at_node f.leading w.lines (lines ++ ind) v.lines w.leading g i (subst (λ (t : Text). SpacedLines number s level c t v.lines v.at_node) e v.leading) in
+      v.before ∙ ap (λ (t : Text). t ++ empty_lines number v.at_node) x.0 ∙ ap (λ (t : Text). w.lines ++ t) (empty_again number level w.at_node v.at_node x.1) ∙ sym w.before
+
+  after_stays : (number level : ℕ) (has : Bool) (b c : Before) (f : NodeFormat) (k l : NodeTexts) → SpacesTexts number s level has b f k → SpacesTexts number s level has c (line_of (indentation s level) k) l
+      → l.following ≡ k.following
+  after_stays number level has b c f k l w v =
+      let end = past_node (k.comment ++ (10 ∷ [])) in
+      (lines_stay number level (past_node f.terminator) w.after_it end v.after_it f.trailing k.following [] l.following w.following GapItems.none (ended number f.terminator k.comment)
+      (subst (λ (t : Text). SpacedLines number s level end t l.following v.after_it) (sym (append-nil k.following)) v.following)).0
+
+  texts_stay : (number level : ℕ) (has : Bool) (b c : Before) (f : NodeFormat) (k l : NodeTexts) → IsAgain number b c → SpacesTexts number s level has b f k → SpacesTexts number s level has c (line_of (indentation s level) k) l
+      → line_of (indentation s level) l ≡ line_of (indentation s level) k
+  texts_stay number level has b c f k l i w v =
+      let e = kept.end_stays s.no_comments f.terminator k.space k.comment l.space l.comment w.end v.end in
+      rw (
+        before_stays number level has b c f k l i w v,
+        kept.before_block_stays s has f.before_children k.before_block l.before_block w.before_block v.before_block,
+        kept.last_stays s has f.before_terminator k.last l.last f.terminator k.space k.comment w.end w.last v.last,
+        e.0,
+        e.1,
+        after_stays number level has b c f k l w v,
+      ) refl
+
+  pub line_stays : (number level : ℕ) (has : Bool) (b c : Before) (f : NodeFormat) (g h : Option NodeFormat) → IsAgain number b c → IsSpacedLine number s level has b f g → IsSpacedLine number s level has c (or_empty g) h → h ≡ g
+  line_stays number level has b c f g h i w v =
+      let d = subst (λ (x : Option NodeFormat). IsSpacedLine number s level has c (or_empty x) h) w.2 v in
+      d.2 ∙ ap Some (texts_stay number level has b c f w.0 d.0 i w.1 d.1) ∙ sym w.2
+
+  -- what comes before the next thing
+  format_passes : (n level : ℕ) (has : Bool) (b p q : Before) (f : NodeFormat) (g : Option NodeFormat) → IsSpacedLine (suc n) s level has b f g → Passes s.no_comments (past_node f.terminator) f.trailing p
+      → Passes s.no_comments (past_node (or_empty g).terminator) (or_empty g).trailing q → q ≡ again p
+  format_passes n level has b p q f g (k, w, e) x y =
+      let same : w.after_it ≡ p = pass_det x (spaces_pass w.following) in
+      let z : Passes s.no_comments (past_node (k.comment ++ (10 ∷ []))) k.following q =
+      subst (λ (o : Option NodeFormat). Passes s.no_comments (past_node (or_empty o).terminator) (or_empty o).trailing q) e y in
+      let z' : Passes s.no_comments (Thing 0 1 Other) (k.following ++ []) q =
+      subst (λ (t : Text). Passes s.no_comments (Thing 0 1 Other) t q) (sym (append-nil k.following)) (subst (λ (c : Before). Passes s.no_comments c k.following q) (line_ended k.comment) z) in
+      pass_stays (suc n) s ok level (past_node f.terminator) w.after_it q k.following [] (known (suc n) s ok level (past_node f.terminator) w.after_it f.trailing k.following w.following [] GapItems.none) z' ∙ read_nothing (again w.after_it) ∙ ap again same
+
+  module _ (keep : Bool) where
+    pub node_passes : (number : ℕ) (p q : Before) {level : ℕ} {b : Before} {n x : Node} → SpelledNode number s keep level b n x → PassesNode number s n p → PassesNode number s x q → IsAgain number p q
+    node_passes zero p q f x y = tt
+    node_passes (suc n) p q (spelled {level = level} {b = b} {h = h} {x = h'} {k = k} f kids) x y =
+        format_passes n level (has_block k) b p q (or_empty h.format) f.laid.format f.spaced.format x
+        (typed_passes (suc n) s (keep && not s.no_comments && is_some h.ty) (or_empty h.format) f.laid.format h'.format q f.respelled.format y)
+
+    nodes_pass : (number : ℕ) (b c e q : Before) {level : ℕ} {a : Before} {ns xs : Nodes} → SpelledNodes number s keep level a ns xs → IsAgain number b c → PassesNodes number s b ns e → PassesNodes number s c xs q → IsAgain number e q
+    nodes_pass number b c e q nodeless i x y = subst (λ (z : Before). IsAgain number z q) (sym x) (subst (IsAgain number b) (sym y) i)
+    nodes_pass number b c e q (one_more f p nodeless) i x y = node_passes number e q f x y
+    nodes_pass number b c e q (one_more f p (one_more g o fs)) i x y = nodes_pass number b c e q (one_more g o fs) i x y
+
+    -- the texts around the nodes of a document, and of a block
+    trailing_stays : (number level : ℕ) {b c : Before} {ns xs : Nodes} (f f' : DocumentFormat) (x y x' y' r : Text) → SpelledNodes number s keep level b ns xs → SpacesContent number s level ns f b x y
+        → SpacesContent number s level xs f' c x' y' → IsAgain number b c → GapItems r [] → f'.trailing ≡ y ++ r → y' ≡ y
+    trailing_stays number level {b} {c} f f' x y x' y' r nodes w v i g e =
+        (lines_stay number level w.last w.after_it v.last v.after_it f.trailing y r y' w.trailing g (nodes_pass number b c w.last v.last nodes i w.passes v.passes) (subst (λ (t : Text). SpacedLines number s level v.last t y' v.after_it) e v.trailing)).0
+
+    pub content_stays : (number level : ℕ) {b c : Before} {ns xs : Nodes} (f : DocumentFormat) (g h : Option DocumentFormat) → SpelledNodes number s keep level b ns xs
+        → IsSpacedContent number s level ns f b g → IsSpacedContent number s level xs (or_empty_document g) c h → IsAgain number b c × (h ≡ g)
+    content_stays number level {b} {c} {ns} {xs} f g h nodes (x, y, w, e) second =
+        let (x', y', v, e') = subst (λ (o : Option DocumentFormat). IsSpacedContent number s level xs (or_empty_document o) c h) e second in
+        let l = start_stays number level b c (without_bom f.leading) x x' w.leading v.leading in
+        let t = trailing_stays number level f (content_of ns x y) x y x' y' (newline_if_none ns) nodes w v l.1 (alone (newline_if ns)) refl in
+        (l.1, e' ∙ rw (l.0, t, same_newline nodes) refl ∙ sym e)
+
+    pub braced_stays : (number level : ℕ) {b c : Before} {ns xs : Nodes} (f : DocumentFormat) (g h : Option DocumentFormat) → SpelledNodes number s keep (level + 1) b ns xs
+        → IsSpacedBraced number s level ns f b g → IsSpacedBraced number s level xs (or_empty_document g) c h → IsAgain number b c × (h ≡ g)
+    braced_stays number level {b} {c} {ns} {xs} f g h nodes (x, y, w, e) second =
+        let ind = indentation s level in
+        let (x', y', v, e') = subst (λ (o : Option DocumentFormat). IsSpacedBraced number s level xs (or_empty_document o) c h) e second in
+        let l = first_stays number (level + 1) b c (without_bom f.leading) x x' w.leading v.leading in
+        let t = trailing_stays number (level + 1) f (in_braces ind (content_of ns x y)) x y x' y' (newline_if_none ns ++ ind) nodes w v l.1 (alone (joined (newline_if ns) (indented s ok level))) (append_assoc y (newline_if_none ns) ind) in
+        (l.1, e' ∙ rw (l.0, t, same_newline nodes) refl ∙ sym e)

@@ -1,0 +1,13 @@
+use Rattle.std.proofs.Common.{◌≡◌, ◌++◌, drop, false}
+use denote.Text.{Utf8}
+use denote.Shadow.{shadow}
+use Rattle.std.specs.Str.{chars}
+use Rattle.kdl_layout.specs.Internal.Reading.{items_view}
+use Rattle.kdl_value.specs.Tree.{text_of}
+use Rattle.kdl_layout.specs.Blank.{past_items, spaced_lines}
+use Rattle.kdl_layout.proofs.blank.push_spaced_lines.Given as goal
+
+-- what is written and what the rest has, with the items that are left, come to the same
+abbrev pub invariant-loop-item : goal.invariant-loop-item
+invariant-loop-item l = shadow (Utf8 l.rest) × (past_items false l.before (chars l.rest) (items_view (drop l.item-index l.items)) ≡ past_items false l.initial.before (chars l.initial.rest) (items_view l.items))
+    × (text_of l.out ++ spaced_lines l.number (chars l.indentation) l.before (chars l.rest) (items_view (drop l.item-index l.items)) ≡ text_of l.initial.out ++ spaced_lines l.number (chars l.indentation) l.initial.before (chars l.initial.rest) (items_view l.items))

@@ -1,0 +1,51 @@
+use Rattle.std.proofs.Common.{[], sym, ap, subst, ◌∙◌, ℕ}
+use Rattle.std.specs.Str.{chars}
+use Rattle.kdl_text.specs.Internal.Here.{Here}
+use Rattle.kdl_syntax.specs.Internal.Views.{control_view}
+use Rattle.kdl_syntax.specs.Internal.Handed.{kind_view}
+use Rattle.kdl_syntax.specs.Control.{at, node_slashdash}
+use Rattle.kdl_layout.specs.Internal.Passing.{for_node}
+use Rattle.kdl_layout.proofs.Dropping.Paths.{node_on}
+use Rattle.kdl_layout.proofs.Dropping.TokenLoop.{Goes, node_starts, refused_on, goes_further, node_stops, faulty, refused_here, node_returns, token_places, token_ends, cut_shorter}
+use Rattle.kdl_layout.proofs.dropped.pass_node.Goals as goal
+
+pub tokens-init : goal.tokens-init
+tokens-init c =
+    node_starts (chars c.args.text.now) c.new-lexer.result (control_view c.new-control.result) (ap (λ (h : Here). h.rest) c.new-lexer.ensures) (ap (λ (h : Here). h.at) c.new-lexer.ensures) c.new-control.ensures
+
+pub returns-in-Ok-None : goal.returns-in-Ok-None
+returns-in-Ok-None c =
+    node_stops (chars c.args.text.now) c.tokens.lexer (control_view c.tokens.control) c.tokens.last c.last_end.result c.tokens.invariant (rw c.in-Ok-None.field-0-is at c.in-Ok-None.ensures.lexed) c.last_end.ensures
+
+pub returns-in-Err-Faulty : goal.returns-in-Err-Faulty
+returns-in-Err-Faulty c = faulty c.tokens.invariant (rw c.in-Err-Faulty.field-0-is at c.in-Err-Faulty.ensures.lexed)
+
+pub returns-then-not-branch : goal.returns-then-not-branch
+returns-then-not-branch c =
+    let f = rw c.if-not-branch.true at c.in_ok-take.ensures in
+    refused_here c.tokens.invariant c.in-Ok-Some.token (rw c.in-Ok-Some.field-0-is at c.in-Ok-Some.ensures.lexed) f (refused_on (control_view c.tokens.control) (kind_view c.in-Ok-Some.token.kind) f)
+
+pub node_end-requires-clause-at : goal.node_end-requires-clause-at
+node_end-requires-clause-at c = token_places c.tokens.invariant c.in-Ok-Some.token (rw c.in-Ok-Some.field-0-is at c.in-Ok-Some.ensures.lexed) c.next.ensures.moves
+
+pub node_end-requires-clause-ends : goal.node_end-requires-clause-ends
+node_end-requires-clause-ends c = token_ends c.tokens.invariant (rw c.if-not-branch.false at c.in_ok-take.ensures) (sym c.is_between_nodes.ensures ∙ c.if-is_between_nodes.true)
+
+pub returns-then-is_between_nodes : goal.returns-then-is_between_nodes
+returns-then-is_between_nodes c =
+    let h = rw c.in-Ok-Some.field-0-is at c.in-Ok-Some.ensures.lexed in
+    let f = rw c.if-not-branch.false at c.in_ok-take.ensures in
+    node_returns (chars c.args.text.now) c.tokens.lexer c.next.new.self (control_view c.tokens.control) (control_view c.take.new.self) c.in-Ok-Some.token c.tokens.last c.node_end.result c.tokens.invariant h c.next.ensures.moves f
+    (sym c.is_between_nodes.ensures ∙ c.if-is_between_nodes.true) c.node_end.ensures
+
+pub tokens-smaller : goal.tokens-smaller
+tokens-smaller c =
+    let h = rw c.in-Ok-Some.field-0-is at c.in-Ok-Some.ensures.lexed in
+    cut_shorter h.cuts
+
+pub tokens-preserved : goal.tokens-preserved
+tokens-preserved c =
+    let h = rw c.in-Ok-Some.field-0-is at c.in-Ok-Some.ensures.lexed in
+    let f = rw c.if-not-branch.false at c.in_ok-take.ensures in
+    let x = sym c.is_between_nodes.ensures ∙ c.if-is_between_nodes.false in
+    subst (λ (n : ℕ). Goes for_node (at node_slashdash []) c.next.new.self (control_view c.take.new.self) (chars c.args.text.now) n) (sym c.end_after-last.ensures) (goes_further c.tokens.invariant c.in-Ok-Some.token h c.next.ensures.moves f (node_on (control_view c.tokens.control) (kind_view c.in-Ok-Some.token.kind) f x) x)

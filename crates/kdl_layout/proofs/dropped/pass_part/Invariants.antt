@@ -1,0 +1,13 @@
+use Rattle.std.proofs.Common.{length}
+use Rattle.kdl_syntax.specs.Internal.Views.{control_view}
+use Rattle.kdl_layout.specs.Internal.Reading.{place_view}
+use Rattle.std.specs.Str.{chars}
+use Rattle.kdl_layout.specs.Internal.Passing.{for_part, slashdash_in}
+use Rattle.kdl_layout.proofs.Dropping.TokenLoop.{Goes}
+use Rattle.kdl_layout.proofs.dropped.pass_part.Given as goal
+
+abbrev pub invariant-tokens : goal.invariant-tokens
+invariant-tokens l = Goes for_part (slashdash_in (place_view l.fn.place)) l.lexer (control_view l.control) (chars l.fn.text) l.last
+
+abbrev pub decreases-tokens : goal.decreases-tokens
+decreases-tokens l = length l.lexer.rest

@@ -1,0 +1,8 @@
+use Rattle.std.proofs.lemmas.Result.{IfOk-weaker}
+use Rattle.std.specs.Str.{chars}
+use Rattle.kdl_layout.specs.Internal.Reading.{held, place_view}
+use Rattle.kdl_layout.proofs.Lacking.PlacePieces.{place_lacked}
+use Rattle.kdl_layout.proofs.lacks.place_lacks.Goals as goal
+
+pub returns : goal.returns
+returns c = IfOk-weaker c.read_place.result _ _ (λ o. place_lacked (place_view c.args.place) (chars c.args.text.now) o _ (held c.read_place.new.items)) c.read_place.ensures

@@ -1,0 +1,70 @@
+use Rattle.std.proofs.Common.{arith, map, subst, sym, ap, ◌∙◌}
+use Rattle.kdl_entry.specs.Tree.{entry_tree, cleared}
+use Rattle.kdl_layout.specs.Config.{settings}
+use Rattle.kdl_layout.proofs.Respelling.Leaves.{entry_stays}
+use Rattle.kdl_layout.proofs.Formatting.EntriesRead.{Stays, all_stay, each_stays, flagged_stays, laid_stays}
+use Rattle.kdl_layout.proofs.Loops.{LaidEntry, turned_start, turned_more, turned_all, turned_same, turned_exchanged, turned_each, turned_each_set, entries_laid, entries_fit}
+use Rattle.kdl_layout.proofs.layout.lay_out_entries.Goals as goal
+use Rattle.kdl_layout.proofs.Respelling.Entries.{flag_cleared}
+
+pub loop-entry-init : goal.loop-entry-init
+loop-entry-init c = turned_start entry_tree (LaidEntry c.args.layout.now.keep_spelling (settings c.args.layout.now.config)) c.deref_mut-entry-items.result.now
+
+pub loop-entry-preserved : goal.loop-entry-preserved
+loop-entry-preserved c =
+    let l = c.loop-entry in
+    turned_more entry_tree (LaidEntry c.args.layout.now.keep_spelling (settings c.args.layout.now.config)) l.entry-items l.entry-index c.lay_out_entry.new.entry c.entry-item.result _ (omega arith)
+    (c.in_ok-lay_out_entry.ensures.formatted, c.lay_out_entry.ensures.well_formed) l.invariant
+
+pub returns-in_err-lay_out_entry-clause-same : goal.returns-in_err-lay_out_entry-clause-same
+returns-in_err-lay_out_entry-clause-same c =
+    let l = c.loop-entry in
+    let keep = c.args.layout.now.keep_spelling in
+    let s = settings c.args.layout.now.config in
+    turned_exchanged entry_tree (LaidEntry keep s) cleared (λ e e' k. entry_stays keep s e e' k.0) c.args.entries.now.len l.entry-index l.entry-items c.deref_mut-entry-items.result.now c.args.entries.now.items
+    c.lay_out_entry.new.entry c.entry-item.result c.deref_mut-entry-items.ensures.value (omega arith) (omega arith) l.invariant (ap cleared c.in_err-lay_out_entry.ensures.flagged ∙ flag_cleared s.entry_autoformate_keep _)
+
+pub returns-clause-same : goal.returns-clause-same
+returns-clause-same c =
+    let l = c.loop-entry in
+    let keep = c.args.layout.now.keep_spelling in
+    let s = settings c.args.layout.now.config in
+    turned_same entry_tree (LaidEntry keep s) cleared (λ e e' k. entry_stays keep s e e' k.0) c.args.entries.now.len l.entry-index l.entry-items c.deref_mut-entry-items.result.now c.args.entries.now.items
+    c.deref_mut-entry-items.ensures.value (omega arith) l.invariant
+
+pub returns-clause-formatted : goal.returns-clause-formatted
+returns-clause-formatted c =
+    let l = c.loop-entry in
+    let keep = c.args.layout.now.keep_spelling in
+    let s = settings c.args.layout.now.config in
+    entries_laid keep s _ _
+    (turned_all entry_tree (LaidEntry keep s) c.args.entries.now.len l.entry-index l.entry-items c.deref_mut-entry-items.result.now c.args.entries.now.items
+    c.deref_mut-entry-items.ensures.value (omega arith) (omega arith) l.invariant)
+
+pub returns-clause-well_formed : goal.returns-clause-well_formed
+returns-clause-well_formed c =
+    let l = c.loop-entry in
+    let keep = c.args.layout.now.keep_spelling in
+    let s = settings c.args.layout.now.config in
+    entries_fit keep s _ _
+    (turned_all entry_tree (LaidEntry keep s) c.args.entries.now.len l.entry-index l.entry-items c.deref_mut-entry-items.result.now c.args.entries.now.items
+    c.deref_mut-entry-items.ensures.value (omega arith) (omega arith) l.invariant)
+
+pub returns-in_err-lay_out_entry-clause-reads : goal.returns-in_err-lay_out_entry-clause-reads
+returns-in_err-lay_out_entry-clause-reads c k a =
+    let l = c.loop-entry in
+    let keep = c.args.layout.now.keep_spelling in
+    let s = settings c.args.layout.now.config in
+    each_stays s _
+    (turned_each_set entry_tree (LaidEntry keep s) (Stays s) (λ e e' d h. laid_stays keep s e e' d.0 d.1 h) c.args.entries.now.len l.entry-index l.entry-items c.deref_mut-entry-items.result.now c.args.entries.now.items
+    c.lay_out_entry.new.entry c.entry-item.result c.deref_mut-entry-items.ensures.value (omega arith) (omega arith) l.invariant
+    (λ h. subst (Stays s) (sym c.in_err-lay_out_entry.ensures.flagged) (flagged_stays s _ h)) (all_stay s (map entry_tree c.args.entries.now.items) a k))
+
+pub returns-clause-reads : goal.returns-clause-reads
+returns-clause-reads c k a =
+    let l = c.loop-entry in
+    let keep = c.args.layout.now.keep_spelling in
+    let s = settings c.args.layout.now.config in
+    each_stays s _
+    (turned_each entry_tree (LaidEntry keep s) (Stays s) (λ e e' d h. laid_stays keep s e e' d.0 d.1 h) c.args.entries.now.len l.entry-index l.entry-items c.deref_mut-entry-items.result.now c.args.entries.now.items
+    c.deref_mut-entry-items.ensures.value (omega arith) l.invariant (all_stay s (map entry_tree c.args.entries.now.items) a k))

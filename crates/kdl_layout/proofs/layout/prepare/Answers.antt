@@ -1,0 +1,10 @@
+use Rattle.std.proofs.Common.{rules, ◌++◌, sym, ap}
+use Rattle.std.specs.Str.{chars}
+use Rattle.kdl_text.specs.Chars.{Text}
+use Rattle.kdl_layout.proofs.Texts.{empty_string}
+use Rattle.kdl_layout.proofs.layout.prepare.Goals as goal
+
+pub returns-then-is_empty-clause-ready : goal.returns-then-is_empty-clause-ready
+returns-then-is_empty-clause-ready c =
+    let empty = rw c.if-is_empty.true at (empty_string c.is_empty.result c.args.kept c.is_empty.ensures) in
+    (search rules, sym (ap (λ (t : Text). t ++ chars c.args.more.now) empty))

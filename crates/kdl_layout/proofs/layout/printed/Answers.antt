@@ -1,0 +1,7 @@
+use Rattle.kdl_value.specs.Print.{print_value}
+use Rattle.kdl_value.specs.Tree.{value_tree}
+use Rattle.kdl_layout.proofs.Texts.{printed_text}
+use Rattle.kdl_layout.proofs.layout.printed.Goals as goal
+
+pub returns : goal.returns
+returns c = printed_text c.to_string.result (print_value (value_tree c.args.value.now)) c.to_string.ensures.ok

@@ -1,0 +1,28 @@
+use Rattle.std.specs.Str.{chars}
+use Rattle.kdl_layout.specs.Internal.Reading.{held}
+use Rattle.kdl_layout.specs.declared.ends.Ending.TheVariants.{InReturn, Open}
+use Rattle.kdl_layout.proofs.Lacking.PlacePieces.{spaces_onward, spaces_in_escline}
+use Rattle.kdl_layout.proofs.Listing.SpaceItems.{place_none}
+use Rattle.kdl_layout.proofs.Listing.Starts.{no_dash}
+use Rattle.kdl_layout.proofs.places.place_piece.Goals as goal
+
+pub returns-in-Some-Before : goal.returns-in-Some-Before
+returns-in-Some-Before c =
+    let text = chars c.args.text.now in
+    spaces_onward c.args.place c.spaced.result text c.in-Some-Before.rest (held c.args.items.now) (held c.node_spaces.new.items) c.spaced.ensures
+    ((rw (c.in-Some-Before.is, c.in-Some-Before.field-0-is) at c.in_ok-rest.ensures) text c.in_ok-first.ensures)
+
+pub returns-in-Some-InReturn : goal.returns-in-Some-InReturn
+returns-in-Some-InReturn c =
+    let text = chars c.args.text.now in
+    spaces_in_escline c.args.place text InReturn (held c.args.items.now) (held c.node_spaces.new.items) (λ r e. cc) ((rw (c.in-Some-InReturn.is, c.in-Some-InReturn.field-0-is) at c.in_ok-rest.ensures) text c.in_ok-first.ensures)
+
+pub returns-in-Some-Open : goal.returns-in-Some-Open
+returns-in-Some-Open c =
+    let text = chars c.args.text.now in
+    spaces_in_escline c.args.place text Open (held c.args.items.now) (held c.node_spaces.new.items) (λ r e. cc) ((rw (c.in-Some-Open.is, c.in-Some-Open.field-0-is) at c.in_ok-rest.ensures) text c.in_ok-first.ensures)
+
+pub returns-in-None : goal.returns-in-None
+returns-in-None c =
+    let text = chars c.args.text.now in
+    place_none c.requires ((rw c.in-None.is at c.in_ok-rest.ensures) text c.in_ok-first.ensures) (no_dash text _ c.in_ok-first.ensures c.in_default.not-Slashdash)
