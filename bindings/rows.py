@@ -28,7 +28,7 @@ MARKS = {"⏎": "\n", "⇥": "\t", "␍": "\r", "␠": " "}
 
 class Case(NamedTuple):
     """A text, the call that reads it, and what is expected: labels, each with a text or None.
-    `is_set` says that the row changes what is read before it is laid out."""
+    `is_set` says that the row changes what is read before it is laid out, or how it is laid out."""
 
     place: str
     call: str
@@ -78,9 +78,9 @@ def cases_of(place: str, block: List[str]) -> Iterator[Case]:
     lines = [line_of(it) for it in block]
     settings = dict(it for it in lines if it[0] in ("each", "by"))
     patterns = [text for label, text in lines if label == "within"] or ["□"]
-    is_set = any(re.match("(indent|level|set .*)$", it[0]) for it in lines)
+    is_set = any(re.match("(indent|level|keep .*|set .*)$", it[0]) for it in lines)
     other = {*CALLS, "each", "by", "within", "indent", "level"}
-    wanted = [it for it in lines if it[0] not in other and not it[0].startswith("set ")]
+    wanted = [it for it in lines if it[0] not in other and not re.match("(keep|set) ", it[0])]
     for call, notation in lines:
         if call not in CALLS or notation is None:
             continue

@@ -1,14 +1,12 @@
 //! The parts of nodes and documents, set and changed in place, and what built ones print.
 
-use crate::hash_of;
 use crate::reading::{
-    differ, equal, holds, identifier, node_text, one_of, prints, read, says, text,
+    differ, equal, finds, holds, identifier, node_text, prints, read, says, text,
 };
 use kdl::{KdlDocument, KdlDocumentFormat, KdlNode, KdlNodeFormat, SourceSpan};
 use std::alloc::Global;
+use std::mem;
 use std::process::Abort;
-
-const ELSEWHERE: SourceSpan = SourceSpan { offset: 40, len: 2 };
 
 /// A new node of that name.
 pub fn built(rt: &impl Abort, alloc: Global, name: &str) -> KdlNode {
@@ -24,14 +22,9 @@ fn formless(rt: &impl Abort, alloc: Global, name: &str) -> KdlNode {
 }
 
 /// The first node of a text.
-fn parsed(rt: &impl Abort, alloc: Global, text: &str) -> KdlNode {
+pub fn parsed(rt: &impl Abort, alloc: Global, text: &str) -> KdlNode {
     let mut nodes = read(rt, alloc, text).into_iter();
     nodes.next().expect(rt, "no node")
-}
-
-/// A copy of the node.
-fn copied(rt: &impl Abort, node: &KdlNode) -> KdlNode {
-    node.clone().expect(rt, "memory")
 }
 
 /// A new document of such nodes.
@@ -63,19 +56,19 @@ fn document_prints(rt: &impl Abort, alloc: Global, document: &KdlDocument, text:
 fn a_new_node(rt: HostRuntime) {
     let alloc = rt.alloc();
     let mut node = built(&rt, alloc, "foo");
-    says(&rt, node.name().value(), "foo");
+    equal(&rt, node.name(), &identifier(&rt, alloc, "foo"));
     holds(&rt, node.ty().is_none(), "no type");
-    holds(&rt, node.children().is_none(), "no block");
     holds(&rt, node.entries().is_empty(), "no entries");
     equal(&rt, &node.span(), &SourceSpan { offset: 0, len: 0 });
     let format = node.format().expect(&rt, "no format");
     says(&rt, format.trailing.as_str(), "\n");
     says(&rt, format.terminator.as_str(), "");
-    prints(&rt, alloc, &node, "foo\n");
     node.clear_format();
-    prints(&rt, alloc, &node, "foo");
-    node.set_name(identifier(&rt, alloc, "a b"));
-    prints(&rt, alloc, &node, "\"a b\"");
+    holds(&rt, node.format_mut().is_none(), "no format");
+    holds(&rt, node.children().is_none(), "no block");
+    let children = node.ensure_children();
+    equal(&rt, children, &KdlDocument::new(alloc));
+    equal(&rt, &children.span(), &SourceSpan { offset: 0, len: 0 });
     drop(node);
 }
 
@@ -93,29 +86,164 @@ fn digits(rt: &impl Abort, alloc: Global) -> KdlNodeFormat {
     }
 }
 
+/// A change of a node.
+enum Change<'a> {
+    /// It becomes a new node of that name.
+    Built(&'a str),
+    /// It becomes the first node of that text.
+    Parsed(&'a str),
+    /// It becomes the only child of a new node of that name, without a format.
+    Wrapped(&'a str),
+    /// It gets the name.
+    Named(&'a str),
+    /// Its name gets the value.
+    Renamed(&'a str),
+    /// Its name loses its spelling.
+    NameCleared,
+    /// It gets the type.
+    Typed(&'a str),
+    /// Its type becomes this one in place.
+    Retyped(&'a str),
+    /// Its type is removed in place.
+    Untyped,
+    /// It gets a format of digits.
+    Digits,
+    /// Its format has no text before its block.
+    BlockMoved,
+    /// It loses its own format.
+    Cleared,
+    /// It loses all formats.
+    AllCleared,
+    /// It has a block.
+    Block,
+    /// It has a block with an empty format.
+    BlockFormat,
+    /// Its block becomes the document of that text.
+    BlockOf(&'a str),
+    /// Its block becomes a new one in place.
+    BlockReset,
+    /// A new node of that name is pushed to its block.
+    Pushed(&'a str),
+    /// A new node of that name without a format is pushed to its block.
+    PushedBare(&'a str),
+    /// Its block is removed.
+    NoBlock,
+    /// Its block is removed in place.
+    BlockTaken,
+}
+
+impl Change<'_> {
+    /// Changes the node.
+    fn apply(&self, rt: &impl Abort, alloc: Global, node: &mut KdlNode) {
+        match self {
+            Change::Built(name) => *node = built(rt, alloc, name),
+            Change::Parsed(text) => *node = parsed(rt, alloc, text),
+            Change::Wrapped(name) => {
+                let mut inner = formless(rt, alloc, name);
+                mem::swap(node, &mut inner);
+                node.set_children(document_with(rt, alloc, inner));
+            }
+            Change::Named(name) => node.set_name(identifier(rt, alloc, name)),
+            Change::Renamed(value) => node.name_mut().set_value(text(rt, alloc, value)),
+            Change::NameCleared => node.name_mut().clear_format(),
+            Change::Typed(name) => node.set_ty(identifier(rt, alloc, name)),
+            Change::Retyped(name) => *node.ty_mut() = Some(identifier(rt, alloc, name)),
+            Change::Untyped => *node.ty_mut() = None,
+            Change::Cleared => node.clear_format(),
+            Change::AllCleared => node.clear_format_recursive(),
+            _ => self.apply_to_block(rt, alloc, node),
+        }
+    }
+
+    /// Changes the block of the node, or its format.
+    fn apply_to_block(&self, rt: &impl Abort, alloc: Global, node: &mut KdlNode) {
+        match self {
+            Change::Digits => node.set_format(digits(rt, alloc)),
+            Change::BlockMoved => {
+                let format = node.format_mut().expect(rt, "no format");
+                format.before_children.clear();
+            }
+            Change::BlockFormat => {
+                let format = KdlDocumentFormat::new(alloc);
+                node.ensure_children().set_format(format);
+            }
+            Change::BlockOf(text) => node.set_children(read(rt, alloc, text)),
+            Change::BlockReset => *node.children_mut() = Some(KdlDocument::new(alloc)),
+            Change::Pushed(name) => push(rt, node.ensure_children(), built(rt, alloc, name)),
+            Change::PushedBare(name) => {
+                push(rt, node.ensure_children(), formless(rt, alloc, name));
+            }
+            Change::NoBlock => node.clear_children(),
+            Change::BlockTaken => *node.children_mut() = None,
+            _ => {
+                node.ensure_children();
+            }
+        }
+    }
+}
+
+/// Changes of one node, each with what it then prints.
+const CHANGES: &[(Change, &str)] = &[
+    (Change::Built("n"), "n\n"),
+    // The places of a built node.
+    (Change::Typed("t"), "(t)n\n"),
+    (Change::Digits, "0(1t2)3n567"),
+    (Change::Untyped, "03n567"),
+    (Change::Block, "03n4{\n}567"),
+    (Change::BlockFormat, "03n4{}567"),
+    (Change::BlockMoved, "03n{}567"),
+    (Change::Cleared, "n {}"),
+    (Change::NoBlock, "n"),
+    (Change::Named("a b"), "\"a b\""),
+    // A block is made once.
+    (Change::Named("n"), "n"),
+    (Change::Block, "n {\n}"),
+    (Change::PushedBare("m"), "n {\n    m}"),
+    (Change::Block, "n {\n    m}"),
+    (Change::BlockTaken, "n"),
+    (Change::BlockReset, "n {\n}"),
+    // Blocks without formats are indented.
+    (Change::Named("b"), "b {\n}"),
+    (Change::Pushed("c"), "b {\nc\n}"),
+    (Change::Pushed("d"), "b {\nc\nd\n}"),
+    (Change::BlockTaken, "b"),
+    (Change::PushedBare("c"), "b {\n    c}"),
+    (Change::Wrapped("a"), "a {\n    b {\n        c    }}"),
+    (
+        Change::Wrapped("a"),
+        "a {\n    a {\n        b {\n            c        }    }}",
+    ),
+    (Change::NoBlock, "a"),
+    // A name is changed in place.
+    (Change::Parsed(" \"a\"  1 ;"), " \"a\"  1 ;"),
+    (Change::Renamed("b"), " \"a\"  1 ;"),
+    (Change::NameCleared, " b  1 ;"),
+    (Change::Retyped("t"), " (t)b  1 ;"),
+    (Change::Named(""), " (t)\"\"  1 ;"),
+    // The own format alone is dropped.
+    (
+        Change::Parsed("\n\"a\" 0x1 { \"b\" ; } ;"),
+        "\n\"a\" 0x1 { \"b\" ; } ;",
+    ),
+    (Change::Cleared, "\"a\" 0x1{ \"b\" ; }"),
+    // Entries are between a name and a block.
+    (
+        Change::Parsed("\"n\" ( t ) 0x10  k = \"v\"{}"),
+        "\"n\" ( t ) 0x10  k = \"v\"{}",
+    ),
+    (Change::Cleared, "\"n\" ( t ) 0x10  k = \"v\"{}"),
+    (Change::AllCleared, "n (t)16 k=v {\n}"),
+    (Change::BlockOf(" m;"), "n (t)16 k=v { m;}"),
+];
+
 #[test]
-fn the_places_of_a_built_node(rt: HostRuntime) {
+fn the_parts_of_a_node(rt: HostRuntime) {
     let alloc = rt.alloc();
     let mut node = built(&rt, alloc, "n");
-    node.set_ty(identifier(&rt, alloc, "t"));
-    prints(&rt, alloc, &node, "(t)n\n");
-    node.set_format(digits(&rt, alloc));
-    prints(&rt, alloc, &node, "0(1t2)3n567");
-    *node.ty_mut() = None;
-    prints(&rt, alloc, &node, "03n567");
-    node.ensure_children();
-    prints(&rt, alloc, &node, "03n4{\n}567");
-    node.ensure_children()
-        .set_format(KdlDocumentFormat::new(alloc));
-    prints(&rt, alloc, &node, "03n4{}567");
-    let format = node.format_mut().expect(&rt, "no format");
-    format.before_children.clear();
-    prints(&rt, alloc, &node, "03n{}567");
-    node.clear_format();
-    holds(&rt, node.format_mut().is_none(), "no format");
-    prints(&rt, alloc, &node, "n {}");
-    node.clear_children();
-    prints(&rt, alloc, &node, "n");
+    for (change, printed) in CHANGES {
+        change.apply(&rt, alloc, &mut node);
+        prints(&rt, alloc, &node, printed);
+    }
     drop(node);
 }
 
@@ -143,148 +271,87 @@ fn built_documents(rt: HostRuntime) {
     drop(document);
 }
 
-#[test]
-fn blocks_without_formats_are_indented(rt: HostRuntime) {
-    let alloc = rt.alloc();
-    let mut b = formless(&rt, alloc, "b");
-    let nodes = vec![in alloc; built(&rt, alloc, "c"), built(&rt, alloc, "d")];
-    b.set_children(document_of(alloc, nodes.expect(&rt, "memory")));
-    prints(&rt, alloc, &b, "b {\nc\nd\n}");
-    b.set_children(document_with(&rt, alloc, formless(&rt, alloc, "c")));
-    prints(&rt, alloc, &b, "b {\n    c}");
-    let mut a = formless(&rt, alloc, "a");
-    a.set_children(document_with(&rt, alloc, b));
-    prints(&rt, alloc, &a, "a {\n    b {\n        c    }}");
-    let mut inner = copied(&rt, &a);
-    a.set_children(document_with(&rt, alloc, copied(&rt, &inner)));
-    inner.clear_children();
-    prints(&rt, alloc, &inner, "a");
-    let printed = "a {\n    a {\n        b {\n            c        }    }}";
-    prints(&rt, alloc, &a, printed);
-    drop(inner);
-    drop(a);
-}
-
-#[test]
-fn entries_between_a_name_and_a_block(rt: HostRuntime) {
-    let alloc = rt.alloc();
-    let mut node = parsed(&rt, alloc, "\"n\" ( t ) 0x10  k = \"v\"{}");
-    node.clear_format();
-    prints(&rt, alloc, &node, "\"n\" ( t ) 0x10  k = \"v\"{}");
-    node.clear_format_recursive();
-    prints(&rt, alloc, &node, "n (t)16 k=v {\n}");
-    node.set_children(read(&rt, alloc, " m;"));
-    prints(&rt, alloc, &node, "n (t)16 k=v { m;}");
-    drop(node);
-}
-
-#[test]
-fn a_block_is_made_once(rt: HostRuntime) {
-    let alloc = rt.alloc();
-    let mut node = formless(&rt, alloc, "n");
-    let children = node.ensure_children();
-    equal(&rt, children, &KdlDocument::new(alloc));
-    equal(&rt, &children.span(), &SourceSpan { offset: 0, len: 0 });
-    push(&rt, children, formless(&rt, alloc, "m"));
-    equal(&rt, &node.ensure_children().nodes().len(), &1);
-    prints(&rt, alloc, &node, "n {\n    m}");
-    *node.children_mut() = None;
-    prints(&rt, alloc, &node, "n");
-    *node.children_mut() = Some(KdlDocument::new(alloc));
-    prints(&rt, alloc, &node, "n {\n}");
-    drop(node);
-}
-
-#[test]
-fn a_name_changed_in_place(rt: HostRuntime) {
-    let alloc = rt.alloc();
-    let mut node = parsed(&rt, alloc, " \"a\"  1 ;");
-    node.name_mut().set_value(text(&rt, alloc, "b"));
-    prints(&rt, alloc, &node, " \"a\"  1 ;");
-    node.name_mut().clear_format();
-    prints(&rt, alloc, &node, " b  1 ;");
-    *node.ty_mut() = Some(identifier(&rt, alloc, "t"));
-    prints(&rt, alloc, &node, " (t)b  1 ;");
-    node.set_name(identifier(&rt, alloc, ""));
-    prints(&rt, alloc, &node, " (t)\"\"  1 ;");
-    drop(node);
-}
+/// Texts of documents, and what they print without formats at each depth.
+const CLEARED: &[(&str, &str)] = &[
+    ("a { b; }", "a {\n    b}"),
+    (
+        "node /-\"commented\" param_name=103.0 {\n            // This is a nested node\n            nested 1 2 3\n        }",
+        "node param_name=103.0 {\n    nested 1 2 3}",
+    ),
+    (
+        "// x\n(\"t\")\"a\" {\n(\"u\")\"b\" 0b11 k=1_0 {} // y\n}\n",
+        "(\"t\")a {\n    (\"u\")b 3 k=10 {\n    }}",
+    ),
+    (
+        "a 0x1 { b 0x2 { c 0x3; d {} ; }; e { f 0x4 {}; g ; } }\nh 0x5 {i /*x*/;} ; j 0x6",
+        "a 1 {\n    b 2 {\n        c 3        d {\n        }    }    e {\n        f 4 {\n        }        g    }}h 5 {\n    i}j 6",
+    ),
+];
 
 #[test]
 fn formats_are_dropped_at_each_depth(rt: HostRuntime) {
     let alloc = rt.alloc();
-    let mut document = read(&rt, alloc, "a { b; }");
-    document.clear_format_recursive();
-    document_prints(&rt, alloc, &document, "a {\n    b}");
-    let a = one_of(&rt, document.nodes());
-    equal(&rt, &a.span(), &SourceSpan { offset: 0, len: 8 });
-    drop(document);
-    let text = "// x\n(\"t\")\"a\" {\n(\"u\")\"b\" 0b11 k=1_0 {} // y\n}\n";
-    let mut deep = read(&rt, alloc, text);
-    deep.clear_format();
-    document_prints(&rt, alloc, &deep, text);
-    deep.clear_format_recursive();
-    document_prints(
-        &rt,
-        alloc,
-        &deep,
-        "(\"t\")a {\n    (\"u\")b 3 k=10 {\n    }}",
-    );
-    drop(deep);
+    for (text, cleared) in CLEARED {
+        let mut document = read(&rt, alloc, text);
+        document.clear_format();
+        document_prints(&rt, alloc, &document, text);
+        let first = document.nodes().first().expect(&rt, "no node");
+        let span = first.span();
+        document.clear_format_recursive();
+        document_prints(&rt, alloc, &document, cleared);
+        let first = document.nodes().first().expect(&rt, "no node");
+        equal(&rt, &first.span(), &span);
+    }
 }
 
+/// Pairs of documents with the same data, in different forms.
+const SAME_DATA: &[(&str, &str)] = &[
+    (
+        "node /-\"commented\" param_name=103.0 {\n            // This is a nested node\n            nested 1 2 3\n        }",
+        "node param_name=103.0 { nested 1 2 3; }",
+    ),
+    (
+        "\n// There is a node here\nfirst_node /*with cool comments, too */ param=103.0 /-\"commented\" \"argument\" {\n    // With nested nodes too\n    nested 1 2 3\n    nested_2 \"hi\" \"world\" // this one is cool\n}\nsecond_node param=153 { nested one=1 two=2; }",
+        "\nfirst_node param=103.0       \"argument\" {\n        // Different indentation, because\n        // Why not\n        nested 1 2 3\n        nested_2 \"hi\" /* actually, \"hello\" */ \"world\"\n}\n// There is a node here\nsecond_node /* This time, the comment is here */ param=153 {\n        nested one=1 two=2\n}",
+    ),
+];
+
 #[test]
-fn formats_are_dropped_beside_blocks(rt: HostRuntime) {
+fn documents_are_equal_without_their_formats(rt: HostRuntime) {
     let alloc = rt.alloc();
-    let text = "a 0x1 { b 0x2 { c 0x3; d {} ; }; e { f 0x4 {}; g ; } }\nh 0x5 {i /*x*/;} ; j 0x6";
-    let mut document = read(&rt, alloc, text);
-    document.clear_format_recursive();
-    let b = "    b 2 {\n        c 3        d {\n        }    }";
-    let e = "    e {\n        f 4 {\n        }        g    }";
-    let printed = format!(in alloc; "a 1 {{\n{b}{e}}}h 5 {{\n    i}}j 6").expect(&rt, "memory");
-    document_prints(&rt, alloc, &document, &printed);
-    drop(document);
+    for (first, second) in SAME_DATA {
+        let mut first = read(&rt, alloc, first);
+        let mut second = read(&rt, alloc, second);
+        differ(&rt, &first, &second);
+        first.clear_format_recursive();
+        second.clear_format_recursive();
+        equal(&rt, &first, &second);
+    }
 }
 
 #[test]
-fn the_own_format_alone(rt: HostRuntime) {
+fn the_own_format_of_a_document(rt: HostRuntime) {
     let alloc = rt.alloc();
     let mut document = read(&rt, alloc, "\u{feff}a\n// z\n");
-    let mut node = parsed(&rt, alloc, "\n\"a\" 0x1 { \"b\" ; } ;");
     document.clear_format();
     document_prints(&rt, alloc, &document, "a\n");
-    node.clear_format();
-    prints(&rt, alloc, &node, "\"a\" 0x1{ \"b\" ; }");
     drop(document);
-    drop(node);
 }
 
-/// Asserts that there is a node, and that it has that name.
-fn is_named(rt: &impl Abort, node: Option<KdlNode>, name: &str) {
-    let node = node.expect(rt, "no node");
-    says(rt, node.name().value(), name);
-    drop(node);
-}
-
-/// Asserts that there is no node.
-fn is_absent(rt: &impl Abort, node: Option<KdlNode>) {
-    holds(rt, node.is_none(), "no node");
-    drop(node);
-}
+/// Texts of documents, the number of their nodes, and the last node.
+const NODES: &[(&str, usize, &str)] = &[
+    ("a 1\nb 2; /-c\nd {\ne\n}\n", 3, " /-c\nd {\ne\n}\n"),
+    ("", 0, ""),
+];
 
 #[test]
 fn the_nodes_of_a_document(rt: HostRuntime) {
     let alloc = rt.alloc();
-    let document = read(&rt, alloc, "a 1\nb 2; /-c\nd {\ne\n}\n");
-    let mut nodes = document.into_iter();
-    for name in &["a", "b", "d"] {
-        is_named(&rt, nodes.next(), name);
+    for (text, count, last) in NODES {
+        equal(&rt, &read(&rt, alloc, text).into_iter().count(), count);
+        let node = read(&rt, alloc, text).into_iter().last();
+        finds(&rt, alloc, node.as_ref(), last);
     }
-    is_absent(&rt, nodes.next());
-    drop(nodes);
-    let mut none = KdlDocument::new(alloc).into_iter();
-    is_absent(&rt, none.next());
-    drop(none);
 }
 
 #[test]
@@ -294,61 +361,4 @@ fn a_parsed_node_in_a_new_document(rt: HostRuntime) {
     let document = document_with(&rt, alloc, node_text(&rt, alloc, source));
     document_prints(&rt, alloc, &document, source);
     drop(document);
-}
-
-/// Gives the node and its type another span.
-fn move_node(node: &mut KdlNode) {
-    node.set_span(ELSEWHERE);
-    if let Some(ty) = node.ty_mut() {
-        ty.set_span(ELSEWHERE);
-    }
-}
-
-/// Gives the document and its nodes another span.
-fn move_block(document: &mut KdlDocument) {
-    document.set_span(ELSEWHERE);
-    for node in document.nodes_mut().iter_mut() {
-        move_node(node);
-    }
-}
-
-/// Gives the document, its nodes' names and blocks, and what is in these another span.
-fn move_elsewhere(document: &mut KdlDocument) {
-    document.set_span(ELSEWHERE);
-    for node in document.nodes_mut().iter_mut() {
-        node.name_mut().set_span(ELSEWHERE);
-        move_block(node.ensure_children());
-    }
-}
-
-/// Asserts that the names of the nodes have the other span.
-fn have_moved(rt: &impl Abort, nodes: &[KdlNode]) {
-    for node in nodes {
-        equal(rt, &node.name().span(), &ELSEWHERE);
-    }
-}
-
-/// Asserts that a copy of the document equals it. The span of the copy, and those of the names of
-/// its nodes, are different.
-fn is_copied(rt: &impl Abort, document: &KdlDocument) {
-    let copy = document.clone().expect(rt, "memory");
-    equal(rt, &copy, document);
-    equal(rt, &copy.span(), &ELSEWHERE);
-    have_moved(rt, copy.nodes());
-}
-
-#[test]
-fn equality_at_each_depth(rt: HostRuntime) {
-    let alloc = rt.alloc();
-    let source = "a {\n  (t)b k=0x1 { c; }\n}\n";
-    let first = read(&rt, alloc, source);
-    let mut other = read(&rt, alloc, source);
-    move_elsewhere(&mut other);
-    equal(&rt, &other, &first);
-    equal(&rt, &hash_of(&other), &hash_of(&first));
-    is_copied(&rt, &other);
-    other.clear_format_recursive();
-    differ(&rt, &other, &first);
-    drop(first);
-    drop(other);
 }

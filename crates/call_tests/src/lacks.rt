@@ -2,35 +2,8 @@
 
 use crate::reading::equal;
 use kdl_layout::{Place, gap_lacks, is_node_spaces, place_lacks, terminator_lacks};
-use std::alloc::Global;
-use std::process::Abort;
 
-/// Asserts that the text lacks this number of newlines as a gap, or with `None` that it is not a gap.
-fn gap(rt: &impl Abort, alloc: Global, text: &str, lacks: Option<usize>) {
-    let found = gap_lacks(alloc, text).expect(rt, "memory");
-    equal(rt, &found, &lacks);
-}
-
-/// Asserts the same for each row.
-fn gaps(rt: &impl Abort, alloc: Global, rows: &[(&str, Option<usize>)]) {
-    for (text, lacks) in rows {
-        gap(rt, alloc, text, *lacks);
-    }
-}
-
-/// Asserts that the text lacks this number of newlines as a terminator and a gap, or with `None` that it is not such a
-/// text.
-fn terminator(rt: &impl Abort, alloc: Global, text: &str, lacks: Option<usize>) {
-    let found = terminator_lacks(alloc, text).expect(rt, "memory");
-    equal(rt, &found, &lacks);
-}
-
-/// Asserts whether the text lacks a newline before a terminator, or with `None` that it can't be there.
-fn place(rt: &impl Abort, alloc: Global, place: Place, text: &str, lacks: Option<bool>) {
-    let found = place_lacks(alloc, place, text).expect(rt, "memory");
-    equal(rt, &found, &lacks);
-}
-
+/// Texts, and how many newlines each lacks as a gap, or `None` if it is not a gap.
 const GAPS: &[(&str, Option<usize>)] = &[
     ("", Some(0)),
     (" /* x */", Some(0)),
@@ -43,14 +16,7 @@ const GAPS: &[(&str, Option<usize>)] = &[
     ("\\\r", Some(0)),
     ("x", None),
     ("\\ x", None),
-];
-
-#[test]
-fn gaps_lack_the_newlines_of_their_last_piece(rt: HostRuntime) {
-    gaps(&rt, rt.alloc(), GAPS);
-}
-
-const GAPS_WITH_NODES: &[(&str, Option<usize>)] = &[
+    // After a dropped node its terminator is lacking too.
     ("/-x;", Some(0)),
     ("/-x\n", Some(0)),
     ("/-x\r", Some(0)),
@@ -65,11 +31,7 @@ const GAPS_WITH_NODES: &[(&str, Option<usize>)] = &[
     ("/-", None),
 ];
 
-#[test]
-fn gaps_lack_the_terminator_of_a_dropped_node(rt: HostRuntime) {
-    gaps(&rt, rt.alloc(), GAPS_WITH_NODES);
-}
-
+/// The same for a terminator and a gap.
 const TERMINATORS: &[(&str, Option<usize>)] = &[
     (";", Some(0)),
     ("\n", Some(0)),
@@ -86,13 +48,7 @@ const TERMINATORS: &[(&str, Option<usize>)] = &[
     (" \n", None),
 ];
 
-#[test]
-fn terminators_lack_what_the_gap_after_them_lacks(rt: HostRuntime) {
-    for (text, lacks) in TERMINATORS {
-        terminator(&rt, rt.alloc(), text, *lacks);
-    }
-}
-
+/// Places before a terminator, texts, and whether each lacks the newline of an escline, or `None` if it can't be there.
 const PLACES: &[(Place, &str, Option<bool>)] = &[
     (Place::BeforeBlock, "", Some(false)),
     (Place::BeforeBlock, " /-3", Some(false)),
@@ -107,13 +63,7 @@ const PLACES: &[(Place, &str, Option<bool>)] = &[
     (Place::BeforeBlock, " // c", None),
 ];
 
-#[test]
-fn places_lack_the_newline_of_an_escline(rt: HostRuntime) {
-    for (at, text, lacks) in PLACES {
-        place(&rt, rt.alloc(), *at, text, *lacks);
-    }
-}
-
+/// Texts, and whether each is spaces that end with the newline of each escline.
 const SPACES: &[(&str, bool)] = &[
     ("", true),
     (" /* a */ ", true),
@@ -128,9 +78,21 @@ const SPACES: &[(&str, bool)] = &[
 ];
 
 #[test]
-fn node_spaces_end_with_the_newline_of_an_escline(rt: HostRuntime) {
-    for (text, wanted) in SPACES {
-        let found = is_node_spaces(rt.alloc(), text).expect(&rt, "memory");
-        equal(&rt, &found, wanted);
+fn texts_lack_newlines(rt: HostRuntime) {
+    let alloc = rt.alloc();
+    for (text, lacks) in GAPS {
+        equal(&rt, &gap_lacks(alloc, text).expect(&rt, "memory"), lacks);
+    }
+    for (text, lacks) in TERMINATORS {
+        let found = terminator_lacks(alloc, text).expect(&rt, "memory");
+        equal(&rt, &found, lacks);
+    }
+    for (place, text, lacks) in PLACES {
+        let found = place_lacks(alloc, *place, text).expect(&rt, "memory");
+        equal(&rt, &found, lacks);
+    }
+    for (text, is_whole) in SPACES {
+        let found = is_node_spaces(alloc, text).expect(&rt, "memory");
+        equal(&rt, &found, is_whole);
     }
 }

@@ -1,56 +1,40 @@
 //! Nodes are added and removed, and what is printed reads back.
 
-use crate::reading::{equal, holds, identifier, node_text, prints, read, says, succeeds, text};
+use crate::fields::built;
+use crate::reading::{equal, holds, node_text, prints, read, succeeds};
 use kdl::{KdlDocument, KdlNode};
 use std::alloc::Global;
 use std::process::Abort;
 
-/// The text of a document or node, and the text that is printed after the edit.
-#[derive(Clone, Copy)]
-struct Row<'a>(&'a str, &'a str);
-
-/// The names of the nodes, each with a space after it.
-fn names(rt: &impl Abort, alloc: Global, nodes: &[KdlNode]) -> String {
-    let mut all = text(rt, alloc, "");
-    for node in nodes {
-        add(rt, &mut all, node.name().value());
-    }
-    all
-}
-
-/// Adds the name and a space to the text.
-fn add(rt: &impl Abort, all: &mut String, name: &str) {
-    all.push_str(name).expect(rt, "memory");
-    all.push(' ').expect(rt, "memory");
-}
+/// An index, the text of a document or node, the text of a node that is inserted at the index or last, and the text that
+/// is then printed.
+struct Insertion<'a>(usize, &'a str, &'a str, &'a str);
 
 /// Asserts that the nodes have the same names.
-fn have_the_names(rt: &impl Abort, alloc: Global, found: &[KdlNode], wanted: &[KdlNode]) {
-    let found = names(rt, alloc, found);
-    let wanted = names(rt, alloc, wanted);
-    says(rt, found.as_str(), wanted.as_str());
+fn have_the_names(rt: &impl Abort, found: &[KdlNode], wanted: &[KdlNode]) {
+    equal(rt, &found.len(), &wanted.len());
+    for (node, other) in found.iter().zip(wanted) {
+        equal(rt, &node.name().value(), &other.name().value());
+    }
 }
 
 /// Asserts that the document prints the text, which is a document of nodes of the same names.
 fn reads_back(rt: &impl Abort, alloc: Global, document: &KdlDocument, printed: &str) {
     prints(rt, alloc, document, printed);
     let again = read(rt, alloc, printed);
-    have_the_names(rt, alloc, again.nodes(), document.nodes());
-}
-
-/// The nodes in the block of the node, which has to exist.
-fn children<'a>(rt: &impl Abort, node: &'a KdlNode) -> &'a [KdlNode] {
-    node.children().expect(rt, "no children").nodes()
+    have_the_names(rt, again.nodes(), document.nodes());
 }
 
 /// Asserts that the node prints the text, which is a node with children of the same names.
 fn node_reads_back(rt: &impl Abort, alloc: Global, node: &KdlNode, printed: &str) {
     prints(rt, alloc, node, printed);
     let again = node_text(rt, alloc, printed);
-    have_the_names(rt, alloc, children(rt, &again), children(rt, node));
+    let found = again.children().expect(rt, "no block");
+    let wanted = node.children().expect(rt, "no block");
+    have_the_names(rt, found.nodes(), wanted.nodes());
 }
 
-/// Inserts the node at the index.
+/// Inserts the node at the index, or last.
 fn put(rt: &impl Abort, document: &mut KdlDocument, index: usize, node: KdlNode) {
     let count = document.nodes().len();
     if index < count {
@@ -61,169 +45,115 @@ fn put(rt: &impl Abort, document: &mut KdlDocument, index: usize, node: KdlNode)
     equal(rt, &document.nodes().len(), &count.saturating_add(1));
 }
 
-/// Asserts that the document of the text becomes the printed one after the node of that text is inserted at the index.
-fn puts(rt: &impl Abort, alloc: Global, before: &str, index: usize, new: &str, printed: &str) {
-    let mut document = read(rt, alloc, before);
-    let node = node_text(rt, alloc, new);
-    put(rt, &mut document, index, node);
-    reads_back(rt, alloc, &document, printed);
-}
+/// Nodes in documents.
+const NODES: &[Insertion] = &[
+    // After others.
+    Insertion(9, "a", "b", "a\nb"),
+    Insertion(9, "a;", "b", "a;b"),
+    Insertion(9, "a\n", "b", "a\nb"),
+    Insertion(9, "a // c", "b", "a // c\nb"),
+    Insertion(9, "a // c\n", "b", "a // c\nb"),
+    Insertion(9, "a \\", "b", "a \\\n\nb"),
+    Insertion(9, "a \\\n", "b", "a \\\n\nb"),
+    Insertion(9, "a \\ // c", "b", "a \\ // c\n\nb"),
+    Insertion(9, "a \\ // c\n", "b", "a \\ // c\n\nb"),
+    Insertion(9, "a /-3", "b", "a /-3\nb"),
+    Insertion(9, "a /-k=3", "b", "a /-k=3\nb"),
+    Insertion(9, "a /* c */", "b", "a /* c */\nb"),
+    Insertion(9, "a {}", "b", "a {}\nb"),
+    Insertion(9, "a {} \\", "b", "a {} \\\n\nb"),
+    Insertion(9, "a {} /-{}", "b", "a {} /-{}\nb"),
+    Insertion(9, "c { d }", "b", "c { d }\nb"),
+    Insertion(9, "c { d \\\n}", "b", "c { d \\\n}\nb"),
+    Insertion(9, "c { d }; e", "b", "c { d }; e\nb"),
+    // After texts.
+    Insertion(9, "", "b", "b"),
+    Insertion(9, " ", "b", " b"),
+    Insertion(9, "\n\n", "b", "\n\nb"),
+    Insertion(9, "// c", "b", "// c\nb"),
+    Insertion(9, "// c\n", "b", "// c\nb"),
+    Insertion(9, "/* c */", "b", "/* c */b"),
+    Insertion(9, "\\", "b", "\\\nb"),
+    Insertion(9, "\\ // c", "b", "\\ // c\nb"),
+    Insertion(9, "/-x", "b", "/-x\nb"),
+    Insertion(9, "/-x;", "b", "/-x;b"),
+    Insertion(9, "/-x \\", "b", "/-x \\\n\nb"),
+    Insertion(9, "/-x // c", "b", "/-x // c\nb"),
+    Insertion(9, "/-x {}", "b", "/-x {}\nb"),
+    Insertion(9, "\u{feff}", "b", "\u{feff}b"),
+    Insertion(9, "\u{feff}// c", "b", "\u{feff}// c\nb"),
+    Insertion(9, "\u{feff}a", "b", "\u{feff}a\nb"),
+    // After newlines of other forms.
+    Insertion(9, "a\r\n", "b", "a\r\nb"),
+    Insertion(9, "a\r", "b", "a\rb"),
+    Insertion(9, "a\u{85}", "b", "a\u{85}b"),
+    Insertion(9, "a // c\r\n", "b", "a // c\r\nb"),
+    Insertion(9, "a \\\r\n", "b", "a \\\r\n\nb"),
+    Insertion(9, "// c\r\n", "b", "// c\r\nb"),
+    Insertion(9, "a\r\n// c\r\n", "b", "a\r\nb\n// c\r\n"),
+    // Before a trailing text.
+    Insertion(9, "a; /-x {}", "b", "a;b\n /-x {}"),
+    Insertion(9, "a\n/-x", "b", "a\nb\n/-x"),
+    Insertion(9, "a\n// end\n", "b", "a\nb\n// end\n"),
+    Insertion(9, "a;// end", "b", "a;b\n// end"),
+    Insertion(9, "a\n\n", "b", "a\nb\n\n"),
+    // Before others.
+    Insertion(0, "a", "b", "b\na"),
+    Insertion(0, " a;", "b", "b\n a;"),
+    Insertion(0, "// c\na", "b", "b\n// c\na"),
+    Insertion(0, "/-x\na", "b", "b\n/-x\na"),
+    Insertion(0, "c { d }", "b", "b\nc { d }"),
+    Insertion(0, "\u{feff}a", "b", "\u{feff}b\na"),
+    Insertion(0, "\u{feff}// c\na", "b", "\u{feff}b\n// c\na"),
+    // Between others.
+    Insertion(1, "a\nc", "b", "a\nb\nc"),
+    Insertion(1, "a;c", "b", "a;b\nc"),
+    Insertion(1, "a // x\n// y\nc", "b", "a // x\nb\n// y\nc"),
+    Insertion(1, "a \\ // x\n\nc", "b", "a \\ // x\n\nb\nc"),
+    Insertion(1, "a {}\nc", "b", "a {}\nb\nc"),
+    Insertion(1, "a { d }; c", "b", "a { d };b\n c"),
+    // New nodes of each form, after another.
+    Insertion(1, "a", "b", "a\nb"),
+    Insertion(1, "a", "b;", "a\nb;"),
+    Insertion(1, "a", "b\n", "a\nb\n"),
+    Insertion(1, "a", "// y\nb 1", "a\n// y\nb 1"),
+    Insertion(1, "a", "b // x", "a\nb // x"),
+    Insertion(1, "a", "b // x\n", "a\nb // x\n"),
+    Insertion(1, "a", "b; // x", "a\nb; // x"),
+    Insertion(1, "a", "b; \\", "a\nb; \\"),
+    Insertion(1, "a", "b\n\n", "a\nb\n\n"),
+    Insertion(1, "a", "b \\", "a\nb \\"),
+    Insertion(1, "a", "b \\ // x", "a\nb \\ // x"),
+    Insertion(1, "a", "b /-3", "a\nb /-3"),
+    Insertion(1, "a", "b { d }", "a\nb { d }"),
+    Insertion(1, "a", "b { d } \\", "a\nb { d } \\"),
+    Insertion(1, "a", "b { d; } // x", "a\nb { d; } // x"),
+    // New nodes of each form, before another.
+    Insertion(0, "a", "b", "b\na"),
+    Insertion(0, "a", "b;", "b;a"),
+    Insertion(0, "a", "b\n", "b\na"),
+    Insertion(0, "a", "// y\nb 1", "// y\nb 1\na"),
+    Insertion(0, "a", "b // x", "b // x\na"),
+    Insertion(0, "a", "b // x\n", "b // x\na"),
+    Insertion(0, "a", "b; // x", "b; // x\na"),
+    Insertion(0, "a", "b; \\", "b; \\\na"),
+    Insertion(0, "a", "b\n\n", "b\n\na"),
+    Insertion(0, "a", "b \\", "b \\\n\na"),
+    Insertion(0, "a", "b \\ // x", "b \\ // x\n\na"),
+    Insertion(0, "a", "b /-3", "b /-3\na"),
+    Insertion(0, "a", "b { d }", "b { d }\na"),
+    Insertion(0, "a", "b { d } \\", "b { d } \\\n\na"),
+    Insertion(0, "a", "b { d; } // x", "b { d; } // x\na"),
+];
 
-/// Asserts the same for each row, with `b`.
-fn puts_each(rt: &impl Abort, alloc: Global, index: usize, rows: &[Row]) {
-    for Row(before, printed) in rows {
-        puts(rt, alloc, before, index, "b", printed);
+#[test]
+fn nodes_put_in(rt: HostRuntime) {
+    let alloc = rt.alloc();
+    for Insertion(index, before, new, printed) in NODES {
+        let mut document = read(&rt, alloc, before);
+        put(&rt, &mut document, *index, node_text(&rt, alloc, new));
+        reads_back(&rt, alloc, &document, printed);
     }
-}
-
-const AFTER_OTHERS: &[Row] = &[
-    Row("a", "a\nb"),
-    Row("a;", "a;b"),
-    Row("a\n", "a\nb"),
-    Row("a // c", "a // c\nb"),
-    Row("a // c\n", "a // c\nb"),
-    Row("a \\", "a \\\n\nb"),
-    Row("a \\\n", "a \\\n\nb"),
-    Row("a \\ // c", "a \\ // c\n\nb"),
-    Row("a \\ // c\n", "a \\ // c\n\nb"),
-    Row("a /-3", "a /-3\nb"),
-    Row("a /-k=3", "a /-k=3\nb"),
-    Row("a /* c */", "a /* c */\nb"),
-    Row("a {}", "a {}\nb"),
-    Row("a {} \\", "a {} \\\n\nb"),
-    Row("a {} /-{}", "a {} /-{}\nb"),
-    Row("c { d }", "c { d }\nb"),
-    Row("c { d \\\n}", "c { d \\\n}\nb"),
-    Row("c { d }; e", "c { d }; e\nb"),
-];
-
-#[test]
-fn a_node_after_others(rt: HostRuntime) {
-    puts_each(&rt, rt.alloc(), 9, AFTER_OTHERS);
-}
-
-const AFTER_TEXTS: &[Row] = &[
-    Row("", "b"),
-    Row(" ", " b"),
-    Row("\n\n", "\n\nb"),
-    Row("// c", "// c\nb"),
-    Row("// c\n", "// c\nb"),
-    Row("/* c */", "/* c */b"),
-    Row("\\", "\\\nb"),
-    Row("\\ // c", "\\ // c\nb"),
-    Row("/-x", "/-x\nb"),
-    Row("/-x;", "/-x;b"),
-    Row("/-x \\", "/-x \\\n\nb"),
-    Row("/-x // c", "/-x // c\nb"),
-    Row("/-x {}", "/-x {}\nb"),
-    Row("\u{feff}", "\u{feff}b"),
-    Row("\u{feff}// c", "\u{feff}// c\nb"),
-    Row("\u{feff}a", "\u{feff}a\nb"),
-];
-
-#[test]
-fn a_node_after_texts(rt: HostRuntime) {
-    puts_each(&rt, rt.alloc(), 9, AFTER_TEXTS);
-}
-
-const OTHER_NEWLINES: &[Row] = &[
-    Row("a\r\n", "a\r\nb"),
-    Row("a\r", "a\rb"),
-    Row("a\u{85}", "a\u{85}b"),
-    Row("a // c\r\n", "a // c\r\nb"),
-    Row("a \\\r\n", "a \\\r\n\nb"),
-    Row("// c\r\n", "// c\r\nb"),
-    Row("a\r\n// c\r\n", "a\r\nb\n// c\r\n"),
-];
-
-#[test]
-fn newlines_of_other_forms(rt: HostRuntime) {
-    puts_each(&rt, rt.alloc(), 9, OTHER_NEWLINES);
-}
-
-const BEFORE_TRAILING: &[Row] = &[
-    Row("a; /-x {}", "a;b\n /-x {}"),
-    Row("a\n/-x", "a\nb\n/-x"),
-    Row("a\n// end\n", "a\nb\n// end\n"),
-    Row("a;// end", "a;b\n// end"),
-    Row("a\n\n", "a\nb\n\n"),
-];
-
-#[test]
-fn a_node_before_a_trailing_text(rt: HostRuntime) {
-    puts_each(&rt, rt.alloc(), 9, BEFORE_TRAILING);
-}
-
-const BEFORE_OTHERS: &[Row] = &[
-    Row("a", "b\na"),
-    Row(" a;", "b\n a;"),
-    Row("// c\na", "b\n// c\na"),
-    Row("/-x\na", "b\n/-x\na"),
-    Row("c { d }", "b\nc { d }"),
-    Row("\u{feff}a", "\u{feff}b\na"),
-    Row("\u{feff}// c\na", "\u{feff}b\n// c\na"),
-];
-
-#[test]
-fn a_node_before_others(rt: HostRuntime) {
-    puts_each(&rt, rt.alloc(), 0, BEFORE_OTHERS);
-}
-
-const BETWEEN_OTHERS: &[Row] = &[
-    Row("a\nc", "a\nb\nc"),
-    Row("a;c", "a;b\nc"),
-    Row("a // x\n// y\nc", "a // x\nb\n// y\nc"),
-    Row("a \\ // x\n\nc", "a \\ // x\n\nb\nc"),
-    Row("a {}\nc", "a {}\nb\nc"),
-    Row("a { d }; c", "a { d };b\n c"),
-];
-
-#[test]
-fn a_node_between_others(rt: HostRuntime) {
-    puts_each(&rt, rt.alloc(), 1, BETWEEN_OTHERS);
-}
-
-/// New nodes of each form, and what each prints when it is inserted before `a`.
-const NEW_NODES: &[Row] = &[
-    Row("b", "b\n"),
-    Row("b;", "b;"),
-    Row("b\n", "b\n"),
-    Row("// y\nb 1", "// y\nb 1\n"),
-    Row("b // x", "b // x\n"),
-    Row("b // x\n", "b // x\n"),
-    Row("b; // x", "b; // x\n"),
-    Row("b; \\", "b; \\\n"),
-    Row("b\n\n", "b\n\n"),
-    Row("b \\", "b \\\n\n"),
-    Row("b \\ // x", "b \\ // x\n\n"),
-    Row("b /-3", "b /-3\n"),
-    Row("b { d }", "b { d }\n"),
-    Row("b { d } \\", "b { d } \\\n\n"),
-    Row("b { d; } // x", "b { d; } // x\n"),
-];
-
-/// The two texts, one after the other.
-fn joined(rt: &impl Abort, alloc: Global, first: &str, second: &str) -> String {
-    let mut all = text(rt, alloc, first);
-    all.push_str(second).expect(rt, "memory");
-    all
-}
-
-/// Inserts a new node of each form after `a` and before it. The second text of a row is what it prints before `a`.
-#[test]
-fn new_nodes_of_each_form(rt: HostRuntime) {
-    for Row(new, ended) in NEW_NODES {
-        let last = joined(&rt, rt.alloc(), "a\n", new);
-        puts(&rt, rt.alloc(), "a", 1, new, last.as_str());
-        let first = joined(&rt, rt.alloc(), ended, "a");
-        puts(&rt, rt.alloc(), "a", 0, new, first.as_str());
-    }
-}
-
-/// A new node of that name.
-fn built(rt: &impl Abort, alloc: Global, name: &str) -> KdlNode {
-    let name = identifier(rt, alloc, name);
-    KdlNode::new(name).expect(rt, "memory")
 }
 
 /// The node of a text, without its format.
@@ -258,7 +188,7 @@ fn nodes_without_a_format(rt: HostRuntime) {
     drop(document);
 }
 
-/// Inserts the node as a child at the index.
+/// Inserts the node as a child at the index, or last.
 fn put_child(rt: &impl Abort, node: &mut KdlNode, index: usize, child: KdlNode) {
     let count = match node.children() {
         Some(children) => children.nodes().len(),
@@ -271,84 +201,50 @@ fn put_child(rt: &impl Abort, node: &mut KdlNode, index: usize, child: KdlNode) 
     }
 }
 
-/// Asserts that the node of the text becomes the printed one after the node of the other text is inserted as a child at
-/// the index.
-fn puts_child(
-    rt: &impl Abort,
-    alloc: Global,
-    before: &str,
-    index: usize,
-    new: &str,
-    printed: &str,
-) {
-    let mut node = node_text(rt, alloc, before);
-    let child = node_text(rt, alloc, new);
-    put_child(rt, &mut node, index, child);
-    node_reads_back(rt, alloc, &node, printed);
-    drop(node);
-}
-
-const CHILDREN_AFTER: &[Row] = &[
-    Row("c {}", "c {e}"),
-    Row("c { d }", "c { d \ne}"),
-    Row("c { d; }", "c { d;e\n }"),
-    Row("c { d // x\n}", "c { d // x\ne}"),
-    Row("c { d \\\n}", "c { d \\\n\ne}"),
-    Row("c { // x\n}", "c { // x\ne}"),
-    Row("c { /-x }", "c { /-x \ne}"),
-    Row("c { d\n // x\n}", "c { d\ne\n // x\n}"),
-    Row("c { d }; // x", "c { d \ne}; // x"),
+/// Children in nodes.
+const CHILDREN: &[Insertion] = &[
+    // After others.
+    Insertion(9, "c {}", "e", "c {e}"),
+    Insertion(9, "c { d }", "e", "c { d \ne}"),
+    Insertion(9, "c { d; }", "e", "c { d;e\n }"),
+    Insertion(9, "c { d // x\n}", "e", "c { d // x\ne}"),
+    Insertion(9, "c { d \\\n}", "e", "c { d \\\n\ne}"),
+    Insertion(9, "c { // x\n}", "e", "c { // x\ne}"),
+    Insertion(9, "c { /-x }", "e", "c { /-x \ne}"),
+    Insertion(9, "c { d\n // x\n}", "e", "c { d\ne\n // x\n}"),
+    Insertion(9, "c { d }; // x", "e", "c { d \ne}; // x"),
+    // In new blocks.
+    Insertion(9, "c", "e", "c{\ne\n}"),
+    Insertion(9, "c;", "e", "c{\ne\n};"),
+    Insertion(9, "c\n", "e", "c{\ne\n}\n"),
+    Insertion(9, "c 1 // x", "e", "c 1 {\ne\n}// x"),
+    Insertion(9, "c \\", "e", "c \\\n{\ne\n}"),
+    Insertion(9, "c \\ // x", "e", "c \\ // x\n{\ne\n}"),
+    Insertion(9, "c /-3", "e", "c /-3{\ne\n}"),
+    Insertion(9, "c /-{} \\\n;", "e", "c /-{} \\\n{\ne\n};"),
+    // New children of each form.
+    Insertion(0, "c {}", "e", "c {e}"),
+    Insertion(0, "c {}", "e;", "c {e;}"),
+    Insertion(0, "c {}", "e // x", "c {e // x\n}"),
+    Insertion(0, "c {}", "e \\", "c {e \\\n}"),
+    Insertion(0, "c {}", "e \\ // x", "c {e \\ // x\n}"),
+    Insertion(0, "c {}", "e /-3", "c {e /-3}"),
+    Insertion(0, "c {}", "e { f } \\", "c {e { f } \\\n}"),
+    Insertion(0, "c {}", "e; // x", "c {e; // x\n}"),
+    // Before others.
+    Insertion(0, "c { d }", "e", "c {e\n d }"),
+    Insertion(1, "c { d;f }", "e", "c { d;e\nf }"),
+    Insertion(0, "c { // x\n d }", "e", "c {e\n // x\n d }"),
 ];
 
 #[test]
-fn a_child_after_others(rt: HostRuntime) {
-    for Row(before, printed) in CHILDREN_AFTER {
-        puts_child(&rt, rt.alloc(), before, 9, "e", printed);
-    }
-}
-
-const CHILDREN_IN_NEW_BLOCKS: &[Row] = &[
-    Row("c", "c{\ne\n}"),
-    Row("c;", "c{\ne\n};"),
-    Row("c\n", "c{\ne\n}\n"),
-    Row("c 1 // x", "c 1 {\ne\n}// x"),
-    Row("c \\", "c \\\n{\ne\n}"),
-    Row("c \\ // x", "c \\ // x\n{\ne\n}"),
-    Row("c /-3", "c /-3{\ne\n}"),
-    Row("c /-{} \\\n;", "c /-{} \\\n{\ne\n};"),
-];
-
-#[test]
-fn a_child_in_a_new_block(rt: HostRuntime) {
-    for Row(before, printed) in CHILDREN_IN_NEW_BLOCKS {
-        puts_child(&rt, rt.alloc(), before, 9, "e", printed);
-    }
-}
-
-const NEW_CHILDREN: &[Row] = &[
-    Row("e", "c {e}"),
-    Row("e;", "c {e;}"),
-    Row("e // x", "c {e // x\n}"),
-    Row("e \\", "c {e \\\n}"),
-    Row("e \\ // x", "c {e \\ // x\n}"),
-    Row("e /-3", "c {e /-3}"),
-    Row("e { f } \\", "c {e { f } \\\n}"),
-    Row("e; // x", "c {e; // x\n}"),
-];
-
-#[test]
-fn new_children_of_each_form(rt: HostRuntime) {
-    for Row(new, printed) in NEW_CHILDREN {
-        puts_child(&rt, rt.alloc(), "c {}", 0, new, printed);
-    }
-}
-
-#[test]
-fn a_child_before_others(rt: HostRuntime) {
+fn children_put_in(rt: HostRuntime) {
     let alloc = rt.alloc();
-    puts_child(&rt, alloc, "c { d }", 0, "e", "c {e\n d }");
-    puts_child(&rt, alloc, "c { d;f }", 1, "e", "c { d;e\nf }");
-    puts_child(&rt, alloc, "c { // x\n d }", 0, "e", "c {e\n // x\n d }");
+    for Insertion(index, before, new, printed) in CHILDREN {
+        let mut node = node_text(&rt, alloc, before);
+        put_child(&rt, &mut node, *index, node_text(&rt, alloc, new));
+        node_reads_back(&rt, alloc, &node, printed);
+    }
 }
 
 #[test]
@@ -366,25 +262,24 @@ fn children_without_a_format(rt: HostRuntime) {
     drop(node);
 }
 
-/// Removes the node at the index, and asserts that it prints the text.
-fn takes(rt: &impl Abort, alloc: Global, document: &mut KdlDocument, index: usize, printed: &str) {
-    let is_there = index < document.nodes().len();
-    holds(rt, is_there, printed);
-    if is_there {
-        let node = document.remove_node(index);
-        prints(rt, alloc, &node, printed);
-    }
-}
+/// Indices, what the node that is taken out there prints, and what the document then prints.
+const TAKEN: &[(usize, &str, &str)] = &[
+    (1, "// y\nb // z\n", "a // x\n// w\nc"),
+    (1, "// w\nc", "a // x\n"),
+    (0, "a // x\n", ""),
+];
 
 #[test]
-fn a_node_taken_out(rt: HostRuntime) {
+fn nodes_taken_out(rt: HostRuntime) {
     let alloc = rt.alloc();
     let mut document = read(&rt, alloc, "a // x\n// y\nb // z\n// w\nc");
-    takes(&rt, alloc, &mut document, 1, "// y\nb // z\n");
-    reads_back(&rt, alloc, &document, "a // x\n// w\nc");
-    takes(&rt, alloc, &mut document, 1, "// w\nc");
-    reads_back(&rt, alloc, &document, "a // x\n");
-    takes(&rt, alloc, &mut document, 0, "a // x\n");
-    reads_back(&rt, alloc, &document, "");
+    for (index, taken, printed) in TAKEN {
+        let is_there = *index < document.nodes().len();
+        holds(&rt, is_there, taken);
+        if is_there {
+            prints(&rt, alloc, &document.remove_node(*index), taken);
+        }
+        reads_back(&rt, alloc, &document, printed);
+    }
     drop(document);
 }

@@ -3,6 +3,7 @@
 use kdl::{KdlDocument, KdlFloat, KdlIdentifier, KdlNode, KdlValue, NodeKey};
 use std::alloc::Global;
 use std::fmt::{Debug, Display};
+use std::hash::{DefaultHasher, Hash, Hasher};
 use std::process::Abort;
 
 /// Asserts that the two values are equal.
@@ -23,6 +24,12 @@ pub fn says(rt: &impl Abort, found: &str, wanted: &str) {
 /// Asserts that the condition holds. The message shows the text.
 pub fn holds(rt: &impl Abort, condition: bool, text: &str) {
     assert!(rt; condition, "{text:?}");
+}
+
+/// Asserts that the copy succeeded, and equals its source.
+pub fn is_copy<T: PartialEq + Debug + Drop>(rt: &impl Abort, copy: Option<T>, source: &T) {
+    let copy = copy.expect(rt, "memory");
+    equal(rt, &copy, source);
 }
 
 /// Asserts that the call did not fail. What it returned is dropped.
@@ -83,31 +90,23 @@ pub fn float(rt: &impl Abort, alloc: Global, text: &str) -> KdlFloat {
     KdlFloat::new(alloc, text).expect(rt, "no float")
 }
 
-/// Asserts that there is a value, and that it is this whole number.
-pub fn is_whole(rt: &impl Abort, value: Option<&KdlValue>, number: i128) {
-    let value = value.expect(rt, "no value");
-    equal(rt, &value.as_integer(), &Some(number));
-}
-
-/// Asserts that there is a value, and that it is this string.
-pub fn is_text(rt: &impl Abort, value: Option<&KdlValue>, text: &str) {
-    let value = value.expect(rt, "no value");
-    equal(rt, &value.as_string(), &Some(text));
-}
-
-/// Asserts that there is a value, and that it equals the other.
-pub fn is_value(rt: &impl Abort, value: Option<&KdlValue>, wanted: &KdlValue) {
-    let value = value.expect(rt, "no value");
-    equal(rt, value, wanted);
-}
-
-/// Asserts that there is no such item.
-pub fn is_absent<T>(rt: &impl Abort, item: Option<&T>) {
-    assert!(rt; item.is_none());
+/// Asserts that there is an item and it prints the text, or that there is none and the text is empty.
+pub fn finds<T: Display>(rt: &impl Abort, alloc: Global, item: Option<&T>, text: &str) {
+    match item {
+        Some(item) => prints(rt, alloc, item, text),
+        None => says(rt, "", text),
+    }
 }
 
 /// Asserts that the item prints the text.
 pub fn prints(rt: &impl Abort, alloc: Global, item: &impl Display, text: &str) {
     let printed = item.to_string(alloc).expect(rt, "memory");
     says(rt, printed.as_str(), text);
+}
+
+/// The hash of a value.
+pub fn hash_of<T: Hash>(value: &T) -> u64 {
+    let mut state = DefaultHasher::new();
+    value.hash(&mut state);
+    state.finish()
 }

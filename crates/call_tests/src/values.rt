@@ -1,37 +1,60 @@
-//! Values, identifiers and entries: printed texts, the order of values, and their parts.
+//! Values, identifiers and entries: printed texts, the order of values, what equality and hashes compare, their parts,
+//! and copies.
 
+use crate::edits::entry;
 use crate::reading::{
-    differ, equal, float, holds, identifier, is_text, is_whole, prints, string, text,
+    differ, equal, float, hash_of, holds, identifier, is_copy, prints, string, text,
 };
-use kdl::{KdlEntry, KdlEntryFormat, KdlIdentifier, KdlValue};
+use kdl::{KdlEntry, KdlEntryFormat, KdlIdentifier, KdlValue, SourceSpan};
 use std::alloc::Global;
 use std::cmp::Ordering;
+use std::fmt::Debug;
+use std::hash::Hash;
 use std::process::Abort;
 
-/// Asserts that the value prints the text.
-fn value_prints(rt: &impl Abort, alloc: Global, value: KdlValue, text: &str) {
-    prints(rt, alloc, &value, text);
+const SPAN: SourceSpan = SourceSpan { offset: 3, len: 2 };
+
+/// Values, each with the text that it prints.
+fn values(rt: &impl Abort, alloc: Global) -> Vec<(KdlValue, &'static str)> {
+    let least = "-170141183460469231731687303715884105728";
+    vec![in alloc;
+        (KdlValue::from(-17), "-17"),
+        (KdlValue::from(1234567890), "1234567890"),
+        (KdlValue::from(i128::MIN), least),
+        (KdlValue::from(true), "#true"),
+        (KdlValue::from(false), "#false"),
+        (KdlValue::Null, "#null"),
+        (KdlValue::from(None), "#null"),
+        (KdlValue::from(Some(KdlValue::from(1))), "1"),
+        (KdlValue::from(float(rt, alloc, "1.03e2")), "1.03e2"),
+        (KdlValue::from(text(rt, alloc, "a b")), "\"a b\""),
+        (string(rt, alloc, "foo\n"), "\"foo\\n\""),
+    ]
+    .expect(rt, "memory")
 }
 
 #[test]
 fn printed_values(rt: HostRuntime) {
     let alloc = rt.alloc();
-    value_prints(&rt, alloc, KdlValue::from(-17), "-17");
-    let least = "-170141183460469231731687303715884105728";
-    value_prints(&rt, alloc, KdlValue::from(i128::MIN), least);
-    value_prints(&rt, alloc, KdlValue::from(true), "#true");
-    value_prints(&rt, alloc, KdlValue::from(false), "#false");
-    value_prints(&rt, alloc, KdlValue::Null, "#null");
-    value_prints(&rt, alloc, KdlValue::from(None), "#null");
-    value_prints(&rt, alloc, KdlValue::from(Some(KdlValue::from(1))), "1");
+    for (value, text) in values(&rt, alloc).iter() {
+        is_copy(&rt, value.clone().ok(), value);
+        prints(&rt, alloc, value, text);
+    }
+    let float = float(&rt, alloc, "1234567890.12345");
+    is_copy(&rt, float.clone().ok(), &float);
+    prints(&rt, alloc, &float, "1234567890.12345");
 }
 
 /// Values in their order.
 fn ascending(rt: &impl Abort, alloc: Global) -> Vec<KdlValue> {
     vec![in alloc;
+        string(rt, alloc, "1"),
+        string(rt, alloc, "ab"),
         string(rt, alloc, "b"),
         KdlValue::from(-5),
+        KdlValue::from(1),
         KdlValue::from(3),
+        KdlValue::from(float(rt, alloc, "1.0")),
         KdlValue::from(float(rt, alloc, "10.0")),
         KdlValue::from(float(rt, alloc, "9.0")),
         KdlValue::from(false),
@@ -41,31 +64,24 @@ fn ascending(rt: &impl Abort, alloc: Global) -> Vec<KdlValue> {
     .expect(rt, "memory")
 }
 
-/// Asserts that the first value compares with the second as expected.
-fn compares(rt: &impl Abort, a: &KdlValue, b: &KdlValue, wanted: Ordering) {
-    equal(rt, &a.cmp(b), &wanted);
-    equal(rt, &(a == b), &(wanted == Ordering::Equal));
-}
-
-/// Asserts that the value compares with each of the values as its index does with theirs.
+/// Asserts that the value compares with each of the values as its index does with theirs, and so do the hashes for
+/// equality.
 fn compares_with_each(rt: &impl Abort, index: usize, value: &KdlValue, values: &[KdlValue]) {
     for (at, other) in values.iter().enumerate() {
-        compares(rt, value, other, index.cmp(&at));
-    }
-}
-
-fn check_ordered_values(rt: &impl Abort, values: &[KdlValue]) {
-    for (index, value) in values.iter().enumerate() {
-        compares_with_each(rt, index, value, values);
+        equal(rt, &value.cmp(other), &index.cmp(&at));
+        equal(rt, &(value == other), &(index == at));
+        equal(rt, &(hash_of(value) == hash_of(other)), &(index == at));
     }
 }
 
 #[test]
 fn ordered_values(rt: HostRuntime) {
     let alloc = rt.alloc();
-    check_ordered_values(&rt, ascending(&rt, alloc).as_slice());
-    let b = string(&rt, alloc, "b");
-    compares(&rt, &b, &string(&rt, alloc, "ab"), Ordering::Greater);
+    let values = ascending(&rt, alloc);
+    let others = ascending(&rt, alloc);
+    for (index, value) in values.iter().enumerate() {
+        compares_with_each(&rt, index, value, others.as_slice());
+    }
 }
 
 /// The kinds of a value: a string, a whole number, a float, a boolean, null.
@@ -79,64 +95,158 @@ fn kinds(value: &KdlValue) -> [bool; 5] {
     ]
 }
 
-/// Asserts that the value is only of the kind at the index.
-fn is_of(rt: &impl Abort, value: KdlValue, index: usize) {
-    for (at, is_kind) in kinds(&value).iter().enumerate() {
-        equal(rt, is_kind, &(at == index));
-    }
-}
-
 #[test]
 fn kinds_of_values(rt: HostRuntime) {
     let alloc = rt.alloc();
-    is_text(&rt, Some(&string(&rt, alloc, "a")), "a");
-    is_of(&rt, string(&rt, alloc, "a"), 0);
-    is_of(&rt, KdlValue::from(3), 1);
-    is_of(&rt, KdlValue::from(float(&rt, alloc, "3.0")), 2);
-    is_of(&rt, KdlValue::from(true), 3);
-    is_of(&rt, KdlValue::Null, 4);
-    is_whole(&rt, Some(&KdlValue::from(3)), 3);
-    equal(&rt, &KdlValue::from(true).as_bool(), &Some(true));
+    let values = vec![in alloc;
+        string(&rt, alloc, "a"),
+        KdlValue::from(3),
+        KdlValue::from(float(&rt, alloc, "3.0")),
+        KdlValue::from(true),
+        KdlValue::Null,
+    ]
+    .expect(&rt, "memory");
+    for (index, value) in values.iter().enumerate() {
+        let wanted = [index == 0, index == 1, index == 2, index == 3, index == 4];
+        equal(&rt, &kinds(value), &wanted);
+        let text = if index == 0 { Some("a") } else { None };
+        equal(&rt, &value.as_string(), &text);
+        let whole = if index == 1 { Some(3) } else { None };
+        equal(&rt, &value.as_integer(), &whole);
+        let truth = if index == 3 { Some(true) } else { None };
+        equal(&rt, &value.as_bool(), &truth);
+    }
 }
 
-/// Asserts that the identifier prints this number of bytes.
-fn has_length(rt: &impl Abort, alloc: Global, name: &KdlIdentifier, length: usize) {
-    equal(rt, &name.len(alloc).expect(rt, "memory"), &length);
-}
-
-fn check_identifiers(rt: &impl Abort, alloc: Global, name: &mut KdlIdentifier) {
-    has_length(rt, alloc, name, 2);
-    name.set_repr(text(rt, alloc, "\"\\u{e9}\""));
-    has_length(rt, alloc, name, 8);
-    name.autoformat();
-    holds(rt, name.repr().is_none(), "no spelling");
+/// Asserts that both are equal, and so are their hashes.
+pub fn are_one<T: PartialEq + Debug + Hash>(rt: &impl Abort, a: &T, b: &T) {
+    equal(rt, a, b);
+    equal(rt, &hash_of(a), &hash_of(b));
 }
 
 #[test]
-fn identifiers(rt: HostRuntime) {
+fn floats_by_their_texts(rt: HostRuntime) {
     let alloc = rt.alloc();
-    check_identifiers(&rt, alloc, &mut identifier(&rt, alloc, "\u{e9}"));
-    let is_empty = identifier(&rt, alloc, "").is_empty(alloc);
-    holds(&rt, !is_empty.expect(&rt, "memory"), "two quotes");
+    let long = float(&rt, alloc, "103.0");
+    let short = float(&rt, alloc, "1.03e2");
+    differ(&rt, &short, &long);
+    equal(&rt, &short.cmp(&long), &Ordering::Less);
+    drop(short);
+    let again = float(&rt, alloc, "103.0");
+    are_one(&rt, &again, &long);
+    equal(&rt, &again.cmp(&long), &Ordering::Equal);
+    drop(again);
+    drop(long);
+    equal(&rt, &float(&rt, alloc, "#nan"), &float(&rt, alloc, "#nan"));
 }
 
-/// The texts around `k=(t)1`.
-fn format(rt: &impl Abort, alloc: Global) -> KdlEntryFormat {
+/// Asserts that the identifier has this value and spelling, and that it and an equal copy with the same span print this
+/// text.
+fn is_name(
+    rt: &impl Abort,
+    alloc: Global,
+    name: &KdlIdentifier,
+    value: &str,
+    repr: Option<&str>,
+    text: &str,
+) {
+    equal(rt, &name.value(), &value);
+    equal(rt, &name.repr(), &repr);
+    let copy = name.clone().expect(rt, "memory");
+    equal(rt, &copy, name);
+    equal(rt, &copy.span(), &name.span());
+    prints(rt, alloc, &copy, text);
+    equal(rt, &name.len(alloc).expect(rt, "memory"), &text.len());
+    let is_empty = name.is_empty(alloc).expect(rt, "memory");
+    equal(rt, &is_empty, &text.is_empty());
+}
+
+#[test]
+fn printed_identifiers(rt: HostRuntime) {
+    let alloc = rt.alloc();
+    let mut name = identifier(&rt, alloc, "\u{e9}");
+    is_name(&rt, alloc, &name, "\u{e9}", None, "\u{e9}");
+    name.set_repr(text(&rt, alloc, "\"\\u{e9}\""));
+    name.set_span(SPAN);
+    let repr = "\"\\u{e9}\"";
+    is_name(&rt, alloc, &name, "\u{e9}", Some(repr), repr);
+    name.autoformat();
+    is_name(&rt, alloc, &name, "\u{e9}", None, "\u{e9}");
+    equal(&rt, &name.span(), &SPAN);
+    name.set_repr(text(&rt, alloc, ""));
+    is_name(&rt, alloc, &name, "\u{e9}", Some(""), "");
+    drop(name);
+}
+
+#[test]
+fn identifiers_of_other_values(rt: HostRuntime) {
+    let alloc = rt.alloc();
+    let empty = identifier(&rt, alloc, "");
+    is_name(&rt, alloc, &empty, "", None, "\"\"");
+    let quoted = identifier(&rt, alloc, "foo\"bar");
+    is_name(&rt, alloc, &quoted, "foo\"bar", None, "\"foo\\\"bar\"");
+    let mut owned = KdlIdentifier::from(text(&rt, alloc, "a b"));
+    is_name(&rt, alloc, &owned, "a b", None, "\"a b\"");
+    owned.set_repr(text(&rt, alloc, "\"a\\sb\""));
+    is_name(&rt, alloc, &owned, "a b", Some("\"a\\sb\""), "\"a\\sb\"");
+    equal(&rt, &String::from(owned).as_str(), &"a b");
+}
+
+/// Values of identifiers, and their spellings.
+const NAMES: &[(&str, Option<&str>)] = &[
+    ("a", None),
+    ("a", Some("a")),
+    ("a", Some("\"a\"")),
+    ("b", None),
+    ("b", Some("a")),
+];
+
+/// The identifier with that value and spelling. The value is set after the spelling.
+fn spelled(rt: &impl Abort, alloc: Global, value: &str, repr: Option<&str>) -> KdlIdentifier {
+    let mut name = identifier(rt, alloc, "c");
+    if let Some(repr) = repr {
+        name.set_repr(text(rt, alloc, repr));
+    }
+    name.set_value(text(rt, alloc, value));
+    name
+}
+
+/// Asserts that the identifier, also with another span, equals that of the value and the spelling, or does not, and so
+/// do their hashes.
+fn compares_with(rt: &impl Abort, name: &KdlIdentifier, other: &mut KdlIdentifier, is_same: bool) {
+    other.set_span(SPAN);
+    equal(rt, &(name == other), &is_same);
+    equal(rt, &(hash_of(name) == hash_of(other)), &is_same);
+}
+
+#[test]
+fn identifiers_by_value_and_spelling(rt: HostRuntime) {
+    let alloc = rt.alloc();
+    for (value, repr) in NAMES {
+        let name = spelled(&rt, alloc, value, *repr);
+        equal(&rt, &(name.value(), name.repr()), &(*value, *repr));
+        for (other, spelling) in NAMES {
+            let is_same = value == other && repr == spelling;
+            let mut other = spelled(&rt, alloc, other, *spelling);
+            compares_with(&rt, &name, &mut other, is_same);
+        }
+    }
+    let mut bare = KdlIdentifier::parse(alloc, "a").expect(&rt, "no name");
+    equal(&rt, &bare, &spelled(&rt, alloc, "a", Some("a")));
+    bare.clear_format();
+    equal(&rt, &bare, &identifier(&rt, alloc, "a"));
+}
+
+/// The entry `k=(t)1`, with texts around it.
+fn property(rt: &impl Abort, alloc: Global) -> KdlEntry {
+    let key = identifier(rt, alloc, "k");
+    let mut entry = KdlEntry::from((key, KdlValue::from(1)));
+    entry.set_ty(identifier(rt, alloc, "t"));
     let mut format = KdlEntryFormat::new(alloc);
     format.leading.push_str("  ").expect(rt, "memory");
     format.value_repr.push_str("0x1").expect(rt, "memory");
     format.after_eq.push_str(" ").expect(rt, "memory");
     format.trailing.push_str(" ").expect(rt, "memory");
-    format
-}
-
-/// The entry `k=(t)1`, with a format.
-fn property(rt: &impl Abort, alloc: Global) -> KdlEntry {
-    let key = identifier(rt, alloc, "k");
-    let ty = identifier(rt, alloc, "t");
-    let format = format(rt, alloc);
-    let mut entry = KdlEntry::from((key, KdlValue::from(1)));
-    entry.set_ty(ty);
     entry.set_format(format);
     entry
 }
@@ -149,63 +259,81 @@ fn entry_prints(rt: &impl Abort, alloc: Global, entry: &KdlEntry, text: &str) {
     equal(rt, &is_empty, &text.is_empty());
 }
 
-fn check_entries(rt: &impl Abort, alloc: Global, entry: &mut KdlEntry) {
-    entry_prints(rt, alloc, entry, "  k= (t)0x1 ");
-    entry.keep_format();
-    entry.autoformat();
-    entry_prints(rt, alloc, entry, "  k=(t)0x1");
-    entry.autoformat();
-    entry_prints(rt, alloc, entry, "k=(t)1");
-}
-
 #[test]
-fn entries(rt: HostRuntime) {
-    let alloc = rt.alloc();
-    let mut entry = property(&rt, alloc);
-    check_entries(&rt, alloc, &mut entry);
-    drop(entry);
-}
-
-fn check_formats_count(rt: &impl Abort, entry: &mut KdlEntry, other: &mut KdlEntry) {
-    equal(rt, entry, other);
-    entry.keep_format();
-    entry.autoformat();
-    entry.autoformat();
-    differ(rt, entry, other);
-    other.clear_format();
-    equal(rt, entry, other);
-}
-
-#[test]
-fn formats_count(rt: HostRuntime) {
+fn formats_of_entries(rt: HostRuntime) {
     let alloc = rt.alloc();
     let mut entry = property(&rt, alloc);
     let mut other = property(&rt, alloc);
-    check_formats_count(&rt, &mut entry, &mut other);
+    equal(&rt, &entry, &other);
+    entry_prints(&rt, alloc, &entry, "  k= (t)0x1 ");
+    entry.keep_format();
+    entry.autoformat();
+    entry_prints(&rt, alloc, &entry, "  k=(t)0x1");
+    entry.autoformat();
+    entry_prints(&rt, alloc, &entry, "k=(t)1");
+    differ(&rt, &entry, &other);
+    other.clear_format();
+    equal(&rt, &entry, &other);
     drop(entry);
     drop(other);
 }
 
-fn check_lent_parts(rt: &impl Abort, alloc: Global, entry: &mut KdlEntry) {
+#[test]
+fn lent_parts_of_an_entry(rt: HostRuntime) {
+    let alloc = rt.alloc();
+    let mut entry = property(&rt, alloc);
     if let Some(name) = entry.name_mut() {
-        name.set_value(text(rt, alloc, "key"));
+        name.set_value(text(&rt, alloc, "key"));
     }
     if let Some(ty) = entry.ty_mut() {
-        ty.set_value(text(rt, alloc, "type"));
+        ty.set_value(text(&rt, alloc, "type"));
     }
     if let Some(format) = entry.format_mut() {
-        format.after_ty.push_str(" ").expect(rt, "memory");
+        format.after_ty.push_str(" ").expect(&rt, "memory");
     }
     *entry.value_mut() = KdlValue::Null;
-    entry_prints(rt, alloc, entry, "  key= (type) 0x1 ");
+    entry_prints(&rt, alloc, &entry, "  key= (type) 0x1 ");
     entry.clear_format();
-    entry_prints(rt, alloc, entry, "key=(type)#null");
+    entry_prints(&rt, alloc, &entry, "key=(type)#null");
+    drop(entry);
+}
+
+/// Asserts that the entry has the value 42, without a type and a format, and prints the text.
+fn is_built(rt: &impl Abort, alloc: Global, entry: &KdlEntry, text: &str) {
+    equal(rt, &entry.value().as_integer(), &Some(42));
+    holds(rt, entry.ty().is_none(), "no type");
+    holds(rt, entry.format().is_none(), "no format");
+    equal(rt, &entry.span(), &SourceSpan { offset: 0, len: 0 });
+    entry_prints(rt, alloc, entry, text);
 }
 
 #[test]
-fn lent_parts(rt: HostRuntime) {
+fn built_entries(rt: HostRuntime) {
     let alloc = rt.alloc();
-    let mut entry = property(&rt, alloc);
-    check_lent_parts(&rt, alloc, &mut entry);
-    drop(entry);
+    let argument = KdlEntry::new(KdlValue::from(42));
+    equal(&rt, &argument.name(), &None);
+    is_built(&rt, alloc, &argument, "42");
+    drop(argument);
+    let name = identifier(&rt, alloc, "name");
+    let property = KdlEntry::new_prop(name, KdlValue::from(42));
+    let wanted = identifier(&rt, alloc, "name");
+    equal(&rt, &property.name(), &Some(&wanted));
+    is_built(&rt, alloc, &property, "name=42");
+    drop(property);
+}
+
+#[test]
+fn entries_by_their_spellings(rt: HostRuntime) {
+    let alloc = rt.alloc();
+    let mut decimal = entry(&rt, alloc, " 16");
+    let mut hexadecimal = entry(&rt, alloc, " 0x10");
+    equal(&rt, hexadecimal.value(), decimal.value());
+    differ(&rt, &hexadecimal, &decimal);
+    hexadecimal.clear_format();
+    decimal.clear_format();
+    are_one(&rt, &hexadecimal, &decimal);
+    decimal.set_span(SPAN);
+    are_one(&rt, &hexadecimal, &decimal);
+    drop(hexadecimal);
+    drop(decimal);
 }

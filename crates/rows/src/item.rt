@@ -106,44 +106,20 @@ impl Item {
         }
     }
 
-    /// Lays out a document or a node with that indent and that level.
-    pub fn lay_out_as(
-        &mut self,
-        indent: Option<&str>,
-        level: Option<usize>,
-        no_comments: bool,
-    ) -> Result<(), AllocError> {
-        let config = FormatConfig::builder()
-            .maybe_indent(indent)
-            .maybe_indent_level(level)
-            .no_comments(no_comments)
-            .build();
+    /// Lays out a document or a node with that configuration.
+    pub fn lay_out_as(&mut self, config: &FormatConfig<'_>) -> Result<(), AllocError> {
         match self {
-            Item::Document(document) => document.autoformat_config(&config),
-            Item::Node(node) => node.autoformat_config(&config),
+            Item::Document(document) => document.autoformat_config(config),
+            Item::Node(node) => node.autoformat_config(config),
             _ => Ok(()),
         }
     }
 
-    /// Lays out a document or a node at that level, with at most this number of blank lines between two nodes or
-    /// comments.
-    pub fn lay_out_spaced(
-        &mut self,
-        level: Option<usize>,
-        no_comments: bool,
-        blank_lines: usize,
-    ) -> Result<(), AllocError> {
-        let layout = Layout {
-            config: FormatConfig::builder()
-                .maybe_indent_level(level)
-                .no_comments(no_comments)
-                .build(),
-            blank_lines,
-            ..Layout::new()
-        };
+    /// Lays out a document or a node with that layout.
+    pub fn lay_out_by(&mut self, layout: &Layout<'_>) -> Result<(), AllocError> {
         match self {
-            Item::Document(document) => document.autoformat_layout(&layout),
-            Item::Node(node) => node.autoformat_layout(&layout),
+            Item::Document(document) => document.autoformat_layout(layout),
+            Item::Node(node) => node.autoformat_layout(layout),
             _ => Ok(()),
         }
     }

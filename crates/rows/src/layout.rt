@@ -7,6 +7,7 @@ use crate::fault::Fault;
 use crate::item::Item;
 use crate::line::{Call, Line};
 use crate::places::Setting;
+use kdl::{FormatConfig, Layout};
 use kdl_diagnostics::Whole;
 
 /// An expected line of layout: its text, if it says what is printed, whether comments are removed, whether the first
@@ -105,18 +106,40 @@ fn put_place(case: &Case<'_>, item: &mut Item, place: &str, notation: &str) -> R
 
 /// Lays out the item as the line and the row's settings say.
 fn lay_out(case: &Case<'_>, asked: Asked<'_>, item: &mut Item) -> Result<(), Fault> {
-    let level = level(case)?;
-    if let Some(blank_lines) = asked.blank_lines {
-        item.lay_out_spaced(level, asked.no_comments, blank_lines)?;
-        return Ok(());
-    }
     match case.row.setting("indent") {
         Some(indent) => {
             let indent = case.fills.decoded(indent)?;
-            item.lay_out_as(Some(&indent), level, asked.no_comments)?;
+            lay_out_with(case, asked, item, Some(&indent))
         }
-        None if level.is_some() => item.lay_out_as(None, level, asked.no_comments)?,
-        None => item.lay_out(asked.no_comments)?,
+        None => lay_out_with(case, asked, item, None),
+    }
+}
+
+/// Lays out the item with that indent, by the call with the fewest settings that says it.
+fn lay_out_with(
+    case: &Case<'_>,
+    asked: Asked<'_>,
+    item: &mut Item,
+    indent: Option<&str>,
+) -> Result<(), Fault> {
+    let level = level(case)?;
+    let config = FormatConfig::builder()
+        .maybe_indent(indent)
+        .maybe_indent_level(level)
+        .no_comments(asked.no_comments)
+        .build();
+    let layout = Layout {
+        config,
+        blank_lines: asked.blank_lines.unwrap_or(0),
+        keep_spelling: case.row.has("keep spelling"),
+        keep_one_line: case.row.has("keep one line"),
+    };
+    if asked.blank_lines.is_some() || layout.keep_spelling || layout.keep_one_line {
+        item.lay_out_by(&layout)?;
+    } else if indent.is_some() || level.is_some() {
+        item.lay_out_as(&config)?;
+    } else {
+        item.lay_out(asked.no_comments)?;
     }
     Ok(())
 }

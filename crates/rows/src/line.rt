@@ -114,7 +114,10 @@ impl<'a> Line<'a> {
     /// What the line is for.
     pub fn kind(&self) -> Kind {
         if self.text.is_none() {
-            return Kind::Wanted;
+            return match self.label {
+                "keep spelling" | "keep one line" => Kind::Layout,
+                _ => Kind::Wanted,
+            };
         }
         for (label, kind) in &KINDS {
             if *label == self.label {

@@ -57,7 +57,7 @@ impl Seen {
             return Some("nothing is expected");
         }
         if self.has_setting && !self.has_layout {
-            return Some("`indent`, `level` or `set` without layout");
+            return Some("a setting of layout without layout");
         }
         None
     }
@@ -115,6 +115,16 @@ impl<'a> Row<'a> {
             }
         }
         text
+    }
+
+    /// Whether one of the lines is only this label.
+    pub fn has(&self, label: &str) -> bool {
+        for line in self.lines {
+            if *line == label {
+                return true;
+            }
+        }
+        false
     }
 
     /// Whether the row sets texts in places.
