@@ -1,5 +1,15 @@
 -- The results of actions, and their statuses.
-use Rattle.std.proofs.Common.{Bor, ◌≡◌, List, ℕ, Bool, Some, Ok, Err, Result, chars, inl, inr, subst, sym}
+use Rattle.std.proofs.Common.{Bor, [], ◌∷◌, ◌==◌, true, false, length, ◌∙◌, ap, refl, Global, string_bytes, ◌≡◌, List, ℕ, Bool, Some, Ok, Err, Result, chars, inl, inr, subst, sym}
+use Rattle.std.proofs.lemmas.Bool.{eqb-true}
+use Rattle.std.proofs.lemmas.Option.{none-some}
+use Rattle.std.proofs.lemmas.Str.{IsUtf8-string_bytes, encodes-chars}
+use Rattle.std.specs.Prelude.{IfOk, String, encode_utf8_all}
+use Rattle.std.specs.declared.alloc.AllocError.{AllocError}
+use Rattle.cli.specs.Shown.{shown}
+use Rattle.kdl.specs.Words.{IsDocument, Nodes, Value, text_of}
+use Rattle.kdl.specs.Words as words
+use Rattle.kdl_path.specs.Paths.{all_at}
+use Rattle.kdl_path.proofs.Reached.{none_there}
 use Rattle.kdl_path.specs.Failures.{InsertFails, RemoveFails, SetFails}
 use Rattle.kdl_path.specs.declared.failure.EditFailure.{EditFailure}
 use Rattle.kdl_path.specs.declared.failure.EditFailure.TheVariants as edit
@@ -9,9 +19,9 @@ use Rattle.kdl_text.specs.declared.error.ParseFailure.TheVariants.{Syntax, Memor
 use Rattle.cli_world.specs.Files.{Files, IsNoText}
 use Rattle.cli_world.specs.declared.world.Unread.{Unread}
 use Rattle.cli_world.specs.declared.world.Unread.TheVariants as unread
-use Rattle.cli.specs.Asks.{Applies, IsStatusOf, IsUnedited}
+use Rattle.cli.specs.Asks.{Applies, IsStatusOf, IsUnedited, ShowsAt}
 use Rattle.cli.specs.declared.ask.Action.{Action}
-use Rattle.cli.specs.declared.ask.Action.TheVariants.{Set, Remove, Insert}
+use Rattle.cli.specs.declared.ask.Action.TheVariants.{Get, Set, Remove, Insert}
 use Rattle.cli.specs.declared.ask.Applied.{Applied}
 use Rattle.cli.specs.declared.ask.Applied.TheVariants.{Text, NotFound, Usage}
 use Rattle.cli_world.specs.declared.status.Status.TheVariants as status
@@ -80,3 +90,21 @@ uninserted p n text edit.Memory (Err (Syntax e)) h k = absurd k
 -- the status of an action on a file that is not UTF-8
 pub no_text_status : (files : Files) (name bytes : List ℕ) (a : Action) (why : Unread) (n : ℕ) → why ≡ unread.NotUtf8 n → IsNoText files name why → files name ≡ Some bytes → IsStatusOf a bytes status.Found
 no_text_status files name bytes a why n is h e = inl (subst (IsNoText files name) is h bytes e).0
+
+-- no value is at the path
+pub no_items : {A : Type 0} (xs : List A) (n : ℕ) → n ≡ length xs → true ≡ (n == 0) → xs ≡ []
+no_items [] n l e = refl
+no_items (x ∷ xs) n l e = let z : n ≡ 0 = eqb-true n 0 (sym e) in absurd cc
+
+pub none_shown : (p : Bor Path) (raw all : Bool) (text : List ℕ) (x : Nodes) (r : Result Applied ParseFailure) → all ≡ true → IsDocument (chars text) x → all_at p.now x ≡ [] → ShowsAt p.now raw x r → Applies (Get p raw all) text r
+none_shown p raw all text x (Ok (Text s)) a d e (v, f, g) = absurd (none-some v (sym (none_there p.now x e) ∙ f))
+none_shown p raw true text x (Ok (NotFound s)) a d e h = (x, d, e)
+none_shown p raw false text x (Ok (NotFound s)) a d e h = absurd (cc)
+none_shown p raw all text x (Ok (Usage s)) a d e h = absurd h
+none_shown p raw all text x (Err (Syntax f)) a d e h = absurd h
+none_shown p raw all text x (Err Memory) a d e h = tt
+
+-- a string is shown as it is
+pub as_it_is : (t : String Global) (x : Value) (bs : List ℕ) (r : Result (String Global) AllocError) → x ≡ words.text (text_of t) → bs ≡ string_bytes t → IfOk r (λ s. string_bytes s ≡ bs) → IfOk r (λ s. string_bytes s ≡ encode_utf8_all (shown true x))
+as_it_is t x bs (Ok s) e b h = h ∙ b ∙ sym (encodes-chars (string_bytes t) (IsUtf8-string_bytes t)) ∙ ap (λ v. encode_utf8_all (shown true v)) (sym e)
+as_it_is t x bs (Err f) e b h = tt

@@ -13,6 +13,7 @@ use Rattle.kdl_path.specs.declared.path.Path.{Path}
 use Rattle.kdl_path.specs.declared.path.Target.TheVariants.{Node}
 use Rattle.kdl_text.specs.declared.error.ParseFailure.{ParseFailure}
 use Rattle.kdl_text.specs.declared.error.ParseFailure.TheVariants.{Syntax, Memory}
+use Rattle.cli.specs.Shown.{IsShown, asked, line_of}
 use Rattle.cli_world.specs.Files.{Files, Has}
 use Rattle.cli_world.specs.declared.status.Status.{Status}
 use Rattle.cli_world.specs.declared.status.Status.TheVariants as status
@@ -39,7 +40,7 @@ IsInserted p node text new = IsInsertedAt p (chars node) (chars text) (chars new
 
 -- the new text is what the action asks for
 abbrev pub Gives : Action → List ℕ → List ℕ → Type 0
-Gives (Get path raw all) text new = all ≡ false → (x : Nodes) → IsDocument (chars text) x → IsSome (at_path path.now x)
+Gives (Get path raw all) text new = IsShown path.now raw all text new
 Gives (Set path value create) text new = IsSet path.now value.now create text new
 Gives (Remove path) text new = IsRemoved path.now text new
 Gives (Insert path node) text new = IsInserted path.now node.now text new
@@ -48,7 +49,7 @@ Gives FromJson text new = Unit {0}
 
 -- what the action asks for is not in the text
 abbrev pub IsNotThere : Action → List ℕ → Type 0
-IsNotThere (Get path raw all) text = (x : Nodes) × IsDocument (chars text) x × (at_path path.now x ≡ None)
+IsNotThere (Get path raw all) text = (x : Nodes) × IsDocument (chars text) x × (asked path.now all x ≡ [])
 IsNotThere (Set path value create) text = (x : Nodes) × IsDocument (chars text) x × IsUnset path.now create x
 IsNotThere (Remove path) text = (x : Nodes) × IsDocument (chars text) x × (named_at path.now x ≡ None)
 IsNotThere (Insert path node) text = (x : Nodes) × IsDocument (chars text) x × (HasPlace path.now.steps.items x → ⊥)
@@ -95,13 +96,13 @@ abbrev pub IsDelivered : Ask → List ℕ → Files → Files → Type 0
 IsDelivered ask bytes old new = (p : List ℕ)
     → (new p ≡ old p) ⊎ ((p ≡ ask.name.now) × (ask.replace ≡ true) × (new ask.name.now ≡ Some bytes))
 
--- the result of `get`: a value that is at the path, or none there
-abbrev pub ShowsAt : Path → Nodes → Result Applied ParseFailure → Type 0
-ShowsAt p x (Ok (Text s)) = IsSome (at_path p x)
-ShowsAt p x (Ok (NotFound s)) = at_path p x ≡ None
-ShowsAt p x (Ok (Usage s)) = ⊥
-ShowsAt p x (Err (Syntax e)) = ⊥
-ShowsAt p x (Err Memory) = Unit {0}
+-- the result of `get` for one value: a line with the value at the path, or none is there
+abbrev pub ShowsAt : Path → Bool → Nodes → Result Applied ParseFailure → Type 0
+ShowsAt p raw x (Ok (Text s)) = (v : Value) × (at_path p x ≡ Some v) × (string_bytes s ≡ line_of raw v)
+ShowsAt p raw x (Ok (NotFound s)) = at_path p x ≡ None
+ShowsAt p raw x (Ok (Usage s)) = ⊥
+ShowsAt p raw x (Err (Syntax e)) = ⊥
+ShowsAt p raw x (Err Memory) = Unit {0}
 
 -- the result of an edit that was not made, for that reason
 abbrev pub IsUnedited : EditFailure → Result Applied ParseFailure → Type 0

@@ -10,3 +10,5 @@ pub mod Asks
 pub mod Requests
 -- Why a text has no settings.
 pub mod Config
+-- The values that `get` shows.
+pub mod Shown

@@ -1,9 +1,11 @@
 //! What is done with one text: one of its values, another form of it, or the text with a part of it changed.
 
 ghost use Rattle.cli.specs.Asks.{ActsOnFile, Applies, IsDelivered, IsStatusOf, IsUnedited, ShowsAt};
+ghost use Rattle.cli.specs.Shown.{line_of, shown};
 ghost use Rattle.cli.specs.declared.ask.Action.TheVariants.{FromJson, Get, Insert, Json, Remove, Set};
-ghost use Rattle.kdl.specs.Words.{document_says};
-ghost use Rattle.std.specs.Prelude.{◌≡◌, ◌⊎◌, List, Some, ℕ};
+ghost use Rattle.kdl.specs.Words.{document_says, value_tree};
+ghost use Rattle.std.specs.List.{flat_map};
+ghost use Rattle.std.specs.Prelude.{◌≡◌, ◌⊎◌, ◌++◌, IfOk, List, OnOk, Some, encode_utf8_all, map, string_bytes, true, ℕ};
 
 use crate::report::{Style, report_faults};
 use cli_world::status::Status;
@@ -164,23 +166,21 @@ fn values_at(
     if !all {
         return one_value(alloc, &document, path, raw);
     }
-    let lines = all_values(alloc, &document, path, raw)?;
-    if lines.is_empty() {
+    let values = get_all(alloc, &document, path)?;
+    if values.is_empty() {
         return one_value(alloc, &document, path, raw);
     }
-    Ok(Applied::Text(lines))
+    Ok(Applied::Text(lines_of(alloc, &values, raw)?))
 }
 
-/// Returns a line for each value at the path.
-fn all_values(
-    alloc: Global,
-    document: &KdlDocument,
-    path: &Path,
-    raw: bool,
-) -> Result<String, AllocError> {
+/// Returns a line for each value.
+fn lines_of(alloc: Global, values: &[&KdlValue], raw: bool) -> Result<String, AllocError>
+    ensures { IfOk result (λ s. string_bytes s
+        ≡ flat_map (line_of raw) (map (λ v. value_tree v.now) values.now)) }
+{
     let mut lines = String::new(alloc);
-    for value in &get_all(alloc, document, path)? {
-        push_value(&mut lines, *value, raw)?;
+    for value in values {
+        push_value(alloc, &mut lines, *value, raw)?;
     }
     Ok(lines)
 }
@@ -192,12 +192,12 @@ fn one_value(
     path: &Path,
     raw: bool,
 ) -> Result<Applied, ParseFailure>
-    ensures { ShowsAt path.now (document_says document.now) result }
+    ensures { ShowsAt path.now raw (document_says document.now) result }
 {
     match get(alloc, document, path) {
         Ok(value) => {
             let mut line = String::new(alloc);
-            push_value(&mut line, value, raw)?;
+            push_value(alloc, &mut line, value, raw)?;
             Ok(Applied::Text(line))
         }
         Err(GetFailure::Missing(missing)) => Ok(Applied::NotFound(format!(in alloc; "{missing}")?)),
@@ -205,13 +205,34 @@ fn one_value(
     }
 }
 
-/// Appends a line with the value: a string without quotes and escapes if `raw`.
-fn push_value(out: &mut String, value: &KdlValue, raw: bool) -> Result<(), AllocError> {
-    match value {
-        KdlValue::String(text) if raw => out.push_str(text.as_str())?,
-        _ => write!(out, "{value}")?,
-    }
+/// Appends a line with the value.
+fn push_value(
+    alloc: Global,
+    out: &mut String,
+    value: &KdlValue,
+    raw: bool,
+) -> Result<(), AllocError>
+    ensures { OnOk result (string_bytes out.new
+        ≡ string_bytes out.old ++ line_of raw (value_tree value.now)) }
+{
+    let text = if raw {
+        unquoted(alloc, value)?
+    } else {
+        value.to_string(alloc)?
+    };
+    out.push_str(&text)?;
     out.push('\n')
+}
+
+/// Returns the value as it is printed, but a string without quotes and escapes.
+fn unquoted(alloc: Global, value: &KdlValue) -> Result<String, AllocError>
+    ensures { IfOk result (λ s. string_bytes s
+        ≡ encode_utf8_all (shown true (value_tree value.now))) }
+{
+    match value {
+        KdlValue::String(text) => String::from_str(alloc, text),
+        _ => value.to_string(alloc),
+    }
 }
 
 /// Returns the result for an edit that was not made.

@@ -20,3 +20,5 @@ pub mod Edited
 pub mod Failing
 -- What can be made at a PATH, in memory and in the data.
 pub mod Making
+-- Every node to which steps lead, in memory and in the data.
+pub mod Reached

@@ -8,3 +8,5 @@ pub mod Changed
 pub mod Done
 -- A node after spaces, and with an end.
 pub mod Laid
+-- Every node in memory to which the steps of a PATH lead.
+pub mod Every

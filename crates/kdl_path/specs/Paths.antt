@@ -1,4 +1,6 @@
 -- What a PATH names in the data of a document.
+use Rattle.std.specs.List.{filter, filter_map, flat_map}
+use Rattle.std.specs.Option.{option_to_list}
 use Rattle.std.specs.Prelude.{ℕ, List, [], ◌∷◌, Option, Some, None, option_and_then, unwrap_or}
 use Rattle.kdl.specs.Words.{NodeData, Nodes, Value, said_argument, said_child_nodes, said_nodes, said_property}
 use Rattle.kdl.specs.Said.{is_called}
@@ -36,3 +38,22 @@ value_in (Property s) x = said_property (text_of s) x
 -- the value at a PATH
 abbrev pub at_path : Path → Nodes → Option Value
 at_path p x = option_and_then (value_in p.target) (node_at p.steps.items (said_nodes x))
+
+-- the nodes that a step leads to if every value is asked for: the one at its index, or without an index each of its name
+abbrev pub nodes_named : Option ℕ → Step → List NodeData → List NodeData
+nodes_named None s xs = filter (is_called (text_of s.name)) xs
+nodes_named (Some i) s xs = option_to_list (step_node s xs)
+
+-- the nodes to which steps lead from a node, through the blocks
+abbrev pub nodes_below : List Step → NodeData → List NodeData
+nodes_below [] x = x ∷ []
+nodes_below (s ∷ ss) x = flat_map (nodes_below ss) (nodes_named s.index s (said_child_nodes x))
+
+-- the nodes to which they lead from the nodes of a document; no steps lead to no node
+abbrev pub nodes_at : List Step → List NodeData → List NodeData
+nodes_at [] xs = []
+nodes_at (s ∷ ss) xs = flat_map (nodes_below ss) (nodes_named s.index s xs)
+
+-- the values at a PATH: that of each node to which it leads, in the order of the document
+abbrev pub all_at : Path → Nodes → List Value
+all_at p x = filter_map (value_in p.target) (nodes_at p.steps.items (said_nodes x))

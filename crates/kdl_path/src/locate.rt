@@ -61,7 +61,7 @@ fn nth_named(nodes: &[KdlNode], name: &str, number: usize) -> Option<usize>
 }
 
 /// Whether the node has that name.
-fn is_named(node: &KdlNode, name: &str) -> bool
+pub(crate) fn is_named(node: &KdlNode, name: &str) -> bool
     ensures { result ≡ is_node_named name.now node.now }
 {
     node.name().value() == name
@@ -78,7 +78,7 @@ pub(crate) fn child_nodes(node: &KdlNode) -> &[KdlNode]
 }
 
 /// The index of the node that a step names.
-fn step_index(nodes: &[KdlNode], step: &Step) -> Option<usize>
+pub(crate) fn step_index(nodes: &[KdlNode], step: &Step) -> Option<usize>
     ensures { result ≡ place_of_step step.now nodes.now }
 {
     let number = step.index.unwrap_or(0);

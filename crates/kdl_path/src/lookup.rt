@@ -1,13 +1,16 @@
 //! The values at a PATH.
 
-ghost use Rattle.kdl.specs.Words.{document_says, node_says, value_tree};
+ghost use Rattle.kdl.specs.Words.{child_nodes, document_says, is_node_named, node_says, said_nodes, value_tree};
 ghost use Rattle.kdl_path.specs.Failures.{IsMissing};
-ghost use Rattle.kdl_path.specs.Internal.Located.{IsNowhere};
-ghost use Rattle.kdl_path.specs.Paths.{at_path, value_in};
-ghost use Rattle.std.specs.Prelude.{◌≡◌, IfErr, IfOk, None, Some, option_map};
+ghost use Rattle.kdl_path.specs.Internal.Located.{IsNowhere, named_in};
+ghost use Rattle.kdl_path.specs.Paths.{all_at, at_path, nodes_at, value_in};
+ghost use Rattle.std.specs.List.{filter, flat_map};
+ghost use Rattle.std.specs.Prelude.{◌≡◌, ◌++◌, IfErr, IfOk, None, OnOk, Some, map, option_map};
 
 use crate::failure::{GetFailure, Missing};
-use crate::locate::{Lost, child_nodes, entry_place, locate, missing_entry, missing_node};
+use crate::locate::{
+    Lost, child_nodes, entry_place, is_named, locate, missing_entry, missing_node, step_index,
+};
 use crate::path::{Path, Step, Target};
 use kdl::{KdlDocument, KdlNode, KdlValue};
 use std::alloc::{AllocError, Global};
@@ -89,20 +92,12 @@ pub fn get_all<'a>(
     alloc: Global,
     document: &'a KdlDocument,
     path: &Path,
-) -> Result<Vec<&'a KdlValue>, AllocError> {
+) -> Result<Vec<&'a KdlValue>, AllocError>
+    ensures { IfOk result (λ vs. map (λ v. value_tree v.now) vs.items
+        ≡ all_at path.now (document_says document.now)) }
+{
     let mut values = Vec::new(alloc);
-    let Some((first, below)) = path.steps.split_first() else {
-        return Ok(values);
-    };
-    let mut nodes = Vec::new(alloc);
-    push_named(&mut nodes, document.nodes(), first)?;
-    for step in below {
-        let mut inside = Vec::new(alloc);
-        for node in &nodes {
-            push_named(&mut inside, child_nodes(*node), step)?;
-        }
-        nodes = inside;
-    }
+    let nodes = all_nodes(alloc, document, &path.steps)?;
     for node in &nodes {
         if let Some(value) = value_of(*node, &path.target) {
             values.push(value)?;
@@ -111,19 +106,74 @@ pub fn get_all<'a>(
     Ok(values)
 }
 
+/// Returns every node that the steps lead to, in the order of the document.
+fn all_nodes<'a>(
+    alloc: Global,
+    document: &'a KdlDocument,
+    steps: &[Step],
+) -> Result<Vec<&'a KdlNode>, AllocError>
+    ensures { IfOk result (λ ns. map (λ n. node_says n.now) ns.items
+        ≡ nodes_at steps.now (said_nodes (document_says document.now))) }
+{
+    let Some((first, below)) = steps.split_first() else {
+        return Ok(Vec::new(alloc));
+    };
+    let mut nodes = Vec::new(alloc);
+    push_named(&mut nodes, document.nodes(), first)?;
+    for step in below {
+        nodes = nodes_inside(alloc, &nodes, step)?;
+    }
+    Ok(nodes)
+}
+
+/// Returns the nodes that a step leads to from each of these nodes.
+fn nodes_inside<'a>(
+    alloc: Global,
+    nodes: &[&'a KdlNode],
+    step: &Step,
+) -> Result<Vec<&'a KdlNode>, AllocError>
+    ensures { IfOk result (λ ns. map (λ n. n.now) ns.items
+        ≡ flat_map (λ n. named_in step.now (child_nodes n)) (map (λ n. n.now) nodes.now)) }
+{
+    let mut inside = Vec::new(alloc);
+    for node in nodes {
+        push_named(&mut inside, child_nodes(*node), step)?;
+    }
+    Ok(inside)
+}
+
 /// Appends the nodes that a step leads to.
 fn push_named<'a>(
     out: &mut Vec<&'a KdlNode>,
     nodes: &'a [KdlNode],
     step: &Step,
-) -> Result<(), AllocError> {
-    let mut seen: usize = 0;
+) -> Result<(), AllocError>
+    ensures { OnOk result (map (λ n. n.now) out.new.items
+        ≡ map (λ n. n.now) out.old.items ++ named_in step.now nodes.now) }
+{
+    if step.index.is_none() {
+        return push_each(out, nodes, &step.name);
+    }
+    if let Some(index) = step_index(nodes, step) {
+        if let Some(node) = nodes.get(index) {
+            out.push(node)?;
+        }
+    }
+    Ok(())
+}
+
+/// Appends each node of that name.
+fn push_each<'a>(
+    out: &mut Vec<&'a KdlNode>,
+    nodes: &'a [KdlNode],
+    name: &str,
+) -> Result<(), AllocError>
+    ensures { OnOk result (map (λ n. n.now) out.new.items
+        ≡ map (λ n. n.now) out.old.items ++ filter (is_node_named name.now) nodes.now) }
+{
     for node in nodes {
-        if node.name().value() == step.name.as_str() {
-            if step.index.is_none() || step.index == Some(seen) {
-                out.push(node)?;
-            }
-            seen = seen.saturating_add(1);
+        if is_named(node, name) {
+            out.push(node)?;
         }
     }
     Ok(())

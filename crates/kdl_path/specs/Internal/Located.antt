@@ -1,6 +1,7 @@
 -- Nodes and entries in memory that a PATH names.
-use Rattle.std.specs.List.{list_all}
-use Rattle.std.specs.Prelude.{◌≡◌, ◌&&◌, ℕ, Bool, true, false, List, [], ◌∷◌, Option, Some, drop, length, option_and_then, slice_get, string_bytes, unwrap_or}
+use Rattle.std.specs.List.{filter, flat_map, list_all}
+use Rattle.std.specs.Option.{option_to_list}
+use Rattle.std.specs.Prelude.{◌≡◌, ◌&&◌, ℕ, Bool, true, false, List, [], ◌∷◌, Option, None, Some, drop, length, option_and_then, slice_get, string_bytes, unwrap_or}
 use Rattle.kdl.specs.Words.{Nodes, child_nodes, has_name, is_argument, is_node_named, said_nodes, there}
 use Rattle.kdl.specs.declared.node.KdlNode.{KdlNode}
 use Rattle.kdl_entry.specs.declared.entry.KdlEntry.{KdlEntry}
@@ -27,6 +28,19 @@ Leads [] [] ns o n = o ≡ Some n
 Leads [] (i ∷ is) ns o n = ⊥
 Leads (s ∷ ss) [] ns o n = ⊥
 Leads (s ∷ ss) (i ∷ is) ns o n = (k : KdlNode) × (place_of_step s ns ≡ Some i) × (slice_get ns i ≡ Some k) × Leads ss is (child_nodes k) (Some k) n
+
+-- the nodes that a step leads to if every value is asked for
+abbrev pub found_named : Option ℕ → Step → List KdlNode → List KdlNode
+found_named None s ns = filter (is_node_named (string_bytes s.name)) ns
+found_named (Some i) s ns = option_to_list (there (place_of_step s ns) ns)
+
+abbrev pub named_in : Step → List KdlNode → List KdlNode
+named_in s ns = found_named s.index s ns
+
+-- the nodes to which steps lead from a node
+abbrev pub reached : List Step → KdlNode → List KdlNode
+reached [] n = n ∷ []
+reached (s ∷ ss) n = flat_map (reached ss) (named_in s (child_nodes n))
 
 -- the place of the entry that a target names
 abbrev pub place_of_target : Target → List KdlEntry → Option ℕ
