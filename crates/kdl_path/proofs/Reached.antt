@@ -154,10 +154,6 @@ has_in f xs x y (ls, rs, e) (us, vs, g) = (
       ∙ sym (append_assoc (flat_map f ls) us (y ∷ (vs ++ flat_map f rs))),
 )
 
-none_at : {A : Type 0} (o : Option ℕ) (x : A) → option_and_then (λ i. slice_get [] i) o ≡ Some x → ⊥
-none_at None x e = none-some x e
-none_at (Some i) x e = none-some x e
-
 later_at : {A : Type 0} (y : A) (ys : List A) (o : Option ℕ) → there (option_map suc o) (y ∷ ys) ≡ there o ys
 later_at y ys None = refl
 later_at y ys (Some i) = refl
