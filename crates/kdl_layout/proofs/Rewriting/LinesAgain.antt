@@ -274,10 +274,14 @@ pub lines_again : (before : Text) → list_all is_space before ≡ true → {s :
     → GapItems (lines before is ++ r) (map on_line is ++ js)
 lines_again before ok {is = is} d g = lines_first gaps before ok is (gap_items d) g
 
+-- spaces alone have no items
+pub spaces_items : (s : Text) → list_all is_space s ≡ true → GapItems s []
+spaces_items s ok = subst (λ (z : Text). GapItems z []) (append-nil s) (spaces_before s ok GapItems.none)
+
 -- with spaces alone after the lines
 pub lines_spaces : (before after : Text) → list_all is_space before ≡ true → list_all is_space after ≡ true → {s : Text} {is : List Item} → GapItems s is → GapItems (lines before is ++ after) (map on_line is)
 lines_spaces before after ok ok' {s} {is} d =
-    subst (λ (js : List Item). GapItems (lines before is ++ after) js) (append-nil (map on_line is)) (lines_again before ok d (subst (λ (z : Text). GapItems z []) (append-nil after) (spaces_before after ok' GapItems.none)))
+    subst (λ (js : List Item). GapItems (lines before is ++ after) js) (append-nil (map on_line is)) (lines_again before ok d (spaces_items after ok'))
 
 -- what is on a line is the same on a line
 line_cons : (c d : ℕ) (s : Text) → line_text (c ∷ line_text (d ∷ s)) ≡ c ∷ line_text (line_text (d ∷ s))
