@@ -17,7 +17,7 @@ use Rattle.kdl_text.proofs.Looking.Returns.{moves_returned}
 use Rattle.kdl_text.proofs.Looking.SliceCost.{ate, moves_ran, costs_ran, costs_took}
 use Rattle.kdl_text.proofs.Spacing.NewlineUnique.{newline_there}
 use Rattle.kdl_text.proofs.Spacing.SpaceReads.{moves_ate_two}
-use Rattle.kdl_diagnostics.specs.Internal.Reading.{EndsIn, GoesOn, IsEnd, LiesIn, OnFound, Passed, Reads}
+use Rattle.kdl_diagnostics.specs.Internal.Reading.{EndsIn, GoesOn, IsEnd, LiesIn, OnFound, Passed, Reads, Since}
 use Rattle.kdl_diagnostics.specs.declared.ends.ValueEnd.{ValueEnd}
 use Rattle.kdl_diagnostics.specs.declared.strings.Found.{Found}
 

@@ -135,7 +135,8 @@ pub(crate) fn esclines(
     'characters: loop {
         let at = cursor.at();
         let Some(c) = cursor.take() else {
-            comments.end(comments.last)?;
+            let last = comments.last;
+            comments.end(last)?;
             return Ok(comments.found);
         };
         comments.take(c, at, cursor, candidates)?;

@@ -84,12 +84,15 @@ impl<'a> Notes<'a> {
     }
 
     /// Notes that a fault was noted at the `{` of the innermost open block.
-    pub(crate) fn tell_block(&mut self)
+    pub(crate) fn tell_block(&mut self) -> Result<(), AllocError>
         ensures { Keeps Always self.old self.new }
     {
-        if let Some(block) = self.blocks.last_mut() {
-            block.is_told = true;
+        if let Some(block) = self.blocks.pop() {
+            let span = block.span;
+            let is_told = true;
+            self.blocks.push(Block { span, is_told })?;
         }
+        Ok(())
     }
 
     /// Closes the innermost open block, if there is one.

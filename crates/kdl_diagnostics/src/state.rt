@@ -253,10 +253,7 @@ impl Progress {
         let step = self.move_of(lexeme);
         let is_taken = self.apply(notes, lexeme, step)?;
         match (step, lexeme.kind) {
-            (LexemeMove::Take, LexemeKind::Opening) if is_taken => {
-                notes.tell_block();
-                Ok(())
-            }
+            (LexemeMove::Take, LexemeKind::Opening) if is_taken => notes.tell_block(),
             (LexemeMove::Take, _) if !is_taken => {
                 self.go_to(Context::Control, Phase::Gap);
                 self.end_node(notes);

@@ -1,4 +1,5 @@
 use Rattle.std.proofs.Common.{ap, arith}
+use Rattle.kdl_text.specs.Spans.{bytes}
 use Rattle.kdl_text.proofs.Looking.MovesJoin.{moves_then, fewer_bytes}
 use Rattle.kdl_text.proofs.Looking.Parts.{part_past}
 use Rattle.kdl_text.proofs.Looking.Returns.{moves_returned}
@@ -6,8 +7,8 @@ use Rattle.kdl_diagnostics.proofs.LexemeMoves.{lexeme_is}
 use Rattle.kdl_diagnostics.proofs.Passing.{after_bytes, after_same, after_then, ends_in, if_lies, since_moves}
 use Rattle.kdl_diagnostics.proofs.lexemes.faulty_string.Goals as goal
 
-pub end_within-requires : goal.end_within-requires
-end_within-requires c =
+pub end_within-inside-requires : goal.end_within-inside-requires
+end_within-inside-requires c =
     let f = c.requires.found in
     (f.following.0, f.following.1, part_past _ _ f.before.0 _ c.requires.start.since.part f.before.1)
 

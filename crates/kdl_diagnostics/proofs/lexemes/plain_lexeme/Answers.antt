@@ -1,4 +1,4 @@
-use Rattle.std.proofs.Common.{sym, ◌∙◌, ap}
+use Rattle.std.proofs.Common.{sym, ◌∙◌, ◌++◌, ap}
 use Rattle.kdl_diagnostics.proofs.LexemeMoves.{lexes}
 use Rattle.kdl_diagnostics.proofs.Passing.{newline_first, ran_fewer, reads_costs, reads_more, reads_ran, reads_up, starts_first, stepped_first}
 use Rattle.kdl_diagnostics.proofs.lexemes.plain_lexeme.Goals as goal
@@ -13,7 +13,7 @@ returns-then-is_newline_char c =
 
 pub returns-in-Some : goal.returns-in-Some
 returns-in-Some c =
-    let s = stepped_first _ _ _ c.requires c.step.ensures in
+    let s = stepped_first _ _ _ c.requires c.step-in-Some.ensures in
     lexes c.checkpoint-start.ensures.rest c.plain-in-Some.ensures.stands (λ e. c.in-Some.ensures (sym c.plain-in-Some.ensures.kind ∙ e)) (reads_more 12 (reads_up 24 s.reads)) s.went
 
 pub new-requires : goal.new-requires

@@ -1,4 +1,4 @@
-use Rattle.std.proofs.Common.{ap, arith, sym, ◌∙◌}
+use Rattle.std.proofs.Common.{ap, arith, sym, ◌∙◌, ◌++◌}
 use Rattle.kdl_text.specs.Spans.{bytes}
 use Rattle.kdl_text.proofs.Looking.MovesJoin.{moves_then, fewer_bytes, bytes-append}
 use Rattle.kdl_text.proofs.Looking.Returns.{moves_returned}
@@ -23,7 +23,7 @@ word-requires-clause-start c =
     let t = ended _ _ _ _ c.skip.ensures c.look.ensures.moved in
     let r = reads_ran c.skip-2.ensures in
     let f = c.keyword_fault-fault.ensures in
-    let few = signs_fewer _ _ _ c.requires c.skip.ensures c.look.ensures.moved (λ e. search) in
+    let few = signs_fewer _ _ _ c.requires c.skip.ensures c.look.ensures.moved (λ e. ?) in
     past_from c.checkpoint-start.ensures.rest c.checkpoint-start.ensures.part (moves_then t.moves (moves_then r.moves (moves_returned f))) (omega (arith, few, fewer_bytes r.moves, ap bytes f.rest))
 
 pub returns-clause-reads : goal.returns-clause-reads
