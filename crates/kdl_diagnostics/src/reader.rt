@@ -3,7 +3,6 @@
 ghost use Rattle.kdl_diagnostics.specs.Internal.Noted.{Always, Counted, Goes, HasFault, IsFrontOf, IsReader, IsReaderOf, ReadsIn, Takes};
 ghost use Rattle.kdl_diagnostics.specs.Internal.Outsets.{BeginsAt, IsReady, IsReadyAt, IsStopped, Lacking};
 ghost use Rattle.kdl_diagnostics.specs.declared.machine.Context.TheVariants.{FaultyType};
-ghost use Rattle.kdl_text.specs.Internal.Here.{IsPart};
 ghost use Rattle.kdl_text.specs.Chars.{Text};
 ghost use Rattle.kdl_text.specs.Spans.{bytes};
 ghost use Rattle.std.specs.Prelude.{◌≡◌, ◌+◌, ◌*◌, length, None, IfOk, IsSome};

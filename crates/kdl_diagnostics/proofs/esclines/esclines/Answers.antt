@@ -18,10 +18,10 @@ pub returns-in_default : goal.returns-in_default
 returns-in_default c = reads_then c.characters.invariant (reads_looked 4 _ _ c.in_default.ensures.took.1)
 
 pub returns-in_err-take : goal.returns-in_err-take
-returns-in_err-take c = reads_more 1 (reads_then c.characters.invariant (turn c.in-Some.ensures.took c.take-2.ensures).reads)
+returns-in_err-take c = reads_more 1 (reads_then c.characters.invariant (turn c.in-Some.ensures.took c.take-in-characters.ensures).reads)
 
 pub characters-smaller : goal.characters-smaller
-characters-smaller c = (turn c.in-Some.ensures.took c.take-2.ensures).went
+characters-smaller c = (turn c.in-Some.ensures.took c.take-in-characters.ensures).went
 
 pub characters-preserved : goal.characters-preserved
-characters-preserved c = reads_then c.characters.invariant (turn c.in-Some.ensures.took c.take-2.ensures).reads
+characters-preserved c = reads_then c.characters.invariant (turn c.in-Some.ensures.took c.take-in-characters.ensures).reads

@@ -10,7 +10,7 @@ use Rattle.kdl_diagnostics.proofs.lexemes.faulty_string.Goals as goal
 pub end_within-inside-requires : goal.end_within-inside-requires
 end_within-inside-requires c =
     let f = c.requires.found in
-    (f.following.0, f.following.1, part_past _ _ f.before.0 _ c.requires.start.since.part f.before.1)
+    record { before = f.following; part = part_past _ _ f.before.0 _ c.requires.start.since.part f.before.1 }
 
 pub new-lexeme-requires : goal.new-lexeme-requires
 new-lexeme-requires c =

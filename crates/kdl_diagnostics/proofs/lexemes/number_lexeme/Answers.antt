@@ -9,7 +9,7 @@ use Rattle.kdl_diagnostics.proofs.lexemes.number_lexeme.Goals as goal
 
 pub up_to-number-requires : goal.up_to-number-requires
 up_to-number-requires c =
-    let x = since_here c.checkpoint-start.ensures.rest c.checkpoint-start.ensures.part (reads_ran c.skip.ensures).moves in
+    let x = since_here {place = c.checkpoint-start.result} c.checkpoint-start.ensures.rest c.checkpoint-start.ensures.part (reads_ran c.skip.ensures).moves in
     after_same _ _ _ x.before c.checkpoint.ensures.rest
 
 pub number_fault-requires : goal.number_fault-requires

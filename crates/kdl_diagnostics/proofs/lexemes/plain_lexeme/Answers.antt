@@ -19,7 +19,7 @@ returns-in-Some c =
 pub new-requires : goal.new-requires
 new-requires c =
     let s = stepped_first _ _ _ c.requires c.step.ensures in
-    record { place = (s.reads.moves.piece.0, c.checkpoint-start.ensures.rest ∙ s.reads.moves.piece.1 ∙ ap (λ z. s.reads.moves.piece.0 ++ z) (sym c.checkpoint.ensures.rest)); comment = rw c.at-end.ensures.comment tt }
+    record { place = (s.reads.moves.piece.0, c.checkpoint-start.ensures.rest ∙ s.reads.moves.piece.1 ∙ ap (λ z. s.reads.moves.piece.0 ++ z) (sym (ap (λ z. z.rest) c.at-end.ensures.place ∙ c.checkpoint.ensures.rest))); comment = rw c.at-end.ensures.comment tt }
 
 pub returns-then-c-eq40 : goal.returns-then-c-eq40
 returns-then-c-eq40 c =

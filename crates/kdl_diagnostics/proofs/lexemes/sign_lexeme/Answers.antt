@@ -15,7 +15,7 @@ returns-then-eq-clause-reads c =
 pub up_to-text-requires : goal.up_to-text-requires
 up_to-text-requires c =
     let m = moves_then (ended _ _ _ _ c.skip.ensures c.look.ensures.moved).moves (reads_ran c.skip-2.ensures).moves in
-    let x = since_here c.checkpoint-start.ensures.rest c.checkpoint-start.ensures.part m in
+    let x = since_here {place = c.checkpoint-start.result} c.checkpoint-start.ensures.rest c.checkpoint-start.ensures.part m in
     after_same _ _ _ x.before c.checkpoint.ensures.rest
 
 pub word-requires-clause-start : goal.word-requires-clause-start
@@ -23,7 +23,7 @@ word-requires-clause-start c =
     let t = ended _ _ _ _ c.skip.ensures c.look.ensures.moved in
     let r = reads_ran c.skip-2.ensures in
     let f = c.keyword_fault-fault.ensures in
-    let few = signs_fewer _ _ _ c.requires c.skip.ensures c.look.ensures.moved (λ e. ?) in
+    let few = signs_fewer _ _ _ c.requires c.skip.ensures c.look.ensures.moved (λ e. let i = rw (c.look.ensures.result ∙ e) at c.if-eq.ensures in cc) in
     past_from c.checkpoint-start.ensures.rest c.checkpoint-start.ensures.part (moves_then t.moves (moves_then r.moves (moves_returned f))) (omega (arith, few, fewer_bytes r.moves, ap bytes f.rest))
 
 pub returns-clause-reads : goal.returns-clause-reads
