@@ -71,9 +71,6 @@ near (t_string p) u e = let m = move_piece_first p in record { at = m.at; there 
 near {r = r} (t_value p) u e = let m = move_plain_piece p in record { at = m.at; there = t_value (m.there u (starts_first is_identifier_char u r e ∙ plain_stops p)) }
 near t u e = mark t refl u
 
-pub near_token : {s r : Text} {k : Token} → BeginsToken s k r → Fits k r → (u : Text) → first u ≡ first r → Moved s r k u
-near_token t f u e = near t u e
-
 -- a piece that is not empty begins the text, whatever follows it
 pub full_of : {s r : Text} (p : Put s r) → length r < length s → (u : Text) → first (p.put u) ≡ first s
 full_of {s = s} {r = r} p h u = go p.piece (p.text u) (p.here ∙ p.text r)

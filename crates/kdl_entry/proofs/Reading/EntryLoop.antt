@@ -8,7 +8,7 @@ use Rattle.kdl_text.specs.Trivia.{NodeSpace}
 use Rattle.kdl_syntax.specs.Control.{Phase, fresh, spaced, type_open, type_name, in_node, property}
 use Rattle.kdl_syntax.specs.EntryControl as control
 use Rattle.kdl_syntax.specs.EntryControl.{EntryControl, entry_step}
-use Rattle.kdl_entry.specs.Internal.EntryMachine.{Word, State, ahead, dropping, under, word, done, phase_of, valued, begin_to, value_of, under_to, word_to, go_to, if_taken, step, finish, Runs, stops, reads, AnswersEntry}
+use Rattle.kdl_entry.specs.Internal.EntryMachine.{Word, State, ahead, dropping, under, word, done, phase_of, valued, begin_to, value_of, under_to, word_to, go_to, if_taken, step, finish, Runs, stops, reads}
 use Rattle.kdl_entry.specs.Internal.Counted.{EndsIn, InOrder, Recounted}
 use Rattle.kdl_entry.specs.Internal.EntryReading.{AnswersEntryText, Ended, Same, Stands, Stepped}
 use Rattle.kdl_value.specs.Data.{Value}

@@ -10,7 +10,7 @@ ghost use Rattle.kdl_entry.specs.Internal.Counted.{EndsIn, Recounted, Within};
 ghost use Rattle.kdl_entry.specs.Internal.EntryReading.{word_view, state_view, AnswersEntryText, Stands, Stepped, Ended};
 ghost use Rattle.kdl_syntax.specs.Internal.Handed.{kind_view};
 ghost use Rattle.kdl_entry.specs.Places.{between};
-ghost use Rattle.kdl_value.specs.Tree.{text_of, value_tree};
+ghost use Rattle.kdl_value.specs.Tree.{value_tree};
 ghost use Rattle.kdl_entry.specs.Tree.{entry_tree};
 ghost use Rattle.std.specs.Prelude.{◌≡◌, [], None, Some, IfOk, option_map};
 ghost use Rattle.std.specs.Str.{chars};
