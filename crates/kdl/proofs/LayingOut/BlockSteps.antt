@@ -384,7 +384,15 @@ nodes_taken : (o : Option KdlDocument) (r v : Vec KdlNode Global) → 0 < length
 nodes_taken None r v h m = absurd (omega (arith, h))
 nodes_taken (Some d) r v h m = ap (λ (x : Vec KdlNode Global). x.items) m
 
--- the next node, of which the nodes in its block are taken out: b is its block, b1 is that with the node laid out
+-- what is so once the block of the next node, which n was and m is, is opened: b was the innermost block, and b1 is that with the node laid out
+pub record BlockOpens (s : Layout) (above : List LayoutFrame) (b b1 outer inner : LayoutFrame) (n m : KdlNode) : Type 0 where
+  pub all : whole (above ++ outer ∷ []) inner ≡ outermost above (map node_tree (set b.nodes.items b.at m))
+  pub bare : bare_node (node_tree m) ≡ bare_node (node_tree n) → map bare_node (whole (above ++ outer ∷ []) inner) ≡ map bare_node (whole above b)
+  pub goes_on : inner.at ≡ 0 → inner.level ≡ b1.level + 1
+      → (text_of b.before ≡ indentation (settings s.config) b.level → text_of inner.before ≡ indentation (settings s.config) inner.level)
+      → (text_of b.before ≡ indentation (settings s.config) b.level → Own s b.level b outer.next inner.next outer.around n m) → GoesOn s above b (above ++ outer ∷ []) inner
+
+-- the next node, of which the nodes in its block are taken out
 module _ (s : Layout) (above : List LayoutFrame) (b b1 outer inner : LayoutFrame) (n m x x' : KdlNode) (v r : Vec KdlNode Global)
     (there : b.at < length b.nodes.items) (next : get_or b.nodes.items b.at n ≡ n)
     (items : b1.nodes.items ≡ set b.nodes.items b.at m) (place : b1.at ≡ b.at) (open_level : b1.level ≡ b.level) (open_before : b1.before ≡ b.before)
@@ -406,7 +414,7 @@ module _ (s : Layout) (above : List LayoutFrame) (b b1 outer inner : LayoutFrame
   as_before : (ms : List Node) → filled x' ms ≡ filled m ms
   as_before ms = filled_changed x x' v ms has ∙ ap (λ z. filled z ms) x_is
 
-  pub whole_block_next : whole (above ++ outer ∷ []) inner ≡ outermost above (map node_tree (set b.nodes.items b.at m))
+  whole_block_next : whole (above ++ outer ∷ []) inner ≡ outermost above (map node_tree (set b.nodes.items b.at m))
   whole_block_next =
       let f : KdlNode → Node = λ z. filled z (map node_tree inner.nodes.items) in
       let one : f x' ≡ node_tree m = as_before (map node_tree inner.nodes.items) ∙ ap (λ z. filled m (map node_tree z)) taken ∙ sym (node_is m) in
@@ -414,12 +422,12 @@ module _ (s : Layout) (above : List LayoutFrame) (b b1 outer inner : LayoutFrame
       ap (λ z. with_at f z outer.at) outer_items ∙ ap (λ i. with_at f (set b.nodes.items b.at x') i) (outer_at ∙ place) ∙ with_at_set f b.nodes.items b.at x' m there one in
       outermost_more above outer (map node_tree inner.nodes.items) ∙ ap (outermost above) two
 
-  pub bare_block_next : bare_node (node_tree m) ≡ bare_node (node_tree n) → map bare_node (whole (above ++ outer ∷ []) inner) ≡ map bare_node (whole above b)
+  bare_block_next : bare_node (node_tree m) ≡ bare_node (node_tree n) → map bare_node (whole (above ++ outer ∷ []) inner) ≡ map bare_node (whole above b)
   bare_block_next e =
       ap (map bare_node) whole_block_next
       ∙ bare_outermost above (map node_tree (set b.nodes.items b.at m)) (map node_tree b.nodes.items) (bare_set b.nodes.items b.at m n there (e ∙ ap (λ z. bare_node (node_tree z)) (sym next)))
 
-  pub block_goes_on : inner.at ≡ 0 → inner.level ≡ b1.level + 1
+  block_goes_on : inner.at ≡ 0 → inner.level ≡ b1.level + 1
       → (text_of b.before ≡ indentation (settings s.config) b.level → text_of inner.before ≡ indentation (settings s.config) inner.level)
       → (text_of b.before ≡ indentation (settings s.config) b.level → Own s b.level b outer.next inner.next outer.around n m) → GoesOn s above b (above ++ outer ∷ []) inner
   block_goes_on first l t own =
@@ -447,6 +455,9 @@ module _ (s : Layout) (above : List LayoutFrame) (b b1 outer inner : LayoutFrame
         block_on s above b outer inner (child_nodes n) x' n there outer_items (outer_at ∙ place) (outer_level ∙ open_level) (outer_before ∙ open_before) (taken ∙ same) first laid,
         omega (arith, block_counted following n w.0 outer above w.1, ap (λ z. count_left following z (above ++ outer ∷ [])) (start ∙ is), ap (λ z. count_left following (n ∷ z) above) rest, ap (λ z. count_left following z above) next_is),
       )
+
+  pub open_block : BlockOpens s above b b1 outer inner n m
+  open_block = record { all = whole_block_next; bare = bare_block_next; goes_on = block_goes_on }
 
 -- a layout from the start to the end
 pub all_laid : {E : Type 0} (r : Result (Unit {0}) E) (l : Layout) (level : ℕ) (first : Before) (olds xs : List KdlNode) (above above' : List LayoutFrame) (b b' : LayoutFrame)
