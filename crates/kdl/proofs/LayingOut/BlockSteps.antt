@@ -1,7 +1,7 @@
 -- Blocks that are laid out, step by step.
 use Rattle.std.proofs.Common.{◌≡◌, ℕ, zero, suc, ◌+◌, ◌<◌, ◌≤◌, List, [], ◌∷◌, ◌++◌, length, map, drop, set, get_or, Option, None, Some, option_map, refl, sym, ap, ◌∙◌, subst, arith, add-one, Vec, Global, Result, Ok, Err, IfOk}
 use Rattle.std.specs.Prelude.{MatchOption}
-use Rattle.std.proofs.lemmas.List.{append-nil, drop_more, drop_all, drop-set-lt, get_or-set_same}
+use Rattle.std.proofs.lemmas.List.{append-nil, drop_more, drop_all, drop-set-lt, get_or-set_same, set-set}
 use Rattle.kdl_value.specs.Tree.{text_of}
 use Rattle.kdl_layout.specs.Config.{IndentsBySpaces, indentation, settings}
 use Rattle.kdl_layout.specs.declared.blank.Before.{Before}
@@ -371,11 +371,6 @@ line_goes_on s above b b' first g n m x h e is at l t same none braced own =
       omega (arith, line_counted following n (following b) above, ap (λ r. count_left following r above) rest, ap (λ r. count_left following r above) first),
     )
 
-set_twice : (xs : List KdlNode) (i : ℕ) (y z : KdlNode) → set (set xs i y) i z ≡ set xs i z
-set_twice [] i y z = refl
-set_twice (x ∷ xs) zero y z = refl
-set_twice (x ∷ xs) (suc i) y z = ap (λ t. x ∷ t) (set_twice xs i y z)
-
 block_is_there : (o : Option KdlDocument) → 0 < length (nodes_in o) → (d : KdlDocument) × (o ≡ Some d)
 block_is_there None h = absurd (omega (arith, h))
 block_is_there (Some d) h = (d, refl)
@@ -409,7 +404,7 @@ module _ (s : Layout) (above : List LayoutFrame) (b b1 outer inner : LayoutFrame
   taken = inner_nodes ∙ nodes_taken (out-KdlNode x).children r v (subst (λ z. 0 < length (child_nodes z)) (sym x_is) some) had ∙ ap child_nodes x_is
 
   outer_items : outer.nodes.items ≡ set b.nodes.items b.at x'
-  outer_items = exchanged ∙ ap (λ z. set z b1.at x') items ∙ ap (λ i. set (set b.nodes.items b.at m) i x') place ∙ set_twice b.nodes.items b.at m x'
+  outer_items = exchanged ∙ ap (λ z. set z b1.at x') items ∙ ap (λ i. set (set b.nodes.items b.at m) i x') place ∙ set-set b.nodes.items b.at m x'
 
   as_before : (ms : List Node) → filled x' ms ≡ filled m ms
   as_before ms = filled_changed x x' v ms has ∙ ap (λ z. filled z ms) x_is

@@ -1,5 +1,6 @@
 -- What the calls that lay out promise, from what the layout makes.
 use Rattle.std.proofs.Common.{◌≡◌, ℕ, Bool, true, false, refl, sym, ap, ◌∙◌, subst, Result, OnOk}
+use Rattle.std.proofs.lemmas.Result.{on_ok_weaker}
 use Rattle.kdl_text.specs.Chars.{is_space}
 use Rattle.kdl_grammar.specs.Laid.{LaidDocument}
 use Rattle.kdl_grammar.specs.Print.{print_document, print_node}
@@ -31,7 +32,6 @@ use Rattle.kdl.specs.Tree.{document_says, document_tree, node_says, node_tree}
 use Rattle.kdl.specs.declared.document.KdlDocument.{KdlDocument}
 use Rattle.kdl.specs.declared.node.KdlNode.{KdlNode}
 use Rattle.kdl.proofs.Finding.SaidLookups.{finds_same, node_finds_same}
-use Rattle.kdl.proofs.LayingOut.PartsSpaced.{if_ok}
 
 -- what layout makes where no block stays on one line
 laid_off : (spelling line : Bool) (number : ℕ) (s : Settings) (level : ℕ) (d x : Document) → line ≡ false → IsLaidDocument spelling line number s level d x → IsSpelledDocument spelling number s level d x
@@ -75,8 +75,8 @@ module _ {A E : Type 0} (r : Result A E) (l : Layout) where
       «data» = same;
       finds = finds_same d e same;
       kept = kept;
-      levels = if_ok r (λ (f : DocumentIsSpaced l d e). spaced.document_levels_fit l.blank_lines s s.indent_level old f.0.1.0 f.0.1.1) laid;
-      keeps_none = if_ok r
+      levels = on_ok_weaker r (λ (f : DocumentIsSpaced l d e). spaced.document_levels_fit l.blank_lines s s.indent_level old f.0.1.0 f.0.1.1) laid;
+      keeps_none = on_ok_weaker r
           (λ (p : DocumentIsSpaced l d e). let f = p.0 in
           subst DocumentKeepsNone (sym f.2) (on_line.document_keeps_none l.keep_one_line old f.0 (left.document_keeps_none l.keep_spelling s old f.1.0 f.0 (spaced.document_keeps_none l.blank_lines s s.indent_level old f.1.0 f.1.1) f.1.2)))
           laid;
@@ -85,22 +85,22 @@ module _ {A E : Type 0} (r : Result A E) (l : Layout) where
     pub rereads_document : (IndentsBySpaces s → DocumentKeepsReading s d → DocumentReadsBack d → DocumentReadsBack e) → IndentsBySpaces s → RereadsDocument s d e r
     rereads_document back ok = record {
       reads_back = back ok;
-      derived = λ flag. if_ok r (λ (f : DocumentIsSpaced l d e). λ none. document_derived l.blank_lines s ok l.keep_one_line flag l.keep_spelling s.indent_level old (document_tree e) f.0 none f.1 same) laid;
-      comments = λ flag with. if_ok r
+      derived = λ flag. on_ok_weaker r (λ (f : DocumentIsSpaced l d e). λ none. document_derived l.blank_lines s ok l.keep_one_line flag l.keep_spelling s.indent_level old (document_tree e) f.0 none f.1 same) laid;
+      comments = λ flag with. on_ok_weaker r
           (λ (p : DocumentIsSpaced l d e). λ none y is i h. let f = p.0 in
           comments_stay l.blank_lines s ok with l.keep_one_line s.indent_level 0 old f.0 y is i (written_document l.blank_lines s flag l.keep_spelling s.indent_level old f.1.0 f.0 f.1.1 f.1.2 none p.1)
           (subst (λ (z : Document). LaidDocument y (print_document z 0)) f.2 h))
           laid;
-      reads = if_ok r (λ (f : DocumentIsSpaced l d e). canonical_reads s.indent ok s.indent_level (document_says d) f.1) laid;
+      reads = on_ok_weaker r (λ (f : DocumentIsSpaced l d e). canonical_reads s.indent ok s.indent_level (document_says d) f.1) laid;
     }
 
     pub formats_document : l.blank_lines ≡ 0 → l.keep_spelling ≡ false → l.keep_one_line ≡ false → FormatsDocument s d e r
     formats_document blank spelling line =
         let f : DocumentIsSpaced l d e → DocumentLaidOut s d e = λ h. unspaced l.keep_spelling l.keep_one_line l.blank_lines s s.indent_level old (document_tree e) blank spelling line h.0 in
         record {
-          formatted = if_ok r f laid;
-          plain = λ no. if_ok r (λ (h : DocumentIsSpaced l d e). layout.document_left_out s s.indent_level old (document_tree e) no (f h)) laid;
-          prints = λ plain. if_ok r
+          formatted = on_ok_weaker r f laid;
+          plain = λ no. on_ok_weaker r (λ (h : DocumentIsSpaced l d e). layout.document_left_out s s.indent_level old (document_tree e) no (f h)) laid;
+          prints = λ plain. on_ok_weaker r
               (λ (h : DocumentIsSpaced l d e). λ none. ap (λ (y : Document). print_document y 0) (layout.document_left_out s s.indent_level old (document_tree e) plain.0 (f h)) ∙ document_canonical s s.indent_level 0 old plain none)
               laid;
         }
@@ -121,8 +121,8 @@ module _ {A E : Type 0} (r : Result A E) (l : Layout) where
       «data» = same_node;
       finds = node_finds_same n m same_node;
       kept = kept;
-      levels = if_ok r (λ (f : IsLaid). spaced.levels_fit l.blank_lines s s.indent_level at_start old_node f.0.1.0 f.0.1.1) laid;
-      keeps_none = if_ok r
+      levels = on_ok_weaker r (λ (f : IsLaid). spaced.levels_fit l.blank_lines s s.indent_level at_start old_node f.0.1.0 f.0.1.1) laid;
+      keeps_none = on_ok_weaker r
           (λ (p : IsLaid). let f = p.0 in
           subst NodeKeepsNone (sym f.2) (on_line.node_keeps_none l.keep_one_line old_node f.0 (left.keeps_none l.keep_spelling s old_node f.1.0 f.0 (spaced.keeps_none l.blank_lines s s.indent_level at_start old_node f.1.0 f.1.1) f.1.2)))
           laid;
@@ -131,22 +131,22 @@ module _ {A E : Type 0} (r : Result A E) (l : Layout) where
     pub rereads_node : (IndentsBySpaces s → StaysAs s (node_tree n) (node_tree m)) → IndentsBySpaces s → RereadsNode s n m r
     rereads_node stays ok = record {
       reads_back = λ k P h. (stays ok P (h, k)).0;
-      derived = λ flag. if_ok r (λ (f : IsLaid). λ none. node_derived l.blank_lines s ok l.keep_one_line flag l.keep_spelling s.indent_level at_start old_node (node_tree m) f.0 none f.1 same_node) laid;
-      comments = λ flag with. if_ok r
+      derived = λ flag. on_ok_weaker r (λ (f : IsLaid). λ none. node_derived l.blank_lines s ok l.keep_one_line flag l.keep_spelling s.indent_level at_start old_node (node_tree m) f.0 none f.1 same_node) laid;
+      comments = λ flag with. on_ok_weaker r
           (λ (p : IsLaid). λ none z is i h. let f = p.0 in
           node_comments_stay l.blank_lines s ok with l.keep_one_line s.indent_level 0 at_start old_node f.0 z is i (written_node l.blank_lines s flag l.keep_spelling s.indent_level at_start old_node f.1.0 f.0 f.1.1 f.1.2 none p.1)
           (subst (λ (w : Node). LaidDocument z (print_node w 0)) f.2 h))
           laid;
-      reads = if_ok r (λ (f : IsLaid). canonical_node_reads s.indent ok s.indent_level (node_says n) f.1) laid;
+      reads = on_ok_weaker r (λ (f : IsLaid). canonical_node_reads s.indent ok s.indent_level (node_says n) f.1) laid;
     }
 
     pub formats_node : l.blank_lines ≡ 0 → l.keep_spelling ≡ false → l.keep_one_line ≡ false → FormatsNode s n m r
     formats_node blank spelling line =
         let f : IsLaid → NodeLaidOut s n m = λ h. node_unspaced l.keep_spelling l.keep_one_line l.blank_lines s s.indent_level old_node (node_tree m) blank spelling line h.0 in
         record {
-          formatted = if_ok r f laid;
-          plain = λ no. if_ok r (λ (h : IsLaid). layout.left_out s s.indent_level at_start old_node (node_tree m) no (f h)) laid;
-          prints = λ plain. if_ok r
+          formatted = on_ok_weaker r f laid;
+          plain = λ no. on_ok_weaker r (λ (h : IsLaid). layout.left_out s s.indent_level at_start old_node (node_tree m) no (f h)) laid;
+          prints = λ plain. on_ok_weaker r
               (λ (h : IsLaid). λ none. ap (λ (z : Node). print_node z 0) (layout.left_out s s.indent_level at_start old_node (node_tree m) plain.0 (f h)) ∙ node_canonical s s.indent_level 0 old_node plain none)
               laid;
         }

@@ -1,11 +1,12 @@
 use Rattle.std.proofs.Common.{rules, option_map, map, ap, subst, ◌∙◌}
+use Rattle.std.proofs.lemmas.Result.{on_ok_weaker}
 use Rattle.kdl_layout.specs.Config.{settings}
 use Rattle.kdl_parts.specs.Formats.{document_format_tree}
 use Rattle.kdl.specs.Internal.Spacing.{NodesAreSpaced, StayAs}
 use Rattle.kdl.specs.Tree.{node_tree, nodes_tree}
 use Rattle.kdl.specs.declared.document.KdlDocument.TheViews.{the_lemmas, out-KdlDocument, out-roll-KdlDocument}
 use Rattle.kdl_layout.specs.Formatted.{bare_node}
-use Rattle.kdl.proofs.LayingOut.PartsSpaced.{if_ok, same_content, laid_content, nodes_fit, fitting_document}
+use Rattle.kdl.proofs.LayingOut.PartsSpaced.{same_content, laid_content, nodes_fit, fitting_document}
 use Rattle.kdl.proofs.LayingOut.StaysReading.{document_stays}
 use Rattle.kdl.proofs.document.KdlDocument.lay_out.Goals as goal
 
@@ -24,7 +25,7 @@ returns c =
           (c.lay_out_nodes.ensures.kept ∙ ap (λ x. map bare_node (map node_tree x.nodes.items)) (out-roll-KdlDocument fields));
       reads_back = λ ok. document_stays l ok level first c.args.self.now _ (search (rules, the_lemmas)) new (search (rules, the_lemmas)) format (search (rules, the_lemmas)) content
           (subst (λ x. StayAs (settings l.config) (map node_tree x.nodes.items) (map node_tree new.items)) (out-roll-KdlDocument fields) (c.lay_out_nodes.ensures.stays ok));
-      spaced = if_ok c.lay_out_nodes.result
+      spaced = on_ok_weaker c.lay_out_nodes.result
           (λ h. let laid = subst (λ x. NodesAreSpaced l level first (map node_tree x.nodes.items) (map node_tree new.items)) (out-roll-KdlDocument fields) h in (
             laid_content _ c.args.self.now (search (rules, the_lemmas)) new (search (rules, the_lemmas)) l level first format (search (rules, the_lemmas)) content laid,
             fitting_document c.args.self.now (nodes_fit l level first (map node_tree d.nodes.items) (map node_tree new.items) laid),

@@ -1,5 +1,5 @@
+use Rattle.std.proofs.lemmas.Result.{on_ok_weaker}
 use Rattle.kdl.proofs.LayingOut.LayoutCalls.{formats_node, keeps_node, rereads_node}
-use Rattle.kdl.proofs.LayingOut.PartsSpaced.{if_ok}
 use Rattle.kdl.proofs.node.KdlNode.autoformat_layout.Goals as goal
 
 pub returns-clause-keeps : goal.returns-clause-keeps
@@ -9,7 +9,7 @@ pub returns-clause-rereads : goal.returns-clause-rereads
 returns-clause-rereads c = rereads_node c.lay_out_alone.result c.args.layout.now c.args.self.now c.lay_out_alone.new.self c.lay_out_alone.ensures.kept c.lay_out_alone.ensures.spaced c.lay_out_alone.ensures.stays
 
 pub returns-clause-formatted : goal.returns-clause-formatted
-returns-clause-formatted c = if_ok c.lay_out_alone.result (λ f. f.0) c.lay_out_alone.ensures.spaced
+returns-clause-formatted c = on_ok_weaker c.lay_out_alone.result (λ f. f.0) c.lay_out_alone.ensures.spaced
 
 pub returns-clause-unspaced : goal.returns-clause-unspaced
 returns-clause-unspaced c = formats_node c.lay_out_alone.result c.args.layout.now c.args.self.now c.lay_out_alone.new.self c.lay_out_alone.ensures.kept c.lay_out_alone.ensures.spaced
