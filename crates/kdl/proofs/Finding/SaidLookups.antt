@@ -1,6 +1,5 @@
 -- What look-ups find in memory is what the data say, and data that are the same are the same to each look-up.
 use Rattle.std.proofs.Common.{Bor, ◌≡◌, ℕ, Bool, true, false, List, [], ◌∷◌, map, Option, Some, None, is_none, is_some, option_and_then, option_map, slice_get, string_bytes, refl, ap, ◌∙◌, sym, cond}
-use Rattle.std.proofs.lemmas.Simd.{map-map}
 use Rattle.std.proofs.lemmas.Option.{slice_get-map}
 use Rattle.std.proofs.lemmas.Slice.Eq.{bytes_eq-Decides}
 use Rattle.std.proofs.lemmas.Str.{IsUtf8-string_bytes, encodes-chars}
@@ -58,6 +57,10 @@ given_mapped : {A B C : Type 0} (f : A → B) (g : A → Option C) (h : B → Op
 given_mapped f g h e [] = refl
 given_mapped f g h e (x ∷ xs) = ap (λ o. cons_option o (filter_map g xs)) (e x) ∙ ap (cons_option (h (f x))) (given_mapped f g h e xs)
 
+map_twice : {A B C : Type 0} (f : A → B) (g : B → C) (xs : List A) → map (λ x. g (f x)) xs ≡ map g (map f xs)
+map_twice f g [] = refl
+map_twice f g (x ∷ xs) = ap (λ l. g (f x) ∷ l) (map_twice f g xs)
+
 value_mapped : {A B C : Type 0} (f : A → B) (g : B → C) (o : Option A) → option_map (λ x. g (f x)) o ≡ option_map g (option_map f o)
 value_mapped f g None = refl
 value_mapped f g (Some x) = refl
@@ -108,7 +111,7 @@ has_said_none e = go e.name
 
 -- the entries of a node say what the node says of them
 pub entries_said : (n : KdlNode) → map entry_says (entries_of n) ≡ said_entries (node_says n)
-entries_said n = sym (map-map entry_data entry_tree (entries_of n)) ∙ ap (λ t. said_entries (node_data t)) (sym (node_tree_out n))
+entries_said n = map_twice entry_tree entry_data (entries_of n) ∙ ap (λ t. said_entries (node_data t)) (sym (node_tree_out n))
 
 -- its name, its type and its children
 pub name_said : (n : KdlNode) → text_of (out-KdlNode n).name.value ≡ said_name (node_says n)
@@ -172,7 +175,7 @@ has_said s n u =
 -- the values of its arguments
 pub arguments_said : (n : KdlNode) → arguments (entries_of n) ≡ said_arguments (node_says n)
 arguments_said n =
-    sym (map-map value_in entry_says (filter is_argument (entries_of n)))
+    map_twice entry_says value_in (filter is_argument (entries_of n))
     ∙ ap (map value_in) (filter_mapped entry_says is_argument has_no_key has_said_none (entries_of n) ∙ ap (filter has_no_key) (entries_said n))
 
 -- the nodes of a document, and in a node's block
