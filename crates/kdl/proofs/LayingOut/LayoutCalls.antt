@@ -155,3 +155,7 @@ module _ {A E : Type 0} (r : Result A E) (l : Layout) where
 pub spaces_are : IndentsBySpaces defaults
 unfolding is_space
 spaces_are = refl
+
+-- with settings that are known
+pub settled : (s t : Settings) (P : Settings → Type 0) → s ≡ t → IndentsBySpaces t → (IndentsBySpaces s → P s) → P t
+settled s t P e ok h = subst (λ (z : Settings). IndentsBySpaces z → P z) e h ok

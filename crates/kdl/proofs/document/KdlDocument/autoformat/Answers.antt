@@ -1,0 +1,9 @@
+use Rattle.std.proofs.Common.{rules}
+use Rattle.kdl_layout.specs.Config.{settings, defaults}
+use Rattle.kdl.specs.LaysOut.{RereadsDocument}
+use Rattle.kdl.proofs.LayingOut.LayoutCalls.{settled, spaces_are}
+use Rattle.kdl.proofs.document.KdlDocument.autoformat.Goals as goal
+
+pub returns-clause-rereads : goal.returns-clause-rereads
+returns-clause-rereads c =
+    settled (settings c.build-config.result) defaults (λ s. RereadsDocument s c.args.self.now c.autoformat_config.new.self c.autoformat_config.result) (search rules) spaces_are c.autoformat_config.ensures.rereads
