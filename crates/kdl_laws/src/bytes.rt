@@ -29,7 +29,6 @@ pub fn entries_exchanged()
 {}
 
 /// If one entry of a node with a format is replaced, its piece of the printed text is replaced, and no other byte.
-#[tactic(auto, using(kdl::proofs::EditLaws::entry_exchanged))]
 pub fn entry_exchanged()
     ensures { EntryExchanged }
 {}
@@ -47,7 +46,6 @@ pub fn nodes_exchanged()
 {}
 
 /// If one node of a document is replaced, its piece of the printed text is replaced, and no other byte.
-#[tactic(auto, using(kdl::proofs::EditLaws::node_exchanged))]
 pub fn node_exchanged()
     ensures { NodeExchanged }
 {}

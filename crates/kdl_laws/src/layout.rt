@@ -101,7 +101,6 @@ pub fn spaced_twice(document: &mut KdlDocument, layout: &Layout) -> Result<(), A
 
 /// A second layout with the same fields changes nothing, whether spellings are kept and blocks stay on one line or not:
 /// if the indent is of spaces and no entry is flagged, layout of its own result is that result.
-#[tactic(auto, using(crate::proofs::TwoLayouts::spaced_again, crate::proofs::TwoLayouts::spaced_node_again))]
 pub fn second_spaced_layout()
     ensures document { (spelling line : Bool) (number : ℕ) (s : Settings) (level : ℕ)
         → (d x y : Document) → IndentsBySpaces s
@@ -116,7 +115,6 @@ pub fn second_spaced_layout()
 {}
 
 /// If no block is to stay on one line, layout has the result of layout with blank lines and spellings alone.
-#[tactic(auto, using(crate::proofs::TwoLayouts::lined_document, crate::proofs::TwoLayouts::lined_node))]
 pub fn layout_without_one_line()
     ensures document { (spelling : Bool) (number : ℕ) (s : Settings) (level : ℕ) (d x : Document)
         → IsLaidDocument spelling false number s level d x
@@ -172,7 +170,6 @@ pub fn unflagged_keeps_reading()
 {}
 
 /// An entry that keeps a form of empty texts does not read back in it.
-#[tactic(auto, using(crate::proofs::KeptForms::empty_form_does_not_read))]
 pub fn empty_form_does_not_read()
     ensures { EmptyFormFails }
 {}

@@ -142,7 +142,6 @@ pub fn block_reads_back()
 {}
 
 /// An entry with neither a format nor a spelling reads back in any node.
-#[tactic(auto, using(kdl::proofs::ReadingBack::unformed_reads))]
 pub fn unformed_reads_back()
     ensures { (e : KdlEntry) → IsUnformed (entry_tree e) → EntryReadsBack e }
 {}

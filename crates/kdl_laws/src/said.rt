@@ -19,7 +19,6 @@ ghost use Rattle.std.specs.Prelude.{◌≡◌, ◌++◌, [], ◌∷◌, List, So
 ghost use Rattle.std.specs.Str.{IsUtf8};
 
 /// A property that is set in the first node of a name is set in the data of the document: x before, and y after it.
-#[tactic(auto, using(crate::proofs::SetInData::property_set_in))]
 pub fn property_set_is_said()
     ensures { (s r : List ℕ) (v : Value) (d : KdlDocument) (n m : KdlNode) (x y : Nodes)
         → IsUtf8 s → IsUtf8 r → Some n ≡ node_named s d
