@@ -1,4 +1,4 @@
-use Rattle.std.proofs.Common.{◌∙◌, ap, sym, subst, string_bytes}
+use Rattle.std.proofs.Common.{◌∙◌, ap, refl, sym, subst, string_bytes}
 use Rattle.std.proofs.lemmas.Slice.Eq.{bytes_eq-Decides}
 use Rattle.std.proofs.lemmas.Str.{encodes_same}
 use Rattle.std.specs.Prelude.{chars}
@@ -14,7 +14,7 @@ returns c =
     let b = c.in_ok-b in
     let f = c.in_ok-autoformat_no_comments.ensures in
     let g = c.in_ok-autoformat_no_comments-2.ensures in
-    let same = same_texts without_comments.indent 0 (document_says a.a) (document_says b.b) _ _ f.reads g.reads (f.prints a.ensures.keeps_none) (g.prints b.ensures.keeps_none) in
+    let same = same_texts without_comments.indent 0 (document_says a.a) (document_says b.b) _ _ f.rereads.reads g.rereads.reads (f.formats.prints (refl, refl) a.ensures.keeps_none) (g.formats.prints (refl, refl) b.ensures.keeps_none) in
     let strings = bytes_eq-Decides (string_bytes c.in_ok-one.one) (string_bytes c.in_ok-other.other) in (
       λ e.
           let bytes = sym c.in_ok-one.ensures.ok ∙ strings.0 (sym c.eq.ensures ∙ e) ∙ c.in_ok-other.ensures.ok in
