@@ -199,7 +199,7 @@ entry_last (property k ss us v) = last_after (following (end_string k) (followin
 pub block_last : {s r : Text} {xs : Nodes} → IsBlock true s r xs → Last s r
 block_last (braces ns) = let m = move_nodes ns in last_also 123 (last_after (put_end m.at) (last_here 125 refl))
 
-space_other : (c : ℕ) → is_space c ≡ true → (c == 13) ≡ false
+pub space_other : (c : ℕ) → is_space c ≡ true → (c == 13) ≡ false
 unfolding is_space
 space_other c h = grind (arith, nat_tests)
 
