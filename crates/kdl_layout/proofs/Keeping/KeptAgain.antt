@@ -1,5 +1,5 @@
 -- What layout kept of a text is kept of the text that it wrote, and is written the same.
-use Rattle.std.proofs.Common.{◌≡◌, Bool, true, false, List, [], ◌∷◌, ◌++◌, refl, sym, ap, subst, ◌∙◌, append-nil}
+use Rattle.std.proofs.Common.{◌≡◌, Bool, true, false, List, [], ◌∷◌, ◌++◌, sym, ap, subst, ◌∙◌, append-nil}
 use Rattle.kdl_text.specs.Chars.{Text}
 use Rattle.kdl_layout.specs.Items.{Item, Place, before_entry, before_block, takes_blocks, PlaceItems, ends}
 use Rattle.kdl_layout.specs.Written.{tail}

@@ -1,16 +1,13 @@
 -- What is kept of comments may occur in the place in which it is written, and holds the items of its text.
-use Rattle.std.proofs.Common.{◌≡◌, ℕ, zero, suc, Bool, true, false, List, [], ◌∷◌, ◌++◌, refl, sym, subst, ◌∙◌, ◌==◌, map, ap, append-nil, arith}
+use Rattle.std.proofs.Common.{◌≡◌, ℕ, zero, suc, Bool, true, false, List, [], ◌∷◌, ◌++◌, refl, sym, subst, ◌∙◌, map, ap, append-nil}
 use Rattle.std.proofs.lemmas.List.Folds.{list_all-append}
-use Rattle.std.proofs.lemmas.Bool.Decides.{nat_tests}
 use Rattle.std.proofs.lemmas.List.{map-append}
 use Rattle.std.specs.Cmp.Derive.{both_true}
 use Rattle.std.specs.List.{list_all, repeat}
-use Rattle.std.specs.Prelude.{if◌then◌else◌}
-use Rattle.kdl_text.specs.Chars.{Text, is_space, is_newline_char, Space, Star, plus, space as a_space}
-use Rattle.kdl_text.specs.Trivia.{Ws, NodeSpace, ValueEnd, LineComment}
+use Rattle.kdl_text.specs.Chars.{Text, is_space, Star, plus, space as a_space}
+use Rattle.kdl_text.specs.Trivia.{Ws, ValueEnd, LineComment}
 use Rattle.kdl_entry.specs.Places.{between}
-use Rattle.kdl_grammar.specs.Data.{Nodes}
-use Rattle.kdl_grammar.specs.Grammar.{Terminator, Gap, AreNodes, last_gap, node_then}
+use Rattle.kdl_grammar.specs.Grammar.{Terminator, Gap}
 use Rattle.kdl_layout.specs.Items.{Item, Place, PlaceItems, comment as a_comment, piece, line_end, EsclineItems, SpaceItems, takes_blocks, spaced}
 use Rattle.kdl_layout.specs.Lacks.{InPlace}
 use Rattle.kdl_layout.specs.Written.{tail, line_text, on_line}

@@ -2,7 +2,7 @@
 use Rattle.std.proofs.Common.{◌≡◌, ℕ, Bool, true, false, if◌then◌else◌, List, [], ◌∷◌, ◌++◌, length, Option, Some, None, Bor, refl, sym, ap, subst, ◌∙◌, arith, append_assoc, append-nil}
 use Rattle.std.proofs.lemmas.Bool.{eqb-true}
 use Rattle.std.specs.Str.{chars}
-use Rattle.kdl_text.specs.Chars.{Text, begins, Star, none, more, Plus, plus}
+use Rattle.kdl_text.specs.Chars.{Text, begins, Star, none, more}
 use Rattle.kdl_text.specs.Internal.Here.{first}
 use Rattle.kdl_text.specs.Spans.{bytes}
 use Rattle.kdl_text.specs.Trivia.{NodeSpace, Break, LineSpace, Slashdash, slashdash, ValueEnd}
@@ -12,7 +12,7 @@ use Rattle.kdl_syntax.specs.Tokens.{Token, BeginsToken}
 use Rattle.kdl_entry.proofs.Moving.EntryMoves.{move_spaces, move_slashdash, spaces_end}
 use Rattle.kdl_grammar.specs.Data as nodes'
 use Rattle.kdl_grammar.specs.Data.{Node, Nodes}
-use Rattle.kdl_grammar.specs.Grammar.{Terminator, IsNode, Gap, no_gap, line_space, dropped_node, AreNodes, last_gap, node_then}
+use Rattle.kdl_grammar.specs.Grammar.{Terminator, IsNode, Gap, no_gap, line_space, dropped_node, AreNodes}
 use Rattle.kdl_syntax.specs.Control.{Control, at, node_slashdash}
 use Rattle.kdl_grammar.specs.ReadsBack.{AddsNothing, NodesEnd}
 use Rattle.kdl_grammar.proofs.Moving.Moves.{terminator_end}

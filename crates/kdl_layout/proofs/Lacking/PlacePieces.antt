@@ -8,7 +8,7 @@ use Rattle.kdl_text.specs.Trivia.{NodeSpace, slashdash, ValueEnd}
 use Rattle.kdl_text.proofs.Spacing.ValueEnds.{value_end_no_identifier}
 use Rattle.kdl_syntax.specs.Pieces.{StringPiece}
 use Rattle.kdl_entry.specs.Entries.{string as a_string', untyped}
-use Rattle.kdl_entry.specs.Places.{between, leading}
+use Rattle.kdl_entry.specs.Places.{between}
 use Rattle.kdl_entry.proofs.Moving.EntryMoves.{leading_end, punctuation_end}
 use Rattle.kdl_grammar.specs.Data as nodes'
 use Rattle.kdl_grammar.specs.Data.{Node, node, no_children, children}

@@ -1,5 +1,5 @@
 -- A terminator and the gap after it.
-use Rattle.std.proofs.Common.{◌≡◌, inl, ℕ, suc, ◌<◌, arith, Bool, true, false, [], ◌∷◌, ◌++◌, Option, Some, None, List, Bor, refl, sym, subst, ◌∙◌, append_assoc, append-nil}
+use Rattle.std.proofs.Common.{◌≡◌, inl, ℕ, suc, ◌<◌, arith, true, [], ◌∷◌, ◌++◌, Option, Some, None, List, Bor, refl, sym, subst, ◌∙◌, append_assoc, append-nil}
 use Rattle.std.specs.Str.{chars}
 use Rattle.kdl_text.specs.Chars.{Text, Newline}
 use Rattle.kdl_text.specs.Trivia.{Break}

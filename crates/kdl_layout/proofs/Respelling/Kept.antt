@@ -7,7 +7,7 @@ use Rattle.std.specs.Str.{chars}
 use Rattle.kdl_entry.specs.Tree.{identifier_tree}
 use Rattle.kdl_entry.specs.declared.identifier.KdlIdentifier.{KdlIdentifier}
 use Rattle.kdl_text.specs.Chars.{Text, Star, Plus, plus, is_space}
-use Rattle.kdl_text.specs.Trivia.{BlockComment, Ws, NodeSpace, ValueEnd}
+use Rattle.kdl_text.specs.Trivia.{NodeSpace, ValueEnd}
 use Rattle.kdl_entry.specs.Places.{EntryLeading, leading}
 use Rattle.kdl_grammar.specs.Tree.{NodeFormat}
 use Rattle.kdl_layout.specs.Items.{Item, before_entry, PlaceItems}

@@ -4,13 +4,12 @@ use Rattle.kdl_text.specs.Chars.{Text, is_space, Space, none, more, plus, space 
 use Rattle.kdl_text.specs.Trivia.{BlockComment, LineComment, Ws, EscEnd, escline, NodeSpace, Slashdash, ValueEnd}
 use Rattle.kdl_entry.specs.Data.{Entry}
 use Rattle.kdl_entry.specs.Entries.{IsEntry}
-use Rattle.kdl_entry.specs.Places.{leading, between}
+use Rattle.kdl_entry.specs.Places.{between}
 use Rattle.kdl_entry.proofs.Slicing.Between.{between_is, is_between}
 use Rattle.kdl_entry.proofs.Moving.EntryMoves.{move_slashdash, move_entry}
 use Rattle.kdl_syntax.proofs.Moving.Puts.{Put, joined}
 use Rattle.kdl_grammar.specs.Data.{Nodes}
 use Rattle.kdl_grammar.specs.Grammar.{IsBlock}
-use Rattle.kdl_grammar.specs.Places.{AfterChildren, after, BeforeChildren, before}
 use Rattle.kdl_layout.specs.Items.{Item, comment, piece, line_end, EsclineItems, SpaceItems, Place, before_entry, before_block, after_block, takes_entries, takes_blocks, spaced, PlaceItems, ends, dropped_entry, dropped_block}
 use Rattle.kdl_layout.specs.Lacks.{InPlace}
 use Rattle.kdl_layout.specs.Written.{tail}

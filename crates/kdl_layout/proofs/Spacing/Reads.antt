@@ -1,5 +1,5 @@
 -- What is read and written of a text between nodes, from the items that were read in it.
-use Rattle.std.proofs.Common.{◌≡◌, ℕ, ◌+◌, Bool, arith, true, false, List, [], ◌++◌, refl, sym, ap, subst, ◌∙◌}
+use Rattle.std.proofs.Common.{◌≡◌, ℕ, ◌+◌, Bool, arith, List, [], refl, sym, ap, subst, ◌∙◌}
 use Rattle.kdl_text.specs.Chars.{Text}
 use Rattle.kdl_layout.specs.Items as items
 use Rattle.kdl_layout.specs.Items.{GapItems}
