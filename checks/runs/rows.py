@@ -1,4 +1,4 @@
-"""Runs rows of text on the program `kdl`. README.md beside it says what a row is."""
+"""Runs rows of text on the programs `kdl` and `kdl-tool`. README.md beside it says what a row is."""
 import glob
 import os
 import re
@@ -6,14 +6,15 @@ import subprocess
 import tempfile
 
 MARKS = str.maketrans({"⏎": "\n", "⇥": "\t", "␍": "\r", "␠": " ", "∅": ""})
-LABEL = re.compile(r"section|kdl|status|in|out|err|(out|err) (has|lacks)|(file|after) \S+")
+PROGRAMS = ("kdl", "kdl-tool")
+LABEL = re.compile(r"section|kdl|kdl-tool|status|in|out|err|(out|err) (has|lacks)|(file|after) \S+")
 
 
 class Row:
-    """A command line, what it is run on, and what is expected."""
+    """A program and its command line, what it is run on, and what is expected."""
 
-    def __init__(self, place, command, lines):
-        self.place, self.command, self.lines = place, command, lines
+    def __init__(self, place, program, command, lines):
+        self.place, self.program, self.command, self.lines = place, program, command, lines
 
     def text(self, label):
         """The text of a label: its lines after each other."""
@@ -56,16 +57,18 @@ def rows(path):
             section = block
             continue
         lines = {**section, **block}
-        for command in lines.get("kdl", [""]):
-            yield Row(f"{os.path.basename(path)}:{number}", command, lines)
+        place = f"{os.path.basename(path)}:{number}"
+        found = [(program, command) for program in PROGRAMS for command in lines.get(program, [])]
+        for program, command in found or [("kdl", "")]:
+            yield Row(place, program, command, lines)
 
 
-def run(kdl, row, folder, user):
+def run(program, row, folder, user):
     """Runs the commands of a row, each on the output of the one before. Returns the last run, or the first that fails."""
     text = row.text("in")
     for command in row.command.split(" | "):
         words = [meant(word) for word in command.split(" ")]
-        ran = subprocess.run([kdl, *words], input=text, capture_output=True, cwd=folder, timeout=120, **user)
+        ran = subprocess.run([program, *words], input=text, capture_output=True, cwd=folder, timeout=120, **user)
         if ran.returncode:
             break
         text = ran.stdout
@@ -92,10 +95,10 @@ def unlike(row, what, found):
     return wrong
 
 
-def faults_of(kdl, row, user):
-    """What is wrong with a row, or with what the program does on it."""
+def faults_of(programs, row, user):
+    """What is wrong with a row, or with what its program does on it."""
     wrong = [f"no such label: {label}" for label in row.lines if not LABEL.fullmatch(label)]
-    texts = [row.command, *(text for label, texts in row.lines.items() if label != "kdl" for text in texts)]
+    texts = [row.command, *(text for label, texts in row.lines.items() if label not in PROGRAMS for text in texts)]
     wrong += [f"a text ends in a space: {text!r}" for text in texts if text.endswith(" ")]
     if wrong or not row.command:
         return wrong or ["no line `kdl`"]
@@ -108,7 +111,7 @@ def faults_of(kdl, row, user):
                 file.write(text)
             if user:
                 os.chown(path, user["user"], user["group"])
-        ran = run(kdl, row, folder, user)
+        ran = run(programs[row.program], row, folder, user)
         left = files_in(folder)
     if str(ran.returncode) != "".join(row.lines.get("status", ["0"])):
         wrong.append(f"status: {ran.returncode}, {ran.stderr!r}")
@@ -117,15 +120,15 @@ def faults_of(kdl, row, user):
     return wrong if left == wanted else wrong + [f"files: {left!r}, not {wanted!r}"]
 
 
-def faults(kdl, user):
-    """The faults of all rows beside this file, and the rows of `wrong.rows` that have none."""
+def faults(programs, user):
+    """The faults of all rows beside this file, and the rows of `wrong.rows` that have none. `programs` are by their names."""
     told = []
     for path in sorted(glob.glob(os.path.join(os.path.dirname(os.path.abspath(__file__)), "*.rows"))):
         is_wrong = os.path.basename(path) == "wrong.rows"
         for row in rows(path):
-            found = faults_of(kdl, row, user)
+            found = faults_of(programs, row, user)
             if is_wrong and not found:
-                told.append(f"{row.place}: kdl {row.command}: the row is wrong, and nothing fails")
+                told.append(f"{row.place}: {row.program} {row.command}: the row is wrong, and nothing fails")
             elif not is_wrong:
-                told += [f"{row.place}: kdl {row.command}: {fault}" for fault in found]
+                told += [f"{row.place}: {row.program} {row.command}: {fault}" for fault in found]
     return told

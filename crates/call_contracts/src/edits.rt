@@ -5,19 +5,11 @@ ghost use Rattle.kdl_entry.specs.Tree.{entry_tree};
 ghost use Rattle.kdl_parts.specs.Edits.{GoesUnder, HasArgumentAt, HasRoomAt, IsInserted, removed};
 ghost use Rattle.kdl_parts.specs.EntryLists.{removed_place, sought};
 ghost use Rattle.std.specs.List.Sorted.{IsPermutation, IsStableByClosure};
-ghost use Rattle.std.specs.Prelude.{◌≡◌, [], ◌∷◌, ◌++◌, if◌then◌else◌, OnOk, is_ok};
+ghost use Rattle.std.specs.Prelude.{◌≡◌, OnOk};
 
 use kdl::{KdlEntry, KdlNode, NodeKey};
 use std::alloc::AllocError;
 use std::cmp::Ordering;
-
-/// `KdlNode::push`: the entries afterwards.
-pub fn push(node: &mut KdlNode, entry: KdlEntry) -> Result<(), (KdlEntry, AllocError)>
-    ensures items { entries_of node.new ≡
-        (if is_ok result then entries_of node.old ++ (entry ∷ []) else entries_of node.old) }
-{
-    node.push(entry)
-}
 
 /// `KdlNode::insert`: the entries afterwards.
 pub fn insert(

@@ -1,13 +1,13 @@
 //! Layout of documents and nodes.
 
-ghost use Rattle.kdl.specs.Layout.{DocumentKeepsNoForm, DocumentLaidOut, DocumentSpaced, NodeLaidOut, NodeSpaced};
+ghost use Rattle.kdl.specs.Layout.{DocumentKeepsNoForm, DocumentLaidOut, DocumentSpaced};
 ghost use Rattle.kdl.specs.Tree.{document_prints, document_says, document_tree};
 ghost use Rattle.kdl_layout.specs.Canonical.{Canonical, canonical_text};
 ghost use Rattle.kdl_layout.specs.Config.{defaults, without_comments};
 ghost use Rattle.kdl_layout.specs.Formatted.{DocumentLevelsFit};
 ghost use Rattle.std.specs.Prelude.{◌≡◌, OnOk};
 
-use kdl::{FormatConfig, KdlDocument, KdlNode, Layout};
+use kdl::{FormatConfig, KdlDocument, Layout};
 use std::alloc::AllocError;
 
 /// `KdlDocument::autoformat`: what it makes of the document.
@@ -33,20 +33,6 @@ pub fn autoformat_layout(document: &mut KdlDocument, layout: &Layout) -> Result<
     ensures formatted { OnOk result (DocumentSpaced layout.now document.old document.new) }
 {
     document.autoformat_layout(layout)
-}
-
-/// `KdlNode::autoformat_layout`: what it makes of the node.
-pub fn autoformat_node_layout(node: &mut KdlNode, layout: &Layout) -> Result<(), AllocError>
-    ensures formatted { OnOk result (NodeSpaced layout.now node.old node.new) }
-{
-    node.autoformat_layout(layout)
-}
-
-/// `KdlNode::autoformat`: what it makes of the node.
-pub fn autoformat_node(node: &mut KdlNode) -> Result<(), AllocError>
-    ensures formatted { OnOk result (NodeLaidOut defaults node.old node.new) }
-{
-    node.autoformat()
 }
 
 /// `KdlDocument::autoformat_no_comments`: the document prints the canonical text of its data, which reads back.

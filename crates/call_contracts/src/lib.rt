@@ -8,10 +8,8 @@
 #![tactic(auto)]
 
 pub mod callers;
-pub mod documents;
 pub mod edits;
 pub mod fields;
-pub mod kept;
 pub mod layout;
 pub mod lines;
 pub mod lookups;

@@ -1,7 +1,6 @@
-//! What look-ups find, and the references that they return.
+//! The references that look-ups return.
 
 ghost use Rattle.kdl.specs.Change.{children_row};
-ghost use Rattle.kdl.specs.DocumentLookups.{dash_arguments_of, node_named};
 ghost use Rattle.kdl.specs.Fields.{block_of};
 ghost use Rattle.kdl.specs.Iterators.{block_left, block_name, with_written_block};
 ghost use Rattle.kdl.specs.Lookups.{HasSameEntries, HasWritten, found_entry, property_place, property_value, with_found_entry};
@@ -12,22 +11,8 @@ ghost use Rattle.kdl_value.specs.contracts.value.KdlValue.{the_row as value_row}
 ghost use Rattle.std.specs.Borrow.{Array, LendsIf, LendsSoOk, follows, sem};
 ghost use Rattle.std.specs.Prelude.{◌≡◌, [], ◌∷◌, IfOk, option_map};
 
-use kdl::{ChildrenIterMut, DashArgsIter, KdlDocument, KdlEntry, KdlNode, KdlValue, NodeKey};
+use kdl::{ChildrenIterMut, KdlEntry, KdlNode, KdlValue, NodeKey};
 use std::alloc::AllocError;
-
-/// `KdlDocument::get`.
-pub fn get<'a>(document: &'a KdlDocument, name: &str) -> Option<&'a KdlNode>
-    ensures { option_map (λ n. n.now) result ≡ node_named name.now document.now }
-{
-    document.get(name)
-}
-
-/// `KdlDocument::iter_dash_args`.
-pub fn iter_dash_args<'a>(document: &'a KdlDocument, name: &str) -> DashArgsIter<'a>
-    ensures { result ≡ dash_arguments_of (node_named name.now document.now) }
-{
-    document.iter_dash_args(name)
-}
 
 /// `KdlNode::entry_mut`.
 pub fn entry_mut(node: &mut KdlNode, key: NodeKey) -> Option<&mut KdlEntry>

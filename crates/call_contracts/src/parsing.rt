@@ -1,12 +1,10 @@
 //! Parsed texts.
 
-ghost use Rattle.kdl.specs.Tree.{document_says, document_tree, node_says};
-ghost use Rattle.kdl_entry.specs.Data as entries;
-ghost use Rattle.kdl_entry.specs.Entries.{IsEntryText, IsIdentifierText};
-ghost use Rattle.kdl_entry.specs.Tree.{entry_data, entry_tree, identifier_tree};
-ghost use Rattle.kdl_grammar.specs.Data as data';
+ghost use Rattle.kdl.specs.Tree.{document_says, document_tree};
+ghost use Rattle.kdl_entry.specs.Entries.{IsIdentifierText};
+ghost use Rattle.kdl_entry.specs.Tree.{identifier_tree};
 ghost use Rattle.kdl_grammar.specs.Data.{Nodes};
-ghost use Rattle.kdl_grammar.specs.Grammar.{IsDocument, IsNodeText};
+ghost use Rattle.kdl_grammar.specs.Grammar.{IsDocument};
 ghost use Rattle.kdl_grammar.specs.Laid.{LaidDocument};
 ghost use Rattle.kdl_text.specs.Chars.{Text};
 ghost use Rattle.kdl_text.specs.Failures.{IsSyntax, TellsOnSyntax};
@@ -14,7 +12,7 @@ ghost use Rattle.kdl_text.specs.Spans.{raise};
 ghost use Rattle.std.specs.Prelude.{◌+◌, ◌*◌, ◌≤◌, IfOk, OnOk, length};
 ghost use Rattle.std.specs.Str.{chars};
 
-use kdl::{KdlDocument, KdlEntry, KdlIdentifier, KdlNode, ParseFailure, Steps};
+use kdl::{KdlDocument, KdlIdentifier, ParseFailure, Steps};
 use std::alloc::Global;
 
 /// `KdlDocument::parse`: what it returns is derived and located in the text; what it refuses is not derived, and the
@@ -40,27 +38,6 @@ pub fn parse_counted(
     ensures raised { raise steps.old 1 ≤ steps.new }
 {
     KdlDocument::parse_counted(alloc, text, steps)
-}
-
-/// `KdlNode::parse`: what it returns is derived; what it refuses is not, and the error has its faults.
-pub fn parse_node(alloc: Global, text: &str) -> Result<KdlNode, ParseFailure>
-    ensures found { IfOk result (λ n. IsNodeText (chars text.now) (node_says n)) }
-    ensures refused { IsSyntax result → (x : data'.Node)
-        → IsNodeText (chars text.now) x → ⊥ }
-    ensures told { TellsOnSyntax text.now result }
-{
-    KdlNode::parse(alloc, text)
-}
-
-/// `KdlEntry::parse`: the same for an entry.
-pub fn parse_entry(alloc: Global, text: &str) -> Result<KdlEntry, ParseFailure>
-    ensures found { IfOk result
-        (λ e. IsEntryText (chars text.now) (entry_data (entry_tree e))) }
-    ensures refused { IsSyntax result → (x : entries.Entry) → IsEntryText (chars text.now) x
-        → ⊥ }
-    ensures told { TellsOnSyntax text.now result }
-{
-    KdlEntry::parse(alloc, text)
 }
 
 /// `KdlIdentifier::parse`: the same for an identifier.

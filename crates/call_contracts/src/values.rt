@@ -1,20 +1,13 @@
-//! Values and floats.
+//! Floats.
 
 ghost use Rattle.kdl_text.specs.Numbers.{FloatText};
-ghost use Rattle.kdl_value.specs.Tree.{float_text_of, integer_value, value_tree};
+ghost use Rattle.kdl_value.specs.Tree.{float_text_of};
 ghost use Rattle.kdl_value.specs.declared.float.FloatFailure.TheVariants as FloatFailure;
 ghost use Rattle.std.specs.Prelude.{◌≡◌, ◌↔◌, IfOk, IsErrOf};
 ghost use Rattle.std.specs.Str.{chars};
 
-use kdl::{FloatFailure, KdlFloat, KdlValue};
+use kdl::{FloatFailure, KdlFloat};
 use std::alloc::Global;
-
-/// `KdlValue::as_integer`.
-pub fn integer(value: &KdlValue) -> Option<i128>
-    ensures { result ≡ integer_value (value_tree value.now) }
-{
-    value.as_integer()
-}
 
 /// `KdlFloat::new`.
 pub fn float(alloc: Global, text: &str) -> Result<KdlFloat, FloatFailure>

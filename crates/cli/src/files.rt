@@ -11,7 +11,7 @@ use cli_world::status::Status;
 use cli_world::store::Store;
 use cli_world::world::{Output, Unread, World, shown_name};
 use kdl::ParseFailure;
-use kdl_diff::unified;
+use kdl_report::unified;
 use std::alloc::{AllocError, Global};
 use std::io::Write;
 

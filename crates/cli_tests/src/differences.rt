@@ -1,6 +1,6 @@
 //! Differences between texts that are not layouts of each other, as `diff -u` shows them.
 
-use kdl_diff::unified;
+use kdl_report::unified;
 use std::test::Fail;
 
 #[test]

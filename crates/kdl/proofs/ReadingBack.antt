@@ -22,14 +22,12 @@ use Rattle.kdl_entry.proofs.Laying.FormlessLaid.{formless_reads_back}
 use Rattle.kdl_entry.proofs.WellFormed.{name_scalars}
 use Rattle.kdl_grammar.specs.Data as data'
 use Rattle.kdl_grammar.specs.Grammar.{IsDocument, no_gap}
-use Rattle.kdl_grammar.specs.Laid.{LaidDocument, LaidNodeText}
 use Rattle.kdl_grammar.specs.Print.{leading_text, print_document, print_node, trailing_text}
 use Rattle.kdl_grammar.specs.ReadsBack.{Rests, Anything, TextEnd, AddsNothing, IsGapBefore, last_rests, EntryReads, NodeReads, NodesRead, last_node, next_node, ContentReads, one_text, two_texts, with_nodes as content_nodes, BlockReads, block, DocumentReads}
 use Rattle.kdl_grammar.specs.Tree.{DocumentFormat, document, Node, node, Nodes, none, first, children_of, document_data, node_data}
 use Rattle.kdl_grammar.proofs.ReadingBack.Composing as composing
 use Rattle.kdl_grammar.proofs.ReadingBack.Composing.{node_before}
 use Rattle.kdl_grammar.proofs.ReadingBack.Entries.{formless_reads, new_reads, value_reads}
-use Rattle.kdl_grammar.proofs.ReadingBack.LaidReads.{laid_reads, laid_node_reads}
 use Rattle.kdl_grammar.proofs.ReadingBack.Reads.{node_derived, reads_derived}
 use Rattle.kdl_parts.specs.Edits.{IsInserted, inserted, removed, under}
 use Rattle.kdl_parts.specs.EntryLists.{place_of, removed_place, sought, there}
@@ -232,12 +230,6 @@ block_exchanged n d e h f P x =
     subst (λ (y : Node). NodeReads P y) (sym (node_tree_roll (record X { children = Some e }))) (composing.with_block (document_tree e) own (f (composing.block_reads own)))
 
 -- what is read, and what is new
-
-pub document_read : {E : Type 0} (t : Text) (r : Result KdlDocument E) → IfOk r (λ d. LaidDocument (document_tree d) t) → IfOk r (λ d. DocumentReadsBack d)
-document_read t r l = IfOk-weaker r _ _ (λ d x. laid_reads true t (document_tree d) x) l
-
-pub node_read : {E : Type 0} (t : Text) (r : Result KdlNode E) → IfOk r (λ n. LaidNodeText t (node_tree n)) → IfOk r (λ n. NodeReads TextEnd (node_tree n))
-node_read t r l = IfOk-weaker r _ _ (λ n x. laid_node_reads true t (node_tree n) x) l
 
 pub new_document_reads : (d : KdlDocument) → document_tree d ≡ new_document → DocumentReadsBack d
 new_document_reads d e = subst DocumentReads (sym e) (DocumentReads.no_bom (one_text (λ r p. no_gap)))

@@ -1,6 +1,9 @@
 -- The lemmas that the functions of a file cite.
 use Rattle.kdl.proofs.Finding.SaidLookups.{got_arg, got_args, got_argument, got_child_nodes, got_children, got_dash_args, got_entries, got_entry, got_name, got_node, got_nodes, got_property, got_property_value, got_type, got_value}
-use Rattle.kdl.proofs.ParseAnswers.{found, laid, node_found, node_only, node_prints, only, prints}
+use Rattle.kdl.proofs.EditLaws.{insert_prints, refused_same}
+use Rattle.kdl.proofs.Finding.EntriesFound.{insert_puts, insert_sets, push_adds, remove_takes, remove_takes_at}
+use Rattle.kdl.proofs.PiecesExchanged.{insert_exchanges, push_exchanges, remove_exchanges}
+use Rattle.kdl.proofs.ReadingBack.{clear_reads, new_block_reads, new_document_reads, remove_reads, sort_reads, spelled_new_ends, unspelled_new_ends}
 use Rattle.kdl.proofs.SpanIsIgnored.{document_spanned, node_spanned}
 use Rattle.kdl_parts.proofs.Utf8Parts.{writes}
 
@@ -22,5 +25,16 @@ pub ruleset document_lookup = (got_node, got_arg)
 -- for src/document/args.rt
 pub ruleset document_args = (got_args, got_dash_args)
 
--- for src/parser.rt
-pub ruleset parser = (found, only, laid, prints, node_found, node_only, node_prints)
+-- for the functions of these names
+pub ruleset new_document = (new_document_reads, new_block_reads)
+
+pub ruleset new_node = (unspelled_new_ends, spelled_new_ends)
+
+pub ruleset push = (refused_same, push_adds, push_exchanges)
+
+pub ruleset insert = (insert_prints, insert_sets, insert_puts, insert_exchanges)
+
+pub ruleset remove = (remove_takes, remove_takes_at, remove_reads, remove_exchanges)
+
+-- for those that drop or sort entries
+pub ruleset fewer_entries = (clear_reads, sort_reads)

@@ -4,6 +4,8 @@ pub mod Change
 pub mod EditLaw
 -- Texts, nodes and documents in which one piece of the printed text is replaced.
 pub mod Bytes
+-- What parsing promises.
+pub mod Parses
 -- New nodes and documents, and nodes and documents without their formats, or without their spans.
 pub mod Cleared
 -- What look-ups in a document return, and the document after a write through the references that they return.
@@ -14,6 +16,8 @@ pub mod Fields
 pub mod Iterators
 -- What layout makes of nodes and documents in memory.
 pub mod Layout
+-- What the calls that lay out promise.
+pub mod LaysOut
 -- What look-ups in a node return, and the node after a write through the references that they return.
 pub mod Lookups
 -- Documents, and nodes, in which look-ups find the same.

@@ -47,6 +47,8 @@ pub use Rattle.kdl.specs.Same.{same_document, same_node}
 pub use Rattle.kdl_grammar.specs.Grammar.{IsDocument, IsNodeText}
 pub use Rattle.kdl_grammar.specs.Laid.{LaidDocument, LaidNodeText}
 pub use Rattle.kdl_grammar.specs.Former.{IsFormerDocument, IsFormerNodeText}
+-- What parsing promises.
+pub use Rattle.kdl.specs.Parses.{ParsesDocument, ParsesNodeText}
 -- Which edits of a document keep its text in the grammar.
 pub use Rattle.kdl_grammar.specs.Edited.{EachDocument, IsEdited}
 -- The fields of a node or a document in memory.
@@ -91,6 +93,8 @@ pub use Rattle.kdl_layout.specs.Formatted.{formatted_document}
 pub use Rattle.kdl.specs.Layout.{document_bare, node_bare, plain_document, plain_node}
 pub use Rattle.kdl_layout.specs.Comments.{CommentsStay}
 pub use Rattle.kdl.specs.Layout.{NodeCommentsStay}
+-- What the calls that lay out promise.
+pub use Rattle.kdl.specs.LaysOut.{FormatsDocument, FormatsNode, KeepsDocument, KeepsNode, RereadsDocument, RereadsNode}
 -- The canonical text of a document's data.
 pub use Rattle.kdl_layout.specs.Canonical.{Canonical, CanonicalNode, canonical, canonical_node, canonical_text}
 -- What look-ups find after an edit.

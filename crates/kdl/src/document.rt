@@ -97,6 +97,7 @@ impl KdlDocument {
     /// let name = KdlIdentifier::from_text(alloc, "server")?;
     /// let pushed = document.push_node(KdlNode::new(name)?); // prints `server` and a newline
     /// ```
+    #[tactic(auto, using(crate::proofs::Rules::new_document))]
     pub fn new(alloc: Global) -> KdlDocument
         ensures made { document_tree result ≡ new_document }
         ensures reads { DocumentReadsBack result }

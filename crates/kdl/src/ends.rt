@@ -1,6 +1,6 @@
 //! The newlines that nodes, and the texts between them, lack at their ends for others to follow.
 
-ghost use Rattle.kdl.specs.Internal.Ends.{EndFewest, EndSays, EndsReadAs, FewestBefore, GapFewest, GapSays, IsEndedExactly, IsNodeEnded, Lacks, PlaceFewest, PlaceSays, block_if, formless_count, newline_count, with_newlines};
+ghost use Rattle.kdl.specs.Internal.Ends.{EndFewest, EndSays, EndsReadAs, FewestBefore, GapFewest, GapSays, IsEndedExactly, IsLacking, IsNodeEnded, Lacks, PlaceFewest, PlaceSays, block_if, formless_count, newline_count, with_newlines};
 ghost use Rattle.kdl.specs.Nodes.{newlines, printed_format};
 ghost use Rattle.kdl_entry.specs.Tree.{entry_tree};
 ghost use Rattle.kdl_layout.specs.Internal.Reading.{place_view};
@@ -59,9 +59,8 @@ fn without_bom(text: &str) -> &str
 
 /// How many newlines a text between nodes lacks; 0 if it is not such a text.
 pub(crate) fn gap_newlines(alloc: Global, text: &str) -> Result<usize, AllocError>
-    ensures few { IfOk result (λ n. n ≤ 2) }
-    ensures says { IfOk result (λ n. GapSays (without_bom (chars text.now)) n) }
-    ensures fewest { IfOk result (λ n. GapFewest (without_bom (chars text.now)) n) }
+    ensures { IfOk result (IsLacking 2
+        (GapSays (without_bom (chars text.now))) (GapFewest (without_bom (chars text.now)))) }
 {
     let lacks = gap_lacks(alloc, without_bom(text))?;
     Ok(lacks.unwrap_or(0))
@@ -93,11 +92,9 @@ pub(crate) fn place_newlines(
     children: &Option<KdlDocument>,
     text: &str,
 ) -> Result<usize, AllocError>
-    ensures few { IfOk result (λ n. n ≤ 1) }
-    ensures says { IfOk result (λ n.
-        PlaceSays (block_if (is_some children.now)) (chars text.now) n) }
-    ensures fewest { IfOk result (λ n.
-        PlaceFewest (block_if (is_some children.now)) (chars text.now) n) }
+    ensures { IfOk result (IsLacking 1
+        (PlaceSays (block_if (is_some children.now)) (chars text.now))
+        (PlaceFewest (block_if (is_some children.now)) (chars text.now))) }
 {
     let lacks = place_lacks(alloc, last_place(children), text)?;
     Ok(newline_count(lacks))
@@ -105,10 +102,8 @@ pub(crate) fn place_newlines(
 
 /// How many newlines a terminator lacks, with the text after it.
 fn end_newlines(alloc: Global, terminator: &str, trailing: &str) -> Result<usize, AllocError>
-    ensures few { IfOk result (λ n. n ≤ 2) }
-    ensures says { IfOk result (λ n. EndSays (chars terminator.now ++ chars trailing.now) n) }
-    ensures fewest { IfOk result (λ n.
-        EndFewest (chars terminator.now ++ chars trailing.now) n) }
+    ensures { IfOk result (IsLacking 2 (EndSays (chars terminator.now ++ chars trailing.now))
+        (EndFewest (chars terminator.now ++ chars trailing.now))) }
 {
     let mut end = String::new(alloc);
     push_text(&mut end, terminator)?;

@@ -1,6 +1,6 @@
 //! How nodes are laid out: with a stack on the heap and without recursion, however deep their blocks are.
 
-ghost use Rattle.kdl.specs.Internal.Spacing.{NodesAreSpaced, GoesOn, IsUnderWay, StayAs, whole, with_formats};
+ghost use Rattle.kdl.specs.Internal.Spacing.{NodesAreSpaced, GoesOn, IsUnderWay, StayAs, StepStays, whole, with_formats};
 ghost use Rattle.kdl.specs.Tree.{node_tree, nodes_tree};
 ghost use Rattle.kdl_layout.specs.Config.{IndentsBySpaces, indentation, settings};
 ghost use Rattle.kdl_layout.specs.Formatted.{bare_node};
@@ -76,10 +76,8 @@ impl Blocks {
     fn lay_out_next(&mut self, layout: &Layout) -> Result<(), AllocError>
         requires { self.old.inner.at < vec_len self.old.inner.nodes }
         ensures stays { IndentsBySpaces (settings layout.now.config)
-            → (level : ℕ) (c : Before) (olds : List Node)
-            → IsUnderWay layout.now level c olds self.old.above.items self.old.inner
-            → StayAs (settings layout.now.config) (whole self.old.above.items self.old.inner)
-            (whole self.new.above.items self.new.inner) }
+            → StepStays layout.now
+            self.old.above.items self.old.inner self.new.above.items self.new.inner }
         ensures kept { map bare_node (whole self.new.above.items self.new.inner) ≡
             map bare_node (whole self.old.above.items self.old.inner) }
         ensures goes_on { OnOk result (GoesOn layout.now
@@ -128,10 +126,9 @@ impl Blocks {
             → GoesOn l (self.old.above.items ++ outer ∷ []) self.old.inner
             self.new.above.items self.new.inner }
         ensures stays { vec_len self.old.inner.nodes ≤ self.old.inner.at → (l : Layout)
-            → IndentsBySpaces (settings l.config) → (level : ℕ) (c : Before) (olds : List Node)
-            → IsUnderWay l level c olds (self.old.above.items ++ outer ∷ []) self.old.inner
-            → StayAs (settings l.config) (whole (self.old.above.items ++ outer ∷ []) self.old.inner)
-            (whole self.new.above.items self.new.inner) }
+            → IndentsBySpaces (settings l.config)
+            → StepStays l (self.old.above.items ++ outer ∷ []) self.old.inner
+            self.new.above.items self.new.inner }
         ensures above { self.new.above ≡ self.old.above }
     {
         let done = mem::replace(&mut self.inner, outer);
@@ -161,10 +158,8 @@ impl Blocks {
     /// Lays out all that is left.
     fn lay_out(&mut self, layout: &Layout) -> Result<(), AllocError>
         ensures stays { IndentsBySpaces (settings layout.now.config)
-            → (level : ℕ) (c : Before) (olds : List Node)
-            → IsUnderWay layout.now level c olds self.old.above.items self.old.inner
-            → StayAs (settings layout.now.config) (whole self.old.above.items self.old.inner)
-            (whole self.new.above.items self.new.inner) }
+            → StepStays layout.now
+            self.old.above.items self.old.inner self.new.above.items self.new.inner }
         ensures kept { map bare_node (whole self.new.above.items self.new.inner) ≡
             map bare_node (whole self.old.above.items self.old.inner) }
         ensures spaced { OnOk result ((level : ℕ) (c : Before) (olds : List Node)

@@ -1,18 +1,13 @@
 //! Documents and nodes, read from a text.
-#![tactic(auto, using(crate::proofs::Rules::parser))]
 
-ghost use Rattle.kdl.specs.Layout.{DocumentKeepsNoForm, NodeKeepsNoForm};
-ghost use Rattle.kdl.specs.ReadsBack.{DocumentReadsBack, NodeReadsBack};
-ghost use Rattle.kdl.specs.Tree.{document_prints, document_says, document_tree, node_prints, node_says, node_tree};
-ghost use Rattle.kdl_grammar.specs.Data as data';
-ghost use Rattle.kdl_grammar.specs.Data.{Nodes};
-ghost use Rattle.kdl_grammar.specs.Grammar.{IsDocument, IsNodeText};
+ghost use Rattle.kdl.specs.Parses.{ParsesDocument, ParsesNodeText};
+ghost use Rattle.kdl.specs.Tree.{document_tree, node_tree};
 ghost use Rattle.kdl_grammar.specs.Laid.{LaidNodeText};
 ghost use Rattle.kdl_grammar.specs.Internal.Machine.{AnswersDocument};
 ghost use Rattle.kdl_parser.specs.Internal.Steps.{Parses, ParsesNode};
-ghost use Rattle.kdl_text.specs.Failures.{IsSyntax, TellsOnSyntax};
+ghost use Rattle.kdl_text.specs.Failures.{IsSyntax};
 ghost use Rattle.kdl_text.specs.Spans.{raise};
-ghost use Rattle.std.specs.Prelude.{◌≡◌, ◌+◌, ◌*◌, ◌≤◌, length, IfOk, OnOk};
+ghost use Rattle.std.specs.Prelude.{◌+◌, ◌*◌, ◌≤◌, length, IfOk, OnOk};
 ghost use Rattle.std.specs.Str.{chars};
 
 use crate::document::KdlDocument;
@@ -45,12 +40,6 @@ fn read_node(alloc: Global, text: &str) -> Result<KdlNode, ParseFailure>
 }
 
 impl KdlDocument {
-    ghost use Rattle.kdl_grammar.specs.Edited.{IsEdited, EachDocument};
-    ghost use Rattle.kdl_grammar.specs.Former.{IsFormerDocument};
-    ghost use Rattle.kdl_grammar.specs.Laid.{LaidDocument};
-    ghost use Rattle.kdl_grammar.specs.Print.{print_document};
-    ghost use Rattle.kdl_grammar.specs.Tree.{Document, document_data};
-
     /// Parses a document, and keeps every byte of its form (KDL 2.0.0, Document).
     ///
     /// Returns `Syntax` if the text is not a document. Faults are reported in the order in which reading meets them, an
@@ -63,31 +52,7 @@ impl KdlDocument {
     /// let same = document.to_string(alloc)?; // the text, byte for byte
     /// ```
     pub fn parse(alloc: Global, text: &str) -> Result<KdlDocument, ParseFailure>
-        // The data of the document is what the grammar derives,
-        ensures found { IfOk result (λ d. IsDocument (chars text.now) (document_says d)) }
-        // and it derives nothing else.
-        ensures only { IfOk result (λ d. (x : Nodes) → IsDocument (chars text.now) x
-            → x ≡ document_says d) }
-        // The document is located in the text, with each place in its class and each span at its piece, and prints the
-        // text.
-        ensures laid { IfOk result (λ d. LaidDocument (document_tree d) (chars text.now)) }
-        ensures prints { IfOk result (λ d. document_prints d ≡ chars text.now) }
-        // No entry is flagged to keep its form.
-        ensures keeps_none { IfOk result (λ d. DocumentKeepsNoForm d) }
-        // A refused text is not derived, and the error has the spans of its faults.
-        ensures refused { IsSyntax result → (x : Nodes) → IsDocument (chars text.now) x → ⊥ }
-        ensures told { TellsOnSyntax text.now result }
-        // A text of the former language is not refused, and is read as before.
-        ensures kept { (x : Nodes) → IsFormerDocument (chars text.now) x → IsSyntax result → ⊥ }
-        ensures former { (x : Nodes) → IsFormerDocument (chars text.now) x
-            → IfOk result (λ d. document_says d ≡ x) }
-        // A document that differs only in the entries of its nodes prints a text that is derived with its data, if each
-        // node has some of its own entries, flagged or not, and entries without form.
-        ensures edited { IfOk result (λ d. (e : Document)
-            → EachDocument IsEdited (document_tree d) e
-            → IsDocument (print_document e 0) (document_data e)) }
-        // It reads back, also after the edits whose contracts say so.
-        ensures reads { IfOk result (λ d. DocumentReadsBack d) }
+        ensures { ParsesDocument text.now result }
     {
         let mut steps = Steps::new();
         KdlDocument::parse_counted(alloc, text, &mut steps)
@@ -109,21 +74,7 @@ impl KdlDocument {
         text: &str,
         steps: &mut Steps,
     ) -> Result<KdlDocument, ParseFailure>
-        ensures found { IfOk result (λ d. IsDocument (chars text.now) (document_says d)) }
-        ensures only { IfOk result (λ d. (x : Nodes) → IsDocument (chars text.now) x
-            → x ≡ document_says d) }
-        ensures laid { IfOk result (λ d. LaidDocument (document_tree d) (chars text.now)) }
-        ensures prints { IfOk result (λ d. document_prints d ≡ chars text.now) }
-        ensures keeps_none { IfOk result (λ d. DocumentKeepsNoForm d) }
-        ensures refused { IsSyntax result → (x : Nodes) → IsDocument (chars text.now) x → ⊥ }
-        ensures told { TellsOnSyntax text.now result }
-        ensures kept { (x : Nodes) → IsFormerDocument (chars text.now) x → IsSyntax result → ⊥ }
-        ensures former { (x : Nodes) → IsFormerDocument (chars text.now) x
-            → IfOk result (λ d. document_says d ≡ x) }
-        ensures edited { IfOk result (λ d. (e : Document)
-            → EachDocument IsEdited (document_tree d) e
-            → IsDocument (print_document e 0) (document_data e)) }
-        ensures reads { IfOk result (λ d. DocumentReadsBack d) }
+        ensures parses { ParsesDocument text.now result }
         // At least a step for each character is counted, and at most 32 for each byte and 32 more. For a refused text,
         // with its diagnostics, it is at most 184.
         ensures least { OnOk result (raise steps.old (length (chars text.now)) ≤ steps.new) }
@@ -141,29 +92,13 @@ impl KdlDocument {
     /// let on = document.get_arg("on"); // the boolean `#true`
     /// ```
     pub fn parse_v2(alloc: Global, text: &str) -> Result<KdlDocument, ParseFailure>
-        ensures found { IfOk result (λ d. IsDocument (chars text.now) (document_says d)) }
-        ensures only { IfOk result (λ d. (x : Nodes) → IsDocument (chars text.now) x
-            → x ≡ document_says d) }
-        ensures laid { IfOk result (λ d. LaidDocument (document_tree d) (chars text.now)) }
-        ensures prints { IfOk result (λ d. document_prints d ≡ chars text.now) }
-        ensures keeps_none { IfOk result (λ d. DocumentKeepsNoForm d) }
-        ensures refused { IsSyntax result → (x : Nodes) → IsDocument (chars text.now) x → ⊥ }
-        ensures told { TellsOnSyntax text.now result }
-        ensures kept { (x : Nodes) → IsFormerDocument (chars text.now) x → IsSyntax result → ⊥ }
-        ensures former { (x : Nodes) → IsFormerDocument (chars text.now) x
-            → IfOk result (λ d. document_says d ≡ x) }
-        ensures edited { IfOk result (λ d. (e : Document)
-            → EachDocument IsEdited (document_tree d) e
-            → IsDocument (print_document e 0) (document_data e)) }
-        ensures reads { IfOk result (λ d. DocumentReadsBack d) }
+        ensures { ParsesDocument text.now result }
     {
         KdlDocument::parse(alloc, text)
     }
 }
 
 impl KdlNode {
-    ghost use Rattle.kdl_grammar.specs.Former.{IsFormerNodeText};
-
     /// Parses a text that is exactly one node, and keeps every byte of its form (KDL 2.0.0, Node). Before the node the
     /// text may have line-spaces and slashdashed nodes, which are its leading text. After its terminator the text may
     /// have only line-spaces, which are its trailing text. The span is the whole text, in bytes.
@@ -177,28 +112,7 @@ impl KdlNode {
     /// let two = KdlNode::parse(alloc, "a; b"); // `Syntax`, at the second node
     /// ```
     pub fn parse(alloc: Global, text: &str) -> Result<KdlNode, ParseFailure>
-        // The data of the node is what the grammar derives,
-        ensures found { IfOk result (λ n. IsNodeText (chars text.now) (node_says n)) }
-        // and it derives nothing else.
-        ensures only { IfOk result (λ n. (x : data'.Node) → IsNodeText (chars text.now) x
-            → x ≡ node_says n) }
-        // The node is located in the text, with each place in its class and each span at its piece, and prints the
-        // text.
-        ensures laid { IfOk result (λ n. LaidNodeText (chars text.now) (node_tree n)) }
-        ensures prints { IfOk result (λ n. node_prints n ≡ chars text.now) }
-        // No entry is flagged to keep its form.
-        ensures keeps_none { IfOk result (λ n. NodeKeepsNoForm n) }
-        // A refused text is not derived, and the error has the spans of its faults.
-        ensures refused { IsSyntax result → (x : data'.Node)
-            → IsNodeText (chars text.now) x → ⊥ }
-        ensures told { TellsOnSyntax text.now result }
-        // A text of the former language is not refused, and is read as before.
-        ensures kept { (x : data'.Node) → IsFormerNodeText (chars text.now) x
-            → IsSyntax result → ⊥ }
-        ensures former { (x : data'.Node) → IsFormerNodeText (chars text.now) x
-            → IfOk result (λ n. node_says n ≡ x) }
-        // It reads back, also after the edits whose contracts say so.
-        ensures reads { IfOk result (λ n. NodeReadsBack n) }
+        ensures { ParsesNodeText text.now result }
     {
         read_node(alloc, text)
     }

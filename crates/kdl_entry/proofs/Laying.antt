@@ -1,7 +1,5 @@
 -- Entries and identifiers laid in a text: derived, printed, one at most.
 
--- In each text that is an identifier or an entry, one is laid with its data.
-pub mod EveryTextLaid
 -- A text in which an entry or an identifier is laid is derived, with its data.
 pub mod LaidIsDerived
 -- A laid identifier or entry prints its text.

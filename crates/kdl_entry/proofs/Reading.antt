@@ -14,8 +14,6 @@ pub mod EntryLaws
 pub mod IdentifierToken
 -- What an identifier laid in a text says of the grammar.
 pub mod IdentifierAnswers
--- The phases that the control of entry texts reaches.
-pub mod Placed
 -- What the control of entry texts accepts, the grammar derives.
 pub mod EntryErased
 -- An accepted entry text is derived, and so is an accepted identifier text.

@@ -5,6 +5,11 @@ use Rattle.kdl_entry.proofs.Reading.IdentifierAnswers.{found as identifier_found
 use Rattle.kdl_entry.proofs.Slicing.Between.{empty_text, is_between, is_part, nothing_between}
 use Rattle.kdl_entry.proofs.Slicing.SliceCost.{piece_sliced, token_fewer}
 use Rattle.kdl_syntax.proofs.Order.{ahead}
+use Rattle.kdl_value.proofs.Spelling.PrintedTexts.{printed_empty}
+use Rattle.kdl_value.proofs.WellFormed.{other_value}
+
+-- for src/entry.rt and src/identifier.rt
+pub ruleset printed = (printed_empty, other_value, empty_text)
 
 -- for src/parsing/source.rt
 pub ruleset source = (nothing_between, is_between, is_part, piece_sliced, ahead)

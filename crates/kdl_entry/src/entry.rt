@@ -1,4 +1,5 @@
 //! Entries: the arguments and properties of nodes.
+#![tactic(auto, using(crate::proofs::Rules::printed))]
 
 ghost use Rattle.kdl_entry.specs.Print.{print_entry};
 ghost use Rattle.kdl_value.specs.Tree.{value_tree};

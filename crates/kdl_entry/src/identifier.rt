@@ -1,4 +1,5 @@
 //! Identifiers: the names of nodes and properties, and types.
+#![tactic(auto, using(crate::proofs::Rules::printed))]
 
 ghost use Rattle.kdl_entry.specs.Fields.{string_of};
 ghost use Rattle.kdl_entry.specs.Print.{print_identifier};

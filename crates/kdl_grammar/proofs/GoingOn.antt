@@ -13,7 +13,7 @@ use Rattle.kdl_grammar.specs.Grammar.{AreNodes, IsDocument, IsDocumentIn}
 use Rattle.kdl_syntax.specs.Control.{Control, at, gap, accepts, finish, step}
 use Rattle.kdl_grammar.specs.Going.{Goes, here, goes, Reaches, no_bom, after_bom}
 use Rattle.kdl_grammar.proofs.Reading.Erased.{accepted_nodes}
-use Rattle.kdl_grammar.proofs.Reading.Refusing.{near_goes, rest_of, dead_nodes, refused_here, refuses_two}
+use Rattle.kdl_grammar.proofs.Reading.Refusing.{near_after, rest_of, dead_nodes, refused_here, refuses_two}
 use Rattle.kdl_grammar.proofs.Reading.Sound.{derives}
 use Rattle.kdl_grammar.proofs.Reading.Viable.{reads, viable, goes_length}
 
@@ -54,10 +54,7 @@ alive_in_token p r u c d k some g b f = longer (alive (p ++ (r ++ u)) [] d (go (
   where
     over : (q : Text) → Goes (at gap []) (q ++ r) c r → Goes (at gap []) ((q ++ (r ++ u)) ++ []) d []
     over q g =
-        let y = near_goes (r ++ u) (more_first r u some) g in
-        let same : y.at.piece ≡ q = append_cancel_right y.at.piece q r (sym (y.at.here ∙ y.at.text r)) in
-        let text : y.at.put (r ++ u) ≡ (q ++ (r ++ u)) ++ [] = y.at.text (r ++ u) ∙ ap (λ (z : Text). z ++ (r ++ u)) same ∙ sym (append-nil (q ++ (r ++ u))) in
-        subst (λ (z : Text). Goes (at gap []) z d []) text (following y.there b f)
+        subst (λ (z : Text). Goes (at gap []) z d []) (sym (append-nil (q ++ (r ++ u)))) (following (near_after q r (r ++ u) (more_first r u some) g) b f)
 
     no_bom_more : (q : Text) → begins 0xFEFF (q ++ r) ≡ false → begins 0xFEFF ((q ++ (r ++ u)) ++ []) ≡ false
     no_bom_more [] h = ap (begins 0xFEFF) (append-nil (r ++ u)) ∙ begins_first 0xFEFF (r ++ u) r (more_first r u some) ∙ h

@@ -4,18 +4,18 @@ use Rattle.std.proofs.lemmas.List.{append_cancel_right}
 use Rattle.kdl_text.specs.Chars.{Text, Star, begins, starts, is_identifier_char}
 use Rattle.kdl_text.specs.Chars.Star.{none as no_star, more}
 use Rattle.kdl_text.specs.Trivia.{LineSpace}
-use Rattle.kdl_syntax.specs.Tokens.{Token, space, newline, slashdash, string, value, left, right, opening, closing, equals, semicolon, bom, BeginsToken, t_space, t_newline, t_right, t_opening, t_closing, t_semicolon, done}
+use Rattle.kdl_syntax.specs.Tokens.{Token, space, newline, string, value, closing, semicolon, BeginsToken, t_space, t_newline, t_right, t_opening, t_closing, t_semicolon, done}
 use Rattle.kdl_syntax.proofs.Lexing.TokenUnique.{token_det, no_token}
 use Rattle.kdl_syntax.proofs.Moving.Puts.{front_first, two_parts, two_some}
 use Rattle.kdl_grammar.specs.Data.{Nodes}
 use Rattle.kdl_grammar.specs.GoingOn.{BeginsNoOther, DerivedNode, NodeAlive, NodeDeadAtToken}
 use Rattle.kdl_grammar.specs.Grammar.{AreNodes, last_gap, node_then, node_text}
-use Rattle.kdl_syntax.specs.Control.{fresh, spaced, later, Phase, gap, node_slashdash, type_open, type_name, type_done, in_node, property, entry_slashdash, block_slashdash, kept, kept_slashdash, Frame, in_block, in_dropped, in_later, Control, at, step, finish}
+use Rattle.kdl_syntax.specs.Control.{fresh, later, Phase, gap, node_slashdash, type_open, type_name, type_done, in_node, property, entry_slashdash, block_slashdash, kept, kept_slashdash, Frame, in_dropped, in_later, Control, at, step, finish}
 use Rattle.kdl_grammar.specs.Going.{Goes, here, goes}
 use Rattle.kdl_grammar.specs.NodeControl.{NodeControl, in_text, node_step, node_finish, node_start, NodeReaches, NodeRefusesFront}
 use Rattle.kdl_grammar.proofs.Reading.NodeComplete.{NodeGoes, and_then, lines_stay, at_end, at_close, Stands, between, in_open, kept_open, no_line, found_node, gap_only}
 use Rattle.kdl_grammar.proofs.Reading.NodeSteps.{control_of, steps, refuses_two}
-use Rattle.kdl_grammar.proofs.Reading.Refusing.{near_goes}
+use Rattle.kdl_grammar.proofs.Reading.Refusing.{near_after}
 use Rattle.kdl_grammar.proofs.Reading.Sound.{derives}
 use Rattle.kdl_entry.proofs.Moving.TokenMoves.{Fits}
 use Rattle.kdl_grammar.proofs.Reading.Viable.{Ends, at_gap, at_node, at_kept, closing_text, missing_text, a_word, no_right, no_close, worded, after_string, after_value, carry, reads}
@@ -51,16 +51,7 @@ after_node = in_text true (at gap [])
 line_then : {s t : Text} {m : NodeControl} (k : Token) → BeginsToken s k t → node_step after_node k ≡ Some m → (m ≡ after_node → Star LineSpace t []) → Star LineSpace s []
 line_then space (t_space n) e f = more (LineSpace.space n) (f cc)
 line_then newline (t_newline n) e f = more (LineSpace.«break» n) (f cc)
-line_then slashdash b e f = absurd cc
-line_then (string v) b e f = absurd cc
-line_then (value v) b e f = absurd cc
-line_then left b e f = absurd cc
-line_then right b e f = absurd cc
-line_then opening b e f = absurd cc
-line_then closing b e f = absurd cc
-line_then equals b e f = absurd cc
-line_then semicolon b e f = absurd cc
-line_then bom b e f = absurd cc
+line_then k b e f = absurd cc
 
 only_lines : {n l : NodeControl} {s : Text} → n ≡ after_node → NodeGoes n s l [] → Star LineSpace s []
 only_lines h here = no_star
@@ -149,15 +140,12 @@ closes at_gap [] true = record { last = in_text true (at gap []); there = here; 
 closes at_gap [] false = a_node
 closes at_node [] b = ended b refl refl
 closes at_kept [] b = ended b refl refl
-closes at_gap (in_block ∷ fs) b = over t_closing refl (closes at_kept fs b)
 closes at_gap (in_dropped ∷ fs) b = over t_closing refl (closes (at_node {p = later}) fs b)
-closes at_gap (in_later ∷ fs) b = over t_closing refl (closes at_kept fs b)
-closes at_node (in_block ∷ fs) b = over t_closing refl (closes at_kept fs b)
+closes at_gap (f ∷ fs) b = over t_closing refl (closes at_kept fs b)
 closes at_node (in_dropped ∷ fs) b = over t_closing refl (closes (at_node {p = later}) fs b)
-closes at_node (in_later ∷ fs) b = over t_closing refl (closes at_kept fs b)
-closes at_kept (in_block ∷ fs) b = over t_closing refl (closes at_kept fs b)
+closes at_node (f ∷ fs) b = over t_closing refl (closes at_kept fs b)
 closes at_kept (in_dropped ∷ fs) b = over t_closing refl (closes (at_node {p = later}) fs b)
-closes at_kept (in_later ∷ fs) b = over t_closing refl (closes at_kept fs b)
+closes at_kept (f ∷ fs) b = over t_closing refl (closes at_kept fs b)
 
 no_semicolon : is_identifier_char 59 ≡ false
 unfolding is_identifier_char Rattle.kdl_text.specs.Chars.is_space Rattle.kdl_text.specs.Chars.is_newline_char Rattle.kdl_text.specs.Chars.is_banned Rattle.kdl_text.specs.Chars.is_punctuation
@@ -202,50 +190,24 @@ gap_feed (f ∷ fs) b = refl
 
 out_feed : (p : Phase) (fs : List Frame) (b : Bool) → begins 10 (out_text p fs b) ≡ false
 out_feed gap fs b = gap_feed fs b
-out_feed node_slashdash fs b = refl
-out_feed (type_open o) fs b = refl
-out_feed (type_name o) fs b = refl
-out_feed (type_done o) fs b = refl
 out_feed (in_node p) fs b = after_feed fs b
-out_feed property fs b = refl
-out_feed entry_slashdash fs b = refl
-out_feed block_slashdash fs b = refl
 out_feed kept fs b = after_feed fs b
-out_feed kept_slashdash fs b = refl
+out_feed p fs b = refl
 
 word_fits : (p : Phase) (fs : List Frame) (b : Bool) → worded (at p fs) ≡ true → (starts is_identifier_char (out_text p fs b) ≡ false) × (begins 34 (out_text p fs b) ≡ false)
 word_fits (in_node (fresh w)) fs b e = (after_class fs b, after_quote fs b)
 word_fits (type_name o) fs b e = (no_right, refl)
-word_fits gap fs b e = absurd cc
-word_fits node_slashdash fs b e = absurd cc
-word_fits (type_open o) fs b e = absurd cc
-word_fits (type_done o) fs b e = absurd cc
-word_fits (in_node (spaced w)) fs b e = absurd cc
-word_fits (in_node later) fs b e = absurd cc
-word_fits property fs b e = absurd cc
-word_fits entry_slashdash fs b e = absurd cc
-word_fits block_slashdash fs b e = absurd cc
-word_fits kept fs b e = absurd cc
-word_fits kept_slashdash fs b e = absurd cc
+word_fits p fs b e = absurd cc
 
 out_fits : (c : Control) (k : Token) (p : Phase) (fs : List Frame) (b : Bool) → step c k ≡ Some (at p fs) → Fits k (out_text p fs b)
 out_fits c (string v) p fs b e = word_fits p fs b (after_string c v (at p fs) e)
 out_fits c (value v) p fs b e = (word_fits p fs b (after_value c v (at p fs) e)).0
-out_fits c space p fs b e = tt
-out_fits c newline p fs b e = tt
-out_fits c slashdash p fs b e = tt
-out_fits c left p fs b e = tt
-out_fits c right p fs b e = tt
-out_fits c opening p fs b e = tt
-out_fits c closing p fs b e = tt
-out_fits c equals p fs b e = tt
-out_fits c semicolon p fs b e = tt
-out_fits c bom p fs b e = tt
+out_fits c k p fs b e = tt
 
 pub node_alive : NodeAlive
 node_alive p r (in_text b (at q fs)) g =
     let u = out_text q fs b in
-    let x = carry {of = control_of} steps u (out_feed q fs b) (λ c k e. out_fits (control_of c) k q fs b (steps c (in_text b (at q fs)) k e)) g in
+    let x = carry u (out_feed q fs b) (λ c k e. out_fits (control_of c) k q fs b (steps c (in_text b (at q fs)) k e)) g in
     let y = sound (ahead x.there (out q fs b)) in
     let same : x.at.piece ≡ p = append_cancel_right x.at.piece p r (sym (x.at.here ∙ x.at.text r)) in
     (x.glue ++ u, subst (λ (z : Text). DerivedNode z) (x.at.text (x.glue ++ u) ∙ ap (λ (z : Text). z ++ (x.glue ++ u)) same) y)
@@ -264,10 +226,7 @@ refused {n = n} f u some h x = go (f ++ u) refl x.there
 
 pub node_dead_at_front : (p f r : Text) (n : NodeControl) → f ≢ [] → NodeReaches (p ++ (f ++ r)) n (f ++ r) → NodeRefusesFront n f → BeginsNoOther DerivedNode (p ++ f)
 node_dead_at_front p f r n some g h u d =
-    let y = near_goes (f ++ u) (front_first f u r some) g in
-    let same : y.at.piece ≡ p = append_cancel_right y.at.piece p (f ++ r) (sym (y.at.here ∙ y.at.text (f ++ r))) in
-    let text : y.at.put (f ++ u) ≡ (p ++ f) ++ u = y.at.text (f ++ u) ∙ ap (λ (z : Text). z ++ (f ++ u)) same ∙ sym (append_assoc p f u) in
-    refused f u some h (rest_passes y.there (complete (subst (λ (z : Text). DerivedNode z) (sym text) d)))
+    refused f u some h (rest_passes (near_after p (f ++ r) (f ++ u) (front_first f u r some) g) (complete (subst (λ (z : Text). DerivedNode z) (append_assoc p f u) d)))
 
 pub node_dead_at_token : NodeDeadAtToken
 node_dead_at_token p r s n k g b e =

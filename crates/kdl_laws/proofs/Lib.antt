@@ -1,3 +1,5 @@
+-- The lemmas that the functions of a file cite.
+pub mod Rules
 -- Documents, and nodes, that `==` takes for one print the same, and say the same.
 pub mod EqualDocuments
 -- What `==` of nodes and documents means, on trees.
@@ -6,6 +8,8 @@ pub mod Equality
 pub mod ErrorClones
 -- What `==` of errors and of their parts means, on their trees.
 pub mod ErrorEquality
+-- Two hashers that are written the same bytes.
+pub mod Hashing
 -- The lists of items, with all that they are of named.
 pub mod ItemLists
 -- What `==` of keys means, on what they look for.

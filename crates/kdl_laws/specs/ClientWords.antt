@@ -24,7 +24,8 @@ pub use Rattle.kdl_layout.specs.Kept.{without_bom}
 pub use Rattle.kdl_laws.specs.Leading.{DocumentLeading}
 -- Written items.
 pub use Rattle.kdl_layout.specs.Written.{lines, on_line, tail}
--- Keys, errors and their parts, which `==` compares.
+-- Keys, errors and their parts, which `==` compares; hashes.
+pub use Rattle.kdl_laws.specs.Hashes.{WritesBoth}
 pub use Rattle.kdl_laws.specs.Keys.{sought_anywhere}
 pub use Rattle.kdl_laws.specs.Errors.{Diagnostic, Failure, Refusal, diagnostic_tree, error_tree, failure_tree, memory, syntax'}
 -- Pieces of a text: those of a diagnostic, and of an entry.

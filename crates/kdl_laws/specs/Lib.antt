@@ -2,6 +2,8 @@
 pub mod ClientWords
 -- Errors with every text as its bytes, and every span, whatever their layout in memory.
 pub mod Errors
+-- The hashes of two things that are equal.
+pub mod Hashes
 -- What keys look for, regardless of the spans of their names.
 pub mod Keys
 -- The pieces of a text.

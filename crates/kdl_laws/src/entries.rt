@@ -1,10 +1,12 @@
 //! What `==` and hashes of identifiers and entries mean, that printed entries read back, and the laws of the written
 //! grammar of both.
+#![tactic(auto, using(crate::proofs::Rules::entries))]
 
 ghost use Rattle.kdl_entry.specs.Laws.{OneIdentifier, OneEntry, OneLaidIdentifier, OneLaidEntry, LaidIdentifierIsDerived, LaidEntryIsDerived, TextsAreLaid};
 ghost use Rattle.kdl_entry.specs.Formless.{IsFormless, FormlessReadsBack};
 ghost use Rattle.kdl_entry.specs.Tree.{identifier_tree, entry_tree, entry_format_tree, cleared, without_span, without_spans};
-ghost use Rattle.std.specs.Prelude.{◌≡◌, IsTrue, ◌↔◌, fold};
+ghost use Rattle.kdl_laws.specs.Hashes.{WritesBoth};
+ghost use Rattle.std.specs.Prelude.{◌≡◌, IsTrue, ◌↔◌};
 
 use crate::values::values_are_well_formed;
 use kdl_entry::{KdlEntry, KdlEntryFormat, KdlIdentifier};
@@ -63,10 +65,8 @@ pub fn unambiguous_entry()
 /// Equal formats leave equal hashers equal: their hashes write the same bytes.
 pub fn hash_formats<H: Hasher>(a: &KdlEntryFormat, b: &KdlEntryFormat, one: &mut H, other: &mut H)
     requires { entry_format_tree a.now ≡ entry_format_tree b.now }
-    ensures first { one.new ≡ fold H.write one.old (⟦<KdlEntryFormat as Hash>⟧.hash_input a.now) }
-    ensures second { other.new
-        ≡ fold H.write other.old (⟦<KdlEntryFormat as Hash>⟧.hash_input a.now) }
-    ensures equal { one.old ≡ other.old → one.new ≡ other.new }
+    ensures { WritesBoth H.write (⟦<KdlEntryFormat as Hash>⟧.hash_input a.now)
+        one.old one.new other.old other.new }
 {
     a.hash(one);
     b.hash(other);
@@ -75,10 +75,8 @@ pub fn hash_formats<H: Hasher>(a: &KdlEntryFormat, b: &KdlEntryFormat, one: &mut
 /// Equal identifiers, of any spans, leave equal hashers equal: their hashes write the same bytes.
 pub fn hash_identifiers<H: Hasher>(a: &KdlIdentifier, b: &KdlIdentifier, one: &mut H, other: &mut H)
     requires { without_span (identifier_tree a.now) ≡ without_span (identifier_tree b.now) }
-    ensures first { one.new ≡ fold H.write one.old (⟦<KdlIdentifier as Hash>⟧.hash_input a.now) }
-    ensures second { other.new
-        ≡ fold H.write other.old (⟦<KdlIdentifier as Hash>⟧.hash_input a.now) }
-    ensures equal { one.old ≡ other.old → one.new ≡ other.new }
+    ensures { WritesBoth H.write (⟦<KdlIdentifier as Hash>⟧.hash_input a.now)
+        one.old one.new other.old other.new }
 {
     a.hash(one);
     b.hash(other);
@@ -87,9 +85,8 @@ pub fn hash_identifiers<H: Hasher>(a: &KdlIdentifier, b: &KdlIdentifier, one: &m
 /// Equal entries, of any spans, leave equal hashers equal: their hashes write the same bytes.
 pub fn hash_entries<H: Hasher>(a: &KdlEntry, b: &KdlEntry, one: &mut H, other: &mut H)
     requires { without_spans (entry_tree a.now) ≡ without_spans (entry_tree b.now) }
-    ensures first { one.new ≡ fold H.write one.old (⟦<KdlEntry as Hash>⟧.hash_input a.now) }
-    ensures second { other.new ≡ fold H.write other.old (⟦<KdlEntry as Hash>⟧.hash_input a.now) }
-    ensures equal { one.old ≡ other.old → one.new ≡ other.new }
+    ensures { WritesBoth H.write (⟦<KdlEntry as Hash>⟧.hash_input a.now)
+        one.old one.new other.old other.new }
 {
     a.hash(one);
     b.hash(other);

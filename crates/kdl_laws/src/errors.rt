@@ -1,4 +1,5 @@
 //! What `==` and clones of errors, and of their parts, mean.
+#![tactic(auto, using(crate::proofs::Rules::errors))]
 
 ghost use Rattle.kdl_laws.specs.Errors.{diagnostic_tree, error_tree, failure_tree};
 ghost use Rattle.std.specs.Prelude.{◌≡◌, ◌↔◌, IfOk, IsTrue};

@@ -1,7 +1,9 @@
 //! When `==` of formats is true; equal ones have equal hashes.
+#![tactic(auto, using(crate::proofs::Rules::formats))]
 
 ghost use Rattle.kdl_parts.specs.Formats.{document_format_tree, node_format_tree};
-ghost use Rattle.std.specs.Prelude.{◌≡◌, ◌↔◌, IsTrue, fold};
+ghost use Rattle.kdl_laws.specs.Hashes.{WritesBoth};
+ghost use Rattle.std.specs.Prelude.{◌≡◌, ◌↔◌, IsTrue};
 
 use kdl_parts::{KdlDocumentFormat, KdlNodeFormat};
 use std::hash::{Hash, Hasher};
@@ -28,10 +30,8 @@ pub fn hash_node_formats<H: Hasher>(
     other: &mut H,
 )
     requires { node_format_tree a.now ≡ node_format_tree b.now }
-    ensures first { one.new ≡ fold H.write one.old (⟦<KdlNodeFormat as Hash>⟧.hash_input a.now) }
-    ensures second { other.new
-        ≡ fold H.write other.old (⟦<KdlNodeFormat as Hash>⟧.hash_input a.now) }
-    ensures equal { one.old ≡ other.old → one.new ≡ other.new }
+    ensures { WritesBoth H.write (⟦<KdlNodeFormat as Hash>⟧.hash_input a.now)
+        one.old one.new other.old other.new }
 {
     a.hash(one);
     b.hash(other);
@@ -45,11 +45,8 @@ pub fn hash_document_formats<H: Hasher>(
     other: &mut H,
 )
     requires { document_format_tree a.now ≡ document_format_tree b.now }
-    ensures first { one.new ≡ fold H.write one.old
-        (⟦<KdlDocumentFormat as Hash>⟧.hash_input a.now) }
-    ensures second { other.new
-        ≡ fold H.write other.old (⟦<KdlDocumentFormat as Hash>⟧.hash_input a.now) }
-    ensures equal { one.old ≡ other.old → one.new ≡ other.new }
+    ensures { WritesBoth H.write (⟦<KdlDocumentFormat as Hash>⟧.hash_input a.now)
+        one.old one.new other.old other.new }
 {
     a.hash(one);
     b.hash(other);

@@ -1,5 +1,6 @@
 //! A text around nodes or entries has a list of items exactly if it may be in its place, and at most one list; a
 //! document and a node have one; and written items are the items of the written text.
+#![tactic(auto, using(crate::proofs::Rules::items))]
 
 ghost use Rattle.kdl_entry.specs.Places.{EntryLeading};
 ghost use Rattle.kdl_layout.specs.Comments.{DocumentItems, EndItems, NodeItems};

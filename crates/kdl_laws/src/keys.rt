@@ -9,6 +9,7 @@ use std::alloc::AllocError;
 
 /// Two keys are equal exactly if they look for the same: an argument at the same place, or a property by identifiers
 /// that are equal except for their spans.
+#[tactic(auto, using(crate::proofs::KeyEquality::key_decides))]
 pub fn equal_keys(a: &NodeKey, b: &NodeKey) -> bool
     ensures { IsTrue result ↔ (sought_anywhere (sought a.now) ≡ sought_anywhere (sought b.now)) }
 {

@@ -1,10 +1,12 @@
 //! When `==` of nodes and documents is true; equal ones have equal hashes, and items of one tree, such as an item and
 //! its clone, are equal.
+#![tactic(auto, using(crate::proofs::Rules::nodes))]
 
 ghost use Rattle.kdl.specs.Cleared.{node_without_spans, document_without_spans};
 ghost use Rattle.kdl.specs.Same.{same_node, same_document};
 ghost use Rattle.kdl.specs.Tree.{node_tree, document_tree};
-ghost use Rattle.std.specs.Prelude.{◌≡◌, ◌↔◌, IsTrue, fold, true};
+ghost use Rattle.kdl_laws.specs.Hashes.{WritesBoth};
+ghost use Rattle.std.specs.Prelude.{◌≡◌, ◌↔◌, IsTrue, true};
 
 use kdl::{KdlDocument, KdlNode};
 use std::hash::{Hash, Hasher};
@@ -29,9 +31,8 @@ pub fn equal_documents(a: &KdlDocument, b: &KdlDocument) -> bool
 /// Equal nodes, of any spans, leave equal hashers equal: their hashes write the same bytes.
 pub fn hash_nodes<H: Hasher>(a: &KdlNode, b: &KdlNode, one: &mut H, other: &mut H)
     requires { node_without_spans (node_tree a.now) ≡ node_without_spans (node_tree b.now) }
-    ensures first { one.new ≡ fold H.write one.old (⟦<KdlNode as Hash>⟧.hash_input a.now) }
-    ensures second { other.new ≡ fold H.write other.old (⟦<KdlNode as Hash>⟧.hash_input a.now) }
-    ensures equal { one.old ≡ other.old → one.new ≡ other.new }
+    ensures { WritesBoth H.write (⟦<KdlNode as Hash>⟧.hash_input a.now)
+        one.old one.new other.old other.new }
 {
     a.hash(one);
     b.hash(other);
@@ -41,9 +42,8 @@ pub fn hash_nodes<H: Hasher>(a: &KdlNode, b: &KdlNode, one: &mut H, other: &mut 
 pub fn hash_documents<H: Hasher>(a: &KdlDocument, b: &KdlDocument, one: &mut H, other: &mut H)
     requires { document_without_spans (document_tree a.now)
         ≡ document_without_spans (document_tree b.now) }
-    ensures first { one.new ≡ fold H.write one.old (⟦<KdlDocument as Hash>⟧.hash_input a.now) }
-    ensures second { other.new ≡ fold H.write other.old (⟦<KdlDocument as Hash>⟧.hash_input a.now) }
-    ensures equal { one.old ≡ other.old → one.new ≡ other.new }
+    ensures { WritesBoth H.write (⟦<KdlDocument as Hash>⟧.hash_input a.now)
+        one.old one.new other.old other.new }
 {
     a.hash(one);
     b.hash(other);

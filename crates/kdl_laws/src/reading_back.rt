@@ -123,6 +123,7 @@ pub fn last_ends(document: &kdl::KdlDocument) -> bool
 /// If a node is pushed to the list of nodes of a document, and the last node and the new one end by themselves, the
 /// document reads back, and its data have the new node after the others. Without nodes, the text before the nodes has
 /// to end by itself.
+#[tactic(auto, using(crate::proofs::PushedNodes::pushed_reads, crate::proofs::PushedNodes::pushed_says))]
 pub fn pushed_reads_back(document: &kdl::KdlDocument, node: &kdl::KdlNode)
     ensures reads { DocumentReadsBack document.now → LastEnds document.now → NodeEnds node.now
         → (v : Vec KdlNode Global) → v.items ≡ nodes_of document.now ++ (node.now ∷ [])

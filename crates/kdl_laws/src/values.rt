@@ -1,12 +1,14 @@
 //! What `==`, the order and hashes of values mean; printed strings read back; and what values contain.
+#![tactic(auto, using(crate::proofs::Rules::values))]
 
 ghost use Rattle.kdl_value.specs.Floats.{DecimalsAreFloats};
 ghost use Rattle.kdl_value.specs.Order.{text_order, value_order};
 ghost use Rattle.kdl_value.specs.Spelled.{SpelledReadsBack, SpelledReadsBackBefore};
 ghost use Rattle.kdl_value.specs.Tree.{value_tree, float_text_of};
 ghost use Rattle.kdl_value.specs.WellFormed.{IsWellFormed};
+ghost use Rattle.kdl_laws.specs.Hashes.{WritesBoth};
 ghost use Rattle.std.specs.Cmp.{IsTotalOrder};
-ghost use Rattle.std.specs.Prelude.{◌≡◌, IsTrue, ◌↔◌, fold};
+ghost use Rattle.std.specs.Prelude.{◌≡◌, IsTrue, ◌↔◌};
 
 use kdl_layout::layout::well_formed;
 use kdl_value::{KdlFloat, KdlValue};
@@ -67,9 +69,8 @@ pub fn values_are_ordered()
 /// Equal floats leave equal hashers equal: their hashes write the same bytes.
 pub fn hash_floats<H: Hasher>(a: &KdlFloat, b: &KdlFloat, one: &mut H, other: &mut H)
     requires { float_text_of a.now ≡ float_text_of b.now }
-    ensures first { one.new ≡ fold H.write one.old (⟦<KdlFloat as Hash>⟧.hash_input a.now) }
-    ensures second { other.new ≡ fold H.write other.old (⟦<KdlFloat as Hash>⟧.hash_input a.now) }
-    ensures equal { one.old ≡ other.old → one.new ≡ other.new }
+    ensures { WritesBoth H.write (⟦<KdlFloat as Hash>⟧.hash_input a.now)
+        one.old one.new other.old other.new }
 {
     a.hash(one);
     b.hash(other);
@@ -78,9 +79,8 @@ pub fn hash_floats<H: Hasher>(a: &KdlFloat, b: &KdlFloat, one: &mut H, other: &m
 /// Equal values leave equal hashers equal: their hashes write the same bytes.
 pub fn hash_values<H: Hasher>(a: &KdlValue, b: &KdlValue, one: &mut H, other: &mut H)
     requires { value_tree a.now ≡ value_tree b.now }
-    ensures first { one.new ≡ fold H.write one.old (⟦<KdlValue as Hash>⟧.hash_input a.now) }
-    ensures second { other.new ≡ fold H.write other.old (⟦<KdlValue as Hash>⟧.hash_input a.now) }
-    ensures equal { one.old ≡ other.old → one.new ≡ other.new }
+    ensures { WritesBoth H.write (⟦<KdlValue as Hash>⟧.hash_input a.now)
+        one.old one.new other.old other.new }
 {
     a.hash(one);
     b.hash(other);

@@ -5,7 +5,8 @@ use Rattle.kdl_text.specs.Trivia.{Parts, block, Ws, EscEnd, escline, NodeSpace}
 use Rattle.kdl_text.proofs.Spacing.SpaceUnique.{node_space_det}
 use Rattle.kdl_text.proofs.Spacing.ValueEnds.{space_ends, value_end_no_identifier}
 use Rattle.kdl_layout.specs.Lacks.{AreNodeSpaces}
-use Rattle.kdl_layout.proofs.Lacking.SpaceEnds.{goes_past, lf}
+use Rattle.kdl_layout.proofs.Lacking.SpaceEnds.{goes_past}
+use Rattle.kdl_layout.proofs.Rewriting.BeforeNewlines.{a_newline}
 use Rattle.kdl_layout.proofs.NodeSpaces.{only_spaces_are, spaces_then}
 
 -- ` `
@@ -20,11 +21,11 @@ space_comment w = more (NodeSpace.ws (Ws.space (Space.space refl))) (more (NodeS
 
 -- `\`, and an LF
 ended_escline : AreNodeSpaces (92 ∷ 10 ∷ [])
-ended_escline w = more (NodeSpace.escline (escline none (EscEnd.newline (lf w)))) none
+ended_escline w = more (NodeSpace.escline (escline none (EscEnd.newline (a_newline w)))) none
 
 -- `\` alone: an LF after it is part of the escline
 no_escline : AreNodeSpaces (92 ∷ []) → ⊥
-no_escline = goes_past (92 ∷ []) (10 ∷ []) (λ e. cc) (λ e. cc) (λ u n. node_space_det n (NodeSpace.escline (escline none (EscEnd.newline (lf [])))))
+no_escline = goes_past (92 ∷ []) (10 ∷ []) (λ e. cc) (λ e. cc) (λ u n. node_space_det n (NodeSpace.escline (escline none (EscEnd.newline (a_newline [])))))
 
 -- and after `\` and a CR too
 no_return : AreNodeSpaces (92 ∷ 13 ∷ []) → ⊥

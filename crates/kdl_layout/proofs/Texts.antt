@@ -27,9 +27,6 @@ ascii (c ∷ s) h (suc i) = ascii s (and_parts (nat_lt c 128) (list_all (λ c. n
 pub ascii_text : (s : Text) → list_all (λ c. nat_lt c 128) s ≡ true → chars s ≡ s
 ascii_text s h = chars-IsAscii s (ascii s h)
 
-pub no_text : (s : String Global) → string_bytes s ≡ [] → text_of s ≡ []
-no_text s e = ap chars e ∙ chars-nil
-
 pub newline_text : chars (10 ∷ []) ≡ 10 ∷ []
 newline_text = ascii_text (10 ∷ []) refl
 

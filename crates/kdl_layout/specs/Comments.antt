@@ -1,27 +1,16 @@
 -- The comments and slashdashed pieces in a document, in the order of printing.
 use Rattle.std.specs.Prelude.{false, List, [], ◌∷◌, ◌++◌, Option, map}
 use Rattle.kdl_text.specs.Chars.{Text}
-use Rattle.kdl_text.specs.Trivia.{LineComment}
 use Rattle.kdl_text.specs.declared.span.SourceSpan.{SourceSpan}
-use Rattle.kdl_entry.specs.Places.{between}
 use Rattle.kdl_entry.specs.Tree.{Entry}
 use Rattle.kdl_grammar.specs.Laid.{LaidDocument}
 use Rattle.kdl_grammar.specs.Tree.{DocumentFormat, Head, Node, node, Children, no_children, children, Document, document, Nodes, none, first}
-use Rattle.kdl_layout.specs.Items.{Item, comment, line_end, GapItems, before_entry, before_block, PlaceItems}
+use Rattle.kdl_layout.specs.Items.{Item, GapItems, before_entry, before_block, PlaceItems}
 use Rattle.kdl_layout.specs.Written.{on_line}
 use Rattle.kdl_layout.specs.Formatted.{or_empty, or_empty_document}
 use Rattle.kdl_layout.specs.Kept.{last_place, without_bom, entry_leading}
+pub use Rattle.kdl_layout.specs.Kept.{EndItems, ItemsIn}
 use Rattle.kdl_layout.specs.Parts.{has_block}
-
--- the items of a text in its place; none if the text can't be there
-pub data ItemsIn (Has : List Item → Type 0) : List Item → Type 0 where
-  items : {is : List Item} → Has is → ItemsIn Has is
-  no_items : ((is : List Item) → Has is → ⊥) → ItemsIn Has []
-
--- the item of a terminator, if it is a line comment
-pub data EndItems (terminator : Text) : List Item → Type 0 where
-  line_comment : LineComment terminator [] → EndItems terminator (comment (between terminator (line_end terminator)) ∷ [])
-  other : (LineComment terminator [] → ⊥) → EndItems terminator []
 
 -- the items before each entry
 pub data EntriesItems : List Entry → List Item → Type 0 where

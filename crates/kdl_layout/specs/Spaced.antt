@@ -1,5 +1,5 @@
 -- The result of layout: the comments that stay, and at most a number of blank lines before each thing on its own line.
-use Rattle.std.specs.Prelude.{◌≡◌, ℕ, zero, suc, ◌+◌, ◌<◌, ◌^◌, Bool, List, [], ◌++◌, if◌then◌else◌, Option, Some, option_map}
+use Rattle.std.specs.Prelude.{◌≡◌, ℕ, zero, suc, ◌+◌, ◌<◌, ◌^◌, Bool, List, ◌++◌, Option, Some, option_map}
 use Rattle.kdl_text.specs.Chars.{Text}
 use Rattle.kdl_entry.specs.Tree.{unspelled}
 use Rattle.kdl_grammar.specs.Tree.{NodeFormat, DocumentFormat, Head, Node, node, Children, no_children, children, Document, document, Nodes, none, first}
@@ -7,7 +7,7 @@ use Rattle.kdl_layout.specs.Items.{Item, GapItems}
 use Rattle.kdl_layout.specs.Blank.{at_start, past_items, past_node, empty_lines, spaced_lines}
 use Rattle.kdl_layout.specs.Config.{Settings, indentation}
 use Rattle.kdl_layout.specs.Formatted.{or_empty, or_empty_document, in_braces}
-use Rattle.kdl_layout.specs.Kept.{KeptLines, KeptTail, KeptBeforeBlock, last_place, KeptEnd, without_bom}
+use Rattle.kdl_layout.specs.Kept.{WrittenUnless, KeptTail, KeptBeforeBlock, last_place, KeptEnd, without_bom}
 use Rattle.kdl_layout.specs.Parts.{AreFormattedEntries, NodeTexts, line_of, content_of, has_block}
 use Rattle.kdl_layout.specs.declared.blank.Before.{Before}
 
@@ -16,20 +16,14 @@ pub data Passes (left_out : Bool) (b : Before) (place : Text) : Before → Type 
   items : {is : List Item} → GapItems place is → Passes left_out b place (past_items left_out b place is)
   no_gap : ((is : List Item) → GapItems place is → ⊥) → Passes left_out b place b
 
--- the same, with what is kept of the text: a line for each item, after the blank lines before it
-pub data Spaces (number : ℕ) (s : Settings) (level : ℕ) (b : Before) (place : Text) : Text → Before → Type 0 where
-  items : {is : List Item} → GapItems place is → Spaces number s level b place (if s.no_comments then [] else spaced_lines number (indentation s level) b place is) (past_items s.no_comments b place is)
-  no_gap : ((is : List Item) → GapItems place is → ⊥) → Spaces number s level b place [] b
-
 -- if no blank lines are kept, nothing is counted
 abbrev pub PassesText : ℕ → Settings → Before → Text → Before → Type 0
 PassesText zero s b place b' = Unit {0}
 PassesText (suc number) s b place b' = Passes s.no_comments b place b'
 
--- what is kept of a text between nodes at a level, with the blank lines that are kept
+-- what is kept of a text between nodes at a level: a line for each item, after the blank lines before it
 abbrev pub SpacedLines : ℕ → Settings → ℕ → Before → Text → Text → Before → Type 0
-SpacedLines zero s level b place t b' = KeptLines s level place t
-SpacedLines (suc number) s level b place t b' = Spaces (suc number) s level b place t b'
+SpacedLines number s level b place t b' = WrittenUnless s.no_comments (GapItems place) (spaced_lines number (indentation s level) b place) t × PassesText number s b place b'
 
 -- what is kept of the texts around the parts of a node, and the blank lines before the node
 pub record SpacesTexts (number : ℕ) (s : Settings) (level : ℕ) (has_block : Bool) (b : Before) (f : NodeFormat) (k : NodeTexts) : Type 0 where

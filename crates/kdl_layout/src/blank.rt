@@ -11,6 +11,7 @@ ghost use Rattle.std.specs.Str.{chars};
 
 use crate::config::FormatConfig;
 use crate::item::Item;
+use crate::spaces::same;
 use crate::written::{push_lines, push_text};
 use kdl_text::chars::is_newline_char;
 use std::alloc::AllocError;
@@ -48,13 +49,6 @@ fn next_char(text: &str) -> Option<(char, &str)>
         Some(c) => Some((c, chars.as_str())),
         None => None,
     }
-}
-
-/// Returns the same text. A loop that continues with the result of a call knows that it is UTF-8.
-fn same(text: &str) -> &str
-    ensures { chars result.now ≡ chars text.now }
-{
-    text
 }
 
 impl Last {

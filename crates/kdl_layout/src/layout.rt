@@ -9,7 +9,7 @@ ghost use Rattle.kdl_layout.specs.Kept.{KeptBefore, KeptBeforeBlock, KeptEnd, Ke
 ghost use Rattle.kdl_layout.specs.KeptForm.{EntriesKeepReading};
 ghost use Rattle.kdl_layout.specs.Plain.{newline_if};
 ghost use Rattle.kdl_layout.specs.Respelled.{AreSpelledEntries, HasSpellings, IsSpelledEntry};
-ghost use Rattle.kdl_layout.specs.Spaced.{IsSpacedBraced, IsSpacedContent, IsSpacedLine, Passes, PassesFormat, PassesNodes, SpacedLines, Spaces, SpacesContent};
+ghost use Rattle.kdl_layout.specs.Spaced.{IsSpacedBraced, IsSpacedContent, IsSpacedLine, Passes, PassesFormat, PassesNodes, SpacedLines, SpacesContent};
 ghost use Rattle.kdl_layout.specs.WellFormed.{AreWellFormedEntries, IsWellFormedEntry};
 ghost use Rattle.kdl_layout.specs.Parts.{following, put_format};
 ghost use Rattle.kdl_grammar.specs.ReadsBack.{EntryReads};
@@ -28,7 +28,7 @@ ghost use Rattle.std.specs.Prelude.{◌≡◌, ◌+◌, ◌==◌, ◌≤◌, ◌
 ghost use Rattle.std.specs.Str.{chars};
 
 use crate::blank::{Before, Last, past_items, past_node, push_empty_lines, push_spaced_lines};
-use crate::config::{FormatConfig, Layout};
+use crate::config::{FormatConfig, Layout, is_kdl_space};
 use crate::item::Place;
 use crate::kept::{no_text, spelled_format};
 use crate::names::{autoformat_but, has_spelling, is_flagged, name_spelling_if};
@@ -98,13 +98,6 @@ pub fn further(alloc: Global, config: &FormatConfig, before: &str) -> Result<Str
     Ok(out)
 }
 
-/// Returns whether each character of the text is U+0020. In a node, such a text has no items.
-fn is_blank(text: &str) -> bool
-    ensures { result ≡ list_all (λ c. c == 32) (chars text.now) }
-{
-    text.chars().all(|c| c == ' ')
-}
-
 /// Returns whether each character of the text is U+0020 or U+000A. Between nodes, such a text has no items.
 fn is_blank_gap(text: &str) -> bool
     ensures { result ≡ list_all (λ c. (c == 32) || (c == 10)) (chars text.now) }
@@ -149,7 +142,7 @@ fn spaced_lines(
 ) -> Result<String, AllocError>
     ensures { IfOk result (λ t. (level : ℕ)
         → chars margin.now ≡ indentation (settings layout.now.config) level
-        → Spaces layout.now.blank_lines (settings layout.now.config) level
+        → SpacedLines layout.now.blank_lines (settings layout.now.config) level
         before.old (chars place.now) (text_of t) before.new) }
 {
     let mut out = no_text(alloc);
@@ -200,7 +193,7 @@ fn kept_tail(
     if config.no_comments {
         return Ok(out);
     }
-    if is_blank(text) {
+    if is_kdl_space(text) {
         return Ok(out);
     }
     if let Some(items) = place_items(alloc, place, text)? {

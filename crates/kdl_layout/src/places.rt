@@ -57,7 +57,8 @@ fn piece<'a>(text: &'a str, following: &'a str, at: usize) -> (&'a str, &'a str)
     (piece, rest)
 }
 
-/// Adds the slashdashed node that begins the text. Node-spaces at the end of the text are not part of its item.
+/// Adds the slashdashed node that begins the text. After a node without a terminator, the node-spaces at the end of the
+/// text are in the piece that is returned, and not in the node's item.
 fn dropped_node<'a>(
     alloc: Global,
     text: &'a str,

@@ -1,7 +1,5 @@
 -- What is returned on a whole text.
 
--- The loop over the tokens of a text.
-pub mod TokenLoop
 -- What holds between the turns of the loop, and what is returned in a turn.
 pub mod Turns
 -- What the result on a whole text says of the grammar.

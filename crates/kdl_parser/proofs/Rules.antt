@@ -3,17 +3,16 @@ use Rattle.kdl_syntax.proofs.Order.{ahead}
 use Rattle.kdl_parser.proofs.Answering.LeadingBom.{bom_ends, whole_answer}
 use Rattle.kdl_parser.proofs.Answering.LineSpaceReads.{lines_fail, lines_nearer, lines_start}
 use Rattle.kdl_parser.proofs.Answering.NodeTexts.{not_one, one_read, whole_read}
-use Rattle.kdl_parser.proofs.Answering.TokenLoop.{all_read}
-use Rattle.kdl_parser.proofs.Answering.Turns.{counts_after, counts_on, end_counted, end_placed, end_refused, end_refused_counted, end_told, lexer_counted, lexer_told, take_counted, take_placed, take_told}
+use Rattle.kdl_parser.proofs.Answering.Turns.{all_read, counts_after, counts_on, end_counted, end_placed, end_refused, end_refused_counted, end_told, lexer_counted, lexer_told, take_counted, take_placed, take_told}
 use Rattle.kdl_parser.proofs.Stepping.Dropped.{drops_like, first_like}
 use Rattle.kdl_parser.proofs.Stepping.NodeSpans.{no_last, nothing, spans, within, without}
 use Rattle.kdl_parser.proofs.Stepping.Origins.{between_none, origin_ends}
-use Rattle.kdl_parser.proofs.Stepping.StepsDone.{does_did, failed, none_sliced, same_state}
+use Rattle.kdl_parser.proofs.Stepping.StepsDone.{none_sliced, same_state}
 use Rattle.kdl_parser.proofs.Stepping.TurnCost.{fewer, token_fewer}
 use Rattle.kdl_parser.proofs.Stepping.Views.{all_closed, entry_pushed, level_pushed, node_pushed, one_open}
 
 -- for src/builder/steps.rt
-pub ruleset steps = (fewer, token_fewer, level_pushed, ahead, between_none, origin_ends, failed)
+pub ruleset steps = (fewer, token_fewer, level_pushed, ahead, between_none, origin_ends)
 
 -- for src/builder/content.rt
 pub ruleset content = (entry_pushed, spans, nothing, no_last, without, within, ahead, node_pushed)
@@ -22,7 +21,7 @@ pub ruleset content = (entry_pushed, spans, nothing, no_last, without, within, a
 pub ruleset dropping = (drops_like, first_like)
 
 -- for src/builder.rt
-pub ruleset builder = (does_did, none_sliced, same_state, one_open, all_closed)
+pub ruleset builder = (none_sliced, same_state, one_open, all_closed)
 
 -- for src/node_text.rt
 pub ruleset node_text = (one_read, not_one, whole_read)

@@ -10,8 +10,6 @@ pub mod NodeSpans
 pub mod TurnCost
 -- What a step did that no token refuses.
 pub mod StepsDone
--- What the machine holds of a dropped item changes nothing.
-pub mod Held
 -- Inside what is slashdashed the machine's step is that of the machine without data.
 pub mod Dropped
 -- What a token, a fault and the end do to the machine's runs.

@@ -10,7 +10,6 @@ ghost use Rattle.kdl_parser.specs.Internal.Building.{state_view, under_view, Pla
 ghost use Rattle.kdl_parser.specs.Internal.Counted.{unsliced};
 ghost use Rattle.kdl_parser.specs.Internal.Events.{Acts, PartsAhead, is_building, mark_step, string_step, value_step};
 ghost use Rattle.kdl_parser.specs.Internal.States.{document_now, document_of_nodes, Ends, Ready, Stays, TakesToken, TakesTurn};
-ghost use Rattle.kdl_parser.specs.declared.builder.TakeFailure.TheVariants.{Memory};
 ghost use Rattle.kdl_text.specs.Internal.Reading.{Moves};
 ghost use Rattle.kdl_text.specs.Spans.{bytes};
 ghost use Rattle.kdl_value.specs.Tree.{text_of, value_tree};
@@ -30,32 +29,7 @@ use kdl_entry::parsing::source::Source;
 use kdl_entry::{KdlEntry, KdlIdentifier, KdlValue};
 use kdl_syntax::{Event, LexFailure, NextToken, Phase, TokenKind, TokenSpan};
 use kdl_text::cursor::{Checkpoint, Piece};
-use std::alloc::{AllocError, AllocFailed, Global};
-
-/// Why the builder does not take a token, or returns no document.
-#[derive(Clone, Copy, Drop)]
-pub(crate) enum TakeFailure {
-    /// The token may not be where it is, or the text may not end there.
-    Unexpected,
-    /// An allocation failed.
-    Memory,
-}
-
-impl<T: Drop> From<AllocFailed<T>> for TakeFailure {
-    ghost from_gives = { λ _ e. e ≡ Memory };
-
-    fn from(_: AllocFailed<T>) -> TakeFailure {
-        TakeFailure::Memory
-    }
-}
-
-impl From<AllocError> for TakeFailure {
-    ghost from_gives = { λ _ e. e ≡ Memory };
-
-    fn from(_: AllocError) -> TakeFailure {
-        TakeFailure::Memory
-    }
-}
+use std::alloc::Global;
 
 /// A node being read.
 #[derive(Drop)]
@@ -173,17 +147,17 @@ impl<'a, N: ParsedNode> Builder<'a, N> {
         event: Event,
         value: KdlValue,
         at: &TokenSpan<'a>,
-    ) -> Result<(), TakeFailure>
-        requires ready { Ready self.old at.now.start }
+    ) -> Result<(), LexFailure>
+        requires ready { Ready self.old self.old.from at.now.start }
         requires parts { PartsAhead event self.old.source self.old.parts.from at.now.start }
-        ensures { Acts N.tree event (value_step N.tree self.old event (value_tree value) at.now.start at.now.end)
-            self.old result self.new }
+        ensures { Acts N.tree event (value_step N.tree self.old event (value_tree value) at.now) self.old
+            result self.new }
     {
         match event {
             Event::Argument => self.add_argument(value, at),
             Event::TypedValue => self.add_typed(value, at),
             Event::KeyedValue => self.add_keyed(value, at),
-            _ => Err(TakeFailure::Unexpected),
+            _ => Err(LexFailure::Faulty),
         }
     }
 
@@ -194,28 +168,29 @@ impl<'a, N: ParsedNode> Builder<'a, N> {
         event: Event,
         text: String,
         at: &TokenSpan<'a>,
-    ) -> Result<(), TakeFailure>
-        requires ready { Ready self.old at.now.start }
+    ) -> Result<(), LexFailure>
+        requires ready { Ready self.old self.old.from at.now.start }
         requires parts { PartsAhead event self.old.source self.old.parts.from at.now.start }
-        ensures { Acts N.tree event (string_step N.tree self.old event (text_of text) at.now.start at.now.end)
-            self.old result self.new }
+        ensures { Acts N.tree event (string_step N.tree self.old event (text_of text) at.now) self.old
+            result self.new }
     {
         match event {
             Event::Name => self.name_node(text, at),
             Event::TypedName => self.name_typed(text, at),
             Event::TypeName(owner) => self.name_type(owner, text, at),
             Event::Word => self.wait(text, at),
-            _ => self.take_value(event, KdlValue::String(text), at),
+            Event::TypedValue => self.add_typed(KdlValue::String(text), at),
+            Event::KeyedValue => self.add_keyed(KdlValue::String(text), at),
+            _ => Err(LexFailure::Faulty),
         }
     }
 
     /// Takes a token that is neither a string nor a value, and does its event.
     #[inline(always)]
-    fn take_mark(&mut self, event: Event, at: &TokenSpan<'a>) -> Result<(), TakeFailure>
-        requires ready { Ready self.old at.now.start }
+    fn take_mark(&mut self, event: Event, at: &TokenSpan<'a>) -> Result<(), LexFailure>
+        requires ready { Ready self.old self.old.from at.now.start }
         requires parts { PartsAhead event self.old.source self.old.parts.from at.now.start }
-        ensures { Acts N.tree event (mark_step N.tree self.old event at.now.start at.now.end)
-            self.old result self.new }
+        ensures { Acts N.tree event (mark_step N.tree self.old event at.now) self.old result self.new }
     {
         match event {
             Event::Skip(phase) => {
@@ -234,7 +209,7 @@ impl<'a, N: ParsedNode> Builder<'a, N> {
             Event::GapClosing => self.close(at),
             Event::NodeClosing => self.close_node(at),
             Event::KeptClosing => self.close_kept(at),
-            _ => Err(TakeFailure::Unexpected),
+            _ => Err(LexFailure::Faulty),
         }
     }
 
@@ -257,13 +232,13 @@ impl<'a, N: ParsedNode> Builder<'a, N> {
 
     /// Takes a token outside of what is slashdashed.
     #[inline(always)]
-    fn take_live(&mut self, kind: TokenKind, at: &TokenSpan<'a>) -> Result<(), TakeFailure>
+    fn take_live(&mut self, kind: TokenKind, at: &TokenSpan<'a>) -> Result<(), LexFailure>
         requires building { is_building self.old.dropped self.old.phase ≡ true }
         requires placed { Placed self.old.source.text (state_view N.tree self.old) at.now.start.rest }
         ensures { TakesToken N.tree self.old (kind_view kind) at.now result self.new }
     {
         let Some(event) = self.phase.event(&kind) else {
-            return Err(TakeFailure::Unexpected);
+            return Err(LexFailure::Faulty);
         };
         match kind {
             TokenKind::String(text) => self.take_string(event, text, at),
@@ -274,7 +249,7 @@ impl<'a, N: ParsedNode> Builder<'a, N> {
 
     /// Takes a bare string outside of what is slashdashed.
     #[inline(always)]
-    fn take_bare(&mut self, word: &Piece<'a>, at: &TokenSpan<'a>) -> Result<(), TakeFailure>
+    fn take_bare(&mut self, word: &Piece<'a>, at: &TokenSpan<'a>) -> Result<(), LexFailure>
         requires building { is_building self.old.dropped self.old.phase ≡ true }
         requires placed { Placed self.old.source.text (state_view N.tree self.old) at.now.start.rest }
         requires reads { at.now.start.rest ≡ word.now ++ at.now.end.rest }
@@ -289,7 +264,7 @@ impl<'a, N: ParsedNode> Builder<'a, N> {
 
     /// Takes a run of spaces outside of what is slashdashed.
     #[inline(always)]
-    fn take_blank(&mut self, at: &TokenSpan<'a>) -> Result<(), TakeFailure>
+    fn take_blank(&mut self, at: &TokenSpan<'a>) -> Result<(), LexFailure>
         requires { is_building self.old.dropped self.old.phase ≡ true }
         ensures { TakesToken N.tree self.old space at.now result self.new }
     {
@@ -300,7 +275,7 @@ impl<'a, N: ParsedNode> Builder<'a, N> {
     /// Takes the token of this kind at the place. Fails if the token may not be here, or if an allocation fails; the
     /// builder is then in an unspecified state.
     #[inline(always)]
-    pub(crate) fn take(&mut self, kind: TokenKind, at: &TokenSpan<'a>) -> Result<(), TakeFailure>
+    pub(crate) fn take(&mut self, kind: TokenKind, at: &TokenSpan<'a>) -> Result<(), LexFailure>
         requires placed { Placed self.old.source.text (state_view N.tree self.old) at.now.start.rest }
         ensures { TakesTurn N.tree self.old (kind_view kind) at.now result self.new }
     {
@@ -318,7 +293,7 @@ impl<'a, N: ParsedNode> Builder<'a, N> {
         &mut self,
         word: &Piece<'a>,
         at: &TokenSpan<'a>,
-    ) -> Result<(), TakeFailure>
+    ) -> Result<(), LexFailure>
         requires placed { Placed self.old.source.text (state_view N.tree self.old) at.now.start.rest }
         requires reads { at.now.start.rest ≡ word.now ++ at.now.end.rest }
         ensures { TakesTurn N.tree self.old (string word.now) at.now result self.new }
@@ -333,7 +308,7 @@ impl<'a, N: ParsedNode> Builder<'a, N> {
 
     /// Takes the token at the place, which is a run of spaces. It does what `take` does at such a token.
     #[inline(always)]
-    pub(crate) fn take_space(&mut self, at: &TokenSpan<'a>) -> Result<(), TakeFailure>
+    pub(crate) fn take_space(&mut self, at: &TokenSpan<'a>) -> Result<(), LexFailure>
         requires placed { Placed self.old.source.text (state_view N.tree self.old) at.now.start.rest }
         ensures { TakesTurn N.tree self.old space at.now result self.new }
     {
@@ -358,7 +333,7 @@ impl<'a, N: ParsedNode> Builder<'a, N> {
 
     /// Returns the document at the end of the text, which is here. Fails if something open is not closed. The builder
     /// can't be used afterwards.
-    pub(crate) fn finish(&mut self, here: &Checkpoint<'a>) -> Result<DocumentParts<N>, TakeFailure>
+    pub(crate) fn finish(&mut self, here: &Checkpoint<'a>) -> Result<DocumentParts<N>, LexFailure>
         requires end { here.now.rest ≡ [] }
         requires from { Within self.old.source self.old.from here.now }
         ensures { Ends N.tree (document_now N.tree self.old) (unsliced self.old) self.old result self.new }
@@ -370,13 +345,13 @@ impl<'a, N: ParsedNode> Builder<'a, N> {
         if self.leave_dropped(&TokenKind::Closing)? {
             return self.finish_at(here);
         }
-        Err(TakeFailure::Unexpected)
+        Err(LexFailure::Faulty)
     }
 
     /// Returns the document at the end of the text, outside of what is slashdashed.
-    fn finish_at(&mut self, here: &Checkpoint<'a>) -> Result<DocumentParts<N>, TakeFailure>
+    fn finish_at(&mut self, here: &Checkpoint<'a>) -> Result<DocumentParts<N>, LexFailure>
         requires end { here.now.rest ≡ [] }
-        requires ready { Ready self.old here.now }
+        requires ready { Ready self.old self.old.from here.now }
         ensures { Ends N.tree (document_now N.tree self.old) (unsliced self.old) self.old result self.new }
     {
         match self.phase {
@@ -389,18 +364,18 @@ impl<'a, N: ParsedNode> Builder<'a, N> {
                 self.end_kept(&nothing_at(here))?;
                 self.finish_nodes(here)
             }
-            _ => Err(TakeFailure::Unexpected),
+            _ => Err(LexFailure::Faulty),
         }
     }
 
     /// Returns the document of the nodes, if no block is open.
-    fn finish_nodes(&mut self, here: &Checkpoint<'a>) -> Result<DocumentParts<N>, TakeFailure>
+    fn finish_nodes(&mut self, here: &Checkpoint<'a>) -> Result<DocumentParts<N>, LexFailure>
         requires end { here.now.rest ≡ [] }
         requires from { Within self.old.source self.old.from here.now }
         ensures { Ends N.tree (document_of_nodes N.tree self.old) (bytes self.old.from.rest) self.old result self.new }
     {
         if !self.levels.is_empty() {
-            return Err(TakeFailure::Unexpected);
+            return Err(LexFailure::Faulty);
         }
         self.nodes.fit()?;
         let nodes = self.nodes.replace(Vec::new(self.source.alloc()));

@@ -2,27 +2,17 @@
 #![tactic(auto, using(crate::proofs::Rules::token_loop))]
 
 ghost use Rattle.kdl_grammar.specs.Internal.Machine.{initial};
-ghost use Rattle.kdl_parser.specs.Internal.Answered.{AnswersParts, TakeFailsAs};
+ghost use Rattle.kdl_parser.specs.Internal.Answered.{AnswersParts};
 ghost use Rattle.kdl_parser.specs.Internal.Building.{EndsIn, state_view};
 ghost use Rattle.kdl_parser.specs.Internal.Counted.{ReadOn, unsliced};
 ghost use Rattle.kdl_text.specs.Spans.{bytes, raise};
 ghost use Rattle.std.specs.Prelude.{◌≡◌, ◌≤◌};
 
-use crate::builder::{Builder, TakeFailure};
+use crate::builder::Builder;
 use crate::node_parts::{DocumentParts, ParsedNode};
 use kdl_entry::parsing::source::Source;
 use kdl_syntax::{LexFailure, NextToken, Token, TokenKind};
 use kdl_text::cursor::Steps;
-
-/// Returns the failure of a text, for one of the builder.
-fn lex_failure(failure: TakeFailure) -> LexFailure
-    ensures { TakeFailsAs failure result }
-{
-    match failure {
-        TakeFailure::Unexpected => LexFailure::Faulty,
-        TakeFailure::Memory => LexFailure::Memory,
-    }
-}
 
 /// Returns the machine's result on the text before the builder, which has not taken a token yet.
 fn build_with<N: ParsedNode>(builder: &mut Builder<N>) -> Result<DocumentParts<N>, LexFailure>
@@ -35,33 +25,18 @@ fn build_with<N: ParsedNode>(builder: &mut Builder<N>) -> Result<DocumentParts<N
 {
     'tokens: loop {
         match builder.next_token()? {
-            NextToken::Space(at) => match builder.take_space(&at) {
-                Ok(()) => {}
-                Err(failure) => return Err(lex_failure(failure)),
-            },
-            NextToken::Newline(at) => match builder.take(TokenKind::Newline, &at) {
-                Ok(()) => {}
-                Err(failure) => return Err(lex_failure(failure)),
-            },
-            NextToken::Word(word, at) => match builder.take_word(&word, &at) {
-                Ok(()) => {}
-                Err(failure) => return Err(lex_failure(failure)),
-            },
+            NextToken::Space(at) => builder.take_space(&at)?,
+            NextToken::Newline(at) => builder.take(TokenKind::Newline, &at)?,
+            NextToken::Word(word, at) => builder.take_word(&word, &at)?,
             NextToken::Other(token) => {
                 let Token { kind, at } = token;
-                match builder.take(kind, &at) {
-                    Ok(()) => {}
-                    Err(failure) => return Err(lex_failure(failure)),
-                }
+                builder.take(kind, &at)?;
             }
             NextToken::End => break 'tokens,
         }
     }
     let end = builder.source.checkpoint();
-    match builder.finish(&end) {
-        Ok(document) => Ok(document),
-        Err(failure) => Err(lex_failure(failure)),
-    }
+    builder.finish(&end)
 }
 
 /// Reads the document before the source: its text, or what follows a U+FEFF. Returns `Faulty` at the first token that may

@@ -10,3 +10,7 @@ pub mod Shown
 pub mod Said
 -- The picture of a fault.
 pub mod Picture
+-- The lines of two texts as one list.
+pub mod Edits
+-- What is shown of them.
+pub mod Hunks

@@ -6,15 +6,11 @@ pub mod LinesUnique
 pub mod EscapedLineLoop
 -- The loop over characters that represent themselves.
 pub mod PlainLoop
--- The characters of lines are parts of the text.
-pub mod LineParts
+-- The text and the units of a line.
+pub mod LineUnits
 -- Lines, one after another.
 pub mod LinesJoin
 -- What lines represent under a prefix.
 pub mod DedentReads
--- The units, the text and the bytes of escapes.
-pub mod Escapes
--- What lines and their dedent cost.
-pub mod LinesCost
 -- Whole strings, from their quotes, lines and dedent.
 pub mod StringReads

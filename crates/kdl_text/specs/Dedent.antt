@@ -1,9 +1,13 @@
 -- Dedent (KDL 2.0.0, Multi-line Strings): the value of lines, the last of which is only spaces.
-use Rattle.std.specs.Prelude.{◌≡◌, Bool, true, false, List, [], ◌∷◌, ◌++◌}
+use Rattle.std.specs.Prelude.{◌≡◌, ℕ, Bool, true, false, List, [], ◌∷◌, ◌++◌}
 use Rattle.std.specs.List.{list_all}
 use Rattle.kdl_text.specs.Chars.{Text, is_space}
-use Rattle.kdl_text.specs.declared.strings.dedent.LineUnit.{LineUnit}
-use Rattle.kdl_text.specs.declared.strings.dedent.LineUnit.TheVariants.{Literal, Escape, LineEnd}
+
+-- a unit of a multi-line string, without whitespace escapes: a literal character, the character of an escape, or a newline
+pub data LineUnit : Type 0 where
+  Literal : ℕ → LineUnit
+  Escape : ℕ → LineUnit
+  LineEnd : LineUnit
 
 -- a literal space; an escape is not one, whichever character it denotes
 abbrev pub is_space_unit : LineUnit → Bool

@@ -3,9 +3,7 @@
 use Rattle.std.specs.Prelude.{◌≡◌, false, List, [], ◌∷◌, ◌++◌}
 use Rattle.kdl_text.specs.Chars.{Text, Newline, begins_two, begins_with}
 use Rattle.kdl_text.specs.Strings.{StringUnit, literal, escape, spaces, IsUnit, QuotedString}
-use Rattle.kdl_text.specs.Dedent.{Dedents}
-use Rattle.kdl_text.specs.declared.strings.dedent.LineUnit.{LineUnit}
-use Rattle.kdl_text.specs.declared.strings.dedent.LineUnit.TheVariants.{Literal, Escape, LineEnd}
+use Rattle.kdl_text.specs.Dedent.{Dedents, LineUnit, Literal, Escape, LineEnd}
 
 -- a unit in a line, without whitespace escapes
 abbrev pub kept : StringUnit → List LineUnit

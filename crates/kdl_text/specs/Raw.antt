@@ -2,9 +2,7 @@
 -- `X t r us`: an X begins the text t, leaves r, and has the units us.
 use Rattle.std.specs.Prelude.{◌≡◌, ℕ, ◌<◌, Bool, true, false, not, ◌&&◌, ◌==◌, List, [], ◌∷◌, ◌++◌}
 use Rattle.kdl_text.specs.Chars.{Text, Newline, begins_with, times, is_raw}
-use Rattle.kdl_text.specs.Dedent.{Dedents}
-use Rattle.kdl_text.specs.declared.strings.dedent.LineUnit.{LineUnit}
-use Rattle.kdl_text.specs.declared.strings.dedent.LineUnit.TheVariants.{Literal, LineEnd}
+use Rattle.kdl_text.specs.Dedent.{Dedents, LineUnit, Literal, LineEnd}
 
 -- the closing of a raw string: a number of quotes, and then a number of number signs
 abbrev pub closing : ℕ → ℕ → Text

@@ -4,8 +4,7 @@
 //! Readers look at a text only through a `Cursor`, which counts each look and each byte of a slice.
 //! A slice is a `Piece`, which can be copied, or compared as a whole, or read again by the cursor, which
 //! counts each look (`take_of`).
-//! Text that is read again is a `Segment`: a cursor enters it and counts each look in it, or counts
-//! its bytes at once and returns its `Characters`.
+//! Text that is read again is a `Segment`: a cursor enters it and counts each look in it.
 //!
 //! A cursor has the text that it was created over, which no call changes. A place that it goes to, a
 //! segment that it enters, and the place where a slice begins are parts of that text (`IsPart`). So a
@@ -229,53 +228,6 @@ impl<'a> Segment<'a> {
     }
 }
 
-/// The characters of a segment, whose bytes were counted. Each character is read once.
-#[derive(Drop)]
-pub struct Characters<'a> {
-    text: &'a str,
-}
-
-impl<'a> Model for Characters<'a> {
-    ghost use Rattle.kdl_text.specs.Chars.{Text};
-    ghost use Rattle.std.specs.Str.{chars};
-
-    ghost Value = { Text };
-
-    ghost view = { λ s. chars s.text.now };
-}
-
-impl<'a> Characters<'a> {
-    /// Returns the next character, if there is one.
-    #[inline]
-    pub fn next(&mut self) -> Option<char>
-        ensures { MatchOption result (self.old ≡ []) (λ c. self.old ≡ c ∷ self.new) }
-    {
-        match split_first(self.text) {
-            Some((c, rest)) => {
-                self.text = rest;
-                Some(c)
-            }
-            None => None,
-        }
-    }
-
-    /// Returns the number of bytes of the remaining characters.
-    #[inline]
-    pub fn byte_len(&self) -> usize
-        ensures { result ≡ bytes self.now }
-    {
-        byte_len(self.text)
-    }
-
-    /// Returns the remaining characters, as a piece.
-    #[inline]
-    pub fn into_piece(self) -> Piece<'a>
-        ensures { result ≡ self.entry }
-    {
-        Piece { text: self.text }
-    }
-}
-
 /// A piece of a text, whose slice was counted. It can be copied, or compared as a whole. A cursor reads
 /// its characters.
 #[derive(Drop)]
@@ -299,6 +251,14 @@ impl<'a> Piece<'a> {
         ensures { result ≡ self.now }
     {
         Piece { text: self.text }
+    }
+
+    /// Returns the text of the piece.
+    #[inline]
+    pub(crate) fn as_str(&self) -> &'a str
+        ensures { chars result.now ≡ self.now }
+    {
+        self.text
     }
 
     /// Returns a copy of the piece. An empty piece does not allocate.
@@ -603,15 +563,19 @@ impl<'a> Cursor<'a> {
         Piece { text }
     }
 
-    /// Returns the characters of the segment. Costs a step for each of its bytes.
+    /// Returns the text from one checkpoint to a later one, for a reader that goes through it twice.
+    /// Costs two steps for each of its bytes.
     #[inline]
-    pub fn characters(&mut self, segment: &Segment<'a>) -> Characters<'a>
-        requires { IsPart self.old.text segment.now }
-        ensures result { result ≡ segment.now }
-        ensures moved { self.new ≡ sliced segment.now self.old }
+    pub(crate) fn line_between(&mut self, from: &Checkpoint<'a>, to: &Checkpoint<'a>) -> &'a str
+        requires order { Ahead from.now to.now }
+        requires part { IsPart self.old.text from.now.rest }
+        ensures result { from.now.rest ≡ chars result.now ++ to.now.rest }
+        ensures moved { self.new ≡ sliced (chars result.now) (sliced (chars result.now) self.old) }
     {
-        self.steps.raise(byte_len(segment.text) as u64);
-        Characters { text: segment.text }
+        let line = cut(from.rest, to.rest);
+        self.steps.raise(line.len() as u64);
+        self.steps.raise(line.len() as u64);
+        line
     }
 
     /// Takes the first character of the piece, if there is one. Costs a step.

@@ -3,20 +3,19 @@
 
 ghost use Rattle.kdl_text.specs.Chars.{starts};
 ghost use Rattle.kdl_text.specs.Chars as class;
-ghost use Rattle.kdl_text.specs.Internal.Here.{IsPart, Looked, Returned, Stayed};
+ghost use Rattle.kdl_text.specs.Internal.Here.{Looked, Stayed};
 ghost use Rattle.kdl_text.specs.Internal.NumberReading.{radix_of, is_minus, IsBase, LooksBasePrefix, Counts, IsDigit, ReadsDigits, ReadsInteger, ReadsDecimal, ReadsFront, IsFault, IsPartFault, IsPowerFault, IsNumberFault, ReadsFraction, ReadsExponent, ReadsPart, ReadsNumber, ReadsKeyword, AteExponentLetter, WordOf, is_of_number};
 ghost use Rattle.kdl_text.specs.Numbers as spec;
 ghost use Rattle.kdl_text.specs.declared.numbers.Magnitude.TheVariants.{Small};
 ghost use Rattle.kdl_text.specs.Numbers.{BasePrefix, Decimal, FloatKeyword, FloatText};
 ghost use Rattle.kdl_text.specs.Internal.DigitRuns.{Contains, joined, with_underscores};
 ghost use Rattle.kdl_text.specs.Internal.Reading.{Moves, Costs, Past, Consumed};
-ghost use Rattle.kdl_text.specs.Spans.{bytes};
 ghost use Rattle.std.specs.Prelude.{◌≡◌, true, ℕ, ◌+◌, ◌*◌, ◌<◌, ◌≤◌, ◌++◌, ◌||◌, false, not, IfOk, if◌then◌else◌, ◌↔◌, IsTrue, IfSome, string_bytes, [], length, ◌==◌};
 ghost use Rattle.std.specs.List.{list_all};
 ghost use Rattle.std.specs.Str.{chars};
 
-use crate::chars::{Class, is_digit, is_identifier_char, is_sign};
-use crate::cursor::{Characters, Cursor, Piece, Segment, Steps};
+use crate::chars::{Class, is_digit, is_identifier_char, is_sign, split_first};
+use crate::cursor::{Cursor, Piece, Steps};
 use std::alloc::{AllocError, Global};
 
 /// The base in which a whole number is written.
@@ -520,23 +519,20 @@ fn decimal_part(cursor: &mut Cursor) -> Result<Underscores, NumberFault>
 }
 
 /// Whether no character is `_`.
-fn has_no_underscore(mut characters: Characters) -> bool
-    ensures { result ≡ list_all (λ c. not (c == 95)) characters.entry }
+fn has_no_underscore(text: &str) -> bool
+    ensures { result ≡ list_all (λ c. not (c == 95)) (chars text.now) }
 {
-    'chars: while let Some(c) = characters.next() {
-        if c == '_' {
-            return false;
-        }
-    }
-    true
+    text.chars().all(|c| c != '_')
 }
 
 /// Appends the characters except each `_`.
-fn push_plain(out: &mut String, mut characters: Characters) -> Result<(), AllocError>
+fn push_plain(out: &mut String, text: &str) -> Result<(), AllocError>
     ensures { IfOk result (λ _. chars (string_bytes out.new)
-        ≡ chars (string_bytes out.old) ++ spec.plain characters.entry) }
+        ≡ chars (string_bytes out.old) ++ spec.plain (chars text.now)) }
 {
-    'chars: while let Some(c) = characters.next() {
+    let mut rest = text;
+    'chars: while let Some((c, following)) = split_first(rest) {
+        rest = following;
         if c == '_' {
             continue 'chars;
         }
@@ -545,25 +541,22 @@ fn push_plain(out: &mut String, mut characters: Characters) -> Result<(), AllocE
     Ok(())
 }
 
-/// A copy of the segment without its `_`. A segment that contains none is copied whole.
-fn without_underscores<'a>(
+/// A copy of the piece without its `_`. A piece that contains none is copied whole.
+fn without_underscores(
     alloc: Global,
-    segment: &Segment<'a>,
+    piece: &Piece,
     underscores: Underscores,
-    cursor: &mut Cursor<'a>,
 ) -> Result<String, AllocError>
-    requires underscores { Contains underscores segment.now }
-    requires part { IsPart cursor.old.text segment.now }
-    ensures plain { IfOk result (λ s. chars (string_bytes s) ≡ spec.plain segment.now) }
-    ensures returned { Returned (2 * bytes segment.now + 1) cursor.old cursor.new }
+    requires { Contains underscores piece.now }
+    ensures { IfOk result (λ s. chars (string_bytes s) ≡ spec.plain piece.now) }
 {
     if let Underscores::Absent = underscores {
-        return cursor.characters(segment).into_piece().to_string(alloc);
+        return piece.to_string(alloc);
     }
-    let characters = cursor.characters(segment);
-    let mut text = String::with_capacity(alloc, characters.byte_len())?;
-    push_plain(&mut text, characters)?;
-    Ok(text)
+    let text = piece.as_str();
+    let mut out = String::with_capacity(alloc, text.len())?;
+    push_plain(&mut out, text)?;
+    Ok(out)
 }
 
 /// Returns the number with its sign, if it fits in an `i128`.
@@ -606,8 +599,8 @@ pub fn read_number(alloc: Global, cursor: &mut Cursor) -> Result<Number, NumberF
         Ok(underscores) => number.underscores.with(underscores),
         Err(fault) => return Err(NumberFailure::Fault(fault)),
     };
-    let segment = start.up_to(&cursor.checkpoint());
-    match without_underscores(alloc, &segment, underscores, cursor) {
+    let piece = cursor.slice(&start);
+    match without_underscores(alloc, &piece, underscores) {
         Ok(text) => Ok(Number::Decimal(text)),
         Err(_) => Err(NumberFailure::Memory),
     }
@@ -667,8 +660,8 @@ fn is_plain_decimal(text: &str) -> bool
     let Ok(_) = decimal_part(&mut cursor) else {
         return false;
     };
-    let segment = start.up_to(&cursor.checkpoint());
-    cursor.look().is_none() && has_no_underscore(cursor.characters(&segment))
+    let piece = cursor.slice(&start);
+    cursor.look().is_none() && has_no_underscore(piece.as_str())
 }
 
 /// Whether the keyword is a number.

@@ -2,11 +2,6 @@
 //! or without its comments, or writes one of its values.
 #![tactic(auto)]
 
-#[cfg(test)]
-mod tests;
-#[cfg(test)]
-mod tests_runs;
-
 use std::alloc::Global;
 use std::io::ErrorKind;
 use std::process::ExitCode;

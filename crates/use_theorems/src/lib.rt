@@ -1,5 +1,4 @@
-//! What a caller proves of small programs over `kdl`. Each theorem has one function, with the clause that its user
-//! writes.
+//! What a caller proves of small programs over `kdl`, with the clauses that their users write.
 #![tactic(auto)]
 
 pub mod blocks;
@@ -8,6 +7,7 @@ pub mod equal;
 pub mod finds;
 pub mod layout;
 pub mod loans;
+pub mod nodes;
 pub mod port;
 pub mod reads_back;
 pub mod said;

@@ -1,7 +1,7 @@
 -- Blocks that are laid out, step by step.
 use Rattle.std.proofs.Common.{◌≡◌, ℕ, zero, suc, ◌+◌, ◌<◌, ◌≤◌, List, [], ◌∷◌, ◌++◌, length, map, drop, set, get_or, Option, None, Some, option_map, refl, sym, ap, ◌∙◌, subst, arith, add-one, Vec, Global, Result, Ok, Err, IfOk}
 use Rattle.std.specs.Prelude.{MatchOption}
-use Rattle.std.proofs.lemmas.List.{append-nil, drop_more, drop_all, drop-set-lt, get_or-set_same}
+use Rattle.std.proofs.lemmas.List.{append-nil, drop_more, drop_all, drop-set-lt, get_or-set_same, set-set}
 use Rattle.kdl_value.specs.Tree.{text_of}
 use Rattle.kdl_layout.specs.Config.{IndentsBySpaces, indentation, settings}
 use Rattle.kdl_layout.specs.declared.blank.Before.{Before}
@@ -371,11 +371,6 @@ line_goes_on s above b b' first g n m x h e is at l t same none braced own =
       omega (arith, line_counted following n (following b) above, ap (λ r. count_left following r above) rest, ap (λ r. count_left following r above) first),
     )
 
-set_twice : (xs : List KdlNode) (i : ℕ) (y z : KdlNode) → set (set xs i y) i z ≡ set xs i z
-set_twice [] i y z = refl
-set_twice (x ∷ xs) zero y z = refl
-set_twice (x ∷ xs) (suc i) y z = ap (λ t. x ∷ t) (set_twice xs i y z)
-
 block_is_there : (o : Option KdlDocument) → 0 < length (nodes_in o) → (d : KdlDocument) × (o ≡ Some d)
 block_is_there None h = absurd (omega (arith, h))
 block_is_there (Some d) h = (d, refl)
@@ -384,7 +379,15 @@ nodes_taken : (o : Option KdlDocument) (r v : Vec KdlNode Global) → 0 < length
 nodes_taken None r v h m = absurd (omega (arith, h))
 nodes_taken (Some d) r v h m = ap (λ (x : Vec KdlNode Global). x.items) m
 
--- the next node, of which the nodes in its block are taken out: b is its block, b1 is that with the node laid out
+-- what is so once the block of the next node, which n was and m is, is opened: b was the innermost block, and b1 is that with the node laid out
+pub record BlockOpens (s : Layout) (above : List LayoutFrame) (b b1 outer inner : LayoutFrame) (n m : KdlNode) : Type 0 where
+  pub all : whole (above ++ outer ∷ []) inner ≡ outermost above (map node_tree (set b.nodes.items b.at m))
+  pub bare : bare_node (node_tree m) ≡ bare_node (node_tree n) → map bare_node (whole (above ++ outer ∷ []) inner) ≡ map bare_node (whole above b)
+  pub goes_on : inner.at ≡ 0 → inner.level ≡ b1.level + 1
+      → (text_of b.before ≡ indentation (settings s.config) b.level → text_of inner.before ≡ indentation (settings s.config) inner.level)
+      → (text_of b.before ≡ indentation (settings s.config) b.level → Own s b.level b outer.next inner.next outer.around n m) → GoesOn s above b (above ++ outer ∷ []) inner
+
+-- the next node, of which the nodes in its block are taken out
 module _ (s : Layout) (above : List LayoutFrame) (b b1 outer inner : LayoutFrame) (n m x x' : KdlNode) (v r : Vec KdlNode Global)
     (there : b.at < length b.nodes.items) (next : get_or b.nodes.items b.at n ≡ n)
     (items : b1.nodes.items ≡ set b.nodes.items b.at m) (place : b1.at ≡ b.at) (open_level : b1.level ≡ b.level) (open_before : b1.before ≡ b.before)
@@ -401,12 +404,12 @@ module _ (s : Layout) (above : List LayoutFrame) (b b1 outer inner : LayoutFrame
   taken = inner_nodes ∙ nodes_taken (out-KdlNode x).children r v (subst (λ z. 0 < length (child_nodes z)) (sym x_is) some) had ∙ ap child_nodes x_is
 
   outer_items : outer.nodes.items ≡ set b.nodes.items b.at x'
-  outer_items = exchanged ∙ ap (λ z. set z b1.at x') items ∙ ap (λ i. set (set b.nodes.items b.at m) i x') place ∙ set_twice b.nodes.items b.at m x'
+  outer_items = exchanged ∙ ap (λ z. set z b1.at x') items ∙ ap (λ i. set (set b.nodes.items b.at m) i x') place ∙ set-set b.nodes.items b.at m x'
 
   as_before : (ms : List Node) → filled x' ms ≡ filled m ms
   as_before ms = filled_changed x x' v ms has ∙ ap (λ z. filled z ms) x_is
 
-  pub whole_block_next : whole (above ++ outer ∷ []) inner ≡ outermost above (map node_tree (set b.nodes.items b.at m))
+  whole_block_next : whole (above ++ outer ∷ []) inner ≡ outermost above (map node_tree (set b.nodes.items b.at m))
   whole_block_next =
       let f : KdlNode → Node = λ z. filled z (map node_tree inner.nodes.items) in
       let one : f x' ≡ node_tree m = as_before (map node_tree inner.nodes.items) ∙ ap (λ z. filled m (map node_tree z)) taken ∙ sym (node_is m) in
@@ -414,12 +417,12 @@ module _ (s : Layout) (above : List LayoutFrame) (b b1 outer inner : LayoutFrame
       ap (λ z. with_at f z outer.at) outer_items ∙ ap (λ i. with_at f (set b.nodes.items b.at x') i) (outer_at ∙ place) ∙ with_at_set f b.nodes.items b.at x' m there one in
       outermost_more above outer (map node_tree inner.nodes.items) ∙ ap (outermost above) two
 
-  pub bare_block_next : bare_node (node_tree m) ≡ bare_node (node_tree n) → map bare_node (whole (above ++ outer ∷ []) inner) ≡ map bare_node (whole above b)
+  bare_block_next : bare_node (node_tree m) ≡ bare_node (node_tree n) → map bare_node (whole (above ++ outer ∷ []) inner) ≡ map bare_node (whole above b)
   bare_block_next e =
       ap (map bare_node) whole_block_next
       ∙ bare_outermost above (map node_tree (set b.nodes.items b.at m)) (map node_tree b.nodes.items) (bare_set b.nodes.items b.at m n there (e ∙ ap (λ z. bare_node (node_tree z)) (sym next)))
 
-  pub block_goes_on : inner.at ≡ 0 → inner.level ≡ b1.level + 1
+  block_goes_on : inner.at ≡ 0 → inner.level ≡ b1.level + 1
       → (text_of b.before ≡ indentation (settings s.config) b.level → text_of inner.before ≡ indentation (settings s.config) inner.level)
       → (text_of b.before ≡ indentation (settings s.config) b.level → Own s b.level b outer.next inner.next outer.around n m) → GoesOn s above b (above ++ outer ∷ []) inner
   block_goes_on first l t own =
@@ -447,6 +450,9 @@ module _ (s : Layout) (above : List LayoutFrame) (b b1 outer inner : LayoutFrame
         block_on s above b outer inner (child_nodes n) x' n there outer_items (outer_at ∙ place) (outer_level ∙ open_level) (outer_before ∙ open_before) (taken ∙ same) first laid,
         omega (arith, block_counted following n w.0 outer above w.1, ap (λ z. count_left following z (above ++ outer ∷ [])) (start ∙ is), ap (λ z. count_left following (n ∷ z) above) rest, ap (λ z. count_left following z above) next_is),
       )
+
+  pub open_block : BlockOpens s above b b1 outer inner n m
+  open_block = record { all = whole_block_next; bare = bare_block_next; goes_on = block_goes_on }
 
 -- a layout from the start to the end
 pub all_laid : {E : Type 0} (r : Result (Unit {0}) E) (l : Layout) (level : ℕ) (first : Before) (olds xs : List KdlNode) (above above' : List LayoutFrame) (b b' : LayoutFrame)

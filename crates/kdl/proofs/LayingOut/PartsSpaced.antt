@@ -1,5 +1,5 @@
 -- Nodes and documents whose parts were laid out.
-use Rattle.std.proofs.Common.{◌≡◌, ℕ, suc, Bool, List, [], ◌∷◌, length, map, Option, None, Some, option_map, refl, sym, ap, ◌∙◌, subst, Result, Ok, Err, IfOk, Vec, Global, arith}
+use Rattle.std.proofs.Common.{◌≡◌, ℕ, suc, Bool, List, [], ◌∷◌, length, map, Option, None, Some, option_map, refl, sym, ap, ◌∙◌, subst, Vec, Global, arith}
 use Rattle.std.specs.Prelude.{is_some, not, ◌&&◌, slice_get, ◌-◌}
 use Rattle.kdl_value.proofs.WellFormed.{text_scalars}
 use Rattle.kdl_entry.specs.Tree.{Identifier, identifier_tree, entry_tree, entry_data, unspelled}
@@ -27,10 +27,6 @@ use Rattle.kdl.specs.declared.document.KdlDocument.{KdlDocument}
 use Rattle.kdl.specs.declared.document.KdlDocument.TheViews.{out-KdlNode, out-KdlDocument}
 use Rattle.kdl.proofs.LayingOut.BlockSteps.{bare_alike}
 use Rattle.kdl.proofs.Trees.{node_tree_out, document_tree_out}
-
-pub if_ok : {A E P Q : Type 0} (r : Result A E) → (P → Q) → IfOk r (λ (a : A). P) → IfOk r (λ (a : A). Q)
-if_ok (Ok a) f p = f p
-if_ok (Err e) f p = p
 
 -- nodes that are laid out: each on lines of its own, then with their spellings, and then with blocks on one line
 pub record NodesLaid (l : Layout) (level : ℕ) (b : Before) (ns ms : List Node) : Type 0 where

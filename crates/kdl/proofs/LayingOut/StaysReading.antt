@@ -24,7 +24,7 @@ use Rattle.kdl_grammar.proofs.ReadingBack.Composing.{block_reads, entries_read, 
 use Rattle.kdl_parts.specs.Formats.{document_format_tree, node_format_tree}
 use Rattle.kdl_value.specs.Tree.{text_of}
 use Rattle.kdl_value.proofs.WellFormed.{text_scalars}
-use Rattle.kdl.specs.Internal.Spacing.{filled_block, filled, with_at, outermost, whole, enclosed, PartlyOpen, IsAtLevel, IsUnderWay, NodeStays, NodesStay, StaysAs, StayAs}
+use Rattle.kdl.specs.Internal.Spacing.{filled_block, filled, with_at, outermost, whole, enclosed, PartlyOpen, IsAtLevel, IsUnderWay, NodeStays, NodesStay, StaysAs, StayAs, StepStays}
 use Rattle.kdl.specs.Iterators.{child_nodes, nodes_in}
 use Rattle.kdl.specs.Tree.{document_tree, head_tree, node_tree, nodes_tree}
 use Rattle.kdl.specs.declared.document.KdlDocument.{KdlDocument}
@@ -115,10 +115,6 @@ module _ (s : Settings) where
   outermost_stays (b ∷ above) ns ms a =
       pointwise (outermost (b ∷ above) ns) (outermost (b ∷ above) ms)
       (with_at_stays (λ n. filled n (outermost above ns)) (λ n. filled n (outermost above ms)) (λ n. filled_stays n (outermost above ns) (outermost above ms) (outermost_stays above ns ms a)) b.nodes.items b.at)
-
--- a step after which nodes still read back, if the layout is in progress before it
-abbrev pub Steps : Layout → List LayoutFrame → LayoutFrame → List LayoutFrame → LayoutFrame → Type 0
-Steps l above b above' b' = (level : ℕ) (c : Before) (olds : List Node) → IsUnderWay l level c olds above b → StayAs (settings l.config) (whole above b) (whole above' b')
 
 -- the open node
 open_there : (l : Layout) (level : ℕ) (Open : Before → Node → KdlNode → Type 0) (c next : Before) (olds : List Node) (ns : List KdlNode) (i : ℕ) (d : KdlNode) → PartlyOpen l level c Open olds ns i next
@@ -211,7 +207,7 @@ below_stays s n m o e a =
 -- a layout from the start to the end
 pub all_stays : (l : Layout) (level : ℕ) (before : Before) (olds xs : List KdlNode) (above above' : List LayoutFrame) (b b' : LayoutFrame)
     → above ≡ [] → b.nodes.items ≡ olds → b.at ≡ 0 → b.level ≡ level → text_of b.before ≡ indentation (settings l.config) level → b.next ≡ before
-    → map node_tree xs ≡ whole above' b' → Steps l above b above' b' → StayAs (settings l.config) (map node_tree olds) (map node_tree xs)
+    → map node_tree xs ≡ whole above' b' → StepStays l above b above' b' → StayAs (settings l.config) (map node_tree olds) (map node_tree xs)
 all_stays l level before olds xs above above' b b' empty holds start y t next tree f =
     let s = settings l.config in
     let begun : IsUnderWay l level before (map node_tree olds) above b =

@@ -26,7 +26,7 @@ use Rattle.kdl_layout.proofs.Dropping.DroppedNodes.{passes_det, passes_node}
 use Rattle.kdl_layout.proofs.Lacking.Fewest.{a, a_piece, letter_node}
 use Rattle.kdl_layout.proofs.Rewriting.BeforeNewlines.{a_newline, newline_end}
 use Rattle.kdl_layout.specs.Kept.{last_place}
-use Rattle.kdl.specs.Internal.Ends.{EndFewest, EndSays, FewestBefore, FormatFewest, GapFewest, GapSays, PlaceFewest, PlaceSays, block_if, formless_count, newline_count}
+use Rattle.kdl.specs.Internal.Ends.{EndFewest, EndSays, FewestBefore, FormatFewest, GapFewest, GapSays, IsLacking, PlaceFewest, PlaceSays, block_if, formless_count, newline_count}
 use Rattle.kdl.specs.Exact.{lengthened}
 use Rattle.kdl.specs.Nodes.{newlines}
 use Rattle.kdl.specs.declared.ends.Rest.{Rest}
@@ -91,34 +91,34 @@ times_same : (n : ℕ) → times n 10 ≡ newlines n
 times_same zero = refl
 times_same (suc n) = ap (λ (t : Text). 10 ∷ t) (times_same n)
 
-pub gap_read : (t u : Text) (o : Option ℕ) → u ≡ t → GapLacks u o → (unwrap_or o 0 ≤ 2) × GapSays t (unwrap_or o 0) × GapFewest t (unwrap_or o 0)
-gap_read t u None e f = (omega arith, λ h. absurd (f (subst (λ (x : Text). Gap true x []) (sym e) h)), λ m l x. omega arith)
-gap_read t u (Some n) e (l, g, (a, less)) = (
-  l,
-  λ h. subst (λ (x : Text). AddsNothing (x ++ newlines n)) e (subst (λ (x : Text). AddsNothing (u ++ x)) (times_same n) a),
-  λ m h x. less m h (subst (λ (z : Text). AddsNothing (u ++ z)) (sym (times_same m)) (subst (λ (z : Text). AddsNothing (z ++ newlines m)) (sym e) x)),
-)
+pub gap_read : (t u : Text) (o : Option ℕ) → u ≡ t → GapLacks u o → IsLacking 2 (GapSays t) (GapFewest t) (unwrap_or o 0)
+gap_read t u None e f = record { few = omega arith; says = λ h. absurd (f (subst (λ (x : Text). Gap true x []) (sym e) h)); fewest = λ m l x. omega arith }
+gap_read t u (Some n) e (l, g, (a, less)) = record {
+  few = l;
+  says = λ h. subst (λ (x : Text). AddsNothing (x ++ newlines n)) e (subst (λ (x : Text). AddsNothing (u ++ x)) (times_same n) a);
+  fewest = λ m h x. less m h (subst (λ (z : Text). AddsNothing (u ++ z)) (sym (times_same m)) (subst (λ (z : Text). AddsNothing (z ++ newlines m)) (sym e) x));
+}
 
-pub end_read : (t u : Text) (o : Option ℕ) → u ≡ t → TerminatorLacks u o → (unwrap_or o 0 ≤ 2) × EndSays t (unwrap_or o 0) × EndFewest t (unwrap_or o 0)
-end_read t u None e f = (omega arith, λ v x y. absurd (f (v, subst (λ (z : Text). Terminator z v) (sym e) x, y)), λ m l x. omega arith)
-end_read t u (Some n) e (l, g, (a, less)) = (
-  l,
-  λ v x y. subst (λ (z : Text). Terminates Anything (z ++ newlines n)) e (subst (λ (z : Text). Terminates Anything (u ++ z)) (times_same n) a),
-  λ m h x. less m h (subst (λ (z : Text). Terminates Anything (u ++ z)) (sym (times_same m)) (subst (λ (z : Text). Terminates Anything (z ++ newlines m)) (sym e) x)),
-)
+pub end_read : (t u : Text) (o : Option ℕ) → u ≡ t → TerminatorLacks u o → IsLacking 2 (EndSays t) (EndFewest t) (unwrap_or o 0)
+end_read t u None e f = record { few = omega arith; says = λ v x y. absurd (f (v, subst (λ (z : Text). Terminator z v) (sym e) x, y)); fewest = λ m l x. omega arith }
+end_read t u (Some n) e (l, g, (a, less)) = record {
+  few = l;
+  says = λ v x y. subst (λ (z : Text). Terminates Anything (z ++ newlines n)) e (subst (λ (z : Text). Terminates Anything (u ++ z)) (times_same n) a);
+  fewest = λ m h x. less m h (subst (λ (z : Text). Terminates Anything (u ++ z)) (sym (times_same m)) (subst (λ (z : Text). Terminates Anything (z ++ newlines m)) (sym e) x));
+}
 
 place_one : (c : Children) (t : Text) → ((r v : Text) → Terminator r v → BeforeTerminator c ((t ++ (10 ∷ [])) ++ r) r) → PlaceFewest c t 1
 place_one c t f m h g =
     let z : m ≡ 0 = omega arith in
     not_before_newline c t f (λ r. subst (λ (y : Text). BeforeTerminator c (y ++ (10 ∷ r)) (10 ∷ r)) (ap (λ (n : ℕ). t ++ newlines n) z ∙ append-nil t) (g r))
 
-pub place_read : (b : Bool) (t : Text) (o : Option Bool) → PlaceLacks (last_place b) t o → (newline_count o ≤ 1) × PlaceSays (block_if b) t (newline_count o) × PlaceFewest (block_if b) t (newline_count o)
-place_read true t None x = (omega arith, λ h. absurd (x h), λ m h g. omega arith)
-place_read true t (Some false) x = (omega arith, λ h r v q. subst (λ (z : Text). AfterChildren (z ++ r) r) (sym (append-nil t)) (x.1 r v q), λ m h g. omega arith)
-place_read true t (Some true) x = (omega arith, λ h r v q. x.1.0 r v q, place_one (block_if true) t (λ r v q. x.1.0 r v q))
-place_read false t None x = (omega arith, λ h. absurd (x h), λ m h g. omega arith)
-place_read false t (Some false) x = (omega arith, λ h r v q. subst (λ (z : Text). BeforeChildren (z ++ r) r) (sym (append-nil t)) (x.1 r v q), λ m h g. omega arith)
-place_read false t (Some true) x = (omega arith, λ h r v q. x.1.0 r v q, place_one (block_if false) t (λ r v q. x.1.0 r v q))
+pub place_read : (b : Bool) (t : Text) (o : Option Bool) → PlaceLacks (last_place b) t o → IsLacking 1 (PlaceSays (block_if b) t) (PlaceFewest (block_if b) t) (newline_count o)
+place_read true t None x = record { few = omega arith; says = λ h. absurd (x h); fewest = λ m h g. omega arith }
+place_read true t (Some false) x = record { few = omega arith; says = λ h r v q. subst (λ (z : Text). AfterChildren (z ++ r) r) (sym (append-nil t)) (x.1 r v q); fewest = λ m h g. omega arith }
+place_read true t (Some true) x = record { few = omega arith; says = λ h r v q. x.1.0 r v q; fewest = place_one (block_if true) t (λ r v q. x.1.0 r v q) }
+place_read false t None x = record { few = omega arith; says = λ h. absurd (x h); fewest = λ m h g. omega arith }
+place_read false t (Some false) x = record { few = omega arith; says = λ h r v q. subst (λ (z : Text). BeforeChildren (z ++ r) r) (sym (append-nil t)) (x.1 r v q); fewest = λ m h g. omega arith }
+place_read false t (Some true) x = record { few = omega arith; says = λ h r v q. x.1.0 r v q; fewest = place_one (block_if false) t (λ r v q. x.1.0 r v q) }
 
 -- a format with fewer newlines
 more_after : (f : NodeFormat) (b e : ℕ) → terminator_text (lengthened b e f) ≡ terminator_text f ++ newlines e

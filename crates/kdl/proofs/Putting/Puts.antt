@@ -1,5 +1,5 @@
 -- Nodes added to others: their trees, what is printed, and what is said.
-use Rattle.std.proofs.Common.{◌≡◌, ℕ, zero, suc, ◌+◌, ◌<◌, ◌≤◌, List, [], ◌∷◌, ◌++◌, length, map, take, drop, set, ap, ◌∙◌, sym, refl, append_assoc, arith, Option, Some, option_map, slice_get, get_or, add-one, Result, Ok, Err, OnOk, Vec, Global}
+use Rattle.std.proofs.Common.{◌≡◌, ℕ, zero, suc, ◌+◌, ◌<◌, ◌≤◌, List, [], ◌∷◌, ◌++◌, length, map, take, drop, set, ap, ◌∙◌, sym, refl, append_assoc, arith, Option, Some, option_map, slice_get, get_or, add-one, Vec, Global}
 use Rattle.std.proofs.lemmas.List.{append-nil, map-append, take-map, drop-map}
 use Rattle.std.proofs.lemmas.List.Edits.{get_or-insert_at, get_or-insert_below}
 use Rattle.std.proofs.lemmas.Option.{get_or_from_slice_get, slice_get-get_or, slice_get-map}
@@ -216,8 +216,3 @@ after_put d p i n b m x o h at c ends q r g w =
       rest = let v = with_item (out-KdlDocument p).nodes i x in
           ap (λ (z : KdlDocument). with_nodes z v) r ∙ with_nodes_twice d (out-KdlDocument p).nodes v ∙ ap (with_nodes d) (sym (ap (λ x. x.nodes) (out-roll-KdlDocument (record (out-KdlDocument p) { nodes = v }))));
     }
-
--- where a call succeeds
-pub on_ok : {T E P Q : Type 0} (r : Result T E) → (P → Q) → OnOk r P → OnOk r Q
-on_ok (Ok a) f p = f p
-on_ok (Err e) f p = tt

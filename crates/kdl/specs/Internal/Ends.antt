@@ -111,6 +111,12 @@ abbrev pub newline_count : Option Bool → ℕ
 newline_count (Some true) = 1
 newline_count o = 0
 
+-- n newlines are lacking, at most that many: with n newlines a text does what it has to, and with fewer it does not
+pub record IsLacking (most : ℕ) (Says Fewest : ℕ → Type 0) (n : ℕ) : Type 0 where
+  pub few : n ≤ most
+  pub says : Says n
+  pub fewest : Fewest n
+
 -- with fewer newlines a text between nodes adds something to them
 abbrev pub GapFewest : Text → ℕ → Type 0
 GapFewest t n = (m : ℕ) → m < n → AddsNothing (t ++ newlines m) → ⊥

@@ -174,3 +174,7 @@ left above inner = count_left (λ b. drop (b.at + 1) b.nodes.items) (drop inner.
 abbrev pub GoesOn : Layout → List LayoutFrame → LayoutFrame → List LayoutFrame → LayoutFrame → Type 0
 GoesOn l above inner above' inner' =
     ((level : ℕ) (c : Before) (olds : List Node) → IsUnderWay l level c olds above inner → IsUnderWay l level c olds above' inner') × (left above' inner' < left above inner)
+
+-- a step after which nodes still read back, if the layout is in progress before it
+abbrev pub StepStays : Layout → List LayoutFrame → LayoutFrame → List LayoutFrame → LayoutFrame → Type 0
+StepStays l above b above' b' = (level : ℕ) (c : Before) (olds : List Node) → IsUnderWay l level c olds above b → StayAs (settings l.config) (whole above b) (whole above' b')

@@ -1,22 +1,19 @@
 //! Layout of documents.
 
 ghost use Rattle.kdl.specs.Change.{with_document_format};
-ghost use Rattle.kdl.specs.Finds.{FindsSame};
 ghost use Rattle.kdl.specs.Internal.Spacing.{DocumentIsSpaced, IsAround};
-ghost use Rattle.kdl.specs.Layout.{DocumentLaidOut, DocumentKeepsNoForm, DocumentKeepsReading, DocumentSpaced, IndentsBySpaces, document_bare, plain_document};
+ghost use Rattle.kdl.specs.Layout.{DocumentKeepsReading, DocumentSpaced, IndentsBySpaces, document_bare};
+ghost use Rattle.kdl.specs.LaysOut.{FormatsDocument, KeepsDocument, RereadsDocument};
 ghost use Rattle.kdl.specs.ReadsBack.{DocumentReadsBack};
-ghost use Rattle.kdl.specs.Tree.{document_prints, document_says, document_tree, nodes_tree};
+ghost use Rattle.kdl.specs.Tree.{document_tree, nodes_tree};
 ghost use Rattle.kdl.specs.declared.document.KdlDocument.{out-KdlDocument};
-ghost use Rattle.kdl_layout.specs.Canonical.{Canonical, canonical, canonical_text};
-ghost use Rattle.kdl_layout.specs.Comments.{CommentsStay};
-ghost use Rattle.kdl_layout.specs.Config.{IsPlain, defaults, indentation, settings, without_comments};
-ghost use Rattle.kdl_layout.specs.Formatted.{DocumentLevelsFit, or_empty_document};
+ghost use Rattle.kdl_layout.specs.Config.{defaults, indentation, settings, without_comments};
+ghost use Rattle.kdl_layout.specs.Formatted.{or_empty_document};
 ghost use Rattle.kdl_layout.specs.OneLine.{is_on_one_line};
 ghost use Rattle.kdl_layout.specs.Spaced.{IsSpacedBraced};
-ghost use Rattle.kdl_grammar.specs.Grammar.{IsDocument};
 ghost use Rattle.kdl_grammar.specs.Tree.{DocumentFormat};
 ghost use Rattle.kdl_parts.specs.Formats.{document_format_tree};
-ghost use Rattle.std.specs.Prelude.{◌≡◌, ◌+◌, ◌<◌, ◌^◌, IfOk, OnOk, Some, false, option_map, true};
+ghost use Rattle.std.specs.Prelude.{◌≡◌, ◌+◌, ◌<◌, ◌^◌, IfOk, OnOk, Some, false, option_map};
 ghost use Rattle.std.specs.Str.{chars};
 
 use crate::document::KdlDocument;
@@ -47,17 +44,9 @@ impl KdlDocument {
     /// document.autoformat()?; // prints `a 16 // one`, `/- b 2;`, `c /* two */ {`, an empty line and `}`
     /// ```
     pub fn autoformat(&mut self) -> Result<(), AllocError>
-        ensures data { document_says self.new ≡ document_says self.old }
-        ensures finds { FindsSame self.old self.new }
-        ensures kept { document_bare self.new ≡ document_bare self.old }
-        ensures reads_back { DocumentKeepsReading defaults self.old
-            → DocumentReadsBack self.old → DocumentReadsBack self.new }
-        ensures formatted { OnOk result (DocumentLaidOut defaults self.old self.new) }
-        ensures keeps_none { OnOk result (DocumentKeepsNoForm self.new) }
-        ensures derived { OnOk result (DocumentKeepsNoForm self.old
-            → IsDocument (document_prints self.new) (document_says self.old)) }
-        ensures comments { OnOk result (DocumentKeepsNoForm self.old
-            → CommentsStay (document_tree self.old) (document_prints self.new)) }
+        ensures keeps { KeepsDocument defaults self.old self.new result }
+        ensures rereads { RereadsDocument defaults self.old self.new result }
+        ensures formats { FormatsDocument defaults self.old self.new result }
     {
         let config = FormatConfig::builder().build();
         self.autoformat_config(&config)
@@ -76,18 +65,9 @@ impl KdlDocument {
     /// document.autoformat_no_comments()?; // prints `a 16`, `b {`, `    c` and `}`, each with a newline
     /// ```
     pub fn autoformat_no_comments(&mut self) -> Result<(), AllocError>
-        ensures data { document_says self.new ≡ document_says self.old }
-        ensures finds { FindsSame self.old self.new }
-        ensures kept { document_bare self.new ≡ document_bare self.old }
-        ensures reads_back { DocumentKeepsReading without_comments self.old
-            → DocumentReadsBack self.old → DocumentReadsBack self.new }
-        ensures formatted { OnOk result
-            (document_tree self.new ≡ plain_document without_comments self.old) }
-        ensures levels { OnOk result (DocumentLevelsFit 0 (document_tree self.old)) }
-        ensures keeps_none { OnOk result (DocumentKeepsNoForm self.new) }
-        ensures prints { OnOk result (DocumentKeepsNoForm self.old
-            → document_prints self.new ≡ canonical_text (document_says self.old)) }
-        ensures reads { OnOk result (Canonical without_comments.indent 0 (document_says self.old)) }
+        ensures keeps { KeepsDocument without_comments self.old self.new result }
+        ensures rereads { RereadsDocument without_comments self.old self.new result }
+        ensures formats { FormatsDocument without_comments self.old self.new result }
     {
         let config = FormatConfig::builder().no_comments(true).build();
         self.autoformat_config(&config)
@@ -106,31 +86,10 @@ impl KdlDocument {
     /// document.autoformat_config(&config)?; // prints `a {`, `b` after a tab, and `}`
     /// ```
     pub fn autoformat_config(&mut self, config: &FormatConfig) -> Result<(), AllocError>
-        ensures data { document_says self.new ≡ document_says self.old }
-        ensures finds { FindsSame self.old self.new }
-        ensures kept { document_bare self.new ≡ document_bare self.old }
-        ensures reads_back { IndentsBySpaces (settings config.now)
-            → DocumentKeepsReading (settings config.now) self.old
-            → DocumentReadsBack self.old → DocumentReadsBack self.new }
-        ensures formatted { OnOk result (DocumentLaidOut (settings config.now) self.old self.new) }
-        ensures plain { OnOk result (config.now.no_comments ≡ true
-            → document_tree self.new ≡ plain_document (settings config.now) self.old) }
-        ensures levels { OnOk result
-            (DocumentLevelsFit config.now.indent_level (document_tree self.old)) }
-        ensures keeps_none { OnOk result (DocumentKeepsNoForm self.new) }
-        ensures derived { OnOk result (IndentsBySpaces (settings config.now)
-            → config.now.entry_autoformate_keep ≡ false → DocumentKeepsNoForm self.old
-            → IsDocument (document_prints self.new) (document_says self.old)) }
-        ensures comments { OnOk result (IndentsBySpaces (settings config.now)
-            → config.now.entry_autoformate_keep ≡ false → config.now.no_comments ≡ false
-            → DocumentKeepsNoForm self.old
-            → CommentsStay (document_tree self.old) (document_prints self.new)) }
-        ensures prints { OnOk result (IsPlain (settings config.now) → DocumentKeepsNoForm self.old
-            → document_prints self.new ≡
-            canonical (settings config.now).indent config.now.indent_level (document_says self.old)) }
-        ensures reads { OnOk result (IndentsBySpaces (settings config.now)
-            → Canonical (settings config.now).indent config.now.indent_level
-            (document_says self.old)) }
+        ensures keeps { KeepsDocument (settings config.now) self.old self.new result }
+        ensures rereads { IndentsBySpaces (settings config.now)
+            → RereadsDocument (settings config.now) self.old self.new result }
+        ensures formats { FormatsDocument (settings config.now) self.old self.new result }
     {
         let layout = Layout {
             config: *config,
@@ -162,38 +121,13 @@ impl KdlDocument {
     /// document.autoformat_layout(&layout)?; // prints `a 0x10` and `"b"`
     /// ```
     pub fn autoformat_layout(&mut self, layout: &Layout) -> Result<(), AllocError>
-        ensures data { document_says self.new ≡ document_says self.old }
-        ensures finds { FindsSame self.old self.new }
-        ensures kept { document_bare self.new ≡ document_bare self.old }
-        ensures reads_back { IndentsBySpaces (settings layout.now.config)
-            → DocumentKeepsReading (settings layout.now.config) self.old
-            → DocumentReadsBack self.old → DocumentReadsBack self.new }
+        ensures keeps { KeepsDocument (settings layout.now.config) self.old self.new result }
+        ensures rereads { IndentsBySpaces (settings layout.now.config)
+            → RereadsDocument (settings layout.now.config) self.old self.new result }
         ensures formatted { OnOk result (DocumentSpaced layout.now self.old self.new) }
-        ensures unspaced { OnOk result (layout.now.blank_lines ≡ 0
+        ensures unspaced { layout.now.blank_lines ≡ 0
             → layout.now.keep_spelling ≡ false → layout.now.keep_one_line ≡ false
-            → DocumentLaidOut (settings layout.now.config) self.old self.new) }
-        ensures plain { OnOk result (layout.now.blank_lines ≡ 0
-            → layout.now.keep_spelling ≡ false → layout.now.keep_one_line ≡ false
-            → layout.now.config.no_comments ≡ true
-            → document_tree self.new ≡ plain_document (settings layout.now.config) self.old) }
-        ensures levels { OnOk result
-            (DocumentLevelsFit layout.now.config.indent_level (document_tree self.old)) }
-        ensures keeps_none { OnOk result (DocumentKeepsNoForm self.new) }
-        ensures derived { OnOk result (IndentsBySpaces (settings layout.now.config)
-            → layout.now.config.entry_autoformate_keep ≡ false → DocumentKeepsNoForm self.old
-            → IsDocument (document_prints self.new) (document_says self.old)) }
-        ensures comments { OnOk result (IndentsBySpaces (settings layout.now.config)
-            → layout.now.config.entry_autoformate_keep ≡ false
-            → layout.now.config.no_comments ≡ false → DocumentKeepsNoForm self.old
-            → CommentsStay (document_tree self.old) (document_prints self.new)) }
-        ensures prints { OnOk result (layout.now.blank_lines ≡ 0
-            → layout.now.keep_spelling ≡ false → layout.now.keep_one_line ≡ false
-            → IsPlain (settings layout.now.config) → DocumentKeepsNoForm self.old
-            → document_prints self.new ≡ canonical (settings layout.now.config).indent
-            layout.now.config.indent_level (document_says self.old)) }
-        ensures reads { OnOk result (IndentsBySpaces (settings layout.now.config)
-            → Canonical (settings layout.now.config).indent layout.now.config.indent_level
-            (document_says self.old)) }
+            → FormatsDocument (settings layout.now.config) self.old self.new result }
     {
         self.lay_out(layout)
     }

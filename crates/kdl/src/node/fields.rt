@@ -34,6 +34,7 @@ impl KdlNode {
     /// let name = KdlIdentifier::from_text(alloc, "two words")?;
     /// let node = KdlNode::new(name)?; // prints "\"two words\"\n"
     /// ```
+    #[tactic(auto, using(crate::proofs::Rules::new_node))]
     pub fn new(name: KdlIdentifier) -> Result<KdlNode, AllocError>
         ensures made { IfOk result (λ n. node_tree n ≡ new_node (identifier_tree name)) }
         // It reads back before any text, if the name has no spelling, or one that is that name.

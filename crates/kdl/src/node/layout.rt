@@ -1,26 +1,22 @@
 //! Layout of nodes.
 
 ghost use Rattle.kdl.specs.Change.{with_nodes};
-ghost use Rattle.kdl.specs.Finds.{NodeFindsSame};
 ghost use Rattle.kdl.specs.Iterators.{child_nodes, nodes_in};
 ghost use Rattle.kdl.specs.Internal.Spacing.{BlockIsSpaced, NodeIsSpaced, NodesAreSpaced, IsSpacedBut, PassesAt, StayAs, StaysAs, braces_of, enclosed, filled_block, lined, with_texts};
-ghost use Rattle.kdl.specs.Layout.{IndentsBySpaces, NodeCommentsStay, NodeLaidOut, NodeKeepsNoForm, NodeKeepsReading, NodeSpaced, node_bare, plain_node};
-ghost use Rattle.kdl.specs.ReadsBack.{ReadsAs};
-ghost use Rattle.kdl.specs.Tree.{document_tree, node_prints, node_says, node_tree};
+ghost use Rattle.kdl.specs.Layout.{IndentsBySpaces, NodeSpaced, node_bare};
+ghost use Rattle.kdl.specs.LaysOut.{FormatsNode, KeepsNode, RereadsNode};
+ghost use Rattle.kdl.specs.Tree.{document_tree, node_tree};
 ghost use Rattle.kdl.specs.declared.document.KdlDocument.{out-KdlDocument};
 ghost use Rattle.kdl.specs.declared.node.KdlNode.{out-KdlNode};
 ghost use Rattle.kdl_layout.specs.Blank.{at_start};
-ghost use Rattle.kdl_layout.specs.Canonical.{CanonicalNode, canonical_node};
-ghost use Rattle.kdl_layout.specs.Config.{IsPlain, defaults, indentation, settings, without_comments};
-ghost use Rattle.kdl_layout.specs.Formatted.{NodeLevelsFit, bare_node, or_empty};
+ghost use Rattle.kdl_layout.specs.Config.{defaults, indentation, settings, without_comments};
+ghost use Rattle.kdl_layout.specs.Formatted.{bare_node, or_empty};
 ghost use Rattle.kdl_layout.specs.OneLine.{entry_on_line, is_last, line_on_line, maybe_on_line, name_on_line, node_on_line};
-ghost use Rattle.kdl_grammar.specs.Data as data';
-ghost use Rattle.kdl_grammar.specs.Grammar.{IsDocument};
 ghost use Rattle.kdl_grammar.specs.Tree.{Node, children_of};
 ghost use Rattle.kdl_entry.specs.Tree.{entry_tree, identifier_tree};
 ghost use Rattle.kdl_parts.specs.Formats.{node_texts};
 ghost use Rattle.std.specs.List.{list_all};
-ghost use Rattle.std.specs.Prelude.{◌≡◌, ◌↔◌, ◌&&◌, ◌+◌, ◌<◌, IfOk, IsTrue, List, MatchOption, OnOk, false, length, map, option_map, true};
+ghost use Rattle.std.specs.Prelude.{◌≡◌, ◌↔◌, ◌&&◌, ◌+◌, ◌<◌, IfOk, IsTrue, List, MatchOption, OnOk, false, length, map, option_map};
 ghost use Rattle.std.specs.Str.{chars};
 
 use crate::document::KdlDocument;
@@ -57,17 +53,9 @@ impl KdlNode {
     /// node.autoformat()?; // prints `a /* b */ 16 // c` and a newline
     /// ```
     pub fn autoformat(&mut self) -> Result<(), AllocError>
-        ensures data { node_says self.new ≡ node_says self.old }
-        ensures finds { NodeFindsSame self.old self.new }
-        ensures kept { node_bare self.new ≡ node_bare self.old }
-        ensures reads_back { NodeKeepsReading defaults self.old → ReadsAs self.old self.new }
-        ensures formatted { OnOk result (NodeLaidOut defaults self.old self.new) }
-        ensures keeps_none { OnOk result (NodeKeepsNoForm self.new) }
-        ensures derived { OnOk result (NodeKeepsNoForm self.old
-            → IsDocument (node_prints self.new)
-            (data'.first (node_says self.old) data'.none)) }
-        ensures comments { OnOk result (NodeKeepsNoForm self.old
-            → NodeCommentsStay (node_tree self.old) (node_prints self.new)) }
+        ensures keeps { KeepsNode defaults self.old self.new result }
+        ensures rereads { RereadsNode defaults self.old self.new result }
+        ensures formats { FormatsNode defaults self.old self.new result }
     {
         let config = FormatConfig::builder().build();
         self.autoformat_config(&config)
@@ -84,18 +72,9 @@ impl KdlNode {
     /// node.autoformat_no_comments()?; // prints `a 16 {`, `    b` and `}`, each with a newline
     /// ```
     pub fn autoformat_no_comments(&mut self) -> Result<(), AllocError>
-        ensures data { node_says self.new ≡ node_says self.old }
-        ensures finds { NodeFindsSame self.old self.new }
-        ensures kept { node_bare self.new ≡ node_bare self.old }
-        ensures reads_back { NodeKeepsReading without_comments self.old → ReadsAs self.old self.new }
-        ensures formatted { OnOk result
-            (node_tree self.new ≡ plain_node without_comments self.old) }
-        ensures levels { OnOk result (NodeLevelsFit 0 (node_tree self.old)) }
-        ensures keeps_none { OnOk result (NodeKeepsNoForm self.new) }
-        ensures prints { OnOk result (NodeKeepsNoForm self.old
-            → node_prints self.new ≡
-            canonical_node without_comments.indent 0 (node_says self.old)) }
-        ensures reads { OnOk result (CanonicalNode without_comments.indent 0 (node_says self.old)) }
+        ensures keeps { KeepsNode without_comments self.old self.new result }
+        ensures rereads { RereadsNode without_comments self.old self.new result }
+        ensures formats { FormatsNode without_comments self.old self.new result }
     {
         let config = FormatConfig::builder().no_comments(true).build();
         self.autoformat_config(&config)
@@ -114,31 +93,10 @@ impl KdlNode {
     /// node.autoformat_config(&config)?; // prints `a {` after one tab, `b` after two, `}` after one
     /// ```
     pub fn autoformat_config(&mut self, config: &FormatConfig) -> Result<(), AllocError>
-        ensures data { node_says self.new ≡ node_says self.old }
-        ensures finds { NodeFindsSame self.old self.new }
-        ensures kept { node_bare self.new ≡ node_bare self.old }
-        ensures reads_back { IndentsBySpaces (settings config.now)
-            → NodeKeepsReading (settings config.now) self.old → ReadsAs self.old self.new }
-        ensures formatted { OnOk result (NodeLaidOut (settings config.now) self.old self.new) }
-        ensures plain { OnOk result (config.now.no_comments ≡ true
-            → node_tree self.new ≡ plain_node (settings config.now) self.old) }
-        ensures levels { OnOk result
-            (NodeLevelsFit config.now.indent_level (node_tree self.old)) }
-        ensures keeps_none { OnOk result (NodeKeepsNoForm self.new) }
-        ensures derived { OnOk result (IndentsBySpaces (settings config.now)
-            → config.now.entry_autoformate_keep ≡ false → NodeKeepsNoForm self.old
-            → IsDocument (node_prints self.new)
-            (data'.first (node_says self.old) data'.none)) }
-        ensures comments { OnOk result (IndentsBySpaces (settings config.now)
-            → config.now.entry_autoformate_keep ≡ false → config.now.no_comments ≡ false
-            → NodeKeepsNoForm self.old
-            → NodeCommentsStay (node_tree self.old) (node_prints self.new)) }
-        ensures prints { OnOk result (IsPlain (settings config.now) → NodeKeepsNoForm self.old
-            → node_prints self.new ≡
-            canonical_node (settings config.now).indent config.now.indent_level (node_says self.old)) }
-        ensures reads { OnOk result (IndentsBySpaces (settings config.now)
-            → CanonicalNode (settings config.now).indent config.now.indent_level
-            (node_says self.old)) }
+        ensures keeps { KeepsNode (settings config.now) self.old self.new result }
+        ensures rereads { IndentsBySpaces (settings config.now)
+            → RereadsNode (settings config.now) self.old self.new result }
+        ensures formats { FormatsNode (settings config.now) self.old self.new result }
     {
         let layout = Layout {
             config: *config,
@@ -170,38 +128,13 @@ impl KdlNode {
     /// node.autoformat_layout(&layout)?; // prints `"a" 0xff0000`
     /// ```
     pub fn autoformat_layout(&mut self, layout: &Layout) -> Result<(), AllocError>
-        ensures data { node_says self.new ≡ node_says self.old }
-        ensures finds { NodeFindsSame self.old self.new }
-        ensures kept { node_bare self.new ≡ node_bare self.old }
-        ensures reads_back { IndentsBySpaces (settings layout.now.config)
-            → NodeKeepsReading (settings layout.now.config) self.old → ReadsAs self.old self.new }
+        ensures keeps { KeepsNode (settings layout.now.config) self.old self.new result }
+        ensures rereads { IndentsBySpaces (settings layout.now.config)
+            → RereadsNode (settings layout.now.config) self.old self.new result }
         ensures formatted { OnOk result (NodeSpaced layout.now self.old self.new) }
-        ensures unspaced { OnOk result (layout.now.blank_lines ≡ 0
+        ensures unspaced { layout.now.blank_lines ≡ 0
             → layout.now.keep_spelling ≡ false → layout.now.keep_one_line ≡ false
-            → NodeLaidOut (settings layout.now.config) self.old self.new) }
-        ensures plain { OnOk result (layout.now.blank_lines ≡ 0
-            → layout.now.keep_spelling ≡ false → layout.now.keep_one_line ≡ false
-            → layout.now.config.no_comments ≡ true
-            → node_tree self.new ≡ plain_node (settings layout.now.config) self.old) }
-        ensures levels { OnOk result
-            (NodeLevelsFit layout.now.config.indent_level (node_tree self.old)) }
-        ensures keeps_none { OnOk result (NodeKeepsNoForm self.new) }
-        ensures derived { OnOk result (IndentsBySpaces (settings layout.now.config)
-            → layout.now.config.entry_autoformate_keep ≡ false → NodeKeepsNoForm self.old
-            → IsDocument (node_prints self.new)
-            (data'.first (node_says self.old) data'.none)) }
-        ensures comments { OnOk result (IndentsBySpaces (settings layout.now.config)
-            → layout.now.config.entry_autoformate_keep ≡ false
-            → layout.now.config.no_comments ≡ false → NodeKeepsNoForm self.old
-            → NodeCommentsStay (node_tree self.old) (node_prints self.new)) }
-        ensures prints { OnOk result (layout.now.blank_lines ≡ 0
-            → layout.now.keep_spelling ≡ false → layout.now.keep_one_line ≡ false
-            → IsPlain (settings layout.now.config) → NodeKeepsNoForm self.old
-            → node_prints self.new ≡ canonical_node (settings layout.now.config).indent
-            layout.now.config.indent_level (node_says self.old)) }
-        ensures reads { OnOk result (IndentsBySpaces (settings layout.now.config)
-            → CanonicalNode (settings layout.now.config).indent layout.now.config.indent_level
-            (node_says self.old)) }
+            → FormatsNode (settings layout.now.config) self.old self.new result }
     {
         self.lay_out_alone(layout)
     }

@@ -2,9 +2,8 @@
 use Rattle.std.proofs.Common.{◌≡◌, Bool, true, false, ◌++◌, Option, Some, None, option_map, refl, sym, ap, subst, ◌∙◌}
 use Rattle.kdl_text.specs.Chars.{Text}
 use Rattle.kdl_text.specs.Trivia.{ValueEnd}
-use Rattle.kdl_text.specs.declared.span.SourceSpan.{SourceSpan}
 use Rattle.kdl_entry.specs.Formless.{formed_identifier, formed}
-use Rattle.kdl_entry.specs.Laid.{LaidIdentifier, spelled, LaidType, no_type, a_type, LaidKey, no_key, a_key, LaidItem, item, LaidEntry, laid_entry}
+use Rattle.kdl_entry.specs.Laid.{LaidIdentifier, spelled, LaidType, no_type, a_type, LaidKey, no_key, a_key, item, LaidEntry, laid_entry}
 use Rattle.kdl_entry.specs.Print.{print_entry}
 use Rattle.kdl_entry.specs.Tree.{Identifier, Entry, without_span, without_spans, unflagged, without_spans_and_flag}
 use Rattle.kdl_entry.proofs.Moving.EntryMoves.{move_item, move_leading, leading_end, is_move}
@@ -59,12 +58,9 @@ own_key no_key (Some j) e = cc
 own_key (a_key d ss us) None e = cc
 own_key (a_key {i = i} d ss us) (Some j) e = let f : without_span i ≡ without_span j = cc in ap (λ (z : Identifier). Some z) (own_identifier d j f)
 
-own_formed : {exact : Bool} {whole q w s r : Text} {at : SourceSpan} {e : Entry} → LaidItem exact whole q w at e s r → (x : Entry) → without_spans_and_flag e ≡ without_spans_and_flag x → formed x ≡ unflagged x
-own_formed (item k y v) x h =
-    formed_is x _ (sym (ap (λ (z : Entry). z.format) h)) (own_type y x.ty (ap (λ (z : Entry). z.ty) h)) (own_key k x.name (ap (λ (z : Entry). z.name) h))
-
 own_is : {exact : Bool} {whole : Text} {e : Entry} {s r : Text} → LaidEntry exact whole e s r → (x : Entry) → without_spans_and_flag e ≡ without_spans_and_flag x → formed x ≡ unflagged x
-own_is (laid_entry l i a) x h = own_formed i x h
+own_is (laid_entry l (item k y v) a) x h =
+    formed_is x _ (sym (ap (λ (z : Entry). z.format) h)) (own_type y x.ty (ap (λ (z : Entry). z.ty) h)) (own_key k x.name (ap (λ (z : Entry). z.name) h))
 
 -- what is laid is not flagged
 not_flagged : {exact : Bool} {whole : Text} {e : Entry} {s r : Text} → LaidEntry exact whole e s r → unflagged e ≡ e

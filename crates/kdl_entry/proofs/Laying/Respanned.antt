@@ -25,11 +25,8 @@ module _ (exact : Bool) (whole other : Text) where
 
 -- what is laid with some spans is laid with others
 module _ (whole : Text) where
-  spanned : {i : Identifier} {s r : Text} (at : SourceSpan) → LaidIdentifier false whole i s r → LaidIdentifier false whole (record i { span = at }) s r
-  spanned at (spelled d x) = spelled d tt
-
   pub same_identifier : (i j : Identifier) {s r : Text} → without_span i ≡ without_span j → LaidIdentifier false whole i s r → LaidIdentifier false whole j s r
-  same_identifier i j {s = s} {r = r} e d = subst (λ (k : Identifier). LaidIdentifier false whole (record k { span = j.span }) s r) e (spanned j.span d)
+  same_identifier i j {s = s} {r = r} e (spelled d x) = subst (λ (k : Identifier). LaidIdentifier false whole (record k { span = j.span }) s r) e (spelled d tt)
 
   pub same_type : (i j : Option Identifier) {b a h s r : Text} → option_map without_span i ≡ option_map without_span j → LaidType false whole i b a h s r → LaidType false whole j b a h s r
   same_type None None e d = d

@@ -77,7 +77,7 @@ module _ (whole : Text) where
       (stay out (dropping (type_done true)) (λ s r. refl) vs
       (read_plain out p (dropping (type_done true)) (λ v. dropping (in_node (fresh false))) (λ v. refl) (λ v. refl) x)))))
 
-  spelled_at : {s r v : Text} → IsString true s r v → LaidIdentifier true whole (identifier_at whole v s r) s r
+  pub spelled_at : {s r v : Text} → IsString true s r v → LaidIdentifier true whole (identifier_at whole v s r) s r
   spelled_at d = spelled (place d (end_string d)) refl
 
   -- a value with its type, where the entry begins with it and after its key

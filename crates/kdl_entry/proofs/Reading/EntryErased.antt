@@ -1,44 +1,58 @@
 -- The control of entry texts takes only the tokens that the machine takes, so it accepts only texts that the grammar derives.
-use Rattle.std.proofs.Common.{◌≡◌, true, false, [], Option, Some, None, option_map, refl, sym, ap, subst, ◌∙◌}
+use Rattle.std.proofs.Common.{◌≡◌, Bool, true, false, [], Option, Some, None, option_map, refl, sym, ap, subst, ◌∙◌}
 use Rattle.kdl_text.specs.Chars.{Text}
 use Rattle.kdl_syntax.specs.Tokens.{Token, space, string, value, left, BeginsToken}
 use Rattle.kdl_syntax.specs.Control as control
 use Rattle.kdl_syntax.specs.Control.{spaced, type_open, type_name, type_done, in_node, property}
-use Rattle.kdl_syntax.specs.EntryControl.{EntryControl, ahead, dropping, entry_step, entry_finish, dropped_turn}
+use Rattle.kdl_syntax.specs.EntryControl.{EntryControl, ahead, dropping, under, entry_step, entry_finish, dropped_turn}
 use Rattle.kdl_entry.specs.Data as data'
 use Rattle.kdl_entry.specs.Entries.{IsEntryText}
 use Rattle.kdl_entry.specs.Internal.EntryMachine as machine
 use Rattle.kdl_entry.specs.Internal.EntryMachine.{State, phase_of, begin_to, if_taken, step, Runs, stops, reads}
 use Rattle.kdl_entry.specs.Tree.{Entry}
 use Rattle.kdl_entry.proofs.Reading.EntrySound.{derived}
-use Rattle.kdl_entry.proofs.Reading.Placed.{Placed, turn_placed}
 
-same_phase : (whole : Text) (k : Token) (s r : Text) (o : Option control.Phase) → option_map phase_of (if_taken (option_map dropping o) (λ c. begin_to whole c k s r)) ≡ option_map dropping o
-same_phase whole k s r None = refl
-same_phase whole k s r (Some p) = refl
+-- the phases in an entry that has a type or a key
+abbrev in_item : control.Phase → Bool
+in_item (type_open b) = true
+in_item (type_name b) = true
+in_item (type_done b) = true
+in_item property = true
+in_item _ = false
+
+-- in an entry, the control is in no other phase
+abbrev placed : EntryControl → Bool
+placed (under p) = in_item p
+placed _ = true
+
+abbrev if_placed : Option EntryControl → Bool
+if_placed None = true
+if_placed (Some c) = placed c
+
+dropped : (whole : Text) (k : Token) (s r : Text) (o : Option control.Phase)
+    → (option_map phase_of (if_taken (option_map dropping o) (λ c. begin_to whole c k s r)) ≡ option_map dropping o) × (if_placed (option_map dropping o) ≡ true)
+dropped whole k s r None = (refl, refl)
+dropped whole k s r (Some p) = (refl, refl)
 
 -- the control after a token is that at the state after it
-same_turn : (whole : Text) (st : State) (k : Token) (s r : Text) → Placed (phase_of st) → option_map phase_of (step whole st k s r) ≡ entry_step (phase_of st) k
-same_turn whole machine.ahead space s r h = refl
-same_turn whole machine.ahead _ s r h = refl
-same_turn whole (machine.dropping (in_node (spaced b))) (string v) s r h = refl
-same_turn whole (machine.dropping (in_node (spaced b))) (value v) s r h = refl
-same_turn whole (machine.dropping (in_node (spaced b))) left s r h = refl
-same_turn whole (machine.dropping p) k s r h = same_phase whole k s r (dropped_turn p k)
-same_turn whole (machine.under (type_open b) it) space s r h = refl
-same_turn whole (machine.under (type_open b) it) _ s r h = refl
-same_turn whole (machine.under (type_name b) it) space s r h = refl
-same_turn whole (machine.under (type_name b) it) _ s r h = refl
-same_turn whole (machine.under (type_done true) it) (value v) s r h = refl
-same_turn whole (machine.under (type_done false) it) (value v) s r h = refl
-same_turn whole (machine.under (type_done b) it) _ s r h = refl
-same_turn whole (machine.under property it) space s r h = refl
-same_turn whole (machine.under property it) _ s r h = refl
+same_turn : (whole : Text) (st : State) (k : Token) (s r : Text) → placed (phase_of st) ≡ true
+    → (option_map phase_of (step whole st k s r) ≡ entry_step (phase_of st) k) × (if_placed (entry_step (phase_of st) k) ≡ true)
+same_turn whole (machine.dropping (in_node (spaced b))) (string v) s r h = (refl, refl)
+same_turn whole (machine.dropping (in_node (spaced b))) (value v) s r h = (refl, refl)
+same_turn whole (machine.dropping (in_node (spaced b))) left s r h = (refl, refl)
+same_turn whole (machine.dropping p) k s r h = dropped whole k s r (dropped_turn p k)
+same_turn whole (machine.under (type_open b) it) space s r h = (refl, refl)
+same_turn whole (machine.under (type_open b) it) _ s r h = (refl, refl)
+same_turn whole (machine.under (type_name b) it) space s r h = (refl, refl)
+same_turn whole (machine.under (type_name b) it) _ s r h = (refl, refl)
+same_turn whole (machine.under (type_done true) it) (value v) s r h = (refl, refl)
+same_turn whole (machine.under (type_done false) it) (value v) s r h = (refl, refl)
+same_turn whole (machine.under (type_done b) it) _ s r h = (refl, refl)
+same_turn whole (machine.under property it) space s r h = (refl, refl)
+same_turn whole (machine.under property it) _ s r h = (refl, refl)
 same_turn whole (machine.under _ it) k s r h = absurd cc
-same_turn whole (machine.word w f) space s r h = refl
-same_turn whole (machine.word w f) _ s r h = refl
-same_turn whole (machine.done e f) space s r h = refl
-same_turn whole (machine.done e f) _ s r h = refl
+same_turn whole _ space s r h = (refl, refl)
+same_turn whole _ _ s r h = (refl, refl)
 
 -- from the phase on, the text is read to its end
 pub data Accepts : EntryControl → Text → Type 0 where
@@ -56,13 +70,15 @@ finished whole machine.ahead x = absurd cc
 finished whole (machine.dropping p) x = absurd cc
 finished whole (machine.under p it) x = absurd cc
 
-runs : (whole : Text) (st : State) {c : EntryControl} {s : Text} → Placed c → Accepts c s → phase_of st ≡ c → (e : Entry) × Runs whole e st s
+runs : (whole : Text) (st : State) {c : EntryControl} {s : Text} → placed (phase_of st) ≡ true → Accepts c s → phase_of st ≡ c → (e : Entry) × Runs whole e st s
 runs whole st h (ends f) q = finished whole st (subst (λ (z : EntryControl). entry_finish z ≡ true) (sym q) f)
-runs whole st h (takes {c = c} {d = d} {s = s} {r = r} {k = k} b e a) q =
-    let x = taken (step whole st k s r) d (same_turn whole st k s r (subst Placed (sym q) h) ∙ ap (λ (z : EntryControl). entry_step z k) q ∙ e) in
-    let y = runs whole x.0 (turn_placed c k d h e) a x.2 in
+runs whole st h (takes {d = d} {s = s} {r = r} {k = k} b e a) q =
+    let turn = same_turn whole st k s r h in
+    let goes : entry_step (phase_of st) k ≡ Some d = ap (λ (z : EntryControl). entry_step z k) q ∙ e in
+    let x = taken (step whole st k s r) d (turn.0 ∙ goes) in
+    let y = runs whole x.0 (ap placed x.2 ∙ sym (ap if_placed goes) ∙ turn.1) a x.2 in
     (y.0, reads b x.1 y.1)
 
 -- it accepts only texts that are derived
 pub accepts_derived : {t : Text} → Accepts ahead t → (x : data'.Entry) × IsEntryText t x
-accepts_derived {t = t} a = let x = runs t machine.ahead tt a refl in derived t x.0 x.1
+accepts_derived {t = t} a = let x = runs t machine.ahead refl a refl in derived t x.0 x.1

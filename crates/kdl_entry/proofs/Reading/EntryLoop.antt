@@ -8,7 +8,7 @@ use Rattle.kdl_text.specs.Trivia.{NodeSpace}
 use Rattle.kdl_syntax.specs.Control.{Phase, fresh, spaced, type_open, type_name, in_node, property}
 use Rattle.kdl_syntax.specs.EntryControl as control
 use Rattle.kdl_syntax.specs.EntryControl.{EntryControl, entry_step}
-use Rattle.kdl_entry.specs.Internal.EntryMachine.{Word, State, ahead, dropping, under, word, done, phase_of, valued, begin_to, value_of, under_to, word_to, go_to, if_taken, step, finish, Runs, stops, reads, AnswersEntry}
+use Rattle.kdl_entry.specs.Internal.EntryMachine.{Word, State, ahead, dropping, under, word, done, phase_of, valued, begin_to, value_of, under_to, word_to, go_to, if_taken, step, finish, Runs, stops, reads}
 use Rattle.kdl_entry.specs.Internal.Counted.{EndsIn, InOrder, Recounted}
 use Rattle.kdl_entry.specs.Internal.EntryReading.{AnswersEntryText, Ended, Same, Stands, Stepped}
 use Rattle.kdl_value.specs.Data.{Value}
@@ -38,24 +38,15 @@ module _ (whole : Text) where
   to_same : (x st' : State) (t q : Text) → Some x ≡ Some st' → step whole x space t q ≡ Some x → step whole st' space t q ≡ Some st'
   to_same x st' t q e f = let y : x ≡ st' = cc in subst (λ (z : State). step whole z space t q ≡ Some z) y f
 
-  again_dropped : (p : Phase) (st' : State) (s r t q : Text) → step whole (dropping p) space s r ≡ Some st' → step whole st' space t q ≡ Some st'
-  again_dropped (in_node (fresh b)) st' s r t q e = to_same (dropping (in_node (spaced b))) st' t q e refl
-  again_dropped p st' s r t q e = to_same (dropping p) st' t q e refl
-
   -- and a space more changes nothing
   again : (st st' : State) (s r t q : Text) → step whole st space s r ≡ Some st' → step whole st' space t q ≡ Some st'
-  again st st' s r t q e = go st e
-    where
-      same : (x : State) → Some x ≡ Some st' → step whole x space t q ≡ Some x → step whole st' space t q ≡ Some st'
-      same x e f = to_same x st' t q e f
-
-      go : (st : State) → step whole st space s r ≡ Some st' → step whole st' space t q ≡ Some st'
-      go ahead e = same ahead e refl
-      go (dropping p) e = again_dropped p st' s r t q e
-      go (under (in_node p) it) e = absurd cc
-      go (under p it) e = same (under p it) e refl
-      go (word w f) e = same (word w f) e refl
-      go (done x f) e = same (done x f) e refl
+  again ahead st' s r t q e = to_same ahead st' t q e refl
+  again (dropping (in_node (fresh b))) st' s r t q e = to_same (dropping (in_node (spaced b))) st' t q e refl
+  again (dropping p) st' s r t q e = to_same (dropping p) st' t q e refl
+  again (under (in_node p) it) st' s r t q e = absurd cc
+  again (under p it) st' s r t q e = to_same (under p it) st' t q e refl
+  again (word w f) st' s r t q e = to_same (word w f) st' t q e refl
+  again (done x f) st' s r t q e = to_same (done x f) st' t q e refl
 
   read_one : (d : Entry) (st st' : State) (s r : Text) (k : Token) → BeginsToken s k r → step whole st k s r ≡ Some st' → Runs whole d st' r ↔ Runs whole d st s
   read_one d st st' s r k t e = (λ a. reads t e a, λ a. let g = goes_on t a in let u : g.0 ≡ st' = (let v = g.1 in cc) in subst (λ (z : State). Runs whole d z r) u g.2)
@@ -172,23 +163,16 @@ whole_start st old mid w t k i g h = rw (i, h.start_rest) g.text
 pub from_start : (st : State) (old mid : Here) (w t : Text) (k : CodeToken) → w ≡ t → Going st old t → HandsOut old k mid → Stands w st k.at.start.rest
 from_start st old mid w t k i g h = rw (i, h.start_rest) g.from
 
-no_turn : (st : State) (old mid : Here) (t : Text) (k : CodeToken) → Going st old t → HandsOut old k mid → step t st (kind_view k.kind) k.at.start.rest k.at.end.rest ≡ None
-    → (e : Entry) → AnswersEntry t e → ⊥
-no_turn st old mid t k g h e d a =
-    let e' : step t st (kind_view k.kind) old.rest mid.rest ≡ None = rw (h.start_rest, h.end_rest) at e in
-    refuses t d st old.rest mid.rest (kind_view k.kind) h.cuts e' ((g.same d).1 a)
-
 -- the lexer's failure, and that of a step
 pub lexer_told : (st : State) (old new : Here) (t : Text) (e : LexFailure) → Going st old t → Lexed old (Err e) new → AnswersEntryText t (Err e)
 lexer_told st old new t Faulty g x = λ d a. faults t d st old.rest x ((g.same d).1 a)
 lexer_told st old new t Memory g x = tt
 
-told_turn : (st : State) (old mid : Here) (t : Text) (k : CodeToken) (e : LexFailure) → Going st old t → HandsOut old k mid → Stepped (step t st (kind_view k.kind) k.at.start.rest k.at.end.rest) (Err e) → AnswersEntryText t (Err e)
-told_turn st old mid t k Faulty g h x = no_turn st old mid t k g h x
-told_turn st old mid t k Memory g h x = tt
-
 pub take_told : (st : State) (old mid : Here) (w t : Text) (k : CodeToken) (e : LexFailure) → w ≡ t → Going st old t → HandsOut old k mid → Stepped (step w st (kind_view k.kind) k.at.start.rest k.at.end.rest) (Err e) → AnswersEntryText t (Err e)
-take_told st old mid w t k e i g h x = told_turn st old mid t k e g h (subst (λ (z : Text). Stepped (step z st (kind_view k.kind) k.at.start.rest k.at.end.rest) (Err e)) i x)
+take_told st old mid w t k Faulty i g h x =
+    let x' : step t st (kind_view k.kind) old.rest mid.rest ≡ None = rw (i, h.start_rest, h.end_rest) at x in
+    λ d a. refuses t d st old.rest mid.rest (kind_view k.kind) h.cuts x' ((g.same d).1 a)
+take_told st old mid w t k Memory i g h x = tt
 
 -- a turn comes nearer to the end
 spaces_shorter : {s r : Text} → Star NodeSpace s r → length r < length s + 1

@@ -1,5 +1,5 @@
 -- What the machine of entries reads, the grammar derives.
-use Rattle.std.proofs.Common.{◌≡◌, ◌⊎◌, inl, inr, Bool, true, false, [], ◌∷◌, Option, None, Some, refl, subst}
+use Rattle.std.proofs.Common.{◌≡◌, ◌⊎◌, inl, inr, Bool, true, false, [], ◌∷◌, Option, None, Some, refl, rules, subst}
 use Rattle.kdl_text.specs.Chars.{Text, Star, Plus, plus}
 use Rattle.kdl_text.specs.Chars.Star.{none as no_star, more}
 use Rattle.kdl_text.specs.Trivia.{NodeSpace, LineSpace, slashdash, ValueEnd}
@@ -7,7 +7,7 @@ use Rattle.kdl_entry.specs.Data as data'
 use Rattle.kdl_value.specs.Data.{Value}
 use Rattle.kdl_entry.specs.Entries.{IsString, string as a_string', IsPlainValue, a_string, a_plain, parens, untyped, typed, IsValue, value as a_value, IsEntry, property, argument, DroppedFirst, dropped_first, before_entry, IsEntryText, entry_text}
 use Rattle.kdl_entry.specs.Internal.EntryMachine.{Word, State, ahead, dropping, under, word, done, step, Runs, stops, reads, AnswersEntry}
-use Rattle.kdl_syntax.specs.Control.{Phase, fresh, spaced, later, gap, node_slashdash, type_open, type_name, type_done, in_node, property as in_property, entry_slashdash, block_slashdash, kept, kept_slashdash}
+use Rattle.kdl_syntax.specs.Control.{Phase, fresh, spaced, type_open, type_name, type_done, in_node, property as in_property, entry_slashdash}
 use Rattle.kdl_entry.specs.Internal.Parts.{Parts}
 use Rattle.kdl_syntax.specs.Tokens.{Token, string, value, left, bom, BeginsToken, t_space, t_newline, t_slashdash, t_string, t_value, t_left, t_right, t_equals}
 use Rattle.kdl_entry.specs.Tree.{Entry}
@@ -181,14 +181,7 @@ module _ (whole : Text) (out : Entry) where
   in_item in_property it (t_string p) e a d = value_of (a_string (a_string' p (done_end _ _ (back_run _ _ e a)))) (back _ (done _ _) _ e d)
   in_item in_property it (t_value p) e a d = value_of (a_plain p (done_end _ _ (back_run _ _ e a))) (back _ (done _ _) _ e d)
   in_item in_property it t_left e a d = value_typed (back _ (under (type_open true) _) _ e d)
-  in_item gap it t e a d = tt
-  in_item node_slashdash it t e a d = tt
-  in_item (in_node p) it t e a d = tt
-  in_item entry_slashdash it t e a d = tt
-  in_item block_slashdash it t e a d = tt
-  in_item kept it t e a d = tt
-  in_item kept_slashdash it t e a d = tt
-  in_item _ it t e a d = absurd cc
+  in_item _ it t e a d = first_of (search rules, cc)
 
   -- in or after a slashdashed entry
   in_dropped : {s r : Text} {k : Token} {st : State} (p : Phase) → BeginsToken s k r → step whole (dropping p) k s r ≡ Some st → Runs whole out st r → Rest st r → DroppedThen p s
@@ -216,13 +209,7 @@ module _ (whole : Text) (out : Entry) where
   in_dropped (in_node (spaced b)) (t_string p) e a d = inl (spaced_then no_star (left_entry (entry_of (a_string' p (word_end _ _ (back_run _ _ e a))) (back _ (word _ _) _ e d))))
   in_dropped (in_node (spaced b)) (t_value p) e a d = inl (spaced_then no_star (left_entry (entry_plain (a_plain p (done_end _ _ (back_run _ _ e a))) (back _ (done _ _) _ e d))))
   in_dropped (in_node (spaced b)) t_left e a d = inl (spaced_then no_star (left_entry (entry_typed (back _ (under (type_open true) _) _ e d))))
-  in_dropped gap t e a d = tt
-  in_dropped node_slashdash t e a d = tt
-  in_dropped (in_node later) t e a d = tt
-  in_dropped block_slashdash t e a d = tt
-  in_dropped kept t e a d = tt
-  in_dropped kept_slashdash t e a d = tt
-  in_dropped _ t e a d = absurd cc
+  in_dropped _ t e a d = first_of (search rules, cc)
 
   sound : {s : Text} {st : State} → Runs whole out st s → Rest st s
   sound (stops {st = word w from} e) = inl (at_last no_star)

@@ -14,7 +14,7 @@ use Rattle.kdl_entry.specs.Internal.Parts.{identifier_at}
 use Rattle.kdl_entry.specs.Laid.{LaidIdentifier, LaidIdentifierText, spelled}
 use Rattle.kdl_entry.specs.Places.{Is, between}
 use Rattle.kdl_syntax.specs.Tokens as tokens
-use Rattle.kdl_syntax.specs.Tokens.{t_space, t_string}
+use Rattle.kdl_syntax.specs.Tokens.{BeginsToken, t_space, t_string}
 use Rattle.kdl_value.specs.Tree.{text_of}
 use Rattle.kdl_entry.specs.Tree.{Identifier}
 use Rattle.kdl_syntax.specs.declared.lexer.LexFailure.{LexFailure}
@@ -26,10 +26,13 @@ use Rattle.kdl_syntax.proofs.Lexing.TokenUnique.{no_token, token_det}
 use Rattle.kdl_entry.proofs.Slicing.Placing.{place}
 use Rattle.kdl_syntax.proofs.Lexing.StringUnique.{string_end}
 
+the_token : {t v : Text} → IsIdentifierText t v → BeginsToken t (tokens.string v) []
+the_token (string p e) = t_string p
+
 -- where a token was handed out, the text is an identifier only if the token is its string, and the text ends after it
 is_string : {t r v : Text} {k : tokens.Token} → Cuts t k r → IsIdentifierText t v → (r ≡ []) × (k ≡ tokens.string v)
-is_string (one u) (string p e) = token_det u (t_string p)
-is_string (spaces (plus n m)) (string p e) = let x = (token_det (t_space n) (t_string p)).1 in absurd cc
+is_string (one u) d = token_det u (the_token d)
+is_string (spaces (plus n m)) d = let x = (token_det (t_space n) (the_token d)).1 in absurd cc
 
 laid_whole : {t r v : Text} → Cuts t (tokens.string v) r → r ≡ [] → LaidIdentifierText (identifier_at t v t r) t
 laid_whole {t = t} {r = r} {v = v} (one (t_string p)) e = subst (λ (z : Text). LaidIdentifier true t (identifier_at t v t r) t z) e (spelled (at_end r p e) refl)
@@ -39,18 +42,12 @@ laid_whole {t = t} {r = r} {v = v} (one (t_string p)) e = subst (λ (z : Text). 
 
 -- where no token begins
 pub no_token_told : (t : Text) (old new : Here) (e : LexFailure) → old.rest ≡ t → Lexed old (Err e) new → AnswersIdentifierText t (Err e)
-no_token_told t old new Faulty e x = λ v d. none v (subst (λ (z : Text). IsIdentifierText z v) (sym e) d)
-  where
-    none : (v : Text) → IsIdentifierText old.rest v → ⊥
-    none v (string p q) = x.none _ _ (t_string p)
+no_token_told t old new Faulty e x = λ v d. x.none _ _ (subst (λ (z : Text). BeginsToken z (tokens.string v) []) (sym e) (the_token d))
 no_token_told t old new Memory e x = tt
 
 -- where the text is empty
 pub empty_told : (t : Text) (old : Here) → old.rest ≡ t → old.rest ≡ [] → AnswersIdentifierText t (Err Faulty)
-empty_told t old e n = λ v d. none v (subst (λ (z : Text). IsIdentifierText z v) (sym e ∙ n) d)
-  where
-    none : (v : Text) → IsIdentifierText [] v → ⊥
-    none v (string p q) = no_token (t_string p)
+empty_told t old e n = λ v d. no_token (subst (λ (z : Text). BeginsToken z (tokens.string v) []) (sym e ∙ n) (the_token d))
 
 string_kind : (k : TokenKind) (v : Text) → kind_view k ≡ tokens.string v → ((s : String Global) → k ≡ StringKind s → ⊥) → ⊥
 string_kind (StringKind s) v e n = n s refl

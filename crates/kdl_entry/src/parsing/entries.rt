@@ -5,17 +5,17 @@ ghost use Rattle.kdl_syntax.specs.Internal.EntryViews.{entry_view};
 ghost use Rattle.kdl_syntax.specs.Internal.Views.{phase_view};
 ghost use Rattle.kdl_entry.specs.Internal.Building.{parts_view};
 ghost use Rattle.kdl_entry.specs.Internal.EntryMachine as machine;
-ghost use Rattle.kdl_entry.specs.Internal.EntryMachine.{argument_of, begin_to, ended, entry_by, finish, keyed_parts, opened_parts, phase_of, step, value_of, value_to, word_at, word_to};
+ghost use Rattle.kdl_entry.specs.Internal.EntryMachine.{argument_of, begin_to, ended, finish, phase_of, step, value_of, value_to, word_to};
 ghost use Rattle.kdl_entry.specs.Internal.Counted.{EndsIn, Recounted, Within};
 ghost use Rattle.kdl_entry.specs.Internal.EntryReading.{word_view, state_view, AnswersEntryText, Stands, Stepped, Ended};
 ghost use Rattle.kdl_syntax.specs.Internal.Handed.{kind_view};
 ghost use Rattle.kdl_entry.specs.Places.{between};
-ghost use Rattle.kdl_value.specs.Tree.{text_of, value_tree};
-ghost use Rattle.kdl_entry.specs.Tree.{entry_tree, identifier_tree};
+ghost use Rattle.kdl_value.specs.Tree.{value_tree};
+ghost use Rattle.kdl_entry.specs.Tree.{entry_tree};
 ghost use Rattle.std.specs.Prelude.{◌≡◌, [], None, Some, IfOk, option_map};
 ghost use Rattle.std.specs.Str.{chars};
 
-use super::parts::{Given, Key, Parts, entry_from};
+use super::parts::{Key, Parts, argument_from, entry_from};
 use super::source::Source;
 use crate::entry::KdlEntry;
 use crate::identifier::sliced_identifier;
@@ -58,91 +58,18 @@ enum State<'a> {
     Done(KdlEntry, Checkpoint<'a>),
 }
 
-/// Begins an entry at the `(` of its type.
-fn opened<'a>(alloc: Global, leading: String, at: &TokenSpan<'a>) -> Parts<'a>
-    ensures { parts_view result
-        ≡ opened_parts at.now.start.rest (text_of leading) at.now.end.rest }
-{
-    let mut parts = Parts::new(alloc, &at.start);
-    parts.open(leading, at);
-    parts
-}
-
-/// Begins an entry after the `=` of its key.
-fn keyed<'a>(source: &Source<'a>, leading: String, key: Key, end: &Checkpoint<'a>) -> Parts<'a>
-    ensures { parts_view result
-        ≡ keyed_parts source.now.text (text_of leading) (identifier_tree key.name)
-        (text_of key.before) end.now.rest }
-{
-    let start = source.start();
-    let mut parts = Parts::new(source.alloc(), &start);
-    parts.open_keyed(leading, &start, key, end);
-    parts
-}
-
-/// The string that the token is, and the text before it.
-fn word_between<'a>(
-    source: &mut Source<'a>,
-    value: String,
-    at: TokenSpan<'a>,
-) -> Result<PendingWord<'a>, AllocError>
-    requires leading { EndsIn source.old.text at.start.rest }
-    ensures is { IfOk result
-        (λ w. word_view w
-        ≡ word_at source.old.text (text_of value) at.entry.start.rest at.entry.end.rest) }
-    ensures end { IfOk result (λ w. w.end ≡ at.entry.end) }
-    ensures same { Recounted source.old source.new }
-{
-    let leading = source.text(&source.start(), &at.start)?;
-    Ok(PendingWord {
-        leading,
-        value,
-        repr: source.piece(&at.start, &at.end),
-        span: source.span(&at.start, &at.end),
-        end: at.end,
-    })
-}
-
-/// The value that the token is, as an argument, and the text before it.
-fn argument_between<'a>(
-    source: &mut Source<'a>,
-    value: KdlValue,
-    at: &TokenSpan<'a>,
-) -> Result<KdlEntry, AllocError>
-    requires leading { EndsIn source.old.text at.now.start.rest }
-    ensures is { IfOk result
-        (λ e. entry_tree e ≡ entry_by (between source.old.text at.now.start.rest) None None
-        (value_tree value) (between at.now.start.rest at.now.end.rest)) }
-    ensures same { Recounted source.old source.new }
-{
-    let leading = source.text(&source.start(), &at.start)?;
-    let repr = source.text(&at.start, &at.end)?;
-    let given = Given {
-        key: None,
-        ty: None,
-        value,
-    };
-    Ok(entry_from(source.alloc(), UNPLACED, leading, given, repr))
-}
-
 /// The word as an argument.
 fn argument(alloc: Global, word: PendingWord) -> Result<KdlEntry, AllocError>
     ensures { IfOk result (λ e. entry_tree e ≡ argument_of (word_view word.entry)) }
 {
-    let PendingWord {
-        leading,
-        value,
+    let repr = word.repr.to_string(alloc)?;
+    Ok(argument_from(
+        alloc,
+        UNPLACED,
+        word.leading,
+        KdlValue::String(word.value),
         repr,
-        span: _,
-        end: _,
-    } = word;
-    let repr = repr.to_string(alloc)?;
-    let given = Given {
-        key: None,
-        ty: None,
-        value: KdlValue::String(value),
-    };
-    Ok(entry_from(alloc, UNPLACED, leading, given, repr))
+    ))
 }
 
 /// Takes a token before the entry. The control goes to `next`.
@@ -163,14 +90,24 @@ fn begin_to<'a>(
         (EntryControl::Dropping(phase), _) => Ok(State::Dropping(phase)),
         (EntryControl::Under(phase), _) => {
             let leading = source.text(&source.start(), &at.start)?;
-            Ok(State::Under(phase, opened(source.alloc(), leading, &at)))
+            let mut parts = Parts::new(source.alloc(), &at.start);
+            parts.open(leading, &at);
+            Ok(State::Under(phase, parts))
         }
         (EntryControl::Word, TokenKind::String(value)) => {
-            let word = word_between(source, value, at)?;
-            Ok(State::Pending(word))
+            let leading = source.text(&source.start(), &at.start)?;
+            Ok(State::Pending(PendingWord {
+                leading,
+                value,
+                repr: source.piece(&at.start, &at.end),
+                span: source.span(&at.start, &at.end),
+                end: at.end,
+            }))
         }
         (EntryControl::Done, TokenKind::Value(value)) => {
-            let entry = argument_between(source, value, &at)?;
+            let leading = source.text(&source.start(), &at.start)?;
+            let repr = source.text(&at.start, &at.end)?;
+            let entry = argument_from(source.alloc(), UNPLACED, leading, value, repr);
             Ok(State::Done(entry, at.end))
         }
         _ => Err(LexFailure::Faulty),
@@ -228,16 +165,11 @@ fn word_to<'a>(
         EntryControl::Word => Ok(State::Pending(word)),
         EntryControl::Under(phase) => {
             let before = source.text(&word.end, &at.start)?;
-            let PendingWord {
-                leading,
-                value,
-                repr,
-                span,
-                end: _,
-            } = word;
-            let name = sliced_identifier(source.alloc(), value, &repr, span)?;
-            let key = Key { name, before };
-            Ok(State::Under(phase, keyed(source, leading, key, &at.end)))
+            let name = sliced_identifier(source.alloc(), word.value, &word.repr, word.span)?;
+            let start = source.start();
+            let mut parts = Parts::new(source.alloc(), &start);
+            parts.open_keyed(word.leading, &start, Key { name, before }, &at.end);
+            Ok(State::Under(phase, parts))
         }
         _ => {
             let end = word.end.copied();

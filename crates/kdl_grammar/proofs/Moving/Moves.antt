@@ -1,11 +1,10 @@
 -- Gaps, nodes and blocks come before another rest too.
-use Rattle.std.proofs.Common.{◌≡◌, ℕ, Bool, true, false, List, [], ◌∷◌, Option, Some, refl, sym, subst}
-use Rattle.kdl_text.specs.Chars.{Text, Star, none, more, Plus, plus}
+use Rattle.std.proofs.Common.{◌≡◌, ℕ, Bool, true, List, [], ◌∷◌, Some, refl, sym, subst}
+use Rattle.kdl_text.specs.Chars.{Text, Star, none, more, plus}
 use Rattle.kdl_text.specs.Internal.Here.{first}
 use Rattle.kdl_text.specs.Trivia.{NodeSpace, Break, Slashdash, ValueEnd}
 use Rattle.kdl_text.proofs.Spacing.ValueEnds.{space_ends, break_ends}
 use Rattle.kdl_entry.specs.Data.{Entry}
-use Rattle.kdl_entry.specs.Entries.{IsString, MaybeType, IsEntry}
 use Rattle.kdl_entry.specs.Places.{DroppedEntry, dropped as dropped_e}
 use Rattle.kdl_syntax.proofs.Moving.StringMoves.{move_newline}
 use Rattle.kdl_entry.proofs.Moving.EntryMoves.{move_comment, move_spaces, move_plus, move_slashdash, move_line_space, move_string, move_maybe, move_entry, punctuation_end, spaces_end, spaces_dash}
@@ -37,30 +36,36 @@ move_terminator Terminator.at_end = record { at = stands; there = λ u e. subst 
 move_terminator Terminator.at_close = record { at = stands; there = λ u e. closes_here u e }
 
 -- with the terminator
-data NameEnds (es : List Entry) (k : Children) : Text → Text → Type 0 where
-  ends : {s r v : Text} → AfterName true s r es k → Terminator r v → NameEnds es k s v
+data WithEnd (R : Text → Text → Type 0) : Text → Text → Type 0 where
+  ends : {s r v : Text} → R s r → Terminator r v → WithEnd R s v
 
-data BlocksEnd (k : Children) : Bool → Text → Text → Type 0 where
-  ends : {b : Bool} {s r v : Text} → Blocks true b s r k → Terminator r v → BlocksEnd k b s v
+abbrev NameEnds : List Entry → Children → Text → Text → Type 0
+NameEnds es k = WithEnd (λ s r. AfterName true s r es k)
 
-data LaterEnds : Text → Text → Type 0 where
-  ends : {s r v : Text} → AfterBlock true s r → Terminator r v → LaterEnds s v
+abbrev BlocksEnd : Children → Bool → Text → Text → Type 0
+BlocksEnd k b = WithEnd (λ s r. Blocks true b s r k)
 
-data NodeEnds (x : Node) : Text → Text → Type 0 where
-  ends : {s r v : Text} → IsNode true s r x → Terminator r v → NodeEnds x s v
+abbrev LaterEnds : Text → Text → Type 0
+LaterEnds = WithEnd (AfterBlock true)
+
+abbrev NodeEnds : Node → Text → Text → Type 0
+NodeEnds x = WithEnd (λ s r. IsNode true s r x)
+
+with_end : {R S : Text → Text → Type 0} {s t v : Text} → ((r : Text) → R s r → S t r) → WithEnd R s v → WithEnd S t v
+with_end f (ends d e) = ends (f _ d) e
 
 block_end : {s r : Text} {xs : Nodes} → Star NodeSpace s r → {v : Text} → IsBlock true r v xs → ValueEnd true s
 block_end ss (braces ns) = spaces_end ss (punctuation_end 123 refl)
 
 blocks_end : {b : Bool} {s v : Text} {k : Children} → BlocksEnd k b s v → ValueEnd true s
-blocks_end (BlocksEnd.ends (dropped_block ss m b d) e) = spaces_dash ss m
-blocks_end (BlocksEnd.ends (block ss b d) e) = block_end ss b
-blocks_end (BlocksEnd.ends (no_block ss) e) = spaces_end ss (terminator_end e)
+blocks_end (ends (dropped_block ss m b d) e) = spaces_dash ss m
+blocks_end (ends (block ss b d) e) = block_end ss b
+blocks_end (ends (no_block ss) e) = spaces_end ss (terminator_end e)
 
 name_end : {s v : Text} {es : List Entry} {k : Children} → NameEnds es k s v → ValueEnd true s
-name_end (NameEnds.ends (kept_entry (plus n ss) i d) e) = space_ends n
-name_end (NameEnds.ends (dropped_entry ss m i d) e) = spaces_dash ss m
-name_end (NameEnds.ends (AfterName.blocks d) e) = blocks_end (BlocksEnd.ends d e)
+name_end (ends (kept_entry (plus n ss) i d) e) = space_ends n
+name_end (ends (dropped_entry ss m i d) e) = spaces_dash ss m
+name_end (ends (AfterName.blocks d) e) = blocks_end (ends d e)
 
 -- it comes before every rest
 record Closed (R : Text → Text → Type 0) (s r : Text) : Type 0 where
@@ -68,47 +73,26 @@ record Closed (R : Text → Text → Type 0) (s r : Text) : Type 0 where
   full : (u : Text) → first (at.put u) ≡ first s
   there : (u : Text) → R (at.put u) u
 
-add_entry : {s t r : Text} {x : Entry} {es : List Entry} {k : Children} → Plus NodeSpace s t → {u : Text} → IsEntry true t u x → NameEnds es k u r → NameEnds (x ∷ es) k s r
-add_entry n i (NameEnds.ends d e) = NameEnds.ends (kept_entry n i d) e
-
-drop_entry : {s t u v r : Text} {x : Entry} {es : List Entry} {k : Children} → Star NodeSpace s t → Slashdash t u → IsEntry true u v x → NameEnds es k v r → NameEnds es k s r
-drop_entry ss m i (NameEnds.ends d e) = NameEnds.ends (dropped_entry ss m i d) e
-
-only_blocks : {s r : Text} {k : Children} → BlocksEnd k false s r → NameEnds [] k s r
-only_blocks (BlocksEnd.ends d e) = NameEnds.ends (AfterName.blocks d) e
-
-drop_block : {b : Bool} {s t u v r : Text} {xs : Nodes} {k : Children} → Star NodeSpace s t → Slashdash t u → IsBlock true u v xs → BlocksEnd k true v r → BlocksEnd k b s r
-drop_block ss m b (BlocksEnd.ends d e) = BlocksEnd.ends (dropped_block ss m b d) e
-
-add_block : {b : Bool} {s t u r : Text} {xs : Nodes} → Star NodeSpace s t → IsBlock true t u xs → LaterEnds u r → BlocksEnd (data'.children xs) b s r
-add_block ss b (LaterEnds.ends d e) = BlocksEnd.ends (block ss b d) e
-
-drop_later : {s t u v r : Text} {xs : Nodes} → Star NodeSpace s t → Slashdash t u → IsBlock true u v xs → LaterEnds v r → LaterEnds s r
-drop_later ss m b (LaterEnds.ends d e) = LaterEnds.ends (dropped_later ss m b d) e
-
-name_it : {s t u r w : Text} {y : Option Text} {es : List Entry} {k : Children} → MaybeType true s t y → IsString true t u w → NameEnds es k u r → NodeEnds (data'.node y w es k) s r
-name_it y w (NameEnds.ends d e) = NodeEnds.ends (named y w d) e
-
 drop_node : {s t u r : Text} {x : Node} → Slashdash s t → NodeEnds x t u → Gap true u r → Gap true s r
-drop_node m (NodeEnds.ends x e) g = dropped_node m x e g
+drop_node m (ends x e) g = dropped_node m x e g
 
 first_node : {s t u r : Text} {x : Node} {xs : Nodes} → Gap true s t → NodeEnds x t u → AreNodes true u r xs → AreNodes true s r (data'.first x xs)
-first_node g (NodeEnds.ends x e) ds = node_then g x e ds
+first_node g (ends x e) ds = node_then g x e ds
 
 mutual
   move_name : {s r : Text} {es : List Entry} {k : Children} → AfterName true s r es k → {v : Text} → Terminator r v → Move (NameEnds es k) s v
   move_name (kept_entry n i d) e =
       let a = move_plus n in let b = move_entry i in let c = move_name d e in
-      record { at = joined a.at (joined b.at c.at); there = λ u f. let last = c.there u f in add_entry (a.there (b.at.put (c.at.put u)) (b.full (c.at.put u))) (b.there (c.at.put u) (name_end last)) last }
+      record { at = joined a.at (joined b.at c.at); there = λ u f. let last = c.there u f in with_end (λ r d. kept_entry (a.there (b.at.put (c.at.put u)) (b.full (c.at.put u))) (b.there (c.at.put u) (name_end last)) d) last }
   move_name (dropped_entry ss m i d) e =
       let a = move_spaces ss in let o = move_slashdash m in let b = move_entry i in let c = move_name d e in
       record {
         at = joined a.at (joined o.at (joined b.at c.at));
         there = λ u f.
             let last = c.there u f in let g = b.full (c.at.put u) in
-            drop_entry (a.there (o.at.put (b.at.put (c.at.put u))) (same o.at (b.at.put (c.at.put u)) g)) (o.there (b.at.put (c.at.put u)) g) (b.there (c.at.put u) (name_end last)) last;
+            with_end (λ r d. dropped_entry (a.there (o.at.put (b.at.put (c.at.put u))) (same o.at (b.at.put (c.at.put u)) g)) (o.there (b.at.put (c.at.put u)) g) (b.there (c.at.put u) (name_end last)) d) last;
       }
-  move_name (AfterName.blocks d) e = let a = move_blocks d e in record { at = a.at; there = λ u f. only_blocks (a.there u f) }
+  move_name (AfterName.blocks d) e = let a = move_blocks d e in record { at = a.at; there = λ u f. with_end (λ r d. AfterName.blocks d) (a.there u f) }
 
   move_blocks : {b : Bool} {s r : Text} {k : Children} → Blocks true b s r k → {v : Text} → Terminator r v → Move (BlocksEnd k b) s v
   move_blocks (dropped_block ss m b d) e =
@@ -117,14 +101,14 @@ mutual
         at = joined a.at (joined o.at (joined c.at k.at));
         there = λ u f.
             let g = c.full (k.at.put u) in
-            drop_block (a.there (o.at.put (c.at.put (k.at.put u))) (same o.at (c.at.put (k.at.put u)) g)) (o.there (c.at.put (k.at.put u)) g) (c.there (k.at.put u)) (k.there u f);
+            with_end (λ r d. dropped_block (a.there (o.at.put (c.at.put (k.at.put u))) (same o.at (c.at.put (k.at.put u)) g)) (o.there (c.at.put (k.at.put u)) g) (c.there (k.at.put u)) d) (k.there u f);
       }
   move_blocks (block ss b d) e =
       let a = move_spaces ss in let c = move_block b in let k = move_later d e in
-      record { at = joined a.at (joined c.at k.at); there = λ u f. add_block (a.there (c.at.put (k.at.put u)) (c.full (k.at.put u))) (c.there (k.at.put u)) (k.there u f) }
+      record { at = joined a.at (joined c.at k.at); there = λ u f. with_end (λ r d. block (a.there (c.at.put (k.at.put u)) (c.full (k.at.put u))) (c.there (k.at.put u)) d) (k.there u f) }
   move_blocks (no_block ss) e =
       let a = move_spaces ss in let k = move_terminator e in
-      record { at = joined a.at k.at; there = λ u f. BlocksEnd.ends (no_block (a.there (k.at.put u) (same k.at u f))) (k.there u f) }
+      record { at = joined a.at k.at; there = λ u f. ends (no_block (a.there (k.at.put u) (same k.at u f))) (k.there u f) }
 
   move_later : {s r : Text} → AfterBlock true s r → {v : Text} → Terminator r v → Move LaterEnds s v
   move_later (dropped_later ss m b d) e =
@@ -133,11 +117,11 @@ mutual
         at = joined a.at (joined o.at (joined c.at k.at));
         there = λ u f.
             let g = c.full (k.at.put u) in
-            drop_later (a.there (o.at.put (c.at.put (k.at.put u))) (same o.at (c.at.put (k.at.put u)) g)) (o.there (c.at.put (k.at.put u)) g) (c.there (k.at.put u)) (k.there u f);
+            with_end (λ r d. dropped_later (a.there (o.at.put (c.at.put (k.at.put u))) (same o.at (c.at.put (k.at.put u)) g)) (o.there (c.at.put (k.at.put u)) g) (c.there (k.at.put u)) d) (k.there u f);
       }
   move_later (no_more ss) e =
       let a = move_spaces ss in let k = move_terminator e in
-      record { at = joined a.at k.at; there = λ u f. LaterEnds.ends (no_more (a.there (k.at.put u) (same k.at u f))) (k.there u f) }
+      record { at = joined a.at k.at; there = λ u f. ends (no_more (a.there (k.at.put u) (same k.at u f))) (k.there u f) }
 
   pub move_gap : {s r : Text} → Gap true s r → Move (Gap true) s r
   move_gap no_gap = record { at = stands; there = λ u e. no_gap }
@@ -150,7 +134,7 @@ mutual
             let last = c.there (k.at.put u) (same k.at u f) in
             let g = o.full (c.at.put (k.at.put u)) in
             let h = same b.at (o.at.put (c.at.put (k.at.put u))) g in
-            drop_node (a.there (b.at.put (o.at.put (c.at.put (k.at.put u)))) h) (name_it (b.there (o.at.put (c.at.put (k.at.put u))) g) (o.there (c.at.put (k.at.put u)) (name_end last)) last) (k.there u f);
+            drop_node (a.there (b.at.put (o.at.put (c.at.put (k.at.put u)))) h) (with_end (λ r d. named (b.there (o.at.put (c.at.put (k.at.put u))) g) (o.there (c.at.put (k.at.put u)) (name_end last)) d) last) (k.there u f);
       }
 
   pub move_nodes : {s r : Text} {xs : Nodes} → AreNodes true s r xs → Move (λ s r. AreNodes true s r xs) s r
@@ -163,7 +147,7 @@ mutual
             let last = c.there (k.at.put u) (same k.at u f) in
             let g = o.full (c.at.put (k.at.put u)) in
             let h = same b.at (o.at.put (c.at.put (k.at.put u))) g in
-            first_node (a.there (b.at.put (o.at.put (c.at.put (k.at.put u)))) h) (name_it (b.there (o.at.put (c.at.put (k.at.put u))) g) (o.there (c.at.put (k.at.put u)) (name_end last)) last) (k.there u f);
+            first_node (a.there (b.at.put (o.at.put (c.at.put (k.at.put u)))) h) (with_end (λ r d. named (b.there (o.at.put (c.at.put (k.at.put u))) g) (o.there (c.at.put (k.at.put u)) (name_end last)) d) last) (k.there u f);
       }
 
   move_block : {s r : Text} {xs : Nodes} → IsBlock true s r xs → Closed (λ s r. IsBlock true s r xs) s r

@@ -24,7 +24,7 @@ use Rattle.kdl_grammar.specs.Laid.{LaidEntries, no_entry, an_entry, laid_node, L
 use Rattle.kdl_grammar.specs.Places.{DroppedBlock, AfterChildren, after as after_children, before as before_children}
 use Rattle.kdl_grammar.specs.Tree.{Node, node, Children, no_children, children, Document, document, Nodes, none, first, join, node_data, children_data, document_data, nodes_data}
 use Rattle.kdl_entry.specs.Internal.Parts.{TypeParts, KeyParts, type_of, before_name, after_name, after_type, key_identifier, identifier_at, entry_at}
-use Rattle.kdl_grammar.specs.Internal.Machine.{Under, Kept, Slot, no_name, for_name, no_value, for_value, Pending, pending, Spot, fresh, spaced, later, gap, node_slashdash, type_open, type_name, type_done, in_node, property, entry_slashdash, block_slashdash, kept, kept_slashdash, Frame, in_block, in_dropped, in_later, State, at, origin, moved, entry_slot, keyed, with_entry, filled, node_at, closed, closed_kept, ended, inside, content_at, spaced_of, slashdash_at, given, worded, typed, step, finish, initial, Runs, stops, reads, AnswersDocument}
+use Rattle.kdl_grammar.specs.Internal.Machine.{Under, Kept, Slot, no_name, for_name, no_value, for_value, Pending, pending, Spot, fresh, spaced, later, gap, node_slashdash, type_name, type_done, in_node, property, entry_slashdash, block_slashdash, kept, kept_slashdash, Frame, in_block, in_dropped, in_later, State, at, origin, moved, entry_slot, kept_text, kept_name, text_before, opened, keyed, with_entry, filled, node_at, closed, closed_kept, ended, inside, content_at, spaced_of, slashdash_at, given, worded, typed, step, finish, initial, Runs, stops, reads, AnswersDocument}
 use Rattle.kdl_grammar.proofs.Moving.Ends.{end_terminator, end_gap, end_dropped_block}
 pub mod OneLaid
 
@@ -139,7 +139,7 @@ module _ (whole : Text) where
   record Takes (b : Bool) (st : State) (s : Text) (c : Slot) (l : Option Nodes) (fs : List Frame) (from : Text) : Type 0 where
     to_string : (v r : Text) → (o : Option Pending) × (step whole st (string v) s r ≡ Some (given whole c None (text v) o l fs from s r))
     to_value : b ≡ true → (v : Value) (r : Text) → step whole st (value v) s r ≡ Some (given whole c None v None l fs from s r)
-    to_left : (r : Text) → step whole st left s r ≡ Some (at (type_open b c r) l fs from)
+    to_left : (r : Text) → step whole st left s r ≡ Some (at (opened b c r) l fs from)
 
   read_fill : (out : Document) → {b : Bool} {s r : Text} {v : Value} → Fills b s r v → (st : State) (c : Slot) (l : Option Nodes) (fs : List Frame) (from : Text) → Takes b st s c l fs from
       → ((o : Option Pending) → Runs whole out (given whole c None v o l fs from s r) r) → Runs whole out st s
@@ -154,6 +154,14 @@ module _ (whole : Text) where
   spelled_at : {s r v : Text} → IsString true s r v → LaidIdentifier true whole (identifier_at whole v s r) s r
   spelled_at d = spelled (place d (end_string d)) refl
 
+  -- what is kept of a type
+  same_type : (c : Slot) (s1 s2 s3 s4 p t : Text) (i : Identifier) (v : Value) (l : Option Nodes) (fs : List Frame) (from r : Text)
+      → given whole c (typed (between s1 s2) i (between s3 p) s4 t) v None l fs from t r ≡ given whole c (typed (kept_text c (between (kept_text c s1) s2)) (kept_name c i) (kept_text c (between (kept_text c s3) p)) (kept_text c s4) t) v None l fs from t r
+  same_type no_name s1 s2 s3 s4 p t i v l fs from r = refl
+  same_type (for_name q s) s1 s2 s3 s4 p t i v l fs from r = refl
+  same_type (no_value u) s1 s2 s3 s4 p t i v l fs from r = refl
+  same_type (for_value u q s k) s1 s2 s3 s4 p t i v l fs from r = refl
+
   record ReadFilled (b : Bool) (s t r : Text) (y : Option Text) (v : Value) : Type 0 where
     type : Option TypeParts
     laid : LaidType true whole (type_of type) (before_name type) (after_name type) (after_type type) s t
@@ -163,17 +171,27 @@ module _ (whole : Text) where
 
   read_filled : {b : Bool} {s t r : Text} {y : Option Text} {v : Value} → MaybeType true s t y → Fills b t r v → ReadFilled b s t r y v
   read_filled untyped d = record { type = None; laid = no_type; same = refl; runs = λ out st c l fs from k a. read_fill out d st c l fs from k a }
-  read_filled {b = b} {t = t} (a_typed {v = y} (parens {s = s1} {t = s2} {u = s3} {r = s4} ss u us) vs) d =
+  read_filled {b = b} {t = t} {r = r} {v = v} (a_typed {v = y} (parens {s = s1} {t = s2} {u = s3} {r = s4} ss u us) vs) d =
       let i = identifier_at whole y s2 s3 in
       record {
         type = typed (between s1 s2) i (between s3 (41 ∷ s4)) s4 t;
         laid = a_type (place ss (end_spaces ss)) (spelled_at u) (place us (end_spaces us)) (place vs (end_spaces vs));
         same = refl;
         runs = λ out st c l fs from k a.
-            reads t_left (k.to_left s1) (stay out (at (type_open b c s1) l fs from) (λ s r. refl) ss (read_string out u refl
-            (stay out (at (type_name b c (between s1 s2) i s3) l fs from) (λ s r. refl) us (reads t_right refl
-            (stay out (at (type_done b c (between s1 s2) i (between s3 (41 ∷ s4)) s4) l fs from) (λ s r. refl) vs (read_done out d c (between s1 s2) i (between s3 (41 ∷ s4)) s4 l fs from (a None)))))));
+            let before = kept_text c (between (kept_text c s1) s2) in
+            let after = kept_text c (between (kept_text c s3) (41 ∷ s4)) in
+            reads t_left (k.to_left s1) (stay out (at (opened b c s1) l fs from) (λ s r. refl) ss (read_string out u refl
+            (stay out (at (type_name b c before (kept_name c i) (kept_text c s3)) l fs from) (λ s r. refl) us (reads t_right refl
+            (stay out (at (type_done b c before (kept_name c i) after (kept_text c s4)) l fs from) (λ s r. refl) vs (read_done out d c before (kept_name c i) after (kept_text c s4) l fs from
+            (subst (λ (st : State). Runs whole out st r) (same_type c s1 s2 s3 s4 (41 ∷ s4) t i v l fs from r) (a None))))))));
       }
+
+  -- what is kept of a key
+  same_key : (c : Slot) (i : Identifier) (t u p w : Text) → keyed c (record { name = i; before = between t p; following = between u w }) ≡ keyed c (record { name = kept_name c i; before = kept_text c (between (kept_text c t) p); following = between (kept_text c u) w })
+  same_key no_name i t u p w = refl
+  same_key (for_name q s) i t u p w = refl
+  same_key (no_value h) i t u p w = refl
+  same_key (for_value h q s k) i t u p w = refl
 
   record ReadItem (s r : Text) (e : entry_data'.Entry) : Type 0 where
     key : Option KeyParts
@@ -183,10 +201,10 @@ module _ (whole : Text) where
     laid : (leading : Text) (span : SourceSpan) → LaidItem true whole leading [] span (entry_at span leading key type val (between here r)) s r
     same : record { key = option_map (λ (i : Identifier). i.value) (key_identifier key); ty = option_map (λ (i : Identifier). i.value) (type_of type); value = val } ≡ e
     runs : (out : Document) → (st : State) (c : Slot) (l : Option Nodes) (fs : List Frame) (from : Text) → ((v r : Text) → step whole st (string v) s r ≡ Some (worded whole c v l fs from s r))
-        → ((v : Value) (r : Text) → step whole st (value v) s r ≡ Some (given whole c None v None l fs from s r)) → ((r : Text) → step whole st left s r ≡ Some (at (type_open true c r) l fs from))
+        → ((v : Value) (r : Text) → step whole st (value v) s r ≡ Some (given whole c None v None l fs from s r)) → ((r : Text) → step whole st left s r ≡ Some (at (opened true c r) l fs from))
         → ((o : Option Pending) → Runs whole out (given whole (slot_of c key) type val o l fs from here r) r) → Runs whole out st s
 
-  read_equals : (out : Document) → {s u : Text} {h : Option Under} {c : Slot} {k : Identifier} {a : Text} {l : Option Nodes} {fs : List Frame} {from : Text} → Star NodeSpace s (61 ∷ u) → Runs whole out (at (property c k (between a (61 ∷ u)) u) l fs from) u → Runs whole out (at (in_node h (fresh (Some (pending c k a)))) l fs from) s
+  read_equals : (out : Document) → {s u : Text} {h : Option Under} {c : Slot} {k : Identifier} {a : Text} {l : Option Nodes} {fs : List Frame} {from : Text} → Star NodeSpace s (61 ∷ u) → Runs whole out (at (property c k (kept_text c (between a (61 ∷ u))) (kept_text c u)) l fs from) u → Runs whole out (at (in_node h (fresh (Some (pending c k a)))) l fs from) s
   read_equals out no_star b = reads t_equals refl b
   read_equals out {h = h} {c = c} {k = k} {a = a} {l = l} {fs = fs} {from = from} (more n m) b = reads (t_space n) refl (stay out (at (in_node h (spaced (Some (pending c k a)))) l fs from) (λ s r. refl) m (reads t_equals refl b))
 
@@ -200,7 +218,7 @@ module _ (whole : Text) where
         here = t;
         laid = λ leading span. item no_key X.laid (place d (end_plain d));
         same = ap (λ (z : Option Text). record { key = None; ty = z; value = v }) X.same;
-        runs = λ out st c l fs from to_string to_value to_left a. X.runs out st c l fs from (record { to_string = λ v r. (Some (pending c (identifier_at whole v s r) r), to_string v r); to_value = λ e. to_value; to_left = to_left }) a;
+        runs = λ out st c l fs from to_string to_value to_left a. X.runs out st c l fs from (record { to_string = λ v r. (Some (pending c (kept_name c (identifier_at whole v s r)) (kept_text c r)), to_string v r); to_value = λ e. to_value; to_left = to_left }) a;
       }
   read_item {s = s} {r = r} (a_property {t = t} {u = u} {w = w} {k = k} {v = v} d ss us (a_value {t = p} y z)) =
       let X = read_filled y (value_fills z) in
@@ -215,10 +233,13 @@ module _ (whole : Text) where
         same = ap (λ (z : Option Text). record { key = Some k; ty = z; value = v }) X.same;
         runs = λ out st c l fs from to_string to_value to_left a.
             let f = moved c from t in
-            let st' = at (property c i (between t (61 ∷ u)) u) l fs f in
+            let before = kept_text c (between (kept_text c t) (61 ∷ u)) in
+            let k'' : KeyParts = record { name = kept_name c i; before = before; following = between (kept_text c u) w } in
+            let st' = at (property c (kept_name c i) before (kept_text c u)) l fs f in
             read_string out d (to_string k t) (read_equals out ss (stay out st' (λ s r. refl) us
-            (X.runs out st' (keyed c k') l fs f (record { to_string = λ v r. (None, refl); to_value = λ e v r. refl; to_left = λ r. refl })
-            (λ o. subst (λ (z : Text). Runs whole out (at (in_node (filled whole (keyed c k') X.type v p r) (fresh o)) l fs z) r) (moved_twice c k' from t r) (a o)))));
+            (X.runs out st' (keyed c k'') l fs f (record { to_string = λ v r. (None, refl); to_value = λ e v r. refl; to_left = λ r. refl })
+            (λ o. subst (λ (c' : Slot). Runs whole out (given whole c' X.type v o l fs f p r) r) (same_key c i t u (61 ∷ u) w)
+            (subst (λ (z : Text). Runs whole out (at (in_node (filled whole (keyed c k') X.type v p r) (fresh o)) l fs z) r) (moved_twice c k' from t r) (a o))))));
       }
 
   read_slashdash : (out : Document) → {s t u : Text} (h : Option Under) (o : Option Pending) (l : Option Nodes) (fs : List Frame) (from : Text) → Star NodeSpace s t → Slashdash t u → Runs whole out (at (entry_slashdash h) l fs from) u → Runs whole out (at (in_node h (fresh o)) l fs from) s
@@ -316,8 +337,8 @@ module _ (whole : Text) where
 
   block_runs : (out : Document) → (p : Text) {s r u v : Text} {xs : data'.Nodes} (N : ReadNodes s (125 ∷ r) xs) (L : ReadLater r r u v) (h : Option Under) (l : Option Nodes) (fs : List Frame) (from : Text)
       → Runs whole out (at gap (ended (closed whole h (children (content_at whole N.tree (between N.last (125 ∷ r)) (125 ∷ r))) (between p (123 ∷ s)) L.following L.end u) l) fs (origin h from v)) v
-      → Runs whole out (at gap (inside h) (in_block h (between (origin h from p) (123 ∷ s)) l ∷ fs) (origin h (origin h from p) s)) s
-  block_runs out p {s = s} N L None l fs from a = N.runs out None (in_block None (between from (123 ∷ s)) l ∷ fs) from (reads t_closing refl (L.runs out None l fs from a))
+      → Runs whole out (at gap (inside h) (in_block h (text_before h (between (origin h from p) (123 ∷ s))) l ∷ fs) (origin h (origin h from p) s)) s
+  block_runs out p {s = s} N L None l fs from a = N.runs out None (in_block None [] l ∷ fs) from (reads t_closing refl (L.runs out None l fs from a))
   block_runs out p {s = s} {r = r} N L (Some h) l fs from a =
       N.runs out (Some none) (in_block (Some h) (between p (123 ∷ s)) l ∷ fs) from (reads t_closing refl
       (L.runs out (Some (record { under = h; before = between p (123 ∷ s); block = content_at whole N.tree (between N.last (125 ∷ r)) (125 ∷ r) })) l fs from a))
@@ -334,7 +355,7 @@ module _ (whole : Text) where
       I.runs out (at (in_node h (spaced o)) l fs (origin h from p)) c l fs (origin h from p)
       (λ v r. ap (λ (c' : Slot). Some (worded whole c' v l fs (origin h from p) t r)) (sym (slot_between h from p t)))
       (λ v r. ap (λ (c' : Slot). Some (given whole c' None v None l fs (origin h from p) t r)) (sym (slot_between h from p t)))
-      (λ r. ap (λ (c' : Slot). Some (at (type_open true c' r) l fs (origin h from p))) (sym (slot_between h from p t)))
+      (λ r. ap (λ (c' : Slot). Some (at (opened true c' r) l fs (origin h from p))) (sym (slot_between h from p t)))
       (λ o'. subst (λ (st : State). Runs whole out st u) (ap (λ (z : Text). at (in_node (add h (entry_of q I)) (fresh o')) l fs z) (origin_add h (entry_of q I) from u) ∙ after_value h I.key I.type I.val o' l fs q t from p I.here u) (a o'))
 
   node_runs : (out : Document) → {t m w r v q : Text} {n : Text} {y : Option Text} {es : List entry_data'.Entry} {k : data'.Children} {xs : data'.Nodes} (X : ReadFilled false t m w y (text n)) (Y : ReadName w w r v es k) (D : ReadNodes v q xs) (l : Option Nodes) (fs : List Frame) (from s : Text)

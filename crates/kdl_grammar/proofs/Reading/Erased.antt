@@ -63,17 +63,9 @@ module _ (whole : Text) where
   erased (at (in_node h (spaced None)) l fs f) closing s r = popped_is _ fs _ s r
   erased (at (in_node h (spaced (Some (pending c k a)))) l fs f) closing s r = popped_is _ fs _ s r
   erased (at (in_node h later) l fs f) closing s r = popped_is _ fs _ s r
-  erased (at (type_done true c q y d a) l fs f) (value v) s r = refl
   erased (at (type_done false c q y d a) l fs f) (value v) s r = refl
-  erased (at node_slashdash l fs f) closing s r = refl
-  erased (at (type_open b c a) l fs f) closing s r = refl
-  erased (at (type_name b c q y a) l fs f) closing s r = refl
-  erased (at (type_done b c q y d a) l fs f) closing s r = refl
-  erased (at (property c k b a) l fs f) closing s r = refl
-  erased (at (entry_slashdash h) l fs f) closing s r = refl
-  erased (at (block_slashdash h) l fs f) closing s r = refl
-  erased (at (kept_slashdash x) l fs f) closing s r = refl
-  erased _ _ s r = refl
+  erased (at p l fs f) closing s r = refl
+  erased (at p l fs f) k s r = refl
 
   finished : (st : State) (x : Document) → finish whole st ≡ Some x → c.finish (a_state st) ≡ true
   finished (at gap l [] f) x e = refl
@@ -109,7 +101,7 @@ pub accepted_nodes : {s : Text} {x : data'.Nodes} → AreNodes true s [] x → (
 accepted_nodes {s = s} n = let a = accepted s (placed s n).runs in (a.tokens, a.lexed, a.accepts)
 
 -- U+FEFF ends what the machine reads from between nodes
-no_bom_here : {whole s : Text} {d : Document} {l : Option Nodes} {fs : List Frame} {from : Text} → Runs whole d (at gap l fs from) (0xFEFF ∷ s) → ⊥
+pub no_bom_here : {whole s : Text} {d : Document} {l : Option Nodes} {fs : List Frame} {from : Text} → Runs whole d (at gap l fs from) (0xFEFF ∷ s) → ⊥
 no_bom_here {whole = whole} {s = s} {l = l} {fs = fs} {from = from} (reads {r = r} t e a) =
     let k = (token_det t t_bom).1 in
     let f = ap (λ (j : Token). step whole (at gap l fs from) j (0xFEFF ∷ s) r) (sym k) ∙ e in

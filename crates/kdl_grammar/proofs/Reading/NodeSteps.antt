@@ -1,12 +1,11 @@
 -- The steps of the control of a node text.
-use Rattle.std.proofs.Common.{◌≡◌, Bool, true, false, [], ◌∷◌, take, Option, Some, None, refl, sym, ap, ◌∙◌}
+use Rattle.std.proofs.Common.{◌≡◌, Bool, true, false, [], take, Option, Some, None, refl, sym, ap, ◌∙◌}
 use Rattle.kdl_text.specs.Chars.{Text}
-use Rattle.kdl_syntax.specs.Tokens.{Token, space, newline, slashdash, string, value, left, right, opening, closing, equals, semicolon, bom, BeginsToken}
+use Rattle.kdl_syntax.specs.Tokens.{Token, space, string, value, BeginsToken}
 use Rattle.kdl_syntax.proofs.Lexing.TokenFronts.{RefusedWith, refused_with}
-use Rattle.kdl_syntax.specs.Control.{gap, node_slashdash, type_open, type_name, type_done, in_node, property, entry_slashdash, block_slashdash, kept, kept_slashdash, Control, at, step}
+use Rattle.kdl_syntax.specs.Control.{gap, Control, at, step}
 use Rattle.kdl_grammar.specs.NodeControl.{NodeControl, in_text, with_begun, between_nodes, node_step, NodeRefusesFront}
 use Rattle.kdl_grammar.proofs.Reading.Refusing.{refused_too}
-use Rattle.kdl_grammar.proofs.Reading.Viable.{Steps}
 
 -- the control in it
 abbrev pub control_of : NodeControl → Control
@@ -19,17 +18,7 @@ data Place (c : Control) : Type 0 where
 
 place : (c : Control) → Place c
 place (at gap []) = between refl
-place (at gap (f ∷ fs)) = elsewhere (λ b k. refl)
-place (at node_slashdash fs) = elsewhere (λ b k. refl)
-place (at (type_open o) fs) = elsewhere (λ b k. refl)
-place (at (type_name o) fs) = elsewhere (λ b k. refl)
-place (at (type_done o) fs) = elsewhere (λ b k. refl)
-place (at (in_node p) fs) = elsewhere (λ b k. refl)
-place (at property fs) = elsewhere (λ b k. refl)
-place (at entry_slashdash fs) = elsewhere (λ b k. refl)
-place (at block_slashdash fs) = elsewhere (λ b k. refl)
-place (at kept fs) = elsewhere (λ b k. refl)
-place (at kept_slashdash fs) = elsewhere (λ b k. refl)
+place (at p fs) = elsewhere (λ b k. refl)
 
 begun_some : (b : Bool) (o : Option Control) (d : NodeControl) → with_begun b o ≡ Some d → o ≡ Some (control_of d)
 begun_some b None d e = absurd cc
@@ -41,32 +30,11 @@ begun_none b (Some c) e = absurd cc
 
 between_step : (b : Bool) (k : Token) (d : NodeControl) → between_nodes b k ≡ Some d → step (at gap []) k ≡ Some (control_of d)
 between_step true space (in_text b d) e = cc
-between_step true newline (in_text b d) e = cc
-between_step true slashdash d e = absurd cc
-between_step true (string v) d e = absurd cc
-between_step true (value v) d e = absurd cc
-between_step true left d e = absurd cc
-between_step true right d e = absurd cc
-between_step true opening d e = absurd cc
-between_step true closing d e = absurd cc
-between_step true equals d e = absurd cc
-between_step true semicolon d e = absurd cc
-between_step true bom d e = absurd cc
-between_step false (string v) d e = begun_some true (step (at gap []) (string v)) d e
-between_step false left d e = begun_some true (step (at gap []) left) d e
-between_step false space d e = begun_some false (step (at gap []) space) d e
-between_step false newline d e = begun_some false (step (at gap []) newline) d e
-between_step false slashdash d e = begun_some false (step (at gap []) slashdash) d e
-between_step false (value v) d e = begun_some false (step (at gap []) (value v)) d e
-between_step false right d e = begun_some false (step (at gap []) right) d e
-between_step false opening d e = begun_some false (step (at gap []) opening) d e
-between_step false closing d e = begun_some false (step (at gap []) closing) d e
-between_step false equals d e = begun_some false (step (at gap []) equals) d e
-between_step false semicolon d e = begun_some false (step (at gap []) semicolon) d e
-between_step false bom d e = begun_some false (step (at gap []) bom) d e
+between_step false space (in_text b d) e = cc
+between_step b k (in_text b' d) e = cc
 
 -- each step is one of a document's control
-pub steps : Steps node_step control_of
+pub steps : (c d : NodeControl) (k : Token) → node_step c k ≡ Some d → step (control_of c) k ≡ Some (control_of d)
 steps (in_text b c) d k e = go (place c)
   where
     go : Place c → step c k ≡ Some (control_of d)
@@ -82,16 +50,7 @@ between_too true (value v) (value w) a e = refl
 between_too false (value v) (value w) a e = refl
 between_too true (string v) _ a e = absurd a
 between_too b (value v) _ a e = absurd a
-between_too b space j a e = ap (between_nodes b) (sym a) ∙ e
-between_too b newline j a e = ap (between_nodes b) (sym a) ∙ e
-between_too b slashdash j a e = ap (between_nodes b) (sym a) ∙ e
-between_too b left j a e = ap (between_nodes b) (sym a) ∙ e
-between_too b right j a e = ap (between_nodes b) (sym a) ∙ e
-between_too b opening j a e = ap (between_nodes b) (sym a) ∙ e
-between_too b closing j a e = ap (between_nodes b) (sym a) ∙ e
-between_too b equals j a e = ap (between_nodes b) (sym a) ∙ e
-between_too b semicolon j a e = ap (between_nodes b) (sym a) ∙ e
-between_too b bom j a e = ap (between_nodes b) (sym a) ∙ e
+between_too b k j a e = ap (between_nodes b) (sym a) ∙ e
 
 pub also_refused : (n : NodeControl) (k j : Token) → RefusedWith k j → node_step n k ≡ None → node_step n j ≡ None
 also_refused (in_text b c) k j a e = go (place c)

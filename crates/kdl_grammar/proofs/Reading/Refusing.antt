@@ -3,7 +3,7 @@ use Rattle.std.proofs.Common.{◌≡◌, ◌≢◌, true, false, List, [], ◌�
 use Rattle.std.proofs.lemmas.List.{append_cancel_right}
 use Rattle.kdl_text.specs.Chars.{Text}
 use Rattle.kdl_text.specs.Internal.Here.{first}
-use Rattle.kdl_syntax.specs.Tokens.{Token, space, newline, slashdash, string, value, left, right, opening, closing, equals, semicolon, bom, BeginsToken, Lexes, done, next}
+use Rattle.kdl_syntax.specs.Tokens.{Token, string, value, BeginsToken, Lexes, done, next}
 use Rattle.kdl_syntax.proofs.Lexing.TokenFronts.{RefusedWith, refused_with}
 use Rattle.kdl_syntax.proofs.Lexing.TokenUnique.{token_det, no_token, token_shorter}
 use Rattle.kdl_syntax.proofs.Moving.Puts.{Put, stands, joined, front_first}
@@ -11,7 +11,7 @@ use Rattle.kdl_entry.proofs.Moving.TokenMoves.{near, full_of}
 use Rattle.kdl_value.specs.Data.{Value}
 use Rattle.kdl_grammar.specs.Data.{Nodes}
 use Rattle.kdl_grammar.specs.Grammar.{AreNodes}
-use Rattle.kdl_syntax.specs.Control.{fresh, spaced, later, gap, node_slashdash, type_open, type_name, type_done, in_node, property, entry_slashdash, block_slashdash, kept, kept_slashdash, Control, at, step, held, accepts}
+use Rattle.kdl_syntax.specs.Control.{fresh, gap, type_done, in_node, Control, at, step, held, accepts}
 use Rattle.kdl_grammar.specs.Going.{GoesBy, Goes, here, goes, RefusesFront}
 use Rattle.kdl_grammar.proofs.Reading.Erased.{accepted_nodes}
 use Rattle.kdl_grammar.proofs.Reading.Viable.{goes_length, Reads}
@@ -29,9 +29,16 @@ module _ {S : Type 0} {turn : S → Token → Option S} {d : S} {r : Text} (u : 
       let m = near x (y.at.put u) z in
       record { at = joined m.at y.at; there = goes m.there e y.there }
 
-  pub near_goes : {c : S} {s : Text} → GoesBy turn c s d r → Carried turn c s d r u
+  near_goes : {c : S} {s : Text} → GoesBy turn c s d r → Carried turn c s d r u
   near_goes here = record { at = stands; there = here }
   near_goes (goes x e g) = nearer x e g (near_goes g)
+
+-- the same of a text by its parts
+pub near_after : {S : Type 0} {turn : S → Token → Option S} {c d : S} (p r u : Text) → first u ≡ first r → GoesBy turn c (p ++ r) d r → GoesBy turn c (p ++ u) d u
+near_after {turn = turn} {c = c} {d = d} p r u same g =
+    let y = near_goes u same g in
+    let e : y.at.piece ≡ p = append_cancel_right y.at.piece p r (sym (y.at.here ∙ y.at.text r)) in
+    subst (λ (z : Text). GoesBy turn c z d u) (y.at.text u ∙ ap (λ (z : Text). z ++ u) e) y.there
 
 -- what is accepted from one state is accepted from the other, after what is between them
 pub follow : {c d : Control} {s r : Text} → Goes c s d r → {ks : List Token} → Lexes s ks → accepts c ks ≡ true → Reads d r
@@ -42,69 +49,27 @@ follow {c = c} (goes b e g) (next {ks = ks} b' l) a =
     follow g (subst (λ (z : Text). Lexes z ks) (sym x.0) l) (ap (held (λ c'. accepts c' ks)) (sym e) ∙ ap (λ (z : Token). held (λ c'. accepts c' ks) (step c z)) x.1 ∙ a)
 
 no_string : (c : Control) (v : Text) (w : Text) → step c (string v) ≡ None → step c (string w) ≡ None
-no_string (at gap fs) v w e = absurd cc
-no_string (at node_slashdash fs) v w e = absurd cc
-no_string (at (type_open b) fs) v w e = absurd cc
-no_string (at (type_name b) fs) v w e = refl
-no_string (at (type_done true) fs) v w e = absurd cc
-no_string (at (type_done false) fs) v w e = absurd cc
-no_string (at (in_node (fresh b)) fs) v w e = refl
-no_string (at (in_node (spaced b)) fs) v w e = absurd cc
-no_string (at (in_node later) fs) v w e = refl
-no_string (at property fs) v w e = absurd cc
-no_string (at entry_slashdash fs) v w e = absurd cc
-no_string (at block_slashdash fs) v w e = refl
-no_string (at kept fs) v w e = refl
-no_string (at kept_slashdash fs) v w e = refl
+no_string (at (type_done false) fs) v w e = cc
+no_string (at (in_node (fresh b)) fs) v w e = cc
+no_string (at p fs) v w e = cc
 
 no_value : (c : Control) (v : Text) (w : Value) → step c (string v) ≡ None → step c (value w) ≡ None
-no_value (at gap fs) v w e = absurd cc
-no_value (at node_slashdash fs) v w e = absurd cc
-no_value (at (type_open b) fs) v w e = absurd cc
-no_value (at (type_name b) fs) v w e = refl
-no_value (at (type_done true) fs) v w e = absurd cc
-no_value (at (type_done false) fs) v w e = absurd cc
-no_value (at (in_node (fresh b)) fs) v w e = refl
-no_value (at (in_node (spaced b)) fs) v w e = absurd cc
-no_value (at (in_node later) fs) v w e = refl
-no_value (at property fs) v w e = absurd cc
-no_value (at entry_slashdash fs) v w e = absurd cc
-no_value (at block_slashdash fs) v w e = refl
-no_value (at kept fs) v w e = refl
-no_value (at kept_slashdash fs) v w e = refl
+no_value (at (type_done false) fs) v w e = cc
+no_value (at (in_node (fresh b)) fs) v w e = cc
+no_value (at p fs) v w e = cc
 
 no_other : (c : Control) (v : Value) (w : Value) → step c (value v) ≡ None → step c (value w) ≡ None
-no_other (at gap fs) v w e = refl
-no_other (at node_slashdash fs) v w e = refl
-no_other (at (type_open b) fs) v w e = refl
-no_other (at (type_name b) fs) v w e = refl
-no_other (at (type_done true) fs) v w e = absurd cc
-no_other (at (type_done false) fs) v w e = refl
-no_other (at (in_node (fresh b)) fs) v w e = refl
-no_other (at (in_node (spaced b)) fs) v w e = absurd cc
-no_other (at (in_node later) fs) v w e = refl
-no_other (at property fs) v w e = absurd cc
-no_other (at entry_slashdash fs) v w e = absurd cc
-no_other (at block_slashdash fs) v w e = refl
-no_other (at kept fs) v w e = refl
-no_other (at kept_slashdash fs) v w e = refl
+no_other (at (type_done false) fs) v w e = cc
+no_other (at (in_node (fresh b)) fs) v w e = cc
+no_other (at p fs) v w e = cc
 
 pub refused_too : (c : Control) (k j : Token) → RefusedWith k j → step c k ≡ None → step c j ≡ None
 refused_too c (string v) (string w) a e = no_string c v w e
 refused_too c (string v) (value w) a e = no_value c v w e
 refused_too c (value v) (value w) a e = no_other c v w e
-refused_too c space j a e = ap (step c) (sym a) ∙ e
-refused_too c newline j a e = ap (step c) (sym a) ∙ e
-refused_too c slashdash j a e = ap (step c) (sym a) ∙ e
-refused_too c left j a e = ap (step c) (sym a) ∙ e
-refused_too c right j a e = ap (step c) (sym a) ∙ e
-refused_too c opening j a e = ap (step c) (sym a) ∙ e
-refused_too c closing j a e = ap (step c) (sym a) ∙ e
-refused_too c equals j a e = ap (step c) (sym a) ∙ e
-refused_too c semicolon j a e = ap (step c) (sym a) ∙ e
-refused_too c bom j a e = ap (step c) (sym a) ∙ e
 refused_too c (string v) _ a e = absurd a
 refused_too c (value v) _ a e = absurd a
+refused_too c k j a e = ap (step c) (sym a) ∙ e
 
 -- nothing is accepted that begins with a refused token
 pub refused_here : (d : Control) {u v : Text} {k : Token} {ks : List Token} → BeginsToken u k v → step d k ≡ None → Lexes u ks → accepts d ks ≡ true → ⊥
@@ -132,10 +97,7 @@ rest_of g n = let (ks, l, a) = accepted_nodes n in follow g l a
 -- no nodes begin with what the machine went over and such a front
 pub dead_nodes : (p f r : Text) {d : Control} → f ≢ [] → Goes (at gap []) (p ++ (f ++ r)) d (f ++ r) → RefusesFront d f → (u : Text) {xs : Nodes} → AreNodes true (p ++ (f ++ u)) [] xs → ⊥
 dead_nodes p f r {d = d} some g n u {xs = xs} m =
-    let y = near_goes (f ++ u) (front_first f u r some) g in
-    let same : y.at.piece ≡ p = append_cancel_right y.at.piece p (f ++ r) (sym (y.at.here ∙ y.at.text (f ++ r))) in
-    let m' : AreNodes true (y.at.put (f ++ u)) [] xs = subst (λ (z : Text). AreNodes true z [] xs) (sym (y.at.text (f ++ u) ∙ ap (λ (z : Text). z ++ (f ++ u)) same)) m in
-    let q = rest_of y.there m' in
+    let q = rest_of (near_after p (f ++ r) (f ++ u) (front_first f u r some) g) m in
     refused_front d f u (λ e. some (front_empty f u e)) n q.lexed q.accepted
   where
     front_empty : (f u : Text) → f ++ u ≡ [] → f ≡ []

@@ -7,7 +7,7 @@ use Rattle.kdl_value.specs.Data.{Value, text}
 use Rattle.kdl_entry.specs.Data.{Entry}
 use Rattle.kdl_syntax.specs.Pieces.{StringPiece, PlainPiece}
 use Rattle.kdl_entry.specs.Entries.{IsString, string as a_string', IsPlainValue, a_string, a_plain, parens, untyped, typed, IsValue, value as a_value, IsEntry, property as a_property, argument}
-use Rattle.kdl_syntax.specs.Tokens.{Token, string, value, left, bom, t_space, t_newline, t_slashdash, t_string, t_value, t_left, t_right, t_opening, t_closing, t_equals, t_semicolon, t_bom, Lexes, done, next}
+use Rattle.kdl_syntax.specs.Tokens.{Token, string, bom, t_space, t_newline, t_slashdash, t_string, t_value, t_left, t_right, t_opening, t_closing, t_equals, t_semicolon, t_bom, Lexes, done, next}
 use Rattle.kdl_syntax.proofs.Lexing.TokenUnique.{may_end, value_end}
 use Rattle.kdl_grammar.specs.Data.{Node, Children, Nodes}
 use Rattle.kdl_grammar.specs.Grammar.{Terminator, IsNode, named, AfterName, kept_entry, dropped_entry, blocks, Blocks, dropped_block, block, no_block, AfterBlock, dropped_later, no_more, no_gap, line_space, dropped_node, AreNodes, last_gap, node_then, IsBlock, braces}
@@ -102,18 +102,12 @@ Rest p fs s = RestOf p (AfterNodes fs) s
 fresh_end : (ks : List Token) (b : Bool) (fs : List Frame) → accepts (at (in_node (fresh b)) fs) ks ≡ true → may_end ks ≡ true
 fresh_end [] b fs e = refl
 fresh_end (string v ∷ ks) b fs e = cc
-fresh_end (value v ∷ ks) b fs e = cc
-fresh_end (left ∷ ks) b fs e = cc
-fresh_end (bom ∷ ks) b fs e = cc
-fresh_end (_ ∷ ks) b fs e = refl
+fresh_end (k ∷ ks) b fs e = cc
 
 type_end : (ks : List Token) (b : Bool) (fs : List Frame) → accepts (at (type_name b) fs) ks ≡ true → may_end ks ≡ true
 type_end [] b fs e = refl
 type_end (string v ∷ ks) b fs e = cc
-type_end (value v ∷ ks) b fs e = cc
-type_end (left ∷ ks) b fs e = cc
-type_end (bom ∷ ks) b fs e = cc
-type_end (_ ∷ ks) b fs e = refl
+type_end (k ∷ ks) b fs e = cc
 
 any_value : {b : Bool} {s r : Text} → Fills b s r → (v : Value) × IsPlainValue true s r v
 any_value (by_string {v = v} d) = (text v, a_string d)

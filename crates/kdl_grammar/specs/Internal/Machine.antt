@@ -1,13 +1,13 @@
 -- The machine that builds the tree: it reads the tokens of a text once, with a stack of open blocks.
 -- The token k is in the text s before r. The start of a place or an item is kept as the text from there on.
--- A `None` for a node or for nodes says that they are slashdashed, so that nothing of them is built.
+-- A `None` for a node or for nodes says that they are slashdashed, so that nothing of them is built, and no text of them is kept.
 use Rattle.std.specs.Prelude.{◌≡◌, Bool, true, false, List, [], ◌∷◌, ◌++◌, Option, Some, None}
 use Rattle.kdl_text.specs.Chars.{Text}
 use Rattle.kdl_value.specs.Data.{Value, text}
 use Rattle.kdl_syntax.specs.Tokens.{Token, space, newline, slashdash, string, value, left, right, opening, closing, equals, semicolon, BeginsToken}
 use Rattle.kdl_entry.specs.Internal.Parts.{TypeParts, KeyParts, type_of, before_name, after_name, after_type, identifier_at, entry_at}
 use Rattle.kdl_entry.specs.Places.{span_of, between}
-use Rattle.kdl_entry.specs.Tree.{Identifier, Entry}
+use Rattle.kdl_entry.specs.Tree.{Identifier, plain_identifier, Entry}
 use Rattle.kdl_grammar.specs.Laid.{node_format, content_span, with_bom}
 use Rattle.kdl_grammar.specs.Tree.{Node, node, Children, no_children, children, Document, document, Nodes, none, first, join}
 
@@ -87,6 +87,29 @@ name_slot (Some ns) leading start = for_name leading start
 abbrev pub entry_slot : Option Under → Text → Text → Slot
 entry_slot None leading start = no_value None
 entry_slot (Some u) leading start = for_value u leading start None
+
+-- the first if what the slot is for is kept, and the second if it is slashdashed
+abbrev pub only : {A : Type 0} → Slot → A → A → A
+only no_name x y = y
+only (for_name leading start) x y = x
+only (no_value u) x y = y
+only (for_value u leading start k) x y = x
+
+-- the text, or the name, if it is kept
+abbrev pub kept_text : Slot → Text → Text
+kept_text c t = only c t []
+
+abbrev pub kept_name : Slot → Identifier → Identifier
+kept_name c i = only c i (plain_identifier [])
+
+-- the text before a block, if the node is built
+abbrev pub text_before : Option Under → Text → Text
+text_before None t = []
+text_before (Some u) t = t
+
+-- inside the `(` of a type, which ends at r
+abbrev pub opened : Bool → Slot → Text → Phase
+opened b c r = type_open b c (kept_text c r)
 
 -- the slot of a value after its key
 abbrev pub keyed : Slot → KeyParts → Slot
@@ -178,8 +201,8 @@ where_value false st = None
 
 -- after the `=` that follows a string
 abbrev pub value_from : Spot → Text → Text → Option Phase
-value_from (fresh (Some (pending c k a))) s r = Some (property c k (between a s) r)
-value_from (spaced (Some (pending c k a))) s r = Some (property c k (between a s) r)
+value_from (fresh (Some (pending c k a))) s r = Some (property c k (kept_text c (between a s)) (kept_text c r))
+value_from (spaced (Some (pending c k a))) s r = Some (property c k (kept_text c (between a s)) (kept_text c r))
 value_from _ s r = None
 
 -- the machine with another phase, if there is one
@@ -193,7 +216,7 @@ given whole c y v o l fs from s r = at (in_node (filled whole c y v s r) (fresh 
 
 -- after a string in the slot that may be a key
 abbrev pub worded : Text → Slot → Text → Option Nodes → List Frame → Text → Text → Text → State
-worded whole c v l fs from s r = given whole c None (text v) (Some (pending c (identifier_at whole v s r) r)) l fs from s r
+worded whole c v l fs from s r = given whole c None (text v) (Some (pending c (kept_name c (identifier_at whole v s r)) (kept_text c r))) l fs from s r
 
 -- the type, if what follows its `)` begins at s
 abbrev pub typed : Text → Identifier → Text → Text → Text → Option TypeParts
@@ -205,38 +228,38 @@ step whole (at gap l fs from) space s r = Some (at gap l fs from)
 step whole (at gap l fs from) newline s r = Some (at gap l fs from)
 step whole (at gap l fs from) slashdash s r = Some (at node_slashdash l fs from)
 step whole (at gap l fs from) (string v) s r = Some (given whole (name_slot l (between from s) s) None (text v) None l fs from s r)
-step whole (at gap l fs from) left s r = Some (at (type_open false (name_slot l (between from s) s) r) l fs from)
+step whole (at gap l fs from) left s r = Some (at (opened false (name_slot l (between from s) s) r) l fs from)
 step whole (at gap l fs from) closing s r = popped whole l fs from s r
 step whole (at node_slashdash l fs from) space s r = Some (at node_slashdash l fs from)
 step whole (at node_slashdash l fs from) newline s r = Some (at node_slashdash l fs from)
 step whole (at node_slashdash l fs from) (string v) s r = Some (given whole no_name None (text v) None l fs from s r)
-step whole (at node_slashdash l fs from) left s r = Some (at (type_open false no_name r) l fs from)
+step whole (at node_slashdash l fs from) left s r = Some (at (opened false no_name r) l fs from)
 step whole (at (type_open b c a) l fs from) space s r = Some (at (type_open b c a) l fs from)
-step whole (at (type_open b c a) l fs from) (string v) s r = Some (at (type_name b c (between a s) (identifier_at whole v s r) r) l fs from)
+step whole (at (type_open b c a) l fs from) (string v) s r = Some (at (type_name b c (kept_text c (between a s)) (kept_name c (identifier_at whole v s r)) (kept_text c r)) l fs from)
 step whole (at (type_name b c q i a) l fs from) space s r = Some (at (type_name b c q i a) l fs from)
-step whole (at (type_name b c q i a) l fs from) right s r = Some (at (type_done b c q i (between a s) r) l fs from)
+step whole (at (type_name b c q i a) l fs from) right s r = Some (at (type_done b c q i (kept_text c (between a s)) (kept_text c r)) l fs from)
 step whole (at (type_done b c q i d a) l fs from) space s r = Some (at (type_done b c q i d a) l fs from)
 step whole (at (type_done b c q i d a) l fs from) (string v) s r = Some (given whole c (typed q i d a s) (text v) None l fs from s r)
 step whole (at (type_done b c q i d a) l fs from) (value v) s r = where_value b (given whole c (typed q i d a s) v None l fs from s r)
 step whole (at (property c k b a) l fs from) space s r = Some (at (property c k b a) l fs from)
 step whole (at (property c k b a) l fs from) (string v) s r = Some (given whole (keyed c (record { name = k; before = b; following = between a s })) None (text v) None l fs from s r)
 step whole (at (property c k b a) l fs from) (value v) s r = Some (given whole (keyed c (record { name = k; before = b; following = between a s })) None v None l fs from s r)
-step whole (at (property c k b a) l fs from) left s r = Some (at (type_open true (keyed c (record { name = k; before = b; following = between a s })) r) l fs from)
+step whole (at (property c k b a) l fs from) left s r = Some (at (opened true (keyed c (record { name = k; before = b; following = between a s })) r) l fs from)
 step whole (at (in_node u p) l fs from) space s r = Some (at (in_node u (spaced_of p)) l fs from)
 step whole (at (in_node u p) l fs from) newline s r = Some (at gap (ended (closed whole u no_children [] (between from s) (between s r) s) l) fs (origin u from r))
 step whole (at (in_node u p) l fs from) semicolon s r = Some (at gap (ended (closed whole u no_children [] (between from s) (between s r) s) l) fs (origin u from r))
 step whole (at (in_node u p) l fs from) closing s r = popped whole (ended (closed whole u no_children [] (between from s) [] s) l) fs (origin u from s) s r
-step whole (at (in_node u p) l fs from) opening s r = Some (at gap (inside u) (in_block u (between from s) l ∷ fs) (origin u from r))
+step whole (at (in_node u p) l fs from) opening s r = Some (at gap (inside u) (in_block u (text_before u (between from s)) l ∷ fs) (origin u from r))
 step whole (at (in_node u p) l fs from) slashdash s r = Some (at (slashdash_at u p) l fs from)
 step whole (at (in_node u p) l fs from) (string v) s r = from_spaced p (worded whole (entry_slot u (between from s) s) v l fs from s r)
 step whole (at (in_node u p) l fs from) (value v) s r = from_spaced p (given whole (entry_slot u (between from s) s) None v None l fs from s r)
-step whole (at (in_node u p) l fs from) left s r = from_spaced p (at (type_open true (entry_slot u (between from s) s) r) l fs from)
+step whole (at (in_node u p) l fs from) left s r = from_spaced p (at (opened true (entry_slot u (between from s) s) r) l fs from)
 step whole (at (in_node u p) l fs from) equals s r = stay l fs from (value_from p s r)
 step whole (at (entry_slashdash u) l fs from) space s r = Some (at (entry_slashdash u) l fs from)
 step whole (at (entry_slashdash u) l fs from) newline s r = Some (at (entry_slashdash u) l fs from)
 step whole (at (entry_slashdash u) l fs from) (string v) s r = Some (worded whole (no_value u) v l fs from s r)
 step whole (at (entry_slashdash u) l fs from) (value v) s r = Some (given whole (no_value u) None v None l fs from s r)
-step whole (at (entry_slashdash u) l fs from) left s r = Some (at (type_open true (no_value u) r) l fs from)
+step whole (at (entry_slashdash u) l fs from) left s r = Some (at (opened true (no_value u) r) l fs from)
 step whole (at (entry_slashdash u) l fs from) opening s r = Some (at gap None (in_dropped u l ∷ fs) from)
 step whole (at (block_slashdash u) l fs from) space s r = Some (at (block_slashdash u) l fs from)
 step whole (at (block_slashdash u) l fs from) newline s r = Some (at (block_slashdash u) l fs from)

@@ -14,12 +14,13 @@ use Rattle.kdl_entry.proofs.Laying.ValueReadsBack.{printed_string, printed_value
 use Rattle.kdl_grammar.specs.Data.{Node, node, Children, no_children, children, Nodes, none, first}
 use Rattle.kdl_grammar.specs.Grammar.{Terminator, IsNode, named, AfterName, kept_entry, blocks, Blocks, AfterBlock, Gap, no_gap, AreNodes, last_gap, node_then, braces, IsDocument, IsDocumentIn, IsNodeText, node_text}
 use Rattle.kdl_grammar.proofs.LawProofs.{one_document, one_node}
-use Rattle.kdl_grammar.proofs.ReadingBack.Reads.{newline_gap}
+use Rattle.kdl_grammar.proofs.ReadingBack.Reads.{gap_nodes, newline_gap}
 use Rattle.kdl_layout.specs.Canonical.{canonical_type, canonical_key, canonical_entries, newline_if_none, canonical_node, canonical_children, canonical, canonical_nodes, Canonical, CanonicalNode}
 use Rattle.kdl_layout.specs.WellFormed.{AreScalars, AreWellFormedEntries, IsWellFormedNode, AreWellFormedChildren, AreWellFormed}
-use Rattle.kdl_layout.proofs.Keeping.KeptPlaces.{one_space, space_ends, level_spaces, gap_nodes}
+use Rattle.kdl_layout.proofs.Keeping.KeptPlaces.{level_spaces}
 use Rattle.kdl_layout.proofs.Rewriting.BeforeNewlines.{a_newline, newline_end}
 use Rattle.kdl_layout.proofs.Rewriting.LinesAgain.{spaces_gap}
+use Rattle.kdl_layout.proofs.Rewriting.PlacesAgain.{one_space, space_ends}
 
 type_reads : (o : Option Text) (r : Text) → AreScalars o → MaybeType true (canonical_type o ++ r) r o
 type_reads None r ok = untyped

@@ -30,10 +30,11 @@ use Rattle.kdl_layout.proofs.Keeping.KeptAgain.{none_before}
 use Rattle.kdl_layout.proofs.Formatting.PrintsCanonical.{unspelled_twice}
 use Rattle.kdl_layout.proofs.EntryTexts.{name_of, type_joined, key_joined}
 use Rattle.kdl_layout.proofs.Respelling.Kept.{TypeSpaces, continued_ends, continued_leads}
-use Rattle.kdl_layout.proofs.Keeping.KeptPlaces.{space_ends, Tail, tail_ends, tail_of, tail_spaced}
+use Rattle.kdl_layout.proofs.Keeping.KeptPlaces.{Tail, tail_ends, tail_of, tail_spaced}
 use Rattle.kdl_value.specs.Data.{Value}
 use Rattle.kdl_entry.proofs.Moving.EntryMoves.{punctuation_end}
 use Rattle.kdl_layout.proofs.NodeSpaces.{spaces_end}
+use Rattle.kdl_layout.proofs.Rewriting.PlacesAgain.{space_ends}
 
 -- a type between the texts that are kept around it
 pub type_reads : (o : Option Identifier) (x : TypeTexts) (r : Text) → NameReadsIf o → TypeSpaces x → (o ≡ None → x.after ≡ []) → MaybeType true (print_type o x.before_name x.after_name ++ (x.after ++ r)) r (name_of o)

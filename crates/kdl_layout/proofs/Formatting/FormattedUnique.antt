@@ -5,11 +5,11 @@ use Rattle.kdl_text.specs.Chars.{Text}
 use Rattle.kdl_entry.specs.Tree.{Entry, EntryFormat, cleared, autoformatted}
 use Rattle.kdl_grammar.specs.Tree.{NodeFormat, DocumentFormat, Head, Node, node, Children, no_children, children, Document, document, Nodes, none, first}
 use Rattle.kdl_layout.specs.Items.{Item, GapItems, Place, before_entry, before_block, PlaceItems}
-use Rattle.kdl_layout.specs.Written.{lines, tail}
-use Rattle.kdl_layout.proofs.Listing.ItemsUnique.{gap_items_det, place_items_det}
+use Rattle.kdl_layout.specs.Written.{tail}
+use Rattle.kdl_layout.proofs.Listing.ItemsUnique.{end_items_det, gap_items_det, items_in_det, place_items_det}
 use Rattle.kdl_layout.specs.Config.{Settings, indentation}
 use Rattle.kdl_layout.specs.Formatted.{with_keep_if, formatted_entry, or_empty, or_empty_document, content_format, in_braces, formatted_head, formatted_node, formatted_children, formatted_nodes, formatted_document, EntriesKeepNone}
-use Rattle.kdl_layout.specs.Kept.{Written, WrittenUnless, KeptLines, KeptTail, KeptBeforeBlock, last_place, WrittenEnd, KeptEnd, without_bom, entry_leading, is_kept_format, KeptBefore}
+use Rattle.kdl_layout.specs.Kept.{WrittenUnless, KeptTail, KeptBeforeBlock, end_comment, end_space, last_place, KeptEnd, without_bom, entry_leading, is_kept_format, KeptBefore}
 use Rattle.kdl_layout.specs.Plain.{plain_line}
 use Rattle.kdl_layout.specs.Parts.{following, IsFormattedEntry, AreFormattedEntries, NodeTexts, line_of, content_of, has_block}
 use Rattle.kdl_layout.specs.Spaced.{SpacesTexts, IsSpacedLine, IsSpacedHead, SpacesContent, IsSpacedContent, IsSpacedBraced, IsSpacedNode, IsSpacedChildren, AreSpacedNodes}
@@ -17,6 +17,8 @@ use Rattle.kdl_layout.specs.WithComments.{IsFormattedDocument}
 use Rattle.kdl_layout.specs.declared.blank.Before.{Before}
 use Rattle.kdl_layout.proofs.Formatting.PrintsCanonical.{cleared_formatted, not_kept_again}
 use Rattle.kdl_layout.proofs.Spacing.Lines.{no_lines_before}
+use Rattle.kdl_layout.proofs.Spacing.Reads.{any_before}
+use Rattle.kdl_layout.specs.Blank.{at_start, past_node, spaced_lines}
 
 abbrev Has : Type 1
 Has = List Item → Type 0
@@ -33,8 +35,12 @@ unless_none : (has : Has) (write : Writes) (t : Text) (b : Bool) → b ≡ true 
 unless_none has write t true e w = w
 unless_none has write t false e w = absurd cc
 
-pub lines_none : (s : Settings) (level : ℕ) (place t : Text) → s.no_comments ≡ true → KeptLines s level place t → t ≡ []
-lines_none s level place t e w = unless_none (GapItems place) (lines (indentation s level)) t s.no_comments e w
+-- a text between nodes, where no blank lines stay
+abbrev Lines : Settings → ℕ → Before → Text → Text → Type 0
+Lines s level b place t = WrittenUnless s.no_comments (GapItems place) (spaced_lines 0 (indentation s level) b place) t
+
+lines_none : (s : Settings) (level : ℕ) (b : Before) (place t : Text) → s.no_comments ≡ true → Lines s level b place t → t ≡ []
+lines_none s level b place t e w = unless_none (GapItems place) (spaced_lines 0 (indentation s level) b place) t s.no_comments e w
 
 pub tail_none : (s : Settings) (p : Place) (place t : Text) → s.no_comments ≡ true → KeptTail s p place t → t ≡ []
 tail_none s p place t e w = unless_none (PlaceItems p place) tail t s.no_comments e w
@@ -58,16 +64,16 @@ line_plain : (s : Settings) (level : ℕ) (has : Bool) (b : Before) (f : NodeFor
 line_plain s level has b f k e w =
     let end = end_none s.no_comments f.terminator k.space k.comment e w.end in
     rw (
-      no_lines_before w.at_node k.before w.lines w.before ∙ lines_none s level f.leading w.lines e w.leading,
+      no_lines_before w.at_node k.before w.lines w.before ∙ lines_none s level b f.leading w.lines e w.leading.0,
       block_none s has f.before_children k.before_block e w.before_block,
       tail_none s (last_place has) f.before_terminator k.last e w.last,
       end.0,
       end.1,
-      lines_none s level f.trailing k.following e w.following,
+      lines_none s level (past_node f.terminator) f.trailing k.following e w.following.0,
     ) refl
 
 content_plain : (s : Settings) (level : ℕ) (ns : Nodes) (f : DocumentFormat) (b : Before) (x y : Text) → s.no_comments ≡ true → SpacesContent 0 s level ns f b x y → content_of ns x y ≡ content_format ns
-content_plain s level ns f b x y e w = rw (lines_none s level (without_bom f.leading) x e w.leading, lines_none s level f.trailing y e w.trailing) refl
+content_plain s level ns f b x y e w = rw (lines_none s level at_start (without_bom f.leading) x e w.leading.0, lines_none s level w.last f.trailing y e w.trailing.0) refl
 
 -- then what layout makes is what the function gives
 pub entry_left : (s : Settings) (e e' : Entry) → s.no_comments ≡ true → IsFormattedEntry s e e' → e' ≡ formatted_entry s e
@@ -139,18 +145,13 @@ entries_keep_none s (e ∷ es) (e' ∷ es') f = (entry_keeps_none s e e' f.0, en
 entries_keep_none s _ _ f = absurd assumption
 
 -- what is kept of a place is one text
-written_det : {has : Has} {write : Writes} {t u : Text} → ((is js : List Item) → has is → has js → is ≡ js) → Written has write t → Written has write u → t ≡ u
-written_det {write = write} det (Written.items a) (Written.items b) = ap write (det _ _ a b)
-written_det det (Written.items a) (Written.none f) = absurd (f _ a)
-written_det det (Written.none f) (Written.items b) = absurd (f _ b)
-written_det det (Written.none f) (Written.none g) = refl
-
 unless_det : (has : Has) (write : Writes) (t u : Text) (b : Bool) → ((is js : List Item) → has is → has js → is ≡ js) → WrittenUnless b has write t → WrittenUnless b has write u → t ≡ u
 unless_det has write t u true det a b = a ∙ sym b
-unless_det has write t u false det a b = written_det det a b
+unless_det has write t u false det (is, i, e) (js, j, f) = e ∙ ap write (items_in_det det i j) ∙ sym f
 
-pub lines_det : (s : Settings) (level : ℕ) (place t u : Text) → KeptLines s level place t → KeptLines s level place u → t ≡ u
-lines_det s level place t u a b = unless_det (GapItems place) (lines (indentation s level)) t u s.no_comments (λ is js x y. gap_items_det x y) a b
+lines_det : (s : Settings) (level : ℕ) (b c : Before) (place t u : Text) → Lines s level b place t → Lines s level c place u → t ≡ u
+lines_det s level b c place t u v w =
+    unless_det (GapItems place) (spaced_lines 0 (indentation s level) b place) t u s.no_comments (λ is js x y. gap_items_det x y) v (any_before s level c b place u w)
 
 pub tail_det : (s : Settings) (p : Place) (place t u : Text) → KeptTail s p place t → KeptTail s p place u → t ≡ u
 tail_det s p place t u a b = unless_det (PlaceItems p place) tail t u s.no_comments (λ is js x y. place_items_det x y) a b
@@ -162,23 +163,17 @@ pub block_det : (s : Settings) (has : Bool) (place t u : Text) → KeptBeforeBlo
 block_det s false place t u a b = a ∙ sym b
 block_det s true place t u a b = tail_det s before_block place t u a b
 
-written_end_det : {terminator t u t' u' : Text} → WrittenEnd terminator t u → WrittenEnd terminator t' u' → (t ≡ t') × (u ≡ u')
-written_end_det (WrittenEnd.comment l) (WrittenEnd.comment m) = (refl, refl)
-written_end_det (WrittenEnd.comment l) (WrittenEnd.other f) = absurd (f l)
-written_end_det (WrittenEnd.other f) (WrittenEnd.comment m) = absurd (f m)
-written_end_det (WrittenEnd.other f) (WrittenEnd.other g) = (refl, refl)
-
 pub end_det : (b : Bool) (terminator t u t' u' : Text) → KeptEnd b terminator t u → KeptEnd b terminator t' u' → (t ≡ t') × (u ≡ u')
 end_det true terminator t u t' u' a b = (a.0 ∙ sym b.0, a.1 ∙ sym b.1)
-end_det false terminator t u t' u' a b = written_end_det a b
+end_det false terminator t u t' u' (is, i, e, f) (js, j, g, h) = let d = end_items_det i j in (e ∙ ap end_space d ∙ sym g, f ∙ ap end_comment d ∙ sym h)
 
 texts_det : (s : Settings) (level : ℕ) (has : Bool) (b c : Before) (f : NodeFormat) (k k' : NodeTexts) → SpacesTexts 0 s level has b f k → SpacesTexts 0 s level has c f k' → k ≡ k'
 texts_det s level has b c f k k' v w =
     let end = end_det s.no_comments f.terminator k.space k.comment k'.space k'.comment v.end w.end in
-    let before = no_lines_before v.at_node k.before v.lines v.before ∙ lines_det s level f.leading v.lines w.lines v.leading w.leading ∙ sym (no_lines_before w.at_node k'.before w.lines w.before) in
+    let before = no_lines_before v.at_node k.before v.lines v.before ∙ lines_det s level b c f.leading v.lines w.lines v.leading.0 w.leading.0 ∙ sym (no_lines_before w.at_node k'.before w.lines w.before) in
     let block = block_det s has f.before_children k.before_block k'.before_block v.before_block w.before_block in
     let last = tail_det s (last_place has) f.before_terminator k.last k'.last v.last w.last in
-    let more = lines_det s level f.trailing k.following k'.following v.following w.following in
+    let more = lines_det s level (past_node f.terminator) (past_node f.terminator) f.trailing k.following k'.following v.following.0 w.following.0 in
     λ i. record { before = before i; before_block = block i; last = last i; space = end.0 i; comment = end.1 i; following = more i }
 
 -- so what layout makes is one thing
@@ -197,8 +192,8 @@ line_det s level has b c f g g' v w = v.2 ∙ ap (λ (k : NodeTexts). Some (line
 
 content_texts_det : (s : Settings) (level : ℕ) (ns : Nodes) (f : DocumentFormat) (b c : Before) (t u t' u' : Text) → SpacesContent 0 s level ns f b t u → SpacesContent 0 s level ns f c t' u' → content_of ns t u ≡ content_of ns t' u'
 content_texts_det s level ns f b c t u t' u' v w =
-    let before = lines_det s level (without_bom f.leading) t t' v.leading w.leading in
-    let more = lines_det s level f.trailing u u' v.trailing w.trailing in
+    let before = lines_det s level at_start at_start (without_bom f.leading) t t' v.leading.0 w.leading.0 in
+    let more = lines_det s level v.last w.last f.trailing u u' v.trailing.0 w.trailing.0 in
     λ i. content_of ns (before i) (more i)
 
 content_det : (s : Settings) (level : ℕ) (ns : Nodes) (f : DocumentFormat) (b c : Before) (g g' : Option DocumentFormat) → IsSpacedContent 0 s level ns f b g → IsSpacedContent 0 s level ns f c g' → g ≡ g'

@@ -14,7 +14,7 @@ use Rattle.kdl_grammar.specs.Print.{trailing_text}
 use Rattle.kdl_grammar.specs.ReadsBack.{Rests, Anything, TextEnd, EntryReads, name_text, HeadReads, AddsNothing, IsGapBefore, BeforeTerminator, EndReads, last_rests, NodeReads, reads, ChildrenRead, no_block, a_block, NodesRead, no_node, last_node, next_node, ContentReads, two_texts, with_nodes, BlockReads, block, DocumentReads}
 use Rattle.kdl_grammar.specs.Tree.{NodeFormat, DocumentFormat, Head, node, Children, no_children, children, document, Nodes, none, first}
 use Rattle.kdl_grammar.proofs.ReadingBack.Composing.{block_reads, ends_before}
-use Rattle.kdl_grammar.proofs.ReadingBack.Reads.{newline_gap}
+use Rattle.kdl_grammar.proofs.ReadingBack.Reads.{gap_nodes, newline_gap}
 use Rattle.kdl_layout.specs.Items.{GapItems, before_block}
 use Rattle.kdl_layout.specs.Blank.{at_start, past_node}
 use Rattle.kdl_layout.specs.Config.{Settings, indentation}
@@ -25,7 +25,7 @@ use Rattle.kdl_layout.specs.Spaced.{SpacedLines, SpacesTexts, IsSpacedContent, I
 use Rattle.kdl_layout.specs.Parts.{NodeTexts, line_of, has_block}
 use Rattle.kdl_layout.specs.declared.blank.Before.{Before}
 use Rattle.kdl_layout.proofs.EntryTexts.{name_of}
-use Rattle.kdl_layout.proofs.Keeping.KeptPlaces.{gap_nodes, indentation_gap, Tail, tail_of, tail_spaced, LineEnd, line_end_of, line_terminator, last_text}
+use Rattle.kdl_layout.proofs.Keeping.KeptPlaces.{indentation_gap, Tail, tail_of, tail_spaced, LineEnd, line_end_of, line_terminator, last_text}
 use Rattle.kdl_layout.proofs.Respelling.Spellings.{string_before}
 use Rattle.kdl_layout.proofs.Respelling.Kept.{TypeSpaces}
 use Rattle.kdl_layout.proofs.Respelling.Written.{IsTypedLine, NameReads, NameReadsIf}

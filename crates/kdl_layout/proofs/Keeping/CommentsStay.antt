@@ -15,9 +15,9 @@ use Rattle.kdl_grammar.specs.Print.{print_pieces, print_head, print_node, print_
 use Rattle.kdl_grammar.specs.Tree.{NodeFormat, DocumentFormat, Head, Node, node, Children, no_children, children, Document, document, Nodes, none, first, node_data, children_data, nodes_data, document_data}
 use Rattle.kdl_grammar.specs.Places.{BeforeChildren}
 use Rattle.kdl_grammar.proofs.Reading.Complete.OneLaid.{one_laid_document}
-use Rattle.kdl_layout.specs.Items.{Item, before_block, GapItems, PlaceItems, Place, may_end, before_entry}
+use Rattle.kdl_layout.specs.Items.{Item, before_block, GapItems, PlaceItems, Place, before_entry}
 use Rattle.kdl_layout.specs.Written.{on_line, tail}
-use Rattle.kdl_layout.specs.Lacks.{AreNodeSpaces}
+use Rattle.kdl_layout.specs.Lacks.{AreNodeSpaces, InPlace}
 use Rattle.kdl_layout.specs.Comments.{ItemsIn, NodeItems, of_node, ChildrenItems, block, NodesItems, DocumentItems, of_document, EndItems, EntriesItems}
 use Rattle.kdl_layout.specs.Config.{Settings, indentation}
 use Rattle.kdl_layout.specs.Formatted.{or_empty, or_empty_document, newline_if_none, in_braces, NodeKeepsNone, ChildrenKeepNone, NodesKeepNone, DocumentKeepsNone}
@@ -34,16 +34,17 @@ use Rattle.kdl_layout.proofs.Spacing.Lines.{before_front, lines_front}
 use Rattle.kdl_layout.proofs.Keeping.GapFronts.{Front, nothing, joined, alone, here, newline, newline_if, indented, gap_without_bom}
 use Rattle.kdl_layout.proofs.OneLine.Same.{one_or_more}
 use Rattle.kdl_layout.proofs.Respelling.Written.{IsWrittenNode, IsWrittenDocument, written_head, IsWrittenHead, Inside, IsGap, IsInside, NameReads, NameReadsIf, IsWrittenEntry, AreWrittenEntries, printed_front}
-use Rattle.kdl_layout.proofs.Keeping.KeptPlaces.{space_ends, tail_ends, tail_spaced, line_end_of, line_terminator, last_text, last_ends, Tail, one_space, kept_in, kept_end, kept_last, KeptIn, place_stays}
+use Rattle.kdl_layout.proofs.Keeping.KeptPlaces.{tail_ends, tail_spaced, line_end_of, line_terminator, last_text, last_ends, Tail, kept_in, kept_end, kept_last, KeptIn, place_stays}
 use Rattle.kdl_layout.proofs.Respelling.Spelled.{SpelledNode, spelled, SpelledChildren, blockless, spelled_block, SpelledNodes, nodeless, one_more, SpelledDocument}
-use Rattle.kdl_layout.proofs.OneLine.Nothing.{head_parts, line_parts, no_comment, spaces_in, spaces_without_bom}
+use Rattle.kdl_layout.proofs.OneLine.Nothing.{head_parts, line_parts, no_comment, spaces_without_bom}
+use Rattle.kdl_layout.proofs.Keeping.KeptReads.{spaces_in, spaces_place}
 use Rattle.kdl_layout.proofs.OneLine.Reads.{nothing_before, space_before}
 use Rattle.kdl_layout.proofs.Respelling.Kept.{no_texts, no_type_spaces, TypeSpaces, no_place_left}
 use Rattle.kdl_layout.proofs.EntryTexts.{type_joined, key_joined}
 use Rattle.kdl_layout.proofs.Respelling.Spellings.{string_before, value_before}
 use Rattle.kdl_layout.proofs.Formatting.EntriesRead.{entry_ends, entry_leads}
-use Rattle.kdl_layout.proofs.Rewriting.PlacesAgain.{PlaceText}
-use Rattle.kdl_layout.proofs.Listing.ItemsUnique.{gap_items_det, place_items_det}
+use Rattle.kdl_layout.proofs.Rewriting.PlacesAgain.{one_space, space_ends}
+use Rattle.kdl_layout.proofs.Listing.ItemsUnique.{gap_in_det, place_in_det}
 use Rattle.kdl_layout.proofs.NodeSpaces.{spaces_end}
 use Rattle.kdl_layout.proofs.Rewriting.LinesAgain.{spaces_items}
 use Rattle.kdl_text.proofs.Spacing.SpaceUnique.{no_line_comment}
@@ -147,12 +148,10 @@ space_is = refl
 
 -- spaces hold no items
 gap_nothing : {t : Text} {is : List Item} → ItemsIn (GapItems t) is → only_spaces t ≡ true → is ≡ []
-gap_nothing {t} (ItemsIn.items d) h = gap_items_det d (spaces_items t h)
-gap_nothing (ItemsIn.no_items f) h = refl
+gap_nothing {t} i h = gap_in_det i (ItemsIn.items (spaces_items t h))
 
-place_nothing : (p : Place) → may_end p ≡ true → {t : Text} {is : List Item} → ItemsIn (PlaceItems p t) is → only_spaces t ≡ true → is ≡ []
-place_nothing p m {t} (ItemsIn.items d) h = place_items_det d (spaces_in p m t h)
-place_nothing p m (ItemsIn.no_items f) h = refl
+place_nothing : (p : Place) {t : Text} {is : List Item} → ItemsIn (PlaceItems p t) is → only_spaces t ≡ true → is ≡ []
+place_nothing p {t} i h = place_in_det i (spaces_in p t h)
 
 end_nothing : (last : Bool) (t : Text) {is : List Item} → EndItems t is → end_on_line last t ≡ true → is ≡ []
 end_nothing last t (EndItems.line_comment l) h = absurd (no_comment last t h l)
@@ -163,7 +162,7 @@ line_items : (last : Bool) (h : Head) → head_on_line last h ≡ true → {is :
 line_items last h e (of_node {a = a} {b = b} {d = d} {e = x} {f = g} ia ib ChildrenItems.no_block id ie ig) =
     let p = line_parts last (or_empty h.format) (head_parts last h e).line in
     let a0 : a ≡ [] = gap_nothing ia p.leading in
-    let d0 : d ≡ [] = place_nothing before_block refl id p.before_terminator in
+    let d0 : d ≡ [] = place_nothing before_block id p.before_terminator in
     let x0 : x ≡ [] = end_nothing last (or_empty h.format).terminator ie p.terminator in
     let g0 : g ≡ [] = gap_nothing ig p.trailing in
     let same : a ++ b ++ [] ++ d ++ x ++ g ≡ b = rw (a0, d0, x0, g0) (simp append-nil) in
@@ -228,7 +227,7 @@ module _ (number : ℕ) (s : Settings) (with : s.no_comments ≡ false) (whole :
     node_ended i q =
         let v = 125 ∷ q in
         rw (put_text true h' depth v)
-        (node_put (32 ∷ []) [] v (space_before v) Terminator.at_close (space_ends v) (spaces_in before_block refl (32 ∷ []) space_is) (EndItems.other (no_line_comment refl)) i
+        (node_put (32 ∷ []) [] v (space_before v) Terminator.at_close (space_ends v) (spaces_place before_block 32 [] space_is) (EndItems.other (no_line_comment refl)) i
         (record { tree = none; laid = no_node; items = NodesItems.no_node }))
 
   pub nodes_line : (no_keep : s.entry_autoformate_keep ≡ false) (spelling : Bool) (depth : ℕ) {level : ℕ} {b : Before} {ns xs : Nodes} → nodes_on_line ns ≡ true → SpelledNodes number s spelling level b ns xs → NodesKeepNone ns → AreWellFormed (nodes_data ns)
@@ -364,10 +363,10 @@ content_lists a b c = simp (map-append, append_assoc, append-nil)
 module _ (number : ℕ) (s : Settings) (ok : list_all is_space s.indent ≡ true) (with : s.no_comments ≡ false) (keep : Bool) (whole : Text) (no_keep : s.entry_autoformate_keep ≡ false) (spelling : Bool) where
   -- what is kept before a terminator, before that
   last_stands : (has : Bool) (f : NodeFormat) (t : NodeTexts) → Tail (last_place has) t.last → KeptEnd s.no_comments f.terminator t.space t.comment → (r : Text)
-      → PlaceText (last_place has) ((t.last ++ t.space) ++ ((t.comment ++ (10 ∷ [])) ++ r)) ((t.comment ++ (10 ∷ [])) ++ r)
+      → InPlace (last_place has) ((t.last ++ t.space) ++ ((t.comment ++ (10 ∷ [])) ++ r)) ((t.comment ++ (10 ∷ [])) ++ r)
   last_stands has f t k e r =
-      subst (λ (x : Text). PlaceText (last_place has) x ((t.comment ++ (10 ∷ [])) ++ r)) (last_joined t.last t.space t.comment r)
-      (subst (λ (x : Text). PlaceText (last_place has) (t.last ++ (t.space ++ (t.comment ++ (10 ∷ r)))) x) (sym (append_assoc t.comment (10 ∷ []) r)) (last_text has k (line_end_of s.no_comments f.terminator t.space t.comment e) r))
+      subst (λ (x : Text). InPlace (last_place has) x ((t.comment ++ (10 ∷ [])) ++ r)) (last_joined t.last t.space t.comment r)
+      (subst (λ (x : Text). InPlace (last_place has) (t.last ++ (t.space ++ (t.comment ++ (10 ∷ r)))) x) (sym (append_assoc t.comment (10 ∷ []) r)) (last_text has k (line_end_of s.no_comments f.terminator t.space t.comment e) r))
 
   mutual
     children_laid : {level : ℕ} (depth : ℕ) (b : Before) (h : Head) (f : NodeFormat) (t : NodeTexts) (x : TypeTexts) {k l : Children} → h.format ≡ Some (with_type_texts x (line_of (indentation s level) t)) → SpelledChildren number s spelling level k l

@@ -1,44 +1,28 @@
 -- What is kept of comments may occur in the place in which it is written, and holds the items of its text.
-use Rattle.std.proofs.Common.{◌≡◌, ℕ, zero, suc, Bool, true, false, List, [], ◌∷◌, ◌++◌, refl, sym, subst, ◌∙◌, ◌==◌, map, ap, append-nil, arith}
+use Rattle.std.proofs.Common.{◌≡◌, ℕ, zero, suc, Bool, true, false, List, [], ◌∷◌, ◌++◌, refl, sym, subst, ◌∙◌, map, ap, append-nil}
 use Rattle.std.proofs.lemmas.List.Folds.{list_all-append}
-use Rattle.std.proofs.lemmas.Bool.Decides.{nat_tests}
 use Rattle.std.proofs.lemmas.List.{map-append}
 use Rattle.std.specs.Cmp.Derive.{both_true}
 use Rattle.std.specs.List.{list_all, repeat}
-use Rattle.std.specs.Prelude.{if◌then◌else◌}
-use Rattle.kdl_text.specs.Chars.{Text, is_space, is_newline_char, Space, Star, plus, space as a_space}
-use Rattle.kdl_text.specs.Trivia.{Ws, NodeSpace, ValueEnd, LineComment}
-use Rattle.kdl_entry.specs.Places.{leading, between}
-use Rattle.kdl_grammar.specs.Data.{Nodes}
-use Rattle.kdl_grammar.specs.Grammar.{Terminator, Gap, AreNodes, last_gap, node_then}
-use Rattle.kdl_grammar.specs.Places.{AfterChildren, BeforeChildren}
-use Rattle.kdl_layout.specs.Items.{Item, Place, before_entry, before_block, after_block, PlaceItems, comment as a_comment, piece, line_end, EsclineItems, SpaceItems, may_end, takes_blocks, spaced}
+use Rattle.kdl_text.specs.Chars.{Text, is_space, Star, plus, space as a_space}
+use Rattle.kdl_text.specs.Trivia.{Ws, ValueEnd, LineComment}
+use Rattle.kdl_entry.specs.Places.{between}
+use Rattle.kdl_grammar.specs.Grammar.{Terminator, Gap}
+use Rattle.kdl_layout.specs.Items.{Item, Place, PlaceItems, comment as a_comment, piece, line_end, EsclineItems, SpaceItems, takes_blocks, spaced}
+use Rattle.kdl_layout.specs.Lacks.{InPlace}
 use Rattle.kdl_layout.specs.Written.{tail, line_text, on_line}
-use Rattle.kdl_layout.proofs.Rewriting.PlacesAgain.{PlaceText, tail_leading, tail_before, tail_before_line, tail_after, tail_after_line, tail_alone, tail_spaced as items_spaced}
-use Rattle.kdl_layout.proofs.Rewriting.LinesAgain.{comment_part, comment_again, comment_item, line_part, comment_text, spaces_gap}
+use Rattle.kdl_layout.proofs.Rewriting.PlacesAgain.{one_space, space_ends, tail_alone, tail_end, tail_rest, tail_space, tail_spaced as items_spaced}
+use Rattle.kdl_layout.proofs.Rewriting.LinesAgain.{comment_part, comment_again, comment_item, comment_kept, comment_text, spaces_gap}
 use Rattle.kdl_layout.proofs.Rewriting.BeforeNewlines.{piece_kept, a_newline, newline_end}
-use Rattle.kdl_layout.proofs.Listing.ItemsUnique.{place_items_det}
+use Rattle.kdl_layout.proofs.Listing.ItemsUnique.{end_items_det, place_in_det}
+use Rattle.kdl_layout.proofs.Listing.PlaceTexts.{no_text, spaces_text}
+use Rattle.kdl_layout.proofs.Listing.SpaceItems.{ends_here, ends_spaced}
 use Rattle.kdl_layout.proofs.Rewriting.LastCharacters.{Last, last_after, last_end, entry_last, block_last, ws_last}
 use Rattle.kdl_layout.specs.Config.{Settings, indentation}
-use Rattle.kdl_layout.specs.Kept.{Written, WrittenUnless, last_place, WrittenEnd, KeptEnd}
-use Rattle.kdl_layout.specs.Comments.{ItemsIn, EndItems}
+use Rattle.kdl_layout.specs.Kept.{WrittenUnless, EndItems, ItemsIn, end_comment, end_space, last_place, KeptEnd}
 use Rattle.kdl_text.proofs.Spacing.SpaceUnique.{no_line_comment}
 use Rattle.kdl_entry.proofs.Slicing.Between.{is_between}
 use Rattle.kdl_entry.proofs.Moving.EntryEnds.{end_slashdash}
-use Rattle.kdl_grammar.proofs.ReadingBack.Reads.{join_gaps}
-
-pub one_space : (s : Text) → NodeSpace (32 ∷ s) s
-unfolding is_space
-one_space s = NodeSpace.ws (Ws.space (Space.space refl))
-
-pub space_ends : (s : Text) → ValueEnd true (32 ∷ s)
-unfolding is_space
-space_ends s = ValueEnd.space (Space.space refl)
-
--- a gap before nodes
-pub gap_nodes : {s t r : Text} {xs : Nodes} → Gap true s t → AreNodes true t r xs → AreNodes true s r xs
-gap_nodes g (last_gap h) = last_gap (join_gaps g h)
-gap_nodes g (node_then h n e d) = node_then (join_gaps g h) n e d
 
 -- an indentation of spaces in a gap
 pub level_spaces : (indent : Text) → list_all is_space indent ≡ true → (level : ℕ) → list_all is_space (repeat level indent) ≡ true
@@ -55,32 +39,25 @@ pub data Tail (p : Place) : Text → Type 0 where
 
 pub tail_of : (b : Bool) (p : Place) (place t : Text) → WrittenUnless b (PlaceItems p place) tail t → Tail p t
 tail_of true p place t e = subst (Tail p) (sym e) Tail.nothing
-tail_of false p place _ (Written.items d) = Tail.items d
-tail_of false p place _ (Written.none h) = Tail.nothing
-
-items_end : (is : List Item) (r : Text) → ValueEnd true r → ValueEnd true (tail is ++ r)
-items_end [] r e = e
-items_end (Item.comment t ∷ is) r e = space_ends _
-items_end (Item.piece t ∷ is) r e = space_ends _
+tail_of false p place t (is, ItemsIn.items d, e) = rw e (Tail.items d)
+tail_of false p place t (_, ItemsIn.no_items f, e) = rw e Tail.nothing
 
 pub tail_ends : {p : Place} {t : Text} → Tail p t → (r : Text) → ValueEnd true r → ValueEnd true (t ++ r)
 tail_ends Tail.nothing r e = e
-tail_ends (Tail.items {is = is} d) r e = items_end is r e
+tail_ends (Tail.items {is = is} d) r e = tail_end is r e
 
 -- before a space, and before the end of a line
-pub tail_spaced : (p : Place) {t : Text} → Tail p t → (r : Text) → PlaceText p (t ++ (32 ∷ r)) r
-tail_spaced (before_entry b) Tail.nothing r = leading Star.none (plus (one_space r) Star.none)
-tail_spaced (before_entry b) (Tail.items d) r = tail_leading d
-tail_spaced before_block Tail.nothing r = BeforeChildren.before Star.none (AfterChildren.after Star.none (Star.more (one_space r) Star.none))
-tail_spaced before_block (Tail.items d) r = tail_before d
-tail_spaced after_block Tail.nothing r = AfterChildren.after Star.none (Star.more (one_space r) Star.none)
-tail_spaced after_block (Tail.items d) r = tail_after d
+pub tail_spaced : (p : Place) {t : Text} → Tail p t → (r : Text) → InPlace p (t ++ (32 ∷ r)) r
+tail_spaced p Tail.nothing r = spaces_text p (plus (one_space r) Star.none)
+tail_spaced p (Tail.items d) r = tail_space d r
 
-tail_line : (has : Bool) {t : Text} → Tail (last_place has) t → (r : Text) → PlaceText (last_place has) (t ++ (10 ∷ r)) (10 ∷ r)
-tail_line false Tail.nothing r = BeforeChildren.before Star.none (AfterChildren.after Star.none Star.none)
-tail_line false (Tail.items d) r = tail_before_line d
-tail_line true Tail.nothing r = AfterChildren.after Star.none Star.none
-tail_line true (Tail.items d) r = tail_after_line d
+pub takes_last : (b : Bool) → takes_blocks (last_place b) ≡ true
+takes_last false = refl
+takes_last true = refl
+
+tail_line : (has : Bool) {t : Text} → Tail (last_place has) t → (r : Text) → InPlace (last_place has) (t ++ (10 ∷ r)) (10 ∷ r)
+tail_line has Tail.nothing r = no_text (last_place has) (takes_last has) (10 ∷ r)
+tail_line has (Tail.items d) r = tail_rest (takes_last has) d (newline_end r)
 
 -- nothing before a newline, or a space and a line comment
 pub data LineEnd : Text → Text → Type 0 where
@@ -89,15 +66,15 @@ pub data LineEnd : Text → Text → Type 0 where
 
 pub line_end_of : (b : Bool) (terminator space t : Text) → KeptEnd b terminator space t → LineEnd space t
 line_end_of true terminator space t k = subst (λ (x : Text). LineEnd x t) (sym k.0) (subst (λ (x : Text). LineEnd [] x) (sym k.1) LineEnd.newline)
-line_end_of false terminator _ _ (WrittenEnd.comment l) = let c = comment_item l in subst (λ (x : Text). LineEnd (32 ∷ []) x) (sym c.1) (LineEnd.comment c.0)
-line_end_of false terminator _ _ (WrittenEnd.other h) = LineEnd.newline
+line_end_of false terminator space t (_, EndItems.line_comment l, e, f) = let c = comment_item l in rw (e, f, c.1) (LineEnd.comment c.0)
+line_end_of false terminator space t (_, EndItems.other h, e, f) = rw (e, f) LineEnd.newline
 
 pub line_terminator : {space comment : Text} → LineEnd space comment → (r : Text) → Terminator (comment ++ (10 ∷ r)) r
 line_terminator LineEnd.newline r = Terminator.newline (a_newline r)
 line_terminator (LineEnd.comment s) r = Terminator.comment (comment_again s r)
 
 -- the last place of a node, before its terminator
-pub last_text : (has : Bool) {t space comment : Text} → Tail (last_place has) t → LineEnd space comment → (r : Text) → PlaceText (last_place has) (t ++ (space ++ (comment ++ (10 ∷ r)))) (comment ++ (10 ∷ r))
+pub last_text : (has : Bool) {t space comment : Text} → Tail (last_place has) t → LineEnd space comment → (r : Text) → InPlace (last_place has) (t ++ (space ++ (comment ++ (10 ∷ r)))) (comment ++ (10 ∷ r))
 last_text has k LineEnd.newline r = tail_line has k r
 last_text has k (LineEnd.comment s) r = tail_spaced (last_place has) k (comment_part s ++ (10 ∷ r))
 
@@ -107,25 +84,6 @@ last_ends k (LineEnd.comment s) r = tail_ends k (32 ∷ (comment_part s ++ (10 �
 
 -- What is kept in a place holds the items of its text.
 -- a line comment is the same on a line
-other_char : (c : ℕ) → is_newline_char c ≡ false → (c == 13) ≡ false
-unfolding is_newline_char
-other_char c h = grind (arith, nat_tests)
-
-line_after : (c : ℕ) (s : Text) → (c == 13) ≡ false → line_text s ≡ s → line_text (c ∷ s) ≡ c ∷ s
-line_after c [] h e = ap (λ (b : Bool). (if b then 10 else c) ∷ []) h
-line_after c (d ∷ s) h e = ap (λ (t : Text). c ∷ t) e
-
-part_kept : (s : Text) → line_text (line_part s) ≡ line_part s
-part_kept [] = refl
-part_kept (c ∷ s) = go (is_newline_char c) refl (part_kept s)
-  where
-    go : (b : Bool) → is_newline_char c ≡ b → line_text (line_part s) ≡ line_part s → line_text (if b then [] else c ∷ line_part s) ≡ (if b then [] else c ∷ line_part s)
-    go true e h = refl
-    go false e h = line_after c (line_part s) (other_char c e) h
-
-comment_kept : (s : Text) → line_text (comment_part s) ≡ comment_part s
-comment_kept s = line_after 47 (47 ∷ line_part s) refl (line_after 47 (line_part s) refl (part_kept s))
-
 comment_on_line : {s r : Text} → LineComment s r → on_line (a_comment (between s (line_end s))) ≡ a_comment (between s (line_end s))
 comment_on_line l = let c = comment_item l in rw c.1 (ap a_comment (comment_kept c.0))
 
@@ -170,27 +128,17 @@ pub space_item : (s : Text) → SpaceItems (32 ∷ s) s []
 unfolding is_space
 space_item s = SpaceItems.space (a_space refl)
 
-pub ends_spaced : (p : Place) → may_end (spaced true p) ≡ true
-ends_spaced (before_entry b) = refl
-ends_spaced _ = refl
-
-pub ends_here : (p : Place) → takes_blocks p ≡ true → may_end p ≡ true
-ends_here (before_entry b) h = cc
-ends_here before_block h = refl
-ends_here after_block h = refl
-
 nothing_in : (p : Place) → KeptIn p [] []
 nothing_in p = record { stands = Tail.nothing; spaced = PlaceItems.space (space_item []) (PlaceItems.ends (ends_spaced p)); alone = λ h. PlaceItems.ends (ends_here p h) }
 
-written_in : {p : Place} (place t : Text) {is : List Item} → Written (PlaceItems p place) tail t → ItemsIn (PlaceItems p place) is → KeptIn p t (map on_line is)
-written_in {p} place _ (Written.items {is = js} d) (ItemsIn.items {is = is} e) =
-    subst (λ (l : List Item). KeptIn p (tail js) l) (place_items_det d e ∙ sym (place_stays e)) (record { stands = Tail.items d; spaced = items_spaced d; alone = λ h. tail_alone h d })
-written_in {p} place _ (Written.none f) (ItemsIn.no_items h) = nothing_in p
-written_in place _ (Written.items {is = js} d) (ItemsIn.no_items h) = absurd (h js d)
-written_in place _ (Written.none f) (ItemsIn.items {is = is} e) = absurd (f is e)
+written_in : (p : Place) {place : Text} {is : List Item} → ItemsIn (PlaceItems p place) is → KeptIn p (tail is) (map on_line is)
+written_in p (ItemsIn.items {is = is} d) = subst (KeptIn p (tail is)) (sym (place_stays d)) (record { stands = Tail.items d; spaced = items_spaced d; alone = λ h. tail_alone h d })
+written_in p (ItemsIn.no_items f) = nothing_in p
 
 pub kept_in : (b : Bool) → b ≡ false → {p : Place} (place t : Text) {is : List Item} → WrittenUnless b (PlaceItems p place) tail t → ItemsIn (PlaceItems p place) is → KeptIn p t (map on_line is)
-kept_in b with {p} place t k i = written_in place t (subst (λ (c : Bool). WrittenUnless c (PlaceItems p place) tail t) with k) i
+kept_in b with {p} place t {is} k i =
+    let (js, j, e) = subst (λ (c : Bool). WrittenUnless c (PlaceItems p place) tail t) with k in
+    rw e (subst (λ (l : List Item). KeptIn p (tail js) (map on_line l)) (place_in_det j i) (written_in p j))
 
 -- a terminator that is kept
 line_feed_end : EndItems (10 ∷ []) []
@@ -199,25 +147,26 @@ line_feed_end = EndItems.other (λ l. no_line_comment refl l)
 comment_end : (s : Text) → EndItems (comment_part s ++ (10 ∷ [])) (a_comment (comment_part s) ∷ [])
 comment_end s = subst (λ (t : Text). EndItems (comment_part s ++ (10 ∷ [])) (a_comment t ∷ [])) (comment_text s []) (EndItems.line_comment (comment_again s []))
 
-end_kept : (end space rest : Text) {is : List Item} → WrittenEnd end space rest → EndItems end is → EndItems (rest ++ (10 ∷ [])) (map on_line is)
-end_kept end _ _ (WrittenEnd.comment l) (EndItems.line_comment m) =
-    let c = comment_item l in
-    rw c.1 (subst (λ (t : Text). EndItems (comment_part c.0 ++ (10 ∷ [])) (a_comment t ∷ [])) (sym (comment_kept c.0)) (comment_end c.0))
-end_kept end _ _ (WrittenEnd.other f) (EndItems.other h) = line_feed_end
-end_kept end _ _ (WrittenEnd.comment l) (EndItems.other h) = absurd (h l)
-end_kept end _ _ (WrittenEnd.other f) (EndItems.line_comment m) = absurd (f m)
+-- its item is the same on a line, and is the item of the terminator that is written
+end_stays : {end : Text} {is : List Item} → EndItems end is → map on_line is ≡ is
+end_stays (EndItems.line_comment l) = ap (λ (i : Item). i ∷ []) (comment_on_line l)
+end_stays (EndItems.other f) = refl
+
+pub end_again : {end : Text} {is : List Item} → EndItems end is → EndItems (end_comment is ++ (10 ∷ [])) is
+end_again (EndItems.line_comment l) = let c = comment_item l in rw c.1 (comment_end c.0)
+end_again (EndItems.other f) = line_feed_end
 
 pub kept_end : (b : Bool) → b ≡ false → (end space rest : Text) {is : List Item} → KeptEnd b end space rest → EndItems end is → EndItems (rest ++ (10 ∷ [])) (map on_line is)
-kept_end b with end space rest k i = end_kept end space rest (subst (λ (c : Bool). KeptEnd c end space rest) with k) i
-
-pub takes_last : (b : Bool) → takes_blocks (last_place b) ≡ true
-takes_last false = refl
-takes_last true = refl
+kept_end b with end space rest k i =
+    let (js, j, e, f) = subst (λ (c : Bool). KeptEnd c end space rest) with k in
+    rw f (subst (EndItems (end_comment js ++ (10 ∷ []))) (end_items_det j i ∙ sym (end_stays i)) (end_again j))
 
 -- what is kept before the terminator
-last_written : (has : Bool) (end space rest t : Text) {is : List Item} → WrittenEnd end space rest → KeptIn (last_place has) t is → PlaceItems (last_place has) (t ++ space) is
-last_written has end _ _ t (WrittenEnd.comment l) k = k.spaced
-last_written has end _ _ t {is} (WrittenEnd.other f) k = subst (λ (s : Text). PlaceItems (last_place has) s is) (sym (append-nil t)) (k.alone (takes_last has))
+last_written : (has : Bool) {end : Text} (t : Text) {is js : List Item} → EndItems end js → KeptIn (last_place has) t is → PlaceItems (last_place has) (t ++ end_space js) is
+last_written has t (EndItems.line_comment l) k = k.spaced
+last_written has t {is} (EndItems.other f) k = subst (λ (s : Text). PlaceItems (last_place has) s is) (sym (append-nil t)) (k.alone (takes_last has))
 
 pub kept_last : (b : Bool) → b ≡ false → (has : Bool) (end space rest t : Text) {is : List Item} → KeptEnd b end space rest → KeptIn (last_place has) t is → PlaceItems (last_place has) (t ++ space) is
-kept_last b with has end space rest t e k = last_written has end space rest t (subst (λ (c : Bool). KeptEnd c end space rest) with e) k
+kept_last b with has end space rest t e k =
+    let (js, j, f, g) = subst (λ (c : Bool). KeptEnd c end space rest) with e in
+    rw f (last_written has t j k)

@@ -1,33 +1,27 @@
 -- A document that is laid out has a list of items.
 use Rattle.std.proofs.Common.{◌≡◌, ℕ, ◌+◌, Bool, true, false, ◌||◌, List, [], ◌∷◌, ◌++◌, subst}
 use Rattle.kdl_text.specs.Chars.{Text}
-use Rattle.kdl_entry.specs.Places.{between}
 use Rattle.kdl_entry.specs.Tree.{Entry, autoformatted}
 use Rattle.kdl_grammar.specs.Tree.{DocumentFormat, Node, node, Children, no_children, children, Document, document, Nodes, none, first}
-use Rattle.kdl_layout.specs.Items.{Item, comment, line_end, GapItems, before_entry, before_block, PlaceItems}
-use Rattle.kdl_layout.specs.Written.{lines, tail}
-use Rattle.kdl_layout.specs.Blank.{at_start}
+use Rattle.kdl_layout.specs.Items.{Item, GapItems, before_entry, before_block, PlaceItems}
+use Rattle.kdl_layout.specs.Written.{tail}
+use Rattle.kdl_layout.specs.Blank.{at_start, past_node, spaced_lines}
 use Rattle.kdl_layout.specs.Comments.{ItemsIn, EndItems, EntriesItems, NodeItems, of_node, ChildrenItems, NodesItems, DocumentItems, of_document}
 use Rattle.kdl_layout.specs.Config.{Settings, indentation}
 use Rattle.kdl_layout.specs.Formatted.{with_keep_if, or_empty, or_empty_document, EntriesKeepNone, NodeKeepsNone, ChildrenKeepNone, DocumentKeepsNone, NodesKeepNone}
-use Rattle.kdl_layout.specs.Kept.{Written, WrittenUnless, KeptEnd, WrittenEnd, KeptBefore, KeptBeforeBlock, last_place, without_bom, entry_leading, is_kept_format}
+use Rattle.kdl_layout.specs.Kept.{WrittenUnless, KeptEnd, KeptBefore, KeptBeforeBlock, last_place, without_bom, entry_leading, is_kept_format}
 use Rattle.kdl_layout.specs.Parts.{following, IsFormattedEntry, AreFormattedEntries, has_block}
 use Rattle.kdl_layout.specs.Spaced.{SpacesContent, IsSpacedNode, IsSpacedChildren, AreSpacedNodes}
 use Rattle.kdl_layout.specs.WithComments.{IsFormattedDocument, IsFormattedNode}
 use Rattle.kdl_layout.specs.declared.blank.Before.{Before}
 
-written_in : {Has : List Item → Type 0} {write : List Item → Text} {t : Text} → Written Has write t → (is : List Item) × ItemsIn Has is
-written_in (Written.items {is = is} d) = (is, ItemsIn.items d)
-written_in (Written.none f) = ([], ItemsIn.no_items f)
-
 kept_in : (b : Bool) → b ≡ false → (Has : List Item → Type 0) (write : List Item → Text) (t : Text) → WrittenUnless b Has write t → (is : List Item) × ItemsIn Has is
 kept_in true h Has write t k = absurd cc
-kept_in false h Has write t k = written_in k
+kept_in false h Has write t k = (k.0, k.1)
 
 kept_end : (b : Bool) → b ≡ false → (end space rest : Text) → KeptEnd b end space rest → (is : List Item) × EndItems end is
 kept_end true h end space rest k = absurd cc
-kept_end false h end _ _ (WrittenEnd.comment l) = (comment (between end (line_end end)) ∷ [], EndItems.line_comment l)
-kept_end false h end _ _ (WrittenEnd.other f) = ([], EndItems.other f)
+kept_end false h end space rest k = (k.0, k.1)
 
 module _ (s : Settings) (no_keep : s.entry_autoformate_keep ≡ false) (with : s.no_comments ≡ false) where
   entry_has : (e e' : Entry) → IsFormattedEntry s e e' → is_kept_format e.format ≡ false → (is : List Item) × ItemsIn (PlaceItems (before_entry false) (entry_leading e.format)) is
@@ -43,22 +37,22 @@ module _ (s : Settings) (no_keep : s.entry_autoformate_keep ≡ false) (with : s
   entries_have (e ∷ es) [] f m = absurd f
 
   leading_has : (level : ℕ) (ns : Nodes) (f : DocumentFormat) (b : Before) (t u : Text) → SpacesContent 0 s level ns f b t u → (is : List Item) × ItemsIn (GapItems (without_bom f.leading)) is
-  leading_has level ns f b t u k = kept_in s.no_comments with (GapItems (without_bom f.leading)) (lines (indentation s level)) t k.leading
+  leading_has level ns f b t u k = kept_in s.no_comments with (GapItems (without_bom f.leading)) (spaced_lines 0 (indentation s level) at_start (without_bom f.leading)) t k.leading.0
 
   trailing_has : (level : ℕ) (ns : Nodes) (f : DocumentFormat) (b : Before) (t u : Text) → SpacesContent 0 s level ns f b t u → (is : List Item) × ItemsIn (GapItems f.trailing) is
-  trailing_has level ns f b t u k = kept_in s.no_comments with (GapItems f.trailing) (lines (indentation s level)) u k.trailing
+  trailing_has level ns f b t u k = kept_in s.no_comments with (GapItems f.trailing) (spaced_lines 0 (indentation s level) k.last f.trailing) u k.trailing.0
 
   mutual
     has_items : (level : ℕ) (b : Before) (n n' : Node) → IsSpacedNode 0 s level b n n' → NodeKeepsNone n → (is : List Item) × NodeItems n is
     has_items level b (node h k) (node h' k') (f, c) m =
         let (t, kept, line) = f.format in
         let g = or_empty h.format in
-        let a = kept_in s.no_comments with (GapItems g.leading) (lines (indentation s level)) kept.lines kept.leading in
+        let a = kept_in s.no_comments with (GapItems g.leading) (spaced_lines 0 (indentation s level) b g.leading) kept.lines kept.leading.0 in
         let es = entries_have h.entries h'.entries f.entries m.0 in
         let x = children_have level g.before_children t.before_block k k' c kept.before_block m.1 in
         let d = kept_in s.no_comments with (PlaceItems (last_place (has_block k)) g.before_terminator) tail t.last kept.last in
         let e = kept_end s.no_comments with g.terminator t.space t.comment kept.end in
-        let z = kept_in s.no_comments with (GapItems g.trailing) (lines (indentation s level)) t.following kept.following in
+        let z = kept_in s.no_comments with (GapItems g.trailing) (spaced_lines 0 (indentation s level) (past_node g.terminator) g.trailing) t.following kept.following.0 in
         (a.0 ++ es.0 ++ x.0 ++ d.0 ++ e.0 ++ z.0, of_node a.1 es.1 x.1 d.1 e.1 z.1)
 
     children_have : (level : ℕ) (place t : Text) (k k' : Children) → IsSpacedChildren 0 s level k k' → KeptBeforeBlock s (has_block k) place t → ChildrenKeepNone k → (is : List Item) × ChildrenItems place k is

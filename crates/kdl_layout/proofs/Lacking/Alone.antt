@@ -12,9 +12,10 @@ use Rattle.kdl_grammar.specs.Grammar.{Terminator, IsNode, Gap, no_gap, line_spac
 use Rattle.kdl_grammar.specs.Places.{DroppedBlock, dropped, AfterChildren, after, BeforeChildren, before}
 use Rattle.kdl_grammar.proofs.Moving.Moves.{before_end, terminator_end}
 use Rattle.kdl_grammar.proofs.ReadingBack.Following.{Follows, put_follows, Shift, shift_spaces}
+use Rattle.kdl_grammar.proofs.ReadingBack.Reads.{join_gaps}
 use Rattle.kdl_layout.specs.Lacks.{Terminating}
 use Rattle.kdl_layout.proofs.Dropping.Paths.{Halt, at_end, at_brace, halts}
-use Rattle.kdl_layout.proofs.Lacking.GapPieces.{join_gap, lines_gap}
+use Rattle.kdl_layout.proofs.Lacking.GapPieces.{lines_gap}
 use Rattle.kdl_layout.proofs.Rewriting.BeforeNewlines.{closed_braces, cut_node}
 
 -- nothing follows as any text does
@@ -84,7 +85,7 @@ dropped_alone {s = s} m x (inr (h, e)) g k =
 
 gap_alone : {s r : Text} → Gap true s r → GapAlone s r
 gap_alone no_gap = record { at = stands; alone = no_gap }
-gap_alone (line_space n g) = let k = gap_alone g in let m = shift_lines n in record { at = joined m.at k.at; alone = join_gap (m.there (k.at.put []) (put_follows k.at [] alone)) k.alone }
+gap_alone (line_space n g) = let k = gap_alone g in let m = shift_lines n in record { at = joined m.at k.at; alone = join_gaps (m.there (k.at.put []) (put_follows k.at [] alone)) k.alone }
 gap_alone (dropped_node m x e g) = dropped_alone m x (moved_end e) g (gap_alone g)
 
 -- the text before the rest

@@ -23,7 +23,8 @@ use Rattle.kdl_layout.specs.Internal.Passing.{moved, returned, NodePasses, retur
 use Rattle.kdl_layout.proofs.Dropping.DroppedNodes.{turn_back, passes_det, passes_last, passes_node, DroppedThen, then_nodes, then_none, dash_nodes, tail_ends}
 use Rattle.kdl_layout.proofs.Dropping.TokenLoop.{is_not, gap_turn}
 use Rattle.kdl_layout.proofs.Dropping.Paths.{Halt, at_end, halts, no_node, node_on, drop_node}
-use Rattle.kdl_layout.proofs.Lacking.SpaceEnds.{lf, a_space}
+use Rattle.kdl_layout.proofs.Lacking.SpaceEnds.{a_space}
+use Rattle.kdl_layout.proofs.Rewriting.BeforeNewlines.{a_newline}
 use Rattle.kdl_layout.proofs.Listing.PlaceTexts.{gap_has, gap_of}
 use Rattle.kdl_layout.proofs.Listing.SpaceItems.{dash_no_line}
 
@@ -162,8 +163,8 @@ pub one_more : (t : Text) (j : ℕ) (r : Text) → (t ++ newlines (suc j)) ++ r 
 one_more t j r = append_assoc t (newlines (suc j)) r ∙ ap (λ (y : Text). t ++ y) (newlines_more j r) ∙ sym (append_assoc t (newlines j) (10 ∷ r))
 
 lf_first : {r z : Text} {xs : Nodes} → AreNodes true r z xs → AreNodes true (10 ∷ r) z xs
-lf_first {r} (last_gap g) = last_gap (line_space (LineSpace.«break» (Break.newline (lf r))) g)
-lf_first {r} (node_then g x e ds) = node_then (line_space (LineSpace.«break» (Break.newline (lf r))) g) x e ds
+lf_first {r} (last_gap g) = last_gap (line_space (LineSpace.«break» (Break.newline (a_newline r))) g)
+lf_first {r} (node_then g x e ds) = node_then (line_space (LineSpace.«break» (Break.newline (a_newline r))) g) x e ds
 
 pub ends_more : (t : Text) (j : ℕ) → Terminates Anything (t ++ newlines j) → Terminates Anything (t ++ newlines (suc j))
 ends_more t j f r s xs a e ds = let (v, m, es) = f (10 ∷ r) s xs tt e (lf_first ds) in (v, subst (λ (y : Text). Terminator y v) (sym (one_more t j r)) m, es)

@@ -2,7 +2,7 @@
 use Rattle.std.proofs.Common.{◌≡◌, ℕ, Bool, true, false, if◌then◌else◌, List, [], ◌∷◌, ◌++◌, length, Option, Some, None, Bor, refl, sym, ap, subst, ◌∙◌, arith, append_assoc, append-nil}
 use Rattle.std.proofs.lemmas.Bool.{eqb-true}
 use Rattle.std.specs.Str.{chars}
-use Rattle.kdl_text.specs.Chars.{Text, begins, Star, none, more, Plus, plus}
+use Rattle.kdl_text.specs.Chars.{Text, begins, Star, none, more}
 use Rattle.kdl_text.specs.Internal.Here.{first}
 use Rattle.kdl_text.specs.Spans.{bytes}
 use Rattle.kdl_text.specs.Trivia.{NodeSpace, Break, LineSpace, Slashdash, slashdash, ValueEnd}
@@ -12,11 +12,12 @@ use Rattle.kdl_syntax.specs.Tokens.{Token, BeginsToken}
 use Rattle.kdl_entry.proofs.Moving.EntryMoves.{move_spaces, move_slashdash, spaces_end}
 use Rattle.kdl_grammar.specs.Data as nodes'
 use Rattle.kdl_grammar.specs.Data.{Node, Nodes}
-use Rattle.kdl_grammar.specs.Grammar.{Terminator, IsNode, Gap, no_gap, line_space, dropped_node, AreNodes, last_gap, node_then}
+use Rattle.kdl_grammar.specs.Grammar.{Terminator, IsNode, Gap, no_gap, line_space, dropped_node, AreNodes}
 use Rattle.kdl_syntax.specs.Control.{Control, at, node_slashdash}
-use Rattle.kdl_grammar.specs.ReadsBack.{AddsNothing}
+use Rattle.kdl_grammar.specs.ReadsBack.{AddsNothing, NodesEnd}
 use Rattle.kdl_grammar.proofs.Moving.Moves.{terminator_end}
 use Rattle.kdl_grammar.proofs.ReadingBack.Closing.{after_lf}
+use Rattle.kdl_grammar.proofs.ReadingBack.Reads.{gap_nodes}
 use Rattle.kdl_entry.specs.Places.{between}
 use Rattle.kdl_layout.specs.Items.{Item, piece, line_end, LineSpaceItems, GapItems, ItemEnd, EndsTight}
 use Rattle.kdl_layout.specs.Lacks.{newlines}
@@ -32,22 +33,12 @@ use Rattle.kdl_layout.specs.declared.places.GapPiece.TheVariants.{Until}
 use Rattle.kdl_layout.proofs.Dropping.DroppedNodes.{passes_det, passes_last, passes_node, tight_same, DroppedItems, with_end, at_last, dash_items, node_returned, node_ended}
 use Rattle.kdl_layout.proofs.Dropping.DroppedParts.{a_space}
 use Rattle.kdl_layout.proofs.Dropping.TokenLoop.{before_shorter}
-use Rattle.kdl_layout.proofs.Lacking.SpaceEnds.{put_more, moved_more, lf, break_at, break_left, break_open, break_ends_as, letter_line}
+use Rattle.kdl_layout.proofs.Lacking.SpaceEnds.{put_more, moved_more, break_at, break_left, break_open, break_ends_as, letter_line}
 use Rattle.kdl_layout.proofs.Lacking.Fewest.{letter_end, no_nodes, swallowed, nodes_off, nodes_off_node, letter_dropped, fewest_at, fewest_none}
 use Rattle.kdl_layout.proofs.Listing.SpaceItems.{added_none, then_added, leaves_start, leaves_then, leaves_all, leaves_none, leaves_add, run_leaves, run_gap}
 use Rattle.kdl_layout.proofs.Listing.PlaceTexts.{HasGap, spaces_only, terminator_of}
 use Rattle.kdl_layout.proofs.Listing.Starts.{before_cut}
-use Rattle.kdl_layout.proofs.Rewriting.BeforeNewlines.{cut_node}
-
--- a gap in front of nodes
-pub join_gap : {s t r : Text} → Gap true s t → Gap true t r → Gap true s r
-join_gap no_gap h = h
-join_gap (line_space n g) h = line_space n (join_gap g h)
-join_gap (dropped_node m x e g) h = dropped_node m x e (join_gap g h)
-
-pub in_front : {s t z : Text} {xs : Nodes} → Gap true s t → AreNodes true t z xs → AreNodes true s z xs
-in_front g (last_gap h) = last_gap (join_gap g h)
-in_front g (node_then h x e ds) = node_then (join_gap g h) x e ds
+use Rattle.kdl_layout.proofs.Rewriting.BeforeNewlines.{a_newline, cut_node, some}
 
 pub lines_gap : {s r : Text} → Star LineSpace s r → Gap true s r
 lines_gap none = no_gap
@@ -58,24 +49,23 @@ pub through_start : (s : Text) (old : Option (List Item)) → Adding (Through s 
 through_start s old = adding [] (added_none old) (record { items = leaves_start (GapItems s); adds = λ js g w z xs e ds. ds; off = λ js g w xs ds. ds })
 
 -- line-spaces
-some_lines : {s t : Text} → Plus LineSpace s t → Star LineSpace s t
-some_lines (plus n ns) = more n ns
-
 one_line : {s r : Text} → LineSpace s r → Gap true s r
 one_line n = line_space n no_gap
 
-pub begins_lf : (r : Text) → begins 10 r ≡ true → (t : Text) × (r ≡ 10 ∷ t)
+begins_lf : (r : Text) → begins 10 r ≡ true → (t : Text) × (r ≡ 10 ∷ t)
 begins_lf [] h = cc
 begins_lf (c ∷ t) h = (t, ap (λ (d : ℕ). d ∷ t) (eqb-true c 10 h))
 
-return_adds : {s : Text} → EndsInReturn (Gap true) s → AddsNothing s
-return_adds {s = s} k r z xs e ds = go (begins 10 r) refl
+-- what ends in a CR ends before nodes, or before the LF before them
+pub return_ends : {X : Text → Text → Type 0} {s : Text} → EndsInReturn X s → (w z : Text) (xs : Nodes) → NodesEnd z → AreNodes true w z xs → (v : Text) × X (s ++ w) v × AreNodes true v z xs
+return_ends {X} {s} k w z xs e ds = go (begins 10 w) refl
   where
-    go : (b : Bool) → begins 10 r ≡ b → AreNodes true (s ++ r) z xs
-    go true h =
-        let (t, f) = begins_lf r h in
-        subst (λ (y : Text). AreNodes true (s ++ y) z xs) (sym f) (in_front (k.before_lf t) (after_lf _ e (subst (λ (y : Text). AreNodes true y z xs) f ds)))
-    go false h = in_front (k.alone r h) ds
+    go : (b : Bool) → begins 10 w ≡ b → (v : Text) × X (s ++ w) v × AreNodes true v z xs
+    go true h = let (t, f) = begins_lf w h in (t, subst (λ (y : Text). X (s ++ y) t) (sym f) (k.before_lf t), after_lf _ e (subst (λ (y : Text). AreNodes true y z xs) f ds))
+    go false h = (w, k.alone w h, ds)
+
+return_adds : {s : Text} → EndsInReturn (Gap true) s → AddsNothing s
+return_adds k r z xs e ds = let (v, g, es) = return_ends k r z xs e ds in gap_nodes g es
 
 with_none : (s : Text) → AddsNothing s → AddsNothing (s ++ newlines 0)
 with_none s f r z xs e ds = subst (λ (y : Text). AreNodes true (y ++ r) z xs) (sym (append-nil s)) (f r z xs e ds)
@@ -89,14 +79,14 @@ is_open {s} items f g = (
   items,
   (
     omega arith,
-    λ r z xs e ds. subst (λ (y : Text). AreNodes true y z xs) (sym (append_assoc s (10 ∷ []) r)) (in_front (f r) ds),
+    λ r z xs e ds. subst (λ (y : Text). AreNodes true y z xs) (sym (append_assoc s (10 ∷ []) r)) (gap_nodes (f r) ds),
     fewest_at s 1 0 refl (λ xs ds. g xs (subst (λ (y : Text). AreNodes true (y ++ letter) [] xs) (append-nil s) ds)),
   ),
 )
 
 pub spaces_end_gap : (s : Text) (y : Ending) (old new : Option (List Item)) → Spaces LineSpace LineSpaceItems s (Some y) old new → GapPieceEnds s (Some (piece_of y)) old new
 spaces_end_gap s (EndsBefore r) old new (adding is e run, (k, l)) =
-    (adding is e (record { items = run_leaves run; adds = λ js g w z xs f ds. in_front (lines_gap (some_lines (k w))) ds; off = λ js g w xs ds. nodes_off (some_lines (k w)) ds }), l)
+    (adding is e (record { items = run_leaves run; adds = λ js g w z xs f ds. gap_nodes (lines_gap (some (k w))) ds; off = λ js g w xs ds. nodes_off (some (k w)) ds }), l)
 spaces_end_gap s InReturn old new (adding is e run, k) = in_return (adding is e (run_gap run)) (record { alone = λ w h. one_line (k.alone w h); before_lf = λ w. one_line (k.before_lf w) })
 spaces_end_gap s Open old new (adding is e run, k) = is_open (adding is e (run_gap run)) (λ w. one_line (k.ended w)) (λ xs ds. swallowed k.swallows ds)
 
@@ -189,7 +179,7 @@ module _ {b u : Text} (p : NodePasses (at node_slashdash []) b b (passing.ended 
       (t ++ w, x, o.0, o.1)
 
   last_lf : (w r : Text) → Star NodeSpace (u ++ w) (10 ∷ r) → Gap true ((47 ∷ 45 ∷ b) ++ w) r
-  last_lf w r ss = let n = last_more w (10 ∷ r) ss (ValueEnd.newline (lf r)) in dropped_node n.2 n.3 (Terminator.newline (lf r)) no_gap
+  last_lf w r ss = let n = last_more w (10 ∷ r) ss (ValueEnd.newline (a_newline r)) in dropped_node n.2 n.3 (Terminator.newline (a_newline r)) no_gap
 
   -- with a letter after the node and its spaces no node is left
   last_letter : (w : Text) → Star NodeSpace (u ++ w) letter → (xs : Nodes) → AreNodes true ((47 ∷ 45 ∷ b) ++ w) [] xs → xs ≡ nodes'.none
@@ -212,7 +202,7 @@ module _ {b u v c : Text} {k : Token} (p : NodePasses (at node_slashdash []) b b
       let e = node_left z in (
         adding (piece node ∷ []) m (rw q (record {
           items = subst (λ (h : Text). Leaves (GapItems (47 ∷ 45 ∷ b)) (GapItems h) (piece (between (47 ∷ 45 ∷ b) c) ∷ [])) (sym e) (node_returned p i);
-          adds = λ js g w' z' xs f ds. in_front (node_gap p i (js, subst (λ (h : Text). GapItems h js) e g) w' (ends_before z w').1).0 ds;
+          adds = λ js g w' z' xs f ds. gap_nodes (node_gap p i (js, subst (λ (h : Text). GapItems h js) e g) w' (ends_before z w').1).0 ds;
           off = λ js g w' xs ds. (node_gap p i (js, subst (λ (h : Text). GapItems h js) e g) w' (ends_before z w').1).1 xs ds;
         })),
         before_shorter (47 ∷ 45 ∷ b) b (chars r.now) (bytes w) refl (w, o ∙ ap (λ (h : Text). w ++ h) (sym e), refl),
@@ -246,7 +236,7 @@ module _ (s b node after : Text) (e : NodeEnd) (old now : Option (List Item)) (f
         leaves_add (GapItems (47 ∷ 45 ∷ b)) (GapItems c) (adding (piece node ∷ []) m (rw q (node_ended p))) w'.0,
         (
           omega arith,
-          λ r z xs e ds. subst (λ (y : Text). AreNodes true y z xs) (sym (append_assoc (47 ∷ 45 ∷ b) (10 ∷ 10 ∷ []) r)) (in_front (last_lf p (10 ∷ 10 ∷ r) r (w'.1 (10 ∷ r))) ds),
+          λ r z xs e ds. subst (λ (y : Text). AreNodes true y z xs) (sym (append_assoc (47 ∷ 45 ∷ b) (10 ∷ 10 ∷ []) r)) (gap_nodes (last_lf p (10 ∷ 10 ∷ r) r (w'.1 (10 ∷ r))) ds),
           fewest_at (47 ∷ 45 ∷ b) 2 1 refl (λ xs ds. last_letter p (10 ∷ letter) (w'.1 letter) xs (subst (λ (y : Text). AreNodes true y [] xs) (append_assoc (47 ∷ 45 ∷ b) (10 ∷ []) letter) ds)),
         ),
       )

@@ -8,7 +8,7 @@ use Rattle.kdl_text.specs.Trivia.{NodeSpace, slashdash, ValueEnd}
 use Rattle.kdl_text.proofs.Spacing.ValueEnds.{value_end_no_identifier}
 use Rattle.kdl_syntax.specs.Pieces.{StringPiece}
 use Rattle.kdl_entry.specs.Entries.{string as a_string', untyped}
-use Rattle.kdl_entry.specs.Places.{between, leading}
+use Rattle.kdl_entry.specs.Places.{between}
 use Rattle.kdl_entry.proofs.Moving.EntryMoves.{leading_end, punctuation_end}
 use Rattle.kdl_grammar.specs.Data as nodes'
 use Rattle.kdl_grammar.specs.Data.{Node, node, no_children, children}
@@ -31,11 +31,12 @@ use Rattle.kdl_layout.specs.declared.places.PlacePiece.TheVariants.{Onward, InEs
 use Rattle.kdl_layout.proofs.Dropping.DroppedParts.{DropsPart, drops_entry, drops_block, part_leaves, the_part, part_nowhere, part_refused}
 use Rattle.kdl_layout.proofs.Dropping.TokenLoop.{before_shorter}
 use Rattle.kdl_layout.proofs.Lacking.Fewest.{a_piece, letter_node, letter_end, some_nodes, letter_dropped}
-use Rattle.kdl_layout.proofs.Lacking.GapPieces.{in_front}
-use Rattle.kdl_layout.proofs.Lacking.SpaceEnds.{put_more, lf}
-use Rattle.kdl_layout.proofs.Listing.SpaceItems.{added_none, then_added, leaves_start, leaves_then, leaves_all, leaves_none, leaves_add, ends_spaced, blocks_spaced, run_places, place_end}
-use Rattle.kdl_layout.proofs.Listing.PlaceTexts.{Has, before_block_items, after_block_items}
-use Rattle.kdl_layout.proofs.Rewriting.PlacesAgain.{DashedEntry, DashedBlock, moved_entry, moved_block, place_spaced, text_space, text_entry, text_block, no_text}
+use Rattle.kdl_grammar.proofs.ReadingBack.Reads.{gap_nodes}
+use Rattle.kdl_layout.proofs.Lacking.SpaceEnds.{put_more}
+use Rattle.kdl_layout.proofs.Rewriting.BeforeNewlines.{a_newline}
+use Rattle.kdl_layout.proofs.Listing.SpaceItems.{added_none, then_added, leaves_start, leaves_then, leaves_all, leaves_none, leaves_add, ends_here, ends_spaced, blocks_spaced, run_places, place_end}
+use Rattle.kdl_layout.proofs.Listing.PlaceTexts.{DashedEntry, DashedBlock, Has, before_block_items, after_block_items, no_text, place_spaced, spaces_text, text_block, text_entry, text_space}
+use Rattle.kdl_layout.proofs.Rewriting.PlacesAgain.{moved_entry, moved_block}
 
 -- what is in a place before a value end is one
 text_end : (p : Place) {s z : Text} → InPlace p s z → ValueEnd true z → ValueEnd true s
@@ -68,15 +69,10 @@ spaces_onward p q s r old new e (adding is f run, (k, l)) = (
 all_spaces : (p : held.Place) {s : Text} {old new : Option (List Item)} → Adding (Run SpaceItems s []) old new → Adding (PlaceItems (place_view p) s) old new
 all_spaces p {s} (adding is f run) = let q = place_view p in adding is f (leaves_all (PlaceItems q s) (PlaceItems (spaced true q) []) is (run_places q run) (ends (ends_spaced q)))
 
-one_space : (p : Place) {s r : Text} → NodeSpace s r → InPlace p s r
-one_space (before_entry b) n = leading none (plus n none)
-one_space before_block n = before none (after none (more n none))
-one_space after_block n = after none (more n none)
-
 pub spaces_in_escline : (p : held.Place) (s : Text) (y : Ending) (old new : Option (List Item)) → ((r : Bor (List ℕ)) → y ≡ EndsBefore r → ⊥) → Spaces NodeSpace SpaceItems s (Some y) old new → PlacePieceEnds p s (Some InEscline) old new
 spaces_in_escline p s (EndsBefore r) old new g k = absurd (g r refl)
-spaces_in_escline p s InReturn old new g (x, k) = (all_spaces p x, λ z. one_space (place_view p) (k.before_lf z))
-spaces_in_escline p s Open old new g (x, k) = (all_spaces p x, λ z. one_space (place_view p) (k.ended z))
+spaces_in_escline p s InReturn old new g (x, k) = (all_spaces p x, λ z. spaces_text (place_view p) (plus (k.before_lf z) none))
+spaces_in_escline p s Open old new g (x, k) = (all_spaces p x, λ z. spaces_text (place_view p) (plus (k.ended z) none))
 
 -- a dropped entry or a dropped block, before more of the rest
 part_more : (p : Place) {b u : Text} {c : Bool} → DropsPart p b u c → (w z : Text) → ValueEnd true z → InPlace (next_place p c) (u ++ w) z → InPlace p ((47 ∷ 45 ∷ b) ++ w) z
@@ -108,11 +104,6 @@ part_none p s b f k is d = part_refused k is (subst (λ (y : Text). PlaceItems p
 
 pub part_not_there : (p : Place) (s b : Text) (e : PartEnd) (o : Option Place) → s ≡ 47 ∷ 45 ∷ b → AnswersDroppedPart p b (Some e) → AfterPart p (ended_view e.ended) o → o ≡ None → (is : List Item) → PlaceItems p s is → ⊥
 part_not_there p s b e o f (u, x, c) h i is d = part_nowhere x (subst (λ (o : Option Place). AfterPart p (ended_view e.ended) o) i h) is (subst (λ (y : Text). PlaceItems p y is) f d)
-
-no_blocks_end : (q : Place) → takes_blocks q ≡ true → may_end q ≡ true
-no_blocks_end (before_entry b) h = cc
-no_blocks_end before_block h = refl
-no_blocks_end after_block h = refl
 
 -- where blocks are taken, what has items may be there
 has_text : (p : Place) → takes_blocks p ≡ true → {s : Text} → Has p s → InPlace p s []
@@ -147,10 +138,10 @@ place_node after_block h (after ds ss) e =
 not_each : (p : Place) → takes_blocks p ≡ true → (t : Text) → ((s z : Text) → InPlace p s z → ValueEnd true z → ValueEnd true s) → InPlace p (t ++ (10 ∷ letter)) letter → BeforeEach p t → ⊥
 not_each p h t begins d f =
     let r = 10 ∷ letter in
-    let m = Terminator.newline (lf letter) in
+    let m = Terminator.newline (a_newline letter) in
     let x = place_node p h (f r letter m) (begins (t ++ r) letter d letter_end) in
     let y = place_node p h d (begins (t ++ r) letter d letter_end) in
-    some_nodes (letter_dropped (slashdash none) y.1 (in_front (dropped_node (slashdash none) x.1 m no_gap) letter_node))
+    some_nodes (letter_dropped (slashdash none) y.1 (gap_nodes (dropped_node (slashdash none) x.1 m no_gap) letter_node))
 
 -- the place so far
 pub place_turn : (p q w : Place) (s t v : Text) (r : Text) {old now new : Option (List Item)} → Adding (PlaceThrough p s q t) old now → Adding (PlaceThrough q t w r) now new → v ≡ r → Adding (PlaceThrough p s w v) old new
@@ -163,7 +154,7 @@ place_turn p q w s t v r {old = old} (adding is e k) (adding js f m) x =
 
 done : (p q : Place) (s t : Text) (is : List Item) → PlaceThrough p s q t is → t ≡ [] → takes_blocks p ≡ true → InPlace p s [] × BeforeEach p s
 done p q s t is k e h =
-    let d : PlaceItems q t [] = rw e (ends (no_blocks_end q (k.blocks h))) in (
+    let d : PlaceItems q t [] = rw e (ends (ends_here q (k.blocks h))) in (
       has_text p h (is, leaves_all (PlaceItems p s) (PlaceItems q t) is k.items d),
       λ r v m. k.adds [] d r r (terminator_end m) (subst (λ (y : Text). InPlace q (y ++ r) r) (sym e) (no_text q (k.blocks h) r)),
     )

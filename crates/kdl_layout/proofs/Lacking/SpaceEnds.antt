@@ -21,7 +21,7 @@ use Rattle.kdl_layout.proofs.Listing.SpaceItems.{added_none, then_added, run_lin
 use Rattle.kdl_layout.proofs.Listing.Starts.{two, slashes_end, starts_shorter, space_run, escline_space, break_items, break_escline, backslash_ws, break_of}
 use Rattle.kdl_syntax.proofs.Moving.FarMoves.{any_run}
 use Rattle.kdl_syntax.proofs.Moving.Puts.{Put, more_first, Move}
-use Rattle.kdl_layout.proofs.Rewriting.BeforeNewlines.{closed_block}
+use Rattle.kdl_layout.proofs.Rewriting.BeforeNewlines.{a_newline, closed_block, some}
 use Rattle.kdl_layout.specs.Lacks.{AreNodeSpaces}
 use Rattle.kdl_layout.proofs.NodeSpaces.{some_then}
 
@@ -51,10 +51,6 @@ pub alone : (R : Text → Text → Type 0) (s r : Text) → R (s ++ []) (r ++ []
 alone R s r x = subst (λ (z : Text). R z r) (append-nil s) (subst (λ (z : Text). R (s ++ []) z) (append-nil r) x)
 
 -- newlines
-pub lf : (w : Text) → Newline (10 ∷ w) w
-unfolding is_newline_char
-lf w = one refl refl
-
 pub cr : (w : Text) → begins 10 w ≡ false → Newline (13 ∷ w) w
 unfolding is_newline_char
 cr w h = one refl h
@@ -120,7 +116,7 @@ line_ends_as X s e InReturn short p q f n = record {
 }
 line_ends_as X s e Open short p q f n = record {
   alone = q n;
-  ended = λ w. p (10 ∷ w) w (subst (λ (z : Text). Newline (z ++ (10 ∷ w)) w) (sym n) (lf w));
+  ended = λ w. p (10 ∷ w) w (subst (λ (z : Text). Newline (z ++ (10 ∷ w)) w) (sym n) (a_newline w));
   swallows = f n;
 }
 
@@ -277,10 +273,7 @@ spaces_start s old = adding [] (added_none old) (leaves_start (GapItems s), λ w
 
 pub spaces_on : (s t v : Text) (r : Bor (List ℕ)) {old now new : Option (List Item)} → Adding (SpacesFrom s t) old now → Spaces NodeSpace SpaceItems t (Some (Before r)) now new → v ≡ chars r.now → Adding (SpacesFrom s v) old new
 spaces_on s t v r {old = old} (adding is e (l, f)) (adding js g run, (k, h)) x =
-    adding (is ++ js) (then_added old is js e g) (rw x (leaves_then (GapItems s) (GapItems t) (GapItems (chars r.now)) is js l (run_leaves (run_lines run)), λ w. join (f w) (all_of (k w))))
-  where
-    all_of : {s r : Text} → Plus NodeSpace s r → Star NodeSpace s r
-    all_of (plus n ns) = more n ns
+    adding (is ++ js) (then_added old is js e g) (rw x (leaves_then (GapItems s) (GapItems t) (GapItems (chars r.now)) is js l (run_leaves (run_lines run)), λ w. join (f w) (some (k w))))
 
 -- of two rests after node-spaces, the longer one reaches the shorter one by node-spaces
 longer : {s t r : Text} → Star NodeSpace s t → Star NodeSpace s r → length r ≤ length t → Star NodeSpace t r

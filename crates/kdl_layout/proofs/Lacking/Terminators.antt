@@ -1,25 +1,25 @@
 -- A terminator and the gap after it.
-use Rattle.std.proofs.Common.{◌≡◌, inl, ℕ, suc, ◌<◌, arith, Bool, true, false, [], ◌∷◌, ◌++◌, Option, Some, None, List, Bor, refl, sym, subst, ◌∙◌, append_assoc, append-nil}
+use Rattle.std.proofs.Common.{◌≡◌, inl, ℕ, suc, ◌<◌, arith, true, [], ◌∷◌, ◌++◌, Option, Some, None, List, Bor, refl, sym, subst, ◌∙◌, append_assoc, append-nil}
 use Rattle.std.specs.Str.{chars}
-use Rattle.kdl_text.specs.Chars.{Text, begins, Newline}
+use Rattle.kdl_text.specs.Chars.{Text, Newline}
 use Rattle.kdl_text.specs.Trivia.{Break}
 use Rattle.kdl_text.proofs.Spacing.SpaceUnique.{break_det}
 use Rattle.kdl_syntax.specs.Tokens.{t_space, t_newline, t_closing, t_semicolon}
 use Rattle.kdl_syntax.proofs.Lexing.TokenUnique.{token_det, no_token}
 use Rattle.kdl_grammar.specs.Data.{Nodes, none, first}
 use Rattle.kdl_grammar.specs.Grammar.{Terminator, Gap, no_gap, AreNodes}
-use Rattle.kdl_grammar.specs.ReadsBack.{NodesEnd, Anything, Terminates}
+use Rattle.kdl_grammar.specs.ReadsBack.{Anything, Terminates}
 use Rattle.kdl_layout.specs.Items.{Item, line_end}
 use Rattle.kdl_layout.specs.Lacks.{newlines, TerminatorLacks}
-use Rattle.kdl_layout.specs.Internal.Lacking.{letter, EndsInReturn, GapRead, LineEnds}
+use Rattle.kdl_layout.specs.Internal.Lacking.{letter, GapRead, LineEnds}
 use Rattle.kdl_layout.specs.Internal.Reading.{adding}
 use Rattle.kdl_layout.specs.declared.ends.Ending.TheVariants.{Before, InReturn, Open}
 use Rattle.kdl_layout.proofs.Dropping.Paths.{at_brace, halts}
 use Rattle.kdl_layout.proofs.Lacking.Fewest.{a, letter_space, letter_node, some_nodes, no_nodes, fewer_not, ends_more, no_gap_items}
-use Rattle.kdl_grammar.proofs.ReadingBack.Closing.{after_lf}
-use Rattle.kdl_layout.proofs.Lacking.GapPieces.{begins_lf, break_terminator}
-use Rattle.kdl_layout.proofs.Lacking.SpaceEnds.{alone, lf, break_at, break_open, break_ends_as, letter_line}
+use Rattle.kdl_layout.proofs.Lacking.GapPieces.{break_terminator, return_ends}
+use Rattle.kdl_layout.proofs.Lacking.SpaceEnds.{alone, break_at, break_open, break_ends_as, letter_line}
 use Rattle.kdl_layout.proofs.Listing.PlaceTexts.{gap_of}
+use Rattle.kdl_layout.proofs.Rewriting.BeforeNewlines.{a_newline}
 
 -- no newline or line comment begins with `;`
 semicolon_break : {s r : Text} → Break (59 ∷ s) r → ⊥
@@ -73,12 +73,8 @@ pub return_alone : {t u : Text} → Break t u → LineEnds (line_end t) InReturn
 return_alone {t = t} b n = let k = break_ends_as InReturn b n in (
   omega arith,
   ([], break_terminator (alone Break t [] (k.alone [] refl)), no_gap),
-  (λ w z xs i e ds. subst (λ (y : Text). (v : Text) × Terminator (y ++ w) v × AreNodes true v z xs) (sym (append-nil t)) (go k w z xs e ds (begins 10 w) refl), λ j h. absurd (omega (arith, h))),
+  (λ w z xs i e ds. subst (λ (y : Text). (v : Text) × Terminator (y ++ w) v × AreNodes true v z xs) (sym (append-nil t)) (let (v, m, es) = return_ends k w z xs e ds in (v, break_terminator m, es)), λ j h. absurd (omega (arith, h))),
 )
-  where
-    go : EndsInReturn Break t → (w z : Text) (xs : Nodes) → NodesEnd z → AreNodes true w z xs → (b : Bool) → begins 10 w ≡ b → (v : Text) × Terminator (t ++ w) v × AreNodes true v z xs
-    go k w z xs e ds true h = let (u, i) = begins_lf w h in (u, subst (λ (y : Text). Terminator (t ++ y) u) (sym i) (break_terminator (k.before_lf u)), after_lf _ e (subst (λ (y : Text). AreNodes true y z xs) i ds))
-    go k w z xs e ds false h = (w, break_terminator (k.alone w h), ds)
 
 letter_terminator : {v : Text} → Terminator letter v → ⊥
 letter_terminator (Terminator.newline n) = let e = (token_det (t_newline (Break.newline n)) (t_space letter_space)).1 in cc
@@ -100,7 +96,7 @@ pub open_alone : {t u : Text} → Break t u → LineEnds (line_end t) Open → T
 open_alone {t = t} b n = let k = break_ends_as Open b n in lacks_lf t (break_terminator k.alone) k.ended (λ v xs m ds. no_nodes (subst (λ (z : Text). AreNodes true z [] xs) (break_only (break_open b n letter letter_line) m) ds))
 
 pub end_alone : (t : Text) → t ≡ [] → TerminatorLacks t (Some 1)
-end_alone t e = lacks_lf t (subst (λ (z : Text). Terminator z []) (sym e) Terminator.at_end) (λ w. Break.newline (subst (λ (z : Text). Newline (z ++ (10 ∷ w)) w) (sym e) (lf w))) (λ v xs m ds. absurd (letter_terminator (subst (λ (z : Text). Terminator (z ++ letter) v) e m)))
+end_alone t e = lacks_lf t (subst (λ (z : Text). Terminator z []) (sym e) Terminator.at_end) (λ w. Break.newline (subst (λ (z : Text). Newline (z ++ (10 ∷ w)) w) (sym e) (a_newline w))) (λ v xs m ds. absurd (letter_terminator (subst (λ (z : Text). Terminator (z ++ letter) v) e m)))
 
 pub no_terminator : (t : Text) → ((r : Text) → t ≡ 59 ∷ r → ⊥) → ((r : Text) → Break t r → ⊥) → (t ≡ [] → ⊥) → TerminatorLacks t None
 no_terminator t f g h = λ (v, m, x). none f g h m x

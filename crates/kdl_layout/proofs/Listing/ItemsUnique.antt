@@ -6,6 +6,7 @@ use Rattle.kdl_entry.specs.Places.{between}
 use Rattle.kdl_syntax.specs.Control.{at, node_slashdash}
 use Rattle.kdl_layout.specs.Items.{Item, piece, GapItems, Place, takes_entries, PlaceItems}
 use Rattle.kdl_layout.specs.Internal.Passing.{ended, NodePasses}
+use Rattle.kdl_layout.specs.Kept.{EndItems, ItemsIn}
 use Rattle.kdl_layout.proofs.Dropping.DroppedNodes.{passes_node, passes_last, tight_same, node_returned, node_ended}
 use Rattle.kdl_layout.proofs.Dropping.DroppedParts.{place_quiet, entry_passes, block_passes, part_leaves}
 use Rattle.kdl_layout.proofs.Listing.SpaceItems.{gap_space, gap_end, place_space, place_end}
@@ -30,3 +31,23 @@ place_items_det {p = p} {js = js} (PlaceItems.dropped_entry {u = u} e (slashdash
 place_items_det {p = p} {js = js} (PlaceItems.dropped_block {u = u} e (slashdash {s = t} ls) b g) h =
     let w = (part_leaves (block_passes ls b (takes_entries p) t) e js).0 h in
     ap (λ (l : List Item). piece (between (47 ∷ 45 ∷ t) u) ∷ l) (place_items_det g w.2) ∙ sym w.1
+
+-- so a text in its place has one list of items
+pub items_in_det : {Has : List Item → Type 0} {is js : List Item} → ((is js : List Item) → Has is → Has js → is ≡ js) → ItemsIn Has is → ItemsIn Has js → is ≡ js
+items_in_det det (ItemsIn.items {is = is} d) (ItemsIn.items {is = js} e) = det is js d e
+items_in_det det (ItemsIn.no_items f) (ItemsIn.no_items h) = refl
+items_in_det det (ItemsIn.items {is = is} d) (ItemsIn.no_items h) = absurd (h is d)
+items_in_det det (ItemsIn.no_items f) (ItemsIn.items {is = is} e) = absurd (f is e)
+
+pub gap_in_det : {t : Text} {is js : List Item} → ItemsIn (GapItems t) is → ItemsIn (GapItems t) js → is ≡ js
+gap_in_det i j = items_in_det (λ is js d e. gap_items_det d e) i j
+
+pub place_in_det : {p : Place} {t : Text} {is js : List Item} → ItemsIn (PlaceItems p t) is → ItemsIn (PlaceItems p t) js → is ≡ js
+place_in_det i j = items_in_det (λ is js d e. place_items_det d e) i j
+
+-- and so has a terminator
+pub end_items_det : {t : Text} {is js : List Item} → EndItems t is → EndItems t js → is ≡ js
+end_items_det (EndItems.line_comment l) (EndItems.line_comment m) = refl
+end_items_det (EndItems.other f) (EndItems.other h) = refl
+end_items_det (EndItems.line_comment l) (EndItems.other h) = absurd (h l)
+end_items_det (EndItems.other f) (EndItems.line_comment m) = absurd (f m)

@@ -1,5 +1,5 @@
 -- A text has a list of items exactly where it may be in its place.
-use Rattle.std.proofs.Common.{◌≡◌, ◌↔◌, ◌⊎◌, inl, inr, true, false, List, [], ◌∷◌, ◌++◌, refl, sym, subst, ◌∙◌}
+use Rattle.std.proofs.Common.{Bool, ◌≡◌, ◌↔◌, ◌⊎◌, inl, inr, true, false, List, [], ◌∷◌, ◌++◌, refl, sym, subst, ◌∙◌}
 use Rattle.kdl_text.specs.Chars.{Text, Star, Plus, plus}
 use Rattle.kdl_text.specs.Chars.Star.{none as no_star, more}
 use Rattle.kdl_text.specs.Trivia.{NodeSpace, Break, LineSpace, Slashdash, slashdash}
@@ -12,6 +12,7 @@ use Rattle.kdl_entry.proofs.Moving.EntryMoves.{spaces_end}
 use Rattle.kdl_grammar.specs.Data.{Node, Nodes}
 use Rattle.kdl_grammar.specs.Grammar.{Terminator, IsNode, Gap, no_gap, IsBlock}
 use Rattle.kdl_grammar.specs.Places.{DroppedBlock, dropped as a_dropped_block, AfterChildren, after, BeforeChildren, before}
+use Rattle.kdl_layout.specs.Lacks.{InPlace}
 use Rattle.kdl_layout.specs.Items.{Item, piece, ItemEnd, GapItems, Place, before_entry, before_block, after_block, may_end, takes_entries, takes_blocks, spaced, PlaceItems}
 use Rattle.kdl_layout.proofs.Dropping.DroppedNodes.{passes_last, node_ended}
 use Rattle.kdl_layout.proofs.Dropping.Paths.{at_brace, halts}
@@ -106,14 +107,7 @@ leading_has : {s t : Text} → Star DroppedEntry s t → Plus NodeSpace t [] →
 leading_has no_star (plus n us) = space_first n (spaces_first (before_entry true) refl us ([], PlaceItems.ends refl))
 leading_has (more (a_dropped_entry ss m i) ds) us = entry_first (before_entry false) refl ss m i (leading_has ds us)
 
--- what may be in a place; after a node-space the text before an entry may be node-spaces alone
-abbrev TextIn : Place → Text → Type 0
-TextIn (before_entry false) s = EntryLeading s []
-TextIn (before_entry true) s = Star NodeSpace s [] ⊎ EntryLeading s []
-TextIn before_block s = BeforeChildren s []
-TextIn after_block s = AfterChildren s []
-
--- the same before a rest
+-- what begins with a node-space, a dropped entry or a dropped block may be in a place where what comes after that may
 pub lead_space : {s t r : Text} → NodeSpace s t → EntryLeading t r → EntryLeading s r
 lead_space n (leading no_star (plus m ms)) = leading no_star (plus n (more m ms))
 lead_space n (leading (more (a_dropped_entry ss m i) ds) ms) = leading (more (a_dropped_entry (more n ss) m i) ds) ms
@@ -135,53 +129,80 @@ space_before n (before (more (a_dropped_entry ss m i) ds) a) = before (more (a_d
 pub entry_before : {s t u r : Text} {e : Entry} → Slashdash s t → IsEntry true t u e → BeforeChildren u r → BeforeChildren s r
 entry_before m i (before ds a) = before (more (a_dropped_entry no_star m i) ds) a
 
-space_leading : {s t : Text} → NodeSpace s t → TextIn (before_entry true) t → EntryLeading s []
-space_leading n (inl us) = leading no_star (plus n us)
-space_leading n (inr d) = lead_space n d
+pub data DashedEntry : Text → Text → Type 0 where
+  dashed : {s t r : Text} {e : Entry} → Slashdash s t → IsEntry true t r e → DashedEntry s r
 
-text_space : (p : Place) {s t : Text} → NodeSpace s t → TextIn (spaced true p) t → TextIn p s
-text_space (before_entry false) n d = space_leading n d
-text_space (before_entry true) n d = inr (space_leading n d)
-text_space before_block n d = space_before n d
-text_space after_block n d = space_after n d
+pub data DashedBlock : Text → Text → Type 0 where
+  dashed : {s t r : Text} {xs : Nodes} → Slashdash s t → IsBlock true t r xs → DashedBlock s r
 
-text_entry : (p : Place) → takes_entries p ≡ true → {s t u : Text} {e : Entry} → Slashdash s t → IsEntry true t u e → TextIn (spaced false p) u → TextIn p s
-text_entry (before_entry false) h m i d = lead_entry m i d
-text_entry (before_entry true) h m i d = inr (lead_entry m i d)
-text_entry before_block h m i d = entry_before m i d
-text_entry after_block h m i d = absurd cc
+pub text_space : (p : Place) (r : Text) {s t : Text} → NodeSpace s t → InPlace p t r → InPlace p s r
+text_space (before_entry b) r n d = lead_space n d
+text_space before_block r n d = space_before n d
+text_space after_block r n d = space_after n d
 
-text_block : (p : Place) → takes_blocks p ≡ true → {s t u : Text} {xs : Nodes} → Slashdash s t → IsBlock true t u xs → AfterChildren u [] → TextIn p s
-text_block (before_entry b) h m i d = absurd cc
-text_block before_block h m i d = before no_star (braces_after m i d)
-text_block after_block h m i d = braces_after m i d
+pub text_entry : (p : Place) (r : Text) → takes_entries p ≡ true → {s t : Text} → DashedEntry s t → InPlace p t r → InPlace p s r
+text_entry (before_entry b) r h (DashedEntry.dashed m i) d = lead_entry m i d
+text_entry before_block r h (DashedEntry.dashed m i) d = entry_before m i d
+text_entry after_block r h (DashedEntry.dashed m i) d = absurd cc
 
-text_end : (p : Place) → may_end p ≡ true → TextIn p []
-text_end (before_entry false) h = absurd cc
-text_end (before_entry true) h = inl no_star
-text_end before_block h = before no_star (after no_star no_star)
-text_end after_block h = after no_star no_star
+pub text_block : (p : Place) (r : Text) → takes_blocks p ≡ true → {s t : Text} → DashedBlock s t → AfterChildren t r → InPlace p s r
+text_block (before_entry b) r h (DashedBlock.dashed m i) d = absurd cc
+text_block before_block r h (DashedBlock.dashed m i) d = before no_star (braces_after m i d)
+text_block after_block r h (DashedBlock.dashed m i) d = braces_after m i d
 
-text_of : (p : Place) {s : Text} {is : List Item} → PlaceItems p s is → TextIn p s
-text_of p (PlaceItems.ends h) = text_end p h
-text_of p (PlaceItems.space d g) = text_space p (space_of d) (text_of (spaced true p) g)
-text_of p (PlaceItems.dropped_entry h m i g) = text_entry p h m i (text_of (spaced false p) g)
-text_of p (PlaceItems.dropped_block h m b g) = text_block p h m b (text_of after_block g)
+pub no_text : (p : Place) → takes_blocks p ≡ true → (r : Text) → InPlace p r r
+no_text (before_entry b) h r = absurd cc
+no_text before_block h r = before no_star (after no_star no_star)
+no_text after_block h r = after no_star no_star
+
+pub spaces_text : (p : Place) {s r : Text} → Plus NodeSpace s r → InPlace p s r
+spaces_text (before_entry b) n = leading no_star n
+spaces_text before_block (plus n ns) = before no_star (after no_star (more n ns))
+spaces_text after_block (plus n ns) = after no_star (more n ns)
+
+pub place_spaced : (b : Bool) (p : Place) (s r : Text) → InPlace (spaced b p) s r → InPlace p s r
+place_spaced b (before_entry c) s r d = d
+place_spaced b before_block s r d = d
+place_spaced b after_block s r d = d
+
+-- what has items in a place is node-spaces alone, where it may end, or may be in the place
+abbrev TextIn : Place → Text → Type 0
+TextIn p s = ((may_end p ≡ true) × Star NodeSpace s []) ⊎ InPlace p s []
+
+after_space : (p : Place) {s t : Text} → NodeSpace s t → TextIn (spaced true p) t → InPlace p s []
+after_space p n (inl (h, ns)) = spaces_text p (plus n ns)
+after_space p n (inr d) = text_space p [] n (place_spaced true p _ [] d)
+
+alone : (p : Place) → may_end (spaced false p) ≡ true → {s : Text} → Star NodeSpace s [] → InPlace p s []
+alone (before_entry b) h ns = absurd cc
+alone p h (more n ns) = spaces_text p (plus n ns)
+alone before_block h no_star = no_text before_block refl []
+alone after_block h no_star = no_text after_block refl []
+
+after_entry : (p : Place) {s : Text} → TextIn (spaced false p) s → InPlace p s []
+after_entry p (inl (h, ns)) = alone p h ns
+after_entry p (inr d) = place_spaced false p _ [] d
+
+text_of : {p : Place} {s : Text} {is : List Item} → PlaceItems p s is → TextIn p s
+text_of (PlaceItems.ends h) = inl (h, no_star)
+text_of {p = p} (PlaceItems.space d g) = inr (after_space p (space_of d) (text_of g))
+text_of {p = p} (PlaceItems.dropped_entry h m i g) = inr (text_entry p [] h (DashedEntry.dashed m i) (after_entry p (text_of g)))
+text_of {p = p} (PlaceItems.dropped_block h m b g) = inr (text_block p [] h (DashedBlock.dashed m b) (after_entry after_block (text_of g)))
 
 pub before_block_items : (s : Text) → BeforeChildren s [] ↔ ((is : List Item) × PlaceItems before_block s is)
-before_block_items s = (λ d. has d, λ h. text_of before_block h.1)
+before_block_items s = (λ d. has d, λ h. after_entry before_block (text_of h.1))
   where
     has : BeforeChildren s [] → Has before_block s
     has (before ds a) = before_has ds a
 
 pub after_block_items : (s : Text) → AfterChildren s [] ↔ ((is : List Item) × PlaceItems after_block s is)
-after_block_items s = (λ d. has d, λ h. text_of after_block h.1)
+after_block_items s = (λ d. has d, λ h. after_entry after_block (text_of h.1))
   where
     has : AfterChildren s [] → Has after_block s
     has (after ds us) = after_has after_block refl refl refl ds us
 
 pub before_entry_items : (s : Text) → EntryLeading s [] ↔ ((is : List Item) × PlaceItems (before_entry false) s is)
-before_entry_items s = (λ d. has d, λ h. text_of (before_entry false) h.1)
+before_entry_items s = (λ d. has d, λ h. after_entry (before_entry false) (text_of h.1))
   where
     has : EntryLeading s [] → Has (before_entry false) s
     has (leading ds us) = leading_has ds us

@@ -254,6 +254,11 @@ ends_spaced (before_entry c) = refl
 ends_spaced before_block = refl
 ends_spaced after_block = refl
 
+pub ends_here : (p : Place) → takes_blocks p ≡ true → may_end p ≡ true
+ends_here (before_entry b) h = cc
+ends_here before_block h = refl
+ends_here after_block h = refl
+
 -- node-spaces in a place
 pub run_places : (p : Place) {s r : Text} {is : List Item} → Run SpaceItems s r is → Leaves (PlaceItems p s) (PlaceItems (spaced true p) r) is
 run_places p (one_run d) = place_space d

@@ -13,7 +13,7 @@ use Rattle.kdl_layout.specs.Written.{tail}
 use Rattle.kdl_layout.specs.Blank.{at_start, blank_lines, past_items, past_node, read}
 use Rattle.kdl_layout.specs.Config.{Settings, indentation}
 use Rattle.kdl_layout.specs.Formatted.{or_empty, or_empty_document, newline_if_none, in_braces, DocumentKeepsNone, NodeKeepsNone, with_keep_if}
-use Rattle.kdl_layout.specs.Kept.{KeptEnd, Written, WrittenEnd, WrittenUnless, entry_leading, is_kept_format}
+use Rattle.kdl_layout.specs.Kept.{ItemsIn, KeptEnd, EndItems, WrittenUnless, entry_leading, is_kept_format}
 use Rattle.kdl_layout.specs.OneLine.{IsLaidDocument, IsLaidNode, braces_in_line, braces_on_line, head_on_line, in_one_line, is_end, is_on_one_line, line_on_line, node_in_line, nodes_in_line, nodes_on_line, one_lined_node, one_lined_children, one_lined_document, one_lined_nodes, entry_on_line, form_on_line, maybe_form_on_line, maybe_on_line, name_on_line, spelling_on_line}
 use Rattle.kdl_layout.specs.Plain.{only_spaces, plain_line, no_newline}
 use Rattle.kdl_layout.specs.Respelled.{IsTypedFormat, KeptTypeTexts, TypeTexts, node_type_texts, KeptSpelling, IsRespelled, IsRespelledIf, text_before, KeptLeading, KeepsForm, KeptForm, entry_type_texts, HasSpellings, HasSpellingsUnless, IsRespelledEntry, AreRespelledEntries}
@@ -22,27 +22,21 @@ use Rattle.kdl_layout.specs.Parts.{NodeTexts, AreFormattedEntries, IsFormattedEn
 use Rattle.kdl_layout.specs.declared.blank.Before.{Before}
 use Rattle.kdl_layout.proofs.Rewriting.LinesAgain.{newline_items, spaces_items}
 use Rattle.kdl_layout.proofs.Keeping.GapFronts.{alone, joined, newline_if, indented}
-use Rattle.kdl_layout.proofs.OneLine.Nothing.{ArePlain, Quiet, are_plain, head_parts, nothing_kept, nothing_spaced, quiet_lead, quiet_lines, quiet_node, quiet_start, read_spaces, spaces_without_bom, line_is_plain, quiet_passes, nothing_tailed, spaces_place, HeadParts}
+use Rattle.kdl_layout.proofs.OneLine.Nothing.{ArePlain, Quiet, are_plain, head_parts, nothing_kept, quiet_lead, quiet_lines, quiet_node, quiet_start, read_spaces, spaces_without_bom, line_is_plain, quiet_passes, nothing_tailed, HeadParts}
 use Rattle.kdl_layout.proofs.OneLine.Same.{one_or_more, block_stays}
 use Rattle.kdl_layout.proofs.Keeping.KeptPlaces.{level_spaces}
 use Rattle.kdl_layout.proofs.Respelling.Spelled.{SpelledHead, SpelledNode, spelled, SpelledChildren, blockless, spelled_block, SpelledNodes, nodeless, one_more, SpelledDocument, spelled_document, spelled_node}
 use Rattle.kdl_layout.proofs.Respelling.Again.{document_again, node_again}
 use Rattle.kdl_layout.proofs.Spacing.TextsAgain.{start_again}
-use Rattle.kdl_layout.proofs.Spacing.Reads.{nothing_of}
+use Rattle.kdl_layout.proofs.Spacing.Reads.{nothing_of, passes_as}
 use Rattle.kdl_layout.proofs.Respelling.Kept.{OnlySpaces, place_bare_if, spaces_continue_nothing, types_bare_if}
 use Rattle.kdl_layout.proofs.Respelling.Off.{same_if}
-use Rattle.kdl_layout.proofs.Keeping.KeptAgain.{none_before}
 use Rattle.kdl_entry.specs.Tree.{Entry, EntryFormat, Identifier, unspelled, kept, with_keep, autoformatted, autoformatted_format}
 
 -- what is laid out on one line is on one line
 no_spelling : (o : Option Identifier) → maybe_on_line (option_map unspelled o) ≡ true
 no_spelling None = refl
 no_spelling (Some i) = refl
-
--- nothing is kept before an entry on one line
-before_nothing : (b : Bool) (leading t : Text) → only_spaces leading ≡ true → WrittenUnless b (PlaceItems (before_entry false) leading) tail t → t ≡ []
-before_nothing b [] t h k = none_before b t k
-before_nothing b (c ∷ leading) t h k = nothing_tailed b (before_entry false) (c ∷ leading) t (spaces_place (before_entry false) c leading h) k
 
 -- the parts of an entry's format
 record FormParts (f : EntryFormat) : Type 0 where
@@ -78,7 +72,7 @@ form_parts f h =
 module _ (s : Settings) where
   laid_leading : (keep : Bool) (e : Entry) (t : Text) → maybe_form_on_line e.format ≡ true → WrittenUnless (is_kept_format (with_keep_if keep e).format || s.no_comments) (PlaceItems (before_entry false) (entry_leading (with_keep_if keep e).format)) tail t
       → t ≡ []
-  laid_leading keep e t h k = before_nothing (is_kept_format (with_keep_if keep e).format || s.no_comments) (entry_leading (with_keep_if keep e).format) t (leading keep e.format h) k
+  laid_leading keep e t h k = nothing_tailed (is_kept_format (with_keep_if keep e).format || s.no_comments) (before_entry false) (entry_leading (with_keep_if keep e).format) t (leading keep e.format h) k
     where
       flagged : (o : Option EntryFormat) → maybe_form_on_line o ≡ true → only_spaces (entry_leading (option_map with_keep o)) ≡ true
       flagged None h = refl
@@ -277,11 +271,11 @@ no_texts = record { before = []; before_block = []; last = []; space = []; comme
 module _ (number : ℕ) (s : Settings) where
   nothing_before : (no : Bool) → WrittenUnless no (PlaceItems before_block []) tail []
   nothing_before true = refl
-  nothing_before false = Written.items {is = []} (PlaceItems.ends refl)
+  nothing_before false = ([], ItemsIn.items (PlaceItems.ends refl), refl)
 
   nothing_at_end : (no : Bool) → KeptEnd no (10 ∷ []) [] []
   nothing_at_end true = (refl, refl)
-  nothing_at_end false = WrittenEnd.other (no_line_comment refl)
+  nothing_at_end false = ([], EndItems.other (no_line_comment refl), refl, refl)
 
   module _ (ok : list_all is_space s.indent ≡ true) (level : ℕ) where
     ind_spaces : only_spaces (indentation s level) ≡ true
@@ -353,7 +347,7 @@ module _ (number : ℕ) (s : Settings) where
 
 quiet_first : (number : ℕ) (s : Settings) (level : ℕ) (t u : Text) (b : Before) → GapItems t [] → SpacedLines number s level at_start t u b → Quiet number b
 quiet_first zero s level t u b g k = tt
-quiet_first (suc n) s level t u b g k = ap blank_lines (nothing_spaced (suc n) s level at_start b t u g k).1
+quiet_first (suc n) s level t u b g k = ap blank_lines (passes_as g k.1)
 
 module _ (number : ℕ) (s : Settings) (ok : list_all is_space s.indent ≡ true) (keep : Bool) where
   -- the formats of nodes stay

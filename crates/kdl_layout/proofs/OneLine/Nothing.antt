@@ -5,23 +5,22 @@ use Rattle.std.proofs.lemmas.Bool.{and_parts, eqb-true}
 use Rattle.std.specs.List.{list_all, list_any}
 use Rattle.std.specs.Prelude.{if◌then◌else◌, ◌&&◌, min, max}
 use Rattle.kdl_text.specs.Chars.{Text, is_space, is_newline_char, times}
-use Rattle.kdl_text.specs.Chars.Space.{space as a_space}
 use Rattle.kdl_text.specs.Trivia.{LineComment}
 use Rattle.kdl_text.proofs.Spacing.SpaceUnique.{no_line_comment}
 use Rattle.kdl_entry.specs.Tree.{Identifier}
 use Rattle.kdl_grammar.specs.Tree.{NodeFormat, Head, node, Children, no_children, children, Nodes, none, first}
-use Rattle.kdl_layout.specs.Items.{Item, SpaceItems, GapItems, Place, before_block, may_end, spaced, PlaceItems}
-use Rattle.kdl_layout.specs.Written.{lines, tail}
-use Rattle.kdl_layout.proofs.Listing.ItemsUnique.{gap_items_det, place_items_det}
+use Rattle.kdl_layout.specs.Items.{Item, GapItems, Place, before_block, PlaceItems}
+use Rattle.kdl_layout.specs.Written.{tail}
+use Rattle.kdl_layout.proofs.Listing.ItemsUnique.{end_items_det, gap_items_det, items_in_det, place_items_det}
 use Rattle.kdl_layout.proofs.Rewriting.LinesAgain.{spaces_items}
-use Rattle.kdl_layout.specs.Blank.{at_start, blank_lines, empty_lines, newlines, one_if, past_items, past_node, read, spaced_lines, after_char, counts}
+use Rattle.kdl_layout.specs.Blank.{at_start, blank_lines, empty_lines, newlines, one_if, past_node, read, spaced_lines, after_char, counts}
 use Rattle.kdl_layout.specs.Config.{Settings, indentation}
 use Rattle.kdl_layout.specs.Formatted.{or_empty}
-use Rattle.kdl_layout.specs.Kept.{KeptEnd, Written, WrittenUnless, WrittenEnd, without_bom}
+use Rattle.kdl_layout.specs.Kept.{EndItems, ItemsIn, KeptEnd, WrittenUnless, end_comment, end_space, without_bom}
 use Rattle.kdl_layout.specs.OneLine.{end_on_line, head_on_line, is_end, line_on_line, nodes_on_line, maybe_on_line, name_on_line, entry_on_line}
 use Rattle.kdl_layout.specs.Plain.{only_spaces, plain_line}
 use Rattle.kdl_layout.specs.Respelled.{TypeTexts, node_type_texts, with_type_texts}
-use Rattle.kdl_layout.specs.Spaced.{Passes, PassesNode, Spaces, SpacedLines, SpacesTexts}
+use Rattle.kdl_layout.specs.Spaced.{PassesNode, SpacedLines, SpacesTexts}
 use Rattle.kdl_layout.specs.Parts.{NodeTexts, line_of}
 use Rattle.kdl_layout.proofs.Respelling.Kept.{OnlySpaces}
 use Rattle.kdl_layout.proofs.Respelling.Written.{IsTypedLine, head_line}
@@ -29,50 +28,24 @@ use Rattle.kdl_layout.specs.declared.blank.Before.{Before}
 use Rattle.kdl_layout.specs.declared.blank.Before.TheVariants.{Nothing, Thing}
 use Rattle.kdl_layout.specs.declared.blank.Last.{Last}
 use Rattle.kdl_layout.proofs.Respelling.Spelled.{spelled, blockless, spelled_block, SpelledNodes, nodeless, one_more}
-use Rattle.kdl_layout.proofs.Keeping.KeptPlaces.{ends_spaced}
+use Rattle.kdl_layout.proofs.Keeping.KeptReads.{spaces_in}
+use Rattle.kdl_layout.proofs.Spacing.Reads.{passes_as}
 use Rattle.kdl_layout.proofs.Spacing.Lines.{space_no_newline, space_no_slash, no_lines}
 
 space_no_bom : (c : ℕ) → is_space c ≡ true → (c == 0xFEFF) ≡ false
 unfolding is_space
 space_no_bom c h = grind (arith, nat_tests)
 
--- spaces hold no items
-pub spaces_place : (p : Place) (c : ℕ) (t : Text) → only_spaces (c ∷ t) ≡ true → PlaceItems p (c ∷ t) []
-spaces_place p c [] h =
-    let e = and_parts (is_space c) (only_spaces []) h in
-    PlaceItems.space {is = []} {js = []} (SpaceItems.space (a_space {c = c} e.0)) (PlaceItems.ends (ends_spaced p))
-spaces_place p c (d ∷ t) h =
-    let e = and_parts (is_space c) (only_spaces (d ∷ t)) h in
-    PlaceItems.space {is = []} {js = []} (SpaceItems.space (a_space {c = c} e.0)) (spaces_place (spaced true p) d t e.1)
+-- nothing is kept of a text without items
+nothing_written : (out : Bool) (has : List Item → Type 0) (write : List Item → Text) {u : Text} → ((is js : List Item) → has is → has js → is ≡ js) → write [] ≡ [] → ItemsIn has [] → WrittenUnless out has write u → u ≡ []
+nothing_written true has write det e h k = k
+nothing_written false has write det e h (is, i, q) = q ∙ ap write (items_in_det det i h) ∙ e
 
-pub spaces_in : (p : Place) → may_end p ≡ true → (t : Text) → only_spaces t ≡ true → PlaceItems p t []
-spaces_in p m [] h = PlaceItems.ends m
-spaces_in p m (c ∷ t) h = spaces_place p c t h
-
--- so nothing is kept of them
-pub nothing_written : (no : Bool) (before t u : Text) → GapItems t [] → WrittenUnless no (GapItems t) (lines before) u → u ≡ []
-nothing_written true before t u g k = k
-nothing_written false before t _ g (Written.items d) = ap (lines before) (gap_items_det d g)
-nothing_written false before t _ g (Written.none f) = refl
-
-pub nothing_tailed : (no : Bool) (p : Place) (t u : Text) → PlaceItems p t [] → WrittenUnless no (PlaceItems p t) tail u → u ≡ []
-nothing_tailed true p t u g k = k
-nothing_tailed false p t _ g (Written.items d) = ap tail (place_items_det d g)
-nothing_tailed false p t _ g (Written.none f) = refl
-
-no_lines_of : (no : Bool) (number : ℕ) (ind : Text) (b : Before) (t : Text) (is : List Item) → is ≡ [] → (if no then [] else spaced_lines number ind b t is) ≡ []
-no_lines_of true number ind b t is e = refl
-no_lines_of false number ind b t is e = ap (spaced_lines number ind b t) e
-
-pub nothing_spaced : (number : ℕ) (s : Settings) (level : ℕ) (b b' : Before) (t u : Text) → GapItems t [] → Spaces number s level b t u b' → (u ≡ []) × (b' ≡ read t b)
-nothing_spaced number s level b b' t _ g (Spaces.items {is = is} d) =
-    let e : is ≡ [] = gap_items_det d g in
-    (no_lines_of s.no_comments number (indentation s level) b t is e, ap (past_items s.no_comments b t) e)
-nothing_spaced number s level b b' t _ g (Spaces.no_gap f) = absurd (f [] g)
+pub nothing_tailed : (out : Bool) (p : Place) (t u : Text) → only_spaces t ≡ true → WrittenUnless out (PlaceItems p t) tail u → u ≡ []
+nothing_tailed out p t u h k = nothing_written out (PlaceItems p t) tail (λ is js d e. place_items_det d e) refl (spaces_in p t h) k
 
 pub nothing_kept : (number : ℕ) (s : Settings) (level : ℕ) (b b' : Before) (t u : Text) → GapItems t [] → SpacedLines number s level b t u b' → u ≡ []
-nothing_kept zero s level b b' t u g k = nothing_written s.no_comments (indentation s level) t u g k
-nothing_kept (suc number) s level b b' t u g k = (nothing_spaced (suc number) s level b b' t u g k).0
+nothing_kept number s level b b' t u g k = nothing_written s.no_comments (GapItems t) (spaced_lines number (indentation s level) b t) (λ is js d e. gap_items_det d e) refl (ItemsIn.items g) k.0
 
 -- spaces hold no newlines
 no_newline_here : (slash newline k : Bool) (l : Last) (t : Text) → slash ≡ false → newline ≡ false → newlines l t ≡ 0 → (if slash then 0 else one_if (newline && k) + newlines l t) ≡ 0
@@ -110,7 +83,7 @@ quiet_start (suc number) = refl
 
 pub quiet_lead : (number : ℕ) (s : Settings) (level : ℕ) (b b' : Before) (t u : Text) → only_spaces t ≡ true → SpacedLines number s level b t u b' → Quiet number b → Quiet number b'
 quiet_lead zero s level b b' t u h k q = tt
-quiet_lead (suc number) s level b b' t u h k q = (ap blank_lines (nothing_spaced (suc number) s level b b' t u (spaces_items t h) k).1) ∙ read_spaces t b h q
+quiet_lead (suc number) s level b b' t u h k q = ap blank_lines (passes_as (spaces_items t h) k.1) ∙ read_spaces t b h q
 
 -- of a terminator nothing is kept
 pub no_comment : (last : Bool) (terminator : Text) → end_on_line last terminator ≡ true → LineComment terminator [] → ⊥
@@ -119,13 +92,9 @@ no_comment last (c ∷ s) h l =
     let e : c ≡ 59 = eqb-true c 59 (and_parts (c == 59) (list_all (λ d. d == 59) s) h).0 in
     no_line_comment {s = 59 ∷ s} refl (subst (λ (x : ℕ). LineComment (x ∷ s) []) e l)
 
-written_end : (terminator space comment : Text) → (LineComment terminator [] → ⊥) → WrittenEnd terminator space comment → (space ≡ []) × (comment ≡ [])
-written_end terminator _ _ bare (WrittenEnd.comment l) = absurd (bare l)
-written_end terminator _ _ bare (WrittenEnd.other f) = (refl, refl)
-
 pub nothing_ended : (b : Bool) (terminator space comment : Text) → (LineComment terminator [] → ⊥) → KeptEnd b terminator space comment → (space ≡ []) × (comment ≡ [])
 nothing_ended true terminator space comment bare k = k
-nothing_ended false terminator space comment bare k = written_end terminator space comment bare k
+nothing_ended false terminator space comment bare (is, i, e, f) = let d = end_items_det i (EndItems.other bare) in (e ∙ ap end_space d, f ∙ ap end_comment d)
 
 -- the parts of a node's format
 pub record LineParts (last : Bool) (f : NodeFormat) : Type 0 where
@@ -175,7 +144,7 @@ module _ (number : ℕ) (s : Settings) (level : ℕ) where
       let lines = nothing_kept number s level b w.at_node f.leading w.lines (spaces_items f.leading p.leading) w.leading in
       let before : k.before ≡ [] = w.before ∙ ap (λ (t : Text). t ++ empty_lines number w.at_node) lines ∙ quiet_lines number w.at_node (quiet_lead number s level b w.at_node f.leading w.lines p.leading w.leading q) in
       let end = nothing_ended s.no_comments f.terminator k.space k.comment (no_comment last f.terminator p.terminator) w.end in
-      let last_text : k.last ≡ [] = nothing_tailed s.no_comments before_block f.before_terminator k.last (spaces_in before_block refl f.before_terminator p.before_terminator) w.last in
+      let last_text : k.last ≡ [] = nothing_tailed s.no_comments before_block f.before_terminator k.last p.before_terminator w.last in
       let following : k.following ≡ [] = nothing_kept number s level (past_node f.terminator) w.after_it f.trailing k.following (spaces_items f.trailing p.trailing) w.following in
       rw (before, w.before_block, last_text, end.0, end.1, following) refl
 
@@ -188,13 +157,9 @@ module _ (number : ℕ) (s : Settings) (level : ℕ) where
       trailing : only_spaces f.trailing ≡ true
       trailing = (line_parts last f e).trailing
 
-      passed : (b : Before) → Passes s.no_comments (past_node f.terminator) f.trailing b → b ≡ read f.trailing (past_node f.terminator)
-      passed b (Passes.items {is = is} d) = ap (past_items s.no_comments (past_node f.terminator) f.trailing) (gap_items_det d (spaces_items f.trailing trailing))
-      passed b (Passes.no_gap g) = absurd (g [] (spaces_items f.trailing trailing))
-
       go : (number : ℕ) → PassesNode number s (node h k) b → Quiet number b
       go zero p = tt
-      go (suc number) p = ap blank_lines (passed b p) ∙ read_spaces f.trailing (past_node f.terminator) trailing (quiet_node f.terminator)
+      go (suc number) p = ap blank_lines (passes_as (spaces_items f.trailing trailing) p) ∙ read_spaces f.trailing (past_node f.terminator) trailing (quiet_node f.terminator)
 
 -- around the type of a node on one line nothing is kept
 pub bare_line : (number : ℕ) (s : Settings) (level : ℕ) (last : Bool) (b : Before) (f : NodeFormat) (ty : Option Identifier) (g : Option NodeFormat) (l : IsTypedLine number s level false b f ty g) → line_on_line last f ≡ true

@@ -33,7 +33,7 @@ use Rattle.kdl_layout.proofs.OneLine.Same.{block_stays, nodes_flat, one_or_more}
 use Rattle.kdl_layout.proofs.Respelling.Written.{AreWrittenEntries, head_line, written_head}
 use Rattle.kdl_layout.proofs.Spacing.Lines.{lines_gap}
 use Rattle.kdl_layout.proofs.Respelling.Spelled.{SpelledNode, spelled, SpelledChildren, blockless, spelled_block, SpelledNodes, nodeless, one_more, SpelledDocument, spelled_document, spelled_node, same_block}
-use Rattle.kdl_layout.proofs.Keeping.KeptPlaces.{one_space}
+use Rattle.kdl_layout.proofs.Rewriting.PlacesAgain.{one_space}
 
 -- nothing comes before a `;`, and a space before a `}`
 pub nothing_before : (t : Text) → BeforeChildren t t

@@ -11,7 +11,7 @@ use Rattle.kdl_layout.specs.Items.{before_entry, PlaceItems}
 use Rattle.kdl_layout.specs.Written.{tail}
 use Rattle.kdl_layout.specs.Config.{Settings}
 use Rattle.kdl_layout.specs.Formatted.{with_keep_if, or_empty, or_empty_document, EntriesKeepNone, NodeKeepsNone, ChildrenKeepNone, DocumentKeepsNone, NodesKeepNone}
-use Rattle.kdl_layout.specs.Kept.{Written, WrittenUnless, KeptBefore, is_kept_format, entry_leading}
+use Rattle.kdl_layout.specs.Kept.{ItemsIn, WrittenUnless, KeptBefore, is_kept_format, entry_leading}
 use Rattle.kdl_layout.specs.Plain.{only_spaces}
 use Rattle.kdl_layout.specs.Respelled.{KeptSpelling, IsRespelled, IsRespelledIf, IsSpelling, text_before, KeptLeading, KeptPlaceIf, TypeTexts, KeptTypeTexts, KeptTypeTextsIf, KeepsForm, KeptForm, entry_type_texts, node_type_texts, with_type_texts, IsTypedFormat, HasSpellings, HasSpellingsUnless, IsRespelledEntry, AreRespelledEntries}
 use Rattle.kdl_layout.specs.Spaced.{IsSpacedLine}
@@ -20,7 +20,7 @@ use Rattle.kdl_layout.specs.declared.blank.Before.{Before}
 use Rattle.kdl_layout.proofs.EntryTexts.{no_format}
 use Rattle.kdl_layout.proofs.Rewriting.PlacesAgain.{tail_spaced}
 use Rattle.kdl_layout.proofs.Formatting.FormattedUnique.{entry_keeps_none, tail_det, cleared_after}
-use Rattle.kdl_layout.proofs.Keeping.KeptReads.{blank_tail, kept_bare}
+use Rattle.kdl_layout.proofs.Keeping.KeptReads.{kept_bare, kept_empty, spaces_in}
 use Rattle.kdl_layout.proofs.Respelling.Leaves.{cleared_same, entry_flag, unspelled_same, unspelled_same_if}
 use Rattle.kdl_layout.proofs.Respelling.Kept.{OnlySpaces, leading_again, place_again_if, place_bare_if, types_again_if, types_bare_if}
 use Rattle.kdl_layout.proofs.Respelling.Written.{leading_is, plain_format, name_is, ty_is, value_is, format_is}
@@ -42,8 +42,8 @@ text_stays b e q (c ∷ t) u k m = before_entry_stays b q (c ∷ t) u k m
 
 -- one space before an entry holds no items
 blank_kept : (b : Bool) → WrittenUnless b (PlaceItems (before_entry false) (32 ∷ [])) tail []
-blank_kept true = refl
-blank_kept false = blank_tail false (before_entry false) (32 ∷ []) [] refl refl refl
+unfolding is_space
+blank_kept b = kept_empty b (PlaceItems (before_entry false) (32 ∷ [])) tail [] (spaces_in (before_entry false) (32 ∷ []) refl) refl refl
 
 -- the same of the text that layout leaves before an entry
 before_plain : (s : Settings) (v : Value) (t u : Text) → WrittenUnless s.no_comments (PlaceItems (before_entry false) (text_before (plain_format t v))) tail u → KeptBefore s (plain_format t v) u
@@ -53,8 +53,8 @@ before_plain s v (c ∷ t) u k = k
 -- what is kept of comments is kept again after it is written
 tail_again : (b : Bool) (q t : Text) → WrittenUnless b (PlaceItems (before_entry false) q) tail t → WrittenUnless b (PlaceItems (before_entry false) (t ++ (32 ∷ []))) tail t
 tail_again true q t k = k
-tail_again false q _ (Written.items d) = Written.items (tail_spaced d)
-tail_again false q _ (Written.none n) = blank_kept false
+tail_again false q t (is, ItemsIn.items d, e) = (is, ItemsIn.items (rw e (tail_spaced d)), e)
+tail_again false q t (_, ItemsIn.no_items n, e) = rw e (blank_kept false)
 
 -- layout looks at the text before an entry, which is kept of it, with its spelling or without
 before_unlooked : (s : Settings) (e : Entry) (t u : Text) (o p q : Option EntryFormat) → is_kept_format o ≡ false → KeptBefore s o t → p ≡ plain_format t e.value → KeptForm s e o p q → KeptBefore s q u → KeptBefore s p u

@@ -7,13 +7,14 @@ use Rattle.std.specs.Str.{chars}
 use Rattle.kdl_entry.specs.Tree.{identifier_tree}
 use Rattle.kdl_entry.specs.declared.identifier.KdlIdentifier.{KdlIdentifier}
 use Rattle.kdl_text.specs.Chars.{Text, Star, Plus, plus, is_space}
-use Rattle.kdl_text.specs.Trivia.{BlockComment, Ws, NodeSpace, ValueEnd}
+use Rattle.kdl_text.specs.Trivia.{NodeSpace, ValueEnd}
 use Rattle.kdl_entry.specs.Places.{EntryLeading, leading}
 use Rattle.kdl_grammar.specs.Tree.{NodeFormat}
 use Rattle.kdl_layout.specs.Items.{Item, before_entry, PlaceItems}
 use Rattle.kdl_layout.specs.Lacks.{AreNodeSpaces}
 use Rattle.kdl_layout.proofs.Listing.SpaceItems.{space_items}
 use Rattle.kdl_layout.proofs.NodeSpaces.{empty_spaces, spaces_then}
+use Rattle.kdl_layout.proofs.Rewriting.BeforeNewlines.{some_end}
 use Rattle.kdl_layout.proofs.Listing.ItemsUnique.{place_items_det}
 use Rattle.kdl_layout.specs.Config.{Settings}
 use Rattle.kdl_layout.specs.Plain.{no_newline, only_spaces}
@@ -108,16 +109,8 @@ leading_again (KeptLeading.other n) (KeptLeading.other m) = refl
 pub not_empty : {s : Settings} {t : Text} → IsContinued s t → t ≡ [] → ⊥
 not_empty c e = let z : true ≡ false = sym (ap no_newline e) ∙ c.newline in cc
 
-node_space_ends : {s r : Text} → NodeSpace s r → ValueEnd true s
-node_space_ends (NodeSpace.ws (Ws.space p)) = ValueEnd.space p
-node_space_ends (NodeSpace.ws (Ws.comment (BlockComment.block p))) = ValueEnd.block_comment
-node_space_ends (NodeSpace.escline e) = ValueEnd.escline e
-
-plus_ends : {s r : Text} → Plus NodeSpace s r → ValueEnd true s
-plus_ends (plus n m) = node_space_ends n
-
 pub continued_ends : {s : Settings} {t : Text} → IsContinued s t → (r : Text) → ValueEnd true (t ++ r)
-continued_ends {t = t} c r = plus_ends (spaces_then t c.spaces (not_empty c) r)
+continued_ends {t = t} c r = some_end (spaces_then t c.spaces (not_empty c) r)
 
 pub continued_leads : {s : Settings} {t : Text} → IsContinued s t → (r : Text) → EntryLeading (t ++ r) r
 continued_leads {t = t} c r = leading Star.none (spaces_then t c.spaces (not_empty c) r)

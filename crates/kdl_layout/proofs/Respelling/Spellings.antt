@@ -125,9 +125,6 @@ pub next_other : (s : Text) (old new : Here) (k : Token) → old.rest ≡ s → 
 next_other s old new k e h = handed_cut s old new (kind_view k.kind) k.at e h
 
 -- what a read text spells
-pub word_spells : (t r w : Text) → Cuts t (tokens.string w) r → r ≡ [] → IsSpelling (text w) t
-word_spells t r w k e = cut_string t r w k e
-
 pub no_end : (b : Bool) (P : Type 0) → b ≡ false → (P → IsTrue b) → P → ⊥
 no_end b P e f p = let h : IsTrue b = f p in let z : false ≡ true = sym e ∙ h in cc
 

@@ -167,7 +167,7 @@ pub record Cut (R : Text → Text → Type 0) (s r : Text) : Type 0 where
   pub ends : (u : Text) → ValueEnd true u → ValueEnd true (at.put u)
   pub there : (u q : Text) → ValueEnd true u → Star NodeSpace u q → R (at.put u) q
 
-some_end : {s r : Text} → Plus NodeSpace s r → ValueEnd true s
+pub some_end : {s r : Text} → Plus NodeSpace s r → ValueEnd true s
 some_end (plus n ss) = space_ends n
 
 brace_end : {s r : Text} {xs : Nodes} → IsBlock true s r xs → ValueEnd true s
@@ -266,8 +266,8 @@ pub record NodeLine (x : Node) (s r : Text) : Type 0 where
   pub on : OnLine (λ s r. IsNode true s r x) s r
   pub begun : Begun on
 
-some_spaces : {s r : Text} → Plus NodeSpace s r → Star NodeSpace s r
-some_spaces (plus n ss) = more n ss
+pub some : {R : Text → Text → Type 0} {s r : Text} → Plus R s r → Star R s r
+some (plus n ss) = more n ss
 
 node_line_at : {x : Node} {s t r : Text} (p : Put s t) → Last s t → ((u : Text) → first (p.put u) ≡ first s)
     → ((u q : Text) → ValueEnd true u → Star NodeSpace u q → IsNode true (p.put u) q x) → Star NodeSpace t r → starts is_newline_char r ≡ true → NodeLine x s r
@@ -284,7 +284,7 @@ node_line_at {x = x} {t = t} p l full there none h = record {
 node_line_at p l full there (more n ss) h =
     let k = spaces_line n ss h in
     record {
-      on = following p k.on (λ u. there (k.on.line ++ (10 ∷ u)) (10 ∷ u) (some_end (k.on.there u)) (some_spaces (k.on.there u)));
+      on = following p k.on (λ u. there (k.on.line ++ (10 ∷ u)) (10 ∷ u) (some_end (k.on.there u)) (some (k.on.there u)));
       begun = λ u. ap first (sym (put_line p k.on.line u)) ∙ full (k.on.line ++ (10 ∷ u));
     }
 

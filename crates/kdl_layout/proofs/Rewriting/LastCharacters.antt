@@ -4,6 +4,7 @@ use Rattle.std.proofs.lemmas.Bool.{and_parts}
 use Rattle.std.proofs.lemmas.Bool.Decides.{nat_tests}
 use Rattle.std.specs.List.{list_all}
 use Rattle.std.specs.Prelude.{if◌then◌else◌}
+use Rattle.kdl_text.specs.Dedent.{LineUnit}
 use Rattle.kdl_text.specs.Chars.{Text, is_identifier_char, is_space, is_newline_char, is_banned, is_punctuation, times, space as a_space}
 use Rattle.kdl_text.specs.Bare.{BareString, bare as bare_text, is_bare}
 use Rattle.kdl_text.specs.MultiLine.{ContentUnit, Content, MultiLineBody, multi_line, IsQuoted}
@@ -13,7 +14,6 @@ use Rattle.kdl_text.specs.Strings.{StringUnit, IsUnit, one_literal, one_letter, 
 use Rattle.kdl_text.specs.Trivia.{Parts, close, nested, block, Ws}
 use Rattle.kdl_text.specs.declared.numbers.Keyword.{Keyword}
 use Rattle.kdl_text.specs.declared.numbers.Keyword.TheVariants.{True, False, Null, Infinity, NegativeInfinity, NotANumber}
-use Rattle.kdl_text.specs.declared.strings.dedent.LineUnit.{LineUnit}
 use Rattle.kdl_text.proofs.Looking.Ends.{End, here, also, then as following, past, end_newline}
 use Rattle.kdl_text.proofs.Spacing.SpacePieces.{parts_end}
 use Rattle.kdl_value.specs.Data.{Value}
@@ -199,7 +199,7 @@ entry_last (property k ss us v) = last_after (following (end_string k) (followin
 pub block_last : {s r : Text} {xs : Nodes} → IsBlock true s r xs → Last s r
 block_last (braces ns) = let m = move_nodes ns in last_also 123 (last_after (put_end m.at) (last_here 125 refl))
 
-space_other : (c : ℕ) → is_space c ≡ true → (c == 13) ≡ false
+pub space_other : (c : ℕ) → is_space c ≡ true → (c == 13) ≡ false
 unfolding is_space
 space_other c h = grind (arith, nat_tests)
 

@@ -18,6 +18,7 @@ use Rattle.kdl_layout.specs.Items.{Item, comment, piece, line_end, EsclineItems,
 use Rattle.kdl_layout.specs.Written.{item_text, line_text, lines, on_line}
 use Rattle.kdl_layout.proofs.Listing.PlaceTexts.{terminator_of}
 use Rattle.kdl_layout.proofs.Listing.SpaceItems.{line_space_of}
+use Rattle.kdl_layout.proofs.Listing.Starts.{slashes_end}
 use Rattle.kdl_layout.proofs.Rewriting.LastCharacters.{Last, last_here, last_after, last_also, put_end, ws_last}
 use Rattle.kdl_layout.proofs.Rewriting.BeforeNewlines.{piece_kept, closed_block, put_line, put_text, a_newline, newline_end, lf, line_char_other, cut_node, node_line}
 
@@ -50,10 +51,6 @@ part_end (c ∷ s) r = go (is_newline_char c) refl (part_end s r)
     go true e h = rw lf refl
     go false e h = rw e h
 
-slash_end : (s : Text) → line_end (47 ∷ 47 ∷ s) ≡ line_end s
-unfolding is_newline_char
-slash_end s = refl
-
 newline_here : (s : Text) → starts is_newline_char s ≡ true → line_end s ≡ s
 newline_here [] h = refl
 newline_here (c ∷ s) h = rw h refl
@@ -78,7 +75,7 @@ pub comment_again : (s r : Text) → LineComment (comment_part s ++ (10 ∷ r)) 
 comment_again s r = a_line (part_line s r)
 
 pub comment_end : (s r : Text) → line_end (comment_part s ++ (10 ∷ r)) ≡ 10 ∷ r
-comment_end s r = slash_end (line_part s ++ (10 ∷ r)) ∙ part_end s r
+comment_end s r = slashes_end (line_part s ++ (10 ∷ r)) ∙ part_end s r
 
 pub comment_text : (s r : Text) → between (comment_part s ++ (10 ∷ r)) (line_end (comment_part s ++ (10 ∷ r))) ≡ comment_part s
 comment_text s r = ap (between (comment_part s ++ (10 ∷ r))) (comment_end s r) ∙ between_is (comment_part s) (10 ∷ r)
@@ -89,11 +86,11 @@ comment_cut s = ap (λ (z : Text). 47 ∷ 47 ∷ z) (line_cut s)
 comment_last : (s : Text) → Last (47 ∷ 47 ∷ s) (line_end s)
 comment_last s = last_also 47 (part_last 47 refl s)
 
-comment_kept : (s : Text) → line_text (comment_part s) ≡ comment_part s
+pub comment_kept : (s : Text) → line_text (comment_part s) ≡ comment_part s
 comment_kept s = piece_kept (comment_part s) (comment_cut s) (comment_last s) []
 
 pub comment_item : {s r : Text} → LineComment s r → (z : Text) × (between s (line_end s) ≡ comment_part z)
-comment_item (a_line {s = z} l) = (z, ap (between (47 ∷ 47 ∷ z)) (slash_end z) ∙ sym (is_between (47 ∷ 47 ∷ z) (line_end z) (comment_part z) (comment_cut z)))
+comment_item (a_line {s = z} l) = (z, ap (between (47 ∷ 47 ∷ z)) (slashes_end z) ∙ sym (is_between (47 ∷ 47 ∷ z) (line_end z) (comment_part z) (comment_cut z)))
 
 -- the same rest, or the rest after LF
 pub data Over : Text → Text → Type 0 where
@@ -148,7 +145,7 @@ node_comment {s = s} {u = u} m n =
     let p = joined o.at (joined c.at k.at) in
     let last = λ (r : Text). comment_part u ++ (10 ∷ r) in
     let spaced = λ (r : Text). k.there (last r) refl in
-    rw (slash_end u)
+    rw (slashes_end u)
     (node_kept (joined p (before (comment_part u) (comment_cut u))) (last_after (put_end p) (comment_last u))
     (λ r. DroppedLine.dropped (o.there (c.at.put (k.at.put (last r))) (c.full (k.at.put (last r))))
     (c.there (k.at.put (last r)) (last r) (spaces_end (spaced r) ValueEnd.line_comment) (spaced r)) (subst (λ (e : Text). ItemEnd (last r) r e) (comment_end u r) (ItemEnd.line (Break.comment (comment_again u r)))) Over.over))

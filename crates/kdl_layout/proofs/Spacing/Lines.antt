@@ -12,20 +12,20 @@ use Rattle.kdl_grammar.specs.Grammar.{Gap}
 use Rattle.kdl_grammar.specs.Tree.{NodeFormat}
 use Rattle.kdl_layout.specs.Items.{Item, GapItems, comment, piece}
 use Rattle.kdl_layout.specs.Written.{item_text, line_text, on_line, lines}
-use Rattle.kdl_layout.proofs.Listing.ItemsUnique.{gap_items_det}
+use Rattle.kdl_layout.proofs.Listing.ItemsUnique.{gap_in_det}
 use Rattle.kdl_layout.proofs.Rewriting.LinesAgain.{AreStanding, gap_items, one_line, one_gap, spaces_before, spaces_gap, Standing, DroppedLine, line_text_again, text_on_line}
 use Rattle.kdl_layout.specs.Blank.{after_item, blank_lines, empty_lines, past_item, read, spaced_lines, past_items, at_start, from_item, last_after_item, last_before, last_of, newlines, one_if}
-use Rattle.kdl_layout.specs.Comments.{ItemsIn}
+use Rattle.kdl_layout.specs.Kept.{ItemsIn, WrittenUnless}
 use Rattle.kdl_layout.specs.Config.{Settings, indentation}
-use Rattle.kdl_layout.specs.Spaced.{SpacedLines, Spaces, SpacesTexts}
+use Rattle.kdl_layout.specs.Spaced.{SpacedLines, SpacesTexts}
 use Rattle.kdl_layout.specs.Parts.{NodeTexts}
 use Rattle.kdl_layout.specs.declared.blank.Before.{Before}
-use Rattle.kdl_layout.specs.Kept.{Written, WrittenUnless}
 use Rattle.kdl_layout.specs.declared.blank.Before.TheVariants.{Nothing, Thing}
 use Rattle.kdl_layout.specs.declared.blank.Last.{Last}
 use Rattle.kdl_layout.specs.declared.blank.Last.TheVariants.{Cr, Escline, Other}
 use Rattle.kdl_layout.proofs.Keeping.GapFronts.{Front, nothing, joined, newline}
 use Rattle.kdl_layout.proofs.Keeping.KeptPlaces.{level_spaces}
+use Rattle.kdl_layout.proofs.Rewriting.LastCharacters.{space_other}
 use Rattle.kdl_grammar.proofs.ReadingBack.Reads.{newline_gap}
 
 -- a space is no slash, no newline and no backslash
@@ -36,10 +36,6 @@ space_no_slash c h = grind (arith, nat_tests)
 pub space_no_newline : (c : ℕ) → is_space c ≡ true → is_newline_char c ≡ false
 unfolding is_space is_newline_char
 space_no_newline c h = grind (arith, nat_tests)
-
-space_no_cr : (c : ℕ) → is_space c ≡ true → (c == 13) ≡ false
-unfolding is_space
-space_no_cr c h = grind (arith, nat_tests)
 
 space_no_backslash : (c : ℕ) → is_space c ≡ true → (c == 92) ≡ false
 unfolding is_space
@@ -56,10 +52,10 @@ last_none slash newline cr backslash r e f g h = rw (e, f, g, h) refl
 
 module _ (c : ℕ) (h : is_space c ≡ true) (r : Text) where
   space_counts : newlines Other (c ∷ r) ≡ newlines Other r
-  space_counts = counts_none (c == 47) (is_newline_char c) (c == 13) (c == 92) r (space_no_slash c h) (space_no_newline c h) (space_no_cr c h) (space_no_backslash c h)
+  space_counts = counts_none (c == 47) (is_newline_char c) (c == 13) (c == 92) r (space_no_slash c h) (space_no_newline c h) (space_other c h) (space_no_backslash c h)
 
   space_last : last_of Other (c ∷ r) ≡ last_of Other r
-  space_last = last_none (c == 47) (is_newline_char c) (c == 13) (c == 92) r (space_no_slash c h) (space_no_newline c h) (space_no_cr c h) (space_no_backslash c h)
+  space_last = last_none (c == 47) (is_newline_char c) (c == 13) (c == 92) r (space_no_slash c h) (space_no_newline c h) (space_other c h) (space_no_backslash c h)
 
 -- what comes after spaces: nothing, or an item
 abbrev pub IsEnd : Text → Type 0
@@ -294,35 +290,20 @@ module _ (number : ℕ) (ind : Text) (ok : list_all is_space ind ≡ true) where
   spaced_gap b s is d g = all_gap b s is (gap_items d) g
 
 -- a line for each item, where no blank lines are kept
-zero_lines : (ind : Text) (b : Before) (s : Text) (is : List Item) → spaced_lines 0 ind b s is ≡ lines ind is
+pub zero_lines : (ind : Text) (b : Before) (s : Text) (is : List Item) → spaced_lines 0 ind b s is ≡ lines ind is
 zero_lines ind b s [] = refl
 zero_lines ind b s (i ∷ is) =
     ap (λ (t : Text). (t ++ ind ++ line_text (item_text i) ++ (10 ∷ [])) ++ spaced_lines 0 ind (past_item false i (read s b)) (after_item i s) is) (no_lines (read s b))
     ∙ ap (λ (t : Text). (ind ++ line_text (item_text i) ++ (10 ∷ [])) ++ t) (zero_lines ind (past_item false i (read s b)) (after_item i s) is)
 
-pub kept_spaces : (s : Settings) → s.no_comments ≡ false → (level : ℕ) (b : Before) (place t : Text) → Written (GapItems place) (lines (indentation s level)) t → (b' : Before) × Spaces 0 s level b place t b'
-kept_spaces s with level b place _ (Written.items {is = is} d) = (
-  past_items s.no_comments b place is,
-  subst (λ (t : Text). Spaces 0 s level b place t (past_items s.no_comments b place is)) (ap (λ (x : Bool). if x then [] else spaced_lines 0 (indentation s level) b place is) with ∙ zero_lines (indentation s level) b place is) (Spaces.items d),
-)
-kept_spaces s with level b place _ (Written.none f) = (b, Spaces.no_gap f)
-
 module _ (s : Settings) (ok : list_all is_space s.indent ≡ true) where
-  spaces_kept_gap : (number level : ℕ) (b b' : Before) (place t : Text) → Spaces number s level b place t b' → {u r : Text} → Gap true u r → Gap true (t ++ u) r
-  spaces_kept_gap number level b b' place _ (Spaces.no_gap f) g = g
-  spaces_kept_gap number level b b' place _ (Spaces.items {is = is} d) {u} {r} g = go s.no_comments
-    where
-      go : (x : Bool) → Gap true ((if x then [] else spaced_lines number (indentation s level) b place is) ++ u) r
-      go true = g
-      go false = spaced_gap number (indentation s level) (level_spaces s.indent ok level) b place is d g
-
   pub lines_gap : (number level : ℕ) (b b' : Before) (place t : Text) → SpacedLines number s level b place t b' → {u r : Text} → Gap true u r → Gap true (t ++ u) r
-  lines_gap zero level b b' place t k {u} {r} g = go s.no_comments refl k
+  lines_gap number level b b' place t (k, p) {u} {r} g = go s.no_comments k
     where
-      go : (x : Bool) → s.no_comments ≡ x → WrittenUnless x (GapItems place) (lines (indentation s level)) t → Gap true (t ++ u) r
-      go true e k = rw k g
-      go false e k = let x = kept_spaces s e level b place t k in spaces_kept_gap 0 level b x.0 place t x.1 g
-  lines_gap (suc number) level b b' place t k g = spaces_kept_gap (suc number) level b b' place t k g
+      go : (x : Bool) → WrittenUnless x (GapItems place) (spaced_lines number (indentation s level) b place) t → Gap true (t ++ u) r
+      go true k = rw k g
+      go false (is, ItemsIn.items d, e) = rw e (spaced_gap number (indentation s level) (level_spaces s.indent ok level) b place is d g)
+      go false (_, ItemsIn.no_items f, e) = rw e g
 
   -- before a node
   pub before_gap : (number level : ℕ) (has : Bool) (b : Before) (f : NodeFormat) (k : NodeTexts) → SpacesTexts number s level has b f k → {u r : Text} → Gap true u r → Gap true (k.before ++ u) r
@@ -331,20 +312,17 @@ module _ (s : Settings) (ok : list_all is_space s.indent ≡ true) where
       (lines_gap number level b w.at_node f.leading w.lines w.leading (times_gap _ g))
 
   module _ (with : s.no_comments ≡ false) where
-    spaces_front : (number level : ℕ) (b b' : Before) (place t : Text) {is : List Item} → Spaces number s level b place t b' → ItemsIn (GapItems place) is → Front t (map on_line is)
-    spaces_front number level b b' place _ (Spaces.no_gap f) (ItemsIn.no_items h) = nothing
-    spaces_front number level b b' place _ (Spaces.no_gap f) (ItemsIn.items {is = is} e) = absurd (f is e)
-    spaces_front number level b b' place _ (Spaces.items {is = js} d) (ItemsIn.no_items h) = absurd (h js d)
-    spaces_front number level b b' place _ (Spaces.items {is = js} d) (ItemsIn.items {is = is} e) =
-        subst (λ (x : Bool). Front (if x then [] else spaced_lines number (indentation s level) b place js) (map on_line is)) (sym with)
-        (subst (λ (l : List Item). Front (spaced_lines number (indentation s level) b place js) (map on_line l)) (gap_items_det d e)
-        (record { gap = λ g. spaced_gap number (indentation s level) (level_spaces s.indent ok level) b place js d g; items = λ g. spaced_items number (indentation s level) (level_spaces s.indent ok level) b place js d g }))
+    items_front : (number level : ℕ) (b : Before) (place : Text) {is : List Item} → ItemsIn (GapItems place) is → Front (spaced_lines number (indentation s level) b place is) (map on_line is)
+    items_front number level b place (ItemsIn.items {is = is} d) =
+        let ind = indentation s level in let spaces = level_spaces s.indent ok level in
+        record { gap = λ g. spaced_gap number ind spaces b place is d g; items = λ g. spaced_items number ind spaces b place is d g }
+    items_front number level b place (ItemsIn.no_items f) = nothing
 
     pub lines_front : (number level : ℕ) (b b' : Before) (place t : Text) {is : List Item} → SpacedLines number s level b place t b' → ItemsIn (GapItems place) is → Front t (map on_line is)
-    lines_front zero level b b' place t k i =
-        let x = kept_spaces s with level b place t (subst (λ (z : Bool). WrittenUnless z (GapItems place) (lines (indentation s level)) t) with k) in
-        spaces_front 0 level b x.0 place t x.1 i
-    lines_front (suc number) level b b' place t k i = spaces_front (suc number) level b b' place t k i
+    lines_front number level b b' place t k i =
+        let ind = indentation s level in
+        let (js, j, e) = subst (λ (x : Bool). WrittenUnless x (GapItems place) (spaced_lines number ind b place) t) with k.0 in
+        rw e (subst (λ (l : List Item). Front (spaced_lines number ind b place js) (map on_line l)) (gap_in_det j i) (items_front number level b place j))
 
     pub before_front : (number level : ℕ) (has : Bool) (b : Before) (f : NodeFormat) (k : NodeTexts) {is : List Item} → SpacesTexts number s level has b f k → ItemsIn (GapItems f.leading) is → Front k.before (map on_line is)
     before_front number level has b f k {is} w i =

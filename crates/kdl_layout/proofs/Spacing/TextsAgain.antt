@@ -6,14 +6,14 @@ use Rattle.std.specs.Prelude.{if◌then◌else◌, ◌||◌, ◌&&◌, not, is_s
 use Rattle.kdl_text.specs.Chars.{Text, is_space, is_newline_char}
 use Rattle.kdl_grammar.specs.Tree.{NodeFormat, DocumentFormat, Node, Nodes}
 use Rattle.kdl_layout.specs.Items.{Item, GapItems}
-use Rattle.kdl_layout.specs.Written.{on_line, lines}
-use Rattle.kdl_layout.proofs.Listing.ItemsUnique.{gap_items_det}
+use Rattle.kdl_layout.specs.Written.{on_line}
+use Rattle.kdl_layout.proofs.Listing.ItemsUnique.{gap_in_det}
 use Rattle.kdl_layout.proofs.Rewriting.LinesAgain.{newline_items}
 use Rattle.kdl_layout.specs.Blank.{at_start, empty_lines, last_in, one_if, past_items, past_node, read, spaced_lines, newlines}
 use Rattle.kdl_layout.specs.Config.{Settings, indentation}
 use Rattle.kdl_layout.specs.Formatted.{or_empty, or_empty_document, newline_if_none, in_braces}
-use Rattle.kdl_layout.specs.Kept.{without_bom, KeptLines, WrittenUnless}
-use Rattle.kdl_layout.specs.Spaced.{Passes, Spaces, SpacesTexts, IsSpacedLine, PassesNode, PassesNodes, IsSpacedContent, IsSpacedBraced, SpacedLines, SpacesContent, PassesFormat}
+use Rattle.kdl_layout.specs.Kept.{ItemsIn, without_bom, WrittenUnless}
+use Rattle.kdl_layout.specs.Spaced.{Passes, PassesText, SpacesTexts, IsSpacedLine, PassesNode, PassesNodes, IsSpacedContent, IsSpacedBraced, SpacedLines, SpacesContent, PassesFormat}
 use Rattle.kdl_layout.specs.Parts.{NodeTexts, line_of, has_block, content_of}
 use Rattle.kdl_layout.specs.declared.blank.Before.{Before}
 use Rattle.kdl_layout.specs.declared.blank.Before.TheVariants.{Thing}
@@ -22,24 +22,25 @@ use Rattle.kdl_layout.specs.Respelled.{IsTypedFormat, with_type_texts}
 use Rattle.kdl_layout.proofs.Keeping.GapFronts.{alone, joined, newline_if, indented, gap_without_bom}
 use Rattle.kdl_layout.proofs.Keeping.KeptAgain as kept
 use Rattle.kdl_layout.proofs.Keeping.KeptPlaces.{level_spaces}
-use Rattle.kdl_layout.proofs.Spacing.Lines.{spaced_items, times_front, kept_spaces, again, again_past, lines_again, past_first, passed_again, spaced_again, spaces_count, lines_first, read_first, no_lines}
-use Rattle.kdl_layout.proofs.Spacing.Reads.{read_nothing, spaces_pass, no_text}
+use Rattle.kdl_layout.proofs.Spacing.Lines.{spaced_items, times_front, again, again_past, lines_again, past_first, passed_again, spaced_again, spaces_count, lines_first, read_first, no_lines}
+use Rattle.kdl_layout.proofs.Spacing.Reads.{any_before, passes_as, read_nothing}
 use Rattle.kdl_layout.proofs.Respelling.Spelled.{SpelledNode, spelled, SpelledNodes, nodeless, one_more, same_newline}
 
--- the items of what is kept, with a rest after it, and what they make again
-record Known (out : Bool) (number : ℕ) (ind : Text) (b b' : Before) (t r : Text) : Type 0 where
+-- the items of what is kept of a place, with a rest after it, and what they make again
+record Known (x : Bool) (number : ℕ) (ind : Text) (b : Before) (place t r : Text) : Type 0 where
   items : List Item
   gap : GapItems (t ++ r) items
-  text : (if out then [] else spaced_lines number ind (again b) (t ++ r) items) ≡ t
-  state : past_items out (again b) (t ++ r) items ≡ read r (again b')
+  text : (if x then [] else spaced_lines number ind (again b) (t ++ r) items) ≡ t
+  state : (b' : Before) → Passes x b place b' → past_items x (again b) (t ++ r) items ≡ read r (again b')
 
-same_det : {p : Text} {is js : List Item} → GapItems p is → GapItems p js → js ≡ is
-same_det d e = gap_items_det e d
+-- a second layout of a text with these items
+kept_of : (x : Bool) (number : ℕ) (ind : Text) (c : Before) (p t u : Text) (is : List Item) → GapItems p is → (if x then [] else spaced_lines number ind c p is) ≡ t → WrittenUnless x (GapItems p) (spaced_lines number ind c p) u → u ≡ t
+kept_of true number ind c p t u is g e k = k ∙ e
+kept_of false number ind c p t u is g e (js, j, k) = k ∙ ap (spaced_lines number ind c p) (gap_in_det j (ItemsIn.items g)) ∙ e
 
 module _ (number : ℕ) (s : Settings) (ok : list_all is_space s.indent ≡ true) (level : ℕ) where
-  known : (b b' : Before) (place t : Text) → Spaces number s level b place t b' → (r : Text) → GapItems r [] → Known s.no_comments number (indentation s level) b b' t r
-  known b b' place _ (Spaces.no_gap f) r g = record { items = []; gap = g; text = no_text s.no_comments; state = refl }
-  known b b' place _ (Spaces.items {is = is} d) r g = go s.no_comments
+  known : (b : Before) (place t : Text) → WrittenUnless s.no_comments (GapItems place) (spaced_lines number (indentation s level) b place) t → (r : Text) → GapItems r [] → Known s.no_comments number (indentation s level) b place t r
+  known b place t k r g = go s.no_comments k
     where
       ind : Text
       ind = indentation s level
@@ -47,45 +48,26 @@ module _ (number : ℕ) (s : Settings) (ok : list_all is_space s.indent ≡ true
       spaces : list_all is_space ind ≡ true
       spaces = level_spaces s.indent ok level
 
-      go : (x : Bool) → Known x number ind b (past_items x b place is) (if x then [] else spaced_lines number ind b place is) r
-      go true = record { items = []; gap = g; text = refl; state = ap (read r) (sym (again_past b place is)) }
-      go false = record {
+      left_out : (b' : Before) → Passes true b place b' → read r (again b) ≡ read r (again b')
+      left_out _ (Passes.items {is = is} d) = ap (read r) (sym (again_past b place is))
+      left_out _ (Passes.no_gap f) = refl
+
+      written : {is : List Item} → GapItems place is → (b' : Before) → Passes false b place b' → past_items false (again b) (spaced_lines number ind b place is ++ r) (map on_line is) ≡ read r (again b')
+      written {is} d b' p = passed_again number ind spaces b place is d r ∙ ap (λ (z : Before). read r (again z)) (sym (passes_as d p))
+
+      none : ((is : List Item) → GapItems place is → ⊥) → (b' : Before) → Passes false b place b' → read r (again b) ≡ read r (again b')
+      none f _ (Passes.items {is = is} d) = absurd (f is d)
+      none f _ (Passes.no_gap h) = refl
+
+      go : (x : Bool) → WrittenUnless x (GapItems place) (spaced_lines number ind b place) t → Known x number ind b place t r
+      go true k = rw k (record { items = []; gap = g; text = refl; state = left_out })
+      go false (is, ItemsIn.items d, e) = rw e (record {
         items = map on_line is;
         gap = subst (λ (l : List Item). GapItems (spaced_lines number ind b place is ++ r) l) (append-nil (map on_line is)) (spaced_items number ind spaces b place is d g);
         text = spaced_again number ind spaces b place is d r;
-        state = passed_again number ind spaces b place is d r;
-      }
-
-  -- a second layout of it, and of each text with its items
-  kept_of : (b c e : Before) (p t u : Text) (is : List Item) → GapItems p is → (if s.no_comments then [] else spaced_lines number (indentation s level) b p is) ≡ t → past_items s.no_comments b p is ≡ e
-      → Spaces number s level b p u c → (u ≡ t) × (c ≡ e)
-  kept_of b c e p t _ is g x y (Spaces.no_gap f) = absurd (f is g)
-  kept_of b c e p t _ is g x y (Spaces.items {is = js} d) =
-      let same = same_det g d in
-      (ap (λ (l : List Item). if s.no_comments then [] else spaced_lines number (indentation s level) b p l) same ∙ x, ap (past_items s.no_comments b p) same ∙ y)
-
-  stay : (b b' c : Before) (t r u : Text) → Known s.no_comments number (indentation s level) b b' t r → Spaces number s level (again b) (t ++ r) u c → (u ≡ t) × (c ≡ read r (again b'))
-  stay b b' c t r u k w = kept_of (again b) c (read r (again b')) (t ++ r) t u k.items k.gap k.text k.state w
-
-  pass_stays : (b b' c : Before) (t r : Text) → Known s.no_comments number (indentation s level) b b' t r → Passes s.no_comments (again b) (t ++ r) c → c ≡ read r (again b')
-  pass_stays b b' c t r k (Passes.no_gap f) = absurd (f k.items k.gap)
-  pass_stays b b' c t r k (Passes.items {is = js} d) = ap (past_items s.no_comments (again b) (t ++ r)) (same_det k.gap d) ∙ k.state
-
-  -- after the LF of a block
-  stay_first : (b' c : Before) (t u : Text) → Known s.no_comments number (indentation s level) at_start b' t [] → Spaces number s level at_start (10 ∷ t) u c → (u ≡ t) × (c ≡ again b')
-  stay_first b' c t u k w =
-      let g : GapItems t k.items = subst (λ (x : Text). GapItems x k.items) (append-nil t) k.gap in
-      let x = subst (λ (y : Text). (if s.no_comments then [] else spaced_lines number (indentation s level) at_start y k.items) ≡ t) (append-nil t) k.text in
-      let z = subst (λ (y : Text). past_items s.no_comments at_start y k.items ≡ read [] (again b')) (append-nil t) k.state in
-      kept_of at_start c (again b') (10 ∷ t) t u k.items (newline_items g)
-      (ap (λ (y : Text). if s.no_comments then [] else y) (lines_first number (indentation s level) t k.items at_start at_start (read_first t)) ∙ x)
-      (past_first s.no_comments t k.items at_start at_start (read_first t) ∙ z ∙ read_nothing (again b')) w
-
-pass_det : {x : Bool} {b p q : Before} {place : Text} → Passes x b place p → Passes x b place q → q ≡ p
-pass_det {x} {b} {place = place} (Passes.items d) (Passes.items e) = ap (past_items x b place) (same_det d e)
-pass_det (Passes.items {is = is} d) (Passes.no_gap f) = absurd (f is d)
-pass_det (Passes.no_gap f) (Passes.items {is = is} e) = absurd (f is e)
-pass_det (Passes.no_gap f) (Passes.no_gap g) = refl
+        state = written d;
+      })
+      go false (_, ItemsIn.no_items f, e) = rw e (record { items = []; gap = g; text = refl; state = none f })
 
 -- each node that is laid out ends its line
 or_true : (x : Bool) → (x || true) ≡ true
@@ -134,39 +116,50 @@ typed_passes number s true f m x b (t, k, h) p = go m (subst (λ (z : Option Nod
     go (Some g) p = p
 
 module _ (s : Settings) (ok : list_all is_space s.indent ≡ true) where
-  zero_stays : (level : ℕ) (p q t u : Text) → KeptLines s level p t → KeptLines s level q u → ((b c : Before) → Spaces 0 s level at_start p t b → Spaces 0 s level at_start q u c → u ≡ t) → u ≡ t
-  zero_stays level p q t u k m f = go s.no_comments refl k m
-    where
-      go : (x : Bool) → s.no_comments ≡ x → WrittenUnless x (GapItems p) (lines (indentation s level)) t → WrittenUnless x (GapItems q) (lines (indentation s level)) u → u ≡ t
-      go true e k m = m ∙ sym k
-      go false e k m = let x = kept_spaces s e level at_start p t k in let y = kept_spaces s e level at_start q u m in f x.0 y.0 x.1 y.1
-
   -- what is kept of a text is kept again, before a rest without items
+  at_again : (number level : ℕ) (b c : Before) (p u : Text) → IsAgain number b c → WrittenUnless s.no_comments (GapItems p) (spaced_lines number (indentation s level) c p) u → WrittenUnless s.no_comments (GapItems p) (spaced_lines number (indentation s level) (again b) p) u
+  at_again zero level b c p u i k = any_before s level c (again b) p u k
+  at_again (suc n) level b c p u i k = subst (λ (d : Before). WrittenUnless s.no_comments (GapItems p) (spaced_lines (suc n) (indentation s level) d p) u) i k
+
+  rest_again : (number level : ℕ) (b b' c c' : Before) (place t r : Text) → Known s.no_comments number (indentation s level) b place t r → PassesText number s b place b' → IsAgain number b c → PassesText number s c (t ++ r) c' → AfterRest number r b' c'
+  rest_again zero level b b' c c' place t r k p i q = tt
+  rest_again (suc n) level b b' c c' place t r k p i q = passes_as k.gap (subst (λ (d : Before). Passes s.no_comments d (t ++ r) c') i q) ∙ k.state b' p
+
   lines_stay : (number level : ℕ) (b b' c c' : Before) (place t r u : Text) → SpacedLines number s level b place t b' → GapItems r [] → IsAgain number b c → SpacedLines number s level c (t ++ r) u c'
       → (u ≡ t) × AfterRest number r b' c'
-  lines_stay zero level b b' c c' place t r u w g i v =
-      (zero_stays level place (t ++ r) t u w v (λ d e x y. (stay 0 s ok level at_start d e t r u (known 0 s ok level at_start d place t x r g) y).0), tt)
-  lines_stay (suc n) level b b' c c' place t r u w g i v =
-      stay (suc n) s ok level b b' c' t r u (known (suc n) s ok level b b' place t w r g) (subst (λ (d : Before). Spaces (suc n) s level d (t ++ r) u c') i v)
+  lines_stay number level b b' c c' place t r u (w, p) g i (v, q) =
+      let k = known number s ok level b place t w r g in
+      (kept_of s.no_comments number (indentation s level) (again b) (t ++ r) t u k.items k.gap k.text (at_again number level b c (t ++ r) u i v), rest_again number level b b' c c' place t r k p i q)
+
+  -- with nothing after it
+  nothing_after : (number : ℕ) (b c : Before) → AfterRest number [] b c → IsAgain number b c
+  nothing_after zero b c h = tt
+  nothing_after (suc n) b c h = h ∙ read_nothing (again b)
 
   -- at the start of a document, and after the LF of a block
-  start_spaces : (number level : ℕ) (b c : Before) (place t u : Text) → Spaces number s level at_start place t b → Spaces number s level at_start (without_bom t) u c → (u ≡ t) × (c ≡ again b)
-  start_spaces number level b c place t u w v =
-      let k = known number s ok level at_start b place t w [] GapItems.none in
-      let g : GapItems t k.items = subst (λ (x : Text). GapItems x k.items) (append-nil t) k.gap in
-      let z = stay number s ok level at_start b c t [] u k (subst (λ (x : Text). Spaces number s level at_start x u c) (gap_without_bom t g ∙ sym (append-nil t)) v) in
-      (z.0, z.1 ∙ read_nothing (again b))
-
   start_stays : (number level : ℕ) (b c : Before) (place t u : Text) → SpacedLines number s level at_start place t b → SpacedLines number s level at_start (without_bom t) u c → (u ≡ t) × IsAgain number b c
-  start_stays zero level b c place t u w v = (zero_stays level place (without_bom t) t u w v (λ d e x y. (start_spaces 0 level d e place t u x y).0), tt)
-  start_stays (suc n) level b c place t u w v = start_spaces (suc n) level b c place t u w v
-
-  first_spaces : (number level : ℕ) (b c : Before) (place t u : Text) → Spaces number s level at_start place t b → Spaces number s level at_start (10 ∷ t) u c → (u ≡ t) × (c ≡ again b)
-  first_spaces number level b c place t u w v = stay_first number s ok level b c t u (known number s ok level at_start b place t w [] GapItems.none) v
+  start_stays number level b c place t u w v =
+      let k = known number s ok level at_start place t w.0 [] GapItems.none in
+      let g : GapItems t k.items = subst (λ (x : Text). GapItems x k.items) (append-nil t) k.gap in
+      let z = lines_stay number level at_start b at_start c place t [] u w GapItems.none (start_again number) (subst (λ (x : Text). SpacedLines number s level at_start x u c) (gap_without_bom t g ∙ sym (append-nil t)) v) in
+      (z.0, nothing_after number b c z.1)
 
   first_stays : (number level : ℕ) (b c : Before) (place t u : Text) → SpacedLines number s level at_start place t b → SpacedLines number s level at_start (10 ∷ t) u c → (u ≡ t) × IsAgain number b c
-  first_stays zero level b c place t u w v = (zero_stays level place (10 ∷ t) t u w v (λ d e x y. (first_spaces 0 level d e place t u x y).0), tt)
-  first_stays (suc n) level b c place t u w v = first_spaces (suc n) level b c place t u w v
+  first_stays number level b c place t u (w, p) (v, q) =
+      let ind = indentation s level in
+      let k = known number s ok level at_start place t w [] GapItems.none in
+      let g : GapItems t k.items = subst (λ (x : Text). GapItems x k.items) (append-nil t) k.gap in
+      let x = subst (λ (y : Text). (if s.no_comments then [] else spaced_lines number ind at_start y k.items) ≡ t) (append-nil t) k.text in (
+        kept_of s.no_comments number ind at_start (10 ∷ t) t u k.items (newline_items g)
+            (ap (λ (y : Text). if s.no_comments then [] else y) (lines_first number ind t k.items at_start at_start (read_first t)) ∙ x) v,
+        go number k g p q,
+      )
+    where
+      go : (n : ℕ) (k : Known s.no_comments number (indentation s level) at_start place t []) → GapItems t k.items → PassesText n s at_start place b → PassesText n s at_start (10 ∷ t) c → IsAgain n b c
+      go zero k g p q = tt
+      go (suc n) k g p q =
+          passes_as (newline_items g) q ∙ past_first s.no_comments t k.items at_start at_start (read_first t)
+          ∙ subst (λ (y : Text). past_items s.no_comments at_start y k.items ≡ read [] (again b)) (append-nil t) (k.state b p) ∙ read_nothing (again b)
 
   -- the texts around the parts of a node
   spaces_none : (level : ℕ) → newlines Other (indentation s level) ≡ 0
@@ -215,12 +208,12 @@ module _ (s : Settings) (ok : list_all is_space s.indent ≡ true) where
   format_passes : (n level : ℕ) (has : Bool) (b p q : Before) (f : NodeFormat) (g : Option NodeFormat) → IsSpacedLine (suc n) s level has b f g → Passes s.no_comments (past_node f.terminator) f.trailing p
       → Passes s.no_comments (past_node (or_empty g).terminator) (or_empty g).trailing q → q ≡ again p
   format_passes n level has b p q f g (k, w, e) x y =
-      let same : w.after_it ≡ p = pass_det x (spaces_pass w.following) in
+      let k' = known (suc n) s ok level (past_node f.terminator) f.trailing k.following w.following.0 [] GapItems.none in
       let z : Passes s.no_comments (past_node (k.comment ++ (10 ∷ []))) k.following q =
       subst (λ (o : Option NodeFormat). Passes s.no_comments (past_node (or_empty o).terminator) (or_empty o).trailing q) e y in
       let z' : Passes s.no_comments (Thing 0 1 Other) (k.following ++ []) q =
       subst (λ (t : Text). Passes s.no_comments (Thing 0 1 Other) t q) (sym (append-nil k.following)) (subst (λ (c : Before). Passes s.no_comments c k.following q) (line_ended k.comment) z) in
-      pass_stays (suc n) s ok level (past_node f.terminator) w.after_it q k.following [] (known (suc n) s ok level (past_node f.terminator) w.after_it f.trailing k.following w.following [] GapItems.none) z' ∙ read_nothing (again w.after_it) ∙ ap again same
+      passes_as k'.gap z' ∙ k'.state p x ∙ read_nothing (again p)
 
   module _ (keep : Bool) where
     pub node_passes : (number : ℕ) (p q : Before) {level : ℕ} {b : Before} {n x : Node} → SpelledNode number s keep level b n x → PassesNode number s n p → PassesNode number s x q → IsAgain number p q

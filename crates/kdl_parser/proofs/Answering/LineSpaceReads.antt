@@ -13,7 +13,7 @@ use Rattle.kdl_syntax.specs.declared.lexer.TokenKind.{TokenKind}
 use Rattle.kdl_syntax.specs.declared.lexer.TokenKind.TheVariants.{Space}
 use Rattle.kdl_syntax.proofs.Lexing.TokenUnique.{token_det, no_token}
 use Rattle.kdl_parser.specs.Internal.LineSpaces.{is_line_space, AreLineSpaces}
-use Rattle.kdl_parser.proofs.Answering.TokenLoop.{cut_shorter}
+use Rattle.kdl_parser.proofs.Stepping.TurnCost.{cut_shorter}
 
 -- whether the token is made of line-spaces
 abbrev of_lines : Token → Bool

@@ -1,22 +1,20 @@
 -- What the result on a whole text says of the grammar.
-use Rattle.std.proofs.Common.{◌≡◌, ℕ, List, ◌+◌, ◌*◌, ◌≤◌, length, arith, true, false, ◌∷◌, Ok, Err, refl, sym, ap, subst, ◌∙◌}
+use Rattle.std.proofs.Common.{◌≡◌, ℕ, List, ◌+◌, ◌*◌, ◌≤◌, length, arith, true, false, ◌∷◌, Ok, Err, refl, sym, ap, subst}
 use Rattle.std.specs.Str.{chars, IsUtf8}
 use Rattle.kdl_text.specs.Chars.{Text, begins}
 use Rattle.kdl_text.specs.Spans.{bytes}
-use Rattle.kdl_syntax.specs.Tokens.{Token, t_bom}
 use Rattle.kdl_syntax.specs.declared.lexer.LexFailure.{LexFailure}
 use Rattle.kdl_syntax.specs.declared.lexer.LexFailure.TheVariants.{Faulty, Memory}
 use Rattle.kdl_text.specs.Failures.{IsSyntax}
 use Rattle.kdl_text.specs.declared.error.ParseFailure.{ParseFailure}
 use Rattle.kdl_text.specs.declared.error.ParseFailure.TheVariants.{Syntax, Memory as NoMemory}
 use Rattle.kdl_diagnostics.specs.Internal.Noted.{OnRefused}
-use Rattle.kdl_syntax.proofs.Lexing.TokenUnique.{token_det}
 use Rattle.kdl_text.proofs.Looking.Texts.{bytes-chars}
 use Rattle.kdl_grammar.specs.Data.{Nodes}
 use Rattle.kdl_grammar.specs.Former.{IsFormerDocument}
 use Rattle.kdl_grammar.specs.Grammar.{IsDocument}
 use Rattle.kdl_grammar.specs.Laid.{LaidDocument, with_bom}
-use Rattle.kdl_grammar.specs.Internal.Machine.{step, initial, Runs, reads, AnswersDocument}
+use Rattle.kdl_grammar.specs.Internal.Machine.{initial, Runs, AnswersDocument}
 use Rattle.kdl_grammar.specs.Print.{print_document}
 use Rattle.kdl_grammar.specs.Tree.{Node, Document, document_data}
 use Rattle.kdl_parser.specs.Internal.Answered.{AnswersParts}
@@ -24,16 +22,9 @@ use Rattle.kdl_parser.specs.Internal.Parts.{document_by}
 use Rattle.kdl_parser.specs.Internal.Steps.{Counted}
 use Rattle.kdl_parser.specs.Internal.Whole.{AnswersDocumentText}
 use Rattle.kdl_parser.specs.declared.node_parts.DocumentParts.{DocumentParts}
-use Rattle.kdl_grammar.proofs.Reading.Erased.{sound, answered, one_document}
+use Rattle.kdl_grammar.proofs.Reading.Erased.{sound, answered, no_bom_here, one_document}
 use Rattle.kdl_grammar.proofs.Laying.LaidPrints.{printed}
 use Rattle.kdl_grammar.proofs.Moving.FormerIsPresent.{wider}
-
--- U+FEFF ends what the machine reads
-no_bom_here : (whole s : Text) (d : Document) → Runs whole d (initial (0xFEFF ∷ s)) (0xFEFF ∷ s) → ⊥
-no_bom_here whole s d (reads {r = r} t e a) =
-    let k = (token_det t t_bom).1 in
-    let f = ap (λ (j : Token). step whole (initial (0xFEFF ∷ s)) j (0xFEFF ∷ s) r) (sym k) ∙ e in
-    cc
 
 -- a text that does not begin with U+FEFF
 not_begins : (t : Text) → begins 0xFEFF t ≡ false → (u : Text) → t ≡ 0xFEFF ∷ u → ⊥
@@ -52,7 +43,7 @@ plain_failure tree t Memory n a = tt
 
 -- a text that begins with U+FEFF
 refused_after_bom : {t : Text} {d : Document} → AnswersDocument t d → (u : Text) → t ≡ 0xFEFF ∷ u → ((d : Document) → Runs t d (initial u) u → ⊥) → ⊥
-refused_after_bom (AnswersDocument.no_bom {t = t} {d = d} a) u e f = no_bom_here t u d (subst (λ (z : Text). Runs t d (initial z) z) e a)
+refused_after_bom (AnswersDocument.no_bom {t = t} {d = d} a) u e f = no_bom_here (subst (λ (z : Text). Runs t d (initial z) z) e a)
 refused_after_bom (AnswersDocument.after_bom {t = s} {d = d} a) u e f = let g : s ≡ u = cc in f d (subst (λ (z : Text). Runs (0xFEFF ∷ s) d (initial z) z) g a)
 
 pub bom_answer : {N : Type 0} (tree : N → Node) (t u : Text) (p : DocumentParts N) → t ≡ 0xFEFF ∷ u → AnswersParts tree t u (Ok p) → AnswersDocumentText tree t (Ok (record { parts = p; has_bom = true }))

@@ -6,7 +6,7 @@ use Rattle.kdl_syntax.specs.Tokens.{Token, space, string, closing}
 use Rattle.kdl_grammar.specs.Internal.Machine.{Under, Kept as MachineKept, Frame, State, gap, popped, step, finish}
 use Rattle.kdl_grammar.specs.Tree.{Node, Nodes}
 use Rattle.kdl_syntax.specs.declared.token_span.TokenSpan.{TokenSpan}
-use Rattle.kdl_parser.specs.Internal.Building.{under_view, phase_after, phase_placed, held, reading_view, state_by, state_view, in_phase, phase_now, node_now, kept_now, nodes_now, frames_view}
+use Rattle.kdl_parser.specs.Internal.Building.{under_view, phase_after, phase_placed, reading_view, state_by, state_view, in_phase, phase_now, node_now, kept_now, nodes_now, frames_view}
 use Rattle.kdl_syntax.specs.Internal.Views.{phase_view, control_view, stacked}
 use Rattle.kdl_syntax.specs.declared.control.Phase.{Phase}
 use Rattle.kdl_syntax.specs.declared.control.Phase.TheVariants.{Gap, NodeSlashdash, InNode, EntrySlashdash, BlockSlashdash, Kept, KeptSlashdash}
@@ -18,19 +18,18 @@ use Rattle.kdl_parser.specs.Internal.States.{document_now, TakesToken}
 use Rattle.kdl_parser.specs.Internal.Turns.{IsLike, Leaves, TakesLike}
 use Rattle.kdl_parser.specs.declared.builder.Builder.{Builder}
 use Rattle.kdl_parser.specs.declared.builder.Under.{Under as CodeUnder}
-use Rattle.kdl_parser.specs.declared.builder.TakeFailure.{TakeFailure}
-use Rattle.kdl_parser.specs.declared.builder.TakeFailure.TheVariants.{Unexpected}
+use Rattle.kdl_syntax.specs.declared.lexer.LexFailure.{LexFailure}
+use Rattle.kdl_syntax.specs.declared.lexer.LexFailure.TheVariants.{Faulty}
 use Rattle.kdl_text.specs.Spans.{bytes}
 use Rattle.kdl_parser.specs.declared.builder.dropping.Dropped.{Dropped}
 use Rattle.kdl_parser.specs.declared.builder.dropping.Dropped.TheVariants.{Nothing, Node as DroppedNode, Part as DroppedPart}
-use Rattle.kdl_parser.proofs.Stepping.Held.{not_reached}
 use Rattle.kdl_parser.proofs.Stepping.PlacesAhead.{state_from}
 use Rattle.kdl_parser.proofs.Stepping.StepsDone.{carried, none_sliced, unmoved}
 use Rattle.kdl_parser.specs.Internal.Dropping.{frames, inside, is_node_over, is_before_node, Reading, nothing, node, part, is_reading, is_over, next, reading_state, after_slashdash, Begun}
 
 -- the step inside is the step without data
 abbrev Steps : Text → Option Under → Option MachineKept → Option Nodes → List Frame → Text → c.Control → Token → Text → Text → Type 0
-Steps whole u x l fs from d k s r = option_map held (step whole (inside u x l fs from d) k s r) ≡ option_map held (option_map (inside u x l fs from) (c.step d k))
+Steps whole u x l fs from d k s r = step whole (inside u x l fs from d) k s r ≡ option_map (inside u x l fs from) (c.step d k)
 
 -- a function of what another one returns
 through : {A B C : Type 0} (f : B → C) (g : A → B) (o : Option A) → option_map (λ (a : A). f (g a)) o ≡ option_map f (option_map g o)
@@ -40,7 +39,7 @@ through f g (Some a) = refl
 module _ (whole : Text) (l : Option Nodes) (fs : List Frame) (from : Text) where
   -- at the `}` of an inner block
   at_block_end : (u : Option Under) (g : c.Frame) (gs : List c.Frame) (x : Option MachineKept) (s r : Text)
-      → option_map held (popped whole None (frames u x l fs (g ∷ gs)) from s r) ≡ option_map held (option_map (inside u x l fs from) (c.popped (g ∷ gs)))
+      → popped whole None (frames u x l fs (g ∷ gs)) from s r ≡ option_map (inside u x l fs from) (c.popped (g ∷ gs))
   at_block_end u c.in_block [] None s r = refl
   at_block_end u g (h ∷ gs) x s r = refl
   at_block_end u g gs x s r = refl
@@ -86,20 +85,20 @@ module _ (whole : Text) (l : Option Nodes) (fs : List Frame) (from : Text) where
 
   -- at a token of what is slashdashed
   reads : (u : Under) (x : MachineKept) (st : State) (d : Reading) (k : Token) (s r : Text) → is_reading d ≡ true → is_over k d ≡ false → Begun d
-      → option_map held (step whole (reading_state u x l fs from st d) k s r) ≡ option_map held (option_map (reading_state u x l fs from st) (next k d))
+      → step whole (reading_state u x l fs from st d) k s r ≡ option_map (reading_state u x l fs from st) (next k d)
   reads u x st nothing k s r a e f = absurd cc
-  reads u x st (node (c.at p [])) k s r a e f = in_dropped_node p k s r e ∙ ap (option_map held) (through (reading_state u x l fs from st) node (c.step (c.at p []) k))
-  reads u x st (node (c.at p (g ∷ gs))) k s r a e f = in_block None None p g gs k s r ∙ ap (option_map held) (through (reading_state u x l fs from st) node (c.step (c.at p (g ∷ gs)) k))
-  reads u x st (part (c.at p [])) k s r a e f = in_dropped_part u x p k s r e f ∙ ap (option_map held) (through (reading_state u x l fs from st) part (c.step (c.at p []) k))
-  reads u x st (part (c.at p (g ∷ gs))) k s r a e f = in_block (Some u) (Some x) p g gs k s r ∙ ap (option_map held) (through (reading_state u x l fs from st) part (c.step (c.at p (g ∷ gs)) k))
+  reads u x st (node (c.at p [])) k s r a e f = in_dropped_node p k s r e ∙ through (reading_state u x l fs from st) node (c.step (c.at p []) k)
+  reads u x st (node (c.at p (g ∷ gs))) k s r a e f = in_block None None p g gs k s r ∙ through (reading_state u x l fs from st) node (c.step (c.at p (g ∷ gs)) k)
+  reads u x st (part (c.at p [])) k s r a e f = in_dropped_part u x p k s r e f ∙ through (reading_state u x l fs from st) part (c.step (c.at p []) k)
+  reads u x st (part (c.at p (g ∷ gs))) k s r a e f = in_block (Some u) (Some x) p g gs k s r ∙ through (reading_state u x l fs from st) part (c.step (c.at p (g ∷ gs)) k)
 
   reads_on : (u : Under) (x : MachineKept) (st : State) (d e : Reading) (k : Token) (s r : Text) → is_reading d ≡ true → is_over k d ≡ false → Begun d → Some e ≡ next k d
-      → option_map held (step whole (reading_state u x l fs from st d) k s r) ≡ Some (held (reading_state u x l fs from st e))
-  reads_on u x st d e k s r a b f g = reads u x st d k s r a b f ∙ ap (λ (o : Option Reading). option_map held (option_map (reading_state u x l fs from st) o)) (sym g)
+      → step whole (reading_state u x l fs from st d) k s r ≡ Some (reading_state u x l fs from st e)
+  reads_on u x st d e k s r a b f g = reads u x st d k s r a b f ∙ ap (option_map (reading_state u x l fs from st)) (sym g)
 
   refuses : (u : Under) (x : MachineKept) (st : State) (d : Reading) (k : Token) (s r : Text) → is_reading d ≡ true → is_over k d ≡ false → Begun d → None ≡ next k d
       → step whole (reading_state u x l fs from st d) k s r ≡ None
-  refuses u x st d k s r a b f g = not_reached (step whole (reading_state u x l fs from st d) k s r) (reads u x st d k s r a b f ∙ ap (λ (o : Option Reading). option_map held (option_map (reading_state u x l fs from st) o)) (sym g))
+  refuses u x st d k s r a b f g = reads u x st d k s r a b f ∙ ap (option_map (reading_state u x l fs from st)) (sym g)
 
 -- a part of a node has begun after its `/-`
 begun : (d : Dropped) → Begun (reading_view d)
@@ -156,15 +155,15 @@ module _ {N : Type 0} (tree : N → Node) (b : Builder N) (d : Dropped) (k : Tok
   }
 
   -- a token that may not be there
-  drop_refused : is_reading (reading_view b.dropped) ≡ true → is_over k (reading_view b.dropped) ≡ false → next k (reading_view b.dropped) ≡ None → TakesToken tree b k span (Err Unexpected) (record b { dropped = d })
+  drop_refused : is_reading (reading_view b.dropped) ≡ true → is_over k (reading_view b.dropped) ≡ false → next k (reading_view b.dropped) ≡ None → TakesToken tree b k span (Err Faulty) (record b { dropped = d })
   drop_refused a e f = record {
     did = refuses b.source.text (nodes_now tree b) (frames_view tree b) b.from.rest (node_now b) (kept_now tree b) (in_phase tree b (phase_now tree b b.phase)) (reading_view b.dropped) k span.start.rest span.end.rest a e (begun b.dropped) (sym f);
     same = unmoved b.source;
-    sliced = none_sliced {A = Unit {0}} (bytes b.from.rest) (bytes b.from.rest) _ _ (Err Unexpected) tt (unsliced_read b.dropped b.phase _ _ a);
+    sliced = none_sliced {A = Unit {0}} (bytes b.from.rest) (bytes b.from.rest) _ _ (Err Faulty) tt (unsliced_read b.dropped b.phase _ _ a);
   }
 
   -- the first token after a `/-`
-  first_drops : (result : Result (Unit {0}) TakeFailure) (new : Builder N) → b.dropped ≡ Nothing → is_live b.phase ≡ false → reading_view d ≡ after_slashdash (phase_view b.phase) → TakesToken tree (record b { dropped = d }) k span result new → TakesToken tree b k span result new
+  first_drops : (result : Result (Unit {0}) LexFailure) (new : Builder N) → b.dropped ≡ Nothing → is_live b.phase ≡ false → reading_view d ≡ after_slashdash (phase_view b.phase) → TakesToken tree (record b { dropped = d }) k span result new → TakesToken tree b k span result new
   first_drops result new f l i x =
       carried tree b (record b { dropped = d }) k span result new refl
       (ap (λ (st : State). step b.source.text st k span.start.rest span.end.rest) (ap (state_by tree b) i ∙ (begins b.phase l).0 ∙ ap (λ (z : Dropped). state_by tree b (reading_view z)) (sym f)))
@@ -186,11 +185,11 @@ module _ {N : Type 0} (tree : N → Node) (b : Builder N) (d : Dropped) (j : Tok
   pub drops_like : is_reading (reading_view b.dropped) ≡ true → is_over j (reading_view b.dropped) ≡ false → next j (reading_view b.dropped) ≡ Some (reading_view d) → TakesLike tree b j span (Ok tt) (record b { dropped = d })
   drops_like a e f k i = drops tree b d k span a (over_like j k (reading_view b.dropped) i ∙ e) (next_like j k (reading_view b.dropped) i ∙ f)
 
-  pub refuses_like : is_reading (reading_view b.dropped) ≡ true → is_over j (reading_view b.dropped) ≡ false → next j (reading_view b.dropped) ≡ None → TakesLike tree b j span (Err Unexpected) (record b { dropped = d })
+  pub refuses_like : is_reading (reading_view b.dropped) ≡ true → is_over j (reading_view b.dropped) ≡ false → next j (reading_view b.dropped) ≡ None → TakesLike tree b j span (Err Faulty) (record b { dropped = d })
   refuses_like a e f k i = drop_refused tree b d k span a (over_like j k (reading_view b.dropped) i ∙ e) (next_like j k (reading_view b.dropped) i ∙ f)
 
   -- the first token after a `/-`
-  pub first_like : (result : Result (Unit {0}) TakeFailure) (new : Builder N) → b.dropped ≡ Nothing → is_live b.phase ≡ false → reading_view d ≡ after_slashdash (phase_view b.phase) → TakesLike tree (record b { dropped = d }) j span result new → TakesLike tree b j span result new
+  pub first_like : (result : Result (Unit {0}) LexFailure) (new : Builder N) → b.dropped ≡ Nothing → is_live b.phase ≡ false → reading_view d ≡ after_slashdash (phase_view b.phase) → TakesLike tree (record b { dropped = d }) j span result new → TakesLike tree b j span result new
   first_like result new f l i x k y = first_drops tree b d k span result new f l i (x k y)
 
 over_reading : (k : Token) (d : Reading) → is_over k d ≡ true → is_reading d ≡ true

@@ -1,5 +1,5 @@
 -- What a token that was handed out, a token that is refused, a fault and the end do to the machine's runs.
-use Rattle.std.proofs.Common.{◌≡◌, ◌↔◌, [], Option, Some, None, option_map, refl, sym, subst, ◌∙◌}
+use Rattle.std.proofs.Common.{◌≡◌, ◌↔◌, [], Option, Some, None, refl, subst, ◌∙◌}
 use Rattle.kdl_text.specs.Chars.{Text, Star, Plus, plus}
 use Rattle.kdl_text.specs.Chars.Star.{none, more}
 use Rattle.kdl_text.specs.Trivia.{NodeSpace}
@@ -7,9 +7,7 @@ use Rattle.kdl_syntax.specs.Internal.Handed.{Cuts, one, spaces}
 use Rattle.kdl_syntax.specs.Tokens.{Token, space, BeginsToken, t_space}
 use Rattle.kdl_syntax.proofs.Lexing.TokenUnique.{token_det, no_token}
 use Rattle.kdl_grammar.specs.Internal.Machine.{fresh, gap, in_node, State, at, step, finish, Runs, stops, reads}
-use Rattle.kdl_parser.specs.Internal.Building.{held}
 use Rattle.kdl_grammar.specs.Tree.{Document}
-use Rattle.kdl_parser.proofs.Stepping.Held.{reached, alike}
 
 -- a run at a text that begins with a token goes on after it
 goes_on : {whole : Text} {d : Document} {st : State} {s r : Text} {k : Token} → BeginsToken s k r → Runs whole d st s → (st' : State) × (step whole st k s r ≡ Some st') × Runs whole d st' r
@@ -51,16 +49,10 @@ module _ (whole : Text) (d : Document) where
       let y = read_spaces st' t r f m in
       (λ a. x.0 (y.0 a), λ a. y.1 (x.1 a))
 
-  read_exact : (st st' : State) (s r : Text) (k : Token) → Cuts s k r → step whole st k s r ≡ Some st' → Runs whole d st' r ↔ Runs whole d st s
-  read_exact st st' s r k (one t) e = read_one st st' s r k t e
-  read_exact st st' s r k (spaces ss) e = read_run st st' s r ss e
-
   -- what a token does
-  pub read_cut : (st st' : State) (s r : Text) (k : Token) → Cuts s k r → option_map held (step whole st k s r) ≡ Some (held st') → Runs whole d st' r ↔ Runs whole d st s
-  read_cut st st' s r k c e =
-      let m = reached (step whole st k s r) st' e in
-      let x = read_exact st m.0 s r k c m.1 in
-      (λ a. x.0 (alike whole d m.0 m.2 a), λ a. alike whole d st' (sym m.2) (x.1 a))
+  pub read_cut : (st st' : State) (s r : Text) (k : Token) → Cuts s k r → step whole st k s r ≡ Some st' → Runs whole d st' r ↔ Runs whole d st s
+  read_cut st st' s r k (one t) e = read_one st st' s r k t e
+  read_cut st st' s r k (spaces ss) e = read_run st st' s r ss e
 
   -- a token that the machine refuses
   pub refuses : (st : State) (s r : Text) (k : Token) → Cuts s k r → step whole st k s r ≡ None → Runs whole d st s → ⊥

@@ -1,15 +1,14 @@
 -- Where the place under way and the place in a type or after `=` began lies before the text that is left.
-use Rattle.std.proofs.Common.{◌≡◌, ◌↔◌, true, false, List, [], ◌∷◌, Option, Some, None, option_map, sym, subst}
+use Rattle.std.proofs.Common.{◌≡◌, true, false, List, [], ◌∷◌, Option, Some, None, subst}
 use Rattle.kdl_text.specs.Chars.{Text}
 use Rattle.kdl_entry.proofs.Slicing.Between.{in_order_here, in_order_on, then_ends}
 use Rattle.kdl_syntax.specs.Tokens.{Token, space, newline, string, value, left, right, opening, closing, equals, semicolon}
-use Rattle.kdl_grammar.specs.Internal.Machine.{Under, Kept, Slot, no_name, for_name, no_value, for_value, pending, fresh, spaced, Phase, gap, type_open, type_name, type_done, in_node, property, kept, Frame, in_block, in_dropped, in_later, State, at, origin, moved, popped, step}
-use Rattle.kdl_parser.specs.Internal.Building.{held, only, node_now, kept_now, nodes_now, frames_view, phase_now, reading_view, state_view, EndsIn, InOrder, place_placed, phase_placed, Placed}
+use Rattle.kdl_grammar.specs.Internal.Machine.{Under, Kept, Slot, no_name, for_name, no_value, for_value, pending, fresh, spaced, Phase, gap, type_open, type_name, type_done, in_node, property, kept, Frame, in_block, in_dropped, in_later, State, at, origin, kept_text, moved, popped, step}
+use Rattle.kdl_parser.specs.Internal.Building.{node_now, kept_now, nodes_now, frames_view, phase_now, reading_view, state_view, EndsIn, InOrder, place_placed, phase_placed, Placed}
 use Rattle.kdl_syntax.specs.Control as c
 use Rattle.kdl_grammar.specs.Tree.{Node, Nodes}
 use Rattle.kdl_parser.specs.Internal.Dropping.{Reading, nothing, node, part, reading_state}
 use Rattle.kdl_parser.specs.declared.builder.Builder.{Builder}
-use Rattle.kdl_parser.proofs.Stepping.Held.{reached}
 
 abbrev AllPlaced : Text → Option State → Text → Type 0
 AllPlaced t None r = Unit {0}
@@ -33,7 +32,7 @@ module _ (whole s r : Text) (v : EndsIn whole s) (b : EndsIn s r) where
   origin_ends None a d = a
   origin_ends (Some x) a d = d
 
-  place_here : (c : Slot) → place_placed whole c r r
+  place_here : (c : Slot) → place_placed whole c (kept_text c r) r
   place_here no_name = tt
   place_here (for_name q h) = here
   place_here (no_value u) = tt
@@ -85,24 +84,8 @@ module _ (whole s r : Text) (v : EndsIn whole s) (b : EndsIn s r) where
   placed_of : (p : Phase) (k : Token) (l : Option Nodes) (fs : List Frame) (from : Text) → Placed whole (at p l fs from) s → AllPlaced whole (step whole (at p l fs from) k s r) r
   placed_of p k l fs from a = all_placed p k l fs from (in_order_on a.0 b) a.1
 
--- a place that is kept is the same in a state that holds the same
-same_place : (t : Text) (c : Slot) (a s : Text) → place_placed t c a s ↔ place_placed t c (only c a []) s
-same_place t no_name a s = (λ x. x, λ x. x)
-same_place t c a s = (λ x. x, λ x. x)
-
--- a state that holds the same has the same places
-same_places : (t : Text) (st : State) (s : Text) → Placed t st s ↔ Placed t (held st) s
-same_places t (at (type_open b c a) l fs from) s = let p = same_place t c a s in (λ x. (x.0, p.0 x.1), λ x. (x.0, p.1 x.1))
-same_places t (at (type_name b c q i a) l fs from) s = let p = same_place t c a s in (λ x. (x.0, p.0 x.1), λ x. (x.0, p.1 x.1))
-same_places t (at (type_done b c q i d a) l fs from) s = let p = same_place t c a s in (λ x. (x.0, p.0 x.1), λ x. (x.0, p.1 x.1))
-same_places t (at (property c k b a) l fs from) s = let p = same_place t c a s in (λ x. (x.0, p.0 x.1), λ x. (x.0, p.1 x.1))
-same_places t (at p l fs from) s = (λ x. x, λ x. x)
-
-pub placed_step : (whole : Text) (st st' : State) (k : Token) (s r : Text) → option_map held (step whole st k s r) ≡ Some (held st') → Placed whole st s → EndsIn s r → Placed whole st' r
-placed_step whole (at p l fs from) st' k s r e a b =
-    let m = reached (step whole (at p l fs from) k s r) st' e in
-    let x : Placed whole m.0 r = subst (λ (z : Option State). AllPlaced whole z r) m.1 (placed_of whole s r a.0.1 b p k l fs from a) in
-    (same_places whole st' r).1 (subst (λ (z : State). Placed whole z r) (sym m.2) ((same_places whole m.0 r).0 x))
+pub placed_step : (whole : Text) (st st' : State) (k : Token) (s r : Text) → step whole st k s r ≡ Some st' → Placed whole st s → EndsIn s r → Placed whole st' r
+placed_step whole (at p l fs from) st' k s r e a b = subst (λ (z : Option State). AllPlaced whole z r) e (placed_of whole s r a.0.1 b p k l fs from a)
 
 -- the place where the builder is begins before s
 reading_from : (t : Text) (u : Under) (x : Kept) (p : Phase) (l : Option Nodes) (fs : List Frame) (from s : Text) (d : Reading) → Placed t (reading_state u x l fs from (at p l fs from) d) s → InOrder t from s

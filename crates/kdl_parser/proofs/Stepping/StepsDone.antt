@@ -1,40 +1,30 @@
--- What a step did that is refused at no token.
-use Rattle.std.proofs.Common.{◌≡◌, ℕ, ◌+◌, Option, Some, option_map, Result, Ok, Err, OnOk, refl, sym, ap, subst, ◌∙◌, arith}
+-- What a step did, from another state or after a look at the token.
+use Rattle.std.proofs.Common.{◌≡◌, ℕ, ◌+◌, Option, Result, Ok, Err, OnOk, refl, ap, subst, arith}
 use Rattle.kdl_text.specs.Chars.{Text}
 use Rattle.kdl_text.specs.Spans.{raise}
 use Rattle.kdl_entry.specs.Internal.Counted.{Recounted}
 use Rattle.kdl_text.specs.Internal.Here.{Here, looked}
-use Rattle.kdl_parser.specs.declared.builder.TakeFailure.{TakeFailure}
-use Rattle.kdl_parser.specs.declared.builder.TakeFailure.TheVariants.{Unexpected, Memory}
+use Rattle.kdl_syntax.specs.declared.lexer.LexFailure.{LexFailure}
+use Rattle.kdl_syntax.specs.declared.lexer.LexFailure.TheVariants.{Faulty, Memory}
 use Rattle.kdl_syntax.specs.Tokens.{Token}
 use Rattle.kdl_syntax.specs.declared.token_span.TokenSpan.{TokenSpan}
 use Rattle.kdl_grammar.specs.Internal.Machine.{State}
 use Rattle.kdl_grammar.specs.Tree.{Node}
-use Rattle.kdl_parser.specs.Internal.Building.{held, state_view, Did, Does}
+use Rattle.kdl_parser.specs.Internal.Building.{state_view, Did}
 use Rattle.kdl_parser.specs.Internal.Counted.{SlicedOn, unsliced}
 use Rattle.kdl_parser.specs.Internal.States.{TakesToken, TakesTurn, step_at}
 use Rattle.kdl_parser.specs.declared.builder.Builder.{Builder}
 
-pub does_did : {A : Type 0} (o : Option State) (want st : State) (result : Result A TakeFailure) → Does want result st → o ≡ Some want → Did o result st
-does_did o want st (Ok x) d e = ap (option_map held) e ∙ ap (λ (z : State). Some (held z)) (sym d)
-does_did o want st (Err Unexpected) d e = absurd d
-does_did o want st (Err Memory) d e = tt
-
--- it fails only where memory runs out
-pub failed : (o : Option State) (want st st' : State) (e : TakeFailure) → Does {A = Unit {0}} want (Err e) st → Did {A = Unit {0}} o (Err e) st'
-failed o want st st' Unexpected d = absurd d
-failed o want st st' Memory d = tt
-
 -- nothing was sliced
-pub none_sliced : {A : Type 0} (m n k a : ℕ) (result : Result A TakeFailure) → OnOk result (n ≡ m) → k ≡ m → SlicedOn result k n a a
+pub none_sliced : {A : Type 0} (m n k a : ℕ) (result : Result A LexFailure) → OnOk result (n ≡ m) → k ≡ m → SlicedOn result k n a a
 none_sliced m n k a (Ok x) e f = record { most = omega (arith, e, f) }
-none_sliced m n k a (Err Unexpected) e f = record { most = omega arith }
+none_sliced m n k a (Err Faulty) e f = record { most = omega arith }
 none_sliced m n k a (Err Memory) e f = tt
 
 -- one look more
-more_sliced : {A : Type 0} (m k s t : ℕ) (result : Result A TakeFailure) → SlicedOn result m k (raise s 1) t → SlicedOn result (m + 1) k s t
+more_sliced : {A : Type 0} (m k s t : ℕ) (result : Result A LexFailure) → SlicedOn result m k (raise s 1) t → SlicedOn result (m + 1) k s t
 more_sliced m k s t (Ok x) d = record { most = omega (arith, d.most) }
-more_sliced m k s t (Err Unexpected) d = record { most = omega (arith, d.most) }
+more_sliced m k s t (Err Faulty) d = record { most = omega (arith, d.most) }
 more_sliced m k s t (Err Memory) d = tt
 
 -- a source is the same as itself
@@ -46,7 +36,7 @@ pub same_state : {N : Type 0} (tree : N → Node) (b : Builder N) (z : Here) →
 same_state tree b z e = ap (λ (t : Text). state_view tree (record b { source = record z { text = t } })) e
 
 -- where the token does the same from another state
-pub carried : {N : Type 0} (tree : N → Node) (b m : Builder N) (k : Token) (span : TokenSpan) (result : Result (Unit {0}) TakeFailure) (new : Builder N) → m.source ≡ b.source → step_at tree m k span ≡ step_at tree b k span → unsliced m ≡ unsliced b
+pub carried : {N : Type 0} (tree : N → Node) (b m : Builder N) (k : Token) (span : TokenSpan) (result : Result (Unit {0}) LexFailure) (new : Builder N) → m.source ≡ b.source → step_at tree m k span ≡ step_at tree b k span → unsliced m ≡ unsliced b
     → TakesToken tree m k span result new → TakesToken tree b k span result new
 carried tree b m k span result new e f g x = record {
   did = subst (λ (o : Option State). Did o result (state_view tree new)) f x.did;
@@ -55,7 +45,7 @@ carried tree b m k span result new e f g x = record {
 }
 
 -- a step after a look that is counted
-pub looked_takes : {N : Type 0} (tree : N → Node) (b new : Builder N) (z : Here) (k : Token) (span : TokenSpan) (result : Result (Unit {0}) TakeFailure) → z ≡ looked b.source → TakesToken tree (record b { source = z }) k span result new → TakesTurn tree b k span result new
+pub looked_takes : {N : Type 0} (tree : N → Node) (b new : Builder N) (z : Here) (k : Token) (span : TokenSpan) (result : Result (Unit {0}) LexFailure) → z ≡ looked b.source → TakesToken tree (record b { source = z }) k span result new → TakesTurn tree b k span result new
 looked_takes tree b new z k span result e x =
     let y : TakesToken tree (record b { source = looked b.source }) k span result new = subst (λ (s : Here). TakesToken tree (record b { source = s }) k span result new) e x in
     record {

@@ -1,23 +1,36 @@
 -- What the turns of the loop over the tokens take, and what an item takes.
-use Rattle.std.proofs.Common.{◌≡◌, ℕ, ◌+◌, ◌*◌, ◌≤◌, length, [], Ok, Err, ap, arith, length-append}
+use Rattle.std.proofs.Common.{◌≡◌, ℕ, ◌+◌, ◌*◌, ◌<◌, ◌≤◌, length, [], Ok, Err, ap, arith, length-append}
+use Rattle.kdl_text.specs.Chars.{Text, Star, plus}
+use Rattle.kdl_text.specs.Chars.Star.{none as no_star, more}
 use Rattle.kdl_text.specs.Internal.Here.{Here, Position, Ahead}
+use Rattle.kdl_text.specs.Trivia.{NodeSpace}
 use Rattle.kdl_text.specs.Spans.{bytes, raise}
 use Rattle.kdl_text.specs.Internal.Reading.{Moves, Costs}
 use Rattle.kdl_text.proofs.Looking.MovesJoin.{bytes-append}
 use Rattle.kdl_text.proofs.Looking.Runs.{length-bytes}
 use Rattle.kdl_entry.specs.Internal.Counted.{Recounted, Sliced}
-use Rattle.kdl_syntax.specs.Internal.Handed.{HandsOver}
-use Rattle.kdl_syntax.specs.Tokens.{Token}
+use Rattle.kdl_syntax.specs.Internal.Handed.{Cuts, one, spaces, HandsOver}
+use Rattle.kdl_syntax.specs.Tokens.{Token, t_space}
 use Rattle.kdl_syntax.specs.Internal.Order.{IsEndOf}
 use Rattle.kdl_syntax.proofs.Order.{ahead}
-use Rattle.kdl_syntax.specs.declared.LexFailure.{LexFailure}
+use Rattle.kdl_syntax.proofs.Lexing.TokenUnique.{token_shorter}
 use Rattle.kdl_syntax.specs.declared.token_span.TokenSpan.{TokenSpan}
 use Rattle.kdl_entry.proofs.Slicing.SliceCost.{ahead_fewer}
-use Rattle.kdl_parser.specs.Internal.Answered.{TakeFailsAs}
 use Rattle.kdl_parser.specs.Internal.Counted.{SlicedOn, ReadOn, ReadThrough}
-use Rattle.kdl_parser.specs.declared.builder.TakeFailure.{TakeFailure}
-use Rattle.kdl_parser.specs.declared.builder.TakeFailure.TheVariants.{Unexpected, Memory}
-use Rattle.kdl_parser.proofs.Answering.TokenLoop.{cut_shorter}
+use Rattle.kdl_syntax.specs.declared.lexer.LexFailure.{LexFailure}
+use Rattle.kdl_syntax.specs.declared.lexer.LexFailure.TheVariants.{Faulty, Memory}
+
+-- a turn comes nearer to the end
+spaces_shorter : {s r : Text} → Star NodeSpace s r → length r ≤ length s
+spaces_shorter no_star = omega arith
+spaces_shorter (more n m) = omega (arith, token_shorter (t_space n), spaces_shorter m)
+
+pub cut_shorter : {s r : Text} {k : Token} → Cuts s k r → length r < length s
+cut_shorter (one t) = token_shorter t
+cut_shorter (spaces (plus n m)) = omega (arith, token_shorter (t_space n), spaces_shorter m)
+
+pub nearer : (before mid : Here) (k : Token) (ts : TokenSpan) → HandsOver before k ts mid → length mid.rest < length before.rest
+nearer before mid k ts h = cut_shorter h.cuts
 
 -- from the start to here, where n bytes are not sliced yet
 pub record Counting (start here : Here) (n : ℕ) : Type 0 where
@@ -49,9 +62,9 @@ counting_ends x start before mid after m n u g e v c r d = record {
 }
 
 -- a token that is not taken, or an end that may not be there
-pub counting_fails : (A B : Type 0) (start before mid : Here) (j m n k : ℕ) (f : TakeFailure) (e : LexFailure) → m ≤ n + 1 → Counting start before n → Costs 24 1 before mid → SlicedOn {A = A} (Err f) m k mid.steps j → TakeFailsAs f e → ReadOn {A = B} (Err e) start j
-counting_fails A B start before mid j m n k Unexpected e u g c d x = rw x (omega (arith, g.most, c.most, d.most, u))
-counting_fails A B start before mid j m n k Memory e u g c d x = rw x tt
+pub counting_fails : (A B : Type 0) (start before mid : Here) (j m n k : ℕ) (e : LexFailure) → m ≤ n + 1 → Counting start before n → Costs 24 1 before mid → SlicedOn {A = A} (Err e) m k mid.steps j → ReadOn {A = B} (Err e) start j
+counting_fails A B start before mid j m n k Faulty u g c d = omega (arith, g.most, c.most, d.most, u)
+counting_fails A B start before mid j m n k Memory u g c d = tt
 
 -- what is ahead has fewer bytes
 pub fewer : (from to : Position) → Ahead from to → bytes to.rest ≤ bytes from.rest

@@ -19,8 +19,8 @@ use Rattle.kdl_entry.specs.Internal.Parts.{entry_at}
 use Rattle.kdl_entry.specs.Places.{span_of}
 use Rattle.kdl_value.specs.Tree.{text_of}
 use Rattle.kdl_entry.specs.Tree.{Identifier, identifier_tree, plain_identifier, Entry, entry_tree}
-use Rattle.kdl_parser.specs.declared.builder.TakeFailure.{TakeFailure}
-use Rattle.kdl_parser.specs.declared.builder.TakeFailure.TheVariants.{Unexpected, Memory}
+use Rattle.kdl_syntax.specs.declared.lexer.LexFailure.{LexFailure}
+use Rattle.kdl_syntax.specs.declared.lexer.LexFailure.TheVariants.{Faulty, Memory}
 use Rattle.kdl_grammar.specs.Internal.Machine as machine
 use Rattle.kdl_grammar.specs.Internal.Machine.{Slot, no_name, for_name, no_value, for_value, pending, at, State, with_entry}
 use Rattle.kdl_grammar.specs.Tree.{Node, Nodes}
@@ -134,48 +134,11 @@ state_by tree b d = reading_state (node_now b) (kept_now tree b) (nodes_now tree
 abbrev pub state_view : {N : Type 0} → (N → Node) → Builder N → State
 state_view tree b = state_by tree b (reading_view b.dropped)
 
--- the first if the slot is kept, and the second if it is slashdashed
-abbrev pub only : {A : Type 0} → Slot → A → A → A
-only no_name x y = y
-only (for_name leading start) x y = x
-only (no_value u) x y = y
-only (for_value u leading start k) x y = x
-
-abbrev pub pending_held : Option machine.Pending → Option machine.Pending
-pending_held None = None
-pending_held (Some (pending c k a)) = Some (pending c (only c k (plain_identifier [])) (only c a []))
-
-abbrev pub spot_held : machine.Spot → machine.Spot
-spot_held (machine.fresh o) = machine.fresh (pending_held o)
-spot_held (machine.spaced o) = machine.spaced (pending_held o)
-spot_held machine.later = machine.later
-
-abbrev pub phase_held : machine.Phase → machine.Phase
-phase_held (machine.type_open b c a) = machine.type_open b c (only c a [])
-phase_held (machine.type_name b c q i a) = machine.type_name b c (only c q []) (only c i (plain_identifier [])) (only c a [])
-phase_held (machine.type_done b c q i d a) = machine.type_done b c (only c q []) (only c i (plain_identifier [])) (only c d []) (only c a [])
-phase_held (machine.in_node u p) = machine.in_node u (spot_held p)
-phase_held (machine.property c k b a) = machine.property c (only c k (plain_identifier [])) (only c b []) (only c a [])
-phase_held p = p
-
-abbrev pub frame_held : machine.Frame → machine.Frame
-frame_held (machine.in_block None before l) = machine.in_block None [] l
-frame_held f = f
-
-abbrev pub held : State → State
-held (at p l fs from) = at (phase_held p) l (map frame_held fs) from
-
 -- what a step did, by the machine's; an allocation failure says nothing
-abbrev pub Did : {A : Type 0} → Option State → Result A TakeFailure → State → Type 0
-Did o (Ok x) st = option_map held o ≡ Some (held st)
-Did o (Err Unexpected) st = o ≡ None
+abbrev pub Did : {A : Type 0} → Option State → Result A LexFailure → State → Type 0
+Did o (Ok x) st = o ≡ Some st
+Did o (Err Faulty) st = o ≡ None
 Did o (Err Memory) st = Unit {0}
-
--- what a step did that never refuses a token, given the machine's state after it
-abbrev pub Does : {A : Type 0} → State → Result A TakeFailure → State → Type 0
-Does want (Ok x) st = st ≡ want
-Does want (Err Unexpected) st = ⊥
-Does want (Err Memory) st = Unit {0}
 
 -- the place a is in the text t, and begins before s, if it is kept
 abbrev pub place_placed : Text → Slot → Text → Text → Type 0

@@ -6,10 +6,8 @@ use Rattle.kdl_syntax.specs.declared.control.Phase.{Phase}
 use Rattle.kdl_syntax.specs.declared.control.Phase.TheVariants.{TypeOpen, TypeName, TypeDone, Property}
 use Rattle.kdl_entry.specs.Internal.Counted.{Sliced}
 use Rattle.kdl_syntax.specs.declared.lexer.LexFailure.{LexFailure}
-use Rattle.kdl_syntax.specs.declared.lexer.LexFailure.TheVariants.{Faulty, Memory as LexMemory}
+use Rattle.kdl_syntax.specs.declared.lexer.LexFailure.TheVariants.{Faulty, Memory}
 use Rattle.kdl_parser.specs.declared.builder.Builder.{Builder}
-use Rattle.kdl_parser.specs.declared.builder.TakeFailure.{TakeFailure}
-use Rattle.kdl_parser.specs.declared.builder.TakeFailure.TheVariants.{Unexpected, Memory}
 use Rattle.kdl_parser.specs.declared.builder.dropping.Dropped.{Dropped}
 use Rattle.kdl_parser.specs.declared.builder.dropping.Dropped.TheVariants.{Nothing}
 
@@ -31,9 +29,9 @@ abbrev pub unsliced : {N : Type 0} → Builder N → ℕ
 unsliced b = unsliced_at b.dropped b.phase (bytes b.from.rest) (bytes b.parts.from.rest)
 
 -- of the m bytes before the end of the text that were not sliced yet, all but the last n may have been; if a token is refused, all may have been
-abbrev pub SlicedOn : {A : Type 0} → Result A TakeFailure → ℕ → ℕ → ℕ → ℕ → Type 0
+abbrev pub SlicedOn : {A : Type 0} → Result A LexFailure → ℕ → ℕ → ℕ → ℕ → Type 0
 SlicedOn (Ok x) m n old new = Sliced m n old new
-SlicedOn (Err Unexpected) m n old new = Sliced m 0 old new
+SlicedOn (Err Faulty) m n old new = Sliced m 0 old new
 SlicedOn (Err Memory) m n old new = Unit {0}
 
 -- the text before the lexer was read to its end, with so many steps then: at least a step for each character, and at most 26 for each byte
@@ -45,4 +43,4 @@ pub record ReadThrough (old : Here) (steps : ℕ) : Type 0 where
 abbrev pub ReadOn : {A : Type 0} → Result A LexFailure → Here → ℕ → Type 0
 ReadOn (Ok x) old steps = ReadThrough old steps
 ReadOn (Err Faulty) old steps = steps ≤ old.steps + 26 * bytes old.rest + 24
-ReadOn (Err LexMemory) old steps = Unit {0}
+ReadOn (Err Memory) old steps = Unit {0}

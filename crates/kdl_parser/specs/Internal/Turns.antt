@@ -11,7 +11,7 @@ use Rattle.kdl_parser.specs.Internal.Dropping.{is_over}
 use Rattle.kdl_parser.specs.Internal.Events.{is_building}
 use Rattle.kdl_parser.specs.Internal.States.{document_now, step_at, TakesToken}
 use Rattle.kdl_parser.specs.declared.builder.Builder.{Builder}
-use Rattle.kdl_parser.specs.declared.builder.TakeFailure.{TakeFailure}
+use Rattle.kdl_syntax.specs.declared.lexer.LexFailure.{LexFailure}
 use Rattle.kdl_parser.specs.declared.builder.dropping.Dropped.TheVariants.{Nothing}
 
 -- the same token, but for the text of a string
@@ -37,10 +37,10 @@ IsLeft tree old k (Ok false) new = (is_over k (reading_view old.dropped) ≡ fal
 IsLeft tree old k (Err e) new = Recounted old.source new.source
 
 -- what each token like j did
-abbrev pub TakesLike : {N : Type 0} → (N → Node) → Builder N → Token → TokenSpan → Result (Unit {0}) TakeFailure → Builder N → Type 0
+abbrev pub TakesLike : {N : Type 0} → (N → Node) → Builder N → Token → TokenSpan → Result (Unit {0}) LexFailure → Builder N → Type 0
 TakesLike tree old j span result new = (k : Token) → IsLike j k → TakesToken tree old k span result new
 
 -- what each token like j did, if it is slashdashed; else what is slashdashed is over before it
-abbrev pub Drops : {N : Type 0} → (N → Node) → Builder N → Token → TokenSpan → Option (Result (Unit {0}) TakeFailure) → Builder N → Type 0
+abbrev pub Drops : {N : Type 0} → (N → Node) → Builder N → Token → TokenSpan → Option (Result (Unit {0}) LexFailure) → Builder N → Type 0
 Drops tree old j span (Some result) new = TakesLike tree old j span result new
 Drops tree old j span None new = (is_over j (reading_view old.dropped) ≡ true) × Leaves tree old new

@@ -5,11 +5,11 @@ ghost use Rattle.kdl_syntax.specs.Internal.Views.{control_view};
 ghost use Rattle.kdl_parser.specs.Internal.Dropping.{is_before_node};
 ghost use Rattle.std.specs.Prelude.{◌≡◌, false};
 
+use super::Builder;
 use super::content::put;
-use super::{Builder, TakeFailure};
 use crate::node_parts::ParsedNode;
 use kdl_entry::parsing::parts::empty;
-use kdl_syntax::{Control, Phase, TokenKind, TokenSpan};
+use kdl_syntax::{Control, LexFailure, Phase, TokenKind, TokenSpan};
 use kdl_text::cursor::Piece;
 use std::alloc::{AllocError, Global};
 
@@ -130,7 +130,7 @@ impl<'a, N: ParsedNode> Builder<'a, N> {
 
     /// Takes a token of what is slashdashed. The text of a string makes no difference.
     #[inline(always)]
-    fn drop_token(&mut self, kind: &TokenKind, at: &TokenSpan<'a>) -> Result<(), TakeFailure>
+    fn drop_token(&mut self, kind: &TokenKind, at: &TokenSpan<'a>) -> Result<(), LexFailure>
         requires reading { is_reading (reading_view self.old.dropped) ≡ true }
         requires here { is_over (kind_view kind.now) (reading_view self.old.dropped) ≡ false }
         ensures { TakesLike N.tree self.old (kind_view kind.now) at.now result self.new }
@@ -138,7 +138,7 @@ impl<'a, N: ParsedNode> Builder<'a, N> {
         if self.dropped.take(kind)? {
             Ok(())
         } else {
-            Err(TakeFailure::Unexpected)
+            Err(LexFailure::Faulty)
         }
     }
 
@@ -159,7 +159,7 @@ impl<'a, N: ParsedNode> Builder<'a, N> {
     /// Takes the first token after a `/-`, or one of what is slashdashed. Returns `None` if what is slashdashed is over
     /// before the token, which is then still to be taken. The text of a string makes no difference.
     #[inline(always)]
-    fn drops(&mut self, kind: &TokenKind, at: &TokenSpan<'a>) -> Option<Result<(), TakeFailure>>
+    fn drops(&mut self, kind: &TokenKind, at: &TokenSpan<'a>) -> Option<Result<(), LexFailure>>
         requires { is_building self.old.dropped self.old.phase ≡ false }
         ensures { Drops N.tree self.old (kind_view kind.now) at.now result self.new }
     {
@@ -171,7 +171,7 @@ impl<'a, N: ParsedNode> Builder<'a, N> {
         match self.leave_dropped(kind) {
             Ok(true) => None,
             Ok(false) => Some(self.drop_token(kind, at)),
-            Err(_) => Some(Err(TakeFailure::Memory)),
+            Err(_) => Some(Err(LexFailure::Memory)),
         }
     }
 
@@ -181,7 +181,7 @@ impl<'a, N: ParsedNode> Builder<'a, N> {
         &mut self,
         kind: TokenKind,
         at: &TokenSpan<'a>,
-    ) -> Result<(), TakeFailure>
+    ) -> Result<(), LexFailure>
         requires dropping { is_building self.old.dropped self.old.phase ≡ false }
         requires placed { Placed self.old.source.text (state_view N.tree self.old) at.now.start.rest }
         ensures { TakesToken N.tree self.old (kind_view kind) at.now result self.new }
@@ -194,7 +194,7 @@ impl<'a, N: ParsedNode> Builder<'a, N> {
 
     /// Takes a run of spaces in or after what is slashdashed, or directly after a `/-`.
     #[inline(never)]
-    pub(super) fn drop_space(&mut self, at: &TokenSpan<'a>) -> Result<(), TakeFailure>
+    pub(super) fn drop_space(&mut self, at: &TokenSpan<'a>) -> Result<(), LexFailure>
         requires { is_building self.old.dropped self.old.phase ≡ false }
         ensures { TakesToken N.tree self.old space at.now result self.new }
     {
@@ -210,7 +210,7 @@ impl<'a, N: ParsedNode> Builder<'a, N> {
         &mut self,
         word: &Piece<'a>,
         at: &TokenSpan<'a>,
-    ) -> Result<(), TakeFailure>
+    ) -> Result<(), LexFailure>
         requires dropping { is_building self.old.dropped self.old.phase ≡ false }
         requires placed { Placed self.old.source.text (state_view N.tree self.old) at.now.start.rest }
         ensures { TakesToken N.tree self.old (string word.now) at.now result self.new }

@@ -1,60 +1,40 @@
 //! What the builder does at a token: nodes begin and end, blocks open and close, entries are added.
 #![tactic(auto, using(crate::proofs::Rules::steps))]
 
-ghost use Rattle.kdl_entry.specs.Internal.Building.{key_view, type_view};
-ghost use Rattle.kdl_entry.specs.Internal.Counted.{EndsIn};
-ghost use Rattle.kdl_parser.specs.Internal.Building.{boxed_type, in_phase, node_now, state_view, under_view};
+ghost use Rattle.kdl_parser.specs.Internal.Building.{boxed_type, in_phase, phase_now, state_view, under_view};
 ghost use Rattle.kdl_parser.specs.Internal.Counted.{unsliced};
-ghost use Rattle.kdl_parser.specs.Internal.Events.{keyed_opened, type_ended, type_named};
-ghost use Rattle.kdl_parser.specs.Internal.States.{
-  AfterNode,
-  argument_slot,
-  around,
-  around_kept,
-  around_node,
-  block_opened,
-  given_at,
-  parts_name_slot,
-  parts_value_slot,
-  key_now,
-  kept_ended,
-  name_opened,
-  name_slot,
-  node_begun,
-  node_ended,
-  property_opened,
-  Reaches,
-  Ready,
-  ReadyInside,
-  Settles,
-  Steps,
-  type_now,
-  value_opened,
-  valued_slot,
-  worded,
+ghost use Rattle.kdl_parser.specs.Internal.States.{AfterNode, Ready, Settles, Steps, TakesIn, node_begun};
+ghost use Rattle.kdl_parser.specs.declared.builder.dropping.Dropped.TheVariants.{Nothing};
+ghost use Rattle.kdl_syntax.specs.Tokens as token;
+ghost use Rattle.kdl_syntax.specs.declared.control.Owner.TheVariants.{Name, Value};
+ghost use Rattle.kdl_syntax.specs.declared.control.Phase.TheVariants.{
+  EntrySlashdash,
+  Gap,
+  InNode,
+  Kept,
+  Property,
+  TypeDone,
+  TypeName,
+  TypeOpen,
 };
-ghost use Rattle.kdl_syntax.specs.declared.control.Phase.TheVariants.{InNode};
-ghost use Rattle.kdl_syntax.specs.declared.control.Spot.TheVariants.{Fresh};
-ghost use Rattle.kdl_syntax.specs.declared.control.Word.TheVariants.{NoKey};
+ghost use Rattle.kdl_syntax.specs.declared.control.Spot.TheVariants.{Fresh, Later, Spaced};
+ghost use Rattle.kdl_syntax.specs.declared.control.Word.TheVariants.{MayBeKey, NoKey};
 ghost use Rattle.kdl_entry.specs.Places.{between};
 ghost use Rattle.kdl_entry.specs.Tree.{identifier_tree, plain_identifier};
-ghost use Rattle.kdl_grammar.specs.Internal.Machine as machine;
-ghost use Rattle.kdl_parser.specs.declared.builder.dropping.Dropped.TheVariants.{Nothing};
 ghost use Rattle.kdl_text.specs.Spans.{bytes};
-ghost use Rattle.kdl_value.specs.Data.{text};
 ghost use Rattle.kdl_value.specs.Tree.{value_tree, text_of};
 ghost use Rattle.std.specs.Prelude.{◌≡◌, [], Some, None, OnOk, option_map};
 
 use super::content::{nothing_at, put, settle};
 use super::dropping::Dropped;
 use super::growing::Growing;
-use super::{Builder, Level, Slot, TakeFailure, Under, WaitingWord};
+use super::{Builder, Level, Slot, Under, WaitingWord};
 use crate::node_parts::ParsedNode;
 use kdl_entry::parsing::parts::{
     Given, Key, TypeParts, ValueParts, argument_from, empty, property_from,
 };
 use kdl_entry::{KdlEntry, KdlIdentifier, KdlValue, sliced_identifier};
-use kdl_syntax::{Owner, Phase, Spot, TokenKind, TokenSpan, Word};
+use kdl_syntax::{LexFailure, Owner, Phase, Spot, TokenKind, TokenSpan, Word};
 use std::alloc::AllocError;
 use std::mem;
 
@@ -81,10 +61,9 @@ impl<'a, N: ParsedNode> Builder<'a, N> {
     }
 
     /// Ends the current node, which has no block.
-    pub(super) fn end_node(&mut self, at: &TokenSpan<'a>) -> Result<(), TakeFailure>
-        requires { Ready self.old at.now.start }
-        ensures ended { Reaches N.tree (node_ended N.tree self.old at.now.start at.now.end) self.old.from self.old
-            result self.new }
+    pub(super) fn end_node(&mut self, at: &TokenSpan<'a>) -> Result<(), LexFailure>
+        requires { Ready self.old self.old.from at.now.start }
+        ensures ended { TakesIn N.tree (InNode Later) token.newline at.now self.old result self.new }
         ensures after { OnOk result (AfterNode self.new at.now.end) }
     {
         self.settle_word()?;
@@ -95,10 +74,9 @@ impl<'a, N: ParsedNode> Builder<'a, N> {
     }
 
     /// Ends the current node, which has a block.
-    pub(super) fn end_kept(&mut self, at: &TokenSpan<'a>) -> Result<(), TakeFailure>
-        requires { Ready self.old at.now.start }
-        ensures ended { Reaches N.tree (kept_ended N.tree self.old at.now.start at.now.end) self.old.from self.old
-            result self.new }
+    pub(super) fn end_kept(&mut self, at: &TokenSpan<'a>) -> Result<(), LexFailure>
+        requires { Ready self.old self.old.from at.now.start }
+        ensures ended { TakesIn N.tree Kept token.newline at.now self.old result self.new }
         ensures after { OnOk result (AfterNode self.new at.now.end) }
     {
         self.settle_word()?;
@@ -109,10 +87,9 @@ impl<'a, N: ParsedNode> Builder<'a, N> {
     }
 
     /// Opens the block of the current node.
-    pub(super) fn open_block(&mut self, at: &TokenSpan<'a>) -> Result<(), TakeFailure>
-        requires { Ready self.old at.now.start }
-        ensures { Reaches N.tree (block_opened N.tree self.old at.now.start at.now.end) self.old.from self.old result
-            self.new }
+    pub(super) fn open_block(&mut self, at: &TokenSpan<'a>) -> Result<(), LexFailure>
+        requires { Ready self.old self.old.from at.now.start }
+        ensures { TakesIn N.tree (InNode Later) token.opening at.now self.old result self.new }
     {
         self.settle_word()?;
         let before = self.source.text(&self.from, &at.start)?;
@@ -131,10 +108,9 @@ impl<'a, N: ParsedNode> Builder<'a, N> {
     }
 
     /// Continues with the node around the block that ends here.
-    pub(super) fn close(&mut self, at: &TokenSpan<'a>) -> Result<(), TakeFailure>
-        requires { Ready self.old at.now.start }
-        ensures { Steps N.tree (around N.tree self.old at.now.start at.now.end) (bytes
-            self.old.from.rest) self.old result self.new }
+    pub(super) fn close(&mut self, at: &TokenSpan<'a>) -> Result<(), LexFailure>
+        requires { Ready self.old self.old.from at.now.start }
+        ensures { TakesIn N.tree Gap token.closing at.now self.old result self.new }
     {
         self.nodes.fit()?;
         let Some(
@@ -145,7 +121,7 @@ impl<'a, N: ParsedNode> Builder<'a, N> {
             },
         ) = self.levels.pop()
         else {
-            return Err(TakeFailure::Unexpected);
+            return Err(LexFailure::Faulty);
         };
         let inner = self.nodes.replace(nodes);
         self.forget_word();
@@ -264,31 +240,11 @@ impl<'a, N: ParsedNode> Builder<'a, N> {
         self.phase = Phase::InNode(Spot::Fresh(Word::NoKey));
     }
 
-    /// Adds an entry to the current node. Its value is the token.
-    pub(super) fn add_entry(
-        &mut self,
-        slot: Slot<'a>,
-        given: Given,
-        at: &TokenSpan<'a>,
-    ) -> Result<(), TakeFailure>
-        requires live { self.old.dropped ≡ Nothing }
-        requires inside { EndsIn self.old.source.text at.now.start.rest }
-        ensures { Reaches N.tree (given_at N.tree self.old (valued_slot self.old slot.entry (option_map key_view
-            given.key)) (option_map type_view given.ty) (value_tree given.value) at.now.start at.now.end)
-            at.now.start self.old result self.new }
-    {
-        self.under.entries.make_room()?;
-        let entry = self.entry_between(slot, given, at)?;
-        self.under.entries.push_reserved(entry);
-        self.end_entry(at);
-        Ok(())
-    }
-
     /// Keeps a string in a node, which may be a key, as the pending one.
-    pub(super) fn wait(&mut self, value: String, at: &TokenSpan<'a>) -> Result<(), TakeFailure>
-        requires { Ready self.old at.now.start }
-        ensures { Reaches N.tree (worded N.tree self.old (text_of value) at.now.start at.now.end) self.old.from
-            self.old result self.new }
+    pub(super) fn wait(&mut self, value: String, at: &TokenSpan<'a>) -> Result<(), LexFailure>
+        requires { Ready self.old self.old.from at.now.start }
+        ensures { TakesIn N.tree (InNode (Spaced NoKey)) (token.string (text_of value)) at.now self.old result
+            self.new }
     {
         self.settle_word()?;
         // There is a space before it at least, so here and before an argument `Source::text` would look in vain whether
@@ -308,9 +264,9 @@ impl<'a, N: ParsedNode> Builder<'a, N> {
     }
 
     /// Begins a property at its `=`. Its key is the pending string; without one the key is slashdashed.
-    pub(super) fn open_property(&mut self, at: &TokenSpan<'a>) -> Result<(), TakeFailure>
-        requires { Ready self.old at.now.start }
-        ensures { Steps N.tree (property_opened N.tree self.old at.now.start at.now.end) (bytes self.old.from.rest) self.old result self.new }
+    pub(super) fn open_property(&mut self, at: &TokenSpan<'a>) -> Result<(), LexFailure>
+        requires { Ready self.old self.old.from at.now.start }
+        ensures { TakesIn N.tree (InNode (Fresh MayBeKey)) token.equals at.now self.old result self.new }
     {
         let Some(word) = self.waiting.take() else {
             put(
@@ -335,10 +291,9 @@ impl<'a, N: ParsedNode> Builder<'a, N> {
     }
 
     /// Begins the type of a node at its `(`.
-    pub(super) fn open_name(&mut self, at: &TokenSpan<'a>) -> Result<(), TakeFailure>
-        requires { Ready self.old at.now.start }
-        ensures { Reaches N.tree (name_opened N.tree self.old at.now.start at.now.end) self.old.from self.old result
-            self.new }
+    pub(super) fn open_name(&mut self, at: &TokenSpan<'a>) -> Result<(), LexFailure>
+        requires { Ready self.old self.old.from at.now.start }
+        ensures { TakesIn N.tree Gap token.left at.now self.old result self.new }
     {
         let leading = self.source.text(&self.from, &at.start)?;
         self.parts.open(leading, at);
@@ -352,10 +307,9 @@ impl<'a, N: ParsedNode> Builder<'a, N> {
         owner: Owner,
         name: String,
         at: &TokenSpan<'a>,
-    ) -> Result<(), TakeFailure>
-        requires { ReadyInside self.old at.now.start }
-        ensures { Reaches N.tree (type_named N.tree self.old owner (text_of name) at.now.start at.now.end)
-            self.old.parts.from self.old result self.new }
+    ) -> Result<(), LexFailure>
+        requires { Ready self.old self.old.parts.from at.now.start }
+        ensures { TakesIn N.tree (TypeOpen owner) (token.string (text_of name)) at.now self.old result self.new }
     {
         self.parts.take_name(&mut self.source, name, at)?;
         self.phase = Phase::TypeName(owner);
@@ -363,10 +317,9 @@ impl<'a, N: ParsedNode> Builder<'a, N> {
     }
 
     /// Takes the `)` of a type.
-    pub(super) fn end_type(&mut self, owner: Owner, at: &TokenSpan<'a>) -> Result<(), TakeFailure>
-        requires { ReadyInside self.old at.now.start }
-        ensures { Reaches N.tree (type_ended N.tree self.old owner at.now.start at.now.end) self.old.parts.from
-            self.old result self.new }
+    pub(super) fn end_type(&mut self, owner: Owner, at: &TokenSpan<'a>) -> Result<(), LexFailure>
+        requires { Ready self.old self.old.parts.from at.now.start }
+        ensures { TakesIn N.tree (TypeName owner) token.right at.now self.old result self.new }
     {
         self.parts.close(&mut self.source, at)?;
         self.phase = Phase::TypeDone(owner);
@@ -374,10 +327,9 @@ impl<'a, N: ParsedNode> Builder<'a, N> {
     }
 
     /// Begins the type of a value at its `(`, after a key.
-    pub(super) fn open_keyed_type(&mut self, at: &TokenSpan<'a>) -> Result<(), TakeFailure>
-        requires { ReadyInside self.old at.now.start }
-        ensures { Reaches N.tree (keyed_opened N.tree self.old at.now.start at.now.end) self.old.parts.from self.old
-            result self.new }
+    pub(super) fn open_keyed_type(&mut self, at: &TokenSpan<'a>) -> Result<(), LexFailure>
+        requires { Ready self.old self.old.parts.from at.now.start }
+        ensures { TakesIn N.tree Property token.left at.now self.old result self.new }
     {
         self.parts.open_typed(&mut self.source, at)?;
         self.phase = Phase::TypeOpen(Owner::Value);
@@ -385,10 +337,9 @@ impl<'a, N: ParsedNode> Builder<'a, N> {
     }
 
     /// Begins the type of a value at its `(`.
-    pub(super) fn open_value(&mut self, at: &TokenSpan<'a>) -> Result<(), TakeFailure>
-        requires { Ready self.old at.now.start }
-        ensures { Reaches N.tree (value_opened N.tree self.old at.now.start at.now.end) self.old.from self.old result
-            self.new }
+    pub(super) fn open_value(&mut self, at: &TokenSpan<'a>) -> Result<(), LexFailure>
+        requires { Ready self.old self.old.from at.now.start }
+        ensures { TakesIn N.tree (InNode (Spaced NoKey)) token.left at.now self.old result self.new }
     {
         self.settle_word()?;
         let leading = self.source.text(&self.from, &at.start)?;
@@ -402,10 +353,10 @@ impl<'a, N: ParsedNode> Builder<'a, N> {
         &mut self,
         value: KdlValue,
         at: &TokenSpan<'a>,
-    ) -> Result<(), TakeFailure>
-        requires { Ready self.old at.now.start }
-        ensures { Reaches N.tree (given_at N.tree self.old (argument_slot self.old at.now.start) None (value_tree
-            value) at.now.start at.now.end) self.old.from self.old result self.new }
+    ) -> Result<(), LexFailure>
+        requires { Ready self.old self.old.from at.now.start }
+        ensures { TakesIn N.tree (InNode (Spaced NoKey)) (token.value (value_tree value)) at.now self.old result
+            self.new }
     {
         self.settle_word()?;
         let place = self.source.piece(&self.from, &at.start);
@@ -436,24 +387,19 @@ impl<'a, N: ParsedNode> Builder<'a, N> {
         &mut self,
         value: KdlValue,
         at: &TokenSpan<'a>,
-    ) -> Result<(), TakeFailure>
-        requires { ReadyInside self.old at.now.start }
-        ensures { Reaches N.tree (given_at N.tree self.old (parts_value_slot self.old (option_map key_view
-            self.old.parts.key)) (type_now self.old at.now.start) (value_tree value) at.now.start at.now.end)
-            self.old.parts.from self.old result self.new }
+    ) -> Result<(), LexFailure>
+        requires { Ready self.old self.old.parts.from at.now.start }
+        ensures { TakesIn N.tree (TypeDone Value) (token.value (value_tree value)) at.now self.old result self.new }
     {
         let ty = self.parts.type_parts(&mut self.source, &at.start)?;
         let key = self.parts.key.take();
         let slot = self.parts_slot();
-        self.add_entry(
-            slot,
-            Given {
-                key,
-                ty: Some(ty),
-                value,
-            },
-            at,
-        )
+        let ty = Some(ty);
+        self.under.entries.make_room()?;
+        let entry = self.entry_between(slot, Given { key, ty, value }, at)?;
+        self.under.entries.push_reserved(entry);
+        self.end_entry(at);
+        Ok(())
     }
 
     /// Adds a value that has a key and no type.
@@ -461,11 +407,9 @@ impl<'a, N: ParsedNode> Builder<'a, N> {
         &mut self,
         value: KdlValue,
         at: &TokenSpan<'a>,
-    ) -> Result<(), TakeFailure>
-        requires { ReadyInside self.old at.now.start }
-        ensures { Reaches N.tree (given_at N.tree self.old (parts_value_slot self.old (key_now self.old
-            at.now.start)) None (value_tree value) at.now.start at.now.end) self.old.parts.from self.old result
-            self.new }
+    ) -> Result<(), LexFailure>
+        requires { Ready self.old self.old.parts.from at.now.start }
+        ensures { TakesIn N.tree Property (token.value (value_tree value)) at.now self.old result self.new }
     {
         let key = self.parts.key_parts(&mut self.source, &at.start)?;
         let Slot { leading, start } = self.parts_slot();
@@ -480,10 +424,9 @@ impl<'a, N: ParsedNode> Builder<'a, N> {
     }
 
     /// Takes a string that is a node's name.
-    pub(super) fn name_node(&mut self, name: String, at: &TokenSpan<'a>) -> Result<(), TakeFailure>
-        requires { Ready self.old at.now.start }
-        ensures { Reaches N.tree (given_at N.tree self.old (name_slot self.old at.now.start) None (text (text_of
-            name)) at.now.start at.now.end) self.old.from self.old result self.new }
+    pub(super) fn name_node(&mut self, name: String, at: &TokenSpan<'a>) -> Result<(), LexFailure>
+        requires { Ready self.old self.old.from at.now.start }
+        ensures { TakesIn N.tree Gap (token.string (text_of name)) at.now self.old result self.new }
     {
         let leading = self.source.text(&self.from, &at.start)?;
         let slot = Slot {
@@ -496,10 +439,10 @@ impl<'a, N: ParsedNode> Builder<'a, N> {
     }
 
     /// Takes a bare string that is a node's name.
-    pub(super) fn name_bare(&mut self, at: &TokenSpan<'a>) -> Result<(), TakeFailure>
-        requires { Ready self.old at.now.start }
-        ensures { Reaches N.tree (given_at N.tree self.old (name_slot self.old at.now.start) None (text (between
-            at.now.start.rest at.now.end.rest)) at.now.start at.now.end) self.old.from self.old result self.new }
+    pub(super) fn name_bare(&mut self, at: &TokenSpan<'a>) -> Result<(), LexFailure>
+        requires { Ready self.old self.old.from at.now.start }
+        ensures { TakesIn N.tree Gap (token.string (between at.now.start.rest at.now.end.rest)) at.now self.old result
+            self.new }
     {
         let leading = self.source.text(&self.from, &at.start)?;
         let slot = Slot {
@@ -512,10 +455,9 @@ impl<'a, N: ParsedNode> Builder<'a, N> {
     }
 
     /// Takes a string that is a node's name and has a type.
-    pub(super) fn name_typed(&mut self, name: String, at: &TokenSpan<'a>) -> Result<(), TakeFailure>
-        requires { ReadyInside self.old at.now.start }
-        ensures { Reaches N.tree (given_at N.tree self.old (parts_name_slot self.old) (type_now self.old
-            at.now.start) (text (text_of name)) at.now.start at.now.end) self.old.parts.from self.old result self.new }
+    pub(super) fn name_typed(&mut self, name: String, at: &TokenSpan<'a>) -> Result<(), LexFailure>
+        requires { Ready self.old self.old.parts.from at.now.start }
+        ensures { TakesIn N.tree (TypeDone Name) (token.string (text_of name)) at.now self.old result self.new }
     {
         let ty = self.parts.type_parts(&mut self.source, &at.start)?;
         let slot = self.parts_slot();
@@ -526,10 +468,10 @@ impl<'a, N: ParsedNode> Builder<'a, N> {
     }
 
     /// Takes a `/-` in a node, before its block.
-    pub(super) fn go_past_slashdash(&mut self) -> Result<(), TakeFailure>
+    pub(super) fn go_past_slashdash(&mut self) -> Result<(), LexFailure>
         requires live { self.old.dropped ≡ Nothing }
-        ensures { Reaches N.tree (in_phase N.tree self.old (machine.entry_slashdash (Some (node_now self.old))))
-            self.old.from self.old result self.new }
+        ensures { Steps N.tree (Some (in_phase N.tree self.old (phase_now N.tree self.old EntrySlashdash)))
+            (bytes self.old.from.rest) self.old result self.new }
     {
         self.settle_word()?;
         self.phase = Phase::EntrySlashdash;
@@ -537,18 +479,18 @@ impl<'a, N: ParsedNode> Builder<'a, N> {
     }
 
     /// Takes the `}` after a node without a block.
-    pub(super) fn close_node(&mut self, at: &TokenSpan<'a>) -> Result<(), TakeFailure>
-        requires { Ready self.old at.now.start }
-        ensures { Steps N.tree (around_node N.tree self.old at.now.start at.now.end) (bytes self.old.from.rest) self.old result self.new }
+    pub(super) fn close_node(&mut self, at: &TokenSpan<'a>) -> Result<(), LexFailure>
+        requires { Ready self.old self.old.from at.now.start }
+        ensures { TakesIn N.tree (InNode Later) token.closing at.now self.old result self.new }
     {
         self.end_node(&nothing_at(&at.start))?;
         self.close(at)
     }
 
     /// Takes the `}` after a node with a block.
-    pub(super) fn close_kept(&mut self, at: &TokenSpan<'a>) -> Result<(), TakeFailure>
-        requires { Ready self.old at.now.start }
-        ensures { Steps N.tree (around_kept N.tree self.old at.now.start at.now.end) (bytes self.old.from.rest) self.old result self.new }
+    pub(super) fn close_kept(&mut self, at: &TokenSpan<'a>) -> Result<(), LexFailure>
+        requires { Ready self.old self.old.from at.now.start }
+        ensures { TakesIn N.tree Kept token.closing at.now self.old result self.new }
     {
         self.end_kept(&nothing_at(&at.start))?;
         self.close(at)

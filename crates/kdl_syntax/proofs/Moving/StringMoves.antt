@@ -1,6 +1,7 @@
 -- Strings in each spelling come before each rest that begins with no identifier character and no quote, and before each rest that begins with the same character, or is none.
 use Rattle.std.proofs.Common.{◌≡◌, ℕ, ◌≤◌, Bool, true, false, ◌&&◌, ◌==◌, List, [], ◌∷◌, ◌++◌, length, refl, sym, ap, ◌∙◌, append_assoc, length-append, arith}
 use Rattle.std.proofs.lemmas.Bool.Decides.{nat_tests}
+use Rattle.kdl_text.specs.Dedent.{LineUnit}
 use Rattle.kdl_text.specs.Chars.{Text, begins, begins_two, begins_with, times, starts, is_identifier_char, is_space, is_newline_char, Newline, crlf, one}
 use Rattle.kdl_text.specs.Chars.Space.{space as a_space}
 use Rattle.kdl_text.specs.Bare.{BareString, bare as bare_text, is_bare}
@@ -9,7 +10,6 @@ use Rattle.kdl_text.specs.MultiLine.{ContentUnit, Content, MultiLineBody, MultiL
 use Rattle.kdl_text.specs.Raw.{closing, RawUnit, RawUnits, RawContent, content, RawString, MultiLineRawBody, MultiLineRawString, IsRaw}
 use Rattle.kdl_text.specs.Strings.{StringUnit, IsUnit, one_literal, one_letter, one_number, one_gap, AreUnits, body, QuotedString, quoted as quoted_text, HexNumber, is_escaped_space}
 use Rattle.kdl_text.specs.Trivia.{ends_value, ValueEnd, escline}
-use Rattle.kdl_text.specs.declared.strings.dedent.LineUnit.{LineUnit}
 use Rattle.kdl_syntax.specs.Pieces.{StringPiece, bare, quoted, raw}
 use Rattle.kdl_syntax.proofs.Moving.Puts.{Put, stands, also, joined, before, first_piece, same, starts_first, begins_first, Move}
 

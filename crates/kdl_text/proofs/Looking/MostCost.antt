@@ -1,7 +1,7 @@
 -- What is read costs so much, whether or not it is right.
-use Rattle.std.proofs.Common.{◌≡◌, ℕ, ◌+◌, ◌*◌, ◌≤◌, ◌++◌, length, length-append, ap, arith}
+use Rattle.std.proofs.Common.{◌≡◌, ℕ, ◌+◌, ◌≤◌, ◌++◌, length, length-append, ap, arith}
 use Rattle.kdl_text.specs.Chars.{Text}
-use Rattle.kdl_text.specs.Internal.Here.{Here, Took, Ran, Returned, sliced}
+use Rattle.kdl_text.specs.Internal.Here.{Here, Took, Ran, sliced}
 use Rattle.kdl_text.specs.Spans.{bytes}
 use Rattle.kdl_text.specs.Internal.Reading.{Costs, Past}
 use Rattle.std.specs.Prelude.{Some, Bool}
@@ -12,11 +12,11 @@ use Rattle.kdl_text.proofs.Looking.Runs.{length-bytes}
 pub more : {i c : ℕ} {a b : Here} → Past 2 i a b → i ≤ c → Costs 4 c a b
 more p le = record { most = omega (arith, p.costs.most, fewer_bytes p.moves, le); least = p.costs.least }
 
--- what was read is copied: two steps for each byte, and one more
-pub copied_most : (p : Text) (a b e : Here) → Costs 2 11 a b → a.rest ≡ p ++ b.rest → Returned (2 * bytes p + 1) b e → Costs 4 12 a e
-copied_most p a b e k h r = record {
-  most = omega (arith, k.most, ap bytes h, bytes-append p b.rest, r.most, ap bytes r.rest);
-  least = omega (arith, k.least, r.counts, ap length r.rest);
+-- what was read is sliced
+pub copied_most : (p : Text) (a b e : Here) → Costs 2 11 a b → a.rest ≡ p ++ b.rest → e ≡ sliced p b → Costs 4 12 a e
+copied_most p a b e k h s = record {
+  most = omega (arith, k.most, ap bytes h, bytes-append p b.rest, ap (λ z. z.steps) s, ap (λ z. bytes z.rest) s);
+  least = omega (arith, k.least, ap (λ z. z.steps) s, ap (λ z. length z.rest) s);
 }
 
 -- a number sign, a word and a slice of it

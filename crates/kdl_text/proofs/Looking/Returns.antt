@@ -1,7 +1,6 @@
 -- A cursor that is back where it was, with steps counted.
-use Rattle.std.proofs.Common.{◌≡◌, ℕ, ◌+◌, ◌≤◌, [], refl, ap, sym, ◌∙◌, arith}
-use Rattle.kdl_text.specs.Chars.{Text}
-use Rattle.kdl_text.specs.Internal.Here.{Here, Returned, sliced}
+use Rattle.std.proofs.Common.{ℕ, ◌+◌, ◌≤◌, [], refl, ap, sym, ◌∙◌, arith}
+use Rattle.kdl_text.specs.Internal.Here.{Here, Returned}
 use Rattle.kdl_text.specs.Internal.Reading.{Moves}
 use Rattle.kdl_text.specs.Spans.{bytes}
 use Rattle.kdl_text.proofs.Looking.MovesJoin.{moves_then, moves_one, moves_two, moves_stayed, stayed_looked, took_from, fewer_bytes}
@@ -21,9 +20,6 @@ returned_then j k a b e r s = record {
   counts = omega (arith, r.counts, s.counts);
   same = s.same ∙ r.same;
 }
-
-pub sliced_returned : (p : Text) (a b : Here) → b ≡ sliced p a → Returned (bytes p) a b
-sliced_returned p a b e = record { rest = ap (λ z. z.rest) e; at = ap (λ z. z.at) e; most = omega (arith, ap (λ z. z.steps) e); counts = omega (arith, ap (λ z. z.steps) e); same = ap (λ z. z.text) e }
 
 pub returned_none : (a : Here) → Returned 0 a a
 returned_none a = record { rest = refl; at = refl; most = omega arith; counts = omega arith; same = refl }

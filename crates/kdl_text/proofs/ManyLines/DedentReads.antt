@@ -1,21 +1,20 @@
 -- What lines represent under a prefix.
-use Rattle.std.proofs.Common.{◌≡◌, ℕ, suc, ◌+◌, ◌<◌, ◌≤◌, Bool, true, false, not, List, [], ◌∷◌, ◌++◌, map, length, refl, sym, ap, ◌∙◌, append_assoc, append-nil, take, drop, get_or, eq-eqb, eqb-true, subst}
-use Rattle.std.proofs.lemmas.Bool.{false≢true, true≢false, not-true, and_right}
-use Rattle.std.proofs.lemmas.List.{append_cancel_left, map-append, take-append-drop, take_all, take_more}
-use Rattle.std.proofs.Math.Seq.{drop-cons}
-use Rattle.std.proofs.lemmas.List.Folds.{list_all-append}
-use Rattle.std.specs.Bool.{Decides}
-use Rattle.std.specs.List.{list_all}
-use Rattle.kdl_text.specs.Raw.{literals}
-use Rattle.kdl_text.specs.Chars.{Text, starts, is_space}
-use Rattle.kdl_text.specs.Dedent.{is_space_unit, is_blank_line, unit_text, line_text, onto_first, lines_of, LineValue, blank, dedented, LineValues, none, more, joined, Dedents}
-use Rattle.kdl_text.specs.Internal.Lines.{line_units}
-use Rattle.kdl_text.specs.contracts.strings.dedent.LineUnitPartialEq.TheImpl.{eq-value}
+use Rattle.std.proofs.Common.{◌≡◌, ℕ, ◌+◌, ◌<◌, ◌≤◌, true, List, [], ◌∷◌, ◌++◌, length, take, get_or, refl, sym, ap, ◌∙◌, subst, arith, append_assoc, length-append, encode_utf8}
+use Rattle.std.proofs.lemmas.Bool.{false≢true, true≢false}
+use Rattle.std.proofs.lemmas.List.{append_cancel_left, nil_from_length, take_more}
+use Rattle.std.proofs.lemmas.List.Sums.{sum_by-append}
+use Rattle.std.proofs.lemmas.Str.{chars-nil}
+use Rattle.std.specs.Prelude.{Option, Some, None, IfSome, IsSome, ◌↔◌, Result, Ok, Err, IsErrAnd, String}
+use Rattle.std.specs.Global.{Global}
+use Rattle.std.specs.Str.{chars, IsUtf8}
+use Rattle.kdl_text.specs.Chars.{Text}
+use Rattle.kdl_text.specs.Dedent.{LineUnit, Literal, Escape, LineEnd, is_blank_line, line_text, onto_first, lines_of, LineValue, blank, dedented, LineValues, none, more, joined, Dedents}
+use Rattle.kdl_text.specs.Internal.Lines.{Dedented, IsLine, AreLines, no_lines, a_line, line_room, lines_room}
 use Rattle.kdl_text.specs.declared.strings.StringFailure.{StringFailure}
 use Rattle.kdl_text.specs.declared.strings.StringFailure.TheVariants.{Memory, Fault}
 use Rattle.kdl_text.specs.declared.strings.dedent.Line.{Line}
-use Rattle.kdl_text.specs.declared.strings.dedent.LineUnit.{LineUnit}
-use Rattle.kdl_text.specs.declared.strings.dedent.LineUnit.TheVariants.{Literal, Escape, LineEnd}
+use Rattle.kdl_text.proofs.ManyLines.LinesJoin.{ended, ended_more}
+use Rattle.kdl_text.proofs.Quoted.EscapeReads.{char_pushed}
 
 cut_some : (ts : List LineUnit) → (l : List LineUnit) × (ls : List (List LineUnit)) × (lines_of ts ≡ l ∷ ls)
 cut_some [] = ([], [], refl)
@@ -35,7 +34,7 @@ snoc_same (a ∷ xs) (b ∷ ys) x y e =
     let (same, last) = snoc_same xs ys x y tails in
     (cc, last)
 
-pub line_same : (p l : List LineUnit) (v w : Text) → LineValue p l v → LineValue p l w → v ≡ w
+line_same : (p l : List LineUnit) (v w : Text) → LineValue p l v → LineValue p l w → v ≡ w
 line_same p l v w (blank a e) (blank b f) = e ∙ sym f
 line_same p l v w (blank a e) (dedented n b g h) = absurd (true≢false (sym a ∙ b))
 line_same p l v w (dedented m a e f) (blank b g) = absurd (true≢false (sym b ∙ a))
@@ -59,120 +58,78 @@ dedents_det d e =
     let values : LineValues e.prefix e.lines d.each = rw (← last, ← same) d.values in
     d.value ∙ ap joined (values_same e.prefix e.lines d.each e.each values e.values) ∙ sym e.value
 
+-- the last line
+pub lines_last : (ls : List Line) (l : Line) (uss : List (List LineUnit)) → AreLines (ls ++ (l ∷ [])) uss → (ks : List (List LineUnit)) × (us : List LineUnit) × (uss ≡ ks ++ (us ∷ [])) × AreLines ls ks × IsLine l us
+lines_last [] l uss (a_line {us = us} i no_lines) = ([], us, refl, no_lines, i)
+lines_last (k ∷ ls) l uss (a_line {us = us} {uss = rest} i is) = let (ks, us', e, are, last) = lines_last ls l rest is in (us ∷ ks, us', ap (λ z. us ∷ z) e, a_line i are, last)
+
 values_more : (p : List LineUnit) (ls : List (List LineUnit)) (vs : List Text) (l : List LineUnit) (v : Text) → LineValues p ls vs → LineValue p l v → LineValues p (ls ++ (l ∷ [])) (vs ++ (v ∷ []))
 values_more p [] vs l v none k = more k none
 values_more p (x ∷ ls) vs l v (more {vs = ws} h hs) k = more h (values_more p ls ws l v hs k)
 
-joined_more : (w : Text) (vs : List Text) (v : Text) → joined ((w ∷ vs) ++ (v ∷ [])) ≡ joined (w ∷ vs) ++ (10 ∷ v)
-joined_more w [] v = refl
-joined_more w (x ∷ vs) v = ap (λ z. w ++ (10 ∷ z)) (joined_more x vs v) ∙ sym (append_assoc w (10 ∷ joined (x ∷ vs)) (10 ∷ v))
+-- what has been written of lines, each with a line feed
+abbrev pub Written : List LineUnit → List Line → Text → Type 0
+Written p ls out = (uss : List (List LineUnit)) → AreLines ls uss → (vs : List Text) × LineValues p uss vs × (out ≡ ended 10 vs)
 
--- what has been written for lines, of which there are some
-pub record Joined (p : List LineUnit) (ls : List Line) (out : Text) : Type 0 where
-  pub first : Text
-  pub others : List Text
-  pub values : LineValues p (map line_units ls) (first ∷ others)
-  pub value : out ≡ joined (first ∷ others)
+pub written_none : (p : List LineUnit) (out : Text) → out ≡ [] → Written p [] out
+written_none p out e uss no_lines = ([], none, e)
 
-pub joined_first : (p : List LineUnit) (l : Line) (v out : Text) → LineValue p (line_units l) v → out ≡ v → Joined p (l ∷ []) out
-joined_first p l v out k e = record { first = v; others = []; values = more k none; value = e }
+-- a line more
+pub written_more : (p : List LineUnit) (ls : List Line) (l : Line) (out mid new : Text) → Written p ls out → ((us : List LineUnit) → IsLine l us → (v : Text) × LineValue p us v × (mid ≡ out ++ v)) → new ≡ mid ++ (10 ∷ []) → Written p (ls ++ (l ∷ [])) new
+written_more p ls l out mid new w value e uss are =
+    let (ks, us, same, first, last) = lines_last ls l uss are in
+    let (vs, values, is) = w ks first in
+    let (v, one, put) = value us last in
+    (vs ++ (v ∷ []), subst (λ z. LineValues p z (vs ++ (v ∷ []))) (sym same) (values_more p ks vs us v values one), e ∙ ap (λ z. z ++ (10 ∷ [])) (put ∙ ap (λ z. z ++ v) is) ∙ append_assoc (ended 10 vs) v (10 ∷ []) ∙ sym (ended_more 10 vs v))
 
-pub joined_line : (p : List LineUnit) (ls : List Line) (out : Text) (l : Line) (v mid new : Text) → Joined p ls out → LineValue p (line_units l) v → mid ≡ out ++ (10 ∷ []) → new ≡ mid ++ v → Joined p (ls ++ (l ∷ [])) new
-joined_line p ls out l v mid new i k e f = record {
-  first = i.first;
-  others = i.others ++ (v ∷ []);
-  values = subst (λ z. LineValues p z (i.first ∷ (i.others ++ (v ∷ [])))) (sym (map-append line_units ls (l ∷ []))) (values_more p (map line_units ls) (i.first ∷ i.others) (line_units l) v i.values k);
-  value = f ∙ ap (λ z. z ++ v) (e ∙ ap (λ z. z ++ (10 ∷ [])) i.value) ∙ append_assoc (joined (i.first ∷ i.others)) (10 ∷ []) v ∙ sym (joined_more i.first i.others v);
-}
+joined_ended : (v : Text) (vs : List Text) → ended 10 (v ∷ vs) ≡ joined (v ∷ vs) ++ (10 ∷ [])
+joined_ended v [] = refl
+joined_ended v (w ∷ vs) = ap (λ z. v ++ (10 ∷ z)) (joined_ended w vs) ∙ sym (append_assoc v (10 ∷ joined (w ∷ vs)) (10 ∷ []))
+
+nothing : (n : ℕ) → (0 < n → ⊥) → n ≡ 0
+nothing n h = omega arith
+
+-- without the last line feed
+pub unended : (o : Option ℕ) (vs : List Text) (bs ns : List ℕ) → IsUtf8 bs → IsUtf8 ns → chars bs ≡ ended 10 vs → IsSome o ↔ (0 < length bs) → IfSome o (λ c. bs ≡ ns ++ encode_utf8 c) → length ns ≤ length bs → chars ns ≡ joined vs
+unended None [] bs ns u v e some pop few = ap chars (nil_from_length ns (omega (arith, few, nothing (length bs) (λ h. false≢true (some.1 h))))) ∙ chars-nil
+unended None (w ∷ vs) bs ns u v e some pop few =
+    let empty : [] ≡ joined (w ∷ vs) ++ (10 ∷ []) = sym (ap chars (nil_from_length bs (nothing (length bs) (λ h. false≢true (some.1 h)))) ∙ chars-nil) ∙ e ∙ joined_ended w vs in
+    absurd (omega (arith, ap length empty, length-append (joined (w ∷ vs)) (10 ∷ [])))
+unended (Some c) [] bs ns u v e some pop few = absurd (omega (arith, ap length (sym (char_pushed ns bs c v u pop) ∙ e), length-append (chars ns) (c ∷ [])))
+unended (Some c) (w ∷ vs) bs ns u v e some pop few = (snoc_same (chars ns) (joined (w ∷ vs)) c 10 (sym (char_pushed ns bs c v u pop) ∙ e ∙ joined_ended w vs)).0
 
 -- a line without a value
-pub value_of : (p : List LineUnit) (ls ks : List Line) (l : Line) (vs : List Text) → LineValues p (map line_units (ls ++ (l ∷ ks))) vs → (v : Text) × LineValue p (line_units l) v
-value_of p [] ks l [] k = elim k [ ]
-value_of p [] ks l (v ∷ vs) (more h hs) = (v, h)
-value_of p (x ∷ ls) ks l [] k = elim k [ ]
-value_of p (x ∷ ls) ks l (v ∷ vs) (more h hs) = value_of p ls ks l vs hs
-
--- the units whose lines these are, of which the last is spaces alone
-pub dedents_to : (us : List LineUnit) (ls front : List Line) (last : Line) (vs : List Text) → lines_of us ≡ map line_units ls → ls ≡ front ++ (last ∷ []) → is_blank_line (line_units last) ≡ true
-    → LineValues (line_units last) (map line_units front) vs → Dedents us (joined vs)
-dedents_to us ls front last vs e f b k = record {
-  lines = map line_units front;
-  prefix = line_units last;
-  text = e ∙ ap (map line_units) f ∙ map-append line_units front (last ∷ []);
-  is_blank = b;
-  each = vs;
-  values = k;
-  value = refl;
-}
-
-pub dedents_from : (us : List LineUnit) (ls front : List Line) (last : Line) (v : Text) → lines_of us ≡ map line_units ls → ls ≡ front ++ (last ∷ []) → Dedents us v
-    → (is_blank_line (line_units last) ≡ true) × (vs : List Text) × LineValues (line_units last) (map line_units front) vs × (v ≡ joined vs)
-dedents_from us ls front last v e f d =
-    let (same, ends) = snoc_same (map line_units front) d.lines (line_units last) d.prefix (sym (e ∙ ap (map line_units) f ∙ map-append line_units front (last ∷ [])) ∙ d.text) in
-    (rw ends d.is_blank, d.each, rw (ends, same) d.values, d.value)
+pub value_of : (p : List LineUnit) (ls ks : List Line) (l : Line) (uss : List (List LineUnit)) (vs : List Text) → AreLines (ls ++ (l ∷ ks)) uss → LineValues p uss vs → (us : List LineUnit) × (v : Text) × IsLine l us × LineValue p us v
+value_of p [] ks l uss vs (a_line {us = us} i is) (more {v = v} h hs) = (us, v, i, h)
+value_of p (x ∷ ls) ks l uss vs (a_line {uss = rest} i is) (more {vs = ws} h hs) = value_of p ls ks l rest ws is hs
 
 -- no units have no lines
-pub some_lines : (us : List LineUnit) (ls : List Line) → lines_of us ≡ map line_units ls → ls ≡ [] → ⊥
-some_lines us ls e f = let (l, ks, g) = cut_some us in let both : l ∷ ks ≡ [] = sym g ∙ e ∙ ap (map line_units) f in cc
+pub some_lines : (us : List LineUnit) (ls : List Line) → AreLines ls (lines_of us) → ls ≡ [] → ⊥
+some_lines us ls are e = let (l, ks, g) = cut_some us in no_line (subst (λ z. AreLines z (l ∷ ks)) e (subst (AreLines ls) g are))
+  where
+    no_line : {l : List LineUnit} {ks : List (List LineUnit)} → AreLines [] (l ∷ ks) → ⊥
+    no_line a = elim a [ ]
 
-pub line_text-append : (xs ys : List LineUnit) → line_text (xs ++ ys) ≡ line_text xs ++ line_text ys
-line_text-append [] ys = refl
-line_text-append (x ∷ xs) ys = ap (λ z. unit_text x ++ z) (line_text-append xs ys) ∙ sym (append_assoc (unit_text x) (line_text xs) (line_text ys))
+-- the units whose lines these are, of which the last is spaces alone
+pub dedents_to : (us : List LineUnit) (ks : List (List LineUnit)) (p : List LineUnit) (vs : List Text) → lines_of us ≡ ks ++ (p ∷ []) → is_blank_line p ≡ true → LineValues p ks vs → Dedents us (joined vs)
+dedents_to us ks p vs e b k = record { lines = ks; prefix = p; text = e; is_blank = b; each = vs; values = k; value = refl }
 
-pub text_more : (ts : List LineUnit) (i : ℕ) (d t : LineUnit) → i < length ts → get_or ts i d ≡ t → line_text (take (i + 1) ts) ≡ line_text (take i ts) ++ unit_text t
-text_more ts i d t h e =
-    ap line_text (take_more ts i d h ∙ ap (λ x. take i ts ++ (x ∷ [])) e) ∙ line_text-append (take i ts) (t ∷ []) ∙ ap (λ x. line_text (take i ts) ++ x) (append-nil (unit_text t))
-
-abbrev pub eq : LineUnit → LineUnit → Bool
-eq a b = eq-value.it a b
-
-pub eq_is : (a b : LineUnit) → Decides (eq a b) (a ≡ b)
-eq_is (Literal c) (Literal d) = (λ h. ap Literal (eqb-true c d h), λ h. let e : c ≡ d = cc in eq-eqb c d e)
-eq_is (Literal c) (Escape d) = (λ h. absurd (false≢true h), λ h. cc)
-eq_is (Literal c) LineEnd = (λ h. absurd (false≢true h), λ h. cc)
-eq_is (Escape c) (Literal d) = (λ h. absurd (false≢true h), λ h. cc)
-eq_is (Escape c) (Escape d) = (λ h. ap Escape (eqb-true c d h), λ h. let e : c ≡ d = cc in eq-eqb c d e)
-eq_is (Escape c) LineEnd = (λ h. absurd (false≢true h), λ h. cc)
-eq_is LineEnd (Literal d) = (λ h. absurd (false≢true h), λ h. cc)
-eq_is LineEnd (Escape d) = (λ h. absurd (false≢true h), λ h. cc)
-eq_is LineEnd LineEnd = (λ h. refl, λ h. refl)
-
-pub regroup : {x y : Text} (a b z : Text) → x ≡ y ++ z → y ≡ a ++ b → x ≡ a ++ (b ++ z)
-regroup a b z e f = e ∙ ap (λ q. q ++ z) f ∙ append_assoc a b z
+pub dedents_from : (us : List LineUnit) (ks : List (List LineUnit)) (p : List LineUnit) (v : Text) → lines_of us ≡ ks ++ (p ∷ []) → Dedents us v → (is_blank_line p ≡ true) × (vs : List Text) × LineValues p ks vs × (v ≡ joined vs)
+dedents_from us ks p v e d =
+    let (same, ends) = snoc_same ks d.lines p d.prefix (sym e ∙ d.text) in
+    (rw ends d.is_blank, d.each, rw (ends, same) d.values, d.value)
 
 pub memory_if : (e : StringFailure) → ((e ≡ Memory → ⊥) → ⊥) → e ≡ Memory
 memory_if Memory h = refl
 memory_if (Fault f) h = absurd (h (λ q. cc))
 
--- characters of which the first n units of the prefix are taken off
-pub prefix_more : (ps us rs ns : List LineUnit) (n : ℕ) → n < length ps → us ≡ take n ps ++ rs → rs ≡ get_or ps n (Literal 0) ∷ ns → us ≡ take (n + 1) ps ++ ns
-prefix_more ps us rs ns n h e f = e ∙ ap (λ z. take n ps ++ z) f ∙ sym (append_assoc (take n ps) (get_or ps n (Literal 0) ∷ []) ns) ∙ ap (λ z. z ++ ns) (sym (take_more ps n (Literal 0) h))
+-- where the memory ended
+pub dedent_failed : (r : Result (String Global) StringFailure) (us : List LineUnit) → IsErrAnd r (λ e. e ≡ Memory) → Dedented us r
+dedent_failed (Ok s) us h = absurd h
+dedent_failed (Err e) us h = record { found = tt; only = λ v d. h }
 
-pub prefix_not : (ps us rs : List LineUnit) (n : ℕ) → n < length ps → us ≡ take n ps ++ rs → ((m : List LineUnit) → rs ≡ get_or ps n (Literal 0) ∷ m → ⊥) → (m : List LineUnit) → us ≡ ps ++ m → ⊥
-prefix_not ps us rs n h e no_unit m f =
-    let parts : ps ≡ take n ps ++ (get_or ps n (Literal 0) ∷ drop (suc n) ps) = sym (take-append-drop n ps) ∙ ap (λ z. take n ps ++ z) (drop-cons ps n (Literal 0) h) in
-    let same : take n ps ++ rs ≡ take n ps ++ (get_or ps n (Literal 0) ∷ (drop (suc n) ps ++ m)) = sym e ∙ f ∙ ap (λ z. z ++ m) parts ∙ append_assoc (take n ps) (get_or ps n (Literal 0) ∷ drop (suc n) ps) m in
-    no_unit (drop (suc n) ps ++ m) (append_cancel_left (take n ps) rs (get_or ps n (Literal 0) ∷ (drop (suc n) ps ++ m)) same)
-
-pub first_literal : (p : Text) (u : LineUnit) (m : List LineUnit) → literals p ≡ u ∷ m → (c : ℕ) × (u ≡ Literal c)
-first_literal [] u m e = cc
-first_literal (c ∷ p) u m e = (c, cc)
-
--- a line that is not blank and has not the prefix
-pub no_value : (ps us : List LineUnit) (v : Text) → is_blank_line us ≡ false → ((m : List LineUnit) → us ≡ ps ++ m → ⊥) → LineValue ps us v → ⊥
-no_value ps us v b lacks (blank a e) = true≢false (sym a ∙ b)
-no_value ps us v b lacks (dedented m a e f) = lacks m e
-
-pub literals_text : (p : Text) → line_text (literals p) ≡ p
-literals_text [] = refl
-literals_text (c ∷ p) = ap (λ z. c ∷ z) (literals_text p)
-
-pub prefix_whole : (ps us rs : List LineUnit) (n : ℕ) → length ps ≤ n → us ≡ take n ps ++ rs → us ≡ ps ++ rs
-prefix_whole ps us rs n h e = e ∙ ap (λ z. z ++ rs) (take_all n ps h)
-
--- a line with a character that is not a space is not blank
-pub not_blank : (ps : List LineUnit) (cs rest : Text) → literals cs ≡ ps ++ literals rest → starts (λ c. not (is_space c)) rest ≡ true → is_blank_line (literals cs) ≡ false
-not_blank ps cs [] e h = cc
-not_blank ps cs (c ∷ rest) e h =
-    let space : is_space c ≡ false = not-true (is_space c) h in
-    ap is_blank_line e ∙ list_all-append is_space_unit ps (literals (c ∷ rest)) ∙ and_right (list_all is_space_unit ps) _ (rw space refl)
+-- room for one line more
+pub room_more : (ls : List Line) (i : ℕ) (x : Line) → i < length ls → x ≡ get_or ls i x → lines_room (take (i + 1) ls) ≡ lines_room (take i ls) + line_room x
+room_more ls i x h is =
+    let next : take (i + 1) ls ≡ take i ls ++ (x ∷ []) = take_more ls i x h ∙ ap (λ z. take i ls ++ (z ∷ [])) (sym is) in
+    omega (arith, ap lines_room next, sum_by-append line_room (take i ls) (x ∷ []))

@@ -1,36 +1,36 @@
 -- A line of a string of many lines from an escape on.
-use Rattle.std.proofs.Common.{◌≡◌, ℕ, ◌+◌, ◌*◌, ◌<◌, ◌≤◌, Bool, not, true, false, List, [], ◌∷◌, ◌++◌, length, refl, sym, ap, ◌∙◌, subst, arith, append_assoc, append-nil, length-append}
+use Rattle.std.proofs.Common.{◌≡◌, ℕ, ◌+◌, ◌<◌, ◌≤◌, Bool, not, true, false, List, [], ◌∷◌, ◌++◌, length, refl, sym, ap, subst, arith, append_assoc, append-nil, length-append}
 use Rattle.std.proofs.lemmas.Bool.{false≢true}
 use Rattle.std.proofs.lemmas.List.Folds.{list_all-append}
-use Rattle.std.specs.Prelude.{Option}
+use Rattle.std.specs.Prelude.{Option, Result, Ok, Err, IfOk, IfErr}
+use Rattle.std.specs.Str.{chars, IsUtf8}
 use Rattle.kdl_text.specs.Chars.{Text, is_literal}
-use Rattle.kdl_text.specs.Dedent.{is_line_end}
-use Rattle.kdl_text.specs.Internal.Here.{Here, IsPart}
+use Rattle.kdl_text.specs.Dedent.{LineUnit, LineEnd, is_line_end}
+use Rattle.kdl_text.specs.Internal.Here.{Here}
 use Rattle.kdl_text.specs.Spans.{bytes}
-use Rattle.kdl_text.specs.Internal.Lines.{CostsWith, EscapesIn, escape_units, escapes_bytes, escapes_units, is_one_line, ReadsLine}
+use Rattle.kdl_text.specs.Internal.Lines.{IsLine, Paid, ReadLine, Spells, is_one_line, ReadsLine}
 use Rattle.kdl_text.specs.MultiLine.{kept, unit, Content}
 use Rattle.kdl_text.specs.Raw.{literals}
-use Rattle.kdl_text.specs.Internal.Reading.{Costs, Past, Goes}
+use Rattle.kdl_text.specs.Internal.Reading.{Moves, Past, Goes}
 use Rattle.kdl_text.specs.Strings.{StringUnit, literal, escape, spaces, escape_of, IsUnit, one_literal, one_letter, one_number, one_gap}
-use Rattle.kdl_text.specs.declared.strings.dedent.Escaped.{Escaped}
-use Rattle.kdl_text.specs.declared.strings.dedent.LineUnit.{LineUnit}
-use Rattle.kdl_text.specs.declared.strings.dedent.LineUnit.TheVariants.{LineEnd}
-use Rattle.kdl_text.proofs.Looking.ValueGoes.{goes_then}
+use Rattle.kdl_text.specs.declared.strings.StringFailure.{StringFailure}
+use Rattle.kdl_text.specs.declared.strings.StringFailure.TheVariants.{Memory}
+use Rattle.kdl_text.specs.declared.strings.dedent.Line.{Line}
+use Rattle.kdl_text.proofs.Looking.ValueGoes.{goes_start, goes_then}
 use Rattle.kdl_text.proofs.Looking.MovesJoin.{moves_then, fewer_bytes, bytes-append}
-use Rattle.kdl_text.proofs.Looking.SliceCost.{past_then}
+use Rattle.kdl_text.proofs.Looking.SliceCost.{past_start, past_then}
 use Rattle.kdl_text.proofs.Looking.Runs.{length-bytes}
-use Rattle.kdl_text.proofs.ManyLines.Escapes.{escapes_bytes-append, escapes_units-append}
-use Rattle.kdl_text.proofs.ManyLines.LineParts.{escapes_more, escapes_same}
-use Rattle.kdl_text.proofs.ManyLines.LinesJoin.{literals_inside}
+use Rattle.kdl_text.proofs.ManyLines.LineUnits.{plain_spells}
+use Rattle.kdl_text.proofs.ManyLines.PlainLoop.{literals_inside}
 use Rattle.kdl_text.proofs.ManyLines.LinesUnique.{goes_content, slash_unit, content_unit}
 
--- the escapes read so far, and a backslash that was taken
-pub record InEscaped (f a : Here) (es : List Escaped) : Type 0 where
-  pub inside : is_one_line (escapes_units es) ≡ true
-  pub goes : Goes Content (92 ∷ f.rest) (escapes_units es) (92 ∷ a.rest)
-  pub past : Past 2 0 f a
-  pub leaves : CostsWith (2 * escapes_bytes es) f a
-  pub parts : EscapesIn a.text es
+-- after the characters `front`: the escapes read so far, with the characters after each, and a backslash that was taken
+pub record InEscaped (f a : Here) (front : Text) (text : List ℕ) (n : ℕ) : Type 0 where
+  pub units : List LineUnit
+  pub spells : Spells text n (literals front ++ units)
+  pub inside : is_one_line units ≡ true
+  pub goes : Goes Content (92 ∷ f.rest) units (92 ∷ a.rest)
+  pub past : Past 4 0 f a
 
 kept_inside : (u : StringUnit) → is_one_line (kept u) ≡ true
 kept_inside (literal c) = refl
@@ -59,103 +59,72 @@ slash_shorter {s = s} {r = r} i = go i refl
     go (one_number {t = t} x) e = let same : 117 ∷ 123 ∷ t ≡ s = cc in omega (arith, ap length same, ap length x.text, length-append x.digits (125 ∷ r))
     go (one_gap {e = d} {t = t} x y) e = let same : d ∷ t ≡ s = cc in omega (arith, ap length same, ap length y.text, length-append y.run r)
 
--- the escapes of a line up to its end
-pub record EscapesRead (f d : Here) (es : List Escaped) (closed : Bool) : Type 0 where
-  pub line : ReadsLine Content closed (92 ∷ f.rest) (escapes_units es) d.rest
-  pub shorter : bytes d.rest + 1 ≤ bytes f.rest
-  pub past : Past 2 0 f d
-  pub leaves : CostsWith (2 * escapes_bytes es) f d
-  pub parts : EscapesIn d.text es
+pub escaped_begins : (f : Here) (front text : List ℕ) (n : ℕ) → IsUtf8 front → text ≡ front → n ≡ length front → InEscaped f f (chars front) text n
+escaped_begins f front text n u e h = rw (e, h) (record { units = []; spells = rw (append-nil (literals (chars front))) (plain_spells front u); inside = refl; goes = goes_start Content (92 ∷ f.rest); past = past_start })
 
-module _ (f a : Here) (es : List Escaped) (i : InEscaped f a es) (o : Option ℕ) (b : Here) (unit_is : IsUnit (92 ∷ a.rest) b.rest (escape_of o)) (m : Past 1 1 a b) where
+-- a line, after units of it
+pub line_after : (closed : Bool) (d : Text) (ws : List LineUnit) {s t : Text} {us : List LineUnit} → Goes Content s us t → is_one_line us ≡ true → ReadsLine Content closed t ws d → ReadsLine Content closed s (us ++ ws) d
+line_after true d ws {us = us} g h (one, x) = (joins us ws h one, g.on d ws x)
+line_after false d ws {s = s} {us = us} g h (one, x) = (joins us ws h one, subst (λ z. Goes Content s z d) (sym (append_assoc us ws (LineEnd ∷ []))) (goes_then g x))
+
+module _ (f a : Here) (front : Text) (text : List ℕ) (n : ℕ) (i : InEscaped f a front text n) (o : Option ℕ) (b : Here) (unit_is : IsUnit (92 ∷ a.rest) b.rest (escape_of o)) (m : Past 1 1 a b) where
   few_read : bytes b.rest + 1 ≤ bytes a.rest
   few_read = omega (arith, slash_shorter unit_is, ap length m.moves.piece.1, length-append m.moves.piece.0 b.rest, ap bytes m.moves.piece.1, bytes-append m.moves.piece.0 b.rest, length-bytes m.moves.piece.0)
 
-  escape_past : Past 2 0 f b
+  escape_past : Past 4 0 f b
   escape_past = record {
     moves = moves_then i.past.moves m.moves;
     costs = record { most = omega (arith, i.past.costs.most, m.costs.most, few_read); least = omega (arith, i.past.costs.least, m.costs.least) };
   }
 
-  escape_goes : Goes Content (92 ∷ f.rest) (escapes_units es ++ kept (escape_of o)) b.rest
+  escape_goes : Goes Content (92 ∷ f.rest) (i.units ++ kept (escape_of o)) b.rest
   escape_goes = goes_then i.goes (slash_kept unit_is)
 
-  escape_inside : is_one_line (escapes_units es ++ kept (escape_of o)) ≡ true
-  escape_inside = joins (escapes_units es) (kept (escape_of o)) i.inside (kept_inside (escape_of o))
+  module _ (p : Text) (d : Here) (new : List ℕ) (k : ℕ) (v : Moves b d) (paid : Paid b d) (spells : (us : List LineUnit) → Spells text n us → Spells new k (us ++ (kept (escape_of o) ++ literals p))) where
+    spelled : Spells new k (literals front ++ (i.units ++ (kept (escape_of o) ++ literals p)))
+    spelled = subst (Spells new k) (append_assoc (literals front) i.units (kept (escape_of o) ++ literals p)) (spells (literals front ++ i.units) i.spells)
 
-  module _ (e : Escaped) (d : Here) (new : List Escaped) (n : Past 2 0 b d) (s : bytes e.after + 1 + bytes d.rest ≤ bytes b.rest) (value : e.value ≡ o) (is : new ≡ es ++ (e ∷ [])) (part : IsPart d.text e.after) where
-    units_are : escapes_units new ≡ (escapes_units es ++ kept (escape_of o)) ++ literals e.after
-    units_are =
-        ap escapes_units is ∙ escapes_units-append es (e ∷ []) ∙ ap (λ z. escapes_units es ++ z) (append-nil (escape_units e))
-        ∙ sym (append_assoc (escapes_units es) (kept (escape_of e.value)) (literals e.after)) ∙ ap (λ z. (escapes_units es ++ kept (escape_of z)) ++ literals e.after) value
+    all_inside : is_one_line (i.units ++ (kept (escape_of o) ++ literals p)) ≡ true
+    all_inside = joins i.units (kept (escape_of o) ++ literals p) i.inside (joins (kept (escape_of o)) (literals p) (kept_inside (escape_of o)) (literals_inside p))
 
-    bytes_are : escapes_bytes new ≡ escapes_bytes es + bytes e.after
-    bytes_are = omega (arith, ap escapes_bytes is, escapes_bytes-append es (e ∷ []))
+    pub escaped_past : Past 4 0 f d
+    escaped_past = past_then escape_past (record { moves = v; costs = paid.costs })
 
-    few : bytes d.rest + 1 ≤ bytes f.rest
-    few = omega (arith, fewer_bytes escape_past.moves, s)
-
-    all_inside : is_one_line (escapes_units new) ≡ true
-    all_inside = ap is_one_line units_are ∙ joins (escapes_units es ++ kept (escape_of o)) (literals e.after) escape_inside (literals_inside e.after)
-
-    all_in : EscapesIn d.text new
-    all_in = subst (EscapesIn d.text) (sym is) (escapes_more d.text es e (escapes_same es i.parts (n.moves.same ∙ m.moves.same)) part)
-
-    part_past : Past 2 0 f d
-    part_past = past_then escape_past n
-
-    part_leaves : CostsWith (2 * escapes_bytes new) f d
-    part_leaves = record { most = omega (arith, i.leaves.most, m.costs.most, few_read, n.costs.most, s, bytes_are); least = part_past.costs.least }
+    pub escaped_paid : Paid f d
+    escaped_paid = record { shorter = omega (arith, paid.shorter, fewer_bytes escape_past.moves); costs = escaped_past.costs }
 
     -- up to the next escape
-    pub escaped_turn : Goes Content b.rest (literals e.after) (92 ∷ d.rest) → InEscaped f d new
-    escaped_turn g = record {
-      inside = all_inside;
-      goes = subst (λ z. Goes Content (92 ∷ f.rest) z (92 ∷ d.rest)) (sym units_are) (goes_then escape_goes g);
-      past = part_past;
-      leaves = part_leaves;
-      parts = all_in;
-    }
+    pub escaped_turn : Goes Content b.rest (literals p) (92 ∷ d.rest) → InEscaped f d front new k
+    escaped_turn g = record { units = i.units ++ (kept (escape_of o) ++ literals p); spells = spelled; inside = all_inside; goes = goes_then i.goes (goes_then (slash_kept unit_is) g); past = escaped_past }
 
-    -- up to a newline
-    pub escaped_ends : ReadsLine Content false b.rest (literals e.after) d.rest → EscapesRead f d new false
-    escaped_ends (one, g) = record {
-      line = (all_inside, subst (λ z. Goes Content (92 ∷ f.rest) z d.rest) (sym (ap (λ z. z ++ (LineEnd ∷ [])) units_are ∙ append_assoc (escapes_units es ++ kept (escape_of o)) (literals e.after) (LineEnd ∷ []))) (goes_then escape_goes g));
-      shorter = few;
-      past = part_past;
-      leaves = part_leaves;
-      parts = all_in;
-    }
-
-    -- up to three quotes
-    pub escaped_closes : ReadsLine Content true b.rest (literals e.after) d.rest → EscapesRead f d new true
-    escaped_closes (one, x) = record {
-      line = (all_inside, subst (Content (92 ∷ f.rest) d.rest) (sym units_are) (escape_goes.on d.rest (literals e.after) x));
-      shorter = few;
-      past = part_past;
-      leaves = part_leaves;
-      parts = all_in;
-    }
+    -- up to the end of the line
+    pub escaped_ends : (closed : Bool) → ReadsLine Content closed b.rest (literals p) d.rest → (us : List LineUnit) × Spells new k (literals front ++ us) × ReadsLine Content closed (92 ∷ f.rest) us d.rest
+    escaped_ends closed x = (i.units ++ (kept (escape_of o) ++ literals p), spelled, subst (λ z. ReadsLine Content closed (92 ∷ f.rest) z d.rest) (append_assoc i.units (kept (escape_of o)) (literals p)) (line_after closed d.rest (literals p) escape_goes (joins i.units (kept (escape_of o)) i.inside (kept_inside (escape_of o))) x))
 
   -- where what follows was not read, or the memory ended
-  pub part_fails : (d : Here) → Past 2 1 b d → Past 2 1 f d
+  pub part_fails : (d : Here) → Past 4 1 b d → Past 4 1 f d
   part_fails d n = past_then escape_past n
 
   pub part_there : (r : Text) (us : List LineUnit) → Content (92 ∷ f.rest) r us → (v : List LineUnit) × Content b.rest r v
   part_there r us x = let (v, e, rest) = escape_goes.back r us x in (v, rest)
 
-pub escape_there : (f a : Here) (es : List Escaped) → InEscaped f a es → (r : Text) (us : List LineUnit) → Content (92 ∷ f.rest) r us → (m : Text) × (u : StringUnit) × IsUnit (92 ∷ a.rest) m u
-escape_there f a es i r us x =
+pub escape_there : (f a : Here) (front : Text) (text : List ℕ) (n : ℕ) → InEscaped f a front text n → (r : Text) (us : List LineUnit) → Content (92 ∷ f.rest) r us → (m : Text) × (u : StringUnit) × IsUnit (92 ∷ a.rest) m u
+escape_there f a front text n i r us x =
     let (v, e, rest) = i.goes.back r us x in
     let (m, ws, there) = content_unit (λ h. omega arith) rest in
     let (u, unit_there) = slash_unit there in
     (m, u, unit_there)
 
--- a line with an escape, after what comes before that
-pub line_escaped : (f b d p : Text) (us : List LineUnit) (closed : Bool) → Goes Content f (literals p) (92 ∷ b) → ReadsLine Content closed (92 ∷ b) us d → ReadsLine Content closed f (literals p ++ us) d
-line_escaped f b d p us true g (one, x) = (joins (literals p) us (literals_inside p) one, g.on d us x)
-line_escaped f b d p us false g (one, x) = (joins (literals p) us (literals_inside p) one, subst (λ z. Goes Content f z d) (sym (append_assoc (literals p) us (LineEnd ∷ []))) (goes_then g x))
+-- a line with an escape, after the characters before that
+pub escaped_joins : {E : Type 0} (r : Result (Line × Bool) E) (f b d : Here) (p : Text) → Goes Content f.rest (literals p) (92 ∷ b.rest) → Moves f b → Paid f b → Moves b d
+    → IfOk r (λ (line, closed). (us : List LineUnit) × IsLine line (literals p ++ us) × ReadsLine Content closed (92 ∷ b.rest) us d.rest) → IfOk r (λ x. Paid b d) → IfOk r (λ (line, closed). ReadLine Content line closed f d)
+escaped_joins (Ok (line, closed)) f b d p g m k n (us, is, x) l = record {
+  units = literals p ++ us;
+  is = is;
+  reads = line_after closed d.rest us g (literals_inside p) x;
+  paid = record { shorter = omega (arith, k.shorter, l.shorter); costs = (past_then (record { moves = m; costs = k.costs }) (record { moves = n; costs = l.costs })).costs };
+}
+escaped_joins (Err e) f b d p g m k n x l = tt
 
--- what such a line costs
-pub escaped_leaves : (p : Text) (n : ℕ) (f b d : Here) → Costs 2 0 f b → bytes p + 1 + bytes b.rest ≤ bytes f.rest → CostsWith (2 * n) b d → CostsWith (2 * (bytes p + n + 1)) f d
-escaped_leaves p n f b d k s l = record { most = omega (arith, k.most, s, l.most); least = omega (arith, k.least, l.least) }
+pub escaped_only : {T : Type 0} (r : Result T StringFailure) (f b : Text) (p : Text) → Goes Content f (literals p) (92 ∷ b) → ((r' : Text) (us : List LineUnit) → Content (92 ∷ b) r' us → IfErr r (λ e. e ≡ Memory)) → (r' : Text) (us : List LineUnit) → Content f r' us → IfErr r (λ e. e ≡ Memory)
+escaped_only r f b p g only r' us x = let (v, e, rest) = g.back r' us x in only r' v rest

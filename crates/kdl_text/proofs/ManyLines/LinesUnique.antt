@@ -1,11 +1,10 @@
 -- The lines of multi-line strings: a text begins with those of one at most.
 use Rattle.std.proofs.Common.{◌≡◌, ℕ, true, false, List, [], ◌∷◌, ◌++◌, refl, sym, ap, ◌∙◌, subst, arith}
 use Rattle.std.proofs.lemmas.Bool.{false≢true}
+use Rattle.kdl_text.specs.Dedent.{LineUnit, Literal}
 use Rattle.kdl_text.specs.Chars.{Text, Newline, crlf, one, is_newline_char, is_literal}
 use Rattle.kdl_text.specs.Strings.{StringUnit, IsUnit, one_literal}
 use Rattle.kdl_text.specs.MultiLine.{kept, ContentUnit, quote, line, unit, Content, close, more}
-use Rattle.kdl_text.specs.declared.strings.dedent.LineUnit.{LineUnit}
-use Rattle.kdl_text.specs.declared.strings.dedent.LineUnit.TheVariants.{Literal}
 use Rattle.kdl_text.proofs.Spacing.NewlineUnique.{newline_det, no_newline}
 use Rattle.kdl_text.specs.Internal.Reading.{Goes}
 use Rattle.kdl_text.proofs.RawStrings.RawUnique.{quote_no_newline}

@@ -5,21 +5,23 @@ use Rattle.std.proofs.lemmas.List.{append_cancel_right}
 use Rattle.std.proofs.lemmas.Str.{len_utf8_bounds}
 use Rattle.std.specs.List.{list_all}
 use Rattle.std.specs.Prelude.{Some, None}
+use Rattle.kdl_text.specs.Dedent.{LineUnit, LineEnd}
 use Rattle.kdl_text.specs.Chars.{Text, Newline, begins, begins_two, is_literal, is_newline_char}
-use Rattle.kdl_text.specs.Internal.Here.{Here, Took, Ate, Skips}
+use Rattle.kdl_text.specs.Internal.Here.{Here, Took, Ate, Skips, sliced}
 use Rattle.kdl_text.specs.Spans.{bytes}
-use Rattle.kdl_text.specs.Internal.Lines.{ReadsLine}
+use Rattle.kdl_text.specs.Internal.Lines.{Paid, ReadsLine, is_one_line}
 use Rattle.kdl_text.specs.MultiLine.{quote, line, Content, close}
 use Rattle.kdl_text.specs.Raw.{literals}
-use Rattle.kdl_text.specs.Internal.Reading.{Past, Goes}
-use Rattle.kdl_text.specs.declared.strings.dedent.LineUnit.{LineUnit}
-use Rattle.kdl_text.specs.declared.strings.dedent.LineUnit.TheVariants.{LineEnd}
+use Rattle.kdl_text.specs.Internal.Reading.{Costs, Past, Goes}
 use Rattle.kdl_text.proofs.RawStrings.ClosingPlaces.{literals-append}
 use Rattle.kdl_text.proofs.Looking.ValueGoes.{goes_start, goes_then, goes_none}
-use Rattle.kdl_text.proofs.Looking.MovesJoin.{stayed_looked, fewer_bytes, bytes-append}
-use Rattle.kdl_text.proofs.ManyLines.LinesJoin.{literals_inside}
+use Rattle.kdl_text.proofs.Looking.MovesJoin.{stayed_looked, fewer_bytes, bytes-append, costs_less}
 use Rattle.kdl_text.proofs.ManyLines.LinesUnique.{goes_content, content_empty, content_unit, literal_unit, no_unit}
-use Rattle.kdl_text.proofs.Looking.SliceCost.{past_then, past_two, past_more, past_took, past_look, past_ran, past_after}
+use Rattle.kdl_text.proofs.Looking.SliceCost.{past_then, past_two, past_more, past_took, past_look, past_ran, past_after, past_four, moves_sliced}
+
+pub literals_inside : (p : Text) → is_one_line (literals p) ≡ true
+literals_inside [] = refl
+literals_inside (c ∷ p) = literals_inside p
 
 goes_literals : (p s r : Text) → list_all is_literal p ≡ true → s ≡ p ++ r → Goes Content s (literals p) r
 goes_literals [] s r h e = rw e (goes_start Content r)
@@ -118,18 +120,24 @@ module _ (f a : Here) (i : InPlain f a) (c : ℕ) (b : Here) (t : Took (Some c) 
       )
 
   -- a character that may not occur there
-  pub plain_stuck : (c ≡ 34 → ⊥) → (c ≡ 92 → ⊥) → is_newline_char c ≡ false → is_literal c ≡ false → ((r : Text) (us : List LineUnit) → Content f.rest r us → ⊥) × Past 2 1 f b
+  pub plain_stuck : (c ≡ 34 → ⊥) → (c ≡ 92 → ⊥) → is_newline_char c ≡ false → is_literal c ≡ false → ((r : Text) (us : List LineUnit) → Content f.rest r us → ⊥) × Past 4 1 f b
   plain_stuck x34 x92 nl lit = (
     λ r us x.
         let (v, e, rest) = i.goes.back r us x in
         let (m, ws, there) = content_unit x34 (subst (λ z. Content z r v) t.0 rest) in
         no_unit x34 x92 nl lit there,
-    past_more (omega arith) (past_then i.past (past_two (past_took t))),
+    past_four (past_more (omega arith) (past_then i.past (past_two (past_took t)))),
   )
 
 -- the end of the text
-pub plain_over : (f a b : Here) → InPlain f a → Took None a b → ((r : Text) (us : List LineUnit) → Content f.rest r us → ⊥) × Past 2 1 f b
+pub plain_over : (f a b : Here) → InPlain f a → Took None a b → ((r : Text) (us : List LineUnit) → Content f.rest r us → ⊥) × Past 4 1 f b
 plain_over f a b i t = (
   λ r us. goes_none i.goes (λ s w z. content_empty (subst (λ q. Content q s w) t.0 z)) r us,
-  past_then i.past (past_two (past_look t.1)),
+  past_four (past_then i.past (past_two (past_look t.1))),
 )
+
+-- the piece p was read, and sliced for two readers
+pub paid_twice : (p : Text) (f g : Here) → bytes p + 1 + bytes g.rest ≤ bytes f.rest → Past 2 0 f g → Paid f (sliced p (sliced p g)) × Past 4 1 f (sliced p (sliced p g))
+paid_twice p f g s k =
+    let costs : Costs 4 0 f (sliced p (sliced p g)) = record { most = omega (arith, k.costs.most, s); least = omega (arith, k.costs.least) } in
+    (record { shorter = omega (arith, s); costs = costs }, record { moves = moves_sliced p f (sliced p g) (sliced p (sliced p g)) refl (moves_sliced p f g (sliced p g) refl k.moves); costs = costs_less costs })

@@ -4,7 +4,7 @@ use Rattle.std.proofs.Math.Bool.{and-true}
 use Rattle.std.proofs.lemmas.Bool.{true≢false}
 use Rattle.std.specs.Prelude.{Result, Ok, Err, IfOk, MatchResult}
 use Rattle.kdl_text.specs.Chars.{Text, Newline, begins_two, begins_with}
-use Rattle.kdl_text.specs.Dedent.{Dedents, lines_of}
+use Rattle.kdl_text.specs.Dedent.{Dedents, LineUnit}
 use Rattle.kdl_text.specs.Strings.{QuotedBody, quoted}
 use Rattle.kdl_text.specs.MultiLine.{Content, MultiLineBody, lines, multi_line, IsQuoted, on_one_line, on_many_lines}
 use Rattle.kdl_text.specs.Internal.Lines.{LinesOf, BodyOf}
@@ -14,7 +14,6 @@ use Rattle.kdl_text.specs.declared.strings.multiline.Enclosure.{Enclosure}
 use Rattle.kdl_text.specs.declared.strings.multiline.Enclosure.TheVariants.{Quotes, Signs}
 use Rattle.kdl_text.specs.declared.strings.StringFailure.{StringFailure}
 use Rattle.kdl_text.specs.declared.strings.StringFailure.TheVariants.{Memory}
-use Rattle.kdl_text.specs.declared.strings.dedent.LineUnit.{LineUnit}
 use Rattle.kdl_text.proofs.ManyLines.LinesUnique.{content_det}
 use Rattle.kdl_text.proofs.RawStrings.RawUnique.{raw_det}
 use Rattle.kdl_text.proofs.Spacing.NewlineUnique.{newline_det}
@@ -22,11 +21,6 @@ use Rattle.kdl_text.proofs.Spacing.NewlineUnique.{newline_det}
 dedent_made : {T : Type 0} (o : Result T StringFailure) (f : T → Text) (r e w : Text) → r ≡ e → MatchResult o (λ s. w ≡ f s) (λ x. x ≡ Memory) → MatchResult o (λ v. (r ≡ e) × (w ≡ f v)) (λ x. x ≡ Memory)
 dedent_made (Ok v) f r e w ends k = (ends, k)
 dedent_made (Err x) f r e w ends k = k
-
--- the dedent of lines whose units are known
-pub dedent_only : {T : Type 0} (o : Result T StringFailure) (f : T → Text) (us xs : List LineUnit) (ls : List (List LineUnit)) (r e w : Text) → (r ≡ e) × (xs ≡ us) → lines_of us ≡ ls
-    → ((us : List LineUnit) (v : Text) → lines_of us ≡ ls → Dedents us v → MatchResult o (λ s. v ≡ f s) (λ x. x ≡ Memory)) → Dedents xs w → MatchResult o (λ v. (r ≡ e) × (w ≡ f v)) (λ x. x ≡ Memory)
-dedent_only o f us xs ls r e w (ends, same) h only d = dedent_made o f r e w ends (only us w h (subst (λ z. Dedents z w) same d))
 
 lines_det : (d : Enclosure) (t r s : Text) (us vs : List LineUnit) → LinesOf d t r us → LinesOf d t s vs → (r ≡ s) × (us ≡ vs)
 lines_det Quotes t r s us vs x y = content_det x y
@@ -47,12 +41,12 @@ pub body_lines : (d : Enclosure) (t m r w : Text) → Newline t m → BodyOf d t
 body_lines Quotes t m r w n (lines {us = us} k x made) = (us, subst (λ z. Content z r us) (newline_det k n) x, made)
 body_lines (Signs j) t m r w n (raw.lines {us = us} k x made) = (us, subst (λ z. RawContent (closing 3 j) z r us) (newline_det k n) x, made)
 
-pub body_only : (d : Enclosure) {T : Type 0} (o : Result T StringFailure) (f : T → Text) (t m e : Text) (us : List LineUnit) (ls : List (List LineUnit)) → Newline t m → LinesOf d m e us → lines_of us ≡ ls
-    → ((us : List LineUnit) (v : Text) → lines_of us ≡ ls → Dedents us v → MatchResult o (λ s. v ≡ f s) (λ x. x ≡ Memory))
+pub body_only : (d : Enclosure) {T : Type 0} (o : Result T StringFailure) (f : T → Text) (t m e : Text) (us : List LineUnit) → Newline t m → LinesOf d m e us → ((v : Text) → Dedents us v → MatchResult o (λ s. v ≡ f s) (λ x. x ≡ Memory))
     → (r w : Text) → BodyOf d t r w → MatchResult o (λ v. (r ≡ e) × (w ≡ f v)) (λ x. x ≡ Memory)
-body_only d o f t m e us ls n here h dedents r w b =
+body_only d o f t m e us n here dedents r w b =
     let (xs, x, made) = body_lines d t m r w n b in
-    dedent_only o f us xs ls r e w (lines_det d m r e xs us x here) h dedents made
+    let (ends, same) = lines_det d m r e xs us x here in
+    dedent_made o f r e w ends (dedents w (subst (λ z. Dedents z w) same made))
 
 -- three quotes are a quote and two
 pub two_of_three : (s : Text) → begins_two 34 34 s ≡ false → begins_with (34 ∷ 34 ∷ []) s ≡ false

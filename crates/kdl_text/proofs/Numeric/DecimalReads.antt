@@ -1,12 +1,12 @@
 -- Readers of numbers that may be decimals, a step at a time.
-use Rattle.std.proofs.Common.{◌≡◌, ℕ, ◌<◌, ◌≤◌, [], ◌∷◌, ◌++◌, Bool, true, false, not, ◌||◌, ◌==◌, length, refl, ap, sym, ◌∙◌, subst, arith, ℤ, Some, None, ◌↔◌, length-append, append-nil, IsTrue, cond, suc, ◌&&◌, ◌+◌, ◌*◌}
+use Rattle.std.proofs.Common.{◌≡◌, ℕ, ◌<◌, ◌≤◌, [], ◌∷◌, ◌++◌, Bool, true, false, not, ◌||◌, ◌==◌, length, refl, ap, sym, ◌∙◌, subst, arith, ℤ, Some, None, ◌↔◌, length-append, append-nil, IsTrue, cond, suc, ◌&&◌, ◌+◌}
 use Rattle.std.proofs.lemmas.Bool.{not-true, not-false, ne_eqb}
 use Rattle.std.specs.Prelude.{if◌then◌else◌, Result, Ok, Err, IfOk, Option}
 use Rattle.std.specs.Option.{is_some}
 use Rattle.std.specs.List.{list_all}
 use Rattle.std.specs.Str.Parse.{digits_value}
 use Rattle.kdl_text.specs.Chars.{Text, is_identifier_char, starts}
-use Rattle.kdl_text.specs.Internal.Here.{Here, Returned, Ate, first}
+use Rattle.kdl_text.specs.Internal.Here.{Here, Ate, first, sliced}
 use Rattle.kdl_text.specs.Spans.{bytes}
 use Rattle.kdl_text.specs.Internal.Reading.{Costs}
 use Rattle.kdl_text.specs.Numbers.{is_digit_of, Sign, BasePrefix, Integer, WholeNumber, whole, signed, fits, Fraction, Exponent, is_exponent_letter, DecimalPart, part, plain, Decimal, decimal, IsNumber, is_whole, is_decimal, NumberValue, decimal_text}
@@ -190,12 +190,12 @@ pub whole_err : (b : Bool) (e : NumberFault) (z : ℤ) → broken_result e ≡ (
 whole_err true e z h = cc
 whole_err false e z h = refl
 
-pub copied_costs : (p : Text) (a b e : Here) → a.rest ≡ p ++ b.rest → Costs 2 11 a b → Returned (2 * bytes p + 1) b e → length b.rest < length a.rest → Costs 20 0 a e
-copied_costs p a b e h k r less =
+pub copied_costs : (p : Text) (a b e : Here) → a.rest ≡ p ++ b.rest → Costs 2 11 a b → e ≡ sliced p b → length b.rest < length a.rest → Costs 20 0 a e
+copied_costs p a b e h k s less =
     let more : 1 ≤ bytes p = omega (arith, ap length h, length-append p b.rest, less, length-bytes p) in
     record {
-      most = omega (arith, k.most, ap bytes h, bytes-append p b.rest, r.most, ap bytes r.rest, more);
-      least = omega (arith, k.least, r.counts, ap length r.rest);
+      most = omega (arith, k.most, ap bytes h, bytes-append p b.rest, ap (λ z. z.steps) s, ap (λ z. bytes z.rest) s, more);
+      least = omega (arith, k.least, ap (λ z. z.steps) s, ap (λ z. length z.rest) s);
     }
 
 pub always : {A E : Type 0} (r : Result A E) (P : Type 0) → P → IfOk r (λ n. P)
@@ -271,9 +271,6 @@ plain_drops c s e = rw e refl
 
 pub plain_keeps : (c : ℕ) (s : Text) → (c ≡ 95 → ⊥) → plain (c ∷ s) ≡ c ∷ plain s
 plain_keeps c s ne = rw (ne_eqb c 95 ne) refl
-
-pub no_underscore_here : (c : ℕ) (s : Text) → (c ≡ 95 → ⊥) → has_no_underscore (c ∷ s) ≡ has_no_underscore s
-no_underscore_here c s ne = rw (ne_eqb c 95 ne) refl
 
 -- which fault is returned
 module _ (f : Front) (t u : Text) (x : IsFront f t u) where

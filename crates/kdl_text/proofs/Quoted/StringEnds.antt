@@ -1,10 +1,10 @@
 -- What follows a string is an end of the text.
 use Rattle.std.proofs.Common.{ℕ, List}
+use Rattle.kdl_text.specs.Dedent.{LineUnit}
 use Rattle.kdl_text.specs.Chars.{Text, times}
 use Rattle.kdl_text.specs.Strings.{StringUnit, IsUnit, one_literal, one_letter, one_number, one_gap, AreUnits, body, QuotedString, quoted}
 use Rattle.kdl_text.specs.MultiLine.{ContentUnit, Content, MultiLineBody, MultiLineString, multi_line, IsQuoted}
 use Rattle.kdl_text.specs.Raw.{RawUnit, RawUnits, RawContent, RawString, MultiLineRawBody, MultiLineRawString, IsRaw}
-use Rattle.kdl_text.specs.declared.strings.dedent.LineUnit.{LineUnit}
 use Rattle.kdl_text.proofs.Looking.Ends.{End, here, also, then, past, end_newline}
 
 unit_end : {s r : Text} {u : StringUnit} → IsUnit s r u → End s r

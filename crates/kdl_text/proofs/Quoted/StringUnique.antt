@@ -2,11 +2,10 @@
 use Rattle.std.proofs.Common.{◌≡◌, ℕ, zero, suc, ◌<◌, ◌≤◌, true, false, ◌==◌, List, [], ◌∷◌, ◌++◌, length, refl, sym, ap, ◌∙◌, subst, arith, length-append}
 use Rattle.std.proofs.lemmas.Bool.{true≢false}
 use Rattle.kdl_text.specs.Chars.{Text, begins_with, times, starts}
-use Rattle.kdl_text.specs.Dedent.{Dedents}
+use Rattle.kdl_text.specs.Dedent.{Dedents, LineUnit}
 use Rattle.kdl_text.specs.MultiLine.{ContentUnit, quote, line, unit, Content, close, more, MultiLineBody, lines, MultiLineString, multi_line, IsQuoted, on_one_line, on_many_lines}
 use Rattle.kdl_text.specs.Raw as raw
 use Rattle.kdl_text.specs.Raw.{closing, literals, RawUnit, RawUnits, RawContent, RawString, MultiLineRawBody, MultiLineRawString, IsRaw}
-use Rattle.kdl_text.specs.declared.strings.dedent.LineUnit.{LineUnit}
 use Rattle.kdl_text.proofs.RawStrings.ClosingPlaces.{signs_same}
 use Rattle.kdl_text.proofs.ManyLines.DedentReads.{dedents_det}
 use Rattle.kdl_text.proofs.ManyLines.LinesUnique.{content_det}

@@ -3,12 +3,11 @@ use Rattle.std.proofs.Common.{◌≡◌, ℕ, zero, suc, ◌<◌, ◌≤◌, tru
 use Rattle.std.proofs.lemmas.Bool.{and_parts}
 use Rattle.std.specs.Char.{len_utf8}
 use Rattle.std.specs.List.{list_all}
+use Rattle.kdl_text.specs.Dedent.{LineUnit, Literal}
 use Rattle.kdl_text.specs.Internal.Here.{Here, Skips}
 use Rattle.kdl_text.specs.Spans.{bytes}
 use Rattle.kdl_text.specs.Chars.{Text, begins, begins_with, times, is_raw, is_newline_char, is_banned}
 use Rattle.kdl_text.specs.Raw.{closing, literals, char, RawUnits, none, more}
-use Rattle.kdl_text.specs.declared.strings.dedent.LineUnit.{LineUnit}
-use Rattle.kdl_text.specs.declared.strings.dedent.LineUnit.TheVariants.{Literal}
 
 pub quote_raw : is_raw 34 ≡ true
 unfolding is_raw is_newline_char is_banned

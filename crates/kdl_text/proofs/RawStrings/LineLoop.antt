@@ -2,10 +2,9 @@
 use Rattle.std.proofs.Common.{◌≡◌, ℕ, Bool, true, false, not, ◌||◌, ◌==◌, List, [], ◌∷◌, ◌++◌, refl, sym, ◌∙◌, subst}
 use Rattle.std.proofs.lemmas.Bool.{and_parts, false≢true}
 use Rattle.std.specs.List.{list_all}
+use Rattle.kdl_text.specs.Dedent.{LineUnit, LineEnd}
 use Rattle.kdl_text.specs.Chars.{Text, times, is_raw, is_unquoted, is_newline_char, is_banned}
 use Rattle.kdl_text.specs.Raw.{closing, literals, char, line, RawUnits, none, more, RawContent, content}
-use Rattle.kdl_text.specs.declared.strings.dedent.LineUnit.{LineUnit}
-use Rattle.kdl_text.specs.declared.strings.dedent.LineUnit.TheVariants.{LineEnd}
 use Rattle.kdl_text.proofs.RawStrings.RawUnique.{goes_raw, raw_ends}
 
 either : (x n b : Bool) → not ((x || n) || b) ≡ true → (x ≡ false) × (not (n || b) ≡ true)

@@ -4,18 +4,17 @@ use Rattle.std.proofs.lemmas.Bool.{false≢true}
 use Rattle.std.proofs.lemmas.List.{append_cancel_right}
 use Rattle.std.proofs.lemmas.Str.{len_utf8_bounds}
 use Rattle.std.specs.Prelude.{Some, None, Bool}
+use Rattle.kdl_text.specs.Dedent.{LineUnit, LineEnd}
 use Rattle.kdl_text.specs.Chars.{Text, Newline, begins, begins_with, times, is_newline_char, is_raw, is_unquoted}
 use Rattle.kdl_text.specs.Internal.Here.{Here, Took, Ate, Skips, Returned, tail}
 use Rattle.kdl_text.specs.Spans.{bytes, raise}
 use Rattle.kdl_text.specs.Internal.Lines.{ReadsLine}
 use Rattle.kdl_text.specs.Raw.{closing, literals, line, RawUnits, none, more, RawContent, content}
 use Rattle.kdl_text.specs.Internal.Reading.{Past}
-use Rattle.kdl_text.specs.declared.strings.dedent.LineUnit.{LineUnit}
-use Rattle.kdl_text.specs.declared.strings.dedent.LineUnit.TheVariants.{LineEnd}
 use Rattle.kdl_text.proofs.RawStrings.ClosingPlaces.{few_signs, quotes_pass, signs_pass, quotes_before, units_then, literals-append}
 use Rattle.kdl_text.proofs.Looking.Returns.{moves_returned}
 use Rattle.kdl_text.proofs.Looking.MovesJoin.{moves_then, fewer_bytes, bytes-append}
-use Rattle.kdl_text.proofs.ManyLines.LinesJoin.{literals_inside}
+use Rattle.kdl_text.proofs.ManyLines.PlainLoop.{literals_inside}
 use Rattle.kdl_text.proofs.RawStrings.LineLoop.{unquoted_pass}
 use Rattle.kdl_text.proofs.RawStrings.RawUnique.{raw_over, goes_raw, raw_char, raw_content_unit, no_raw_unit}
 use Rattle.kdl_text.proofs.Looking.SliceCost.{past_start, past_then, past_two, past_more, past_took, past_look, past_ran, past_after}

@@ -2,10 +2,9 @@
 use Rattle.std.proofs.Common.{◌≡◌, ℕ, true, false, List, [], ◌∷◌, ◌++◌, ◌==◌, refl, sym, ap, ◌∙◌, subst, arith}
 use Rattle.std.proofs.lemmas.Bool.{false≢true, and_left, ne_eqb}
 use Rattle.std.proofs.lemmas.List.{append_cancel_left}
+use Rattle.kdl_text.specs.Dedent.{LineUnit, Literal}
 use Rattle.kdl_text.specs.Chars.{Text, Newline, is_raw, is_newline_char, begins_with}
 use Rattle.kdl_text.specs.Raw.{RawUnit, char, line, RawUnits, none, more, RawContent, content}
-use Rattle.kdl_text.specs.declared.strings.dedent.LineUnit.{LineUnit}
-use Rattle.kdl_text.specs.declared.strings.dedent.LineUnit.TheVariants.{Literal}
 use Rattle.kdl_text.proofs.Spacing.NewlineUnique.{newline_det, no_newline}
 use Rattle.kdl_text.specs.Internal.Reading.{Goes}
 use Rattle.kdl_text.proofs.Looking.ValueGoes.{goes_end, goes_none}

@@ -2,20 +2,18 @@
 #![tactic(auto, using(crate::proofs::Looking::Returns::advancing))]
 
 ghost use Rattle.kdl_text.specs.Chars.{Newline, Text, is_newline_char};
-ghost use Rattle.kdl_text.specs.Dedent.{lines_of};
-ghost use Rattle.kdl_text.specs.Spans.{bytes};
-ghost use Rattle.kdl_text.specs.Internal.Here.{IsPart};
-ghost use Rattle.kdl_text.specs.Internal.Lines.{BodyOf, CostsWith, EscapesIn, HasSigns, LineIn, LinesIn, LinesOf, ReadsLine, ReadsPlain, escapes_bytes, escapes_units, line_steps, line_units, lines_steps};
+ghost use Rattle.kdl_text.specs.Dedent.{lines_of, LineUnit};
+ghost use Rattle.kdl_text.specs.Internal.Lines.{AreLines, BodyOf, HasSigns, IsLine, LinesOf, Paid, ReadLine, ReadsLine, ReadsPlain};
 ghost use Rattle.kdl_text.specs.MultiLine.{Content};
-ghost use Rattle.kdl_text.specs.Internal.Reading.{Costs, Past};
+ghost use Rattle.kdl_text.specs.Raw.{literals};
+ghost use Rattle.kdl_text.specs.Internal.Reading.{Past};
 ghost use Rattle.kdl_text.specs.declared.strings.StringFailure.TheVariants.{Memory};
-ghost use Rattle.kdl_text.specs.declared.strings.dedent.LineUnit.{LineUnit};
-ghost use Rattle.std.specs.Prelude.{◌≡◌, ◌≤◌, ◌+◌, ◌*◌, ◌∷◌, List, ℕ, true, map, string_bytes, IfOk, IfErr, MatchResult};
+ghost use Rattle.std.specs.Prelude.{◌≡◌, ◌∷◌, ◌++◌, List, ℕ, true, string_bytes, IfOk, IfErr, MatchResult};
 ghost use Rattle.std.specs.Str.{chars};
 
 use crate::chars::{Class, is_literal, is_newline_char};
-use crate::cursor::{Cursor, Segment, newline};
-use crate::strings::dedent::{Escaped, Line, add_escape, add_line, dedent};
+use crate::cursor::{Cursor, newline};
+use crate::strings::dedent::{Line, add_escape, add_line, dedent, escaped_line, plain_line};
 use crate::strings::raw::raw_line;
 use crate::strings::{StringFailure, StringFault, escaped_unit};
 use std::alloc::Global;
@@ -53,16 +51,12 @@ enum Stop {
 
 /// Advances past literal characters, including quotes, and past what ends them in a multi-line
 /// string.
-fn plain_part<'a>(cursor: &mut Cursor<'a>) -> Result<(Segment<'a>, Stop), StringFault>
-    ensures found { IfOk result
-        (λ (p, stop). ReadsPlain Content stop cursor.old.rest p cursor.new.rest) }
-    ensures shorter { IfOk result
-        (λ (p, _). bytes p + 1 + bytes cursor.new.rest ≤ bytes cursor.old.rest) }
+fn plain_part<'a>(cursor: &mut Cursor<'a>) -> Result<(&'a str, Stop), StringFault>
+    ensures found { IfOk result (λ (p, stop). ReadsPlain stop cursor.old.rest (chars p.now) cursor.new.rest) }
+    ensures paid { IfOk result (λ _. Paid cursor.old cursor.new) }
     ensures only { (r : Text) (us : List LineUnit) → Content cursor.old.rest r us
         → IfErr result (λ _. ⊥) }
-    ensures part { IfOk result (λ (p, _). IsPart cursor.new.text p) }
-    ensures past { Past 2 1 cursor.old cursor.new }
-    ensures cost { IfOk result (λ _. Costs 2 0 cursor.old cursor.new) }
+    ensures past { Past 4 1 cursor.old cursor.new }
 {
     let start = cursor.checkpoint();
     'runs: loop {
@@ -70,13 +64,13 @@ fn plain_part<'a>(cursor: &mut Cursor<'a>) -> Result<(Segment<'a>, Stop), String
         match cursor.take() {
             Some('"') => {
                 if cursor.eat('"') && cursor.eat('"') {
-                    return Ok((start.up_to(&end), Stop::Close));
+                    return Ok((cursor.line_between(&start, &end), Stop::Close));
                 }
             }
-            Some('\\') => return Ok((start.up_to(&end), Stop::Escape)),
+            Some('\\') => return Ok((cursor.line_between(&start, &end), Stop::Escape)),
             Some(c) if is_newline_char(c) => {
                 end_newline(c, cursor);
-                return Ok((start.up_to(&end), Stop::Newline));
+                return Ok((cursor.line_between(&start, &end), Stop::Newline));
             }
             Some(c) if is_literal(c) => cursor.skip(Class::Literal),
             Some(_) => return Err(StringFault::Banned),
@@ -85,31 +79,30 @@ fn plain_part<'a>(cursor: &mut Cursor<'a>) -> Result<(Segment<'a>, Stop), String
     }
 }
 
-/// After the backslash of an escape: reads the escapes of the line, each with the characters after it.
-/// Returns whether three quotes end the line.
+/// After the backslash of the first escape of a line, which begins with `front`: reads the rest of the line.
+/// Returns whether three quotes end it.
 fn line_escapes<'a>(
     alloc: Global,
     cursor: &mut Cursor<'a>,
-) -> Result<(Vec<Escaped<'a>>, bool), StringFailure>
-    ensures found { IfOk result
-        (λ (es, closed). ReadsLine Content closed (92 ∷ cursor.old.rest)
-        (escapes_units es.items) cursor.new.rest) }
-    ensures shorter { IfOk result (λ _. bytes cursor.new.rest + 1 ≤ bytes cursor.old.rest) }
+    front: &str,
+) -> Result<(Line<'a>, bool), StringFailure>
+    ensures found { IfOk result (λ (line, closed). (us : List LineUnit)
+        × IsLine line (literals (chars front.now) ++ us)
+        × ReadsLine Content closed (92 ∷ cursor.old.rest) us cursor.new.rest) }
+    ensures paid { IfOk result (λ _. Paid cursor.old cursor.new) }
     ensures only { (r : Text) (us : List LineUnit) → Content (92 ∷ cursor.old.rest) r us
         → IfErr result (λ e. e ≡ Memory) }
-    ensures part { IfOk result (λ (es, _). EscapesIn cursor.new.text es.items) }
-    ensures past { Past 2 1 cursor.old cursor.new }
-    ensures cost { IfOk result
-        (λ (es, _). CostsWith (2 * escapes_bytes es.items) cursor.old cursor.new) }
+    ensures past { Past 4 1 cursor.old cursor.new }
 {
-    let mut escapes = Vec::new(alloc);
+    let mut text = String::from_str(alloc, front)?;
+    let mut literal = front.len();
     'escapes: loop {
         let value = escaped_unit(cursor)?;
         let (after, stop) = plain_part(cursor)?;
-        add_escape(&mut escapes, Escaped { value, after })?;
+        literal = add_escape(&mut text, literal, value, after)?;
         match stop {
-            Stop::Newline => return Ok((escapes, false)),
-            Stop::Close => return Ok((escapes, true)),
+            Stop::Newline => return Ok((escaped_line(text, literal), false)),
+            Stop::Close => return Ok((escaped_line(text, literal), true)),
             Stop::Escape => {}
         }
     }
@@ -120,24 +113,16 @@ fn quoted_line<'a>(
     alloc: Global,
     cursor: &mut Cursor<'a>,
 ) -> Result<(Line<'a>, bool), StringFailure>
-    ensures found { IfOk result
-        (λ (line, closed). ReadsLine Content closed cursor.old.rest
-        (line_units line) cursor.new.rest) }
-    ensures shorter { IfOk result (λ _. bytes cursor.new.rest + 1 ≤ bytes cursor.old.rest) }
+    ensures found { IfOk result (λ (line, closed). ReadLine Content line closed cursor.old cursor.new) }
     ensures only { (r : Text) (us : List LineUnit) → Content cursor.old.rest r us
         → IfErr result (λ e. e ≡ Memory) }
-    ensures part { IfOk result (λ (line, _). LineIn cursor.new.text line) }
-    ensures past { Past 2 1 cursor.old cursor.new }
-    ensures cost { IfOk result (λ (line, _). CostsWith (line_steps line) cursor.old cursor.new) }
+    ensures past { Past 4 1 cursor.old cursor.new }
 {
-    let (segment, stop) = plain_part(cursor)?;
+    let (text, stop) = plain_part(cursor)?;
     match stop {
-        Stop::Newline => Ok((Line::Plain(segment), false)),
-        Stop::Close => Ok((Line::Plain(segment), true)),
-        Stop::Escape => {
-            let (escapes, closed) = line_escapes(alloc, cursor)?;
-            Ok((Line::WithEscapes(segment, escapes), closed))
-        }
+        Stop::Newline => Ok((plain_line(text), false)),
+        Stop::Close => Ok((plain_line(text), true)),
+        Stop::Escape => line_escapes(alloc, cursor, text),
     }
 }
 
@@ -150,14 +135,10 @@ fn read_line<'a>(
 ) -> Result<(Line<'a>, bool), StringFailure>
     requires { HasSigns enclosure }
     ensures found { IfOk result
-        (λ (line, closed). ReadsLine (LinesOf enclosure) closed cursor.old.rest
-        (line_units line) cursor.new.rest) }
-    ensures shorter { IfOk result (λ _. bytes cursor.new.rest + 1 ≤ bytes cursor.old.rest) }
+        (λ (line, closed). ReadLine (LinesOf enclosure) line closed cursor.old cursor.new) }
     ensures only { (r : Text) (us : List LineUnit) → LinesOf enclosure cursor.old.rest r us
         → IfErr result (λ e. e ≡ Memory) }
-    ensures part { IfOk result (λ (line, _). LineIn cursor.new.text line) }
-    ensures past { Past 2 1 cursor.old cursor.new }
-    ensures cost { IfOk result (λ (line, _). CostsWith (line_steps line) cursor.old cursor.new) }
+    ensures past { Past 4 1 cursor.old cursor.new }
 {
     match enclosure {
         Enclosure::Quotes => quoted_line(alloc, cursor),
@@ -177,12 +158,10 @@ fn content<'a>(
     requires { HasSigns enclosure }
     ensures found { IfOk result
         (λ ls. (us : List LineUnit) × LinesOf enclosure cursor.old.rest cursor.new.rest us
-        × (lines_of us ≡ map line_units ls.items)) }
+        × AreLines ls.items (lines_of us)) }
     ensures only { (r : Text) (us : List LineUnit) → LinesOf enclosure cursor.old.rest r us
         → IfErr result (λ e. e ≡ Memory) }
-    ensures part { IfOk result (λ ls. LinesIn cursor.new.text ls.items) }
     ensures past { Past 4 1 cursor.old cursor.new }
-    ensures cost { IfOk result (λ ls. CostsWith (lines_steps ls.items) cursor.old cursor.new) }
 {
     let mut lines = Vec::new(alloc);
     'lines: loop {
@@ -216,5 +195,5 @@ pub fn many_lines(
         }));
     }
     let lines = content(alloc, cursor, enclosure)?;
-    dedent(alloc, &lines, cursor)
+    dedent(alloc, &lines)
 }

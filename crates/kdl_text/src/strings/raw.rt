@@ -1,20 +1,19 @@
 //! Raw strings, single-line and multi-line.
 #![tactic(auto, using(crate::proofs::Looking::Returns::advancing))]
 
+ghost use Rattle.kdl_text.specs.Dedent.{LineUnit};
 ghost use Rattle.kdl_text.specs.Chars.{Text, begins, times};
-ghost use Rattle.kdl_text.specs.Spans.{bytes};
 ghost use Rattle.kdl_text.specs.Internal.Here.{IsPart, Returned};
-ghost use Rattle.kdl_text.specs.Internal.Lines.{CostsWith, LineIn, ReadsLine, line_steps, line_units};
+ghost use Rattle.kdl_text.specs.Internal.Lines.{ReadLine};
 ghost use Rattle.kdl_text.specs.Raw.{IsRaw, RawUnits, RawContent, closing, literals};
 ghost use Rattle.kdl_text.specs.Internal.Reading.{Moves, Costs, Past};
 ghost use Rattle.kdl_text.specs.declared.strings.StringFailure.TheVariants.{Memory};
-ghost use Rattle.kdl_text.specs.declared.strings.dedent.LineUnit.{LineUnit};
-ghost use Rattle.std.specs.Prelude.{◌≡◌, ◌<◌, ◌≤◌, ◌+◌, ◌++◌, ◌∷◌, List, false, string_bytes, IfOk, IfErr, IfSome, IfNone, MatchResult};
+ghost use Rattle.std.specs.Prelude.{◌≡◌, ◌<◌, ◌≤◌, ◌++◌, ◌∷◌, List, false, string_bytes, IfOk, IfErr, IfSome, IfNone, MatchResult};
 ghost use Rattle.std.specs.Str.{chars};
 
 use crate::chars::{Class, is_newline_char, is_raw};
 use crate::cursor::{Checkpoint, Cursor, Piece};
-use crate::strings::dedent::Line;
+use crate::strings::dedent::{Line, plain_line};
 use crate::strings::multiline::{Enclosure, end_newline, many_lines};
 use crate::strings::{StringFailure, StringFault, fault_at};
 use std::alloc::Global;
@@ -134,14 +133,10 @@ fn closing_place<'a>(
 pub fn raw_line<'a>(cursor: &mut Cursor<'a>, signs: usize) -> Result<(Line<'a>, bool), StringFault>
     requires { 0 < signs }
     ensures found { IfOk result
-        (λ (line, closed). ReadsLine (RawContent (closing 3 signs)) closed cursor.old.rest
-        (line_units line) cursor.new.rest) }
-    ensures shorter { IfOk result (λ _. bytes cursor.new.rest + 1 ≤ bytes cursor.old.rest) }
+        (λ (line, closed). ReadLine (RawContent (closing 3 signs)) line closed cursor.old cursor.new) }
     ensures only { (r : Text) (us : List LineUnit)
         → RawContent (closing 3 signs) cursor.old.rest r us → IfErr result (λ _. ⊥) }
-    ensures part { IfOk result (λ (line, _). LineIn cursor.new.text line) }
-    ensures past { Past 2 1 cursor.old cursor.new }
-    ensures cost { IfOk result (λ (line, _). CostsWith (line_steps line) cursor.old cursor.new) }
+    ensures past { Past 4 1 cursor.old cursor.new }
 {
     let start = cursor.checkpoint();
     'parts: loop {
@@ -149,12 +144,12 @@ pub fn raw_line<'a>(cursor: &mut Cursor<'a>, signs: usize) -> Result<(Line<'a>, 
         match cursor.take() {
             Some('"') => {
                 if let Some(place) = closing_place(&end, cursor, signs) {
-                    return Ok((Line::Plain(start.up_to(&place)), true));
+                    return Ok((plain_line(cursor.line_between(&start, &place)), true));
                 }
             }
             Some(c) if is_newline_char(c) => {
                 end_newline(c, cursor);
-                return Ok((Line::Plain(start.up_to(&end)), false));
+                return Ok((plain_line(cursor.line_between(&start, &end)), false));
             }
             Some(c) if is_raw(c) => cursor.skip(Class::Unquoted),
             Some(_) => return Err(StringFault::Banned),

@@ -1,4 +1,4 @@
-use Rattle.std.proofs.Common.{Some, ◌∙◌, ap}
+use Rattle.std.proofs.Common.{Some, ◌∙◌, ap, refl}
 use Rattle.std.specs.Prelude.{encode_utf8_all}
 use Rattle.std.proofs.lemmas.Str.{encodes-chars}
 use Rattle.tool.specs.Commands.{asked_by}
@@ -14,10 +14,10 @@ pub returns-in-Fmt-clause-output : goal.returns-in-Fmt-clause-output
 returns-in-Fmt-clause-output c =
     let layout = c.in_ok-autoformat-in-Fmt.ensures in
     written_is (asked_by c.args.command) c.args.text.now _ _ c.utf8.text c.in_ok-document.ensures.found c.in_ok-document.ensures.only
-    (rw c.in-Fmt.is (laid_out_is _ _ _ _ _ c.in_ok-document.ensures.laid layout.formatted (layout.derived c.in_ok-document.ensures.keeps_none) (ap Some c.in_ok-to_string-in-Fmt.ensures.ok)))
+    (rw c.in-Fmt.is (laid_out_is _ _ _ _ _ c.in_ok-document.ensures.laid layout.formats.formatted (layout.rereads.derived refl c.in_ok-document.ensures.keeps_none) (ap Some c.in_ok-to_string-in-Fmt.ensures.ok)))
 
 pub returns-in-Strip-clause-output : goal.returns-in-Strip-clause-output
 returns-in-Strip-clause-output c =
-    let canonical = c.in_ok-autoformat_no_comments-in-Strip.ensures.prints c.in_ok-document.ensures.keeps_none in
+    let canonical = c.in_ok-autoformat_no_comments-in-Strip.ensures.formats.prints (refl, refl) c.in_ok-document.ensures.keeps_none in
     written_is (asked_by c.args.command) c.args.text.now _ _ c.utf8.text c.in_ok-document.ensures.found c.in_ok-document.ensures.only
     (rw c.in-Strip.is (ap Some (c.in_ok-to_string-in-Strip.ensures.ok ∙ ap encode_utf8_all canonical)))

@@ -10,7 +10,7 @@ returns-clause-says c x h =
     let s = c.args.settings.now in
     let is : settings c.build.result ≡ layout_settings s = config_is s _ _ _ _ c.in_ok-indent.indent c.builder.ensures c.indent.ensures c.build.ensures c.deref.ensures c.in_ok-indent.ensures in
     let keep : c.build.result.entry_autoformate_keep ≡ false = ap (λ (s : Settings). s.entry_autoformate_keep) is in
-    let says = c.in_ok-autoformat_layout.ensures.derived (subst IndentsBySpaces (sym is) (indents_by_spaces s.indent)) keep c.in_ok-document.ensures.keeps_none in
+    let says = (c.in_ok-autoformat_layout.ensures.rereads (subst IndentsBySpaces (sym is) (indents_by_spaces s.indent))).derived keep c.in_ok-document.ensures.keeps_none in
     let same = c.in_ok-document.ensures.only x h in
     let text = c.printed_reads_once.ensures.text e c.in_ok-to_string.field-0 c.in_ok-to_string.ensures.ok in
     subst (λ (t : Text). IsDocument t x) (sym text) (subst (IsDocument (document_prints e)) (sym same) says)
@@ -25,7 +25,7 @@ returns-clause-laid_out c =
     let no : c.build.result.no_comments ≡ false = ap (λ (s : Settings). s.no_comments) is in
     let none = c.in_ok-document.ensures.keeps_none in
     let spaces : IndentsBySpaces (layout_settings s) = indents_by_spaces s.indent in
-    let comments = c.in_ok-autoformat_layout.ensures.comments (subst IndentsBySpaces (sym is) spaces) keep no none in
+    let comments = (c.in_ok-autoformat_layout.ensures.rereads (subst IndentsBySpaces (sym is) spaces)).comments keep no none in
     let spaced : IsLaidDocument (not s.respell) (not s.expand) s.blank_lines (layout_settings s) 0 (document_tree d) (document_tree e) =
     subst (λ (x : Settings). IsLaidDocument (not s.respell) (not s.expand) s.blank_lines x x.indent_level (document_tree d) (document_tree e)) is c.in_ok-autoformat_layout.ensures.formatted in
     let prints = c.printed_reads_once.ensures.text e c.in_ok-to_string.field-0 c.in_ok-to_string.ensures.ok in

@@ -1,7 +1,7 @@
-use Rattle.std.proofs.Common.{◌≡◌, ◌≤◌, ◌++◌, ap, subst, sym, ◌∙◌}
+use Rattle.std.proofs.Common.{◌≡◌, ◌++◌, ap, subst, sym, ◌∙◌}
 use Rattle.std.specs.Str.{chars}
 use Rattle.kdl_text.specs.Chars.{Text}
-use Rattle.kdl.specs.Internal.Ends.{EndFewest, EndSays}
+use Rattle.kdl.specs.Internal.Ends.{EndFewest, EndSays, IsLacking}
 use Rattle.kdl.proofs.Putting.Fewest.{end_read}
 use Rattle.kdl.proofs.Putting.NodeEnds.{empty_string}
 use Rattle.kdl.proofs.ends.end_newlines.Goals as goal
@@ -12,6 +12,4 @@ returns c =
     let u = chars c.deref.result.now in
     let same : u ≡ t = ap chars c.deref.ensures ∙ c.in_ok-push_text-2.ensures
     ∙ ap (λ (t : Text). t ++ chars c.args.trailing.now) (c.in_ok-push_text.ensures ∙ ap (λ (t : Text). t ++ chars c.args.terminator.now) (empty_string c.new-end.result c.new-end.ensures.bytes)) in
-    let x = end_read t u c.in_ok-lacks.lacks same c.in_ok-lacks.ensures in
-    let e = sym c.unwrap_or.ensures in
-    record { few = subst (λ n. n ≤ 2) e x.0; says = subst (EndSays t) e x.1; fewest = subst (EndFewest t) e x.2 }
+    subst (IsLacking 2 (EndSays t) (EndFewest t)) (sym c.unwrap_or.ensures) (end_read t u c.in_ok-lacks.lacks same c.in_ok-lacks.ensures)

@@ -1,13 +1,11 @@
-use Rattle.std.proofs.Common.{◌≤◌, subst, sym}
+use Rattle.std.proofs.Common.{subst, sym}
 use Rattle.std.specs.Str.{chars}
 use Rattle.kdl_layout.specs.Kept.{without_bom}
-use Rattle.kdl.specs.Internal.Ends.{GapFewest, GapSays}
+use Rattle.kdl.specs.Internal.Ends.{GapFewest, GapSays, IsLacking}
 use Rattle.kdl.proofs.Putting.Fewest.{gap_read}
 use Rattle.kdl.proofs.ends.gap_newlines.Goals as goal
 
 pub returns : goal.returns
 returns c =
     let t = without_bom (chars c.args.text.now) in
-    let x = gap_read t (chars c.without_bom.result.now) c.in_ok-lacks.lacks c.without_bom.ensures c.in_ok-lacks.ensures in
-    let e = sym c.unwrap_or.ensures in
-    record { few = subst (λ n. n ≤ 2) e x.0; says = subst (GapSays t) e x.1; fewest = subst (GapFewest t) e x.2 }
+    subst (IsLacking 2 (GapSays t) (GapFewest t)) (sym c.unwrap_or.ensures) (gap_read t (chars c.without_bom.result.now) c.in_ok-lacks.lacks c.without_bom.ensures c.in_ok-lacks.ensures)

@@ -1,7 +1,7 @@
-use Rattle.std.proofs.Common.{◌≤◌, is_some, subst, sym}
+use Rattle.std.proofs.Common.{is_some, subst, sym}
 use Rattle.std.specs.Str.{chars}
 use Rattle.kdl_layout.specs.Lacks.{PlaceLacks}
-use Rattle.kdl.specs.Internal.Ends.{PlaceFewest, PlaceSays, block_if}
+use Rattle.kdl.specs.Internal.Ends.{IsLacking, PlaceFewest, PlaceSays, block_if}
 use Rattle.kdl.proofs.Putting.Fewest.{place_read}
 use Rattle.kdl.proofs.ends.place_newlines.Goals as goal
 
@@ -9,6 +9,5 @@ pub returns : goal.returns
 returns c =
     let t = chars c.args.text.now in
     let b = is_some c.args.children.now in
-    let x = place_read b t c.in_ok-lacks.lacks (subst (λ p. PlaceLacks p t c.in_ok-lacks.lacks) c.last_place.ensures c.in_ok-lacks.ensures) in
-    let e = sym c.newline_count.ensures in
-    record { few = subst (λ n. n ≤ 1) e x.0; says = subst (PlaceSays (block_if b) t) e x.1; fewest = subst (PlaceFewest (block_if b) t) e x.2 }
+    subst (IsLacking 1 (PlaceSays (block_if b) t) (PlaceFewest (block_if b) t)) (sym c.newline_count.ensures)
+    (place_read b t c.in_ok-lacks.lacks (subst (λ p. PlaceLacks p t c.in_ok-lacks.lacks) c.last_place.ensures c.in_ok-lacks.ensures))

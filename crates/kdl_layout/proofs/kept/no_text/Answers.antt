@@ -1,5 +1,5 @@
-use Rattle.kdl_layout.proofs.Texts.{no_text}
+use Rattle.kdl_entry.proofs.Slicing.Between.{empty_text}
 use Rattle.kdl_layout.proofs.kept.no_text.Goals as goal
 
 pub returns : goal.returns
-returns c = no_text c.new.result c.new.ensures.bytes
+returns c = empty_text c.new.result c.new.ensures.bytes

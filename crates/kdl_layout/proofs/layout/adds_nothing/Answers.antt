@@ -1,11 +1,12 @@
 use Rattle.std.proofs.Common.{[], refl, sym, ◌∙◌}
 use Rattle.std.specs.Str.{chars}
+use Rattle.kdl_layout.specs.Blank.{spaced_lines}
 use Rattle.kdl_layout.specs.Items.{GapItems}
-use Rattle.kdl_layout.specs.Written.{lines}
+use Rattle.kdl_layout.specs.Kept.{ItemsIn}
 use Rattle.kdl_layout.proofs.Rewriting.Pushing.{no_bytes}
 use Rattle.kdl_layout.specs.Config.{indentation, settings}
-use Rattle.kdl_layout.proofs.Keeping.KeptReads.{blank_lines, kept_none}
-use Rattle.kdl_layout.proofs.Spacing.Reads.{lines_empty, lines_zero}
+use Rattle.kdl_layout.proofs.Keeping.KeptReads.{blank_gap, kept_empty, kept_none}
+use Rattle.kdl_layout.proofs.Spacing.Reads.{lines_empty, uncounted}
 use Rattle.kdl_layout.proofs.layout.adds_nothing.Goals as goal
 
 pub returns-then-is_empty : goal.returns-then-is_empty
@@ -14,10 +15,15 @@ returns-then-is_empty c = λ t level b.
 
 pub returns-then-layout : goal.returns-then-layout
 returns-then-layout c = λ t level b.
+    let number = c.args.layout.now.blank_lines in
     let s = settings c.args.layout.now.config in
-    lines_zero c.args.layout.now.blank_lines s level b b (chars c.args.place.now) [] c.if-layout-ne0.false (kept_none s.no_comments (GapItems (chars c.args.place.now)) (lines (indentation s level)) [] c.if-layout.true refl)
+    let place = chars c.args.place.now in
+    (kept_none s.no_comments (GapItems place) (spaced_lines number (indentation s level) b place) [] c.if-layout.true refl, uncounted number s b b place c.if-layout-ne0.false)
 
 pub returns : goal.returns
 returns c = λ t level b.
+    let number = c.args.layout.now.blank_lines in
     let s = settings c.args.layout.now.config in
-    lines_zero c.args.layout.now.blank_lines s level b b (chars c.args.place.now) [] c.if-layout-ne0.false (blank_lines s.no_comments (indentation s level) (chars c.args.place.now) [] c.if-layout.false (sym c.is_blank_gap.ensures ∙ t) refl)
+    let place = chars c.args.place.now in
+    let gap = blank_gap place (sym c.is_blank_gap.ensures ∙ t) in
+    (kept_empty s.no_comments (GapItems place) (spaced_lines number (indentation s level) b place) [] (ItemsIn.items gap) refl refl, uncounted number s b b place c.if-layout-ne0.false)

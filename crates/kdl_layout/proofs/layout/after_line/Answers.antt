@@ -4,14 +4,15 @@ use Rattle.kdl_layout.specs.Blank.{past_node}
 use Rattle.kdl_layout.specs.Config.{settings}
 use Rattle.kdl_layout.specs.Formatted.{or_empty}
 use Rattle.kdl_parts.specs.Formats.{node_texts}
-use Rattle.kdl_layout.proofs.Spacing.Reads.{format_none, format_zero}
+use Rattle.kdl_layout.proofs.Spacing.Reads.{format_none, uncounted}
 use Rattle.kdl_layout.proofs.layout.after_line.Goals as goal
 use Rattle.kdl_layout.proofs.layout.after_line.Goals.{in_default-via-in-Some+else-layout-ne0, in_default-via-in_default}
 
 pub returns-in_default : goal.returns-in_default
 returns-in_default c =
     let l = c.args.layout.now in
+    let f = or_empty (node_texts c.args.format.now) in
     elim c.in_default.branch [
-      | in_default-via-in-Some+else-layout-ne0 w ↦ format_zero l.blank_lines (settings l.config) (or_empty (node_texts c.args.format.now)) c.past_node.result w.if-layout-ne0.false
+      | in_default-via-in-Some+else-layout-ne0 w ↦ uncounted l.blank_lines (settings l.config) (past_node f.terminator) c.past_node.result f.trailing w.if-layout-ne0.false
       | in_default-via-in_default w ↦ rw w.in_default.is (format_none l.blank_lines (settings l.config) c.past_node.result (c.past_node.ensures ∙ ap past_node chars-nil))
     ]

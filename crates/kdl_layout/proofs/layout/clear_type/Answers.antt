@@ -1,7 +1,8 @@
-use Rattle.kdl_layout.proofs.Texts.{no_text, type_cleared}
+use Rattle.kdl_entry.proofs.Slicing.Between.{empty_text}
+use Rattle.kdl_layout.proofs.Texts.{type_cleared}
 use Rattle.kdl_layout.proofs.layout.clear_type.Goals as goal
 
 pub returns : goal.returns
 returns c =
-    type_cleared c.args.format.now c.clear.new.self c.clear-2.new.self c.clear-3.new.self (no_text c.clear.new.self c.clear.ensures.bytes) (no_text c.clear-2.new.self c.clear-2.ensures.bytes)
-    (no_text c.clear-3.new.self c.clear-3.ensures.bytes)
+    type_cleared c.args.format.now c.clear.new.self c.clear-2.new.self c.clear-3.new.self (empty_text c.clear.new.self c.clear.ensures.bytes) (empty_text c.clear-2.new.self c.clear-2.ensures.bytes)
+    (empty_text c.clear-3.new.self c.clear-3.ensures.bytes)

@@ -9,7 +9,7 @@ use Rattle.kdl_layout.specs.Kept.{KeptBeforeBlock, KeptEnd}
 use Rattle.kdl_layout.specs.Spaced.{SpacedLines}
 use Rattle.kdl_layout.specs.Parts.{NodeTexts, line_of}
 use Rattle.kdl_layout.proofs.Keeping.KeptReads.{tail_at}
-use Rattle.kdl_layout.proofs.Spacing.Reads.{lines_after, lines_as, lines_pass}
+use Rattle.kdl_layout.proofs.Spacing.Reads.{lines_after, lines_as}
 use Rattle.kdl_layout.proofs.Texts.{line_put, put_text, space_text, newline_text}
 use Rattle.kdl_layout.proofs.layout.line_format.Goals as goal
 
@@ -61,5 +61,5 @@ returns-clause-spaced c = λ level has h p.
             ∙ ap (λ (t : Text). line_of t k) h
             ),
       ),
-      lines_pass l.blank_lines s level (past_node (text_of old.terminator)) next (text_of old.trailing) trailing following,
+      following.1,
     )

@@ -5,7 +5,7 @@ use Rattle.kdl_text.specs.Numbers.{DecimalPart}
 use Rattle.kdl_text.specs.Internal.NumberReading.{radix_of}
 use Rattle.kdl_text.proofs.Numeric.DecimalReads.{front_trails, number_range, front_number, front_other, front_no_part, front_part, reads_number, not_ten, copied_costs, always}
 use Rattle.kdl_text.proofs.Looking.MovesJoin.{moves_then, moves_stayed, shorter}
-use Rattle.kdl_text.proofs.Looking.Parts.{part_front, part_moved}
+use Rattle.kdl_text.proofs.Looking.Parts.{part_moved}
 use Rattle.kdl_text.proofs.Looking.MostCost.{more, copied_most}
 use Rattle.kdl_text.proofs.Looking.SliceCost.{past_then, past_two, past_stayed}
 use Rattle.kdl_text.proofs.Numeric.NumberReads.{tight}
@@ -30,28 +30,24 @@ returns-in-Err-decimal_part-clause-reads c =
 pub returns-in-Err-decimal_part-clause-moves : goal.returns-in-Err-decimal_part-clause-moves
 returns-in-Err-decimal_part-clause-moves c = moves_then c.read_front.ensures.past.moves (moves_then (moves_stayed c.is_end.ensures.stayed) c.decimal_part.ensures.past.moves)
 
-pub up_to-segment-requires : goal.up_to-segment-requires
-up_to-segment-requires c = rw (c.checkpoint-start.ensures.rest, c.checkpoint.ensures.rest) (past_then (past_then c.read_front.ensures.past (past_two (past_stayed c.is_end.ensures.stayed))) c.decimal_part.ensures.past).moves.piece
+pub slice-piece-requires : goal.slice-piece-requires
+slice-piece-requires c = let m = (past_then (past_then c.read_front.ensures.past (past_two (past_stayed c.is_end.ensures.stayed))) c.decimal_part.ensures.past).moves in (m.piece.0, c.checkpoint-start.ensures.rest ∙ m.piece.1, part_moved c.checkpoint-start.ensures.part m)
 
 pub returns-in-Ok-without_underscores-clause-reads : goal.returns-in-Ok-without_underscores-clause-reads
 returns-in-Ok-without_underscores-clause-reads c =
-    let p = c.up_to-segment.result in
-    let text : c.args.cursor.now.rest ≡ p ++ c.decimal_part.new.cursor.rest = sym c.checkpoint-start.ensures.rest ∙ c.up_to-segment.ensures ∙ ap (λ z. p ++ z) c.checkpoint.ensures.rest in
+    let p = c.slice-piece.result in
+    let text : c.args.cursor.now.rest ≡ p ++ c.decimal_part.new.cursor.rest = sym c.checkpoint-start.ensures.rest ∙ c.slice-piece.ensures.result in
     let part : DecimalPart c.read_front.new.cursor.rest c.decimal_part.new.cursor.rest = subst (λ q. DecimalPart q c.decimal_part.new.cursor.rest) c.is_end.ensures.stayed.rest c.in-Ok-decimal_part.ensures.reads.0 in
-    reads_number _ _ p _ c.in-Ok-without_underscores.ensures.plain (rw c.without_underscores.ensures.returned.rest (front_part _ _ _ c.in-Ok.ensures.reads _ p (ap radix_of c.in-Decimal.is) part text))
+    reads_number _ _ p _ c.in-Ok-without_underscores.ensures (rw (ap (λ h. h.rest) c.slice-piece.ensures.moved) (front_part _ _ _ c.in-Ok.ensures.reads _ p (ap radix_of c.in-Decimal.is) part text))
 
 pub returns-then-is_end-clause-fault : goal.returns-then-is_end-clause-fault
 returns-then-is_end-clause-fault c = number_range _ _ _ c.in-Ok.ensures.reads _ _ c.is_end.ensures.stayed.rest c.whole.ensures
 
-pub without_underscores-requires-clause-underscores : goal.without_underscores-requires-clause-underscores
-without_underscores-requires-clause-underscores c =
+pub without_underscores-requires : goal.without_underscores-requires
+without_underscores-requires c =
     let part = subst (λ q. BareIf c.in-Ok-decimal_part.underscores q c.decimal_part.new.cursor.rest) c.is_end.ensures.stayed.rest c.in-Ok-decimal_part.ensures.reads.1 in
-    let text = sym c.checkpoint-start.ensures.rest ∙ c.up_to-segment.ensures ∙ ap (λ z. c.up_to-segment.result ++ z) c.checkpoint.ensures.rest in
+    let text = sym c.checkpoint-start.ensures.rest ∙ c.slice-piece.ensures.result in
     rw c.with-underscores.ensures (bare_piece _ _ _ _ text (bare_both _ _ _ _ _ c.in-Ok.ensures.reads.bare part))
-
-pub without_underscores-requires-clause-part : goal.without_underscores-requires-clause-part
-without_underscores-requires-clause-part c =
-    part_moved (part_front _ _ _ _ c.checkpoint-start.ensures.part c.up_to-segment.ensures) (past_then (past_then c.read_front.ensures.past (past_two (past_stayed c.is_end.ensures.stayed))) c.decimal_part.ensures.past).moves
 
 pub returns-then-is_end-clause-costs : goal.returns-then-is_end-clause-costs
 returns-then-is_end-clause-costs c =
@@ -59,19 +55,19 @@ returns-then-is_end-clause-costs c =
 
 pub returns-in-Ok-without_underscores-clause-costs : goal.returns-in-Ok-without_underscores-clause-costs
 returns-in-Ok-without_underscores-clause-costs c =
-    let text = sym c.checkpoint-start.ensures.rest ∙ c.up_to-segment.ensures ∙ ap (λ z. c.up_to-segment.result ++ z) c.checkpoint.ensures.rest in
+    let text = sym c.checkpoint-start.ensures.rest ∙ c.slice-piece.ensures.result in
     let less : length c.decimal_part.new.cursor.rest < length c.args.cursor.now.rest = omega (arith, c.in-Ok.ensures.shorter, ap length c.is_end.ensures.stayed.rest, shorter c.decimal_part.ensures.past.moves) in
-    copied_costs c.up_to-segment.result _ _ _ text (past_then (past_then c.read_front.ensures.past (past_two (past_stayed c.is_end.ensures.stayed))) c.decimal_part.ensures.past).costs c.without_underscores.ensures.returned less
+    copied_costs c.slice-piece.result _ _ _ text (past_then (past_then c.read_front.ensures.past (past_two (past_stayed c.is_end.ensures.stayed))) c.decimal_part.ensures.past).costs c.slice-piece.ensures.moved less
 
 pub returns-in-Ok-without_underscores-clause-most : goal.returns-in-Ok-without_underscores-clause-most
 returns-in-Ok-without_underscores-clause-most c =
-    copied_most c.up_to-segment.result _ _ _ (past_then (past_then c.read_front.ensures.past (past_two (past_stayed c.is_end.ensures.stayed))) c.decimal_part.ensures.past).costs
-    (sym c.checkpoint-start.ensures.rest ∙ c.up_to-segment.ensures ∙ ap (λ z. c.up_to-segment.result ++ z) c.checkpoint.ensures.rest) c.without_underscores.ensures.returned
+    copied_most c.slice-piece.result _ _ _ (past_then (past_then c.read_front.ensures.past (past_two (past_stayed c.is_end.ensures.stayed))) c.decimal_part.ensures.past).costs
+    (sym c.checkpoint-start.ensures.rest ∙ c.slice-piece.ensures.result) c.slice-piece.ensures.moved
 
 pub returns-in-Err-without_underscores-clause-most : goal.returns-in-Err-without_underscores-clause-most
 returns-in-Err-without_underscores-clause-most c =
-    copied_most c.up_to-segment.result _ _ _ (past_then (past_then c.read_front.ensures.past (past_two (past_stayed c.is_end.ensures.stayed))) c.decimal_part.ensures.past).costs
-    (sym c.checkpoint-start.ensures.rest ∙ c.up_to-segment.ensures ∙ ap (λ z. c.up_to-segment.result ++ z) c.checkpoint.ensures.rest) c.without_underscores.ensures.returned
+    copied_most c.slice-piece.result _ _ _ (past_then (past_then c.read_front.ensures.past (past_two (past_stayed c.is_end.ensures.stayed))) c.decimal_part.ensures.past).costs
+    (sym c.checkpoint-start.ensures.rest ∙ c.slice-piece.ensures.result) c.slice-piece.ensures.moved
 
 pub returns-in-Err-decimal_part-clause-most : goal.returns-in-Err-decimal_part-clause-most
 returns-in-Err-decimal_part-clause-most c = more (past_then (past_then c.read_front.ensures.past (past_two (past_stayed c.is_end.ensures.stayed))) c.decimal_part.ensures.past) (lit≤ tt)

@@ -9,7 +9,7 @@ returns-clause-says c x h =
     let e = c.autoformat_layout.new.self in
     let is : settings c.new.result.config ≡ defaults = c.new.ensures.config in
     let keep : c.new.result.config.entry_autoformate_keep ≡ false = ap (λ (s : Settings). s.entry_autoformate_keep) is in
-    let says = c.in_ok-autoformat_layout.ensures.derived (subst IndentsBySpaces (sym is) c.defaults_indent_by_spaces.ensures) keep c.in_ok-document.ensures.keeps_none in
+    let says = (c.in_ok-autoformat_layout.ensures.rereads (subst IndentsBySpaces (sym is) c.defaults_indent_by_spaces.ensures)).derived keep c.in_ok-document.ensures.keeps_none in
     let same = c.in_ok-document.ensures.only x h in
     let text = c.printed_reads_once.ensures.text e c.in_ok-to_string.field-0 c.in_ok-to_string.ensures.ok in
     subst (λ (t : Text). IsDocument t x) (sym text) (subst (IsDocument (document_prints e)) (sym same) says)
@@ -23,7 +23,7 @@ returns-clause-laid_out c =
     let no : c.new.result.config.no_comments ≡ false = ap (λ (s : Settings). s.no_comments) is in
     let none = c.in_ok-document.ensures.keeps_none in
     let off = c.new.ensures.one_line in
-    let comments = c.in_ok-autoformat_layout.ensures.comments (subst IndentsBySpaces (sym is) c.defaults_indent_by_spaces.ensures) keep no none in
+    let comments = (c.in_ok-autoformat_layout.ensures.rereads (subst IndentsBySpaces (sym is) c.defaults_indent_by_spaces.ensures)).comments keep no none in
     let l = record c.new.result { blank_lines = 1 } in
     let out = c.in_ok-to_string.field-0 in
     subst (λ (k : Bool). IsSpacedOut k false 1 (chars c.args.text.now) (text_of out)) c.new.ensures.keep_spelling

@@ -1,45 +1,34 @@
 use Rattle.std.proofs.Common.{rules, option_map, map, ap, subst, ◌∙◌}
+use Rattle.std.proofs.lemmas.Result.{on_ok_weaker}
 use Rattle.kdl_layout.specs.Config.{settings}
 use Rattle.kdl_parts.specs.Formats.{document_format_tree}
 use Rattle.kdl.specs.Internal.Spacing.{NodesAreSpaced, StayAs}
 use Rattle.kdl.specs.Tree.{node_tree, nodes_tree}
 use Rattle.kdl.specs.declared.document.KdlDocument.TheViews.{the_lemmas, out-KdlDocument, out-roll-KdlDocument}
 use Rattle.kdl_layout.specs.Formatted.{bare_node}
-use Rattle.kdl.proofs.LayingOut.PartsSpaced.{if_ok, same_content, laid_content, nodes_fit, fitting_document}
+use Rattle.kdl.proofs.LayingOut.PartsSpaced.{same_content, laid_content, nodes_fit, fitting_document}
 use Rattle.kdl.proofs.LayingOut.StaysReading.{document_stays}
 use Rattle.kdl.proofs.document.KdlDocument.lay_out.Goals as goal
 
-pub returns-clause-kept : goal.returns-clause-kept
-returns-clause-kept c =
-    let fields = record (out-KdlDocument c.args.self.now) { format = c.lay_out_content.new.format } in
-    same_content _ c.args.self.now (search (rules, the_lemmas)) c.lay_out_nodes.new.nodes (search (rules, the_lemmas))
-    (c.lay_out_nodes.ensures.kept ∙ ap (λ x. map bare_node (map node_tree x.nodes.items)) (out-roll-KdlDocument fields))
-
-pub returns-clause-spaced : goal.returns-clause-spaced
-returns-clause-spaced c =
+pub returns : goal.returns
+returns c =
     let d = out-KdlDocument c.args.self.now in
     let l = c.args.layout.now in
     let level = l.config.indent_level in
     let first = c.in_ok-first.first in
     let fields = record d { format = c.lay_out_content.new.format } in
     let new = c.lay_out_nodes.new.nodes in
-    if_ok c.lay_out_nodes.result
-    (λ h. let laid = subst (λ x. NodesAreSpaced l level first (map node_tree x.nodes.items) (map node_tree new.items)) (out-roll-KdlDocument fields) h in (
-      laid_content _ c.args.self.now (search (rules, the_lemmas)) new (search (rules, the_lemmas)) l level first
-          (option_map document_format_tree c.lay_out_content.new.format) (search (rules, the_lemmas))
-          (c.in_ok-first.ensures.spaced (nodes_tree d.nodes.items) (search (rules, the_lemmas)) (search (rules, the_lemmas))) laid,
-      fitting_document c.args.self.now (nodes_fit l level first (map node_tree d.nodes.items) (map node_tree new.items) laid),
-    ))
-    c.lay_out_nodes.ensures.spaced
-
-pub returns-clause-reads_back : goal.returns-clause-reads_back
-returns-clause-reads_back c ok =
-    let d = out-KdlDocument c.args.self.now in
-    let l = c.args.layout.now in
-    let level = l.config.indent_level in
-    let first = c.in_ok-first.first in
-    let fields = record d { format = c.lay_out_content.new.format } in
-    let new = c.lay_out_nodes.new.nodes in
-    document_stays l ok level first c.args.self.now _ (search (rules, the_lemmas)) new (search (rules, the_lemmas)) (option_map document_format_tree c.lay_out_content.new.format) (search (rules, the_lemmas))
-    (c.in_ok-first.ensures.spaced (nodes_tree d.nodes.items) (search (rules, the_lemmas)) (search (rules, the_lemmas)))
-    (subst (λ x. StayAs (settings l.config) (map node_tree x.nodes.items) (map node_tree new.items)) (out-roll-KdlDocument fields) (c.lay_out_nodes.ensures.stays ok))
+    let format = option_map document_format_tree c.lay_out_content.new.format in
+    let content = c.in_ok-first.ensures.spaced (nodes_tree d.nodes.items) (search (rules, the_lemmas)) (search (rules, the_lemmas)) in
+    record {
+      kept = same_content _ c.args.self.now (search (rules, the_lemmas)) new (search (rules, the_lemmas))
+          (c.lay_out_nodes.ensures.kept ∙ ap (λ x. map bare_node (map node_tree x.nodes.items)) (out-roll-KdlDocument fields));
+      reads_back = λ ok. document_stays l ok level first c.args.self.now _ (search (rules, the_lemmas)) new (search (rules, the_lemmas)) format (search (rules, the_lemmas)) content
+          (subst (λ x. StayAs (settings l.config) (map node_tree x.nodes.items) (map node_tree new.items)) (out-roll-KdlDocument fields) (c.lay_out_nodes.ensures.stays ok));
+      spaced = on_ok_weaker c.lay_out_nodes.result
+          (λ h. let laid = subst (λ x. NodesAreSpaced l level first (map node_tree x.nodes.items) (map node_tree new.items)) (out-roll-KdlDocument fields) h in (
+            laid_content _ c.args.self.now (search (rules, the_lemmas)) new (search (rules, the_lemmas)) l level first format (search (rules, the_lemmas)) content laid,
+            fitting_document c.args.self.now (nodes_fit l level first (map node_tree d.nodes.items) (map node_tree new.items) laid),
+          ))
+          c.lay_out_nodes.ensures.spaced;
+    }

@@ -10,7 +10,7 @@ use Rattle.kdl.specs.Internal.Spacing.{GoesOn, NodeStays, StayAs, whole}
 use Rattle.kdl.specs.Tree.{node_tree}
 use Rattle.kdl.specs.declared.layout.LayoutFrame.{LayoutFrame}
 use Rattle.kdl_layout.specs.declared.blank.Before.{Before}
-use Rattle.kdl.proofs.LayingOut.BlockSteps.{Own, bare_next, bare_enclosed, line_goes_on, line_is_laid, node_is, bare_block_next, whole_block_next, block_goes_on}
+use Rattle.kdl.proofs.LayingOut.BlockSteps.{Own, bare_next, bare_enclosed, line_goes_on, line_is_laid, node_is, open_block}
 use Rattle.kdl.proofs.LayingOut.StaysReading.{next_stays}
 use Rattle.kdl.proofs.layout.Blocks.lay_out_next.Goals as goal
 
@@ -29,40 +29,29 @@ returns-in_err-following-clause-kept c =
     let b' : LayoutFrame = record { nodes = with_item b.nodes b.at c.lay_out_own.new.self; at = b.at; level = b.level; before = b.before; next = b.next; around = b.around } in
     bare_next c.args.self.now.above.items b b' c.index_mut-node.result.now c.lay_out_own.new.self (search rules) (search rules) c.lay_out_own.ensures.kept (search rules)
 
-pub returns-then-not-has_nodes-clause-stays : goal.returns-then-not-has_nodes-clause-stays
-returns-then-not-has_nodes-clause-stays c ok level x olds u =
+pub returns-then-not-has_nodes : goal.returns-then-not-has_nodes
+returns-then-not-has_nodes c =
     let l = c.args.layout.now in
     let s = settings l.config in
     let b = c.args.self.now.inner in
     let n = c.index_mut-node.result.now in
     let m = c.lay_out_own.new.self in
+    let m' = c.set_around.new.self in
     let g = c.in_ok-following.texts in
-    let b' : LayoutFrame = record { nodes = with_item b.nodes b.at c.set_around.new.self; at = b.at + 1; level = b.level; before = b.before; next = c.in_ok-following.following; around = b.around } in
+    let b' : LayoutFrame = record { nodes = with_item b.nodes b.at m'; at = b.at + 1; level = b.level; before = b.before; next = c.in_ok-following.following; around = b.around } in
     let is : chars c.as_str.result.now ≡ text_of b.before = search rules in
-    next_stays l c.args.self.now.above.items b b' n c.set_around.new.self (search rules) (search rules) (search rules)
-    (λ k h P y.
-    let e = is ∙ h.1 ∙ ap (indentation s) (sym h.0) in
-    let laid = line_is_laid l b c.in_ok-following.following c.in_ok-following.first g n m c.lay_out_own.ensures.block (λ h. search rules) b.level (c.in_ok-following.ensures.spaced e) in
-    subst (NodeStays s P) (sym c.set_around.ensures) (laid.1 ok P (c.lay_out_own.ensures.stays ok e P y)))
-    level x olds u
-
-pub returns-then-not-has_nodes-clause-kept : goal.returns-then-not-has_nodes-clause-kept
-returns-then-not-has_nodes-clause-kept c =
-    let b = c.args.self.now.inner in
-    let g = c.in_ok-following.texts in
-    let m = c.lay_out_own.new.self in
-    let b' : LayoutFrame = record { nodes = with_item b.nodes b.at c.set_around.new.self; at = b.at + 1; level = b.level; before = b.before; next = c.in_ok-following.following; around = b.around } in
-    let same = ap bare_node c.set_around.ensures ∙ bare_enclosed g m (map node_tree (child_nodes m)) ∙ sym (ap bare_node (node_is m)) ∙ c.lay_out_own.ensures.kept in
-    bare_next c.args.self.now.above.items b b' c.index_mut-node.result.now c.set_around.new.self (search rules) (search rules) same (search rules)
-
-pub returns-then-not-has_nodes-clause-goes_on : goal.returns-then-not-has_nodes-clause-goes_on
-returns-then-not-has_nodes-clause-goes_on c =
-    let b = c.args.self.now.inner in
-    let g = c.in_ok-following.texts in
-    let b' : LayoutFrame = record { nodes = with_item b.nodes b.at c.set_around.new.self; at = b.at + 1; level = b.level; before = b.before; next = c.in_ok-following.following; around = b.around } in
-    let is : chars c.as_str.result.now ≡ text_of b.before = search rules in
-    line_goes_on c.args.layout.now c.args.self.now.above.items b b' c.in_ok-following.first g c.index_mut-node.result.now c.lay_out_own.new.self c.set_around.new.self (search rules) (search rules) (search rules) (search rules) (search rules) (search rules)
-    c.lay_out_own.ensures.block (λ h. search rules) c.set_around.ensures (λ e. c.in_ok-following.ensures.spaced (is ∙ e))
+    record {
+      stays = λ ok level x olds u. next_stays l c.args.self.now.above.items b b' n m' (search rules) (search rules) (search rules)
+          (λ k h P y.
+          let e = is ∙ h.1 ∙ ap (indentation s) (sym h.0) in
+          let laid = line_is_laid l b c.in_ok-following.following c.in_ok-following.first g n m c.lay_out_own.ensures.block (λ h. search rules) b.level (c.in_ok-following.ensures.spaced e) in
+          subst (NodeStays s P) (sym c.set_around.ensures) (laid.1 ok P (c.lay_out_own.ensures.stays ok e P y)))
+          level x olds u;
+      kept = bare_next c.args.self.now.above.items b b' n m' (search rules) (search rules)
+          (ap bare_node c.set_around.ensures ∙ bare_enclosed g m (map node_tree (child_nodes m)) ∙ sym (ap bare_node (node_is m)) ∙ c.lay_out_own.ensures.kept) (search rules);
+      goes_on = line_goes_on l c.args.self.now.above.items b b' c.in_ok-following.first g n m m' (search rules) (search rules) (search rules) (search rules) (search rules) (search rules)
+          c.lay_out_own.ensures.block (λ h. search rules) c.set_around.ensures (λ e. c.in_ok-following.ensures.spaced (is ∙ e));
+    }
 
 pub returns-in_err-level-clause-stays : goal.returns-in_err-level-clause-stays
 returns-in_err-level-clause-stays c ok level x olds u =
@@ -81,8 +70,8 @@ returns-in_err-level-clause-kept c =
     ap (λ z. map bare_node (whole z c.next_level.new.self.inner)) above
     ∙ bare_next c.args.self.now.above.items c.args.self.now.inner c.next_level.new.self.inner c.index_mut-node.result.now c.lay_out_own.new.self (search rules) (search rules) c.lay_out_own.ensures.kept (search rules)
 
-pub returns-clause-stays : goal.returns-clause-stays
-returns-clause-stays c ok level x olds u =
+pub returns : goal.returns
+returns c =
     let l = c.args.layout.now in
     let s = settings l.config in
     let above = c.args.self.now.above.items in
@@ -90,33 +79,8 @@ returns-clause-stays c ok level x olds u =
     let b1 = c.next_level.new.self.inner in
     let outer = c.replace-outer.result in
     let inner = c.replace-outer.new.dest in
-    let pushed : c.push_reserved.new.self.items ≡ above ++ outer ∷ [] = search rules in
-    let is : chars c.as_str.result.now ≡ text_of b.before = search rules in
-    let same = whole_block_next l above b b1 outer inner c.index_mut-node.result.now c.lay_out_own.new.self c.index_mut.result.now c.exchange_nodes-nodes.new.self c.new.result c.exchange_nodes-nodes.result
-    (search rules) (search rules) (search rules) (search rules) (search rules) (search rules) (search rules) c.lay_out_own.ensures.block (search rules) c.exchange_nodes-nodes.ensures.had c.exchange_nodes-nodes.ensures.has (search rules) (search rules) (search rules) (search rules) (search rules) in
-    subst (λ z. StayAs s (whole above b) (whole z inner)) (sym pushed)
-    (subst (λ z. StayAs s (whole above b) z) (sym same)
-    (next_stays l above b (record b { nodes = with_item b.nodes b.at c.lay_out_own.new.self }) c.index_mut-node.result.now c.lay_out_own.new.self (search rules) (search rules) (search rules)
-    (λ k h. c.lay_out_own.ensures.stays ok (is ∙ h.1 ∙ ap (indentation s) (sym h.0))) level x olds u))
-
-pub returns-clause-kept : goal.returns-clause-kept
-returns-clause-kept c =
-    let b1 = c.next_level.new.self.inner in
-    let outer = c.replace-outer.result in
-    let pushed : c.push_reserved.new.self.items ≡ c.args.self.now.above.items ++ outer ∷ [] = search rules in
-    ap (λ z. map bare_node (whole z c.replace-outer.new.dest)) pushed
-    ∙ bare_block_next c.args.layout.now c.args.self.now.above.items c.args.self.now.inner b1 outer c.replace-outer.new.dest c.index_mut-node.result.now c.lay_out_own.new.self c.index_mut.result.now c.exchange_nodes-nodes.new.self c.new.result c.exchange_nodes-nodes.result
-    (search rules) (search rules) (search rules) (search rules) (search rules) (search rules) (search rules) c.lay_out_own.ensures.block (search rules) c.exchange_nodes-nodes.ensures.had c.exchange_nodes-nodes.ensures.has (search rules) (search rules) (search rules) (search rules) (search rules)
-    c.lay_out_own.ensures.kept
-
-pub returns-clause-goes_on : goal.returns-clause-goes_on
-returns-clause-goes_on c =
-    let s = c.args.layout.now in
-    let b = c.args.self.now.inner in
-    let b1 = c.next_level.new.self.inner in
-    let outer = c.replace-outer.result in
-    let inner = c.replace-outer.new.dest in
-    let above = c.args.self.now.above.items in
+    let n = c.index_mut-node.result.now in
+    let m = c.lay_out_own.new.self in
     let pushed : c.push_reserved.new.self.items ≡ above ++ outer ∷ [] = search rules in
     let is : chars c.as_str.result.now ≡ text_of b.before = search rules in
     let next : c.in_ok-following.following ≡ outer.next = search rules in
@@ -124,10 +88,17 @@ returns-clause-goes_on c =
     let first : c.in_ok-following.first ≡ inner.next = search rules in
     let level : c.in_ok-level.level ≡ inner.level = search rules in
     let before : c.in_ok-level.before ≡ inner.before = search rules in
-    subst (λ z. GoesOn s above b z inner) (sym pushed)
-    (block_goes_on s above b b1 outer inner c.index_mut-node.result.now c.lay_out_own.new.self c.index_mut.result.now c.exchange_nodes-nodes.new.self c.new.result c.exchange_nodes-nodes.result
-    (search rules) (search rules) (search rules) (search rules) (search rules) (search rules) (search rules) c.lay_out_own.ensures.block (search rules) c.exchange_nodes-nodes.ensures.had c.exchange_nodes-nodes.ensures.has (search rules) (search rules) (search rules) (search rules) (search rules)
-    (search rules) (search rules) (λ e. sym (ap text_of before) ∙ c.in_ok-level.ensures.before e ∙ ap (indentation (settings s.config)) level)
-    (λ e. subst (λ (x : Before). Own s b.level b x inner.next outer.around c.index_mut-node.result.now c.lay_out_own.new.self) next
-    (subst (λ (x : Before). Own s b.level b c.in_ok-following.following x outer.around c.index_mut-node.result.now c.lay_out_own.new.self) first
-    (subst (λ (x : Option Around). Own s b.level b c.in_ok-following.following c.in_ok-following.first x c.index_mut-node.result.now c.lay_out_own.new.self) around (c.in_ok-following.ensures.spaced (is ∙ e))))))
+    let inside = open_block l above b b1 outer inner n m c.index_mut.result.now c.exchange_nodes-nodes.new.self c.new.result c.exchange_nodes-nodes.result
+    (search rules) (search rules) (search rules) (search rules) (search rules) (search rules) (search rules) c.lay_out_own.ensures.block (search rules) c.exchange_nodes-nodes.ensures.had c.exchange_nodes-nodes.ensures.has (search rules) (search rules) (search rules) (search rules) (search rules) in
+    record {
+      stays = λ ok level x olds u. subst (λ z. StayAs s (whole above b) (whole z inner)) (sym pushed)
+          (subst (λ z. StayAs s (whole above b) z) (sym inside.all)
+          (next_stays l above b (record b { nodes = with_item b.nodes b.at m }) n m (search rules) (search rules) (search rules)
+          (λ k h. c.lay_out_own.ensures.stays ok (is ∙ h.1 ∙ ap (indentation s) (sym h.0))) level x olds u));
+      kept = ap (λ z. map bare_node (whole z inner)) pushed ∙ inside.bare c.lay_out_own.ensures.kept;
+      goes_on = subst (λ z. GoesOn l above b z inner) (sym pushed)
+          (inside.goes_on (search rules) (search rules) (λ e. sym (ap text_of before) ∙ c.in_ok-level.ensures.before e ∙ ap (indentation s) level)
+          (λ e. subst (λ (x : Before). Own l b.level b x inner.next outer.around n m) next
+          (subst (λ (x : Before). Own l b.level b c.in_ok-following.following x outer.around n m) first
+          (subst (λ (x : Option Around). Own l b.level b c.in_ok-following.following c.in_ok-following.first x n m) around (c.in_ok-following.ensures.spaced (is ∙ e))))));
+    }

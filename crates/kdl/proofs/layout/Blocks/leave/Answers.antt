@@ -2,15 +2,15 @@ use Rattle.std.proofs.Common.{rules, subst, ◌+◌, ◌++◌, ◌∷◌, [], ap
 use Rattle.std.specs.Vec.{with_item}
 use Rattle.kdl_layout.specs.Config.{settings}
 use Rattle.kdl_layout.specs.Formatted.{bare_node}
-use Rattle.kdl.specs.Internal.Spacing.{GoesOn, StayAs, braces_of, enclosed, lined, whole, with_braces}
+use Rattle.kdl.specs.Internal.Spacing.{GoesOn, StayAs, StepStays, braces_of, enclosed, lined, whole, with_braces}
 use Rattle.kdl.specs.Tree.{node_tree}
 use Rattle.kdl.specs.declared.layout.LayoutFrame.{LayoutFrame}
 use Rattle.kdl.proofs.LayingOut.BlockSteps.{filled_exchanged, end_bare, end_whole_none, end_goes_on_there, end_goes_on_none}
-use Rattle.kdl.proofs.LayingOut.StaysReading.{Steps, end_stays, stay_same}
+use Rattle.kdl.proofs.LayingOut.StaysReading.{end_stays, stay_same}
 use Rattle.kdl.proofs.layout.Blocks.leave.Goals as goal
 
-pub returns-in-Some-clause-kept : goal.returns-in-Some-clause-kept
-returns-in-Some-clause-kept c =
+pub returns-in-Some : goal.returns-in-Some
+returns-in-Some c =
     let above = c.args.self.now.above.items in
     let r = c.replace-done in
     let o = r.new.dest in
@@ -22,75 +22,34 @@ returns-in-Some-clause-kept c =
     let tree = c.set_around.ensures
     ∙ ap (with_braces (braces_of c.take-around.result)) (filled_exchanged n c.exchange_nodes.new.self r.result.nodes (lined c.take-around.result) c.exchange_nodes.ensures.has)
     ∙ ap (λ g. enclosed g n (map node_tree r.result.nodes.items)) taken in
-    end_bare above o r.result b n m (search rules) (search rules) tree (search rules)
-    ∙ ap (λ z. map bare_node (whole (above ++ z ∷ []) r.result)) e.after
-    ∙ ap (λ i. map bare_node (whole (above ++ c.args.outer ∷ []) i)) e.value
+    record {
+      kept = end_bare above o r.result b n m (search rules) (search rules) tree (search rules)
+          ∙ ap (λ z. map bare_node (whole (above ++ z ∷ []) r.result)) e.after
+          ∙ ap (λ i. map bare_node (whole (above ++ c.args.outer ∷ []) i)) e.value;
+      goes_on = λ all s. subst (λ i. GoesOn s (above ++ c.args.outer ∷ []) i above b) e.value
+          (subst (λ z. GoesOn s (above ++ z ∷ []) r.result above b) e.after
+          (end_goes_on_there above o r.result b n m (search rules) (search rules) tree (search rules) (search rules) (search rules) (search rules) (search rules) (search rules) s));
+      stays = λ all l ok. subst (λ i. StepStays l (above ++ c.args.outer ∷ []) i above b) e.value
+          (subst (λ z. StepStays l (above ++ z ∷ []) r.result above b) e.after
+          (end_stays l ok above o r.result b n m (search rules) (search rules) tree (search rules) (search rules)));
+      above = search rules;
+    }
 
-pub returns-in-Some-clause-goes_on : goal.returns-in-Some-clause-goes_on
-returns-in-Some-clause-goes_on c all s =
-    let above = c.args.self.now.above.items in
-    let r = c.replace-done in
-    let o = r.new.dest in
-    let e = r.ensures in
-    let n = c.in-Some.node.now in
-    let m = c.set_around.new.self in
-    let b : LayoutFrame = record { nodes = with_item o.nodes o.at m; at = o.at + 1; level = o.level; before = o.before; next = o.next; around = c.take-around.new.self } in
-    let taken : c.take-around.result ≡ o.around = search rules in
-    let tree = c.set_around.ensures
-    ∙ ap (with_braces (braces_of c.take-around.result)) (filled_exchanged n c.exchange_nodes.new.self r.result.nodes (lined c.take-around.result) c.exchange_nodes.ensures.has)
-    ∙ ap (λ g. enclosed g n (map node_tree r.result.nodes.items)) taken in
-    subst (λ i. GoesOn s (above ++ c.args.outer ∷ []) i above b) e.value
-    (subst (λ z. GoesOn s (above ++ z ∷ []) r.result above b) e.after
-    (end_goes_on_there above o r.result b n m (search rules) (search rules) tree (search rules) (search rules) (search rules) (search rules) (search rules) (search rules) s))
-
-pub returns-in-Some-clause-stays : goal.returns-in-Some-clause-stays
-returns-in-Some-clause-stays c all l ok =
-    let above = c.args.self.now.above.items in
-    let r = c.replace-done in
-    let o = r.new.dest in
-    let e = r.ensures in
-    let n = c.in-Some.node.now in
-    let m = c.set_around.new.self in
-    let b : LayoutFrame = record { nodes = with_item o.nodes o.at m; at = o.at + 1; level = o.level; before = o.before; next = o.next; around = c.take-around.new.self } in
-    let taken : c.take-around.result ≡ o.around = search rules in
-    let tree = c.set_around.ensures
-    ∙ ap (with_braces (braces_of c.take-around.result)) (filled_exchanged n c.exchange_nodes.new.self r.result.nodes (lined c.take-around.result) c.exchange_nodes.ensures.has)
-    ∙ ap (λ g. enclosed g n (map node_tree r.result.nodes.items)) taken in
-    subst (λ i. Steps l (above ++ c.args.outer ∷ []) i above b) e.value
-    (subst (λ z. Steps l (above ++ z ∷ []) r.result above b) e.after
-    (end_stays l ok above o r.result b n m (search rules) (search rules) tree (search rules) (search rules)))
-
-pub returns-in_default-clause-kept : goal.returns-in_default-clause-kept
-returns-in_default-clause-kept c =
-    let above = c.args.self.now.above.items in
-    let r = c.replace-done in
-    let o = r.new.dest in
-    let e = r.ensures in
-    ap (map bare_node)
-    (end_whole_none above o r.result (record o { around = c.take-around.new.self }) (search rules) (search rules)
-    ∙ ap (λ z. whole (above ++ z ∷ []) r.result) e.after
-    ∙ ap (λ i. whole (above ++ c.args.outer ∷ []) i) e.value)
-
-pub returns-in_default-clause-stays : goal.returns-in_default-clause-stays
-returns-in_default-clause-stays c all l ok level x olds u =
+pub returns-in_default : goal.returns-in_default
+returns-in_default c =
     let above = c.args.self.now.above.items in
     let r = c.replace-done in
     let o = r.new.dest in
     let e = r.ensures in
     let o' = record o { around = c.take-around.new.self } in
-    subst (λ z. StayAs (settings l.config) z (whole above o'))
-    (end_whole_none above o r.result o' (search rules) (search rules)
+    let same = end_whole_none above o r.result o' (search rules) (search rules)
     ∙ ap (λ z. whole (above ++ z ∷ []) r.result) e.after
-    ∙ ap (λ i. whole (above ++ c.args.outer ∷ []) i) e.value)
-    (stay_same (settings l.config) (whole above o'))
-
-pub returns-in_default-clause-goes_on : goal.returns-in_default-clause-goes_on
-returns-in_default-clause-goes_on c all s =
-    let above = c.args.self.now.above.items in
-    let r = c.replace-done in
-    let o = r.new.dest in
-    let e = r.ensures in
-    let o' = record o { around = c.take-around.new.self } in
-    subst (λ i. GoesOn s (above ++ c.args.outer ∷ []) i above o') e.value
-    (subst (λ z. GoesOn s (above ++ z ∷ []) r.result above o') e.after
-    (end_goes_on_none above o r.result o' (search rules) (search rules) (search rules) (search rules) (search rules) (search rules) s))
+    ∙ ap (λ i. whole (above ++ c.args.outer ∷ []) i) e.value in
+    record {
+      kept = ap (map bare_node) same;
+      goes_on = λ all s. subst (λ i. GoesOn s (above ++ c.args.outer ∷ []) i above o') e.value
+          (subst (λ z. GoesOn s (above ++ z ∷ []) r.result above o') e.after
+          (end_goes_on_none above o r.result o' (search rules) (search rules) (search rules) (search rules) (search rules) (search rules) s));
+      stays = λ all l ok level x olds u. subst (λ z. StayAs (settings l.config) z (whole above o')) same (stay_same (settings l.config) (whole above o'));
+      above = search rules;
+    }

@@ -1,4 +1,5 @@
-use Rattle.std.proofs.Common.{◌≡◌, Result, Ok, Err, IsErr, IsOk, IfOk, OnErr, refl}
+use Rattle.std.proofs.Common.{◌≡◌, Result, Ok, Err, IsErr, IsOk, OnErr, refl}
+use Rattle.std.proofs.lemmas.Result.{IfOk-from_err}
 use Rattle.std.specs.Borrow.{name_if_ok}
 use Rattle.kdl.proofs.Finding.NodeLookups.{entries_refused, written, value_found}
 use Rattle.kdl.proofs.Finding.WritesFound.{written_or_pushed}
@@ -14,10 +15,6 @@ not_both : {A E P : Type 0} (r : Result A E) → IsErr r → IsOk r → P
 not_both (Ok a) h k = absurd (cc)
 not_both (Err e) h k = absurd (cc)
 
-if_ok_none : {A E : Type 0} (P : A → Type 0) (r : Result A E) → IsErr r → IfOk r P
-if_ok_none P (Ok a) h = absurd (cc)
-if_ok_none P (Err e) h = tt
-
 on_err : {A E P : Type 0} (r : Result A E) → P → OnErr r P
 on_err (Ok a) p = tt
 on_err (Err e) p = p
@@ -30,5 +27,5 @@ pub returns-in_err-at : goal.returns-in_err-at
 returns-in_err-at c =
     let failed = c.from_residual.ensures.0 in (
       (nothing_lent _ c.from_residual.result failed, λ w ok. not_both c.from_residual.result failed ok, on_err c.from_residual.result (entries_refused c.args.self.now c.property_or_null.new.entries c.in_err-at.ensures.refused)),
-      (if_ok_none _ c.from_residual.result failed, (λ there. let ok = c.in_err-at.ensures.answers there in absurd (cc), (on_err c.from_residual.result c.in_err-at.ensures.missing, written_or_pushed c.args.name.now c.args.self.now c.utf8.name))),
+      (IfOk-from_err c.from_residual.result _ failed, (λ there. let ok = c.in_err-at.ensures.answers there in absurd (cc), (on_err c.from_residual.result c.in_err-at.ensures.missing, written_or_pushed c.args.name.now c.args.self.now c.utf8.name))),
     )

@@ -31,23 +31,8 @@ returns-in_err-lay_out_below-clause-stays c ok P x =
     below_stays (settings c.args.layout.now.config) n (roll-KdlNode fields) o (node_below n (roll-KdlNode fields) o (out-roll-KdlNode fields) c.lay_out_below.ensures.block) (c.lay_out_below.ensures.stays ok) P
     (c.lay_out_own.ensures.stays ok (search rules) P x)
 
-pub returns-clause-kept : goal.returns-clause-kept
-returns-clause-kept c =
-    let n = c.lay_out_own.new.self in
-    let o = c.lay_out_below.new.children in
-    let fields = record (out-KdlNode n) { children = o } in
-    let n1 = roll-KdlNode fields in
-    let g = c.in_ok-first.around in
-    ap bare_node c.set_around.ensures
-    ∙ bare_enclosed g n1 (map node_tree (child_nodes n1))
-    ∙ sym (ap bare_node (node_is n1))
-    ∙ ap bare_node (node_below n n1 o (out-roll-KdlNode fields) c.lay_out_below.ensures.block)
-    ∙ bare_filled n (map node_tree (nodes_in o)) (map node_tree (child_nodes n)) c.lay_out_below.ensures.kept
-    ∙ sym (ap bare_node (node_is n))
-    ∙ c.lay_out_own.ensures.kept
-
-pub returns-clause-stays : goal.returns-clause-stays
-returns-clause-stays c ok P x =
+pub returns : goal.returns
+returns c =
     let l = c.args.layout.now in
     let s = settings l.config in
     let n = c.lay_out_own.new.self in
@@ -58,14 +43,14 @@ returns-clause-stays c ok P x =
     let below = node_below n n1 o (out-roll-KdlNode fields) c.lay_out_below.ensures.block in
     let tree = c.set_around.ensures ∙ ap (with_braces (braces_of g)) (filled_below n n1 o (lined g) (out-roll-KdlNode fields) c.lay_out_below.ensures.block) in
     let laid = laid_below l c.args.level at_start c.in_ok-first.first g c.args.self.now n c.set_around.new.self o tree c.lay_out_own.ensures.block (c.in_ok-first.ensures.spaced (search rules)).1 c.in_ok-lay_out_below.ensures.spaced in
-    laid.1 ok P
-    (subst (NodeStays s P) below (below_stays s n n1 o below (c.lay_out_below.ensures.stays ok) P (c.lay_out_own.ensures.stays ok (search rules) P x)))
-
-pub returns-clause-spaced : goal.returns-clause-spaced
-returns-clause-spaced c =
-    let n = c.lay_out_own.new.self in
-    let o = c.lay_out_below.new.children in
-    let fields = record (out-KdlNode n) { children = o } in
-    let g = c.in_ok-first.around in
-    let tree = c.set_around.ensures ∙ ap (with_braces (braces_of g)) (filled_below n (roll-KdlNode fields) o (lined g) (out-roll-KdlNode fields) c.lay_out_below.ensures.block) in
-    (laid_below c.args.layout.now c.args.level at_start c.in_ok-first.first g c.args.self.now n c.set_around.new.self o tree c.lay_out_own.ensures.block (c.in_ok-first.ensures.spaced (search rules)).1 c.in_ok-lay_out_below.ensures.spaced).0
+    record {
+      kept = ap bare_node c.set_around.ensures
+          ∙ bare_enclosed g n1 (map node_tree (child_nodes n1))
+          ∙ sym (ap bare_node (node_is n1))
+          ∙ ap bare_node below
+          ∙ bare_filled n (map node_tree (nodes_in o)) (map node_tree (child_nodes n)) c.lay_out_below.ensures.kept
+          ∙ sym (ap bare_node (node_is n))
+          ∙ c.lay_out_own.ensures.kept;
+      stays = λ ok P x. laid.1 ok P (subst (NodeStays s P) below (below_stays s n n1 o below (c.lay_out_below.ensures.stays ok) P (c.lay_out_own.ensures.stays ok (search rules) P x)));
+      spaced = laid.0;
+    }

@@ -1,10 +1,6 @@
-use Rattle.kdl.proofs.Finding.EntriesFound.{push_adds, push_sets}
+use Rattle.kdl.proofs.Finding.EntriesFound.{push_sets}
 use Rattle.kdl.proofs.ReadingBack.{push_reads, unformed_reads}
-use Rattle.kdl.proofs.PiecesExchanged.{push_exchanges}
 use Rattle.kdl.proofs.node.KdlNode.push.Goals as goal
-
-pub returns-clause-adds : goal.returns-clause-adds
-returns-clause-adds c = push_adds c.push.result c.args.entry c.args.self.now c.push.new.entries c.push.ensures.items
 
 pub returns-clause-sets : goal.returns-clause-sets
 returns-clause-sets c = push_sets c.push.result c.args.entry c.args.self.now c.push.new.entries c.push.ensures.items
@@ -14,6 +10,3 @@ returns-clause-reads c = push_reads c.push.result c.args.entry c.args.self.now c
 
 pub returns-clause-reads_unformed : goal.returns-clause-reads_unformed
 returns-clause-reads_unformed c u = push_reads c.push.result c.args.entry c.args.self.now c.push.new.entries c.push.ensures.items (unformed_reads c.args.entry u)
-
-pub returns-clause-bytes : goal.returns-clause-bytes
-returns-clause-bytes c = push_exchanges c.push.result c.args.entry c.args.self.now c.push.new.entries c.push.ensures.items

@@ -16,4 +16,4 @@ returns-in-Value g c =
 pub returns-in_default-kind : goal.returns-in_default-kind
 returns-in_default-kind g c =
     takes_as g.N.ParsedNode.tree c.args.self.now c.take_mark.new.self c.args.at.now c.in-Some.event c.take_mark.result
-    c.args.kind c.args.kind _ c.requires.building c.in-Some.ensures refl (is_mark g.N.ParsedNode.tree c.args.self.now c.in-Some.event c.args.at.now.start c.args.at.now.end c.args.kind c.in_default-kind.not-String c.in_default-kind.not-Value) c.take_mark.ensures
+    c.args.kind c.args.kind _ c.requires.building c.in-Some.ensures refl (is_mark g.N.ParsedNode.tree c.args.self.now c.in-Some.event c.args.at.now c.args.kind c.in_default-kind.not-String c.in_default-kind.not-Value) c.take_mark.ensures

@@ -1,13 +1,11 @@
+use Rattle.std.proofs.Common.{◌++◌, refl, sym, ap, ◌∙◌, string_bytes}
+use Rattle.std.proofs.lemmas.Str.{IsUtf8-string_bytes, chars-append}
+use Rattle.std.specs.Str.{chars}
+use Rattle.kdl_text.specs.Dedent.{dedented, line_text}
 use Rattle.kdl_text.proofs.strings.dedent.push_line.Goals as goal
 
-pub returns-in-Plain-clause-done : goal.returns-in-Plain-clause-done
-returns-in-Plain-clause-done c = rw c.in-Plain.is c.push_plain.ensures.done
-
-pub returns-in-Plain-clause-failed : goal.returns-in-Plain-clause-failed
-returns-in-Plain-clause-failed c = rw c.in-Plain.is c.push_plain.ensures.failed
-
-pub returns-in-WithEscapes-clause-done : goal.returns-in-WithEscapes-clause-done
-returns-in-WithEscapes-clause-done c = rw c.in-WithEscapes.is (rw c.deref.ensures.value at c.push_escaped.ensures.done)
-
-pub returns-in-WithEscapes-clause-failed : goal.returns-in-WithEscapes-clause-failed
-returns-in-WithEscapes-clause-failed c = rw c.in-WithEscapes.is (rw c.deref.ensures.value at c.push_escaped.ensures.failed)
+pub returns-clause-done : goal.returns-clause-done
+returns-clause-done c us s =
+    let (m, line, text) = c.in-Some.ensures us s in
+    let put = ap chars c.in_ok-push_str.ensures.bytes ∙ chars-append (string_bytes c.args.out.now) c.in-Some.rest.now (IsUtf8-string_bytes c.args.out.now) in
+    (line_text m, dedented m (sym (c.is_blank.ensures us s) ∙ c.if-is_blank.false) line refl, put ∙ ap (λ z. chars (string_bytes c.args.out.now) ++ z) text)

@@ -1,11 +1,11 @@
-use Rattle.std.proofs.Common.{◌∙◌, map, sym, ap, subst, arith, String, Global}
+use Rattle.std.proofs.Common.{sym, subst, arith, String, Global}
 use Rattle.std.specs.Prelude.{string_bytes}
 use Rattle.std.specs.Str.{chars}
-use Rattle.kdl_text.specs.Internal.Lines.{LinesIn, line_units}
+use Rattle.kdl_text.specs.Dedent.{lines_of}
+use Rattle.kdl_text.specs.Internal.Lines.{AreLines}
 use Rattle.kdl_text.specs.declared.strings.StringFailure.{StringFailure}
 use Rattle.kdl_text.proofs.ManyLines.StringReads.{body_found, body_only, body_lines, body_newline}
-use Rattle.kdl_text.proofs.ManyLines.LinesCost.{many_past, many_fail}
-use Rattle.kdl_text.proofs.Looking.SliceCost.{past_four, past_more}
+use Rattle.kdl_text.proofs.Looking.SliceCost.{past_four, past_more, past_then}
 use Rattle.kdl_text.proofs.Quoted.BodyLoop.{failed}
 use Rattle.kdl_text.proofs.strings.multiline.many_lines.Goals as goal
 
@@ -16,19 +16,17 @@ returns-in_err-lines-clause-only c r w b =
     failed {T = String Global} {E = StringFailure} c.from_residual.result _ _ _ c.from_residual.ensures.1 memory
 
 pub returns-in_err-lines-clause-past : goal.returns-in_err-lines-clause-past
-returns-in_err-lines-clause-past c = many_fail c.newline.ensures.moves c.newline.ensures.costs c.content.ensures.past
+returns-in_err-lines-clause-past c = past_more (omega arith) (past_then (past_four (record { moves = c.newline.ensures.moves; costs = c.newline.ensures.costs })) c.content.ensures.past)
 
 pub returns : goal.returns
 returns c =
-    let (us, x, e) = c.in_ok-lines.ensures.found in
+    let (us, x, are) = c.in_ok-lines.ensures.found in
+    let made = c.dedent.ensures us (subst (λ z. AreLines z (lines_of us)) (sym c.deref.ensures.value) are) in
     record {
-      found = rw c.dedent.ensures.returned.rest (body_found c.args.enclosure c.dedent.result (λ v. chars (string_bytes v)) _ _ _ us c.if-not-newline.ensures.reads x (c.dedent.ensures.found us (e ∙ ap (map line_units) (sym c.deref.ensures.value))));
-      only = rw c.dedent.ensures.returned.rest (body_only c.args.enclosure c.dedent.result (λ v. chars (string_bytes v)) _ _ _ us _ c.if-not-newline.ensures.reads x (e ∙ ap (map line_units) (sym c.deref.ensures.value)) c.dedent.ensures.only);
-      past = many_past c.newline.ensures.moves c.newline.ensures.costs c.content.ensures.past.moves c.in_ok-lines.ensures.cost (rw c.deref.ensures.value at c.dedent.ensures.returned);
+      found = body_found c.args.enclosure c.dedent.result (λ v. chars (string_bytes v)) _ _ _ us c.if-not-newline.ensures.reads x made.found;
+      only = body_only c.args.enclosure c.dedent.result (λ v. chars (string_bytes v)) _ _ _ us c.if-not-newline.ensures.reads x made.only;
+      past = past_more (omega arith) (past_then (past_four (record { moves = c.newline.ensures.moves; costs = c.newline.ensures.costs })) c.content.ensures.past);
     }
-
-pub dedent-requires : goal.dedent-requires
-dedent-requires c = subst (LinesIn c.content.new.cursor.text) (sym c.deref.ensures.value) c.in_ok-lines.ensures.part
 
 pub returns-then-not-newline-clause-past : goal.returns-then-not-newline-clause-past
 returns-then-not-newline-clause-past c = past_more (omega arith) (past_four (record { moves = c.newline.ensures.moves; costs = c.newline.ensures.costs }))

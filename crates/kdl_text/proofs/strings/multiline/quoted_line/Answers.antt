@@ -1,23 +1,21 @@
-use Rattle.std.proofs.Common.{arith}
-use Rattle.kdl_text.specs.Internal.Lines.{escapes_bytes}
-use Rattle.kdl_text.proofs.Looking.MovesJoin.{fewer_bytes}
-use Rattle.kdl_text.proofs.Looking.Parts.{part_moved}
+use Rattle.std.specs.Str.{chars}
+use Rattle.kdl_text.specs.Raw.{literals}
 use Rattle.kdl_text.proofs.Looking.SliceCost.{past_then}
-use Rattle.kdl_text.proofs.ManyLines.EscapedLineLoop.{escaped_leaves, line_escaped}
+use Rattle.kdl_text.proofs.ManyLines.EscapedLineLoop.{escaped_joins, escaped_only}
 use Rattle.kdl_text.proofs.strings.multiline.quoted_line.Goals as goal
 
-pub returns-in_err-escapes-in-Escape-clause-past : goal.returns-in_err-escapes-in-Escape-clause-past
-returns-in_err-escapes-in-Escape-clause-past c = past_then (record { moves = c.plain_part.ensures.past.moves; costs = c.in_ok-segment.ensures.cost }) c.line_escapes.ensures.past
+pub returns-in-Newline-clause-found : goal.returns-in-Newline-clause-found
+returns-in-Newline-clause-found c = let part = c.in_ok-text.ensures in record { units = literals (chars c.in_ok-text.text.now); is = c.plain_line.ensures; reads = rw c.in-Newline.is at part.found; paid = part.paid }
 
-pub returns-in_ok-escapes-in-Escape : goal.returns-in_ok-escapes-in-Escape
-returns-in_ok-escapes-in-Escape c =
-    let part = c.in_ok-segment.ensures in
-    let line = c.in_ok-escapes-in-Escape.ensures in
+pub returns-in-Close-clause-found : goal.returns-in-Close-clause-found
+returns-in-Close-clause-found c = let part = c.in_ok-text.ensures in record { units = literals (chars c.in_ok-text.text.now); is = c.plain_line-in-Close.ensures; reads = rw c.in-Close.is at part.found; paid = part.paid }
+
+pub returns-in-Escape : goal.returns-in-Escape
+returns-in-Escape c =
+    let part = c.in_ok-text.ensures in
+    let rest = c.line_escapes.ensures in
     record {
-      found = line_escaped _ _ _ c.in_ok-segment.segment _ c.in_ok-escapes-in-Escape.closed (rw c.in-Escape.is at part.found) line.found;
-      shorter = omega (arith, line.shorter, fewer_bytes c.plain_part.ensures.past.moves);
-      only = λ r us x. tt;
-      part = (part_moved part.part c.line_escapes.ensures.past.moves, line.part);
-      past = past_then (record { moves = c.plain_part.ensures.past.moves; costs = part.cost }) c.line_escapes.ensures.past;
-      cost = escaped_leaves c.in_ok-segment.segment (escapes_bytes c.in_ok-escapes-in-Escape.escapes.items) _ _ _ part.cost part.shorter line.cost;
+      found = escaped_joins c.line_escapes.result _ _ _ (chars c.in_ok-text.text.now) (rw c.in-Escape.is at part.found) c.plain_part.ensures.past.moves part.paid c.line_escapes.ensures.past.moves rest.found rest.paid;
+      only = escaped_only c.line_escapes.result _ _ (chars c.in_ok-text.text.now) (rw c.in-Escape.is at part.found) rest.only;
+      past = past_then (record { moves = c.plain_part.ensures.past.moves; costs = part.paid.costs }) rest.past;
     }

@@ -1,6 +1,0 @@
-use Rattle.std.proofs.lemmas.Bool.Decides.{Decides-at}
-use Rattle.kdl_entry.proofs.Equality.{entry_decides}
-use Rattle.kdl_laws.proofs.entries.equal_entries.Goals as goal
-
-pub returns : goal.returns
-returns c = Decides-at _ _ c.eq.ensures (entry_decides c.args.a.now c.args.b.now)

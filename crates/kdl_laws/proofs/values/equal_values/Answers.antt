@@ -1,6 +1,0 @@
-use Rattle.std.proofs.lemmas.Bool.Decides.{Decides-at}
-use Rattle.kdl_value.proofs.Comparing.Equality.{value_decides}
-use Rattle.kdl_laws.proofs.values.equal_values.Goals as goal
-
-pub returns : goal.returns
-returns c = Decides-at _ _ c.eq.ensures (value_decides c.args.a.now c.args.b.now)

@@ -1,2 +1,0 @@
--- The words of the clauses of this crate.
-pub mod Edits
