@@ -1,23 +1,22 @@
 -- Spans between places of a text, and what a reader of faults notes.
-use Rattle.std.proofs.Common.{◌≡◌, List, [], ◌∷◌, ◌++◌, ◌⊎◌, inl, inr, Option, Some, None, sym, ap, subst, ◌∙◌, arith, append_assoc, append-nil}
+use Rattle.std.proofs.Common.{◌≡◌, ◌-◌, List, [], ◌∷◌, ◌++◌, refl, ◌⊎◌, inl, inr, Option, sym, ap, subst, ◌∙◌, arith, append_assoc, append-nil}
 use Rattle.std.specs.Option.{IfSome, option_to_list}
 use Rattle.std.proofs.lemmas.List.Elements.{All-push, All-pop, All-same}
 use Rattle.kdl_text.specs.Chars.{Text}
-use Rattle.kdl_text.specs.Internal.Here.{Here, IsPart, Position}
+use Rattle.kdl_text.specs.Internal.Here.{Here, IsPart, Position, first_len}
 use Rattle.kdl_text.specs.Internal.Reading.{Moves}
 use Rattle.kdl_text.specs.Spans.{InText, span_between, bytes}
 use Rattle.kdl_text.specs.declared.span.SourceSpan.{SourceSpan}
 use Rattle.kdl_text.proofs.Looking.MovesJoin.{bytes-append}
 use Rattle.kdl_diagnostics.specs.Internal.Noted.{Candidates, IsNotesOf, Keeps, Lexed, LexedFrom, Noted, Opened, ReadsIn, Takes}
 use Rattle.kdl_diagnostics.specs.Internal.Reading.{LiesIn, Reads, Stands}
-use Rattle.kdl_diagnostics.specs.declared.ends.Unclosed.{Unclosed}
 use Rattle.kdl_diagnostics.specs.declared.esclines.Candidate.{Candidate}
 use Rattle.kdl_diagnostics.specs.declared.lexemes.Lexeme.{Lexeme}
 use Rattle.kdl_diagnostics.specs.declared.notes.Block.{Block}
 use Rattle.kdl_diagnostics.specs.declared.notes.Fault.{Fault}
 use Rattle.kdl_diagnostics.specs.declared.notes.Notes.{Notes}
 use Rattle.kdl_diagnostics.specs.declared.reader.Reader.{Reader}
-use Rattle.kdl_diagnostics.proofs.Passing.{after_then, reads_here, reads_more}
+use Rattle.kdl_diagnostics.proofs.Passing.{after_then, if_lies, reads_here, reads_more}
 
 -- of two ends of a text one is an end of the other
 pub ends_of : (p a q b : Text) → p ++ a ≡ q ++ b → ((r : Text) × (a ≡ r ++ b)) ⊎ ((r : Text) × (b ≡ r ++ a))
@@ -33,9 +32,16 @@ between text a b x y = go (ends_of x.0 a y.0 b (sym x.1 ∙ y.1))
     go (inl z) = (x.0, z.0, b, x.1 ∙ ap (λ (t : Text). x.0 ++ t) z.1 ∙ sym (append_assoc x.0 z.0 b), omega (arith, ap bytes x.1, bytes-append x.0 a), omega (arith, ap bytes z.1, bytes-append z.0 b))
     go (inr z) = (x.0, [], a, x.1 ∙ ap (λ (t : Text). t ++ a) (sym (append-nil x.0)), omega (arith, ap bytes x.1, bytes-append x.0 a), omega (arith, ap bytes z.1, bytes-append z.0 a))
 
--- the span that is taken of two places of the text
+-- the span that is taken of two places of the text, or of the character at the first
 pub span_in : (text : Text) (n : Notes) (a b : Position) (s : SourceSpan) → IsNotesOf text n → LiesIn text a → LiesIn text b → s ≡ span_between n.whole.rest a.rest b.rest → InText text s
 span_in text n a b s x u v e = subst (λ (z : SourceSpan). InText text z) (sym (e ∙ ap (λ (z : Text). span_between z a.rest b.rest) x.whole)) (between text a.rest b.rest u v)
+
+pub char_in : (text : Text) (n : Notes) (a : Position) (s : SourceSpan) → IsNotesOf text n → LiesIn text a → s.offset ≡ bytes n.whole.rest - bytes a.rest → s.len ≡ first_len a.rest → InText text s
+char_in text n a s x u e f = go a.rest refl
+  where
+    go : (r : Text) → a.rest ≡ r → InText text s
+    go [] q = (u.0, [], [], u.1 ∙ ap (λ z. u.0 ++ z) q ∙ ap (λ (t : Text). t ++ []) (sym (append-nil u.0)), omega (arith, e, ap bytes x.whole, ap bytes u.1, bytes-append u.0 a.rest), f ∙ ap first_len q)
+    go (c ∷ r) q = (u.0, c ∷ [], r, u.1 ∙ ap (λ z. u.0 ++ z) q ∙ sym (append_assoc u.0 (c ∷ []) r), omega (arith, e, ap bytes x.whole, ap bytes u.1, bytes-append u.0 a.rest), omega (arith, f, ap first_len q))
 
 -- a cursor that goes on in the text
 pub moved_here : {text : Text} {a b : Here} → ReadsIn text a → Moves a b → ReadsIn text b
@@ -46,21 +52,12 @@ pub lies_part : (text : Text) (whole rest : Text) → whole ≡ text → ((p : T
 lies_part text whole rest e x = record { before = x.0; after = []; whole = e ∙ x.1 ∙ ap (λ (z : Text). x.0 ++ z) (sym (append-nil rest)) }
 
 -- a lexeme of an end of the text
-backslash_in : (text rest : Text) (b : Option Position) → (p : Text) × (text ≡ p ++ rest) → IfSome b (LiesIn rest) → IfSome b (LiesIn text)
-backslash_in text rest None x l = tt
-backslash_in text rest (Some b) x l = after_then text rest b.rest x l
-
-comment_in : (text rest : Text) (c : Option Unclosed) → (p : Text) × (text ≡ p ++ rest) → IfSome c (λ k. LiesIn rest k.start × LiesIn rest k.end) → IfSome c (λ k. LiesIn text k.start × LiesIn text k.end)
-comment_in text rest None x l = tt
-comment_in text rest (Some c) x l = (after_then text rest c.start.rest x l.0, after_then text rest c.end.rest x l.1)
-
 pub stands_in : (text rest : Text) (p : Lexeme) → ((q : Text) × (text ≡ q ++ rest)) → Stands rest p → Stands text p
 stands_in text rest p x s = record {
   start = after_then text rest p.start.rest x s.start;
-  next = after_then text rest p.next.rest x s.next;
   end = after_then text rest p.end.rest x s.end;
-  backslash = backslash_in text rest p.backslash x s.backslash;
-  comment = comment_in text rest p.comment x s.comment;
+  backslash = if_lies text rest p.backslash x s.backslash;
+  comment = if_lies text rest p.comment x s.comment;
 }
 
 -- faults and blocks that are noted
@@ -118,9 +115,9 @@ takes_after a b c k e t = record {
   reads = subst (λ h. Reads 24 24 h c.cursor) e t.reads;
 }
 
-pub takes_before : {p : Lexeme} (a b c : Reader) → Takes p a b → Keeps (Lexed p) b.notes c.notes → c.cursor ≡ b.cursor → Takes p a c
+pub takes_before : {p : Lexeme} (a b c : Reader) → Takes p a b → Keeps (LexedFrom p b.cursor) b.notes c.notes → c.cursor ≡ b.cursor → Takes p a c
 takes_before a b c t k e = record {
-  keeps = λ text x s. (let y = t.keeps text x s in record { here = subst (ReadsIn text) (sym e) y.here; notes = k.notes text y.notes s });
+  keeps = λ text x s. (let y = t.keeps text x s in record { here = subst (ReadsIn text) (sym e) y.here; notes = k.notes text y.notes (s, y.here) });
   grows = omega (arith, t.grows, k.grows);
   reads = subst (Reads 24 24 a.cursor) (sym e) t.reads;
 }

@@ -8,17 +8,16 @@ use Rattle.std.specs.Option.{IfSome}
 use Rattle.std.specs.Prelude.{Option, Some, None}
 use Rattle.kdl_text.specs.Chars.{Text, begins, starts, is_newline_char, Newline, crlf, one}
 use Rattle.kdl_text.specs.Internal.Here.{Here, Position, IsPart, Skips, Ran, Ate, AteTwo, Looked, Returned, Stayed, Took, first, tail, first_len, looked, stepped}
-use Rattle.kdl_text.specs.Spans.{bytes, raise}
+use Rattle.kdl_text.specs.Spans.{bytes}
 use Rattle.kdl_text.specs.Strings.{Run}
 use Rattle.kdl_text.specs.Internal.Reading.{Moves, Costs, ReadsNewline}
 use Rattle.kdl_text.proofs.Looking.MovesJoin.{stays, moves_one, moves_then, moves_stayed, stayed_looked, fewer_bytes, bytes-append}
-use Rattle.kdl_text.proofs.Looking.Parts.{part_moved, part_past}
+use Rattle.kdl_text.proofs.Looking.Parts.{part_moved}
 use Rattle.kdl_text.proofs.Looking.Returns.{moves_returned}
 use Rattle.kdl_text.proofs.Looking.SliceCost.{ate, moves_ran, costs_ran, costs_took}
 use Rattle.kdl_text.proofs.Spacing.NewlineUnique.{newline_there}
 use Rattle.kdl_text.proofs.Spacing.SpaceReads.{moves_ate_two}
-use Rattle.kdl_diagnostics.specs.Internal.Reading.{EndsAfter, GoesOn, IsComment, IsEnd, IsUnclosed, OnFound, Passed, Reads, ReadsFrom, Since, gone}
-use Rattle.kdl_diagnostics.specs.declared.ends.Unclosed.{Unclosed}
+use Rattle.kdl_diagnostics.specs.Internal.Reading.{EndsIn, GoesOn, IsEnd, LiesIn, OnFound, Passed, Reads, Since}
 use Rattle.kdl_diagnostics.specs.declared.ends.ValueEnd.{ValueEnd}
 use Rattle.kdl_diagnostics.specs.declared.strings.Found.{Found}
 
@@ -121,6 +120,13 @@ begins_is : (s : Text) (c : ℕ) → begins c s ≡ true → s ≡ c ∷ tail s
 begins_is [] c h = cc
 begins_is (d ∷ s) c h = ap (λ z. z ∷ s) (eqb-true d c h)
 
+pub stepped_there : (a b : Here) → (a.rest ≡ [] → ⊥) → b ≡ stepped a → GoesOn 0 a b
+stepped_there a b h e = go a.rest refl
+  where
+    go : (s : Text) → a.rest ≡ s → GoesOn 0 a b
+    go [] x = absurd (h x)
+    go (c ∷ s) x = stepped_past c a b (x ∙ ap (λ z. c ∷ tail z) (sym x)) e
+
 pub stepped_first : (c : ℕ) (a b : Here) → first a.rest ≡ Some c → b ≡ stepped a → GoesOn 0 a b
 stepped_first c a b h e = stepped_past c a b (first_is a.rest c h) e
 
@@ -128,85 +134,42 @@ pub stepped_begins : (c : ℕ) (a b : Here) → begins c a.rest ≡ true → b �
 stepped_begins c a b h e = stepped_past c a b (begins_is a.rest c h) e
 
 -- places that were passed
-pub passed_here : (a m b : Here) (s : Position) → s.rest ≡ m.rest → s.at ≡ m.at → Moves a m → Moves m b → Passed a s b
-passed_here a m b s r t v w = record {
-  before = (v.piece.0, v.piece.1 ∙ ap (λ z. v.piece.0 ++ z) (sym r));
-  following = (w.piece.0, r ∙ w.piece.1);
-  at = ap (λ z. z + bytes s.rest) t ∙ ap (λ z. m.at + bytes z) r ∙ v.at;
+pub passed_here : {s : Text} {m b : Here} {place : Position} → place.rest ≡ m.rest → (p : Text) × (s ≡ p ++ m.rest) → Moves m b → Passed s place b.rest
+passed_here e x w = record { before = after_same _ _ _ x e; following = (w.piece.0, e ∙ w.piece.1) }
+
+passed_on : {s : Text} {m b : Here} {place : Position} → Passed s place m.rest → Moves m b → Passed s place b.rest
+passed_on p w = record { before = p.before; following = after_then _ _ _ p.following w.piece }
+
+pub found_on : (s : Text) {m b : Here} (f : Option Found) → OnFound s f m.rest → Moves m b → OnFound s f b.rest
+found_on s None p w = tt
+found_on s (Some f) p w = passed_on p w
+
+-- places in an end of a text
+pub if_lies : (s t : Text) (o : Option Position) → (p : Text) × (s ≡ p ++ t) → IfSome o (LiesIn t) → IfSome o (LiesIn s)
+if_lies s t None x y = tt
+if_lies s t (Some b) x y = after_then s t b.rest x y
+
+pub ends_in : (s t : Text) (e : ValueEnd) → (p : Text) × (s ≡ p ++ t) → EndsIn t e → EndsIn s e
+ends_in s t e x i = record { place = after_then s t e.place.rest x i.place; comment = if_lies s t e.comment x i.comment }
+
+pub end_from : {a b : Here} {e : ValueEnd} → Moves a b → IsEnd b e → IsEnd a e
+end_from m i = record { ends = ends_in _ _ _ m.piece i.ends; at = i.at ∙ m.at }
+
+pub end_here : {a b : Here} (e : ValueEnd) (place : Position) → e.place ≡ place → e.comment ≡ None → place.rest ≡ b.rest → place.at ≡ b.at → Moves a b → IsEnd a e
+end_here {a = a} {b = b} e place x y r t m = record {
+  ends = record { place = after_same a.rest b.rest e.place.rest m.piece (ap (λ z. z.rest) x ∙ r); comment = rw y tt };
+  at = omega (arith, ap (λ z. z.at) x, ap (λ z. bytes z.rest) x, ap bytes r, t, m.at);
 }
-
-pub passed_on : (a m b : Here) (s : Position) → Passed a s m → Moves m b → Passed a s b
-passed_on a m b s p w = record { before = p.before; following = after_then _ _ _ p.following w.piece; at = p.at }
-
-pub passed_from : (a m b : Here) (s : Position) → Moves a m → Passed m s b → Passed a s b
-passed_from a m b s v p = record { before = after_then _ _ _ v.piece p.before; following = p.following; at = p.at ∙ v.at }
-
-pub found_on : (a m b : Here) (f : Option Found) → OnFound a f m → Moves m b → OnFound a f b
-found_on a m b None p w = tt
-found_on a m b (Some f) p w = passed_on a m b f.place p w
-
-pub found_at : (a b e : Here) (f : Option Found) → a.rest ≡ b.rest → a.at ≡ b.at → OnFound a f e → OnFound b f e
-found_at a b e None r t p = tt
-found_at a b e (Some f) r t p = record { before = (p.before.0, sym r ∙ p.before.1); following = p.following; at = p.at ∙ ap (λ z. z + bytes a.rest) t ∙ ap (λ z. b.at + bytes z) r }
-
--- a comment or a value end, from further back
-pub unclosed_from : (a m b : Here) (c : Unclosed) → Moves a m → IsUnclosed m c b → IsUnclosed a c b
-unclosed_from a m b c v u = record { start = passed_from a m b c.start v u.start; end = passed_from a m b c.end v u.end }
-
-if_unclosed : (a m b : Here) (c : Option Unclosed) → Moves a m → IfSome c (λ k. IsUnclosed m k b) → IfSome c (λ k. IsUnclosed a k b)
-if_unclosed a m b None v u = tt
-if_unclosed a m b (Some c) v u = unclosed_from a m b c v u
-
-pub end_from : (a m b : Here) (e : ValueEnd) → Moves a m → IsEnd m e b → IsEnd a e b
-end_from a m b e v i = record { place = passed_from a m b e.place v i.place; comment = if_unclosed a m b e.comment v i.comment }
-
-pub end_at : (a b : Here) (e : ValueEnd) (place : Position) → e.place ≡ place → e.comment ≡ None → Passed a place b → IsEnd a e b
-end_at a b e place x y p = record { place = rw x p; comment = rw y tt }
 
 -- a cursor at a place or after it
-pub since_here : (place : Position) (a : Here) → place.rest ≡ a.rest → place.at ≡ a.at → IsPart a.text place.rest → Since place a
-since_here place a r t i = record { moves = record { piece = ([], r); at = sym (ap (λ z. z + bytes place.rest) t ∙ ap (λ z. a.at + bytes z) r); counts = omega arith; same = refl }; part = i }
-
-pub since_bytes : {place : Position} {a : Here} → Since place a → bytes a.rest ≤ bytes place.rest
-since_bytes s = fewer_bytes s.moves
+pub since_here : {place : Position} {a b : Here} → place.rest ≡ a.rest → IsPart a.text place.rest → Moves a b → Since place b
+since_here e i m = record { before = (m.piece.0, e ∙ m.piece.1); part = part_moved i m }
 
 pub since_moves : {place : Position} {a b : Here} → Since place a → Moves a b → Since place b
-since_moves s m =
-    let n = moves_then s.moves m in
-    record { moves = record { piece = n.piece; at = n.at; counts = omega arith; same = refl }; part = part_moved s.part m }
+since_moves x m = record { before = after_then _ _ _ x.before m.piece; part = part_moved x.part m }
 
-pub since_place : {place : Position} {a b : Here} → Since place a → Moves (gone place a) b → Since place b
-since_place s m = record { moves = record { piece = m.piece; at = m.at; counts = omega arith; same = refl }; part = part_moved s.part m }
-
-pub since_passed : {place spot : Position} {a : Here} → Since place a → Passed (gone place a) spot a → Since spot a
-since_passed s p = record {
-  moves = record { piece = p.following; at = s.moves.at ∙ sym p.at; counts = omega arith; same = refl };
-  part = part_past _ _ p.before.0 _ s.part p.before.1;
-}
-
--- what was read from the place on
-pub since_reads : {k c : ℕ} {place : Position} {a b : Here} → Since place a → Reads k c a b → Reads k c (gone place a) b
-since_reads {k = k} s r = record { moves = moves_then s.moves r.moves; most = omega (arith, r.most, mul-le-mul_left k (since_bytes s)) }
-
-pub since_from : {k c : ℕ} {place : Position} {a b : Here} → Since place a → ReadsFrom k c place a b → Reads k c (gone place a) b
-since_from s r = record { moves = moves_then s.moves r.moves; most = omega (arith, r.most) }
-
--- the same, where steps were counted before
-pub since_later : {k c : ℕ} {place : Position} (n : ℕ) (a m b : Here) → m.steps ≤ a.steps + n → raise a.steps 0 ≤ raise m.steps 0 → m.text ≡ a.text → Reads k c (gone place m) b → Reads k (c + n) (gone place a) b
-since_later n a m b few more e r = record {
-  moves = record { piece = r.moves.piece; at = r.moves.at; counts = omega (arith, r.moves.counts, more); same = r.moves.same ∙ e };
-  most = omega (arith, r.most, few);
-}
-
-pub comment_after : (place : Position) (a b : Here) (c : Unclosed) → Since place a → IsUnclosed a c b → IsComment place c
-comment_after place a b c s u = record { start = after_then _ _ _ s.moves.piece u.start.before; end = after_then _ _ _ s.moves.piece u.end.before }
-
-if_comment : (place : Position) (a b : Here) (c : Option Unclosed) → Since place a → IfSome c (λ k. IsUnclosed a k b) → IfSome c (IsComment place)
-if_comment place a b None s u = tt
-if_comment place a b (Some c) s u = comment_after place a b c s u
-
-pub end_after : (place : Position) (a b : Here) (e : ValueEnd) → Since place a → IsEnd a e b → EndsAfter place e
-end_after place a b e s i = record { spot = after_then _ _ _ s.moves.piece i.place.before; comment = if_comment place a b e.comment s i.comment }
+pub since_bytes : {place : Position} {a : Here} → Since place a → bytes a.rest ≤ bytes place.rest
+since_bytes x = after_bytes _ _ x.before
 
 -- newlines
 newline_bytes : {t r : Text} → Newline t r → bytes r < bytes t

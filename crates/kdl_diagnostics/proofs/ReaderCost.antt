@@ -1,33 +1,16 @@
 -- What a reader of faults costs, and where its cursor goes.
-use Rattle.std.proofs.Common.{◌≡◌, ℕ, ◌+◌, ◌*◌, ◌<◌, ◌≤◌, List, [], ◌∷◌, ◌++◌, length, refl, sym, ap, ◌∙◌, arith, append_assoc}
-use Rattle.std.specs.Prelude.{Option, Some, None}
+use Rattle.std.proofs.Common.{◌≡◌, ℕ, ◌+◌, ◌*◌, ◌<◌, ◌≤◌, List, [], ◌∷◌, length, refl, sym, ap, ◌∙◌, arith}
 use Rattle.std.specs.Str.{chars, IsUtf8}
 use Rattle.kdl_text.specs.Chars.{Text}
-use Rattle.kdl_text.specs.Internal.Here.{Here, Took}
+use Rattle.kdl_text.specs.Internal.Here.{Here}
 use Rattle.kdl_text.specs.Spans.{bytes}
 use Rattle.kdl_text.proofs.Looking.MovesJoin.{bytes-append, fewer_bytes, moves_then}
 use Rattle.kdl_text.proofs.Looking.Texts.{bytes-chars}
-use Rattle.kdl_diagnostics.specs.Internal.Noted.{Always, Counted, Goes, IsReaderOf, Keeps, LexedBetween, ReadsIn, Takes}
-use Rattle.kdl_diagnostics.specs.Internal.Reading.{Reads, Stands, WentPast, gone}
+use Rattle.kdl_diagnostics.specs.Internal.Noted.{Always, Counted, Goes, IsReaderOf, Keeps, ReadsIn, Takes}
+use Rattle.kdl_diagnostics.specs.Internal.Reading.{Reads, Stands}
 use Rattle.kdl_diagnostics.specs.declared.lexemes.Lexeme.{Lexeme}
-use Rattle.kdl_diagnostics.specs.declared.lexemes.LexemeKind.{LexemeKind}
-use Rattle.kdl_diagnostics.specs.declared.lexemes.LexemeKind.TheVariants.{End}
 use Rattle.kdl_diagnostics.specs.declared.reader.Reader.{Reader}
 use Rattle.kdl_diagnostics.proofs.NotedSpans.{moved_here, stands_in}
-use Rattle.kdl_diagnostics.proofs.Passing.{after_same}
-
--- a character that was taken, if there was one
-pub took_lies : (text : Text) (c : Option ℕ) (a b : Here) → ((p : Text) × (text ≡ p ++ a.rest)) → Took c a b → (p : Text) × (text ≡ p ++ b.rest)
-took_lies text None a b x t = after_same text a.rest b.rest x (ap (λ (z : Here). z.rest) t.1)
-took_lies text (Some c) a b x t = (x.0 ++ (c ∷ []), x.1 ∙ ap (λ (z : Text). x.0 ++ z) t.0 ∙ sym (append_assoc x.0 (c ∷ []) b.rest))
-
-pub took_same : (c : Option ℕ) (a b : Here) → Took c a b → b.text ≡ a.text
-took_same None a b t = ap (λ (z : Here). z.text) t.1
-took_same (Some c) a b t = t.3
-
-pub took_steps : (c : Option ℕ) (a b : Here) (n : ℕ) → a.steps ≡ n → Took c a b → Counted 1 n b.steps
-took_steps None a b n e t = record { most = omega (arith, e, ap (λ (z : Here). z.steps) t.1); counts = omega (arith, e, ap (λ (z : Here). z.steps) t.1) }
-took_steps (Some c) a b n e t = record { most = omega (arith, e, t.2); counts = omega (arith, e, t.2) }
 
 -- a reader that goes on to the next lexeme, notes that, or a character further back
 next_counted : (a b : Here) → Reads 37 41 a b → Counted (124 * bytes a.rest + 99) a.steps b.steps
@@ -42,22 +25,13 @@ goes_next a b e r =
       counted = record { most = omega (arith, k.most); counts = k.counts };
     }
 
-pub goes_noted : (a b : Reader) (p : Lexeme) → Stands a.cursor.rest p → Reads 37 41 a.cursor b.cursor → Keeps (LexedBetween p p.start p.end) a.notes b.notes → Goes Always (124 * bytes a.cursor.rest + 100) a b
-goes_noted a b p s r k =
+pub goes_noted : {P : Text → Type 0} (a b : Reader) (p : Lexeme) → Stands a.cursor.rest p → Reads 37 41 a.cursor b.cursor → ((text : Text) → Stands text p → P text) → Keeps P a.notes b.notes → Goes Always (124 * bytes a.cursor.rest + 100) a b
+goes_noted a b p s r f k =
     let n = next_counted a.cursor b.cursor r in
     record {
-      keeps = λ text x q. (let z = stands_in text a.cursor.rest p x.here.piece s in record { here = moved_here x.here r.moves; notes = k.notes text x.notes (z, (z.start, z.end)) });
+      keeps = λ text x q. (record { here = moved_here x.here r.moves; notes = k.notes text x.notes (f text (stands_in text a.cursor.rest p x.here.piece s)) });
       grows = k.grows;
       counted = record { most = omega (arith, n.most); counts = n.counts };
-    }
-
-pub goes_back : {P : Text → Type 0} (a b c : Reader) → b.notes ≡ a.notes → Reads 37 41 a.cursor b.cursor → ((text : Text) → IsReaderOf text a → P text) → Goes P 1 b c → Goes Always (124 * bytes a.cursor.rest + 100) a c
-goes_back a b c e r f g =
-    let n = next_counted a.cursor b.cursor r in
-    record {
-      keeps = λ text x q. g.keeps text (record { here = moved_here x.here r.moves; notes = rw e x.notes }) (f text x);
-      grows = omega (arith, g.grows, ap (λ n. length n.faults.items) e);
-      counted = record { most = omega (arith, n.most, g.counted.most); counts = omega (arith, n.counts, g.counted.counts) };
     }
 
 -- a fault that was noted, or is noted then
@@ -68,10 +42,6 @@ had (x ∷ xs) ys f l = omega (arith, l)
 -- a turn over a lexeme
 pub taken : (a b c : Reader) (p : Lexeme) (text : Text) → IsReaderOf text a → b.notes ≡ a.notes → Reads 37 41 a.cursor b.cursor → Stands a.cursor.rest p → Takes p b c → IsReaderOf text c
 taken a b c p text x e r s t = t.keeps text (record { here = moved_here x.here r.moves; notes = rw e x.notes }) (stands_in text a.cursor.rest p x.here.piece s)
-
-pub went_not : (k : LexemeKind) (a b : Here) → WentPast k a b → (k ≡ End → ⊥) → bytes b.rest < bytes a.rest
-went_not End a b w h = absurd (h refl)
-went_not _ a b w h = w
 
 pub turn_reads : {f a b e : Here} → Reads 124 0 f a → Reads 37 41 a b → bytes b.rest < bytes a.rest → Reads 24 24 b e → Reads 124 0 f e
 turn_reads i r few t = record { moves = moves_then i.moves (moves_then r.moves t.moves); most = omega (arith, i.most, r.most, few, t.most, fewer_bytes t.moves) }
@@ -86,7 +56,7 @@ turn_ends i r t = record {
 pub goes_same : (n : ℕ) (a : Reader) → Goes Always n a a
 goes_same n a = record { keeps = λ text x p. x; grows = omega arith; counted = record { most = omega arith; counts = omega arith } }
 
-pub read_again : (a c : Reader) {here there : Here} → here ≡ gone a.notes.whole a.cursor → Reads 4 1 here there → Keeps Always a.notes c.notes → c.cursor ≡ there → Goes Always (4 * (bytes a.notes.whole.rest + 1)) a c
+pub read_again : (a c : Reader) {here there : Here} → here ≡ record a.cursor { rest = a.notes.whole.rest; at = a.notes.whole.at } → Reads 4 1 here there → Keeps Always a.notes c.notes → c.cursor ≡ there → Goes Always (4 * (bytes a.notes.whole.rest + 1)) a c
 read_again a c {there = there} e r k f = record {
   keeps = λ text x p. (record {
     here = rw f (record {

@@ -1,6 +1,6 @@
 //! Value ends (KDL 2.0.0, Value): where a string, a number or a keyword may end.
 
-ghost use Rattle.kdl_diagnostics.specs.Internal.Reading.{GoesOn, IsEnd, IsUnclosed, Reads, StandsAfter};
+ghost use Rattle.kdl_diagnostics.specs.Internal.Reading.{GoesOn, IsEnd, LiesIn, Reads};
 ghost use Rattle.kdl_text.specs.Chars.{begins};
 ghost use Rattle.kdl_text.specs.Internal.Here.{Looked, Returned};
 ghost use Rattle.std.specs.Prelude.{◌≡◌, None, true, IfSome};
@@ -9,19 +9,12 @@ use kdl_text::chars::{Class, is_newline_char, is_space};
 use kdl_text::cursor::{Checkpoint, Cursor, newline};
 use kdl_text::trivia::{block_comment, line_comment, spaces};
 
-/// An unclosed block comment, up to the end of the text.
-#[derive(Drop)]
-pub(crate) struct Unclosed<'a> {
-    pub start: Checkpoint<'a>,
-    pub end: Checkpoint<'a>,
-}
-
 /// The next value end.
 #[derive(Drop)]
 pub(crate) struct ValueEnd<'a> {
     pub place: Checkpoint<'a>,
-    /// An unclosed block comment, in what begins as an escline there.
-    pub comment: Option<Unclosed<'a>>,
+    /// The start of an unclosed block comment, in what begins as an escline there. It ends with the text.
+    pub comment: Option<Checkpoint<'a>>,
 }
 
 impl<'a> ValueEnd<'a> {
@@ -37,21 +30,10 @@ impl<'a> ValueEnd<'a> {
     }
 }
 
-/// What follows a backslash.
-#[derive(Drop)]
-pub(crate) enum After<'a> {
-    /// The rest of an escline. The cursor is after it.
-    Escline,
-    /// Anything else. The cursor is after the spaces and block comments here.
-    Other,
-    /// An unclosed block comment. The cursor is at the end of the text.
-    Unclosed(Unclosed<'a>),
-}
-
-/// Advances past spaces and block comments. If a comment is unclosed, returns it; the cursor is then at the end of the
-/// text.
-fn ws_run<'a>(cursor: &mut Cursor<'a>) -> Option<Unclosed<'a>>
-    ensures comment { IfSome result (λ c. IsUnclosed cursor.old c cursor.new) }
+/// Advances past spaces and block comments. If a comment is unclosed, returns its start; the cursor is then at the end
+/// of the text.
+fn ws_run<'a>(cursor: &mut Cursor<'a>) -> Option<Checkpoint<'a>>
+    ensures comment { IfSome result (LiesIn cursor.old.rest) }
     ensures reads { Reads 12 4 cursor.old cursor.new }
 {
     'run: loop {
@@ -61,31 +43,20 @@ fn ws_run<'a>(cursor: &mut Cursor<'a>) -> Option<Unclosed<'a>>
             return None;
         }
         if !block_comment(cursor) {
-            return Some(Unclosed {
-                start,
-                end: cursor.checkpoint(),
-            });
+            return Some(start);
         }
     }
 }
 
-/// Advances past what follows a backslash.
-pub(crate) fn after_backslash<'a>(cursor: &mut Cursor<'a>) -> After<'a>
-    ensures comment { StandsAfter cursor.old result cursor.new }
-    ensures reads { Reads 12 12 cursor.old cursor.new }
+/// Advances past what ends an escline if it is here, and returns whether it is.
+fn escline_end(cursor: &mut Cursor) -> bool
+    ensures { Reads 12 8 cursor.old cursor.new }
 {
-    if let Some(comment) = ws_run(cursor) {
-        return After::Unclosed(comment);
-    }
     if cursor.looks_two('/', '/') {
         line_comment(cursor);
-        return After::Escline;
+        return true;
     }
-    if newline(cursor) || cursor.look().is_none() {
-        After::Escline
-    } else {
-        After::Other
-    }
+    newline(cursor) || cursor.look().is_none()
 }
 
 /// Whether the character c ends a value by itself, or is a space or the start of a newline.
@@ -121,31 +92,34 @@ pub(crate) fn is_value_end(cursor: &mut Cursor) -> bool
 }
 
 /// The value end at a backslash, if there is one: the backslash itself if it begins an escline, or the place after it
-/// if spaces or a comment follow. A backslash before an unclosed block comment does not begin an escline. If the result
-/// is `None`, the cursor is directly after the backslash.
-fn end_at_backslash<'a>(cursor: &mut Cursor<'a>) -> Option<ValueEnd<'a>>
+/// if spaces or a comment follow. A backslash before an unclosed block comment does not begin an escline. The cursor
+/// advances past the escline, or past the spaces and comments. If the result is `None`, it is directly after the
+/// backslash.
+pub(crate) fn end_at_backslash<'a>(cursor: &mut Cursor<'a>) -> Option<ValueEnd<'a>>
     requires { begins 92 cursor.old.rest ≡ true }
-    ensures end { IfSome result (λ e. IsEnd cursor.old e cursor.new) }
+    ensures end { IfSome result (IsEnd cursor.old) }
     ensures goes { GoesOn 12 cursor.old cursor.new }
 {
-    let place = cursor.checkpoint();
+    let backslash = cursor.checkpoint();
     cursor.step();
-    let after = cursor.checkpoint();
-    match after_backslash(cursor) {
-        After::Escline => Some(ValueEnd::at(place)),
-        After::Unclosed(comment) => Some(ValueEnd {
-            place: after,
-            comment: Some(comment),
-        }),
-        After::Other if after.at() == cursor.at() => None,
-        After::Other => Some(ValueEnd::at(after)),
+    let place = cursor.checkpoint();
+    let comment = ws_run(cursor);
+    if comment.is_some() {
+        return Some(ValueEnd { place, comment });
     }
+    if escline_end(cursor) {
+        return Some(ValueEnd::at(backslash));
+    }
+    if cursor.at() == place.at() {
+        return None;
+    }
+    Some(ValueEnd::at(place))
 }
 
 /// Advances to the next value end. The cursor may also advance past an escline, or past spaces and comments, that begin
 /// there.
 pub(crate) fn value_end<'a>(cursor: &mut Cursor<'a>) -> ValueEnd<'a>
-    ensures end { IsEnd cursor.old result cursor.new }
+    ensures end { IsEnd cursor.old result }
     ensures reads { Reads 24 12 cursor.old cursor.new }
 {
     'ends: loop {

@@ -1,9 +1,6 @@
 //! Backslashes in strings that begin an escline together with the text after the string.
 
 ghost use Rattle.kdl_diagnostics.specs.Internal.Reading.{Reads};
-ghost use Rattle.kdl_diagnostics.specs.declared.esclines.Part.TheVariants.{Last};
-ghost use Rattle.kdl_text.specs.Spans.{bytes};
-ghost use Rattle.std.specs.Prelude.{◌≡◌, ◌<◌};
 
 use crate::notes::Fault;
 use kdl_text::chars::{is_newline_char, is_space};
@@ -20,72 +17,6 @@ pub(crate) struct Candidate {
     pub number: usize,
     /// The string's fault if the backslash begins an escline.
     pub fault: Fault,
-}
-
-/// A part of a text that matters to block comments and esclines.
-#[derive(Clone, Copy)]
-enum Part {
-    /// `/*`.
-    Opening,
-    /// `*/`.
-    Closing,
-    /// A backslash.
-    Backslash,
-    /// A space.
-    Space,
-    /// What ends an escline: a newline, or the first character of `//`.
-    Break,
-    /// Another character.
-    Other,
-    /// The end of the text, which ends an escline too.
-    Last,
-}
-
-/// The part that begins with a slash; the cursor is after the slash.
-fn slash_part(cursor: &mut Cursor) -> Part
-    ensures { Reads 1 2 cursor.old cursor.new }
-{
-    if cursor.eat('*') {
-        Part::Opening
-    } else if cursor.look() == Some('/') {
-        Part::Break
-    } else {
-        Part::Other
-    }
-}
-
-/// The part that begins with a star; the cursor is after the star.
-fn star_part(cursor: &mut Cursor) -> Part
-    ensures { Reads 1 2 cursor.old cursor.new }
-{
-    if cursor.eat('/') {
-        Part::Closing
-    } else {
-        Part::Other
-    }
-}
-
-/// The part that the character c is by itself. It is neither a slash nor a star.
-fn part_of(c: char) -> Part {
-    match c {
-        '\\' => Part::Backslash,
-        c if is_space(c) => Part::Space,
-        c if is_newline_char(c) => Part::Break,
-        _ => Part::Other,
-    }
-}
-
-/// Advances past the part here, and returns it.
-fn next_part(cursor: &mut Cursor) -> Part
-    ensures went { (result ≡ Last → ⊥) → bytes cursor.new.rest < bytes cursor.old.rest }
-    ensures reads { Reads 3 1 cursor.old cursor.new }
-{
-    match cursor.take() {
-        None => Part::Last,
-        Some('/') => slash_part(cursor),
-        Some('*') => star_part(cursor),
-        Some(c) => part_of(c),
-    }
 }
 
 /// The block comments around a place in a text.
@@ -122,25 +53,69 @@ impl Comments {
         Some(next)
     }
 
-    /// Takes the part at the place.
-    fn take(&mut self, part: Part, at: usize, candidates: &[Candidate]) -> Result<(), AllocError> {
-        self.last = match part {
-            Part::Space => self.last,
-            Part::Opening => {
-                self.open.push(self.last)?;
-                None
-            }
-            Part::Closing => self.open.pop().flatten(),
-            Part::Backslash => self.begin(at, candidates),
-            Part::Break | Part::Last => {
-                if let Some(candidate) = self.last {
-                    self.found.push(candidate)?;
-                }
-                None
-            }
-            Part::Other => None,
-        };
+    /// Takes what ends an escline, after the candidate if there is one.
+    fn end(&mut self, candidate: Option<usize>) -> Result<(), AllocError> {
+        if let Some(candidate) = candidate {
+            self.found.push(candidate)?;
+        }
         Ok(())
+    }
+
+    /// Takes what a slash begins, after the slash and the candidate before it.
+    fn take_slash(
+        &mut self,
+        cursor: &mut Cursor,
+        candidate: Option<usize>,
+    ) -> Result<(), AllocError>
+        ensures { Reads 1 2 cursor.old cursor.new }
+    {
+        if cursor.eat('*') {
+            self.open.push(candidate)?;
+            return Ok(());
+        }
+        if cursor.look() == Some('/') {
+            return self.end(candidate);
+        }
+        Ok(())
+    }
+
+    /// Takes what a star begins, after the star.
+    fn take_star(&mut self, cursor: &mut Cursor)
+        ensures { Reads 1 2 cursor.old cursor.new }
+    {
+        if cursor.eat('/') {
+            self.last = self.open.pop().flatten();
+        }
+    }
+
+    /// Takes the character c at the place, and the rest of the `/*` or the `*/` that it begins.
+    fn take(
+        &mut self,
+        c: char,
+        at: usize,
+        cursor: &mut Cursor,
+        candidates: &[Candidate],
+    ) -> Result<(), AllocError>
+        ensures { Reads 1 2 cursor.old cursor.new }
+    {
+        let candidate = self.last;
+        if is_space(c) {
+            return Ok(());
+        }
+        self.last = None;
+        match c {
+            '/' => self.take_slash(cursor, candidate),
+            '*' => {
+                self.take_star(cursor);
+                Ok(())
+            }
+            '\\' => {
+                self.last = self.begin(at, candidates);
+                Ok(())
+            }
+            c if is_newline_char(c) => self.end(candidate),
+            _ => Ok(()),
+        }
     }
 }
 
@@ -157,12 +132,13 @@ pub(crate) fn esclines(
     ensures { Reads 4 1 cursor.old cursor.new }
 {
     let mut comments = Comments::new(alloc);
-    'parts: loop {
+    'characters: loop {
         let at = cursor.at();
-        let part = next_part(cursor);
-        comments.take(part, at, candidates)?;
-        if let Part::Last = part {
+        let Some(c) = cursor.take() else {
+            let last = comments.last;
+            comments.end(last)?;
             return Ok(comments.found);
-        }
+        };
+        comments.take(c, at, cursor, candidates)?;
     }
 }

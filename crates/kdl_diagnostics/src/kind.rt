@@ -1,44 +1,6 @@
 //! The faults that a text can have, and the messages that report them.
 
-ghost use Rattle.kdl_diagnostics.specs.Kinds.{form_of, kind_of};
-ghost use Rattle.std.specs.Prelude.{◌≡◌};
-
 use kdl_text::numbers::{NumberFault, Radix};
-
-/// The form of a number.
-#[derive(Clone, Copy)]
-pub enum Form {
-    Integer,
-    Hexadecimal,
-    Octal,
-    Binary,
-    Float,
-}
-
-impl Form {
-    /// Returns the form of a whole number in the base.
-    pub fn of(radix: Radix) -> Form
-        ensures { result ≡ form_of radix }
-    {
-        match radix {
-            Radix::Binary => Form::Binary,
-            Radix::Octal => Form::Octal,
-            Radix::Decimal => Form::Integer,
-            Radix::Hexadecimal => Form::Hexadecimal,
-        }
-    }
-
-    /// The message and label of a faulty number of the form.
-    fn message(self) -> (&'static str, &'static str) {
-        match self {
-            Form::Integer => ("Expected integer", "not integer"),
-            Form::Hexadecimal => ("Expected hexadecimal number", "not hexadecimal number"),
-            Form::Octal => ("Expected octal number", "not octal number"),
-            Form::Binary => ("Expected binary number", "not binary number"),
-            Form::Float => ("Expected float", "not float"),
-        }
-    }
-}
 
 /// What is wrong at a place of a text.
 #[derive(Clone, Copy)]
@@ -67,16 +29,8 @@ pub enum Kind {
     RawQuotes,
     /// A raw string that is unclosed, or that has a character or lines that it can't have.
     Raw,
-    /// A number without a value end after it.
-    NumberEnd(Form),
-    /// The prefix of a base without a digit of it after it.
-    Digits(Form),
-    /// A decimal without a digit after its point.
-    Fraction,
-    /// A decimal without a digit in its exponent.
-    Exponent,
-    /// A whole number that does not fit in an `i128`.
-    Range,
+    /// A faulty number: its fault is that it is trailing if no value end is after it.
+    Number(NumberFault),
     /// A `#` without a keyword after it.
     Keyword,
     /// Anything but exactly one string between `(` and `)`.
@@ -91,33 +45,31 @@ pub enum Kind {
     Misplaced,
 }
 
+/// The message and label of a faulty number.
+fn message_of_number(fault: NumberFault) -> (&'static str, &'static str) {
+    match fault {
+        NumberFault::Trailing(radix) | NumberFault::MissingDigits(radix) => match radix {
+            Radix::Decimal => ("Expected integer", "not integer"),
+            Radix::Hexadecimal => ("Expected hexadecimal number", "not hexadecimal number"),
+            Radix::Octal => ("Expected octal number", "not octal number"),
+            Radix::Binary => ("Expected binary number", "not binary number"),
+        },
+        NumberFault::TrailingDecimal => ("Expected float", "not float"),
+        NumberFault::MissingFraction => (
+            "Non-digit character found after the '.' of a float",
+            "not float",
+        ),
+        NumberFault::MissingExponent => (
+            "Non-digit character found in the exponent part of a float",
+            "not float",
+        ),
+        NumberFault::OutOfRange => ("Whole number out of range", "not integer"),
+    }
+}
+
 impl Kind {
-    /// Returns the kind of a number's fault.
-    pub fn of(fault: NumberFault) -> Kind
-        ensures { result ≡ kind_of fault }
-    {
-        match fault {
-            NumberFault::Trailing(radix) => Kind::NumberEnd(Form::of(radix)),
-            NumberFault::TrailingDecimal => Kind::NumberEnd(Form::Float),
-            NumberFault::MissingDigits(radix) => Kind::Digits(Form::of(radix)),
-            NumberFault::MissingFraction => Kind::Fraction,
-            NumberFault::MissingExponent => Kind::Exponent,
-            NumberFault::OutOfRange => Kind::Range,
-        }
-    }
-
-    /// Returns the message, label and hint for the kind.
-    pub fn words(self) -> Words {
-        let (message, label) = self.message();
-        Words {
-            message,
-            label,
-            help: self.help(),
-        }
-    }
-
     /// The message and label for the kind.
-    fn message(self) -> (&'static str, &'static str) {
+    pub(crate) fn message(self) -> (&'static str, &'static str) {
         match self {
             Kind::BareEnd | Kind::Bare => ("Expected identifier string", "not identifier string"),
             Kind::QuotedEnd | Kind::Quoted => ("Expected quoted string", "not quoted string"),
@@ -135,16 +87,7 @@ impl Kind {
                 "Single-line raw strings cannot look like multi-line ones",
                 "not raw string",
             ),
-            Kind::NumberEnd(form) | Kind::Digits(form) => form.message(),
-            Kind::Fraction => (
-                "Non-digit character found after the '.' of a float",
-                "not float",
-            ),
-            Kind::Exponent => (
-                "Non-digit character found in the exponent part of a float",
-                "not float",
-            ),
-            Kind::Range => ("Whole number out of range", "not integer"),
+            Kind::Number(fault) => message_of_number(fault),
             Kind::Keyword => ("Expected keyword", "not keyword"),
             _ => self.message_of_place(),
         }
@@ -167,9 +110,12 @@ impl Kind {
     }
 
     /// The hint for the kind.
-    fn help(self) -> Option<&'static str> {
+    pub(crate) fn help(self) -> Option<&'static str> {
         match self {
-            Kind::BareEnd | Kind::QuotedEnd | Kind::RawEnd | Kind::NumberEnd(_) => Some(
+            Kind::BareEnd
+            | Kind::QuotedEnd
+            | Kind::RawEnd
+            | Kind::Number(NumberFault::Trailing(_) | NumberFault::TrailingDecimal) => Some(
                 "A valid value was partially parsed, but was not followed by a value terminator. Did you want a space here?",
             ),
             Kind::Nameless => Some(
@@ -187,7 +133,7 @@ impl Kind {
             Kind::Prefix => Some(
                 "Multi-line string bodies must be prefixed by the exact same whitespace as the leading whitespace before the closing '\"\"\"'",
             ),
-            Kind::Exponent => {
+            Kind::Number(NumberFault::MissingExponent) => {
                 Some("Floats with exponent parts should look like '2.0e123', or '43.3E-4'.")
             }
             Kind::Keyword => Some(
@@ -196,12 +142,4 @@ impl Kind {
             _ => None,
         }
     }
-}
-
-/// How a fault is reported: a message, a label for the span, and a hint.
-#[derive(Clone, Copy)]
-pub struct Words {
-    pub message: &'static str,
-    pub label: &'static str,
-    pub help: Option<&'static str>,
 }

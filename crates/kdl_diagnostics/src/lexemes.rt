@@ -2,19 +2,21 @@
 //!
 //! Nothing is built: the reader finds where a string, a number or a keyword ends, and its fault.
 
-ghost use Rattle.kdl_diagnostics.specs.Internal.Reading.{At, EndsAfter, FindsAlso, IsComment, IsLexeme, IsNext, NoEarlier, OnFound, Past, Reads, ReadsFrom, Since, Stands, gone};
-ghost use Rattle.kdl_text.specs.Chars.{Text, begins, is_identifier_char, is_number_sign, starts};
-ghost use Rattle.kdl_text.specs.Internal.Here.{Ahead, IsPart, Returned, first};
+ghost use Rattle.kdl_diagnostics.specs.Internal.Reading.{EndsIn, FindsAlso, IsLexeme, Lexes, LiesIn, Passed, Past, Reads, ReadsFrom, Since, Stands, begins_sign};
+ghost use Rattle.kdl_text.specs.Chars.{Text, begins, is_identifier_char, starts};
+ghost use Rattle.kdl_text.specs.Internal.Here.{IsPart, Returned, first};
 ghost use Rattle.kdl_text.specs.Spans.{bytes};
 ghost use Rattle.kdl_text.specs.Internal.Reading.{Moves};
-ghost use Rattle.std.specs.Prelude.{◌≡◌, ◌+◌, ◌-◌, ◌*◌, ◌≤◌, ◌++◌, true, IfOk, IfSome};
+ghost use Rattle.std.specs.Prelude.{◌≡◌, ◌+◌, ◌-◌, ◌*◌, ◌≤◌, ◌++◌, [], true, Some, IfOk, IfSome};
 
-use crate::ends::{After, Unclosed, ValueEnd, after_backslash, value_end};
-use crate::kind::{Form, Kind};
-use crate::strings::{Found, Scan, scan_string};
+use crate::ends::{ValueEnd, end_at_backslash, value_end};
+use crate::kind::Kind;
+use crate::strings::{Found, scan_string};
 use kdl_text::chars::{Class, is_identifier_char, is_newline_char, is_space};
 use kdl_text::cursor::{Checkpoint, Cursor, Segment, newline};
-use kdl_text::numbers::{Number, NumberFailure, begins_number, read_keyword, read_number};
+use kdl_text::numbers::{
+    Number, NumberFailure, NumberFault, Radix, begins_number, read_keyword, read_number,
+};
 use kdl_text::strings::bare_string;
 use kdl_text::trivia::{SlashRead, slash};
 use std::alloc::{AllocError, Global};
@@ -22,7 +24,7 @@ use std::alloc::{AllocError, Global};
 /// The kind of a lexeme.
 #[derive(Clone, Copy)]
 pub(crate) enum LexemeKind {
-    /// A run of spaces, a block comment or an escline.
+    /// A run of spaces, an escline or a block comment, which may be unclosed.
     Space,
     /// A newline or a line comment.
     Newline,
@@ -44,8 +46,6 @@ pub(crate) enum LexemeKind {
     Equals,
     /// `;`.
     Semicolon,
-    /// An unclosed block comment.
-    Comment,
     /// A character with which no lexeme begins.
     Other,
     /// The end of the text.
@@ -69,40 +69,30 @@ pub(crate) struct Lexeme<'a> {
     pub kind: LexemeKind,
     /// Where it begins.
     pub start: Checkpoint<'a>,
-    /// The place after its first character.
-    pub next: Checkpoint<'a>,
-    /// The next value end from its fault on, or the start of a lexeme that ends a value.
+    /// The next value end from its fault on, or the start of a lexeme that ends a value, or the place after a `(`.
     pub end: Checkpoint<'a>,
     /// The fault of a string, a number or a keyword.
     pub fault: Option<Kind>,
     /// The backslash before the end of a string's fault, if a block comment after it begins in the string and is not
     /// closed there.
     pub backslash: Option<Checkpoint<'a>>,
-    /// An unclosed block comment, in what begins as an escline after the lexeme.
-    pub comment: Option<Unclosed<'a>>,
-    /// Whether the text ended in the middle of it.
+    /// The start of an unclosed block comment, which is the lexeme itself or in what begins as an escline after it. It
+    /// ends with the text.
+    pub comment: Option<Checkpoint<'a>>,
+    /// Whether the text ended in the middle of a string.
     pub cut: bool,
-}
-
-/// Where a lexeme begins, and the place after its first character.
-#[derive(Drop)]
-struct LexemeStart<'a> {
-    place: Checkpoint<'a>,
-    next: Checkpoint<'a>,
 }
 
 impl<'a> Lexeme<'a> {
     /// Creates a lexeme without a fault, up to the end.
-    fn new(kind: LexemeKind, start: LexemeStart<'a>, end: ValueEnd<'a>) -> Self
-        requires next { Ahead start.place start.next }
-        requires end { EndsAfter start.place end }
-        ensures stands { Stands start.entry.place.rest result }
+    fn new(kind: LexemeKind, start: Checkpoint<'a>, end: ValueEnd<'a>) -> Self
+        requires { EndsIn start.rest end }
+        ensures stands { Stands start.entry.rest result }
         ensures kind { result.kind ≡ kind }
     {
         Lexeme {
             kind,
-            start: start.place,
-            next: start.next,
+            start,
             end: end.place,
             fault: None,
             backslash: None,
@@ -113,81 +103,67 @@ impl<'a> Lexeme<'a> {
 }
 
 /// A lexeme that ends a value, or spaces.
-fn plain<'a>(kind: LexemeKind, start: LexemeStart<'a>) -> Lexeme<'a>
-    requires { Ahead start.place start.next }
-    ensures stands { Stands start.entry.place.rest result }
+fn plain<'a>(kind: LexemeKind, start: Checkpoint<'a>) -> Lexeme<'a>
+    ensures stands { Stands start.entry.rest result }
     ensures kind { result.kind ≡ kind }
 {
-    let place = start.place.copied();
-    Lexeme::new(kind, start, ValueEnd::at(place))
+    let end = ValueEnd::at(start.copied());
+    Lexeme::new(kind, start, end)
 }
 
-/// An unclosed block comment, which begins at the place or after it.
-fn unclosed<'a>(comment: Unclosed<'a>, from: &Checkpoint<'a>) -> Lexeme<'a>
-    requires { IsComment from.now comment }
-    ensures stands { Stands from.now.rest result }
-    ensures kind { result.kind ≡ LexemeKind.Comment }
+/// An unclosed block comment.
+fn unclosed<'a>(start: Checkpoint<'a>) -> Lexeme<'a>
+    ensures stands { Stands start.entry.rest result }
+    ensures kind { result.kind ≡ LexemeKind.Space }
 {
-    Lexeme {
-        kind: LexemeKind::Comment,
-        start: comment.start,
-        next: comment.end.copied(),
-        end: comment.end,
-        fault: None,
-        backslash: None,
-        comment: None,
-        cut: true,
-    }
+    let end = ValueEnd {
+        place: start.copied(),
+        comment: Some(start.copied()),
+    };
+    Lexeme::new(LexemeKind::Space, start, end)
 }
 
 /// Advances past a character with which no lexeme begins, and on to the next value end.
-fn other<'a>(cursor: &mut Cursor<'a>, start: LexemeStart<'a>) -> Lexeme<'a>
-    requires { At start cursor.old }
-    ensures lexeme { IsLexeme start.entry.place result cursor.new }
-    ensures reads { Reads 24 12 (gone start.entry.place cursor.old) cursor.new }
+fn other<'a>(cursor: &mut Cursor<'a>) -> Lexeme<'a>
+    requires { cursor.old.rest ≡ [] → ⊥ }
+    ensures { Lexes 24 12 cursor.old result cursor.new }
 {
-    cursor.go_to(&start.next);
+    let start = cursor.checkpoint();
+    cursor.step();
     let end = value_end(cursor);
     Lexeme::new(LexemeKind::Other, start, end)
 }
 
 /// Advances past what begins with the slash here.
-fn slash_lexeme<'a>(cursor: &mut Cursor<'a>, start: LexemeStart<'a>) -> Lexeme<'a>
-    requires { At start cursor.old }
-    ensures lexeme { IsLexeme start.entry.place result cursor.new }
-    ensures reads { Reads 24 18 (gone start.entry.place cursor.old) cursor.new }
+fn slash_lexeme<'a>(cursor: &mut Cursor<'a>) -> Lexeme<'a>
+    requires { cursor.old.rest ≡ [] → ⊥ }
+    ensures { Lexes 24 18 cursor.old result cursor.new }
 {
+    let start = cursor.checkpoint();
     match slash(cursor) {
         SlashRead::Block => plain(LexemeKind::Space, start),
         SlashRead::Line => plain(LexemeKind::Newline, start),
         SlashRead::Dash => plain(LexemeKind::Slashdash, start),
-        SlashRead::Unclosed => {
-            let comment = Unclosed {
-                start: start.place.copied(),
-                end: cursor.checkpoint(),
-            };
-            unclosed(comment, &start.place)
-        }
-        SlashRead::Other => other(cursor, start),
+        SlashRead::Unclosed => unclosed(start),
+        SlashRead::Other => other(cursor),
     }
 }
 
-/// Advances past what begins with the backslash here.
-fn backslash_lexeme<'a>(cursor: &mut Cursor<'a>, start: LexemeStart<'a>) -> Lexeme<'a>
-    requires { At start cursor.old }
-    ensures lexeme { IsLexeme start.entry.place result cursor.new }
-    ensures reads { Reads 24 24 (gone start.entry.place cursor.old) cursor.new }
+/// Advances past what begins with the backslash here: an escline, or an unclosed block comment after the backslash, or
+/// else what is no lexeme, up to the next value end.
+fn backslash_lexeme<'a>(cursor: &mut Cursor<'a>) -> Lexeme<'a>
+    requires { begins 92 cursor.old.rest ≡ true }
+    ensures { Lexes 24 12 cursor.old result cursor.new }
 {
-    cursor.go_to(&start.next);
-    match after_backslash(cursor) {
-        After::Escline => plain(LexemeKind::Space, start),
-        After::Unclosed(comment) => unclosed(comment, &start.place),
-        After::Other if cursor.at() == start.next.at() => other(cursor, start),
-        After::Other => {
-            let place = start.next.copied();
-            Lexeme::new(LexemeKind::Other, start, ValueEnd::at(place))
-        }
+    let start = cursor.checkpoint();
+    let Some(end) = end_at_backslash(cursor) else {
+        let end = value_end(cursor);
+        return Lexeme::new(LexemeKind::Other, start, end);
+    };
+    if end.comment.is_some() || end.place.at() == start.at() {
+        return Lexeme::new(LexemeKind::Space, start, end);
     }
+    Lexeme::new(LexemeKind::Other, start, end)
 }
 
 /// A string, a number or a keyword that ends here. If no value end is here, that is its fault, unless it has another
@@ -195,13 +171,13 @@ fn backslash_lexeme<'a>(cursor: &mut Cursor<'a>, start: LexemeStart<'a>) -> Lexe
 fn word<'a>(
     cursor: &mut Cursor<'a>,
     kind: LexemeKind,
-    start: LexemeStart<'a>,
+    start: Checkpoint<'a>,
     fault: Option<Kind>,
     without_end: Kind,
 ) -> Lexeme<'a>
     requires start { Past start cursor.old }
     requires kind { kind ≡ LexemeKind.End → ⊥ }
-    ensures lexeme { IsLexeme start.entry.place result cursor.new }
+    ensures lexeme { IsLexeme start.entry.rest result cursor.new }
     ensures reads { Reads 24 12 cursor.old cursor.new }
 {
     let here = cursor.at();
@@ -209,7 +185,7 @@ fn word<'a>(
     let is_ended = end.place.at() == here;
     let mut lexeme = Lexeme::new(kind, start, end);
     lexeme.fault = match fault {
-        None | Some(Kind::Range) if !is_ended => Some(without_end),
+        None | Some(Kind::Number(NumberFault::OutOfRange)) if !is_ended => Some(without_end),
         fault => fault,
     };
     lexeme
@@ -233,19 +209,15 @@ fn go_on<'a>(cursor: &mut Cursor<'a>, by: usize) -> Checkpoint<'a>
     last
 }
 
-/// The first value end in a string, from a place in it on.
-#[derive(Drop)]
-struct EndWithin<'a> {
-    place: Checkpoint<'a>,
-    /// The backslash before the value end, if a block comment after it begins in the string and is not closed there.
-    backslash: Option<Checkpoint<'a>>,
-}
-
-/// The first value end from the place on in the part of the text up to here, or its end.
-fn end_within<'a>(cursor: &mut Cursor<'a>, from: &Checkpoint<'a>) -> EndWithin<'a>
+/// The first value end from the place on in the part of the text up to here, or its end; and the backslash before it, if
+/// a block comment after it begins in that part and is not closed there.
+fn end_within<'a>(
+    cursor: &mut Cursor<'a>,
+    from: &Checkpoint<'a>,
+) -> (Checkpoint<'a>, Option<Checkpoint<'a>>)
     requires { Since from.now cursor.old }
-    ensures place { Ahead from.now result.place }
-    ensures backslash { IfSome result.backslash (λ b. Ahead from.now b) }
+    ensures place { LiesIn from.now.rest result.0 }
+    ensures backslash { IfSome result.1 (LiesIn from.now.rest) }
     ensures back { Returned (26 * (bytes from.now.rest - bytes cursor.old.rest) + 12) cursor.old cursor.new }
 {
     let here = cursor.enter(&from.up_to(&cursor.checkpoint()));
@@ -254,10 +226,7 @@ fn end_within<'a>(cursor: &mut Cursor<'a>, from: &Checkpoint<'a>) -> EndWithin<'
     let last = go_on(cursor, end.place.at());
     let place = cursor.checkpoint();
     cursor.go_to(&here);
-    EndWithin {
-        place,
-        backslash: end.comment.is_some().then_some(last),
-    }
+    (place, end.comment.is_some().then_some(last))
 }
 
 /// The end of a fault in a string: the value end in the string, or else the one after it. A string that looks like a
@@ -268,7 +237,7 @@ fn end_of_fault<'a>(
     after: Checkpoint<'a>,
     end: Checkpoint<'a>,
 ) -> Checkpoint<'a>
-    ensures { NoEarlier inside.entry after.entry end.entry result }
+    ensures { (s : Text) → LiesIn s inside.entry → LiesIn s after.entry → LiesIn s end.entry → LiesIn s result }
 {
     if let Kind::RawQuotes = kind {
         return after;
@@ -295,51 +264,63 @@ fn fault_in_role<'a>(
             Some(Found {
                 kind: Kind::Type,
                 place: found.place,
+                is_cut: found.is_cut,
             })
         }
         StringRole::SecondItem => Some(Found {
             kind: Kind::Type,
             place: start.copied(),
+            is_cut: matches!(&fault, Some(found) if found.is_cut),
         }),
     }
 }
 
-/// A string that the cursor has passed. Its fault ends at the next value end from the fault on, and the cursor advances
-/// to the value end after the string.
-fn string<'a>(
-    cursor: &mut Cursor<'a>,
-    start: LexemeStart<'a>,
-    scan: Scan<'a>,
-    role: StringRole,
-    without_end: Kind,
-) -> Lexeme<'a>
+/// A faulty string that the cursor has passed. Its fault ends at the next value end from the fault on, and the cursor
+/// advances to the value end after the string.
+fn faulty_string<'a>(cursor: &mut Cursor<'a>, start: Checkpoint<'a>, found: Found<'a>) -> Lexeme<'a>
     requires start { Past start cursor.old }
-    requires fault { OnFound (gone start.place cursor.old) scan.fault cursor.old }
-    ensures lexeme { IsLexeme start.entry.place result cursor.new }
-    ensures moves { Moves cursor.old cursor.new }
-    ensures reads { Reads 26 24 (gone start.entry.place cursor.old) cursor.new }
+    requires found { Passed start.rest found.place cursor.old.rest }
+    ensures lexeme { IsLexeme start.entry.rest result cursor.new }
+    ensures reads { ReadsFrom 26 24 start.entry cursor.old cursor.new }
 {
-    let Scan { fault, cut } = scan;
-    let Some(found) = fault_in_role(role, &start.place, fault) else {
-        return word(cursor, LexemeKind::String, start, None, without_end);
-    };
-    let inside = end_within(cursor, &found.place);
+    let (inside, backslash) = end_within(cursor, &found.place);
     let after = cursor.checkpoint();
     let end = value_end(cursor);
-    let place = end_of_fault(found.kind, inside.place, after, end.place);
+    let place = end_of_fault(found.kind, inside, after, end.place);
     let end = ValueEnd {
         place,
         comment: end.comment,
     };
     let mut lexeme = Lexeme::new(LexemeKind::String, start, end);
     lexeme.fault = Some(found.kind);
-    lexeme.backslash = inside.backslash;
-    lexeme.cut = cut;
+    lexeme.backslash = backslash;
+    lexeme.cut = found.is_cut;
     lexeme
 }
 
-/// The form of the whole number that the segment begins with, by its prefix.
-fn form_of<'a>(number: &Segment<'a>, cursor: &mut Cursor<'a>) -> Form
+/// Advances past the string that begins at the place, whose opening quote is here, after this many number signs.
+fn string_lexeme<'a>(
+    alloc: Global,
+    cursor: &mut Cursor<'a>,
+    start: Checkpoint<'a>,
+    signs: usize,
+    role: StringRole,
+) -> Result<Lexeme<'a>, AllocError>
+    requires quote { begins 34 cursor.old.rest ≡ true }
+    requires start { Since start cursor.old }
+    ensures lexeme { IfOk result (λ p. IsLexeme start.entry.rest p cursor.new) }
+    ensures reads { ReadsFrom 36 38 start.entry cursor.old cursor.new }
+{
+    let found = scan_string(alloc, cursor, &start, signs)?;
+    match fault_in_role(role, &start, found) {
+        Some(found) => Ok(faulty_string(cursor, start, found)),
+        None if signs == 0 => Ok(word(cursor, LexemeKind::String, start, None, Kind::QuotedEnd)),
+        None => Ok(word(cursor, LexemeKind::String, start, None, Kind::RawEnd)),
+    }
+}
+
+/// The base of the whole number that the segment begins with, by its prefix.
+fn radix_of<'a>(number: &Segment<'a>, cursor: &mut Cursor<'a>) -> Radix
     requires { IsPart cursor.old.text number.now }
     ensures { Returned 4 cursor.old cursor.new }
 {
@@ -349,58 +330,60 @@ fn form_of<'a>(number: &Segment<'a>, cursor: &mut Cursor<'a>) -> Form
     let letter = cursor.look();
     cursor.go_to(&place);
     match letter {
-        Some('x' | 'X') => Form::Hexadecimal,
-        Some('o' | 'O') => Form::Octal,
-        Some('b' | 'B') => Form::Binary,
-        _ => Form::Integer,
+        Some('x' | 'X') => Radix::Hexadecimal,
+        Some('o' | 'O') => Radix::Octal,
+        Some('b' | 'B') => Radix::Binary,
+        _ => Radix::Decimal,
     }
 }
 
-/// The fault of a number, all identifier characters at its place, and its form.
+/// The fault of a number, all identifier characters at its place, and its fault if no value end follows it.
 fn number_fault<'a>(
     alloc: Global,
     cursor: &mut Cursor<'a>,
     number: &Segment<'a>,
-) -> Result<(Option<Kind>, Form), AllocError>
+) -> Result<(Option<NumberFault>, NumberFault), AllocError>
     requires { IsPart cursor.old.text number.now }
     ensures { Returned (4 * bytes number.now + 16) cursor.old cursor.new }
 {
     let place = cursor.enter(number);
     let answer = read_number(alloc, cursor);
     cursor.go_to(&place);
-    match answer {
-        Ok(Number::Decimal(_)) => Ok((None, Form::Float)),
-        Ok(Number::Integer(_)) => Ok((None, form_of(number, cursor))),
-        Err(NumberFailure::Fault(fault)) => Ok((Some(Kind::of(fault)), form_of(number, cursor))),
-        Err(NumberFailure::Memory) => Err(AllocError),
-    }
+    let fault = match answer {
+        Ok(Number::Decimal(_)) => return Ok((None, NumberFault::TrailingDecimal)),
+        Ok(Number::Integer(_)) => None,
+        Err(NumberFailure::Fault(fault)) => Some(fault),
+        Err(NumberFailure::Memory) => return Err(AllocError),
+    };
+    Ok((fault, NumberFault::Trailing(radix_of(number, cursor))))
 }
 
 /// Advances past the number here.
-fn number_lexeme<'a>(
-    alloc: Global,
-    cursor: &mut Cursor<'a>,
-    start: LexemeStart<'a>,
-) -> Result<Lexeme<'a>, AllocError>
-    requires start { At start cursor.old }
-    requires number { starts is_identifier_char cursor.old.rest ≡ true }
-    ensures lexeme { IfOk result (λ p. IsLexeme start.entry.place p cursor.new) }
-    ensures reads { ReadsFrom 24 29 start.entry.place cursor.old cursor.new }
+fn number_lexeme<'a>(alloc: Global, cursor: &mut Cursor<'a>) -> Result<Lexeme<'a>, AllocError>
+    requires { starts is_identifier_char cursor.old.rest ≡ true }
+    ensures lexeme { IfOk result (λ p. IsLexeme cursor.old.rest p cursor.new) }
+    ensures reads { Reads 24 29 cursor.old cursor.new }
 {
+    let start = cursor.checkpoint();
     cursor.skip(Class::Identifier);
-    let number = start.place.up_to(&cursor.checkpoint());
-    let (fault, form) = number_fault(alloc, cursor, &number)?;
-    let without_end = Kind::NumberEnd(form);
-    Ok(word(cursor, LexemeKind::Value, start, fault, without_end))
+    let number = start.up_to(&cursor.checkpoint());
+    let (fault, without_end) = number_fault(alloc, cursor, &number)?;
+    let fault = fault.map(Kind::Number);
+    Ok(word(
+        cursor,
+        LexemeKind::Value,
+        start,
+        fault,
+        Kind::Number(without_end),
+    ))
 }
 
 /// Advances past the identifier characters here, which are not a number.
-fn bare_lexeme<'a>(cursor: &mut Cursor<'a>, start: LexemeStart<'a>) -> Lexeme<'a>
-    requires start { At start cursor.old }
-    requires string { starts is_identifier_char cursor.old.rest ≡ true }
-    ensures lexeme { IsLexeme start.entry.place result cursor.new }
-    ensures reads { Reads 24 16 cursor.old cursor.new }
+fn bare_lexeme<'a>(cursor: &mut Cursor<'a>) -> Lexeme<'a>
+    requires { starts is_identifier_char cursor.old.rest ≡ true }
+    ensures { Lexes 24 16 cursor.old result cursor.new }
 {
+    let start = cursor.checkpoint();
     let fault = match bare_string(cursor) {
         Some(_) => None,
         None => Some(Kind::Bare),
@@ -422,54 +405,26 @@ fn keyword_fault<'a>(cursor: &mut Cursor<'a>, word: &Segment<'a>) -> Option<Kind
     }
 }
 
-/// Advances past what follows the number signs of a keyword.
-fn keyword_lexeme<'a>(cursor: &mut Cursor<'a>, start: LexemeStart<'a>) -> Lexeme<'a>
-    requires { Past start cursor.old }
-    ensures lexeme { IsLexeme start.entry.place result cursor.new }
-    ensures reads { ReadsFrom 24 17 start.entry.place cursor.old cursor.new }
-{
-    cursor.skip(Class::Identifier);
-    let text = start.place.up_to(&cursor.checkpoint());
-    let fault = keyword_fault(cursor, &text);
-    word(cursor, LexemeKind::Value, start, fault, Kind::Keyword)
-}
-
-/// Advances past the keyword or the raw string that begins with the number sign here.
+/// Advances past the string or the keyword that begins with the quote or the number sign here.
 fn sign_lexeme<'a>(
     alloc: Global,
     cursor: &mut Cursor<'a>,
-    start: LexemeStart<'a>,
     role: StringRole,
 ) -> Result<Lexeme<'a>, AllocError>
-    requires start { At start cursor.old }
-    requires sign { starts is_number_sign cursor.old.rest ≡ true }
-    ensures lexeme { IfOk result (λ p. IsLexeme start.entry.place p cursor.new) }
-    ensures reads { ReadsFrom 37 40 start.entry.place cursor.old cursor.new }
+    requires { starts begins_sign cursor.old.rest ≡ true }
+    ensures lexeme { IfOk result (λ p. IsLexeme cursor.old.rest p cursor.new) }
+    ensures reads { Reads 37 40 cursor.old cursor.new }
 {
-    let at = cursor.at();
+    let start = cursor.checkpoint();
     cursor.skip(Class::NumberSign);
-    let signs = cursor.at() - at;
+    let signs = cursor.at() - start.at();
     if cursor.look() == Some('"') {
-        let scan = scan_string(alloc, cursor, &start.place, Some(signs))?;
-        return Ok(string(cursor, start, scan, role, Kind::RawEnd));
+        return string_lexeme(alloc, cursor, start, signs, role);
     }
-    Ok(keyword_lexeme(cursor, start))
-}
-
-/// Advances past the quoted string here.
-fn quoted_lexeme<'a>(
-    alloc: Global,
-    cursor: &mut Cursor<'a>,
-    start: LexemeStart<'a>,
-    role: StringRole,
-) -> Result<Lexeme<'a>, AllocError>
-    requires start { At start cursor.old }
-    requires quote { begins 34 cursor.old.rest ≡ true }
-    ensures lexeme { IfOk result (λ p. IsLexeme start.entry.place p cursor.new) }
-    ensures reads { ReadsFrom 37 40 start.entry.place cursor.old cursor.new }
-{
-    let scan = scan_string(alloc, cursor, &start.place, None)?;
-    Ok(string(cursor, start, scan, role, Kind::QuotedEnd))
+    cursor.skip(Class::Identifier);
+    let text = start.up_to(&cursor.checkpoint());
+    let fault = keyword_fault(cursor, &text);
+    Ok(word(cursor, LexemeKind::Value, start, fault, Kind::Keyword))
 }
 
 /// The kind of a lexeme that is only this character.
@@ -477,7 +432,6 @@ fn sign_kind(c: char) -> Option<LexemeKind>
     ensures { IfSome result (λ k. k ≡ LexemeKind.End → ⊥) }
 {
     match c {
-        '(' => Some(LexemeKind::Left),
         ')' => Some(LexemeKind::Right),
         '{' => Some(LexemeKind::Opening),
         '}' => Some(LexemeKind::Closing),
@@ -489,12 +443,11 @@ fn sign_kind(c: char) -> Option<LexemeKind>
 
 /// Advances past the lexeme that begins with the character c here, which is neither one of `" # / \` nor an identifier
 /// character.
-fn plain_lexeme<'a>(c: char, cursor: &mut Cursor<'a>, start: LexemeStart<'a>) -> Lexeme<'a>
-    requires start { At start cursor.old }
-    requires first { first cursor.old.rest ≡ Some c }
-    ensures lexeme { IsLexeme start.entry.place result cursor.new }
-    ensures reads { Reads 37 40 (gone start.entry.place cursor.old) cursor.new }
+fn plain_lexeme<'a>(c: char, cursor: &mut Cursor<'a>) -> Lexeme<'a>
+    requires { first cursor.old.rest ≡ Some c }
+    ensures { Lexes 24 12 cursor.old result cursor.new }
 {
+    let start = cursor.checkpoint();
     if is_space(c) {
         cursor.skip(Class::Space);
         return plain(LexemeKind::Space, start);
@@ -503,41 +456,17 @@ fn plain_lexeme<'a>(c: char, cursor: &mut Cursor<'a>, start: LexemeStart<'a>) ->
         let _ = newline(cursor);
         return plain(LexemeKind::Newline, start);
     }
+    if c == '(' {
+        cursor.step();
+        let end = ValueEnd::at(cursor.checkpoint());
+        return Lexeme::new(LexemeKind::Left, start, end);
+    }
     match sign_kind(c) {
         Some(kind) => {
             cursor.step();
             plain(kind, start)
         }
-        None => other(cursor, start),
-    }
-}
-
-/// Advances past the lexeme that begins with the character c here.
-fn lexeme_of<'a>(
-    alloc: Global,
-    c: char,
-    cursor: &mut Cursor<'a>,
-    start: LexemeStart<'a>,
-    role: StringRole,
-) -> Result<Lexeme<'a>, AllocError>
-    requires start { At start cursor.old }
-    requires first { first cursor.old.rest ≡ Some c }
-    ensures lexeme { IfOk result (λ p. IsLexeme start.entry.place p cursor.new) }
-    ensures reads { Reads 37 40 (gone start.entry.place cursor.old) cursor.new }
-{
-    match c {
-        '"' => quoted_lexeme(alloc, cursor, start, role),
-        '#' => sign_lexeme(alloc, cursor, start, role),
-        '/' => Ok(slash_lexeme(cursor, start)),
-        '\\' => Ok(backslash_lexeme(cursor, start)),
-        c if is_identifier_char(c) => {
-            if begins_number(cursor) {
-                number_lexeme(alloc, cursor, start)
-            } else {
-                Ok(bare_lexeme(cursor, start))
-            }
-        }
-        c => Ok(plain_lexeme(c, cursor, start)),
+        None => other(cursor),
     }
 }
 
@@ -548,15 +477,21 @@ pub(crate) fn next_lexeme<'a>(
     cursor: &mut Cursor<'a>,
     role: StringRole,
 ) -> Result<Lexeme<'a>, AllocError>
-    ensures next { IfOk result (λ p. IsNext cursor.old p cursor.new) }
+    ensures lexeme { IfOk result (λ p. IsLexeme cursor.old.rest p cursor.new) }
     ensures reads { Reads 37 41 cursor.old cursor.new }
 {
-    let place = cursor.checkpoint();
-    let Some(c) = cursor.take() else {
-        let next = place.copied();
-        return Ok(plain(LexemeKind::End, LexemeStart { place, next }));
-    };
-    let next = cursor.checkpoint();
-    cursor.go_to(&place);
-    lexeme_of(alloc, c, cursor, LexemeStart { place, next }, role)
+    match cursor.look() {
+        None => Ok(plain(LexemeKind::End, cursor.checkpoint())),
+        Some('"' | '#') => sign_lexeme(alloc, cursor, role),
+        Some('/') => Ok(slash_lexeme(cursor)),
+        Some('\\') => Ok(backslash_lexeme(cursor)),
+        Some(c) if is_identifier_char(c) => {
+            if begins_number(cursor) {
+                number_lexeme(alloc, cursor)
+            } else {
+                Ok(bare_lexeme(cursor))
+            }
+        }
+        Some(c) => Ok(plain_lexeme(c, cursor)),
+    }
 }

@@ -19,7 +19,7 @@ mod text_control;
 mod told;
 mod whole;
 
-pub use kind::{Form, Kind, Words};
+pub use kind::Kind;
 pub use notes::Fault;
 pub use told::{failure, faults};
 pub use whole::Whole;

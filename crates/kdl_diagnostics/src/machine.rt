@@ -55,7 +55,7 @@ pub(crate) fn token_kind(alloc: Global, kind: LexemeKind) -> Option<TokenKind> {
         LexemeKind::Closing => Some(TokenKind::Closing),
         LexemeKind::Equals => Some(TokenKind::Equals),
         LexemeKind::Semicolon => Some(TokenKind::Semicolon),
-        LexemeKind::Comment | LexemeKind::Other | LexemeKind::End => None,
+        LexemeKind::Other | LexemeKind::End => None,
     }
 }
 

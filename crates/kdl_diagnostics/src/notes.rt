@@ -1,10 +1,11 @@
 //! What a reader notes of a text: its faults, its open blocks, and the last `(`.
 
-ghost use Rattle.kdl_diagnostics.specs.Internal.Noted.{Always, Between, CountsOpen, HasFault, IsNotesOf, Keeps, Lexed, LexedBetween, LexedFrom, Opens, Untold};
+ghost use Rattle.kdl_diagnostics.specs.Internal.Noted.{Always, At, Between, CountsOpen, HasFault, IsNotesOf, Keeps, Lexed, LexedAnd, LexedFrom, Opens, Untold};
 ghost use Rattle.kdl_diagnostics.specs.Internal.Reading.{LiesIn, Reads, Stands};
 ghost use Rattle.kdl_diagnostics.specs.declared.machine.Context.TheVariants.{FaultyType};
 ghost use Rattle.kdl_syntax.specs.Internal.Handed.{kind_view};
 ghost use Rattle.kdl_text.specs.Chars.{Text};
+ghost use Rattle.kdl_text.specs.Spans.{InText};
 ghost use Rattle.std.specs.Prelude.{◌≡◌, ◌-◌, ◌<◌, [], length, IfOk, IsSome};
 
 use crate::ends::value_end;
@@ -59,16 +60,24 @@ impl<'a> Notes<'a> {
         }
     }
 
-    /// Opens a block whose `{` is between the places.
-    pub(crate) fn open_block(
-        &mut self,
-        from: &Checkpoint<'a>,
-        to: &Checkpoint<'a>,
-    ) -> Result<(), AllocError>
-        ensures keeps { Keeps (Between from.now to.now) self.old self.new }
+    /// The span from one place to another after it, or of the character there if they are the same place.
+    fn span(&self, from: &Checkpoint<'a>, to: &Checkpoint<'a>) -> SourceSpan
+        ensures { (text : Text) → IsNotesOf text self.now → LiesIn text from.now → LiesIn text to.now → InText text result }
+    {
+        let SourceSpan { offset, len } = self.whole.span_between(from, to);
+        if len > 0 {
+            return SourceSpan { offset, len };
+        }
+        let len = from.char_span().len;
+        SourceSpan { offset, len }
+    }
+
+    /// Opens a block whose `{` is at the place.
+    pub(crate) fn open_block(&mut self, place: &Checkpoint<'a>) -> Result<(), AllocError>
+        ensures keeps { Keeps (At place.now) self.old self.new }
         ensures opens { IfOk result (λ _. Opens self.old.blocks.items self.new.blocks.items) }
     {
-        let span = self.whole.span_between(from, to);
+        let span = self.span(place, place);
         let is_told = false;
         self.blocks.push(Block { span, is_told })?;
         Ok(())
@@ -105,7 +114,7 @@ impl<'a> Notes<'a> {
                 self.left = token.at.end.copied();
                 Ok(())
             }
-            TokenKind::Opening => self.open_block(&token.at.start, &token.at.end),
+            TokenKind::Opening => self.open_block(&token.at.start),
             TokenKind::Closing => {
                 self.close_block();
                 Ok(())
@@ -119,7 +128,7 @@ impl<'a> Notes<'a> {
         ensures { Keeps (Lexed lexeme.now) self.old self.new }
     {
         match lexeme.kind {
-            LexemeKind::Opening => self.open_block(&lexeme.start, &lexeme.next),
+            LexemeKind::Opening => self.open_block(&lexeme.start),
             LexemeKind::Closing => {
                 self.close_block();
                 Ok(())
@@ -133,11 +142,11 @@ impl<'a> Notes<'a> {
         ensures { Keeps (Lexed lexeme.now) self.old self.new }
     {
         if let LexemeKind::Left = lexeme.kind {
-            self.left = lexeme.next.copied();
+            self.left = lexeme.end.copied();
         }
     }
 
-    /// Notes a fault between two places.
+    /// Notes a fault from one place to another after it, or at the character there if they are the same place.
     pub(crate) fn note(
         &mut self,
         kind: Kind,
@@ -147,9 +156,17 @@ impl<'a> Notes<'a> {
         ensures keeps { Keeps (Between from.now to.now) self.old self.new }
         ensures noted { IfOk result (λ _. HasFault self.new) }
     {
-        let span = self.whole.span_between(from, to);
+        let span = self.span(from, to);
         self.faults.push(Fault { kind, span })?;
         Ok(())
+    }
+
+    /// Notes a fault at the character at the place.
+    pub(crate) fn note_at(&mut self, kind: Kind, place: &Checkpoint<'a>) -> Result<(), AllocError>
+        ensures keeps { Keeps (At place.now) self.old self.new }
+        ensures noted { IfOk result (λ _. HasFault self.new) }
+    {
+        self.note(kind, place, place)
     }
 
     /// Notes a candidate if the lexeme has one: the next fault that is noted, of this kind and from this place on, ends
@@ -160,10 +177,10 @@ impl<'a> Notes<'a> {
         from: &Checkpoint<'a>,
         lexeme: &Lexeme<'a>,
     ) -> Result<(), AllocError>
-        ensures { Keeps (LexedBetween lexeme.now from.now from.now) self.old self.new }
+        ensures { Keeps (LexedAnd lexeme.now from.now) self.old self.new }
     {
         if let Some(backslash) = &lexeme.backslash {
-            let span = self.whole.span_between(from, backslash);
+            let span = self.span(from, backslash);
             self.candidates.push(Candidate {
                 at: backslash.at(),
                 number: self.faults.len(),
@@ -173,23 +190,18 @@ impl<'a> Notes<'a> {
         Ok(())
     }
 
-    /// Notes a fault from one place to another after it, or at the first character of the lexeme if they are the same
-    /// place.
-    pub(crate) fn note_up_to(
+    /// Notes a fault from the place to the end of the lexeme.
+    pub(crate) fn note_from(
         &mut self,
         kind: Kind,
         from: &Checkpoint<'a>,
-        to: &Checkpoint<'a>,
         lexeme: &Lexeme<'a>,
     ) -> Result<(), AllocError>
-        ensures keeps { Keeps (LexedBetween lexeme.now from.now to.now) self.old self.new }
+        ensures keeps { Keeps (LexedAnd lexeme.now from.now) self.old self.new }
         ensures noted { IfOk result (λ _. HasFault self.new) }
     {
-        if from.at() == to.at() {
-            return self.note(kind, &lexeme.start, &lexeme.next);
-        }
         self.note_candidate(kind, from, lexeme)?;
-        self.note(kind, from, to)
+        self.note(kind, from, &lexeme.end)
     }
 
     /// Notes the own fault of a lexeme that fits at the place, except for a string in a type that is faulty already.
@@ -202,17 +214,22 @@ impl<'a> Notes<'a> {
             return Ok(());
         }
         match lexeme.fault {
-            Some(kind) => self.note_up_to(kind, &lexeme.start, &lexeme.end, lexeme),
+            Some(kind) => self.note_from(kind, &lexeme.start, lexeme),
             None => Ok(()),
         }
     }
 
-    /// Notes an unclosed block comment after the lexeme, in what begins as an escline.
-    pub(crate) fn note_comment(&mut self, lexeme: &Lexeme<'a>) -> Result<(), AllocError>
-        ensures { Keeps (Lexed lexeme.now) self.old self.new }
+    /// Notes the unclosed block comment of the lexeme, if it has one. The text ends at the place.
+    pub(crate) fn note_comment(
+        &mut self,
+        lexeme: &Lexeme<'a>,
+        end: &Checkpoint<'a>,
+    ) -> Result<(), AllocError>
+        ensures keeps { Keeps (LexedAnd lexeme.now end.now) self.old self.new }
+        ensures noted { IfOk result (λ _. IsSome lexeme.now.comment → HasFault self.new) }
     {
         match &lexeme.comment {
-            Some(comment) => self.note(Kind::Comment, &comment.start, &comment.end),
+            Some(comment) => self.note(Kind::Comment, comment, end),
             None => Ok(()),
         }
     }
@@ -240,14 +257,14 @@ impl<'a> Notes<'a> {
         ensures reads { Reads 24 24 cursor.old cursor.new }
     {
         if let Kind::Misplaced | Kind::Nameless = kind {
-            return self.note(kind, &lexeme.start, &lexeme.next);
+            return self.note_at(kind, &lexeme.start);
         }
         let from = self.start_of(kind, lexeme);
         if let LexemeKind::Left = lexeme.kind {
             let end = value_end(cursor).place;
-            return self.note_up_to(kind, &from, &end, lexeme);
+            return self.note(kind, &from, &end);
         }
-        self.note_up_to(kind, &from, &lexeme.end, lexeme)
+        self.note_from(kind, &from, lexeme)
     }
 
     /// Notes each open block, the innermost first, except those with a fault noted at their `{`.

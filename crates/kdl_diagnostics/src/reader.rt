@@ -1,13 +1,11 @@
 //! The reader of faults: it reads a refused text, and notes each fault.
 
 ghost use Rattle.kdl_diagnostics.specs.Internal.Noted.{Always, Counted, Goes, HasFault, IsFrontOf, IsReader, IsReaderOf, ReadsIn, Takes};
-ghost use Rattle.kdl_diagnostics.specs.Internal.Outsets.{BeginsAt, IsReady, IsReadyAt, IsStopped, Lacking, NotesAlone};
-ghost use Rattle.kdl_diagnostics.specs.Internal.Reading.{LiesIn};
+ghost use Rattle.kdl_diagnostics.specs.Internal.Outsets.{BeginsAt, IsReady, IsReadyAt, IsStopped, Lacking};
 ghost use Rattle.kdl_diagnostics.specs.declared.machine.Context.TheVariants.{FaultyType};
-ghost use Rattle.kdl_text.specs.Internal.Here.{IsPart};
 ghost use Rattle.kdl_text.specs.Chars.{Text};
 ghost use Rattle.kdl_text.specs.Spans.{bytes};
-ghost use Rattle.std.specs.Prelude.{◌≡◌, ◌+◌, ◌*◌, length, IfOk, IsSome};
+ghost use Rattle.std.specs.Prelude.{◌≡◌, ◌+◌, ◌*◌, length, None, IfOk, IsSome};
 ghost use Rattle.std.specs.Str.{chars};
 
 use crate::ends::is_value_end;
@@ -20,7 +18,7 @@ use crate::notes::{Fault, Notes};
 use crate::state::Progress;
 use crate::text_control::Outset;
 use crate::whole::Whole;
-use kdl_text::cursor::{Checkpoint, Cursor, Steps};
+use kdl_text::cursor::{Cursor, Steps};
 use std::alloc::{AllocError, Global};
 
 /// A reader of faults.
@@ -120,7 +118,7 @@ impl<'a> Reader<'a> {
             return self.notes.note_misfit(&mut self.cursor, kind, lexeme);
         }
         if let Some(kind) = self.state.missing(&self.notes) {
-            return self.notes.note(kind, &lexeme.start, &lexeme.next);
+            return self.notes.note_at(kind, &lexeme.start);
         }
         self.notes.note_blocks()
     }
@@ -140,26 +138,14 @@ impl<'a> Reader<'a> {
         }
     }
 
-    /// Takes a lexeme, without what follows it.
-    fn take_alone(&mut self, lexeme: &Lexeme<'a>) -> Result<(), AllocError>
-        ensures takes { Takes lexeme.now self.old self.new }
-        ensures noted { IfOk result (λ _. IsReadyAt lexeme.now self.old → NotesAlone lexeme.now.kind (HasFault self.new.notes)) }
-    {
-        match lexeme.kind {
-            LexemeKind::Space => Ok(()),
-            LexemeKind::Comment => self.notes.note(Kind::Comment, &lexeme.start, &lexeme.end),
-            LexemeKind::End => self.end(lexeme),
-            _ => self.take_part(lexeme),
-        }
-    }
-
     /// Takes the first lexeme, which has a fault, or else does not fit.
     fn refuse(&mut self, lexeme: &Lexeme<'a>) -> Result<(), AllocError>
         ensures takes { Takes lexeme.now self.old self.new }
-        ensures noted { IfOk result (λ _. IsReadyAt lexeme.now self.old → HasFault self.new.notes) }
+        ensures noted { IfOk result (λ _. IsReadyAt lexeme.now self.old → lexeme.now.comment ≡ None → HasFault self.new.notes) }
     {
         match lexeme.kind {
-            LexemeKind::Comment | LexemeKind::End => self.take_alone(lexeme),
+            LexemeKind::Space if lexeme.comment.is_some() => Ok(()),
+            LexemeKind::End => self.end(lexeme),
             _ if lexeme.fault.is_some() => self.take_part(lexeme),
             _ => {
                 self.state.begin(lexeme.kind, &self.notes);
@@ -168,19 +154,22 @@ impl<'a> Reader<'a> {
         }
     }
 
-    /// Takes a lexeme, without what follows it. The first one is refused.
+    /// Takes a lexeme, without a comment that is unclosed. The first one is refused.
     fn take_one(&mut self, lexeme: &Lexeme<'a>) -> Result<(), AllocError>
         ensures takes { Takes lexeme.now self.old self.new }
-        ensures noted { length self.old.notes.faults.items ≡ 0 → IfOk result (λ _. IsReadyAt lexeme.now self.old → HasFault self.new.notes) }
+        ensures noted { length self.old.notes.faults.items ≡ 0 → IfOk result (λ _. IsReadyAt lexeme.now self.old → lexeme.now.comment ≡ None → HasFault self.new.notes) }
     {
         if self.notes.faults.len() == 0 {
-            self.refuse(lexeme)
-        } else {
-            self.take_alone(lexeme)
+            return self.refuse(lexeme);
+        }
+        match lexeme.kind {
+            LexemeKind::Space => Ok(()),
+            LexemeKind::End => self.end(lexeme),
+            _ => self.take_part(lexeme),
         }
     }
 
-    /// Takes a lexeme, and what follows it: an unclosed block comment, in what begins as an escline.
+    /// Takes a lexeme, and its unclosed comment.
     fn take(&mut self, lexeme: &Lexeme<'a>) -> Result<(), AllocError>
         ensures takes { Takes lexeme.now self.old self.new }
         ensures noted { length self.old.notes.faults.items ≡ 0 → IfOk result (λ _. IsReadyAt lexeme.now self.old → HasFault self.new.notes) }
@@ -188,19 +177,8 @@ impl<'a> Reader<'a> {
         self.take_one(lexeme)?;
         self.state.is_apart = matches!(lexeme.kind, LexemeKind::Space);
         self.is_cut = self.is_cut || lexeme.cut || lexeme.comment.is_some();
-        self.notes.note_comment(lexeme)
-    }
-
-    /// Notes that the character at the place can't be there, or that something is expected where the text ends.
-    fn note_character(&mut self, from: &Checkpoint<'a>) -> Result<(), AllocError>
-        requires { IsPart self.old.cursor.text from.now.rest }
-        ensures goes { Goes (λ text. LiesIn text from.now) 1 self.old self.new }
-        ensures noted { IfOk result (λ _. HasFault self.new.notes) }
-    {
-        self.cursor.go_to(from);
-        let _ = self.cursor.take();
-        let next = self.cursor.checkpoint();
-        self.notes.note(Kind::Misplaced, from, &next)
+        let end = self.cursor.checkpoint();
+        self.notes.note_comment(lexeme, &end)
     }
 
     /// Notes the fault of a text that is read as an identifier.
@@ -208,15 +186,11 @@ impl<'a> Reader<'a> {
         ensures goes { Goes Always (124 * bytes self.old.cursor.rest + 100) self.old self.new }
         ensures noted { IfOk result (λ _. HasFault self.new.notes) }
     {
-        let start = self.cursor.checkpoint();
         let lexeme = next_lexeme(self.alloc, &mut self.cursor, StringRole::Plain)?;
         match (lexeme.kind, lexeme.fault) {
-            (LexemeKind::String, Some(kind)) => {
-                self.notes
-                    .note_up_to(kind, &lexeme.start, &lexeme.end, &lexeme)
-            }
-            (LexemeKind::String, None) => self.note_character(&lexeme.end),
-            _ => self.note_character(&start),
+            (LexemeKind::String, Some(kind)) => self.notes.note_from(kind, &lexeme.start, &lexeme),
+            (LexemeKind::String, None) => self.notes.note_at(Kind::Misplaced, &lexeme.end),
+            _ => self.notes.note_at(Kind::Misplaced, &lexeme.start),
         }
     }
 

@@ -1,6 +1,6 @@
 //! Quoted and raw strings, faulty or not, and the first fault in them.
 
-ghost use Rattle.kdl_diagnostics.specs.Internal.Reading.{FindsAlso, FindsOn, GoesOn, OnFound, Reads, ReadsFrom, Since, gone};
+ghost use Rattle.kdl_diagnostics.specs.Internal.Reading.{FindsAlso, FindsOn, GoesOn, OnFound, Reads, ReadsFrom, Since};
 ghost use Rattle.kdl_text.specs.Chars.{begins};
 ghost use Rattle.kdl_text.specs.Internal.Here.{Returned, first};
 ghost use Rattle.kdl_text.specs.Spans.{bytes};
@@ -12,42 +12,35 @@ use kdl_text::cursor::{Checkpoint, Cursor, newline};
 use kdl_text::strings::{StringFailure, StringFault, escaped_unit, quoted_string, raw_string};
 use std::alloc::{AllocError, Global};
 
-/// A fault in a string, and its place.
+/// The first fault in a string, and its place.
 #[derive(Drop)]
 pub(crate) struct Found<'a> {
     pub kind: Kind,
     pub place: Checkpoint<'a>,
-}
-
-/// A string that the cursor has passed.
-#[derive(Drop)]
-pub(crate) struct Scan<'a> {
-    /// The first fault in it.
-    pub fault: Option<Found<'a>>,
-    /// Whether the text ended in the middle of it.
-    pub cut: bool,
+    /// Whether the text ended in the middle of the string.
+    pub is_cut: bool,
 }
 
 /// How a string is written.
 #[derive(Clone, Copy)]
-enum Style {
-    /// Quoted, on one line.
-    Quoted,
-    /// Quoted, on several lines.
-    QuotedLines,
-    /// Raw, on one line, with this many number signs.
-    Raw(usize),
-    /// Raw, on several lines, with this many number signs.
-    RawLines(usize),
+struct Style {
+    /// The number signs of a raw string, or 0 for a quoted string.
+    signs: usize,
+    /// Whether it is on several lines.
+    has_lines: bool,
 }
 
 /// The fault that was found already, if there is one, or else this one.
-fn earlier<'a>(fault: Option<Found<'a>>, kind: Kind, place: Checkpoint<'a>) -> Option<Found<'a>>
-    ensures { FindsAlso fault.entry place.entry result }
+fn earlier<'a>(found: Option<Found<'a>>, kind: Kind, place: Checkpoint<'a>) -> Found<'a>
+    ensures { FindsAlso found.entry place.entry (Some result) }
 {
-    match fault {
-        Some(found) => Some(found),
-        None => Some(Found { kind, place }),
+    match found {
+        Some(found) => found,
+        None => Found {
+            kind,
+            place,
+            is_cut: false,
+        },
     }
 }
 
@@ -76,51 +69,34 @@ fn closes_lines(cursor: &mut Cursor, signs: usize) -> bool
 }
 
 impl Style {
-    /// The style of a string on one line, with the number signs of a raw one.
-    fn of_line(signs: Option<usize>) -> Style {
-        match signs {
-            Some(signs) => Style::Raw(signs),
-            None => Style::Quoted,
-        }
-    }
-
-    /// The style of a string on several lines, with the number signs of a raw one.
-    fn of_lines(signs: Option<usize>) -> Style {
-        match signs {
-            Some(signs) => Style::RawLines(signs),
-            None => Style::QuotedLines,
-        }
-    }
-
     /// The characters that represent themselves in the string.
     fn class(self) -> Class {
-        match self {
-            Style::Quoted | Style::QuotedLines => Class::Literal,
-            Style::Raw(_) | Style::RawLines(_) => Class::Unquoted,
+        match self.signs {
+            0 => Class::Literal,
+            _ => Class::Unquoted,
         }
     }
 
     /// The fault of a string that is unclosed, or has a character that it can't have.
     fn fault(self) -> Kind {
-        match self {
-            Style::Quoted | Style::QuotedLines => Kind::Quoted,
-            Style::Raw(_) | Style::RawLines(_) => Kind::Raw,
+        match self.signs {
+            0 => Kind::Quoted,
+            _ => Kind::Raw,
         }
     }
 
-    /// The fault of a newline, if the string is on one line.
-    fn newline_fault(self) -> Option<Kind> {
-        match self {
-            Style::Quoted => Some(Kind::QuotedNewline),
-            Style::Raw(_) => Some(Kind::Raw),
-            Style::QuotedLines | Style::RawLines(_) => None,
+    /// The fault of a newline in a string on one line.
+    fn newline_fault(self) -> Kind {
+        match self.signs {
+            0 => Kind::QuotedNewline,
+            _ => Kind::Raw,
         }
     }
 
     /// The kind of a fault in the lines of the string.
     fn lines_fault(self, fault: StringFault) -> Kind {
-        match (self, fault) {
-            (Style::QuotedLines, StringFault::NoPrefix) => Kind::Prefix,
+        match (self.signs, fault) {
+            (0, StringFault::NoPrefix) => Kind::Prefix,
             _ => self.fault(),
         }
     }
@@ -130,14 +106,14 @@ impl Style {
         requires { begins 34 cursor.old.rest ≡ true }
         ensures { GoesOn 3 cursor.old cursor.new }
     {
-        if let Style::RawLines(signs) = self {
-            return closes_lines(cursor, signs);
+        if self.has_lines && self.signs > 0 {
+            return closes_lines(cursor, self.signs);
         }
         cursor.step();
-        match self {
-            Style::QuotedLines => cursor.eat_two('"', '"'),
-            Style::Raw(signs) => eat_signs(cursor, signs),
-            _ => true,
+        if self.has_lines {
+            cursor.eat_two('"', '"')
+        } else {
+            eat_signs(cursor, self.signs)
         }
     }
 
@@ -145,9 +121,9 @@ impl Style {
     fn read(self, alloc: Global, cursor: &mut Cursor) -> Result<String, StringFailure>
         ensures { Reads 4 9 cursor.old cursor.new }
     {
-        match self {
-            Style::Quoted | Style::QuotedLines => quoted_string(alloc, cursor),
-            Style::Raw(_) | Style::RawLines(_) => raw_string(alloc, cursor),
+        match self.signs {
+            0 => quoted_string(alloc, cursor),
+            _ => raw_string(alloc, cursor),
         }
     }
 }
@@ -162,59 +138,55 @@ fn escape(cursor: &mut Cursor) -> bool
 }
 
 /// Advances past a character that does not represent itself in a string: past an escape, or past a character that can't
-/// be there.
+/// be there. The fault of the string so far is the one that was found already, or else such a character.
 fn odd_unit<'a>(
     cursor: &mut Cursor<'a>,
     c: char,
     kind: Kind,
-    fault: Option<Found<'a>>,
+    found: Option<Found<'a>>,
 ) -> Option<Found<'a>>
     requires here { first cursor.old.rest ≡ Some c }
-    ensures fault { FindsOn 3 0 fault.entry cursor.old result cursor.new }
+    ensures fault { FindsOn 3 0 found.entry cursor.old result cursor.new }
     ensures went { bytes cursor.new.rest < bytes cursor.old.rest }
 {
     let place = cursor.checkpoint();
     if c == '\\' {
         if escape(cursor) {
-            return fault;
+            return found;
         }
     } else {
         cursor.step();
     }
-    earlier(fault, kind, place)
+    Some(earlier(found, kind, place))
 }
 
 /// After its opening quotes: advances past a string, to a newline that it can't have, or to the end of the text. Its
 /// fault is the one that was found already, or else the first one here.
-fn units<'a>(cursor: &mut Cursor<'a>, style: Style, found: Option<Found<'a>>) -> Scan<'a>
-    ensures { FindsOn 5 2 found.entry cursor.old result.fault cursor.new }
+fn units<'a>(cursor: &mut Cursor<'a>, style: Style, found: Option<Found<'a>>) -> Option<Found<'a>>
+    ensures { FindsOn 5 2 found.entry cursor.old result cursor.new }
 {
-    let mut fault = found;
+    let mut found = found;
     'units: loop {
         cursor.skip(style.class());
         let place = cursor.checkpoint();
         match cursor.look() {
             None => {
-                return Scan {
-                    fault: earlier(fault, style.fault(), place),
-                    cut: true,
-                };
+                let mut found = earlier(found, style.fault(), place);
+                found.is_cut = true;
+                return Some(found);
             }
             Some('"') => {
                 if style.closes(cursor) {
-                    return Scan { fault, cut: false };
+                    return found;
                 }
             }
             Some(c) if is_newline_char(c) => {
-                if let Some(kind) = style.newline_fault() {
-                    return Scan {
-                        fault: earlier(fault, kind, place),
-                        cut: false,
-                    };
+                if !style.has_lines {
+                    return Some(earlier(found, style.newline_fault(), place));
                 }
                 let _ = newline(cursor);
             }
-            Some(c) => fault = odd_unit(cursor, c, style.fault(), fault),
+            Some(c) => found = odd_unit(cursor, c, style.fault(), found),
         }
     }
 }
@@ -227,7 +199,7 @@ fn fault_of_lines<'a>(
     style: Style,
 ) -> Result<Option<Found<'a>>, AllocError>
     requires { Since start.now cursor.old }
-    ensures fault { IfOk result (λ f. OnFound (gone start.now cursor.new) f cursor.new) }
+    ensures fault { IfOk result (λ f. OnFound start.now.rest f cursor.new.rest) }
     ensures back { Returned (5 * (bytes start.now.rest - bytes cursor.old.rest) + 9) cursor.old cursor.new }
 {
     let place = cursor.enter(&start.up_to(&cursor.checkpoint()));
@@ -238,6 +210,7 @@ fn fault_of_lines<'a>(
         Err(StringFailure::Fault(fault)) => Ok(Some(Found {
             kind: style.lines_fault(fault),
             place,
+            is_cut: false,
         })),
         Err(StringFailure::Memory) => Err(AllocError),
     }
@@ -245,22 +218,15 @@ fn fault_of_lines<'a>(
 
 /// After number signs and three quotes with no newline after them: advances past a single-line raw string. If it is
 /// closed on its line, it looks like a multi-line string.
-fn raw_quotes<'a>(cursor: &mut Cursor<'a>, signs: usize) -> Scan<'a>
-    ensures { FindsOn 5 3 None cursor.old result.fault cursor.new }
+fn raw_quotes<'a>(cursor: &mut Cursor<'a>, signs: usize) -> Found<'a>
+    ensures { FindsOn 5 3 None cursor.old (Some result) cursor.new }
 {
-    if !eat_signs(cursor, signs) {
-        let scan = units(cursor, Style::Raw(signs), None);
-        if scan.fault.is_some() {
-            return scan;
-        }
+    let has_lines = false;
+    if eat_signs(cursor, signs) {
+        return earlier(None, Kind::RawQuotes, cursor.checkpoint());
     }
-    Scan {
-        fault: Some(Found {
-            kind: Kind::RawQuotes,
-            place: cursor.checkpoint(),
-        }),
-        cut: false,
-    }
+    let found = units(cursor, Style { signs, has_lines }, None);
+    earlier(found, Kind::RawQuotes, cursor.checkpoint())
 }
 
 /// After the three quotes of a string that begins at the place: advances past it. A quoted string is faulty if no
@@ -269,39 +235,44 @@ fn scan_lines<'a>(
     alloc: Global,
     cursor: &mut Cursor<'a>,
     start: &Checkpoint<'a>,
-    signs: Option<usize>,
-) -> Result<Scan<'a>, AllocError>
+    signs: usize,
+) -> Result<Option<Found<'a>>, AllocError>
     requires { Since start.now cursor.old }
-    ensures fault { IfOk result (λ s. OnFound (gone start.now cursor.new) s.fault cursor.new) }
+    ensures fault { IfOk result (λ f. OnFound start.now.rest f cursor.new.rest) }
     ensures reads { ReadsFrom 10 12 start.now cursor.old cursor.new }
 {
-    let style = Style::of_lines(signs);
+    let has_lines = true;
+    let style = Style { signs, has_lines };
     let place = cursor.checkpoint();
     if newline(cursor) {
-        let scan = units(cursor, style, None);
-        if scan.fault.is_some() {
-            return Ok(scan);
+        let found = units(cursor, style, None);
+        if found.is_some() {
+            return Ok(found);
         }
-        let fault = fault_of_lines(alloc, cursor, start, style)?;
-        return Ok(Scan { fault, cut: false });
+        return fault_of_lines(alloc, cursor, start, style);
     }
-    if let Some(signs) = signs {
-        return Ok(raw_quotes(cursor, signs));
+    if signs > 0 {
+        return Ok(Some(raw_quotes(cursor, signs)));
     }
-    let kind = Kind::Opening;
-    Ok(units(cursor, style, Some(Found { kind, place })))
+    let opening = Found {
+        kind: Kind::Opening,
+        place,
+        is_cut: false,
+    };
+    Ok(units(cursor, style, Some(opening)))
 }
 
-/// Advances past the string that begins at the place. Its opening quote is here, after the number signs of a raw string.
+/// Advances past the string that begins at the place, and returns its first fault. Its opening quote is here, after the
+/// number signs of a raw string.
 pub(crate) fn scan_string<'a>(
     alloc: Global,
     cursor: &mut Cursor<'a>,
     start: &Checkpoint<'a>,
-    signs: Option<usize>,
-) -> Result<Scan<'a>, AllocError>
+    signs: usize,
+) -> Result<Option<Found<'a>>, AllocError>
     requires quote { begins 34 cursor.old.rest ≡ true }
-    requires since { Since start.now cursor.old }
-    ensures fault { IfOk result (λ s. OnFound (gone start.now cursor.new) s.fault cursor.new) }
+    requires start { Since start.now cursor.old }
+    ensures fault { IfOk result (λ f. OnFound start.now.rest f cursor.new.rest) }
     ensures reads { ReadsFrom 10 14 start.now cursor.old cursor.new }
     ensures went { bytes cursor.new.rest < bytes cursor.old.rest }
 {
@@ -309,5 +280,6 @@ pub(crate) fn scan_string<'a>(
     if cursor.eat_two('"', '"') {
         return scan_lines(alloc, cursor, start, signs);
     }
-    Ok(units(cursor, Style::of_line(signs), None))
+    let has_lines = false;
+    Ok(units(cursor, Style { signs, has_lines }, None))
 }

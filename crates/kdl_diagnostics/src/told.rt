@@ -26,16 +26,16 @@ fn diagnostic(alloc: Global, input: &RcStr, fault: Fault) -> Result<KdlDiagnosti
     requires { InText (chars (rc_str_bytes input.now)) fault.span }
     ensures { IfOk result (IsToldOf (rc_str_bytes input.now)) }
 {
-    let words = fault.kind.words();
-    let help = match words.help {
+    let (message, label) = fault.kind.message();
+    let help = match fault.kind.help() {
         Some(help) => Some(String::from_str(alloc, help)?),
         None => None,
     };
     Ok(KdlDiagnostic {
         input: input.clone()?,
         span: fault.span,
-        message: Some(String::from_str(alloc, words.message)?),
-        label: Some(String::from_str(alloc, words.label)?),
+        message: Some(String::from_str(alloc, message)?),
+        label: Some(String::from_str(alloc, label)?),
         help,
         severity: Severity::Error,
     })

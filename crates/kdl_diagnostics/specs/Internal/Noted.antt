@@ -63,6 +63,10 @@ KeepsFrontBetween a b old new = (text : Text) → IsFrontOf text old → LiesIn 
 abbrev pub Always : Text → Type 0
 Always text = Unit {0}
 
+-- a place is in the text
+abbrev pub At : Position → Text → Type 0
+At a text = LiesIn text a
+
 -- two places are in the text
 abbrev pub Between : Position → Position → Text → Type 0
 Between a b text = LiesIn text a × LiesIn text b
@@ -71,9 +75,9 @@ Between a b text = LiesIn text a × LiesIn text b
 abbrev pub Lexed : Lexeme → Text → Type 0
 Lexed p text = Stands text p
 
--- a lexeme is of the text, and two places are in it
-abbrev pub LexedBetween : Lexeme → Position → Position → Text → Type 0
-LexedBetween p a b text = Stands text p × Between a b text
+-- a lexeme is of the text, and a place is in it
+abbrev pub LexedAnd : Lexeme → Position → Text → Type 0
+LexedAnd p a text = Stands text p × LiesIn text a
 
 -- a lexeme is of the text, and a cursor is in it
 abbrev pub LexedFrom : Lexeme → Here → Text → Type 0

@@ -15,8 +15,7 @@ use Rattle.kdl_diagnostics.specs.declared.front.Prefix.{Prefix}
 use Rattle.kdl_diagnostics.specs.declared.front.FrontEnd.{FrontEnd}
 use Rattle.kdl_diagnostics.specs.declared.machine.Context.TheVariants.{FaultyType}
 use Rattle.kdl_diagnostics.specs.declared.lexemes.Lexeme.{Lexeme}
-use Rattle.kdl_diagnostics.specs.declared.lexemes.LexemeKind.{LexemeKind}
-use Rattle.kdl_diagnostics.specs.declared.lexemes.LexemeKind.TheVariants.{Comment, End}
+use Rattle.kdl_diagnostics.specs.declared.lexemes.LexemeKind.TheVariants.{End}
 use Rattle.kdl_diagnostics.specs.declared.reader.Reader.{Reader}
 use Rattle.kdl_diagnostics.specs.declared.text_control.Outset.{Outset}
 use Rattle.kdl_diagnostics.specs.declared.text_control.TextControl.{TextControl}
@@ -110,9 +109,3 @@ pub record IsReady (r : Reader) : Type 0 where
 pub record IsReadyAt (p : Lexeme) (r : Reader) : Type 0 where
   pub ends : p.kind ≡ End → Lacking r
   pub context : r.state.context ≡ FaultyType → ⊥
-
--- a lexeme that is no part of the grammar is noted by itself
-abbrev pub NotesAlone : LexemeKind → Type 0 → Type 0
-NotesAlone End P = P
-NotesAlone Comment P = P
-NotesAlone _ P = Unit {0}

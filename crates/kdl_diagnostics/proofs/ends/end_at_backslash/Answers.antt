@@ -1,8 +1,9 @@
-use Rattle.std.proofs.Common.{arith}
+use Rattle.std.proofs.Common.{ap, arith}
 use Rattle.kdl_text.specs.Internal.Here.{Here}
-use Rattle.kdl_text.proofs.Looking.MovesJoin.{moves_then, stays, fewer_bytes}
+use Rattle.kdl_text.specs.Spans.{bytes}
+use Rattle.kdl_text.proofs.Looking.MovesJoin.{stays, moves_then, fewer_bytes}
 use Rattle.kdl_diagnostics.specs.Internal.Reading.{GoesOn, Reads}
-use Rattle.kdl_diagnostics.proofs.Passing.{end_at, passed_here, stepped_begins, unclosed_from}
+use Rattle.kdl_diagnostics.proofs.Passing.{after_same, end_here, if_lies, reads_more, reads_then, stepped_begins}
 use Rattle.kdl_diagnostics.proofs.ends.end_at_backslash.Goals as goal
 
 -- the backslash pays for what is not counted by bytes
@@ -12,32 +13,26 @@ step_on s r = record {
   went = omega (arith, s.went, fewer_bytes r.moves);
 }
 
-pub returns-in-Escline-clause-end : goal.returns-in-Escline-clause-end
-returns-in-Escline-clause-end c =
-    let s = stepped_begins _ _ _ c.requires c.step.ensures in
-    end_at _ _ _ _ c.at.ensures.place c.at.ensures.comment (passed_here _ _ _ _ c.checkpoint-place.ensures.rest c.checkpoint-place.ensures.at (stays _) (moves_then s.reads.moves c.after_backslash.ensures.reads.moves))
+pub returns-then-is_some-clause-end : goal.returns-then-is_some-clause-end
+returns-then-is_some-clause-end c =
+    let m = (stepped_begins _ _ _ c.requires c.step.ensures).reads.moves in
+    let p = c.checkpoint-place.ensures in
+    record { ends = record { place = after_same _ _ _ m.piece p.rest; comment = if_lies _ _ _ m.piece c.ws_run-comment.ensures.comment }; at = omega (arith, p.at, ap bytes p.rest, m.at) }
 
-pub returns-in-Unclosed-clause-end : goal.returns-in-Unclosed-clause-end
-returns-in-Unclosed-clause-end c =
-    let s = stepped_begins _ _ _ c.requires c.step.ensures in
-    record {
-      place = passed_here _ _ _ _ c.checkpoint-after.ensures.rest c.checkpoint-after.ensures.at s.reads.moves c.after_backslash.ensures.reads.moves;
-      comment = unclosed_from _ _ _ _ s.reads.moves c.in-Unclosed.ensures.comment;
-    }
+pub returns-then-is_some-clause-goes : goal.returns-then-is_some-clause-goes
+returns-then-is_some-clause-goes c = step_on (stepped_begins _ _ _ c.requires c.step.ensures) (reads_more 8 c.ws_run-comment.ensures.reads)
 
-pub returns-in-Other-2-clause-end : goal.returns-in-Other-2-clause-end
-returns-in-Other-2-clause-end c =
-    let s = stepped_begins _ _ _ c.requires c.step.ensures in
-    end_at _ _ _ _ c.at-in-Other-2.ensures.place c.at-in-Other-2.ensures.comment (passed_here _ _ _ _ c.checkpoint-after.ensures.rest c.checkpoint-after.ensures.at s.reads.moves c.after_backslash.ensures.reads.moves)
+pub returns-then-escline_end-clause-end : goal.returns-then-escline_end-clause-end
+returns-then-escline_end-clause-end c = end_here _ _ c.at.ensures.place c.at.ensures.comment c.checkpoint-backslash.ensures.rest c.checkpoint-backslash.ensures.at (stays _)
 
-pub returns-in-Escline-clause-goes : goal.returns-in-Escline-clause-goes
-returns-in-Escline-clause-goes c = step_on (stepped_begins _ _ _ c.requires c.step.ensures) c.after_backslash.ensures.reads
+pub returns-then-escline_end-clause-goes : goal.returns-then-escline_end-clause-goes
+returns-then-escline_end-clause-goes c = step_on (stepped_begins _ _ _ c.requires c.step.ensures) (reads_then c.ws_run-comment.ensures.reads c.escline_end.ensures)
 
-pub returns-in-Unclosed-clause-goes : goal.returns-in-Unclosed-clause-goes
-returns-in-Unclosed-clause-goes c = step_on (stepped_begins _ _ _ c.requires c.step.ensures) c.after_backslash.ensures.reads
+pub returns-then-at-clause-goes : goal.returns-then-at-clause-goes
+returns-then-at-clause-goes c = step_on (stepped_begins _ _ _ c.requires c.step.ensures) (reads_then c.ws_run-comment.ensures.reads c.escline_end.ensures)
 
-pub returns-in-Other-clause-goes : goal.returns-in-Other-clause-goes
-returns-in-Other-clause-goes c = step_on (stepped_begins _ _ _ c.requires c.step.ensures) c.after_backslash.ensures.reads
+pub returns-clause-end : goal.returns-clause-end
+returns-clause-end c = end_here _ _ c.at-4.ensures.place c.at-4.ensures.comment c.checkpoint-place.ensures.rest c.checkpoint-place.ensures.at (stepped_begins _ _ _ c.requires c.step.ensures).reads.moves
 
-pub returns-in-Other-2-clause-goes : goal.returns-in-Other-2-clause-goes
-returns-in-Other-2-clause-goes c = step_on (stepped_begins _ _ _ c.requires c.step.ensures) c.after_backslash.ensures.reads
+pub returns-clause-goes : goal.returns-clause-goes
+returns-clause-goes c = step_on (stepped_begins _ _ _ c.requires c.step.ensures) (reads_then c.ws_run-comment.ensures.reads c.escline_end.ensures)

@@ -2,7 +2,7 @@ use Rattle.std.proofs.Common.{ap, ◌∙◌, arith}
 use Rattle.kdl_text.specs.Internal.Here.{Here}
 use Rattle.kdl_text.proofs.Looking.MovesJoin.{moves_then, fewer_bytes}
 use Rattle.kdl_diagnostics.specs.Internal.Reading.{GoesOn, Reads}
-use Rattle.kdl_diagnostics.proofs.Passing.{end_at, end_from, ended, first_same, passed_here, reads_looked, reads_more, reads_ran, reads_returned, reads_then, reads_up, stepped_first}
+use Rattle.kdl_diagnostics.proofs.Passing.{end_from, ended, first_same, reads_more, reads_ran, reads_returned, reads_then, reads_up, stepped_first, end_here}
 use Rattle.kdl_diagnostics.proofs.ends.value_end.Goals as goal
 
 -- looks, and at least a byte more
@@ -12,7 +12,7 @@ turn i t g = record { moves = moves_then i.moves (moves_then t.moves g.reads.mov
 pub returns-in-None-clause-end : goal.returns-in-None-clause-end
 returns-in-None-clause-end c =
     let r = reads_ran c.skip.ensures in
-    end_at _ _ _ _ c.at.ensures.place c.at.ensures.comment (passed_here _ _ _ _ c.checkpoint-place.ensures.rest c.checkpoint-place.ensures.at (moves_then c.ends.invariant.moves r.moves) (reads_looked 1 _ _ c.look.ensures.moved).moves)
+    end_here _ _ c.at.ensures.place c.at.ensures.comment c.checkpoint-place.ensures.rest c.checkpoint-place.ensures.at (moves_then c.ends.invariant.moves r.moves)
 
 pub returns-in-None-clause-reads : goal.returns-in-None-clause-reads
 returns-in-None-clause-reads c = reads_more 10 (reads_then c.ends.invariant (reads_up 23 (ended _ _ _ _ c.skip.ensures c.look.ensures.moved)))
@@ -20,7 +20,7 @@ returns-in-None-clause-reads c = reads_more 10 (reads_then c.ends.invariant (rea
 pub returns-in-Some-end_at_backslash-clause-end : goal.returns-in-Some-end_at_backslash-clause-end
 returns-in-Some-end_at_backslash-clause-end c =
     let t = ended _ _ _ _ c.skip.ensures c.look.ensures.moved in
-    end_from _ _ _ _ (moves_then c.ends.invariant.moves t.moves) c.in-Some-end_at_backslash.ensures.end
+    end_from (moves_then c.ends.invariant.moves t.moves) c.in-Some-end_at_backslash.ensures.end
 
 pub returns-in-Some-end_at_backslash-clause-reads : goal.returns-in-Some-end_at_backslash-clause-reads
 returns-in-Some-end_at_backslash-clause-reads c = reads_more 12 (turn c.ends.invariant (reads_more 6 (ended _ _ _ _ c.skip.ensures c.look.ensures.moved)) c.end_at_backslash.ensures.goes)
@@ -36,8 +36,7 @@ ends-preserved-in-Some-eq92 c = turn c.ends.invariant (reads_more 6 (ended _ _ _
 pub returns-then-ends_here-clause-end : goal.returns-then-ends_here-clause-end
 returns-then-ends_here-clause-end c =
     let r = reads_ran c.skip.ensures in
-    let look = moves_then (reads_looked 1 _ _ c.look.ensures.moved).moves (reads_returned 1 c.ends_here.ensures).moves in
-    end_at _ _ _ _ c.at-then-ends_here.ensures.place c.at-then-ends_here.ensures.comment (passed_here _ _ _ _ c.checkpoint-place.ensures.rest c.checkpoint-place.ensures.at (moves_then c.ends.invariant.moves r.moves) look)
+    end_here _ _ c.at-then-ends_here.ensures.place c.at-then-ends_here.ensures.comment c.checkpoint-place.ensures.rest c.checkpoint-place.ensures.at (moves_then c.ends.invariant.moves r.moves)
 
 pub returns-then-ends_here-clause-reads : goal.returns-then-ends_here-clause-reads
 returns-then-ends_here-clause-reads c =

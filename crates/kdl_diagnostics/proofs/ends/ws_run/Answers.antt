@@ -2,9 +2,9 @@ use Rattle.std.proofs.Common.{arith}
 use Rattle.kdl_text.specs.Internal.Here.{Here, Stayed}
 use Rattle.kdl_text.specs.Internal.Reading.{Costs, Moves}
 use Rattle.kdl_text.specs.Internal.TriviaReading.{PieceCosts}
-use Rattle.kdl_text.proofs.Looking.MovesJoin.{stays, moves_then, fewer_bytes}
+use Rattle.kdl_text.proofs.Looking.MovesJoin.{moves_then, fewer_bytes}
 use Rattle.kdl_diagnostics.specs.Internal.Reading.{GoesOn}
-use Rattle.kdl_diagnostics.proofs.Passing.{goes_paid, passed_here, reads_costs, reads_more, reads_stayed, reads_then, reads_up}
+use Rattle.kdl_diagnostics.proofs.Passing.{after_same, goes_paid, reads_costs, reads_more, reads_stayed, reads_then, reads_up}
 use Rattle.kdl_diagnostics.proofs.ends.ws_run.Goals as goal
 
 -- past spaces and a comment
@@ -19,13 +19,7 @@ returns-then-not-looks_two-clause-reads c =
     reads_more 1 (reads_then c.run.invariant (reads_up 11 (reads_then spaces (reads_stayed 1 c.looks_two.ensures.stayed))))
 
 pub returns-then-not-block_comment-clause-comment : goal.returns-then-not-block_comment-clause-comment
-returns-then-not-block_comment-clause-comment c =
-    let first = moves_then c.run.invariant.moves c.spaces.ensures.moves in
-    let rest = moves_then (reads_stayed 1 c.looks_two.ensures.stayed).moves c.block_comment.ensures.moves in
-    record {
-      start = passed_here _ _ _ _ c.checkpoint-start.ensures.rest c.checkpoint-start.ensures.at first rest;
-      end = passed_here _ _ _ _ c.checkpoint.ensures.rest c.checkpoint.ensures.at (moves_then first rest) (stays _);
-    }
+returns-then-not-block_comment-clause-comment c = after_same _ _ _ (moves_then c.run.invariant.moves c.spaces.ensures.moves).piece c.checkpoint-start.ensures.rest
 
 pub returns-then-not-block_comment-clause-reads : goal.returns-then-not-block_comment-clause-reads
 returns-then-not-block_comment-clause-reads c =

@@ -1,16 +1,11 @@
-use Rattle.std.proofs.Common.{arith}
-use Rattle.kdl_text.proofs.Looking.MovesJoin.{moves_then, fewer_bytes}
-use Rattle.kdl_diagnostics.proofs.LexemeMoves.{past_moves}
-use Rattle.kdl_diagnostics.proofs.Passing.{run_fewer, since_bytes}
+use Rattle.kdl_diagnostics.proofs.LexemeMoves.{lexes_word, past_from}
+use Rattle.kdl_diagnostics.proofs.Passing.{reads_costs, reads_then, reads_up, run_fewer}
 use Rattle.kdl_diagnostics.proofs.lexemes.bare_lexeme.Goals as goal
 
 pub word-requires-clause-start : goal.word-requires-clause-start
-word-requires-clause-start c =
-    let few = run_fewer _ _ _ c.bare_string.ensures.run c.requires.string in
-    past_moves c.requires.start c.bare_string.ensures.moves (omega (arith, few, since_bytes c.requires.start.since))
+word-requires-clause-start c = past_from c.checkpoint-start.ensures.rest c.checkpoint-start.ensures.part c.bare_string.ensures.moves (run_fewer _ _ _ c.bare_string.ensures.run c.requires)
 
-pub returns-clause-reads : goal.returns-clause-reads
-returns-clause-reads c =
-    let m = c.bare_string.ensures.moves in
-    let r = c.word.ensures.reads in
-    record { moves = moves_then m r.moves; most = omega (arith, c.bare_string.ensures.costs.most, fewer_bytes m, r.most) }
+pub returns : goal.returns
+returns c =
+    let b = c.bare_string.ensures in
+    lexes_word c.checkpoint-start.ensures.rest c.word.ensures.lexeme (reads_then (reads_up 22 (reads_costs b.moves b.costs)) c.word.ensures.reads)

@@ -6,7 +6,7 @@ use Rattle.kdl_diagnostics.proofs.Passing.{after_same}
 use Rattle.kdl_diagnostics.proofs.lexemes.end_within.Goals as goal
 
 pub up_to-requires : goal.up_to-requires
-up_to-requires c = after_same _ _ _ c.requires.moves.piece c.checkpoint.ensures.rest
+up_to-requires c = after_same _ _ _ c.requires.before c.checkpoint.ensures.rest
 
 pub enter-here-requires : goal.enter-here-requires
 enter-here-requires c = part_front _ _ _ _ c.requires.part c.up_to.ensures
@@ -37,7 +37,7 @@ returns-clause-back c =
         ap (λ z. z.at) inside,
         ap (λ z. bytes z.rest) inside,
         end.reads.most,
-        end.end.place.at,
+        end.end.at,
         c.at.ensures,
         ap (λ z. z.steps) from,
         on.most,

@@ -1,15 +1,14 @@
-use Rattle.kdl_diagnostics.proofs.LexemeMoves.{at_past, lexeme_past, next_part, past_reads}
-use Rattle.kdl_diagnostics.proofs.Passing.{end_after}
+use Rattle.std.proofs.Common.{arith}
+use Rattle.kdl_text.proofs.Looking.MovesJoin.{fewer_bytes}
+use Rattle.kdl_diagnostics.proofs.LexemeMoves.{end_in, lexes}
+use Rattle.kdl_diagnostics.proofs.Passing.{reads_then, reads_up, stepped_there}
 use Rattle.kdl_diagnostics.proofs.lexemes.other.Goals as goal
 
-pub go_to-requires : goal.go_to-requires
-go_to-requires c = next_part c.requires
+pub new-requires : goal.new-requires
+new-requires c = end_in _ c.checkpoint-start.ensures.rest (stepped_there _ _ c.requires c.step.ensures).reads.moves c.value_end-end.ensures.end
 
-pub new-requires-clause-end : goal.new-requires-clause-end
-new-requires-clause-end c = end_after _ _ _ _ (at_past c.requires c.go_to.ensures).since c.value_end-end.ensures.end
-
-pub returns-clause-lexeme : goal.returns-clause-lexeme
-returns-clause-lexeme c = lexeme_past c.requires c.go_to.ensures c.new.ensures.stands (λ e. cc) c.value_end-end.ensures.reads.moves
-
-pub returns-clause-reads : goal.returns-clause-reads
-returns-clause-reads c = past_reads c.requires c.go_to.ensures c.value_end-end.ensures.reads
+pub returns : goal.returns
+returns c =
+    let s = stepped_there _ _ c.requires c.step.ensures in
+    let r = c.value_end-end.ensures.reads in
+    lexes c.checkpoint-start.ensures.rest c.new.ensures.stands (λ e. cc) (reads_then (reads_up 24 s.reads) r) (omega (arith, s.went, fewer_bytes r.moves))

@@ -1,25 +1,27 @@
-use Rattle.std.proofs.Common.{sym, ◌∙◌}
-use Rattle.kdl_diagnostics.proofs.LexemeMoves.{lexeme_since}
-use Rattle.kdl_diagnostics.proofs.Passing.{newline_first, ran_fewer, reads_costs, reads_more, reads_ran, reads_up, since_reads, starts_first, stepped_first}
+use Rattle.std.proofs.Common.{sym, ◌∙◌, ◌++◌, ap}
+use Rattle.kdl_diagnostics.proofs.LexemeMoves.{lexes}
+use Rattle.kdl_diagnostics.proofs.Passing.{newline_first, ran_fewer, reads_costs, reads_more, reads_ran, reads_up, starts_first, stepped_first}
 use Rattle.kdl_diagnostics.proofs.lexemes.plain_lexeme.Goals as goal
 
-pub returns-then-is_space-clause-lexeme : goal.returns-then-is_space-clause-lexeme
-returns-then-is_space-clause-lexeme c = lexeme_since c.requires.start c.plain.ensures.stands (λ e. cc) (ran_fewer _ _ _ c.skip.ensures (starts_first _ _ _ c.requires.first c.if-is_space.ensures))
+pub returns-then-is_space : goal.returns-then-is_space
+returns-then-is_space c = lexes c.checkpoint-start.ensures.rest c.plain.ensures.stands (λ e. cc) (reads_more 11 (reads_up 23 (reads_ran c.skip.ensures))) (ran_fewer _ _ _ c.skip.ensures (starts_first _ _ _ c.requires c.if-is_space.ensures))
 
-pub returns-then-is_space-clause-reads : goal.returns-then-is_space-clause-reads
-returns-then-is_space-clause-reads c = since_reads c.requires.start.since (reads_more 39 (reads_up 36 (reads_ran c.skip.ensures)))
+pub returns-then-is_newline_char : goal.returns-then-is_newline_char
+returns-then-is_newline_char c =
+    let n = c.newline.ensures in
+    lexes c.checkpoint-start.ensures.rest c.plain-then-is_newline_char.ensures.stands (λ e. cc) (reads_more 11 (reads_up 22 (reads_costs n.moves n.costs))) (newline_first _ _ _ _ n.reads c.requires c.if-is_newline_char.ensures)
 
-pub returns-then-is_newline_char-clause-lexeme : goal.returns-then-is_newline_char-clause-lexeme
-returns-then-is_newline_char-clause-lexeme c = lexeme_since c.requires.start c.plain-then-is_newline_char.ensures.stands (λ e. cc) (newline_first _ _ _ _ c.newline.ensures.reads c.requires.first c.if-is_newline_char.ensures)
+pub returns-in-Some : goal.returns-in-Some
+returns-in-Some c =
+    let s = stepped_first _ _ _ c.requires c.step-in-Some.ensures in
+    lexes c.checkpoint-start.ensures.rest c.plain-in-Some.ensures.stands (λ e. c.in-Some.ensures (sym c.plain-in-Some.ensures.kind ∙ e)) (reads_more 12 (reads_up 24 s.reads)) s.went
 
-pub returns-then-is_newline_char-clause-reads : goal.returns-then-is_newline_char-clause-reads
-returns-then-is_newline_char-clause-reads c = since_reads c.requires.start.since (reads_more 39 (reads_up 35 (reads_costs c.newline.ensures.moves c.newline.ensures.costs)))
+pub new-requires : goal.new-requires
+new-requires c =
+    let s = stepped_first _ _ _ c.requires c.step.ensures in
+    record { place = (s.reads.moves.piece.0, c.checkpoint-start.ensures.rest ∙ s.reads.moves.piece.1 ∙ ap (λ z. s.reads.moves.piece.0 ++ z) (sym (ap (λ z. z.rest) c.at-end.ensures.place ∙ c.checkpoint.ensures.rest))); comment = rw c.at-end.ensures.comment tt }
 
-pub returns-in-Some-clause-lexeme : goal.returns-in-Some-clause-lexeme
-returns-in-Some-clause-lexeme c = lexeme_since c.requires.start c.plain-in-Some.ensures.stands (λ e. c.in-Some.ensures (sym c.plain-in-Some.ensures.kind ∙ e)) (stepped_first _ _ _ c.requires.first c.step.ensures).went
-
-pub returns-in-Some-clause-reads : goal.returns-in-Some-clause-reads
-returns-in-Some-clause-reads c = since_reads c.requires.start.since (reads_more 40 (reads_up 37 (stepped_first _ _ _ c.requires.first c.step.ensures).reads))
-
-pub returns-in-None-clause-reads : goal.returns-in-None-clause-reads
-returns-in-None-clause-reads c = reads_more 28 (reads_up 13 c.other.ensures.reads)
+pub returns-then-c-eq40 : goal.returns-then-c-eq40
+returns-then-c-eq40 c =
+    let s = stepped_first _ _ _ c.requires c.step.ensures in
+    lexes c.checkpoint-start.ensures.rest c.new.ensures.stands (λ e. cc) (reads_more 12 (reads_up 24 s.reads)) s.went

@@ -1,40 +1,32 @@
-use Rattle.std.proofs.Common.{[], sym, ap, arith}
-use Rattle.kdl_diagnostics.proofs.LexemeMoves.{at_moves, lexeme_since}
-use Rattle.kdl_diagnostics.proofs.Passing.{after_same, reads_costs, reads_more, reads_up, since_later, since_moves, since_reads}
+use Rattle.std.proofs.Common.{◌≡◌, sym, ◌∙◌}
+use Rattle.kdl_text.specs.Chars.{Text}
+use Rattle.kdl_text.specs.Internal.Here.{Here}
+use Rattle.kdl_text.specs.Internal.Reading.{Moves}
+use Rattle.kdl_text.specs.Internal.TriviaReading.{PieceCosts}
+use Rattle.kdl_diagnostics.specs.Internal.Reading.{Lexes, Stands}
+use Rattle.kdl_diagnostics.specs.declared.lexemes.Lexeme.{Lexeme}
+use Rattle.kdl_diagnostics.specs.declared.lexemes.LexemeKind.TheVariants.{End}
+use Rattle.kdl_diagnostics.proofs.LexemeMoves.{lexes, lexes_after}
+use Rattle.kdl_diagnostics.proofs.Passing.{reads_costs, reads_more, reads_stayed, reads_up}
 use Rattle.kdl_diagnostics.proofs.lexemes.slash_lexeme.Goals as goal
 
+piece : {s : Text} {p : Lexeme} {a b : Here} → s ≡ a.rest → Stands s p → (p.kind ≡ End → ⊥) → Moves a b → PieceCosts 9 a b → Lexes 24 18 a p b
+piece e i h m k = lexes e i h (reads_more 18 (reads_up 15 (reads_costs m k.costs))) k.fewer
+
 pub other-requires : goal.other-requires
-other-requires c = at_moves c.requires c.slash.ensures.moves
+other-requires c e = c.requires (sym c.in-Other.ensures.reads.3.rest ∙ e)
 
-pub unclosed-requires : goal.unclosed-requires
-unclosed-requires c = record {
-  start = ([], sym (ap (λ z. z.rest) c.copied.ensures));
-  end = after_same _ _ _ (since_moves c.requires.since c.slash.ensures.moves).moves.piece c.checkpoint.ensures.rest;
-}
+pub returns-in-Other : goal.returns-in-Other
+returns-in-Other c = let s = c.in-Other.ensures.reads.3 in lexes_after (reads_stayed 24 s) s.rest c.other.ensures
 
-pub returns-in-Other-clause-reads : goal.returns-in-Other-clause-reads
-returns-in-Other-clause-reads c = since_later {place = c.args.start.place} 6 c.args.cursor.now c.slash.new.cursor _ (omega (arith, c.in-Other.ensures.costs.most)) c.slash.ensures.moves.counts c.slash.ensures.moves.same c.other.ensures.reads
+pub returns-in-Block : goal.returns-in-Block
+returns-in-Block c = piece c.checkpoint-start.ensures.rest c.plain.ensures.stands (λ e. cc) c.slash.ensures.moves c.in-Block.ensures.costs
 
-pub returns-in-Block-clause-lexeme : goal.returns-in-Block-clause-lexeme
-returns-in-Block-clause-lexeme c = lexeme_since c.requires c.plain.ensures.stands (λ e. cc) c.in-Block.ensures.costs.fewer
+pub returns-in-Line : goal.returns-in-Line
+returns-in-Line c = piece c.checkpoint-start.ensures.rest c.plain-in-Line.ensures.stands (λ e. cc) c.slash.ensures.moves c.in-Line.ensures.costs
 
-pub returns-in-Block-clause-reads : goal.returns-in-Block-clause-reads
-returns-in-Block-clause-reads c = since_reads c.requires.since (reads_more 18 (reads_up 15 (reads_costs c.slash.ensures.moves c.in-Block.ensures.costs.costs)))
+pub returns-in-Dash : goal.returns-in-Dash
+returns-in-Dash c = piece c.checkpoint-start.ensures.rest c.plain-in-Dash.ensures.stands (λ e. cc) c.slash.ensures.moves c.in-Dash.ensures.costs
 
-pub returns-in-Line-clause-lexeme : goal.returns-in-Line-clause-lexeme
-returns-in-Line-clause-lexeme c = lexeme_since c.requires c.plain-in-Line.ensures.stands (λ e. cc) c.in-Line.ensures.costs.fewer
-
-pub returns-in-Line-clause-reads : goal.returns-in-Line-clause-reads
-returns-in-Line-clause-reads c = since_reads c.requires.since (reads_more 18 (reads_up 15 (reads_costs c.slash.ensures.moves c.in-Line.ensures.costs.costs)))
-
-pub returns-in-Dash-clause-lexeme : goal.returns-in-Dash-clause-lexeme
-returns-in-Dash-clause-lexeme c = lexeme_since c.requires c.plain-in-Dash.ensures.stands (λ e. cc) c.in-Dash.ensures.costs.fewer
-
-pub returns-in-Dash-clause-reads : goal.returns-in-Dash-clause-reads
-returns-in-Dash-clause-reads c = since_reads c.requires.since (reads_more 18 (reads_up 15 (reads_costs c.slash.ensures.moves c.in-Dash.ensures.costs.costs)))
-
-pub returns-in-Unclosed-clause-lexeme : goal.returns-in-Unclosed-clause-lexeme
-returns-in-Unclosed-clause-lexeme c = lexeme_since c.requires c.unclosed.ensures.stands (λ e. cc) c.in-Unclosed.ensures.costs.fewer
-
-pub returns-in-Unclosed-clause-reads : goal.returns-in-Unclosed-clause-reads
-returns-in-Unclosed-clause-reads c = since_reads c.requires.since (reads_more 18 (reads_up 15 (reads_costs c.slash.ensures.moves c.in-Unclosed.ensures.costs.costs)))
+pub returns-in-Unclosed : goal.returns-in-Unclosed
+returns-in-Unclosed c = piece c.checkpoint-start.ensures.rest c.unclosed.ensures.stands (λ e. cc) c.slash.ensures.moves c.in-Unclosed.ensures.costs

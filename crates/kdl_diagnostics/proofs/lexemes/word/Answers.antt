@@ -1,16 +1,13 @@
 use Rattle.std.proofs.Common.{sym, ◌∙◌, arith}
 use Rattle.kdl_text.proofs.Looking.MovesJoin.{fewer_bytes}
-use Rattle.kdl_diagnostics.proofs.Passing.{end_after}
+use Rattle.kdl_diagnostics.proofs.LexemeMoves.{lexeme_is}
+use Rattle.kdl_diagnostics.proofs.Passing.{ends_in}
 use Rattle.kdl_diagnostics.proofs.lexemes.word.Goals as goal
 
-pub new-lexeme-requires-clause-end : goal.new-lexeme-requires-clause-end
-new-lexeme-requires-clause-end c = end_after _ _ _ _ c.requires.start.at.since c.value_end-end.ensures.end
+pub new-lexeme-requires : goal.new-lexeme-requires
+new-lexeme-requires c = let x = c.requires.start.since in ends_in _ _ _ x.before c.value_end-end.ensures.end.ends
 
 pub returns-clause-lexeme : goal.returns-clause-lexeme
 returns-clause-lexeme c =
     let s = c.new-lexeme.ensures.stands in
-    record {
-      stands = record { start = s.start; next = s.next; end = s.end; backslash = s.backslash; comment = s.comment };
-      more = λ e. c.requires.kind (sym c.new-lexeme.ensures.kind ∙ e);
-      went = omega (arith, c.requires.start.went, fewer_bytes c.value_end-end.ensures.reads.moves);
-    }
+    lexeme_is (record { start = s.start; end = s.end; backslash = s.backslash; comment = s.comment }) (λ e. c.requires.kind (sym c.new-lexeme.ensures.kind ∙ e)) (omega (arith, c.requires.start.went, fewer_bytes c.value_end-end.ensures.reads.moves))

@@ -5,7 +5,7 @@ use Rattle.kdl_diagnostics.proofs.StringLoops.{read_once_more}
 use Rattle.kdl_diagnostics.proofs.strings.fault_of_lines.Goals as goal
 
 pub up_to-requires : goal.up_to-requires
-up_to-requires c = after_same _ _ _ c.requires.moves.piece c.checkpoint.ensures.rest
+up_to-requires c = after_same _ _ _ c.requires.before c.checkpoint.ensures.rest
 
 pub enter-place-requires : goal.enter-place-requires
 enter-place-requires c = part_front _ _ _ _ c.requires.part c.up_to.ensures

@@ -16,7 +16,7 @@ returns-clause-fault c =
     ] in
     record {
       reads = on.reads;
-      finds = λ start v f. c.earlier.ensures _ _ (found_on _ _ _ _ f on.reads.moves) (passed_here _ _ _ _ c.checkpoint-place.ensures.rest c.checkpoint-place.ensures.at v on.reads.moves);
+      finds = λ start v f. c.earlier.ensures _ _ (found_on start _ f on.reads.moves) (passed_here c.checkpoint-place.ensures.rest v on.reads.moves);
     }
 
 pub returns-clause-went : goal.returns-clause-went

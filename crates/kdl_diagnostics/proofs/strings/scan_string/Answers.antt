@@ -8,7 +8,7 @@ use Rattle.kdl_diagnostics.proofs.strings.scan_string.Goals as goal
 pub scan_lines-requires : goal.scan_lines-requires
 scan_lines-requires c =
     let s = stepped_begins _ c.args.cursor.now c.step.new.self c.requires.quote c.step.ensures in
-    since_moves c.requires.since (reads_then s.reads (reads_two _ _ _ _ _ c.eat_two.ensures)).moves
+    since_moves c.requires.start (reads_then s.reads (reads_two _ _ _ _ _ c.eat_two.ensures)).moves
 
 pub returns-then-eat_two-clause-reads : goal.returns-then-eat_two-clause-reads
 returns-then-eat_two-clause-reads c =
@@ -24,12 +24,12 @@ returns-then-eat_two-clause-went c =
 pub returns-clause-fault : goal.returns-clause-fault
 returns-clause-fault c =
     let s = stepped_begins _ c.args.cursor.now c.step.new.self c.requires.quote c.step.ensures in
-    found_from c.requires.since (reads_then s.reads (reads_two _ _ _ _ _ c.eat_two.ensures)).moves c.units.ensures tt
+    found_from c.requires.start (reads_then s.reads (reads_two _ _ _ _ _ c.eat_two.ensures)).moves c.units.ensures tt
 
 pub returns-clause-reads : goal.returns-clause-reads
 returns-clause-reads c =
     let s = stepped_begins _ c.args.cursor.now c.step.new.self c.requires.quote c.step.ensures in
-    reads_from c.requires.since (reads_then (reads_up 5 (reads_then s.reads (reads_two _ _ _ _ _ c.eat_two.ensures))) c.units.ensures.reads) (omega arith)
+    reads_from c.requires.start (reads_then (reads_up 5 (reads_then s.reads (reads_two _ _ _ _ _ c.eat_two.ensures))) c.units.ensures.reads) (omega arith)
 
 pub returns-clause-went : goal.returns-clause-went
 returns-clause-went c =

@@ -1,6 +1,6 @@
 use Rattle.std.proofs.Common.{length, ap, arith}
 use Rattle.kdl_diagnostics.proofs.FrontEnds.{pushed}
-use Rattle.kdl_diagnostics.proofs.NotedSpans.{noted_more, noted_same, span_in}
+use Rattle.kdl_diagnostics.proofs.NotedSpans.{noted_more, noted_same}
 use Rattle.kdl_diagnostics.proofs.notes.Notes.note.Goals as goal
 
 pub returns-in_err-push-clause-keeps : goal.returns-in_err-push-clause-keeps
@@ -11,6 +11,6 @@ returns-in_err-push-clause-keeps c = record {
 
 pub returns-clause-keeps : goal.returns-clause-keeps
 returns-clause-keeps c = record {
-  notes = λ text x u. (record { whole = x.whole; left = x.left; faults = noted_more text _ _ _ c.in_ok-push.ensures.items x.faults (span_in text c.args.self.now c.args.from.now c.args.to.now _ x u.0 u.1 c.span_between-span.ensures); blocks = x.blocks; candidates = x.candidates });
+  notes = λ text x u. (record { whole = x.whole; left = x.left; faults = noted_more text _ _ _ c.in_ok-push.ensures.items x.faults (c.span-span.ensures text x u.0 u.1); blocks = x.blocks; candidates = x.candidates });
   grows = omega (arith, pushed _ _ _ c.in_ok-push.ensures.items);
 }

@@ -4,6 +4,6 @@ use Rattle.kdl_diagnostics.proofs.notes.Notes.note_left.Goals as goal
 
 pub returns-in-Left : goal.returns-in-Left
 returns-in-Left c = record {
-  notes = λ text x s. (record { whole = x.whole; left = same_lies text _ _ c.copied-self.ensures s.next; faults = x.faults; blocks = x.blocks; candidates = x.candidates });
+  notes = λ text x s. (record { whole = x.whole; left = same_lies text _ _ c.copied-self.ensures s.end; faults = x.faults; blocks = x.blocks; candidates = x.candidates });
   grows = omega arith;
 }

@@ -10,3 +10,6 @@ returns-in-Left-clause-keeps c = record {
 
 pub returns-in-Closing-clause-keeps : goal.returns-in-Closing-clause-keeps
 returns-in-Closing-clause-keeps c = keeps_if (λ text u. tt) c.close_block.ensures.keeps
+
+pub returns-in-Opening-clause-keeps : goal.returns-in-Opening-clause-keeps
+returns-in-Opening-clause-keeps c = keeps_if (λ text u. u.0) c.open_block.ensures.keeps

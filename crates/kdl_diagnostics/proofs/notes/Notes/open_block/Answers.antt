@@ -1,5 +1,5 @@
 use Rattle.std.proofs.Common.{refl, arith}
-use Rattle.kdl_diagnostics.proofs.NotedSpans.{opened_more, opened_same, span_in}
+use Rattle.kdl_diagnostics.proofs.NotedSpans.{opened_more, opened_same}
 use Rattle.kdl_diagnostics.proofs.notes.Notes.open_block.Goals as goal
 
 pub returns-in_err-push-clause-keeps : goal.returns-in_err-push-clause-keeps
@@ -10,7 +10,7 @@ returns-in_err-push-clause-keeps c = record {
 
 pub returns-clause-keeps : goal.returns-clause-keeps
 returns-clause-keeps c = record {
-  notes = λ text x u. (record { whole = x.whole; left = x.left; faults = x.faults; blocks = opened_more text _ _ _ c.in_ok-push.ensures.items x.blocks (span_in text c.args.self.now c.args.from.now c.args.to.now _ x u.0 u.1 c.span_between-span.ensures); candidates = x.candidates });
+  notes = λ text x u. (record { whole = x.whole; left = x.left; faults = x.faults; blocks = opened_more text _ _ _ c.in_ok-push.ensures.items x.blocks (c.span-span.ensures text x u u); candidates = x.candidates });
   grows = omega arith;
 }
 

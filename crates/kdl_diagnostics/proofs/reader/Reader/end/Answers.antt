@@ -9,7 +9,7 @@ pub returns-then-is_due-clause-takes : goal.returns-then-is_due-clause-takes
 returns-then-is_due-clause-takes c = takes_on _ _ c.note_misfit.ensures.keeps c.note_misfit.ensures.reads
 
 pub returns-in-Some-clause-takes : goal.returns-in-Some-clause-takes
-returns-in-Some-clause-takes c = takes_notes _ _ (keeps_if (λ text s. (s.start, s.next)) c.note.ensures.keeps) refl
+returns-in-Some-clause-takes c = takes_notes _ _ (keeps_if (λ text s. s.start) c.note_at.ensures.keeps) refl
 
 pub returns-clause-takes : goal.returns-clause-takes
 returns-clause-takes c = takes_notes _ _ (keeps_if (λ text s. tt) c.note_blocks.ensures.keeps) refl
