@@ -12,5 +12,3 @@ pub mod NumberReads
 pub mod DecimalReads
 -- Decimal digits at the front of a text.
 pub mod DigitRuns
--- Numbers in which no `_` is.
-pub mod PlainDigits

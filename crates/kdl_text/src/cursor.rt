@@ -111,7 +111,7 @@ fn same_bytes(a: &str, b: &str) -> bool
     a == b
 }
 
-fn same(a: &str, b: &str) -> bool
+pub(crate) fn same(a: &str, b: &str) -> bool
     ensures { IsTrue result ↔ (chars a.now ≡ chars b.now) }
 {
     same_bytes(a, b)

@@ -4,18 +4,16 @@
 ghost use Rattle.kdl_text.specs.Chars.{starts};
 ghost use Rattle.kdl_text.specs.Chars as class;
 ghost use Rattle.kdl_text.specs.Internal.Here.{Looked, Stayed};
-ghost use Rattle.kdl_text.specs.Internal.NumberReading.{radix_of, is_minus, IsBase, LooksBasePrefix, Counts, IsDigit, ReadsDigits, ReadsInteger, ReadsDecimal, ReadsFront, IsFault, IsPartFault, IsPowerFault, IsNumberFault, ReadsFraction, ReadsExponent, ReadsPart, ReadsNumber, ReadsKeyword, AteExponentLetter, WordOf, is_of_number};
+ghost use Rattle.kdl_text.specs.Internal.NumberReading.{radix_of, IsBase, LooksBasePrefix, Counts, IsDigit, SignOf, BaseOf, ReadsDigits, ReadsInteger, ReadsFront, IsNumberFault, ReadsFraction, ReadsExponent, ReadsPart, ReadsWhole, ReadsNumber, ReadsKeyword, AteExponentLetter, WordOf};
 ghost use Rattle.kdl_text.specs.Numbers as spec;
-ghost use Rattle.kdl_text.specs.declared.numbers.Magnitude.TheVariants.{Small};
-ghost use Rattle.kdl_text.specs.Numbers.{BasePrefix, Decimal, FloatKeyword, FloatText};
-ghost use Rattle.kdl_text.specs.Internal.DigitRuns.{Contains, joined, with_underscores};
-ghost use Rattle.kdl_text.specs.Internal.Reading.{Moves, Costs, Past, Consumed};
-ghost use Rattle.std.specs.Prelude.{◌≡◌, true, ℕ, ◌+◌, ◌*◌, ◌<◌, ◌≤◌, ◌++◌, ◌||◌, false, not, IfOk, if◌then◌else◌, ◌↔◌, IsTrue, IfSome, string_bytes, [], length, ◌==◌};
+ghost use Rattle.kdl_text.specs.Numbers.{Decimal, FloatKeyword, FloatText};
+ghost use Rattle.kdl_text.specs.Internal.Reading.{Moves, Costs, Consumed};
+ghost use Rattle.std.specs.Prelude.{◌≡◌, ℕ, ◌+◌, ◌*◌, ◌<◌, ◌≤◌, ◌++◌, not, IfOk, if◌then◌else◌, ◌↔◌, IsTrue, IfSome, string_bytes, [], ◌==◌};
 ghost use Rattle.std.specs.List.{list_all};
 ghost use Rattle.std.specs.Str.{chars};
 
 use crate::chars::{Class, is_digit, is_identifier_char, is_sign, split_first};
-use crate::cursor::{Cursor, Piece, Steps};
+use crate::cursor::{Cursor, Piece, Steps, same};
 use std::alloc::{AllocError, Global};
 
 /// The base in which a whole number is written.
@@ -113,101 +111,20 @@ pub enum Keyword {
     NotANumber,
 }
 
-/// The sign of a number.
-#[derive(Clone, Copy)]
-enum Sign {
-    /// `+`, or no sign.
-    Plus,
-    /// `-`.
-    Minus,
-}
-
-/// Whether digits that were read may contain `_`.
-#[derive(Clone, Copy)]
-enum Underscores {
-    /// They contain none.
-    Absent,
-    /// They may contain some.
-    Possible,
-}
-
-impl Underscores {
-    /// Returns whether a piece of a number and the one after it may contain `_`.
-    #[inline(always)]
-    fn with(self, other: Self) -> Self
-        ensures { result ≡ with_underscores self other }
-    {
-        match self {
-            Underscores::Absent => other,
-            Underscores::Possible => self,
-        }
-    }
-}
-
-/// A number without its sign, while its digits are read.
-#[derive(Clone, Copy)]
-enum Magnitude {
-    /// A number of 64 bits, which is enough for most and fast.
-    Small(u64),
-    /// A number of 128 bits.
-    Large(u128),
-    /// A number that needs more than 128 bits.
-    Huge,
-}
-
-impl Magnitude {
-    /// Returns the number with one more digit.
-    #[inline]
-    fn with_digit(self, radix: u32, digit: u32) -> Self
-        requires low { 2 ≤ radix }
-        requires high { radix ≤ 16 }
-        requires digit { digit < radix }
-        ensures { (n : ℕ) → Counts self n → Counts result (n * radix + digit) }
-    {
-        match self {
-            Magnitude::Small(n) if n < 1 << 59 => Magnitude::Small(
-                n * u64::from(radix) + u64::from(digit),
-            ),
-            Magnitude::Small(n) => Magnitude::Large(
-                u128::from(n) * u128::from(radix) + u128::from(digit),
-            ),
-            Magnitude::Large(n) => n
-                .checked_mul(u128::from(radix))
-                .and_then(|m| m.checked_add(u128::from(digit)))
-                .map_or(Magnitude::Huge, Magnitude::Large),
-            Magnitude::Huge => Magnitude::Huge,
-        }
-    }
-
-    /// Returns the number with its sign, if it fits in an `i128`.
-    fn signed(self, sign: Sign) -> Result<i128, NumberFault>
-        ensures { (n : ℕ) → Counts self n
-            → result ≡ (if spec.fits (is_minus sign) n then Ok (spec.signed (is_minus sign) n)
-            else Err NumberFault.OutOfRange) }
-    {
-        match self {
-            Magnitude::Small(n) => Ok(match sign {
-                Sign::Plus => n as i128,
-                Sign::Minus => -(n as i128),
-            }),
-            Magnitude::Large(n) => with_sign(sign, n).ok_or(NumberFault::OutOfRange),
-            Magnitude::Huge => Err(NumberFault::OutOfRange),
-        }
-    }
-}
-
-/// Returns the number with its sign, if it fits in an `i128`.
-fn with_sign(sign: Sign, n: u128) -> Option<i128>
-    ensures { result ≡ (if spec.fits (is_minus sign) n
-        then Some (spec.signed (is_minus sign) n)
-        else None) }
+/// Returns the number with one more digit, or `u128::MAX` if it needs more than 128 bits.
+#[inline]
+fn with_digit(number: u128, radix: u32, digit: u32) -> u128
+    requires low { 2 ≤ radix }
+    requires high { radix ≤ 16 }
+    requires digit { digit < radix }
+    ensures { (n : ℕ) → Counts number n → Counts result (n * radix + digit) }
 {
-    match sign {
-        Sign::Plus if n >= 1 << 127 => None,
-        Sign::Plus => Some(n as i128),
-        Sign::Minus if n > 1 << 127 => None,
-        Sign::Minus if n == 1 << 127 => Some(i128::MIN),
-        Sign::Minus => Some(-(n as i128)),
+    if number < 1 << 59 {
+        return u128::from(number as u64 * u64::from(radix) + u64::from(digit));
+    }
+    match number.checked_mul(u128::from(radix)) {
+        Some(number) => number.saturating_add(u128::from(digit)),
+        None => u128::MAX,
     }
 }
 
@@ -220,22 +137,17 @@ fn digit_of(c: char, radix: Radix) -> Option<u32>
     c.to_digit(radix.value())
 }
 
-/// Advances past a sign if one is here, and returns it.
+/// Advances past a sign if one is here, and returns whether it is `-`.
 #[inline(always)]
-fn read_sign(cursor: &mut Cursor) -> Sign
-    ensures reads { spec.Sign cursor.old.rest cursor.new.rest (is_minus result) }
-    ensures past { Past 2 1 cursor.old cursor.new }
+fn read_sign(cursor: &mut Cursor) -> bool
+    ensures { Consumed 2 1 (SignOf result) cursor.old cursor.new }
 {
     match cursor.look() {
-        Some('-') => {
+        Some(c) if is_sign(c) => {
             cursor.step();
-            Sign::Minus
+            c == '-'
         }
-        Some('+') => {
-            cursor.step();
-            Sign::Plus
-        }
-        _ => Sign::Plus,
+        _ => false,
     }
 }
 
@@ -256,8 +168,7 @@ fn base_here(cursor: &mut Cursor) -> Option<Radix>
 /// Advances past the prefix of a base, if one is here.
 #[inline(always)]
 fn eat_base_prefix(cursor: &mut Cursor) -> Radix
-    ensures reads { BasePrefix cursor.old.rest cursor.new.rest (radix_of result) }
-    ensures past { Past 2 2 cursor.old cursor.new }
+    ensures { Consumed 2 2 (BaseOf result) cursor.old cursor.new }
 {
     let Some(radix) = base_here(cursor) else {
         return Radix::Decimal;
@@ -270,63 +181,49 @@ fn eat_base_prefix(cursor: &mut Cursor) -> Radix
 /// Advances past the digits of the base and the `_` here. Returns the number `before` with these
 /// digits appended.
 #[inline(never)]
-fn more_digits(cursor: &mut Cursor, radix: Radix, before: Magnitude) -> Magnitude
+fn digits<'a>(cursor: &mut Cursor<'a>, radix: Radix, before: u128) -> u128
     ensures { Consumed 2 1 (ReadsDigits (radix_of radix) before result) cursor.old cursor.new }
 {
-    let mut magnitude = before;
-    'digits: loop {
-        match cursor.look() {
-            Some('_') => cursor.step(),
-            Some(c) => match digit_of(c, radix) {
-                Some(digit) => {
-                    magnitude = magnitude.with_digit(radix.value(), digit);
-                    cursor.step();
-                }
-                None => return magnitude,
-            },
-            None => return magnitude,
-        }
-    }
-}
-
-/// Advances past the digits of the base and the `_` here. Returns the number `before` with these
-/// digits appended, in 64 bits as long as it is below 2^59.
-#[inline(always)]
-fn digits<'a>(cursor: &mut Cursor<'a>, radix: Radix, before: u64) -> Magnitude
-    ensures reads { ReadsDigits (radix_of radix) (Small before) result cursor.old.rest cursor.new.rest }
-    ensures past { Past 2 1 cursor.old cursor.new }
-{
     let mut here = cursor.take_over();
-    let mut small = before;
-    'digits: while small < 1 << 59 {
-        match here.look() {
-            Some('_') => here.step(),
-            Some(c) => match digit_of(c, radix) {
-                Some(digit) => {
-                    small = small * u64::from(radix.value()) + u64::from(digit);
-                    here.step();
-                }
-                None => {
-                    *cursor = here;
-                    return Magnitude::Small(small);
-                }
-            },
-            None => {
+    let mut number = before;
+    'digits: while let Some(c) = here.look() {
+        if c != '_' {
+            let Some(digit) = digit_of(c, radix) else {
                 *cursor = here;
-                return Magnitude::Small(small);
-            }
+                return number;
+            };
+            number = with_digit(number, radix.value(), digit);
         }
+        here.step();
     }
     *cursor = here;
-    more_digits(cursor, radix, Magnitude::Small(small))
+    number
+}
+
+/// Advances past a decimal integer, if one is here: a digit, then digits and `_`. Most have no `_`
+/// and a small value.
+#[inline(always)]
+fn decimal_integer(cursor: &mut Cursor) -> Option<u128>
+    ensures { Consumed 2 1 (ReadsInteger 10 result) cursor.old cursor.new }
+{
+    let (count, value, more) = cursor.skip_digits();
+    if count == 0 {
+        return None;
+    }
+    if more {
+        return Some(digits(cursor, Radix::Decimal, u128::from(value)));
+    }
+    Some(u128::from(value))
 }
 
 /// Advances past an integer of the base, if one is here: a digit, then digits and `_`.
 #[inline(always)]
-fn integer(cursor: &mut Cursor, radix: Radix) -> Option<Magnitude>
-    ensures reads { ReadsInteger (radix_of radix) result cursor.old.rest cursor.new.rest }
-    ensures past { Past 2 1 cursor.old cursor.new }
+fn integer(cursor: &mut Cursor, radix: Radix) -> Option<u128>
+    ensures { Consumed 2 1 (ReadsInteger (radix_of radix) result) cursor.old cursor.new }
 {
+    if let Radix::Decimal = radix {
+        return decimal_integer(cursor);
+    }
     let Some(c) = cursor.look() else {
         return None;
     };
@@ -334,49 +231,7 @@ fn integer(cursor: &mut Cursor, radix: Radix) -> Option<Magnitude>
         return None;
     };
     cursor.step();
-    Some(digits(cursor, radix, u64::from(first)))
-}
-
-/// Advances past the decimal digits and the `_` here. Returns the number `before` with these digits
-/// appended.
-#[inline(never)]
-fn more_decimals(cursor: &mut Cursor, before: u64) -> Magnitude
-    ensures reads { ReadsDigits 10 (Small before) result cursor.old.rest cursor.new.rest }
-    ensures past { Past 2 1 cursor.old cursor.new }
-{
-    digits(cursor, Radix::Decimal, before)
-}
-
-/// Advances past a decimal integer, if one is here: a digit, then digits and `_`. Most have no `_`
-/// and a small value.
-#[inline(always)]
-fn decimal_integer(cursor: &mut Cursor) -> Option<(Magnitude, Underscores)>
-    ensures reads { ReadsDecimal 10 result cursor.old.rest cursor.new.rest }
-    ensures past { Past 2 1 cursor.old cursor.new }
-{
-    let (count, value, more) = cursor.skip_digits();
-    if count == 0 {
-        return None;
-    }
-    if more {
-        return Some((more_decimals(cursor, value), Underscores::Possible));
-    }
-    Some((Magnitude::Small(value), Underscores::Absent))
-}
-
-/// Advances past an integer of the base, if one is here.
-#[inline(always)]
-fn integer_in(cursor: &mut Cursor, radix: Radix) -> Option<(Magnitude, Underscores)>
-    ensures reads { ReadsDecimal (radix_of radix) result cursor.old.rest cursor.new.rest }
-    ensures past { Past 2 1 cursor.old cursor.new }
-{
-    if let Radix::Decimal = radix {
-        return decimal_integer(cursor);
-    }
-    match integer(cursor, radix) {
-        Some(magnitude) => Some((magnitude, Underscores::Possible)),
-        None => None,
-    }
+    Some(digits(cursor, radix, u128::from(first)))
 }
 
 /// Whether no identifier character is here. The characters that most often follow digits are tested
@@ -412,61 +267,57 @@ pub fn begins_number(cursor: &mut Cursor) -> bool
 /// The front of a number, up to the end of its first integer.
 #[derive(Clone, Copy)]
 struct Front {
-    sign: Sign,
+    negative: bool,
     radix: Radix,
-    magnitude: Magnitude,
-    underscores: Underscores,
+    /// The number without its sign, or `u128::MAX` if it needs more than 128 bits.
+    magnitude: u128,
+}
+
+impl Front {
+    /// Returns the whole number, if it fits in an `i128`.
+    fn value(self) -> Option<i128>
+        ensures { (n : ℕ) → Counts self.magnitude n → result ≡ (if spec.fits self.negative n
+            then Some (spec.signed self.negative n)
+            else None) }
+    {
+        let n = self.magnitude;
+        match self.negative {
+            false if n >= 1 << 127 => None,
+            false => Some(n as i128),
+            true if n > 1 << 127 => None,
+            true if n == 1 << 127 => Some(i128::MIN),
+            true => Some(-(n as i128)),
+        }
+    }
 }
 
 /// Advances past the sign, the prefix of a base and the integer with which a number begins.
 #[inline(always)]
 fn read_front(cursor: &mut Cursor) -> Result<Front, NumberFault>
-    ensures reads { ReadsFront result cursor.old.rest cursor.new.rest }
-    ensures fault { IsFault result cursor.old.rest cursor.new.rest }
-    ensures past { Past 2 4 cursor.old cursor.new }
-    ensures shorter { IfOk result (λ f. length cursor.new.rest < length cursor.old.rest) }
+    ensures { Consumed 2 4 (ReadsFront result) cursor.old cursor.new }
 {
-    let sign = read_sign(cursor);
+    let negative = read_sign(cursor);
     let radix = eat_base_prefix(cursor);
-    match integer_in(cursor, radix) {
-        Some((magnitude, underscores)) => Ok(Front {
-            sign,
+    match integer(cursor, radix) {
+        Some(magnitude) => Ok(Front {
+            negative,
             radix,
             magnitude,
-            underscores,
         }),
         None => Err(NumberFault::MissingDigits(radix)),
     }
 }
 
-/// Advances past a point and an integer, if a point is here. Returns `None` if no point is here.
-fn fraction(cursor: &mut Cursor) -> Result<Option<Underscores>, NumberFault>
-    ensures reads { ReadsFraction result cursor.old.rest cursor.new.rest }
-    ensures fault { IsPartFault result cursor.old.rest cursor.new.rest }
-    ensures past { Past 2 2 cursor.old cursor.new }
+/// Advances past a point and an integer, if a point is here. Returns whether it is.
+fn fraction(cursor: &mut Cursor) -> Result<bool, NumberFault>
+    ensures { Consumed 2 2 (ReadsFraction result) cursor.old cursor.new }
 {
     if !cursor.eat('.') {
-        return Ok(None);
+        return Ok(false);
     }
     match decimal_integer(cursor) {
-        Some((_, underscores)) => Ok(Some(underscores)),
+        Some(_) => Ok(true),
         None => Err(NumberFault::MissingFraction),
-    }
-}
-
-/// Advances past an exponent, if its letter is here. Returns `None` if the letter is not here.
-fn exponent(cursor: &mut Cursor) -> Result<Option<Underscores>, NumberFault>
-    ensures reads { ReadsExponent result cursor.old.rest cursor.new.rest }
-    ensures fault { IsPowerFault result cursor.old.rest cursor.new.rest }
-    ensures past { Past 2 3 cursor.old cursor.new }
-{
-    if !eat_exponent_letter(cursor) {
-        return Ok(None);
-    }
-    let _ = read_sign(cursor);
-    match decimal_integer(cursor) {
-        Some((_, underscores)) => Ok(Some(underscores)),
-        None => Err(NumberFault::MissingExponent),
     }
 }
 
@@ -484,38 +335,57 @@ fn eat_exponent_letter(cursor: &mut Cursor) -> bool
     }
 }
 
-/// Whether a fraction and the exponent after it may contain `_`. `None` if neither is there.
-fn joined(point: Option<Underscores>, power: Option<Underscores>) -> Option<Underscores>
-    ensures { result ≡ joined point power }
+/// Advances past an exponent, if its letter is here. Returns whether it is.
+fn exponent(cursor: &mut Cursor) -> Result<bool, NumberFault>
+    ensures { Consumed 2 3 (ReadsExponent result) cursor.old cursor.new }
 {
-    match (point, power) {
-        (Some(a), Some(b)) => Some(a.with(b)),
-        (Some(a), None) => Some(a),
-        (None, _) => power,
+    if !eat_exponent_letter(cursor) {
+        return Ok(false);
+    }
+    let _ = read_sign(cursor);
+    match decimal_integer(cursor) {
+        Some(_) => Ok(true),
+        None => Err(NumberFault::MissingExponent),
     }
 }
 
 /// Advances past what turns an integer into a decimal: a fraction, an exponent, or both.
-fn decimal_part(cursor: &mut Cursor) -> Result<Underscores, NumberFault>
-    ensures reads { ReadsPart result cursor.old.rest cursor.new.rest }
-    ensures fault { IsPartFault result cursor.old.rest cursor.new.rest }
-    ensures past { Past 2 6 cursor.old cursor.new }
+fn decimal_part(cursor: &mut Cursor) -> Result<(), NumberFault>
+    ensures { Consumed 2 6 (ReadsPart result) cursor.old cursor.new }
 {
-    let point = match fraction(cursor) {
-        Ok(point) => point,
-        Err(fault) => return Err(fault),
-    };
+    let point = fraction(cursor)?;
     let power = match exponent(cursor) {
         Ok(power) => power,
         Err(fault) => return Err(fault),
     };
-    let Some(underscores) = joined(point, power) else {
+    if !point && !power {
         return Err(NumberFault::Trailing(Radix::Decimal));
-    };
-    if !is_end(cursor) {
-        return Err(NumberFault::TrailingDecimal);
     }
-    Ok(underscores)
+    if is_end(cursor) {
+        Ok(())
+    } else {
+        Err(NumberFault::TrailingDecimal)
+    }
+}
+
+/// Advances past a number. Returns the value of a whole number, and `None` for a decimal.
+fn whole_or_decimal(cursor: &mut Cursor) -> Result<Option<i128>, NumberFault>
+    ensures { Consumed 2 11 (ReadsWhole result) cursor.old cursor.new }
+{
+    let front = read_front(cursor)?;
+    if is_end(cursor) {
+        return match front.value() {
+            Some(n) => Ok(Some(n)),
+            None => Err(NumberFault::OutOfRange),
+        };
+    }
+    let Radix::Decimal = front.radix else {
+        return Err(NumberFault::Trailing(front.radix));
+    };
+    match decimal_part(cursor) {
+        Ok(()) => Ok(None),
+        Err(fault) => Err(fault),
+    }
 }
 
 /// Whether no character is `_`.
@@ -542,34 +412,16 @@ fn push_plain(out: &mut String, text: &str) -> Result<(), AllocError>
 }
 
 /// A copy of the piece without its `_`. A piece that contains none is copied whole.
-fn without_underscores(
-    alloc: Global,
-    piece: &Piece,
-    underscores: Underscores,
-) -> Result<String, AllocError>
-    requires { Contains underscores piece.now }
+fn without_underscores(alloc: Global, piece: &Piece) -> Result<String, AllocError>
     ensures { IfOk result (λ s. chars (string_bytes s) ≡ spec.plain piece.now) }
 {
-    if let Underscores::Absent = underscores {
+    let text = piece.as_str();
+    if has_no_underscore(text) {
         return piece.to_string(alloc);
     }
-    let text = piece.as_str();
     let mut out = String::with_capacity(alloc, text.len())?;
     push_plain(&mut out, text)?;
     Ok(out)
-}
-
-/// Returns the number with its sign, if it fits in an `i128`.
-fn whole(number: Front) -> Result<Number, NumberFailure>
-    ensures { (n : ℕ) → Counts number.magnitude n
-        → result ≡ (if spec.fits (is_minus number.sign) n
-        then Ok (Number.Integer (spec.signed (is_minus number.sign) n))
-        else Err (NumberFailure.Fault NumberFault.OutOfRange)) }
-{
-    match number.magnitude.signed(number.sign) {
-        Ok(n) => Ok(Number::Integer(n)),
-        Err(_) => Err(NumberFailure::Fault(NumberFault::OutOfRange)),
-    }
 }
 
 /// Advances past a number and returns its value (KDL 2.0.0, Number).
@@ -585,24 +437,16 @@ pub fn read_number(alloc: Global, cursor: &mut Cursor) -> Result<Number, NumberF
     ensures most { Costs 4 12 cursor.old cursor.new }
 {
     let start = cursor.checkpoint();
-    let number = match read_front(cursor) {
-        Ok(number) => number,
-        Err(fault) => return Err(NumberFailure::Fault(fault)),
-    };
-    if is_end(cursor) {
-        return whole(number);
-    }
-    let Radix::Decimal = number.radix else {
-        return Err(NumberFailure::Fault(NumberFault::Trailing(number.radix)));
-    };
-    let underscores = match decimal_part(cursor) {
-        Ok(underscores) => number.underscores.with(underscores),
-        Err(fault) => return Err(NumberFailure::Fault(fault)),
-    };
-    let piece = cursor.slice(&start);
-    match without_underscores(alloc, &piece, underscores) {
-        Ok(text) => Ok(Number::Decimal(text)),
-        Err(_) => Err(NumberFailure::Memory),
+    match whole_or_decimal(cursor) {
+        Ok(Some(n)) => Ok(Number::Integer(n)),
+        Ok(None) => {
+            let piece = cursor.slice(&start);
+            match without_underscores(alloc, &piece) {
+                Ok(text) => Ok(Number::Decimal(text)),
+                Err(_) => Err(NumberFailure::Memory),
+            }
+        }
+        Err(fault) => Err(NumberFailure::Fault(fault)),
     }
 }
 
@@ -650,39 +494,24 @@ fn is_plain_decimal(text: &str) -> bool
     ensures { IsTrue result ↔ Decimal (chars text.now) [] (chars text.now) }
 {
     let mut cursor = Cursor::new(text, Steps::new());
-    let start = cursor.checkpoint();
-    let Ok(number) = read_front(&mut cursor) else {
-        return false;
-    };
-    let Radix::Decimal = number.radix else {
-        return false;
-    };
-    let Ok(_) = decimal_part(&mut cursor) else {
-        return false;
-    };
-    let piece = cursor.slice(&start);
-    cursor.look().is_none() && has_no_underscore(piece.as_str())
+    match whole_or_decimal(&mut cursor) {
+        Ok(None) => cursor.look().is_none() && has_no_underscore(text),
+        Ok(Some(_)) => false,
+        Err(_) => false,
+    }
 }
 
-/// Whether the keyword is a number.
-fn is_of_number(keyword: Keyword) -> bool
-    ensures { result ≡ is_of_number keyword }
-{
-    matches!(
-        keyword,
-        Keyword::Infinity | Keyword::NegativeInfinity | Keyword::NotANumber
-    )
-}
-
-/// Whether the whole text is a keyword that is a number: `#inf`, `#-inf` or `#nan`.
+/// Whether the text is a keyword that is a number.
 fn is_float_keyword(text: &str) -> bool
     ensures { IsTrue result ↔ FloatKeyword (chars text.now) }
 {
-    let mut cursor = Cursor::new(text, Steps::new());
-    match read_keyword(&mut cursor) {
-        Some(keyword) => is_of_number(keyword) && cursor.look().is_none(),
-        None => false,
+    if same(text, "#inf") {
+        return true;
     }
+    if same(text, "#-inf") {
+        return true;
+    }
+    same(text, "#nan")
 }
 
 /// Returns whether the whole text is a decimal without `_`, or one of `#inf`, `#-inf` and `#nan`.

@@ -1,5 +1,5 @@
 -- What is read costs so much, whether or not it is right.
-use Rattle.std.proofs.Common.{◌≡◌, ℕ, ◌+◌, ◌≤◌, ◌++◌, length, length-append, ap, arith}
+use Rattle.std.proofs.Common.{◌≡◌, ℕ, ◌≤◌, ◌++◌, length, length-append, ap, arith}
 use Rattle.kdl_text.specs.Chars.{Text}
 use Rattle.kdl_text.specs.Internal.Here.{Here, Took, Ran, sliced}
 use Rattle.kdl_text.specs.Spans.{bytes}

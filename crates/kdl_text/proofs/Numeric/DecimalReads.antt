@@ -1,7 +1,7 @@
 -- Readers of numbers that may be decimals, a step at a time.
-use Rattle.std.proofs.Common.{◌≡◌, ℕ, ◌<◌, ◌≤◌, [], ◌∷◌, ◌++◌, Bool, true, false, not, ◌||◌, ◌==◌, length, refl, ap, sym, ◌∙◌, subst, arith, ℤ, Some, None, ◌↔◌, length-append, append-nil, IsTrue, cond, suc, ◌&&◌, ◌+◌}
+use Rattle.std.proofs.Common.{◌≡◌, ℕ, ◌<◌, ◌≤◌, [], ◌∷◌, ◌++◌, Bool, true, false, not, ◌||◌, ◌==◌, length, refl, ap, sym, ◌∙◌, subst, arith, ℤ, Some, None, ◌↔◌, length-append, append-nil, IsTrue, cond, suc, ◌&&◌}
 use Rattle.std.proofs.lemmas.Bool.{not-true, not-false, ne_eqb}
-use Rattle.std.specs.Prelude.{if◌then◌else◌, Result, Ok, Err, IfOk, Option}
+use Rattle.std.specs.Prelude.{if◌then◌else◌, Result, Ok, Err, IfOk, Option, MatchOption}
 use Rattle.std.specs.Option.{is_some}
 use Rattle.std.specs.List.{list_all}
 use Rattle.std.specs.Str.Parse.{digits_value}
@@ -9,28 +9,21 @@ use Rattle.kdl_text.specs.Chars.{Text, is_identifier_char, starts}
 use Rattle.kdl_text.specs.Internal.Here.{Here, Ate, first, sliced}
 use Rattle.kdl_text.specs.Spans.{bytes}
 use Rattle.kdl_text.specs.Internal.Reading.{Costs}
-use Rattle.kdl_text.specs.Numbers.{is_digit_of, Sign, BasePrefix, Integer, WholeNumber, whole, signed, fits, Fraction, Exponent, is_exponent_letter, DecimalPart, part, plain, Decimal, decimal, IsNumber, is_whole, is_decimal, NumberValue, decimal_text}
+use Rattle.kdl_text.specs.Numbers.{is_digit_of, Sign, BasePrefix, Integer, WholeNumber, whole, signed, fits, Fraction, Exponent, is_exponent_letter, DecimalPart, part, plain, Decimal, decimal, IsNumber, is_whole, is_decimal, NumberValue, whole_value, decimal_text}
 use Rattle.kdl_text.specs.Numbers.BasePrefix.{ten, other}
 use Rattle.kdl_text.specs.Numbers.Fraction.{none as no_fraction, fraction}
 use Rattle.kdl_text.specs.Numbers.Exponent.{none as no_exponent, exponent}
-use Rattle.kdl_text.specs.Internal.DigitRuns.{BareIf, joined, with_underscores}
-use Rattle.kdl_text.specs.Internal.NumberReading.{Begun, FaultAt, IsNumberFault, Counts, IsFront, ReadsInteger, ReadsFraction, ReadsExponent, ReadsNumber, AteExponentLetter, is_minus, radix_of}
-use Rattle.kdl_text.specs.declared.numbers.Underscores.{Underscores}
-use Rattle.kdl_text.proofs.Numeric.PlainDigits.{bare_both}
-use Rattle.kdl_text.specs.declared.numbers.Magnitude.{Magnitude}
+use Rattle.kdl_text.specs.Internal.NumberReading.{Begun, FaultAt, PartFault, NoNumber, Counts, IsFront, ReadsInteger, ReadsFraction, ReadsExponent, ReadsPart, ReadsNumber, AteExponentLetter, radix_of}
 use Rattle.kdl_text.specs.declared.numbers.Front.{Front}
 use Rattle.kdl_text.specs.declared.numbers.Radix.{Radix}
 use Rattle.kdl_text.specs.declared.numbers.Radix.TheVariants.{Binary, Octal, Decimal as TenDigits, Hexadecimal}
-use Rattle.kdl_text.specs.declared.numbers.Number.{Number}
 use Rattle.kdl_text.specs.declared.numbers.Number.TheVariants.{Integer as IntegerNumber}
-use Rattle.kdl_text.specs.declared.numbers.NumberFailure.{NumberFailure}
-use Rattle.kdl_text.specs.declared.numbers.NumberFailure.TheVariants.{Fault}
 use Rattle.kdl_text.specs.declared.numbers.NumberFault.{NumberFault}
-use Rattle.kdl_text.specs.declared.numbers.NumberFault.TheVariants.{OutOfRange, Trailing}
+use Rattle.kdl_text.specs.declared.numbers.NumberFault.TheVariants.{OutOfRange, Trailing, TrailingDecimal, MissingDigits, MissingFraction, MissingExponent}
 use Rattle.kdl_text.proofs.Looking.MovesJoin.{stayed_looked, bytes-append}
 use Rattle.kdl_text.proofs.Looking.Runs.{length-bytes}
 use Rattle.kdl_text.proofs.Numeric.NumberUnique.{sign_det, integer_digit, whole_is, whole_digit}
-use Rattle.kdl_text.proofs.Numeric.DecimalUnique.{part_det, part_is, fraction_det, no_ten, base_is_ten, part_of, part_begins, number_det}
+use Rattle.kdl_text.proofs.Numeric.DecimalUnique.{part_is, fraction_det, no_ten, base_is_ten, part_of, part_begins, number_det, number_shorter}
 
 -- no number begins where no digit comes after the sign and the prefix
 pub no_front : (t s u : Text) (n : Bool) (k j : ℕ) → Sign t s n → BasePrefix s u k → j ≡ k → starts (is_digit_of j) u ≡ false → (r : Text) (x : NumberValue) → IsNumber t r x → ⊥
@@ -47,126 +40,128 @@ ten_stays (other {c = c} {d = d} {r = r} h) = absurd (no_ten c d r h)
 
 -- a number by its front
 module _ (f : Front) (t u : Text) (x : IsFront f t u) where
+  abbrev begun : Begun f.radix t u
+  begun = record { after_sign = x.after_sign; after_base = x.after_base; digits = x.digits; negative = f.negative; sign = x.sign; base = x.base; int = x.int }
+
   -- a decimal is of base 10, and goes on
   pub front_decimal : (r w : Text) → Decimal t r w → (radix_of f.radix ≡ 10) × DecimalPart u r
-  front_decimal r w d = part_of t x.after_sign x.after_base u x.digits r (is_minus f.sign) (radix_of f.radix) w x.sign x.base x.int d
+  front_decimal r w d = part_of t x.after_sign x.after_base u x.digits r f.negative (radix_of f.radix) w x.sign x.base x.int d
 
   pub front_trailing : false ≡ not (starts is_identifier_char u) → (r : Text) (z : ℤ) → WholeNumber t r z → ⊥
   front_trailing h r z w =
-      let e = (whole_is t x.after_sign x.after_base u x.digits r (is_minus f.sign) (radix_of f.radix) z x.sign x.base x.int w).ends in
+      let e = (whole_is t x.after_sign x.after_base u x.digits r f.negative (radix_of f.radix) z x.sign x.base x.int w).ends in
       let y : false ≡ true = h ∙ ap not e in cc
 
-  -- a whole number ends here, and so no decimal
-  pub front_number : (rest : Text) (result : Result Number NumberFailure) → rest ≡ u → true ≡ not (starts is_identifier_char u)
-      → ((q : ℕ) → Counts f.magnitude q → result ≡ (if fits (is_minus f.sign) q then Ok (IntegerNumber (signed (is_minus f.sign) q)) else Err (Fault OutOfRange))) → ReadsNumber result t rest
-  front_number rest result r h g = rw (g (digits_value (radix_of f.radix) x.digits) x.counts) (go (fits (is_minus f.sign) (digits_value (radix_of f.radix) x.digits)) refl)
+  -- a whole number ends here
+  pub front_whole : (rest : Text) (o : Option ℤ) → rest ≡ u → true ≡ not (starts is_identifier_char u)
+      → ((q : ℕ) → Counts f.magnitude q → o ≡ (if fits f.negative q then Some (signed f.negative q) else None)) → MatchOption o (NoNumber OutOfRange t rest) (λ z. WholeNumber t rest z)
+  front_whole rest o r h g = rw (r, g value x.counts) (go (fits f.negative value) refl)
     where
-      found : fits (is_minus f.sign) (digits_value (radix_of f.radix) x.digits) ≡ true → WholeNumber t rest (signed (is_minus f.sign) (digits_value (radix_of f.radix) x.digits))
-      found y = rw r (whole x.sign x.base x.int (not-true _ (sym h)) y refl)
+      value : ℕ
+      value = digits_value (radix_of f.radix) x.digits
 
-      none : (v : Text) (w : NumberValue) → fits (is_minus f.sign) (digits_value (radix_of f.radix) x.digits) ≡ false → IsNumber t v w → ⊥
-      none v w y (is_whole {z = z} i) = let c = (whole_is t x.after_sign x.after_base u x.digits v (is_minus f.sign) (radix_of f.radix) z x.sign x.base x.int i).fits in cc
-      none v w y (is_decimal {w = w'} d) = let c = part_begins (front_decimal v w' d).1 in let e = not-true _ (sym h) in cc
+      none : fits f.negative value ≡ false → (v : Text) (w : NumberValue) → IsNumber t v w → ⊥
+      none y v w (is_whole {z = z} i) = let c = (whole_is t x.after_sign x.after_base u x.digits v f.negative (radix_of f.radix) z x.sign x.base x.int i).fits in cc
+      none y v w (is_decimal {w = w'} d) = let c = part_begins (front_decimal v w' d).1 in let e = not-true _ (sym h) in cc
 
-      go : (b : Bool) → fits (is_minus f.sign) (digits_value (radix_of f.radix) x.digits) ≡ b
-          → ReadsNumber (if b then Ok (IntegerNumber (signed (is_minus f.sign) (digits_value (radix_of f.radix) x.digits))) else Err (Fault OutOfRange)) t rest
-      go true y = λ v z. (λ w. number_det w (is_whole (found y)), λ (p, q). rw (p, q) (is_whole (found y)))
-      go false y = λ v w i. none v w y i
+      go : (b : Bool) → fits f.negative value ≡ b → MatchOption (if b then Some (signed f.negative value) else None) (NoNumber OutOfRange t u) (λ z. WholeNumber t u z)
+      go true y = whole x.sign x.base x.int (not-true _ (sym h)) y refl
+      go false y = record { none = none y; fault = (f.radix, begun, y) }
 
   -- a digit of another base, and then no end
-  pub front_other : (radix_of f.radix ≡ 10 → ⊥) → false ≡ not (starts is_identifier_char u) → (r : Text) (v : NumberValue) → IsNumber t r v → ⊥
-  front_other n h r v (is_whole {z = z} w) = front_trailing h r z w
-  front_other n h r v (is_decimal {w = w} d) = n (front_decimal r w d).0
+  pub front_other : (rest : Text) → rest ≡ u → (radix_of f.radix ≡ 10 → ⊥) → false ≡ not (starts is_identifier_char u) → NoNumber (Trailing f.radix) t rest
+  front_other rest r n h = rw r (record { none = none; fault = (begun, not-false (starts is_identifier_char u) (sym h)) })
+    where
+      none : (r : Text) (v : NumberValue) → IsNumber t r v → ⊥
+      none r v (is_whole {z = z} w) = front_trailing h r z w
+      none r v (is_decimal {w = w} d) = n (front_decimal r w d).0
 
   -- nothing follows that makes a decimal
-  pub front_no_part : ((r : Text) → DecimalPart u r → ⊥) → false ≡ not (starts is_identifier_char u) → (r : Text) (v : NumberValue) → IsNumber t r v → ⊥
-  front_no_part n h r v (is_whole {z = z} w) = front_trailing h r z w
-  front_no_part n h r v (is_decimal {w = w} d) = n r (front_decimal r w d).1
+  pub front_no_part : (e : NumberFault) (s rest : Text) → s ≡ u → f.radix ≡ TenDigits → false ≡ not (starts is_identifier_char u) → ReadsPart (Err e) s rest → NoNumber e t rest
+  front_no_part e s rest r base h p = record { none = none (rw r at p.0); fault = fault e (rw r at p.1) }
+    where
+      none : ((r : Text) → DecimalPart u r → ⊥) → (r : Text) (v : NumberValue) → IsNumber t r v → ⊥
+      none n r v (is_whole {z = z} w) = front_trailing h r z w
+      none n r v (is_decimal {w = w} d) = n r (front_decimal r w d).1
+
+      fault : (e : NumberFault) → PartFault e u rest → FaultAt e t rest
+      fault (Trailing b) (q, k) = rw (q, k, ← base) (begun, not-false (starts is_identifier_char u) (sym h))
+      fault TrailingDecimal k = (u, rw (← base) begun, k)
+      fault MissingFraction k = (u, rw (← base) begun, k)
+      fault MissingExponent k = (u, rw (← base) begun, k)
+      fault (MissingDigits b) k = absurd k
+      fault OutOfRange k = absurd k
 
   -- a decimal was read
-  pub front_part : (r p : Text) → radix_of f.radix ≡ 10 → DecimalPart u r → t ≡ p ++ r → Decimal t r (plain p)
-  front_part r p e d g =
+  pub front_part : (s r : Text) → s ≡ u → f.radix ≡ TenDigits → DecimalPart s r → (p : Text) → t ≡ p ++ r → Decimal t r (plain p)
+  front_part s r q base d p g =
+      let e : radix_of f.radix ≡ 10 = ap radix_of base in
       let m = ten_stays (subst (λ q. BasePrefix x.after_sign x.after_base q) e x.base) in
       let i : Integer 10 x.after_sign u x.digits = subst (λ q. Integer 10 q u x.digits) m (subst (λ q. Integer q x.after_base u x.digits) e x.int) in
-      decimal p x.sign i d g refl
+      decimal p x.sign i (rw q at d) g refl
 
 -- a number that was read is the only one
 pub reads_number : (t r p : Text) (s : Text) → s ≡ plain p → Decimal t r (plain p) → (v : Text) (w : NumberValue) → IsNumber t v w ↔ ((v ≡ r) × (w ≡ decimal_text s))
 reads_number t r p s e d v w = let d' : Decimal t r s = rw e d in (λ i. number_det i (is_decimal d'), λ (x, y). rw (x, y) (is_decimal d'))
 
-abbrev pub result : ℤ → Result ℤ NumberFault
-result n = Ok n
+pub decimal_shorter : {t r w : Text} → Decimal t r w → length r < length t
+decimal_shorter d = number_shorter (is_decimal d)
 
-abbrev pub number : ℤ → Result Number NumberFailure
-number n = Ok (IntegerNumber n)
-
-abbrev pub broken_result : NumberFault → Result ℤ NumberFault
-broken_result e = Err e
-
-abbrev pub broken_number : Result Number NumberFailure
-broken_number = Err (Fault OutOfRange)
+-- a whole number that was read is the only number
+pub reads_whole : (t r : Text) (z : ℤ) → WholeNumber t r z → ReadsNumber (Ok (IntegerNumber z)) t r
+reads_whole t r z w = λ v x. (λ i. number_det i (is_whole w), λ (p, q). rw (p, q) (is_whole w))
 
 -- fractions and exponents
 pub fraction_none : (a b : Here) → Ate 46 false a b → Fraction a.rest b.rest false
 fraction_none a b (h, e) = subst (λ q. Fraction a.rest q false) (sym (stayed_looked a b e).rest) (no_fraction h)
 
-pub fraction_some : (m : Magnitude) (a b e : Here) → Ate 46 true a b → ReadsInteger 10 (Some m) b.rest e.rest → Fraction a.rest e.rest true
+pub fraction_some : (m : ℕ) (a b e : Here) → Ate 46 true a b → ReadsInteger 10 (Some m) b.rest e.rest → Fraction a.rest e.rest true
 fraction_some m a b e t i = subst (λ q. Fraction q e.rest true) (sym t.0) (fraction i.1)
+
+no_point_digit : {s r : Text} {p : Bool} → starts (is_digit_of 10) s ≡ false → Fraction (46 ∷ s) r p → ⊥
+no_point_digit h (no_fraction y) = cc
+no_point_digit h (fraction i) = let z = integer_digit i in cc
+
+pub fraction_broken : (a b e : Here) → Ate 46 true a b → ReadsInteger 10 None b.rest e.rest → ReadsFraction (Err MissingFraction) a.rest e.rest
+fraction_broken a b e t (same, none) = (λ r p x. no_point_digit none (subst (λ q. Fraction q r p) t.0 x), rw same (t.0, none))
 
 pub exponent_none : (a b : Here) → AteExponentLetter false a b → Exponent a.rest b.rest false
 exponent_none a b (h, s) = subst (λ q. Exponent a.rest q false) (sym s.rest) (no_exponent h)
 
-pub exponent_some : (m : Magnitude) (n : Bool) (a b d e : Here) → AteExponentLetter true a b → Sign b.rest d.rest n → ReadsInteger 10 (Some m) d.rest e.rest → Exponent a.rest e.rest true
+pub exponent_some : (m : ℕ) (n : Bool) (a b d e : Here) → AteExponentLetter true a b → Sign b.rest d.rest n → ReadsInteger 10 (Some m) d.rest e.rest → Exponent a.rest e.rest true
 exponent_some m n a b d e (c, is, t) g i = subst (λ q. Exponent q e.rest true) (sym t.0) (exponent is g i.1)
 
 broken : {c : ℕ} {q d r : Text} {n p : Bool} → is_exponent_letter c ≡ true → Sign q d n → starts (is_digit_of 10) d ≡ false → Exponent (c ∷ q) r p → ⊥
 broken is g h (no_exponent y) = cc
 broken {r = r} is g h (exponent {t = u} {w = w} y k i) = let z = integer_digit (subst (λ q. Integer 10 q r w) (sym (sign_det g k).0) i) in cc
 
-pub exponent_broken : (n : Bool) (a b d : Here) → AteExponentLetter true a b → Sign b.rest d.rest n → starts (is_digit_of 10) d.rest ≡ false → (r : Text) (p : Bool) → Exponent a.rest r p → ⊥
-exponent_broken n a b d (c, is, t) g h r p x = broken is g h (subst (λ q. Exponent q r p) t.0 x)
-
--- a fraction and an exponent, which are there or not
-pub fraction_of : (o : Option Underscores) (s r : Text) → ReadsFraction (Ok o) s r → Fraction s r (is_some o)
-fraction_of None s r h = h
-fraction_of (Some u) s r h = h.0
-
-pub exponent_of : (o : Option Underscores) (s r : Text) → ReadsExponent (Ok o) s r → Exponent s r (is_some o)
-exponent_of None s r h = h
-exponent_of (Some u) s r h = h.0
-
-pub joined_some : (a b : Option Underscores) (u : Underscores) → joined a b ≡ Some u → (is_some a || is_some b) ≡ true
-joined_some (Some v) b u e = refl
-joined_some None (Some v) u e = refl
-joined_some None None u e = cc
-
-pub joined_none : (a b : Option Underscores) → joined a b ≡ None → (is_some a || is_some b) ≡ false
-joined_none (Some v) (Some w) e = cc
-joined_none (Some v) None e = cc
-joined_none None (Some w) e = cc
-joined_none None None e = refl
-
-fraction_off : {s r : Text} → Fraction s r false → s ≡ r
-fraction_off (no_fraction h) = refl
-
-exponent_off : {s r : Text} → Exponent s r false → s ≡ r
-exponent_off (no_exponent h) = refl
-
-pub joined_bare : (a b : Option Underscores) (u : Underscores) (s t r : Text) → joined a b ≡ Some u → ReadsFraction (Ok a) s t → ReadsExponent (Ok b) t r → BareIf u s r
-joined_bare (Some v) (Some w) u s t r e h k = let is : with_underscores v w ≡ u = cc in subst (λ z. BareIf z s r) is (bare_both v w s t r h.1 k.1)
-joined_bare (Some v) None u s t r e h k = let is : v ≡ u = cc in subst (λ z. BareIf z s r) is (subst (BareIf v s) (exponent_off k) h.1)
-joined_bare None (Some w) u s t r e h k = let is : w ≡ u = cc in subst (λ z. BareIf z s r) is (subst (λ z. BareIf w z r) (sym (fraction_off h)) k.1)
-joined_bare None None u s t r e h k = cc
+pub exponent_broken : (n : Bool) (a b d e : Here) → AteExponentLetter true a b → Sign b.rest d.rest n → ReadsInteger 10 None d.rest e.rest → ReadsExponent (Err MissingExponent) a.rest e.rest
+exponent_broken n a b d e (c, is, t) g (same, none) = (λ r p x. broken is g none (subst (λ q. Exponent q r p) t.0 x), refl, (c, b.rest, n, t.0, is, rw same g, rw same none))
 
 -- the part that makes a decimal
-pub part_broken : (t s : Text) (a : Bool) → Fraction t s a → ((r : Text) (b : Bool) → Exponent s r b → ⊥) → (r : Text) → DecimalPart t r → ⊥
+pub no_fraction_part : (e : NumberFault) (s rest : Text) → ReadsFraction (Err e) s rest → ReadsPart (Err e) s rest
+no_fraction_part e s rest (n, fault) = (λ r d. go r d, fault)
+  where
+    go : (r : Text) → DecimalPart s r → ⊥
+    go r (part {s = u} {point = b} g h x y) = n u b g
+
+part_broken : (t s : Text) (a : Bool) → Fraction t s a → ((r : Text) (b : Bool) → Exponent s r b → ⊥) → (r : Text) → DecimalPart t r → ⊥
 part_broken t s a f n r (part {s = u} {power = d} g h x y) = n r d (subst (λ z. Exponent z r d) (sym (fraction_det f g).0) h)
 
-pub no_part : (t s r : Text) (a b : Bool) → Fraction t s a → Exponent s r b → (a || b) ≡ false → (v : Text) → DecimalPart t v → ⊥
-no_part t s r a b f e h v d = let k = (part_is t s r v a b f e d).either in cc
+pub no_exponent_part : (e : NumberFault) (t s rest : Text) (a : Bool) → Fraction t s a → ReadsExponent (Err e) s rest → ReadsPart (Err e) t rest
+no_exponent_part e t s rest a f (n, is, fault) = (part_broken t s a f n, rw is (s, a, f, fault))
 
-pub part_trailing : (t s r : Text) (a b : Bool) → Fraction t s a → Exponent s r b → false ≡ not (starts is_identifier_char r) → (v : Text) → DecimalPart t v → ⊥
-part_trailing t s r a b f e h v d = let k = (part_is t s r v a b f e d).ends in let y : false ≡ true = h ∙ ap not k in cc
+pub no_part : (t s r : Text) (a b : Bool) → Fraction t s a → Exponent s r b → (a || b) ≡ false → ReadsPart (Err (Trailing TenDigits)) t r
+no_part t s r a b f e h = (λ v d. let k = (part_is t s r v a b f e d).either in cc, (refl, stays f e h))
+  where
+    stays : {t s r : Text} {a b : Bool} → Fraction t s a → Exponent s r b → (a || b) ≡ false → r ≡ t
+    stays (no_fraction x) (no_exponent y) h = refl
+    stays (no_fraction x) (exponent y g i) h = cc
+    stays (fraction i) e h = cc
+
+pub part_trailing : (t s r q : Text) (a b : Bool) → Fraction t s a → Exponent s r b → false ≡ not (starts is_identifier_char r) → q ≡ r → ReadsPart (Err TrailingDecimal) t q
+part_trailing t s r q a b f e h x =
+    rw x (λ v d. let k = (part_is t s r v a b f e d).ends in let y : false ≡ true = h ∙ ap not k in cc, (s, a, b, f, e, not-false (starts is_identifier_char r) (sym h)))
 
 pub part_read : (t s r q : Text) (a b : Bool) → Fraction t s a → Exponent s r b → (a || b) ≡ true → true ≡ not (starts is_identifier_char r) → q ≡ r → DecimalPart t q
 part_read t s r q a b f e o h x = rw x (part f e o (not-true _ (sym h)))
@@ -180,15 +175,6 @@ is_ten Hexadecimal e = absurd (omega (arith, e))
 -- a base that isn't 10
 pub not_ten : (r : Radix) → (r ≡ TenDigits → ⊥) → radix_of r ≡ 10 → ⊥
 not_ten r n e = n (is_ten r e)
-
--- what `whole` makes of an integer
-pub whole_ok : (b : Bool) (n z : ℤ) → result n ≡ (if b then Ok z else Err OutOfRange) → number n ≡ (if b then Ok (IntegerNumber z) else Err (Fault OutOfRange))
-whole_ok true n z h = let e : n ≡ z = cc in ap number e
-whole_ok false n z h = cc
-
-pub whole_err : (b : Bool) (e : NumberFault) (z : ℤ) → broken_result e ≡ (if b then Ok z else Err OutOfRange) → broken_number ≡ (if b then Ok (IntegerNumber z) else Err (Fault OutOfRange))
-whole_err true e z h = cc
-whole_err false e z h = refl
 
 pub copied_costs : (p : Text) (a b e : Here) → a.rest ≡ p ++ b.rest → Costs 2 11 a b → e ≡ sliced p b → length b.rest < length a.rest → Costs 20 0 a e
 copied_costs p a b e h k s less =
@@ -243,27 +229,27 @@ own_text {t = t} {w = w} {r = r} (decimal p a i d f g) e h =
     ap plain (sym x) ∙ sym g ∙ h
 
 -- whether the whole text is a decimal without `_`
-pub plain_none : (s t : Text) → s ≡ t → ((r : Text) (v : NumberValue) → IsNumber s r v → ⊥) → IsTrue false ↔ Decimal t [] t
-plain_none s t e h = (λ y. cc, λ d. absurd (h [] (decimal_text t) (subst (λ z. IsNumber z [] (decimal_text t)) (sym e) (is_decimal d))))
+module _ (s t : Text) (q : s ≡ t) where
+  here : Decimal t [] t → IsNumber s [] (decimal_text t)
+  here d = subst (λ x. IsNumber x [] (decimal_text t)) (sym q) (is_decimal d)
 
-module _ (f : Front) (s t u : Text) (e : s ≡ t) (x : IsFront f s u) where
-  pub plain_other : (f.radix ≡ TenDigits → ⊥) → IsTrue false ↔ Decimal t [] t
-  plain_other n = (λ y. cc, λ d. absurd (not_ten f.radix n (front_decimal f s u x [] t (subst (λ z. Decimal z [] t) (sym e) d)).0))
+  pub plain_none : ((r : Text) (v : NumberValue) → IsNumber s r v → ⊥) → IsTrue false ↔ Decimal t [] t
+  plain_none h = (λ y. cc, λ d. absurd (h [] (decimal_text t) (here d)))
 
-  pub plain_no_part : ((r : Text) → DecimalPart u r → ⊥) → IsTrue false ↔ Decimal t [] t
-  plain_no_part n = (λ y. cc, λ d. absurd (n [] (front_decimal f s u x [] t (subst (λ z. Decimal z [] t) (sym e) d)).1))
+  pub plain_integer : (z : ℤ) (r : Text) → WholeNumber s r z → IsTrue false ↔ Decimal t [] t
+  plain_integer z r w = (λ y. cc, λ d. let e : whole_value z ≡ decimal_text t = (number_det (is_whole w) (here d)).1 in cc)
 
-  pub plain_rest : (v : Text) (b : Bool) → b ≡ false → (IsTrue b ↔ (v ≡ [])) → DecimalPart u v → IsTrue b ↔ Decimal t [] t
-  plain_rest v b n h p = (λ y. let z : IsTrue false = subst IsTrue n y in cc, λ d. h.1 (part_det p (front_decimal f s u x [] t (subst (λ z. Decimal z [] t) (sym e) d)).1))
+  module _ (v : Text) (piece : (p : Text) × (s ≡ p ++ v)) (x : (p : Text) → s ≡ p ++ v → Decimal s v (plain p)) where
+    pub plain_rest : (b : Bool) → b ≡ false → (IsTrue b ↔ (v ≡ [])) → IsTrue b ↔ Decimal t [] t
+    plain_rest b n h = (λ y. let z : IsTrue false = subst IsTrue n y in cc, λ d. h.1 (number_det (is_decimal (x piece.0 piece.1)) (here d)).0)
 
-  pub plain_whole : (v : Text) (b : Bool) → v ≡ [] → DecimalPart u v → f.radix ≡ TenDigits → b ≡ has_no_underscore t → IsTrue b ↔ Decimal t [] t
-  plain_whole v b n p base m = (λ y. to (sym m ∙ y), λ d. m ∙ same_plain t (own_text d refl refl))
-    where
-      to : has_no_underscore t ≡ true → Decimal t [] t
-      to h =
-          let part : DecimalPart u [] = subst (DecimalPart u) n p in
-          let d : Decimal s [] (plain s) = front_part f s u x [] s (ap radix_of base) part (sym (append-nil s)) in
-          subst (λ z. Decimal t [] z) (plain_same t h) (subst (λ z. Decimal z [] (plain z)) e d)
+    pub plain_whole : (b : Bool) → v ≡ [] → b ≡ has_no_underscore t → IsTrue b ↔ Decimal t [] t
+    plain_whole b n m = (λ y. to (sym m ∙ y), λ d. m ∙ same_plain t (own_text d refl refl))
+      where
+        to : has_no_underscore t ≡ true → Decimal t [] t
+        to h =
+            let d : Decimal s [] (plain s) = subst (λ r. Decimal s r (plain s)) n (x s (sym (append-nil s) ∙ ap (λ r. s ++ r) (sym n))) in
+            subst (λ z. Decimal t [] z) (plain_same t h) (subst (λ z. Decimal z [] (plain z)) q d)
 
 -- a character and what follows it, without `_`
 pub plain_drops : (c : ℕ) (s : Text) → c ≡ 95 → plain (c ∷ s) ≡ plain s
@@ -271,22 +257,3 @@ plain_drops c s e = rw e refl
 
 pub plain_keeps : (c : ℕ) (s : Text) → (c ≡ 95 → ⊥) → plain (c ∷ s) ≡ c ∷ plain s
 plain_keeps c s ne = rw (ne_eqb c 95 ne) refl
-
--- which fault is returned
-module _ (f : Front) (t u : Text) (x : IsFront f t u) where
-  begun : (rest : Text) → rest ≡ u → Begun f.radix t rest
-  begun rest e =
-      rw e (record { after_sign = x.after_sign; after_base = x.after_base; digits = x.digits; negative = (is_minus f.sign); sign = x.sign; base = x.base; int = x.int })
-
-  range : (rest : Text) → rest ≡ u → fits (is_minus f.sign) (digits_value (radix_of f.radix) x.digits) ≡ false → FaultAt OutOfRange t rest
-  range rest e h = rw e (f.radix, record { after_sign = x.after_sign; after_base = x.after_base; digits = x.digits; negative = (is_minus f.sign); sign = x.sign; base = x.base; int = x.int }, h)
-
-  pub number_range : (rest : Text) (result : Result Number NumberFailure) → rest ≡ u → ((q : ℕ) → Counts f.magnitude q → result ≡ (if fits (is_minus f.sign) q then Ok (IntegerNumber (signed (is_minus f.sign) q)) else Err (Fault OutOfRange))) → IsNumberFault result t rest
-  number_range rest result e g = rw (g (digits_value (radix_of f.radix) x.digits) x.counts) (go (fits (is_minus f.sign) (digits_value (radix_of f.radix) x.digits)) refl)
-    where
-      go : (b : Bool) → fits (is_minus f.sign) (digits_value (radix_of f.radix) x.digits) ≡ b → IsNumberFault {A = Number} (if b then Ok (IntegerNumber (signed (is_minus f.sign) (digits_value (radix_of f.radix) x.digits))) else Err (Fault OutOfRange)) t rest
-      go true h = tt
-      go false h = range rest e h
-
-  pub front_trails : (rest : Text) → rest ≡ u → false ≡ not (starts is_identifier_char u) → FaultAt (Trailing f.radix) t rest
-  front_trails rest e h = (begun rest e, rw e (not-false (starts is_identifier_char u) (sym h)))

@@ -1,6 +1,6 @@
 -- Decimal digits at the front of a text.
 use Rattle.std.proofs.Common.{◌≡◌, ℕ, ◌+◌, ◌*◌, ◌%◌, ◌<◌, ◌≤◌, Bool, false, List, [], ◌∷◌, ◌++◌, length, take, drop, get_or, refl, ap, sym, subst, ◌∙◌, arith, IsAscii, IsUtf8, IsCharBoundary, chars, length-append, length-take, inl, inr, lt-ltb, ne_eqb, append-nil, Some, None, ◌||◌}
-use Rattle.std.specs.Prelude.{nat_lt, ◌==◌}
+use Rattle.std.specs.Prelude.{nat_lt, ◌==◌, ◌^◌}
 use Rattle.std.proofs.lemmas.Bool.{cases_lt, le-ltb}
 use Rattle.std.proofs.lemmas.List.{get_or-drop, length-drop, take-append-drop}
 use Rattle.std.proofs.lemmas.Str.{byte_from_char, chars-append, chars-IsAscii, encodes-chars, IsUtf8-drop, IsUtf8-from_ascii, IsCharBoundary-from_take, length-encode, len_utf8_bounds, digit_value_digit}
@@ -15,11 +15,10 @@ use Rattle.kdl_text.specs.Numbers.Digits.{stop, digit}
 use Rattle.kdl_text.specs.Internal.Here.{Here}
 use Rattle.kdl_text.specs.Internal.DigitRuns.{DecimalsLen, DigitRun, RanDigits}
 use Rattle.kdl_text.specs.Internal.NumberReading.{Counts, ReadsDigits, ReadsInteger}
-use Rattle.kdl_text.specs.Internal.Reading.{Past}
+use Rattle.kdl_text.specs.Internal.Reading.{Past, Consumed}
 use Rattle.kdl_text.specs.Spans.{bytes}
-use Rattle.kdl_text.specs.declared.numbers.Magnitude.{Magnitude}
-use Rattle.kdl_text.specs.declared.numbers.Magnitude.TheVariants.{Small}
 use Rattle.kdl_text.proofs.Looking.MovesJoin.{bytes-append}
+use Rattle.kdl_text.proofs.Looking.SliceCost.{past_then}
 use Rattle.kdl_text.proofs.Looking.Texts.{bytes-chars}
 use Rattle.kdl_text.proofs.Numeric.NumberReads.{value_after}
 use lib.Utf8.{encodes, encode}
@@ -123,39 +122,45 @@ integer_on [] r q u l a d = absurd (omega arith)
 integer_on (c ∷ w) r q u l a d = integer (lt-ltb (digit_value c) 10 a.0) (digits_on w r q u a.1 d)
 
 module _ (run : Text) (n v : ℕ) (m : Bool) (a b : Here) (i : RanDigits run n v m a b) where
-  pub run_past : Past 2 1 a b
+  run_past : Past 2 1 a b
   run_past = record {
     moves = record { piece = (run, i.text); at = omega (arith, ap bytes i.text, bytes-append run b.rest, i.bytes_is, i.at); counts = omega (arith, i.steps); same = i.same };
     costs = record { most = omega (arith, i.steps, ap bytes i.text, bytes-append run b.rest, i.bytes_is); least = omega (arith, i.steps, ap length i.text, length-append run b.rest, i.count_is) };
   }
 
   -- a digit at least
-  pub run_tight : (n ≡ 0 → ⊥) → Past 2 0 a b
+  run_tight : (n ≡ 0 → ⊥) → Past 2 0 a b
   run_tight some =
       let h : 1 ≤ n = omega (arith, some) in
       record { moves = run_past.moves; costs = record { most = omega (arith, h, i.steps, ap bytes i.text, bytes-append run b.rest, i.bytes_is); least = run_past.costs.least } }
 
-  pub no_integer : n ≡ 0 → ReadsInteger 10 None a.rest b.rest
+  pub no_integer : n ≡ 0 → Consumed 2 1 (ReadsInteger 10 None) a b
   no_integer z =
       let none : (w : Text) → length w ≡ 0 → w ++ b.rest ≡ b.rest = empty in
       let same : a.rest ≡ b.rest = i.text ∙ none run (i.count_is ∙ z) in
-      (sym same, subst (λ q. starts (is_digit_of 10) q ≡ false) (sym same) (i.none z))
+      record { reads = (sym same, subst (λ q. starts (is_digit_of 10) q ≡ false) (sym same) (i.none z)); past = run_past }
     where
       empty : (w : Text) → length w ≡ 0 → w ++ b.rest ≡ b.rest
       empty [] e = refl
       empty (c ∷ w) e = absurd (omega (arith, e))
 
-  pub run_integer : (n ≡ 0 → ⊥) → m ≡ false → ReadsInteger 10 (Some (Small v)) a.rest b.rest
-  run_integer some last = (
-    run,
-    subst (λ q. Integer 10 q b.rest run) (sym i.text) (subst (Integer 10 (run ++ b.rest) b.rest) (append-nil run)
-        (integer_on run b.rest b.rest [] (omega (arith, some, i.count_is)) i.digits (stop (i.stops last)))),
-    i.value,
-  )
+  pub run_integer : (n ≡ 0 → ⊥) → m ≡ false → v < 2 ^ 64 → Consumed 2 1 (ReadsInteger 10 (Some v)) a b
+  run_integer some last small = record {
+    reads = (
+      run,
+      subst (λ q. Integer 10 q b.rest run) (sym i.text) (subst (Integer 10 (run ++ b.rest) b.rest) (append-nil run)
+          (integer_on run b.rest b.rest [] (omega (arith, some, i.count_is)) i.digits (stop (i.stops last)))),
+      omega (arith, i.value, small),
+    );
+    past = run_past;
+  }
 
-  pub run_more : (k : Magnitude) (e : Here) → (n ≡ 0 → ⊥) → ReadsDigits 10 (Small v) k b.rest e.rest → ReadsInteger 10 (Some k) a.rest e.rest
-  run_more k e some (w, d, more) = (
-    run ++ w,
-    subst (λ q. Integer 10 q e.rest (run ++ w)) (sym i.text) (integer_on run b.rest e.rest w (omega (arith, some, i.count_is)) i.digits d),
-    subst (λ q. Counts k q) (sym (value_after 10 run w 0)) (more (digits_value 10 run) i.value),
-  )
+  pub run_more : (k : ℕ) (e : Here) → (n ≡ 0 → ⊥) → v < 2 ^ 64 → Consumed 2 1 (ReadsDigits 10 v k) b e → Consumed 2 1 (ReadsInteger 10 (Some k)) a e
+  run_more k e some small d = record {
+    reads = (
+      run ++ d.reads.0,
+      subst (λ q. Integer 10 q e.rest (run ++ d.reads.0)) (sym i.text) (integer_on run b.rest e.rest d.reads.0 (omega (arith, some, i.count_is)) i.digits d.reads.1),
+      subst (λ q. Counts k q) (sym (value_after 10 run d.reads.0 0)) (d.reads.2 (digits_value 10 run) (omega (arith, i.value, small))),
+    );
+    past = past_then (run_tight some) d.past;
+  }

@@ -1,5 +1,5 @@
 -- Keywords: a text begins with one at most.
-use Rattle.std.proofs.Common.{◌≡◌, ℕ, [], ◌∷◌, ◌++◌, Bool, true, false, ◌==◌, refl, ap, sym, ◌∙◌, subst, arith, Some, None, ◌↔◌, inl, inr, IsTrue, lit<, zero, suc}
+use Rattle.std.proofs.Common.{◌≡◌, ℕ, [], ◌∷◌, ◌++◌, Bool, true, false, ◌==◌, refl, ap, sym, ◌∙◌, arith, Some, None, ◌↔◌, inl, inr, IsTrue, lit<, zero, suc}
 use Rattle.std.proofs.lemmas.Bool.{and_parts}
 use Rattle.std.proofs.lemmas.List.{append_cancel_right}
 use Rattle.std.specs.Prelude.{if◌then◌else◌, Option, codes, nat_lt}
@@ -12,7 +12,7 @@ use Rattle.kdl_text.specs.Internal.Here.{Here, Took, Ran, sliced}
 use Rattle.kdl_text.specs.Spans.{bytes}
 use Rattle.kdl_text.specs.Internal.Reading.{Moves}
 use Rattle.kdl_text.specs.Numbers.{IsKeyword, keyword, keyword_text, FloatKeyword}
-use Rattle.kdl_text.specs.Internal.NumberReading.{ReadsKeyword, WordOf, is_of_number}
+use Rattle.kdl_text.specs.Internal.NumberReading.{ReadsKeyword, WordOf}
 use Rattle.kdl_text.specs.declared.numbers.Keyword.{Keyword}
 use Rattle.kdl_text.specs.declared.numbers.Keyword.TheVariants.{True, False, Null, Infinity, NegativeInfinity, NotANumber}
 use Rattle.kdl_text.proofs.Looking.MovesJoin.{bytes-append, moves_then, moves_one}
@@ -102,8 +102,11 @@ ascii (c ∷ s) h (suc i) = ascii s (and_parts (nat_lt c 128) (list_all (λ c. n
 word_ascii : (k : Keyword) → list_all (λ c. nat_lt c 128) (word k) ≡ true
 word_ascii = by_keyword (λ k. list_all (λ c. nat_lt c 128) (word k) ≡ true) refl refl refl refl refl refl
 
+ascii_same : (s : Text) → list_all (λ c. nat_lt c 128) s ≡ true → chars s ≡ s
+ascii_same s h = chars-IsAscii s (ascii s h)
+
 chars_word : (k : Keyword) → chars (word k) ≡ word k
-chars_word k = chars-IsAscii (word k) (ascii (word k) (word_ascii k))
+chars_word k = ascii_same (word k) (word_ascii k)
 
 -- the word of a keyword, as a test of the text's bytes finds it
 pub word_of : (k : Keyword) (p : Text) → p ≡ chars (word k) → keyword_text k ≡ 35 ∷ p
@@ -129,33 +132,20 @@ pub keyword_moves : (p run : Text) (a b d e : Here) → Took (Some 35) a b → R
 keyword_moves p run a b d e t s m =
     moves_then (moves_one t) (rw m (record { piece = (run, s.text); at = omega (arith, s.at, ap bytes s.text, bytes-append run d.rest); counts = omega (arith, s.steps); same = s.same }))
 
--- the keyword of a number is the whole text
-float_to : (t : Text) (k : Keyword) → is_of_number k ≡ true → IsKeyword t [] k → FloatKeyword t
-float_to t True n (keyword f m) = cc
-float_to t False n (keyword f m) = cc
-float_to t Null n (keyword f m) = cc
-float_to t Infinity n (keyword f m) = inl f
-float_to t NegativeInfinity n (keyword f m) = inr (inl f)
-float_to t NotANumber n (keyword f m) = inr (inr f)
+-- the texts of the keywords that are numbers, in memory
+pub infinity_text : chars (codes "#inf") ≡ codes "#inf"
+infinity_text = ascii_same (codes "#inf") refl
 
-float_from : (t : Text) → FloatKeyword t → (k : Keyword) × (is_of_number k ≡ true) × IsKeyword t [] k
-float_from t (inl f) = (Infinity, refl, keyword f refl)
-float_from t (inr (inl f)) = (NegativeInfinity, refl, keyword f refl)
-float_from t (inr (inr f)) = (NotANumber, refl, keyword f refl)
+pub negative_text : chars (codes "#-inf") ≡ codes "#-inf"
+negative_text = ascii_same (codes "#-inf") refl
 
-module _ (s t : Text) (q : s ≡ t) where
-  pub float_none : ((r : Text) (x : Keyword) → IsKeyword s r x → ⊥) → IsTrue false ↔ FloatKeyword t
-  float_none h = (λ y. cc, λ f. let (x, m, i) = float_from s (rw q f) in absurd (h [] x i))
+pub nan_text : chars (codes "#nan") ≡ codes "#nan"
+nan_text = ascii_same (codes "#nan") refl
 
-module _ (b : Bool) (k : Keyword) (rest s t : Text) (q : s ≡ t) (h : (r : Text) (x : Keyword) → IsKeyword s r x ↔ ((r ≡ rest) × (x ≡ k))) where
-  pub float_some : is_of_number k ≡ true → (IsTrue b ↔ (rest ≡ [])) → IsTrue b ↔ FloatKeyword t
-  float_some n e = (
-    λ y. subst FloatKeyword q (float_to s k n (subst (λ z. IsKeyword s z k) (e.0 y) ((h rest k).1 (refl, refl)))),
-    λ f. let (x, m, i) = float_from s (rw q f) in e.1 (sym ((h [] x).0 i).0),
-  )
-
-  pub float_other : b ≡ false → b ≡ is_of_number k → IsTrue b ↔ FloatKeyword t
-  float_other n e = (
-    λ y. let z : IsTrue false = subst IsTrue n y in cc,
-    λ f. let (x, m, i) = float_from s (rw q f) in e ∙ ap is_of_number (sym ((h [] x).0 i).1) ∙ m,
-  )
+pub float_is : {t : Text} {b : Bool} → (t ≡ chars (codes "#inf") → IsTrue false) → (t ≡ chars (codes "#-inf") → IsTrue false) → IsTrue b ↔ (t ≡ chars (codes "#nan")) → IsTrue b ↔ FloatKeyword t
+float_is {t = t} {b = b} f g h = (λ y. inr (inr (h.0 y ∙ nan_text)), from)
+  where
+    from : FloatKeyword t → IsTrue b
+    from (inl e) = let x = f (e ∙ sym infinity_text) in cc
+    from (inr (inl e)) = let x = g (e ∙ sym negative_text) in cc
+    from (inr (inr e)) = h.1 (e ∙ sym nan_text)

@@ -1,15 +1,12 @@
 -- Decimal digits at the front of a text, and their value.
-use Rattle.std.specs.Prelude.{◌≡◌, ℕ, ◌+◌, ◌<◌, ◌≤◌, ◌++◌, ◌==◌, not, Bool, true, false, List, length, get_or, take, nat_lt, Option, Some, None}
+use Rattle.std.specs.Prelude.{◌≡◌, ℕ, ◌+◌, ◌<◌, ◌≤◌, ◌++◌, Bool, false, List, length, get_or, take, nat_lt}
 use Rattle.std.specs.Char.{digit_value}
-use Rattle.std.specs.List.{list_all}
 use Rattle.std.specs.Str.{chars}
 use Rattle.std.specs.Str.Parse.{AllDigits, digits_value}
 use Rattle.kdl_text.specs.Chars.{Text, starts}
 use Rattle.kdl_text.specs.Numbers.{is_digit_of, is_part}
 use Rattle.kdl_text.specs.Internal.Here.{Here}
 use Rattle.kdl_text.specs.Spans.{bytes, raise}
-use Rattle.kdl_text.specs.declared.numbers.Underscores.{Underscores}
-use Rattle.kdl_text.specs.declared.numbers.Underscores.TheVariants.{Absent, Possible}
 
 -- n bytes at the front are digits, whose value is v; the byte after them is another digit only if v is at least 2^59, and `_` only if `more`
 pub record DecimalsLen (s : List ℕ) (n v : ℕ) (more : Bool) : Type 0 where
@@ -46,28 +43,3 @@ pub record RanDigits (run : Text) (n v : ℕ) (more : Bool) (old new : Here) : T
 
 abbrev pub SkipsDigits : ℕ → ℕ → Bool → Here → Here → Type 0
 SkipsDigits n v more old new = (run : Text) × RanDigits run n v more old new
-
--- the text from s to rest has no `_`
-abbrev pub Bare : Text → Text → Type 0
-Bare s rest = (p : Text) × (s ≡ p ++ rest) × (list_all (λ c. not (c == 95)) p ≡ true)
-
--- no `_` was read from s to rest, unless some may be there
-abbrev pub BareIf : Underscores → Text → Text → Type 0
-BareIf Absent s rest = Bare s rest
-BareIf Possible s rest = Unit {0}
-
--- no `_` is in the text, unless some may be there
-abbrev pub Contains : Underscores → Text → Type 0
-Contains Absent p = list_all (λ c. not (c == 95)) p ≡ true
-Contains Possible p = Unit {0}
-
--- whether two pieces may contain `_`
-abbrev pub with_underscores : Underscores → Underscores → Underscores
-with_underscores Absent v = v
-with_underscores Possible v = Possible
-
--- whether a fraction and an exponent may, or that neither is there
-abbrev pub joined : Option Underscores → Option Underscores → Option Underscores
-joined (Some u) (Some v) = Some (with_underscores u v)
-joined (Some u) None = Some u
-joined None v = v

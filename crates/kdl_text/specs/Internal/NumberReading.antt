@@ -1,18 +1,12 @@
 -- How far a reader of numbers has come in the text.
-use Rattle.std.specs.Prelude.{◌≡◌, ℕ, ◌<◌, ◌≤◌, ◌^◌, ◌↔◌, true, false, Option, Some, None, Result, Ok, Err}
-use Rattle.std.specs.Prelude.{string_bytes, ◌∷◌, Bool}
+use Rattle.std.specs.Prelude.{◌≡◌, ℕ, ◌<◌, ◌≤◌, ◌^◌, ◌-◌, min, ◌↔◌, true, false, Option, Some, None, Result, Ok, Err}
+use Rattle.std.specs.Prelude.{string_bytes, ◌∷◌, ◌++◌, Bool, ℤ}
 use Rattle.std.specs.Str.{chars}
 use Rattle.std.specs.Char.{digit_value}
 use Rattle.std.specs.Str.Parse.{digits_value, digits_value_after}
 use Rattle.kdl_text.specs.Chars.{Text, starts, is_identifier_char}
 use Rattle.kdl_text.specs.Internal.Here.{Here, Stayed, Took}
-use Rattle.kdl_text.specs.Numbers.{is_digit_of, fits, base_prefix, Digits, Integer, Sign, BasePrefix, Fraction, Exponent, DecimalPart, NumberValue, whole_value, decimal_text, IsNumber, IsKeyword, keyword_text, is_exponent_letter}
-use Rattle.kdl_text.specs.declared.numbers.Magnitude.{Magnitude}
-use Rattle.kdl_text.specs.declared.numbers.Magnitude.TheVariants.{Small, Large, Huge}
-use Rattle.kdl_text.specs.Internal.DigitRuns.{BareIf}
-use Rattle.kdl_text.specs.declared.numbers.Sign.{Sign as SignRead}
-use Rattle.kdl_text.specs.declared.numbers.Sign.TheVariants.{Plus, Minus}
-use Rattle.kdl_text.specs.declared.numbers.Underscores.{Underscores}
+use Rattle.kdl_text.specs.Numbers.{is_digit_of, fits, base_prefix, Digits, Integer, Sign, BasePrefix, Fraction, Exponent, DecimalPart, WholeNumber, Decimal as DecimalText, plain, NumberValue, whole_value, decimal_text, IsNumber, IsKeyword, keyword_text, is_exponent_letter}
 use Rattle.kdl_text.specs.declared.numbers.Radix.{Radix}
 use Rattle.kdl_text.specs.declared.numbers.Radix.TheVariants.{Binary, Octal, Decimal, Hexadecimal}
 use Rattle.kdl_text.specs.declared.numbers.NumberFault.{NumberFault}
@@ -23,7 +17,6 @@ use Rattle.kdl_text.specs.declared.numbers.Number.{Number}
 use Rattle.kdl_text.specs.declared.numbers.Number.TheVariants.{Integer as IntegerNumber, Decimal as DecimalNumber}
 use Rattle.kdl_text.specs.declared.numbers.Front.{Front}
 use Rattle.kdl_text.specs.declared.numbers.Keyword.{Keyword}
-use Rattle.kdl_text.specs.declared.numbers.Keyword.TheVariants.{Infinity, NegativeInfinity, NotANumber}
 
 -- the base as a number
 abbrev pub radix_of : Radix → ℕ
@@ -31,11 +24,6 @@ radix_of Binary = 2
 radix_of Octal = 8
 radix_of Decimal = 10
 radix_of Hexadecimal = 16
-
--- the sign is `-`
-abbrev pub is_minus : SignRead → Bool
-is_minus Plus = false
-is_minus Minus = true
 
 -- the base that a letter denotes
 abbrev pub IsBase : Option Radix → Option ℕ → Type 0
@@ -47,11 +35,17 @@ abbrev pub LooksBasePrefix : Option Radix → Here → Here → Type 0
 LooksBasePrefix (Some b) old new = (base_prefix old.rest ≡ Some (radix_of b)) × Stayed 2 old new
 LooksBasePrefix None old new = (base_prefix old.rest ≡ None) × (k : ℕ) × (k ≤ 2) × Stayed k old new
 
--- the magnitude is n, or n doesn't fit 128 bits
-abbrev pub Counts : Magnitude → ℕ → Type 0
-Counts (Small v) n = v ≡ n
-Counts (Large v) n = v ≡ n
-Counts Huge n = 2 ^ 128 ≤ n
+-- the magnitude is n, or the greatest number of 128 bits if n needs more
+abbrev pub Counts : ℕ → ℕ → Type 0
+Counts m n = m ≡ min n (2 ^ 128 - 1)
+
+-- a sign was read if one is here
+abbrev pub SignOf : Bool → Text → Text → Type 0
+SignOf negative s rest = Sign s rest negative
+
+-- the prefix of a base was read if one is here
+abbrev pub BaseOf : Radix → Text → Text → Type 0
+BaseOf b s rest = BasePrefix s rest (radix_of b)
 
 -- the value of the character as a digit of the base, or that it is not one
 abbrev pub IsDigit : ℕ → ℕ → Option ℕ → Type 0
@@ -59,29 +53,23 @@ IsDigit radix c None = is_digit_of radix c ≡ false
 IsDigit radix c (Some d) = (is_digit_of radix c ≡ true) × (d ≡ digit_value c) × (d < radix)
 
 -- the digits and `_` here were read, and are appended to the number read so far
-abbrev pub ReadsDigits : ℕ → Magnitude → Magnitude → Text → Text → Type 0
+abbrev pub ReadsDigits : ℕ → ℕ → ℕ → Text → Text → Type 0
 ReadsDigits radix before after s rest = (w : Text) × Digits radix s rest w × ((n : ℕ) → Counts before n → Counts after (digits_value_after radix n w))
 
 -- an integer was read, or no digit of the base is here
-abbrev pub ReadsInteger : ℕ → Option Magnitude → Text → Text → Type 0
+abbrev pub ReadsInteger : ℕ → Option ℕ → Text → Text → Type 0
 ReadsInteger radix (Some m) s rest = (w : Text) × Integer radix s rest w × Counts m (digits_value radix w)
 ReadsInteger radix None s rest = (rest ≡ s) × (starts (is_digit_of radix) s ≡ false)
-
--- likewise, and whether `_` may be in it
-abbrev pub ReadsDecimal : ℕ → Option (Magnitude × Underscores) → Text → Text → Type 0
-ReadsDecimal radix (Some (m, u)) s rest = ReadsInteger radix (Some m) s rest × BareIf u s rest
-ReadsDecimal radix None s rest = ReadsInteger radix None s rest
 
 -- the front of a number, up to the end of its first integer
 pub record IsFront (f : Front) (t rest : Text) : Type 0 where
   pub after_sign : Text
   pub after_base : Text
   pub digits : Text
-  pub sign : Sign t after_sign (is_minus f.sign)
+  pub sign : Sign t after_sign f.negative
   pub base : BasePrefix after_sign after_base (radix_of f.radix)
   pub int : Integer (radix_of f.radix) after_base rest digits
   pub counts : Counts f.magnitude (digits_value (radix_of f.radix) digits)
-  pub bare : BareIf f.underscores t rest
 
 -- a sign, the prefix of the base and an integer of it begin the text and leave u
 pub record Begun (b : Radix) (t u : Text) : Type 0 where
@@ -119,46 +107,40 @@ FaultAt MissingExponent t rest = (u : Text) × Begun Decimal t u × PartFault Mi
 FaultAt TrailingDecimal t rest = (u : Text) × Begun Decimal t u × PartFault TrailingDecimal u rest
 
 -- if a fault is returned, it is the one that is there
-abbrev pub IsFault : {A : Type 0} → Result A NumberFault → Text → Text → Type 0
-IsFault (Ok x) t rest = Unit {0}
-IsFault (Err e) t rest = FaultAt e t rest
-
--- likewise after an integer
-abbrev pub IsPartFault : {A : Type 0} → Result A NumberFault → Text → Text → Type 0
-IsPartFault (Ok x) t rest = Unit {0}
-IsPartFault (Err e) t rest = PartFault e t rest
-
--- likewise of an exponent
-abbrev pub IsPowerFault : {A : Type 0} → Result A NumberFault → Text → Text → Type 0
-IsPowerFault (Ok x) t rest = Unit {0}
-IsPowerFault (Err e) t rest = (e ≡ MissingExponent) × PowerFault t rest
-
--- likewise where an allocation may fail
 abbrev pub IsNumberFault : {A : Type 0} → Result A NumberFailure → Text → Text → Type 0
 IsNumberFault (Err (Fault e)) t rest = FaultAt e t rest
 IsNumberFault _ t rest = Unit {0}
 
+-- no number begins here, for this fault
+pub record NoNumber (e : NumberFault) (s rest : Text) : Type 0 where
+  pub none : (r : Text) (v : NumberValue) → IsNumber s r v → ⊥
+  pub fault : FaultAt e s rest
+
 -- the front of a number was read, or no number begins here
 abbrev pub ReadsFront : Result Front NumberFault → Text → Text → Type 0
 ReadsFront (Ok f) s rest = IsFront f s rest
-ReadsFront (Err e) s rest = (r : Text) (v : NumberValue) → IsNumber s r v → ⊥
+ReadsFront (Err e) s rest = NoNumber e s rest
 
 -- a fraction was read, or seen not to be here; or its point has no digit after it
-abbrev pub ReadsFraction : Result (Option Underscores) NumberFault → Text → Text → Type 0
-ReadsFraction (Ok None) s rest = Fraction s rest false
-ReadsFraction (Ok (Some u)) s rest = Fraction s rest true × BareIf u s rest
-ReadsFraction (Err e) s rest = (r : Text) (b : Bool) → Fraction s r b → ⊥
+abbrev pub ReadsFraction : Result Bool NumberFault → Text → Text → Type 0
+ReadsFraction (Ok b) s rest = Fraction s rest b
+ReadsFraction (Err e) s rest = ((r : Text) (b : Bool) → Fraction s r b → ⊥) × PartFault e s rest
 
 -- an exponent was read, or seen not to be here; or its letter has no digit after it
-abbrev pub ReadsExponent : Result (Option Underscores) NumberFault → Text → Text → Type 0
-ReadsExponent (Ok None) s rest = Exponent s rest false
-ReadsExponent (Ok (Some u)) s rest = Exponent s rest true × BareIf u s rest
-ReadsExponent (Err e) s rest = (r : Text) (b : Bool) → Exponent s r b → ⊥
+abbrev pub ReadsExponent : Result Bool NumberFault → Text → Text → Type 0
+ReadsExponent (Ok b) s rest = Exponent s rest b
+ReadsExponent (Err e) s rest = ((r : Text) (b : Bool) → Exponent s r b → ⊥) × (e ≡ MissingExponent) × PowerFault s rest
 
 -- the part was read that turns an integer into a decimal, or none is here
-abbrev pub ReadsPart : Result Underscores NumberFault → Text → Text → Type 0
-ReadsPart (Ok u) s rest = DecimalPart s rest × BareIf u s rest
-ReadsPart (Err e) s rest = (r : Text) → DecimalPart s r → ⊥
+abbrev pub ReadsPart : Result (Unit {0}) NumberFault → Text → Text → Type 0
+ReadsPart (Ok u) s rest = DecimalPart s rest
+ReadsPart (Err e) s rest = ((r : Text) → DecimalPart s r → ⊥) × PartFault e s rest
+
+-- a whole number was read, or a decimal, or no number begins here
+abbrev pub ReadsWhole : Result (Option ℤ) NumberFault → Text → Text → Type 0
+ReadsWhole (Ok (Some z)) s rest = WholeNumber s rest z
+ReadsWhole (Ok None) s rest = (p : Text) → s ≡ p ++ rest → DecimalText s rest (plain p)
+ReadsWhole (Err e) s rest = NoNumber e s rest
 
 -- the value of the number
 abbrev pub number_value : Number → NumberValue
@@ -185,10 +167,3 @@ AteExponentLetter false old new = (starts is_exponent_letter old.rest ≡ false)
 abbrev pub WordOf : Option Keyword → Text → Type 0
 WordOf (Some k) w = keyword_text k ≡ 35 ∷ w
 WordOf None w = (k : Keyword) → keyword_text k ≡ 35 ∷ w → ⊥
-
--- the keyword is a number
-abbrev pub is_of_number : Keyword → Bool
-is_of_number Infinity = true
-is_of_number NegativeInfinity = true
-is_of_number NotANumber = true
-is_of_number _ = false

@@ -1,13 +1,8 @@
-use Rattle.kdl_text.proofs.Looking.SliceCost.{past_more, past_stayed, past_two}
 use Rattle.kdl_text.proofs.Numeric.NumberReads.{base_ten, base_other}
 use Rattle.kdl_text.proofs.numbers.eat_base_prefix.Goals as goal
 
 pub returns-in_default : goal.returns-in_default
-returns-in_default c =
-    let (none, k, few, stayed) = c.in_default.ensures in
-    record { reads = base_ten _ _ none stayed; past = past_more few (past_two (past_stayed stayed)) }
+returns-in_default c = let (none, k, few, stayed) = c.in_default.ensures in base_ten _ _ none few stayed
 
 pub returns : goal.returns
-returns c =
-    let b = base_other _ _ _ _ _ c.in-Some.ensures.0 c.in-Some.ensures.1 c.step.ensures c.step-2.ensures in
-    record { reads = b.base; past = b.past }
+returns c = base_other _ _ _ _ _ c.in-Some.ensures.0 c.in-Some.ensures.1 c.step.ensures c.step-2.ensures
