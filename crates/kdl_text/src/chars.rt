@@ -294,20 +294,6 @@ pub(crate) fn first_char(text: &str) -> Option<char>
     text.chars().next()
 }
 
-/// The text after its first character, if it is the ASCII character c.
-#[inline(always)]
-fn after_ascii(text: &str, c: char) -> Option<&str>
-    requires { c < 128 }
-    ensures past { MatchOption result (begins c (chars text.now) ≡ false) (λ rest. PastChar c text.now rest.now) }
-    ensures text { IfSome result (λ rest. IsUtf8 rest.now) }
-{
-    let bytes = text.as_bytes();
-    if bytes.is_empty() || bytes[0] != c as u8 {
-        return None;
-    }
-    Some(&text[1..])
-}
-
 /// The text after its first character, if it is c.
 #[inline(always)]
 pub(crate) fn after_char(text: &str, c: char) -> Option<&str>
@@ -315,7 +301,11 @@ pub(crate) fn after_char(text: &str, c: char) -> Option<&str>
     ensures text { IfSome result (λ rest. IsUtf8 rest.now) }
 {
     if c.is_ascii() {
-        return after_ascii(text, c);
+        let bytes = text.as_bytes();
+        if bytes.is_empty() || bytes[0] != c as u8 {
+            return None;
+        }
+        return Some(&text[1..]);
     }
     match split_first(text) {
         Some((d, rest)) if d == c => Some(rest),
@@ -366,28 +356,12 @@ fn skip_beyond<'a>(text: &str, following: &'a str, read: u64, class: Class) -> (
     (rest, count)
 }
 
-/// Returns the text after its longest run of characters of the class, and the number of characters
-/// in the run.
-#[inline(always)]
-fn skip_run(text: &str, class: Class) -> (&str, u64)
-    ensures { RunOf (in_class class) text.now result.0.now result.1 }
-{
-    let (rest, count) = skip_ascii(text, class);
-    let Some(c) = first_char(rest) else {
-        return (rest, count);
-    };
-    if c.is_ascii() {
-        return (rest, count);
-    }
-    skip_beyond(text, rest, count, class)
-}
-
 /// Returns the text after its longest run of characters that represent themselves in a quoted string
 /// and are not tabs.
 pub fn after_plain(text: &str) -> &str
     ensures { AfterRun is_plain text.now result.now }
 {
-    let (rest, _) = skip_run(text, Class::Plain);
+    let (rest, _) = skip_class(text, Class::Plain);
     rest
 }
 
@@ -424,5 +398,12 @@ pub(crate) fn skip_class(text: &str, class: Class) -> (&str, u64)
             return (rest, 1);
         }
     }
-    skip_run(text, class)
+    let (rest, count) = skip_ascii(text, class);
+    let Some(c) = first_char(rest) else {
+        return (rest, count);
+    };
+    if c.is_ascii() {
+        return (rest, count);
+    }
+    skip_beyond(text, rest, count, class)
 }

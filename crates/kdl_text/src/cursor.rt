@@ -87,14 +87,6 @@ fn second_char(text: &str) -> Option<char>
     }
 }
 
-/// Whether the text begins with these two characters.
-#[inline(always)]
-fn starts_with_two(text: &str, a: char, b: char) -> bool
-    ensures { result ≡ class.begins_two a b (chars text.now) }
-{
-    after_two(text, a, b).is_some()
-}
-
 /// The part of the text before its rest.
 #[inline]
 fn cut<'a>(text: &'a str, rest: &str) -> &'a str
@@ -272,8 +264,7 @@ impl<'a> Piece<'a> {
     /// Appends the piece to the text. An empty piece does not allocate.
     #[inline]
     pub fn push_to(&self, out: &mut String) -> Result<(), AllocError>
-        ensures { IfOk result (λ _. chars (string_bytes out.new)
-            ≡ chars (string_bytes out.old) ++ self.now) }
+        ensures { IfOk result (λ _. chars (string_bytes out.new) ≡ chars (string_bytes out.old) ++ self.now) }
     {
         out.push_str(self.text)
     }
@@ -469,7 +460,7 @@ impl<'a> Cursor<'a> {
         ensures stayed { Stayed 2 self.old self.new }
     {
         self.steps.raise(2);
-        starts_with_two(self.rest, a, b)
+        after_two(self.rest, a, b).is_some()
     }
 
     /// Advances past the characters a and b if they are here, and returns whether they are. Costs

@@ -277,8 +277,7 @@ impl Front {
     /// Returns the whole number, if it fits in an `i128`.
     fn value(self) -> Option<i128>
         ensures { (n : ℕ) → Counts self.magnitude n → result ≡ (if spec.fits self.negative n
-            then Some (spec.signed self.negative n)
-            else None) }
+            then Some (spec.signed self.negative n) else None) }
     {
         let n = self.magnitude;
         match self.negative {

@@ -9,7 +9,7 @@ ghost use Rattle.kdl_text.specs.Bare.{BareString};
 ghost use Rattle.kdl_text.specs.Chars.{Text, is_digit, is_identifier_char, is_newline_char, within};
 ghost use Rattle.kdl_text.specs.Internal.Here.{Looked, Stayed, first, in_class};
 ghost use Rattle.kdl_text.specs.MultiLine.{IsQuoted};
-ghost use Rattle.kdl_text.specs.Internal.Reading.{Moves, Costs, Past};
+ghost use Rattle.kdl_text.specs.Internal.Reading.{CutsRun, Moves, Costs, Past, Consumed};
 ghost use Rattle.kdl_text.specs.Strings as spec;
 ghost use Rattle.kdl_text.specs.Strings.{QuotedBody, StringUnit, IsUnit, HexNumber, Run, unit_value};
 ghost use Rattle.kdl_text.specs.declared.strings.StringFault.TheVariants.{Newline, Banned};
@@ -19,9 +19,9 @@ ghost use Rattle.std.specs.Char.{is_ascii_alphabetic};
 ghost use Rattle.std.specs.List.{list_all};
 ghost use Rattle.std.specs.Str.{chars, bytes_eq};
 
-use self::multiline::{Enclosure, many_lines};
+use self::multiline::many_lines;
 use crate::chars::{Class, is_digit, is_newline_char, is_space};
-use crate::cursor::{Cursor, Piece};
+use crate::cursor::{Cursor, Piece, Steps};
 use std::alloc::{AllocError, Global};
 
 mod dedent;
@@ -82,9 +82,7 @@ impl From<StringFault> for StringFailure {
 /// Advances past the longest run of characters of the class, and returns it.
 #[inline(always)]
 fn run_of<'a>(class: Class, cursor: &mut Cursor<'a>) -> Piece<'a>
-    ensures run { Run (in_class class) cursor.old.rest cursor.new.rest }
-    ensures result { cursor.old.rest ≡ result ++ cursor.new.rest }
-    ensures past { Past 2 1 cursor.old cursor.new }
+    ensures { Consumed 2 1 (CutsRun (in_class class) result) cursor.old cursor.new }
 {
     let start = cursor.checkpoint();
     cursor.skip(class);
@@ -197,6 +195,17 @@ pub fn letter_string<'a>(c: char, cursor: &mut Cursor<'a>) -> Option<Piece<'a>>
     if is_bare { Some(word) } else { None }
 }
 
+/// Returns whether the whole text is a bare string.
+pub fn is_bare(text: &str) -> bool
+    ensures { result ≡ bare.is_bare (chars text.now) }
+{
+    let mut cursor = Cursor::new(text, Steps::new());
+    match bare_string(&mut cursor) {
+        Some(_) => cursor.look().is_none(),
+        None => false,
+    }
+}
+
 fn is_blank(c: char) -> bool
     ensures { result ≡ spec.is_escaped_space c }
 {
@@ -205,8 +214,7 @@ fn is_blank(c: char) -> bool
 
 /// Advances past spaces and newlines.
 fn skip_blanks(cursor: &mut Cursor)
-    ensures run { Run spec.is_escaped_space cursor.old.rest cursor.new.rest }
-    ensures past { Past 1 1 cursor.old cursor.new }
+    ensures { Consumed 1 1 (Run spec.is_escaped_space) cursor.old cursor.new }
 {
     'blanks: while let Some(c) = cursor.look() {
         if !is_blank(c) {
@@ -264,11 +272,9 @@ fn letter_escape(letter: char) -> Option<char>
 /// Reads the rest of the escape that begins with this letter, and returns its character. After `u`
 /// the number of the character follows, in braces.
 fn escaped_char(letter: char, cursor: &mut Cursor) -> Option<char>
-    ensures found { IfSome result
-        (λ c. IsUnit (92 ∷ letter ∷ cursor.old.rest) cursor.new.rest (spec.escape c)) }
+    ensures found { IfSome result (λ c. IsUnit (92 ∷ letter ∷ cursor.old.rest) cursor.new.rest (spec.escape c)) }
     ensures none { spec.is_escaped_space letter ≡ false
-        → IfNone result ((r : Text) (u : StringUnit) → IsUnit (92 ∷ letter ∷ cursor.old.rest) r u
-        → ⊥) }
+        → IfNone result ((r : Text) (u : StringUnit) → IsUnit (92 ∷ letter ∷ cursor.old.rest) r u → ⊥) }
     ensures past { Past 1 1 cursor.old cursor.new }
 {
     if letter != 'u' {
@@ -283,10 +289,8 @@ fn escaped_char(letter: char, cursor: &mut Cursor) -> Option<char>
 /// Reads what follows a backslash. Returns the character of an escape, or `None` for spaces and
 /// newlines.
 pub fn escaped_unit(cursor: &mut Cursor) -> Result<Option<char>, StringFault>
-    ensures found { IfOk result
-        (λ o. IsUnit (92 ∷ cursor.old.rest) cursor.new.rest (spec.escape_of o)) }
-    ensures only { (r : Text) (u : StringUnit) → IsUnit (92 ∷ cursor.old.rest) r u
-        → IfErr result (λ _. ⊥) }
+    ensures found { IfOk result (λ o. IsUnit (92 ∷ cursor.old.rest) cursor.new.rest (spec.escape_of o)) }
+    ensures only { (r : Text) (u : StringUnit) → IsUnit (92 ∷ cursor.old.rest) r u → IfErr result (λ _. ⊥) }
     ensures moves { Moves cursor.old cursor.new }
     ensures costs { Costs 1 1 cursor.old cursor.new }
 {
@@ -319,11 +323,9 @@ fn push_escaped(out: &mut String, c: char) -> Result<(), AllocError>
 
 /// Reads what follows a backslash, and appends its character, or nothing for spaces and newlines.
 fn escape(cursor: &mut Cursor, out: &mut String) -> Result<(), StringFailure>
-    ensures found { IfOk result
-        (λ _. (u : StringUnit) × IsUnit (92 ∷ cursor.old.rest) cursor.new.rest u
+    ensures found { IfOk result (λ _. (u : StringUnit) × IsUnit (92 ∷ cursor.old.rest) cursor.new.rest u
         × (chars (string_bytes out.new) ≡ chars (string_bytes out.old) ++ unit_value u)) }
-    ensures only { (r : Text) (u : StringUnit) → IsUnit (92 ∷ cursor.old.rest) r u
-        → IfErr result (λ e. e ≡ Memory) }
+    ensures only { (r : Text) (u : StringUnit) → IsUnit (92 ∷ cursor.old.rest) r u → IfErr result (λ e. e ≡ Memory) }
     ensures past { Past 1 1 cursor.old cursor.new }
 {
     match escaped_unit(cursor)? {
@@ -349,11 +351,9 @@ fn fault_at(c: char) -> StringFault
 
 /// Reads the units of a quoted string and its closing quote.
 fn quoted_body(alloc: Global, cursor: &mut Cursor) -> Result<String, StringFailure>
-    ensures found { IfOk result
-        (λ v. QuotedBody cursor.old.rest cursor.new.rest (chars (string_bytes v))) }
+    ensures found { IfOk result (λ v. QuotedBody cursor.old.rest cursor.new.rest (chars (string_bytes v))) }
     ensures only { (r w : Text) → QuotedBody cursor.old.rest r w
-        → MatchResult result (λ v. (r ≡ cursor.new.rest) × (w ≡ chars (string_bytes v)))
-        (λ e. e ≡ Memory) }
+        → MatchResult result (λ v. (r ≡ cursor.new.rest) × (w ≡ chars (string_bytes v))) (λ e. e ≡ Memory) }
     ensures past { Past 3 2 cursor.old cursor.new }
 {
     let mut out = run_of(Class::Literal, cursor).to_string(alloc)?;
@@ -372,11 +372,9 @@ fn quoted_body(alloc: Global, cursor: &mut Cursor) -> Result<String, StringFailu
 /// String). Advances past the closing quotes and returns the value. Fails with a fault if no quoted
 /// string begins here, and with `Memory` if the allocation for the value fails.
 pub fn quoted_string(alloc: Global, cursor: &mut Cursor) -> Result<String, StringFailure>
-    ensures found { IfOk result
-        (λ v. IsQuoted cursor.old.rest cursor.new.rest (chars (string_bytes v))) }
+    ensures found { IfOk result (λ v. IsQuoted cursor.old.rest cursor.new.rest (chars (string_bytes v))) }
     ensures only { (r w : Text) → IsQuoted cursor.old.rest r w
-        → MatchResult result (λ v. (r ≡ cursor.new.rest) × (w ≡ chars (string_bytes v)))
-        (λ e. e ≡ Memory) }
+        → MatchResult result (λ v. (r ≡ cursor.new.rest) × (w ≡ chars (string_bytes v))) (λ e. e ≡ Memory) }
     ensures moves { Moves cursor.old cursor.new }
     ensures costs { Costs 4 7 cursor.old cursor.new }
     ensures cost { IfOk result (λ _. Costs 24 0 cursor.old cursor.new) }
@@ -385,7 +383,7 @@ pub fn quoted_string(alloc: Global, cursor: &mut Cursor) -> Result<String, Strin
         return Err(StringFailure::Fault(StringFault::Unopened));
     }
     if cursor.eat_two('"', '"') {
-        many_lines(alloc, cursor, Enclosure::Quotes)
+        many_lines(alloc, cursor, 0)
     } else {
         quoted_body(alloc, cursor)
     }

@@ -2,7 +2,6 @@
 #![tactic(auto, using(crate::proofs::Looking::Returns::advancing))]
 
 ghost use Rattle.kdl_text.specs.Chars.{begins, begins_two, Space};
-ghost use Rattle.kdl_text.specs.Internal.Here.{AteTwo};
 ghost use Rattle.kdl_text.specs.Internal.Reading.{Reads, Moves, Costs, Longest, Past, Consumed};
 ghost use Rattle.kdl_text.specs.Trivia.{Parts, BlockComment, Line, LineComment, EscEnd, Escline};
 ghost use Rattle.kdl_text.specs.Internal.TriviaReading.{PieceCosts, RanWs, ReadsSlash, SlashCosts};
@@ -165,15 +164,6 @@ pub fn escline(cursor: &mut Cursor) -> bool
     escline_end(cursor)
 }
 
-/// Advances past `/-` if it is here, and returns whether it is (KDL 2.0.0, Slashdash Comments).
-#[inline(always)]
-pub fn eat_slashdash(cursor: &mut Cursor) -> bool
-    ensures reads { AteTwo 47 45 result cursor.old cursor.new }
-    ensures moves { Moves cursor.old cursor.new }
-{
-    cursor.eat_two('/', '-')
-}
-
 /// Advances past the block comment, the line comment or the `/-` that begins with the slash here,
 /// if one of them does.
 pub fn slash<'a>(cursor: &mut Cursor<'a>) -> SlashRead
@@ -193,7 +183,7 @@ pub fn slash<'a>(cursor: &mut Cursor<'a>) -> SlashRead
         *cursor = here;
         line_end(cursor);
         SlashRead::Line
-    } else if eat_slashdash(&mut here) {
+    } else if here.eat_two('/', '-') {
         *cursor = here;
         SlashRead::Dash
     } else {

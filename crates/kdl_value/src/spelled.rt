@@ -2,16 +2,14 @@
 
 ghost use Rattle.kdl_value.specs.Spelled as spec;
 ghost use Rattle.kdl_value.specs.Spelled.{PlainRun};
-ghost use Rattle.kdl_text.specs.Bare as bare;
-ghost use Rattle.kdl_text.specs.Chars as class;
-ghost use Rattle.std.specs.Char.{IsScalar, is_ascii};
+ghost use Rattle.std.specs.Char.{IsScalar};
 ghost use Rattle.std.specs.Fmt.{WritesOnOk};
-ghost use Rattle.std.specs.List.{list_all};
-ghost use Rattle.std.specs.Prelude.{◌≡◌, ◌++◌, ◌∷◌, [], ◌<◌, ◌≤◌, true, length, MatchOption, IfSome, encode_utf8};
+ghost use Rattle.std.specs.Prelude.{◌≡◌, ◌++◌, ◌∷◌, [], ◌<◌, ◌≤◌, length, MatchOption, IfSome, codes, encode_utf8};
 ghost use Rattle.std.specs.Str.{chars, bytes_eq, encode_utf8_all, IsUtf8};
 
 use crate::print::write_text;
-use kdl_text::chars::{after_plain, is_banned, is_digit, is_identifier_char, is_newline_char};
+use kdl_text::chars::{after_plain, is_banned, is_newline_char};
+use kdl_text::strings::is_bare;
 use std::fmt;
 use std::fmt::{Formatter, Write};
 
@@ -29,71 +27,18 @@ fn next_char(s: &str) -> Option<(char, &str)>
     Some((c, chars.as_str()))
 }
 
-/// Whether each character is one that a bare string may contain.
-fn all_identifier(s: &str) -> bool
-    ensures { result ≡ list_all class.is_identifier_char (chars s.now) }
+/// Whether the text is `-inf`.
+fn is_negative_infinity(s: &str) -> bool
+    ensures { result ≡ bytes_eq (chars s.now) (codes "-inf") }
 {
-    s.chars().all(|c| is_identifier_char(c))
-}
-
-/// Whether the text, which follows a point, does not begin with a digit.
-fn after_point(s: &str) -> bool
-    ensures { result ≡ bare.after_point (chars s.now) }
-{
-    match next_char(s) {
-        None => true,
-        Some((c, _)) => !is_digit(c),
-    }
-}
-
-/// Whether the text, which follows a sign, does not make a number with it.
-fn after_sign(s: &str) -> bool
-    ensures { result ≡ bare.after_sign (chars s.now) }
-{
-    match next_char(s) {
-        None => true,
-        Some(('.', rest)) => after_point(rest),
-        Some((c, _)) => !is_digit(c),
-    }
-}
-
-/// Whether the text is `word`, which is ASCII.
-fn is_text(s: &str, word: &str) -> bool
-    requires { list_all is_ascii word.now ≡ true }
-    ensures { result ≡ bytes_eq (chars s.now) word.now }
-{
-    s == word
-}
-
-/// Whether the text is a keyword without its `#`, which may not be a bare string.
-fn is_excluded(s: &str) -> bool
-    ensures { result ≡ bare.is_excluded (chars s.now) }
-{
-    is_text(s, "true")
-        || is_text(s, "false")
-        || is_text(s, "null")
-        || is_text(s, "inf")
-        || is_text(s, "nan")
-}
-
-/// Whether the front of the text is that of a bare string.
-fn bare_form(s: &str) -> bool
-    ensures { result ≡ bare.bare_form (chars s.now) }
-{
-    match next_char(s) {
-        None => false,
-        Some(('+' | '-', rest)) => after_sign(rest),
-        Some(('.', rest)) => after_point(rest),
-        Some((c, _)) => !is_digit(c) && !is_excluded(s),
-    }
+    s == "-inf"
 }
 
 /// Whether the text is printed bare.
-#[tactic(auto, unfolding(kdl_text::specs::Bare::is_bare))]
 fn prints_bare(s: &str) -> bool
     ensures { result ≡ spec.prints_bare (chars s.now) }
 {
-    all_identifier(s) && bare_form(s) && !is_text(s, "-inf")
+    is_bare(s) && !is_negative_infinity(s)
 }
 
 /// The letter of the short escape of a character, or U+0000 if it has none.
@@ -147,8 +92,7 @@ fn before<'a>(s: &'a str, rest: &str) -> &'a str
 
 /// Writes a text as it is between quotes.
 fn write_escaped<W: Write>(s: &str, f: &mut Formatter<W>) -> fmt::Result
-    ensures { WritesOnOk W.write_str_gives f.old result
-        (encode_utf8_all (spec.escaped_text (chars s.now))) f.new }
+    ensures { WritesOnOk W.write_str_gives f.old result (encode_utf8_all (spec.escaped_text (chars s.now))) f.new }
 {
     let mut rest = s;
     'runs: loop {
@@ -173,8 +117,7 @@ fn write_escaped<W: Write>(s: &str, f: &mut Formatter<W>) -> fmt::Result
 /// ```
 #[tactic(auto, unfolding(crate::specs::Spelled::spelled))]
 pub fn write_spelled<W: Write>(s: &str, f: &mut Formatter<W>) -> fmt::Result
-    ensures { WritesOnOk W.write_str_gives f.old result
-        (encode_utf8_all (spec.spelled (chars s.now))) f.new }
+    ensures { WritesOnOk W.write_str_gives f.old result (encode_utf8_all (spec.spelled (chars s.now))) f.new }
 {
     if prints_bare(s) {
         f.write_str(s)

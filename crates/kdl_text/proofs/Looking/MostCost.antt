@@ -1,16 +1,12 @@
 -- What is read costs so much, whether or not it is right.
-use Rattle.std.proofs.Common.{◌≡◌, ℕ, ◌≤◌, ◌++◌, length, length-append, ap, arith}
+use Rattle.std.proofs.Common.{◌≡◌, ℕ, ◌++◌, length, length-append, ap, arith}
 use Rattle.kdl_text.specs.Chars.{Text}
 use Rattle.kdl_text.specs.Internal.Here.{Here, Took, Ran, sliced}
 use Rattle.kdl_text.specs.Spans.{bytes}
-use Rattle.kdl_text.specs.Internal.Reading.{Costs, Past}
+use Rattle.kdl_text.specs.Internal.Reading.{Costs}
 use Rattle.std.specs.Prelude.{Some, Bool}
-use Rattle.kdl_text.proofs.Looking.MovesJoin.{fewer_bytes, bytes-append}
+use Rattle.kdl_text.proofs.Looking.MovesJoin.{bytes-append}
 use Rattle.kdl_text.proofs.Looking.Runs.{length-bytes}
-
--- a higher bound
-pub more : {i c : ℕ} {a b : Here} → Past 2 i a b → i ≤ c → Costs 4 c a b
-more p le = record { most = omega (arith, p.costs.most, fewer_bytes p.moves, le); least = p.costs.least }
 
 -- what was read is sliced
 pub copied_most : (p : Text) (a b e : Here) → Costs 2 11 a b → a.rest ≡ p ++ b.rest → e ≡ sliced p b → Costs 4 12 a e

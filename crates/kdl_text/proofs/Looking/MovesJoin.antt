@@ -1,5 +1,5 @@
 -- How moves and costs go on.
-use Rattle.std.proofs.Common.{◌≡◌, ℕ, ◌+◌, ◌≤◌, List, [], ◌∷◌, ◌++◌, length, refl, ap, sym, ◌∙◌, append_assoc, length-append, arith}
+use Rattle.std.proofs.Common.{◌≡◌, ℕ, ◌+◌, ◌≤◌, List, [], ◌∷◌, ◌++◌, refl, ap, sym, ◌∙◌, append_assoc, arith}
 use Rattle.std.specs.Char.{len_utf8}
 use Rattle.std.specs.Prelude.{Some}
 use Rattle.kdl_text.specs.Internal.Here.{Here, Took, TookTwo, Stayed, Looked, looked, stepped, first, tail, first_len}
@@ -25,9 +25,6 @@ moves_one {c = c} (r, at, s, x) = record { piece = (c ∷ [], r); at = omega (ar
 
 pub moves_two : {c d : ℕ} {a b : Here} → TookTwo c d a b → Moves a b
 moves_two {c = c} {d = d} t = record { piece = (c ∷ d ∷ [], t.rest); at = omega (arith, ap bytes t.rest, t.at); counts = omega (arith, t.steps); same = t.same }
-
-pub shorter : {a b : Here} → Moves a b → length b.rest ≤ length a.rest
-shorter {a = a} {b = b} m = omega (arith, ap length m.piece.1, length-append m.piece.0 b.rest)
 
 pub stayed_looked : (a b : Here) → b ≡ looked a → Stayed 1 a b
 stayed_looked a b e = record { rest = ap (λ z. z.rest) e; at = ap (λ z. z.at) e; steps = ap (λ z. z.steps) e; same = ap (λ z. z.text) e }

@@ -8,7 +8,7 @@ use Rattle.std.proofs.lemmas.Str.{chars-append}
 use Rattle.kdl_text.specs.Chars.{Text}
 use Rattle.kdl_text.specs.Internal.Here.{Here, Took, TookTwo, Stayed, Ate, Ran, Passed, Skips, looked, sliced}
 use Rattle.kdl_text.specs.Spans.{bytes}
-use Rattle.kdl_text.specs.Internal.Reading.{Moves, Costs, Past}
+use Rattle.kdl_text.specs.Internal.Reading.{Moves, Costs, Past, Consumed, CutsRun}
 use Rattle.kdl_text.specs.Strings.{Run}
 use Rattle.kdl_text.proofs.Looking.MovesJoin.{stays, moves_then, moves_one, moves_two, moves_stayed, stayed_looked, fewer_bytes, bytes-append}
 use Rattle.kdl_text.proofs.Looking.Runs.{length-bytes}
@@ -118,14 +118,10 @@ past_both {c = c} {d = d} t = record {
 }
 
 -- a run from here on and its slice
-pub record Sliced (p : ℕ → Bool) (x : Text) (a e : Here) : Type 0 where
-  pub run : Run p a.rest e.rest
-  pub past : Past 2 1 a e
-
-pub ran_sliced : (p : ℕ → Bool) (x : Text) (a m e : Here) → Skips p a m → a.rest ≡ x ++ m.rest → e ≡ sliced x m → Sliced p x a e
+pub ran_sliced : (p : ℕ → Bool) (x : Text) (a m e : Here) → Skips p a m → a.rest ≡ x ++ m.rest → e ≡ sliced x m → Consumed 2 1 (CutsRun p x) a e
 ran_sliced p x a m e (run, r) t s =
     rw s (record {
-      run = run_ran r;
+      reads = record { run = run_ran r; text = t };
       past = record { moves = moves_sliced x a m (sliced x m) refl (moves_ran r); costs = costs_sliced 1 x a m (sliced x m) refl t (costs_ran r) };
     })
 

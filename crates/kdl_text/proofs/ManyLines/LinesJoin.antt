@@ -1,12 +1,15 @@
 -- Lines of strings of many lines, one after another.
-use Rattle.std.proofs.Common.{◌≡◌, true, false, List, [], ◌∷◌, ◌++◌, refl, sym, ap, ◌∙◌, subst, append_assoc}
+use Rattle.std.proofs.Common.{◌≡◌, ℕ, zero, suc, ◌+◌, true, false, List, [], ◌∷◌, ◌++◌, refl, sym, ap, ◌∙◌, subst, append_assoc}
 use Rattle.std.proofs.lemmas.Bool.{and_parts, false≢true}
 use Rattle.std.proofs.lemmas.List.Folds.{list_all-append}
 use Rattle.std.specs.List.{list_all}
+use Rattle.std.specs.Prelude.{Bool, Result}
 use Rattle.kdl_text.specs.Chars.{Text}
 use Rattle.kdl_text.specs.Dedent.{LineUnit, Literal, Escape, LineEnd, onto_first, lines_of}
 use Rattle.kdl_text.specs.Internal.Here.{Here}
-use Rattle.kdl_text.specs.Internal.Lines.{AreLines, no_lines, a_line, IsLine, ReadLine, is_one_line}
+use Rattle.kdl_text.specs.Internal.Lines.{AreLines, no_lines, a_line, IsLine, LinesOf, ReadLine, ReadsOne, is_one_line}
+use Rattle.kdl_text.specs.Raw.{RawContent, closing}
+use Rattle.kdl_text.specs.declared.strings.StringFailure.{StringFailure}
 use Rattle.kdl_text.specs.Internal.Reading.{Moves, Past, Goes}
 use Rattle.kdl_text.specs.declared.strings.dedent.Line.{Line}
 use Rattle.kdl_text.proofs.Looking.ValueGoes.{goes_start, goes_then}
@@ -75,3 +78,8 @@ module _ (X : Text → Text → List LineUnit → Type 0) (f a b : Here) (ls : L
         (ended LineEnd i.units ++ r.units, i.goes.on b.rest r.units x, subst (AreLines (ls ++ (l ∷ []))) (sym (lines_ended i.units r.units i.inside one)) (lines_more l i.are r.is)),
         past_then i.past (record { moves = m; costs = r.paid.costs }),
       )
+
+-- lines with number signs are those of a raw string
+pub raw_one : (n : ℕ) {r : Result (Line × Bool) StringFailure} {a b : Here} → (n ≡ 0 → ⊥) → ReadsOne (RawContent (closing 3 n)) r a b → ReadsOne (LinesOf n) r a b
+raw_one zero h x = absurd (h refl)
+raw_one (suc n) h x = x

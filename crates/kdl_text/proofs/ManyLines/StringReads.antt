@@ -1,5 +1,5 @@
 -- Whole strings: from their quotes, their lines and their dedent.
-use Rattle.std.proofs.Common.{◌≡◌, false, ◌&&◌, ◌==◌, List, [], ◌∷◌, refl, sym, ap, ◌∙◌, subst}
+use Rattle.std.proofs.Common.{◌≡◌, ℕ, zero, suc, false, ◌&&◌, ◌==◌, List, [], ◌∷◌, refl, sym, ap, ◌∙◌, subst}
 use Rattle.std.proofs.Math.Bool.{and-true}
 use Rattle.std.proofs.lemmas.Bool.{true≢false}
 use Rattle.std.specs.Prelude.{Result, Ok, Err, IfOk, MatchResult}
@@ -10,8 +10,6 @@ use Rattle.kdl_text.specs.MultiLine.{Content, MultiLineBody, lines, multi_line, 
 use Rattle.kdl_text.specs.Internal.Lines.{LinesOf, BodyOf}
 use Rattle.kdl_text.specs.Raw as raw
 use Rattle.kdl_text.specs.Raw.{RawContent, closing}
-use Rattle.kdl_text.specs.declared.strings.multiline.Enclosure.{Enclosure}
-use Rattle.kdl_text.specs.declared.strings.multiline.Enclosure.TheVariants.{Quotes, Signs}
 use Rattle.kdl_text.specs.declared.strings.StringFailure.{StringFailure}
 use Rattle.kdl_text.specs.declared.strings.StringFailure.TheVariants.{Memory}
 use Rattle.kdl_text.proofs.ManyLines.LinesUnique.{content_det}
@@ -22,26 +20,26 @@ dedent_made : {T : Type 0} (o : Result T StringFailure) (f : T → Text) (r e w 
 dedent_made (Ok v) f r e w ends k = (ends, k)
 dedent_made (Err x) f r e w ends k = k
 
-lines_det : (d : Enclosure) (t r s : Text) (us vs : List LineUnit) → LinesOf d t r us → LinesOf d t s vs → (r ≡ s) × (us ≡ vs)
-lines_det Quotes t r s us vs x y = content_det x y
-lines_det (Signs n) t r s us vs x y = raw_det x y
+lines_det : (d : ℕ) (t r s : Text) (us vs : List LineUnit) → LinesOf d t r us → LinesOf d t s vs → (r ≡ s) × (us ≡ vs)
+lines_det zero t r s us vs x y = content_det x y
+lines_det (suc n) t r s us vs x y = raw_det x y
 
-pub body_found : (d : Enclosure) {T E : Type 0} (o : Result T E) (f : T → Text) (t m r : Text) (us : List LineUnit) → Newline t m → LinesOf d m r us
+pub body_found : (d : ℕ) {T E : Type 0} (o : Result T E) (f : T → Text) (t m r : Text) (us : List LineUnit) → Newline t m → LinesOf d m r us
     → IfOk o (λ v. Dedents us (f v)) → IfOk o (λ v. BodyOf d t r (f v))
-body_found Quotes (Ok v) f t m r us n x made = lines n x made
-body_found (Signs k) (Ok v) f t m r us n x made = raw.lines n x made
+body_found zero (Ok v) f t m r us n x made = lines n x made
+body_found (suc k) (Ok v) f t m r us n x made = raw.lines n x made
 body_found d (Err e) f t m r us n x made = tt
 
 -- the newline and the lines of a body
-pub body_newline : (d : Enclosure) (t r w : Text) → BodyOf d t r w → (m : Text) × Newline t m
-body_newline Quotes t r w (lines {m = m} k x made) = (m, k)
-body_newline (Signs n) t r w (raw.lines {m = m} k x made) = (m, k)
+pub body_newline : (d : ℕ) (t r w : Text) → BodyOf d t r w → (m : Text) × Newline t m
+body_newline zero t r w (lines {m = m} k x made) = (m, k)
+body_newline (suc n) t r w (raw.lines {m = m} k x made) = (m, k)
 
-pub body_lines : (d : Enclosure) (t m r w : Text) → Newline t m → BodyOf d t r w → (us : List LineUnit) × LinesOf d m r us × Dedents us w
-body_lines Quotes t m r w n (lines {us = us} k x made) = (us, subst (λ z. Content z r us) (newline_det k n) x, made)
-body_lines (Signs j) t m r w n (raw.lines {us = us} k x made) = (us, subst (λ z. RawContent (closing 3 j) z r us) (newline_det k n) x, made)
+pub body_lines : (d : ℕ) (t m r w : Text) → Newline t m → BodyOf d t r w → (us : List LineUnit) × LinesOf d m r us × Dedents us w
+body_lines zero t m r w n (lines {us = us} k x made) = (us, subst (λ z. Content z r us) (newline_det k n) x, made)
+body_lines (suc j) t m r w n (raw.lines {us = us} k x made) = (us, subst (λ z. RawContent (closing 3 (suc j)) z r us) (newline_det k n) x, made)
 
-pub body_only : (d : Enclosure) {T : Type 0} (o : Result T StringFailure) (f : T → Text) (t m e : Text) (us : List LineUnit) → Newline t m → LinesOf d m e us → ((v : Text) → Dedents us v → MatchResult o (λ s. v ≡ f s) (λ x. x ≡ Memory))
+pub body_only : (d : ℕ) {T : Type 0} (o : Result T StringFailure) (f : T → Text) (t m e : Text) (us : List LineUnit) → Newline t m → LinesOf d m e us → ((v : Text) → Dedents us v → MatchResult o (λ s. v ≡ f s) (λ x. x ≡ Memory))
     → (r w : Text) → BodyOf d t r w → MatchResult o (λ v. (r ≡ e) × (w ≡ f v)) (λ x. x ≡ Memory)
 body_only d o f t m e us n here dedents r w b =
     let (xs, x, made) = body_lines d t m r w n b in

@@ -139,12 +139,6 @@ pub exponent_broken : (n : Bool) (a b d e : Here) → AteExponentLetter true a b
 exponent_broken n a b d e (c, is, t) g (same, none) = (λ r p x. broken is g none (subst (λ q. Exponent q r p) t.0 x), refl, (c, b.rest, n, t.0, is, rw same g, rw same none))
 
 -- the part that makes a decimal
-pub no_fraction_part : (e : NumberFault) (s rest : Text) → ReadsFraction (Err e) s rest → ReadsPart (Err e) s rest
-no_fraction_part e s rest (n, fault) = (λ r d. go r d, fault)
-  where
-    go : (r : Text) → DecimalPart s r → ⊥
-    go r (part {s = u} {point = b} g h x y) = n u b g
-
 part_broken : (t s : Text) (a : Bool) → Fraction t s a → ((r : Text) (b : Bool) → Exponent s r b → ⊥) → (r : Text) → DecimalPart t r → ⊥
 part_broken t s a f n r (part {s = u} {power = d} g h x y) = n r d (subst (λ z. Exponent z r d) (sym (fraction_det f g).0) h)
 

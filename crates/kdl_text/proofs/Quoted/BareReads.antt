@@ -1,5 +1,5 @@
 -- Bare strings: a text begins with one at most, and the reader's cases.
-use Rattle.std.proofs.Common.{◌≡◌, ℕ, ◌<◌, ◌==◌, true, false, [], ◌∷◌, ◌++◌, length, refl, sym, ap, ◌∙◌, arith, length-append}
+use Rattle.std.proofs.Common.{◌≡◌, ℕ, ◌<◌, ◌==◌, true, false, [], ◌∷◌, ◌++◌, length, refl, sym, ap, ◌∙◌, arith, length-append, append-nil, ◌↔◌, IsTrue, Bool}
 use Rattle.std.proofs.lemmas.Bool.{and_parts, false≢true}
 use Rattle.std.proofs.lemmas.Bool.Decides.{nat_tests}
 use Rattle.std.specs.Char.{is_ascii_alphabetic}
@@ -95,3 +95,22 @@ past_cost x a e d t v k (m, few, s) =
       most = omega (arith, n, k.most, few, s.steps, ap bytes s.rest, ap bytes t, bytes-append x e.rest, length-bytes x);
       least = omega (arith, k.least, s.steps, ap length s.rest);
     }
+
+-- the whole text, and whether it is one
+own_bare : (s : Text) → is_bare s ≡ true → BareString s [] s
+own_bare s h = bare (sym (append-nil s)) h refl
+
+pub bare_none : (s t : Text) → s ≡ t → ((r w : Text) → BareString s r w → ⊥) → false ≡ is_bare t
+bare_none s t e n = rw (← e) (go (is_bare s) refl)
+  where
+    go : (b : Bool) → is_bare s ≡ b → false ≡ is_bare s
+    go true h = absurd (n [] s (own_bare s h))
+    go false h = sym h
+
+pub bare_whole : (s t rest p : Text) (b : Bool) → s ≡ t → BareString s rest p → ((r w : Text) → BareString s r w → (r ≡ rest) × (w ≡ p)) → IsTrue b ↔ (rest ≡ []) → b ≡ is_bare t
+bare_whole s t rest p true e (bare f h k) only end = let same : s ≡ p = f ∙ ap (λ z. p ++ z) (end.0 refl) ∙ append-nil p in rw (← e) (sym (ap is_bare same ∙ h))
+bare_whole s t rest p false e x only end = rw (← e) (go (is_bare s) refl)
+  where
+    go : (b : Bool) → is_bare s ≡ b → false ≡ is_bare s
+    go true h = absurd (false≢true (end.1 (sym (only [] s (own_bare s h)).0)))
+    go false h = sym h

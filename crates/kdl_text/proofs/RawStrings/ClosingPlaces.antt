@@ -6,7 +6,7 @@ use Rattle.std.specs.List.{list_all}
 use Rattle.kdl_text.specs.Dedent.{LineUnit, Literal}
 use Rattle.kdl_text.specs.Internal.Here.{Here, Skips}
 use Rattle.kdl_text.specs.Spans.{bytes}
-use Rattle.kdl_text.specs.Chars.{Text, begins, begins_with, times, is_raw, is_newline_char, is_banned}
+use Rattle.kdl_text.specs.Chars.{Text, begins, begins_with, starts, times, is_raw, is_newline_char, is_banned}
 use Rattle.kdl_text.specs.Raw.{closing, literals, char, RawUnits, none, more}
 
 pub quote_raw : is_raw 34 ≡ true
@@ -119,3 +119,7 @@ pub counted : (d : ℕ) (a b : Here) (from to : ℕ) → len_utf8 d ≡ 1 → Sk
 counted d a b from to one (run, r) e f =
     let n : to - from ≡ bytes run = omega (arith, r.at) in
     r.text ∙ ap (λ z. z ++ b.rest) (all_same d run one r.all ∙ ap (λ k. times k d) (sym n))
+
+pub none_left : (d : ℕ) (s : Text) → starts (λ c. c == d) s ≡ false → begins d s ≡ false
+none_left d [] h = refl
+none_left d (c ∷ s) h = h

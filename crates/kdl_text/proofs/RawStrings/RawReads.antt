@@ -5,6 +5,7 @@ use Rattle.std.proofs.lemmas.Bool.{false≢true, true≢false, not_from_false}
 use Rattle.std.specs.Prelude.{Result, Ok, Err, IfOk}
 use Rattle.kdl_text.specs.Chars.{Text, begins, begins_two, times}
 use Rattle.kdl_text.specs.Raw.{closing, literals, is_single, char, RawUnits, none, more, RawContent, content, MultiLineRawBody, IsRaw, on_one_line, on_many_lines}
+use Rattle.kdl_text.specs.Internal.Lines.{BodyOf}
 use Rattle.kdl_text.proofs.RawStrings.ClosingPlaces.{signs_same, no_signs}
 
 no_first : (m : ℕ) (d x : Text) → 0 < m → d ≡ times m 35 ++ x → begins 35 d ≡ false → ⊥
@@ -34,12 +35,21 @@ looks_many (suc n) e r [] some (content none h) single = apart 34 35 refl refl (
 looks_many (suc n) e r (c ∷ []) some (content (more (char a b) none) h) single = false≢true single
 looks_many (suc n) e r (c ∷ d ∷ w) some (content (more (char a b) (more (char f g) is)) h) single = false≢true single
 
+-- a body with number signs
+raw_body : (j : ℕ) {t r w : Text} → 0 < j → BodyOf j t r w → MultiLineRawBody j t r w
+raw_body zero h b = absurd (omega (arith, h))
+raw_body (suc j) h b = b
+
+body_raw : (j : ℕ) {t r w : Text} → 0 < j → MultiLineRawBody j t r w → BodyOf j t r w
+body_raw zero h b = absurd (omega (arith, h))
+body_raw (suc j) h b = b
+
 module _ (j : ℕ) (s m : Text) (text : s ≡ times j 35 ++ 34 ∷ m) (some : 0 < j) where
-  pub many_raw : {T E : Type 0} (o : Result T E) (f : T → Text) (e r : Text) → m ≡ 34 ∷ 34 ∷ e → IfOk o (λ v. MultiLineRawBody j e r (f v)) → IfOk o (λ v. IsRaw s r (f v))
-  many_raw (Ok v) f e r h b = on_many_lines (record { signs = j; some = some; body = e; text = text ∙ ap (λ z. times j 35 ++ 34 ∷ z) h; is_body = b })
+  pub many_raw : {T E : Type 0} (o : Result T E) (f : T → Text) (e r : Text) → m ≡ 34 ∷ 34 ∷ e → IfOk o (λ v. BodyOf j e r (f v)) → IfOk o (λ v. IsRaw s r (f v))
+  many_raw (Ok v) f e r h b = on_many_lines (record { signs = j; some = some; body = e; text = text ∙ ap (λ z. times j 35 ++ 34 ∷ z) h; is_body = raw_body j some b })
   many_raw (Err x) f e r h b = tt
 
-  pub many_raw_only : (e r w : Text) → m ≡ 34 ∷ 34 ∷ e → IsRaw s r w → MultiLineRawBody j e r w
+  pub many_raw_only : (e r w : Text) → m ≡ 34 ∷ 34 ∷ e → IsRaw s r w → BodyOf j e r w
   many_raw_only e r w h (on_one_line q) =
       let (same, rest) = signs_same j q.signs m q.body (sym text ∙ q.text) in
       let body : q.body ≡ 34 ∷ 34 ∷ e = sym rest ∙ h in
@@ -47,7 +57,7 @@ module _ (j : ℕ) (s m : Text) (text : s ≡ times j 35 ++ 34 ∷ m) (some : 0 
   many_raw_only e r w h (on_many_lines q) =
       let (same, rest) = signs_same j q.signs m (34 ∷ 34 ∷ q.body) (sym text ∙ q.text) in
       let body : q.body ≡ e = tails (sym rest ∙ h) in
-      subst (λ z. MultiLineRawBody z e r w) (sym same) (subst (λ z. MultiLineRawBody q.signs z r w) body q.is_body)
+      body_raw j some (subst (λ z. MultiLineRawBody z e r w) (sym same) (subst (λ z. MultiLineRawBody q.signs z r w) body q.is_body))
     where
       tails : {x y : Text} → 34 ∷ 34 ∷ x ≡ 34 ∷ 34 ∷ y → x ≡ y
       tails k = cc

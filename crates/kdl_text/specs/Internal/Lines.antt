@@ -1,5 +1,5 @@
 -- Lines of multi-line strings, as they are read.
-use Rattle.std.specs.Prelude.{◌≡◌, ℕ, ◌+◌, ◌<◌, ◌≤◌, Bool, true, false, not, List, [], ◌∷◌, ◌++◌, length, Result, string_bytes, String, IfOk, MatchResult}
+use Rattle.std.specs.Prelude.{◌≡◌, ℕ, zero, suc, ◌+◌, ◌≤◌, Bool, true, false, not, List, [], ◌∷◌, ◌++◌, length, Result, string_bytes, String, IfOk, IfErr, MatchResult, Option, Some, None}
 use Rattle.std.specs.Global.{Global}
 use Rattle.std.specs.Cow.{cow_str_bytes}
 use Rattle.std.specs.List.{list_all, sum_by}
@@ -9,15 +9,11 @@ use Rattle.kdl_text.specs.Dedent.{LineUnit, Escape, LineEnd, Dedents, is_line_en
 use Rattle.kdl_text.specs.Spans.{bytes}
 use Rattle.kdl_text.specs.Internal.Here.{Here}
 use Rattle.kdl_text.specs.Raw.{literals, closing, RawContent, MultiLineRawBody}
-use Rattle.kdl_text.specs.Internal.Reading.{Costs, Goes}
+use Rattle.kdl_text.specs.Internal.Reading.{Costs, Goes, Past}
 use Rattle.kdl_text.specs.MultiLine.{Content, MultiLineBody}
 use Rattle.kdl_text.specs.declared.strings.StringFailure.{StringFailure}
 use Rattle.kdl_text.specs.declared.strings.StringFailure.TheVariants.{Memory}
 use Rattle.kdl_text.specs.declared.strings.dedent.Line.{Line}
-use Rattle.kdl_text.specs.declared.strings.multiline.Enclosure.{Enclosure}
-use Rattle.kdl_text.specs.declared.strings.multiline.Enclosure.TheVariants.{Quotes, Signs}
-use Rattle.kdl_text.specs.declared.strings.multiline.Stop.{Stop}
-use Rattle.kdl_text.specs.declared.strings.multiline.Stop.TheVariants.{Newline as at_newline, Close, Escape as at_escape}
 
 -- no units, or one of an escape first
 abbrev pub begins_escape : List LineUnit → Bool
@@ -65,26 +61,20 @@ abbrev pub ReadsLine : (Text → Text → List LineUnit → Type 0) → Bool →
 ReadsLine X true s us t = (is_one_line us ≡ true) × X s t us
 ReadsLine X false s us t = (is_one_line us ≡ true) × Goes X s (us ++ (LineEnd ∷ [])) t
 
--- the units of the lines in an enclosure, up to its end
-abbrev pub LinesOf : Enclosure → Text → Text → List LineUnit → Type 0
-LinesOf Quotes = Content
-LinesOf (Signs n) = RawContent (closing 3 n)
+-- the units of the lines between three quotes, with so many number signs, up to the closing
+abbrev pub LinesOf : ℕ → Text → Text → List LineUnit → Type 0
+LinesOf zero = Content
+LinesOf (suc n) = RawContent (closing 3 (suc n))
 
 -- a newline, such lines, and their value
-abbrev pub BodyOf : Enclosure → Text → Text → Text → Type 0
-BodyOf Quotes = MultiLineBody
-BodyOf (Signs n) = MultiLineRawBody n
+abbrev pub BodyOf : ℕ → Text → Text → Text → Type 0
+BodyOf zero = MultiLineBody
+BodyOf (suc n) = MultiLineRawBody (suc n)
 
--- an enclosure with number signs has some
-abbrev pub HasSigns : Enclosure → Type 0
-HasSigns Quotes = Unit {0}
-HasSigns (Signs n) = 0 < n
-
--- the characters of the piece p are literal at the front of s, and what ends it is before t
-abbrev pub ReadsPlain : Stop → Text → Text → Text → Type 0
-ReadsPlain at_newline s p t = ReadsLine Content false s (literals p) t
-ReadsPlain Close s p t = ReadsLine Content true s (literals p) t
-ReadsPlain at_escape s p t = Goes Content s (literals p) (92 ∷ t)
+-- the characters of the piece p are literal at the front of s, and what ends it is before t: a line, or the backslash of an escape
+abbrev pub ReadsPlain : Option Bool → Text → Text → Text → Type 0
+ReadsPlain (Some closed) s p t = ReadsLine Content closed s (literals p) t
+ReadsPlain None s p t = Goes Content s (literals p) (92 ∷ t)
 
 -- the cursor advanced by at least a character, at no more than 4 steps for each byte
 pub record Paid (old new : Here) : Type 0 where
@@ -97,3 +87,9 @@ pub record ReadLine (X : Text → Text → List LineUnit → Type 0) (line : Lin
   pub is : IsLine line units
   pub reads : ReadsLine X closed old.rest units new.rest
   pub paid : Paid old new
+
+-- such a line was read, or no X begins here, or an allocation failed
+pub record ReadsOne (X : Text → Text → List LineUnit → Type 0) (result : Result (Line × Bool) StringFailure) (old new : Here) : Type 0 where
+  pub found : IfOk result (λ (line, closed). ReadLine X line closed old new)
+  pub only : (r : Text) (us : List LineUnit) → X old.rest r us → IfErr result (λ e. e ≡ Memory)
+  pub past : Past 4 1 old new

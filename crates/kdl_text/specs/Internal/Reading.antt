@@ -1,6 +1,7 @@
 -- What the result of a reader says of a relation, and what it costs.
-use Rattle.std.specs.Prelude.{◌≡◌, ℕ, ◌+◌, ◌*◌, ◌≤◌, ◌↔◌, Bool, true, false, List, ◌++◌, length}
-use Rattle.kdl_text.specs.Chars.{Text, Star, Newline}
+use Rattle.std.specs.Prelude.{◌≡◌, ℕ, ◌+◌, ◌*◌, ◌<◌, ◌≤◌, ◌↔◌, Bool, true, false, List, ◌++◌, length}
+use Rattle.kdl_text.specs.Chars.{Text, Star, Newline, begins, times}
+use Rattle.kdl_text.specs.Strings.{Run}
 use Rattle.kdl_text.specs.Internal.Here.{Here, Stayed}
 use Rattle.kdl_text.specs.Spans.{bytes, raise}
 
@@ -30,6 +31,22 @@ pub record Past (k c : ℕ) (old new : Here) : Type 0 where
 pub record Consumed (k c : ℕ) (R : Text → Text → Type 0) (old new : Here) : Type 0 where
   pub reads : R old.rest new.rest
   pub past : Past k c old new
+
+-- n times the character c, and no more of it
+pub record AllOf (c n : ℕ) (s rest : Text) : Type 0 where
+  pub text : s ≡ times n c ++ rest
+  pub stops : begins c rest ≡ false
+
+-- likewise, but no more than `most` times
+pub record AtMost (c most n : ℕ) (s rest : Text) : Type 0 where
+  pub text : s ≡ times n c ++ rest
+  pub few : n ≤ most
+  pub stops : n < most → begins c rest ≡ false
+
+-- the piece is the longest run of characters of a class
+pub record CutsRun (p : ℕ → Bool) (piece s rest : Text) : Type 0 where
+  pub run : Run p s rest
+  pub text : s ≡ piece ++ rest
 
 -- a run of pieces begins here, and none more after it
 abbrev pub Longest : (Text → Text → Type 0) → Text → Text → Type 0

@@ -3,10 +3,10 @@
 
 ghost use Rattle.kdl_text.specs.Chars.{Newline, Text, is_newline_char};
 ghost use Rattle.kdl_text.specs.Dedent.{lines_of, LineUnit};
-ghost use Rattle.kdl_text.specs.Internal.Lines.{AreLines, BodyOf, HasSigns, IsLine, LinesOf, Paid, ReadLine, ReadsLine, ReadsPlain};
+ghost use Rattle.kdl_text.specs.Internal.Lines.{AreLines, BodyOf, IsLine, LinesOf, Paid, ReadsLine, ReadsOne, ReadsPlain};
 ghost use Rattle.kdl_text.specs.MultiLine.{Content};
 ghost use Rattle.kdl_text.specs.Raw.{literals};
-ghost use Rattle.kdl_text.specs.Internal.Reading.{Past};
+ghost use Rattle.kdl_text.specs.Internal.Reading.{Consumed, Past};
 ghost use Rattle.kdl_text.specs.declared.strings.StringFailure.TheVariants.{Memory};
 ghost use Rattle.std.specs.Prelude.{◌≡◌, ◌∷◌, ◌++◌, List, ℕ, true, string_bytes, IfOk, IfErr, MatchResult};
 ghost use Rattle.std.specs.Str.{chars};
@@ -21,41 +21,19 @@ use std::alloc::Global;
 /// After the first character c of a newline: advances past the rest of the newline.
 pub fn end_newline(c: char, cursor: &mut Cursor)
     requires { is_newline_char c ≡ true }
-    ensures newline { Newline (c ∷ cursor.old.rest) cursor.new.rest }
-    ensures past { Past 1 1 cursor.old cursor.new }
+    ensures { Consumed 1 1 (λ s rest. Newline (c ∷ s) rest) cursor.old cursor.new }
 {
     if c == '\r' {
         let _ = cursor.eat('\n');
     }
 }
 
-/// What begins and ends the lines of a string.
-#[derive(Clone, Copy)]
-pub enum Enclosure {
-    /// Three quotes.
-    Quotes,
-    /// This many number signs and three quotes, and at the end the quotes first. At least one sign.
-    Signs(usize),
-}
-
-/// What ends a run of literal characters.
-#[derive(Clone, Copy)]
-enum Stop {
-    /// A newline.
-    Newline,
-    /// Three quotes.
-    Close,
-    /// The backslash of an escape.
-    Escape,
-}
-
 /// Advances past literal characters, including quotes, and past what ends them in a multi-line
-/// string.
-fn plain_part<'a>(cursor: &mut Cursor<'a>) -> Result<(&'a str, Stop), StringFault>
-    ensures found { IfOk result (λ (p, stop). ReadsPlain stop cursor.old.rest (chars p.now) cursor.new.rest) }
+/// string. Returns whether three quotes do, or `None` for the backslash of an escape.
+fn plain_part<'a>(cursor: &mut Cursor<'a>) -> Result<(&'a str, Option<bool>), StringFault>
+    ensures found { IfOk result (λ (p, end). ReadsPlain end cursor.old.rest (chars p.now) cursor.new.rest) }
     ensures paid { IfOk result (λ _. Paid cursor.old cursor.new) }
-    ensures only { (r : Text) (us : List LineUnit) → Content cursor.old.rest r us
-        → IfErr result (λ _. ⊥) }
+    ensures only { (r : Text) (us : List LineUnit) → Content cursor.old.rest r us → IfErr result (λ _. ⊥) }
     ensures past { Past 4 1 cursor.old cursor.new }
 {
     let start = cursor.checkpoint();
@@ -64,13 +42,13 @@ fn plain_part<'a>(cursor: &mut Cursor<'a>) -> Result<(&'a str, Stop), StringFaul
         match cursor.take() {
             Some('"') => {
                 if cursor.eat('"') && cursor.eat('"') {
-                    return Ok((cursor.line_between(&start, &end), Stop::Close));
+                    return Ok((cursor.line_between(&start, &end), Some(true)));
                 }
             }
-            Some('\\') => return Ok((cursor.line_between(&start, &end), Stop::Escape)),
+            Some('\\') => return Ok((cursor.line_between(&start, &end), None)),
             Some(c) if is_newline_char(c) => {
                 end_newline(c, cursor);
-                return Ok((cursor.line_between(&start, &end), Stop::Newline));
+                return Ok((cursor.line_between(&start, &end), Some(false)));
             }
             Some(c) if is_literal(c) => cursor.skip(Class::Literal),
             Some(_) => return Err(StringFault::Banned),
@@ -98,12 +76,10 @@ fn line_escapes<'a>(
     let mut literal = front.len();
     'escapes: loop {
         let value = escaped_unit(cursor)?;
-        let (after, stop) = plain_part(cursor)?;
+        let (after, end) = plain_part(cursor)?;
         literal = add_escape(&mut text, literal, value, after)?;
-        match stop {
-            Stop::Newline => return Ok((escaped_line(text, literal), false)),
-            Stop::Close => return Ok((escaped_line(text, literal), true)),
-            Stop::Escape => {}
+        if let Some(closed) = end {
+            return Ok((escaped_line(text, literal), closed));
         }
     }
 }
@@ -113,59 +89,45 @@ fn quoted_line<'a>(
     alloc: Global,
     cursor: &mut Cursor<'a>,
 ) -> Result<(Line<'a>, bool), StringFailure>
-    ensures found { IfOk result (λ (line, closed). ReadLine Content line closed cursor.old cursor.new) }
-    ensures only { (r : Text) (us : List LineUnit) → Content cursor.old.rest r us
-        → IfErr result (λ e. e ≡ Memory) }
-    ensures past { Past 4 1 cursor.old cursor.new }
+    ensures { ReadsOne Content result cursor.old cursor.new }
 {
-    let (text, stop) = plain_part(cursor)?;
-    match stop {
-        Stop::Newline => Ok((plain_line(text), false)),
-        Stop::Close => Ok((plain_line(text), true)),
-        Stop::Escape => line_escapes(alloc, cursor, text),
+    let (text, end) = plain_part(cursor)?;
+    match end {
+        Some(closed) => Ok((plain_line(text), closed)),
+        None => line_escapes(alloc, cursor, text),
     }
 }
 
-/// Reads a line, and the newline or the end of the enclosure that ends it. Returns whether the end
-/// of the enclosure does.
+/// Reads a line, and the newline that ends it or the closing, which has so many number signs. Returns
+/// whether the closing ends it.
 fn read_line<'a>(
     alloc: Global,
     cursor: &mut Cursor<'a>,
-    enclosure: Enclosure,
+    signs: usize,
 ) -> Result<(Line<'a>, bool), StringFailure>
-    requires { HasSigns enclosure }
-    ensures found { IfOk result
-        (λ (line, closed). ReadLine (LinesOf enclosure) line closed cursor.old cursor.new) }
-    ensures only { (r : Text) (us : List LineUnit) → LinesOf enclosure cursor.old.rest r us
-        → IfErr result (λ e. e ≡ Memory) }
-    ensures past { Past 4 1 cursor.old cursor.new }
+    ensures { ReadsOne (LinesOf signs) result cursor.old cursor.new }
 {
-    match enclosure {
-        Enclosure::Quotes => quoted_line(alloc, cursor),
-        Enclosure::Signs(signs) => match raw_line(cursor, signs) {
-            Ok(line) => Ok(line),
-            Err(fault) => Err(StringFailure::Fault(fault)),
-        },
+    if signs == 0 {
+        return quoted_line(alloc, cursor);
     }
+    raw_line(cursor, signs)
 }
 
-/// Reads the lines up to the end of the enclosure, and that end.
+/// Reads the lines up to the closing, and the closing.
 fn content<'a>(
     alloc: Global,
     cursor: &mut Cursor<'a>,
-    enclosure: Enclosure,
+    signs: usize,
 ) -> Result<Vec<Line<'a>>, StringFailure>
-    requires { HasSigns enclosure }
-    ensures found { IfOk result
-        (λ ls. (us : List LineUnit) × LinesOf enclosure cursor.old.rest cursor.new.rest us
+    ensures found { IfOk result (λ ls. (us : List LineUnit) × LinesOf signs cursor.old.rest cursor.new.rest us
         × AreLines ls.items (lines_of us)) }
-    ensures only { (r : Text) (us : List LineUnit) → LinesOf enclosure cursor.old.rest r us
+    ensures only { (r : Text) (us : List LineUnit) → LinesOf signs cursor.old.rest r us
         → IfErr result (λ e. e ≡ Memory) }
     ensures past { Past 4 1 cursor.old cursor.new }
 {
     let mut lines = Vec::new(alloc);
     'lines: loop {
-        let (line, closed) = read_line(alloc, cursor, enclosure)?;
+        let (line, closed) = read_line(alloc, cursor, signs)?;
         add_line(&mut lines, line)?;
         if closed {
             return Ok(lines);
@@ -173,27 +135,20 @@ fn content<'a>(
     }
 }
 
-/// After the three quotes that begin it: reads the rest of a multi-line string, and returns its
-/// value.
-pub fn many_lines(
-    alloc: Global,
-    cursor: &mut Cursor,
-    enclosure: Enclosure,
-) -> Result<String, StringFailure>
-    requires { HasSigns enclosure }
-    ensures found { IfOk result
-        (λ v. BodyOf enclosure cursor.old.rest cursor.new.rest (chars (string_bytes v))) }
-    ensures only { (r w : List ℕ) → BodyOf enclosure cursor.old.rest r w
-        → MatchResult result (λ v. (r ≡ cursor.new.rest) × (w ≡ chars (string_bytes v)))
-        (λ e. e ≡ Memory) }
+/// After the three quotes that begin it: reads the rest of a multi-line string, which has so many
+/// number signs, and returns its value.
+pub fn many_lines(alloc: Global, cursor: &mut Cursor, signs: usize) -> Result<String, StringFailure>
+    ensures found { IfOk result (λ v. BodyOf signs cursor.old.rest cursor.new.rest (chars (string_bytes v))) }
+    ensures only { (r w : List ℕ) → BodyOf signs cursor.old.rest r w
+        → MatchResult result (λ v. (r ≡ cursor.new.rest) × (w ≡ chars (string_bytes v))) (λ e. e ≡ Memory) }
     ensures past { Past 4 4 cursor.old cursor.new }
 {
     if !newline(cursor) {
-        return Err(StringFailure::Fault(match enclosure {
-            Enclosure::Quotes => StringFault::NoNewline,
-            Enclosure::Signs(_) => StringFault::LooksMultiLine,
+        return Err(StringFailure::Fault(match signs {
+            0 => StringFault::NoNewline,
+            _ => StringFault::LooksMultiLine,
         }));
     }
-    let lines = content(alloc, cursor, enclosure)?;
+    let lines = content(alloc, cursor, signs)?;
     dedent(alloc, &lines)
 }

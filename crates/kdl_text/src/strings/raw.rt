@@ -1,28 +1,25 @@
 //! Raw strings, single-line and multi-line.
 #![tactic(auto, using(crate::proofs::Looking::Returns::advancing))]
 
-ghost use Rattle.kdl_text.specs.Dedent.{LineUnit};
-ghost use Rattle.kdl_text.specs.Chars.{Text, begins, times};
+ghost use Rattle.kdl_text.specs.Chars.{Text, times};
 ghost use Rattle.kdl_text.specs.Internal.Here.{IsPart, Returned};
-ghost use Rattle.kdl_text.specs.Internal.Lines.{ReadLine};
+ghost use Rattle.kdl_text.specs.Internal.Lines.{ReadsOne};
 ghost use Rattle.kdl_text.specs.Raw.{IsRaw, RawUnits, RawContent, closing, literals};
-ghost use Rattle.kdl_text.specs.Internal.Reading.{Moves, Costs, Past};
+ghost use Rattle.kdl_text.specs.Internal.Reading.{AllOf, AtMost, Moves, Costs, Past, Consumed};
 ghost use Rattle.kdl_text.specs.declared.strings.StringFailure.TheVariants.{Memory};
-ghost use Rattle.std.specs.Prelude.{◌≡◌, ◌<◌, ◌≤◌, ◌++◌, ◌∷◌, List, false, string_bytes, IfOk, IfErr, IfSome, IfNone, MatchResult};
+ghost use Rattle.std.specs.Prelude.{◌≡◌, ◌<◌, ◌++◌, ◌∷◌, string_bytes, IfOk, IfSome, IfNone, MatchResult};
 ghost use Rattle.std.specs.Str.{chars};
 
 use crate::chars::{Class, is_newline_char, is_raw};
 use crate::cursor::{Checkpoint, Cursor, Piece};
 use crate::strings::dedent::{Line, plain_line};
-use crate::strings::multiline::{Enclosure, end_newline, many_lines};
+use crate::strings::multiline::{end_newline, many_lines};
 use crate::strings::{StringFailure, StringFault, fault_at};
 use std::alloc::Global;
 
 /// Advances past all number signs, and counts them.
 fn count_signs(cursor: &mut Cursor) -> usize
-    ensures text { cursor.old.rest ≡ times result 35 ++ cursor.new.rest }
-    ensures stops { begins 35 cursor.new.rest ≡ false }
-    ensures past { Past 1 1 cursor.old cursor.new }
+    ensures { Consumed 1 1 (AllOf 35 result) cursor.old cursor.new }
 {
     let start = cursor.at();
     cursor.skip(Class::NumberSign);
@@ -31,9 +28,7 @@ fn count_signs(cursor: &mut Cursor) -> usize
 
 /// Advances past all quotes, and counts them.
 fn count_quotes(cursor: &mut Cursor) -> usize
-    ensures text { cursor.old.rest ≡ times result 34 ++ cursor.new.rest }
-    ensures stops { begins 34 cursor.new.rest ≡ false }
-    ensures past { Past 1 1 cursor.old cursor.new }
+    ensures { Consumed 1 1 (AllOf 34 result) cursor.old cursor.new }
 {
     let start = cursor.at();
     cursor.skip(Class::Quote);
@@ -42,10 +37,7 @@ fn count_quotes(cursor: &mut Cursor) -> usize
 
 /// Advances past at most `most` number signs, and counts them.
 fn eat_signs(cursor: &mut Cursor, most: usize) -> usize
-    ensures text { cursor.old.rest ≡ times result 35 ++ cursor.new.rest }
-    ensures few { result ≤ most }
-    ensures stops { result < most → begins 35 cursor.new.rest ≡ false }
-    ensures past { Past 1 1 cursor.old cursor.new }
+    ensures { Consumed 1 1 (AtMost 35 most result) cursor.old cursor.new }
 {
     let mut count: usize = 0;
     'signs: while count < most {
@@ -61,8 +53,7 @@ fn eat_signs(cursor: &mut Cursor, most: usize) -> usize
 /// these. Returns the line.
 fn line_content<'a>(cursor: &mut Cursor<'a>, signs: usize) -> Result<Piece<'a>, StringFault>
     requires { 0 < signs }
-    ensures found { IfOk result
-        (λ p. RawContent (closing 1 signs) cursor.old.rest cursor.new.rest (literals p)) }
+    ensures found { IfOk result (λ p. RawContent (closing 1 signs) cursor.old.rest cursor.new.rest (literals p)) }
     ensures only { (r w : Text) → RawContent (closing 1 signs) cursor.old.rest r (literals w) →
         MatchResult result (λ p. (r ≡ cursor.new.rest) × (w ≡ p)) (λ _. ⊥) }
     ensures past { Past 4 2 cursor.old cursor.new }
@@ -109,12 +100,10 @@ fn closing_place<'a>(
     requires some { 0 < signs }
     requires quote { quote.now.rest ≡ 34 ∷ cursor.old.rest }
     requires part { IsPart cursor.old.text quote.now.rest }
-    ensures found { IfSome result
-        (λ place. (p : Text) × (quote.now.rest ≡ p ++ place.rest)
+    ensures found { IfSome result (λ place. (p : Text) × (quote.now.rest ≡ p ++ place.rest)
         × RawUnits (closing 3 signs) quote.now.rest place.rest (literals p)
         × (place.rest ≡ closing 3 signs ++ cursor.new.rest)) }
-    ensures none { IfNone result
-        ((p : Text) × (quote.now.rest ≡ p ++ cursor.new.rest)
+    ensures none { IfNone result ((p : Text) × (quote.now.rest ≡ p ++ cursor.new.rest)
         × RawUnits (closing 3 signs) quote.now.rest cursor.new.rest (literals p)) }
     ensures past { Past 2 1 cursor.old cursor.new }
 {
@@ -130,13 +119,12 @@ fn closing_place<'a>(
 
 /// Reads a line, and the newline that ends it or the closing of three quotes and `signs` number
 /// signs. Returns whether the closing ends it.
-pub fn raw_line<'a>(cursor: &mut Cursor<'a>, signs: usize) -> Result<(Line<'a>, bool), StringFault>
+pub fn raw_line<'a>(
+    cursor: &mut Cursor<'a>,
+    signs: usize,
+) -> Result<(Line<'a>, bool), StringFailure>
     requires { 0 < signs }
-    ensures found { IfOk result
-        (λ (line, closed). ReadLine (RawContent (closing 3 signs)) line closed cursor.old cursor.new) }
-    ensures only { (r : Text) (us : List LineUnit)
-        → RawContent (closing 3 signs) cursor.old.rest r us → IfErr result (λ _. ⊥) }
-    ensures past { Past 4 1 cursor.old cursor.new }
+    ensures { ReadsOne (RawContent (closing 3 signs)) result cursor.old cursor.new }
 {
     let start = cursor.checkpoint();
     'parts: loop {
@@ -152,8 +140,8 @@ pub fn raw_line<'a>(cursor: &mut Cursor<'a>, signs: usize) -> Result<(Line<'a>, 
                 return Ok((plain_line(cursor.line_between(&start, &end)), false));
             }
             Some(c) if is_raw(c) => cursor.skip(Class::Unquoted),
-            Some(_) => return Err(StringFault::Banned),
-            None => return Err(StringFault::Unclosed),
+            Some(_) => return Err(StringFailure::Fault(StringFault::Banned)),
+            None => return Err(StringFailure::Fault(StringFault::Unclosed)),
         }
     }
 }
@@ -163,11 +151,9 @@ pub fn raw_line<'a>(cursor: &mut Cursor<'a>, signs: usize) -> Result<(Line<'a>, 
 /// no number signs with a quote after them. Fails with `Memory` if the allocation for the value
 /// fails.
 pub fn raw_string(alloc: Global, cursor: &mut Cursor) -> Result<String, StringFailure>
-    ensures found { IfOk result
-        (λ v. IsRaw cursor.old.rest cursor.new.rest (chars (string_bytes v))) }
+    ensures found { IfOk result (λ v. IsRaw cursor.old.rest cursor.new.rest (chars (string_bytes v))) }
     ensures only { (r w : Text) → IsRaw cursor.old.rest r w
-        → MatchResult result (λ v. (r ≡ cursor.new.rest) × (w ≡ chars (string_bytes v)))
-        (λ e. e ≡ Memory) }
+        → MatchResult result (λ v. (r ≡ cursor.new.rest) × (w ≡ chars (string_bytes v))) (λ e. e ≡ Memory) }
     ensures moves { Moves cursor.old cursor.new }
     ensures costs { Costs 4 9 cursor.old cursor.new }
     ensures cost { IfOk result (λ _. Costs 24 0 cursor.old cursor.new) }
@@ -180,7 +166,7 @@ pub fn raw_string(alloc: Global, cursor: &mut Cursor) -> Result<String, StringFa
         return Err(StringFailure::Fault(StringFault::Unopened));
     }
     if cursor.eat_two('"', '"') {
-        return many_lines(alloc, cursor, Enclosure::Signs(signs));
+        return many_lines(alloc, cursor, signs);
     }
     let body = line_content(cursor, signs)?;
     Ok(body.to_string(alloc)?)

@@ -7,7 +7,7 @@ pub returns-in_default-clause-only : goal.returns-in_default-clause-only
 returns-in_default-clause-only c r u i = end_none _ r u c.in_default.ensures.took.0 i
 
 pub returns-then-is_blank-clause-found : goal.returns-then-is_blank-clause-found
-returns-then-is_blank-clause-found c = blank_found _ _ _ _ c.in-Some.ensures.took.0 (sym c.is_blank.ensures ∙ c.if-is_blank.true) c.skip_blanks.ensures.run
+returns-then-is_blank-clause-found c = blank_found _ _ _ _ c.in-Some.ensures.took.0 (sym c.is_blank.ensures ∙ c.if-is_blank.true) c.skip_blanks.ensures.reads
 
 pub returns-then-is_blank-clause-moves : goal.returns-then-is_blank-clause-moves
 returns-then-is_blank-clause-moves c = moves_then (moves_one c.in-Some.ensures.took) c.skip_blanks.ensures.past.moves

@@ -6,7 +6,7 @@ use Rattle.kdl_text.proofs.Quoted.BodyLoop.{reading_begins, reading_turn, readin
 use Rattle.kdl_text.proofs.strings.quoted_body.Goals as goal
 
 pub units-init : goal.units-init
-units-init c = reading_begins _ _ _ _ c.run_of.ensures.run c.run_of.ensures.result c.run_of.ensures.past c.in_ok-out.ensures
+units-init c = reading_begins _ _ _ _ c.run_of.ensures.reads.run c.run_of.ensures.reads.text c.run_of.ensures.past c.in_ok-out.ensures
 
 pub returns-in_err-out-clause-past : goal.returns-in_err-out-clause-past
 returns-in_err-out-clause-past c = past_more (omega arith) (past_three c.run_of.ensures.past)
@@ -15,7 +15,7 @@ pub units-preserved : goal.units-preserved
 units-preserved c =
     let run = c.run_of-in-units.ensures in
     let did = c.in_ok-escape-in-Some-eq92.ensures in
-    reading_turn _ _ _ c.units.invariant _ _ _ _ _ _ _ c.in-Some-eq92.ensures.took c.in-Some-eq92.field-0-test did.found did.past run.run run.result run.past c.in_ok-push_to.ensures
+    reading_turn _ _ _ c.units.invariant _ _ _ _ _ _ _ c.in-Some-eq92.ensures.took c.in-Some-eq92.field-0-test did.found did.past run.reads.run run.reads.text run.past c.in_ok-push_to.ensures
 
 pub returns-in-Some-eq34 : goal.returns-in-Some-eq34
 returns-in-Some-eq34 c =

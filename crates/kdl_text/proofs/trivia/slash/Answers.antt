@@ -21,5 +21,5 @@ returns-then-eat_two-2-clause-reads c = rw (← c.take_over-here.ensures.result)
 pub returns-then-eat_two-2-clause-moves : goal.returns-then-eat_two-2-clause-moves
 returns-then-eat_two-2-clause-moves c = rw (← c.take_over-here.ensures.result) (moves_then (moves_stayed c.if-eat_two.ensures.1) (moves_then (moves_two c.if-eat_two-2.ensures) c.line_end.ensures.past.moves))
 
-pub returns-then-eat_slashdash-clause-moves : goal.returns-then-eat_slashdash-clause-moves
-returns-then-eat_slashdash-clause-moves c = rw (← c.take_over-here.ensures.result) (moves_then (moves_stayed c.if-eat_two.ensures.1) (moves_then (moves_stayed c.if-eat_two-2.ensures.1) c.eat_slashdash.ensures.moves))
+pub returns-then-eat_two-3-clause-moves : goal.returns-then-eat_two-3-clause-moves
+returns-then-eat_two-3-clause-moves c = rw (← c.take_over-here.ensures.result) (moves_then (moves_stayed c.if-eat_two.ensures.1) (moves_then (moves_stayed c.if-eat_two-2.ensures.1) (moves_two c.if-eat_two-3.ensures)))

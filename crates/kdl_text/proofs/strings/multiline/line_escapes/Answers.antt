@@ -1,4 +1,5 @@
-use Rattle.std.proofs.Common.{false, true, refl}
+use Rattle.std.proofs.Common.{refl}
+use Rattle.kdl_text.specs.Internal.Reading.{Past}
 use Rattle.std.specs.Str.{chars}
 use Rattle.kdl_text.proofs.Looking.MovesJoin.{costs_less}
 use Rattle.kdl_text.proofs.Looking.SliceCost.{past_then, past_two, past_four}
@@ -25,17 +26,17 @@ returns-in_err-after-clause-past c = part_fails _ _ _ _ _ c.escapes.invariant c.
 pub returns-in_err-literal-clause-past : goal.returns-in_err-literal-clause-past
 returns-in_err-literal-clause-past c = part_fails _ _ _ _ _ c.escapes.invariant c.in_ok-value.value _ c.in_ok-value.ensures.found (record { moves = c.escaped_unit.ensures.moves; costs = c.escaped_unit.ensures.costs }) _ c.plain_part.ensures.past
 
-pub returns-in-Newline : goal.returns-in-Newline
-returns-in-Newline c =
-    let (us, spells, line) = escaped_ends _ _ _ _ _ c.escapes.invariant c.in_ok-value.value _ c.in_ok-value.ensures.found (record { moves = c.escaped_unit.ensures.moves; costs = c.escaped_unit.ensures.costs }) (chars c.in_ok-after.after.now) _ _ _ c.plain_part.ensures.past.moves c.in_ok-after.ensures.paid c.in_ok-literal.ensures false (rw c.in-Newline.is at c.in_ok-after.ensures.found) in
-    let past = escaped_past _ _ _ _ _ c.escapes.invariant c.in_ok-value.value _ c.in_ok-value.ensures.found (record { moves = c.escaped_unit.ensures.moves; costs = c.escaped_unit.ensures.costs }) (chars c.in_ok-after.after.now) _ _ _ c.plain_part.ensures.past.moves c.in_ok-after.ensures.paid c.in_ok-literal.ensures in
-    record { found = (us, c.escaped_line.ensures _ spells, line); paid = escaped_paid _ _ _ _ _ c.escapes.invariant c.in_ok-value.value _ c.in_ok-value.ensures.found (record { moves = c.escaped_unit.ensures.moves; costs = c.escaped_unit.ensures.costs }) (chars c.in_ok-after.after.now) _ _ _ c.plain_part.ensures.past.moves c.in_ok-after.ensures.paid c.in_ok-literal.ensures; only = λ r us x. tt; past = record { moves = past.moves; costs = costs_less past.costs } }
-
-pub returns-in-Close : goal.returns-in-Close
-returns-in-Close c =
-    let (us, spells, line) = escaped_ends _ _ _ _ _ c.escapes.invariant c.in_ok-value.value _ c.in_ok-value.ensures.found (record { moves = c.escaped_unit.ensures.moves; costs = c.escaped_unit.ensures.costs }) (chars c.in_ok-after.after.now) _ _ _ c.plain_part.ensures.past.moves c.in_ok-after.ensures.paid c.in_ok-literal.ensures true (rw c.in-Close.is at c.in_ok-after.ensures.found) in
-    let past = escaped_past _ _ _ _ _ c.escapes.invariant c.in_ok-value.value _ c.in_ok-value.ensures.found (record { moves = c.escaped_unit.ensures.moves; costs = c.escaped_unit.ensures.costs }) (chars c.in_ok-after.after.now) _ _ _ c.plain_part.ensures.past.moves c.in_ok-after.ensures.paid c.in_ok-literal.ensures in
-    record { found = (us, c.escaped_line-in-Close.ensures _ spells, line); paid = escaped_paid _ _ _ _ _ c.escapes.invariant c.in_ok-value.value _ c.in_ok-value.ensures.found (record { moves = c.escaped_unit.ensures.moves; costs = c.escaped_unit.ensures.costs }) (chars c.in_ok-after.after.now) _ _ _ c.plain_part.ensures.past.moves c.in_ok-after.ensures.paid c.in_ok-literal.ensures; only = λ r us x. tt; past = record { moves = past.moves; costs = costs_less past.costs } }
+pub returns-in-Some : goal.returns-in-Some
+returns-in-Some c =
+    let step : Past 1 1 c.escapes.cursor c.escaped_unit.new.cursor = record { moves = c.escaped_unit.ensures.moves; costs = c.escaped_unit.ensures.costs } in
+    let part = c.in_ok-after.ensures in
+    let p = chars c.in_ok-after.after.now in
+    let (us, spells, line) = escaped_ends _ _ _ _ _ c.escapes.invariant c.in_ok-value.value _ c.in_ok-value.ensures.found step p _ _ _ c.plain_part.ensures.past.moves part.paid c.in_ok-literal.ensures c.in-Some.closed (rw c.in-Some.is at part.found) in
+    let past = escaped_past _ _ _ _ _ c.escapes.invariant c.in_ok-value.value _ c.in_ok-value.ensures.found step p _ _ _ c.plain_part.ensures.past.moves part.paid c.in_ok-literal.ensures in
+    let paid = escaped_paid _ _ _ _ _ c.escapes.invariant c.in_ok-value.value _ c.in_ok-value.ensures.found step p _ _ _ c.plain_part.ensures.past.moves part.paid c.in_ok-literal.ensures in
+    record { found = (us, c.escaped_line.ensures _ spells, line); paid = paid; only = λ r us x. tt; past = record { moves = past.moves; costs = costs_less past.costs } }
 
 pub escapes-preserved : goal.escapes-preserved
-escapes-preserved c = escaped_turn _ _ _ _ _ c.escapes.invariant c.in_ok-value.value _ c.in_ok-value.ensures.found (record { moves = c.escaped_unit.ensures.moves; costs = c.escaped_unit.ensures.costs }) (chars c.in_ok-after.after.now) _ _ _ c.plain_part.ensures.past.moves c.in_ok-after.ensures.paid c.in_ok-literal.ensures (rw c.in-Escape.is at c.in_ok-after.ensures.found)
+escapes-preserved c =
+    let step : Past 1 1 c.escapes.cursor c.escaped_unit.new.cursor = record { moves = c.escaped_unit.ensures.moves; costs = c.escaped_unit.ensures.costs } in
+    escaped_turn _ _ _ _ _ c.escapes.invariant c.in_ok-value.value _ c.in_ok-value.ensures.found step (chars c.in_ok-after.after.now) _ _ _ c.plain_part.ensures.past.moves c.in_ok-after.ensures.paid c.in_ok-literal.ensures (rw c.in_default.is at c.in_ok-after.ensures.found)

@@ -11,7 +11,7 @@ use Rattle.kdl_text.proofs.strings.multiline.many_lines.Goals as goal
 
 pub returns-in_err-lines-clause-only : goal.returns-in_err-lines-clause-only
 returns-in_err-lines-clause-only c r w b =
-    let (us, x, made) = body_lines c.args.enclosure _ _ r w c.if-not-newline.ensures.reads b in
+    let (us, x, made) = body_lines c.args.signs _ _ r w c.if-not-newline.ensures.reads b in
     let memory = c.in_err-lines.ensures.only r us x in
     failed {T = String Global} {E = StringFailure} c.from_residual.result _ _ _ c.from_residual.ensures.1 memory
 
@@ -23,8 +23,8 @@ returns c =
     let (us, x, are) = c.in_ok-lines.ensures.found in
     let made = c.dedent.ensures us (subst (λ z. AreLines z (lines_of us)) (sym c.deref.ensures.value) are) in
     record {
-      found = body_found c.args.enclosure c.dedent.result (λ v. chars (string_bytes v)) _ _ _ us c.if-not-newline.ensures.reads x made.found;
-      only = body_only c.args.enclosure c.dedent.result (λ v. chars (string_bytes v)) _ _ _ us c.if-not-newline.ensures.reads x made.only;
+      found = body_found c.args.signs c.dedent.result (λ v. chars (string_bytes v)) _ _ _ us c.if-not-newline.ensures.reads x made.found;
+      only = body_only c.args.signs c.dedent.result (λ v. chars (string_bytes v)) _ _ _ us c.if-not-newline.ensures.reads x made.only;
       past = past_more (omega arith) (past_then (past_four (record { moves = c.newline.ensures.moves; costs = c.newline.ensures.costs })) c.content.ensures.past);
     }
 
@@ -32,4 +32,4 @@ pub returns-then-not-newline-clause-past : goal.returns-then-not-newline-clause-
 returns-then-not-newline-clause-past c = past_more (omega arith) (past_four (record { moves = c.newline.ensures.moves; costs = c.newline.ensures.costs }))
 
 pub returns-then-not-newline-clause-only : goal.returns-then-not-newline-clause-only
-returns-then-not-newline-clause-only c r w b = let (m, n) = body_newline c.args.enclosure _ r w b in absurd (c.if-not-newline.ensures.reads.1 m n)
+returns-then-not-newline-clause-only c r w b = let (m, n) = body_newline c.args.signs _ r w b in absurd (c.if-not-newline.ensures.reads.1 m n)

@@ -28,7 +28,7 @@ pub returns-in-Some : goal.returns-in-Some
 returns-in-Some c =
     let text = sym c.checkpoint-start.ensures.rest ∙ c.line_between-in-Some.ensures.result ∙ ap (λ z. chars c.line_between-in-Some.result.now ++ z) c.checkpoint-end.ensures.rest in
     let end = c.end_newline.ensures in
-    let (found, shorter, read) = plain_newline _ _ c.runs.invariant _ _ c.in-Some.ensures.took _ _ end.newline end.past text in
+    let (found, shorter, read) = plain_newline _ _ c.runs.invariant _ _ c.in-Some.ensures.took _ _ end.reads end.past text in
     let (paid, past) = paid_twice (chars c.line_between-in-Some.result.now) _ _ shorter read in
     rw c.line_between-in-Some.ensures.moved (record { found = found; paid = paid; only = λ r us x. tt; past = past })
 

@@ -1,13 +1,8 @@
+use Rattle.kdl_text.proofs.ManyLines.LinesJoin.{raw_one}
 use Rattle.kdl_text.proofs.strings.multiline.read_line.Goals as goal
 
-pub returns-in-Quotes : goal.returns-in-Quotes
-returns-in-Quotes c = let q = c.quoted_line.ensures in rw c.in-Quotes.is (record { found = q.found; only = q.only; past = q.past })
+pub returns-then-signs-eq0 : goal.returns-then-signs-eq0
+returns-then-signs-eq0 c = rw c.if-signs-eq0.true c.quoted_line.ensures
 
-pub returns-in-Ok : goal.returns-in-Ok
-returns-in-Ok c = let q = c.in-Ok.ensures in rw c.in-Signs.is (record { found = q.found; only = λ r us x. tt; past = q.past })
-
-pub returns-in-Err : goal.returns-in-Err
-returns-in-Err c = let q = c.in-Err.ensures in rw c.in-Signs.is (record { found = tt; only = λ r us x. absurd (q.only r us x); past = q.past })
-
-pub raw_line-requires : goal.raw_line-requires
-raw_line-requires c = rw c.in-Signs.is at c.requires
+pub returns : goal.returns
+returns c = raw_one c.args.signs c.if-signs-eq0.false c.raw_line.ensures

@@ -8,28 +8,28 @@ use Rattle.kdl_text.proofs.strings.raw.closing_place.Goals as goal
 pub returns-then-more-lt2 : goal.returns-then-more-lt2
 returns-then-more-lt2 c =
     let q = c.count_quotes-more.ensures in
-    let still = few_quotes c.args.signs c.count_quotes-more.result c.args.quote.now.rest _ _ c.requires.some c.requires.quote q.text q.stops c.if-more-lt2.true in
+    let still = few_quotes c.args.signs c.count_quotes-more.result c.args.quote.now.rest _ _ c.requires.some c.requires.quote q.reads.text q.reads.stops c.if-more-lt2.true in
     record { found = tt; none = still; past = past_two q.past }
 
 pub returns-then-eat_signs-signs : goal.returns-then-eat_signs-signs
 returns-then-eat_signs-signs c =
     let q = c.count_quotes-more.ensures in
     let s = c.eat_signs.ensures in
-    let still = open_still c.args.signs c.count_quotes-more.result c.eat_signs.result c.args.quote.now.rest _ _ _ c.requires.some c.requires.quote q.text q.stops s.text s.few s.stops c.if-eat_signs-signs.true in
-    record { found = tt; none = still; past = signs_past c.count_quotes-more.result _ _ _ q.text (omega arith) q.past s.past }
+    let still = open_still c.args.signs c.count_quotes-more.result c.eat_signs.result c.args.quote.now.rest _ _ _ c.requires.some c.requires.quote q.reads.text q.reads.stops s.reads.text s.reads.few s.reads.stops c.if-eat_signs-signs.true in
+    record { found = tt; none = still; past = signs_past c.count_quotes-more.result _ _ _ q.reads.text (omega arith) q.past s.past }
 
 pub returns : goal.returns
 returns c =
     let q = c.count_quotes-more.ensures in
     let s = c.eat_signs.ensures in
     let some : 2 ≤ c.count_quotes-more.result = omega arith in
-    let all : c.eat_signs.result ≡ c.args.signs = omega (arith, s.few) in
-    let at = closing_at c.args.signs c.count_quotes-more.result c.eat_signs.result c.args.quote.now.rest _ _ _ c.requires.some c.requires.quote q.text q.stops s.text s.few s.stops some all in
+    let all : c.eat_signs.result ≡ c.args.signs = omega (arith, s.reads.few) in
+    let at = closing_at c.args.signs c.count_quotes-more.result c.eat_signs.result c.args.quote.now.rest _ _ _ c.requires.some c.requires.quote q.reads.text q.reads.stops s.reads.text s.reads.few s.reads.stops some all in
     let back = c.after_quotes.ensures.returned in
     record {
-      found = rw back.rest (closed c.args.signs c.count_quotes-more.result c.eat_signs.result c.args.quote.now.rest _ _ _ c.requires.some c.requires.quote q.text q.stops s.text s.few s.stops c.after_quotes.result.rest some all (c.after_quotes.ensures.following _ at));
+      found = rw back.rest (closed c.args.signs c.count_quotes-more.result c.eat_signs.result c.args.quote.now.rest _ _ _ c.requires.some c.requires.quote q.reads.text q.reads.stops s.reads.text s.reads.few s.reads.stops c.after_quotes.result.rest some all (c.after_quotes.ensures.following _ at));
       none = tt;
-      past = closing_past c.count_quotes-more.result _ _ _ _ q.text some q.past s.past back;
+      past = closing_past c.count_quotes-more.result _ _ _ _ q.reads.text some q.past s.past back;
     }
 
 pub after_quotes-requires : goal.after_quotes-requires

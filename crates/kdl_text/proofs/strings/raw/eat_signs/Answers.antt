@@ -13,8 +13,14 @@ signs-preserved c =
       past_then past (past_took took),
     )
 
-pub returns-then-not-eat-clause-past : goal.returns-then-not-eat-clause-past
-returns-then-not-eat-clause-past c = past_then c.signs.invariant.2 (past_look c.if-not-eat.ensures.1)
+pub returns-then-not-eat : goal.returns-then-not-eat
+returns-then-not-eat c =
+    let (text, few, past) = c.signs.invariant in
+    let (none, look) = c.if-not-eat.ensures in
+    let rest = ap (λ h. h.rest) look in
+    record { reads = record { text = rw rest text; few = few; stops = λ l. rw rest none }; past = past_then past (past_look look) }
 
-pub returns-clause-past : goal.returns-clause-past
-returns-clause-past c = past_more (omega arith) c.signs.invariant.2
+pub returns : goal.returns
+returns c =
+    let (text, few, past) = c.signs.invariant in
+    record { reads = record { text = text; few = few; stops = λ l. absurd (omega (arith, l)) }; past = past_more (omega arith) past }

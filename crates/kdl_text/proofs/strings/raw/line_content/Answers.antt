@@ -34,10 +34,10 @@ parts-init c = raw_begins _ _
 pub parts-preserved-else-eat_signs-signs : goal.parts-preserved-else-eat_signs-signs
 parts-preserved-else-eat_signs-signs c =
     let did = c.eat_signs.ensures in
-    let few : c.eat_signs.result < c.args.signs = omega (arith, did.few) in
+    let few : c.eat_signs.result < c.args.signs = omega (arith, did.reads.few) in
     let took = c.in-Some-eq34.ensures.took in
-    let text = took.0 ∙ ap (λ z. z ∷ c.take.new.self.rest) c.in-Some-eq34.field-0-test ∙ ap (λ z. 34 ∷ z) did.text in
-    raw_open _ _ _ c.parts.invariant _ _ took _ _ refl (past_two did.past) (short c.args.signs c.eat_signs.result _ _ text few (did.stops few))
+    let text = took.0 ∙ ap (λ z. z ∷ c.take.new.self.rest) c.in-Some-eq34.field-0-test ∙ ap (λ z. 34 ∷ z) did.reads.text in
+    raw_open _ _ _ c.parts.invariant _ _ took _ _ refl (past_two did.past) (short c.args.signs c.eat_signs.result _ _ text few (did.reads.stops few))
 
 pub parts-preserved : goal.parts-preserved
 parts-preserved c = raw_run _ _ _ c.parts.invariant _ _ c.in-Some.ensures.took _ c.in-Some.c-test.1 (sym c.is_raw.ensures ∙ c.if-is_raw.true) c.skip.ensures
@@ -56,7 +56,7 @@ returns-then-eat_signs-signs c =
     let did = c.eat_signs.ensures in
     let took = subst (λ z. Took (Some z) c.parts.cursor c.take.new.self) c.in-Some-eq34.field-0-test c.in-Some-eq34.ensures.took in
     let whole = sym c.checkpoint-start.ensures.rest ∙ c.slice_between.ensures.result ∙ ap (λ z. c.slice_between.result ++ z) c.checkpoint-end.ensures.rest in
-    let close = took.0 ∙ ap (λ z. 34 ∷ z) (did.text ∙ ap (λ k. times k 35 ++ c.eat_signs.new.cursor.rest) c.if-eat_signs-signs.true) in
+    let close = took.0 ∙ ap (λ z. 34 ∷ z) (did.reads.text ∙ ap (λ k. times k 35 ++ c.eat_signs.new.cursor.rest) c.if-eat_signs-signs.true) in
     let units = subst (λ z. RawUnits (closing 1 c.args.signs) c.args.cursor.now.rest c.parts.cursor.rest (literals z)) (raw_read _ _ _ i _ whole) i.units in
     let (found, only) = line_ends c.args.signs _ _ _ c.slice_between.result units close in
     let moved = c.slice_between.ensures.moved in

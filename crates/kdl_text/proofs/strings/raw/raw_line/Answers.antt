@@ -26,7 +26,7 @@ pub returns-in-Some : goal.returns-in-Some
 returns-in-Some c =
     let text = sym c.checkpoint-start.ensures.rest ∙ c.line_between-in-Some.ensures.result ∙ ap (λ z. chars c.line_between-in-Some.result.now ++ z) c.checkpoint-end.ensures.rest in
     let end = c.end_newline.ensures in
-    let (found, shorter, read) = raw_newline c.args.signs _ _ c.parts.invariant _ _ c.in-Some.ensures.took _ _ end.newline end.past text in
+    let (found, shorter, read) = raw_newline c.args.signs _ _ c.parts.invariant _ _ c.in-Some.ensures.took _ _ end.reads end.past text in
     let (paid, past) = paid_twice (chars c.line_between-in-Some.result.now) _ _ shorter read in
     rw c.line_between-in-Some.ensures.moved (record { found = record { units = literals (chars c.line_between-in-Some.result.now); is = c.plain_line-in-Some.ensures; reads = found; paid = paid }; only = λ r us x. tt; past = past })
 
@@ -41,12 +41,12 @@ pub returns-in-Some-3 : goal.returns-in-Some-3
 returns-in-Some-3 c =
     let took = c.in-Some.ensures.took in
     let none = raw_stuck c.args.signs _ _ c.parts.invariant _ _ took c.in-Some.c-test.1 (sym c.is_newline_char.ensures ∙ c.if-is_newline_char.false) (sym c.is_raw.ensures ∙ c.if-is_raw.false) in
-    record { found = tt; only = none; past = past_more (omega arith) (past_four (raw_past _ _ _ c.parts.invariant _ _ took)) }
+    record { found = tt; only = λ r us x. absurd (none r us x); past = past_more (omega arith) (past_four (raw_past _ _ _ c.parts.invariant _ _ took)) }
 
 pub returns-in-None : goal.returns-in-None
 returns-in-None c =
     let (none, past) = raw_runs_out _ _ _ c.parts.invariant _ c.in-None.ensures.took in
-    record { found = tt; only = none; past = past_four past }
+    record { found = tt; only = λ r us x. absurd (none r us x); past = past_four past }
 
 pub closing_place-requires-clause-part : goal.closing_place-requires-clause-part
 closing_place-requires-clause-part c = part_same c.checkpoint-end.ensures.part c.in-Some-eq34.ensures.took.3

@@ -24,23 +24,23 @@ many_cost a s b d e n l t u m k = record {
 }
 
 pub returns-then-signs-eq0-clause-only : goal.returns-then-signs-eq0-clause-only
-returns-then-signs-eq0-clause-only c r w q = absurd (unsigned _ _ _ r w c.count_signs-signs.ensures.text c.count_signs-signs.ensures.stops c.if-signs-eq0.true q)
+returns-then-signs-eq0-clause-only c r w q = absurd (unsigned _ _ _ r w c.count_signs-signs.ensures.reads.text c.count_signs-signs.ensures.reads.stops c.if-signs-eq0.true q)
 
 pub returns-then-not-eat-clause-only : goal.returns-then-not-eat-clause-only
-returns-then-not-eat-clause-only c r w q = absurd (unquoted c.count_signs-signs.result _ _ r w c.count_signs-signs.ensures.text c.count_signs-signs.ensures.stops c.if-not-eat.ensures.0 q)
+returns-then-not-eat-clause-only c r w q = absurd (unquoted c.count_signs-signs.result _ _ r w c.count_signs-signs.ensures.reads.text c.count_signs-signs.ensures.reads.stops c.if-not-eat.ensures.0 q)
 
 pub returns-then-eat_two-clause-found : goal.returns-then-eat_two-clause-found
-returns-then-eat_two-clause-found c = many_raw c.count_signs-signs.result _ _ (signs_text c.count_signs-signs.result c.count_signs-signs.ensures.text c.if-not-eat.ensures.0) (positive c.if-signs-eq0.false) c.many_lines.result (λ v. chars (string_bytes v)) _ _ c.if-eat_two.ensures.rest c.many_lines.ensures.found
+returns-then-eat_two-clause-found c = many_raw c.count_signs-signs.result _ _ (signs_text c.count_signs-signs.result c.count_signs-signs.ensures.reads.text c.if-not-eat.ensures.0) (positive c.if-signs-eq0.false) c.many_lines.result (λ v. chars (string_bytes v)) _ _ c.if-eat_two.ensures.rest c.many_lines.ensures.found
 
 pub returns-then-eat_two-clause-only : goal.returns-then-eat_two-clause-only
-returns-then-eat_two-clause-only c r w q = c.many_lines.ensures.only r w (many_raw_only c.count_signs-signs.result _ _ (signs_text c.count_signs-signs.result c.count_signs-signs.ensures.text c.if-not-eat.ensures.0) (positive c.if-signs-eq0.false) _ r w c.if-eat_two.ensures.rest q)
+returns-then-eat_two-clause-only c r w q = c.many_lines.ensures.only r w (many_raw_only c.count_signs-signs.result _ _ (signs_text c.count_signs-signs.result c.count_signs-signs.ensures.reads.text c.if-not-eat.ensures.0) (positive c.if-signs-eq0.false) _ r w c.if-eat_two.ensures.rest q)
 
 pub returns-then-eat_two-clause-moves : goal.returns-then-eat_two-clause-moves
 returns-then-eat_two-clause-moves c = moves_then c.count_signs-signs.ensures.past.moves (moves_then (moves_one c.if-not-eat.ensures) (moves_then (moves_two c.if-eat_two.ensures) c.many_lines.ensures.past.moves))
 
 pub returns-in_err-body-clause-only : goal.returns-in_err-body-clause-only
 returns-in_err-body-clause-only c r w q =
-    absurd (c.in_err-body.ensures.only r w (one_raw_only c.count_signs-signs.result _ _ (signs_text c.count_signs-signs.result c.count_signs-signs.ensures.text c.if-not-eat.ensures.0) (positive c.if-signs-eq0.false) _ r w c.if-eat_two.ensures.0 c.if-eat_two.ensures.1.rest q))
+    absurd (c.in_err-body.ensures.only r w (one_raw_only c.count_signs-signs.result _ _ (signs_text c.count_signs-signs.result c.count_signs-signs.ensures.reads.text c.if-not-eat.ensures.0) (positive c.if-signs-eq0.false) _ r w c.if-eat_two.ensures.0 c.if-eat_two.ensures.1.rest q))
 
 pub returns-in_err-body-clause-moves : goal.returns-in_err-body-clause-moves
 returns-in_err-body-clause-moves c = moves_then c.count_signs-signs.ensures.past.moves (moves_then (moves_one c.if-not-eat.ensures) (moves_then (moves_stayed c.if-eat_two.ensures.1) c.line_content.ensures.past.moves))
@@ -52,11 +52,11 @@ pub returns-clause-moves : goal.returns-clause-moves
 returns-clause-moves c = moves_then c.count_signs-signs.ensures.past.moves (moves_then (moves_one c.if-not-eat.ensures) (moves_then (moves_stayed c.if-eat_two.ensures.1) c.line_content.ensures.past.moves))
 
 pub returns-clause-found : goal.returns-clause-found
-returns-clause-found c = one_raw c.count_signs-signs.result _ _ _ _ _ _ (signs_text c.count_signs-signs.result c.count_signs-signs.ensures.text c.if-not-eat.ensures.0) (positive c.if-signs-eq0.false) c.if-eat_two.ensures.0 c.if-eat_two.ensures.1.rest c.in_ok-body.ensures.found c.in_ok-to_string.ensures
+returns-clause-found c = one_raw c.count_signs-signs.result _ _ _ _ _ _ (signs_text c.count_signs-signs.result c.count_signs-signs.ensures.reads.text c.if-not-eat.ensures.0) (positive c.if-signs-eq0.false) c.if-eat_two.ensures.0 c.if-eat_two.ensures.1.rest c.in_ok-body.ensures.found c.in_ok-to_string.ensures
 
 pub returns-clause-only : goal.returns-clause-only
 returns-clause-only c r w q =
-    let (ends, same) = c.in_ok-body.ensures.only r w (one_raw_only c.count_signs-signs.result _ _ (signs_text c.count_signs-signs.result c.count_signs-signs.ensures.text c.if-not-eat.ensures.0) (positive c.if-signs-eq0.false) _ r w c.if-eat_two.ensures.0 c.if-eat_two.ensures.1.rest q) in
+    let (ends, same) = c.in_ok-body.ensures.only r w (one_raw_only c.count_signs-signs.result _ _ (signs_text c.count_signs-signs.result c.count_signs-signs.ensures.reads.text c.if-not-eat.ensures.0) (positive c.if-signs-eq0.false) _ r w c.if-eat_two.ensures.0 c.if-eat_two.ensures.1.rest q) in
     (ends, same ∙ sym c.in_ok-to_string.ensures)
 
 pub returns-then-eat_two-clause-cost : goal.returns-then-eat_two-clause-cost
