@@ -16,3 +16,5 @@ pub mod Tables
 pub mod TriviaReading
 -- Decimal digits at the front of a text.
 pub mod DigitRuns
+-- What the results of the readers of escapes say of the text.
+pub mod StringReading

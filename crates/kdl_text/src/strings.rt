@@ -8,13 +8,14 @@ ghost use Rattle.kdl_text.specs.Bare as bare;
 ghost use Rattle.kdl_text.specs.Bare.{BareString};
 ghost use Rattle.kdl_text.specs.Chars.{Text, is_digit, is_identifier_char, is_newline_char, within};
 ghost use Rattle.kdl_text.specs.Internal.Here.{Looked, Stayed, first, in_class};
+ghost use Rattle.kdl_text.specs.Internal.StringReading.{ReadsEscape, ReadsHex};
 ghost use Rattle.kdl_text.specs.MultiLine.{IsQuoted};
 ghost use Rattle.kdl_text.specs.Internal.Reading.{CutsRun, Moves, Costs, Past, Consumed};
 ghost use Rattle.kdl_text.specs.Strings as spec;
-ghost use Rattle.kdl_text.specs.Strings.{QuotedBody, StringUnit, IsUnit, HexNumber, Run, unit_value};
+ghost use Rattle.kdl_text.specs.Strings.{QuotedBody, StringUnit, IsUnit, Run, unit_value};
 ghost use Rattle.kdl_text.specs.declared.strings.StringFault.TheVariants.{Newline, Banned};
 ghost use Rattle.kdl_text.specs.declared.strings.StringFailure.TheVariants.{Memory, Fault};
-ghost use Rattle.std.specs.Prelude.{◌≡◌, ◌&&◌, ◌||◌, ℕ, true, false, ◌∷◌, ◌++◌, Some, MatchOption, MatchResult, IfSome, IfNone, IfOk, IfErr, string_bytes, encode_utf8};
+ghost use Rattle.std.specs.Prelude.{◌≡◌, ◌&&◌, ◌||◌, true, false, ◌∷◌, ◌++◌, Some, MatchOption, MatchResult, IfSome, IfOk, IfErr, string_bytes, encode_utf8};
 ghost use Rattle.std.specs.Char.{is_ascii_alphabetic};
 ghost use Rattle.std.specs.List.{list_all};
 ghost use Rattle.std.specs.Str.{chars, bytes_eq};
@@ -226,9 +227,7 @@ fn skip_blanks(cursor: &mut Cursor)
 
 /// After `\u{`: reads a hexadecimal number and `}`, and returns the character with that number.
 fn hex_number(cursor: &mut Cursor) -> Option<char>
-    ensures found { IfSome result (λ c. HexNumber cursor.old.rest cursor.new.rest c) }
-    ensures none { IfNone result ((r : Text) (c : ℕ) → HexNumber cursor.old.rest r c → ⊥) }
-    ensures past { Past 1 1 cursor.old cursor.new }
+    ensures { ReadsHex result cursor.old cursor.new }
 {
     let mut value = 0u32;
     let mut count = 0u8;
@@ -272,10 +271,7 @@ fn letter_escape(letter: char) -> Option<char>
 /// Reads the rest of the escape that begins with this letter, and returns its character. After `u`
 /// the number of the character follows, in braces.
 fn escaped_char(letter: char, cursor: &mut Cursor) -> Option<char>
-    ensures found { IfSome result (λ c. IsUnit (92 ∷ letter ∷ cursor.old.rest) cursor.new.rest (spec.escape c)) }
-    ensures none { spec.is_escaped_space letter ≡ false
-        → IfNone result ((r : Text) (u : StringUnit) → IsUnit (92 ∷ letter ∷ cursor.old.rest) r u → ⊥) }
-    ensures past { Past 1 1 cursor.old cursor.new }
+    ensures { ReadsEscape letter result cursor.old cursor.new }
 {
     if letter != 'u' {
         return letter_escape(letter);

@@ -2,7 +2,7 @@
 #![tactic(auto, using(crate::proofs::Looking::Returns::advancing))]
 
 ghost use Rattle.kdl_text.specs.Chars.{begins, begins_two, Space};
-ghost use Rattle.kdl_text.specs.Internal.Reading.{Reads, Moves, Costs, Longest, Past, Consumed};
+ghost use Rattle.kdl_text.specs.Internal.Reading.{Reads, Moves, Costs, Longest, Consumed};
 ghost use Rattle.kdl_text.specs.Trivia.{Parts, BlockComment, Line, LineComment, EscEnd, Escline};
 ghost use Rattle.kdl_text.specs.Internal.TriviaReading.{PieceCosts, RanWs, ReadsSlash, SlashCosts};
 ghost use Rattle.std.specs.Prelude.{◌≡◌, true, false, []};
@@ -29,9 +29,8 @@ pub enum SlashRead {
 /// Advances past the rest of a block comment, after its `/*`. Returns false if the comment is
 /// unclosed; the cursor is then at the end of the text.
 fn block_end(cursor: &mut Cursor) -> bool
-    ensures reads { Reads Parts result cursor.old.rest cursor.new.rest }
+    ensures parts { Consumed 2 1 (Reads Parts result) cursor.old cursor.new }
     ensures ended { result ≡ false → cursor.new.rest ≡ [] }
-    ensures past { Past 2 1 cursor.old cursor.new }
 {
     let mut here = cursor.take_over();
     let mut depth: u64 = 1;

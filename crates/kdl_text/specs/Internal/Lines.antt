@@ -81,6 +81,11 @@ pub record Paid (old new : Here) : Type 0 where
   pub shorter : bytes new.rest + 1 ≤ bytes old.rest
   pub costs : Costs 4 0 old new
 
+-- the literal characters p of a line were read, and what ends them
+pub record ReadPart (end : Option Bool) (p : Text) (old new : Here) : Type 0 where
+  pub reads : ReadsPlain end old.rest p new.rest
+  pub paid : Paid old new
+
 -- a line of an X was read with what ends it, which may be the end of the X
 pub record ReadLine (X : Text → Text → List LineUnit → Type 0) (line : Line) (closed : Bool) (old new : Here) : Type 0 where
   pub units : List LineUnit

@@ -3,7 +3,7 @@
 
 ghost use Rattle.kdl_text.specs.Chars.{Newline, Text, is_newline_char};
 ghost use Rattle.kdl_text.specs.Dedent.{lines_of, LineUnit};
-ghost use Rattle.kdl_text.specs.Internal.Lines.{AreLines, BodyOf, IsLine, LinesOf, Paid, ReadsLine, ReadsOne, ReadsPlain};
+ghost use Rattle.kdl_text.specs.Internal.Lines.{AreLines, BodyOf, IsLine, LinesOf, Paid, ReadPart, ReadsLine, ReadsOne};
 ghost use Rattle.kdl_text.specs.MultiLine.{Content};
 ghost use Rattle.kdl_text.specs.Raw.{literals};
 ghost use Rattle.kdl_text.specs.Internal.Reading.{Consumed, Past};
@@ -31,8 +31,7 @@ pub fn end_newline(c: char, cursor: &mut Cursor)
 /// Advances past literal characters, including quotes, and past what ends them in a multi-line
 /// string. Returns whether three quotes do, or `None` for the backslash of an escape.
 fn plain_part<'a>(cursor: &mut Cursor<'a>) -> Result<(&'a str, Option<bool>), StringFault>
-    ensures found { IfOk result (λ (p, end). ReadsPlain end cursor.old.rest (chars p.now) cursor.new.rest) }
-    ensures paid { IfOk result (λ _. Paid cursor.old cursor.new) }
+    ensures found { IfOk result (λ (p, end). ReadPart end (chars p.now) cursor.old cursor.new) }
     ensures only { (r : Text) (us : List LineUnit) → Content cursor.old.rest r us → IfErr result (λ _. ⊥) }
     ensures past { Past 4 1 cursor.old cursor.new }
 {

@@ -10,8 +10,8 @@ returns-then-letter-ne117 c = record {
   past = past_more (omega arith) past_start;
 }
 
-pub returns-then-not-eat-clause-none : goal.returns-then-not-eat-clause-none
-returns-then-not-eat-clause-none c b r u i = brace_none _ _ r u c.if-letter-ne117.false c.if-not-eat.ensures.0 i
+pub returns-then-not-eat : goal.returns-then-not-eat
+returns-then-not-eat c = record { found = tt; none = λ b r u i. brace_none _ _ r u c.if-letter-ne117.false c.if-not-eat.ensures.0 i; past = past_look c.if-not-eat.ensures.1 }
 
 pub returns : goal.returns
 returns c = record {
@@ -19,6 +19,3 @@ returns c = record {
   none = λ b. number_none _ _ _ _ c.if-letter-ne117.false c.if-not-eat.ensures.0 c.hex_number.ensures.none;
   past = past_then (past_took c.if-not-eat.ensures) c.hex_number.ensures.past;
 }
-
-pub returns-then-not-eat-clause-past : goal.returns-then-not-eat-clause-past
-returns-then-not-eat-clause-past c = past_look c.if-not-eat.ensures.1

@@ -10,7 +10,7 @@ pub returns-in-None : goal.returns-in-None
 returns-in-None c =
     let (m, run, took) = c.in-None.ensures.took in
     let h = after_end _ _ _ _ (after_passed _ _ _ _ c.parts.invariant run) took in
-    record { reads = h.0; ended = λ _. h.1; past = h.2 }
+    record { parts = record { reads = h.0; past = h.2 }; ended = λ _. h.1 }
 
 pub overflow_add-depth : goal.overflow_add-depth
 overflow_add-depth c =
@@ -31,7 +31,7 @@ pub returns-then-depth-eq0 : goal.returns-then-depth-eq0
 returns-then-depth-eq0 c =
     let (m, run, took) = c.in-Some-eq42.ensures.took in
     let h = after_all _ _ _ _ _ _ (after_passed _ _ _ _ c.parts.invariant run) took c.in-Some-eq42.field-0-test c.if-eat-2.ensures c.if-depth-eq0.true in
-    record { reads = h.0; ended = λ h. cc; past = h.1 }
+    record { parts = record { reads = h.0; past = h.1 }; ended = λ h. cc }
 
 pub parts-preserved-else-depth-eq0 : goal.parts-preserved-else-depth-eq0
 parts-preserved-else-depth-eq0 c =

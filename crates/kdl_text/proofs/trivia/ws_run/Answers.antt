@@ -10,7 +10,7 @@ returns-then-not-eat_two c =
 
 pub returns-then-not-block_end : goal.returns-then-not-block_end
 returns-then-not-block_end c =
-    run_unclosed _ _ _ c.run.invariant c.spaces.ensures.reads (record { moves = c.spaces.ensures.moves; costs = c.spaces.ensures.costs }) _ _ c.if-not-eat_two.ensures c.if-not-block_end.ensures.past c.if-not-block_end.ensures.reads
+    run_unclosed _ _ _ c.run.invariant c.spaces.ensures.reads (record { moves = c.spaces.ensures.moves; costs = c.spaces.ensures.costs }) _ _ c.if-not-eat_two.ensures c.if-not-block_end.ensures.parts.past c.if-not-block_end.ensures.parts.reads
 
 pub run-preserved : goal.run-preserved
-run-preserved c = run_turn _ _ _ c.run.invariant c.spaces.ensures.reads (record { moves = c.spaces.ensures.moves; costs = c.spaces.ensures.costs }) _ _ c.if-not-eat_two.ensures c.if-not-block_end.ensures.past c.if-not-block_end.ensures.reads
+run-preserved c = run_turn _ _ _ c.run.invariant c.spaces.ensures.reads (record { moves = c.spaces.ensures.moves; costs = c.spaces.ensures.costs }) _ _ c.if-not-eat_two.ensures c.if-not-block_end.ensures.parts.past c.if-not-block_end.ensures.parts.reads

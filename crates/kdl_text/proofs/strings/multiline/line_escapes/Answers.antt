@@ -31,12 +31,12 @@ returns-in-Some c =
     let step : Past 1 1 c.escapes.cursor c.escaped_unit.new.cursor = record { moves = c.escaped_unit.ensures.moves; costs = c.escaped_unit.ensures.costs } in
     let part = c.in_ok-after.ensures in
     let p = chars c.in_ok-after.after.now in
-    let (us, spells, line) = escaped_ends _ _ _ _ _ c.escapes.invariant c.in_ok-value.value _ c.in_ok-value.ensures.found step p _ _ _ c.plain_part.ensures.past.moves part.paid c.in_ok-literal.ensures c.in-Some.closed (rw c.in-Some.is at part.found) in
-    let past = escaped_past _ _ _ _ _ c.escapes.invariant c.in_ok-value.value _ c.in_ok-value.ensures.found step p _ _ _ c.plain_part.ensures.past.moves part.paid c.in_ok-literal.ensures in
-    let paid = escaped_paid _ _ _ _ _ c.escapes.invariant c.in_ok-value.value _ c.in_ok-value.ensures.found step p _ _ _ c.plain_part.ensures.past.moves part.paid c.in_ok-literal.ensures in
+    let (us, spells, line) = escaped_ends _ _ _ _ _ c.escapes.invariant c.in_ok-value.value _ c.in_ok-value.ensures.found step p _ _ _ c.plain_part.ensures.past.moves part.found.paid c.in_ok-literal.ensures c.in-Some.closed (rw c.in-Some.is at part.found.reads) in
+    let past = escaped_past _ _ _ _ _ c.escapes.invariant c.in_ok-value.value _ c.in_ok-value.ensures.found step p _ _ _ c.plain_part.ensures.past.moves part.found.paid c.in_ok-literal.ensures in
+    let paid = escaped_paid _ _ _ _ _ c.escapes.invariant c.in_ok-value.value _ c.in_ok-value.ensures.found step p _ _ _ c.plain_part.ensures.past.moves part.found.paid c.in_ok-literal.ensures in
     record { found = (us, c.escaped_line.ensures _ spells, line); paid = paid; only = λ r us x. tt; past = record { moves = past.moves; costs = costs_less past.costs } }
 
 pub escapes-preserved : goal.escapes-preserved
 escapes-preserved c =
     let step : Past 1 1 c.escapes.cursor c.escaped_unit.new.cursor = record { moves = c.escaped_unit.ensures.moves; costs = c.escaped_unit.ensures.costs } in
-    escaped_turn _ _ _ _ _ c.escapes.invariant c.in_ok-value.value _ c.in_ok-value.ensures.found step (chars c.in_ok-after.after.now) _ _ _ c.plain_part.ensures.past.moves c.in_ok-after.ensures.paid c.in_ok-literal.ensures (rw c.in_default.is at c.in_ok-after.ensures.found)
+    escaped_turn _ _ _ _ _ c.escapes.invariant c.in_ok-value.value _ c.in_ok-value.ensures.found step (chars c.in_ok-after.after.now) _ _ _ c.plain_part.ensures.past.moves c.in_ok-after.ensures.found.paid c.in_ok-literal.ensures (rw c.in_default.is at c.in_ok-after.ensures.found.reads)

@@ -8,7 +8,7 @@ pub returns-in-Some : goal.returns-in-Some
 returns-in-Some c =
     let part = c.in_ok-text.ensures in
     record {
-      found = record { units = literals (chars c.in_ok-text.text.now); is = c.plain_line.ensures; reads = rw c.in-Some.is at part.found; paid = part.paid };
+      found = record { units = literals (chars c.in_ok-text.text.now); is = c.plain_line.ensures; reads = rw c.in-Some.is at part.found.reads; paid = part.found.paid };
       only = λ r us x. tt;
       past = part.past;
     }
@@ -18,7 +18,7 @@ returns-in-None c =
     let part = c.in_ok-text.ensures in
     let rest = c.line_escapes.ensures in
     record {
-      found = escaped_joins c.line_escapes.result _ _ _ (chars c.in_ok-text.text.now) (rw c.in-None.is at part.found) c.plain_part.ensures.past.moves part.paid c.line_escapes.ensures.past.moves rest.found rest.paid;
-      only = escaped_only c.line_escapes.result _ _ (chars c.in_ok-text.text.now) (rw c.in-None.is at part.found) rest.only;
-      past = past_then (record { moves = c.plain_part.ensures.past.moves; costs = part.paid.costs }) rest.past;
+      found = escaped_joins c.line_escapes.result _ _ _ (chars c.in_ok-text.text.now) (rw c.in-None.is at part.found.reads) c.plain_part.ensures.past.moves part.found.paid c.line_escapes.ensures.past.moves rest.found rest.paid;
+      only = escaped_only c.line_escapes.result _ _ (chars c.in_ok-text.text.now) (rw c.in-None.is at part.found.reads) rest.only;
+      past = past_then (record { moves = c.plain_part.ensures.past.moves; costs = part.found.paid.costs }) rest.past;
     }
