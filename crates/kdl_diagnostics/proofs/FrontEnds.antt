@@ -1,7 +1,7 @@
 -- Where a front ends, and where the reader of faults begins.
-use Rattle.std.proofs.Common.{◌≡◌, ◌↔◌, ◌+◌, ◌<◌, ℕ, Bool, true, false, not, List, [], ◌∷◌, ◌++◌, length, Option, Some, None, Result, Ok, Err, refl, sym, ap, subst, ◌∙◌, arith}
+use Rattle.std.proofs.Common.{◌≡◌, ◌↔◌, ◌+◌, ◌-◌, ◌<◌, ℕ, Bool, true, false, List, [], ◌∷◌, ◌++◌, length, Option, Some, None, Result, Ok, Err, refl, sym, ap, subst, ◌∙◌, arith}
 use Rattle.std.specs.Prelude.{IfOk, option_to_list}
-use Rattle.std.specs.Option.{IfSome}
+use Rattle.std.specs.Option.{IfSome, IsSome, MatchOption}
 use Rattle.std.proofs.lemmas.List.{length_push}
 use Rattle.std.proofs.lemmas.List.Elements.{All-nil, All-pop}
 use Rattle.kdl_text.specs.Chars.{Text}
@@ -10,13 +10,12 @@ use Rattle.kdl_syntax.specs.Internal.Handed.{HandsOut, kind_view}
 use Rattle.kdl_syntax.specs.Tokens.{Token, space, newline, slashdash, string, value, left, right, opening, closing, equals, semicolon, bom, NoToken}
 use Rattle.kdl_syntax.specs.declared.lexer.Token.{Token as CodeToken}
 use Rattle.kdl_diagnostics.specs.Internal.Noted.{Counts, Untold}
-use Rattle.kdl_diagnostics.specs.Internal.Outsets.{EndsBefore, GoesOver, IsNew, BeginsAt, at_the_end, earlier, IsReady, IsStopped, Lacking, LacksAt, Matched, StopsAfter, depth, text_view}
+use Rattle.kdl_diagnostics.specs.Internal.Outsets.{EndsBefore, GoesOver, IsNew, BeginsAt, at_the_end, earlier, IsReady, IsStopped, Lacking, LacksAt, Matched, depth, text_view}
 use Rattle.kdl_diagnostics.specs.TextControl.{TextControl, Takes, text_finish, text_start, text_step}
 use Rattle.kdl_diagnostics.specs.declared.front.Prefix.{Prefix}
-use Rattle.kdl_diagnostics.specs.declared.machine.Context.TheVariants.{FaultyType}
-use Rattle.kdl_diagnostics.specs.declared.notes.Block.{Block}
+use Rattle.kdl_text.specs.declared.span.SourceSpan.{SourceSpan}
 use Rattle.kdl_diagnostics.specs.declared.reader.Reader.{Reader}
-use Rattle.kdl_diagnostics.specs.declared.text_control.Outset.{Outset}
+use Rattle.kdl_diagnostics.specs.declared.state.Progress.{Progress}
 use Rattle.kdl_diagnostics.specs.declared.text_control.TextControl.{TextControl as Control}
 use Rattle.kdl_diagnostics.specs.declared.whole.Whole.{Whole}
 use Rattle.kdl_diagnostics.specs.declared.whole.Whole.TheVariants.{Document, Node, Entry, Identifier}
@@ -41,17 +40,17 @@ not_empty (x ∷ xs) h = omega arith
 pub pushed : {A : Type 0} (old new : List A) (x : A) → new ≡ old ++ (x ∷ []) → length new ≡ length old + 1
 pushed old new x e = ap length e ∙ length_push old x
 
--- a front that ends after no string, number or keyword
-pub ends_at : (rest : Text) (f : Prefix) → f.stop.place.rest ≡ rest → f.stop.from.rest ≡ rest → (text_finish (text_view f.control) ≡ false → LacksAt f.control.whole (depth (text_view f.control)) f.stop.before) → Matched f → EndsBefore rest f
-ends_at rest f p q h m = record { place = p; from = λ e. (sym q ∙ e, λ x. subst (λ (n : ℕ). LacksAt f.control.whole n f.stop.before) (sym m.0) (h x)); matched = m }
+pub popped : {A : Type 0} (m n : ℕ) (r : Option A) → MatchOption r ((m ≡ 0) × (n ≡ 0)) (λ _. n + 1 ≡ m) → n ≡ m - 1
+popped m n None e = omega (arith, e.0, e.1)
+popped m n (Some x) e = omega (arith, e)
 
--- a front that ends after a token
-pub ends_after : (k : CodeToken) (here : Outset) (f : Prefix) → StopsAfter k here f.stop → (k.at.start.rest ≡ [] → ⊥) → (text_finish (text_view f.control) ≡ false → LacksAt f.control.whole (depth (text_view f.control)) here) → Matched f → EndsBefore k.at.end.rest f
-ends_after k here f s n h m = record {
-  place = ap (λ (p : Position). p.rest) s.place;
-  from = λ e. (let x = s.from n e in (x.0, λ y. subst (λ (i : ℕ). LacksAt f.control.whole i f.stop.before) (sym m.0) (rw x.1 (h y))));
-  matched = m;
-}
+-- a front that ends after no string, number or keyword
+pub ends_at : (rest : Text) (f : Prefix) → f.place.rest ≡ rest → f.from.rest ≡ rest → (text_finish (text_view f.control) ≡ false → LacksAt f.control.whole (depth (text_view f.control)) f.before) → Matched f → EndsBefore rest f
+ends_at rest f p q h m = record { place = p; from = λ e. (sym q ∙ e, λ x. subst (λ (n : ℕ). LacksAt f.control.whole n f.before) (sym m.0) (h x)); matched = m }
+
+-- a front that ends after a string, number or keyword
+pub ends_word : (k : CodeToken) (f : Prefix) → f.place ≡ k.at.end → f.from ≡ k.at.start → (k.at.start.rest ≡ [] → ⊥) → Matched f → EndsBefore k.at.end.rest f
+ends_word k f p q n m = record { place = ap (λ (p : Position). p.rest) p; from = λ e. absurd (n (sym (ap (λ (p : Position). p.rest) q) ∙ e)); matched = m }
 
 -- the open blocks
 same_count : (k : Token) (m n o : ℕ) → Counts k m n → Counts k m o → n ≡ o
@@ -71,38 +70,28 @@ same_count bom m n o e f = e ∙ sym f
 pub matched : (k : Token) (a b : TextControl) (m n : ℕ) → text_step a k ≡ Some b → m ≡ depth a → Counts k m n → n ≡ depth b
 matched k a b m n e f c = same_count k (depth a) n (depth b) (subst (λ (z : ℕ). Counts k z n) f c) (counted a b k e)
 
-pub untold_less : (old new : List Block) (r : Option Block) → old ≡ new ++ option_to_list r → Untold old → Untold new × IfSome r (λ (b : Block). b.is_told ≡ false)
-untold_less old new r e x = All-pop (λ (b : Block). b.is_told ≡ false) old new r e x
-
-pub told_not : (b : Bool) → not b ≡ false → b ≡ false → ⊥
-told_not true e f = cc
-told_not false e f = cc
+pub untold_less : (old new : List (Option SourceSpan)) (r : Option (Option SourceSpan)) → old ≡ new ++ option_to_list r → Untold old → Untold new × IfSome r IsSome
+untold_less old new r e x = All-pop IsSome old new r e x
 
 -- where the reader of faults begins
-lacking : (w : Whole) (n : ℕ) (o : Outset) (r : Reader) → LacksAt w n o → Untold r.notes.blocks.items → r.is_cut ≡ false → n ≡ length r.notes.blocks.items → r.state.whole ≡ w → r.state.control.phase ≡ o.phase → r.state.has_item ≡ o.has_item → Lacking r
+lacking : (w : Whole) (n : ℕ) (o : Progress) (r : Reader) → LacksAt w n o → Untold r.notes.blocks.items → r.is_cut ≡ false → n ≡ length r.notes.blocks.items → r.state.whole ≡ w → r.state.phase ≡ o.phase → r.state.has_item ≡ o.has_item → Lacking r
 lacking w n o r x u c e f g h = record {
   lacks = rw (f, g, h) (subst (λ (z : ℕ). LacksAt w z o) e x);
   untold = u;
   cut = c;
 }
 
-pub ready : (f : Prefix) (o : Outset) (r : Reader) → IsStopped f → BeginsAt f o r.cursor → r.state.whole ≡ f.control.whole → r.state.control.phase ≡ o.phase → r.state.has_item ≡ o.has_item → r.notes ≡ f.notes → r.is_cut ≡ false → (r.state.context ≡ FaultyType → ⊥) → IsReady r
-ready f o r s (at_the_end e l) w p i n c x = record {
-  ends = λ z.
-      (let (g, m) = s.place (sym e ∙ z) in
-      lacking f.control.whole (depth (text_view f.control)) o r (l g) (rw n m.1) c (sym m.0 ∙ ap (λ k. length k.blocks.items) (sym n)) w p i);
-  context = x;
-}
-ready f o r s (earlier e b) w p i n c x = record {
-  ends = λ z.
-      (let (l, u) = s.from (sym e ∙ z) in
-      lacking f.control.whole (length f.notes.blocks.items) o r (rw b l) (rw n u) c (ap (λ k. length k.blocks.items) (sym n)) w p i);
-  context = x;
-}
+pub ready : (f : Prefix) (o : Progress) (r : Reader) → IsStopped f → BeginsAt f o r.cursor → r.state.whole ≡ f.control.whole → r.state.phase ≡ o.phase → r.state.has_item ≡ o.has_item → r.notes ≡ f.notes → r.is_cut ≡ false → IsReady r
+ready f o r s (at_the_end e l) w p i n c z =
+    let (g, m) = s.place (sym e ∙ z) in
+    lacking f.control.whole (depth (text_view f.control)) o r (l g) (rw n m.1) c (sym m.0 ∙ ap (λ k. length k.blocks.items) (sym n)) w p i
+ready f o r s (earlier e b) w p i n c z =
+    let (l, u) = s.from (sym e ∙ z) in
+    lacking f.control.whole (length f.notes.blocks.items) o r (rw b l) (rw n u) c (ap (λ k. length k.blocks.items) (sym n)) w p i
 
 -- the front at the start of a text
 pub new_matched : (f : Prefix) → IsNew f → Matched f
-new_matched f n = (ap length n.blocks ∙ sym (ap depth n.control ∙ no_depth f.control.whole), subst Untold (sym n.blocks) (All-nil (λ (b : Block). b.is_told ≡ false)))
+new_matched f n = (ap length n.blocks ∙ sym (ap depth n.control ∙ no_depth f.control.whole), subst Untold (sym n.blocks) (All-nil IsSome))
   where
     no_depth : (w : Whole) → depth (text_start w) ≡ 0
     no_depth Document = refl
@@ -130,7 +119,7 @@ pub at_the_text_end : {P : Type 0} (r : Bool) (a : Here) (t : TextControl) → a
 at_the_text_end r a t n f x = let y = at_end n in (λ q. x.0 (y.0 (sym f ∙ q)), λ p. f ∙ y.1 (x.1 p))
 
 -- where the text goes on there is nothing more to know
-pub stopped_before : (rest : Text) (f g : Prefix) → EndsBefore rest f → (rest ≡ [] → ⊥) → g.stop.place.rest ≡ f.stop.place.rest → g.stop.from.rest ≡ f.stop.from.rest → IsStopped g
+pub stopped_before : (rest : Text) (f g : Prefix) → EndsBefore rest f → (rest ≡ [] → ⊥) → g.place.rest ≡ f.place.rest → g.from.rest ≡ f.from.rest → IsStopped g
 stopped_before rest f g e n p q = record { place = λ x. absurd (n (sym e.place ∙ sym p ∙ x)); from = λ x. absurd (n (e.from (sym q ∙ x)).0) }
 
 pub stopped_at_end : (rest : Text) (f : Prefix) → EndsBefore rest f → text_finish (text_view f.control) ≡ false → IsStopped f

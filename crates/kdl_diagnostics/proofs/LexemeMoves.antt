@@ -9,9 +9,7 @@ use Rattle.kdl_text.specs.Internal.Here.{Here, IsPart, Position, Ran, Skips, fir
 use Rattle.kdl_text.specs.Internal.Reading.{Moves}
 use Rattle.kdl_text.specs.Spans.{bytes}
 use Rattle.kdl_diagnostics.specs.Internal.Reading.{EndsIn, FindsAlso, IsEnd, IsLexeme, Lexes, OnFound, Past, Reads, Since, Stands, begins_sign}
-use Rattle.kdl_diagnostics.specs.declared.ends.ValueEnd.{ValueEnd}
 use Rattle.kdl_diagnostics.specs.declared.lexemes.Lexeme.{Lexeme}
-use Rattle.kdl_diagnostics.specs.declared.lexemes.LexemeKind.TheVariants.{End}
 use Rattle.kdl_diagnostics.specs.declared.strings.Found.{Found}
 use Rattle.kdl_diagnostics.proofs.Passing.{ends_in, since_here, reads_then}
 
@@ -19,15 +17,12 @@ use Rattle.kdl_diagnostics.proofs.Passing.{ends_in, since_here, reads_then}
 pub past_from : {place : Position} {a b : Here} → place.rest ≡ a.rest → IsPart a.text place.rest → Moves a b → bytes b.rest < bytes a.rest → Past place b
 past_from e i m few = record { since = since_here e i m; went = omega (arith, few, ap bytes e) }
 
-pub end_in : {s : Text} {a b : Here} (e : ValueEnd) → s ≡ a.rest → Moves a b → IsEnd b e → EndsIn s e
+pub end_in : {s : Text} {a b : Here} (e : Position × Option Position) → s ≡ a.rest → Moves a b → IsEnd b e → EndsIn s e
 end_in e x m i = ends_in _ _ e (m.piece.0, x ∙ m.piece.1) i.ends
 
 -- a lexeme that the cursor passed
-pub lexeme_is : {s : Text} {p : Lexeme} {b : Here} → Stands s p → (p.kind ≡ End → ⊥) → bytes b.rest < bytes s → IsLexeme s p b
-lexeme_is i h few = record { stands = i; went = λ e. few; end = λ e. absurd (h e) }
-
-pub lexes : {k c : ℕ} {s : Text} {p : Lexeme} {a b : Here} → s ≡ a.rest → Stands s p → (p.kind ≡ End → ⊥) → Reads k c a b → bytes b.rest < bytes a.rest → Lexes k c a p b
-lexes {p = p} e i h r few = record { lexeme = lexeme_is (subst (λ t. Stands t p) e i) h few; reads = r }
+pub lexes : {k c : ℕ} {s : Text} {p : Lexeme} {a b : Here} → s ≡ a.rest → Stands s p → Reads k c a b → bytes b.rest < bytes a.rest → Lexes k c a p b
+lexes {p = p} e i r few = record { lexeme = record { stands = subst (λ t. Stands t p) e i; went = few }; reads = r }
 
 pub lexes_word : {k c : ℕ} {s : Text} {p : Lexeme} {a b : Here} → s ≡ a.rest → IsLexeme s p b → Reads k c a b → Lexes k c a p b
 lexes_word {p = p} {b = b} e x r = record { lexeme = subst (λ s. IsLexeme s p b) e x; reads = r }
@@ -37,8 +32,8 @@ pub lexes_after : {k c d : ℕ} {p : Lexeme} {a b e : Here} → Reads k c a b �
 lexes_after {p = p} {e = e} r h x = record { lexeme = subst (λ s. IsLexeme s p e) h x.lexeme; reads = reads_then r x.reads }
 
 -- the fault of a string that begins at the place: the one in it, or one at its start
-pub found_in_role : {place : Position} {a : Here} (f g : Option Found) → Since place a → OnFound place.rest f a.rest → FindsAlso f place g → OnFound place.rest g a.rest
-found_in_role f g x on also = also _ _ on (record { before = ([], refl); following = x.before })
+pub found_in_phase : {place : Position} {a : Here} (f g : Option Found) → Since place a → OnFound place.rest f a.rest → FindsAlso f place g → OnFound place.rest g a.rest
+found_in_phase f g x on also = also _ _ on (record { before = ([], refl); following = x.before })
 
 or_right : (a b : Bool) → (a || b) ≡ true → a ≡ false → b ≡ true
 or_right true b x y = cc

@@ -12,7 +12,6 @@ use Rattle.kdl_diagnostics.specs.Internal.Noted.{Candidates, IsNotesOf, Keeps, L
 use Rattle.kdl_diagnostics.specs.Internal.Reading.{LiesIn, Reads, Stands}
 use Rattle.kdl_diagnostics.specs.declared.esclines.Candidate.{Candidate}
 use Rattle.kdl_diagnostics.specs.declared.lexemes.Lexeme.{Lexeme}
-use Rattle.kdl_diagnostics.specs.declared.notes.Block.{Block}
 use Rattle.kdl_diagnostics.specs.declared.notes.Fault.{Fault}
 use Rattle.kdl_diagnostics.specs.declared.notes.Notes.{Notes}
 use Rattle.kdl_diagnostics.specs.declared.reader.Reader.{Reader}
@@ -67,14 +66,11 @@ noted_same text old new e x = All-same (λ (f : Fault). InText text f.span) new 
 pub noted_more : (text : Text) (old new : List Fault) (f : Fault) → new ≡ old ++ (f ∷ []) → Noted text old → InText text f.span → Noted text new
 noted_more text old new f e x y = All-same (λ (f : Fault). InText text f.span) new (old ++ (f ∷ [])) e (All-push (λ (f : Fault). InText text f.span) old f x y)
 
-pub opened_same : (text : Text) (old new : List Block) → new ≡ old → Opened text old → Opened text new
-opened_same text old new e x = All-same (λ (b : Block). InText text b.span) new old e x
+pub opened_more : (text : Text) (old new : List (Option SourceSpan)) (b : Option SourceSpan) → new ≡ old ++ (b ∷ []) → Opened text old → IfSome b (InText text) → Opened text new
+opened_more text old new b e x y = All-same (λ (b : Option SourceSpan). IfSome b (InText text)) new (old ++ (b ∷ [])) e (All-push (λ (b : Option SourceSpan). IfSome b (InText text)) old b x y)
 
-pub opened_more : (text : Text) (old new : List Block) (b : Block) → new ≡ old ++ (b ∷ []) → Opened text old → InText text b.span → Opened text new
-opened_more text old new b e x y = All-same (λ (b : Block). InText text b.span) new (old ++ (b ∷ [])) e (All-push (λ (b : Block). InText text b.span) old b x y)
-
-pub opened_less : (text : Text) (old new : List Block) (r : Option Block) → old ≡ new ++ option_to_list r → Opened text old → Opened text new × IfSome r (λ (b : Block). InText text b.span)
-opened_less text old new r e x = All-pop (λ (b : Block). InText text b.span) old new r e x
+pub opened_less : (text : Text) (old new : List (Option SourceSpan)) (r : Option (Option SourceSpan)) → old ≡ new ++ option_to_list r → Opened text old → Opened text new × IfSome r (λ (b : Option SourceSpan). IfSome b (InText text))
+opened_less text old new r e x = All-pop (λ (b : Option SourceSpan). IfSome b (InText text)) old new r e x
 
 pub candidates_same : (text : Text) (old new : List Candidate) → new ≡ old → Candidates text old → Candidates text new
 candidates_same text old new e x = All-same (λ (c : Candidate). InText text c.fault.span) new old e x

@@ -18,7 +18,6 @@ use Rattle.kdl_text.proofs.Looking.SliceCost.{ate, moves_ran, costs_ran, costs_t
 use Rattle.kdl_text.proofs.Spacing.NewlineUnique.{newline_there}
 use Rattle.kdl_text.proofs.Spacing.SpaceReads.{moves_ate_two}
 use Rattle.kdl_diagnostics.specs.Internal.Reading.{EndsIn, GoesOn, IsEnd, LiesIn, OnFound, Passed, Reads, Since}
-use Rattle.kdl_diagnostics.specs.declared.ends.ValueEnd.{ValueEnd}
 use Rattle.kdl_diagnostics.specs.declared.strings.Found.{Found}
 
 -- an end of an end of a text
@@ -149,16 +148,16 @@ pub if_lies : (s t : Text) (o : Option Position) → (p : Text) × (s ≡ p ++ t
 if_lies s t None x y = tt
 if_lies s t (Some b) x y = after_then s t b.rest x y
 
-pub ends_in : (s t : Text) (e : ValueEnd) → (p : Text) × (s ≡ p ++ t) → EndsIn t e → EndsIn s e
-ends_in s t e x i = record { place = after_then s t e.place.rest x i.place; comment = if_lies s t e.comment x i.comment }
+pub ends_in : (s t : Text) (e : Position × Option Position) → (p : Text) × (s ≡ p ++ t) → EndsIn t e → EndsIn s e
+ends_in s t e x i = record { place = after_then s t e.0.rest x i.place; comment = if_lies s t e.1 x i.comment }
 
-pub end_from : {a b : Here} {e : ValueEnd} → Moves a b → IsEnd b e → IsEnd a e
+pub end_from : {a b : Here} {e : Position × Option Position} → Moves a b → IsEnd b e → IsEnd a e
 end_from m i = record { ends = ends_in _ _ _ m.piece i.ends; at = i.at ∙ m.at }
 
-pub end_here : {a b : Here} (e : ValueEnd) (place : Position) → e.place ≡ place → e.comment ≡ None → place.rest ≡ b.rest → place.at ≡ b.at → Moves a b → IsEnd a e
-end_here {a = a} {b = b} e place x y r t m = record {
-  ends = record { place = after_same a.rest b.rest e.place.rest m.piece (ap (λ z. z.rest) x ∙ r); comment = rw y tt };
-  at = omega (arith, ap (λ z. z.at) x, ap (λ z. bytes z.rest) x, ap bytes r, t, m.at);
+pub end_here : {a b : Here} (place : Position) → place.rest ≡ b.rest → place.at ≡ b.at → Moves a b → IsEnd a (place, None)
+end_here {a = a} {b = b} place r t m = record {
+  ends = record { place = after_same a.rest b.rest place.rest m.piece r; comment = tt };
+  at = omega (arith, ap bytes r, t, m.at);
 }
 
 -- a cursor at a place or after it

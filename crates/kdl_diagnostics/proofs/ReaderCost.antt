@@ -1,5 +1,5 @@
 -- What a reader of faults costs, and where its cursor goes.
-use Rattle.std.proofs.Common.{◌≡◌, ℕ, ◌+◌, ◌*◌, ◌<◌, ◌≤◌, List, [], ◌∷◌, length, refl, sym, ap, ◌∙◌, arith}
+use Rattle.std.proofs.Common.{◌≡◌, ℕ, ◌+◌, ◌*◌, ◌<◌, ◌≤◌, List, [], ◌∷◌, length, refl, sym, ap, subst, ◌∙◌, arith}
 use Rattle.std.specs.Str.{chars, IsUtf8}
 use Rattle.kdl_text.specs.Chars.{Text}
 use Rattle.kdl_text.specs.Internal.Here.{Here}
@@ -7,10 +7,11 @@ use Rattle.kdl_text.specs.Spans.{bytes}
 use Rattle.kdl_text.proofs.Looking.MovesJoin.{bytes-append, fewer_bytes, moves_then}
 use Rattle.kdl_text.proofs.Looking.Texts.{bytes-chars}
 use Rattle.kdl_diagnostics.specs.Internal.Noted.{Always, Counted, Goes, IsReaderOf, Keeps, ReadsIn, Takes}
-use Rattle.kdl_diagnostics.specs.Internal.Reading.{Reads, Stands}
+use Rattle.kdl_diagnostics.specs.Internal.Reading.{LiesIn, Reads, Stands}
 use Rattle.kdl_diagnostics.specs.declared.lexemes.Lexeme.{Lexeme}
 use Rattle.kdl_diagnostics.specs.declared.reader.Reader.{Reader}
 use Rattle.kdl_diagnostics.proofs.NotedSpans.{moved_here, stands_in}
+use Rattle.kdl_diagnostics.proofs.Passing.{reads_here, reads_more}
 
 -- a reader that goes on to the next lexeme, notes that, or a character further back
 next_counted : (a b : Here) → Reads 37 41 a b → Counted (124 * bytes a.rest + 99) a.steps b.steps
@@ -25,14 +26,22 @@ goes_next a b e r =
       counted = record { most = omega (arith, k.most); counts = k.counts };
     }
 
-pub goes_noted : {P : Text → Type 0} (a b : Reader) (p : Lexeme) → Stands a.cursor.rest p → Reads 37 41 a.cursor b.cursor → ((text : Text) → Stands text p → P text) → Keeps P a.notes b.notes → Goes Always (124 * bytes a.cursor.rest + 100) a b
-goes_noted a b p s r f k =
+pub goes_noted : {P : Text → Type 0} (a b : Reader) → Reads 37 41 a.cursor b.cursor → ((text : Text) → LiesIn text (record { rest = a.cursor.rest; at = a.cursor.at }) → P text) → Keeps P a.notes b.notes → Goes Always (124 * bytes a.cursor.rest + 100) a b
+goes_noted a b r f k =
     let n = next_counted a.cursor b.cursor r in
     record {
-      keeps = λ text x q. (record { here = moved_here x.here r.moves; notes = k.notes text x.notes (f text (stands_in text a.cursor.rest p x.here.piece s)) });
+      keeps = λ text x q. (record { here = moved_here x.here r.moves; notes = k.notes text x.notes (f text x.here.piece) });
       grows = k.grows;
       counted = record { most = omega (arith, n.most); counts = n.counts };
     }
+
+-- the reader notes what is missing here
+pub goes_here : {P : Text → Type 0} (a b : Reader) → b.cursor ≡ a.cursor → ((text : Text) → IsReaderOf text a → P text) → Keeps P a.notes b.notes → Goes Always 0 a b
+goes_here a b e f k = record {
+  keeps = λ text x q. (record { here = subst (ReadsIn text) (sym e) x.here; notes = k.notes text x.notes (f text x) });
+  grows = k.grows;
+  counted = record { most = omega (arith, ap (λ (z : Here). z.steps) e); counts = omega (arith, ap (λ (z : Here). z.steps) e) };
+}
 
 -- a fault that was noted, or is noted then
 pub had : {A : Type 0} (xs ys : List A) → (length xs ≡ 0 → 0 < length ys) → length xs ≤ length ys → 0 < length ys
@@ -52,23 +61,33 @@ turn_ends i r t = record {
   counts = omega (arith, i.moves.counts, r.moves.counts, t.moves.counts);
 }
 
--- the text of a reader, read again from its start
+-- a reader that reaches the end of the text
+pub goes_ended : {f a b c : Reader} → ((text : Text) → IsReaderOf text f → IsReaderOf text a) → length f.notes.faults.items ≤ length a.notes.faults.items → Reads 124 0 f.cursor a.cursor → b.notes ≡ a.notes → Reads 37 41 a.cursor b.cursor → Goes Always 0 b c → Goes Always (124 * bytes f.cursor.rest + 100) f c
+goes_ended i l r e n g =
+    let k = turn_ends r n (reads_more 24 (reads_here 24 _)) in
+    record {
+      keeps = λ text x p. g.keeps text (let y = i text x in record { here = moved_here y.here n.moves; notes = rw e y.notes }) p;
+      grows = omega (arith, l, ap (λ z. length z.faults.items) e, g.grows);
+      counted = record { most = omega (arith, k.most, g.counted.most); counts = omega (arith, k.counts, g.counted.counts) };
+    }
+
 pub goes_same : (n : ℕ) (a : Reader) → Goes Always n a a
 goes_same n a = record { keeps = λ text x p. x; grows = omega arith; counted = record { most = omega arith; counts = omega arith } }
 
-pub read_again : (a c : Reader) {here there : Here} → here ≡ record a.cursor { rest = a.notes.whole.rest; at = a.notes.whole.at } → Reads 4 1 here there → Keeps Always a.notes c.notes → c.cursor ≡ there → Goes Always (4 * (bytes a.notes.whole.rest + 1)) a c
-read_again a c {there = there} e r k f = record {
+-- the text of a reader, read again from its start
+pub read_again : (a c : Reader) {here : Here} → here ≡ record a.cursor { rest = a.notes.whole.rest; at = a.notes.whole.at } → Reads 4 1 here c.cursor → Keeps Always a.notes c.notes → Goes Always (4 * (bytes a.notes.whole.rest + 1)) a c
+read_again a c e r k = record {
   keeps = λ text x p. (record {
-    here = rw f (record {
+    here = record {
       piece = (r.moves.piece.0, sym x.notes.whole ∙ sym (ap (λ (z : Here). z.rest) e) ∙ r.moves.piece.1);
       same = r.moves.same ∙ ap (λ (z : Here). z.text) e ∙ x.here.same;
-    });
+    };
     notes = k.notes text x.notes p;
   });
   grows = k.grows;
   counted = record {
-    most = omega (arith, ap (λ (z : Here). z.steps) e, ap (λ (z : Here). bytes z.rest) e, r.most, ap (λ (z : Here). z.steps) f);
-    counts = omega (arith, ap (λ (z : Here). z.steps) e, r.moves.counts, ap (λ (z : Here). z.steps) f);
+    most = omega (arith, ap (λ (z : Here). z.steps) e, ap (λ (z : Here). bytes z.rest) e, r.most);
+    counts = omega (arith, ap (λ (z : Here). z.steps) e, r.moves.counts);
   };
 }
 

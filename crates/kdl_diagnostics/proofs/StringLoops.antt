@@ -57,11 +57,8 @@ found_from {place = place} s m i o = i.finds place.rest (after_then _ _ _ s.befo
 pub reads_from : {c n : ℕ} {place : Position} {a b : Here} → Since place a → Reads 5 c a b → c ≤ n → ReadsFrom 10 n place a b
 reads_from s r h = record { moves = r.moves; most = omega (arith, r.most, h, since_bytes s, fewer_bytes r.moves) }
 
-pub reads_back : {place : Position} {a b e : Here} → Since place a → Reads 5 3 a b → Returned (5 * (bytes place.rest - bytes b.rest) + 9) b e → ReadsFrom 10 12 place a e
+pub reads_back : {place : Position} {a b e : Here} → Since place a → Reads 5 5 a b → Returned (5 * (bytes place.rest - bytes b.rest) + 9) b e → ReadsFrom 10 14 place a e
 reads_back s r back = record { moves = moves_then r.moves (moves_returned back); most = omega (arith, r.most, since_bytes s, fewer_bytes r.moves, back.most, ap bytes back.rest) }
-
-pub reads_opened : {place : Position} {a b e : Here} → Reads 0 2 a b → ReadsFrom 10 12 place b e → ReadsFrom 10 14 place a e
-reads_opened o r = record { moves = moves_then o.moves r.moves; most = omega (arith, o.most, r.most) }
 
 -- a string that is read once more, in a segment of the text from the place on
 pub read_once_more : (s : Position) (a i o e : Here) (place : Position) (x : Text) → s.rest ≡ x ++ a.rest → i ≡ record a { rest = x; at = 0 } → Reads 4 9 i o → e ≡ record o { rest = place.rest; at = place.at }

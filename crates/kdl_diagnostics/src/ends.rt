@@ -9,26 +9,8 @@ use kdl_text::chars::{Class, is_newline_char, is_space};
 use kdl_text::cursor::{Checkpoint, Cursor, newline};
 use kdl_text::trivia::{block_comment, line_comment, spaces};
 
-/// The next value end.
-#[derive(Drop)]
-pub(crate) struct ValueEnd<'a> {
-    pub place: Checkpoint<'a>,
-    /// The start of an unclosed block comment, in what begins as an escline there. It ends with the text.
-    pub comment: Option<Checkpoint<'a>>,
-}
-
-impl<'a> ValueEnd<'a> {
-    /// Creates a value end at the place, with no comment.
-    pub(crate) fn at(place: Checkpoint<'a>) -> Self
-        ensures place { result.place ≡ place.entry }
-        ensures comment { result.comment ≡ None }
-    {
-        ValueEnd {
-            place,
-            comment: None,
-        }
-    }
-}
+/// A value end, and the start of an unclosed block comment in what begins as an escline there. It ends with the text.
+pub(crate) type ValueEnd<'a> = (Checkpoint<'a>, Option<Checkpoint<'a>>);
 
 /// Advances past spaces and block comments. If a comment is unclosed, returns its start; the cursor is then at the end
 /// of the text.
@@ -59,11 +41,6 @@ fn escline_end(cursor: &mut Cursor) -> bool
     newline(cursor) || cursor.look().is_none()
 }
 
-/// Whether the character c ends a value by itself, or is a space or the start of a newline.
-fn ends_value(c: char) -> bool {
-    matches!(c, '=' | ')' | '{' | '}' | ';') || is_space(c) || is_newline_char(c)
-}
-
 /// Whether a comment or a `/-` begins here.
 fn begins_slash_lexeme(cursor: &mut Cursor) -> bool
     ensures { Looked 6 cursor.old cursor.new }
@@ -78,7 +55,7 @@ fn ends_here(cursor: &mut Cursor, c: char) -> bool
     if c == '/' {
         return begins_slash_lexeme(cursor);
     }
-    ends_value(c)
+    matches!(c, '=' | ')' | '{' | '}' | ';') || is_space(c) || is_newline_char(c)
 }
 
 /// Whether a value end is here that is not a backslash.
@@ -105,15 +82,15 @@ pub(crate) fn end_at_backslash<'a>(cursor: &mut Cursor<'a>) -> Option<ValueEnd<'
     let place = cursor.checkpoint();
     let comment = ws_run(cursor);
     if comment.is_some() {
-        return Some(ValueEnd { place, comment });
+        return Some((place, comment));
     }
     if escline_end(cursor) {
-        return Some(ValueEnd::at(backslash));
+        return Some((backslash, None));
     }
     if cursor.at() == place.at() {
         return None;
     }
-    Some(ValueEnd::at(place))
+    Some((place, None))
 }
 
 /// Advances to the next value end. The cursor may also advance past an escline, or past spaces and comments, that begin
@@ -126,7 +103,7 @@ pub(crate) fn value_end<'a>(cursor: &mut Cursor<'a>) -> ValueEnd<'a>
         cursor.skip(Class::Identifier);
         let place = cursor.checkpoint();
         match cursor.look() {
-            None => return ValueEnd::at(place),
+            None => return (place, None),
             Some('\\') => {
                 if let Some(end) = end_at_backslash(cursor) {
                     return end;
@@ -135,7 +112,7 @@ pub(crate) fn value_end<'a>(cursor: &mut Cursor<'a>) -> ValueEnd<'a>
             }
             Some(c) => {
                 if ends_here(cursor, c) {
-                    return ValueEnd::at(place);
+                    return (place, None);
                 }
                 cursor.step();
             }

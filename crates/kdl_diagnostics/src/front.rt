@@ -1,7 +1,7 @@
 //! The part of a text before its first fault: the tokens that the control takes.
 
 ghost use Rattle.kdl_diagnostics.specs.Internal.Noted.{IsFrontOf, KeepsFrontBetween};
-ghost use Rattle.kdl_diagnostics.specs.Internal.Outsets.{GoesOver, IsNew, IsStopped, StopsAfter, text_view};
+ghost use Rattle.kdl_diagnostics.specs.Internal.Outsets.{GoesOver, IsNew, IsStopped, text_view};
 ghost use Rattle.kdl_diagnostics.specs.TextControl.{Accepts, Takes, text_start, text_step};
 ghost use Rattle.kdl_syntax.specs.Internal.Handed.{kind_view};
 ghost use Rattle.kdl_text.specs.Chars.{Text};
@@ -10,22 +10,12 @@ ghost use Rattle.kdl_text.specs.Spans.{bytes, raise};
 ghost use Rattle.std.specs.Prelude.{◌≡◌, ◌↔◌, ◌+◌, ◌*◌, ◌≤◌, false, true, IfOk, None, OnOk, Some, if◌then◌else◌};
 
 use crate::notes::Notes;
-use crate::text_control::{Outset, TextControl};
+use crate::state::Progress;
+use crate::text_control::TextControl;
 use crate::whole::Whole;
 use kdl_syntax::{LexFailure, Lexer, Phase, Token, TokenKind};
 use kdl_text::cursor::Checkpoint;
 use std::alloc::{AllocError, Global};
-
-/// Where the tokens of a front end.
-#[derive(Drop)]
-pub(crate) struct FrontEnd<'a> {
-    /// The place where they end.
-    pub place: Checkpoint<'a>,
-    /// The start of the string, number or keyword that ends there, or else that place.
-    pub from: Checkpoint<'a>,
-    /// What is known at that start.
-    pub before: Outset,
-}
 
 /// The part of a text up to a place: the tokens before it may come.
 #[derive(Drop)]
@@ -35,7 +25,12 @@ pub(crate) struct Prefix<'a> {
     pub control: TextControl,
     /// Whether the last `(` begins the type of a property's value.
     pub is_property: bool,
-    pub stop: FrontEnd<'a>,
+    /// The place where the tokens end.
+    pub place: Checkpoint<'a>,
+    /// The start of the string, number or keyword that ends there, or else that place.
+    pub from: Checkpoint<'a>,
+    /// What is known at that start.
+    pub before: Progress,
     /// Whether the tokens end with the text, which may end there.
     pub is_accepted: bool,
 }
@@ -51,35 +46,6 @@ fn skip_bom<'a>(whole: Whole, lexer: &mut Lexer<'a>)
     }
 }
 
-impl<'a> FrontEnd<'a> {
-    /// The stop at the place, before which no string, number or keyword ends. It is known what is here.
-    fn at(place: Checkpoint<'a>, here: Outset) -> Self
-        ensures place { result.place ≡ place.entry }
-        ensures from { result.from ≡ place.entry }
-        ensures before { result.before ≡ here }
-    {
-        FrontEnd {
-            from: place.copied(),
-            place,
-            before: here,
-        }
-    }
-
-    /// The stop after the token. It is known what is before and after it.
-    fn after(token: &Token<'a>, before: Outset, here: Outset) -> Self
-        ensures { StopsAfter token.now here result }
-    {
-        match token.kind {
-            TokenKind::String(_) | TokenKind::Value(_) => FrontEnd {
-                place: token.at.end.copied(),
-                from: token.at.start.copied(),
-                before,
-            },
-            _ => FrontEnd::at(token.at.end.copied(), here),
-        }
-    }
-}
-
 impl<'a> Prefix<'a> {
     /// Creates the empty part at the start of a text.
     pub(crate) fn new(alloc: Global, whole: Whole, start: Checkpoint<'a>) -> Self
@@ -88,13 +54,15 @@ impl<'a> Prefix<'a> {
         ensures whole { result.control.whole ≡ whole }
     {
         let control = TextControl::new(alloc, whole);
-        let stop = FrontEnd::at(start.copied(), control.outset());
+        let before = control.outset();
         Prefix {
             alloc,
+            place: start.copied(),
+            from: start.copied(),
             notes: Notes::new(alloc, start),
             control,
             is_property: false,
-            stop,
+            before,
             is_accepted: false,
         }
     }
@@ -110,7 +78,9 @@ impl<'a> Prefix<'a> {
         ensures counts { raise lexer.old.steps 0 ≤ raise lexer.new.steps 0 }
     {
         skip_bom(self.control.whole, lexer);
-        self.stop = FrontEnd::at(lexer.checkpoint(), self.control.outset());
+        self.place = lexer.checkpoint();
+        self.from = self.place.copied();
+        self.before = self.control.outset();
         'tokens: loop {
             let token = match lexer.next(self.alloc) {
                 Ok(Some(token)) => token,
@@ -142,12 +112,24 @@ impl<'a> Prefix<'a> {
         if !self.control.take(&token.kind)? {
             return Ok(false);
         }
-        self.notes.note_token(token)?;
+        self.notes
+            .note_token(&token.kind, &token.at.start, &token.at.end)?;
         self.is_property = match token.kind {
             TokenKind::Left => matches!(before.phase, Phase::Property),
             _ => self.is_property,
         };
-        self.stop = FrontEnd::after(token, before, self.control.outset());
-        Ok(true)
+        self.place = token.at.end.copied();
+        match token.kind {
+            TokenKind::String(_) | TokenKind::Value(_) => {
+                self.from = token.at.start.copied();
+                self.before = before;
+                Ok(true)
+            }
+            _ => {
+                self.from = token.at.end.copied();
+                self.before = self.control.outset();
+                Ok(true)
+            }
+        }
     }
 }

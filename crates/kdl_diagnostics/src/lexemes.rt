@@ -2,7 +2,7 @@
 //!
 //! Nothing is built: the reader finds where a string, a number or a keyword ends, and its fault.
 
-ghost use Rattle.kdl_diagnostics.specs.Internal.Reading.{EndsIn, FindsAlso, IsLexeme, Lexes, LiesIn, Passed, Past, Reads, ReadsFrom, Since, Stands, begins_sign};
+ghost use Rattle.kdl_diagnostics.specs.Internal.Reading.{EndsIn, FindsAlso, IsLexeme, IsNext, Lexes, LiesIn, Passed, Past, Reads, ReadsFrom, Since, Stands, begins_sign};
 ghost use Rattle.kdl_text.specs.Chars.{Text, begins, is_identifier_char, starts};
 ghost use Rattle.kdl_text.specs.Internal.Here.{IsPart, Returned, first};
 ghost use Rattle.kdl_text.specs.Spans.{bytes};
@@ -12,6 +12,7 @@ ghost use Rattle.std.specs.Prelude.{◌≡◌, ◌+◌, ◌-◌, ◌*◌, ◌≤
 use crate::ends::{ValueEnd, end_at_backslash, value_end};
 use crate::kind::Kind;
 use crate::strings::{Found, scan_string};
+use kdl_syntax::{Phase, TokenKind};
 use kdl_text::chars::{Class, is_identifier_char, is_newline_char, is_space};
 use kdl_text::cursor::{Checkpoint, Cursor, Segment, newline};
 use kdl_text::numbers::{
@@ -19,54 +20,14 @@ use kdl_text::numbers::{
 };
 use kdl_text::strings::bare_string;
 use kdl_text::trivia::{SlashRead, slash};
+use kdl_value::KdlValue;
 use std::alloc::{AllocError, Global};
-
-/// The kind of a lexeme.
-#[derive(Clone, Copy)]
-pub(crate) enum LexemeKind {
-    /// A run of spaces, an escline or a block comment, which may be unclosed.
-    Space,
-    /// A newline or a line comment.
-    Newline,
-    /// `/-`.
-    Slashdash,
-    /// A string, faulty or not.
-    String,
-    /// A number or a keyword, faulty or not.
-    Value,
-    /// `(`.
-    Left,
-    /// `)`.
-    Right,
-    /// `{`.
-    Opening,
-    /// `}`.
-    Closing,
-    /// `=`.
-    Equals,
-    /// `;`.
-    Semicolon,
-    /// A character with which no lexeme begins.
-    Other,
-    /// The end of the text.
-    End,
-}
-
-/// The role of a string at the place where a lexeme begins.
-#[derive(Clone, Copy)]
-pub(crate) enum StringRole {
-    /// A name, a key or a value, or a misplaced string outside a type. A fault in it is the string's.
-    Plain,
-    /// The name in a type. A fault in it is the type's.
-    TypeName,
-    /// A second item in a type. The type is faulty from the string's start on.
-    SecondItem,
-}
 
 /// A lexeme of a text.
 #[derive(Drop)]
 pub(crate) struct Lexeme<'a> {
-    pub kind: LexemeKind,
+    /// Its token, without a value; `None` if no token begins with the character.
+    pub token: Option<TokenKind>,
     /// Where it begins.
     pub start: Checkpoint<'a>,
     /// The next value end from its fault on, or the start of a lexeme that ends a value, or the place after a `(`.
@@ -85,42 +46,29 @@ pub(crate) struct Lexeme<'a> {
 
 impl<'a> Lexeme<'a> {
     /// Creates a lexeme without a fault, up to the end.
-    fn new(kind: LexemeKind, start: Checkpoint<'a>, end: ValueEnd<'a>) -> Self
+    fn new(token: Option<TokenKind>, start: Checkpoint<'a>, end: ValueEnd<'a>) -> Self
         requires { EndsIn start.rest end }
-        ensures stands { Stands start.entry.rest result }
-        ensures kind { result.kind ≡ kind }
+        ensures { Stands start.entry.rest result }
     {
+        let (end, comment) = end;
         Lexeme {
-            kind,
+            token,
             start,
-            end: end.place,
+            end,
             fault: None,
             backslash: None,
-            comment: end.comment,
+            comment,
             cut: false,
         }
     }
 }
 
 /// A lexeme that ends a value, or spaces.
-fn plain<'a>(kind: LexemeKind, start: Checkpoint<'a>) -> Lexeme<'a>
-    ensures stands { Stands start.entry.rest result }
-    ensures kind { result.kind ≡ kind }
+fn plain<'a>(token: TokenKind, start: Checkpoint<'a>) -> Lexeme<'a>
+    ensures { Stands start.entry.rest result }
 {
-    let end = ValueEnd::at(start.copied());
-    Lexeme::new(kind, start, end)
-}
-
-/// An unclosed block comment.
-fn unclosed<'a>(start: Checkpoint<'a>) -> Lexeme<'a>
-    ensures stands { Stands start.entry.rest result }
-    ensures kind { result.kind ≡ LexemeKind.Space }
-{
-    let end = ValueEnd {
-        place: start.copied(),
-        comment: Some(start.copied()),
-    };
-    Lexeme::new(LexemeKind::Space, start, end)
+    let end = (start.copied(), None);
+    Lexeme::new(Some(token), start, end)
 }
 
 /// Advances past a character with which no lexeme begins, and on to the next value end.
@@ -131,7 +79,7 @@ fn other<'a>(cursor: &mut Cursor<'a>) -> Lexeme<'a>
     let start = cursor.checkpoint();
     cursor.step();
     let end = value_end(cursor);
-    Lexeme::new(LexemeKind::Other, start, end)
+    Lexeme::new(None, start, end)
 }
 
 /// Advances past what begins with the slash here.
@@ -141,10 +89,13 @@ fn slash_lexeme<'a>(cursor: &mut Cursor<'a>) -> Lexeme<'a>
 {
     let start = cursor.checkpoint();
     match slash(cursor) {
-        SlashRead::Block => plain(LexemeKind::Space, start),
-        SlashRead::Line => plain(LexemeKind::Newline, start),
-        SlashRead::Dash => plain(LexemeKind::Slashdash, start),
-        SlashRead::Unclosed => unclosed(start),
+        SlashRead::Block => plain(TokenKind::Space, start),
+        SlashRead::Line => plain(TokenKind::Newline, start),
+        SlashRead::Dash => plain(TokenKind::Slashdash, start),
+        SlashRead::Unclosed => {
+            let end = (start.copied(), Some(start.copied()));
+            Lexeme::new(Some(TokenKind::Space), start, end)
+        }
         SlashRead::Other => other(cursor),
     }
 }
@@ -158,32 +109,31 @@ fn backslash_lexeme<'a>(cursor: &mut Cursor<'a>) -> Lexeme<'a>
     let start = cursor.checkpoint();
     let Some(end) = end_at_backslash(cursor) else {
         let end = value_end(cursor);
-        return Lexeme::new(LexemeKind::Other, start, end);
+        return Lexeme::new(None, start, end);
     };
-    if end.comment.is_some() || end.place.at() == start.at() {
-        return Lexeme::new(LexemeKind::Space, start, end);
+    if end.1.is_some() || end.0.at() == start.at() {
+        return Lexeme::new(Some(TokenKind::Space), start, end);
     }
-    Lexeme::new(LexemeKind::Other, start, end)
+    Lexeme::new(None, start, end)
 }
 
 /// A string, a number or a keyword that ends here. If no value end is here, that is its fault, unless it has another
 /// one already. A number out of range has that fault only if a value end is here.
 fn word<'a>(
     cursor: &mut Cursor<'a>,
-    kind: LexemeKind,
+    token: TokenKind,
     start: Checkpoint<'a>,
     fault: Option<Kind>,
     without_end: Kind,
 ) -> Lexeme<'a>
-    requires start { Past start cursor.old }
-    requires kind { kind ≡ LexemeKind.End → ⊥ }
+    requires { Past start cursor.old }
     ensures lexeme { IsLexeme start.entry.rest result cursor.new }
     ensures reads { Reads 24 12 cursor.old cursor.new }
 {
     let here = cursor.at();
     let end = value_end(cursor);
-    let is_ended = end.place.at() == here;
-    let mut lexeme = Lexeme::new(kind, start, end);
+    let is_ended = end.0.at() == here;
+    let mut lexeme = Lexeme::new(Some(token), start, end);
     lexeme.fault = match fault {
         None | Some(Kind::Number(NumberFault::OutOfRange)) if !is_ended => Some(without_end),
         fault => fault,
@@ -223,10 +173,10 @@ fn end_within<'a>(
     let here = cursor.enter(&from.up_to(&cursor.checkpoint()));
     let end = value_end(cursor);
     cursor.go_to(from);
-    let last = go_on(cursor, end.place.at());
+    let last = go_on(cursor, end.0.at());
     let place = cursor.checkpoint();
     cursor.go_to(&here);
-    (place, end.comment.is_some().then_some(last))
+    (place, end.1.is_some().then_some(last))
 }
 
 /// The end of a fault in a string: the value end in the string, or else the one after it. A string that looks like a
@@ -239,45 +189,42 @@ fn end_of_fault<'a>(
 ) -> Checkpoint<'a>
     ensures { (s : Text) → LiesIn s inside.entry → LiesIn s after.entry → LiesIn s end.entry → LiesIn s result }
 {
-    if let Kind::RawQuotes = kind {
-        return after;
-    }
-    if inside.at() < after.at() {
-        inside
-    } else {
-        end
+    match kind {
+        Kind::RawQuotes => after,
+        _ if inside.at() < after.at() => inside,
+        _ => end,
     }
 }
 
-/// The fault to report if this one was found in the string that begins at the place: in a type it is the type's.
-fn fault_in_role<'a>(
-    role: StringRole,
+/// The fault to report if this one was found in the string that begins at the place. The fault of a type's name is the
+/// type's. After the name the type is faulty from the string's start on.
+fn fault_in_phase<'a>(
+    phase: Phase,
     start: &Checkpoint<'a>,
     fault: Option<Found<'a>>,
 ) -> Option<Found<'a>>
     ensures { FindsAlso fault.entry start.now result }
 {
-    match role {
-        StringRole::Plain => fault,
-        StringRole::TypeName => {
-            let found = fault?;
-            Some(Found {
-                kind: Kind::Type,
-                place: found.place,
-                is_cut: found.is_cut,
-            })
-        }
-        StringRole::SecondItem => Some(Found {
-            kind: Kind::Type,
+    let kind = Kind::Type;
+    match phase {
+        Phase::TypeOpen(_) => Some(Found { kind, ..fault? }),
+        Phase::TypeName(_) => Some(Found {
+            kind,
             place: start.copied(),
             is_cut: matches!(&fault, Some(found) if found.is_cut),
         }),
+        _ => fault,
     }
 }
 
 /// A faulty string that the cursor has passed. Its fault ends at the next value end from the fault on, and the cursor
 /// advances to the value end after the string.
-fn faulty_string<'a>(cursor: &mut Cursor<'a>, start: Checkpoint<'a>, found: Found<'a>) -> Lexeme<'a>
+fn faulty_string<'a>(
+    token: TokenKind,
+    cursor: &mut Cursor<'a>,
+    start: Checkpoint<'a>,
+    found: Found<'a>,
+) -> Lexeme<'a>
     requires start { Past start cursor.old }
     requires found { Passed start.rest found.place cursor.old.rest }
     ensures lexeme { IsLexeme start.entry.rest result cursor.new }
@@ -285,13 +232,9 @@ fn faulty_string<'a>(cursor: &mut Cursor<'a>, start: Checkpoint<'a>, found: Foun
 {
     let (inside, backslash) = end_within(cursor, &found.place);
     let after = cursor.checkpoint();
-    let end = value_end(cursor);
-    let place = end_of_fault(found.kind, inside, after, end.place);
-    let end = ValueEnd {
-        place,
-        comment: end.comment,
-    };
-    let mut lexeme = Lexeme::new(LexemeKind::String, start, end);
+    let (end, comment) = value_end(cursor);
+    let end = end_of_fault(found.kind, inside, after, end);
+    let mut lexeme = Lexeme::new(Some(token), start, (end, comment));
     lexeme.fault = Some(found.kind);
     lexeme.backslash = backslash;
     lexeme.cut = found.is_cut;
@@ -304,7 +247,7 @@ fn string_lexeme<'a>(
     cursor: &mut Cursor<'a>,
     start: Checkpoint<'a>,
     signs: usize,
-    role: StringRole,
+    phase: Phase,
 ) -> Result<Lexeme<'a>, AllocError>
     requires quote { begins 34 cursor.old.rest ≡ true }
     requires start { Since start cursor.old }
@@ -312,10 +255,14 @@ fn string_lexeme<'a>(
     ensures reads { ReadsFrom 36 38 start.entry cursor.old cursor.new }
 {
     let found = scan_string(alloc, cursor, &start, signs)?;
-    match fault_in_role(role, &start, found) {
-        Some(found) => Ok(faulty_string(cursor, start, found)),
-        None if signs == 0 => Ok(word(cursor, LexemeKind::String, start, None, Kind::QuotedEnd)),
-        None => Ok(word(cursor, LexemeKind::String, start, None, Kind::RawEnd)),
+    let token = TokenKind::String(String::new(alloc));
+    let without_end = match signs {
+        0 => Kind::QuotedEnd,
+        _ => Kind::RawEnd,
+    };
+    match fault_in_phase(phase, &start, found) {
+        Some(found) => Ok(faulty_string(token, cursor, start, found)),
+        None => Ok(word(cursor, token, start, None, without_end)),
     }
 }
 
@@ -369,17 +316,12 @@ fn number_lexeme<'a>(alloc: Global, cursor: &mut Cursor<'a>) -> Result<Lexeme<'a
     let number = start.up_to(&cursor.checkpoint());
     let (fault, without_end) = number_fault(alloc, cursor, &number)?;
     let fault = fault.map(Kind::Number);
-    Ok(word(
-        cursor,
-        LexemeKind::Value,
-        start,
-        fault,
-        Kind::Number(without_end),
-    ))
+    let token = TokenKind::Value(KdlValue::Null);
+    Ok(word(cursor, token, start, fault, Kind::Number(without_end)))
 }
 
 /// Advances past the identifier characters here, which are not a number.
-fn bare_lexeme<'a>(cursor: &mut Cursor<'a>) -> Lexeme<'a>
+fn bare_lexeme<'a>(alloc: Global, cursor: &mut Cursor<'a>) -> Lexeme<'a>
     requires { starts is_identifier_char cursor.old.rest ≡ true }
     ensures { Lexes 24 16 cursor.old result cursor.new }
 {
@@ -388,7 +330,8 @@ fn bare_lexeme<'a>(cursor: &mut Cursor<'a>) -> Lexeme<'a>
         Some(_) => None,
         None => Some(Kind::Bare),
     };
-    word(cursor, LexemeKind::String, start, fault, Kind::BareEnd)
+    let token = TokenKind::String(String::new(alloc));
+    word(cursor, token, start, fault, Kind::BareEnd)
 }
 
 /// The fault of a keyword, by its number signs and all identifier characters after them.
@@ -409,7 +352,7 @@ fn keyword_fault<'a>(cursor: &mut Cursor<'a>, word: &Segment<'a>) -> Option<Kind
 fn sign_lexeme<'a>(
     alloc: Global,
     cursor: &mut Cursor<'a>,
-    role: StringRole,
+    phase: Phase,
 ) -> Result<Lexeme<'a>, AllocError>
     requires { starts begins_sign cursor.old.rest ≡ true }
     ensures lexeme { IfOk result (λ p. IsLexeme cursor.old.rest p cursor.new) }
@@ -419,24 +362,23 @@ fn sign_lexeme<'a>(
     cursor.skip(Class::NumberSign);
     let signs = cursor.at() - start.at();
     if cursor.look() == Some('"') {
-        return string_lexeme(alloc, cursor, start, signs, role);
+        return string_lexeme(alloc, cursor, start, signs, phase);
     }
     cursor.skip(Class::Identifier);
     let text = start.up_to(&cursor.checkpoint());
     let fault = keyword_fault(cursor, &text);
-    Ok(word(cursor, LexemeKind::Value, start, fault, Kind::Keyword))
+    let token = TokenKind::Value(KdlValue::Null);
+    Ok(word(cursor, token, start, fault, Kind::Keyword))
 }
 
-/// The kind of a lexeme that is only this character.
-fn sign_kind(c: char) -> Option<LexemeKind>
-    ensures { IfSome result (λ k. k ≡ LexemeKind.End → ⊥) }
-{
+/// The token that is only this character, and neither a `(` nor a newline.
+fn sign_token(c: char) -> Option<TokenKind> {
     match c {
-        ')' => Some(LexemeKind::Right),
-        '{' => Some(LexemeKind::Opening),
-        '}' => Some(LexemeKind::Closing),
-        '=' => Some(LexemeKind::Equals),
-        ';' => Some(LexemeKind::Semicolon),
+        ')' => Some(TokenKind::Right),
+        '{' => Some(TokenKind::Opening),
+        '}' => Some(TokenKind::Closing),
+        '=' => Some(TokenKind::Equals),
+        ';' => Some(TokenKind::Semicolon),
         _ => None,
     }
 }
@@ -450,48 +392,49 @@ fn plain_lexeme<'a>(c: char, cursor: &mut Cursor<'a>) -> Lexeme<'a>
     let start = cursor.checkpoint();
     if is_space(c) {
         cursor.skip(Class::Space);
-        return plain(LexemeKind::Space, start);
+        return plain(TokenKind::Space, start);
     }
     if is_newline_char(c) {
         let _ = newline(cursor);
-        return plain(LexemeKind::Newline, start);
+        return plain(TokenKind::Newline, start);
     }
     if c == '(' {
         cursor.step();
-        let end = ValueEnd::at(cursor.checkpoint());
-        return Lexeme::new(LexemeKind::Left, start, end);
+        let end = (cursor.checkpoint(), None);
+        return Lexeme::new(Some(TokenKind::Left), start, end);
     }
-    match sign_kind(c) {
-        Some(kind) => {
+    match sign_token(c) {
+        Some(token) => {
             cursor.step();
-            plain(kind, start)
+            plain(token, start)
         }
         None => other(cursor),
     }
 }
 
 /// Returns the lexeme here and advances past it, and perhaps past spaces after a string, number or keyword. If that is
-/// faulty, the cursor advances to the next value end. A string here has the given role.
+/// faulty, the cursor advances to the next value end. Returns `None` at the end of the text. The phase says whether a
+/// string is in a type.
 pub(crate) fn next_lexeme<'a>(
     alloc: Global,
     cursor: &mut Cursor<'a>,
-    role: StringRole,
-) -> Result<Lexeme<'a>, AllocError>
-    ensures lexeme { IfOk result (λ p. IsLexeme cursor.old.rest p cursor.new) }
+    phase: Phase,
+) -> Result<Option<Lexeme<'a>>, AllocError>
+    ensures lexeme { IfOk result (λ o. IsNext cursor.old.rest o cursor.new) }
     ensures reads { Reads 37 41 cursor.old cursor.new }
 {
     match cursor.look() {
-        None => Ok(plain(LexemeKind::End, cursor.checkpoint())),
-        Some('"' | '#') => sign_lexeme(alloc, cursor, role),
-        Some('/') => Ok(slash_lexeme(cursor)),
-        Some('\\') => Ok(backslash_lexeme(cursor)),
+        None => Ok(None),
+        Some('"' | '#') => Ok(Some(sign_lexeme(alloc, cursor, phase)?)),
+        Some('/') => Ok(Some(slash_lexeme(cursor))),
+        Some('\\') => Ok(Some(backslash_lexeme(cursor))),
         Some(c) if is_identifier_char(c) => {
             if begins_number(cursor) {
-                number_lexeme(alloc, cursor)
+                Ok(Some(number_lexeme(alloc, cursor)?))
             } else {
-                Ok(bare_lexeme(cursor))
+                Ok(Some(bare_lexeme(alloc, cursor)))
             }
         }
-        Some(c) => Ok(plain_lexeme(c, cursor)),
+        Some(c) => Ok(Some(plain_lexeme(c, cursor))),
     }
 }

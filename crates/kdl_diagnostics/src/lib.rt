@@ -10,7 +10,6 @@ mod esclines;
 mod front;
 mod kind;
 mod lexemes;
-mod machine;
 mod notes;
 mod reader;
 mod state;

@@ -1,23 +1,21 @@
 //! The reader of faults: it reads a refused text, and notes each fault.
 
 ghost use Rattle.kdl_diagnostics.specs.Internal.Noted.{Always, Counted, Goes, HasFault, IsFrontOf, IsReader, IsReaderOf, ReadsIn, Takes};
-ghost use Rattle.kdl_diagnostics.specs.Internal.Outsets.{BeginsAt, IsReady, IsReadyAt, IsStopped, Lacking};
-ghost use Rattle.kdl_diagnostics.specs.declared.machine.Context.TheVariants.{FaultyType};
+ghost use Rattle.kdl_diagnostics.specs.Internal.Outsets.{BeginsAt, IsReady, IsStopped, Lacking};
 ghost use Rattle.kdl_text.specs.Chars.{Text};
 ghost use Rattle.kdl_text.specs.Spans.{bytes};
-ghost use Rattle.std.specs.Prelude.{◌≡◌, ◌+◌, ◌*◌, length, None, IfOk, IsSome};
+ghost use Rattle.std.specs.Prelude.{◌≡◌, ◌+◌, ◌*◌, length, None, IfOk};
 ghost use Rattle.std.specs.Str.{chars};
 
 use crate::ends::is_value_end;
-use crate::esclines::esclines;
+use crate::esclines::settle_all;
 use crate::front::Prefix;
 use crate::kind::Kind;
-use crate::lexemes::{Lexeme, LexemeKind, StringRole, next_lexeme};
-use crate::machine::is_due;
-use crate::notes::{Fault, Notes};
-use crate::state::Progress;
-use crate::text_control::Outset;
+use crate::lexemes::{Lexeme, next_lexeme};
+use crate::notes::Notes;
+use crate::state::{Context, Progress, is_due};
 use crate::whole::Whole;
+use kdl_syntax::{Control, Phase, TokenKind};
 use kdl_text::cursor::{Cursor, Steps};
 use std::alloc::{AllocError, Global};
 
@@ -25,9 +23,10 @@ use std::alloc::{AllocError, Global};
 #[derive(Drop)]
 pub(crate) struct Reader<'a> {
     alloc: Global,
-    cursor: Cursor<'a>,
+    pub cursor: Cursor<'a>,
+    control: Control,
     state: Progress,
-    notes: Notes<'a>,
+    pub notes: Notes<'a>,
     /// Whether the text ended in a string or a comment.
     is_cut: bool,
     /// Whether reading has ended before the end of the text.
@@ -36,18 +35,18 @@ pub(crate) struct Reader<'a> {
 
 /// Goes to the end of the front if a value end is there, and else to the string, number or keyword that ends there. An
 /// identifier is read again from its start. Returns what is known there.
-fn begin<'a>(cursor: &mut Cursor<'a>, front: &Prefix<'a>) -> Outset
+fn begin<'a>(cursor: &mut Cursor<'a>, front: &Prefix<'a>) -> Progress
     requires { IsFrontOf cursor.old.text front.now }
     ensures begins { BeginsAt front.now result cursor.new }
     ensures here { ReadsIn cursor.old.text cursor.new }
     ensures counted { Counted 7 cursor.old.steps cursor.new.steps }
 {
-    cursor.go_to(&front.stop.place);
+    cursor.go_to(&front.place);
     if is_value_end(cursor) && !matches!(front.control.whole, Whole::Identifier) {
         return front.control.outset();
     }
-    cursor.go_to(&front.stop.from);
-    front.stop.before
+    cursor.go_to(&front.from);
+    front.before
 }
 
 impl<'a> Reader<'a> {
@@ -59,34 +58,18 @@ impl<'a> Reader<'a> {
         ensures counted { Counted 7 steps result.cursor.steps }
     {
         let mut cursor = Cursor::new(text, steps);
-        let outset = begin(&mut cursor, &front);
-        let Prefix {
-            alloc,
-            notes,
-            control,
-            is_property,
-            ..
-        } = front;
-        let mut state = Progress::new(alloc, control.whole, control.node.control, outset);
-        state.is_property = is_property;
+        let mut state = begin(&mut cursor, &front);
+        state.whole = front.control.whole;
+        state.is_property = front.is_property;
         Reader {
-            alloc,
+            alloc: front.alloc,
             cursor,
+            control: front.control.node.control,
             state,
-            notes,
+            notes: front.notes,
             is_cut: false,
             is_over: false,
         }
-    }
-
-    /// The faults that were noted, and the count of steps.
-    pub(crate) fn into_parts(self) -> (Vec<Fault>, Steps)
-        ensures faults { result.0 ≡ self.entry.notes.faults }
-        ensures steps { result.1 ≡ self.entry.cursor.steps }
-    {
-        let Reader { cursor, notes, .. } = self;
-        let Notes { faults, .. } = notes;
-        (faults, cursor.into_steps())
     }
 
     /// Takes a lexeme that does not fit, and notes that. What was expected counts as read; then the lexeme ends or begins
@@ -95,90 +78,77 @@ impl<'a> Reader<'a> {
         ensures takes { Takes lexeme.now self.old self.new }
         ensures noted { IfOk result (λ _. HasFault self.new.notes) }
     {
-        let kind = self.state.misfit(lexeme.kind, &self.notes);
+        let kind = self.state.misfit(&lexeme.token, &self.notes);
         self.notes.note_misfit(&mut self.cursor, kind, lexeme)?;
         self.is_over = self.is_over || self.state.is_last(kind);
         self.notes.note_left(lexeme);
-        if self.state.skip(lexeme.kind) && !self.is_over {
-            return self.state.go_on(&mut self.notes, lexeme);
-        }
-        Ok(())
-    }
-
-    /// Takes the end of the text: what is expected is missing, and open blocks are unclosed, the innermost first.
-    fn end(&mut self, lexeme: &Lexeme<'a>) -> Result<(), AllocError>
-        ensures takes { Takes lexeme.now self.old self.new }
-        ensures noted { IfOk result (λ _. Lacking self.old → HasFault self.new.notes) }
-    {
-        if self.is_cut {
+        self.state.skip(lexeme);
+        if self.is_over {
             return Ok(());
         }
-        if is_due(self.state.control.phase()) {
-            let kind = self.state.misfit(lexeme.kind, &self.notes);
-            return self.notes.note_misfit(&mut self.cursor, kind, lexeme);
-        }
-        if let Some(kind) = self.state.missing(&self.notes) {
-            return self.notes.note_at(kind, &lexeme.start);
-        }
-        self.notes.note_blocks()
+        self.state.go_on(&mut self.control, &mut self.notes, lexeme)
     }
 
-    /// Takes a lexeme of the grammar, whether it fits or not.
+    /// Takes a lexeme, whether it fits or not, without a comment that is unclosed. The first one is refused. A string in
+    /// a type that is faulty already has no fault of its own.
     fn take_part(&mut self, lexeme: &Lexeme<'a>) -> Result<(), AllocError>
         ensures takes { Takes lexeme.now self.old self.new }
-        ensures noted { IfOk result (λ _. (self.old.state.context ≡ FaultyType → ⊥) → IsSome lexeme.now.fault → HasFault self.new.notes) }
+        ensures noted { length self.old.notes.faults.items ≡ 0 → IfOk result (λ _. lexeme.now.comment ≡ None → HasFault self.new.notes) }
     {
-        let step = self.state.move_of(lexeme);
-        let context = self.state.context;
-        self.state.begin(lexeme.kind, &self.notes);
-        if self.state.apply(&mut self.notes, lexeme, step)? {
-            self.notes.note_own(lexeme, context)
-        } else {
-            self.mend(lexeme)
+        let is_first = self.notes.faults.is_empty();
+        if matches!(lexeme.token, Some(TokenKind::Space))
+            && (!is_first || lexeme.comment.is_some())
+        {
+            return Ok(());
         }
-    }
-
-    /// Takes the first lexeme, which has a fault, or else does not fit.
-    fn refuse(&mut self, lexeme: &Lexeme<'a>) -> Result<(), AllocError>
-        ensures takes { Takes lexeme.now self.old self.new }
-        ensures noted { IfOk result (λ _. IsReadyAt lexeme.now self.old → lexeme.now.comment ≡ None → HasFault self.new.notes) }
-    {
-        match lexeme.kind {
-            LexemeKind::Space if lexeme.comment.is_some() => Ok(()),
-            LexemeKind::End => self.end(lexeme),
-            _ if lexeme.fault.is_some() => self.take_part(lexeme),
-            _ => {
-                self.state.begin(lexeme.kind, &self.notes);
-                self.mend(lexeme)
-            }
+        let is_in_type = !is_first && matches!(self.state.context, Context::FaultyType);
+        let is_refused = is_first && lexeme.fault.is_none() || self.state.refuses(lexeme);
+        self.state.begin(lexeme, &self.notes);
+        if is_refused {
+            return self.mend(lexeme);
         }
-    }
-
-    /// Takes a lexeme, without a comment that is unclosed. The first one is refused.
-    fn take_one(&mut self, lexeme: &Lexeme<'a>) -> Result<(), AllocError>
-        ensures takes { Takes lexeme.now self.old self.new }
-        ensures noted { length self.old.notes.faults.items ≡ 0 → IfOk result (λ _. IsReadyAt lexeme.now self.old → lexeme.now.comment ≡ None → HasFault self.new.notes) }
-    {
-        if self.notes.faults.len() == 0 {
-            return self.refuse(lexeme);
+        if !self.state.take(&mut self.control, &mut self.notes, lexeme)? {
+            return self.mend(lexeme);
         }
-        match lexeme.kind {
-            LexemeKind::Space => Ok(()),
-            LexemeKind::End => self.end(lexeme),
-            _ => self.take_part(lexeme),
+        match lexeme.fault {
+            Some(kind) if !is_in_type => self.notes.note_from(kind, &lexeme.start, lexeme),
+            _ => Ok(()),
         }
     }
 
     /// Takes a lexeme, and its unclosed comment.
     fn take(&mut self, lexeme: &Lexeme<'a>) -> Result<(), AllocError>
         ensures takes { Takes lexeme.now self.old self.new }
-        ensures noted { length self.old.notes.faults.items ≡ 0 → IfOk result (λ _. IsReadyAt lexeme.now self.old → HasFault self.new.notes) }
+        ensures noted { length self.old.notes.faults.items ≡ 0 → IfOk result (λ _. HasFault self.new.notes) }
     {
-        self.take_one(lexeme)?;
-        self.state.is_apart = matches!(lexeme.kind, LexemeKind::Space);
+        self.take_part(lexeme)?;
+        self.state.is_apart = matches!(lexeme.token, Some(TokenKind::Space));
         self.is_cut = self.is_cut || lexeme.cut || lexeme.comment.is_some();
+        let Some(comment) = &lexeme.comment else {
+            return Ok(());
+        };
         let end = self.cursor.checkpoint();
-        self.notes.note_comment(lexeme, &end)
+        self.notes.note(Kind::Comment, comment, &end)
+    }
+
+    /// Takes the end of the text: what is expected is missing, and open blocks are unclosed, the innermost first.
+    fn end(&mut self) -> Result<(), AllocError>
+        ensures goes { Goes Always 0 self.old self.new }
+        ensures noted { IfOk result (λ _. Lacking self.old → HasFault self.new.notes) }
+    {
+        if self.is_cut {
+            return Ok(());
+        }
+        let here = self.cursor.checkpoint();
+        if is_due(self.state.phase) {
+            let kind = self.state.misfit(&None, &self.notes);
+            let from = self.notes.start_of(kind, &here);
+            return self.notes.note(kind, &from, &here);
+        }
+        if let Some(kind) = self.state.missing(&self.notes) {
+            return self.notes.note(kind, &here, &here);
+        }
+        self.notes.note_blocks()
     }
 
     /// Notes the fault of a text that is read as an identifier.
@@ -186,12 +156,18 @@ impl<'a> Reader<'a> {
         ensures goes { Goes Always (124 * bytes self.old.cursor.rest + 100) self.old self.new }
         ensures noted { IfOk result (λ _. HasFault self.new.notes) }
     {
-        let lexeme = next_lexeme(self.alloc, &mut self.cursor, StringRole::Plain)?;
-        match (lexeme.kind, lexeme.fault) {
-            (LexemeKind::String, Some(kind)) => self.notes.note_from(kind, &lexeme.start, &lexeme),
-            (LexemeKind::String, None) => self.notes.note_at(Kind::Misplaced, &lexeme.end),
-            _ => self.notes.note_at(Kind::Misplaced, &lexeme.start),
+        let start = self.cursor.checkpoint();
+        let lexeme = match next_lexeme(self.alloc, &mut self.cursor, Phase::Gap)? {
+            Some(lexeme) => lexeme,
+            None => return self.notes.note(Kind::Misplaced, &start, &start),
+        };
+        if !matches!(lexeme.token, Some(TokenKind::String(_))) {
+            return self.notes.note(Kind::Misplaced, &start, &start);
         }
+        if let Some(kind) = lexeme.fault {
+            return self.notes.note_from(kind, &start, &lexeme);
+        }
+        self.notes.note(Kind::Misplaced, &lexeme.end, &lexeme.end)
     }
 
     /// Notes the faults of the text, as if no candidate began an escline.
@@ -203,32 +179,16 @@ impl<'a> Reader<'a> {
             return self.read_identifier();
         }
         'lexemes: loop {
-            let role = self.state.string_role();
-            let lexeme = next_lexeme(self.alloc, &mut self.cursor, role)?;
+            let lexeme = match next_lexeme(self.alloc, &mut self.cursor, self.state.phase)? {
+                Some(lexeme) => lexeme,
+                None => return self.end(),
+            };
             self.take(&lexeme)?;
+            drop(lexeme);
             if self.is_over {
                 return Ok(());
             }
-            if let LexemeKind::End = lexeme.kind {
-                return Ok(());
-            }
         }
-    }
-
-    /// Ends the faults of all candidates that begin an escline at their backslashes.
-    fn settle_all(&mut self) -> Result<(), AllocError>
-        requires { IsReader self.old }
-        ensures { Goes Always (4 * (bytes self.old.notes.whole.rest + 1)) self.old self.new }
-    {
-        if self.notes.candidates.is_empty() {
-            return Ok(());
-        }
-        self.cursor.go_to(&self.notes.whole);
-        let found = esclines(self.alloc, &mut self.cursor, &self.notes.candidates)?;
-        for candidate in &found {
-            self.notes.settle(*candidate);
-        }
-        Ok(())
     }
 
     /// Notes the faults of the text.
@@ -238,6 +198,10 @@ impl<'a> Reader<'a> {
         ensures noted { IfOk result (λ _. IsReady self.old → HasFault self.new.notes) }
     {
         self.read()?;
-        self.settle_all()
+        if self.notes.candidates.is_empty() {
+            return Ok(());
+        }
+        self.cursor.go_to(&self.notes.whole);
+        settle_all(self.alloc, &mut self.cursor, &mut self.notes)
     }
 }

@@ -1,29 +1,42 @@
 //! Where a reader of faults is in the grammar, and what a lexeme does there.
+//!
+//! Which token may come where is up to the `Control`. If a lexeme does not fit, what was expected counts as read, and
+//! the control continues from there.
 
 ghost use Rattle.kdl_diagnostics.specs.Internal.Noted.{Keeps, Lexed};
 ghost use Rattle.kdl_diagnostics.specs.Internal.Outsets.{IsSingle};
-ghost use Rattle.kdl_diagnostics.specs.declared.machine.Context.TheVariants.{FaultyType};
-ghost use Rattle.std.specs.Prelude.{◌≡◌, ◌+◌, ◌<◌, false, length, None};
+ghost use Rattle.kdl_syntax.specs.Control.{at, finish};
+ghost use Rattle.kdl_syntax.specs.Internal.Views.{phase_view};
+ghost use Rattle.std.specs.Prelude.{◌≡◌, ◌+◌, ◌<◌, [], false, length, None, if◌then◌else◌, true};
 
 use crate::kind::Kind;
-use crate::lexemes::{Lexeme, LexemeKind, StringRole};
-use crate::machine::{
-    Context, LexemeMove, after_misfit, in_node, is_before_entry, is_dropping, token_kind,
-};
+use crate::lexemes::Lexeme;
 use crate::notes::Notes;
-use crate::text_control::Outset;
 use crate::whole::Whole;
-use kdl_syntax::{Control, Owner, Phase, TokenKind};
-use std::alloc::{AllocError, Global};
+use kdl_syntax::{Control, Owner, Phase, Spot, TokenKind, Word};
+use std::alloc::AllocError;
+
+/// A place in a text with faults.
+#[derive(Clone, Copy)]
+pub(crate) enum Context {
+    /// Where the control is.
+    Control,
+    /// In a faulty type.
+    FaultyType,
+    /// After a faulty type: what it belongs to may follow.
+    Typeless,
+    /// After the only node or entry of a text: only line-spaces may follow.
+    Over,
+}
 
 /// Where a reader of faults is.
-#[derive(Drop)]
+#[derive(Clone, Copy)]
 pub(crate) struct Progress {
-    alloc: Global,
     /// What the text is read as.
     pub whole: Whole,
-    /// The phase of the grammar. Spaces count as read after each lexeme.
-    pub control: Control,
+    /// The phase of the grammar. Spaces count as read after each lexeme. In and after a faulty type, and after the only
+    /// node or entry, it is after the name or an entry of the node.
+    pub phase: Phase,
     pub context: Context,
     /// Whether the last `(` begins the type of a property's value.
     pub is_property: bool,
@@ -31,114 +44,112 @@ pub(crate) struct Progress {
     pub has_item: bool,
     /// Whether an entry was slashdashed.
     pub has_dropped: bool,
-    /// Whether the last lexeme that was read is a space.
+    /// Whether a space is directly before the place.
     pub is_apart: bool,
 }
 
-/// Whether the lexeme begins a node or an entry.
-fn begins_item(kind: LexemeKind) -> bool {
+/// The phase in a node, after the name or an entry and spaces.
+pub(crate) fn in_node() -> Phase {
+    Phase::InNode(Spot::Spaced(Word::NoKey))
+}
+
+/// Whether something is expected in the phase, so that the text may not end here.
+pub(crate) fn is_due(phase: Phase) -> bool
+    ensures { finish (at (phase_view phase) []) ≡ (if result then false else true) }
+{
+    !matches!(phase, Phase::Gap | Phase::InNode(_) | Phase::Kept)
+}
+
+/// Whether an entry or a block is slashdashed here.
+pub(crate) fn is_dropping(phase: Phase) -> bool {
     matches!(
-        kind,
-        LexemeKind::String | LexemeKind::Value | LexemeKind::Left | LexemeKind::Opening
+        phase,
+        Phase::EntrySlashdash | Phase::BlockSlashdash | Phase::KeptSlashdash
     )
 }
 
-/// Whether the lexeme ends a node, an entry or a block, or begins a block or what a `/-` drops.
-fn goes_on(kind: LexemeKind) -> bool {
-    matches!(
-        kind,
-        LexemeKind::Newline
-            | LexemeKind::Semicolon
-            | LexemeKind::Closing
-            | LexemeKind::Opening
-            | LexemeKind::Slashdash
-    )
+/// The phase after a `(` that does not fit in the phase: in its type if it may be one, and else in a node.
+fn after_left(phase: Phase) -> Phase {
+    match phase {
+        Phase::TypeDone(_) | Phase::InNode(Spot::Later) => Phase::TypeOpen(Owner::Value),
+        _ if is_dropping(phase) => Phase::TypeOpen(Owner::Value),
+        Phase::Kept => Phase::TypeOpen(Owner::Name),
+        _ => in_node(),
+    }
+}
+
+/// The phase after a string that does not fit in the phase.
+fn after_string(phase: Phase) -> Phase {
+    match phase {
+        Phase::KeptSlashdash => Phase::Kept,
+        Phase::InNode(Spot::Later) | Phase::EntrySlashdash | Phase::BlockSlashdash | Phase::Kept =>
+            { Phase::InNode(Spot::Spaced(Word::MayBeKey)) }
+        _ => in_node(),
+    }
 }
 
 impl Progress {
-    /// Creates the state at an outset.
-    pub(crate) fn new(alloc: Global, whole: Whole, control: Control, outset: Outset) -> Self
-        ensures whole { result.whole ≡ whole }
-        ensures phase { result.control.phase ≡ outset.phase }
-        ensures item { result.has_item ≡ outset.has_item }
-        ensures context { result.context ≡ FaultyType → ⊥ }
+    /// The place in a phase.
+    pub(crate) fn new(whole: Whole, phase: Phase, has_item: bool) -> Self
+        ensures phase { result.phase ≡ phase }
+        ensures item { result.has_item ≡ has_item }
     {
-        let mut control = control;
-        control.go_to(outset.phase);
         Progress {
-            alloc,
             whole,
-            control,
-            context: if outset.is_over {
-                Context::Over
-            } else {
-                Context::Control
-            },
+            phase,
+            context: Context::Control,
             is_property: false,
-            has_item: outset.has_item,
-            has_dropped: outset.has_dropped,
-            is_apart: outset.is_apart,
+            has_item,
+            has_dropped: false,
+            is_apart: false,
+        }
+    }
+
+    /// Whether an entry may begin here, or its key or value is directly before, as far as the control knows.
+    fn is_before_entry(&self) -> bool {
+        match (self.context, self.phase) {
+            (Context::Control, Phase::InNode(spot)) => !matches!(spot, Spot::Later),
+            _ => false,
         }
     }
 
     /// Whether the place is after an entry, or before the first one, in the text of an entry.
     fn is_between_entries(&self) -> bool {
-        match self.context {
-            Context::Control => is_before_entry(self.control.phase()),
-            Context::Typeless => true,
-            Context::FaultyType | Context::Over => false,
+        match (self.whole, self.context) {
+            (Whole::Entry, Context::Typeless) => true,
+            (Whole::Entry, _) => self.is_before_entry(),
+            _ => false,
         }
     }
 
-    /// Whether an entry may begin here, as far as the control knows.
-    fn is_before_entry(&self) -> bool {
-        matches!(self.context, Context::Control) && is_before_entry(self.control.phase())
-    }
-
-    /// What the lexeme does in the text of an entry, where a space follows each slashdashed entry.
-    fn move_in_entry(&self, kind: LexemeKind) -> LexemeMove {
-        match kind {
-            LexemeKind::Opening | LexemeKind::Closing | LexemeKind::Semicolon => LexemeMove::Refuse,
-            LexemeKind::Slashdash if self.has_dropped && !self.is_apart => LexemeMove::Refuse,
-            LexemeKind::Newline if self.is_between_entries() => {
-                if self.has_item {
-                    LexemeMove::To(Context::Over)
-                } else if self.has_dropped {
-                    LexemeMove::Refuse
-                } else {
-                    LexemeMove::To(Context::Control)
-                }
+    /// Whether the lexeme does not fit, though its token may: a faulty string is not the name of a type, and the text
+    /// of an entry has neither blocks nor a second entry. There a space follows each slashdashed entry.
+    pub(crate) fn refuses(&self, lexeme: &Lexeme) -> bool {
+        match (self.whole, &lexeme.token) {
+            _ if lexeme.fault.is_some() && matches!(self.phase, Phase::TypeOpen(_)) => true,
+            (Whole::Entry, Some(TokenKind::Opening | TokenKind::Closing | TokenKind::Semicolon)) =>
+                { true }
+            (Whole::Entry, Some(TokenKind::Slashdash)) if self.has_dropped && !self.is_apart =>
+                true,
+            (Whole::Entry, Some(TokenKind::Newline)) => {
+                self.is_between_entries() && self.has_dropped && !self.has_item
             }
-            LexemeKind::Equals => self.context.takes(kind),
-            _ if self.has_item && self.is_before_entry() => LexemeMove::Refuse,
-            _ => self.context.takes(kind),
+            (Whole::Entry, Some(TokenKind::Equals)) => false,
+            (Whole::Entry, _) => self.has_item && self.is_before_entry(),
+            _ => false,
         }
-    }
-
-    /// What the lexeme does. A faulty string is not the name of a type.
-    pub(crate) fn move_of(&self, lexeme: &Lexeme) -> LexemeMove {
-        if lexeme.fault.is_some()
-            && let StringRole::TypeName = self.string_role()
-        {
-            return LexemeMove::Refuse;
-        }
-        match self.whole {
-            Whole::Entry => self.move_in_entry(lexeme.kind),
-            _ => self.context.takes(lexeme.kind),
-        }
-    }
-
-    /// The role of a string here.
-    pub(crate) fn string_role(&self) -> StringRole {
-        self.context.string_role(self.control.phase())
     }
 
     /// Notes that the only node or entry of a text, or a slashdashed entry, begins with the lexeme.
-    pub(crate) fn begin(&mut self, kind: LexemeKind, notes: &Notes) {
-        if !begins_item(kind) || !notes.blocks.is_empty() {
+    pub(crate) fn begin(&mut self, lexeme: &Lexeme, notes: &Notes) {
+        let Some(
+            TokenKind::String(_) | TokenKind::Value(_) | TokenKind::Left | TokenKind::Opening,
+        ) = lexeme.token
+        else {
             return;
-        }
-        match (self.whole, self.control.phase()) {
+        };
+        match (self.whole, self.phase) {
+            _ if !notes.blocks.is_empty() => {}
             (Whole::Node, Phase::Gap) => self.has_item = true,
             (Whole::Entry, _) if self.is_before_entry() => self.has_item = true,
             (Whole::Entry, phase) if is_dropping(phase) => self.has_dropped = true,
@@ -146,76 +157,97 @@ impl Progress {
         }
     }
 
-    /// Continues in the context, at the phase.
-    fn go_to(&mut self, context: Context, phase: Phase) {
-        self.context = context;
-        self.control.go_to(phase);
-    }
-
     /// After the only node of a text only line-spaces may follow.
     fn end_node(&mut self, notes: &Notes) {
-        if let (Whole::Node, Phase::Gap) = (self.whole, self.control.phase())
+        if let (Whole::Node, Phase::Gap) = (self.whole, self.phase)
             && self.has_item
             && notes.blocks.is_empty()
         {
-            self.go_to(Context::Over, in_node());
+            self.context = Context::Over;
+            self.phase = in_node();
         }
     }
 
     /// Takes the token of the lexeme if it may come here, and returns whether it may.
     fn take_token<'a>(
         &mut self,
+        control: &mut Control,
         notes: &mut Notes<'a>,
         lexeme: &Lexeme<'a>,
     ) -> Result<bool, AllocError>
         ensures { Keeps (Lexed lexeme.now) notes.old notes.new }
     {
-        let Some(kind) = token_kind(self.alloc, lexeme.kind) else {
+        let Some(token) = &lexeme.token else {
             return Ok(false);
         };
-        let phase = self.control.phase();
-        if !self.control.take(&kind)? {
+        control.go_to(self.phase);
+        if !control.take(token)? {
             return Ok(false);
         }
-        let _ = self.control.take(&TokenKind::Space)?;
-        self.context = Context::Control;
-        self.is_property = match lexeme.kind {
-            LexemeKind::Left => matches!(phase, Phase::Property),
+        self.is_property = match token {
+            TokenKind::Left => matches!(self.phase, Phase::Property),
             _ => self.is_property,
         };
-        notes.note_block(lexeme)?;
+        self.context = Context::Control;
+        self.phase = control.phase().spaced();
+        notes.note_token(token, &lexeme.start, &lexeme.end)?;
         self.end_node(notes);
         Ok(true)
     }
 
-    /// Does what the move says if the lexeme fits, and returns whether it fits.
-    pub(crate) fn apply<'a>(
+    /// Takes the lexeme if it fits, and returns whether it does. A faulty type goes up to its `)`, or to what opens or
+    /// ends a block or ends the node. After it a string is no key.
+    pub(crate) fn take<'a>(
         &mut self,
+        control: &mut Control,
         notes: &mut Notes<'a>,
         lexeme: &Lexeme<'a>,
-        step: LexemeMove,
     ) -> Result<bool, AllocError>
         ensures { Keeps (Lexed lexeme.now) notes.old notes.new }
     {
-        match step {
-            LexemeMove::To(context) => {
-                self.go_to(context, in_node());
-                Ok(true)
+        match (self.context, &lexeme.token) {
+            (Context::Over, token) => return Ok(matches!(token, Some(TokenKind::Newline))),
+            (_, Some(TokenKind::Newline)) if self.is_between_entries() => {
+                self.context = if self.has_item {
+                    Context::Over
+                } else {
+                    Context::Control
+                };
+                self.phase = in_node();
+                return Ok(true);
             }
-            LexemeMove::Take => self.take_token(notes, lexeme),
-            LexemeMove::Refuse => Ok(false),
+            (Context::FaultyType, Some(TokenKind::Right)) => {
+                self.context = Context::Typeless;
+                return Ok(true);
+            }
+            (
+                Context::FaultyType,
+                Some(
+                    TokenKind::Opening
+                    | TokenKind::Newline
+                    | TokenKind::Semicolon
+                    | TokenKind::Closing,
+                ),
+            ) => {}
+            (Context::FaultyType, _) => return Ok(true),
+            (Context::Typeless, Some(TokenKind::String(_))) => {
+                self.phase = Phase::TypeDone(Owner::Value);
+            }
+            _ => {}
         }
+        self.take_token(control, notes, lexeme)
     }
 
     /// The fault of a lexeme that does not fit here: where a name is expected, a `{` opens a block without one, and a
     /// `}` outside blocks is misplaced.
-    pub(crate) fn misfit(&self, kind: LexemeKind, notes: &Notes) -> Kind {
-        match (self.control.phase(), kind) {
-            (Phase::Gap | Phase::NodeSlashdash | Phase::TypeDone(Owner::Name), kind) => match kind {
-                LexemeKind::Opening => Kind::Nameless,
-                LexemeKind::Closing if notes.blocks.is_empty() => Kind::Misplaced,
-                _ => Kind::Name,
-            },
+    pub(crate) fn misfit(&self, token: &Option<TokenKind>, notes: &Notes) -> Kind {
+        match (self.phase, token) {
+            (Phase::Gap | Phase::NodeSlashdash | Phase::TypeDone(Owner::Name), token) =>
+                match token {
+                    Some(TokenKind::Opening) => Kind::Nameless,
+                    Some(TokenKind::Closing) if notes.blocks.is_empty() => Kind::Misplaced,
+                    _ => Kind::Name,
+                },
             (Phase::Property, _) => Kind::Value,
             (Phase::TypeDone(Owner::Value), _) if self.is_property => Kind::Value,
             (Phase::TypeOpen(_) | Phase::TypeName(_), _) => Kind::Type,
@@ -232,31 +264,51 @@ impl Progress {
         }
     }
 
-    /// Goes past a lexeme that does not fit: what was expected counts as read. Returns whether the lexeme ends or begins
-    /// a node, a block or what a `/-` drops.
-    pub(crate) fn skip(&mut self, kind: LexemeKind) -> bool {
-        let (context, phase) = after_misfit(self.control.phase(), kind);
-        self.go_to(context, phase);
+    /// Goes past a lexeme that does not fit: what was expected counts as read.
+    pub(crate) fn skip(&mut self, lexeme: &Lexeme) {
         self.is_property = false;
-        goes_on(kind)
+        (self.context, self.phase) = match (self.phase, &lexeme.token) {
+            (Phase::TypeOpen(_), Some(TokenKind::Right)) => (Context::Typeless, in_node()),
+            (Phase::TypeOpen(_) | Phase::TypeName(_), _) => (Context::FaultyType, in_node()),
+            (phase, Some(TokenKind::Left)) => (Context::Control, after_left(phase)),
+            (phase, Some(TokenKind::String(_))) => (Context::Control, after_string(phase)),
+            (Phase::KeptSlashdash, Some(TokenKind::Value(_))) => (Context::Control, Phase::Kept),
+            _ => (Context::Control, in_node()),
+        };
     }
 
-    /// After a lexeme that does not fit, which ends or begins a node, a block or what a `/-` drops: it does so. A `}`
+    /// After a lexeme that does not fit: if it ends or begins a node, a block or what a `/-` drops, it does so. A `}`
     /// outside blocks ends a node.
     pub(crate) fn go_on<'a>(
         &mut self,
+        control: &mut Control,
         notes: &mut Notes<'a>,
         lexeme: &Lexeme<'a>,
     ) -> Result<(), AllocError>
         ensures { Keeps (Lexed lexeme.now) notes.old notes.new }
     {
-        let step = self.move_of(lexeme);
-        let is_taken = self.apply(notes, lexeme, step)?;
-        match (step, lexeme.kind) {
-            (LexemeMove::Take, LexemeKind::Opening) if is_taken => notes.tell_block(),
-            (LexemeMove::Take, _) if !is_taken => {
-                self.go_to(Context::Control, Phase::Gap);
-                self.end_node(notes);
+        let Some(
+            TokenKind::Newline
+            | TokenKind::Semicolon
+            | TokenKind::Closing
+            | TokenKind::Opening
+            | TokenKind::Slashdash,
+        ) = lexeme.token
+        else {
+            return Ok(());
+        };
+        if self.refuses(lexeme) {
+            return Ok(());
+        }
+        if !self.take(control, notes, lexeme)? {
+            self.context = Context::Control;
+            self.phase = Phase::Gap;
+            self.end_node(notes);
+            return Ok(());
+        }
+        match lexeme.token {
+            Some(TokenKind::Opening) => {
+                notes.tell_block();
                 Ok(())
             }
             _ => Ok(()),

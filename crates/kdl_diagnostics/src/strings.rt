@@ -21,15 +21,6 @@ pub(crate) struct Found<'a> {
     pub is_cut: bool,
 }
 
-/// How a string is written.
-#[derive(Clone, Copy)]
-struct Style {
-    /// The number signs of a raw string, or 0 for a quoted string.
-    signs: usize,
-    /// Whether it is on several lines.
-    has_lines: bool,
-}
-
 /// The fault that was found already, if there is one, or else this one.
 fn earlier<'a>(found: Option<Found<'a>>, kind: Kind, place: Checkpoint<'a>) -> Found<'a>
     ensures { FindsAlso found.entry place.entry (Some result) }
@@ -58,83 +49,31 @@ fn eat_signs(cursor: &mut Cursor, most: usize) -> bool
     true
 }
 
-/// Advances past the quotes here. Returns whether there are at least three, with `signs` number signs after them.
-fn closes_lines(cursor: &mut Cursor, signs: usize) -> bool
+/// Advances past a quote here, and what may follow it. Returns whether that closes a string with `signs` number signs and
+/// `quotes` quotes at each end.
+fn closes(cursor: &mut Cursor, signs: usize, quotes: usize) -> bool
     requires { begins 34 cursor.old.rest ≡ true }
     ensures { GoesOn 3 cursor.old cursor.new }
 {
-    let start = cursor.at();
-    cursor.skip(Class::Quote);
-    cursor.at() - start >= 3 && eat_signs(cursor, signs)
-}
-
-impl Style {
-    /// The characters that represent themselves in the string.
-    fn class(self) -> Class {
-        match self.signs {
-            0 => Class::Literal,
-            _ => Class::Unquoted,
-        }
+    if quotes > 1 && signs > 0 {
+        let start = cursor.at();
+        cursor.skip(Class::Quote);
+        return cursor.at() - start >= quotes && eat_signs(cursor, signs);
     }
-
-    /// The fault of a string that is unclosed, or has a character that it can't have.
-    fn fault(self) -> Kind {
-        match self.signs {
-            0 => Kind::Quoted,
-            _ => Kind::Raw,
-        }
-    }
-
-    /// The fault of a newline in a string on one line.
-    fn newline_fault(self) -> Kind {
-        match self.signs {
-            0 => Kind::QuotedNewline,
-            _ => Kind::Raw,
-        }
-    }
-
-    /// The kind of a fault in the lines of the string.
-    fn lines_fault(self, fault: StringFault) -> Kind {
-        match (self.signs, fault) {
-            (0, StringFault::NoPrefix) => Kind::Prefix,
-            _ => self.fault(),
-        }
-    }
-
-    /// Advances past a quote here, and what may follow it. Returns whether that closes the string.
-    fn closes(self, cursor: &mut Cursor) -> bool
-        requires { begins 34 cursor.old.rest ≡ true }
-        ensures { GoesOn 3 cursor.old cursor.new }
-    {
-        if self.has_lines && self.signs > 0 {
-            return closes_lines(cursor, self.signs);
-        }
-        cursor.step();
-        if self.has_lines {
-            cursor.eat_two('"', '"')
-        } else {
-            eat_signs(cursor, self.signs)
-        }
-    }
-
-    /// Reads a string without faults in its units, for the faults in its lines.
-    fn read(self, alloc: Global, cursor: &mut Cursor) -> Result<String, StringFailure>
-        ensures { Reads 4 9 cursor.old cursor.new }
-    {
-        match self.signs {
-            0 => quoted_string(alloc, cursor),
-            _ => raw_string(alloc, cursor),
-        }
-    }
-}
-
-/// Advances past a backslash and what belongs to it. Returns whether it is an escape.
-fn escape(cursor: &mut Cursor) -> bool
-    requires { begins 92 cursor.old.rest ≡ true }
-    ensures { GoesOn 3 cursor.old cursor.new }
-{
     cursor.step();
-    escaped_unit(cursor).is_ok()
+    if quotes > 1 {
+        cursor.eat_two('"', '"')
+    } else {
+        eat_signs(cursor, signs)
+    }
+}
+
+/// The fault of a string that is unclosed, or has a character that it can't have.
+fn fault_of(signs: usize) -> Kind {
+    match signs {
+        0 => Kind::Quoted,
+        _ => Kind::Raw,
+    }
 }
 
 /// Advances past a character that does not represent itself in a string: past an escape, or past a character that can't
@@ -150,44 +89,68 @@ fn odd_unit<'a>(
     ensures went { bytes cursor.new.rest < bytes cursor.old.rest }
 {
     let place = cursor.checkpoint();
-    if c == '\\' {
-        if escape(cursor) {
-            return found;
-        }
-    } else {
-        cursor.step();
+    cursor.step();
+    if c == '\\' && escaped_unit(cursor).is_ok() {
+        return found;
     }
     Some(earlier(found, kind, place))
 }
 
 /// After its opening quotes: advances past a string, to a newline that it can't have, or to the end of the text. Its
 /// fault is the one that was found already, or else the first one here.
-fn units<'a>(cursor: &mut Cursor<'a>, style: Style, found: Option<Found<'a>>) -> Option<Found<'a>>
+fn units<'a>(
+    cursor: &mut Cursor<'a>,
+    signs: usize,
+    quotes: usize,
+    found: Option<Found<'a>>,
+) -> Option<Found<'a>>
     ensures { FindsOn 5 2 found.entry cursor.old result cursor.new }
 {
+    let (class, newline_fault) = match signs {
+        0 => (Class::Literal, Kind::QuotedNewline),
+        _ => (Class::Unquoted, Kind::Raw),
+    };
     let mut found = found;
     'units: loop {
-        cursor.skip(style.class());
+        cursor.skip(class);
         let place = cursor.checkpoint();
         match cursor.look() {
             None => {
-                let mut found = earlier(found, style.fault(), place);
+                let mut found = earlier(found, fault_of(signs), place);
                 found.is_cut = true;
                 return Some(found);
             }
             Some('"') => {
-                if style.closes(cursor) {
+                if closes(cursor, signs, quotes) {
                     return found;
                 }
             }
             Some(c) if is_newline_char(c) => {
-                if !style.has_lines {
-                    return Some(earlier(found, style.newline_fault(), place));
+                if quotes == 1 {
+                    return Some(earlier(found, newline_fault, place));
                 }
                 let _ = newline(cursor);
             }
-            Some(c) => found = odd_unit(cursor, c, style.fault(), found),
+            Some(c) => found = odd_unit(cursor, c, fault_of(signs), found),
         }
+    }
+}
+
+/// The kind of a fault in the lines of a string.
+fn lines_fault(signs: usize, fault: StringFault) -> Kind {
+    match (signs, fault) {
+        (0, StringFault::NoPrefix) => Kind::Prefix,
+        _ => fault_of(signs),
+    }
+}
+
+/// Reads a string without faults in its units, for the faults in its lines.
+fn read_string(alloc: Global, cursor: &mut Cursor, signs: usize) -> Result<String, StringFailure>
+    ensures { Reads 4 9 cursor.old cursor.new }
+{
+    match signs {
+        0 => quoted_string(alloc, cursor),
+        _ => raw_string(alloc, cursor),
     }
 }
 
@@ -196,19 +159,19 @@ fn fault_of_lines<'a>(
     alloc: Global,
     cursor: &mut Cursor<'a>,
     start: &Checkpoint<'a>,
-    style: Style,
+    signs: usize,
 ) -> Result<Option<Found<'a>>, AllocError>
     requires { Since start.now cursor.old }
     ensures fault { IfOk result (λ f. OnFound start.now.rest f cursor.new.rest) }
     ensures back { Returned (5 * (bytes start.now.rest - bytes cursor.old.rest) + 9) cursor.old cursor.new }
 {
     let place = cursor.enter(&start.up_to(&cursor.checkpoint()));
-    let answer = style.read(alloc, cursor);
+    let answer = read_string(alloc, cursor, signs);
     cursor.go_to(&place);
     match answer {
         Ok(_) => Ok(None),
         Err(StringFailure::Fault(fault)) => Ok(Some(Found {
-            kind: style.lines_fault(fault),
+            kind: lines_fault(signs, fault),
             place,
             is_cut: false,
         })),
@@ -221,49 +184,16 @@ fn fault_of_lines<'a>(
 fn raw_quotes<'a>(cursor: &mut Cursor<'a>, signs: usize) -> Found<'a>
     ensures { FindsOn 5 3 None cursor.old (Some result) cursor.new }
 {
-    let has_lines = false;
     if eat_signs(cursor, signs) {
         return earlier(None, Kind::RawQuotes, cursor.checkpoint());
     }
-    let found = units(cursor, Style { signs, has_lines }, None);
+    let found = units(cursor, signs, 1, None);
     earlier(found, Kind::RawQuotes, cursor.checkpoint())
 }
 
-/// After the three quotes of a string that begins at the place: advances past it. A quoted string is faulty if no
-/// newline follows the quotes, and a raw one is then on one line.
-fn scan_lines<'a>(
-    alloc: Global,
-    cursor: &mut Cursor<'a>,
-    start: &Checkpoint<'a>,
-    signs: usize,
-) -> Result<Option<Found<'a>>, AllocError>
-    requires { Since start.now cursor.old }
-    ensures fault { IfOk result (λ f. OnFound start.now.rest f cursor.new.rest) }
-    ensures reads { ReadsFrom 10 12 start.now cursor.old cursor.new }
-{
-    let has_lines = true;
-    let style = Style { signs, has_lines };
-    let place = cursor.checkpoint();
-    if newline(cursor) {
-        let found = units(cursor, style, None);
-        if found.is_some() {
-            return Ok(found);
-        }
-        return fault_of_lines(alloc, cursor, start, style);
-    }
-    if signs > 0 {
-        return Ok(Some(raw_quotes(cursor, signs)));
-    }
-    let opening = Found {
-        kind: Kind::Opening,
-        place,
-        is_cut: false,
-    };
-    Ok(units(cursor, style, Some(opening)))
-}
-
 /// Advances past the string that begins at the place, and returns its first fault. Its opening quote is here, after the
-/// number signs of a raw string.
+/// number signs of a raw string. With three quotes and no newline after them, a quoted string is faulty, and a raw one is
+/// on one line.
 pub(crate) fn scan_string<'a>(
     alloc: Global,
     cursor: &mut Cursor<'a>,
@@ -277,9 +207,20 @@ pub(crate) fn scan_string<'a>(
     ensures went { bytes cursor.new.rest < bytes cursor.old.rest }
 {
     cursor.step();
-    if cursor.eat_two('"', '"') {
-        return scan_lines(alloc, cursor, start, signs);
+    if !cursor.eat_two('"', '"') {
+        return Ok(units(cursor, signs, 1, None));
     }
-    let has_lines = false;
-    Ok(units(cursor, Style { signs, has_lines }, None))
+    let place = cursor.checkpoint();
+    if newline(cursor) {
+        let found = units(cursor, signs, 3, None);
+        if found.is_some() {
+            return Ok(found);
+        }
+        return fault_of_lines(alloc, cursor, start, signs);
+    }
+    if signs > 0 {
+        return Ok(Some(raw_quotes(cursor, signs)));
+    }
+    let opening = earlier(None, Kind::Opening, place);
+    Ok(units(cursor, signs, 3, Some(opening)))
 }

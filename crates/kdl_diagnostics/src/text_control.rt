@@ -4,82 +4,31 @@ ghost use Rattle.kdl_syntax.specs.EntryControl.{entry_finish};
 ghost use Rattle.kdl_syntax.specs.Internal.EntryViews.{entry_view};
 ghost use Rattle.kdl_diagnostics.specs.Internal.Outsets.{LacksAt, depth, text_view};
 ghost use Rattle.kdl_diagnostics.specs.TextControl.{text_finish, text_start, text_step};
-ghost use Rattle.kdl_diagnostics.specs.declared.whole.Whole.TheVariants.{Entry, Identifier, Node};
+ghost use Rattle.kdl_diagnostics.specs.declared.whole.Whole.TheVariants.{Entry};
 ghost use Rattle.kdl_syntax.specs.Internal.Handed.{kind_view};
 ghost use Rattle.std.specs.Prelude.{◌≡◌, false, IfOk, None, Some, if◌then◌else◌};
 
-use crate::machine::{in_node, is_dropping, is_due};
+use crate::state::{Context, Progress, in_node, is_dropping, is_due};
 use crate::whole::Whole;
 use kdl_syntax::{EntryControl, NodeControl, Owner, Phase, Spot, TokenKind, Word};
 use std::alloc::{AllocError, Global};
 
-/// What the reader of faults knows of a place that the control has reached.
-#[derive(Clone, Copy)]
-pub(crate) struct Outset {
-    /// The phase of the grammar.
-    pub phase: Phase,
-    /// Whether the only node of the text has ended, so that only line-spaces may follow.
-    pub is_over: bool,
-    /// Whether the only node or entry of the text has begun.
-    pub has_item: bool,
-    /// Whether an entry was slashdashed.
-    pub has_dropped: bool,
-    /// Whether a space is directly before the place.
-    pub is_apart: bool,
-}
-
-impl Outset {
-    /// The place in a phase, where no item has begun.
-    fn in_phase(phase: Phase) -> Self
-        ensures phase { result.phase ≡ phase }
-        ensures item { result.has_item ≡ false }
-    {
-        Outset {
-            phase,
-            is_over: false,
-            has_item: false,
-            has_dropped: false,
-            is_apart: false,
-        }
-    }
-
-    /// The place in a phase, in or after the entry.
-    fn in_entry(phase: Phase) -> Self
-        ensures { result.phase ≡ phase }
-    {
-        Outset {
-            phase,
-            is_over: false,
-            has_item: true,
-            has_dropped: false,
-            is_apart: false,
-        }
-    }
-}
-
-/// Whether a slashdashed entry is under way, or ends directly before.
-fn is_slashdashed(control: EntryControl) -> bool {
-    match control {
-        EntryControl::Dropping(phase) => !is_dropping(phase),
-        _ => false,
-    }
-}
-
 /// The place in the text of an entry, as far as the control knows it.
-fn place_in_entry(control: EntryControl) -> Outset
+fn place_in_entry(control: EntryControl) -> Progress
     ensures { entry_finish (entry_view control) ≡ false → LacksAt Entry 0 result }
 {
-    match control {
-        EntryControl::Ahead => Outset::in_phase(in_node()),
+    let (phase, has_item) = match control {
+        EntryControl::Ahead => (in_node(), false),
         EntryControl::Dropping(Phase::InNode(Spot::Fresh(word))) => {
-            Outset::in_phase(Phase::InNode(Spot::Spaced(word)))
+            (Phase::InNode(Spot::Spaced(word)), false)
         }
         // Up to its value, something is due in the entry.
-        EntryControl::Under(phase) if is_due(phase) => Outset::in_entry(phase),
-        EntryControl::Dropping(phase) | EntryControl::Under(phase) => Outset::in_phase(phase),
-        EntryControl::Word => Outset::in_entry(Phase::InNode(Spot::Spaced(Word::MayBeKey))),
-        EntryControl::Done => Outset::in_entry(in_node()),
-    }
+        EntryControl::Under(phase) => (phase, is_due(phase)),
+        EntryControl::Dropping(phase) => (phase, false),
+        EntryControl::Word => (Phase::InNode(Spot::Spaced(Word::MayBeKey)), true),
+        EntryControl::Done => (in_node(), true),
+    };
+    Progress::new(Whole::Entry, phase, has_item)
 }
 
 /// Which token may come where in a text.
@@ -127,99 +76,55 @@ impl TextControl {
         }
     }
 
-    /// Takes a token in the text of an entry, and returns whether it may come here.
-    fn take_in_entry(&mut self, kind: &TokenKind) -> bool
-        requires { self.old.whole ≡ Entry }
-        ensures took { text_step (text_view self.old) (kind_view kind.now) ≡
-            (if result then Some (text_view self.new) else None) }
-        ensures whole { self.new.whole ≡ self.old.whole }
-    {
-        match self.entry.after(kind) {
-            Some(entry) => {
-                self.entry = entry;
-                self.has_dropped = self.has_dropped || is_slashdashed(entry);
-                self.is_apart = matches!(kind, TokenKind::Space);
-                true
-            }
-            None => false,
-        }
-    }
-
-    /// Takes a token in the text of an identifier, and returns whether it may come here.
-    fn take_in_identifier(&mut self, kind: &TokenKind) -> bool
-        requires { self.old.whole ≡ Identifier }
-        ensures took { text_step (text_view self.old) (kind_view kind.now) ≡
-            (if result then Some (text_view self.new) else None) }
-        ensures whole { self.new.whole ≡ self.old.whole }
-    {
-        match kind {
-            TokenKind::String(_) if !self.has_string => {
-                self.has_string = true;
-                true
-            }
-            _ => false,
-        }
-    }
-
     /// Takes a token, and returns whether it may come here.
     pub(crate) fn take(&mut self, kind: &TokenKind) -> Result<bool, AllocError>
         ensures took { IfOk result (λ b. text_step (text_view self.old) (kind_view kind.now) ≡
             (if b then Some (text_view self.new) else None)) }
         ensures whole { self.new.whole ≡ self.old.whole }
     {
-        match self.whole {
-            Whole::Document => self.node.control.take(kind),
-            Whole::Node => self.node.take(kind),
-            Whole::Entry => Ok(self.take_in_entry(kind)),
-            Whole::Identifier => Ok(self.take_in_identifier(kind)),
+        match (self.whole, kind) {
+            (Whole::Document, _) => self.node.control.take(kind),
+            (Whole::Node, _) => self.node.take(kind),
+            (Whole::Entry, _) => {
+                let Some(entry) = self.entry.after(kind) else {
+                    return Ok(false);
+                };
+                self.entry = entry;
+                if let EntryControl::Dropping(phase) = entry
+                    && !is_dropping(phase)
+                {
+                    self.has_dropped = true;
+                }
+                self.is_apart = matches!(kind, TokenKind::Space);
+                Ok(true)
+            }
+            (Whole::Identifier, TokenKind::String(_)) if !self.has_string => {
+                self.has_string = true;
+                Ok(true)
+            }
+            (Whole::Identifier, _) => Ok(false),
         }
-    }
-
-    /// The place in the text of a node: after the node, only line-spaces may follow.
-    fn outset_in_node(&self) -> Outset
-        requires { self.now.whole ≡ Node }
-        ensures { text_finish (text_view self.now) ≡ false
-            → LacksAt self.now.whole (depth (text_view self.now)) result }
-    {
-        let has_item = self.node.begun;
-        let is_over = has_item && self.node.control.is_between_nodes();
-        let phase = if is_over {
-            in_node()
-        } else {
-            self.node.control.phase()
-        };
-        Outset {
-            phase,
-            is_over,
-            has_item,
-            has_dropped: false,
-            is_apart: false,
-        }
-    }
-
-    /// The place in the text of an entry.
-    fn outset_in_entry(&self) -> Outset
-        requires { self.now.whole ≡ Entry }
-        ensures { text_finish (text_view self.now) ≡ false
-            → LacksAt self.now.whole (depth (text_view self.now)) result }
-    {
-        let mut outset = place_in_entry(self.entry);
-        outset.has_dropped = self.has_dropped;
-        outset.is_apart = self.is_apart;
-        outset
     }
 
     /// What the reader of faults knows here. If the text ends here and may not, something is missing.
-    pub(crate) fn outset(&self) -> Outset
+    pub(crate) fn outset(&self) -> Progress
         ensures { text_finish (text_view self.now) ≡ false
             → LacksAt self.now.whole (depth (text_view self.now)) result }
     {
+        let phase = self.node.control.phase();
         match self.whole {
-            Whole::Document => Outset::in_phase(self.node.control.phase()),
-            Whole::Node => self.outset_in_node(),
-            Whole::Entry => self.outset_in_entry(),
+            Whole::Node if self.node.begun && self.node.control.is_between_nodes() => Progress {
+                context: Context::Over,
+                ..Progress::new(Whole::Node, in_node(), true)
+            },
+            Whole::Document | Whole::Node => Progress::new(self.whole, phase, self.node.begun),
+            Whole::Entry => Progress {
+                has_dropped: self.has_dropped,
+                is_apart: self.is_apart,
+                ..place_in_entry(self.entry)
+            },
             // A string is due, as in a type.
-            Whole::Identifier => Outset::in_phase(Phase::TypeOpen(Owner::Name)),
+            Whole::Identifier => { Progress::new(self.whole, Phase::TypeOpen(Owner::Name), false) }
         }
     }
 }

@@ -86,10 +86,10 @@ fn recovered(text: &str, front: Prefix<'_>, steps: &mut Steps) -> Result<Vec<Fau
 {
     let mut reader = Reader::new(text, front, mem::replace(steps, Steps::new()));
     let answer = reader.find();
-    let (faults, count) = reader.into_parts();
-    *steps = count;
+    let Reader { cursor, notes, .. } = reader;
+    *steps = cursor.into_steps();
     answer?;
-    Ok(faults)
+    Ok(notes.faults)
 }
 
 /// Returns the faults of the text, in the order in which reading meets them. A text has none exactly if it is accepted.
@@ -112,22 +112,6 @@ pub fn faults(
     recovered(text, front, steps)
 }
 
-/// The error of a refused text: a diagnostic for each fault, in the order in which reading meets them.
-fn refusal(
-    alloc: Global,
-    text: &str,
-    whole: Whole,
-    steps: &mut Steps,
-) -> Result<KdlError, AllocError>
-    requires { Accepts whole (chars text.now) → ⊥ }
-    ensures tells { IfOk result (Tells text.now) }
-    ensures most { OnOk result (steps.new ≤ steps.old + 152 * (length text.now + 1)) }
-    ensures raised { raise steps.old 0 ≤ raise steps.new 0 }
-{
-    let faults = faults(alloc, text, whole, steps)?;
-    error_of(alloc, text, &faults)
-}
-
 /// Returns the failure for a refused text, or for an allocation that failed.
 pub fn failure(alloc: Global, text: &str, whole: Whole, steps: &mut Steps) -> ParseFailure
     requires { Accepts whole (chars text.now) → ⊥ }
@@ -135,7 +119,10 @@ pub fn failure(alloc: Global, text: &str, whole: Whole, steps: &mut Steps) -> Pa
     ensures most { OnRefused result (steps.new ≤ steps.old + 152 * (length text.now + 1)) }
     ensures raised { raise steps.old 0 ≤ raise steps.new 0 }
 {
-    match refusal(alloc, text, whole, steps) {
+    let Ok(faults) = faults(alloc, text, whole, steps) else {
+        return ParseFailure::Memory;
+    };
+    match error_of(alloc, text, &faults) {
         Ok(error) => ParseFailure::Syntax(error),
         Err(_) => ParseFailure::Memory,
     }

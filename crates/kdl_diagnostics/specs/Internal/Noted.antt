@@ -1,14 +1,14 @@
 -- The places and spans that a reader of faults keeps are in the text that it reads.
-use Rattle.std.specs.Prelude.{◌≡◌, ℕ, ◌+◌, ◌-◌, ◌<◌, ◌≤◌, ◌++◌, false, List, [], ◌∷◌, length, All}
+use Rattle.std.specs.Prelude.{◌≡◌, ℕ, ◌+◌, ◌-◌, ◌<◌, ◌≤◌, ◌++◌, List, length, All, Option, Result, IfOk, IfSome, IsSome}
 use Rattle.kdl_text.specs.Chars.{Text}
 use Rattle.kdl_text.specs.Internal.Here.{Here, Position}
 use Rattle.kdl_text.specs.Spans.{InText, raise}
 use Rattle.kdl_text.specs.declared.error.ParseFailure.{ParseFailure}
+use Rattle.kdl_text.specs.declared.span.SourceSpan.{SourceSpan}
 use Rattle.kdl_text.specs.declared.error.ParseFailure.TheVariants.{Syntax, Memory}
 use Rattle.kdl_syntax.specs.Tokens.{Token, opening, closing}
 use Rattle.kdl_diagnostics.specs.Internal.Reading.{LiesIn, Reads, Stands}
 use Rattle.kdl_diagnostics.specs.declared.lexemes.Lexeme.{Lexeme}
-use Rattle.kdl_diagnostics.specs.declared.notes.Block.{Block}
 use Rattle.kdl_diagnostics.specs.declared.notes.Fault.{Fault}
 use Rattle.kdl_diagnostics.specs.declared.notes.Notes.{Notes}
 use Rattle.kdl_diagnostics.specs.declared.esclines.Candidate.{Candidate}
@@ -24,9 +24,9 @@ pub record ReadsIn (text : Text) (here : Here) : Type 0 where
 abbrev pub Noted : Text → List Fault → Type 0
 Noted text faults = All (λ (f : Fault). InText text f.span) faults
 
--- each open block has a span in the text
-abbrev pub Opened : Text → List Block → Type 0
-Opened text blocks = All (λ (b : Block). InText text b.span) blocks
+-- each open block has a span in the text, if it has one
+abbrev pub Opened : Text → List (Option SourceSpan) → Type 0
+Opened text blocks = All (λ (b : Option SourceSpan). IfSome b (InText text)) blocks
 
 -- each candidate's fault has a span in the text
 abbrev pub Candidates : Text → List Candidate → Type 0
@@ -52,8 +52,8 @@ IsReader r = (text : Text) × IsReaderOf text r
 -- a front of the text
 pub record IsFrontOf (text : Text) (f : Prefix) : Type 0 where
   pub notes : IsNotesOf text f.notes
-  pub place : LiesIn text f.stop.place
-  pub from : LiesIn text f.stop.from
+  pub place : LiesIn text f.place
+  pub from : LiesIn text f.from
 
 -- if two places are in the text, a front of the text stays one
 abbrev pub KeepsFrontBetween : Position → Position → Prefix → Prefix → Type 0
@@ -62,10 +62,6 @@ KeepsFrontBetween a b old new = (text : Text) → IsFrontOf text old → LiesIn 
 -- what holds of every text
 abbrev pub Always : Text → Type 0
 Always text = Unit {0}
-
--- a place is in the text
-abbrev pub At : Position → Text → Type 0
-At a text = LiesIn text a
 
 -- two places are in the text
 abbrev pub Between : Position → Position → Text → Type 0
@@ -94,13 +90,14 @@ pub record Keeps (P : Text → Type 0) (old new : Notes) : Type 0 where
 abbrev pub HasFault : Notes → Type 0
 HasFault n = 0 < length n.faults.items
 
--- no fault was noted at the `{` of a block
-abbrev pub Untold : List Block → Type 0
-Untold blocks = All (λ (b : Block). b.is_told ≡ false) blocks
+-- the notes went on, to a fault more if memory did not run out
+pub record Adds {E : Type 0} (P : Text → Type 0) (result : Result (Unit {0}) E) (old new : Notes) : Type 0 where
+  pub keeps : Keeps P old new
+  pub noted : IfOk result (λ _. HasFault new)
 
--- a block was opened
-abbrev pub Opens : List Block → List Block → Type 0
-Opens old new = (b : Block) × (b.is_told ≡ false) × (new ≡ old ++ (b ∷ []))
+-- no fault was noted at the `{` of a block
+abbrev pub Untold : List (Option SourceSpan) → Type 0
+Untold blocks = All IsSome blocks
 
 -- how many blocks are open after a token, if m were open before it: the `{` opens one, and the `}` closes one
 abbrev pub Counts : Token → ℕ → ℕ → Type 0
@@ -109,7 +106,7 @@ Counts closing m n = n ≡ m - 1
 Counts _ m n = n ≡ m
 
 -- the open blocks after a token
-abbrev pub CountsOpen : Token → List Block → List Block → Type 0
+abbrev pub CountsOpen : Token → List (Option SourceSpan) → List (Option SourceSpan) → Type 0
 CountsOpen k old new = Untold old → Counts k (length old) (length new) × Untold new
 
 -- at most n steps were counted, and the count did not fall

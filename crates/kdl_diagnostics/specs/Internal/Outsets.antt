@@ -8,16 +8,11 @@ use Rattle.kdl_syntax.specs.NodeControl.{in_text}
 use Rattle.kdl_syntax.specs.Internal.EntryViews.{entry_view, node_view}
 use Rattle.kdl_syntax.specs.Internal.Views.{control_view, phase_view}
 use Rattle.kdl_diagnostics.specs.Internal.Noted.{Untold}
-use Rattle.kdl_diagnostics.specs.Internal.Reading.{LiesIn}
 use Rattle.kdl_diagnostics.specs.TextControl as spec
 use Rattle.kdl_diagnostics.specs.TextControl.{text_finish, text_start}
 use Rattle.kdl_diagnostics.specs.declared.front.Prefix.{Prefix}
-use Rattle.kdl_diagnostics.specs.declared.front.FrontEnd.{FrontEnd}
-use Rattle.kdl_diagnostics.specs.declared.machine.Context.TheVariants.{FaultyType}
-use Rattle.kdl_diagnostics.specs.declared.lexemes.Lexeme.{Lexeme}
-use Rattle.kdl_diagnostics.specs.declared.lexemes.LexemeKind.TheVariants.{End}
 use Rattle.kdl_diagnostics.specs.declared.reader.Reader.{Reader}
-use Rattle.kdl_diagnostics.specs.declared.text_control.Outset.{Outset}
+use Rattle.kdl_diagnostics.specs.declared.state.Progress.{Progress}
 use Rattle.kdl_diagnostics.specs.declared.text_control.TextControl.{TextControl}
 use Rattle.kdl_diagnostics.specs.declared.whole.Whole.{Whole}
 use Rattle.kdl_diagnostics.specs.declared.whole.Whole.TheVariants.{Document, Node, Entry, Identifier}
@@ -54,7 +49,7 @@ pub data Lacks (w : Whole) (n : ℕ) (p : c.Phase) (has_item : Bool) : Type 0 wh
   in_block : 0 < n → Lacks w n p has_item
   no_item : IsSingle w → has_item ≡ false → Lacks w n p has_item
 
-abbrev pub LacksAt : Whole → ℕ → Outset → Type 0
+abbrev pub LacksAt : Whole → ℕ → Progress → Type 0
 LacksAt w n o = Lacks w n (phase_view o.phase) o.has_item
 
 -- the open blocks are those of the control
@@ -67,45 +62,33 @@ pub record IsNew (f : Prefix) : Type 0 where
   pub blocks : f.notes.blocks.items ≡ []
   pub accepted : f.is_accepted ≡ false
 
--- the tokens end after the token, where `here` is known
-pub record StopsAfter (k : Token) (here : Outset) (s : FrontEnd) : Type 0 where
-  pub place : s.place ≡ k.at.end
-  pub lies : (text : Text) → LiesIn text k.at.start → LiesIn text k.at.end → LiesIn text s.from
-  pub from : (k.at.start.rest ≡ [] → ⊥) → s.from.rest ≡ [] → (k.at.end.rest ≡ []) × (s.before ≡ here)
-
 -- the front ends before the rest of the text
 pub record EndsBefore (rest : Text) (f : Prefix) : Type 0 where
-  pub place : f.stop.place.rest ≡ rest
-  pub from : f.stop.from.rest ≡ [] → (rest ≡ []) × (text_finish (text_view f.control) ≡ false → LacksAt f.control.whole (length f.notes.blocks.items) f.stop.before)
+  pub place : f.place.rest ≡ rest
+  pub from : f.from.rest ≡ [] → (rest ≡ []) × (text_finish (text_view f.control) ≡ false → LacksAt f.control.whole (length f.notes.blocks.items) f.before)
   pub matched : Matched f
 
 -- the front goes on over the token, if it is taken; else it ends where it did
 abbrev pub GoesOver : Token → Prefix → Prefix → Bool → Type 0
 GoesOver k old new true = (k.at.start.rest ≡ [] → ⊥) → Matched old → EndsBefore k.at.end.rest new
-GoesOver k old new false = new.stop ≡ old.stop
+GoesOver k old new false = (new.place ≡ old.place) × (new.from ≡ old.from)
 
 -- the front ends where the text is refused: where the text ends there, something is missing
 pub record IsStopped (f : Prefix) : Type 0 where
-  pub place : f.stop.place.rest ≡ [] → (text_finish (text_view f.control) ≡ false) × Matched f
-  pub from : f.stop.from.rest ≡ [] → LacksAt f.control.whole (length f.notes.blocks.items) f.stop.before × Untold f.notes.blocks.items
+  pub place : f.place.rest ≡ [] → (text_finish (text_view f.control) ≡ false) × Matched f
+  pub from : f.from.rest ≡ [] → LacksAt f.control.whole (length f.notes.blocks.items) f.before × Untold f.notes.blocks.items
 
 -- a cursor over the text of a front begins where it ends, or at the start of what ends there
-pub data BeginsAt (f : Prefix) (o : Outset) (here : Here) : Type 0 where
-  at_the_end : here.rest ≡ f.stop.place.rest → (text_finish (text_view f.control) ≡ false → LacksAt f.control.whole (depth (text_view f.control)) o) → BeginsAt f o here
-  earlier : here.rest ≡ f.stop.from.rest → o ≡ f.stop.before → BeginsAt f o here
+pub data BeginsAt (f : Prefix) (o : Progress) (here : Here) : Type 0 where
+  at_the_end : here.rest ≡ f.place.rest → (text_finish (text_view f.control) ≡ false → LacksAt f.control.whole (depth (text_view f.control)) o) → BeginsAt f o here
+  earlier : here.rest ≡ f.from.rest → o ≡ f.before → BeginsAt f o here
 
 -- something is missing if the text ends where the reader is
 pub record Lacking (r : Reader) : Type 0 where
-  pub lacks : Lacks r.state.whole (length r.notes.blocks.items) (phase_view r.state.control.phase) r.state.has_item
+  pub lacks : Lacks r.state.whole (length r.notes.blocks.items) (phase_view r.state.phase) r.state.has_item
   pub untold : Untold r.notes.blocks.items
   pub cut : r.is_cut ≡ false
 
--- the reader is where the text is refused
-pub record IsReady (r : Reader) : Type 0 where
-  pub ends : r.cursor.rest ≡ [] → Lacking r
-  pub context : r.state.context ≡ FaultyType → ⊥
-
--- the same after the next lexeme was read
-pub record IsReadyAt (p : Lexeme) (r : Reader) : Type 0 where
-  pub ends : p.kind ≡ End → Lacking r
-  pub context : r.state.context ≡ FaultyType → ⊥
+-- the reader is where the text is refused: where the text ends there, something is missing
+abbrev pub IsReady : Reader → Type 0
+IsReady r = r.cursor.rest ≡ [] → Lacking r

@@ -5,10 +5,8 @@ use Rattle.kdl_text.specs.Chars.{Text, is_number_sign, is_quote}
 use Rattle.kdl_text.specs.Internal.Here.{Here, IsPart, Position}
 use Rattle.kdl_text.specs.Spans.{bytes}
 use Rattle.kdl_text.specs.Internal.Reading.{Moves}
-use Rattle.kdl_diagnostics.specs.declared.ends.ValueEnd.{ValueEnd}
 use Rattle.kdl_diagnostics.specs.declared.strings.Found.{Found}
 use Rattle.kdl_diagnostics.specs.declared.lexemes.Lexeme.{Lexeme}
-use Rattle.kdl_diagnostics.specs.declared.lexemes.LexemeKind.TheVariants.{End}
 
 -- the cursor went on
 pub record Reads (k c : ℕ) (old new : Here) : Type 0 where
@@ -43,14 +41,14 @@ pub record Since (place : Position) (here : Here) : Type 0 where
   pub part : IsPart here.text place.rest
 
 -- a value end and the comment after it are in the text
-pub record EndsIn (text : Text) (e : ValueEnd) : Type 0 where
-  pub place : LiesIn text e.place
-  pub comment : IfSome e.comment (LiesIn text)
+pub record EndsIn (text : Text) (e : Position × Option Position) : Type 0 where
+  pub place : LiesIn text e.0
+  pub comment : IfSome e.1 (LiesIn text)
 
 -- a value end at the cursor or after it
-pub record IsEnd (here : Here) (e : ValueEnd) : Type 0 where
+pub record IsEnd (here : Here) (e : Position × Option Position) : Type 0 where
   pub ends : EndsIn here.rest e
-  pub at : e.place.at + bytes e.place.rest ≡ here.at + bytes here.rest
+  pub at : e.0.at + bytes e.0.rest ≡ here.at + bytes here.rest
 
 -- a fault in a string that was read
 abbrev pub OnFound : Text → Option Found → Text → Type 0
@@ -83,11 +81,15 @@ pub record Past (place : Position) (here : Here) : Type 0 where
 abbrev pub begins_sign : ℕ → Bool
 begins_sign c = is_number_sign c || is_quote c
 
--- a lexeme of the text that begins with s, which the cursor passed, or the end of that text
+-- a lexeme of the text that begins with s, which the cursor passed
 pub record IsLexeme (s : Text) (p : Lexeme) (new : Here) : Type 0 where
   pub stands : Stands s p
-  pub went : (p.kind ≡ End → ⊥) → bytes new.rest < bytes s
-  pub end : p.kind ≡ End → s ≡ []
+  pub went : bytes new.rest < bytes s
+
+-- such a lexeme, or the end of that text
+abbrev pub IsNext : Text → Option Lexeme → Here → Type 0
+IsNext s None new = s ≡ []
+IsNext s (Some p) new = IsLexeme s p new
 
 -- the cursor passed the lexeme, at such costs
 pub record Lexes (k c : ℕ) (old : Here) (p : Lexeme) (new : Here) : Type 0 where

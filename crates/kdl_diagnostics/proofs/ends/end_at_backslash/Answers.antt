@@ -23,7 +23,7 @@ pub returns-then-is_some-clause-goes : goal.returns-then-is_some-clause-goes
 returns-then-is_some-clause-goes c = step_on (stepped_begins _ _ _ c.requires c.step.ensures) (reads_more 8 c.ws_run-comment.ensures.reads)
 
 pub returns-then-escline_end-clause-end : goal.returns-then-escline_end-clause-end
-returns-then-escline_end-clause-end c = end_here _ _ c.at.ensures.place c.at.ensures.comment c.checkpoint-backslash.ensures.rest c.checkpoint-backslash.ensures.at (stays _)
+returns-then-escline_end-clause-end c = end_here _ c.checkpoint-backslash.ensures.rest c.checkpoint-backslash.ensures.at (stays _)
 
 pub returns-then-escline_end-clause-goes : goal.returns-then-escline_end-clause-goes
 returns-then-escline_end-clause-goes c = step_on (stepped_begins _ _ _ c.requires c.step.ensures) (reads_then c.ws_run-comment.ensures.reads c.escline_end.ensures)
@@ -32,7 +32,7 @@ pub returns-then-at-clause-goes : goal.returns-then-at-clause-goes
 returns-then-at-clause-goes c = step_on (stepped_begins _ _ _ c.requires c.step.ensures) (reads_then c.ws_run-comment.ensures.reads c.escline_end.ensures)
 
 pub returns-clause-end : goal.returns-clause-end
-returns-clause-end c = end_here _ _ c.at-4.ensures.place c.at-4.ensures.comment c.checkpoint-place.ensures.rest c.checkpoint-place.ensures.at (stepped_begins _ _ _ c.requires c.step.ensures).reads.moves
+returns-clause-end c = end_here _ c.checkpoint-place.ensures.rest c.checkpoint-place.ensures.at (stepped_begins _ _ _ c.requires c.step.ensures).reads.moves
 
 pub returns-clause-goes : goal.returns-clause-goes
 returns-clause-goes c = step_on (stepped_begins _ _ _ c.requires c.step.ensures) (reads_then c.ws_run-comment.ensures.reads c.escline_end.ensures)

@@ -12,7 +12,7 @@ turn i t g = record { moves = moves_then i.moves (moves_then t.moves g.reads.mov
 pub returns-in-None-clause-end : goal.returns-in-None-clause-end
 returns-in-None-clause-end c =
     let r = reads_ran c.skip.ensures in
-    end_here _ _ c.at.ensures.place c.at.ensures.comment c.checkpoint-place.ensures.rest c.checkpoint-place.ensures.at (moves_then c.ends.invariant.moves r.moves)
+    end_here _ c.checkpoint-place.ensures.rest c.checkpoint-place.ensures.at (moves_then c.ends.invariant.moves r.moves)
 
 pub returns-in-None-clause-reads : goal.returns-in-None-clause-reads
 returns-in-None-clause-reads c = reads_more 10 (reads_then c.ends.invariant (reads_up 23 (ended _ _ _ _ c.skip.ensures c.look.ensures.moved)))
@@ -36,7 +36,7 @@ ends-preserved-in-Some-eq92 c = turn c.ends.invariant (reads_more 6 (ended _ _ _
 pub returns-then-ends_here-clause-end : goal.returns-then-ends_here-clause-end
 returns-then-ends_here-clause-end c =
     let r = reads_ran c.skip.ensures in
-    end_here _ _ c.at-then-ends_here.ensures.place c.at-then-ends_here.ensures.comment c.checkpoint-place.ensures.rest c.checkpoint-place.ensures.at (moves_then c.ends.invariant.moves r.moves)
+    end_here _ c.checkpoint-place.ensures.rest c.checkpoint-place.ensures.at (moves_then c.ends.invariant.moves r.moves)
 
 pub returns-then-ends_here-clause-reads : goal.returns-then-ends_here-clause-reads
 returns-then-ends_here-clause-reads c =

@@ -11,4 +11,4 @@ pub returns-in_default : goal.returns-in_default
 returns-in_default c =
     let g = c.end_at_backslash.ensures.goes in
     let r = c.value_end-end.ensures.reads in
-    lexes c.checkpoint-start.ensures.rest c.new.ensures.stands (λ e. cc) (reads_then (reads_up 12 g.reads) r) (omega (arith, g.went, fewer_bytes r.moves))
+    lexes c.checkpoint-start.ensures.rest c.new.ensures (reads_then (reads_up 12 g.reads) r) (omega (arith, g.went, fewer_bytes r.moves))

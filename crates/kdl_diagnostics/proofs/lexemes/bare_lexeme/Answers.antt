@@ -2,8 +2,8 @@ use Rattle.kdl_diagnostics.proofs.LexemeMoves.{lexes_word, past_from}
 use Rattle.kdl_diagnostics.proofs.Passing.{reads_costs, reads_then, reads_up, run_fewer}
 use Rattle.kdl_diagnostics.proofs.lexemes.bare_lexeme.Goals as goal
 
-pub word-requires-clause-start : goal.word-requires-clause-start
-word-requires-clause-start c = past_from c.checkpoint-start.ensures.rest c.checkpoint-start.ensures.part c.bare_string.ensures.moves (run_fewer _ _ _ c.bare_string.ensures.run c.requires)
+pub word-requires : goal.word-requires
+word-requires c = past_from c.checkpoint-start.ensures.rest c.checkpoint-start.ensures.part c.bare_string.ensures.moves (run_fewer _ _ _ c.bare_string.ensures.run c.requires)
 
 pub returns : goal.returns
 returns c =

@@ -15,8 +15,8 @@ up_to-number-requires c =
 pub number_fault-requires : goal.number_fault-requires
 number_fault-requires c = part_moved (part_front _ _ _ _ c.checkpoint-start.ensures.part c.up_to-number.ensures) (reads_ran c.skip.ensures).moves
 
-pub word-requires-clause-start : goal.word-requires-clause-start
-word-requires-clause-start c =
+pub word-requires : goal.word-requires
+word-requires c =
     past_from c.checkpoint-start.ensures.rest c.checkpoint-start.ensures.part (moves_then (reads_ran c.skip.ensures).moves (moves_returned c.number_fault.ensures)) (omega (arith, ran_fewer _ _ _ c.skip.ensures c.requires, ap bytes c.number_fault.ensures.rest))
 
 pub returns-in_err-fault-clause-reads : goal.returns-in_err-fault-clause-reads

@@ -11,4 +11,4 @@ pub returns : goal.returns
 returns c =
     let s = stepped_there _ _ c.requires c.step.ensures in
     let r = c.value_end-end.ensures.reads in
-    lexes c.checkpoint-start.ensures.rest c.new.ensures.stands (λ e. cc) (reads_then (reads_up 24 s.reads) r) (omega (arith, s.went, fewer_bytes r.moves))
+    lexes c.checkpoint-start.ensures.rest c.new.ensures (reads_then (reads_up 24 s.reads) r) (omega (arith, s.went, fewer_bytes r.moves))

@@ -18,8 +18,8 @@ up_to-text-requires c =
     let x = since_here {place = c.checkpoint-start.result} c.checkpoint-start.ensures.rest c.checkpoint-start.ensures.part m in
     after_same _ _ _ x.before c.checkpoint.ensures.rest
 
-pub word-requires-clause-start : goal.word-requires-clause-start
-word-requires-clause-start c =
+pub word-requires : goal.word-requires
+word-requires c =
     let t = ended _ _ _ _ c.skip.ensures c.look.ensures.moved in
     let r = reads_ran c.skip-2.ensures in
     let f = c.keyword_fault-fault.ensures in

@@ -1,6 +1,6 @@
 use Rattle.std.proofs.Common.{arith}
 use Rattle.kdl_text.proofs.Looking.MovesJoin.{moves_then, fewer_bytes}
-use Rattle.kdl_diagnostics.proofs.LexemeMoves.{found_in_role}
+use Rattle.kdl_diagnostics.proofs.LexemeMoves.{found_in_phase}
 use Rattle.kdl_diagnostics.proofs.Passing.{since_bytes, since_moves}
 use Rattle.kdl_diagnostics.proofs.lexemes.string_lexeme.Goals as goal
 
@@ -16,15 +16,10 @@ faulty_string-requires-clause-start c =
 
 pub faulty_string-requires-clause-found : goal.faulty_string-requires-clause-found
 faulty_string-requires-clause-found c =
-    rw c.in-Some.is at (found_in_role _ _ (since_moves c.requires.start c.scan_string.ensures.reads.moves) c.in_ok-found.ensures.fault c.fault_in_role.ensures)
+    rw c.in-Some.is at (found_in_phase _ _ (since_moves c.requires.start c.scan_string.ensures.reads.moves) c.in_ok-found.ensures.fault c.fault_in_phase.ensures)
 
-pub word-requires-clause-start : goal.word-requires-clause-start
-word-requires-clause-start c =
-    let s = c.scan_string.ensures in
-    record { since = since_moves c.requires.start s.reads.moves; went = omega (arith, s.went, since_bytes c.requires.start) }
-
-pub word-requires-in-None-2-clause-start : goal.word-requires-in-None-2-clause-start
-word-requires-in-None-2-clause-start c =
+pub word-requires : goal.word-requires
+word-requires c =
     let s = c.scan_string.ensures in
     record { since = since_moves c.requires.start s.reads.moves; went = omega (arith, s.went, since_bytes c.requires.start) }
 
@@ -38,10 +33,4 @@ pub returns-in-None-clause-reads : goal.returns-in-None-clause-reads
 returns-in-None-clause-reads c =
     let s = c.scan_string.ensures.reads in
     let r = c.word.ensures.reads in
-    record { moves = moves_then s.moves r.moves; most = omega (arith, s.most, r.most, since_bytes c.requires.start, fewer_bytes s.moves, fewer_bytes r.moves) }
-
-pub returns-in-None-2-clause-reads : goal.returns-in-None-2-clause-reads
-returns-in-None-2-clause-reads c =
-    let s = c.scan_string.ensures.reads in
-    let r = c.word-in-None-2.ensures.reads in
     record { moves = moves_then s.moves r.moves; most = omega (arith, s.most, r.most, since_bytes c.requires.start, fewer_bytes s.moves, fewer_bytes r.moves) }

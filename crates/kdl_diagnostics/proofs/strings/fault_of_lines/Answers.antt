@@ -11,12 +11,12 @@ pub enter-place-requires : goal.enter-place-requires
 enter-place-requires c = part_front _ _ _ _ c.requires.part c.up_to.ensures
 
 pub go_to-requires : goal.go_to-requires
-go_to-requires c = part_moved (part_same c.enter-place.ensures.part (ap (λ z. z.text) c.enter-place.ensures.inside)) c.read-answer.ensures.moves
+go_to-requires c = part_moved (part_same c.enter-place.ensures.part (ap (λ z. z.text) c.enter-place.ensures.inside)) c.read_string-answer.ensures.moves
 
 pub returns-clause-back : goal.returns-clause-back
 returns-clause-back c =
     let inside = c.enter-place.ensures.inside in
-    let read = c.read-answer.ensures in
+    let read = c.read_string-answer.ensures in
     let back = c.go_to.ensures in
     record {
       rest = ap (λ z. z.rest) back ∙ c.enter-place.ensures.rest;

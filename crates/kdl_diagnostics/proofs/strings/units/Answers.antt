@@ -22,8 +22,8 @@ units-preserved-else-closes c =
     let t = turn _ _ _ _ c.checkpoint-place.result c.skip.ensures c.look.ensures.moved c.checkpoint-place.ensures.rest in
     turn_on c.units.invariant t (finds_same _ c.closes.ensures.reads) c.closes.ensures.went
 
-pub returns-then-not-style : goal.returns-then-not-style
-returns-then-not-style c =
+pub returns-then-quotes-eq1 : goal.returns-then-quotes-eq1
+returns-then-quotes-eq1 c =
     let t = turn _ _ _ _ c.checkpoint-place.result c.skip.ensures c.look.ensures.moved c.checkpoint-place.ensures.rest in
     turn_ends c.units.invariant t c.earlier.ensures
 

@@ -1,8 +1,5 @@
-use Rattle.std.proofs.Common.{length, ap, arith}
-use Rattle.std.specs.Global.{Vec}
+use Rattle.std.proofs.Common.{arith}
 use Rattle.std.specs.Str.{chars}
-use Rattle.kdl_diagnostics.specs.declared.notes.Fault.{Fault}
-use Rattle.kdl_diagnostics.proofs.NotedSpans.{noted_same}
 use Rattle.kdl_diagnostics.proofs.ReaderCost.{steps_bounded}
 use Rattle.kdl_diagnostics.proofs.told.recovered.Goals as goal
 
@@ -13,18 +10,18 @@ pub returns-in_err-answer-clause-counted : goal.returns-in_err-answer-clause-cou
 returns-in_err-answer-clause-counted c =
     let k = c.find-answer.ensures.goes (chars c.args.text.now) c.new-reader.ensures.reads in
     let n = c.new-reader.ensures.counted in
-    steps_bounded c.args.text.now _ _ _ _ c.utf8.text k.counted (record { most = omega (arith, n.most, c.replace.ensures.value); counts = omega (arith, n.counts, c.replace.ensures.value) }) c.into_parts-faults.ensures.steps
+    steps_bounded c.args.text.now _ _ _ _ c.utf8.text k.counted (record { most = omega (arith, n.most, c.replace.ensures.value); counts = omega (arith, n.counts, c.replace.ensures.value) }) c.into_steps.ensures
 
 pub returns-clause-counted : goal.returns-clause-counted
 returns-clause-counted c =
     let k = c.find-answer.ensures.goes (chars c.args.text.now) c.new-reader.ensures.reads in
     let n = c.new-reader.ensures.counted in
-    steps_bounded c.args.text.now _ _ _ _ c.utf8.text k.counted (record { most = omega (arith, n.most, c.replace.ensures.value); counts = omega (arith, n.counts, c.replace.ensures.value) }) c.into_parts-faults.ensures.steps
+    steps_bounded c.args.text.now _ _ _ _ c.utf8.text k.counted (record { most = omega (arith, n.most, c.replace.ensures.value); counts = omega (arith, n.counts, c.replace.ensures.value) }) c.into_steps.ensures
 
 pub returns-clause-noted : goal.returns-clause-noted
 returns-clause-noted c =
     let k = c.find-answer.ensures.goes (chars c.args.text.now) c.new-reader.ensures.reads in
-    noted_same (chars c.args.text.now) _ _ (ap (λ (v : Vec Fault). v.items) c.into_parts-faults.ensures.faults) (k.keeps (chars c.args.text.now) c.new-reader.ensures.reads tt).notes.faults
+    (k.keeps (chars c.args.text.now) c.new-reader.ensures.reads tt).notes.faults
 
 pub returns-clause-some : goal.returns-clause-some
-returns-clause-some c = omega (arith, c.in_ok-answer.ensures.noted (c.new-reader.ensures.ready c.requires.stopped), ap (λ (v : Vec Fault). length v.items) c.into_parts-faults.ensures.faults)
+returns-clause-some c = c.in_ok-answer.ensures.noted (c.new-reader.ensures.ready c.requires.stopped)

@@ -1,7 +1,6 @@
 use Rattle.std.proofs.Common.{refl, sym, ap, ◌∙◌, arith}
 use Rattle.kdl_text.specs.Internal.Here.{Position}
 use Rattle.kdl_diagnostics.specs.Internal.Outsets.{text_view}
-use Rattle.kdl_diagnostics.specs.declared.front.FrontEnd.{FrontEnd}
 use Rattle.kdl_diagnostics.proofs.FrontEnds.{at_the_text_end, ends_at, ends_over, new_matched, no_token_here, over_token, refused, starts, stopped_at_end, stopped_before}
 use Rattle.kdl_diagnostics.proofs.FrontReads.{begun, front_begins, front_goes_on, front_counts, front_ends, front_lies, nearer, token_lies, token_end_lies}
 use Rattle.kdl_diagnostics.proofs.NotedSpans.{same_lies}
@@ -13,10 +12,10 @@ tokens-init c =
     record {
       fronting = f;
       keeps = λ text e x.
-          (let u = front_lies text c.args.lexer.now c.skip_bom.new.lexer c.checkpoint.result f e c.checkpoint.ensures.rest in
-          record { notes = x.notes; place = same_lies text _ _ c.at-self.ensures.place u; from = same_lies text _ _ c.at-self.ensures.from u });
+          (let u = front_lies text c.args.lexer.now c.skip_bom.new.lexer c.checkpoint-self.result f e c.checkpoint-self.ensures.rest in
+          record { notes = x.notes; place = u; from = same_lies text _ _ c.copied-self.ensures u });
       exact = starts c.skip_bom.new.lexer.rest _ c.args.self.now.control c.args.self.now.control refl c.requires.control c.skip_bom.ensures.accepts;
-      ends = ends_at _ _ (ap (λ (p : Position). p.rest) c.at-self.ensures.place ∙ c.checkpoint.ensures.rest) (ap (λ (p : Position). p.rest) c.at-self.ensures.from ∙ c.checkpoint.ensures.rest) (rw c.at-self.ensures.before c.outset.ensures) (new_matched c.args.self.now c.requires);
+      ends = ends_at _ _ c.checkpoint-self.ensures.rest (ap (λ (p : Position). p.rest) c.copied-self.ensures ∙ c.checkpoint-self.ensures.rest) c.outset-self.ensures (new_matched c.args.self.now c.requires);
       whole = refl;
       accepted = c.requires.accepted;
     }
@@ -88,7 +87,7 @@ pub returns-then-not-is_taken-clause-stopped : goal.returns-then-not-is_taken-cl
 returns-then-not-is_taken-clause-stopped c x =
     let h = rw c.in-Ok-Some.field-0-is at c.in-Ok-Some.ensures.lexed in
     let o = rw c.if-not-is_taken.true at c.in_ok-is_taken.ensures.over in
-    stopped_before c.tokens.lexer.rest c.tokens.self c.take.new.self c.tokens.invariant.ends (begun c.tokens.lexer c.next.new.self c.in-Ok-Some.token h) (ap (λ (s : FrontEnd). s.place.rest) o) (ap (λ (s : FrontEnd). s.from.rest) o)
+    stopped_before c.tokens.lexer.rest c.tokens.self c.take.new.self c.tokens.invariant.ends (begun c.tokens.lexer c.next.new.self c.in-Ok-Some.token h) (ap (λ (p : Position). p.rest) o.0) (ap (λ (p : Position). p.rest) o.1)
 
 pub returns-in-Ok-None-clause-exact : goal.returns-in-Ok-None-clause-exact
 returns-in-Ok-None-clause-exact c = at_the_text_end c.may_end-self.result c.tokens.lexer (text_view c.tokens.self.control) (rw c.in-Ok-None.field-0-is at c.in-Ok-None.ensures.lexed) c.may_end-self.ensures c.tokens.invariant.exact

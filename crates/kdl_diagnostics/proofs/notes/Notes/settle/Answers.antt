@@ -12,7 +12,7 @@ returns-then-number-len c = record {
       (record {
         whole = x.whole;
         left = x.left;
-        faults = All-set (λ (f : Fault). InText text f.span) c.args.self.now.faults.items c.index.result.now.number c.index.result.now.fault (subst (λ (k : Candidate). InText text k.fault.span) (sym c.index.ensures) (All-get_or (λ (k : Candidate). InText text k.fault.span) c.args.self.now.candidates.items c.args.candidate _ (search rules) x.candidates)) x.faults;
+        faults = All-set (λ (f : Fault). InText text f.span) c.args.self.now.faults.items c.index.result.now.number c.index.result.now.fault (subst (λ (k : Candidate). InText text k.fault.span) (sym c.index.ensures) (All-get_or (λ (k : Candidate). InText text k.fault.span) c.args.self.now.candidates.items c.in-Some.candidate _ (search rules) x.candidates)) x.faults;
         blocks = x.blocks;
         candidates = x.candidates;
       });

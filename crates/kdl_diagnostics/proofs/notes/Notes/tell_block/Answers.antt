@@ -1,21 +1,13 @@
-use Rattle.std.proofs.Common.{Some, None, arith}
-use Rattle.kdl_diagnostics.proofs.NotedSpans.{opened_less, opened_more, opened_same}
+use Rattle.std.proofs.Common.{None, arith}
+use Rattle.std.specs.Option.{IfSome}
+use Rattle.std.specs.Prelude.{Option}
+use Rattle.std.proofs.lemmas.List.Elements.{All-set}
+use Rattle.kdl_text.specs.Spans.{InText}
+use Rattle.kdl_text.specs.declared.span.SourceSpan.{SourceSpan}
 use Rattle.kdl_diagnostics.proofs.notes.Notes.tell_block.Goals as goal
 
-pub returns-in_err-push : goal.returns-in_err-push
-returns-in_err-push c = record {
-  notes = λ text x u. (let z = opened_less text _ _ (Some c.in-Some.block) c.in-Some.ensures.items x.blocks in record { whole = x.whole; left = x.left; faults = x.faults; blocks = opened_same text _ _ c.in_err-push.ensures.items z.0; candidates = x.candidates });
-  grows = omega arith;
-}
-
-pub returns-in_ok-push : goal.returns-in_ok-push
-returns-in_ok-push c = record {
-  notes = λ text x u. (let z = opened_less text _ _ (Some c.in-Some.block) c.in-Some.ensures.items x.blocks in record { whole = x.whole; left = x.left; faults = x.faults; blocks = opened_more text _ _ _ c.in_ok-push.ensures.items z.0 z.1; candidates = x.candidates });
-  grows = omega arith;
-}
-
-pub returns-in_default : goal.returns-in_default
-returns-in_default c = record {
-  notes = λ text x u. (let z = opened_less text _ _ None c.in_default.ensures.items x.blocks in record { whole = x.whole; left = x.left; faults = x.faults; blocks = z.0; candidates = x.candidates });
+pub returns-then-count-gt0 : goal.returns-then-count-gt0
+returns-then-count-gt0 c = record {
+  notes = λ text x u. (record { whole = x.whole; left = x.left; faults = x.faults; blocks = All-set (λ (b : Option SourceSpan). IfSome b (InText text)) c.args.self.now.blocks.items _ None tt x.blocks; candidates = x.candidates });
   grows = omega arith;
 }

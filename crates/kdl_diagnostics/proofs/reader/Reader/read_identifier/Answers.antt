@@ -1,15 +1,21 @@
 use Rattle.std.proofs.Common.{refl}
+use Rattle.kdl_diagnostics.proofs.NotedSpans.{stands_in}
+use Rattle.kdl_diagnostics.proofs.Passing.{after_same}
 use Rattle.kdl_diagnostics.proofs.ReaderCost.{goes_next, goes_noted}
 use Rattle.kdl_diagnostics.proofs.reader.Reader.read_identifier.Goals as goal
 
 pub returns-in_err-lexeme-clause-goes : goal.returns-in_err-lexeme-clause-goes
 returns-in_err-lexeme-clause-goes c = goes_next _ _ refl c.next_lexeme.ensures.reads
 
-pub returns-in-String-Some-clause-goes : goal.returns-in-String-Some-clause-goes
-returns-in-String-Some-clause-goes c = goes_noted _ _ c.in_ok-lexeme.lexeme c.in_ok-lexeme.ensures.lexeme.stands c.next_lexeme.ensures.reads (λ text s. (s, s.start)) c.note_from.ensures.keeps
+pub returns-in-None-clause-goes : goal.returns-in-None-clause-goes
+returns-in-None-clause-goes c = goes_noted _ _ c.next_lexeme.ensures.reads (λ text q. let u = after_same text _ _ q c.checkpoint-start.ensures.rest in (u, u)) c.note.ensures.keeps
 
-pub returns-in-String-None-clause-goes : goal.returns-in-String-None-clause-goes
-returns-in-String-None-clause-goes c = goes_noted _ _ c.in_ok-lexeme.lexeme c.in_ok-lexeme.ensures.lexeme.stands c.next_lexeme.ensures.reads (λ text s. s.end) c.note_at.ensures.keeps
+pub returns-then-not-matches-clause-goes : goal.returns-then-not-matches-clause-goes
+returns-then-not-matches-clause-goes c = goes_noted _ _ c.next_lexeme.ensures.reads (λ text q. let u = after_same text _ _ q c.checkpoint-start.ensures.rest in (u, u)) c.note-then-not-matches.ensures.keeps
 
-pub returns-in_default-clause-goes : goal.returns-in_default-clause-goes
-returns-in_default-clause-goes c = goes_noted _ _ c.in_ok-lexeme.lexeme c.in_ok-lexeme.ensures.lexeme.stands c.next_lexeme.ensures.reads (λ text s. s.start) c.note_at-in_default.ensures.keeps
+pub returns-in-Some-fault-clause-goes : goal.returns-in-Some-fault-clause-goes
+returns-in-Some-fault-clause-goes c =
+    goes_noted _ _ c.next_lexeme.ensures.reads (λ text q. (stands_in text _ c.in-Some.lexeme q (rw c.in-Some.is at c.in_ok-lexeme.ensures.lexeme).stands, after_same text _ _ q c.checkpoint-start.ensures.rest)) c.note_from.ensures.keeps
+
+pub returns-clause-goes : goal.returns-clause-goes
+returns-clause-goes c = goes_noted _ _ c.next_lexeme.ensures.reads (λ text q. let u = (stands_in text _ c.in-Some.lexeme q (rw c.in-Some.is at c.in_ok-lexeme.ensures.lexeme).stands).end in (u, u)) c.note-2.ensures.keeps

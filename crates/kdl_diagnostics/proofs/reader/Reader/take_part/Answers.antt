@@ -1,12 +1,12 @@
 use Rattle.std.proofs.Common.{refl}
-use Rattle.kdl_diagnostics.proofs.NotedSpans.{keeps_then, takes_after, takes_notes}
+use Rattle.kdl_diagnostics.proofs.NotedSpans.{keeps_if, keeps_same, keeps_then, takes_after, takes_notes}
 use Rattle.kdl_diagnostics.proofs.reader.Reader.take_part.Goals as goal
 
-pub returns-in_err-apply-clause-takes : goal.returns-in_err-apply-clause-takes
-returns-in_err-apply-clause-takes c = takes_notes _ _ c.apply.ensures refl
+pub returns-then-is_refused-clause-takes : goal.returns-then-is_refused-clause-takes
+returns-then-is_refused-clause-takes c = takes_after _ _ _ (keeps_same _ _) refl c.mend.ensures.takes
 
-pub returns-then-branch-clause-takes : goal.returns-then-branch-clause-takes
-returns-then-branch-clause-takes c = takes_notes _ _ (keeps_then c.apply.ensures c.note_own.ensures.keeps) refl
+pub returns-in_err-take-clause-takes : goal.returns-in_err-take-clause-takes
+returns-in_err-take-clause-takes c = takes_notes _ _ c.take.ensures refl
 
-pub returns-else-branch-clause-takes : goal.returns-else-branch-clause-takes
-returns-else-branch-clause-takes c = takes_after _ _ _ c.apply.ensures refl c.mend.ensures.takes
+pub returns-in-Some-clause-takes : goal.returns-in-Some-clause-takes
+returns-in-Some-clause-takes c = takes_notes _ _ (keeps_then c.take.ensures (keeps_if (λ text s. (s, s.start)) c.note_from.ensures.keeps)) refl
