@@ -30,11 +30,5 @@ pub ruleset new_document = (new_document_reads, new_block_reads)
 
 pub ruleset new_node = (unspelled_new_ends, spelled_new_ends)
 
-pub ruleset push = (refused_same, push_adds, push_exchanges)
-
-pub ruleset insert = (insert_prints, insert_sets, insert_puts, insert_exchanges)
-
-pub ruleset remove = (remove_takes, remove_takes_at, remove_reads, remove_exchanges)
-
--- for those that drop or sort entries
-pub ruleset fewer_entries = (clear_reads, sort_reads)
+-- for src/node/edit.rt
+pub ruleset node_edit = (refused_same, push_adds, push_exchanges, insert_prints, insert_sets, insert_puts, insert_exchanges, remove_takes, remove_takes_at, remove_reads, remove_exchanges, clear_reads, sort_reads)

@@ -1,4 +1,5 @@
 //! Edits of a node's entries.
+#![tactic(auto, using(crate::proofs::Rules::node_edit))]
 
 ghost use Rattle.kdl.specs.Bytes.{IsExchangedInNode, piece_of};
 ghost use Rattle.kdl.specs.Change.{with_entries};
@@ -102,7 +103,6 @@ impl KdlNode {
     /// let mut node = KdlNode::parse(alloc, "a 1 b=2 // kept")?;
     /// node.clear(); // prints "a // kept"
     /// ```
-    #[tactic(auto, using(crate::proofs::Rules::fewer_entries))]
     pub fn clear(&mut self)
         ensures items { entries_of self.new ≡ [] }
         ensures rest { self.new ≡ with_entries self.old (held_entries self.new) }
@@ -118,7 +118,6 @@ impl KdlNode {
     /// let mut node = KdlNode::parse(alloc, "a 1 // kept")?;
     /// let pushed = node.push(KdlEntry::new(KdlValue::from(2))); // prints "a 1 2 // kept"
     /// ```
-    #[tactic(auto, using(crate::proofs::Rules::push))]
     pub fn push(&mut self, entry: KdlEntry) -> Result<(), (KdlEntry, AllocError)>
         ensures items { entries_of self.new ≡
             (if is_ok result then entries_of self.old ++ (entry ∷ []) else entries_of self.old) }
@@ -155,7 +154,6 @@ impl KdlNode {
     /// let key = NodeKey::from_text(alloc, "b")?;
     /// let replaced = node.insert(key, KdlEntry::new(KdlValue::from(2))); // prints "a b=2 // kept"
     /// ```
-    #[tactic(auto, using(crate::proofs::Rules::insert))]
     pub fn insert(
         &mut self,
         key: NodeKey,
@@ -198,7 +196,6 @@ impl KdlNode {
     /// let mut node = KdlNode::parse(alloc, "a 1 b=2 b=3")?;
     /// let first = node.remove(NodeKey::from_text(alloc, "b")?); // the property `b=2`; prints "a 1 b=3"
     /// ```
-    #[tactic(auto, using(crate::proofs::Rules::remove))]
     pub fn remove(&mut self, key: NodeKey) -> Option<KdlEntry>
         requires { HasArgumentAt (sought key) (entries_of self.old) }
         ensures items { entries_of self.new ≡ removed key (entries_of self.old) }
@@ -240,7 +237,6 @@ impl KdlNode {
     /// let mut node = KdlNode::parse(alloc, "a 3 1 2")?;
     /// node.sort_by(|one, other| one.value().cmp(other.value()))?; // prints "a 1 2 3"
     /// ```
-    #[tactic(auto, using(crate::proofs::Rules::fewer_entries))]
     pub fn sort_by<F: FnMut(&KdlEntry, &KdlEntry) -> Ordering>(
         &mut self,
         compare: F,
@@ -264,7 +260,6 @@ impl KdlNode {
     /// let mut node = KdlNode::parse(alloc, "a b=1 2 c=3 4")?;
     /// node.sort_by_key(|entry| entry.name().is_some())?; // prints "a 2 4 b=1 c=3"
     /// ```
-    #[tactic(auto, using(crate::proofs::Rules::fewer_entries))]
     pub fn sort_by_key<K: Ord, F: FnMut(&KdlEntry) -> K>(&mut self, f: F) -> Result<(), AllocError>
     where
         K: Drop,
