@@ -7,7 +7,7 @@ ghost use Rattle.kdl_syntax.specs.Internal.Handed.{kind_view, LexedNext, NextCos
 ghost use Rattle.kdl_syntax.specs.Tokens.{space, string};
 ghost use Rattle.kdl_parser.specs.Internal.Building.{state_view, Placed};
 ghost use Rattle.kdl_parser.specs.Internal.Counted.{unsliced};
-ghost use Rattle.kdl_parser.specs.Internal.Events.{Acts, Meets, StandsAt, is_building, mark_step, string_step, value_step};
+ghost use Rattle.kdl_parser.specs.Internal.Events.{Acts, StandsAt, WithinIf, is_building, is_of_parts, mark_step, string_step, value_step};
 ghost use Rattle.kdl_parser.specs.Internal.States.{document_now, document_of_nodes, Ends, Ready, Stays, TakesToken, TakesTurn};
 ghost use Rattle.kdl_text.specs.Internal.Reading.{Moves};
 ghost use Rattle.kdl_text.specs.Spans.{bytes};
@@ -119,7 +119,8 @@ impl<'a, N: ParsedNode> Builder<'a, N> {
         value: KdlValue,
         at: &TokenSpan<'a>,
     ) -> Result<(), LexFailure>
-        requires { Meets event self.old at.now.start }
+        requires ready { Ready self.old self.old.from at.now.start }
+        requires parts { WithinIf (is_of_parts event) self.old.source self.old.parts.from at.now.start }
         ensures { Acts N.tree event (value_step N.tree self.old event (value_tree value) at.now) self.old
             result self.new }
     {
@@ -139,7 +140,8 @@ impl<'a, N: ParsedNode> Builder<'a, N> {
         text: String,
         at: &TokenSpan<'a>,
     ) -> Result<(), LexFailure>
-        requires { Meets event self.old at.now.start }
+        requires ready { Ready self.old self.old.from at.now.start }
+        requires parts { WithinIf (is_of_parts event) self.old.source self.old.parts.from at.now.start }
         ensures { Acts N.tree event (string_step N.tree self.old event (text_of text) at.now) self.old
             result self.new }
     {
@@ -161,7 +163,8 @@ impl<'a, N: ParsedNode> Builder<'a, N> {
     /// Takes a token that is neither a string nor a value, and does its event.
     #[inline(always)]
     fn take_mark(&mut self, event: Event, at: &TokenSpan<'a>) -> Result<(), LexFailure>
-        requires { Meets event self.old at.now.start }
+        requires ready { Ready self.old self.old.from at.now.start }
+        requires parts { WithinIf (is_of_parts event) self.old.source self.old.parts.from at.now.start }
         ensures { Acts N.tree event (mark_step N.tree self.old event at.now) self.old result self.new }
     {
         match event {

@@ -1,12 +1,11 @@
 -- A token's event brings the builder where the machine's step does.
 use Rattle.std.proofs.Common.{◌≡◌, ℕ, true, ◌++◌, Option, Some, None, Result, refl, sym, ap, subst, ◌∙◌}
 use Rattle.kdl_text.specs.Chars.{Text}
-use Rattle.kdl_text.specs.Internal.Here.{Here, Position}
 use Rattle.kdl_text.specs.Spans.{bytes}
 use Rattle.kdl_syntax.specs.Internal.Events.{event_of}
-use Rattle.kdl_syntax.specs.declared.control.Owner.TheVariants.{Name, Value}
+use Rattle.kdl_syntax.specs.declared.control.Owner.TheVariants.{Name}
 use Rattle.kdl_syntax.specs.declared.control.Phase.{Phase}
-use Rattle.kdl_syntax.specs.declared.control.Phase.TheVariants.{Gap, NodeSlashdash, TypeOpen, TypeName, TypeDone, InNode, Property, EntrySlashdash, BlockSlashdash, KeptSlashdash}
+use Rattle.kdl_syntax.specs.declared.control.Phase.TheVariants.{Gap, NodeSlashdash, TypeOpen, TypeName, TypeDone, InNode, EntrySlashdash, BlockSlashdash, KeptSlashdash}
 use Rattle.kdl_syntax.specs.declared.control.Spot.TheVariants.{Fresh, Spaced}
 use Rattle.kdl_syntax.specs.declared.control.Word.TheVariants.{MayBeKey}
 use Rattle.kdl_syntax.specs.declared.events.Event.{Event}
@@ -17,14 +16,14 @@ use Rattle.kdl_grammar.specs.Internal.Machine as machine
 use Rattle.kdl_grammar.specs.Internal.Machine.{State, step, Pending, pending, value_from, stay}
 use Rattle.kdl_grammar.specs.Tree.{Node}
 use Rattle.kdl_syntax.specs.Internal.Handed.{kind_view}
-use Rattle.kdl_syntax.specs.Tokens.{Token, space, equals, string, value, left, right}
+use Rattle.kdl_syntax.specs.Tokens.{Token, space, equals, string}
 use Rattle.kdl_syntax.specs.declared.lexer.LexFailure.{LexFailure}
 use Rattle.kdl_syntax.specs.declared.lexer.TokenKind.{TokenKind}
 use Rattle.kdl_syntax.specs.declared.lexer.TokenKind.TheVariants.{String as StringKind, Value as ValueKind}
 use Rattle.kdl_syntax.specs.declared.token_span.TokenSpan.{TokenSpan}
-use Rattle.kdl_parser.specs.Internal.Building.{under_view, pending_now, nodes_now, frames_view, state_view, state_by, phase_now, phase_placed, reading_view, Did, Placed}
+use Rattle.kdl_parser.specs.Internal.Building.{under_view, pending_now, nodes_now, frames_view, state_view, state_by, reading_view, Did}
 use Rattle.kdl_parser.specs.Internal.Counted.{unsliced, unsliced_at, unsliced_in, SlicedOn}
-use Rattle.kdl_parser.specs.Internal.Events.{event_step, mark_step, is_building, is_live, is_of_parts, unsliced_before, Acts, Meets, WithinIf}
+use Rattle.kdl_parser.specs.Internal.Events.{event_step, mark_step, is_building, is_live, unsliced_before, Acts}
 use Rattle.kdl_parser.specs.Internal.States.{step_at, step_in, TakesIn, TakesToken}
 use Rattle.kdl_parser.specs.declared.builder.Builder.{Builder}
 use Rattle.kdl_parser.specs.declared.builder.dropping.Dropped.{Dropped}
@@ -74,37 +73,6 @@ is_nothing d p e = absurd cc
 is_phase_live : (d : Dropped) (p : Phase) → is_building d p ≡ true → is_live p ≡ true
 is_phase_live Nothing p e = e
 is_phase_live d p e = absurd cc
-
--- the place of what has a type or a key ends before the token, if the token belongs to that
-abbrev held : Option Event → Here → Position → Position → Type 0
-held None z from s = Unit {0}
-held (Some e) z from s = WithinIf (is_of_parts e) z from s
-
-parts_held : {N : Type 0} (tree : N → Node) (b : Builder N) (s : Position) (p : Phase) (k : Token) → phase_placed b.source.text (phase_now tree b p) s.rest → held (event_of p k) b.source b.parts.from s
-parts_held tree b s (TypeOpen Name) (string v) x = x
-parts_held tree b s (TypeOpen Value) (string v) x = x
-parts_held tree b s (TypeName Name) right x = x
-parts_held tree b s (TypeName Value) right x = x
-parts_held tree b s (TypeDone Name) (string v) x = x
-parts_held tree b s (TypeDone Value) (string v) x = x
-parts_held tree b s (TypeDone Value) (value v) x = x
-parts_held tree b s Property (string v) x = x
-parts_held tree b s Property (value v) x = x
-parts_held tree b s Property left x = x
-parts_held tree b s (TypeDone Name) space x = tt
-parts_held tree b s (InNode (Fresh MayBeKey)) space x = tt
-parts_held tree b s (InNode (Spaced MayBeKey)) space x = tt
-parts_held tree b s p space x = tt
-parts_held tree b s p k x = tt
-
-pub meets : {N : Type 0} (tree : N → Node) (b : Builder N) (e : Event) (k : Token) (s : Position) → is_building b.dropped b.phase ≡ true → Some e ≡ event_of b.phase k → Placed b.source.text (state_view tree b) s.rest → Meets e b s
-meets tree b e k s i f x =
-    let d = is_nothing b.dropped b.phase i in
-    let y : Placed b.source.text (state_by tree b (reading_view Nothing)) s.rest = subst (λ (z : Dropped). Placed b.source.text (state_by tree b (reading_view z)) s.rest) d x in
-    record {
-      ready = record { live = d; from = y.0 };
-      parts = subst (λ (o : Option Event). held o b.source b.parts.from s) (sym f) (parts_held tree b s b.phase k y.1);
-    }
 
 module _ {N : Type 0} (tree : N → Node) (b b' : Builder N) (span : TokenSpan) (e : Event) (result : Result (Unit {0}) LexFailure) where
   -- the machine's step at the token

@@ -19,7 +19,7 @@ use Rattle.kdl_grammar.specs.Internal.Machine.{State}
 use Rattle.kdl_grammar.specs.Tree.{Node}
 use Rattle.kdl_parser.specs.Internal.Building.{in_phase, phase_now, state_view, Placed}
 use Rattle.kdl_parser.specs.Internal.Counted.{unsliced_in}
-use Rattle.kdl_parser.specs.Internal.States.{step_in, Ready, Steps}
+use Rattle.kdl_parser.specs.Internal.States.{step_in, Steps}
 use Rattle.kdl_parser.specs.declared.builder.Builder.{Builder}
 use Rattle.kdl_parser.specs.declared.builder.dropping.Dropped.{Dropped}
 use Rattle.kdl_parser.specs.declared.builder.dropping.Dropped.TheVariants.{Nothing}
@@ -75,11 +75,6 @@ is_of_parts _ = false
 abbrev pub WithinIf : Bool → Here → Position → Position → Type 0
 WithinIf true z from s = Within z from s
 WithinIf false z from s = Unit {0}
-
--- outside of what is slashdashed, where the current places end at s
-pub record Meets {N : Type 0} (e : Event) (b : Builder N) (s : Position) : Type 0 where
-  pub ready : Ready b b.from s
-  pub parts : WithinIf (is_of_parts e) b.source b.parts.from s
 
 -- the bytes that were not sliced before the token, from the start of the entry's current place, or of the builder's
 abbrev pub unsliced_before : Event → ℕ → ℕ → ℕ

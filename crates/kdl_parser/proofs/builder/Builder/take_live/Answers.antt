@@ -1,7 +1,6 @@
 use Rattle.std.proofs.Common.{refl}
 use Rattle.kdl_syntax.specs.declared.lexer.TokenKind.TheVariants.{String, Value}
-use Rattle.kdl_syntax.specs.Internal.Handed.{kind_view}
-use Rattle.kdl_parser.proofs.Stepping.Events.{takes_as, is_mark, meets}
+use Rattle.kdl_parser.proofs.Stepping.Events.{takes_as, is_mark}
 use Rattle.kdl_parser.proofs.builder.Builder.take_live.Goals as goal
 
 pub returns-in-String : goal.returns-in-String
@@ -18,9 +17,3 @@ pub returns-in_default-kind : goal.returns-in_default-kind
 returns-in_default-kind g c =
     takes_as g.N.ParsedNode.tree c.args.self.now c.take_mark.new.self c.args.at.now c.in-Some.event c.take_mark.result
     c.args.kind c.args.kind _ c.requires.building c.in-Some.ensures refl (is_mark g.N.ParsedNode.tree c.args.self.now c.in-Some.event c.args.at.now c.args.kind c.in_default-kind.not-String c.in_default-kind.not-Value) c.take_mark.ensures
-
-pub take_value-requires : goal.take_value-requires
-take_value-requires g c = meets g.N.ParsedNode.tree c.args.self.now c.in-Some.event (kind_view c.args.kind) c.args.at.now.start c.requires.building c.in-Some.ensures c.requires.placed
-
-pub take_mark-requires : goal.take_mark-requires
-take_mark-requires g c = meets g.N.ParsedNode.tree c.args.self.now c.in-Some.event (kind_view c.args.kind) c.args.at.now.start c.requires.building c.in-Some.ensures c.requires.placed
