@@ -12,7 +12,7 @@ use Rattle.kdl_parser.proofs.Stepping.TurnCost.{fewer, token_fewer}
 use Rattle.kdl_parser.proofs.Stepping.Views.{all_closed, entry_pushed, level_pushed, node_pushed, one_open}
 
 -- for src/builder/steps.rt
-pub ruleset steps = (fewer, token_fewer, level_pushed, ahead, between_none, origin_ends)
+pub ruleset steps = (fewer, token_fewer, level_pushed, entry_pushed, ahead, between_none, origin_ends)
 
 -- for src/builder/content.rt
 pub ruleset content = (entry_pushed, spans, nothing, no_last, without, within, ahead, node_pushed)
@@ -21,7 +21,7 @@ pub ruleset content = (entry_pushed, spans, nothing, no_last, without, within, a
 pub ruleset dropping = (drops_like, first_like)
 
 -- for src/builder.rt
-pub ruleset builder = (none_sliced, same_state, one_open, all_closed)
+pub ruleset builder = (none_sliced, same_state, one_open, all_closed, fewer, token_fewer, ahead, between_none, origin_ends)
 
 -- for src/node_text.rt
 pub ruleset node_text = (one_read, not_one, whole_read)

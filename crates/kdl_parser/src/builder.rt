@@ -2,18 +2,17 @@
 #![tactic(auto, using(crate::proofs::Rules::builder))]
 
 ghost use Rattle.kdl_entry.specs.Internal.Counted.{Within};
-ghost use Rattle.kdl_entry.specs.Tree.{plain_identifier};
 ghost use Rattle.kdl_grammar.specs.Internal.Machine.{initial};
 ghost use Rattle.kdl_syntax.specs.Internal.Handed.{kind_view, LexedNext, NextCosts};
 ghost use Rattle.kdl_syntax.specs.Tokens.{space, string};
-ghost use Rattle.kdl_parser.specs.Internal.Building.{state_view, under_view, Placed};
+ghost use Rattle.kdl_parser.specs.Internal.Building.{state_view, Placed};
 ghost use Rattle.kdl_parser.specs.Internal.Counted.{unsliced};
-ghost use Rattle.kdl_parser.specs.Internal.Events.{Acts, PartsAhead, is_building, mark_step, string_step, value_step};
+ghost use Rattle.kdl_parser.specs.Internal.Events.{Acts, StandsAt, WithinIf, is_building, is_of_parts, mark_step, string_step, value_step};
 ghost use Rattle.kdl_parser.specs.Internal.States.{document_now, document_of_nodes, Ends, Ready, Stays, TakesToken, TakesTurn};
 ghost use Rattle.kdl_text.specs.Internal.Reading.{Moves};
 ghost use Rattle.kdl_text.specs.Spans.{bytes};
 ghost use Rattle.kdl_value.specs.Tree.{text_of, value_tree};
-ghost use Rattle.std.specs.Prelude.{◌≡◌, ◌++◌, [], None, true};
+ghost use Rattle.std.specs.Prelude.{◌≡◌, ◌++◌, [], true};
 
 mod content;
 mod dropping;
@@ -27,26 +26,22 @@ use crate::node_parts::{DocumentParts, ParsedNode};
 use kdl_entry::parsing::parts::{Parts, TypeParts, empty};
 use kdl_entry::parsing::source::Source;
 use kdl_entry::{KdlEntry, KdlIdentifier, KdlValue};
-use kdl_syntax::{Event, LexFailure, NextToken, Phase, TokenKind, TokenSpan};
+use kdl_syntax::{Event, LexFailure, NextToken, Owner, Phase, TokenKind, TokenSpan};
 use kdl_text::cursor::{Checkpoint, Piece};
-use std::alloc::Global;
+use std::mem;
 
 /// A node being read.
 #[derive(Drop)]
-struct Under<'a> {
+struct Under<'a, N> {
     leading: String,
     start: Checkpoint<'a>,
     /// Its type, on the heap: few nodes have one, and a node is moved when its block opens and when it closes.
     ty: Option<Box<TypeParts>>,
     name: KdlIdentifier,
     entries: Growing<KdlEntry>,
-}
-
-/// An open block: its node, the text before the block, and the nodes before its node.
-#[derive(Drop)]
-struct Level<'a, N> {
-    under: Under<'a>,
+    /// The text before its block.
     before: String,
+    /// The nodes before it, while its block is open.
     nodes: Vec<N>,
 }
 
@@ -58,13 +53,6 @@ struct WaitingWord<'a> {
     value: String,
     /// Its spelling, which is copied if it differs from the string.
     repr: Piece<'a>,
-}
-
-/// The text before a name or an entry, and where that begins.
-#[derive(Drop)]
-struct Slot<'a> {
-    leading: String,
-    start: Checkpoint<'a>,
 }
 
 /// A document being read. It holds nothing of what is slashdashed.
@@ -81,39 +69,15 @@ pub(crate) struct Builder<'a, N> {
     /// A string that may be a key.
     waiting: Option<WaitingWord<'a>>,
     /// The current node; in no node, nothing of it is used.
-    under: Under<'a>,
-    /// The text before its block.
-    before: String,
+    under: Under<'a, N>,
     /// Its block.
     block: DocumentParts<N>,
     /// The nodes before it.
     nodes: Growing<N>,
-    /// The open blocks, the innermost last.
-    levels: Vec<Level<'a, N>>,
+    /// The nodes whose blocks are open, the innermost last.
+    levels: Vec<Under<'a, N>>,
     /// The start of the current place.
     from: Checkpoint<'a>,
-}
-
-impl<'a> Under<'a> {
-    /// Creates a node without content. Does not allocate.
-    fn new(alloc: Global, start: &Checkpoint<'a>) -> Self
-        ensures is { under_view result ≡ record {
-          leading = [];
-          start = start.now.rest;
-          ty = None;
-          name = plain_identifier [];
-          entries = [];
-        } }
-        ensures start { result.start ≡ start.now }
-    {
-        Under {
-            leading: empty(alloc),
-            start: start.copied(),
-            ty: None,
-            name: KdlIdentifier::from(empty(alloc)),
-            entries: Growing::new(alloc),
-        }
-    }
 }
 
 impl<'a, N: ParsedNode> Builder<'a, N> {
@@ -131,8 +95,15 @@ impl<'a, N: ParsedNode> Builder<'a, N> {
             dropped: Dropped::Nothing,
             parts: Parts::new(alloc, &start),
             waiting: None,
-            under: Under::new(alloc, &start),
-            before: empty(alloc),
+            under: Under {
+                leading: empty(alloc),
+                start: start.copied(),
+                ty: None,
+                name: KdlIdentifier::from(empty(alloc)),
+                entries: Growing::new(alloc),
+                before: empty(alloc),
+                nodes: Vec::new(alloc),
+            },
             block: no_content(alloc),
             nodes: Growing::new(alloc),
             levels: Vec::new(alloc),
@@ -149,7 +120,7 @@ impl<'a, N: ParsedNode> Builder<'a, N> {
         at: &TokenSpan<'a>,
     ) -> Result<(), LexFailure>
         requires ready { Ready self.old self.old.from at.now.start }
-        requires parts { PartsAhead event self.old.source self.old.parts.from at.now.start }
+        requires parts { WithinIf (is_of_parts event) self.old.source self.old.parts.from at.now.start }
         ensures { Acts N.tree event (value_step N.tree self.old event (value_tree value) at.now) self.old
             result self.new }
     {
@@ -170,14 +141,18 @@ impl<'a, N: ParsedNode> Builder<'a, N> {
         at: &TokenSpan<'a>,
     ) -> Result<(), LexFailure>
         requires ready { Ready self.old self.old.from at.now.start }
-        requires parts { PartsAhead event self.old.source self.old.parts.from at.now.start }
+        requires parts { WithinIf (is_of_parts event) self.old.source self.old.parts.from at.now.start }
         ensures { Acts N.tree event (string_step N.tree self.old event (text_of text) at.now) self.old
             result self.new }
     {
         match event {
             Event::Name => self.name_node(text, at),
             Event::TypedName => self.name_typed(text, at),
-            Event::TypeName(owner) => self.name_type(owner, text, at),
+            Event::TypeName(owner) => {
+                self.parts.take_name(&mut self.source, text, at)?;
+                self.phase = Phase::TypeName(owner);
+                Ok(())
+            }
             Event::Word => self.wait(text, at),
             Event::TypedValue => self.add_typed(KdlValue::String(text), at),
             Event::KeyedValue => self.add_keyed(KdlValue::String(text), at),
@@ -189,7 +164,7 @@ impl<'a, N: ParsedNode> Builder<'a, N> {
     #[inline(always)]
     fn take_mark(&mut self, event: Event, at: &TokenSpan<'a>) -> Result<(), LexFailure>
         requires ready { Ready self.old self.old.from at.now.start }
-        requires parts { PartsAhead event self.old.source self.old.parts.from at.now.start }
+        requires parts { WithinIf (is_of_parts event) self.old.source self.old.parts.from at.now.start }
         ensures { Acts N.tree event (mark_step N.tree self.old event at.now) self.old result self.new }
     {
         match event {
@@ -199,16 +174,34 @@ impl<'a, N: ParsedNode> Builder<'a, N> {
             }
             Event::NameType => self.open_name(at),
             Event::ValueType => self.open_value(at),
-            Event::KeyedType => self.open_keyed_type(at),
-            Event::TypeEnd(owner) => self.end_type(owner, at),
+            Event::KeyedType => {
+                self.parts.open_typed(&mut self.source, at)?;
+                self.phase = Phase::TypeOpen(Owner::Value);
+                Ok(())
+            }
+            Event::TypeEnd(owner) => {
+                self.parts.close(&mut self.source, at)?;
+                self.phase = Phase::TypeDone(owner);
+                Ok(())
+            }
             Event::Equals => self.open_property(at),
-            Event::EntrySlashdash => self.go_past_slashdash(),
+            Event::EntrySlashdash => {
+                self.settle_word()?;
+                self.phase = Phase::EntrySlashdash;
+                Ok(())
+            }
             Event::NodeEnd => self.end_node(at),
             Event::KeptEnd => self.end_kept(at),
             Event::Opening(_) => self.open_block(at),
             Event::GapClosing => self.close(at),
-            Event::NodeClosing => self.close_node(at),
-            Event::KeptClosing => self.close_kept(at),
+            Event::NodeClosing => {
+                self.end_node(&nothing_at(&at.start))?;
+                self.close(at)
+            }
+            Event::KeptClosing => {
+                self.end_kept(&nothing_at(&at.start))?;
+                self.close(at)
+            }
             _ => Err(LexFailure::Faulty),
         }
     }
@@ -233,8 +226,7 @@ impl<'a, N: ParsedNode> Builder<'a, N> {
     /// Takes a token outside of what is slashdashed.
     #[inline(always)]
     fn take_live(&mut self, kind: TokenKind, at: &TokenSpan<'a>) -> Result<(), LexFailure>
-        requires building { is_building self.old.dropped self.old.phase ≡ true }
-        requires placed { Placed self.old.source.text (state_view N.tree self.old) at.now.start.rest }
+        requires { StandsAt true N.tree self.old at.now.start }
         ensures { TakesToken N.tree self.old (kind_view kind) at.now result self.new }
     {
         let Some(event) = self.phase.event(&kind) else {
@@ -250,8 +242,7 @@ impl<'a, N: ParsedNode> Builder<'a, N> {
     /// Takes a bare string outside of what is slashdashed.
     #[inline(always)]
     fn take_bare(&mut self, word: &Piece<'a>, at: &TokenSpan<'a>) -> Result<(), LexFailure>
-        requires building { is_building self.old.dropped self.old.phase ≡ true }
-        requires placed { Placed self.old.source.text (state_view N.tree self.old) at.now.start.rest }
+        requires here { StandsAt true N.tree self.old at.now.start }
         requires reads { at.now.start.rest ≡ word.now ++ at.now.end.rest }
         ensures { TakesToken N.tree self.old (string word.now) at.now result self.new }
     {
@@ -309,7 +300,6 @@ impl<'a, N: ParsedNode> Builder<'a, N> {
     /// Takes the token at the place, which is a run of spaces. It does what `take` does at such a token.
     #[inline(always)]
     pub(crate) fn take_space(&mut self, at: &TokenSpan<'a>) -> Result<(), LexFailure>
-        requires placed { Placed self.old.source.text (state_view N.tree self.old) at.now.start.rest }
         ensures { TakesTurn N.tree self.old space at.now result self.new }
     {
         self.source.count_look();
@@ -378,7 +368,7 @@ impl<'a, N: ParsedNode> Builder<'a, N> {
             return Err(LexFailure::Faulty);
         }
         self.nodes.fit()?;
-        let nodes = self.nodes.replace(Vec::new(self.source.alloc()));
+        let nodes = mem::replace(&mut self.nodes.items, Vec::new(self.source.alloc()));
         let document = self.content_up_to(nodes, here)?;
         Ok(document)
     }

@@ -2,15 +2,14 @@
 #![tactic(auto, using(crate::proofs::Rules::node_text))]
 
 ghost use Rattle.kdl_grammar.specs.Laid.{LaidNodeText};
-ghost use Rattle.kdl_parser.specs.Internal.NodeText.{RunsOnText, ReadsOne, IsOnly, AnswersNodeText, text_by};
-ghost use Rattle.kdl_parser.specs.Internal.Parts.{document_by};
+ghost use Rattle.kdl_parser.specs.Internal.NodeText.{ReadsOne, IsOnly, AnswersNodeText, text_by};
 ghost use Rattle.kdl_parser.specs.Internal.Steps.{ParsesNode};
 ghost use Rattle.kdl_value.specs.Tree.{text_of};
 ghost use Rattle.std.specs.Prelude.{IfOk};
 ghost use Rattle.std.specs.Str.{chars};
 
 use crate::line_spaces::line_spaces;
-use crate::node_parts::{DocumentParts, ParsedNode};
+use crate::node_parts::ParsedNode;
 use crate::token_loop::build;
 use kdl_diagnostics::{Whole, failure};
 use kdl_entry::parsing::source::Source;
@@ -76,28 +75,16 @@ fn with_line_spaces<N: ParsedNode>(
     }
 }
 
-/// Returns the node that the text is, from the document that the text is.
-fn node_of<N: ParsedNode>(
-    alloc: Global,
-    text: &str,
-    document: DocumentParts<N>,
-) -> Result<NodeText<N>, LexFailure>
-    requires { RunsOnText (chars text.now) (document_by N.tree document) }
-    ensures { AnswersNodeText N.tree (chars text.now) result }
-{
-    match only_node(document.nodes) {
-        Some(node) => with_line_spaces(alloc, text, node, document.trailing),
-        None => Err(LexFailure::Faulty),
-    }
-}
-
 /// Reads the node that the text is.
 fn read_whole<N: ParsedNode>(alloc: Global, text: &str) -> Result<NodeText<N>, LexFailure>
     ensures { AnswersNodeText N.tree (chars text.now) result }
 {
     let source = Source::new(alloc, text, Steps::new());
     match build(source, &mut Steps::new()) {
-        Ok(document) => node_of(alloc, text, document),
+        Ok(document) => match only_node(document.nodes) {
+            Some(node) => with_line_spaces(alloc, text, node, document.trailing),
+            None => Err(LexFailure::Faulty),
+        },
         Err(failure) => Err(failure),
     }
 }

@@ -1,5 +1,5 @@
 -- What the fields of a type, of a key, and of the parts of an entry represent.
-use Rattle.std.specs.Prelude.{◌≡◌, option_map}
+use Rattle.std.specs.Prelude.{option_map}
 use Rattle.kdl_entry.specs.Internal.Parts as under_way
 use Rattle.kdl_value.specs.Tree.{text_of}
 use Rattle.kdl_entry.specs.Tree.{identifier_tree}
@@ -26,8 +26,3 @@ parts_view it = record {
   before = text_of it.before;
   after = text_of it.after;
 }
-
--- the entry begins where it began
-pub record Holds (old new : under_way.Parts) : Type 0 where
-  pub leading : new.leading ≡ old.leading
-  pub start : new.start ≡ old.start

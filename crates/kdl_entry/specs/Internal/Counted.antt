@@ -1,8 +1,8 @@
 -- What a call that slices asks of the places, and what it costs: at most a step for each byte of the slices.
-use Rattle.std.specs.Prelude.{◌≡◌, ℕ, ◌+◌, ◌≤◌, ◌++◌}
+use Rattle.std.specs.Prelude.{◌≡◌, ℕ, ◌+◌, ◌≤◌, ◌++◌, Result, OnOk}
 use Rattle.kdl_text.specs.Chars.{Text}
-use Rattle.kdl_text.specs.Internal.Here.{Here, Position}
-use Rattle.kdl_text.specs.Spans.{raise}
+use Rattle.kdl_text.specs.Internal.Here.{Here, Position, Ahead}
+use Rattle.kdl_text.specs.Spans.{bytes, raise}
 
 -- the second text is an end of the first
 abbrev pub EndsIn : Text → Text → Type 0
@@ -16,6 +16,10 @@ InOrder t from s = EndsIn t from × EndsIn t s × EndsIn from s
 abbrev pub Within : Here → Position → Position → Type 0
 Within z from to = InOrder z.text from.rest to.rest
 
+-- the first place is in the source's text, and the second one is ahead of it
+abbrev pub Opens : Here → Position → Position → Type 0
+Opens z from to = EndsIn z.text from.rest × Ahead from to
+
 -- the source is the same but for its count, which did not fall
 pub record Recounted (old new : Here) : Type 0 where
   pub text : new.text ≡ old.text
@@ -26,3 +30,13 @@ pub record Recounted (old new : Here) : Type 0 where
 -- of the m bytes before the end of the text that were not sliced yet, all but the last n may have been
 pub record Sliced (m n : ℕ) (old new : ℕ) : Type 0 where
   pub most : new + n ≤ old + m
+
+-- the text between two places was sliced: the source is the same but for its count
+pub record Slices (from to : Position) (old new : Here) : Type 0 where
+  pub same : Recounted old new
+  pub sliced : Sliced (bytes from.rest) (bytes to.rest) old.steps new.steps
+
+-- the same of a call that may fail: how much it sliced then is not said
+pub record SlicesOn {A E : Type 0} (from to : Position) (result : Result A E) (old new : Here) : Type 0 where
+  pub same : Recounted old new
+  pub sliced : OnOk result (Sliced (bytes from.rest) (bytes to.rest) old.steps new.steps)

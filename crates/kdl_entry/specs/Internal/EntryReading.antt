@@ -1,9 +1,10 @@
 -- The machine's state that a reader of an entry holds, and what its steps return.
 use Rattle.std.specs.Prelude.{◌≡◌, ◌↔◌, Option, Some, None, Result, Ok, Err}
 use Rattle.kdl_text.specs.Chars.{Text}
+use Rattle.kdl_text.specs.Internal.Here.{Here}
 use Rattle.kdl_syntax.specs.Internal.Views.{phase_view}
 use Rattle.kdl_entry.specs.Internal.Building.{parts_view}
-use Rattle.kdl_entry.specs.Internal.Counted.{InOrder}
+use Rattle.kdl_entry.specs.Internal.Counted.{InOrder, Recounted}
 use Rattle.kdl_entry.specs.Internal.EntryMachine as machine
 use Rattle.kdl_entry.specs.Internal.EntryMachine.{AnswersEntry, Runs, under, word, done}
 use Rattle.kdl_value.specs.Tree.{text_of}
@@ -40,6 +41,11 @@ abbrev pub Stepped : Option machine.State → Result State LexFailure → Type 0
 Stepped o (Ok st) = o ≡ Some (state_view st)
 Stepped o (Err Faulty) = o ≡ None
 Stepped o (Err Memory) = Unit {0}
+
+-- a step at a token, given the machine's result o: the source is the same but for its count
+pub record Takes (o : Option machine.State) (result : Result State LexFailure) (old new : Here) : Type 0 where
+  pub did : Stepped o result
+  pub same : Recounted old new
 
 -- what is read at the end of the text: the entry, or none yet
 abbrev pub Ended : Option tree.Entry → Option KdlEntry → Type 0

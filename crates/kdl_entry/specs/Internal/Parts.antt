@@ -115,6 +115,10 @@ key_at it s = record { name = it.name; before = it.before; following = between i
 abbrev pub emptied : Parts → Parts
 emptied it = record it { name = plain_identifier []; before = [] }
 
+-- the type was taken
+abbrev pub without_type : Parts → Parts
+without_type it = record (emptied it) { after = [] }
+
 -- after the `(` of a type that follows the key k
 abbrev pub reopened : KeyParts → Text → Parts → Parts
 reopened k r it = record (emptied it) { key = Some k; from = r }

@@ -7,7 +7,7 @@ ghost use Rattle.kdl_entry.specs.Internal.Building.{parts_view};
 ghost use Rattle.kdl_entry.specs.Internal.EntryMachine as machine;
 ghost use Rattle.kdl_entry.specs.Internal.EntryMachine.{argument_of, begin_to, ended, finish, phase_of, step, value_of, value_to, word_to};
 ghost use Rattle.kdl_entry.specs.Internal.Counted.{EndsIn, Recounted, Within};
-ghost use Rattle.kdl_entry.specs.Internal.EntryReading.{word_view, state_view, AnswersEntryText, Stands, Stepped, Ended};
+ghost use Rattle.kdl_entry.specs.Internal.EntryReading.{word_view, state_view, AnswersEntryText, Stands, Takes, Ended};
 ghost use Rattle.kdl_syntax.specs.Internal.Handed.{kind_view};
 ghost use Rattle.kdl_entry.specs.Places.{between};
 ghost use Rattle.kdl_value.specs.Tree.{value_tree};
@@ -15,7 +15,7 @@ ghost use Rattle.kdl_entry.specs.Tree.{entry_tree};
 ghost use Rattle.std.specs.Prelude.{◌≡◌, [], None, Some, IfOk, option_map};
 ghost use Rattle.std.specs.Str.{chars};
 
-use super::parts::{Key, Parts, argument_from, entry_from};
+use super::parts::{Given, Parts, entry_from};
 use super::source::Source;
 use crate::entry::KdlEntry;
 use crate::identifier::sliced_identifier;
@@ -63,13 +63,8 @@ fn argument(alloc: Global, word: PendingWord) -> Result<KdlEntry, AllocError>
     ensures { IfOk result (λ e. entry_tree e ≡ argument_of (word_view word.entry)) }
 {
     let repr = word.repr.to_string(alloc)?;
-    Ok(argument_from(
-        alloc,
-        UNPLACED,
-        word.leading,
-        KdlValue::String(word.value),
-        repr,
-    ))
+    let value = KdlValue::String(word.value);
+    Ok(entry_from(alloc, UNPLACED, word.leading, Given::plain(value), repr))
 }
 
 /// Takes a token before the entry. The control goes to `next`.
@@ -79,10 +74,9 @@ fn begin_to<'a>(
     token: Token<'a>,
 ) -> Result<State<'a>, LexFailure>
     requires leading { EndsIn source.old.text token.at.start.rest }
-    ensures did { Stepped (begin_to source.old.text (entry_view next)
+    ensures { Takes (begin_to source.old.text (entry_view next)
         (kind_view token.entry.kind) token.entry.at.start.rest token.entry.at.end.rest)
-        result }
-    ensures same { Recounted source.old source.new }
+        result source.old source.new }
 {
     let Token { kind, at } = token;
     match (next, kind) {
@@ -91,7 +85,7 @@ fn begin_to<'a>(
         (EntryControl::Under(phase), _) => {
             let leading = source.text(&source.start(), &at.start)?;
             let mut parts = Parts::new(source.alloc(), &at.start);
-            parts.open(leading, &at);
+            parts.open(leading, &at.start, &at.end);
             Ok(State::Under(phase, parts))
         }
         (EntryControl::Word, TokenKind::String(value)) => {
@@ -107,7 +101,7 @@ fn begin_to<'a>(
         (EntryControl::Done, TokenKind::Value(value)) => {
             let leading = source.text(&source.start(), &at.start)?;
             let repr = source.text(&at.start, &at.end)?;
-            let entry = argument_from(source.alloc(), UNPLACED, leading, value, repr);
+            let entry = entry_from(source.alloc(), UNPLACED, leading, Given::plain(value), repr);
             Ok(State::Done(entry, at.end))
         }
         _ => Err(LexFailure::Faulty),
@@ -133,10 +127,9 @@ fn at_value<'a>(
     token: Token<'a>,
 ) -> Result<State<'a>, LexFailure>
     requires from { Within source.old parts.from token.at.start }
-    ensures did { Stepped (value_to (phase_view phase) (parts_view parts.entry)
+    ensures { Takes (value_to (phase_view phase) (parts_view parts.entry)
         (kind_view token.entry.kind) token.entry.at.start.rest token.entry.at.end.rest)
-        result }
-    ensures same { Recounted source.old source.new }
+        result source.old source.new }
 {
     let Token { kind, at } = token;
     let Some(value) = value_of(kind) else {
@@ -168,7 +161,9 @@ fn word_to<'a>(
             let name = sliced_identifier(source.alloc(), word.value, &word.repr, word.span)?;
             let start = source.start();
             let mut parts = Parts::new(source.alloc(), &start);
-            parts.open_keyed(word.leading, &start, Key { name, before }, &at.end);
+            parts.open(word.leading, &start, &at.end);
+            parts.name = name;
+            parts.before = before;
             Ok(State::Under(phase, parts))
         }
         _ => {
@@ -216,10 +211,9 @@ impl<'a> State<'a> {
     fn take(self, source: &mut Source<'a>, token: Token<'a>) -> Result<State<'a>, LexFailure>
         requires leading { EndsIn source.old.text token.at.start.rest }
         requires from { Stands source.old.text (state_view self) token.at.start.rest }
-        ensures did { Stepped (step source.old.text (state_view self.entry)
+        ensures { Takes (step source.old.text (state_view self.entry)
             (kind_view token.entry.kind) token.entry.at.start.rest token.entry.at.end.rest)
-            result }
-        ensures same { Recounted source.old source.new }
+            result source.old source.new }
     {
         let Some(next) = self.control().after(&token.kind) else {
             return Err(LexFailure::Faulty);
@@ -277,14 +271,6 @@ fn read_tokens(source: &mut Source) -> Result<KdlEntry, LexFailure>
     }
 }
 
-/// Reads the entry that the text is.
-fn read_entry(alloc: Global, text: &str) -> Result<KdlEntry, LexFailure>
-    ensures { AnswersEntryText (chars text.now) result }
-{
-    let mut source = Source::new(alloc, text, Steps::new());
-    read_tokens(&mut source)
-}
-
 impl KdlEntry {
     ghost use Rattle.kdl_entry.specs.Data as data';
     ghost use Rattle.kdl_entry.specs.Entries.{IsEntryText};
@@ -319,7 +305,7 @@ impl KdlEntry {
             → ⊥ }
         ensures told { TellsOnSyntax text.now result }
     {
-        match read_entry(alloc, text) {
+        match read_tokens(&mut Source::new(alloc, text, Steps::new())) {
             Ok(entry) => Ok(entry),
             Err(LexFailure::Faulty) => {
                 Err(failure(alloc, text, Whole::Entry, &mut Steps::new()))

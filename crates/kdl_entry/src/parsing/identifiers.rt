@@ -39,13 +39,6 @@ fn read_token(source: &mut Source) -> Result<KdlIdentifier, LexFailure>
     Ok(source.identifier(value, &at)?)
 }
 
-/// Reads the identifier that the text is.
-fn read_identifier(alloc: Global, text: &str) -> Result<KdlIdentifier, LexFailure>
-    ensures { AnswersIdentifierText (chars text.now) result }
-{
-    read_token(&mut Source::new(alloc, text, Steps::new()))
-}
-
 impl KdlIdentifier {
     ghost use Rattle.kdl_entry.specs.Entries.{IsIdentifierText};
     ghost use Rattle.kdl_entry.specs.Laid.{LaidIdentifierText};
@@ -81,7 +74,7 @@ impl KdlIdentifier {
             → ⊥ }
         ensures told { TellsOnSyntax text.now result }
     {
-        match read_identifier(alloc, text) {
+        match read_token(&mut Source::new(alloc, text, Steps::new())) {
             Ok(identifier) => Ok(identifier),
             Err(LexFailure::Faulty) => {
                 Err(failure(alloc, text, Whole::Identifier, &mut Steps::new()))

@@ -4,16 +4,15 @@
 #![tactic(auto, using(crate::proofs::Rules::parts))]
 
 ghost use Rattle.kdl_syntax.specs.Internal.Views.{phase_view};
-ghost use Rattle.kdl_entry.specs.Internal.Building.{key_view, type_view, parts_view, Holds};
-ghost use Rattle.kdl_entry.specs.Internal.Counted.{Recounted, Sliced, Within};
+ghost use Rattle.kdl_entry.specs.Internal.Building.{key_view, type_view, parts_view};
+ghost use Rattle.kdl_entry.specs.Internal.Counted.{Recounted, SlicesOn, Within};
 ghost use Rattle.kdl_syntax.specs.Internal.Handed.{kind_view};
 ghost use Rattle.kdl_entry.specs.Internal.Parts as spec;
 ghost use Rattle.kdl_entry.specs.Internal.Parts.{entry_at, identifier_at};
 ghost use Rattle.kdl_entry.specs.Places.{between};
 ghost use Rattle.kdl_value.specs.Tree.{value_tree, text_of};
-ghost use Rattle.kdl_entry.specs.Tree.{entry_tree, identifier_tree};
+ghost use Rattle.kdl_entry.specs.Tree.{entry_tree};
 ghost use Rattle.kdl_text.specs.Internal.Here.{Ahead};
-ghost use Rattle.kdl_text.specs.Spans.{bytes};
 ghost use Rattle.std.specs.Prelude.{◌≡◌, [], Some, None, IfOk, OnOk, option_map};
 
 use super::source::Source;
@@ -43,20 +42,6 @@ pub struct KeyParts {
     pub following: String,
 }
 
-/// A key, and the text before its `=`.
-#[derive(Drop)]
-pub struct Key {
-    pub name: KdlIdentifier,
-    pub before: String,
-}
-
-/// A value, and its spelling.
-#[derive(Drop)]
-pub struct ValueParts {
-    pub value: KdlValue,
-    pub repr: String,
-}
-
 /// The parts of an entry, or of a node's name, being read. The name and the texts around it are those of the type, or
 /// after `=` those of the key.
 #[derive(Drop)]
@@ -81,6 +66,20 @@ pub struct Given {
     pub value: KdlValue,
 }
 
+impl Given {
+    /// A value without key or type.
+    #[inline(always)]
+    pub fn plain(value: KdlValue) -> Given
+        ensures { result ≡ record { key = None; ty = None; value = value } }
+    {
+        Given {
+            key: None,
+            ty: None,
+            value,
+        }
+    }
+}
+
 /// Returns an empty text. Does not allocate.
 ///
 /// ```
@@ -101,11 +100,11 @@ pub fn empty(alloc: Global) -> String
 /// ```
 /// let span = SourceSpan { offset: 0, len: 5 };
 /// let leading = String::from_str(alloc, " ")?;
-/// let given = Given { key: None, ty: None, value: KdlValue::from(16) };
+/// let given = Given::plain(KdlValue::from(16));
 /// let repr = String::from_str(alloc, "0x10")?;
 /// let entry = entry_from(alloc, span, leading, given, repr); // prints " 0x10"
 /// ```
-#[inline]
+#[inline(always)]
 pub fn entry_from(
     alloc: Global,
     span: SourceSpan,
@@ -118,24 +117,17 @@ pub fn entry_from(
         (option_map type_view given.ty) (value_tree given.value) (text_of repr) }
 {
     let Given { key, ty, value } = given;
-    let mut format = KdlEntryFormat::new(alloc);
-    format.value_repr = repr;
-    format.leading = leading;
-    let name = match key {
+    let (name, after_key, after_eq) = match key {
         Some(
             KeyParts {
                 name,
                 before,
                 following,
             },
-        ) => {
-            format.after_key = before;
-            format.after_eq = following;
-            Some(name)
-        }
-        None => None,
+        ) => (Some(name), before, following),
+        None => (None, empty(alloc), empty(alloc)),
     };
-    let ty = match ty {
+    let (ty, before_ty_name, after_ty_name, after_ty) = match ty {
         Some(
             TypeParts {
                 name,
@@ -143,89 +135,21 @@ pub fn entry_from(
                 after,
                 following,
             },
-        ) => {
-            format.before_ty_name = before;
-            format.after_ty_name = after;
-            format.after_ty = following;
-            Some(name)
-        }
-        None => None,
+        ) => (Some(name), before, after, following),
+        None => (None, empty(alloc), empty(alloc), empty(alloc)),
+    };
+    let format = KdlEntryFormat {
+        value_repr: repr,
+        leading,
+        trailing: empty(alloc),
+        after_ty,
+        before_ty_name,
+        after_ty_name,
+        after_key,
+        after_eq,
+        autoformat_keep: false,
     };
     KdlEntry::parsed(ty, name, value, format, span)
-}
-
-/// Creates an argument without a type.
-///
-/// ```
-/// let span = SourceSpan { offset: 0, len: 5 };
-/// let leading = String::from_str(alloc, " ")?;
-/// let repr = String::from_str(alloc, "0x10")?;
-/// let entry = argument_from(alloc, span, leading, KdlValue::from(16), repr); // prints " 0x10"
-/// ```
-#[inline(always)]
-pub fn argument_from(
-    alloc: Global,
-    span: SourceSpan,
-    leading: String,
-    value: KdlValue,
-    repr: String,
-) -> KdlEntry
-    ensures { entry_tree result
-        ≡ entry_at span (text_of leading) None None (value_tree value) (text_of repr) }
-{
-    let format = KdlEntryFormat {
-        value_repr: repr,
-        leading,
-        trailing: empty(alloc),
-        after_ty: empty(alloc),
-        before_ty_name: empty(alloc),
-        after_ty_name: empty(alloc),
-        after_key: empty(alloc),
-        after_eq: empty(alloc),
-        autoformat_keep: false,
-    };
-    KdlEntry::parsed(None, None, value, format, span)
-}
-
-/// Creates a property without a type.
-///
-/// ```
-/// let span = SourceSpan { offset: 0, len: 4 };
-/// let name = KdlIdentifier::from_text(alloc, "a")?;
-/// let key = KeyParts { name, before: empty(alloc), after: empty(alloc) };
-/// let leading = String::from_str(alloc, " ")?;
-/// let value = ValueParts { value: KdlValue::from(1), repr: String::from_str(alloc, "1")? };
-/// let entry = property_from(alloc, span, leading, key, value); // prints " a=1"
-/// ```
-#[inline(always)]
-pub fn property_from(
-    alloc: Global,
-    span: SourceSpan,
-    leading: String,
-    key: KeyParts,
-    value: ValueParts,
-) -> KdlEntry
-    ensures { entry_tree result
-        ≡ entry_at span (text_of leading) (Some (key_view key)) None (value_tree value.value) (text_of value.repr) }
-{
-    let KeyParts {
-        name,
-        before,
-        following,
-    } = key;
-    let ValueParts { value, repr } = value;
-    let format = KdlEntryFormat {
-        value_repr: repr,
-        leading,
-        trailing: empty(alloc),
-        after_ty: empty(alloc),
-        before_ty_name: empty(alloc),
-        after_ty_name: empty(alloc),
-        after_key: before,
-        after_eq: following,
-        autoformat_keep: false,
-    };
-    KdlEntry::parsed(None, Some(name), value, format, span)
 }
 
 impl<'a> Parts<'a> {
@@ -252,71 +176,29 @@ impl<'a> Parts<'a> {
         }
     }
 
-    /// Begins an entry, or a node's name, at the `(` of its type.
+    /// Begins an entry, or a node's name, that is at `start`, after the `(` of its type or the `=` after its key, which
+    /// ends at `end`.
     ///
     /// ```
     /// let mut source = Source::new(alloc, "(u8)1", Steps::new());
     /// let mut parts = Parts::new(alloc, &source.start());
     /// if let Some(left) = source.next()? {
-    ///     parts.open(empty(alloc), &left.at); // the type's name is expected
+    ///     parts.open(empty(alloc), &left.at.start, &left.at.end); // the type's name is expected
     /// }
     /// ```
-    pub fn open(&mut self, leading: String, at: &TokenSpan<'a>)
-        ensures is { parts_view self.new
-            ≡ record (parts_view self.old) {
-              leading = text_of leading;
-              start
-                  = at.now.start.rest;
-              from = at.now.end.rest;
-              key = None;
-            } }
-        ensures start { self.new.start ≡ at.now.start }
-        ensures from { self.new.from ≡ at.now.end }
-    {
-        self.leading = leading;
-        self.start = at.start.copied();
-        self.from = at.end.copied();
-        self.key = None;
-    }
-
-    /// Begins a property whose key is at `start`, after the `=` that ends at `end`.
-    ///
-    /// ```
-    /// let mut source = Source::new(alloc, "a=1", Steps::new());
-    /// let start = source.start();
-    /// let tokens = (source.next()?, source.next()?); // `a` and `=`
-    /// let key = Key { name: KdlIdentifier::from_text(alloc, "a")?, before: empty(alloc) };
-    /// let mut parts = Parts::new(alloc, &start);
-    /// parts.open_keyed(empty(alloc), &start, key, &source.checkpoint()); // its value is expected
-    /// ```
     #[inline(always)]
-    pub fn open_keyed(
-        &mut self,
-        leading: String,
-        start: &Checkpoint<'a>,
-        key: Key,
-        end: &Checkpoint<'a>,
-    )
-        ensures is { parts_view self.new
-            ≡ record (parts_view self.old) {
-              leading = text_of leading;
-              start
-                  = start.now.rest;
-              from = end.now.rest;
-              key = None;
-              name = identifier_tree key.name;
-              before
-                  = text_of key.before;
-            } }
-        ensures start { self.new.start ≡ start.now }
-        ensures from { self.new.from ≡ end.now }
+    pub fn open(&mut self, leading: String, start: &Checkpoint<'a>, end: &Checkpoint<'a>)
+        ensures { self.new ≡ record self.old {
+          leading = leading;
+          start = start.now;
+          from = end.now;
+          key = None;
+        } }
     {
         self.leading = leading;
         self.start = start.copied();
         self.from = end.copied();
         self.key = None;
-        self.name = key.name;
-        self.before = key.before;
     }
 
     /// Continues after the string that is the type's name.
@@ -331,9 +213,7 @@ impl<'a> Parts<'a> {
             (parts_view self.new ≡ spec.named_at
             (identifier_at source.old.text (text_of value) at.now.start.rest at.now.end.rest)
             (between self.old.from.rest at.now.start.rest) at.now.end.rest (parts_view self.old)) }
-        ensures same { Recounted source.old source.new }
-        ensures sliced { OnOk result
-            (Sliced (bytes self.old.from.rest) (bytes self.new.from.rest) source.old.steps source.new.steps) }
+        ensures slices { SlicesOn self.old.from self.new.from result source.old source.new }
         ensures from { OnOk result (Ahead self.new.from at.now.end) }
     {
         self.before = source.text(&self.from, &at.start)?;
@@ -348,9 +228,7 @@ impl<'a> Parts<'a> {
         ensures closed { OnOk result
             (parts_view self.new ≡ spec.closed_at
             (between self.old.from.rest at.now.start.rest) at.now.end.rest (parts_view self.old)) }
-        ensures same { Recounted source.old source.new }
-        ensures sliced { OnOk result
-            (Sliced (bytes self.old.from.rest) (bytes self.new.from.rest) source.old.steps source.new.steps) }
+        ensures slices { SlicesOn self.old.from self.new.from result source.old source.new }
         ensures from { OnOk result (Ahead self.new.from at.now.end) }
     {
         self.after = source.text(&self.from, &at.start)?;
@@ -367,12 +245,8 @@ impl<'a> Parts<'a> {
         requires from { Within source.old self.old.from start.now }
         ensures is { IfOk result
             (λ y. type_view y ≡ spec.type_at (parts_view self.old) start.now.rest) }
-        ensures key { option_map key_view self.new.key ≡ option_map key_view self.old.key }
-        ensures holds { OnOk result (Holds (parts_view self.old) (parts_view self.new)) }
-        ensures from { self.new.from ≡ self.old.from }
-        ensures same { Recounted source.old source.new }
-        ensures sliced { OnOk result
-            (Sliced (bytes self.old.from.rest) (bytes start.now.rest) source.old.steps source.new.steps) }
+        ensures taken { OnOk result (parts_view self.new ≡ spec.without_type (parts_view self.old)) }
+        ensures slices { SlicesOn self.old.from start.now result source.old source.new }
     {
         let following = source.text(&self.from, start)?;
         let name = mem::replace(&mut self.name, KdlIdentifier::from(empty(self.alloc)));
@@ -397,10 +271,7 @@ impl<'a> Parts<'a> {
         ensures is { IfOk result
             (λ k. key_view k ≡ spec.key_at (parts_view self.old) start.now.rest) }
         ensures taken { OnOk result (parts_view self.new ≡ spec.emptied (parts_view self.old)) }
-        ensures from { self.new.from ≡ self.old.from }
-        ensures same { Recounted source.old source.new }
-        ensures sliced { OnOk result
-            (Sliced (bytes self.old.from.rest) (bytes start.now.rest) source.old.steps source.new.steps) }
+        ensures slices { SlicesOn self.old.from start.now result source.old source.new }
     {
         let following = source.text(&self.from, start)?;
         let name = mem::replace(&mut self.name, KdlIdentifier::from(empty(self.alloc)));
@@ -423,9 +294,7 @@ impl<'a> Parts<'a> {
             (spec.key_at (parts_view self.old) at.now.start.rest) at.now.end.rest
             (parts_view self.old)) }
         ensures from { OnOk result (self.new.from ≡ at.now.end) }
-        ensures same { Recounted source.old source.new }
-        ensures sliced { OnOk result
-            (Sliced (bytes self.old.from.rest) (bytes self.new.from.rest) source.old.steps source.new.steps) }
+        ensures slices { SlicesOn self.old.from self.new.from result source.old source.new }
     {
         let key = self.key_parts(source, &at.start)?;
         self.key = Some(key);

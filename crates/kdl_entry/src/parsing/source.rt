@@ -1,20 +1,19 @@
 //! A text that is read token by token, and of which pieces are sliced.
 #![tactic(auto, using(crate::proofs::Rules::source))]
 
-ghost use Rattle.kdl_entry.specs.Internal.Counted.{EndsIn, Recounted, Sliced};
+ghost use Rattle.kdl_entry.specs.Internal.Counted.{EndsIn, Opens, Slices};
 ghost use Rattle.kdl_entry.specs.Internal.Parts.{identifier_at};
 ghost use Rattle.kdl_entry.specs.Places.{between, span_of};
 ghost use Rattle.kdl_entry.specs.Tree.{identifier_tree};
 ghost use Rattle.kdl_syntax.specs.Internal.Handed.{Lexed, LexedNext, NextCosts};
 ghost use Rattle.kdl_text.specs.Internal.Here.{Ahead, Ate, looked};
 ghost use Rattle.kdl_text.specs.Internal.Reading.{Moves};
-ghost use Rattle.kdl_text.specs.Spans.{bytes};
 ghost use Rattle.kdl_value.specs.Tree.{text_of};
 ghost use Rattle.std.specs.Prelude.{◌≡◌, [], ◌↔◌, IfOk, IsTrue};
 ghost use Rattle.std.specs.Str.{chars};
 
 use super::parts::empty;
-use crate::identifier::{KdlIdentifier, bare_identifier, sliced_identifier};
+use crate::identifier::{KdlIdentifier, sliced_identifier};
 use kdl_syntax::{LexFailure, Lexer, NextToken, Token, TokenSpan};
 use kdl_text::cursor::{Checkpoint, Piece, Steps};
 use kdl_text::span::SourceSpan;
@@ -143,11 +142,9 @@ impl<'a> Source<'a> {
     /// ```
     #[inline]
     pub fn piece(&mut self, from: &Checkpoint<'a>, to: &Checkpoint<'a>) -> Piece<'a>
-        requires inside { EndsIn self.old.text from.now.rest }
-        requires order { Ahead from.now to.now }
+        requires { Opens self.old from.now to.now }
         ensures text { result ≡ between from.now.rest to.now.rest }
-        ensures same { Recounted self.old self.new }
-        ensures sliced { Sliced (bytes from.now.rest) (bytes to.now.rest) self.old.steps self.new.steps }
+        ensures slices { Slices from.now to.now self.old self.new }
     {
         self.lexer.slice_between(from, to)
     }
@@ -160,11 +157,9 @@ impl<'a> Source<'a> {
     /// let text = source.text(&source.start(), &source.checkpoint())?; // "ab"
     /// ```
     pub fn text(&mut self, from: &Checkpoint<'a>, to: &Checkpoint<'a>) -> Result<String, AllocError>
-        requires inside { EndsIn self.old.text from.now.rest }
-        requires order { Ahead from.now to.now }
+        requires { Opens self.old from.now to.now }
         ensures text { IfOk result (λ s. text_of s ≡ between from.now.rest to.now.rest) }
-        ensures same { Recounted self.old self.new }
-        ensures sliced { Sliced (bytes from.now.rest) (bytes to.now.rest) self.old.steps self.new.steps }
+        ensures slices { Slices from.now to.now self.old self.new }
     {
         let piece = self.piece(from, to);
         if is_nothing(from, to) {
@@ -186,8 +181,7 @@ impl<'a> Source<'a> {
     pub fn token(&mut self, at: &TokenSpan<'a>) -> Result<String, AllocError>
         requires { EndsIn self.old.text at.now.start.rest }
         ensures text { IfOk result (λ s. text_of s ≡ between at.now.start.rest at.now.end.rest) }
-        ensures same { Recounted self.old self.new }
-        ensures sliced { Sliced (bytes at.now.start.rest) (bytes at.now.end.rest) self.old.steps self.new.steps }
+        ensures slices { Slices at.now.start at.now.end self.old self.new }
     {
         self.piece(&at.start, &at.end).to_string(self.alloc)
     }
@@ -225,34 +219,10 @@ impl<'a> Source<'a> {
         ensures is { IfOk result
             (λ i. identifier_tree i ≡ identifier_at self.old.text (text_of value)
             at.now.start.rest at.now.end.rest) }
-        ensures same { Recounted self.old self.new }
-        ensures sliced { Sliced (bytes at.now.start.rest) (bytes at.now.end.rest) self.old.steps self.new.steps }
+        ensures slices { Slices at.now.start at.now.end self.old self.new }
     {
         let piece = self.piece(&at.start, &at.end);
         let span = self.span(&at.start, &at.end);
         sliced_identifier(self.alloc, value, &piece, span)
-    }
-
-    /// Returns the identifier that a token is, which is a bare string. `identifier` does the same, but compares the
-    /// string with the text of the token.
-    ///
-    /// ```
-    /// let mut source = Source::new(alloc, "ab=1", Steps::new());
-    /// if let Some(Token { at, .. }) = source.next()? {
-    ///     let name = source.bare_identifier(&at)?; // prints "ab"
-    /// }
-    /// ```
-    #[inline(always)]
-    pub fn bare_identifier(&mut self, at: &TokenSpan<'a>) -> Result<KdlIdentifier, AllocError>
-        requires { EndsIn self.old.text at.now.start.rest }
-        ensures is { IfOk result
-            (λ i. identifier_tree i ≡ identifier_at self.old.text
-            (between at.now.start.rest at.now.end.rest) at.now.start.rest at.now.end.rest) }
-        ensures same { Recounted self.old self.new }
-        ensures sliced { Sliced (bytes at.now.start.rest) (bytes at.now.end.rest) self.old.steps self.new.steps }
-    {
-        let piece = self.piece(&at.start, &at.end);
-        let span = self.span(&at.start, &at.end);
-        bare_identifier(self.alloc, &piece, span)
     }
 }

@@ -17,7 +17,8 @@ use Rattle.kdl_parser.specs.Internal.Events.{is_live}
 use Rattle.kdl_parser.specs.Internal.States.{document_now, TakesToken}
 use Rattle.kdl_parser.specs.Internal.Turns.{IsLike, Leaves, TakesLike}
 use Rattle.kdl_parser.specs.declared.builder.Builder.{Builder}
-use Rattle.kdl_parser.specs.declared.builder.Under.{Under as CodeUnder}
+use Rattle.kdl_parser.specs.declared.builder.growing.Growing.{Growing}
+use Rattle.kdl_entry.specs.declared.entry.KdlEntry.{KdlEntry}
 use Rattle.kdl_syntax.specs.declared.lexer.LexFailure.{LexFailure}
 use Rattle.kdl_syntax.specs.declared.lexer.LexFailure.TheVariants.{Faulty}
 use Rattle.kdl_text.specs.Spans.{bytes}
@@ -197,9 +198,9 @@ over_reading k nothing e = absurd cc
 over_reading k d e = refl
 
 -- after what is slashdashed the builder is in the state that it was in at its end, or in one in which the token does the same
-module _ {N : Type 0} (tree : N → Node) (b : Builder N) (u : CodeUnder) (f : under_view u ≡ node_now b) where
+module _ {N : Type 0} (tree : N → Node) (b : Builder N) (es : Growing KdlEntry) (f : under_view (record b.under { entries = es }) ≡ node_now b) where
   abbrev ended : Phase → Builder N
-  ended p = record b { under = u; waiting = None; dropped = Nothing; phase = p }
+  ended p = record b { under = record b.under { entries = es }; waiting = None; dropped = Nothing; phase = p }
 
   node_over : (d : c.Control) (k : Token) → is_node_over k d ≡ true → let st = inside None None (nodes_now tree b) (frames_view tree b) b.from.rest d in
       ((s r : Text) → step b.source.text (in_phase tree b gap) k s r ≡ step b.source.text st k s r) × (finish b.source.text (in_phase tree b gap) ≡ finish b.source.text st)

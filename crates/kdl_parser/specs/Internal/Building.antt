@@ -27,7 +27,6 @@ use Rattle.kdl_grammar.specs.Tree.{Node, Nodes}
 use Rattle.kdl_parser.specs.Internal.Dropping.{Reading, nothing, node, part, reading_state}
 use Rattle.kdl_parser.specs.Internal.Parts.{nodes_tree, document_by}
 use Rattle.kdl_parser.specs.declared.builder.Builder.{Builder}
-use Rattle.kdl_parser.specs.declared.builder.Level.{Level}
 use Rattle.kdl_parser.specs.declared.builder.Under.{Under}
 use Rattle.kdl_parser.specs.declared.builder.WaitingWord.{WaitingWord}
 use Rattle.kdl_parser.specs.declared.builder.dropping.Dropped.{Dropped}
@@ -37,7 +36,7 @@ use Rattle.kdl_parser.specs.declared.builder.dropping.Dropped.TheVariants.{Nothi
 abbrev pub boxed_type : Box TypeParts → under_way.TypeParts
 boxed_type b = type_view b.value
 
-abbrev pub under_view : Under → machine.Under
+abbrev pub under_view : {N : Type 0} → Under N → machine.Under
 under_view u = record {
   leading = text_of u.leading;
   start = u.start.rest;
@@ -46,14 +45,14 @@ under_view u = record {
   entries = map entry_tree u.entries.items.items;
 }
 
--- an open block, in terms of the tree of a node
-abbrev pub level_view : {N : Type 0} → (N → Node) → Level N → machine.Frame
-level_view tree l = machine.in_block (Some (under_view l.under)) (text_of l.before) (Some (nodes_tree tree l.nodes.items))
+-- the open block of a node, in terms of the tree of a node
+abbrev pub level_view : {N : Type 0} → (N → Node) → Under N → machine.Frame
+level_view tree u = machine.in_block (Some (under_view u)) (text_of u.before) (Some (nodes_tree tree u.nodes.items))
 
 -- the open blocks, with those in acc around them; the last one is the innermost
-abbrev pub stacked : {N : Type 0} → (N → Node) → List machine.Frame → List (Level N) → List machine.Frame
+abbrev pub stacked : {N : Type 0} → (N → Node) → List machine.Frame → List (Under N) → List machine.Frame
 stacked tree acc [] = acc
-stacked tree acc (l ∷ ls) = stacked tree (level_view tree l ∷ acc) ls
+stacked tree acc (u ∷ us) = stacked tree (level_view tree u ∷ acc) us
 
 -- the pending string as an identifier: it is an argument unless `=` follows, and ends where the current place begins
 abbrev pub word_name : Text → Text → WaitingWord → Identifier
@@ -84,7 +83,7 @@ node_now b = under_now b.source.text b.from.rest b.waiting (under_view b.under)
 
 -- the node u with the current block
 abbrev pub kept_of : {N : Type 0} → (N → Node) → Builder N → machine.Under → machine.Kept
-kept_of tree b u = record { under = u; before = text_of b.before; block = document_by tree b.block }
+kept_of tree b u = record { under = u; before = text_of b.under.before; block = document_by tree b.block }
 
 -- the current node with its block
 abbrev pub kept_now : {N : Type 0} → (N → Node) → Builder N → machine.Kept

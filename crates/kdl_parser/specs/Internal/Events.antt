@@ -1,5 +1,5 @@
 -- What a token does to the builder, by what it is for the tree; none if no such token is that.
-use Rattle.std.specs.Prelude.{ℕ, Bool, true, false, Option, Some, None, Result, if◌then◌else◌}
+use Rattle.std.specs.Prelude.{◌≡◌, ℕ, Bool, true, false, Option, Some, None, Result, if◌then◌else◌}
 use Rattle.kdl_text.specs.Chars.{Text}
 use Rattle.kdl_text.specs.Internal.Here.{Here, Position}
 use Rattle.kdl_text.specs.Spans.{bytes}
@@ -17,7 +17,7 @@ use Rattle.kdl_value.specs.Data.{Value}
 use Rattle.kdl_entry.specs.Internal.Counted.{Within}
 use Rattle.kdl_grammar.specs.Internal.Machine.{State}
 use Rattle.kdl_grammar.specs.Tree.{Node}
-use Rattle.kdl_parser.specs.Internal.Building.{in_phase, phase_now}
+use Rattle.kdl_parser.specs.Internal.Building.{in_phase, phase_now, state_view, Placed}
 use Rattle.kdl_parser.specs.Internal.Counted.{unsliced_in}
 use Rattle.kdl_parser.specs.Internal.States.{step_in, Steps}
 use Rattle.kdl_parser.specs.declared.builder.Builder.{Builder}
@@ -76,9 +76,6 @@ abbrev pub WithinIf : Bool → Here → Position → Position → Type 0
 WithinIf true z from s = Within z from s
 WithinIf false z from s = Unit {0}
 
-abbrev pub PartsAhead : Event → Here → Position → Position → Type 0
-PartsAhead e z from s = WithinIf (is_of_parts e) z from s
-
 -- the bytes that were not sliced before the token, from the start of the entry's current place, or of the builder's
 abbrev pub unsliced_before : Event → ℕ → ℕ → ℕ
 unsliced_before (Skip p) from item = unsliced_in p from item
@@ -96,6 +93,11 @@ is_live _ = true
 abbrev pub is_building : Dropped → Phase → Bool
 is_building Nothing p = is_live p
 is_building _ p = false
+
+-- inside or outside of what is slashdashed, where the current places end at s
+pub record StandsAt {N : Type 0} (is : Bool) (tree : N → Node) (b : Builder N) (s : Position) : Type 0 where
+  pub building : is_building b.dropped b.phase ≡ is
+  pub placed : Placed b.source.text (state_view tree b) s.rest
 
 -- what a token did that is this for the tree, given the state to which it brings the builder
 abbrev pub Acts : {N : Type 0} → (N → Node) → Event → Option State → Builder N → Result (Unit {0}) LexFailure → Builder N → Type 0

@@ -1,24 +1,23 @@
 -- The states to which the builder's methods bring it, in terms of the machine, and what is not sliced there yet.
 use Rattle.std.specs.Prelude.{◌≡◌, ℕ, ◌+◌, [], Option, Some, None, Result, OnOk}
+use Rattle.kdl_text.specs.Chars.{Text}
 use Rattle.kdl_text.specs.Internal.Here.{Position}
 use Rattle.kdl_text.specs.Spans.{bytes}
 use Rattle.kdl_syntax.specs.Tokens.{Token}
 use Rattle.kdl_syntax.specs.declared.control.Phase.{Phase}
 use Rattle.kdl_syntax.specs.declared.lexer.LexFailure.{LexFailure}
 use Rattle.kdl_syntax.specs.declared.token_span.TokenSpan.{TokenSpan}
-use Rattle.kdl_value.specs.Tree.{text_of}
 use Rattle.kdl_entry.specs.Internal.Counted.{Recounted, Sliced, Within}
 use Rattle.kdl_entry.specs.Internal.Parts.{TypeParts}
 use Rattle.kdl_entry.specs.Places.{between}
 use Rattle.kdl_entry.specs.Tree.{Identifier}
 use Rattle.kdl_grammar.specs.Internal.Machine as machine
 use Rattle.kdl_grammar.specs.Internal.Machine.{Under, State, at}
-use Rattle.kdl_grammar.specs.Tree.{Node, Nodes, Document, no_children}
+use Rattle.kdl_grammar.specs.Tree.{Node, Nodes, Children, Document}
 use Rattle.kdl_parser.specs.Internal.Answered.{Finished}
-use Rattle.kdl_parser.specs.Internal.Building.{under_view, nodes_now, frames_view, node_now, kept_of, in_phase, phase_now, state_view, Did}
+use Rattle.kdl_parser.specs.Internal.Building.{under_view, nodes_now, frames_view, node_now, in_phase, phase_now, state_view, Did}
 use Rattle.kdl_parser.specs.Internal.Counted.{unsliced, unsliced_in, SlicedOn}
 use Rattle.kdl_parser.specs.declared.builder.Builder.{Builder}
-use Rattle.kdl_parser.specs.declared.builder.Slot.{Slot}
 use Rattle.kdl_parser.specs.declared.builder.dropping.Dropped.TheVariants.{Nothing}
 use Rattle.kdl_parser.specs.declared.node_parts.DocumentParts.{DocumentParts}
 
@@ -30,20 +29,15 @@ step_at tree b k span = machine.step b.source.text (state_view tree b) k span.st
 abbrev pub step_in : {N : Type 0} → (N → Node) → Builder N → Phase → Token → TokenSpan → Option State
 step_in tree b p k span = machine.step b.source.text (in_phase tree b (phase_now tree b p)) k span.start.rest span.end.rest
 
--- the nodes, and after them the node u: it has no block, and the token is its terminator
-abbrev pub ended_node : {N : Type 0} → (N → Node) → Builder N → Under → TokenSpan → Option Nodes
-ended_node tree b u span =
-    machine.ended (machine.closed b.source.text (Some u) no_children [] (between b.from.rest span.start.rest) (between span.start.rest span.end.rest) span.start.rest) (nodes_now tree b)
+-- the nodes, and after them the node u with the block k after this text: the token is its terminator
+abbrev pub ended_node : {N : Type 0} → (N → Node) → Builder N → Under → Children → Text → TokenSpan → Option Nodes
+ended_node tree b u k before span =
+    machine.ended (machine.closed b.source.text (Some u) k before (between b.from.rest span.start.rest) (between span.start.rest span.end.rest) span.start.rest) (nodes_now tree b)
 
--- the same of the node u with the current block
-abbrev pub ended_kept : {N : Type 0} → (N → Node) → Builder N → Under → TokenSpan → Option Nodes
-ended_kept tree b u span =
-    machine.ended (machine.closed_kept b.source.text (Some (kept_of tree b u)) (between b.from.rest span.start.rest) (between span.start.rest span.end.rest) span.start.rest) (nodes_now tree b)
-
--- after the name of a node, which ends at r
-abbrev pub node_begun : {N : Type 0} → (N → Node) → Builder N → Slot → Option TypeParts → Identifier → Position → State
-node_begun tree b slot ty name r =
-    at (machine.in_node (Some (record { leading = text_of slot.leading; start = slot.start.rest; ty = ty; name = name; entries = [] })) (machine.fresh None)) (nodes_now tree b) (frames_view tree b) r.rest
+-- after the name of the current node, which ends at r
+abbrev pub node_begun : {N : Type 0} → (N → Node) → Builder N → Option TypeParts → Identifier → Position → State
+node_begun tree b ty name r =
+    at (machine.in_node (Some (record (under_view b.under) { ty = ty; name = name; entries = [] })) (machine.fresh None)) (nodes_now tree b) (frames_view tree b) r.rest
 
 -- the document if the text ends here
 abbrev pub document_now : {N : Type 0} → (N → Node) → Builder N → Option Document
@@ -61,7 +55,7 @@ pub record Ready {N : Type 0} (b : Builder N) (t s : Position) : Type 0 where
 -- the pending string became an argument
 pub record Settles {N E : Type 0} (old : Builder N) (result : Result (Unit {0}) E) (new : Builder N) : Type 0 where
   pub under : OnOk result (under_view new.under ≡ node_now old)
-  pub rest : OnOk result (new ≡ record old { under = new.under; waiting = None })
+  pub rest : OnOk result (new ≡ record old { under = record old.under { entries = new.under.entries }; waiting = None })
   pub same : Recounted old.source new.source
 
 -- the text between two places was sliced, and nothing else changed
@@ -73,7 +67,7 @@ pub record Slices {N A E : Type 0} (from to : Position) (old : Builder N) (resul
 -- the current node, which ends at r, was appended: these are the nodes
 pub record Appends {N E : Type 0} (tree : N → Node) (nodes : Option Nodes) (r : Position) (old : Builder N) (result : Result (Unit {0}) E) (new : Builder N) : Type 0 where
   pub is : OnOk result (nodes_now tree new ≡ nodes)
-  pub rest : OnOk result (new ≡ record old { source = new.source; under = new.under; before = new.before; block = new.block; nodes = new.nodes })
+  pub rest : OnOk result (new ≡ record old { source = new.source; under = new.under; block = new.block; nodes = new.nodes })
   pub same : Recounted old.source new.source
   pub sliced : OnOk result (Sliced (bytes old.from.rest) (bytes r.rest) old.source.steps new.source.steps)
 

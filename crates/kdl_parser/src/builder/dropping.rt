@@ -121,9 +121,9 @@ impl Dropped {
 impl<'a, N: ParsedNode> Builder<'a, N> {
     ghost use Rattle.kdl_syntax.specs.Internal.Handed.{kind_view};
     ghost use Rattle.kdl_syntax.specs.Tokens.{space, string};
-    ghost use Rattle.kdl_parser.specs.Internal.Building.{reading_view, state_view, Placed};
+    ghost use Rattle.kdl_parser.specs.Internal.Building.{reading_view};
     ghost use Rattle.kdl_parser.specs.Internal.Dropping.{is_over, is_reading};
-    ghost use Rattle.kdl_parser.specs.Internal.Events.{is_building};
+    ghost use Rattle.kdl_parser.specs.Internal.Events.{StandsAt, is_building};
     ghost use Rattle.kdl_parser.specs.Internal.States.{TakesToken};
     ghost use Rattle.kdl_parser.specs.Internal.Turns.{Drops, IsLeft, TakesLike};
     ghost use Rattle.std.specs.Prelude.{true};
@@ -182,8 +182,7 @@ impl<'a, N: ParsedNode> Builder<'a, N> {
         kind: TokenKind,
         at: &TokenSpan<'a>,
     ) -> Result<(), LexFailure>
-        requires dropping { is_building self.old.dropped self.old.phase ≡ false }
-        requires placed { Placed self.old.source.text (state_view N.tree self.old) at.now.start.rest }
+        requires { StandsAt false N.tree self.old at.now.start }
         ensures { TakesToken N.tree self.old (kind_view kind) at.now result self.new }
     {
         match self.drops(&kind, at) {
@@ -211,8 +210,7 @@ impl<'a, N: ParsedNode> Builder<'a, N> {
         word: &Piece<'a>,
         at: &TokenSpan<'a>,
     ) -> Result<(), LexFailure>
-        requires dropping { is_building self.old.dropped self.old.phase ≡ false }
-        requires placed { Placed self.old.source.text (state_view N.tree self.old) at.now.start.rest }
+        requires { StandsAt false N.tree self.old at.now.start }
         ensures { TakesToken N.tree self.old (string word.now) at.now result self.new }
     {
         let kind = TokenKind::String(empty(self.source.alloc()));

@@ -1,6 +1,6 @@
 //! Lists being read.
 
-ghost use Rattle.std.specs.Prelude.{◌≡◌, ◌<◌, ◌++◌, ◌∷◌, [], OnOk};
+ghost use Rattle.std.specs.Prelude.{◌≡◌, ◌<◌, [], OnOk};
 ghost use Rattle.std.specs.Vec.{vec_capacity, vec_len};
 
 use std::alloc::{AllocError, Global};
@@ -70,15 +70,6 @@ impl<T: Drop> Growing<T> {
         Ok(())
     }
 
-    /// Appends an item, for which room was made.
-    #[inline(always)]
-    pub(super) fn push_reserved(&mut self, item: T)
-        requires room { vec_len self.old.items < vec_capacity self.old.items }
-        ensures { self.new.items.items ≡ self.old.items.items ++ (item ∷ []) }
-    {
-        self.items.push_reserved(item);
-    }
-
     /// Ends the list: cuts off the room that it does not need.
     #[inline(always)]
     pub(super) fn fit(&mut self) -> Result<(), AllocError>
@@ -108,14 +99,5 @@ impl<T: Drop> Growing<T> {
             self.spare = left;
         }
         Ok(())
-    }
-
-    /// Replaces the items, and returns the old ones.
-    #[inline(always)]
-    pub(super) fn replace(&mut self, items: Vec<T>) -> Vec<T>
-        ensures result { result ≡ self.old.items }
-        ensures items { self.new.items ≡ items }
-    {
-        mem::replace(&mut self.items, items)
     }
 }

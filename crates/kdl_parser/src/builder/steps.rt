@@ -1,40 +1,35 @@
 //! What the builder does at a token: nodes begin and end, blocks open and close, entries are added.
 #![tactic(auto, using(crate::proofs::Rules::steps))]
 
-ghost use Rattle.kdl_parser.specs.Internal.Building.{boxed_type, in_phase, phase_now, state_view, under_view};
+ghost use Rattle.kdl_parser.specs.Internal.Building.{boxed_type, state_view};
 ghost use Rattle.kdl_parser.specs.Internal.Counted.{unsliced};
-ghost use Rattle.kdl_parser.specs.Internal.States.{AfterNode, Ready, Settles, Steps, TakesIn, node_begun};
+ghost use Rattle.kdl_parser.specs.Internal.States.{AfterNode, Ready, Settles, TakesIn, node_begun};
 ghost use Rattle.kdl_parser.specs.declared.builder.dropping.Dropped.TheVariants.{Nothing};
 ghost use Rattle.kdl_syntax.specs.Tokens as token;
 ghost use Rattle.kdl_syntax.specs.declared.control.Owner.TheVariants.{Name, Value};
 ghost use Rattle.kdl_syntax.specs.declared.control.Phase.TheVariants.{
-  EntrySlashdash,
   Gap,
   InNode,
   Kept,
   Property,
   TypeDone,
-  TypeName,
-  TypeOpen,
 };
 ghost use Rattle.kdl_syntax.specs.declared.control.Spot.TheVariants.{Fresh, Later, Spaced};
 ghost use Rattle.kdl_syntax.specs.declared.control.Word.TheVariants.{MayBeKey, NoKey};
 ghost use Rattle.kdl_entry.specs.Places.{between};
-ghost use Rattle.kdl_entry.specs.Tree.{identifier_tree, plain_identifier};
+ghost use Rattle.kdl_entry.specs.Tree.{identifier_tree};
 ghost use Rattle.kdl_text.specs.Spans.{bytes};
 ghost use Rattle.kdl_value.specs.Tree.{value_tree, text_of};
-ghost use Rattle.std.specs.Prelude.{◌≡◌, [], Some, None, OnOk, option_map};
+ghost use Rattle.std.specs.Prelude.{◌≡◌, Some, None, OnOk, option_map};
 
-use super::content::{nothing_at, put, settle};
+use super::content::put;
 use super::dropping::Dropped;
 use super::growing::Growing;
-use super::{Builder, Level, Slot, Under, WaitingWord};
+use super::{Builder, Under, WaitingWord};
 use crate::node_parts::ParsedNode;
-use kdl_entry::parsing::parts::{
-    Given, Key, TypeParts, ValueParts, argument_from, empty, property_from,
-};
-use kdl_entry::{KdlEntry, KdlIdentifier, KdlValue, sliced_identifier};
-use kdl_syntax::{LexFailure, Owner, Phase, Spot, TokenKind, TokenSpan, Word};
+use kdl_entry::parsing::parts::{Given, TypeParts, empty, entry_from};
+use kdl_entry::{KdlIdentifier, KdlValue, bare_identifier, sliced_identifier};
+use kdl_syntax::{LexFailure, Owner, Phase, Spot, TokenSpan, Word};
 use std::alloc::AllocError;
 use std::mem;
 
@@ -54,10 +49,17 @@ impl<'a, N: ParsedNode> Builder<'a, N> {
     fn settle_waiting(&mut self) -> Result<(), AllocError>
         ensures { Settles self.old result self.new }
     {
-        match self.waiting.take() {
-            Some(word) => settle(&self.source, &self.from, word, &mut self.under),
-            None => Ok(()),
-        }
+        let Some(word) = self.waiting.take() else {
+            return Ok(());
+        };
+        let alloc = self.source.alloc();
+        let repr = word.repr.to_string(alloc)?;
+        let span = self.source.span(&word.start, &self.from);
+        self.under.entries.make_room()?;
+        let given = Given::plain(KdlValue::String(word.value));
+        let entry = entry_from(alloc, span, word.leading, given, repr);
+        self.under.entries.items.push_reserved(entry);
+        Ok(())
     }
 
     /// Ends the current node, which has no block.
@@ -95,12 +97,18 @@ impl<'a, N: ParsedNode> Builder<'a, N> {
         let before = self.source.text(&self.from, &at.start)?;
         self.levels.reserve(1)?;
         self.under.entries.fit()?;
-        let under = self.take_under();
-        let nodes = self.nodes.replace(Vec::new(self.source.alloc()));
-        self.levels.push_reserved(Level {
-            under,
+        // Field by field this is one copy of the node; `mem::replace` makes three.
+        let alloc = self.source.alloc();
+        let mut entries = Growing::new(alloc);
+        entries.items = mem::replace(&mut self.under.entries.items, Vec::new(alloc));
+        self.levels.push_reserved(Under {
+            leading: mem::replace(&mut self.under.leading, empty(alloc)),
+            start: self.under.start.copied(),
+            ty: self.under.ty.take(),
+            name: mem::replace(&mut self.under.name, KdlIdentifier::from(empty(alloc))),
+            entries,
             before,
-            nodes,
+            nodes: mem::replace(&mut self.nodes.items, Vec::new(alloc)),
         });
         self.from = at.end.copied();
         self.phase = Phase::Gap;
@@ -113,20 +121,18 @@ impl<'a, N: ParsedNode> Builder<'a, N> {
         ensures { TakesIn N.tree Gap token.closing at.now self.old result self.new }
     {
         self.nodes.fit()?;
-        let Some(
-            Level {
-                under,
-                before,
-                nodes,
-            },
-        ) = self.levels.pop()
-        else {
+        let Some(under) = self.levels.pop() else {
             return Err(LexFailure::Faulty);
         };
-        let inner = self.nodes.replace(nodes);
+        let inner = mem::replace(&mut self.nodes.items, under.nodes);
         self.forget_word();
-        self.put_under(under);
-        put(&mut self.before, before);
+        self.under.leading = under.leading;
+        self.under.start = under.start;
+        self.under.ty = under.ty;
+        self.under.name = under.name;
+        let entries = under.entries;
+        self.under.entries.items = entries.items;
+        self.under.before = under.before;
         let block = self.content_up_to(inner, &at.start)?;
         put(&mut self.block, block);
         self.from = at.end.copied();
@@ -134,70 +140,15 @@ impl<'a, N: ParsedNode> Builder<'a, N> {
         Ok(())
     }
 
-    /// Takes the current node, and leaves one without content. Field by field this is one copy of the node;
-    /// `mem::replace` makes three.
+    /// Begins a node, whose name is the token. The text before the node and its start are in place.
     #[inline(always)]
-    fn take_under(&mut self) -> Under<'a>
-        ensures taken { under_view result ≡ under_view self.old.under }
-        ensures left { under_view self.new.under ≡ record {
-          leading = [];
-          start = self.old.under.start.rest;
-          ty = None;
-          name = plain_identifier [];
-          entries = [];
-        } }
-        ensures rest { self.new ≡ record self.old { under = self.new.under } }
-    {
-        let alloc = self.source.alloc();
-        let mut entries = Growing::new(alloc);
-        entries.items = self.under.entries.replace(Vec::new(alloc));
-        Under {
-            leading: mem::replace(&mut self.under.leading, empty(alloc)),
-            start: self.under.start.copied(),
-            ty: self.under.ty.take(),
-            name: mem::replace(&mut self.under.name, KdlIdentifier::from(empty(alloc))),
-            entries,
-        }
-    }
-
-    /// Puts a node in place of the current one, field by field as `take_under` does.
-    #[inline(always)]
-    fn put_under(&mut self, under: Under<'a>)
-        ensures put { under_view self.new.under ≡ under_view under.entry }
-        ensures rest { self.new ≡ record self.old { under = self.new.under } }
-    {
-        let Under {
-            leading,
-            start,
-            ty,
-            name,
-            entries,
-        } = under;
-        self.under.leading = leading;
-        self.under.start = start;
-        self.under.ty = ty;
-        self.under.name = name;
-        self.under.entries.items = entries.items;
-    }
-
-    /// Begins a node, whose name is the token.
-    #[inline(always)]
-    fn begin_node(
-        &mut self,
-        slot: Slot<'a>,
-        ty: Option<Box<TypeParts>>,
-        name: KdlIdentifier,
-        at: &TokenSpan<'a>,
-    )
+    fn begin_node(&mut self, ty: Option<Box<TypeParts>>, name: KdlIdentifier, at: &TokenSpan<'a>)
         requires live { self.old.dropped ≡ Nothing }
         ensures state { state_view N.tree self.new
-            ≡ node_begun N.tree self.old slot.entry (option_map boxed_type ty) (identifier_tree name) at.now.end }
+            ≡ node_begun N.tree self.old (option_map boxed_type ty) (identifier_tree name) at.now.end }
         ensures source { self.new.source ≡ self.old.source }
         ensures unsliced { unsliced self.new ≡ bytes at.now.end.rest }
     {
-        let Slot { leading, start } = slot;
-        self.under.leading = leading;
-        self.under.start = start;
         self.under.ty = ty;
         self.under.name = name;
         if !self.under.entries.items.is_empty() {
@@ -284,8 +235,9 @@ impl<'a, N: ParsedNode> Builder<'a, N> {
         } = word;
         let span = self.source.span(&word_start, &self.from);
         let name = sliced_identifier(self.source.alloc(), value, &repr, span)?;
-        self.parts
-            .open_keyed(leading, &word_start, Key { name, before }, &at.end);
+        self.parts.open(leading, &word_start, &at.end);
+        self.parts.name = name;
+        self.parts.before = before;
         self.phase = Phase::Property;
         Ok(())
     }
@@ -296,43 +248,8 @@ impl<'a, N: ParsedNode> Builder<'a, N> {
         ensures { TakesIn N.tree Gap token.left at.now self.old result self.new }
     {
         let leading = self.source.text(&self.from, &at.start)?;
-        self.parts.open(leading, at);
+        self.parts.open(leading, &at.start, &at.end);
         self.phase = Phase::TypeOpen(Owner::Name);
-        Ok(())
-    }
-
-    /// Takes the name of a type.
-    pub(super) fn name_type(
-        &mut self,
-        owner: Owner,
-        name: String,
-        at: &TokenSpan<'a>,
-    ) -> Result<(), LexFailure>
-        requires { Ready self.old self.old.parts.from at.now.start }
-        ensures { TakesIn N.tree (TypeOpen owner) (token.string (text_of name)) at.now self.old result self.new }
-    {
-        self.parts.take_name(&mut self.source, name, at)?;
-        self.phase = Phase::TypeName(owner);
-        Ok(())
-    }
-
-    /// Takes the `)` of a type.
-    pub(super) fn end_type(&mut self, owner: Owner, at: &TokenSpan<'a>) -> Result<(), LexFailure>
-        requires { Ready self.old self.old.parts.from at.now.start }
-        ensures { TakesIn N.tree (TypeName owner) token.right at.now self.old result self.new }
-    {
-        self.parts.close(&mut self.source, at)?;
-        self.phase = Phase::TypeDone(owner);
-        Ok(())
-    }
-
-    /// Begins the type of a value at its `(`, after a key.
-    pub(super) fn open_keyed_type(&mut self, at: &TokenSpan<'a>) -> Result<(), LexFailure>
-        requires { Ready self.old self.old.parts.from at.now.start }
-        ensures { TakesIn N.tree Property token.left at.now self.old result self.new }
-    {
-        self.parts.open_typed(&mut self.source, at)?;
-        self.phase = Phase::TypeOpen(Owner::Value);
         Ok(())
     }
 
@@ -343,7 +260,7 @@ impl<'a, N: ParsedNode> Builder<'a, N> {
     {
         self.settle_word()?;
         let leading = self.source.text(&self.from, &at.start)?;
-        self.parts.open(leading, at);
+        self.parts.open(leading, &at.start, &at.end);
         self.phase = Phase::TypeOpen(Owner::Value);
         Ok(())
     }
@@ -359,27 +276,15 @@ impl<'a, N: ParsedNode> Builder<'a, N> {
             self.new }
     {
         self.settle_word()?;
-        let place = self.source.piece(&self.from, &at.start);
-        let leading = place.to_string(self.source.alloc())?;
+        let alloc = self.source.alloc();
+        let leading = self.source.piece(&self.from, &at.start).to_string(alloc)?;
         let repr = self.source.token(at)?;
         let span = self.source.span(&at.start, &at.end);
         self.under.entries.make_room()?;
-        let entry = argument_from(self.source.alloc(), span, leading, value, repr);
-        self.under.entries.push_reserved(entry);
+        let entry = entry_from(alloc, span, leading, Given::plain(value), repr);
+        self.under.entries.items.push_reserved(entry);
         self.end_entry(at);
         Ok(())
-    }
-
-    /// The text before the name or entry that has a type or a key, and its start.
-    fn parts_slot(&mut self) -> Slot<'a>
-        ensures leading { text_of result.leading ≡ text_of self.old.parts.leading }
-        ensures start { result.start ≡ self.old.parts.start }
-        ensures rest { self.new ≡ record self.old { parts = self.new.parts } }
-    {
-        Slot {
-            leading: mem::replace(&mut self.parts.leading, empty(self.source.alloc())),
-            start: self.parts.start.copied(),
-        }
     }
 
     /// Adds a value that has a type, and maybe a key.
@@ -392,12 +297,18 @@ impl<'a, N: ParsedNode> Builder<'a, N> {
         ensures { TakesIn N.tree (TypeDone Value) (token.value (value_tree value)) at.now self.old result self.new }
     {
         let ty = self.parts.type_parts(&mut self.source, &at.start)?;
-        let key = self.parts.key.take();
-        let slot = self.parts_slot();
-        let ty = Some(ty);
+        let repr = self.source.token(at)?;
         self.under.entries.make_room()?;
-        let entry = self.entry_between(slot, Given { key, ty, value }, at)?;
-        self.under.entries.push_reserved(entry);
+        let key = self.parts.key.take();
+        let given = Given {
+            key,
+            ty: Some(ty),
+            value,
+        };
+        let span = self.source.span(&self.parts.start, &at.end);
+        let leading = mem::replace(&mut self.parts.leading, empty(self.source.alloc()));
+        let entry = entry_from(self.source.alloc(), span, leading, given, repr);
+        self.under.entries.items.push_reserved(entry);
         self.end_entry(at);
         Ok(())
     }
@@ -412,13 +323,17 @@ impl<'a, N: ParsedNode> Builder<'a, N> {
         ensures { TakesIn N.tree Property (token.value (value_tree value)) at.now self.old result self.new }
     {
         let key = self.parts.key_parts(&mut self.source, &at.start)?;
-        let Slot { leading, start } = self.parts_slot();
         let repr = self.source.token(at)?;
-        let span = self.source.span(&start, &at.end);
         self.under.entries.make_room()?;
-        let value = ValueParts { value, repr };
-        let entry = property_from(self.source.alloc(), span, leading, key, value);
-        self.under.entries.push_reserved(entry);
+        let given = Given {
+            key: Some(key),
+            ty: None,
+            value,
+        };
+        let span = self.source.span(&self.parts.start, &at.end);
+        let leading = mem::replace(&mut self.parts.leading, empty(self.source.alloc()));
+        let entry = entry_from(self.source.alloc(), span, leading, given, repr);
+        self.under.entries.items.push_reserved(entry);
         self.end_entry(at);
         Ok(())
     }
@@ -428,13 +343,10 @@ impl<'a, N: ParsedNode> Builder<'a, N> {
         requires { Ready self.old self.old.from at.now.start }
         ensures { TakesIn N.tree Gap (token.string (text_of name)) at.now self.old result self.new }
     {
-        let leading = self.source.text(&self.from, &at.start)?;
-        let slot = Slot {
-            leading,
-            start: at.start.copied(),
-        };
+        self.under.leading = self.source.text(&self.from, &at.start)?;
+        self.under.start = at.start.copied();
         let name = self.source.identifier(name, at)?;
-        self.begin_node(slot, None, name, at);
+        self.begin_node(None, name, at);
         Ok(())
     }
 
@@ -444,13 +356,12 @@ impl<'a, N: ParsedNode> Builder<'a, N> {
         ensures { TakesIn N.tree Gap (token.string (between at.now.start.rest at.now.end.rest)) at.now self.old result
             self.new }
     {
-        let leading = self.source.text(&self.from, &at.start)?;
-        let slot = Slot {
-            leading,
-            start: at.start.copied(),
-        };
-        let name = self.source.bare_identifier(at)?;
-        self.begin_node(slot, None, name, at);
+        self.under.leading = self.source.text(&self.from, &at.start)?;
+        self.under.start = at.start.copied();
+        let piece = self.source.piece(&at.start, &at.end);
+        let span = self.source.span(&at.start, &at.end);
+        let name = bare_identifier(self.source.alloc(), &piece, span)?;
+        self.begin_node(None, name, at);
         Ok(())
     }
 
@@ -460,39 +371,11 @@ impl<'a, N: ParsedNode> Builder<'a, N> {
         ensures { TakesIn N.tree (TypeDone Name) (token.string (text_of name)) at.now self.old result self.new }
     {
         let ty = self.parts.type_parts(&mut self.source, &at.start)?;
-        let slot = self.parts_slot();
         let name = self.source.identifier(name, at)?;
         let ty = Box::new(self.source.alloc(), ty)?;
-        self.begin_node(slot, Some(ty), name, at);
+        self.under.leading = mem::replace(&mut self.parts.leading, empty(self.source.alloc()));
+        self.under.start = self.parts.start.copied();
+        self.begin_node(Some(ty), name, at);
         Ok(())
-    }
-
-    /// Takes a `/-` in a node, before its block.
-    pub(super) fn go_past_slashdash(&mut self) -> Result<(), LexFailure>
-        requires live { self.old.dropped ≡ Nothing }
-        ensures { Steps N.tree (Some (in_phase N.tree self.old (phase_now N.tree self.old EntrySlashdash)))
-            (bytes self.old.from.rest) self.old result self.new }
-    {
-        self.settle_word()?;
-        self.phase = Phase::EntrySlashdash;
-        Ok(())
-    }
-
-    /// Takes the `}` after a node without a block.
-    pub(super) fn close_node(&mut self, at: &TokenSpan<'a>) -> Result<(), LexFailure>
-        requires { Ready self.old self.old.from at.now.start }
-        ensures { TakesIn N.tree (InNode Later) token.closing at.now self.old result self.new }
-    {
-        self.end_node(&nothing_at(&at.start))?;
-        self.close(at)
-    }
-
-    /// Takes the `}` after a node with a block.
-    pub(super) fn close_kept(&mut self, at: &TokenSpan<'a>) -> Result<(), LexFailure>
-        requires { Ready self.old self.old.from at.now.start }
-        ensures { TakesIn N.tree Kept token.closing at.now self.old result self.new }
-    {
-        self.end_kept(&nothing_at(&at.start))?;
-        self.close(at)
     }
 }
