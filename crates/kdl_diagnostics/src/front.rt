@@ -73,7 +73,6 @@ impl<'a> Prefix<'a> {
         ensures keeps { (text : Text) → text ≡ lexer.old.rest → IsFrontOf text self.old → IsFrontOf text self.new }
         ensures exact { IfOk result (λ _. self.new.is_accepted ≡ true ↔ Accepts self.old.control.whole lexer.old.rest) }
         ensures stopped { IfOk result (λ _. self.new.is_accepted ≡ false → IsStopped self.new) }
-        ensures whole { self.new.control.whole ≡ self.old.control.whole }
         ensures most { OnOk result (lexer.new.steps ≤ lexer.old.steps + (24 * bytes lexer.old.rest + 25)) }
         ensures counts { raise lexer.old.steps 0 ≤ raise lexer.new.steps 0 }
     {
@@ -105,7 +104,6 @@ impl<'a> Prefix<'a> {
         ensures took { IfOk result (λ b. text_step (text_view self.old.control) (kind_view token.now.kind) ≡
             (if b then Some (text_view self.new.control) else None)) }
         ensures over { IfOk result (GoesOver token.now self.old self.new) }
-        ensures whole { self.new.control.whole ≡ self.old.control.whole }
         ensures same { self.new.is_accepted ≡ self.old.is_accepted }
     {
         let before = self.control.outset();

@@ -159,8 +159,8 @@ fn go_on<'a>(cursor: &mut Cursor<'a>, by: usize) -> Checkpoint<'a>
     last
 }
 
-/// The first value end from the place on in the part of the text up to here, or its end; and the backslash before it, if
-/// a block comment after it begins in that part and is not closed there.
+/// The first value end from the place on in the part of the text up to here, or its end; and the backslash before it,
+/// if a block comment after it begins in that part and is not closed there.
 fn end_within<'a>(
     cursor: &mut Cursor<'a>,
     from: &Checkpoint<'a>,

@@ -72,8 +72,8 @@ impl<'a> Reader<'a> {
         }
     }
 
-    /// Takes a lexeme that does not fit, and notes that. What was expected counts as read; then the lexeme ends or begins
-    /// a node, a block or what a `/-` drops, if it is such a lexeme.
+    /// Takes a lexeme that does not fit, and notes that. What was expected counts as read; then the lexeme ends or
+    /// begins a node, a block or what a `/-` drops, if it is such a lexeme.
     fn mend(&mut self, lexeme: &Lexeme<'a>) -> Result<(), AllocError>
         ensures takes { Takes lexeme.now self.old self.new }
         ensures noted { IfOk result (λ _. HasFault self.new.notes) }
@@ -89,8 +89,8 @@ impl<'a> Reader<'a> {
         self.state.go_on(&mut self.control, &mut self.notes, lexeme)
     }
 
-    /// Takes a lexeme, whether it fits or not, without a comment that is unclosed. The first one is refused. A string in
-    /// a type that is faulty already has no fault of its own.
+    /// Takes a lexeme, whether it fits or not, without a comment that is unclosed. The first one is refused. A string
+    /// in a type that is faulty already has no fault of its own.
     fn take_part(&mut self, lexeme: &Lexeme<'a>) -> Result<(), AllocError>
         ensures takes { Takes lexeme.now self.old self.new }
         ensures noted { length self.old.notes.faults.items ≡ 0 → IfOk result (λ _. lexeme.now.comment ≡ None → HasFault self.new.notes) }

@@ -89,17 +89,17 @@ fn after_string(phase: Phase) -> Phase {
 }
 
 impl Progress {
-    /// The place in a phase.
-    pub(crate) fn new(whole: Whole, phase: Phase, has_item: bool) -> Self
+    /// The place in a phase, where no item has begun.
+    pub(crate) fn new(whole: Whole, phase: Phase) -> Self
         ensures phase { result.phase ≡ phase }
-        ensures item { result.has_item ≡ has_item }
+        ensures item { result.has_item ≡ false }
     {
         Progress {
             whole,
             phase,
             context: Context::Control,
             is_property: false,
-            has_item,
+            has_item: false,
             has_dropped: false,
             is_apart: false,
         }
@@ -168,8 +168,44 @@ impl Progress {
         }
     }
 
-    /// Takes the token of the lexeme if it may come here, and returns whether it may.
-    fn take_token<'a>(
+    /// Whether the lexeme fits, or `None` if that is up to the control. A faulty type goes up to its `)`, or to what
+    /// opens or ends a block or ends the node. After it a string is no key.
+    fn fits(&mut self, token: &Option<TokenKind>) -> Option<bool> {
+        match (self.context, token) {
+            (Context::Over, token) => Some(matches!(token, Some(TokenKind::Newline))),
+            (_, Some(TokenKind::Newline)) if self.is_between_entries() => {
+                self.context = if self.has_item {
+                    Context::Over
+                } else {
+                    Context::Control
+                };
+                self.phase = in_node();
+                Some(true)
+            }
+            (Context::FaultyType, Some(TokenKind::Right)) => {
+                self.context = Context::Typeless;
+                Some(true)
+            }
+            (
+                Context::FaultyType,
+                Some(
+                    TokenKind::Opening
+                    | TokenKind::Newline
+                    | TokenKind::Semicolon
+                    | TokenKind::Closing,
+                ),
+            ) => None,
+            (Context::FaultyType, _) => Some(true),
+            (Context::Typeless, Some(TokenKind::String(_))) => {
+                self.phase = Phase::TypeDone(Owner::Value);
+                None
+            }
+            _ => None,
+        }
+    }
+
+    /// Takes the lexeme if it fits, and returns whether it does.
+    pub(crate) fn take<'a>(
         &mut self,
         control: &mut Control,
         notes: &mut Notes<'a>,
@@ -177,6 +213,9 @@ impl Progress {
     ) -> Result<bool, AllocError>
         ensures { Keeps (Lexed lexeme.now) notes.old notes.new }
     {
+        if let Some(fits) = self.fits(&lexeme.token) {
+            return Ok(fits);
+        }
         let Some(token) = &lexeme.token else {
             return Ok(false);
         };
@@ -193,49 +232,6 @@ impl Progress {
         notes.note_token(token, &lexeme.start, &lexeme.end)?;
         self.end_node(notes);
         Ok(true)
-    }
-
-    /// Takes the lexeme if it fits, and returns whether it does. A faulty type goes up to its `)`, or to what opens or
-    /// ends a block or ends the node. After it a string is no key.
-    pub(crate) fn take<'a>(
-        &mut self,
-        control: &mut Control,
-        notes: &mut Notes<'a>,
-        lexeme: &Lexeme<'a>,
-    ) -> Result<bool, AllocError>
-        ensures { Keeps (Lexed lexeme.now) notes.old notes.new }
-    {
-        match (self.context, &lexeme.token) {
-            (Context::Over, token) => return Ok(matches!(token, Some(TokenKind::Newline))),
-            (_, Some(TokenKind::Newline)) if self.is_between_entries() => {
-                self.context = if self.has_item {
-                    Context::Over
-                } else {
-                    Context::Control
-                };
-                self.phase = in_node();
-                return Ok(true);
-            }
-            (Context::FaultyType, Some(TokenKind::Right)) => {
-                self.context = Context::Typeless;
-                return Ok(true);
-            }
-            (
-                Context::FaultyType,
-                Some(
-                    TokenKind::Opening
-                    | TokenKind::Newline
-                    | TokenKind::Semicolon
-                    | TokenKind::Closing,
-                ),
-            ) => {}
-            (Context::FaultyType, _) => return Ok(true),
-            (Context::Typeless, Some(TokenKind::String(_))) => {
-                self.phase = Phase::TypeDone(Owner::Value);
-            }
-            _ => {}
-        }
-        self.take_token(control, notes, lexeme)
     }
 
     /// The fault of a lexeme that does not fit here: where a name is expected, a `{` opens a block without one, and a

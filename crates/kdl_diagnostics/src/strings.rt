@@ -49,8 +49,8 @@ fn eat_signs(cursor: &mut Cursor, most: usize) -> bool
     true
 }
 
-/// Advances past a quote here, and what may follow it. Returns whether that closes a string with `signs` number signs and
-/// `quotes` quotes at each end.
+/// Advances past a quote here, and what may follow it. Returns whether that closes a string with `signs` number signs
+/// and `quotes` quotes at each end.
 fn closes(cursor: &mut Cursor, signs: usize, quotes: usize) -> bool
     requires { begins 34 cursor.old.rest ≡ true }
     ensures { GoesOn 3 cursor.old cursor.new }
@@ -192,8 +192,8 @@ fn raw_quotes<'a>(cursor: &mut Cursor<'a>, signs: usize) -> Found<'a>
 }
 
 /// Advances past the string that begins at the place, and returns its first fault. Its opening quote is here, after the
-/// number signs of a raw string. With three quotes and no newline after them, a quoted string is faulty, and a raw one is
-/// on one line.
+/// number signs of a raw string. With three quotes and no newline after them, a quoted string is faulty, and a raw one
+/// is on one line.
 pub(crate) fn scan_string<'a>(
     alloc: Global,
     cursor: &mut Cursor<'a>,

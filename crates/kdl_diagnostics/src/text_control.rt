@@ -28,7 +28,10 @@ fn place_in_entry(control: EntryControl) -> Progress
         EntryControl::Word => (Phase::InNode(Spot::Spaced(Word::MayBeKey)), true),
         EntryControl::Done => (in_node(), true),
     };
-    Progress::new(Whole::Entry, phase, has_item)
+    Progress {
+        has_item,
+        ..Progress::new(Whole::Entry, phase)
+    }
 }
 
 /// Which token may come where in a text.
@@ -78,9 +81,8 @@ impl TextControl {
 
     /// Takes a token, and returns whether it may come here.
     pub(crate) fn take(&mut self, kind: &TokenKind) -> Result<bool, AllocError>
-        ensures took { IfOk result (λ b. text_step (text_view self.old) (kind_view kind.now) ≡
+        ensures { IfOk result (λ b. text_step (text_view self.old) (kind_view kind.now) ≡
             (if b then Some (text_view self.new) else None)) }
-        ensures whole { self.new.whole ≡ self.old.whole }
     {
         match (self.whole, kind) {
             (Whole::Document, _) => self.node.control.take(kind),
@@ -115,16 +117,20 @@ impl TextControl {
         match self.whole {
             Whole::Node if self.node.begun && self.node.control.is_between_nodes() => Progress {
                 context: Context::Over,
-                ..Progress::new(Whole::Node, in_node(), true)
+                has_item: true,
+                ..Progress::new(Whole::Node, in_node())
             },
-            Whole::Document | Whole::Node => Progress::new(self.whole, phase, self.node.begun),
+            Whole::Document | Whole::Node => Progress {
+                has_item: self.node.begun,
+                ..Progress::new(self.whole, phase)
+            },
             Whole::Entry => Progress {
                 has_dropped: self.has_dropped,
                 is_apart: self.is_apart,
                 ..place_in_entry(self.entry)
             },
             // A string is due, as in a type.
-            Whole::Identifier => { Progress::new(self.whole, Phase::TypeOpen(Owner::Name), false) }
+            Whole::Identifier => Progress::new(self.whole, Phase::TypeOpen(Owner::Name)),
         }
     }
 }

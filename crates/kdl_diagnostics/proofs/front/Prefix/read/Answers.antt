@@ -16,7 +16,6 @@ tokens-init c =
           record { notes = x.notes; place = u; from = same_lies text _ _ c.copied-self.ensures u });
       exact = starts c.skip_bom.new.lexer.rest _ c.args.self.now.control c.args.self.now.control refl c.requires.control c.skip_bom.ensures.accepts;
       ends = ends_at _ _ c.checkpoint-self.ensures.rest (ap (λ (p : Position). p.rest) c.copied-self.ensures ∙ c.checkpoint-self.ensures.rest) c.outset-self.ensures (new_matched c.args.self.now c.requires);
-      whole = refl;
       accepted = c.requires.accepted;
     }
 
@@ -33,7 +32,6 @@ tokens-preserved c =
       keeps = λ text e x. c.take.ensures.keeps text (c.tokens.invariant.keeps text e x) (token_lies text c.args.lexer.now c.tokens.lexer c.next.new.self c.in-Ok-Some.token c.tokens.invariant.fronting e h) (token_end_lies text c.args.lexer.now c.tokens.lexer c.next.new.self c.in-Ok-Some.token f e h);
       exact = over_token c.tokens.lexer c.next.new.self c.in-Ok-Some.token c.tokens.self c.take.new.self h (rw c.if-not-is_taken.false at c.in_ok-is_taken.ensures.took) c.tokens.invariant.exact;
       ends = ends_over c.tokens.lexer c.next.new.self c.in-Ok-Some.token c.tokens.self c.take.new.self h c.tokens.invariant.ends o;
-      whole = c.take.ensures.whole ∙ c.tokens.invariant.whole;
       accepted = c.take.ensures.same ∙ c.tokens.invariant.accepted;
     }
 

@@ -12,7 +12,6 @@ invariant-tokens l = record {
   keeps : (text : Text) → text ≡ l.fn.lexer.rest → IsFrontOf text l.fn.self → IsFrontOf text l.self;
   exact : Takes (text_view l.self.control) l.lexer.rest ↔ Accepts l.fn.self.control.whole l.fn.lexer.rest;
   ends : EndsBefore l.lexer.rest l.self;
-  whole : l.self.control.whole ≡ l.fn.self.control.whole;
   accepted : l.self.is_accepted ≡ false;
 }
 

@@ -19,13 +19,13 @@ returns-in-String-clause-keeps c text x u v = record {
 pub returns-in-String-clause-over : goal.returns-in-String-clause-over
 returns-in-String-clause-over c n m =
     let b = c.in_ok-note_token.ensures.blocks m.1 in
-    let e = rw c.if-not-branch.false at c.in_ok-take.ensures.took in
+    let e = rw c.if-not-branch.false at c.in_ok-take.ensures in
     let d = matched (kind_view c.args.token.now.kind) (text_view c.args.self.now.control) (text_view c.take.new.self) _ _ e m.0 b.0 in
     ends_word c.args.token.now _ c.copied-self.ensures c.copied-self-in-String.ensures n (d, b.1)
 
 pub returns-in_default-kind : goal.returns-in_default-kind
 returns-in_default-kind c =
-    let e = rw c.if-not-branch.false at c.in_ok-take.ensures.took in
+    let e = rw c.if-not-branch.false at c.in_ok-take.ensures in
     record {
       keeps = λ text x u v. record {
         notes = c.note_token.ensures.keeps.notes text x.notes (u, v);
@@ -37,6 +37,5 @@ returns-in_default-kind c =
           (let b = c.in_ok-note_token.ensures.blocks m.1 in
           let d = matched (kind_view c.args.token.now.kind) (text_view c.args.self.now.control) (text_view c.take.new.self) _ _ e m.0 b.0 in
           ends_at _ _ (ap (λ (p : Position). p.rest) c.copied-self.ensures) (ap (λ (p : Position). p.rest) c.copied-self-in_default-kind.ensures) c.outset-self.ensures (d, b.1));
-      whole = c.take.ensures.whole;
       same = refl;
     }
