@@ -15,6 +15,7 @@ ghost use Rattle.std.specs.Str.{chars};
 
 use crate::document::KdlDocument;
 use kdl_entry::KdlEntry;
+use kdl_layout::layout::without_bom;
 use kdl_layout::{Place, gap_lacks, place_lacks, push_text, terminator_lacks};
 use kdl_parts::KdlNodeFormat;
 use std::alloc::{AllocError, Global};
@@ -45,16 +46,6 @@ pub(crate) fn push_newlines(text: &mut String, count: usize) -> Result<(), Alloc
         push_text(text, "\n")?;
     }
     Ok(())
-}
-
-/// The text without a U+FEFF at its start.
-fn without_bom(text: &str) -> &str
-    ensures { chars result.now ≡ without_bom (chars text.now) }
-{
-    match text.strip_prefix('\u{feff}') {
-        Some(rest) => rest,
-        None => text,
-    }
 }
 
 /// How many newlines a text between nodes lacks; 0 if it is not such a text.

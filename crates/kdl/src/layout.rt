@@ -17,7 +17,6 @@ ghost use Rattle.std.specs.Prelude.{◌≡◌, ◌+◌, ◌<◌, ◌≤◌, ◌+
 
 use crate::node::KdlNode;
 use kdl_layout::layout::{further, indentation};
-use kdl_layout::one_line::Position;
 use kdl_layout::{Before, Layout};
 use kdl_parts::{KdlDocumentFormat, KdlNodeFormat};
 use std::alloc::AllocError;
@@ -217,7 +216,7 @@ pub(crate) fn nodes_on_line(nodes: &[KdlNode]) -> bool
     ensures { result ≡ nodes_on_line (nodes_tree nodes.now) }
 {
     for (i, node) in nodes.iter().enumerate() {
-        if !node.is_on_line(Position::followed_by(nodes.len() - i - 1)) {
+        if !node.is_on_line(nodes.len() - i - 1) {
             return false;
         }
     }

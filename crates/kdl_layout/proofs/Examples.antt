@@ -1,10 +1,7 @@
 -- Texts that are node-spaces, and texts that are none.
-use Rattle.std.proofs.Common.{◌≡◌, true, [], ◌∷◌, refl, ap}
-use Rattle.kdl_text.specs.Chars.{Text, is_space, is_newline_char, is_banned, is_punctuation, is_identifier_char, starts, crlf, none, more, Plus, plus, Space}
-use Rattle.kdl_text.specs.Trivia.{Parts, block, Ws, EscEnd, escline, NodeSpace}
-use Rattle.kdl_text.proofs.Spacing.SpaceUnique.{node_space_det}
-use Rattle.kdl_text.proofs.Spacing.ValueEnds.{space_ends, value_end_no_identifier}
-use Rattle.kdl_layout.specs.Lacks.{AreNodeSpaces}
+use Rattle.kdl_layout.proofs.Common.{◌≡◌, true, [], ◌∷◌, refl, ap, Text, starts, crlf, more, Plus, plus, Space, Parts, block, Ws, EscEnd, escline, NodeSpace, node_space_det, space_ends, value_end_no_identifier, AreNodeSpaces}
+use Rattle.kdl_text.specs.Chars.{is_space, is_newline_char, is_banned, is_punctuation, is_identifier_char}
+use Rattle.kdl_text.specs.Chars.{none}
 use Rattle.kdl_layout.proofs.Lacking.SpaceEnds.{goes_past}
 use Rattle.kdl_layout.proofs.Rewriting.BeforeNewlines.{a_newline}
 use Rattle.kdl_layout.proofs.NodeSpaces.{only_spaces_are, spaces_then}

@@ -2,8 +2,6 @@
 
 -- What is kept of a text, from the items that were read in it.
 pub mod KeptReads
--- What layout kept is kept again of the text that it wrote.
-pub mod KeptAgain
 -- What is kept may occur where it is written, and holds the items of its text.
 pub mod KeptPlaces
 -- A document has one list of items at most.

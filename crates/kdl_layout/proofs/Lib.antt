@@ -1,3 +1,5 @@
+-- What the proofs cite most of the standard library, of the crates below, and of the specifications.
+pub mod Common
 -- What a slashdash drops.
 pub mod Dropping
 -- Worked examples of node-spaces.
@@ -24,7 +26,5 @@ pub mod Loops
 pub mod Texts
 -- The data of an entry in memory are well formed.
 pub mod Entries
--- Parts of what an entry prints that is laid out.
-pub mod EntryTexts
 -- Spellings that layout keeps.
 pub mod Respelling

@@ -1,10 +1,8 @@
 -- A loop that changes the elements of a list one by one, as far as it has come: each that it has left is in a relation to what was there, and the others are as they were.
-use Rattle.std.proofs.Common.{◌≡◌, ℕ, Bool, zero, suc, ◌+◌, ◌<◌, ◌≤◌, List, [], ◌∷◌, ◌++◌, length, map, take, drop, set, get_or, refl, sym, ap, subst, ◌∙◌, arith, add-one}
+use Rattle.kdl_layout.proofs.Common.{◌≡◌, ℕ, Bool, zero, suc, ◌+◌, ◌<◌, ◌≤◌, List, [], ◌∷◌, ◌++◌, length, map, take, drop, get_or, refl, sym, ap, subst, ◌∙◌, arith, add-one, Entry, entry_data, Settings, IsWellFormedEntry, AreWellFormedEntries, IsSpelledEntry}
+use Rattle.std.proofs.Common.{set}
 use Rattle.std.proofs.lemmas.List.{length-set}
-use Rattle.kdl_entry.specs.Tree.{Entry, entry_data}
-use Rattle.kdl_layout.specs.Config.{Settings}
-use Rattle.kdl_layout.specs.WellFormed.{IsWellFormedEntry, AreWellFormedEntries}
-use Rattle.kdl_layout.specs.Respelled.{IsSpelledEntry, AreSpelledEntries}
+use Rattle.kdl_layout.specs.Respelled.{AreSpelledEntries}
 use Rattle.kdl_parts.proofs.Loops.{given_back}
 
 -- R holds of each element of the first list and the one in its place in the second

@@ -1,11 +1,7 @@
 -- Texts that are node-spaces, whatever follows them.
-use Rattle.std.proofs.Common.{◌≡◌, ◌<◌, true, [], ◌∷◌, ◌++◌, length, length-append, refl, arith}
-use Rattle.std.proofs.lemmas.Bool.{and_parts}
-use Rattle.std.specs.List.{list_all}
-use Rattle.kdl_text.specs.Chars.{Text, is_space, Star, none, more, Plus, plus, Space}
-use Rattle.kdl_text.specs.Trivia.{Ws, NodeSpace, ValueEnd}
+use Rattle.kdl_layout.proofs.Common.{◌≡◌, ◌<◌, true, [], ◌∷◌, ◌++◌, length, length-append, refl, arith, and_parts, list_all, Text, is_space, Star, more, Plus, plus, Space, Ws, NodeSpace, ValueEnd, AreNodeSpaces}
+use Rattle.kdl_text.specs.Chars.{none}
 use Rattle.kdl_entry.proofs.Moving.EntryMoves.{spaces_end as before_spaces}
-use Rattle.kdl_layout.specs.Lacks.{AreNodeSpaces}
 
 shorter_then : {s r : Text} → Star NodeSpace s r → length r < length s → Plus NodeSpace s r
 shorter_then none l = absurd (omega (arith, l))

@@ -1,23 +1,10 @@
 -- Texts of one or four characters, and the formats of lines and documents.
-use Rattle.std.proofs.Common.{◌≡◌, ◌≢◌, ℕ, Bool, zero, suc, true, false, List, [], ◌∷◌, ◌++◌, ◌==◌, lit<, refl, sym, ap, ◌∙◌, Option, None, Some, String, string_bytes, string_len, Global, IfOk, MatchBool, MatchOption, Result, Ok, Err, ◌+◌, add-one, append_assoc}
-use Rattle.std.proofs.lemmas.Bool.{and_parts, ltb-true, eqb-true}
-use Rattle.std.proofs.lemmas.Str.{chars-IsAscii, chars-nil, chars-append, chars_from_encodes, chars_past_char, encodes-chars, IsUtf8-string_bytes}
-use Rattle.std.specs.Char.{encode_utf8}
-use Rattle.std.specs.List.{list_all, repeat}
+use Rattle.kdl_layout.proofs.Common.{◌≡◌, ◌≢◌, ℕ, Bool, zero, suc, true, false, List, [], ◌∷◌, ◌++◌, ◌==◌, lit<, refl, sym, ap, ◌∙◌, Option, None, Some, String, string_bytes, Global, IfOk, MatchBool, MatchOption, Result, Ok, Err, ◌+◌, add-one, append_assoc, and_parts, eqb-true, chars-IsAscii, chars-nil, chars-append, chars_past_char, encodes-chars, IsUtf8-string_bytes, encode_utf8, list_all, repeat, chars, encode_utf8_all, IsAscii, IsUtf8, Text, times, print_value, text_of, Entry, EntryFormat, empty_format, entry_format_tree, KdlEntryFormat, DocumentFormat, NodeFormat, node_format_tree, document_format_tree, KdlNodeFormat, or_empty_document, in_braces, without_bom, NodeTexts, line_of, following, option_map, Identifier, autoformatted_format, is_kept_format}
+use Rattle.std.proofs.Common.{string_len}
+use Rattle.std.proofs.lemmas.Bool.{ltb-true}
+use Rattle.std.proofs.lemmas.Str.{chars_from_encodes}
 use Rattle.std.specs.Prelude.{nat_lt}
-use Rattle.std.specs.Str.{chars, encode_utf8_all, IsAscii, IsUtf8}
-use Rattle.kdl_text.specs.Chars.{Text, times}
-use Rattle.kdl_value.specs.Print.{print_value}
-use Rattle.kdl_value.specs.Tree.{text_of}
-use Rattle.kdl_entry.specs.Tree.{Entry, EntryFormat, empty_format, entry_format_tree}
-use Rattle.kdl_entry.specs.declared.entry.KdlEntryFormat.{KdlEntryFormat}
-use Rattle.kdl_grammar.specs.Tree.{NodeFormat, Nodes}
-use Rattle.kdl_parts.specs.Formats.{node_format_tree, document_format_tree}
-use Rattle.kdl_parts.specs.declared.format.KdlNodeFormat.{KdlNodeFormat}
 use Rattle.kdl_layout.proofs.Rewriting.Pushing.{no_bytes}
-use Rattle.kdl_layout.specs.Formatted.{newline_if_none, in_braces}
-use Rattle.kdl_layout.specs.Kept.{without_bom}
-use Rattle.kdl_layout.specs.Parts.{NodeTexts, line_of, content_of, following}
 
 ascii : (s : Text) → list_all (λ c. nat_lt c 128) s ≡ true → IsAscii s
 ascii [] h i = lit< tt
@@ -47,10 +34,12 @@ pub put_text : (P : Type 0) (o : Option (String Global)) (a : String Global) (mo
 put_text P None a more t h p = p ∙ h.1
 put_text P (Some s) a more t h p = p ∙ h
 
--- the texts between braces
-pub braces_made : (l t : String Global) (a b before : Text) (ns : Nodes) → text_of l ≡ 10 ∷ a → text_of t ≡ (b ++ newline_if_none ns) ++ before
-    → document_format_tree (record { leading = l; trailing = t }) ≡ in_braces before (content_of ns a b)
-braces_made l t a b before ns x y = rw (x, y) refl
+-- the texts around the nodes of a document, and between braces
+pub content_made : {a b : Text} (leading : Text) → a ≡ b → ◌≡◌ {A = Option DocumentFormat} (Some (record { leading = leading; trailing = a })) (Some (record { leading = leading; trailing = b }))
+content_made leading e = ap (λ (t : Text). let f : DocumentFormat = record { leading = leading; trailing = t } in Some f) e
+
+pub braces_made : (l t : String Global) (f g : DocumentFormat) (before : Text) → text_of l ≡ 10 ∷ f.leading → text_of t ≡ f.trailing ++ before → Some f ≡ Some g → document_format_tree (record { leading = l; trailing = t }) ≡ in_braces before g
+braces_made l t f g before x y e = rw (x, y) (ap (λ (o : Option DocumentFormat). in_braces before (or_empty_document o)) e)
 
 -- an entry after a text
 pub entry_made : (f : KdlEntryFormat) (a b : String Global) (t : Text) (e : Entry) → entry_format_tree f ≡ empty_format → text_of a ≡ print_value e.value → text_of b ≡ t ++ (32 ∷ []) → t ≢ []
@@ -99,3 +88,18 @@ times_more (ℕ.suc n) = ap (λ (t : Text). 10 ∷ t) (times_more n)
 
 pub more_newlines : (now was start : Text) (n : ℕ) → now ≡ was ++ chars (10 ∷ []) → was ≡ start ++ times n 10 → now ≡ start ++ times (n + 1) 10
 more_newlines now was start n e h = e ∙ rw (h, newline_text) (append_assoc start (times n 10) (10 ∷ [])) ∙ ap (λ (z : Text). start ++ z) (times_more n) ∙ ap (λ (k : ℕ). start ++ times k 10) (sym (add-one n))
+
+-- what an identifier says
+abbrev pub name_of : Option Identifier → Option Text
+name_of o = option_map (λ (i : Identifier). i.value) o
+
+pub type_joined : (b n a r : Text) → (b ++ n ++ a ++ (41 ∷ [])) ++ r ≡ b ++ (n ++ (a ++ (41 ∷ r)))
+type_joined b n a r = simp append_assoc
+
+pub key_joined : (n b a r : Text) → (n ++ b ++ (61 ∷ []) ++ a) ++ r ≡ n ++ (b ++ (61 ∷ (a ++ r)))
+key_joined n b a r = simp append_assoc
+
+-- an entry that keeps no form
+pub no_format : (o : Option EntryFormat) → is_kept_format o ≡ false → autoformatted_format o ≡ None
+no_format None h = refl
+no_format (Some f) h = rw h refl

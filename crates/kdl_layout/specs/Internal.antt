@@ -10,6 +10,8 @@ pub mod Passing
 pub mod Reading
 -- The texts in memory that layout keeps with spellings.
 pub mod KeptTexts
+-- What the functions do that lay out texts, by the layout in memory.
+pub mod Laying
 -- The spellings of names that are kept, and those that are not.
 pub mod Names
 -- The string, number or keyword that a whole text is.

@@ -10,8 +10,6 @@ use Rattle.kdl_layout.specs.Formatted.{or_empty}
 use Rattle.kdl_layout.specs.Plain.{no_newline, only_spaces}
 use Rattle.kdl_layout.specs.Respelled.{IsSpelledDocument, IsSpelledNode}
 use Rattle.kdl_layout.specs.declared.blank.Before.{Before}
-use Rattle.kdl_layout.specs.declared.one_line.Position.{Position}
-use Rattle.kdl_layout.specs.declared.one_line.Position.TheVariants.{Inner, Last}
 
 -- a name whose spelling, if it has one, contains no newline
 abbrev pub spelling_on_line : Option Text → Bool
@@ -39,11 +37,6 @@ maybe_form_on_line (Some f) = form_on_line f
 
 abbrev pub entry_on_line : Entry → Bool
 entry_on_line e = maybe_on_line e.name && maybe_on_line e.ty && maybe_form_on_line e.format
-
--- no node follows
-abbrev pub is_last : Position → Bool
-is_last Inner = false
-is_last Last = true
 
 -- a `;` ends the node, or nothing if it is the last one
 abbrev pub end_on_line : Bool → Text → Bool

@@ -3,15 +3,14 @@
 ghost use Rattle.kdl_layout.specs.Blank.{after_char, blank_lines, counts, empty_lines, from_item, goes_on, last_after_item, last_before, last_in, last_of, newlines, one_if, past_item, past_items, past_node, read, spaced_lines};
 ghost use Rattle.kdl_layout.specs.Internal.Reading.{item_view, items_view};
 ghost use Rattle.kdl_layout.specs.Written.{item_text};
-ghost use Rattle.kdl_text.specs.Chars.{is_newline_char, times};
+ghost use Rattle.kdl_text.specs.Chars.{is_newline_char};
 ghost use Rattle.kdl_value.specs.Tree.{text_of};
 ghost use Rattle.std.specs.List.{list_any};
-ghost use Rattle.std.specs.Prelude.{◌≡◌, ◌+◌, ◌++◌, ◌∷◌, [], IfOk, MatchOption, OnOk, drop, false, length, true};
+ghost use Rattle.std.specs.Prelude.{◌≡◌, ◌+◌, ◌++◌, ◌∷◌, [], IfOk, MatchOption, OnOk, drop, false, length};
 ghost use Rattle.std.specs.Str.{chars};
 
 use crate::config::FormatConfig;
-use crate::item::Item;
-use crate::spaces::same;
+use crate::spaces::{Item, same};
 use crate::written::{push_lines, push_text};
 use kdl_text::chars::is_newline_char;
 use std::alloc::AllocError;
@@ -197,41 +196,19 @@ impl Before {
         }
     }
 
-    /// Returns what comes before the next thing, after an item that is removed.
-    fn past_removed_item(self, item: Item) -> Before
-        ensures { result ≡ past_item true (item_view item.entry) self }
+    /// Returns what comes before the next thing, after an item that is removed or written.
+    fn past_item(self, removed: bool, item: Item) -> Before
+        ensures { result ≡ past_item removed (item_view item.entry) self }
     {
         let last = self.last().after_item(item);
+        if !removed {
+            return Before::Thing(0, 0, last);
+        }
         match self {
             Before::Nothing(_) => Before::Nothing(last),
             Before::Thing(..) => Before::Thing(self.blank_lines(), 0, last),
         }
     }
-
-    /// Returns what comes before the next thing, after an item that is written.
-    fn past_written_item(self, item: Item) -> Before
-        ensures { result ≡ past_item false (item_view item.entry) self }
-    {
-        Before::Thing(0, 0, self.last().after_item(item))
-    }
-
-    /// Returns what comes before the next thing, after an item that is removed or written, as the configuration says.
-    fn past_item(self, config: &FormatConfig, item: Item) -> Before
-        ensures { result ≡ past_item config.now.no_comments (item_view item.entry) self }
-    {
-        if config.no_comments {
-            self.past_removed_item(item)
-        } else {
-            self.past_written_item(item)
-        }
-    }
-}
-
-/// Returns whether the text contains a newline.
-fn has_newline(text: &str) -> bool
-    ensures { result ≡ list_any is_newline_char (chars text.now) }
-{
-    text.chars().any(is_newline_char)
 }
 
 /// Returns what comes last in a terminator.
@@ -243,6 +220,13 @@ fn last_in(terminator: &str) -> Last
     } else {
         Last::Other
     }
+}
+
+/// Returns whether the text contains a newline.
+fn has_newline(text: &str) -> bool
+    ensures { result ≡ list_any is_newline_char (chars text.now) }
+{
+    text.chars().any(is_newline_char)
 }
 
 /// Returns what comes before the next thing, after a node with this terminator.
@@ -264,28 +248,18 @@ pub(crate) fn past_items(
     text: &str,
     items: &[Item],
 ) -> Result<Before, AllocError>
-    ensures { IfOk result (λ b. b ≡
-        past_items config.now.no_comments before (chars text.now) (items_view items.now)) }
+    ensures { IfOk result (λ b. b ≡ past_items config.now.no_comments before
+        (chars text.now) (items_view items.now)) }
 {
     let mut before = before;
     let mut rest = text;
     for item in items {
         let (at_item, from) = before.read(rest)?;
-        before = at_item.past_item(config, *item);
+        before = at_item.past_item(config.no_comments, *item);
         rest = same(following_item(from, *item));
     }
     let (at_end, _) = before.read(rest)?;
     Ok(at_end)
-}
-
-/// Appends `count` newlines.
-fn push_newlines(out: &mut String, count: usize) -> Result<(), AllocError>
-    ensures { OnOk result (text_of out.new ≡ text_of out.old ++ times count 10) }
-{
-    for _line in 0..count {
-        push_text(out, "\n")?;
-    }
-    Ok(())
 }
 
 /// Appends the blank lines before a thing, at most `number` of them.
@@ -296,7 +270,10 @@ pub(crate) fn push_empty_lines(
 ) -> Result<(), AllocError>
     ensures { OnOk result (text_of out.new ≡ text_of out.old ++ empty_lines number before) }
 {
-    push_newlines(out, number.min(before.blank_lines()))
+    for _line in 0..number.min(before.blank_lines()) {
+        push_text(out, "\n")?;
+    }
+    Ok(())
 }
 
 /// Appends a line for each item of a text, after at most `number` of the blank lines before it. Returns what comes
@@ -309,8 +286,7 @@ pub(crate) fn push_spaced_lines(
     text: &str,
     items: &[Item],
 ) -> Result<Before, AllocError>
-    ensures { IfOk result (λ b.
-        (b ≡ past_items false before (chars text.now) (items_view items.now))
+    ensures { IfOk result (λ b. (b ≡ past_items false before (chars text.now) (items_view items.now))
         × (text_of out.new ≡ text_of out.old
         ++ spaced_lines number (chars indentation.now) before (chars text.now) (items_view items.now))) }
 {
@@ -320,7 +296,7 @@ pub(crate) fn push_spaced_lines(
         let (at_item, from) = before.read(rest)?;
         push_empty_lines(out, number, at_item)?;
         push_lines(out, indentation, slice::from_ref(item))?;
-        before = at_item.past_written_item(*item);
+        before = at_item.past_item(false, *item);
         rest = same(following_item(from, *item));
     }
     let (at_end, _) = before.read(rest)?;

@@ -5,21 +5,21 @@ ghost use Rattle.kdl_layout.specs.Items.{before_entry, PlaceItems};
 ghost use Rattle.kdl_entry.specs.Tree.{entry_format_tree, entry_tree};
 ghost use Rattle.kdl_layout.specs.Config.{settings};
 ghost use Rattle.kdl_layout.specs.Internal.KeptTexts.{HasForm, KeepsTexts, KeptTypeTextsIn, put_type_texts, type_texts_view};
-ghost use Rattle.kdl_layout.specs.Internal.Names.{without_value};
-ghost use Rattle.kdl_layout.specs.Respelled.{IsContinued, KeptLeading, KeptPlace, KeptPlaceIf, KeptTypeTexts, KeptTypeTextsIf, entry_type_texts};
+ghost use Rattle.kdl_layout.specs.Internal.Names.{unspelled_value};
+ghost use Rattle.kdl_layout.specs.Respelled.{IsContinued, KeptLeading, KeptPlaceIf};
 ghost use Rattle.kdl_parts.specs.Formats.{node_texts};
 ghost use Rattle.kdl_value.specs.Tree.{text_of};
 ghost use Rattle.std.specs.Prelude.{◌≡◌, ◌&&◌, ◌∷◌, ◌++◌, ◌↔◌, [], IfOk, IsTrue, OnErr, OnOk, false, is_some, not, option_map};
 ghost use Rattle.std.specs.Str.{chars};
 
 use crate::config::{Layout, is_kdl_space};
-use crate::item::Place;
 use crate::lacks::is_node_spaces;
 use crate::names::take_spelling;
 use crate::one_line::has_no_newline;
 use crate::places::place_items;
+use crate::spaces::Place;
 use crate::written::push_text;
-use kdl_entry::{KdlEntry, KdlEntryFormat};
+use kdl_entry::{KdlEntry, KdlEntryFormat, KdlIdentifier};
 use kdl_parts::KdlNodeFormat;
 use std::alloc::{AllocError, Global};
 
@@ -30,11 +30,14 @@ pub(crate) fn no_text(alloc: Global) -> String
     String::new(alloc)
 }
 
-/// Returns a copy of the text if it may be between any two parts of an entry or a type and has more in it than spaces.
-/// Returns an empty text if not.
-fn kept_place(alloc: Global, text: &str) -> Result<String, AllocError>
-    ensures { IfOk result (λ t. KeptPlace (chars text.now) (text_of t)) }
+/// Returns a copy of the text if it is kept, may be between any two parts of an entry or a type, and has more in it
+/// than spaces. Returns an empty text if not.
+fn kept_place(alloc: Global, is_kept: bool, text: &str) -> Result<String, AllocError>
+    ensures { IfOk result (λ t. KeptPlaceIf is_kept (chars text.now) (text_of t)) }
 {
+    if !is_kept {
+        return Ok(no_text(alloc));
+    }
     if is_kdl_space(text) {
         return Ok(no_text(alloc));
     }
@@ -44,51 +47,14 @@ fn kept_place(alloc: Global, text: &str) -> Result<String, AllocError>
     Ok(no_text(alloc))
 }
 
-/// The texts around a type: after its `(`, before its `)`, and after it.
-#[derive(Drop)]
-pub struct TypeTexts {
-    before_name: String,
-    after_name: String,
-    after: String,
-}
-
-/// Creates empty texts.
-fn no_type_texts(alloc: Global) -> TypeTexts
-    ensures { type_texts_view result ≡ record { before_name = []; after_name = []; after = [] } }
-{
-    TypeTexts {
-        before_name: no_text(alloc),
-        after_name: no_text(alloc),
-        after: no_text(alloc),
-    }
-}
-
-/// Returns what is kept of the texts around a type.
-fn kept_texts(
-    alloc: Global,
-    before_name: &str,
-    after_name: &str,
-    after: &str,
-) -> Result<TypeTexts, AllocError>
-    ensures { IfOk result (λ x. KeptTypeTexts
-        (record { before_name = chars before_name.now; after_name = chars after_name.now; after = chars after.now })
-        (type_texts_view x)) }
-{
-    Ok(TypeTexts {
-        before_name: kept_place(alloc, before_name)?,
-        after_name: kept_place(alloc, after_name)?,
-        after: kept_place(alloc, after)?,
-    })
-}
-
-/// Returns what is kept of the texts around the type of a node, for `put_type_texts`. Returns `None` if the layout keeps
-/// nothing there, or if there is no type.
+/// Returns what is kept of the texts around the type of a node, for `put_type_texts`: after its `(`, before its `)`,
+/// and after it. Returns `None` if the layout keeps nothing there, or if there is no type.
 pub fn kept_type_texts(
     alloc: Global,
     layout: &Layout,
     has_type: bool,
     format: &Option<KdlNodeFormat>,
-) -> Result<Option<TypeTexts>, AllocError>
+) -> Result<Option<(String, String, String)>, AllocError>
     ensures { IfOk result (λ o. KeptTypeTextsIn
         (layout.now.keep_spelling && not layout.now.config.no_comments && has_type)
         (node_texts format.now) (option_map type_texts_view o)) }
@@ -96,74 +62,35 @@ pub fn kept_type_texts(
     if !layout.keep_spelling || layout.config.no_comments || !has_type {
         return Ok(None);
     }
-    let texts = match format {
-        Some(format) => kept_texts(
-            alloc,
-            format.before_ty_name.as_str(),
-            format.after_ty_name.as_str(),
-            format.after_ty.as_str(),
-        )?,
-        None => no_type_texts(alloc),
+    let Some(format) = format else {
+        return Ok(Some((no_text(alloc), no_text(alloc), no_text(alloc))));
     };
-    Ok(Some(texts))
+    let before_name = kept_place(alloc, true, format.before_ty_name.as_str())?;
+    let after_name = kept_place(alloc, true, format.after_ty_name.as_str())?;
+    let after = kept_place(alloc, true, format.after_ty.as_str())?;
+    Ok(Some((before_name, after_name, after)))
 }
 
 /// Sets the texts around the type of a node that has a format, if there are any.
-pub fn put_type_texts(format: &mut Option<KdlNodeFormat>, texts: Option<TypeTexts>)
+pub fn put_type_texts(format: &mut Option<KdlNodeFormat>, texts: Option<(String, String, String)>)
     ensures { node_texts format.new ≡ put_type_texts (option_map type_texts_view texts)
         (node_texts format.old) }
 {
-    let Some(texts) = texts else {
+    let Some((before_name, after_name, after)) = texts else {
         return;
     };
     if let Some(format) = format {
-        format.before_ty_name = texts.before_name;
-        format.after_ty_name = texts.after_name;
-        format.after_ty = texts.after;
+        format.before_ty_name = before_name;
+        format.after_ty_name = after_name;
+        format.after_ty = after;
     }
 }
 
-/// Returns what is kept of the texts around the type of an entry, if it has one.
-fn entry_type_texts(
-    alloc: Global,
-    layout: &Layout,
-    entry: &KdlEntry,
-    format: &KdlEntryFormat,
-) -> Result<TypeTexts, AllocError>
-    ensures { IfOk result (λ x. KeptTypeTextsIf
-        (not layout.now.config.no_comments && is_some (entry_tree entry.now).ty)
-        (entry_type_texts (entry_format_tree format.now)) (type_texts_view x)) }
+/// Returns whether texts around a key or a type stay: there is one, and comments stay.
+fn keeps_around(layout: &Layout, identifier: Option<&KdlIdentifier>) -> bool
+    ensures { result ≡ (not layout.now.config.no_comments && is_some identifier.entry) }
 {
-    if layout.config.no_comments || entry.ty().is_none() {
-        return Ok(no_type_texts(alloc));
-    }
-    kept_texts(
-        alloc,
-        format.before_ty_name.as_str(),
-        format.after_ty_name.as_str(),
-        format.after_ty.as_str(),
-    )
-}
-
-/// Returns what is kept of the texts before and after the `=` of an entry, if it has a key.
-fn key_texts(
-    alloc: Global,
-    layout: &Layout,
-    entry: &KdlEntry,
-    format: &KdlEntryFormat,
-) -> Result<(String, String), AllocError>
-    ensures { IfOk result (λ (before, after).
-        KeptPlaceIf (not layout.now.config.no_comments && is_some (entry_tree entry.now).name)
-        (entry_format_tree format.now).after_key (text_of before)
-        × KeptPlaceIf (not layout.now.config.no_comments && is_some (entry_tree entry.now).name)
-        (entry_format_tree format.now).after_eq (text_of after)) }
-{
-    if layout.config.no_comments || entry.name().is_none() {
-        return Ok((no_text(alloc), no_text(alloc)));
-    }
-    let before = kept_place(alloc, format.after_key.as_str())?;
-    let after = kept_place(alloc, format.after_eq.as_str())?;
-    Ok((before, after))
+    !layout.config.no_comments && identifier.is_some()
 }
 
 /// Returns whether the text may be before an entry and holds no comment or slashdashed entry.
@@ -219,16 +146,15 @@ fn kept_format(
     ensures { IfOk result (λ g. KeepsTexts (settings layout.now.config) (entry_tree entry.now)
         (entry_format_tree old.now) (text_of kept ++ (32 ∷ [])) (entry_format_tree g)) }
 {
-    let leading = leading_text(alloc, layout, old.leading.as_str(), kept)?;
-    let ty = entry_type_texts(alloc, layout, entry, old)?;
-    let (after_key, after_eq) = key_texts(alloc, layout, entry, old)?;
+    let keeps_type = keeps_around(layout, entry.ty());
+    let keeps_key = keeps_around(layout, entry.name());
     Ok(KdlEntryFormat {
-        leading,
-        before_ty_name: ty.before_name,
-        after_ty_name: ty.after_name,
-        after_ty: ty.after,
-        after_key,
-        after_eq,
+        leading: leading_text(alloc, layout, old.leading.as_str(), kept)?,
+        before_ty_name: kept_place(alloc, keeps_type, old.before_ty_name.as_str())?,
+        after_ty_name: kept_place(alloc, keeps_type, old.after_ty_name.as_str())?,
+        after_ty: kept_place(alloc, keeps_type, old.after_ty.as_str())?,
+        after_key: kept_place(alloc, keeps_key, old.after_key.as_str())?,
+        after_eq: kept_place(alloc, keeps_key, old.after_eq.as_str())?,
         ..KdlEntryFormat::new(alloc)
     })
 }
@@ -243,8 +169,7 @@ pub(crate) fn spelled_format(
     kept: String,
 ) -> Result<Option<KdlEntryFormat>, AllocError>
     ensures same { OnErr result (entry_tree entry.new ≡ entry_tree entry.old) }
-    ensures left { OnOk result (entry_tree entry.new ≡ record (entry_tree entry.old)
-        { format = option_map without_value (entry_tree entry.old).format }) }
+    ensures left { OnOk result (entry_tree entry.new ≡ unspelled_value (entry_tree entry.old)) }
     ensures form { IfOk result (λ o. HasForm (settings layout.now.config) (entry_tree entry.old)
         (text_of kept ++ (32 ∷ [])) (entry_tree entry.old).format
         (option_map entry_format_tree o)) }

@@ -5,10 +5,8 @@ ghost use Rattle.kdl_layout.specs.Lacks.{AreNodeSpaces, GapLacks, PlaceLacks, Te
 ghost use Rattle.std.specs.Prelude.{◌↔◌, IfOk, IsTrue};
 ghost use Rattle.std.specs.Str.{chars};
 
-use crate::ends::Ending;
-use crate::item::Place;
 use crate::places::{read_gap, read_place};
-use crate::spaces::{Start, after_char, break_ending, only_spaces, start_of};
+use crate::spaces::{Ending, Place, Start, after_char, break_ending, only_spaces, start_of};
 use std::alloc::{AllocError, Global};
 
 /// Returns whether the text is node-spaces, whatever follows it: spaces, block comments, and esclines that end with a

@@ -1,73 +1,53 @@
 //! Layout of the texts around nodes and documents, and of entries.
 
+ghost use Rattle.kdl_entry.specs.Places.{between};
 ghost use Rattle.kdl_entry.specs.Tree.{Entry, cleared, entry_data, entry_format_tree, entry_tree};
-ghost use Rattle.kdl_layout.specs.Blank.{at_start, empty_lines, past_node};
+ghost use Rattle.kdl_layout.specs.Blank.{past_node};
 ghost use Rattle.kdl_layout.specs.Config.{indentation, settings};
 ghost use Rattle.kdl_layout.specs.Formatted.{newline_if_none, or_empty, or_empty_document, with_keep_if};
 ghost use Rattle.kdl_layout.specs.Internal.Names.{IsLaid};
-ghost use Rattle.kdl_layout.specs.Kept.{KeptBefore, KeptBeforeBlock, KeptEnd, KeptTail, WrittenUnless, is_kept_format, last_place, without_bom};
+ghost use Rattle.kdl_layout.specs.Kept.{KeptBefore, KeptBeforeBlock, KeptEnd, KeptTail, is_kept_format, last_place, without_bom};
+ghost use Rattle.kdl_layout.specs.Items.{line_end};
 ghost use Rattle.kdl_layout.specs.KeptForm.{EntriesKeepReading};
 ghost use Rattle.kdl_layout.specs.Plain.{newline_if};
 ghost use Rattle.kdl_layout.specs.Respelled.{AreSpelledEntries, HasSpellings, IsSpelledEntry};
-ghost use Rattle.kdl_layout.specs.Spaced.{IsSpacedBraced, IsSpacedContent, IsSpacedLine, Passes, PassesFormat, PassesNodes, SpacedLines, SpacesContent};
+ghost use Rattle.kdl_layout.specs.Internal.Laying.{EndsNodes, KeepsBeforeNode, KeepsLines, KeepsLinesAfter, PassesLine, SetsContent, SetsLine};
+ghost use Rattle.kdl_layout.specs.Spaced.{IsSpacedBraced, Passes};
 ghost use Rattle.kdl_layout.specs.WellFormed.{AreWellFormedEntries, IsWellFormedEntry};
 ghost use Rattle.kdl_layout.specs.Parts.{following, put_format};
 ghost use Rattle.kdl_grammar.specs.ReadsBack.{EntryReads};
 ghost use Rattle.kdl_grammar.specs.Tree.{Nodes};
-ghost use Rattle.kdl_layout.specs.Items.{GapItems};
 ghost use Rattle.kdl_layout.specs.Internal.Reading.{place_view};
-ghost use Rattle.kdl_layout.specs.Written.{lines};
 ghost use Rattle.kdl_parts.specs.Formats.{document_format_tree, document_texts, node_format_tree, node_texts};
 ghost use Rattle.kdl_text.specs.Chars.{Text};
+ghost use Rattle.kdl_text.specs.Trivia.{LineComment};
 ghost use Rattle.kdl_value.specs.Print.{print_value};
 ghost use Rattle.kdl_value.specs.Tree.{text_of, value_tree};
 ghost use Rattle.kdl_value.specs.WellFormed.{IsWellFormed};
-ghost use Rattle.std.specs.Int.{w128};
 ghost use Rattle.std.specs.List.{All, list_all, repeat};
-ghost use Rattle.std.specs.Prelude.{◌≡◌, ◌+◌, ◌==◌, ◌≤◌, ◌||◌, ◌++◌, ◌∷◌, [], ℕ, Bool, FitsSigned, IfOk, IsTrue, MatchOption, OnErr, OnOk, Some, is_none, length, map, false, option_map, string_capacity, true, unwrap_or};
+ghost use Rattle.std.specs.Prelude.{◌≡◌, ◌+◌, ◌==◌, ◌≤◌, ◌||◌, ◌++◌, ◌∷◌, [], ℕ, Bool, IfOk, IsTrue, MatchOption, OnErr, OnOk, Some, is_none, length, map, false, option_map, string_capacity, true};
 ghost use Rattle.std.specs.Str.{chars};
 
 use crate::blank::{Before, Last, past_items, past_node, push_empty_lines, push_spaced_lines};
 use crate::config::{FormatConfig, Layout, is_kdl_space};
-use crate::item::Place;
 use crate::kept::{no_text, spelled_format};
 use crate::names::{autoformat_but, has_spelling, is_flagged, name_spelling_if};
 use crate::places::{gap_items, place_items};
-use crate::terminator::line_comment;
+use crate::spaces::{Place, line};
 use crate::written::{push_lines, push_tail, push_text};
 use kdl_entry::{KdlEntry, KdlEntryFormat, KdlValue};
 use kdl_parts::{KdlDocumentFormat, KdlNodeFormat};
+use kdl_text::cursor::{Cursor, Steps};
+use kdl_text::trivia;
 use std::alloc::{AllocError, Global};
-
-// Shows that an `i128` fits in 128 bits with a sign.
-fn number_fits(number: i128)
-    ensures { FitsSigned w128 number }
-{}
 
 /// Shows that each value in memory is well formed. Does nothing at run time.
 pub fn well_formed(value: &KdlValue)
     ensures { IsWellFormed (value_tree value.now) }
 {
     if let KdlValue::Integer(number) = value {
-        number_fits(*number);
+        let _number = *number;
     }
-}
-
-/// Reserves room for `size` bytes in the memory of a text. The text does not change.
-fn make_room(text: &mut String, size: usize) -> Result<(), AllocError>
-    ensures same { text_of text.new ≡ text_of text.old }
-    ensures room { OnOk result (size ≤ string_capacity text.new) }
-{
-    text.reserve(size.saturating_sub(text.len()))
-}
-
-/// Puts `by` in place of a text, in the memory of that text.
-fn refill(text: &mut String, by: &str)
-    requires { length by.now ≤ string_capacity text.old }
-    ensures { text_of text.new ≡ chars by.now }
-{
-    text.clear();
-    let _ = text.push_str(by);
 }
 
 /// Returns the text, repeated `times` times.
@@ -105,61 +85,25 @@ fn is_blank_gap(text: &str) -> bool
     text.chars().all(|c| c == ' ' || c == '\n')
 }
 
-/// Returns what is kept of a text between nodes: a line for each item, each after the text `before`.
-fn kept_lines(
-    alloc: Global,
-    config: &FormatConfig,
-    before: &str,
-    place: &str,
-) -> Result<String, AllocError>
-    ensures { IfOk result (λ t. WrittenUnless config.now.no_comments (GapItems (chars place.now))
-        (lines (chars before.now)) (text_of t)) }
+/// Returns whether it is clear at once that nothing is kept of a text between nodes, and nothing is counted in it.
+fn adds_nothing(layout: &Layout, place: &str) -> bool
+    ensures { IsTrue result → (level : ℕ) (b : Before)
+        → KeepsLines layout.now level b (chars place.now) [] b }
 {
-    let mut out = no_text(alloc);
-    if config.no_comments {
-        return Ok(out);
+    if place.is_empty() {
+        return true;
     }
-    if is_blank_gap(place) {
-        return Ok(out);
+    if layout.blank_lines != 0 {
+        return false;
     }
-    if let Some(items) = gap_items(alloc, place)? {
-        if !items.is_empty() {
-            out.reserve(place.len().saturating_add(before.len()))?;
-            push_lines(&mut out, before, &items)?;
-        }
-    }
-    Ok(out)
-}
-
-/// Returns what is kept of a text between nodes if blank lines are kept: a line for each item, after the blank lines
-/// before it. Sets `before` to what comes before the next thing.
-fn spaced_lines(
-    alloc: Global,
-    layout: &Layout,
-    margin: &str,
-    before: &mut Before,
-    place: &str,
-) -> Result<String, AllocError>
-    ensures { IfOk result (λ t. (level : ℕ)
-        → chars margin.now ≡ indentation (settings layout.now.config) level
-        → SpacedLines layout.now.blank_lines (settings layout.now.config) level
-        before.old (chars place.now) (text_of t) before.new) }
-{
-    let mut out = no_text(alloc);
-    let Some(items) = gap_items(alloc, place)? else {
-        return Ok(out);
-    };
     if layout.config.no_comments {
-        *before = past_items(&layout.config, *before, place, &items)?;
-        return Ok(out);
+        return true;
     }
-    let number = layout.blank_lines;
-    *before = push_spaced_lines(&mut out, number, margin, *before, place, &items)?;
-    Ok(out)
+    is_blank_gap(place)
 }
 
-/// Returns what is kept of a text between nodes. `before` is what comes before the text. If blank lines are kept, sets
-/// it to what comes before the next thing.
+/// Returns what is kept of a text between nodes: a line for each item, after the blank lines before it and the text
+/// `margin`. If blank lines are kept, sets `before` to what comes before the next thing.
 fn lines_between(
     alloc: Global,
     layout: &Layout,
@@ -167,16 +111,33 @@ fn lines_between(
     before: &mut Before,
     place: &str,
 ) -> Result<String, AllocError>
-    ensures { IfOk result (λ t. (level : ℕ)
-        → chars margin.now ≡ indentation (settings layout.now.config) level
-        → SpacedLines layout.now.blank_lines (settings layout.now.config) level
+    ensures { IfOk result (λ t. KeepsLinesAfter layout.now (chars margin.now)
         before.old (chars place.now) (text_of t) before.new) }
 {
-    if layout.blank_lines == 0 {
-        kept_lines(alloc, &layout.config, margin, place)
-    } else {
-        spaced_lines(alloc, layout, margin, before, place)
+    let mut out = no_text(alloc);
+    if adds_nothing(layout, place) {
+        return Ok(out);
     }
+    let Some(items) = gap_items(alloc, place)? else {
+        return Ok(out);
+    };
+    if layout.config.no_comments {
+        *before = past_items(&layout.config, *before, place, &items)?;
+        return Ok(out);
+    }
+    let size = if items.is_empty() {
+        0
+    } else {
+        place.len().saturating_add(margin.len())
+    };
+    out.reserve(size)?;
+    if layout.blank_lines == 0 {
+        push_lines(&mut out, margin, &items)?;
+        return Ok(out);
+    }
+    let number = layout.blank_lines;
+    *before = push_spaced_lines(&mut out, number, margin, *before, place, &items)?;
+    Ok(out)
 }
 
 /// Returns what is kept of a text in a node: each item after a space.
@@ -186,8 +147,8 @@ fn kept_tail(
     place: Place,
     text: &str,
 ) -> Result<String, AllocError>
-    ensures { IfOk result (λ t.
-        KeptTail (settings config.now) (place_view place) (chars text.now) (text_of t)) }
+    ensures { IfOk result (λ t. KeptTail (settings config.now) (place_view place)
+        (chars text.now) (text_of t)) }
 {
     let mut out = no_text(alloc);
     if config.no_comments {
@@ -204,8 +165,8 @@ fn kept_tail(
 
 /// Returns what is kept of the text before an entry.
 fn kept_before(alloc: Global, config: &FormatConfig, entry: &KdlEntry) -> Result<String, AllocError>
-    ensures { IfOk result (λ t.
-        KeptBefore (settings config.now) (entry_tree entry.now).format (text_of t)) }
+    ensures { IfOk result (λ t. KeptBefore (settings config.now) (entry_tree entry.now).format
+        (text_of t)) }
 {
     match entry.format() {
         Some(format) if !format.autoformat_keep => kept_tail(
@@ -247,29 +208,12 @@ fn format_after(
 
 /// Sets the format of the entry, if there is one.
 fn put_format(entry: &mut KdlEntry, format: Option<KdlEntryFormat>)
-    ensures { entry_tree entry.new ≡
-        put_format (option_map entry_format_tree format) (entry_tree entry.old) }
+    ensures { entry_tree entry.new ≡ put_format (option_map entry_format_tree format)
+        (entry_tree entry.old) }
 {
     if let Some(format) = format {
         entry.set_format(format);
     }
-}
-
-/// Lays out an entry that keeps no spelling, or that is flagged to keep its form.
-fn lay_out_respelled(
-    alloc: Global,
-    entry: &mut KdlEntry,
-    config: &FormatConfig,
-) -> Result<(), AllocError>
-    ensures same { OnErr result (entry_tree entry.new ≡ entry_tree entry.old) }
-    ensures formatted { OnOk result
-        (IsLaid (settings config.now) (entry_tree entry.old) (entry_tree entry.new)) }
-{
-    let kept = kept_before(alloc, config, entry)?;
-    let format = format_after(alloc, entry, kept)?;
-    entry.autoformat();
-    put_format(entry, format);
-    Ok(())
 }
 
 /// Lays out an entry that keeps its spellings.
@@ -297,8 +241,8 @@ fn lay_out_spelled(alloc: Global, entry: &mut KdlEntry, layout: &Layout) -> Resu
 
 /// Flags the entry to keep its form if the configuration says so of each entry that has a format.
 fn flag(entry: &mut KdlEntry, config: &FormatConfig)
-    ensures { entry_tree entry.new ≡
-        with_keep_if config.now.entry_autoformate_keep (entry_tree entry.old) }
+    ensures { entry_tree entry.new ≡ with_keep_if config.now.entry_autoformate_keep
+        (entry_tree entry.old) }
 {
     if config.entry_autoformate_keep {
         entry.keep_format();
@@ -316,18 +260,20 @@ fn well_formed_entry(entry: &KdlEntry)
 fn lay_out_entry(alloc: Global, entry: &mut KdlEntry, layout: &Layout) -> Result<(), AllocError>
     ensures flagged { OnErr result (entry_tree entry.new ≡
         with_keep_if layout.now.config.entry_autoformate_keep (entry_tree entry.old)) }
-    ensures formatted { OnOk result
-        (IsSpelledEntry layout.now.keep_spelling (settings layout.now.config)
-        (entry_tree entry.old) (entry_tree entry.new)) }
+    ensures formatted { OnOk result (IsSpelledEntry layout.now.keep_spelling
+        (settings layout.now.config) (entry_tree entry.old) (entry_tree entry.new)) }
     ensures well_formed { IsWellFormedEntry (entry_data (entry_tree entry.old)) }
 {
     well_formed_entry(entry);
     flag(entry, &layout.config);
     if layout.keep_spelling && !is_flagged(entry) {
-        lay_out_spelled(alloc, entry, layout)
-    } else {
-        lay_out_respelled(alloc, entry, &layout.config)
+        return lay_out_spelled(alloc, entry, layout);
     }
+    let kept = kept_before(alloc, &layout.config, entry)?;
+    let format = format_after(alloc, entry, kept)?;
+    entry.autoformat();
+    put_format(entry, format);
+    Ok(())
 }
 
 /// Lays out each entry of a node. Keeps the comments and slashdashed pieces before an entry, unless the configuration
@@ -342,8 +288,8 @@ pub fn lay_out_entries(entries: &mut Vec<KdlEntry>, layout: &Layout) -> Result<(
         → All EntryReads (map entry_tree entries.old.items)
         → All EntryReads (map entry_tree entries.new.items)
         × EntriesKeepReading (settings layout.now.config) (map entry_tree entries.new.items) }
-    ensures formatted { OnOk result
-        (AreSpelledEntries layout.now.keep_spelling (settings layout.now.config)
+    ensures formatted { OnOk result (AreSpelledEntries layout.now.keep_spelling
+        (settings layout.now.config)
         (map entry_tree entries.old.items) (map entry_tree entries.new.items)) }
     ensures well_formed { OnOk result
         (AreWellFormedEntries (map entry_data (map entry_tree entries.old.items))) }
@@ -365,7 +311,7 @@ fn prepare(mut kept: String, old: &mut String, more: &str) -> Result<Option<Stri
         (λ s. text_of s ≡ text_of kept ++ chars more.now)) }
 {
     if kept.is_empty() {
-        make_room(old, more.len())?;
+        old.reserve(more.len().saturating_sub(old.len()))?;
         return Ok(None);
     }
     push_text(&mut kept, more)?;
@@ -380,7 +326,10 @@ fn put(old: &mut String, new: Option<String>, more: &str)
 {
     match new {
         Some(new) => *old = new,
-        None => refill(old, more),
+        None => {
+            old.clear();
+            let _ = old.push_str(more);
+        }
     }
 }
 
@@ -398,6 +347,26 @@ fn kept_before_block(
     match last {
         Place::AfterBlock => kept_tail(alloc, config, Place::BeforeBlock, text),
         _ => Ok(no_text(alloc)),
+    }
+}
+
+/// Returns the line comment that the whole text is, without its newline, or `None` if the text is not one.
+fn line_comment(text: &str) -> Option<&str>
+    ensures { MatchOption result (LineComment (chars text.now) [] → ⊥)
+        (λ comment. LineComment (chars text.now) []
+        × (chars comment.now ≡ between (chars text.now) (line_end (chars text.now)))) }
+{
+    let mut cursor = Cursor::new(text, Steps::new());
+    if !cursor.looks_two('/', '/') {
+        return None;
+    }
+    trivia::line_comment(&mut cursor);
+    match cursor.look() {
+        Some(_) => None,
+        None => {
+            let (comment, _) = line(text);
+            Some(comment)
+        }
     }
 }
 
@@ -442,12 +411,8 @@ fn before_node(
     before: Before,
     place: &str,
 ) -> Result<String, AllocError>
-    ensures { IfOk result (λ t. (level : ℕ)
-        → chars margin.now ≡ indentation (settings layout.now.config) level
-        → (lines : Text) × (at_node : Before)
-        × SpacedLines layout.now.blank_lines (settings layout.now.config) level
-        before (chars place.now) lines at_node
-        × (text_of t ≡ lines ++ empty_lines layout.now.blank_lines at_node)) }
+    ensures { IfOk result (λ t. KeepsBeforeNode layout.now (chars margin.now)
+        before (chars place.now) (text_of t)) }
 {
     let mut at_node = before;
     let mut lines = lines_between(alloc, layout, margin, &mut at_node, place)?;
@@ -488,13 +453,9 @@ fn line_format(
     before: Before,
 ) -> Result<Before, AllocError>
     ensures same { OnErr result (node_format_tree format.new ≡ node_format_tree format.old) }
-    ensures spaced { IfOk result (λ next. (level : ℕ) (has_block : Bool)
-        → chars margin.now ≡ indentation (settings layout.now.config) level
-        → place_view last ≡ last_place has_block
-        → IsSpacedLine layout.now.blank_lines (settings layout.now.config) level has_block
-        before (node_format_tree format.old) (Some (node_format_tree format.new))
-        × PassesFormat layout.now.blank_lines (settings layout.now.config)
-        (node_format_tree format.old) next) }
+    ensures spaced { IfOk result (λ next. SetsLine (node_format_tree format.old)
+        (Some (node_format_tree format.new)) layout.now (chars margin.now) (place_view last)
+        before next) }
 {
     let config = &layout.config;
     let kept = before_node(alloc, layout, margin, before, format.leading.as_str())?;
@@ -528,13 +489,8 @@ pub fn lay_out_line(
     before: Before,
 ) -> Result<Before, AllocError>
     ensures same { OnErr result (node_texts format.new ≡ node_texts format.old) }
-    ensures spaced { IfOk result (λ next. (level : ℕ) (has_block : Bool)
-        → chars margin.now ≡ indentation (settings layout.now.config) level
-        → place_view last ≡ last_place has_block
-        → IsSpacedLine layout.now.blank_lines (settings layout.now.config) level has_block
-        before (or_empty (node_texts format.old)) (node_texts format.new)
-        × PassesFormat layout.now.blank_lines (settings layout.now.config)
-        (or_empty (node_texts format.old)) next) }
+    ensures spaced { IfOk result (λ next. SetsLine (or_empty (node_texts format.old))
+        (node_texts format.new) layout.now (chars margin.now) (place_view last) before next) }
 {
     match format {
         Some(format) => line_format(format, alloc, layout, margin, last, before),
@@ -554,8 +510,7 @@ pub fn after_line(
     alloc: Global,
     layout: &Layout,
 ) -> Result<Before, AllocError>
-    ensures { IfOk result (λ next. PassesFormat layout.now.blank_lines
-        (settings layout.now.config) (or_empty (node_texts format.now)) next) }
+    ensures { IfOk result (λ next. PassesLine layout.now (or_empty (node_texts format.now)) next) }
 {
     match format {
         Some(format) if layout.blank_lines != 0 => {
@@ -573,8 +528,7 @@ fn past_text(
     before: Before,
     place: &str,
 ) -> Result<Before, AllocError>
-    ensures { IfOk result (λ b.
-        Passes layout.now.config.no_comments before (chars place.now) b) }
+    ensures { IfOk result (λ b. Passes layout.now.config.no_comments before (chars place.now) b) }
 {
     let Some(items) = gap_items(alloc, place)? else {
         return Ok(before);
@@ -582,43 +536,14 @@ fn past_text(
     past_items(&layout.config, before, place, &items)
 }
 
-/// Appends a newline to the text after the nodes of a document if there are no nodes. `last` is what comes before that
-/// text, or `None` if there are no nodes.
-fn newline_if_none(text: &mut String, last: Option<Before>) -> Result<(), AllocError>
-    ensures { OnOk result (text_of text.new ≡ text_of text.old ++ newline_if (is_none last)) }
-{
-    if last.is_none() {
-        push_text(text, "\n")?;
-    }
-    Ok(())
-}
-
 /// Returns the text without the U+FEFF at its start, if there is one.
-fn without_bom(text: &str) -> &str
+pub fn without_bom(text: &str) -> &str
     ensures { chars result.now ≡ without_bom (chars text.now) }
 {
     match text.strip_prefix('\u{feff}') {
         Some(rest) => rest,
         None => text,
     }
-}
-
-/// Returns whether it is clear at once that nothing is kept of a text between nodes, and nothing is counted in it.
-fn adds_nothing(layout: &Layout, place: &str) -> bool
-    ensures { IsTrue result → (level : ℕ) (b : Before)
-        → SpacedLines layout.now.blank_lines (settings layout.now.config) level
-        b (chars place.now) [] b }
-{
-    if place.is_empty() {
-        return true;
-    }
-    if layout.blank_lines != 0 {
-        return false;
-    }
-    if layout.config.no_comments {
-        return true;
-    }
-    is_blank_gap(place)
 }
 
 /// Returns what is kept of a text between nodes at a level, and the blank lines that are kept. `before` is what comes
@@ -631,8 +556,7 @@ fn lines_at(
     before: &mut Before,
     place: &str,
 ) -> Result<String, AllocError>
-    ensures { IfOk result (λ t.
-        SpacedLines layout.now.blank_lines (settings layout.now.config) level
+    ensures { IfOk result (λ t. KeepsLines layout.now level
         before.old (chars place.now) (text_of t) before.new) }
 {
     if adds_nothing(layout, place) {
@@ -642,77 +566,41 @@ fn lines_at(
     lines_between(alloc, layout, margin.as_str(), before, place)
 }
 
-/// Returns the text before the nodes of a document.
-fn leading_of(format: &Option<KdlDocumentFormat>) -> &str
-    ensures { chars result.now ≡ (or_empty_document (document_texts format.now)).leading }
+/// Returns the texts before and after the nodes of a document.
+fn texts_of(format: &Option<KdlDocumentFormat>) -> (&str, &str)
+    ensures leading { chars result.0.now ≡ (or_empty_document (document_texts format.now)).leading }
+    ensures trailing { chars result.1.now ≡
+        (or_empty_document (document_texts format.now)).trailing }
 {
     match format {
-        Some(format) => format.leading.as_str(),
-        None => "",
+        Some(format) => (format.leading.as_str(), format.trailing.as_str()),
+        None => ("", ""),
     }
 }
 
-/// Returns the text after the nodes of a document.
-fn trailing_of(format: &Option<KdlDocumentFormat>) -> &str
-    ensures { chars result.now ≡ (or_empty_document (document_texts format.now)).trailing }
-{
-    match format {
-        Some(format) => format.trailing.as_str(),
-        None => "",
-    }
-}
-
-/// Returns what is kept of the text before the nodes of a document at a level, and what comes before the first node.
-fn content_leading(
-    alloc: Global,
-    layout: &Layout,
-    level: usize,
-    format: &Option<KdlDocumentFormat>,
-) -> Result<(String, Before), AllocError>
-    ensures { IfOk result (λ (t, b).
-        SpacedLines layout.now.blank_lines (settings layout.now.config) level at_start
-        (without_bom (or_empty_document (document_texts format.now)).leading) (text_of t) b) }
-{
-    let mut first = Before::Nothing(Last::Other);
-    let place = without_bom(leading_of(format));
-    let leading = lines_at(alloc, layout, level, &mut first, place)?;
-    Ok((leading, first))
-}
-
-/// Returns what is kept of the text after the nodes of a document at a level. `last` is what comes before that text.
-fn content_trailing(
-    alloc: Global,
-    layout: &Layout,
-    level: usize,
-    last: Before,
-    format: &Option<KdlDocumentFormat>,
-) -> Result<String, AllocError>
-    ensures { IfOk result (λ t. (b : Before)
-        × SpacedLines layout.now.blank_lines (settings layout.now.config) level last
-        (or_empty_document (document_texts format.now)).trailing (text_of t) b) }
-{
-    let mut last = last;
-    lines_at(alloc, layout, level, &mut last, trailing_of(format))
-}
-
-/// Returns what is kept of the texts before and after the nodes of a document at a level, and what comes before the
-/// first node. `last` is what comes before the text after the last node, or `None` if there are no nodes.
-fn spaced_content(
+/// Returns the texts before and after the nodes of a document at a level, and what comes before the first node: the
+/// comments that are kept, each after the indentation, and a newline if there are no nodes. `last` is what comes before
+/// the text after the last node, or `None` if there are no nodes.
+fn content(
     alloc: Global,
     layout: &Layout,
     level: usize,
     format: &Option<KdlDocumentFormat>,
     last: Option<Before>,
-) -> Result<(String, String, Before), AllocError>
-    ensures { IfOk result (λ (before, following, b). (ns : Nodes)
-        → ((b : Before) → PassesNodes layout.now.blank_lines (settings layout.now.config) b ns
-        (unwrap_or last b))
-        → SpacesContent layout.now.blank_lines (settings layout.now.config) level ns
-        (or_empty_document (document_texts format.now)) b (text_of before) (text_of following)) }
+) -> Result<(KdlDocumentFormat, Before), AllocError>
+    ensures { IfOk result (λ (f, b). (ns : Nodes)
+        → newline_if (is_none last) ≡ newline_if_none ns → EndsNodes layout.now last ns
+        → SetsContent layout.now level ns (or_empty_document (document_texts format.now)) b
+        (Some (document_format_tree f))) }
 {
-    let (leading, first) = content_leading(alloc, layout, level, format)?;
-    let trailing = content_trailing(alloc, layout, level, last.unwrap_or(first), format)?;
-    Ok((leading, trailing, first))
+    let (before_first, after_last) = texts_of(format);
+    let mut first = Before::Nothing(Last::Other);
+    let leading = lines_at(alloc, layout, level, &mut first, without_bom(before_first))?;
+    let mut next = last.unwrap_or(first);
+    let mut trailing = lines_at(alloc, layout, level, &mut next, after_last)?;
+    let end = if last.is_none() { "\n" } else { "" };
+    push_text(&mut trailing, end)?;
+    Ok((KdlDocumentFormat { leading, trailing }, first))
 }
 
 /// Sets the texts before and after the nodes of a document at a level: the comments that are kept, each after the
@@ -727,15 +615,12 @@ pub fn lay_out_content(
 ) -> Result<Before, AllocError>
     ensures same { OnErr result (document_texts format.new ≡ document_texts format.old) }
     ensures spaced { IfOk result (λ b. (ns : Nodes)
-        → newline_if (is_none last) ≡ newline_if_none ns
-        → ((b : Before) → PassesNodes layout.now.blank_lines (settings layout.now.config) b ns
-        (unwrap_or last b))
-        → IsSpacedContent layout.now.blank_lines (settings layout.now.config) level ns
+        → newline_if (is_none last) ≡ newline_if_none ns → EndsNodes layout.now last ns
+        → SetsContent layout.now level ns
         (or_empty_document (document_texts format.old)) b (document_texts format.new)) }
 {
-    let (leading, mut trailing, first) = spaced_content(alloc, layout, level, format, last)?;
-    newline_if_none(&mut trailing, last)?;
-    *format = Some(KdlDocumentFormat { leading, trailing });
+    let (texts, first) = content(alloc, layout, level, format, last)?;
+    *format = Some(texts);
     Ok(first)
 }
 
@@ -752,17 +637,20 @@ pub fn braces(
 ) -> Result<(KdlDocumentFormat, Before), AllocError>
     ensures { IfOk result (λ (f, b). (level : ℕ) (ns : Nodes) → inner ≡ level + 1
         → chars margin.now ≡ indentation (settings layout.now.config) level
-        → newline_if (is_none last) ≡ newline_if_none ns
-        → ((b : Before) → PassesNodes layout.now.blank_lines (settings layout.now.config) b ns
-        (unwrap_or last b))
+        → newline_if (is_none last) ≡ newline_if_none ns → EndsNodes layout.now last ns
         → IsSpacedBraced layout.now.blank_lines (settings layout.now.config) level ns
         (or_empty_document (document_texts format.now)) b (Some (document_format_tree f))) }
 {
-    let (kept, mut trailing, first) = spaced_content(alloc, layout, inner, format, last)?;
+    let (
+        KdlDocumentFormat {
+            leading: kept,
+            mut trailing,
+        },
+        first,
+    ) = content(alloc, layout, inner, format, last)?;
     let mut leading = no_text(alloc);
     push_text(&mut leading, "\n")?;
     push_text(&mut leading, kept.as_str())?;
-    newline_if_none(&mut trailing, last)?;
     push_text(&mut trailing, margin)?;
     Ok((KdlDocumentFormat { leading, trailing }, first))
 }

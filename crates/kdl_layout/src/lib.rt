@@ -5,24 +5,19 @@
 mod blank;
 mod config;
 mod dropped;
-mod ends;
-mod item;
 pub mod kept;
 mod lacks;
 pub mod layout;
 pub mod names;
 pub mod one_line;
 mod places;
-mod slices;
 mod spaces;
 mod spelling;
-mod terminator;
 mod written;
 
 pub use blank::{Before, Last};
 pub use config::{FormatConfig, FormatConfigBuilder, Layout, is_kdl_space};
-pub use item::{Item, Place};
 pub use lacks::{gap_lacks, is_node_spaces, place_lacks, terminator_lacks};
 pub use places::{gap_items, place_items};
-pub use terminator::line_comment;
+pub use spaces::{Item, Place};
 pub use written::{push_lines, push_tail, push_text};

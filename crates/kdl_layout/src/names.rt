@@ -1,7 +1,7 @@
 //! Spellings that layout keeps, of names, keys, types and values.
 
 ghost use Rattle.kdl_entry.specs.Tree.{entry_tree, identifier_tree, unspelled};
-ghost use Rattle.kdl_layout.specs.Internal.Names.{HasSpelling, Keeps, KeepsName, autoformatted_but, emptied, spelling_of, with_spelling, with_spelling_if, without_value};
+ghost use Rattle.kdl_layout.specs.Internal.Names.{HasSpelling, Keeps, KeepsName, autoformatted_but, emptied_key, emptied_type, spelling_of, unspelled_value, with_spelling, with_spelling_if};
 ghost use Rattle.kdl_layout.specs.Kept.{is_kept_format};
 ghost use Rattle.kdl_value.specs.Tree.{text_of};
 ghost use Rattle.std.specs.Prelude.{◌≡◌, IfOk, option_map};
@@ -58,21 +58,6 @@ pub fn name_spelling_if(
     }
 }
 
-/// The same of a type in memory, if there is one.
-pub fn type_spelling(
-    alloc: Global,
-    layout: &Layout,
-    ty: &Option<KdlIdentifier>,
-) -> Result<SpellingRule, AllocError>
-    ensures { IfOk result (λ spelling. Keeps layout.now.keep_spelling
-        (option_map identifier_tree ty.now) spelling) }
-{
-    match ty {
-        Some(ty) => name_spelling(alloc, layout, ty),
-        None => Ok(SpellingRule::Removed),
-    }
-}
-
 /// Removes the spelling of the identifier, unless it is kept.
 pub fn respell(identifier: &mut KdlIdentifier, spelling: SpellingRule)
     ensures spelled { identifier_tree identifier.new ≡
@@ -101,8 +86,7 @@ pub fn respell_type(ty: &mut Option<KdlIdentifier>, spelling: SpellingRule)
 /// Takes out the key, and leaves an empty one in its place. Returns `None` if there is no key.
 fn take_key(alloc: Global, entry: &mut KdlEntry) -> Option<KdlIdentifier>
     ensures key { option_map identifier_tree result ≡ (entry_tree entry.old).name }
-    ensures left { entry_tree entry.new ≡ record (entry_tree entry.old)
-        { name = emptied (entry_tree entry.old).name } }
+    ensures left { entry_tree entry.new ≡ emptied_key (entry_tree entry.old) }
 {
     match entry.name_mut() {
         Some(name) => Some(mem::replace(name, KdlIdentifier::from(String::new(alloc)))),
@@ -113,8 +97,7 @@ fn take_key(alloc: Global, entry: &mut KdlEntry) -> Option<KdlIdentifier>
 /// Takes out the type, and leaves an empty one in its place. Returns `None` if there is no type.
 fn take_type(alloc: Global, entry: &mut KdlEntry) -> Option<KdlIdentifier>
     ensures ty { option_map identifier_tree result ≡ (entry_tree entry.old).ty }
-    ensures left { entry_tree entry.new ≡ record (entry_tree entry.old)
-        { ty = emptied (entry_tree entry.old).ty } }
+    ensures left { entry_tree entry.new ≡ emptied_type (entry_tree entry.old) }
 {
     match entry.ty_mut() {
         Some(ty) => Some(mem::replace(ty, KdlIdentifier::from(String::new(alloc)))),
@@ -147,8 +130,8 @@ pub(crate) fn autoformat_but(
 
 /// Returns whether the entry has a format with a spelling of its value.
 pub(crate) fn has_spelling(alloc: Global, entry: &KdlEntry) -> Result<bool, AllocError>
-    ensures { IfOk result (λ b.
-        HasSpelling (entry_tree entry.now).value (entry_tree entry.now).format b) }
+    ensures { IfOk result (λ b. HasSpelling (entry_tree entry.now).value
+        (entry_tree entry.now).format b) }
 {
     match entry.format() {
         Some(format) => spells_value(alloc, format.value_repr.as_str(), entry.value()),
@@ -158,8 +141,7 @@ pub(crate) fn has_spelling(alloc: Global, entry: &KdlEntry) -> Result<bool, Allo
 
 /// Takes the spelling of the value out of the entry. Returns an empty text if the entry has no format.
 pub(crate) fn take_spelling(alloc: Global, entry: &mut KdlEntry) -> String
-    ensures left { entry_tree entry.new ≡ record (entry_tree entry.old)
-        { format = option_map without_value (entry_tree entry.old).format } }
+    ensures left { entry_tree entry.new ≡ unspelled_value (entry_tree entry.old) }
     ensures text { text_of result ≡ spelling_of (entry_tree entry.old).format }
 {
     match entry.format_mut() {

@@ -2,7 +2,7 @@
 
 ghost use Rattle.kdl_entry.specs.Tree.{entry_format_tree, entry_tree, identifier_tree};
 ghost use Rattle.kdl_layout.specs.Formatted.{or_empty};
-ghost use Rattle.kdl_layout.specs.OneLine.{braces_on_line, end_on_line, entry_on_line, form_on_line, formats_in_line, is_last, line_on_line, maybe_form_on_line, maybe_on_line, name_on_line, node_in_line};
+ghost use Rattle.kdl_layout.specs.OneLine.{braces_on_line, end_on_line, entry_on_line, formats_in_line, line_on_line, maybe_form_on_line, maybe_on_line, name_on_line, node_in_line};
 ghost use Rattle.kdl_layout.specs.Plain.{no_newline};
 ghost use Rattle.kdl_parts.specs.Formats.{document_texts, node_format_tree, node_texts};
 ghost use Rattle.std.specs.List.{list_all};
@@ -15,38 +15,6 @@ use kdl_entry::{KdlEntry, KdlEntryFormat, KdlIdentifier};
 use kdl_parts::{KdlDocumentFormat, KdlNodeFormat};
 use kdl_text::chars::is_newline_char;
 use std::alloc::{AllocError, Global};
-
-/// Where a node is among the nodes of its block.
-#[derive(Clone, Copy)]
-pub enum Position {
-    /// A node follows it.
-    Inner,
-    /// No node follows it.
-    Last,
-}
-
-impl Position {
-    /// Returns the position of a node that so many nodes follow.
-    pub fn followed_by(count: usize) -> Position
-        ensures { is_last result ≡ (count == 0) }
-    {
-        if count == 0 {
-            Position::Last
-        } else {
-            Position::Inner
-        }
-    }
-
-    /// Returns whether no node follows.
-    fn is_last(self) -> bool
-        ensures { result ≡ is_last self }
-    {
-        match self {
-            Position::Inner => false,
-            Position::Last => true,
-        }
-    }
-}
 
 /// Returns whether the text contains no newline.
 pub(crate) fn has_no_newline(text: &str) -> bool
@@ -66,7 +34,7 @@ pub fn name_on_line(name: &KdlIdentifier) -> bool
 }
 
 /// Returns the same for a key or a type. Returns `true` if there is none.
-fn maybe_on_line(name: Option<&KdlIdentifier>) -> bool
+pub fn maybe_on_line(name: Option<&KdlIdentifier>) -> bool
     ensures { result ≡ maybe_on_line (option_map (λ i. identifier_tree i.now) name.entry) }
 {
     match name {
@@ -75,20 +43,14 @@ fn maybe_on_line(name: Option<&KdlIdentifier>) -> bool
     }
 }
 
-/// Returns the same for a type in memory.
-pub fn type_on_line(ty: &Option<KdlIdentifier>) -> bool
-    ensures { result ≡ maybe_on_line (option_map identifier_tree ty.now) }
+/// Returns whether only spaces are around the parts of an entry with this format, and the spelling of its value
+/// contains no newline. Returns `true` if there is no format.
+fn maybe_form_on_line(format: Option<&KdlEntryFormat>) -> bool
+    ensures { result ≡ maybe_form_on_line (option_map (λ f. entry_format_tree f.now) format.entry) }
 {
-    match ty {
-        Some(ty) => name_on_line(ty),
-        None => true,
-    }
-}
-
-/// Returns whether only spaces are around the parts of an entry, and the spelling of its value contains no newline.
-fn form_on_line(format: &KdlEntryFormat) -> bool
-    ensures { result ≡ form_on_line (entry_format_tree format.now) }
-{
+    let Some(format) = format else {
+        return true;
+    };
     is_kdl_space(format.leading.as_str())
         && is_kdl_space(format.trailing.as_str())
         && is_kdl_space(format.after_ty.as_str())
@@ -97,16 +59,6 @@ fn form_on_line(format: &KdlEntryFormat) -> bool
         && is_kdl_space(format.after_key.as_str())
         && is_kdl_space(format.after_eq.as_str())
         && has_no_newline(format.value_repr.as_str())
-}
-
-/// Returns the same for the format of an entry. Returns `true` if there is none.
-fn maybe_form_on_line(format: Option<&KdlEntryFormat>) -> bool
-    ensures { result ≡ maybe_form_on_line (option_map (λ f. entry_format_tree f.now) format.entry) }
-{
-    match format {
-        Some(format) => form_on_line(format),
-        None => true,
-    }
 }
 
 /// Returns whether the entry can be printed on one line, without comments.
@@ -130,37 +82,31 @@ fn is_semicolons(text: &str) -> bool
     text.chars().all(|c| c == ';')
 }
 
-/// Returns whether the terminator is a `;`, or empty after the last node.
-fn end_on_line(terminator: &str, position: Position) -> bool
-    ensures { result ≡ end_on_line (is_last position) (chars terminator.now) }
+/// Returns whether the terminator of a node that so many nodes follow is a `;`, or empty after the last node.
+fn end_on_line(terminator: &str, following: usize) -> bool
+    ensures { result ≡ end_on_line (following == 0) (chars terminator.now) }
 {
     if terminator.is_empty() {
-        return position.is_last();
+        return following == 0;
     }
     is_semicolons(terminator)
 }
 
-/// Returns whether only spaces are around the parts of the node, and a `;` ends it, or nothing if it is the last one.
-fn format_on_line(format: &KdlNodeFormat, position: Position) -> bool
-    ensures { result ≡ line_on_line (is_last position) (node_format_tree format.now) }
+/// Returns whether only spaces are around the parts of a node that so many nodes follow, and a `;` ends it, or nothing
+/// if it is the last one. A node without a format has no texts around its parts.
+pub fn line_on_line(format: &Option<KdlNodeFormat>, following: usize) -> bool
+    ensures { result ≡ line_on_line (following == 0) (or_empty (node_texts format.now)) }
 {
+    let Some(format) = format else {
+        return following == 0;
+    };
     is_kdl_space(format.leading.as_str())
         && is_kdl_space(format.before_ty_name.as_str())
         && is_kdl_space(format.after_ty_name.as_str())
         && is_kdl_space(format.after_ty.as_str())
         && is_kdl_space(format.before_terminator.as_str())
         && is_kdl_space(format.trailing.as_str())
-        && end_on_line(format.terminator.as_str(), position)
-}
-
-/// Returns the same for the texts around a node. A node without a format has none.
-pub fn line_on_line(format: &Option<KdlNodeFormat>, position: Position) -> bool
-    ensures { result ≡ line_on_line (is_last position) (or_empty (node_texts format.now)) }
-{
-    match format {
-        Some(format) => format_on_line(format, position),
-        None => position.is_last(),
-    }
+        && end_on_line(format.terminator.as_str(), following)
 }
 
 /// Returns whether only spaces are after the `{` of a block and before its `}`.
@@ -175,17 +121,18 @@ pub fn braces_on_line(format: &Option<KdlDocumentFormat>) -> bool
     }
 }
 
-/// Returns the texts around a node on the line of its block: a space before it and a `;` after it, or a space after it
-/// if it is the last one.
-pub fn node_in_line(alloc: Global, position: Position) -> Result<KdlNodeFormat, AllocError>
-    ensures { IfOk result (λ f. node_format_tree f ≡ node_in_line (is_last position)) }
+/// Returns the texts around a node that so many nodes follow, on the line of its block: a space before it and a `;`
+/// after it, or a space after it if it is the last one.
+fn node_in_line(alloc: Global, following: usize) -> Result<KdlNodeFormat, AllocError>
+    ensures { IfOk result (λ f. node_format_tree f ≡ node_in_line (following == 0)) }
 {
     let mut format = KdlNodeFormat::new(alloc);
     push_text(&mut format.leading, " ")?;
     push_text(&mut format.before_children, " ")?;
-    match position {
-        Position::Inner => push_text(&mut format.terminator, ";")?,
-        Position::Last => push_text(&mut format.before_terminator, " ")?,
+    if following == 0 {
+        push_text(&mut format.before_terminator, " ")?;
+    } else {
+        push_text(&mut format.terminator, ";")?;
     }
     Ok(format)
 }
@@ -198,7 +145,7 @@ pub fn formats_in_line(alloc: Global, count: usize) -> Result<Vec<KdlNodeFormat>
     let mut left = count;
     while left > 0 {
         left -= 1;
-        formats.push(node_in_line(alloc, Position::followed_by(left))?)?;
+        formats.push(node_in_line(alloc, left)?)?;
     }
     Ok(formats)
 }

@@ -10,29 +10,21 @@ ghost use Rattle.std.specs.Prelude.{◌≡◌, ◌++◌, ◌∷◌, IfOk, [], op
 ghost use Rattle.std.specs.Str.{chars};
 
 use crate::dropped::{after_part, pass_node, pass_part};
-use crate::ends::Ending;
-use crate::item::{Item, Place};
-use crate::slices::cut;
-use crate::spaces::{Start, add, line_spaces, node_spaces, only_spaces, same, start_of};
+use crate::spaces::{
+    Ending, Item, Place, Start, add, cut, line_spaces, node_spaces, only_spaces, same, start_of,
+};
 use std::alloc::{AllocError, Global};
+use std::ops::ControlFlow;
 
-/// The first piece of a gap: line-spaces, or a slashdashed node.
-#[derive(Clone, Copy)]
-enum GapPiece<'a> {
-    /// Ends before this rest, whatever follows the rest.
-    Until(&'a str),
-    /// Is the whole text, and lacks this many newlines.
-    Last(usize),
-}
-
-/// The piece of a gap that ends so.
-fn piece_of(ending: Ending<'_>) -> GapPiece<'_>
+/// How a piece of a gap that ends so goes on: with this rest, whatever follows that; or it is the whole text, and lacks
+/// this many newlines.
+fn piece_of(ending: Ending<'_>) -> ControlFlow<usize, &str>
     ensures { result ≡ piece_of ending.entry }
 {
     match ending {
-        Ending::Before(rest) => GapPiece::Until(rest),
-        Ending::InReturn => GapPiece::Last(0),
-        Ending::Open => GapPiece::Last(1),
+        Ending::Before(rest) => ControlFlow::Continue(rest),
+        Ending::InReturn => ControlFlow::Break(0),
+        Ending::Open => ControlFlow::Break(1),
     }
 }
 
@@ -57,50 +49,38 @@ fn piece<'a>(text: &'a str, following: &'a str, at: usize) -> (&'a str, &'a str)
     (piece, rest)
 }
 
-/// Adds the slashdashed node that begins the text. After a node without a terminator, the node-spaces at the end of the
-/// text are in the piece that is returned, and not in the node's item.
-fn dropped_node<'a>(
-    alloc: Global,
-    text: &'a str,
-    items: &mut Option<Vec<Item<'a>>>,
-) -> Result<Option<GapPiece<'a>>, AllocError>
-    requires { (t : Text) × (chars text.now ≡ 47 ∷ 45 ∷ t) }
-    ensures { IfOk result (λ o.
-        GapPieceEnds (chars text.now) o (held items.old) (held items.new)) }
-{
-    let following = after_dash(text);
-    let Some(end) = pass_node(alloc, following)? else {
-        return Ok(None);
-    };
-    let (node, rest) = piece(text, following, end.item);
-    add(Some(Item::Piece(node)), items)?;
-    if let Some(ending) = end.ending {
-        return Ok(Some(piece_of(ending)));
-    }
-    if only_spaces(alloc, rest, items)? {
-        Ok(Some(GapPiece::Last(1)))
-    } else {
-        Ok(Some(GapPiece::Last(2)))
-    }
-}
-
-/// Adds the items of the first piece of the text of a gap, which is returned; or `None` if the text is not a gap.
+/// Adds the items of the first piece of the text of a gap: line-spaces, or a slashdashed node. Returns how it goes on,
+/// as `piece_of` does, or `None` if the text is not a gap. After a node without a terminator, the node-spaces at the
+/// end of the text are in the piece, and not in the node's item.
 fn gap_piece<'a>(
     alloc: Global,
     text: &'a str,
     items: &mut Option<Vec<Item<'a>>>,
-) -> Result<Option<GapPiece<'a>>, AllocError>
+) -> Result<Option<ControlFlow<usize, &'a str>>, AllocError>
     requires { chars text.now ≡ [] → ⊥ }
-    ensures { IfOk result (λ o.
-        GapPieceEnds (chars text.now) o (held items.old) (held items.new)) }
+    ensures { IfOk result (λ o. GapPieceEnds (chars text.now) o
+        (held items.old) (held items.new)) }
 {
     let first = start_of(alloc, text)?;
-    if let Start::Slashdash = first {
-        return dropped_node(alloc, text, items);
+    let Start::Slashdash = first else {
+        return match line_spaces(alloc, text, first, items)? {
+            Some(ending) => Ok(Some(piece_of(ending))),
+            None => Ok(None),
+        };
+    };
+    let following = after_dash(text);
+    let Some((item, ending)) = pass_node(alloc, following)? else {
+        return Ok(None);
+    };
+    let (node, rest) = piece(text, following, item);
+    add(Some(Item::Piece(node)), items)?;
+    if let Some(ending) = ending {
+        return Ok(Some(piece_of(ending)));
     }
-    match line_spaces(alloc, text, first, items)? {
-        Some(ending) => Ok(Some(piece_of(ending))),
-        None => Ok(None),
+    if only_spaces(alloc, rest, items)? {
+        Ok(Some(ControlFlow::Break(1)))
+    } else {
+        Ok(Some(ControlFlow::Break(2)))
     }
 }
 
@@ -115,8 +95,8 @@ pub(crate) fn read_gap<'a>(
     let mut rest = text;
     'pieces: while !rest.is_empty() {
         match gap_piece(alloc, rest, items)? {
-            Some(GapPiece::Until(following)) => rest = same(following),
-            Some(GapPiece::Last(lacks)) => return Ok(Some(lacks)),
+            Some(ControlFlow::Continue(following)) => rest = same(following),
+            Some(ControlFlow::Break(lacks)) => return Ok(Some(lacks)),
             None => return Ok(None),
         }
     }
@@ -139,15 +119,6 @@ pub fn gap_items<'a>(alloc: Global, text: &'a str) -> Result<Option<Vec<Item<'a>
     }
 }
 
-/// The first piece of a place in a node: node-spaces, or a slashdashed entry or block.
-#[derive(Clone, Copy)]
-enum PlacePiece<'a> {
-    /// Ends before this rest, which is in this place.
-    Onward(Place, &'a str),
-    /// Is the whole text, and ends in an escline with no newline or only a CR.
-    InEscline,
-}
-
 /// The place after a node-space.
 pub(crate) fn spaced(place: Place) -> Place
     ensures { place_view result ≡ spaced true (place_view place) }
@@ -168,50 +139,38 @@ pub(crate) fn may_end(place: Place) -> bool
     }
 }
 
-/// Adds the slashdashed entry or block that begins the text. `None` if neither may be slashdashed.
-fn dropped_part<'a>(
-    alloc: Global,
-    place: Place,
-    text: &'a str,
-    items: &mut Option<Vec<Item<'a>>>,
-) -> Result<Option<PlacePiece<'a>>, AllocError>
-    requires { (t : Text) × (chars text.now ≡ 47 ∷ 45 ∷ t) }
-    ensures { IfOk result (λ o.
-        PlacePieceEnds place (chars text.now) o (held items.old) (held items.new)) }
-{
-    let following = after_dash(text);
-    let Some(end) = pass_part(alloc, place, following)? else {
-        return Ok(None);
-    };
-    let Some(next) = after_part(place, end.ended) else {
-        return Ok(None);
-    };
-    let (part, rest) = piece(text, following, end.at);
-    add(Some(Item::Piece(part)), items)?;
-    Ok(Some(PlacePiece::Onward(next, rest)))
-}
-
-/// Adds the items of the first piece of the text in a place, which is returned; or `None` if the text can't be there.
+/// Adds the items of the first piece of the text in a place: node-spaces, or a slashdashed entry or block. Goes on with
+/// the rest, and the place that it is in, or breaks if the piece is the whole text, and ends in an escline with no
+/// newline or only a CR. Returns `None` if the text can't be there.
 fn place_piece<'a>(
     alloc: Global,
     place: Place,
     text: &'a str,
     items: &mut Option<Vec<Item<'a>>>,
-) -> Result<Option<PlacePiece<'a>>, AllocError>
+) -> Result<Option<ControlFlow<(), (Place, &'a str)>>, AllocError>
     requires { chars text.now ≡ [] → ⊥ }
-    ensures { IfOk result (λ o.
-        PlacePieceEnds place (chars text.now) o (held items.old) (held items.new)) }
+    ensures { IfOk result (λ o. PlacePieceEnds place (chars text.now) o
+        (held items.old) (held items.new)) }
 {
     let first = start_of(alloc, text)?;
-    if let Start::Slashdash = first {
-        return dropped_part(alloc, place, text, items);
-    }
-    match node_spaces(alloc, first, items)? {
-        Some(Ending::Before(rest)) => Ok(Some(PlacePiece::Onward(spaced(place), rest))),
-        Some(Ending::InReturn) => Ok(Some(PlacePiece::InEscline)),
-        Some(Ending::Open) => Ok(Some(PlacePiece::InEscline)),
-        None => Ok(None),
-    }
+    let Start::Slashdash = first else {
+        return match node_spaces(alloc, first, items)? {
+            Some(Ending::Before(rest)) => Ok(Some(ControlFlow::Continue((spaced(place), rest)))),
+            Some(Ending::InReturn) => Ok(Some(ControlFlow::Break(()))),
+            Some(Ending::Open) => Ok(Some(ControlFlow::Break(()))),
+            None => Ok(None),
+        };
+    };
+    let following = after_dash(text);
+    let Some((end, ended)) = pass_part(alloc, place, following)? else {
+        return Ok(None);
+    };
+    let Some(next) = after_part(place, ended) else {
+        return Ok(None);
+    };
+    let (part, rest) = piece(text, following, end);
+    add(Some(Item::Piece(part)), items)?;
+    Ok(Some(ControlFlow::Continue((next, rest))))
 }
 
 /// Adds the items of the text in a place. Returns whether it ends in an escline that lacks a newline, or `None` if the
@@ -222,18 +181,18 @@ pub(crate) fn read_place<'a>(
     text: &'a str,
     items: &mut Option<Vec<Item<'a>>>,
 ) -> Result<Option<bool>, AllocError>
-    ensures { IfOk result (λ o.
-        PlaceRead (place_view place) (chars text.now) o (held items.old) (held items.new)) }
+    ensures { IfOk result (λ o. PlaceRead (place_view place) (chars text.now) o
+        (held items.old) (held items.new)) }
 {
     let mut rest = text;
     let mut place = place;
     'pieces: while !rest.is_empty() {
         match place_piece(alloc, place, rest, items)? {
-            Some(PlacePiece::Onward(next, following)) => {
+            Some(ControlFlow::Continue((next, following))) => {
                 place = next;
                 rest = same(following);
             }
-            Some(PlacePiece::InEscline) => return Ok(Some(true)),
+            Some(ControlFlow::Break(())) => return Ok(Some(true)),
             None => return Ok(None),
         }
     }

@@ -1,22 +1,52 @@
-//! Node-spaces and line-spaces, with the comments in them, and how they end.
+//! Items, the places in a node where they may be, and the spaces with comments in them.
 
 ghost use Rattle.kdl_layout.specs.Items.{SpaceItems, LineSpaceItems, line_end};
 ghost use Rattle.kdl_layout.specs.Internal.Lacking.{LineEnds, OnlySpaces, Spaces};
 ghost use Rattle.kdl_layout.specs.Internal.Passed.{Before};
-ghost use Rattle.kdl_layout.specs.Internal.Reading.{Starts, added, found, held};
+ghost use Rattle.kdl_layout.specs.Internal.Reading.{Cut, Starts, added, found, held};
 ghost use Rattle.kdl_syntax.specs.Internal.Handed.{Alone, kind_view};
 ghost use Rattle.kdl_text.specs.Chars.{Text};
+ghost use Rattle.kdl_text.specs.Spans.{bytes};
 ghost use Rattle.kdl_text.specs.Trivia.{Break, LineSpace, NodeSpace};
-ghost use Rattle.std.specs.Prelude.{◌≡◌, ◌++◌, ◌∷◌, IfOk, MatchOption};
+ghost use Rattle.std.specs.Prelude.{◌≡◌, ◌++◌, ◌∷◌, [], IfOk, MatchBool, MatchOption};
 ghost use Rattle.std.specs.Str.{IsUtf8, chars};
 
-use crate::ends::{Ending, is_return};
-use crate::item::Item;
-use crate::slices::cut;
 use kdl_syntax::{LexFailure, Lexer, Token, TokenKind};
 use kdl_text::chars::Class;
 use kdl_text::cursor::{Cursor, Steps};
 use std::alloc::{AllocError, Global};
+
+/// A comment or a slashdashed piece in the text around nodes or entries, as it is written.
+#[derive(Clone, Copy)]
+pub enum Item<'a> {
+    /// A line comment, without the newline that ends it.
+    Comment(&'a str),
+    /// A block comment, or a slashdashed node, entry or block: from the `/-` on, without a newline at its end.
+    Piece(&'a str),
+}
+
+/// A place in a node, by what may be there (KDL 2.0.0, Slashdash Comments).
+#[derive(Clone, Copy)]
+pub enum Place {
+    /// Before an entry, and whether a node-space comes directly before what follows. Entries may be slashdashed here.
+    BeforeEntry(bool),
+    /// Before the node's block, or before the terminator of a node without one. Entries may be slashdashed here, and
+    /// then blocks.
+    BeforeBlock,
+    /// After the node's block, or after a slashdashed block. Blocks may be slashdashed here.
+    AfterBlock,
+}
+
+/// How the spaces that begin a text end.
+#[derive(Clone, Copy)]
+pub(crate) enum Ending<'a> {
+    /// Before this rest, whatever follows the rest.
+    Before(&'a str),
+    /// At the end of the text, in a CR: an LF after it is part of its newline.
+    InReturn,
+    /// At the end of the text, in an escline or a line comment without a newline.
+    Open,
+}
 
 /// What begins a text, and the text after it.
 #[derive(Clone, Copy)]
@@ -33,6 +63,17 @@ pub(crate) enum Start<'a> {
     End,
     /// Anything else.
     Other,
+}
+
+/// The text before an offset, and the text after it.
+#[inline]
+pub(crate) fn cut(text: &str, at: usize) -> (&str, &str)
+    requires { Cut (chars text.now) at }
+    ensures parts { (p r : Text) → chars text.now ≡ p ++ r → bytes p ≡ at
+        → (chars result.0.now ≡ p) × (chars result.1.now ≡ r) }
+    ensures text { IsUtf8 result.0.now × IsUtf8 result.1.now }
+{
+    text.split_at(at)
 }
 
 /// Returns the same text. After a call, the proof of a loop knows that the text is UTF-8.
@@ -110,6 +151,14 @@ pub(crate) fn start_of(alloc: Global, text: &str) -> Result<Start<'_>, AllocErro
     }
 }
 
+/// Whether the text is a CR.
+pub(crate) fn is_return(text: &str) -> bool
+    ensures { MatchBool result (chars text.now ≡ 13 ∷ []) (chars text.now ≡ 13 ∷ [] → ⊥) }
+{
+    let mut cursor = Cursor::new(text, Steps::new());
+    cursor.eat('\r') && cursor.look().is_none()
+}
+
 /// How a newline or line comment before the rest ends, whose line ends with this text.
 pub(crate) fn line_ending<'a>(end: &str, rest: &'a str) -> Ending<'a>
     requires { (s : Text) × Break s (chars rest.now) × (chars end.now ≡ line_end s) }
@@ -155,8 +204,8 @@ fn escline<'a>(
     text: &'a str,
     items: &mut Option<Vec<Item<'a>>>,
 ) -> Result<Option<Ending<'a>>, AllocError>
-    ensures { IfOk result (λ o.
-        Spaces NodeSpace SpaceItems (92 ∷ chars text.now) o (held items.old) (held items.new)) }
+    ensures { IfOk result (λ o. Spaces NodeSpace SpaceItems (92 ∷ chars text.now) o
+        (held items.old) (held items.new)) }
 {
     let mut rest = text;
     'comments: loop {
@@ -218,8 +267,7 @@ pub(crate) fn only_spaces<'a>(
     text: &'a str,
     items: &mut Option<Vec<Item<'a>>>,
 ) -> Result<bool, AllocError>
-    ensures { IfOk result (λ b.
-        OnlySpaces (chars text.now) b (held items.old) (held items.new)) }
+    ensures { IfOk result (λ b. OnlySpaces (chars text.now) b (held items.old) (held items.new)) }
 {
     let mut rest = text;
     'spaces: while !rest.is_empty() {

@@ -4,7 +4,6 @@ ghost use Rattle.kdl_entry.specs.Entries.{IsIdentifierText};
 ghost use Rattle.kdl_layout.specs.Internal.Whole.{Spelled, whole_view};
 ghost use Rattle.kdl_layout.specs.Respelled.{IsSpelling};
 ghost use Rattle.kdl_syntax.specs.Internal.Handed.{Cuts, LexedNext, kind_view};
-ghost use Rattle.kdl_syntax.specs.Tokens as tokens;
 ghost use Rattle.kdl_text.specs.Chars.{Text};
 ghost use Rattle.kdl_text.specs.Internal.Here.{Here};
 ghost use Rattle.kdl_value.specs.Data as data';
@@ -13,7 +12,7 @@ ghost use Rattle.std.specs.Prelude.{◌≡◌, ◌↔◌, [], IfOk, IsTrue, Ok};
 ghost use Rattle.std.specs.Str.{chars};
 
 use kdl_entry::KdlValue;
-use kdl_syntax::{LexFailure, Lexer, NextToken, Token, TokenKind, TokenSpan};
+use kdl_syntax::{LexFailure, Lexer, NextToken, Token, TokenKind};
 use kdl_text::cursor::{Checkpoint, Piece, Steps};
 use std::alloc::{AllocError, Global};
 
@@ -68,17 +67,6 @@ fn is_end(place: &Checkpoint) -> bool
     place.char_span().len == 0
 }
 
-/// Returns the string that the bare string is, if the text ends after it.
-fn of_word<'a>(word: Piece<'a>, at: &TokenSpan) -> Option<WholeText<'a>>
-    ensures { (s : Text) → Cuts s (tokens.string word.entry) at.now.end.rest → Spelled s result }
-{
-    if is_end(&at.end) {
-        Some(WholeText::Word(word))
-    } else {
-        None
-    }
-}
-
 /// Returns the string, number or keyword that the token is, if the text ends after it.
 fn of_token(token: Token) -> Option<WholeText<'static>>
     ensures { (s : Text) → Cuts s (kind_view token.entry.kind) token.entry.at.end.rest → Spelled s result }
@@ -99,7 +87,7 @@ fn of_next(next: NextToken<'_>) -> Option<WholeText<'_>>
         → Spelled s result }
 {
     match next {
-        NextToken::Word(word, at) => of_word(word, &at),
+        NextToken::Word(word, at) => is_end(&at.end).then_some(WholeText::Word(word)),
         NextToken::Other(token) => of_token(token),
         _ => None,
     }

@@ -6,7 +6,7 @@ ghost use Rattle.kdl_value.specs.Tree.{text_of};
 ghost use Rattle.std.specs.Prelude.{◌≡◌, ◌++◌, ◌∷◌, [], OnOk};
 ghost use Rattle.std.specs.Str.{chars};
 
-use crate::item::Item;
+use crate::spaces::Item;
 use std::alloc::AllocError;
 
 /// Appends the text.
@@ -35,8 +35,8 @@ fn push_line_text(out: &mut String, text: &str) -> Result<(), AllocError>
 
 /// Appends the item on a line of its own.
 fn push_line(out: &mut String, before: &str, item: Item) -> Result<(), AllocError>
-    ensures { OnOk result (text_of out.new ≡ text_of out.old
-        ++ (chars before.now ++ line_text (item_text (item_view item.entry)) ++ (10 ∷ []))) }
+    ensures { OnOk result (text_of out.new ≡ text_of out.old ++ (chars before.now
+        ++ line_text (item_text (item_view item.entry)) ++ (10 ∷ []))) }
 {
     push_text(out, before)?;
     match item {
@@ -48,8 +48,8 @@ fn push_line(out: &mut String, before: &str, item: Item) -> Result<(), AllocErro
 /// Appends a line for each item, after the text `before`. A CR at the end of an item, which ends an escline, is written
 /// as LF: with the newline after it, it would be one newline.
 pub fn push_lines(out: &mut String, before: &str, items: &[Item]) -> Result<(), AllocError>
-    ensures { OnOk result (text_of out.new ≡ text_of out.old
-        ++ lines (chars before.now) (items_view items.now)) }
+    ensures { OnOk result (text_of out.new ≡ text_of out.old ++ lines (chars before.now)
+        (items_view items.now)) }
 {
     for item in items {
         push_line(out, before, *item)?;

@@ -11,12 +11,12 @@ ghost use Rattle.kdl.specs.declared.node.KdlNode.{out-KdlNode};
 ghost use Rattle.kdl_layout.specs.Blank.{at_start};
 ghost use Rattle.kdl_layout.specs.Config.{defaults, indentation, settings, without_comments};
 ghost use Rattle.kdl_layout.specs.Formatted.{bare_node, or_empty};
-ghost use Rattle.kdl_layout.specs.OneLine.{entry_on_line, is_last, line_on_line, maybe_on_line, name_on_line, node_on_line};
+ghost use Rattle.kdl_layout.specs.OneLine.{entry_on_line, line_on_line, maybe_on_line, name_on_line, node_on_line};
 ghost use Rattle.kdl_grammar.specs.Tree.{Node, children_of};
 ghost use Rattle.kdl_entry.specs.Tree.{entry_tree, identifier_tree};
 ghost use Rattle.kdl_parts.specs.Formats.{node_texts};
 ghost use Rattle.std.specs.List.{list_all};
-ghost use Rattle.std.specs.Prelude.{◌≡◌, ◌↔◌, ◌&&◌, ◌+◌, ◌<◌, IfOk, IsTrue, List, MatchOption, OnOk, false, length, map, option_map};
+ghost use Rattle.std.specs.Prelude.{◌≡◌, ◌↔◌, ◌&&◌, ◌==◌, ◌+◌, ◌<◌, IfOk, IsTrue, List, MatchOption, OnOk, false, length, map, option_map};
 ghost use Rattle.std.specs.Str.{chars};
 
 use crate::document::KdlDocument;
@@ -26,8 +26,8 @@ use crate::node::KdlNode;
 use kdl_entry::{KdlEntry, KdlIdentifier};
 use kdl_layout::kept::{kept_type_texts, put_type_texts};
 use kdl_layout::layout::{after_line, indentation, lay_out_entries, lay_out_line};
-use kdl_layout::names::{name_spelling, respell, respell_type, type_spelling};
-use kdl_layout::one_line::{Position, entries_on_line, line_on_line, name_on_line, type_on_line};
+use kdl_layout::names::{name_spelling, name_spelling_if, respell, respell_type};
+use kdl_layout::one_line::{entries_on_line, line_on_line, maybe_on_line, name_on_line};
 use kdl_layout::{Before, FormatConfig, Last, Layout};
 use kdl_parts::KdlNodeFormat;
 use std::alloc::AllocError;
@@ -191,7 +191,7 @@ impl KdlNode {
             (map node_tree (child_nodes self.old)) self.new) }
     {
         let alloc = *self.entries.allocator();
-        let type_spelling = type_spelling(alloc, layout, &self.ty)?;
+        let type_spelling = name_spelling_if(alloc, layout, self.ty.as_ref())?;
         let name_spelling = name_spelling(alloc, layout, &self.name)?;
         let last = last_place(&self.children);
         let (first, around) = block_around(&self.children, layout, level, before)?;
@@ -213,14 +213,14 @@ impl KdlNode {
         set_around(&mut self.children, around);
     }
 
-    /// Returns whether the node can be printed on one line, without comments, and has no block.
-    pub(crate) fn is_on_line(&self, position: Position) -> bool
-        ensures { result ≡ node_on_line (is_last position) (node_tree self.now) }
+    /// Returns whether the node, which so many nodes follow, can be printed on one line, without comments and a block.
+    pub(crate) fn is_on_line(&self, following: usize) -> bool
+        ensures { result ≡ node_on_line (following == 0) (node_tree self.now) }
     {
         if self.children.is_some() {
             return false;
         }
-        is_line(&self.ty, &self.name, &self.entries, &self.format, position)
+        is_line(&self.ty, &self.name, &self.entries, &self.format, following)
     }
 
     /// Returns what comes before whatever follows the node. That is not laid out.
@@ -254,23 +254,24 @@ impl KdlNode {
     }
 }
 
-/// Returns whether the parts of a node without a block can be printed on one line, without comments.
+/// Returns whether the parts of a node without a block, which so many nodes follow, can be printed on one line, without
+/// comments.
 fn is_line(
     ty: &Option<KdlIdentifier>,
     name: &KdlIdentifier,
     entries: &[KdlEntry],
     format: &Option<KdlNodeFormat>,
-    position: Position,
+    following: usize,
 ) -> bool
     ensures { result ≡ (maybe_on_line (option_map identifier_tree ty.now)
         && name_on_line (identifier_tree name.now)
         && list_all (λ e. entry_on_line (entry_tree e)) entries.now
-        && line_on_line (is_last position) (or_empty (node_texts format.now))) }
+        && line_on_line (following == 0) (or_empty (node_texts format.now))) }
 {
-    type_on_line(ty)
+    maybe_on_line(ty.as_ref())
         && name_on_line(name)
         && entries_on_line(entries)
-        && line_on_line(format, position)
+        && line_on_line(format, following)
 }
 
 /// Sets the texts around the nodes of a block, if there is one.

@@ -1,35 +1,26 @@
 -- What a slashdash drops in a place of a node: the control's passing over it says what it is, and where it ends.
-use Rattle.std.proofs.Common.{◌≡◌, ◌↔◌, Bool, true, false, ◌&&◌, not, if◌then◌else◌, List, [], ◌∷◌, Option, Some, refl, sym, ap, subst, ◌∙◌}
-use Rattle.std.proofs.lemmas.Bool.{and_parts}
-use Rattle.kdl_text.specs.Chars.{Text, is_identifier_char, is_space, is_newline_char, is_banned, is_punctuation, starts, Star, Plus, plus}
-use Rattle.kdl_text.specs.Chars.Star.{none as no_star, more}
+use Rattle.kdl_layout.proofs.Common.{◌≡◌, ◌↔◌, Bool, true, false, ◌&&◌, not, if◌then◌else◌, List, [], ◌∷◌, Option, Some, refl, sym, ap, subst, ◌∙◌, and_parts, Text, starts, Star, Plus, plus, NodeSpace, LineSpace, Slashdash, snoc, StringPiece, IsString, parens, untyped, typed, MaybeType, IsEntry, a_string, a_plain, IsValue, argument, between, Token, string, BeginsToken, t_space, t_newline, t_slashdash, t_string, t_left, t_opening, t_closing, t_semicolon, Lexes, done, next, t_value, token_det, no_token, Terminator, named, AfterName, kept_entry, dropped_entry, blocks, Blocks, dropped_block, no_block, Gap, no_gap, dropped_node, AreNodes, last_gap, node_then, IsBlock, braces, Item, piece, Place, takes_entries, takes_blocks, PlaceItems, Value, EndsNowhere, takes, next_place, of_spaces, moved, follows_word, for_part, PartPasses, over, word, stops, goes, slashdash_phase, slashdash_in, EndsWord, at_end}
+use Rattle.kdl_text.specs.Chars.{is_identifier_char, is_space, is_newline_char, is_banned, is_punctuation}
 use Rattle.kdl_text.specs.Bare.{is_bare}
+use Rattle.kdl_text.specs.Chars.Star.{none as no_star, more}
 use Rattle.kdl_text.specs.Bare.BareString.{bare as a_bare}
-use Rattle.kdl_text.specs.Trivia.{NodeSpace, LineSpace, Slashdash}
 use Rattle.kdl_text.specs.Trivia.Break.{newline as break_newline, comment as break_comment}
 use Rattle.kdl_text.specs.Trivia.LineSpace.{space as line_space, «break» as line_break}
 use Rattle.kdl_text.specs.Trivia.Slashdash.{slashdash as a_slashdash}
-use Rattle.kdl_text.proofs.Looking.Stars.{snoc}
 use Rattle.kdl_entry.specs.Data.{Entry}
-use Rattle.kdl_syntax.specs.Pieces.{StringPiece}
-use Rattle.kdl_entry.specs.Entries.{IsString, string as a_string', parens, untyped, typed, MaybeType, IsEntry, a_string, a_plain, IsValue, value as a_value, property as a_property, argument}
-use Rattle.kdl_entry.specs.Places.{between}
-use Rattle.kdl_syntax.specs.Tokens.{Token, slashdash, string, BeginsToken, t_space, t_newline, t_slashdash, t_string, t_left, t_opening, t_closing, t_semicolon, Lexes, done, next, t_value}
+use Rattle.kdl_entry.specs.Entries.{string as a_string', value as a_value, property as a_property}
+use Rattle.kdl_syntax.specs.Tokens.{slashdash}
 use Rattle.kdl_syntax.specs.Tokens as token'
-use Rattle.kdl_syntax.proofs.Lexing.TokenUnique.{token_det, no_token}
 use Rattle.kdl_grammar.specs.Data.{Children, Nodes}
-use Rattle.kdl_grammar.specs.Grammar.{Terminator, named, AfterName, kept_entry, dropped_entry, blocks, Blocks, dropped_block, block, no_block, Gap, no_gap, dropped_node, AreNodes, last_gap, node_then, IsBlock, braces}
+use Rattle.kdl_grammar.specs.Grammar.{block}
 use Rattle.kdl_grammar.specs.Grammar.Gap.{line_space as gap_space}
 use Rattle.kdl_syntax.specs.Control.{Control, at, Spot, fresh, spaced, later, Phase, gap, in_node, entry_slashdash, Frame, in_dropped, spaced_of, slashdash_at, step, held, accepts, is_over, is_block, is_word}
 use Rattle.kdl_layout.specs.Items as items
-use Rattle.kdl_layout.specs.Items.{Item, piece, Place, takes_entries, takes_blocks, PlaceItems}
-use Rattle.kdl_layout.specs.Internal.Passed.{EndsNowhere, takes, next_place}
-use Rattle.kdl_layout.specs.Internal.Passing.{of_spaces, moved, follows_word, for_part, PartPasses, over, word, stops, goes, slashdash_phase, slashdash_in, EndsWord, at_end, before}
+use Rattle.kdl_layout.specs.Internal.Passing.{before}
 use Rattle.kdl_layout.proofs.Dropping.DroppedNodes.{Accepted, accepted, token_first, accepted_back, derived, passes_det}
 use Rattle.kdl_layout.proofs.Dropping.Paths.{in_block_on, slashdash_spaced, over_part, drop_entry, drop_block}
 use Rattle.kdl_layout.proofs.Dropping.TokenLoop.{Of, is_not}
 use Rattle.kdl_layout.proofs.Listing.SpaceItems.{entries_spaced, space_of}
-use Rattle.kdl_value.specs.Data.{Value}
 
 -- the control passes over one part at most
 pub part_det : {c : Control} {last s e e' : Text} {b b' : Bool} → PartPasses c last s b e → PartPasses c last s b' e' → (b ≡ b') × (e ≡ e')

@@ -1,19 +1,12 @@
 -- Where the grammar derives a piece, the control goes on over it.
 -- `P c last s` says something of the control before the text s, where the last token that is no node-space ended before `last`.
-use Rattle.std.proofs.Common.{◌≡◌, Bool, true, false, ◌&&◌, not, List, [], ◌∷◌, Option, Some, refl, sym, ap, subst, ◌∙◌}
-use Rattle.std.proofs.Math.Bool.{and-false}
-use Rattle.kdl_text.specs.Chars.{Text, Star, plus}
+use Rattle.kdl_layout.proofs.Common.{◌≡◌, Bool, true, false, ◌&&◌, not, List, [], ◌∷◌, Option, Some, refl, sym, ap, subst, ◌∙◌, and-false, Text, Star, plus, NodeSpace, Break, LineSpace, slashdash, Value, IsString, IsPlainValue, a_string, a_plain, parens, untyped, typed, IsValue, IsEntry, argument, Token, space, newline, string, t_space, t_newline, t_slashdash, t_string, t_value, t_left, t_opening, t_closing, t_semicolon, BeginsToken, token_det, no_token, Terminator, IsNode, named, AfterName, kept_entry, dropped_entry, Blocks, AfterBlock, dropped_later, no_more, Gap, no_gap, line_space, dropped_node, AreNodes, last_gap, node_then, IsBlock, braces, moved, follows_word, for_node, End, goes_on, goes, NodePasses, PartPasses, slashdash_phase}
 use Rattle.kdl_text.specs.Chars.Star.{none as no_star, more}
-use Rattle.kdl_text.specs.Trivia.{NodeSpace, Break, LineSpace, slashdash}
-use Rattle.kdl_value.specs.Data.{Value}
 use Rattle.kdl_entry.specs.Data.{Entry}
-use Rattle.kdl_entry.specs.Entries.{IsString, string as a_string', IsPlainValue, a_string, a_plain, parens, untyped, typed, IsValue, value as a_value', IsEntry, property as a_property, argument}
-use Rattle.kdl_syntax.specs.Tokens.{Token, space, newline, string, value, left, opening, closing, t_space, t_newline, t_slashdash, t_string, t_value, t_left, t_right, t_opening, t_closing, t_equals, t_semicolon, BeginsToken}
-use Rattle.kdl_syntax.proofs.Lexing.TokenUnique.{token_det, no_token}
+use Rattle.kdl_entry.specs.Entries.{string as a_string', value as a_value', property as a_property}
+use Rattle.kdl_syntax.specs.Tokens.{value, left, opening, closing, t_right, t_equals}
 use Rattle.kdl_grammar.specs.Data.{Node, Children, Nodes}
-use Rattle.kdl_grammar.specs.Grammar.{Terminator, IsNode, named, AfterName, kept_entry, dropped_entry, Blocks, AfterBlock, dropped_later, no_more, Gap, no_gap, line_space, dropped_node, AreNodes, last_gap, node_then, IsBlock, braces}
 use Rattle.kdl_syntax.specs.Control.{Spot, fresh, spaced, later, Phase, gap, node_slashdash, type_open, type_name, type_done, in_node, property, entry_slashdash, block_slashdash, kept, kept_slashdash, Frame, in_block, in_dropped, in_later, Control, at, popped, spaced_of, slashdash_at, step, is_gap, is_over, is_word}
-use Rattle.kdl_layout.specs.Internal.Passing.{moved, follows_word, for_node, End, goes_on, goes, NodePasses, PartPasses, slashdash_phase}
 
 -- after the name of a node
 pub data Tail (fs : List Frame) : Control → Type 0 where

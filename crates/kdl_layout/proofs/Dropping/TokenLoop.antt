@@ -1,38 +1,17 @@
 -- The turns of the loops that pass over what a slashdash drops, token by token.
-use Rattle.std.proofs.Common.{◌≡◌, ◌↔◌, ◌⊎◌, inl, inr, ℕ, ◌<◌, Bool, true, false, ◌&&◌, not, List, [], ◌∷◌, ◌++◌, length, Option, Some, None, MatchOption, refl, sym, ap, subst, ◌∙◌, arith, append_assoc, if◌then◌else◌, ◌+◌, ◌-◌, ◌≤◌, Bor, length-append}
-use Rattle.std.proofs.Math.Bool.{and-false}
-use Rattle.std.proofs.lemmas.Bool.{and_parts}
-use Rattle.kdl_text.specs.Chars.{Text, Star, plus}
+use Rattle.kdl_layout.proofs.Common.{◌≡◌, ◌↔◌, ◌⊎◌, inl, inr, ℕ, ◌<◌, Bool, true, false, ◌&&◌, not, List, [], ◌∷◌, ◌++◌, length, Option, Some, None, refl, sym, ap, subst, ◌∙◌, arith, append_assoc, if◌then◌else◌, ◌+◌, ◌-◌, ◌≤◌, Bor, length-append, and-false, and_parts, then_some, Text, Star, plus, Here, bytes, Moves, NodeSpace, Break, bytes-append, star_end, end_length, node_space_end, node_space_shorter, Cuts, one, spaces, kind_view, HandsOut, Token, space, newline, semicolon, t_space, BeginsToken, NoToken, t_semicolon, token_det, no_token, Ended, ItemEnd, Place, before_entry, before_block, after_block, Item, line_end, GapItems, chars, IsUtf8, between, TokenKind, is_between, EndsNode, of_spaces, moved, follows_word, EndsWord, at_end, Goal, for_node, for_part, End, returned, ended, returns, over, word, goes_on, stops, goes, slashdash_in, EndsAt, EndsNowhere, AnswersDroppedPart, Ending, Cut}
 use Rattle.kdl_text.specs.Chars.Star.{none as no_star, more}
-use Rattle.kdl_text.specs.Internal.Here.{Here}
-use Rattle.kdl_text.specs.Spans.{bytes}
-use Rattle.kdl_text.specs.Internal.Reading.{Moves}
-use Rattle.kdl_text.specs.Trivia.{NodeSpace, Break}
-use Rattle.kdl_text.proofs.Looking.MovesJoin.{bytes-append}
-use Rattle.kdl_text.proofs.Spacing.SpacePieces.{star_end, end_length, node_space_end, node_space_shorter}
-use Rattle.kdl_syntax.specs.Internal.Handed.{Cuts, one, spaces, kind_view, HandsOut}
-use Rattle.kdl_syntax.specs.Tokens.{Token, space, newline, semicolon, t_space, BeginsToken, NoToken, t_semicolon}
 use Rattle.kdl_syntax.specs.declared.lexer.Token.{Token as CodeToken}
-use Rattle.kdl_syntax.proofs.Lexing.TokenUnique.{token_det, token_shorter, no_token}
+use Rattle.kdl_syntax.proofs.Lexing.TokenUnique.{token_shorter}
 use Rattle.kdl_syntax.specs.Control.{fresh, spaced, later, gap, node_slashdash, type_done, in_node, Phase, Frame, in_block, Control, at, step, finish, held, is_gap, is_over, is_block, is_word}
 use Rattle.kdl_syntax.specs.Internal.Views.{ended_view}
-use Rattle.kdl_syntax.specs.declared.control.Ended.{Ended}
-use Rattle.kdl_layout.specs.Items.{ItemEnd, Place, before_entry, before_block, after_block, Item, line_end, GapItems}
-use Rattle.kdl_layout.specs.Internal.Lacking.{EndsNode}
-use Rattle.kdl_layout.specs.Internal.Passing.{of_spaces, moved, follows_word, EndsWord, at_end, before, Goal, for_node, for_part, End, returned, ended, part_end, returns, ends, over, word, goes_on, Passes, stops, goes, slashdash_in}
-use Rattle.kdl_layout.specs.Internal.Passed.{Before, EndsAt, EndsNowhere, AnswersDroppedNode, AnswersDroppedPart}
-use Rattle.kdl_layout.specs.declared.dropped.NodeEnd.{NodeEnd}
-use Rattle.kdl_layout.specs.declared.ends.Ending.{Ending}
-use Rattle.kdl_layout.specs.declared.dropped.PartEnd.{PartEnd}
+use Rattle.kdl_syntax.specs.declared.control.Ended.TheVariants.{Entry}
+use Rattle.kdl_layout.specs.Internal.Passing.{before, part_end, ends, Passes}
+use Rattle.kdl_layout.specs.Internal.Passed.{Before, AnswersDroppedNode}
 use Rattle.kdl_layout.proofs.Dropping.DroppedNodes.{stays, turn_back, node_refused}
-use Rattle.std.specs.Str.{chars, IsUtf8}
 use Rattle.kdl_text.proofs.Looking.Texts.{bytes-chars}
-use Rattle.kdl_entry.specs.Places.{between}
-use Rattle.kdl_syntax.specs.declared.lexer.TokenKind.{TokenKind}
 use Rattle.kdl_syntax.specs.declared.lexer.TokenKind.TheVariants.{Semicolon}
-use Rattle.kdl_entry.proofs.Slicing.Between.{is_between}
-use Rattle.kdl_layout.specs.Internal.Reading.{Cut}
-use Rattle.kdl_layout.specs.declared.ends.Ending.TheVariants.{Before as EndsBefore}
+use Rattle.kdl_layout.specs.declared.spaces.Ending.TheVariants.{Before as EndsBefore}
 use Rattle.kdl_layout.proofs.Listing.Starts.{newline_cut}
 
 -- the terminator of a node
@@ -248,10 +227,12 @@ at_stop z f (stops (returns {r = r} {k = k} t h)) = no_token (subst (λ (a : Tex
 at_stop z f (stops (ends g h)) = cc
 at_stop z f (goes {r = r} {k = k} t h g p) = no_token (subst (λ (a : Text). BeginsToken a k r) z t)
 
-pub node_stops : (t : Text) (here : Here) (c : Control) (last : ℕ) (o : Option NodeEnd) → Goes for_node (at node_slashdash []) here c t last → here.rest ≡ [] → MatchOption o (finish c ≡ false) (λ e. (finish c ≡ true) × (e.item ≡ last) × (e.ending ≡ None)) → AnswersDroppedNode t o
-node_stops t here c last None g z f = λ e p. at_stop z f ((g.same e).0 p)
-node_stops t here c last (Some e) g z (f, i, j) =
-    EndsAt.ends {w = g.following} ((g.same (ended g.following)).1 (subst (λ (a : Text). Passes for_node c g.following a (ended g.following)) (sym z) (stops (ends g.under_way f)))) (subst (λ (n : ℕ). Before t n g.following) (sym i) g.counted) j
+pub node_stops : (t : Text) (here : Here) (c : Control) (last : ℕ) → Goes for_node (at node_slashdash []) here c t last → here.rest ≡ [] → AnswersDroppedNode t (then_some (finish c) (last, None))
+node_stops t here c last g z = go (finish c) refl
+  where
+    go : (b : Bool) → finish c ≡ b → AnswersDroppedNode t (then_some b (last, None))
+    go false f = λ e p. at_stop z f ((g.same e).0 p)
+    go true f = EndsAt.ends {w = g.following} ((g.same (ended g.following)).1 (subst (λ (a : Text). Passes for_node c g.following a (ended g.following)) (sym z) (stops (ends g.under_way f)))) g.counted refl
 
 -- and at its terminator, in one token
 last_turn : {c d : Control} {last s r : Text} {k : Token} → is_gap c ≡ false → Cuts s k r → step c k ≡ Some d → is_gap d ≡ true → Passes for_node c last s (returned k s r)
@@ -265,37 +246,37 @@ last_turn {c = c} {d = d} g (spaces n) f h = ends_spaces (gap_turn c space g (ap
 pub token_ends : {old : Here} {c d : Control} {k : Token} {t : Text} {last : ℕ} → Goes for_node (at node_slashdash []) old c t last → step c k ≡ Some d → is_gap d ≡ true → (k ≡ newline) ⊎ (k ≡ semicolon)
 token_ends {c = c} {k = k} g f x = gap_turn c k g.under_way (ap (held is_gap) f ∙ x)
 
-pub node_returns : (t : Text) (old new : Here) (c d : Control) (k : CodeToken) (last : ℕ) (e : NodeEnd) → Goes for_node (at node_slashdash []) old c t last → HandsOut old k new → Moves old new → step c (kind_view k.kind) ≡ Some d → is_gap d ≡ true
-    → (i : Text) × (y : Ending) × ItemEnd k.at.start.rest k.at.end.rest i × Before t e.item i × EndsNode k.at.end.rest k.at.start.rest y × (e.ending ≡ Some y) → AnswersDroppedNode t (Some e)
-node_returns t old new c d k last e g h m f x (i, y, j, a, o, z) =
+pub node_returns : (t : Text) (old new : Here) (c d : Control) (k : CodeToken) (last n : ℕ) (y : Ending) → Goes for_node (at node_slashdash []) old c t last → HandsOut old k new → Moves old new → step c (kind_view k.kind) ≡ Some d → is_gap d ≡ true
+    → (i : Text) × ItemEnd k.at.start.rest k.at.end.rest i × Before t n i × EndsNode k.at.end.rest k.at.start.rest y → AnswersDroppedNode t (Some (n, Some y))
+node_returns t old new c d k last n y g h m f x (i, j, a, o) =
     let p = (g.same (returned (kind_view k.kind) old.rest new.rest)).1 (last_turn g.under_way h.cuts f x) in
     let w = (token_places g k h m).1 in
-    EndsAt.returns {k = kind_view k.kind} {u = k.at.start.rest} {v = k.at.end.rest} {i = i} w.0 (rw (h.start_rest, h.end_rest) p) j w.1 a o z
+    EndsAt.returns {k = kind_view k.kind} {u = k.at.start.rest} {v = k.at.end.rest} {i = i} w.0 (rw (h.start_rest, h.end_rest) p) j w.1 a o refl
 
 -- a string at the end of the text, or before a token that ends it
-abbrev pub WordEnds : Control → ℕ → Option PartEnd → Type 0
-WordEnds c last o = MatchOption o (is_word c ≡ false) (λ e. (is_word c ≡ true) × (e.at ≡ last) × (ended_view e.ended ≡ false))
-
 no_word : {c : Control} {last s : Text} {e : End} → s ≡ [] → is_over c ≡ false → is_word c ≡ false → Passes for_part c last s e → ⊥
 no_word z o w (stops (over x)) = cc
 no_word z o w (stops (word x i)) = cc
 no_word z o w (goes {r = r} {k = k} t f h p) = no_token (subst (λ (a : Text). BeginsToken a k r) z t)
 
-a_word : (p : Place) (t : Text) (here : Here) (c : Control) (last : ℕ) (o : Option PartEnd) → Goes for_part (slashdash_in p) here c t last → EndsWord here.rest → (is_word c ≡ false → EndsNowhere for_part (slashdash_in p) t) → WordEnds c last o → AnswersDroppedPart p t o
-a_word p t here c last None g n none f = none f
-a_word p t here c last (Some e) g n none (w, i, j) = (g.following, rw j ((g.same (part_end false g.following)).1 (stops (word w n))), rw i g.counted)
+a_word : (p : Place) (t : Text) (here : Here) (c : Control) (last : ℕ) → Goes for_part (slashdash_in p) here c t last → EndsWord here.rest → is_word c ≡ true → AnswersDroppedPart p t (Some (last, Entry))
+a_word p t here c last g n w = (g.following, (g.same (part_end false g.following)).1 (stops (word w n)), g.counted)
 
-pub part_stops : (p : Place) (t : Text) (here : Here) (c : Control) (last : ℕ) (o : Option PartEnd) → Goes for_part (slashdash_in p) here c t last → here.rest ≡ [] → WordEnds c last o → AnswersDroppedPart p t o
-part_stops p t here c last o g z w = a_word p t here c last o g (rw z at_end) (λ f e x. no_word z g.under_way f ((g.same e).0 x)) w
+pub part_stops : (p : Place) (t : Text) (here : Here) (c : Control) (last : ℕ) → Goes for_part (slashdash_in p) here c t last → here.rest ≡ [] → AnswersDroppedPart p t (then_some (is_word c) (last, Entry))
+part_stops p t here c last g z = go (is_word c) refl
+  where
+    go : (b : Bool) → is_word c ≡ b → AnswersDroppedPart p t (then_some b (last, Entry))
+    go false w = λ e x. no_word z g.under_way w ((g.same e).0 x)
+    go true w = a_word p t here c last g (rw z at_end) w
 
-pub part_word : (p : Place) (t : Text) (old new : Here) (c : Control) (k : CodeToken) (last : ℕ) (o : Option PartEnd) → Goes for_part (slashdash_in p) old c t last → HandsOut old k new → (is_word c && not (follows_word (kind_view k.kind))) ≡ true → WordEnds c last o → AnswersDroppedPart p t o
-part_word p t old new c k last o g h w e =
+pub part_word : (p : Place) (t : Text) (old new : Here) (c : Control) (k : CodeToken) (last : ℕ) → Goes for_part (slashdash_in p) old c t last → HandsOut old k new → (is_word c && not (follows_word (kind_view k.kind))) ≡ true → AnswersDroppedPart p t (Some (last, Entry))
+part_word p t old new c k last g h w =
     let (x, y) = and_parts (is_word c) (not (follows_word (kind_view k.kind))) w in
-    a_word p t old c last o g (before (first_token h.cuts).1 (is_not (follows_word (kind_view k.kind)) y)) (λ f. let z : true ≡ false = sym x ∙ f in absurd cc) e
+    a_word p t old c last g (before (first_token h.cuts).1 (is_not (follows_word (kind_view k.kind)) y)) x
 
 -- a value or a block
 pub part_over : (p : Place) (t : Text) (old new : Here) (c d : Control) (k : CodeToken) (last n : ℕ) (b : Ended) (g : Goes for_part (slashdash_in p) old c t last) → HandsOut old k new → Moves old new → (is_word c && not (follows_word (kind_view k.kind))) ≡ false → step c (kind_view k.kind) ≡ Some d
-    → n ≡ (if of_spaces (kind_view k.kind) then last else k.at.end.at) → is_over d ≡ true → ended_view b ≡ is_block d → AnswersDroppedPart p t (Some (record { at = n; ended = b }))
+    → n ≡ (if of_spaces (kind_view k.kind) then last else k.at.end.at) → is_over d ≡ true → ended_view b ≡ is_block d → AnswersDroppedPart p t (Some (n, b))
 part_over p t old new c d k last n b g h m w f i x j =
     let u = moved (kind_view k.kind) g.following new.rest in
     (u, rw j ((same_after g k h f (part_on c (kind_view k.kind) g.under_way w) (part_end (is_block d) u)).1 (stops (over x))), rw i (counted_after g k h m))

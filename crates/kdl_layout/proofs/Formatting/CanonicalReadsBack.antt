@@ -1,22 +1,10 @@
 -- The canonical text reads back as what it is made of, so that no two data have the same.
-use Rattle.std.proofs.Common.{◌≡◌, ℕ, ◌+◌, true, List, [], ◌∷◌, ◌++◌, refl, subst, Option, Some, None, append_assoc, append-nil}
-use Rattle.std.specs.List.{list_all, repeat}
-use Rattle.kdl_text.specs.Chars.{Text, is_scalar, is_space, Star, plus}
-use Rattle.kdl_text.specs.Trivia.{ValueEnd}
-use Rattle.kdl_value.specs.Data.{Value}
-use Rattle.kdl_value.specs.Print.{print_value}
-use Rattle.kdl_value.specs.Spelled.{spelled}
-use Rattle.kdl_value.specs.WellFormed.{IsWellFormed}
+use Rattle.kdl_layout.proofs.Common.{◌≡◌, ℕ, ◌+◌, true, List, [], ◌∷◌, ◌++◌, refl, subst, Option, Some, None, append_assoc, append-nil, list_all, repeat, Text, is_scalar, is_space, Star, plus, ValueEnd, Value, print_value, spelled, IsWellFormed, MaybeType, untyped, typed, parens, IsValue, value, IsEntry, property, argument, punctuation_end, printed_string, printed_value, Terminator, IsNode, named, AfterName, kept_entry, blocks, Blocks, AfterBlock, Gap, no_gap, AreNodes, last_gap, node_then, braces, IsDocument, gap_nodes, newline_gap, canonical_type, canonical_key, canonical_entries, canonical_node, canonical_children, canonical, canonical_nodes, AreScalars, AreWellFormedEntries, IsWellFormedNode, AreWellFormedChildren, AreWellFormed}
 use Rattle.kdl_entry.specs.Data.{Entry}
-use Rattle.kdl_entry.specs.Entries.{MaybeType, untyped, typed, parens, IsValue, value, IsEntry, property, argument}
-use Rattle.kdl_entry.proofs.Moving.EntryMoves.{punctuation_end}
-use Rattle.kdl_entry.proofs.Laying.ValueReadsBack.{printed_string, printed_value}
 use Rattle.kdl_grammar.specs.Data.{Node, node, Children, no_children, children, Nodes, none, first}
-use Rattle.kdl_grammar.specs.Grammar.{Terminator, IsNode, named, AfterName, kept_entry, blocks, Blocks, AfterBlock, Gap, no_gap, AreNodes, last_gap, node_then, braces, IsDocument, IsDocumentIn, IsNodeText, node_text}
+use Rattle.kdl_grammar.specs.Grammar.{IsDocumentIn, IsNodeText, node_text}
 use Rattle.kdl_grammar.proofs.LawProofs.{one_document, one_node}
-use Rattle.kdl_grammar.proofs.ReadingBack.Reads.{gap_nodes, newline_gap}
-use Rattle.kdl_layout.specs.Canonical.{canonical_type, canonical_key, canonical_entries, newline_if_none, canonical_node, canonical_children, canonical, canonical_nodes, Canonical, CanonicalNode}
-use Rattle.kdl_layout.specs.WellFormed.{AreScalars, AreWellFormedEntries, IsWellFormedNode, AreWellFormedChildren, AreWellFormed}
+use Rattle.kdl_layout.specs.Canonical.{newline_if_none, Canonical, CanonicalNode}
 use Rattle.kdl_layout.proofs.Keeping.KeptPlaces.{level_spaces}
 use Rattle.kdl_layout.proofs.Rewriting.BeforeNewlines.{a_newline, newline_end}
 use Rattle.kdl_layout.proofs.Rewriting.LinesAgain.{spaces_gap}

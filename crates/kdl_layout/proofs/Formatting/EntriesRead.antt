@@ -1,38 +1,16 @@
 -- An entry that is laid out reads back where it did before.
-use Rattle.std.proofs.Common.{◌≡◌, zero, suc, Bool, true, false, ◌||◌, List, [], ◌∷◌, refl, sym, ap, subst, ◌∙◌, Option, Some, None, option_map, arith, ◌++◌, append_assoc}
-use Rattle.std.proofs.lemmas.List.Elements.{All-cons, All-nil}
-use Rattle.std.specs.List.{All}
-use Rattle.kdl_text.specs.Chars.{Text}
-use Rattle.kdl_text.specs.Trivia.{ValueEnd}
-use Rattle.kdl_entry.specs.Tree.{Entry, EntryFormat, with_keep, autoformatted, entry_data, Identifier}
-use Rattle.kdl_entry.specs.Entries.{IsPlainValue, MaybeType, untyped, typed, parens, value, IsEntry, property, argument}
-use Rattle.kdl_entry.specs.Places.{EntryLeading}
-use Rattle.kdl_entry.specs.Print.{print_identifier, print_key, print_type}
-use Rattle.kdl_grammar.specs.ReadsBack.{EntryReads}
-use Rattle.kdl_grammar.specs.Grammar.{Gap}
-use Rattle.kdl_grammar.specs.Tree.{Nodes, none, first}
+use Rattle.kdl_layout.proofs.Common.{◌≡◌, zero, suc, Bool, true, false, ◌||◌, List, [], ◌∷◌, refl, sym, ap, subst, ◌∙◌, Option, Some, None, option_map, arith, ◌++◌, append_assoc, All-cons, All-nil, All, Text, ValueEnd, Entry, EntryFormat, with_keep, autoformatted, entry_data, Identifier, IsPlainValue, MaybeType, untyped, typed, parens, value, IsEntry, property, argument, EntryLeading, print_identifier, print_key, print_type, EntryReads, Gap, Nodes, none, first, newline_gap, before_entry, PlaceItems, tail, Settings, with_keep_if, newline_if_none, WrittenUnless, entry_leading, is_kept_format, KeptForm, HasSpellings, HasSpellingsUnless, IsSpelledEntry, TypeTexts, IsWellFormedEntry, following, IsFormattedEntry, Value, punctuation_end}
 use Rattle.kdl_grammar.proofs.Laying.LaidIsDerived.{first_entry}
-use Rattle.kdl_grammar.proofs.ReadingBack.Reads.{newline_gap}
-use Rattle.kdl_layout.specs.Items.{before_entry, PlaceItems}
-use Rattle.kdl_layout.specs.Written.{tail}
-use Rattle.kdl_layout.specs.Config.{Settings}
-use Rattle.kdl_layout.specs.Formatted.{with_keep_if, newline_if_none}
-use Rattle.kdl_layout.specs.Kept.{WrittenUnless, entry_leading, is_kept_format}
 use Rattle.kdl_layout.specs.KeptForm.{KeepsReading, EntriesKeepReading}
-use Rattle.kdl_layout.specs.Respelled.{KeptForm, HasSpellings, HasSpellingsUnless, IsSpelledEntry, TypeTexts}
-use Rattle.kdl_layout.specs.WellFormed.{IsWellFormedEntry}
-use Rattle.kdl_layout.specs.Parts.{following, IsFormattedEntry}
 use Rattle.kdl_layout.proofs.Formatting.FormattedUnique.{entry_keeps_none}
 use Rattle.kdl_layout.proofs.Loops.{Each}
 use Rattle.kdl_layout.proofs.Respelling.Spellings.{value_before, string_before}
 use Rattle.kdl_layout.proofs.Respelling.Written.{IsWrittenEntry, written_entry, Inside, IsGap, IsInside, NameReadsIf}
-use Rattle.kdl_layout.proofs.Keeping.KeptAgain.{none_before}
+use Rattle.kdl_layout.proofs.Keeping.KeptReads.{none_before}
 use Rattle.kdl_layout.proofs.Formatting.PrintsCanonical.{unspelled_twice}
-use Rattle.kdl_layout.proofs.EntryTexts.{name_of, type_joined, key_joined}
+use Rattle.kdl_layout.proofs.Texts.{name_of, type_joined, key_joined}
 use Rattle.kdl_layout.proofs.Respelling.Kept.{TypeSpaces, continued_ends, continued_leads}
 use Rattle.kdl_layout.proofs.Keeping.KeptPlaces.{Tail, tail_ends, tail_of, tail_spaced}
-use Rattle.kdl_value.specs.Data.{Value}
-use Rattle.kdl_entry.proofs.Moving.EntryMoves.{punctuation_end}
 use Rattle.kdl_layout.proofs.NodeSpaces.{spaces_end}
 use Rattle.kdl_layout.proofs.Rewriting.PlacesAgain.{space_ends}
 

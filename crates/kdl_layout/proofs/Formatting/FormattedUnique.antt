@@ -1,24 +1,10 @@
 -- What layout makes of a document is one thing; where comments are left out it is what the function gives. Its entries say the same, and none is flagged.
-use Rattle.std.proofs.Common.{◌≡◌, ℕ, ◌+◌, Bool, true, false, List, [], ◌∷◌, map, refl, sym, ap, ◌∙◌, Option, Some}
-use Rattle.std.specs.Prelude.{◌||◌}
-use Rattle.kdl_text.specs.Chars.{Text}
-use Rattle.kdl_entry.specs.Tree.{Entry, EntryFormat, cleared, autoformatted}
-use Rattle.kdl_grammar.specs.Tree.{NodeFormat, DocumentFormat, Head, Node, node, Children, no_children, children, Document, document, Nodes, none, first}
-use Rattle.kdl_layout.specs.Items.{Item, GapItems, Place, before_entry, before_block, PlaceItems}
-use Rattle.kdl_layout.specs.Written.{tail}
+use Rattle.kdl_layout.proofs.Common.{◌≡◌, ℕ, ◌+◌, Bool, true, false, List, [], ◌∷◌, map, refl, sym, ap, ◌∙◌, Option, Some, ◌||◌, Text, Entry, EntryFormat, cleared, autoformatted, NodeFormat, DocumentFormat, Head, Node, node, Children, no_children, children, Document, document, Nodes, none, first, Item, GapItems, Place, before_entry, before_block, PlaceItems, tail, Settings, indentation, with_keep_if, formatted_entry, or_empty, or_empty_document, in_braces, formatted_head, formatted_node, formatted_children, formatted_nodes, formatted_document, EntriesKeepNone, WrittenUnless, KeptTail, KeptBeforeBlock, end_comment, end_space, last_place, KeptEnd, without_bom, entry_leading, is_kept_format, KeptBefore, plain_line, following, IsFormattedEntry, AreFormattedEntries, NodeTexts, line_of, content_of, has_block, SpacesTexts, IsSpacedLine, IsSpacedHead, SpacesContent, IsSpacedContent, IsSpacedBraced, IsSpacedNode, IsSpacedChildren, AreSpacedNodes, IsFormattedDocument, at_start, past_node, spaced_lines, Before}
 use Rattle.kdl_layout.proofs.Listing.ItemsUnique.{end_items_det, gap_items_det, items_in_det, place_items_det}
-use Rattle.kdl_layout.specs.Config.{Settings, indentation}
-use Rattle.kdl_layout.specs.Formatted.{with_keep_if, formatted_entry, or_empty, or_empty_document, content_format, in_braces, formatted_head, formatted_node, formatted_children, formatted_nodes, formatted_document, EntriesKeepNone}
-use Rattle.kdl_layout.specs.Kept.{WrittenUnless, KeptTail, KeptBeforeBlock, end_comment, end_space, last_place, KeptEnd, without_bom, entry_leading, is_kept_format, KeptBefore}
-use Rattle.kdl_layout.specs.Plain.{plain_line}
-use Rattle.kdl_layout.specs.Parts.{following, IsFormattedEntry, AreFormattedEntries, NodeTexts, line_of, content_of, has_block}
-use Rattle.kdl_layout.specs.Spaced.{SpacesTexts, IsSpacedLine, IsSpacedHead, SpacesContent, IsSpacedContent, IsSpacedBraced, IsSpacedNode, IsSpacedChildren, AreSpacedNodes}
-use Rattle.kdl_layout.specs.WithComments.{IsFormattedDocument}
-use Rattle.kdl_layout.specs.declared.blank.Before.{Before}
+use Rattle.kdl_layout.specs.Formatted.{content_format}
 use Rattle.kdl_layout.proofs.Formatting.PrintsCanonical.{cleared_formatted, not_kept_again}
 use Rattle.kdl_layout.proofs.Spacing.Lines.{no_lines_before}
 use Rattle.kdl_layout.proofs.Spacing.Reads.{any_before}
-use Rattle.kdl_layout.specs.Blank.{at_start, past_node, spaced_lines}
 
 abbrev Has : Type 1
 Has = List Item → Type 0

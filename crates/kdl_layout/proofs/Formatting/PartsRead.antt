@@ -1,30 +1,11 @@
 -- A node or document of which a part is laid out reads back where it did before.
-use Rattle.std.proofs.Common.{◌≡◌, ℕ, ◌+◌, Bool, true, false, List, [], ◌∷◌, ◌++◌, refl, sym, subst, Option, Some, None, append_assoc}
-use Rattle.std.specs.List.{All, list_all}
-use Rattle.kdl_text.specs.Chars.{Text, is_space}
-use Rattle.kdl_text.specs.Trivia.{ValueEnd}
-use Rattle.kdl_text.specs.declared.span.SourceSpan.{SourceSpan}
+use Rattle.kdl_layout.proofs.Common.{◌≡◌, ℕ, ◌+◌, Bool, true, false, List, [], ◌∷◌, ◌++◌, refl, sym, subst, Option, Some, None, append_assoc, All, list_all, Text, is_space, ValueEnd, SourceSpan, print_identifier, print_type, Identifier, named, IsNode, AfterName, no_gap, BeforeChildren, Rests, Anything, TextEnd, EntryReads, HeadReads, AddsNothing, EndReads, NodeReads, reads, ChildrenRead, a_block, NodesRead, no_node, last_node, next_node, ContentReads, two_texts, with_nodes, BlockReads, DocumentReads, NodeFormat, DocumentFormat, Head, node, Children, no_children, children, document, Nodes, none, first, gap_nodes, newline_gap, GapItems, before_block, at_start, past_node, Settings, indentation, or_empty_document, newline_if_none, KeptBeforeBlock, last_place, without_bom, TypeTexts, with_type_texts, AreRespelledNodes, SpacedLines, SpacesTexts, IsSpacedContent, IsSpacedBraced, AreSpacedNodes, NodeTexts, line_of, has_block, Before}
 use Rattle.kdl_entry.specs.Data as data'
-use Rattle.kdl_entry.specs.Print.{print_identifier, print_type}
-use Rattle.kdl_entry.specs.Tree.{Identifier}
 use Rattle.kdl_grammar.specs.Data as nodes'
-use Rattle.kdl_grammar.specs.Grammar.{named, IsNode, AfterName, no_gap}
-use Rattle.kdl_grammar.specs.Places.{BeforeChildren}
 use Rattle.kdl_grammar.specs.Print.{trailing_text}
-use Rattle.kdl_grammar.specs.ReadsBack.{Rests, Anything, TextEnd, EntryReads, name_text, HeadReads, AddsNothing, IsGapBefore, BeforeTerminator, EndReads, last_rests, NodeReads, reads, ChildrenRead, no_block, a_block, NodesRead, no_node, last_node, next_node, ContentReads, two_texts, with_nodes, BlockReads, block, DocumentReads}
-use Rattle.kdl_grammar.specs.Tree.{NodeFormat, DocumentFormat, Head, node, Children, no_children, children, document, Nodes, none, first}
+use Rattle.kdl_grammar.specs.ReadsBack.{name_text, IsGapBefore, BeforeTerminator, last_rests, no_block, block}
 use Rattle.kdl_grammar.proofs.ReadingBack.Composing.{block_reads, ends_before}
-use Rattle.kdl_grammar.proofs.ReadingBack.Reads.{gap_nodes, newline_gap}
-use Rattle.kdl_layout.specs.Items.{GapItems, before_block}
-use Rattle.kdl_layout.specs.Blank.{at_start, past_node}
-use Rattle.kdl_layout.specs.Config.{Settings, indentation}
-use Rattle.kdl_layout.specs.Formatted.{or_empty_document, newline_if_none}
-use Rattle.kdl_layout.specs.Kept.{KeptBeforeBlock, last_place, without_bom}
-use Rattle.kdl_layout.specs.Respelled.{TypeTexts, with_type_texts, AreRespelledNodes}
-use Rattle.kdl_layout.specs.Spaced.{SpacedLines, SpacesTexts, IsSpacedContent, IsSpacedBraced, AreSpacedNodes}
-use Rattle.kdl_layout.specs.Parts.{NodeTexts, line_of, has_block}
-use Rattle.kdl_layout.specs.declared.blank.Before.{Before}
-use Rattle.kdl_layout.proofs.EntryTexts.{name_of}
+use Rattle.kdl_layout.proofs.Texts.{name_of}
 use Rattle.kdl_layout.proofs.Keeping.KeptPlaces.{indentation_gap, Tail, tail_of, tail_spaced, LineEnd, line_end_of, line_terminator, last_text}
 use Rattle.kdl_layout.proofs.Respelling.Spellings.{string_before}
 use Rattle.kdl_layout.proofs.Respelling.Kept.{TypeSpaces}

@@ -1,19 +1,10 @@
 -- A tree without formats and spellings says the same, and what layout makes of a tree prints the canonical text.
-use Rattle.std.proofs.Common.{◌≡◌, ℕ, ◌+◌, Bool, true, false, List, [], ◌∷◌, ◌++◌, map, refl, sym, ap, ◌∙◌, Option, Some, None, option_map, append_assoc, append-nil, if◌then◌else◌}
-use Rattle.kdl_text.specs.Chars.{Text}
-use Rattle.kdl_value.specs.Print.{print_value}
-use Rattle.kdl_value.specs.Spelled.{spelled}
-use Rattle.kdl_entry.specs.Print.{print_type, print_key}
-use Rattle.kdl_entry.specs.Tree.{Identifier, Entry, EntryFormat, unspelled, cleared, kept, autoformatted, autoformatted_format, entry_data}
+use Rattle.kdl_layout.proofs.Common.{◌≡◌, ℕ, ◌+◌, Bool, true, false, List, [], ◌∷◌, ◌++◌, map, refl, sym, ap, ◌∙◌, Option, Some, None, option_map, append_assoc, append-nil, if◌then◌else◌, Text, print_value, spelled, print_type, print_key, Identifier, Entry, EntryFormat, unspelled, cleared, kept, autoformatted, autoformatted_format, entry_data, print_piece, print_pieces, print_node, print_tail, print_nodes, print_document, Head, Node, node, Children, no_children, children, Document, document, Nodes, none, first, node_data, children_data, document_data, nodes_data, canonical_type, canonical_key, canonical_entries, canonical_node, canonical_children, canonical, canonical_nodes, Settings, indentation, with_keep_if, formatted_entry, newline_if_none, formatted_head, formatted_node, formatted_children, formatted_nodes, formatted_document, EntriesKeepNone, NodeKeepsNone, ChildrenKeepNone, DocumentKeepsNone, NodesKeepNone, is_kept_format}
 use Rattle.kdl_grammar.specs.Data as data'
-use Rattle.kdl_grammar.specs.Print.{print_piece, print_pieces, print_node, print_tail, print_nodes, print_document}
-use Rattle.kdl_grammar.specs.Tree.{Head, Node, node, Children, no_children, children, Document, document, Nodes, none, first, node_data, children_data, document_data, nodes_data}
-use Rattle.kdl_layout.specs.Canonical.{canonical_type, canonical_key, canonical_entries, canonical_node, canonical_children, canonical, canonical_nodes}
 use Rattle.kdl_layout.specs.Canonical as canonical'
-use Rattle.kdl_layout.specs.Config.{Settings, indentation, IsPlain}
-use Rattle.kdl_layout.specs.Formatted.{with_keep_if, formatted_entry, newline_if_none, formatted_head, formatted_node, formatted_children, formatted_nodes, formatted_document, bare_node, bare_children, bare_document, bare_nodes, EntriesKeepNone, NodeKeepsNone, ChildrenKeepNone, DocumentKeepsNone, NodesKeepNone}
-use Rattle.kdl_layout.specs.Kept.{is_kept_format}
-use Rattle.kdl_layout.proofs.EntryTexts.{name_of, no_format}
+use Rattle.kdl_layout.specs.Config.{IsPlain}
+use Rattle.kdl_layout.specs.Formatted.{bare_node, bare_children, bare_document, bare_nodes}
+use Rattle.kdl_layout.proofs.Texts.{name_of, no_format}
 
 -- what stays says the same
 unspelled_name : (o : Option Identifier) → name_of (option_map unspelled o) ≡ name_of o

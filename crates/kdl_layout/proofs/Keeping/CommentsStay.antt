@@ -1,35 +1,11 @@
 -- Layout loses no comment: what a document holds of them is, each as it is on a line, what is held by the document that is laid in the printed text.
-use Rattle.std.proofs.Common.{◌≡◌, ℕ, ◌+◌, Bool, true, false, List, [], ◌∷◌, ◌++◌, map, refl, sym, ap, subst, ◌∙◌, Option, Some, append_assoc, append-nil, None, ◌||◌}
-use Rattle.std.proofs.lemmas.Bool.{and_parts}
-use Rattle.std.proofs.lemmas.List.{map-append}
-use Rattle.std.specs.List.{list_all}
-use Rattle.std.specs.Prelude.{◌&&◌}
-use Rattle.kdl_text.specs.Chars.{Text, is_space}
-use Rattle.kdl_text.specs.Trivia.{ValueEnd, LineSpace}
-use Rattle.kdl_text.specs.declared.span.SourceSpan.{SourceSpan}
+use Rattle.kdl_layout.proofs.Common.{◌≡◌, ℕ, ◌+◌, Bool, true, false, List, [], ◌∷◌, ◌++◌, map, refl, sym, ap, subst, ◌∙◌, Option, Some, append_assoc, append-nil, None, ◌||◌, and_parts, map-append, list_all, ◌&&◌, Text, ValueEnd, LineSpace, SourceSpan, print_identifier, print_type, print_key, Terminator, Gap, no_gap, line_space, print_pieces, print_node, print_tail, print_nodes, print_document, print_piece, NodeFormat, DocumentFormat, Head, Node, node, Children, no_children, children, Document, document, Nodes, none, first, node_data, children_data, nodes_data, document_data, BeforeChildren, Item, before_block, GapItems, PlaceItems, Place, before_entry, on_line, tail, AreNodeSpaces, InPlace, NodeItems, of_node, ChildrenItems, NodesItems, DocumentItems, of_document, EntriesItems, Settings, indentation, or_empty, or_empty_document, newline_if_none, in_braces, NodeKeepsNone, ChildrenKeepNone, NodesKeepNone, DocumentKeepsNone, last_place, without_bom, KeptEnd, WrittenUnless, entry_leading, at_start, past_node, braces_in_line, braces_on_line, in_one_line, is_on_one_line, nodes_in_line, nodes_on_line, one_lined_children, one_lined_document, one_lined_node, one_lined_nodes, end_on_line, head_on_line, node_in_line, TypeTexts, with_type_texts, IsSpelling, SpacesTexts, NodeTexts, line_of, content_of, has_block, IsWellFormedNode, AreWellFormedChildren, AreWellFormed, only_spaces, no_line_comment, punctuation_end, Identifier, Entry, empty_format, Value, Before}
+use Rattle.kdl_text.specs.Chars.{is_space}
 use Rattle.kdl_entry.specs.Places.{span_of}
-use Rattle.kdl_entry.specs.Print.{print_identifier, print_type, print_key}
-use Rattle.kdl_grammar.specs.Grammar.{Terminator, Gap, no_gap, line_space}
 use Rattle.kdl_grammar.specs.Laid.{node_format, content_span, laid_node, LaidChildren, no_block, a_block, LaidNodes, no_node, a_node, LaidContent, without_nodes, with_nodes, LaidDocument, LaidDocumentAs, LaidEntries, no_entry, an_entry}
-use Rattle.kdl_grammar.specs.Print.{print_pieces, print_head, print_node, print_tail, print_nodes, print_document, end_text, print_piece}
-use Rattle.kdl_grammar.specs.Tree.{NodeFormat, DocumentFormat, Head, Node, node, Children, no_children, children, Document, document, Nodes, none, first, node_data, children_data, nodes_data, document_data}
-use Rattle.kdl_grammar.specs.Places.{BeforeChildren}
+use Rattle.kdl_grammar.specs.Print.{print_head, end_text}
 use Rattle.kdl_grammar.proofs.Reading.Complete.OneLaid.{one_laid_document}
-use Rattle.kdl_layout.specs.Items.{Item, before_block, GapItems, PlaceItems, Place, before_entry}
-use Rattle.kdl_layout.specs.Written.{on_line, tail}
-use Rattle.kdl_layout.specs.Lacks.{AreNodeSpaces, InPlace}
-use Rattle.kdl_layout.specs.Comments.{ItemsIn, NodeItems, of_node, ChildrenItems, block, NodesItems, DocumentItems, of_document, EndItems, EntriesItems}
-use Rattle.kdl_layout.specs.Config.{Settings, indentation}
-use Rattle.kdl_layout.specs.Formatted.{or_empty, or_empty_document, newline_if_none, in_braces, NodeKeepsNone, ChildrenKeepNone, NodesKeepNone, DocumentKeepsNone}
-use Rattle.kdl_layout.specs.Kept.{last_place, without_bom, KeptEnd, WrittenUnless, entry_leading}
-use Rattle.kdl_layout.specs.Blank.{at_start, past_node}
-use Rattle.kdl_layout.specs.OneLine.{braces_in_line, braces_on_line, in_one_line, is_on_one_line, nodes_in_line, nodes_on_line, one_lined_children, one_lined_document, one_lined_node, one_lined_nodes, end_on_line, head_on_line, node_in_line}
-use Rattle.kdl_layout.specs.Respelled.{TypeTexts, with_type_texts, IsSpelling}
-use Rattle.kdl_layout.specs.Spaced.{SpacesTexts}
-use Rattle.kdl_layout.specs.Parts.{NodeTexts, line_of, content_of, has_block}
-use Rattle.kdl_layout.specs.declared.blank.Before.{Before}
-use Rattle.kdl_layout.specs.WellFormed.{IsWellFormedNode, AreWellFormedChildren, AreWellFormed}
-use Rattle.kdl_layout.specs.Plain.{only_spaces}
+use Rattle.kdl_layout.specs.Comments.{ItemsIn, block, EndItems}
 use Rattle.kdl_layout.proofs.Spacing.Lines.{before_front, lines_front}
 use Rattle.kdl_layout.proofs.Keeping.GapFronts.{Front, nothing, joined, alone, here, newline, newline_if, indented, gap_without_bom}
 use Rattle.kdl_layout.proofs.OneLine.Same.{one_or_more}
@@ -40,19 +16,15 @@ use Rattle.kdl_layout.proofs.OneLine.Nothing.{head_parts, line_parts, no_comment
 use Rattle.kdl_layout.proofs.Keeping.KeptReads.{spaces_in, spaces_place}
 use Rattle.kdl_layout.proofs.OneLine.Reads.{nothing_before, space_before}
 use Rattle.kdl_layout.proofs.Respelling.Kept.{no_texts, no_type_spaces, TypeSpaces, no_place_left}
-use Rattle.kdl_layout.proofs.EntryTexts.{type_joined, key_joined}
+use Rattle.kdl_layout.proofs.Texts.{type_joined, key_joined}
 use Rattle.kdl_layout.proofs.Respelling.Spellings.{string_before, value_before}
 use Rattle.kdl_layout.proofs.Formatting.EntriesRead.{entry_ends, entry_leads}
 use Rattle.kdl_layout.proofs.Rewriting.PlacesAgain.{one_space, space_ends}
 use Rattle.kdl_layout.proofs.Listing.ItemsUnique.{gap_in_det, place_in_det}
 use Rattle.kdl_layout.proofs.NodeSpaces.{spaces_end}
 use Rattle.kdl_layout.proofs.Rewriting.LinesAgain.{spaces_items}
-use Rattle.kdl_text.proofs.Spacing.SpaceUnique.{no_line_comment}
-use Rattle.kdl_entry.proofs.Moving.EntryMoves.{punctuation_end}
 use Rattle.kdl_entry.specs.Laid as laid
 use Rattle.kdl_entry.specs.Laid.{LaidIdentifier, LaidType, LaidKey, LaidItem}
-use Rattle.kdl_entry.specs.Tree.{Identifier, Entry, empty_format}
-use Rattle.kdl_value.specs.Data.{Value}
 
 module _ (whole : Text) where
   -- an identifier, spelled as it prints

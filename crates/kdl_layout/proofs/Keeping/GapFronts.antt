@@ -1,24 +1,11 @@
 -- Gaps that come before any other gap, with their items.
-use Rattle.std.proofs.Common.{◌≡◌, ℕ, ◌==◌, Bool, true, false, List, [], ◌∷◌, ◌++◌, refl, sym, subst, append_assoc, append-nil, arith}
-use Rattle.std.proofs.lemmas.Bool.Decides.{nat_tests}
-use Rattle.std.specs.List.{list_all}
-use Rattle.std.specs.Prelude.{if◌then◌else◌}
-use Rattle.kdl_text.specs.Chars.{Text, is_space}
-use Rattle.kdl_text.specs.Trivia.{LineSpace}
+use Rattle.kdl_layout.proofs.Common.{◌≡◌, ℕ, ◌==◌, Bool, true, false, List, [], ◌∷◌, ◌++◌, refl, sym, subst, append_assoc, append-nil, arith, nat_tests, list_all, if◌then◌else◌, Text, is_space, LineSpace, t_space, t_newline, token_det, Gap, no_gap, Nodes, first, Item, LineSpaceItems, GapItems, Settings, indentation, newline_if_none, without_bom, newline_gap}
 use Rattle.kdl_entry.specs.Places.{Is}
-use Rattle.kdl_syntax.specs.Tokens.{t_space, t_newline, t_bom}
-use Rattle.kdl_syntax.proofs.Lexing.TokenUnique.{token_det}
-use Rattle.kdl_grammar.specs.Grammar.{Gap, no_gap}
-use Rattle.kdl_grammar.specs.Tree.{Nodes, first}
-use Rattle.kdl_layout.specs.Items.{Item, LineSpaceItems, GapItems}
+use Rattle.kdl_syntax.specs.Tokens.{t_bom}
 use Rattle.kdl_layout.proofs.Rewriting.BeforeNewlines.{a_newline}
 use Rattle.kdl_layout.proofs.Listing.SpaceItems.{gap_none}
 use Rattle.kdl_layout.proofs.Rewriting.LinesAgain.{spaces_before}
-use Rattle.kdl_layout.specs.Config.{Settings, indentation}
-use Rattle.kdl_layout.specs.Formatted.{newline_if_none}
-use Rattle.kdl_layout.specs.Kept.{without_bom}
 use Rattle.kdl_layout.proofs.Keeping.KeptPlaces.{level_spaces, indentation_gap}
-use Rattle.kdl_grammar.proofs.ReadingBack.Reads.{newline_gap}
 
 -- a gap before each other one, and its items before the other's
 pub record Front (p : Text) (is : List Item) : Type 0 where

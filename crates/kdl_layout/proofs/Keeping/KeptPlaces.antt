@@ -1,16 +1,9 @@
 -- What is kept of comments may occur in the place in which it is written, and holds the items of its text.
-use Rattle.std.proofs.Common.{◌≡◌, ℕ, zero, suc, Bool, true, false, List, [], ◌∷◌, ◌++◌, refl, sym, subst, ◌∙◌, map, ap, append-nil}
+use Rattle.kdl_layout.proofs.Common.{◌≡◌, ℕ, zero, suc, Bool, true, false, List, [], ◌∷◌, ◌++◌, refl, sym, subst, ◌∙◌, map, ap, append-nil, map-append, both_true, list_all, repeat, Text, Star, plus, Ws, ValueEnd, LineComment, between, Terminator, Gap, Item, Place, PlaceItems, piece, line_end, EsclineItems, SpaceItems, takes_blocks, spaced, InPlace, tail, line_text, on_line, Settings, indentation, WrittenUnless, EndItems, ItemsIn, end_comment, end_space, last_place, KeptEnd, no_line_comment, is_between, end_slashdash}
+use Rattle.kdl_text.specs.Chars.{is_space}
 use Rattle.std.proofs.lemmas.List.Folds.{list_all-append}
-use Rattle.std.proofs.lemmas.List.{map-append}
-use Rattle.std.specs.Cmp.Derive.{both_true}
-use Rattle.std.specs.List.{list_all, repeat}
-use Rattle.kdl_text.specs.Chars.{Text, is_space, Star, plus, space as a_space}
-use Rattle.kdl_text.specs.Trivia.{Ws, ValueEnd, LineComment}
-use Rattle.kdl_entry.specs.Places.{between}
-use Rattle.kdl_grammar.specs.Grammar.{Terminator, Gap}
-use Rattle.kdl_layout.specs.Items.{Item, Place, PlaceItems, comment as a_comment, piece, line_end, EsclineItems, SpaceItems, takes_blocks, spaced}
-use Rattle.kdl_layout.specs.Lacks.{InPlace}
-use Rattle.kdl_layout.specs.Written.{tail, line_text, on_line}
+use Rattle.kdl_text.specs.Chars.{space as a_space}
+use Rattle.kdl_layout.specs.Items.{comment as a_comment}
 use Rattle.kdl_layout.proofs.Rewriting.PlacesAgain.{one_space, space_ends, tail_alone, tail_end, tail_rest, tail_space, tail_spaced as items_spaced}
 use Rattle.kdl_layout.proofs.Rewriting.LinesAgain.{comment_part, comment_again, comment_item, comment_kept, comment_text, spaces_gap}
 use Rattle.kdl_layout.proofs.Rewriting.BeforeNewlines.{piece_kept, a_newline, newline_end}
@@ -18,11 +11,6 @@ use Rattle.kdl_layout.proofs.Listing.ItemsUnique.{end_items_det, place_in_det}
 use Rattle.kdl_layout.proofs.Listing.PlaceTexts.{no_text, spaces_text}
 use Rattle.kdl_layout.proofs.Listing.SpaceItems.{ends_here, ends_spaced}
 use Rattle.kdl_layout.proofs.Rewriting.LastCharacters.{Last, last_after, last_end, entry_last, block_last, ws_last}
-use Rattle.kdl_layout.specs.Config.{Settings, indentation}
-use Rattle.kdl_layout.specs.Kept.{WrittenUnless, EndItems, ItemsIn, end_comment, end_space, last_place, KeptEnd}
-use Rattle.kdl_text.proofs.Spacing.SpaceUnique.{no_line_comment}
-use Rattle.kdl_entry.proofs.Slicing.Between.{is_between}
-use Rattle.kdl_entry.proofs.Moving.EntryEnds.{end_slashdash}
 
 -- an indentation of spaces in a gap
 pub level_spaces : (indent : Text) → list_all is_space indent ≡ true → (level : ℕ) → list_all is_space (repeat level indent) ≡ true

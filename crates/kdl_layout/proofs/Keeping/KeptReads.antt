@@ -1,21 +1,11 @@
 -- What is kept of a text, from the items that were read in it.
-use Rattle.std.proofs.Common.{◌≡◌, ℕ, suc, Bool, true, false, ◌||◌, List, [], ◌∷◌, ◌++◌, ◌==◌, length, refl, sym, ap, subst, ◌∙◌, Option, Some, None, MatchOption, Bor}
-use Rattle.std.proofs.lemmas.Bool.{and_parts, eqb-true}
-use Rattle.std.specs.List.{list_all}
-use Rattle.std.specs.Str.{chars}
-use Rattle.kdl_text.specs.Chars.{Text, Newline, is_space}
+use Rattle.kdl_layout.proofs.Common.{◌≡◌, ℕ, suc, Bool, true, false, ◌||◌, List, [], ◌∷◌, ◌++◌, ◌==◌, length, refl, sym, ap, subst, ◌∙◌, Option, Some, None, MatchOption, Bor, and_parts, eqb-true, list_all, chars, Text, Newline, is_space, LineComment, between, EntryFormat, Item, comment, line_end, SpaceItems, LineSpaceItems, GapItems, Place, before_entry, before_block, after_block, spaced, PlaceItems, tail, EndItems, ItemsIn, WrittenUnless, KeptTail, KeptEnd, KeptBefore, is_kept_format, Settings, only_spaces, append-nil, takes_blocks, ends, KeptBeforeBlock, end_comment, end_space, last_place}
 use Rattle.kdl_text.specs.Chars.Space.{space as a_space}
-use Rattle.kdl_text.specs.Trivia.{LineComment}
-use Rattle.kdl_entry.specs.Places.{between}
-use Rattle.kdl_entry.specs.Tree.{EntryFormat}
-use Rattle.kdl_layout.specs.Items.{Item, comment, line_end, SpaceItems, LineSpaceItems, GapItems, Place, before_entry, before_block, after_block, spaced, PlaceItems}
-use Rattle.kdl_layout.specs.Written.{tail}
-use Rattle.kdl_layout.proofs.Keeping.KeptPlaces.{space_item}
-use Rattle.kdl_layout.proofs.Listing.SpaceItems.{ends_spaced, place_end}
+use Rattle.kdl_layout.proofs.Keeping.KeptPlaces.{space_item, end_again, takes_last}
+use Rattle.kdl_layout.proofs.Listing.SpaceItems.{ends_spaced, place_end, ends_here}
 use Rattle.kdl_layout.proofs.Rewriting.BeforeNewlines.{a_newline}
-use Rattle.kdl_layout.specs.Kept.{EndItems, ItemsIn, WrittenUnless, KeptTail, KeptEnd, KeptBefore, is_kept_format}
-use Rattle.kdl_layout.specs.Config.{Settings}
-use Rattle.kdl_layout.specs.Plain.{only_spaces}
+use Rattle.kdl_layout.proofs.Listing.ItemsUnique.{end_items_det, place_in_det}
+use Rattle.kdl_layout.proofs.Rewriting.PlacesAgain.{tail_alone, tail_spaced}
 
 -- where comments are left out
 pub kept_none : (b : Bool) (has : List Item → Type 0) (write : List Item → Text) (t : Text) → b ≡ true → t ≡ [] → WrittenUnless b has write t
@@ -102,3 +92,57 @@ blank_gap [] h = GapItems.none
 blank_gap (c ∷ s) h =
     let e = and_parts ((c == 32) || (c == 10)) (is_blank_gap s) h in
     GapItems.space {is = []} {js = []} (begins_blank_gap c s e.0) (blank_gap s e.1)
+
+-- what may come after written items of a place
+record Follows (p : Place) (more : Text) : Type 0 where
+  again : (q : Text) (is : List Item) → PlaceItems p q is → PlaceItems p (tail is ++ more) is
+  alone : PlaceItems p more []
+
+space_follows : (p : Place) → Follows p (32 ∷ [])
+space_follows p = record { again = λ q is d. tail_spaced d; alone = PlaceItems.space (space_item []) (ends (ends_spaced p)) }
+
+nothing_follows : (p : Place) → takes_blocks p ≡ true → Follows p []
+nothing_follows p h = record {
+  again = λ q is d. subst (λ (t : Text). PlaceItems p t is) (sym (append-nil (tail is))) (tail_alone h d);
+  alone = ends (ends_here p h);
+}
+
+end_follows : (b : Bool) (p : Place) → takes_blocks p ≡ true → (t space comment : Text) → KeptEnd b t space comment → Follows p space
+end_follows true p h t space kept k = subst (Follows p) (sym k.0) (nothing_follows p h)
+end_follows false p h t space kept (_, EndItems.line_comment l, e, f) = rw e (space_follows p)
+end_follows false p h t space kept (_, EndItems.other g, e, f) = rw e (nothing_follows p h)
+
+-- before an entry that has no text before it there is nothing
+pub none_before : (b : Bool) (t : Text) → WrittenUnless b (PlaceItems (before_entry false) []) tail t → t ≡ []
+none_before true t h = h
+none_before false t (is, ItemsIn.items d, e) = absurd (no_place is d)
+none_before false t (_, ItemsIn.no_items f, e) = e
+
+-- in a place of a node
+tail_items : {p : Place} {more : Text} → Follows p more → {q : Text} {is : List Item} → ItemsIn (PlaceItems p q) is → PlaceItems p (tail is ++ more) is
+tail_items f (ItemsIn.items d) = f.again _ _ d
+tail_items f (ItemsIn.no_items g) = f.alone
+
+kept_tail : (b : Bool) {p : Place} {more : Text} → Follows p more → (q t u : Text) → WrittenUnless b (PlaceItems p q) tail t → WrittenUnless b (PlaceItems p (t ++ more)) tail u → u ≡ t
+kept_tail true f q t u e h = h ∙ sym e
+kept_tail false {p} {more} f q t u (is, i, e) (js, j, h) =
+    let d : PlaceItems p (t ++ more) is = rw e (tail_items f i) in
+    h ∙ ap tail (place_in_det j (ItemsIn.items d)) ∙ sym e
+
+pub before_block_stays : (s : Settings) (b : Bool) (q t u : Text) → KeptBeforeBlock s b q t → KeptBeforeBlock s b (t ++ (32 ∷ [])) u → u ≡ t
+before_block_stays s false q t u e h = h ∙ sym e
+before_block_stays s true q t u w v = kept_tail s.no_comments (space_follows before_block) q t u w v
+
+pub last_stays : (s : Settings) (b : Bool) (q t u end space comment : Text) → KeptEnd s.no_comments end space comment → KeptTail s (last_place b) q t → KeptTail s (last_place b) (t ++ space) u → u ≡ t
+last_stays s b q t u end space kept e w v = kept_tail s.no_comments (end_follows s.no_comments (last_place b) (takes_last b) end space kept e) q t u w v
+
+pub before_entry_stays : (b : Bool) (q t u : Text) → WrittenUnless b (PlaceItems (before_entry false) q) tail t → WrittenUnless b (PlaceItems (before_entry false) (t ++ (32 ∷ []))) tail u → u ≡ t
+before_entry_stays b q t u w v = kept_tail b (space_follows (before_entry false)) q t u w v
+
+-- a terminator that is a line comment is one again
+pub end_stays : (b : Bool) (end space comment space' comment' : Text) → KeptEnd b end space comment → KeptEnd b (comment ++ (10 ∷ [])) space' comment' → (space' ≡ space) × (comment' ≡ comment)
+end_stays true end space kept space' kept' k m = (m.0 ∙ sym k.0, m.1 ∙ sym k.1)
+end_stays false end space kept space' kept' (is, i, e, f) (js, j, g, h) =
+    let k : EndItems (kept ++ (10 ∷ [])) is = rw f (end_again i) in
+    let d = end_items_det j k in
+    (g ∙ ap end_space d ∙ sym e, h ∙ ap end_comment d ∙ sym f)

@@ -1,19 +1,7 @@
 -- A document that is laid out has a list of items.
-use Rattle.std.proofs.Common.{◌≡◌, ℕ, ◌+◌, Bool, true, false, ◌||◌, List, [], ◌∷◌, ◌++◌, subst}
-use Rattle.kdl_text.specs.Chars.{Text}
-use Rattle.kdl_entry.specs.Tree.{Entry, autoformatted}
-use Rattle.kdl_grammar.specs.Tree.{DocumentFormat, Node, node, Children, no_children, children, Document, document, Nodes, none, first}
-use Rattle.kdl_layout.specs.Items.{Item, GapItems, before_entry, before_block, PlaceItems}
-use Rattle.kdl_layout.specs.Written.{tail}
-use Rattle.kdl_layout.specs.Blank.{at_start, past_node, spaced_lines}
-use Rattle.kdl_layout.specs.Comments.{ItemsIn, EndItems, EntriesItems, NodeItems, of_node, ChildrenItems, NodesItems, DocumentItems, of_document}
-use Rattle.kdl_layout.specs.Config.{Settings, indentation}
-use Rattle.kdl_layout.specs.Formatted.{with_keep_if, or_empty, or_empty_document, EntriesKeepNone, NodeKeepsNone, ChildrenKeepNone, DocumentKeepsNone, NodesKeepNone}
-use Rattle.kdl_layout.specs.Kept.{WrittenUnless, KeptEnd, KeptBefore, KeptBeforeBlock, last_place, without_bom, entry_leading, is_kept_format}
-use Rattle.kdl_layout.specs.Parts.{following, IsFormattedEntry, AreFormattedEntries, has_block}
-use Rattle.kdl_layout.specs.Spaced.{SpacesContent, IsSpacedNode, IsSpacedChildren, AreSpacedNodes}
-use Rattle.kdl_layout.specs.WithComments.{IsFormattedDocument, IsFormattedNode}
-use Rattle.kdl_layout.specs.declared.blank.Before.{Before}
+use Rattle.kdl_layout.proofs.Common.{◌≡◌, ℕ, ◌+◌, Bool, true, false, ◌||◌, List, [], ◌∷◌, ◌++◌, subst, Text, Entry, autoformatted, DocumentFormat, Node, node, Children, no_children, children, Document, document, Nodes, none, first, Item, GapItems, before_entry, before_block, PlaceItems, tail, at_start, past_node, spaced_lines, EntriesItems, NodeItems, of_node, ChildrenItems, NodesItems, DocumentItems, of_document, Settings, indentation, with_keep_if, or_empty, or_empty_document, EntriesKeepNone, NodeKeepsNone, ChildrenKeepNone, DocumentKeepsNone, NodesKeepNone, WrittenUnless, KeptEnd, KeptBefore, KeptBeforeBlock, last_place, without_bom, entry_leading, is_kept_format, following, IsFormattedEntry, AreFormattedEntries, has_block, SpacesContent, IsSpacedNode, IsSpacedChildren, AreSpacedNodes, IsFormattedDocument, Before}
+use Rattle.kdl_layout.specs.Comments.{ItemsIn, EndItems}
+use Rattle.kdl_layout.specs.WithComments.{IsFormattedNode}
 
 kept_in : (b : Bool) → b ≡ false → (Has : List Item → Type 0) (write : List Item → Text) (t : Text) → WrittenUnless b Has write t → (is : List Item) × ItemsIn Has is
 kept_in true h Has write t k = absurd cc

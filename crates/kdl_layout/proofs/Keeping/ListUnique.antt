@@ -1,11 +1,6 @@
 -- A document has one list of items at most.
-use Rattle.std.proofs.Common.{◌≡◌, List, ◌++◌, refl}
-use Rattle.kdl_text.specs.Chars.{Text}
-use Rattle.kdl_entry.specs.Tree.{Entry}
-use Rattle.kdl_grammar.specs.Tree.{Node, Children, Document, Nodes}
-use Rattle.kdl_layout.specs.Items.{Item}
+use Rattle.kdl_layout.proofs.Common.{◌≡◌, List, ◌++◌, refl, Text, Entry, Node, Children, Document, Nodes, Item, EntriesItems, NodeItems, of_node, ChildrenItems, NodesItems, DocumentItems, of_document}
 use Rattle.kdl_layout.proofs.Listing.ItemsUnique.{end_items_det, gap_in_det, place_in_det}
-use Rattle.kdl_layout.specs.Comments.{EntriesItems, NodeItems, of_node, ChildrenItems, NodesItems, DocumentItems, of_document}
 
 both : {a b c d : List Item} → a ≡ c → b ≡ d → a ++ b ≡ c ++ d
 both e f = rw (e, f) refl

@@ -1,16 +1,11 @@
 -- What may come before a `}` may be a whole text.
-use Rattle.std.proofs.Common.{◌≡◌, ◌⊎◌, inl, inr, Bool, true, false, ◌&&◌, ◌==◌, [], ◌∷◌, ◌++◌, length, refl, sym, subst, ◌∙◌, arith, append-nil, ap, length-append}
-use Rattle.kdl_text.specs.Chars.{Text, begins, Newline, crlf, one, Star, none, more}
+use Rattle.kdl_layout.proofs.Common.{◌≡◌, ◌⊎◌, inl, inr, Bool, true, false, ◌&&◌, ◌==◌, [], ◌∷◌, ◌++◌, length, refl, sym, subst, ◌∙◌, arith, append-nil, ap, length-append, Text, begins, Newline, crlf, Star, more, Line, LineComment, NodeSpace, Break, LineSpace, Slashdash, ValueEnd, star_map, DroppedEntry, move_spaces, move_slashdash, move_entry, punctuation_end, spaces_end, Put, stands, also, joined, same, same_piece, Terminator, IsNode, Gap, no_gap, line_space, dropped_node, AreNodes, last_gap, DroppedBlock, AfterChildren, after, BeforeChildren, before, before_end, terminator_end}
+use Rattle.kdl_text.specs.Chars.{one, none}
 use Rattle.kdl_text.specs.Internal.Here.{first}
-use Rattle.kdl_text.specs.Trivia.{Line, LineComment, line as a_line, NodeSpace, Break, LineSpace, Slashdash, ValueEnd}
-use Rattle.kdl_text.proofs.Looking.Stars.{star_map}
-use Rattle.kdl_entry.specs.Places.{DroppedEntry, dropped as dropped_e}
-use Rattle.kdl_entry.proofs.Moving.EntryMoves.{move_spaces, move_slashdash, move_entry, punctuation_end, spaces_end}
-use Rattle.kdl_syntax.proofs.Moving.Puts.{Put, stands, also, joined, same, same_piece}
+use Rattle.kdl_text.specs.Trivia.{line as a_line}
+use Rattle.kdl_entry.specs.Places.{dropped as dropped_e}
 use Rattle.kdl_grammar.specs.Data as data'
-use Rattle.kdl_grammar.specs.Grammar.{Terminator, IsNode, Gap, no_gap, line_space, dropped_node, AreNodes, last_gap}
-use Rattle.kdl_grammar.specs.Places.{DroppedBlock, dropped, AfterChildren, after, BeforeChildren, before}
-use Rattle.kdl_grammar.proofs.Moving.Moves.{before_end, terminator_end}
+use Rattle.kdl_grammar.specs.Places.{dropped}
 use Rattle.kdl_grammar.proofs.ReadingBack.Following.{Follows, put_follows, Shift, shift_spaces}
 use Rattle.kdl_grammar.proofs.ReadingBack.Reads.{join_gaps}
 use Rattle.kdl_layout.specs.Lacks.{Terminating}

@@ -1,35 +1,18 @@
 -- What the first piece of a gap adds to the nodes after it.
-use Rattle.std.proofs.Common.{◌≡◌, ℕ, Bool, true, false, if◌then◌else◌, List, [], ◌∷◌, ◌++◌, length, Option, Some, None, Bor, refl, sym, ap, subst, ◌∙◌, arith, append_assoc, append-nil}
-use Rattle.std.proofs.lemmas.Bool.{eqb-true}
-use Rattle.std.specs.Str.{chars}
-use Rattle.kdl_text.specs.Chars.{Text, begins, Star, none, more}
+use Rattle.kdl_layout.proofs.Common.{◌≡◌, ℕ, Bool, true, false, if◌then◌else◌, List, [], ◌∷◌, ◌++◌, length, Option, Some, None, Continue, Bor, refl, sym, ap, subst, ◌∙◌, arith, append_assoc, append-nil, eqb-true, chars, Text, begins, Star, more, bytes, NodeSpace, Break, LineSpace, Slashdash, slashdash, ValueEnd, snoc, break_shorter, Token, BeginsToken, move_spaces, move_slashdash, spaces_end, Terminator, IsNode, Gap, no_gap, line_space, dropped_node, AreNodes, AddsNothing, terminator_end, gap_nodes, between, Item, piece, line_end, LineSpaceItems, GapItems, ItemEnd, EndsTight, letter, LineEnds, left, EndsNode, Spaces, OnlySpaces, Through, GapRead, EndsAt, of_spaces, moved, returned, NodePasses, stops, goes, Leaves, added, Adding, adding, Ending, InReturn, Open}
+use Rattle.kdl_text.specs.Chars.{none}
 use Rattle.kdl_text.specs.Internal.Here.{first}
-use Rattle.kdl_text.specs.Spans.{bytes}
-use Rattle.kdl_text.specs.Trivia.{NodeSpace, Break, LineSpace, Slashdash, slashdash, ValueEnd}
-use Rattle.kdl_text.proofs.Looking.Stars.{snoc}
-use Rattle.kdl_text.proofs.Spacing.SpacePieces.{break_shorter}
-use Rattle.kdl_syntax.specs.Tokens.{Token, BeginsToken}
-use Rattle.kdl_entry.proofs.Moving.EntryMoves.{move_spaces, move_slashdash, spaces_end}
 use Rattle.kdl_grammar.specs.Data as nodes'
 use Rattle.kdl_grammar.specs.Data.{Node, Nodes}
-use Rattle.kdl_grammar.specs.Grammar.{Terminator, IsNode, Gap, no_gap, line_space, dropped_node, AreNodes}
 use Rattle.kdl_syntax.specs.Control.{Control, at, node_slashdash}
-use Rattle.kdl_grammar.specs.ReadsBack.{AddsNothing, NodesEnd}
-use Rattle.kdl_grammar.proofs.Moving.Moves.{terminator_end}
+use Rattle.kdl_grammar.specs.ReadsBack.{NodesEnd}
 use Rattle.kdl_grammar.proofs.ReadingBack.Closing.{after_lf}
-use Rattle.kdl_grammar.proofs.ReadingBack.Reads.{gap_nodes}
-use Rattle.kdl_entry.specs.Places.{between}
-use Rattle.kdl_layout.specs.Items.{Item, piece, line_end, LineSpaceItems, GapItems, ItemEnd, EndsTight}
 use Rattle.kdl_layout.specs.Lacks.{newlines}
-use Rattle.kdl_layout.specs.Internal.Lacking.{letter, LineEnds, EndsInReturn, left, EndsNode, semicolon, line, Spaces, OnlySpaces, Through, GapRead, piece_of, GapPieceEnds}
-use Rattle.kdl_layout.specs.Internal.Passed.{EndsAt}
-use Rattle.kdl_layout.specs.Internal.Passing.{of_spaces, moved, returned, NodePasses, ends, stops, goes}
+use Rattle.kdl_layout.specs.Internal.Lacking.{EndsInReturn, semicolon, line, piece_of, GapPieceEnds}
+use Rattle.kdl_layout.specs.Internal.Passing.{ends}
 use Rattle.kdl_layout.specs.Internal.Passing as passing
-use Rattle.kdl_layout.specs.Internal.Reading.{Cut, Leaves, added, Adding, adding, IsGapWith}
-use Rattle.kdl_layout.specs.declared.dropped.NodeEnd.{NodeEnd}
-use Rattle.kdl_layout.specs.declared.ends.Ending.{Ending}
-use Rattle.kdl_layout.specs.declared.ends.Ending.TheVariants.{Before as EndsBefore, InReturn, Open}
-use Rattle.kdl_layout.specs.declared.places.GapPiece.TheVariants.{Until}
+use Rattle.kdl_layout.specs.Internal.Reading.{IsGapWith}
+use Rattle.kdl_layout.specs.declared.spaces.Ending.TheVariants.{Before as EndsBefore}
 use Rattle.kdl_layout.proofs.Dropping.DroppedNodes.{passes_det, passes_last, passes_node, tight_same, DroppedItems, with_end, at_last, dash_items, node_returned, node_ended}
 use Rattle.kdl_layout.proofs.Dropping.DroppedParts.{a_space}
 use Rattle.kdl_layout.proofs.Dropping.TokenLoop.{before_shorter}
@@ -37,7 +20,6 @@ use Rattle.kdl_layout.proofs.Lacking.SpaceEnds.{put_more, moved_more, break_at, 
 use Rattle.kdl_layout.proofs.Lacking.Fewest.{letter_end, no_nodes, swallowed, nodes_off, nodes_off_node, letter_dropped, fewest_at, fewest_none}
 use Rattle.kdl_layout.proofs.Listing.SpaceItems.{added_none, then_added, leaves_start, leaves_then, leaves_all, leaves_none, leaves_add, run_leaves, run_gap}
 use Rattle.kdl_layout.proofs.Listing.PlaceTexts.{HasGap, spaces_only, terminator_of}
-use Rattle.kdl_layout.proofs.Listing.Starts.{before_cut}
 use Rattle.kdl_layout.proofs.Rewriting.BeforeNewlines.{a_newline, cut_node, some}
 
 pub lines_gap : {s r : Text} → Star LineSpace s r → Gap true s r
@@ -186,10 +168,6 @@ module _ {b u : Text} (p : NodePasses (at node_slashdash []) b b (passing.ended 
   last_letter w ss xs ds = let n = last_more w letter ss letter_end in letter_dropped n.2 n.3 ds
 
 -- the dropped node that was passed over
-pub item_cut : (b : Text) (e : NodeEnd) → EndsAt b e → Cut b e.item
-item_cut b e (EndsAt.returns w p i o x z h) = before_cut x
-item_cut b e (EndsAt.ends p x h) = before_cut x
-
 abbrev nothing_after : {v : Text} → [] ≡ v → HasGap v
 nothing_after e = ([], subst (λ (h : Text). GapItems h []) e GapItems.none)
 
@@ -216,14 +194,14 @@ module _ {b u v c : Text} {k : Token} (p : NodePasses (at node_slashdash []) b b
       let e = break_left Open t n in let g = break_ends_as Open t n in
       is_open (one_item e) (λ w'. (node_gap p i (nothing_after e) (10 ∷ w') (ItemEnd.line (g.ended w'))).0) (λ xs ds. no_nodes ((node_gap p i (nothing_after e) letter (ItemEnd.line (break_open t n letter letter_line))).1 xs ds))
 
-module _ (s b node after : Text) (e : NodeEnd) (old now : Option (List Item)) (f : s ≡ 47 ∷ 45 ∷ b) (l : (p r : Text) → b ≡ p ++ r → bytes p ≡ e.item → (node ≡ between (47 ∷ 45 ∷ b) r) × (after ≡ r)) (m : now ≡ added old (piece node ∷ [])) where
-  pub node_terminated : (y : Ending) → EndsAt b e → e.ending ≡ Some y → GapPieceEnds s (Some (piece_of y)) old now
+module _ (s b node after : Text) (e : ℕ × Option Ending) (old now : Option (List Item)) (f : s ≡ 47 ∷ 45 ∷ b) (l : (p r : Text) → b ≡ p ++ r → bytes p ≡ e.0 → (node ≡ between (47 ∷ 45 ∷ b) r) × (after ≡ r)) (m : now ≡ added old (piece node ∷ [])) where
+  pub node_terminated : (y : Ending) → EndsAt b e → e.1 ≡ Some y → GapPieceEnds s (Some (piece_of y)) old now
   node_terminated y (EndsAt.returns {u = u} {v = v} {i = c} {y = y'} w p i o x z h) g =
       let a : y' ≡ y = cc in
       subst (λ (h : Text). GapPieceEnds h (Some (piece_of y)) old now) (sym f) (node_ends p i (l x.0 c x.1 x.2).0 old now m y (subst (λ (q : Ending). EndsNode v u q) a z) w o)
   node_terminated y (EndsAt.ends p x h) g = let a : ◌≡◌ {A = Option Ending} None (Some y) = sym h ∙ g in absurd cc
 
-  pub node_unterminated : (two : Bool) (new : Option (List Item)) → EndsAt b e → e.ending ≡ None → OnlySpaces after two now new → GapRead s (Some (if two then 1 else 2)) old new
+  pub node_unterminated : (two : Bool) (new : Option (List Item)) → EndsAt b e → e.1 ≡ None → OnlySpaces after two now new → GapRead s (Some (if two then 1 else 2)) old new
   node_unterminated two new (EndsAt.returns {y = y} q p i o x z h) g w = let a : ◌≡◌ {A = Option Ending} None (Some y) = sym g ∙ h in absurd cc
   node_unterminated true new (EndsAt.ends {w = c} p x h) g w =
       let (q, r) = l x.0 c x.1 x.2 in
@@ -242,7 +220,7 @@ module _ (s b node after : Text) (e : NodeEnd) (old now : Option (List Item)) (f
       )
 
 -- the gap so far
-pub gap_turn : (s t v : Text) (r : Bor (List ℕ)) {old now new : Option (List Item)} → Adding (Through s t) old now → GapPieceEnds t (Some (Until r)) now new → v ≡ chars r.now → Adding (Through s v) old new
+pub gap_turn : (s t v : Text) (r : Bor (List ℕ)) {old now new : Option (List Item)} → Adding (Through s t) old now → GapPieceEnds t (Some (Continue r)) now new → v ≡ chars r.now → Adding (Through s v) old new
 gap_turn s t v r {old = old} (adding is e k) (adding js f m, l) x =
     adding (is ++ js) (then_added old is js e f) (rw x (record {
       items = leaves_then (GapItems s) (GapItems t) (GapItems (chars r.now)) is js k.items m.items;

@@ -1,37 +1,23 @@
 -- The pieces of a place: their items, and what the text may come before.
-use Rattle.std.proofs.Common.{◌≡◌, ℕ, ◌<◌, Bool, true, false, List, [], ◌∷◌, ◌++◌, length, Option, Some, None, Bor, refl, sym, subst, ◌∙◌, arith, append_assoc, append-nil}
-use Rattle.std.specs.Str.{chars}
+use Rattle.kdl_layout.proofs.Common.{◌≡◌, ℕ, ◌<◌, Bool, true, false, List, [], ◌∷◌, ◌++◌, length, Option, Some, None, Continue, Bor, refl, sym, subst, ◌∙◌, arith, append_assoc, append-nil, chars, Text, Star, more, Plus, plus, bytes, NodeSpace, slashdash, ValueEnd, value_end_no_identifier, StringPiece, untyped, between, punctuation_end, Terminator, IsNode, named, AfterName, Blocks, no_gap, dropped_node, last_gap, braces, after, before, before_end, terminator_end, Item, piece, SpaceItems, Place, before_entry, before_block, after_block, may_end, takes_blocks, spaced, PlaceItems, ends, InPlace, Ended, gap_nodes, letter, Spaces, PlaceThrough, AnswersDroppedPart, takes, next_place, PartPasses, slashdash_in, place_view, Run, added, Adding, adding, Ending, InReturn, Open}
+use Rattle.std.proofs.Common.{Break}
 use Rattle.kdl_text.specs.Bare.BareString.{bare as a_bare}
-use Rattle.kdl_text.specs.Chars.{Text, Star, none, more, Plus, plus}
-use Rattle.kdl_text.specs.Spans.{bytes}
-use Rattle.kdl_text.specs.Trivia.{NodeSpace, slashdash, ValueEnd}
-use Rattle.kdl_text.proofs.Spacing.ValueEnds.{value_end_no_identifier}
-use Rattle.kdl_syntax.specs.Pieces.{StringPiece}
-use Rattle.kdl_entry.specs.Entries.{string as a_string', untyped}
-use Rattle.kdl_entry.specs.Places.{between}
-use Rattle.kdl_entry.proofs.Moving.EntryMoves.{leading_end, punctuation_end}
+use Rattle.kdl_text.specs.Chars.{none}
+use Rattle.kdl_entry.specs.Entries.{string as a_string'}
+use Rattle.kdl_entry.proofs.Moving.EntryMoves.{leading_end}
 use Rattle.kdl_grammar.specs.Data as nodes'
 use Rattle.kdl_grammar.specs.Data.{Node, node, no_children, children}
-use Rattle.kdl_grammar.specs.Grammar.{Terminator, IsNode, named, AfterName, Blocks, no_gap, dropped_node, last_gap, braces}
 use Rattle.kdl_grammar.proofs.Laying.LaidIsDerived.{later_of, plain_of}
 use Rattle.kdl_syntax.specs.Internal.Views.{ended_view}
-use Rattle.kdl_grammar.specs.Places.{after, before}
-use Rattle.kdl_grammar.proofs.Moving.Moves.{before_end, terminator_end}
-use Rattle.kdl_layout.specs.Items.{Item, piece, SpaceItems, Place, before_entry, before_block, after_block, may_end, takes_blocks, spaced, PlaceItems, ends}
-use Rattle.kdl_layout.specs.Lacks.{newlines, Lacks, InPlace, BeforeEach, PlaceLacks}
-use Rattle.kdl_layout.specs.Internal.Lacking.{letter, Spaces, PlaceThrough, PlacePieceEnds, PlaceRead}
-use Rattle.kdl_layout.specs.Internal.Passed.{AnswersDroppedPart, takes, next_place, AfterPart}
-use Rattle.kdl_layout.specs.Internal.Passing.{PartPasses, slashdash_in}
-use Rattle.kdl_layout.specs.Internal.Reading.{place_view, Run, added, Adding, adding, IsPlaceWith}
-use Rattle.kdl_layout.specs.declared.dropped.PartEnd.{PartEnd}
-use Rattle.kdl_layout.specs.declared.ends.Ending.{Ending}
-use Rattle.kdl_layout.specs.declared.ends.Ending.TheVariants.{Before as EndsBefore, InReturn, Open}
-use Rattle.kdl_layout.specs.declared.item.Place as held
-use Rattle.kdl_layout.specs.declared.places.PlacePiece.TheVariants.{Onward, InEscline}
+use Rattle.kdl_layout.specs.Lacks.{newlines, Lacks, BeforeEach, PlaceLacks}
+use Rattle.kdl_layout.specs.Internal.Lacking.{PlacePieceEnds, PlaceRead}
+use Rattle.kdl_layout.specs.Internal.Passed.{AfterPart}
+use Rattle.kdl_layout.specs.Internal.Reading.{IsPlaceWith}
+use Rattle.kdl_layout.specs.declared.spaces.Ending.TheVariants.{Before as EndsBefore}
+use Rattle.kdl_layout.specs.declared.spaces.Place as held
 use Rattle.kdl_layout.proofs.Dropping.DroppedParts.{DropsPart, drops_entry, drops_block, part_leaves, the_part, part_nowhere, part_refused}
 use Rattle.kdl_layout.proofs.Dropping.TokenLoop.{before_shorter}
 use Rattle.kdl_layout.proofs.Lacking.Fewest.{a_piece, letter_node, letter_end, some_nodes, letter_dropped}
-use Rattle.kdl_grammar.proofs.ReadingBack.Reads.{gap_nodes}
 use Rattle.kdl_layout.proofs.Lacking.SpaceEnds.{put_more}
 use Rattle.kdl_layout.proofs.Rewriting.BeforeNewlines.{a_newline}
 use Rattle.kdl_layout.proofs.Listing.SpaceItems.{added_none, then_added, leaves_start, leaves_then, leaves_all, leaves_none, leaves_add, ends_here, ends_spaced, blocks_spaced, run_places, place_end}
@@ -56,7 +42,7 @@ text_spaces p z (more n ns) d = text_space p z n (text_spaces p z ns d)
 text_plus : (p : Place) (z : Text) {s t : Text} → Plus NodeSpace s t → InPlace p t z → InPlace p s z
 text_plus p z (plus n ns) d = text_space p z n (text_spaces p z ns d)
 
-pub spaces_onward : (p q : held.Place) (s : Text) (r : Bor (List ℕ)) (old new : Option (List Item)) → place_view q ≡ spaced true (place_view p) → Spaces NodeSpace SpaceItems s (Some (EndsBefore r)) old new → PlacePieceEnds p s (Some (Onward q r)) old new
+pub spaces_onward : (p q : held.Place) (s : Text) (r : Bor (List ℕ)) (old new : Option (List Item)) → place_view q ≡ spaced true (place_view p) → Spaces NodeSpace SpaceItems s (Some (EndsBefore r)) old new → PlacePieceEnds p s (Some (Continue (q, r))) old new
 spaces_onward p q s r old new e (adding is f run, (k, l)) = (
   adding is f (subst (λ (o : Place). PlaceThrough (place_view p) s o (chars r.now) is) (sym e) (record {
     items = run_places (place_view p) run;
@@ -69,7 +55,7 @@ spaces_onward p q s r old new e (adding is f run, (k, l)) = (
 all_spaces : (p : held.Place) {s : Text} {old new : Option (List Item)} → Adding (Run SpaceItems s []) old new → Adding (PlaceItems (place_view p) s) old new
 all_spaces p {s} (adding is f run) = let q = place_view p in adding is f (leaves_all (PlaceItems q s) (PlaceItems (spaced true q) []) is (run_places q run) (ends (ends_spaced q)))
 
-pub spaces_in_escline : (p : held.Place) (s : Text) (y : Ending) (old new : Option (List Item)) → ((r : Bor (List ℕ)) → y ≡ EndsBefore r → ⊥) → Spaces NodeSpace SpaceItems s (Some y) old new → PlacePieceEnds p s (Some InEscline) old new
+pub spaces_in_escline : (p : held.Place) (s : Text) (y : Ending) (old new : Option (List Item)) → ((r : Bor (List ℕ)) → y ≡ EndsBefore r → ⊥) → Spaces NodeSpace SpaceItems s (Some y) old new → PlacePieceEnds p s (Some (Break tt)) old new
 spaces_in_escline p s (EndsBefore r) old new g k = absurd (g r refl)
 spaces_in_escline p s InReturn old new g (x, k) = (all_spaces p x, λ z. spaces_text (place_view p) (plus (k.before_lf z) none))
 spaces_in_escline p s Open old new g (x, k) = (all_spaces p x, λ z. spaces_text (place_view p) (plus (k.ended z) none))
@@ -92,18 +78,18 @@ part_through p {c = c} x h = record {
   blocks = next_blocks p c;
 }
 
-pub part_goes : (p q : Place) (s b part rest : Text) (e : PartEnd) (o : Option Place) {old new : Option (List Item)} → s ≡ 47 ∷ 45 ∷ b → AnswersDroppedPart p b (Some e) → ((a r : Text) → b ≡ a ++ r → bytes a ≡ e.at → (part ≡ between (47 ∷ 45 ∷ b) r) × (rest ≡ r))
-    → AfterPart p (ended_view e.ended) o → o ≡ Some q → new ≡ added old (piece part ∷ []) → Adding (PlaceThrough p s q rest) old new × (length rest < length s)
+pub part_goes : (p q : Place) (s b part rest : Text) (e : ℕ × Ended) (o : Option Place) {old new : Option (List Item)} → s ≡ 47 ∷ 45 ∷ b → AnswersDroppedPart p b (Some e) → ((a r : Text) → b ≡ a ++ r → bytes a ≡ e.0 → (part ≡ between (47 ∷ 45 ∷ b) r) × (rest ≡ r))
+    → AfterPart p (ended_view e.1) o → o ≡ Some q → new ≡ added old (piece part ∷ []) → Adding (PlaceThrough p s q rest) old new × (length rest < length s)
 part_goes p q s b part rest e o f (u, x, c) k g h n =
     let (m, i) = k c.0 u c.1 c.2 in
-    let (t, j) = subst (λ (o : Option Place). AfterPart p (ended_view e.ended) o) h g in
-    rw (f, i, j) (adding (piece part ∷ []) n (rw m (part_through p x t)), before_shorter (47 ∷ 45 ∷ b) b u e.at refl c)
+    let (t, j) = subst (λ (o : Option Place). AfterPart p (ended_view e.1) o) h g in
+    rw (f, i, j) (adding (piece part ∷ []) n (rw m (part_through p x t)), before_shorter (47 ∷ 45 ∷ b) b u e.0 refl c)
 
 pub part_none : (p : Place) (s b : Text) → s ≡ 47 ∷ 45 ∷ b → AnswersDroppedPart p b None → (is : List Item) → PlaceItems p s is → ⊥
 part_none p s b f k is d = part_refused k is (subst (λ (y : Text). PlaceItems p y is) f d)
 
-pub part_not_there : (p : Place) (s b : Text) (e : PartEnd) (o : Option Place) → s ≡ 47 ∷ 45 ∷ b → AnswersDroppedPart p b (Some e) → AfterPart p (ended_view e.ended) o → o ≡ None → (is : List Item) → PlaceItems p s is → ⊥
-part_not_there p s b e o f (u, x, c) h i is d = part_nowhere x (subst (λ (o : Option Place). AfterPart p (ended_view e.ended) o) i h) is (subst (λ (y : Text). PlaceItems p y is) f d)
+pub part_not_there : (p : Place) (s b : Text) (e : ℕ × Ended) (o : Option Place) → s ≡ 47 ∷ 45 ∷ b → AnswersDroppedPart p b (Some e) → AfterPart p (ended_view e.1) o → o ≡ None → (is : List Item) → PlaceItems p s is → ⊥
+part_not_there p s b e o f (u, x, c) h i is d = part_nowhere x (subst (λ (o : Option Place). AfterPart p (ended_view e.1) o) i h) is (subst (λ (y : Text). PlaceItems p y is) f d)
 
 -- where blocks are taken, what has items may be there
 has_text : (p : Place) → takes_blocks p ≡ true → {s : Text} → Has p s → InPlace p s []

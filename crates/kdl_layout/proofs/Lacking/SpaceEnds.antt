@@ -1,28 +1,20 @@
 -- How node-spaces and line-spaces end.
-use Rattle.std.proofs.Common.{◌≡◌, ℕ, ◌<◌, Bool, true, false, ◌&&◌, ◌==◌, [], ◌∷◌, ◌++◌, length, Option, Some, None, Bor, List, refl, sym, ap, subst, ◌∙◌, arith, append_assoc, append-nil, if◌then◌else◌, ◌≤◌, ◌↔◌, IsTrue, length-append}
-use Rattle.std.proofs.lemmas.Bool.{eqb-true}
-use Rattle.std.specs.Str.{chars}
-use Rattle.kdl_text.specs.Chars.{Text, is_space, is_newline_char, begins, begins_two, Newline, crlf, one, Star, none, Plus, plus, Space, more}
-use Rattle.kdl_text.specs.Trivia.{Line, LineComment, line as a_line, Ws, EscEnd, escline, NodeSpace, Break, LineSpace, BlockComment}
-use Rattle.kdl_text.proofs.Looking.Stars.{join, star_map, snoc}
-use Rattle.kdl_text.proofs.Spacing.SpacePieces.{block_shorter, newline_shorter, node_space_shorter, break_shorter, node_space_end, star_end, end_length}
-use Rattle.kdl_text.proofs.Spacing.SpaceUnique.{newline_begins, line_comment_begins, escline_ends_at, break_det, node_space_det}
-use Rattle.kdl_syntax.specs.Tokens.{Token, BeginsToken, t_space}
+use Rattle.kdl_layout.proofs.Common.{◌≡◌, ℕ, ◌<◌, Bool, true, false, ◌&&◌, ◌==◌, [], ◌∷◌, ◌++◌, length, Option, Some, None, Bor, List, refl, sym, ap, subst, ◌∙◌, arith, append_assoc, append-nil, if◌then◌else◌, ◌≤◌, ◌↔◌, IsTrue, length-append, eqb-true, chars, Text, begins, begins_two, Newline, crlf, Star, Plus, plus, Space, more, Line, LineComment, Ws, EscEnd, escline, NodeSpace, Break, LineSpace, BlockComment, join, star_map, snoc, block_shorter, node_space_shorter, break_shorter, node_space_end, star_end, end_length, newline_begins, break_det, node_space_det, Token, BeginsToken, t_space, Item, line_end, EsclineItems, SpaceItems, LineSpaceItems, GapItems, any_run, Put, AreNodeSpaces, letter, LineEnds, left, Spaces, OnlySpaces, Starts, Run, added, found, Adding, adding, Leaves, Ending, InReturn, Open}
+use Rattle.kdl_text.specs.Chars.{is_space, is_newline_char}
+use Rattle.kdl_text.specs.Chars.{one, none}
+use Rattle.kdl_text.specs.Trivia.{line as a_line}
+use Rattle.kdl_text.proofs.Spacing.SpacePieces.{newline_shorter}
+use Rattle.kdl_text.proofs.Spacing.SpaceUnique.{line_comment_begins, escline_ends_at}
 use Rattle.kdl_syntax.proofs.Lexing.TokenUnique.{no_backslash}
-use Rattle.kdl_layout.specs.Items.{Item, line_end, EsclineItems, SpaceItems, LineSpaceItems, GapItems}
-use Rattle.kdl_layout.specs.Internal.Lacking.{letter, LineEnds, EndsAs, left, Spaces, OnlySpaces}
-use Rattle.kdl_layout.specs.Internal.Reading.{Starts, Run, added, found, Adding, adding, Leaves}
+use Rattle.kdl_layout.specs.Internal.Lacking.{EndsAs}
 use Rattle.kdl_layout.specs.Internal.Reading.Run.{one as one_run}
-use Rattle.kdl_layout.specs.declared.item.Item.{Item as Found}
+use Rattle.kdl_layout.specs.declared.spaces.Item.{Item as Found}
 use Rattle.kdl_layout.specs.declared.spaces.Start.TheVariants.{Space as ASpace, Break as ABreak}
-use Rattle.kdl_layout.specs.declared.ends.Ending.{Ending}
-use Rattle.kdl_layout.specs.declared.ends.Ending.TheVariants.{Before, InReturn, Open}
+use Rattle.kdl_layout.specs.declared.spaces.Ending.TheVariants.{Before}
 use Rattle.kdl_layout.proofs.Listing.SpaceItems.{added_none, then_added, run_lines, leaves_start, leaves_then, leaves_all, leaves_add, run_leaves, run_gap}
 use Rattle.kdl_layout.proofs.Listing.Starts.{two, slashes_end, starts_shorter, space_run, escline_space, break_items, break_escline, backslash_ws, break_of}
-use Rattle.kdl_syntax.proofs.Moving.FarMoves.{any_run}
-use Rattle.kdl_syntax.proofs.Moving.Puts.{Put, more_first, Move}
+use Rattle.kdl_syntax.proofs.Moving.Puts.{more_first, Move}
 use Rattle.kdl_layout.proofs.Rewriting.BeforeNewlines.{a_newline, closed_block, some}
-use Rattle.kdl_layout.specs.Lacks.{AreNodeSpaces}
 use Rattle.kdl_layout.proofs.NodeSpaces.{some_then}
 
 -- the text before a longer rest

@@ -1,19 +1,8 @@
 -- A terminator and the gap after it.
-use Rattle.std.proofs.Common.{◌≡◌, inl, ℕ, suc, ◌<◌, arith, true, [], ◌∷◌, ◌++◌, Option, Some, None, List, Bor, refl, sym, subst, ◌∙◌, append_assoc, append-nil}
-use Rattle.std.specs.Str.{chars}
-use Rattle.kdl_text.specs.Chars.{Text, Newline}
-use Rattle.kdl_text.specs.Trivia.{Break}
-use Rattle.kdl_text.proofs.Spacing.SpaceUnique.{break_det}
-use Rattle.kdl_syntax.specs.Tokens.{t_space, t_newline, t_closing, t_semicolon}
-use Rattle.kdl_syntax.proofs.Lexing.TokenUnique.{token_det, no_token}
+use Rattle.kdl_layout.proofs.Common.{◌≡◌, inl, ℕ, suc, ◌<◌, arith, true, [], ◌∷◌, ◌++◌, Option, Some, None, List, Bor, refl, sym, subst, ◌∙◌, append_assoc, append-nil, chars, Text, Newline, Break, break_det, t_space, t_newline, t_closing, t_semicolon, token_det, no_token, Terminator, Gap, no_gap, AreNodes, Anything, Terminates, Item, line_end, letter, GapRead, LineEnds, adding, InReturn, Open}
 use Rattle.kdl_grammar.specs.Data.{Nodes, none, first}
-use Rattle.kdl_grammar.specs.Grammar.{Terminator, Gap, no_gap, AreNodes}
-use Rattle.kdl_grammar.specs.ReadsBack.{Anything, Terminates}
-use Rattle.kdl_layout.specs.Items.{Item, line_end}
 use Rattle.kdl_layout.specs.Lacks.{newlines, TerminatorLacks}
-use Rattle.kdl_layout.specs.Internal.Lacking.{letter, GapRead, LineEnds}
-use Rattle.kdl_layout.specs.Internal.Reading.{adding}
-use Rattle.kdl_layout.specs.declared.ends.Ending.TheVariants.{Before, InReturn, Open}
+use Rattle.kdl_layout.specs.declared.spaces.Ending.TheVariants.{Before}
 use Rattle.kdl_layout.proofs.Dropping.Paths.{at_brace, halts}
 use Rattle.kdl_layout.proofs.Lacking.Fewest.{a, letter_space, letter_node, some_nodes, no_nodes, fewer_not, ends_more, no_gap_items}
 use Rattle.kdl_layout.proofs.Lacking.GapPieces.{break_terminator, return_ends}

@@ -1,13 +1,10 @@
 -- A text that is cut at a place in bytes.
-use Rattle.std.proofs.Common.{◌≡◌, ℕ, true, List, [], ◌∷◌, ◌++◌, length, take, drop, refl, sym, ap, subst, ◌∙◌}
-use Rattle.std.proofs.lemmas.Bool.{and_parts}
-use Rattle.std.proofs.lemmas.Str.{encodes-chars, encodes-append, scalars-chars, chars-encodes, IsCharBoundary-at_seam}
-use Rattle.std.proofs.Math.Seq.{take-append_seam, drop-append_seam}
-use Rattle.std.specs.Str.{chars, IsUtf8, IsCharBoundary}
+use Rattle.kdl_layout.proofs.Common.{◌≡◌, ℕ, true, List, [], ◌∷◌, ◌++◌, length, take, drop, refl, sym, ap, subst, ◌∙◌, and_parts, encodes-chars, encodes-append, drop-append_seam, chars, IsUtf8, Text, bytes}
+use Rattle.std.proofs.lemmas.Str.{scalars-chars, chars-encodes, IsCharBoundary-at_seam}
+use Rattle.std.proofs.Math.Seq.{take-append_seam}
+use Rattle.std.specs.Str.{IsCharBoundary}
 use Rattle.std.proofs.Math.Utf8.{encodes, scalars}
 use lib.Utf8.{scalar}
-use Rattle.kdl_text.specs.Chars.{Text}
-use Rattle.kdl_text.specs.Spans.{bytes}
 use Rattle.kdl_text.proofs.Looking.Texts.{bytes-encodes}
 
 seam : (bs p r : Text) → IsUtf8 bs → chars bs ≡ p ++ r → bs ≡ encodes p ++ encodes r

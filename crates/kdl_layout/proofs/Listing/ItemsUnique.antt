@@ -1,12 +1,6 @@
 -- A gap, or a place in a node, has one list of items at most.
-use Rattle.std.proofs.Common.{◌≡◌, refl, List, [], ◌∷◌, ◌++◌, sym, ap, subst, ◌∙◌}
-use Rattle.kdl_text.specs.Chars.{Text}
-use Rattle.kdl_text.specs.Trivia.{slashdash}
-use Rattle.kdl_entry.specs.Places.{between}
+use Rattle.kdl_layout.proofs.Common.{◌≡◌, refl, List, [], ◌∷◌, ◌++◌, sym, ap, subst, ◌∙◌, Text, slashdash, between, Item, piece, GapItems, Place, takes_entries, PlaceItems, EndItems, ItemsIn, ended, NodePasses}
 use Rattle.kdl_syntax.specs.Control.{at, node_slashdash}
-use Rattle.kdl_layout.specs.Items.{Item, piece, GapItems, Place, takes_entries, PlaceItems}
-use Rattle.kdl_layout.specs.Internal.Passing.{ended, NodePasses}
-use Rattle.kdl_layout.specs.Kept.{EndItems, ItemsIn}
 use Rattle.kdl_layout.proofs.Dropping.DroppedNodes.{passes_node, passes_last, tight_same, node_returned, node_ended}
 use Rattle.kdl_layout.proofs.Dropping.DroppedParts.{place_quiet, entry_passes, block_passes, part_leaves}
 use Rattle.kdl_layout.proofs.Listing.SpaceItems.{gap_space, gap_end, place_space, place_end}

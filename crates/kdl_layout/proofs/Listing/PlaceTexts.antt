@@ -1,19 +1,10 @@
 -- A text has a list of items exactly where it may be in its place.
-use Rattle.std.proofs.Common.{Bool, ◌≡◌, ◌↔◌, ◌⊎◌, inl, inr, true, false, List, [], ◌∷◌, ◌++◌, refl, sym, subst, ◌∙◌}
-use Rattle.kdl_text.specs.Chars.{Text, Star, Plus, plus}
+use Rattle.kdl_layout.proofs.Common.{Bool, ◌≡◌, ◌↔◌, ◌⊎◌, inl, inr, true, false, List, [], ◌∷◌, ◌++◌, refl, sym, subst, ◌∙◌, Text, Star, Plus, plus, NodeSpace, Break, LineSpace, Slashdash, slashdash, join, space_ends, IsEntry, between, DroppedEntry, EntryLeading, leading, spaces_end, Terminator, IsNode, Gap, no_gap, IsBlock, DroppedBlock, AfterChildren, after, BeforeChildren, before, InPlace, Item, piece, ItemEnd, GapItems, Place, before_entry, before_block, after_block, may_end, takes_entries, takes_blocks, spaced, PlaceItems}
 use Rattle.kdl_text.specs.Chars.Star.{none as no_star, more}
-use Rattle.kdl_text.specs.Trivia.{NodeSpace, Break, LineSpace, Slashdash, slashdash}
-use Rattle.kdl_text.proofs.Looking.Stars.{join}
-use Rattle.kdl_text.proofs.Spacing.ValueEnds.{space_ends}
 use Rattle.kdl_entry.specs.Data.{Entry}
-use Rattle.kdl_entry.specs.Entries.{IsEntry}
-use Rattle.kdl_entry.specs.Places.{between, DroppedEntry, dropped as a_dropped_entry, EntryLeading, leading}
-use Rattle.kdl_entry.proofs.Moving.EntryMoves.{spaces_end}
+use Rattle.kdl_entry.specs.Places.{dropped as a_dropped_entry}
 use Rattle.kdl_grammar.specs.Data.{Node, Nodes}
-use Rattle.kdl_grammar.specs.Grammar.{Terminator, IsNode, Gap, no_gap, IsBlock}
-use Rattle.kdl_grammar.specs.Places.{DroppedBlock, dropped as a_dropped_block, AfterChildren, after, BeforeChildren, before}
-use Rattle.kdl_layout.specs.Lacks.{InPlace}
-use Rattle.kdl_layout.specs.Items.{Item, piece, ItemEnd, GapItems, Place, before_entry, before_block, after_block, may_end, takes_entries, takes_blocks, spaced, PlaceItems}
+use Rattle.kdl_grammar.specs.Places.{dropped as a_dropped_block}
 use Rattle.kdl_layout.proofs.Dropping.DroppedNodes.{passes_last, node_ended}
 use Rattle.kdl_layout.proofs.Dropping.Paths.{at_brace, halts}
 use Rattle.kdl_layout.proofs.Listing.SpaceItems.{spaced_again, entries_spaced, blocks_spaced, space_of, line_space_of, space_items, line_space_items}

@@ -1,9 +1,7 @@
 -- The items of node-spaces and line-spaces: each has some, and some alone; and what a space does in front of a gap or a place.
-use Rattle.std.proofs.Common.{◌≡◌, ◌↔◌, true, List, [], ◌∷◌, ◌++◌, refl, sym, ap, subst, ◌∙◌, Bool, Option, Some, None, append_assoc, append-nil}
-use Rattle.kdl_text.specs.Chars.{Text, Newline, Star, Space}
+use Rattle.kdl_layout.proofs.Common.{◌≡◌, ◌↔◌, true, List, [], ◌∷◌, ◌++◌, refl, sym, ap, subst, ◌∙◌, Bool, Option, Some, None, append_assoc, append-nil, Text, Newline, Star, Space, BlockComment, LineComment, Ws, EscEnd, NodeSpace, LineSpace, Slashdash, slashdash, slash_no_space, backslash_no_space, slash_no_newline, newline_begins, t_space, t_newline, t_slashdash, between, token_det, no_token, Item, comment, piece, line_end, EsclineItems, SpaceItems, LineSpaceItems, GapItems, Place, may_end, spaced, PlaceItems, before_entry, before_block, after_block, takes_entries, takes_blocks, Run, added, Adding, adding, Leaves}
 use Rattle.kdl_text.specs.Chars.Star.{none as no_star, more}
 use Rattle.kdl_text.specs.Chars.Space.{space as a_space}
-use Rattle.kdl_text.specs.Trivia.{BlockComment, LineComment, Ws, EscEnd, NodeSpace, LineSpace, Slashdash, slashdash}
 use Rattle.kdl_text.specs.Trivia.BlockComment.{block as a_block}
 use Rattle.kdl_text.specs.Trivia.LineComment.{line as a_line}
 use Rattle.kdl_text.specs.Trivia.Ws.{space as ws_space, comment as ws_comment}
@@ -13,13 +11,8 @@ use Rattle.kdl_text.specs.Trivia.NodeSpace.{ws, escline as node_escline}
 use Rattle.kdl_text.specs.Trivia.Break.{newline as break_newline, comment as break_comment}
 use Rattle.kdl_text.specs.Trivia.LineSpace.{space as line_space, «break» as line_break}
 use Rattle.kdl_text.specs.Trivia.Slashdash.{slashdash as a_slashdash}
-use Rattle.kdl_text.proofs.Spacing.SpaceUnique.{slash_no_space, backslash_no_space, slash_no_newline, newline_begins, space_det, block_det, line_comment_det, esc_end_ws, space_or_break}
+use Rattle.kdl_text.proofs.Spacing.SpaceUnique.{space_det, block_det, line_comment_det, esc_end_ws, space_or_break}
 use Rattle.kdl_text.proofs.Spacing.NewlineUnique.{newline_det}
-use Rattle.kdl_syntax.specs.Tokens.{t_space, t_newline, t_slashdash}
-use Rattle.kdl_entry.specs.Places.{between}
-use Rattle.kdl_syntax.proofs.Lexing.TokenUnique.{token_det, no_token}
-use Rattle.kdl_layout.specs.Items.{Item, comment, piece, line_end, EsclineItems, SpaceItems, LineSpaceItems, GapItems, Place, may_end, spaced, PlaceItems, before_entry, before_block, after_block, takes_entries, takes_blocks}
-use Rattle.kdl_layout.specs.Internal.Reading.{Run, added, Adding, adding, Leaves}
 use Rattle.kdl_layout.specs.Internal.Reading.Run.{one as one_run, more as more_run}
 
 -- what has items is an escline, a node-space, a line-space

@@ -1,34 +1,26 @@
 -- What begins a text, by its first token; and with what no text begins that begins otherwise.
-use Rattle.std.proofs.Common.{◌≡◌, ℕ, true, false, Option, Some, None, List, [], ◌∷◌, ◌++◌, length, Bor, refl, sym, ap, subst, ◌∙◌, arith, ◌<◌, Bool, not, ◌==◌, if◌then◌else◌}
-use Rattle.std.specs.Str.{chars, IsUtf8}
-use Rattle.kdl_entry.proofs.Slicing.Between.{is_between}
-use Rattle.kdl_text.specs.Chars.{Text, none, Plus, plus, Newline, Space, Star, is_newline_char, begins_two, starts}
+use Rattle.kdl_layout.proofs.Common.{◌≡◌, ℕ, true, false, Option, Some, None, List, [], ◌∷◌, ◌++◌, length, Bor, refl, sym, ap, subst, ◌∙◌, arith, ◌<◌, Bool, not, ◌==◌, if◌then◌else◌, chars, IsUtf8, is_between, Text, Plus, plus, Newline, Space, Star, begins_two, starts, Here, bytes, Moves, BlockComment, LineComment, Ws, EscEnd, NodeSpace, Break, break_shorter, star_end, end_length, block_shorter, slash_no_space, backslash_no_space, newline_begins, slash_no_newline, Cuts, one, HandsOut, kind_view, Token, BeginsToken, space, newline, t_space, t_newline, t_slashdash, TokenKind, token_det, no_token, comment, piece, line_end, EsclineItems, SpaceItems, LineSpaceItems, chars-nil, encodes-chars, and_parts, eqb-true, list_all, bytes-append, Cut, Starts, Run, found}
+use Rattle.kdl_text.specs.Chars.{is_newline_char}
+use Rattle.kdl_text.specs.Chars.{none}
 use Rattle.kdl_text.specs.Chars.Space.{space as a_space}
-use Rattle.kdl_text.specs.Internal.Here.{Here, Ate, Stayed, Skips, first}
-use Rattle.kdl_text.specs.Spans.{bytes}
-use Rattle.kdl_text.specs.Internal.Reading.{Moves, Reads}
-use Rattle.kdl_text.specs.Trivia.{BlockComment, block as a_block, LineComment, line, Ws, EscEnd, escline as an_escline, NodeSpace, Break}
-use Rattle.kdl_text.proofs.Spacing.SpacePieces.{break_shorter, star_end, end_length, space_end, space_shorter, block_shorter}
-use Rattle.kdl_text.proofs.Spacing.SpaceUnique.{slash_no_space, backslash_no_space, backslash_no_newline, newline_begins, slash_no_newline}
-use Rattle.kdl_syntax.specs.Internal.Handed.{Alone, Cuts, one, HandsOut, kind_view}
-use Rattle.kdl_syntax.specs.Tokens.{Token, BeginsToken, space, newline, slashdash, t_space, t_newline, t_slashdash}
+use Rattle.kdl_text.specs.Internal.Here.{Ate, Stayed, Skips, first}
+use Rattle.kdl_text.specs.Internal.Reading.{Reads}
+use Rattle.kdl_text.specs.Trivia.{block as a_block, line, escline as an_escline}
+use Rattle.kdl_text.proofs.Spacing.SpacePieces.{space_end, space_shorter}
+use Rattle.kdl_text.proofs.Spacing.SpaceUnique.{backslash_no_newline}
+use Rattle.kdl_syntax.specs.Internal.Handed.{Alone}
+use Rattle.kdl_syntax.specs.Tokens.{slashdash}
 use Rattle.kdl_syntax.specs.declared.lexer.Token as code
-use Rattle.kdl_syntax.specs.declared.lexer.TokenKind.{TokenKind}
 use Rattle.kdl_syntax.specs.declared.lexer.TokenKind.TheVariants.{Space as SpaceKind, Newline as NewlineKind, Slashdash as SlashdashKind}
-use Rattle.kdl_syntax.proofs.Lexing.TokenUnique.{token_det, no_token}
-use Rattle.kdl_layout.specs.Items.{comment, piece, line_end, EsclineItems, SpaceItems, LineSpaceItems}
 use Rattle.kdl_layout.specs.Internal.Passed.{Before}
-use Rattle.kdl_layout.specs.Internal.Reading.{Cut, is_piece, Starts, Run, found}
-use Rattle.kdl_layout.specs.declared.item.Item.{Item}
-use Rattle.kdl_layout.specs.declared.item.Item.TheVariants.{Comment, Piece}
+use Rattle.kdl_layout.specs.Internal.Reading.{is_piece}
+use Rattle.kdl_layout.specs.declared.spaces.Item.{Item}
+use Rattle.kdl_layout.specs.declared.spaces.Item.TheVariants.{Comment, Piece}
 use Rattle.kdl_layout.specs.declared.spaces.Start.{Start}
 use Rattle.kdl_layout.specs.declared.spaces.Start.TheVariants.{Space as ASpace, Break as ABreak, Backslash, Slashdash, End, Other}
-use Rattle.std.proofs.lemmas.Str.{chars-nil, encodes-chars}
 use lib.Utf8.{encodes}
-use Rattle.std.proofs.lemmas.Bool.{and_parts, eqb-true}
-use Rattle.std.specs.List.{list_all}
 use Rattle.kdl_text.specs.Chars.Star.{none as no_star, more as more_star}
-use Rattle.kdl_text.proofs.Looking.MovesJoin.{bytes-append, moves_one}
+use Rattle.kdl_text.proofs.Looking.MovesJoin.{moves_one}
 use Rattle.kdl_layout.specs.Items as items
 use Rattle.kdl_layout.specs.Internal.Reading.Run.{one as one_run, more as more_run}
 

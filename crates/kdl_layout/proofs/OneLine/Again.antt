@@ -1,25 +1,7 @@
 -- A block on one line is on one line again once it is laid out again.
-use Rattle.std.proofs.Common.{◌≡◌, ℕ, zero, suc, ◌+◌, Bool, true, false, [], ◌∷◌, ◌++◌, refl, sym, ap, subst, ◌∙◌, Option, None, Some, ◌||◌, List, option_map}
-use Rattle.std.proofs.lemmas.Bool.{and_parts}
-use Rattle.std.specs.Cmp.Derive.{both_true}
-use Rattle.std.specs.List.{list_all}
-use Rattle.std.specs.Prelude.{◌&&◌, not, is_some, if◌then◌else◌}
-use Rattle.kdl_text.specs.Chars.{Text, is_space}
-use Rattle.kdl_text.specs.declared.span.SourceSpan.{SourceSpan}
-use Rattle.kdl_text.proofs.Spacing.SpaceUnique.{no_line_comment}
-use Rattle.kdl_grammar.specs.Tree.{NodeFormat, DocumentFormat, Head, Node, node, Children, no_children, children, Document, document, Nodes, none, first}
-use Rattle.kdl_layout.specs.Items.{GapItems, before_block, PlaceItems, before_entry}
-use Rattle.kdl_layout.specs.Written.{tail}
-use Rattle.kdl_layout.specs.Blank.{at_start, blank_lines, past_items, past_node, read}
-use Rattle.kdl_layout.specs.Config.{Settings, indentation}
-use Rattle.kdl_layout.specs.Formatted.{or_empty, or_empty_document, newline_if_none, in_braces, DocumentKeepsNone, NodeKeepsNone, with_keep_if}
-use Rattle.kdl_layout.specs.Kept.{ItemsIn, KeptEnd, EndItems, WrittenUnless, entry_leading, is_kept_format}
-use Rattle.kdl_layout.specs.OneLine.{IsLaidDocument, IsLaidNode, braces_in_line, braces_on_line, head_on_line, in_one_line, is_end, is_on_one_line, line_on_line, node_in_line, nodes_in_line, nodes_on_line, one_lined_node, one_lined_children, one_lined_document, one_lined_nodes, entry_on_line, form_on_line, maybe_form_on_line, maybe_on_line, name_on_line, spelling_on_line}
-use Rattle.kdl_layout.specs.Plain.{only_spaces, plain_line, no_newline}
-use Rattle.kdl_layout.specs.Respelled.{IsTypedFormat, KeptTypeTexts, TypeTexts, node_type_texts, KeptSpelling, IsRespelled, IsRespelledIf, text_before, KeptLeading, KeepsForm, KeptForm, entry_type_texts, HasSpellings, HasSpellingsUnless, IsRespelledEntry, AreRespelledEntries}
-use Rattle.kdl_layout.specs.Spaced.{Passes, PassesFormat, PassesNode, PassesNodes, SpacedLines, SpacesContent, SpacesTexts, IsSpacedBraced, IsSpacedLine}
-use Rattle.kdl_layout.specs.Parts.{NodeTexts, AreFormattedEntries, IsFormattedEntry, following}
-use Rattle.kdl_layout.specs.declared.blank.Before.{Before}
+use Rattle.kdl_layout.proofs.Common.{◌≡◌, ℕ, zero, suc, ◌+◌, Bool, true, false, [], ◌∷◌, ◌++◌, refl, sym, ap, subst, ◌∙◌, Option, None, Some, ◌||◌, List, option_map, and_parts, both_true, list_all, ◌&&◌, not, is_some, if◌then◌else◌, Text, SourceSpan, no_line_comment, NodeFormat, DocumentFormat, Head, Node, node, Children, no_children, children, Document, document, Nodes, none, first, GapItems, before_block, PlaceItems, before_entry, tail, at_start, blank_lines, past_items, past_node, read, Settings, indentation, or_empty, or_empty_document, newline_if_none, in_braces, DocumentKeepsNone, NodeKeepsNone, with_keep_if, ItemsIn, KeptEnd, EndItems, WrittenUnless, entry_leading, is_kept_format, IsLaidDocument, IsLaidNode, braces_in_line, braces_on_line, head_on_line, in_one_line, is_end, is_on_one_line, line_on_line, node_in_line, nodes_in_line, nodes_on_line, one_lined_node, one_lined_children, one_lined_document, one_lined_nodes, entry_on_line, form_on_line, maybe_on_line, name_on_line, only_spaces, plain_line, no_newline, IsTypedFormat, KeptTypeTexts, TypeTexts, node_type_texts, KeptSpelling, IsRespelled, IsRespelledIf, text_before, KeptLeading, KeepsForm, KeptForm, entry_type_texts, HasSpellings, HasSpellingsUnless, IsRespelledEntry, AreRespelledEntries, Passes, PassesFormat, PassesNode, PassesNodes, SpacedLines, SpacesContent, SpacesTexts, IsSpacedBraced, IsSpacedLine, NodeTexts, AreFormattedEntries, IsFormattedEntry, following, Entry, EntryFormat, Identifier, unspelled, kept, with_keep, autoformatted, autoformatted_format, Before}
+use Rattle.kdl_text.specs.Chars.{is_space}
+use Rattle.kdl_layout.specs.OneLine.{maybe_form_on_line, spelling_on_line}
 use Rattle.kdl_layout.proofs.Rewriting.LinesAgain.{newline_items, spaces_items}
 use Rattle.kdl_layout.proofs.Keeping.GapFronts.{alone, joined, newline_if, indented}
 use Rattle.kdl_layout.proofs.OneLine.Nothing.{ArePlain, Quiet, are_plain, head_parts, nothing_kept, quiet_lead, quiet_lines, quiet_node, quiet_start, read_spaces, spaces_without_bom, line_is_plain, quiet_passes, nothing_tailed, HeadParts}
@@ -31,7 +13,6 @@ use Rattle.kdl_layout.proofs.Spacing.TextsAgain.{start_again}
 use Rattle.kdl_layout.proofs.Spacing.Reads.{nothing_of, passes_as}
 use Rattle.kdl_layout.proofs.Respelling.Kept.{OnlySpaces, place_bare_if, spaces_continue_nothing, types_bare_if}
 use Rattle.kdl_layout.proofs.Respelling.Off.{same_if}
-use Rattle.kdl_entry.specs.Tree.{Entry, EntryFormat, Identifier, unspelled, kept, with_keep, autoformatted, autoformatted_format}
 
 -- what is laid out on one line is on one line
 no_spelling : (o : Option Identifier) → maybe_on_line (option_map unspelled o) ≡ true
@@ -48,25 +29,18 @@ record FormParts (f : EntryFormat) : Type 0 where
 
 form_parts : (f : EntryFormat) → form_on_line f ≡ true → FormParts f
 form_parts f h =
-    let a = only_spaces f.leading in
-    let b = only_spaces f.trailing in
-    let c = only_spaces f.after_ty in
-    let d = only_spaces f.before_ty_name in
-    let e = only_spaces f.after_ty_name in
-    let g = only_spaces f.after_key in
-    let i = only_spaces f.after_eq in
-    let value = and_parts (a && b && c && d && e && g && i) (no_newline f.value_repr) h in
-    let six = and_parts (a && b && c && d && e && g) i value.0 in
-    let five = and_parts (a && b && c && d && e) g six.0 in
-    let four = and_parts (a && b && c && d) e five.0 in
-    let three = and_parts (a && b && c) d four.0 in
-    let two = and_parts (a && b) c three.0 in
+    let (seven, value) = and_parts _ (no_newline f.value_repr) h in
+    let (six, after_eq) = and_parts _ (only_spaces f.after_eq) seven in
+    let (five, after_key) = and_parts _ (only_spaces f.after_key) six in
+    let (four, after_name) = and_parts _ (only_spaces f.after_ty_name) five in
+    let (three, before_name) = and_parts _ (only_spaces f.before_ty_name) four in
+    let (two, after) = and_parts _ (only_spaces f.after_ty) three in
     record {
-      leading = (and_parts a b two.0).0;
-      types = record { before_name = three.1; after_name = four.1; after = two.1 };
-      after_key = five.1;
-      after_eq = six.1;
-      value = value.1;
+      leading = (and_parts (only_spaces f.leading) (only_spaces f.trailing) two).0;
+      types = record { before_name = before_name; after_name = after_name; after = after };
+      after_key = after_key;
+      after_eq = after_eq;
+      value = value;
     }
 
 module _ (s : Settings) where

@@ -1,32 +1,11 @@
 -- Of the texts of a node that is on one line, layout keeps no comment, and no blank line.
-use Rattle.std.proofs.Common.{◌≡◌, ℕ, zero, suc, ◌+◌, ◌-◌, ◌==◌, Bool, true, false, List, [], ◌∷◌, ◌++◌, refl, ap, subst, ◌∙◌, Option, Some, arith}
-use Rattle.std.proofs.lemmas.Bool.Decides.{nat_tests}
-use Rattle.std.proofs.lemmas.Bool.{and_parts, eqb-true}
-use Rattle.std.specs.List.{list_all, list_any}
-use Rattle.std.specs.Prelude.{if◌then◌else◌, ◌&&◌, min, max}
-use Rattle.kdl_text.specs.Chars.{Text, is_space, is_newline_char, times}
-use Rattle.kdl_text.specs.Trivia.{LineComment}
-use Rattle.kdl_text.proofs.Spacing.SpaceUnique.{no_line_comment}
-use Rattle.kdl_entry.specs.Tree.{Identifier}
-use Rattle.kdl_grammar.specs.Tree.{NodeFormat, Head, node, Children, no_children, children, Nodes, none, first}
-use Rattle.kdl_layout.specs.Items.{Item, GapItems, Place, before_block, PlaceItems}
-use Rattle.kdl_layout.specs.Written.{tail}
+use Rattle.kdl_layout.proofs.Common.{◌≡◌, ℕ, zero, suc, ◌+◌, ◌-◌, ◌==◌, Bool, true, false, List, [], ◌∷◌, ◌++◌, refl, ap, subst, ◌∙◌, Option, Some, arith, nat_tests, and_parts, eqb-true, list_all, list_any, if◌then◌else◌, ◌&&◌, min, max, Text, is_newline_char, times, LineComment, no_line_comment, Identifier, NodeFormat, Head, node, Children, no_children, children, Nodes, none, first, Item, GapItems, Place, before_block, PlaceItems, tail, at_start, blank_lines, empty_lines, newlines, one_if, past_node, read, spaced_lines, Settings, indentation, or_empty, EndItems, ItemsIn, KeptEnd, WrittenUnless, end_comment, end_space, without_bom, end_on_line, head_on_line, is_end, line_on_line, nodes_on_line, maybe_on_line, name_on_line, entry_on_line, only_spaces, plain_line, TypeTexts, node_type_texts, with_type_texts, PassesNode, SpacedLines, SpacesTexts, NodeTexts, line_of, Before, Nothing, Thing, Last}
+use Rattle.kdl_text.specs.Chars.{is_space}
 use Rattle.kdl_layout.proofs.Listing.ItemsUnique.{end_items_det, gap_items_det, items_in_det, place_items_det}
 use Rattle.kdl_layout.proofs.Rewriting.LinesAgain.{spaces_items}
-use Rattle.kdl_layout.specs.Blank.{at_start, blank_lines, empty_lines, newlines, one_if, past_node, read, spaced_lines, after_char, counts}
-use Rattle.kdl_layout.specs.Config.{Settings, indentation}
-use Rattle.kdl_layout.specs.Formatted.{or_empty}
-use Rattle.kdl_layout.specs.Kept.{EndItems, ItemsIn, KeptEnd, WrittenUnless, end_comment, end_space, without_bom}
-use Rattle.kdl_layout.specs.OneLine.{end_on_line, head_on_line, is_end, line_on_line, nodes_on_line, maybe_on_line, name_on_line, entry_on_line}
-use Rattle.kdl_layout.specs.Plain.{only_spaces, plain_line}
-use Rattle.kdl_layout.specs.Respelled.{TypeTexts, node_type_texts, with_type_texts}
-use Rattle.kdl_layout.specs.Spaced.{PassesNode, SpacedLines, SpacesTexts}
-use Rattle.kdl_layout.specs.Parts.{NodeTexts, line_of}
+use Rattle.kdl_layout.specs.Blank.{after_char, counts}
 use Rattle.kdl_layout.proofs.Respelling.Kept.{OnlySpaces}
 use Rattle.kdl_layout.proofs.Respelling.Written.{IsTypedLine, head_line}
-use Rattle.kdl_layout.specs.declared.blank.Before.{Before}
-use Rattle.kdl_layout.specs.declared.blank.Before.TheVariants.{Nothing, Thing}
-use Rattle.kdl_layout.specs.declared.blank.Last.{Last}
 use Rattle.kdl_layout.proofs.Respelling.Spelled.{spelled, blockless, spelled_block, SpelledNodes, nodeless, one_more}
 use Rattle.kdl_layout.proofs.Keeping.KeptReads.{spaces_in}
 use Rattle.kdl_layout.proofs.Spacing.Reads.{passes_as}
@@ -106,19 +85,13 @@ pub record LineParts (last : Bool) (f : NodeFormat) : Type 0 where
 
 pub line_parts : (last : Bool) (f : NodeFormat) → line_on_line last f ≡ true → LineParts last f
 line_parts last f h =
-    let a = only_spaces f.leading in
-    let b = only_spaces f.before_ty_name in
-    let c = only_spaces f.after_ty_name in
-    let d = only_spaces f.after_ty in
-    let e = only_spaces f.before_terminator in
-    let t = only_spaces f.trailing in
-    let end = and_parts (a && b && c && d && e && t) (end_on_line last f.terminator) h in
-    let trailing = and_parts (a && b && c && d && e) t end.0 in
-    let before = and_parts (a && b && c && d) e trailing.0 in
-    let three = and_parts (a && b && c) d before.0 in
-    let two = and_parts (a && b) c three.0 in
-    let first = and_parts a b two.0 in
-    record { leading = first.0; types = record { before_name = first.1; after_name = two.1; after = three.1 }; before_terminator = before.1; trailing = trailing.1; terminator = end.1 }
+    let (six, end) = and_parts _ (end_on_line last f.terminator) h in
+    let (five, trailing) = and_parts _ (only_spaces f.trailing) six in
+    let (four, before) = and_parts _ (only_spaces f.before_terminator) five in
+    let (three, after) = and_parts _ (only_spaces f.after_ty) four in
+    let (two, after_name) = and_parts _ (only_spaces f.after_ty_name) three in
+    let (leading, before_name) = and_parts (only_spaces f.leading) (only_spaces f.before_ty_name) two in
+    record { leading = leading; types = record { before_name = before_name; after_name = after_name; after = after }; before_terminator = before; trailing = trailing; terminator = end }
 
 pub record HeadParts (last : Bool) (h : Head) : Type 0 where
   pub ty : maybe_on_line h.ty ≡ true
@@ -128,13 +101,10 @@ pub record HeadParts (last : Bool) (h : Head) : Type 0 where
 
 pub head_parts : (last : Bool) (h : Head) → head_on_line last h ≡ true → HeadParts last h
 head_parts last h e =
-    let a = maybe_on_line h.ty in
-    let b = name_on_line h.name in
-    let c = list_all entry_on_line h.entries in
-    let line = and_parts (a && b && c) (line_on_line last (or_empty h.format)) e in
-    let entries = and_parts (a && b) c line.0 in
-    let names = and_parts a b entries.0 in
-    record { ty = names.0; name = names.1; entries = entries.1; line = line.1 }
+    let (three, line) = and_parts _ (line_on_line last (or_empty h.format)) e in
+    let (two, entries) = and_parts _ (list_all entry_on_line h.entries) three in
+    let (ty, name) = and_parts (maybe_on_line h.ty) (name_on_line h.name) two in
+    record { ty = ty; name = name; entries = entries; line = line }
 
 -- a node on one line, laid out on a line of its own
 module _ (number : ℕ) (s : Settings) (level : ℕ) where

@@ -1,31 +1,9 @@
 -- A block that is put on one line reads back.
-use Rattle.std.proofs.Common.{◌≡◌, ℕ, ◌+◌, Bool, true, false, List, [], ◌∷◌, refl, sym, ap, subst, ◌∙◌, Option, Some, append_assoc}
-use Rattle.std.proofs.lemmas.Bool.{and_parts}
-use Rattle.std.proofs.lemmas.List.Elements.{All-nil, All-cons}
-use Rattle.std.specs.List.{All, list_all}
-use Rattle.std.specs.Prelude.{◌&&◌}
-use Rattle.kdl_text.specs.Chars.{Text, is_space, Star}
-use Rattle.kdl_text.specs.Trivia.{LineSpace}
-use Rattle.kdl_text.specs.declared.span.SourceSpan.{SourceSpan}
-use Rattle.kdl_entry.specs.Tree.{Entry}
+use Rattle.kdl_layout.proofs.Common.{◌≡◌, ℕ, ◌+◌, Bool, true, false, List, [], ◌∷◌, refl, sym, ap, subst, ◌∙◌, Option, Some, append_assoc, and_parts, All-nil, All-cons, All, list_all, ◌&&◌, Text, is_space, Star, LineSpace, SourceSpan, Entry, Terminator, no_gap, line_space, IsDocument, AfterChildren, BeforeChildren, print_document, print_node, Rests, Anything, TextEnd, EntryReads, HeadReads, EndReads, NodeReads, reads, ChildrenRead, a_block, NodesRead, no_node, last_node, next_node, ContentReads, two_texts, with_nodes, BlockReads, DocumentReads, NodeFormat, DocumentFormat, Head, Node, node, node_data, Children, no_children, Document, document, document_data, Nodes, none, first, children_data, nodes_data, at_start, Settings, indentation, or_empty, or_empty_document, newline_if_none, NodeKeepsNone, DocumentKeepsNone, ChildrenKeepNone, NodesKeepNone, without_bom, IsLaidDocument, IsLaidNode, braces_in_line, braces_on_line, head_on_line, in_one_line, is_on_one_line, node_in_line, nodes_in_line, nodes_on_line, one_lined_node, one_lined_children, one_lined_document, one_lined_nodes, TypeTexts, with_type_texts, SpacesTexts, IsWellFormedNode, AreWellFormed, AreWellFormedChildren, NodeTexts, line_of, has_block, Before}
 use Rattle.kdl_grammar.specs.Data as data'
-use Rattle.kdl_grammar.specs.Grammar.{Terminator, no_gap, line_space, IsDocument}
-use Rattle.kdl_grammar.specs.Places.{AfterChildren, BeforeChildren}
-use Rattle.kdl_grammar.specs.Print.{print_document, print_node}
-use Rattle.kdl_grammar.specs.ReadsBack.{Rests, Anything, TextEnd, BlockEnd, EntryReads, HeadReads, EndReads, NodeReads, reads, ChildrenRead, no_block, a_block, NodesRead, no_node, last_node, next_node, ContentReads, two_texts, with_nodes, BlockReads, block, DocumentReads}
-use Rattle.kdl_grammar.specs.Tree.{NodeFormat, DocumentFormat, Head, Node, node, node_data, Children, no_children, Document, document, document_data, Nodes, none, first, children_data, nodes_data}
+use Rattle.kdl_grammar.specs.ReadsBack.{BlockEnd, no_block, block}
 use Rattle.kdl_grammar.proofs.ReadingBack.Composing.{node_before}
 use Rattle.kdl_grammar.proofs.ReadingBack.Reads as back
-use Rattle.kdl_layout.specs.Blank.{at_start}
-use Rattle.kdl_layout.specs.Config.{Settings, indentation}
-use Rattle.kdl_layout.specs.Formatted.{or_empty, or_empty_document, newline_if_none, NodeKeepsNone, DocumentKeepsNone, ChildrenKeepNone, NodesKeepNone}
-use Rattle.kdl_layout.specs.Kept.{without_bom}
-use Rattle.kdl_layout.specs.OneLine.{IsLaidDocument, IsLaidNode, braces_in_line, braces_on_line, head_on_line, in_one_line, is_on_one_line, node_in_line, nodes_in_line, nodes_on_line, one_lined_node, one_lined_children, one_lined_document, one_lined_nodes}
-use Rattle.kdl_layout.specs.Respelled.{TypeTexts, with_type_texts}
-use Rattle.kdl_layout.specs.Spaced.{SpacesTexts}
-use Rattle.kdl_layout.specs.WellFormed.{IsWellFormedNode, AreWellFormed, AreWellFormedChildren}
-use Rattle.kdl_layout.specs.Parts.{NodeTexts, line_of, has_block}
-use Rattle.kdl_layout.specs.declared.blank.Before.{Before}
 use Rattle.kdl_layout.proofs.Formatting.EntriesRead.{written_reads, empty_gap}
 use Rattle.kdl_layout.proofs.Formatting.PartsRead.{AreLined, all_end, braced_reads, content_with, line_block, line_end, line_head, lines_add}
 use Rattle.kdl_layout.proofs.OneLine.Nothing.{bare_line, head_parts}

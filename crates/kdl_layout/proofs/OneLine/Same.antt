@@ -1,11 +1,5 @@
 -- What does not change where blocks are put on one line.
-use Rattle.std.proofs.Common.{◌≡◌, Bool, true, false, refl, ap, ◌∙◌}
-use Rattle.std.proofs.lemmas.Bool.{and_parts}
-use Rattle.std.specs.Prelude.{if◌then◌else◌, ◌&&◌}
-use Rattle.kdl_grammar.specs.Tree.{Node, node, Children, no_children, children, Document, document, Nodes, none, first}
-use Rattle.kdl_layout.specs.Formatted.{NodeKeepsNone, ChildrenKeepNone, DocumentKeepsNone, NodesKeepNone}
-use Rattle.kdl_layout.specs.OneLine.{head_on_line, in_one_line, is_end, is_on_one_line, nodes_in_line, nodes_on_line, one_lined_node, one_lined_children, one_lined_document, one_lined_nodes}
-use Rattle.kdl_layout.specs.Parts.{has_block}
+use Rattle.kdl_layout.proofs.Common.{◌≡◌, Bool, true, false, refl, ap, ◌∙◌, and_parts, if◌then◌else◌, ◌&&◌, Node, node, Children, no_children, children, Document, document, Nodes, none, first, NodeKeepsNone, ChildrenKeepNone, DocumentKeepsNone, NodesKeepNone, head_on_line, in_one_line, is_end, is_on_one_line, nodes_in_line, nodes_on_line, one_lined_node, one_lined_children, one_lined_document, one_lined_nodes, has_block}
 
 -- a block stays on one line, or not
 pub one_or_more : (P : Document → Type 0) (b : Bool) (x y : Document) → (b ≡ true → P x) → (b ≡ false → P y) → P (if b then x else y)

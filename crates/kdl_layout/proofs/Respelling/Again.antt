@@ -1,32 +1,16 @@
 -- A second layout that keeps spellings changes nothing: layout does not look at them, and what was put back is put back again.
-use Rattle.std.proofs.Common.{◌≡◌, ℕ, Bool, true, false, List, [], ◌∷◌, ◌++◌, refl, sym, ap, subst, ◌∙◌, Option, Some, None, option_map}
-use Rattle.std.specs.List.{list_all}
-use Rattle.std.specs.Prelude.{◌&&◌, ◌||◌, not, is_some}
-use Rattle.kdl_text.specs.Chars.{Text, is_space}
-use Rattle.kdl_value.specs.Data.{Value}
-use Rattle.kdl_value.specs.Print.{print_value}
-use Rattle.kdl_entry.specs.Tree.{Identifier, EntryFormat, empty_format, Entry, unspelled, unspelled_names, cleared, autoformatted}
-use Rattle.kdl_grammar.specs.Tree.{NodeFormat, Head, Node, node, Children, children, Document, document, Nodes, first}
-use Rattle.kdl_layout.specs.Items.{before_entry, PlaceItems}
-use Rattle.kdl_layout.specs.Written.{tail}
-use Rattle.kdl_layout.specs.Config.{Settings}
-use Rattle.kdl_layout.specs.Formatted.{with_keep_if, or_empty, or_empty_document, EntriesKeepNone, NodeKeepsNone, ChildrenKeepNone, DocumentKeepsNone, NodesKeepNone}
-use Rattle.kdl_layout.specs.Kept.{ItemsIn, WrittenUnless, KeptBefore, is_kept_format, entry_leading}
-use Rattle.kdl_layout.specs.Plain.{only_spaces}
-use Rattle.kdl_layout.specs.Respelled.{KeptSpelling, IsRespelled, IsRespelledIf, IsSpelling, text_before, KeptLeading, KeptPlaceIf, TypeTexts, KeptTypeTexts, KeptTypeTextsIf, KeepsForm, KeptForm, entry_type_texts, node_type_texts, with_type_texts, IsTypedFormat, HasSpellings, HasSpellingsUnless, IsRespelledEntry, AreRespelledEntries}
-use Rattle.kdl_layout.specs.Spaced.{IsSpacedLine}
-use Rattle.kdl_layout.specs.Parts.{following, IsFormattedEntry, AreFormattedEntries, has_block}
-use Rattle.kdl_layout.specs.declared.blank.Before.{Before}
-use Rattle.kdl_layout.proofs.EntryTexts.{no_format}
+use Rattle.kdl_layout.proofs.Common.{◌≡◌, ℕ, Bool, true, false, List, [], ◌∷◌, ◌++◌, refl, sym, ap, subst, ◌∙◌, Option, Some, None, option_map, list_all, ◌&&◌, ◌||◌, not, is_some, Text, Value, print_value, Identifier, EntryFormat, empty_format, Entry, unspelled, cleared, autoformatted, NodeFormat, Head, Node, node, Children, children, Document, document, Nodes, first, before_entry, PlaceItems, tail, Settings, with_keep_if, or_empty, or_empty_document, EntriesKeepNone, NodeKeepsNone, ChildrenKeepNone, DocumentKeepsNone, NodesKeepNone, ItemsIn, WrittenUnless, KeptBefore, is_kept_format, entry_leading, only_spaces, KeptSpelling, IsRespelled, IsRespelledIf, IsSpelling, text_before, KeptLeading, KeptPlaceIf, TypeTexts, KeptTypeTexts, KeptTypeTextsIf, KeepsForm, KeptForm, entry_type_texts, node_type_texts, with_type_texts, IsTypedFormat, HasSpellings, HasSpellingsUnless, IsRespelledEntry, AreRespelledEntries, IsSpacedLine, following, IsFormattedEntry, AreFormattedEntries, has_block, Before}
+use Rattle.kdl_text.specs.Chars.{is_space}
+use Rattle.kdl_entry.specs.Tree.{unspelled_names}
+use Rattle.kdl_layout.proofs.Texts.{no_format}
 use Rattle.kdl_layout.proofs.Rewriting.PlacesAgain.{tail_spaced}
 use Rattle.kdl_layout.proofs.Formatting.FormattedUnique.{entry_keeps_none, tail_det, cleared_after}
-use Rattle.kdl_layout.proofs.Keeping.KeptReads.{kept_bare, kept_empty, spaces_in}
+use Rattle.kdl_layout.proofs.Keeping.KeptReads.{kept_bare, kept_empty, spaces_in, none_before, before_entry_stays}
 use Rattle.kdl_layout.proofs.Respelling.Leaves.{cleared_same, entry_flag, unspelled_same, unspelled_same_if}
 use Rattle.kdl_layout.proofs.Respelling.Kept.{OnlySpaces, leading_again, place_again_if, place_bare_if, types_again_if, types_bare_if}
 use Rattle.kdl_layout.proofs.Respelling.Written.{leading_is, plain_format, name_is, ty_is, value_is, format_is}
 use Rattle.kdl_layout.proofs.Respelling.Spelled.{SpelledHead, SpelledNode, spelled, SpelledChildren, blockless, spelled_block, SpelledNodes, nodeless, one_more, SpelledDocument, same_block}
 use Rattle.kdl_layout.proofs.Spacing.TextsAgain.{IsAgain, line_stays, node_passes, content_stays, braced_stays}
-use Rattle.kdl_layout.proofs.Keeping.KeptAgain.{none_before, before_entry_stays}
 use Rattle.kdl_layout.proofs.Formatting.PrintsCanonical.{unspelled_twice}
 
 -- an entry that is not flagged has no format once it is laid out, but for what is kept before it

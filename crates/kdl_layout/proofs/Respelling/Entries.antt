@@ -1,18 +1,10 @@
 -- An entry that is laid out with its spellings, from the steps that lay it out.
-use Rattle.std.proofs.Common.{◌≡◌, Bool, true, false, [], ◌∷◌, ◌++◌, refl, sym, ap, subst, ◌∙◌, Option, Some, None, option_map, Result, Ok, Err}
+use Rattle.kdl_layout.proofs.Common.{◌≡◌, Bool, true, false, [], ◌∷◌, ◌++◌, refl, sym, ap, subst, ◌∙◌, Option, Some, None, option_map, Result, Ok, Err, Text, IsIdentifierText, Identifier, EntryFormat, Entry, unspelled, cleared, autoformatted, autoformatted_format, Settings, with_keep_if, is_kept_format, KeptSpelling, IsRespelledIf, text_before, KeepsForm, KeptForm, HasSpellings, HasSpellingsUnless, IsRespelledEntry, IsSpelledEntry, following, put_format, Keeps, autoformatted_but, without_value, HasSpelling}
 use Rattle.std.specs.Prelude.{OnOk}
-use Rattle.kdl_text.specs.Chars.{Text}
-use Rattle.kdl_entry.specs.Entries.{IsIdentifierText}
-use Rattle.kdl_entry.specs.Tree.{Identifier, EntryFormat, Entry, unspelled, cleared, autoformatted, autoformatted_format}
 use Rattle.kdl_layout.specs.Internal.KeptTexts.{HasForm}
-use Rattle.kdl_layout.specs.Internal.Names.{Keeps, KeepsName, autoformatted_but, without_value, HasSpelling, IsLaid}
-use Rattle.kdl_layout.specs.Config.{Settings}
-use Rattle.kdl_layout.specs.Formatted.{with_keep_if}
-use Rattle.kdl_layout.specs.Kept.{is_kept_format}
-use Rattle.kdl_layout.specs.Respelled.{KeptSpelling, IsRespelledIf, text_before, KeepsForm, KeptForm, HasSpellings, HasSpellingsUnless, IsRespelledEntry, IsSpelledEntry}
-use Rattle.kdl_layout.specs.Parts.{following, put_format}
+use Rattle.kdl_layout.specs.Internal.Names.{KeepsName, IsLaid}
 use Rattle.kdl_layout.specs.declared.names.SpellingRule.{SpellingRule}
-use Rattle.kdl_layout.proofs.EntryTexts.{no_format}
+use Rattle.kdl_layout.proofs.Texts.{no_format}
 use Rattle.kdl_layout.proofs.Respelling.Written.{plain_format, leading_is, after_format, unflagged_same, unformed, after_unformed}
 
 -- whether the spelling of a name is kept
@@ -110,9 +102,8 @@ pub flag_respelled : (keep : Bool) (s : Settings) (e m x : Entry) → x ≡ with
 flag_respelled false s e m x a n = refl
 flag_respelled true s e m x a n = subst (λ (b : Bool). HasSpellingsUnless b s e m m) (n ∙ ap (λ (y : Entry). is_kept_format y.format) a) refl
 
-pub respelled_is : {A E : Type 0} (r : Result A E) (keep : Bool) (s : Settings) (e x e' : Entry) → x ≡ with_keep_if s.entry_autoformate_keep e → IsRespelledEntry keep s e e' e' → OnOk r (IsLaid s x e') → OnOk r (IsSpelledEntry keep s e e')
-respelled_is (Err z) keep s e x e' a k h = h
-respelled_is (Ok z) keep s e x e' a k h = (e', subst (λ (y : Entry). IsLaid s y e') a h, k)
+pub respelled_is : (keep : Bool) (s : Settings) (e x e' : Entry) → x ≡ with_keep_if s.entry_autoformate_keep e → IsRespelledEntry keep s e e' e' → IsLaid s x e' → IsSpelledEntry keep s e e'
+respelled_is keep s e x e' a k h = (e', subst (λ (y : Entry). IsLaid s y e') a h, k)
 
 -- what an entry leaves as it was
 pub flag_cleared : (b : Bool) (e : Entry) → cleared (with_keep_if b e) ≡ cleared e

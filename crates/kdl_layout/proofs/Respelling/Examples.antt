@@ -1,22 +1,8 @@
 -- What the definitions of kept spellings do not allow: for each of them something that is no instance.
-use Rattle.std.proofs.Common.{◌≡◌, Bool, true, false, [], ◌∷◌, refl, subst, sym, ap, ◌∙◌, Option, Some, None}
-use Rattle.std.specs.List.{list_all}
-use Rattle.std.specs.Prelude.{◌&&◌, not, is_some}
-use Rattle.kdl_text.specs.Chars.{Text, is_scalar, is_space}
-use Rattle.kdl_text.specs.declared.span.SourceSpan.{SourceSpan}
-use Rattle.kdl_value.specs.Data.{Value}
-use Rattle.kdl_value.specs.Print.{print_value}
-use Rattle.kdl_value.specs.Spelled.{spelled}
-use Rattle.kdl_value.specs.WellFormed.{IsWellFormed}
-use Rattle.kdl_entry.specs.Entries.{IsIdentifierText}
-use Rattle.kdl_entry.specs.Tree.{Identifier, EntryFormat, Entry}
+use Rattle.kdl_layout.proofs.Common.{◌≡◌, Bool, true, false, [], ◌∷◌, refl, subst, sym, ap, ◌∙◌, Option, Some, None, list_all, ◌&&◌, not, is_some, Text, is_scalar, SourceSpan, Value, print_value, spelled, IsWellFormed, IsIdentifierText, Identifier, EntryFormat, Entry, DocumentFormat, Head, Document, document, Nodes, no_children, children, AreNodeSpaces, Settings, or_empty, only_spaces, IsSpelling, KeptSpelling, IsRespelled, IsRespelledIf, IsContinued, KeptForm, KeptLeading, KeptPlace, KeptPlaceIf, KeepsForm, IsTypedFormat, entry_type_texts, HasSpellings, HasSpellingsUnless, IsRespelledHead, AreRespelledChildren, IsRespelledDocument}
+use Rattle.kdl_text.specs.Chars.{is_space}
 use Rattle.kdl_entry.proofs.Laying.TextUnique.{one_identifier}
-use Rattle.kdl_grammar.specs.Tree.{DocumentFormat, Head, Document, document, Nodes, no_children, children}
-use Rattle.kdl_layout.specs.Lacks.{AreNodeSpaces}
-use Rattle.kdl_layout.specs.Config.{Settings}
-use Rattle.kdl_layout.specs.Formatted.{or_empty}
-use Rattle.kdl_layout.specs.Plain.{only_spaces}
-use Rattle.kdl_layout.specs.Respelled.{IsSpelling, KeptSpelling, IsRespelled, IsRespelledIf, IsCommented, IsContinued, KeptForm, KeptLeading, KeptPlace, KeptPlaceIf, KeepsForm, IsTypedFormat, entry_type_texts, HasSpellings, HasSpellingsUnless, IsRespelledHead, AreRespelledChildren, IsRespelledDocument}
+use Rattle.kdl_layout.specs.Respelled.{IsCommented}
 use Rattle.kdl_layout.proofs.Respelling.Kept.{spaces_continue_nothing}
 use Rattle.kdl_layout.proofs.Respelling.Written.{none_typed}
 use Rattle.kdl_layout.proofs.Respelling.Spellings.{one_value, printed_name, printed_spelling}

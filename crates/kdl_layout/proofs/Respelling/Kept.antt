@@ -1,29 +1,11 @@
 -- What is kept inside an entry or a type, and before an entry that continues the line: it reads back, and is kept again.
-use Rattle.std.proofs.Common.{◌≡◌, Bool, true, false, List, [], ◌∷◌, ◌++◌, refl, sym, ap, subst, ◌∙◌, Option, Some, None, option_map, append-nil, ℕ, Result, Ok, Err, String, string_bytes, Global, IfOk}
-use Rattle.std.proofs.lemmas.Bool.{and_parts}
-use Rattle.std.specs.Cmp.Derive.{both_true}
-use Rattle.std.specs.Prelude.{not, is_some, ◌&&◌, ◌==◌, IsTrue, length}
-use Rattle.std.specs.Str.{chars}
-use Rattle.kdl_entry.specs.Tree.{identifier_tree}
-use Rattle.kdl_entry.specs.declared.identifier.KdlIdentifier.{KdlIdentifier}
-use Rattle.kdl_text.specs.Chars.{Text, Star, Plus, plus, is_space}
-use Rattle.kdl_text.specs.Trivia.{NodeSpace, ValueEnd}
-use Rattle.kdl_entry.specs.Places.{EntryLeading, leading}
-use Rattle.kdl_grammar.specs.Tree.{NodeFormat}
-use Rattle.kdl_layout.specs.Items.{Item, before_entry, PlaceItems}
-use Rattle.kdl_layout.specs.Lacks.{AreNodeSpaces}
+use Rattle.kdl_layout.proofs.Common.{◌≡◌, Bool, true, false, List, [], ◌∷◌, ◌++◌, refl, sym, ap, subst, ◌∙◌, Option, Some, None, option_map, append-nil, ℕ, Result, Ok, Err, String, string_bytes, Global, IfOk, and_parts, both_true, not, is_some, ◌&&◌, ◌==◌, IsTrue, length, chars, identifier_tree, KdlIdentifier, Text, Star, Plus, plus, is_space, NodeSpace, ValueEnd, EntryLeading, leading, NodeFormat, Item, before_entry, PlaceItems, AreNodeSpaces, Settings, no_newline, only_spaces, or_empty, IsTypedFormat, IsContinued, KeptPlace, KeptPlaceIf, KeptLeading, TypeTexts, KeptTypeTexts, KeptTypeTextsIf, node_type_texts, text_of, items_view}
 use Rattle.kdl_layout.proofs.Listing.SpaceItems.{space_items}
 use Rattle.kdl_layout.proofs.NodeSpaces.{empty_spaces, spaces_then}
 use Rattle.kdl_layout.proofs.Rewriting.BeforeNewlines.{some_end}
 use Rattle.kdl_layout.proofs.Listing.ItemsUnique.{place_items_det}
-use Rattle.kdl_layout.specs.Config.{Settings}
-use Rattle.kdl_layout.specs.Plain.{no_newline, only_spaces}
-use Rattle.kdl_layout.specs.Formatted.{or_empty}
 use Rattle.kdl_layout.specs.Internal.KeptTexts.{KeptTypeTextsIn, put_type_texts}
-use Rattle.kdl_layout.specs.Respelled.{IsTypedFormat, IsContinued, KeptPlace, KeptPlaceIf, KeptLeading, TypeTexts, KeptTypeTexts, KeptTypeTextsIf, node_type_texts}
-use Rattle.kdl_layout.specs.declared.item.Item as held
-use Rattle.kdl_layout.specs.Internal.Reading.{items_view}
-use Rattle.kdl_value.specs.Tree.{text_of}
+use Rattle.kdl_layout.specs.declared.spaces.Item as held
 use Rattle.kdl_layout.proofs.Spacing.Lines.{space_no_newline}
 
 -- what is kept of a text is node-spaces

@@ -1,11 +1,5 @@
 -- What a layout that keeps spellings leaves as it was, and what it leaves of flags.
-use Rattle.std.proofs.Common.{◌≡◌, Bool, true, false, List, [], ◌∷◌, refl, ap, ◌∙◌, Option, Some, None, option_map}
-use Rattle.kdl_entry.specs.Tree.{Identifier, EntryFormat, Entry, unspelled, cleared}
-use Rattle.kdl_grammar.specs.Tree.{Node, node, Children, no_children, children, Document, document, Nodes, none, first}
-use Rattle.kdl_layout.specs.Config.{Settings}
-use Rattle.kdl_layout.specs.Formatted.{with_keep_if, EntriesKeepNone, NodeKeepsNone, ChildrenKeepNone, DocumentKeepsNone, NodesKeepNone}
-use Rattle.kdl_layout.specs.Kept.{is_kept_format}
-use Rattle.kdl_layout.specs.Respelled.{IsRespelled, IsRespelledIf, KeptForm, HasSpellings, HasSpellingsUnless, IsRespelledEntry, AreRespelledEntries, IsRespelledNode, AreRespelledChildren, IsRespelledDocument, AreRespelledNodes, IsSpelledEntry}
+use Rattle.kdl_layout.proofs.Common.{◌≡◌, Bool, true, false, List, [], ◌∷◌, refl, ap, ◌∙◌, Option, Some, None, option_map, Identifier, EntryFormat, Entry, unspelled, cleared, Node, node, Children, no_children, children, Document, document, Nodes, none, first, Settings, with_keep_if, EntriesKeepNone, NodeKeepsNone, ChildrenKeepNone, DocumentKeepsNone, NodesKeepNone, is_kept_format, IsRespelled, IsRespelledIf, KeptForm, HasSpellings, HasSpellingsUnless, IsRespelledEntry, AreRespelledEntries, IsRespelledNode, AreRespelledChildren, IsRespelledDocument, AreRespelledNodes, IsSpelledEntry}
 use Rattle.kdl_layout.proofs.Formatting.FormattedUnique as plain
 
 -- without its spelling an identifier is what it was

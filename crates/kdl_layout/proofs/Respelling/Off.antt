@@ -1,13 +1,6 @@
 -- If no spellings are kept, nothing is put back.
-use Rattle.std.proofs.Common.{◌≡◌, ℕ, ◌+◌, false, List, [], ◌∷◌, refl, sym, ap, Option, Some, None, option_map}
+use Rattle.kdl_layout.proofs.Common.{◌≡◌, ℕ, ◌+◌, false, List, [], ◌∷◌, refl, sym, ap, Option, Some, None, option_map, Identifier, Entry, unspelled, Head, Node, node, Children, no_children, children, Document, document, Nodes, none, first, Settings, IsRespelledIf, AreRespelledEntries, IsRespelledHead, IsRespelledNode, AreRespelledChildren, IsRespelledDocument, AreRespelledNodes, IsSpacedNode, IsSpacedChildren, AreSpacedNodes, IsSpacedDocument, AreFormattedEntries, Before}
 use Rattle.std.proofs.lemmas.Option.{none-some}
-use Rattle.kdl_entry.specs.Tree.{Identifier, Entry, unspelled}
-use Rattle.kdl_grammar.specs.Tree.{Head, Node, node, Children, no_children, children, Document, document, Nodes, none, first}
-use Rattle.kdl_layout.specs.Config.{Settings}
-use Rattle.kdl_layout.specs.Respelled.{IsRespelledIf, AreRespelledEntries, IsRespelledHead, IsRespelledNode, AreRespelledChildren, IsRespelledDocument, AreRespelledNodes}
-use Rattle.kdl_layout.specs.Spaced.{IsSpacedNode, IsSpacedChildren, AreSpacedNodes, IsSpacedDocument}
-use Rattle.kdl_layout.specs.Parts.{AreFormattedEntries}
-use Rattle.kdl_layout.specs.declared.blank.Before.{Before}
 
 pub same_if : (o m o' : Option Identifier) → IsRespelledIf false o m o' → o' ≡ m
 same_if None None None h = refl

@@ -1,13 +1,5 @@
 -- A tree that is laid out with its spellings, as one tree of steps: how each node is laid out and spelled.
-use Rattle.std.proofs.Common.{◌≡◌, ℕ, ◌+◌, Bool, refl, sym, subst, ◌∙◌, Option}
-use Rattle.kdl_text.specs.declared.span.SourceSpan.{SourceSpan}
-use Rattle.kdl_grammar.specs.Tree.{DocumentFormat, Head, Node, node, Children, no_children, children, Document, document, Nodes, none, first}
-use Rattle.kdl_layout.specs.Config.{Settings}
-use Rattle.kdl_layout.specs.Formatted.{or_empty_document, newline_if_none}
-use Rattle.kdl_layout.specs.Parts.{has_block}
-use Rattle.kdl_layout.specs.Respelled.{IsRespelledHead, IsRespelledNode, AreRespelledChildren, IsRespelledDocument, AreRespelledNodes}
-use Rattle.kdl_layout.specs.Spaced.{IsSpacedHead, PassesNode, IsSpacedContent, IsSpacedBraced, IsSpacedNode, IsSpacedChildren, AreSpacedNodes, IsSpacedDocument}
-use Rattle.kdl_layout.specs.declared.blank.Before.{Before}
+use Rattle.kdl_layout.proofs.Common.{◌≡◌, ℕ, ◌+◌, Bool, refl, sym, subst, ◌∙◌, Option, SourceSpan, DocumentFormat, Head, Node, node, Children, no_children, children, Document, document, Nodes, none, first, Settings, or_empty_document, newline_if_none, has_block, IsRespelledHead, IsRespelledNode, AreRespelledChildren, IsRespelledDocument, AreRespelledNodes, IsSpacedHead, PassesNode, IsSpacedContent, IsSpacedBraced, IsSpacedNode, IsSpacedChildren, AreSpacedNodes, IsSpacedDocument, Before}
 
 -- a node without its children: as it is laid out, and with its spellings
 pub record SpelledHead (number : ℕ) (s : Settings) (keep : Bool) (level : ℕ) (has : Bool) (b : Before) (h x : Head) : Type 0 where

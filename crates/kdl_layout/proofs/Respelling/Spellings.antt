@@ -1,38 +1,19 @@
 -- Texts that are a whole string, number or keyword, and what they are before other text.
-use Rattle.std.proofs.Common.{◌≡◌, Bool, true, false, [], ◌++◌, Some, Ok, refl, sym, ap, subst, ◌∙◌, append-nil}
-use Rattle.std.specs.Prelude.{IsTrue, String}
-use Rattle.std.specs.declared.alloc.Global.{Global}
-use Rattle.std.specs.List.{list_all}
-use Rattle.kdl_text.specs.Chars.{Text, is_scalar, plus}
-use Rattle.kdl_text.specs.Internal.Here.{Here}
+use Rattle.kdl_layout.proofs.Common.{◌≡◌, Bool, true, false, [], ◌++◌, Some, Ok, refl, sym, ap, subst, ◌∙◌, append-nil, IsTrue, String, Global, list_all, Text, is_scalar, plus, Here, Keyword, True, NodeSpace, ValueEnd, Value, text, print_value, spelled, KdlValue, IsWellFormed, Cuts, one, spaces, kind_view, TokenKind, BeginsToken, NoToken, t_space, t_string, t_value, no_token, token_det, same_piece, IsString, IsPlainValue, a_string, a_plain, IsIdentifierText, printed_string, printed_value, move_string, IsSpelling}
 use Rattle.kdl_text.specs.Numbers.{whole_value, decimal_text}
-use Rattle.kdl_text.specs.declared.numbers.Keyword.{Keyword}
-use Rattle.kdl_text.specs.declared.numbers.Keyword.TheVariants.{True}
-use Rattle.kdl_text.specs.Trivia.{NodeSpace, ValueEnd}
 use Rattle.kdl_text.specs.Trivia.ValueEnd.{nothing}
-use Rattle.kdl_value.specs.Data.{Value, text}
 use Rattle.kdl_value.specs.Tree.{text_value}
-use Rattle.kdl_value.specs.Print.{print_value}
-use Rattle.kdl_value.specs.Spelled.{spelled}
-use Rattle.kdl_value.specs.declared.value.KdlValue.{KdlValue}
-use Rattle.kdl_value.specs.WellFormed.{IsWellFormed}
-use Rattle.kdl_syntax.specs.Internal.Handed.{Cuts, one, spaces, kind_view, HandsOver, LexedNext}
+use Rattle.kdl_syntax.specs.Internal.Handed.{HandsOver, LexedNext}
 use Rattle.kdl_syntax.specs.Pieces.{PlainPiece, keyword_value}
-use Rattle.kdl_syntax.specs.declared.lexer.TokenKind.{TokenKind}
 use Rattle.kdl_syntax.specs.declared.lexer.TokenKind.TheVariants.{String as StringKind, Value as ValueKind}
 use Rattle.kdl_syntax.specs.Tokens as tokens
-use Rattle.kdl_syntax.specs.Tokens.{BeginsToken, NoToken, t_space, t_string, t_value}
 use Rattle.kdl_syntax.specs.declared.lexer.NextToken.{NextToken}
 use Rattle.kdl_syntax.specs.declared.lexer.NextToken.TheVariants.{Space as Spaces, Newline as Lines, Word, Other, End}
 use Rattle.kdl_syntax.specs.declared.lexer.Token.{Token}
 use Rattle.kdl_syntax.specs.declared.token_span.TokenSpan.{TokenSpan}
 use Rattle.kdl_syntax.proofs.Lexing.StringUnique.{string_det, string_or_plain, plain_det}
-use Rattle.kdl_syntax.proofs.Lexing.TokenUnique.{no_token, token_det}
-use Rattle.kdl_syntax.proofs.Moving.Puts.{same_piece}
-use Rattle.kdl_entry.specs.Entries.{IsString, string, IsPlainValue, a_string, a_plain, IsIdentifierText}
-use Rattle.kdl_entry.proofs.Laying.ValueReadsBack.{printed_string, printed_value}
-use Rattle.kdl_entry.proofs.Moving.EntryMoves.{move_string, move_plain}
-use Rattle.kdl_layout.specs.Respelled.{IsSpelling}
+use Rattle.kdl_entry.specs.Entries.{string}
+use Rattle.kdl_entry.proofs.Moving.EntryMoves.{move_plain}
 
 -- before each text with a value end
 pub string_before : (t s r : Text) → IsIdentifierText t s → ValueEnd true r → IsString true (t ++ r) r s

@@ -1,29 +1,8 @@
 -- What is laid out, with or without spellings: what each part prints, and around it the texts that are kept.
-use Rattle.std.proofs.Common.{◌≡◌, ℕ, Bool, true, false, List, [], ◌∷◌, ◌++◌, map, refl, sym, ap, subst, ◌∙◌, Option, Some, None, option_map, append_assoc, append-nil}
-use Rattle.std.proofs.lemmas.Bool.{and_parts}
-use Rattle.std.specs.List.{list_all}
-use Rattle.std.specs.Prelude.{◌&&◌, not, is_some}
-use Rattle.kdl_text.specs.Chars.{Text, is_scalar}
-use Rattle.kdl_value.specs.Data.{Value}
-use Rattle.kdl_value.specs.Print.{print_value}
-use Rattle.kdl_value.specs.WellFormed.{IsWellFormed}
-use Rattle.kdl_entry.specs.Entries.{IsIdentifierText}
-use Rattle.kdl_entry.specs.Print.{print_identifier, print_type, print_key}
-use Rattle.kdl_entry.specs.Tree.{Identifier, EntryFormat, empty_format, Entry, unspelled, with_keep, autoformatted, entry_data}
-use Rattle.kdl_grammar.specs.Print.{print_piece}
+use Rattle.kdl_layout.proofs.Common.{◌≡◌, ℕ, Bool, true, false, List, [], ◌∷◌, ◌++◌, map, refl, sym, ap, subst, ◌∙◌, Option, Some, None, option_map, append_assoc, append-nil, and_parts, list_all, ◌&&◌, not, is_some, Text, is_scalar, Value, print_value, IsWellFormed, IsIdentifierText, print_identifier, print_type, print_key, Identifier, EntryFormat, empty_format, Entry, unspelled, with_keep, autoformatted, entry_data, print_piece, NodeFormat, Head, Node, node, Children, Document, node_data, document_data, Settings, indentation, with_keep_if, or_empty, EntriesKeepNone, NodeKeepsNone, DocumentKeepsNone, AreNodeSpaces, KeptBefore, entry_leading, is_kept_format, IsSpelling, KeptSpelling, IsRespelled, IsRespelledIf, text_before, IsContinued, KeptLeading, TypeTexts, KeptTypeTextsIf, KeepsForm, KeptForm, entry_type_texts, node_type_texts, with_type_texts, IsTypedFormat, HasSpellings, HasSpellingsUnless, IsRespelledEntry, AreRespelledEntries, IsRespelledNode, IsRespelledDocument, SpacesTexts, IsSpacedLine, IsSpacedNode, IsSpacedDocument, AreScalars, IsWellFormedEntry, AreWellFormedEntries, IsWellFormedNode, AreWellFormed, NodeTexts, following, IsFormattedEntry, AreFormattedEntries, line_of, Before}
 use Rattle.kdl_grammar.specs.ReadsBack.{front_text, value_text, entry_trailing}
-use Rattle.kdl_grammar.specs.Tree.{NodeFormat, Head, Node, node, Children, Document, node_data, document_data}
-use Rattle.kdl_layout.specs.Config.{Settings, indentation}
-use Rattle.kdl_layout.specs.Formatted.{with_keep_if, or_empty, EntriesKeepNone, NodeKeepsNone, DocumentKeepsNone}
-use Rattle.kdl_layout.specs.Lacks.{AreNodeSpaces}
 use Rattle.kdl_layout.proofs.NodeSpaces.{empty_spaces}
-use Rattle.kdl_layout.specs.Kept.{KeptBefore, entry_leading, is_kept_format}
-use Rattle.kdl_layout.specs.Respelled.{IsSpelling, KeptSpelling, IsRespelled, IsRespelledIf, text_before, IsContinued, KeptLeading, TypeTexts, KeptTypeTextsIf, KeepsForm, KeptForm, entry_type_texts, node_type_texts, with_type_texts, IsTypedFormat, HasSpellings, HasSpellingsUnless, IsRespelledEntry, AreRespelledEntries, IsRespelledNode, IsRespelledDocument}
-use Rattle.kdl_layout.specs.Spaced.{SpacesTexts, IsSpacedLine, IsSpacedNode, IsSpacedDocument}
-use Rattle.kdl_layout.specs.WellFormed.{AreScalars, IsWellFormedEntry, AreWellFormedEntries, IsWellFormedNode, AreWellFormed}
-use Rattle.kdl_layout.specs.Parts.{NodeTexts, following, IsFormattedEntry, AreFormattedEntries, line_of}
-use Rattle.kdl_layout.specs.declared.blank.Before.{Before}
-use Rattle.kdl_layout.proofs.EntryTexts.{name_of, no_format}
+use Rattle.kdl_layout.proofs.Texts.{name_of, no_format}
 use Rattle.kdl_layout.proofs.Respelling.Kept.{OnlySpaces, TypeSpaces, no_texts, no_type_spaces, place_if_spaces, type_spaces_if, types_bare_if}
 use Rattle.kdl_layout.proofs.Respelling.Spellings.{printed_name, printed_spelling}
 use Rattle.kdl_layout.proofs.Respelling.Spelled.{SpelledHead, SpelledNode, SpelledDocument, spelled_node, spelled_document}

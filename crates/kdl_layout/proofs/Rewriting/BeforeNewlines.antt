@@ -1,22 +1,17 @@
 -- Node-spaces and nodes that come before a newline come before LF too, where CR at their end is LF.
-use Rattle.std.proofs.Common.{◌≡◌, ℕ, Bool, true, false, ◌&&◌, ◌==◌, List, [], ◌∷◌, ◌++◌, refl, sym, ap, subst, ◌∙◌, append_assoc}
+use Rattle.kdl_layout.proofs.Common.{◌≡◌, ℕ, Bool, true, false, ◌&&◌, ◌==◌, List, [], ◌∷◌, ◌++◌, refl, sym, ap, subst, ◌∙◌, append_assoc, if◌then◌else◌, Text, starts, Newline, crlf, Star, more, Plus, plus, BlockComment, block, Line, Ws, EscEnd, escline, NodeSpace, ValueEnd, space_ends, end_spaces, end_slashdash, end_type, move_spaces, move_slashdash, move_string, move_entry, punctuation_end, spaces_end, any_run, Put, stands, also, joined, same, IsNode, named, AfterName, kept_entry, dropped_entry, Blocks, dropped_block, no_block, AfterBlock, dropped_later, no_more, IsBlock, braces, move_nodes, line_text}
+use Rattle.kdl_text.specs.Chars.{is_newline_char}
 use Rattle.std.proofs.lemmas.List.{append_cancel_right}
-use Rattle.std.specs.Prelude.{if◌then◌else◌}
-use Rattle.kdl_text.specs.Chars.{Text, starts, is_newline_char, Newline, crlf, one, Star, none, more, Plus, plus, space as a_space}
+use Rattle.kdl_text.specs.Chars.{one, none, space as a_space}
 use Rattle.kdl_text.specs.Internal.Here.{first}
-use Rattle.kdl_text.specs.Trivia.{BlockComment, block, Line, line as a_line, Ws, EscEnd, escline, NodeSpace, ValueEnd}
+use Rattle.kdl_text.specs.Trivia.{line as a_line}
 use Rattle.kdl_text.proofs.Looking.Ends.{then as after_end}
-use Rattle.kdl_text.proofs.Spacing.ValueEnds.{space_ends}
 use Rattle.kdl_entry.specs.Data.{Entry}
-use Rattle.kdl_entry.proofs.Moving.EntryEnds.{end_spaces, end_slashdash, end_some, end_type}
-use Rattle.kdl_entry.proofs.Moving.EntryMoves.{move_space, move_spaces, move_plus, move_slashdash, move_string, move_maybe, move_entry, punctuation_end, spaces_end, spaces_dash}
-use Rattle.kdl_syntax.proofs.Moving.FarMoves.{any_run}
-use Rattle.kdl_syntax.proofs.Moving.Puts.{Put, stands, also, joined, same}
+use Rattle.kdl_entry.proofs.Moving.EntryEnds.{end_some}
+use Rattle.kdl_entry.proofs.Moving.EntryMoves.{move_space, move_plus, move_maybe, spaces_dash}
 use Rattle.kdl_grammar.specs.Data.{Node, Children, Nodes}
-use Rattle.kdl_grammar.specs.Grammar.{IsNode, named, AfterName, kept_entry, dropped_entry, Blocks, dropped_block, block as a_block, no_block, AfterBlock, dropped_later, no_more, IsBlock, braces}
-use Rattle.kdl_grammar.proofs.Moving.Moves.{move_nodes}
+use Rattle.kdl_grammar.specs.Grammar.{block as a_block}
 use Rattle.kdl_grammar.proofs.ReadingBack.Following.{Anywhere, shift_parts}
-use Rattle.kdl_layout.specs.Written.{line_text}
 use Rattle.kdl_layout.proofs.Rewriting.LastCharacters.{Last, last_after, last_end, is_string_last, entry_last, block_last, ws_last}
 
 -- the text of a line is that of its end

@@ -1,32 +1,25 @@
 -- No string, number, keyword, entry, block or block comment ends with CR.
-use Rattle.std.proofs.Common.{◌≡◌, ℕ, zero, suc, ◌≤◌, ◌<◌, Bool, true, false, ◌||◌, ◌==◌, List, [], ◌∷◌, ◌++◌, Option, Some, None, refl, sym, ap, ◌∙◌, append_assoc, arith}
-use Rattle.std.proofs.lemmas.Bool.{and_parts}
-use Rattle.std.proofs.lemmas.Bool.Decides.{nat_tests}
-use Rattle.std.specs.List.{list_all}
-use Rattle.std.specs.Prelude.{if◌then◌else◌}
+use Rattle.kdl_layout.proofs.Common.{◌≡◌, ℕ, zero, suc, ◌≤◌, ◌<◌, Bool, true, false, ◌||◌, ◌==◌, List, [], ◌∷◌, ◌++◌, Option, Some, None, refl, sym, ap, ◌∙◌, append_assoc, arith, and_parts, nat_tests, list_all, if◌then◌else◌, Text, times, Parts, block, Ws, Keyword, True, Value, StringPiece, IsString, IsPlainValue, a_string, a_plain, IsValue, value, IsEntry, property, argument, end_spaces, end_type, Put, IsBlock, braces, move_nodes}
+use Rattle.kdl_text.specs.Chars.{is_identifier_char, is_space, is_newline_char, is_banned, is_punctuation}
+use Rattle.kdl_text.specs.Bare.{is_bare}
 use Rattle.kdl_text.specs.Dedent.{LineUnit}
-use Rattle.kdl_text.specs.Chars.{Text, is_identifier_char, is_space, is_newline_char, is_banned, is_punctuation, times, space as a_space}
-use Rattle.kdl_text.specs.Bare.{BareString, bare as bare_text, is_bare}
+use Rattle.kdl_text.specs.Chars.{space as a_space}
+use Rattle.kdl_text.specs.Bare.{BareString, bare as bare_text}
 use Rattle.kdl_text.specs.MultiLine.{ContentUnit, Content, MultiLineBody, multi_line, IsQuoted}
 use Rattle.kdl_text.specs.Numbers.{is_digit_of, base_of, base_prefix, BasePrefix, Digits, Integer, integer, whole, Fraction, Exponent, DecimalPart, part, decimal, IsNumber, is_whole, is_decimal, NumberValue, IsKeyword, keyword as a_keyword, keyword_text}
 use Rattle.kdl_text.specs.Raw.{RawUnit, RawUnits, RawContent, content, MultiLineRawBody, IsRaw}
 use Rattle.kdl_text.specs.Strings.{StringUnit, IsUnit, one_literal, one_letter, one_number, one_gap, AreUnits, body, quoted as quoted_text}
-use Rattle.kdl_text.specs.Trivia.{Parts, close, nested, block, Ws}
-use Rattle.kdl_text.specs.declared.numbers.Keyword.{Keyword}
-use Rattle.kdl_text.specs.declared.numbers.Keyword.TheVariants.{True, False, Null, Infinity, NegativeInfinity, NotANumber}
+use Rattle.kdl_text.specs.Trivia.{close, nested}
+use Rattle.kdl_text.specs.declared.numbers.Keyword.TheVariants.{False, Null, Infinity, NegativeInfinity, NotANumber}
 use Rattle.kdl_text.proofs.Looking.Ends.{End, here, also, then as following, past, end_newline}
 use Rattle.kdl_text.proofs.Spacing.SpacePieces.{parts_end}
-use Rattle.kdl_value.specs.Data.{Value}
 use Rattle.kdl_entry.specs.Data.{Entry}
-use Rattle.kdl_syntax.specs.Pieces.{StringPiece, bare, quoted, raw, number, keyword}
-use Rattle.kdl_entry.specs.Entries.{IsString, string, IsPlainValue, a_string, a_plain, IsValue, value, IsEntry, property, argument}
+use Rattle.kdl_syntax.specs.Pieces.{bare, quoted, raw, number, keyword}
+use Rattle.kdl_entry.specs.Entries.{string}
 use Rattle.kdl_syntax.proofs.Lexing.TokenUnique.{end_of}
-use Rattle.kdl_entry.proofs.Moving.EntryEnds.{end_spaces, end_string, end_type}
+use Rattle.kdl_entry.proofs.Moving.EntryEnds.{end_string}
 use Rattle.kdl_syntax.proofs.Moving.LeafEnds.{integer_end, base_end, sign_end}
-use Rattle.kdl_syntax.proofs.Moving.Puts.{Put}
 use Rattle.kdl_grammar.specs.Data.{Nodes}
-use Rattle.kdl_grammar.specs.Grammar.{IsBlock, braces}
-use Rattle.kdl_grammar.proofs.Moving.Moves.{move_nodes}
 
 -- the character that is in s directly before r is not CR
 pub record Last (s r : Text) : Type 0 where

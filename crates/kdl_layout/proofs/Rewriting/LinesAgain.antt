@@ -1,21 +1,12 @@
 -- Items that are written on lines of their own are items of a gap again, and the lines are a gap.
-use Rattle.std.proofs.Common.{◌≡◌, ℕ, Bool, true, false, ◌==◌, List, [], ◌∷◌, ◌++◌, refl, sym, ap, subst, ◌∙◌, append_assoc, append-nil, arith}
-use Rattle.std.proofs.lemmas.Bool.{and_parts}
-use Rattle.std.proofs.lemmas.Bool.Decides.{nat_tests}
-use Rattle.std.specs.List.{list_all}
-use Rattle.std.specs.Prelude.{if◌then◌else◌, map}
-use Rattle.kdl_text.specs.Chars.{Text, starts, is_space, is_newline_char, Star, none, more, plus, space as a_space}
+use Rattle.kdl_layout.proofs.Common.{◌≡◌, ℕ, Bool, true, false, ◌==◌, List, [], ◌∷◌, ◌++◌, refl, sym, ap, subst, ◌∙◌, append_assoc, append-nil, arith, and_parts, nat_tests, list_all, if◌then◌else◌, map, Text, starts, is_space, Star, more, plus, BlockComment, Line, LineComment, Ws, NodeSpace, Break, Slashdash, ValueEnd, newline_begins, between, between_is, is_between, move_spaces, move_slashdash, punctuation_end, spaces_end, Put, stands, also, joined, IsNode, Gap, line_space, Item, comment, piece, line_end, EsclineItems, SpaceItems, LineSpaceItems, ItemEnd, EndsTight, GapItems, item_text, line_text, lines, on_line}
+use Rattle.kdl_text.specs.Chars.{is_newline_char}
+use Rattle.kdl_text.specs.Chars.{none, space as a_space}
 use Rattle.kdl_text.specs.Internal.Here.{first}
-use Rattle.kdl_text.specs.Trivia.{BlockComment, Line, LineComment, line as a_line, Ws, NodeSpace, Break, Slashdash, ValueEnd}
-use Rattle.kdl_text.proofs.Spacing.SpaceUnique.{newline_begins}
-use Rattle.kdl_entry.specs.Places.{between}
-use Rattle.kdl_entry.proofs.Slicing.Between.{between_is, is_between}
-use Rattle.kdl_entry.proofs.Moving.EntryMoves.{move_spaces, move_slashdash, punctuation_end, spaces_end}
-use Rattle.kdl_syntax.proofs.Moving.Puts.{Put, stands, also, joined, before}
+use Rattle.kdl_text.specs.Trivia.{line as a_line}
+use Rattle.kdl_syntax.proofs.Moving.Puts.{before}
 use Rattle.kdl_grammar.specs.Data.{Node}
-use Rattle.kdl_grammar.specs.Grammar.{IsNode, Gap, line_space}
-use Rattle.kdl_layout.specs.Items.{Item, comment, piece, line_end, EsclineItems, SpaceItems, LineSpaceItems, ItemEnd, EndsTight, GapItems, last_node}
-use Rattle.kdl_layout.specs.Written.{item_text, line_text, lines, on_line}
+use Rattle.kdl_layout.specs.Items.{last_node}
 use Rattle.kdl_layout.proofs.Listing.PlaceTexts.{terminator_of}
 use Rattle.kdl_layout.proofs.Listing.SpaceItems.{line_space_of}
 use Rattle.kdl_layout.proofs.Listing.Starts.{slashes_end}

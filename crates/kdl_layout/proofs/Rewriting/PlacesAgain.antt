@@ -1,18 +1,10 @@
 -- Items that are written in a place of a node are items of such a place again, and what is written may be there.
-use Rattle.std.proofs.Common.{◌≡◌, Bool, true, false, List, [], ◌∷◌, ◌++◌, refl, sym, subst, ◌∙◌, append_assoc, append-nil}
-use Rattle.kdl_text.specs.Chars.{Text, is_space, Space, none, more, plus, space as a_space}
-use Rattle.kdl_text.specs.Trivia.{BlockComment, LineComment, Ws, EscEnd, escline, NodeSpace, Slashdash, ValueEnd}
+use Rattle.kdl_layout.proofs.Common.{◌≡◌, Bool, true, false, List, [], ◌∷◌, ◌++◌, refl, sym, subst, ◌∙◌, append_assoc, append-nil, Text, Space, more, plus, BlockComment, LineComment, Ws, EscEnd, escline, NodeSpace, Slashdash, ValueEnd, IsEntry, between, between_is, is_between, move_slashdash, move_entry, Put, joined, IsBlock, Item, comment, piece, line_end, EsclineItems, SpaceItems, Place, before_entry, before_block, after_block, takes_entries, takes_blocks, spaced, PlaceItems, ends, InPlace, tail}
+use Rattle.kdl_text.specs.Chars.{is_space}
+use Rattle.kdl_text.specs.Chars.{none, space as a_space}
 use Rattle.kdl_entry.specs.Data.{Entry}
-use Rattle.kdl_entry.specs.Entries.{IsEntry}
-use Rattle.kdl_entry.specs.Places.{between}
-use Rattle.kdl_entry.proofs.Slicing.Between.{between_is, is_between}
-use Rattle.kdl_entry.proofs.Moving.EntryMoves.{move_slashdash, move_entry}
-use Rattle.kdl_syntax.proofs.Moving.Puts.{Put, joined}
 use Rattle.kdl_grammar.specs.Data.{Nodes}
-use Rattle.kdl_grammar.specs.Grammar.{IsBlock}
-use Rattle.kdl_layout.specs.Items.{Item, comment, piece, line_end, EsclineItems, SpaceItems, Place, before_entry, before_block, after_block, takes_entries, takes_blocks, spaced, PlaceItems, ends, dropped_entry, dropped_block}
-use Rattle.kdl_layout.specs.Lacks.{InPlace}
-use Rattle.kdl_layout.specs.Written.{tail}
+use Rattle.kdl_layout.specs.Items.{dropped_entry, dropped_block}
 use Rattle.kdl_layout.proofs.Listing.SpaceItems.{ends_here, ends_spaced, spaced_again, entries_spaced, blocks_spaced}
 use Rattle.kdl_layout.proofs.Listing.PlaceTexts.{DashedEntry, DashedBlock, no_text, place_spaced, spaces_text, text_block, text_entry, text_space}
 use Rattle.kdl_layout.proofs.Rewriting.BeforeNewlines.{closed_block, closed_braces}

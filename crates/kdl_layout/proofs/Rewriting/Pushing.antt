@@ -1,17 +1,10 @@
 -- Texts that are written one after another.
-use Rattle.std.proofs.Common.{◌≡◌, ◌≢◌, ℕ, ◌+◌, ◌-◌, ◌<◌, ◌≤◌, ◌==◌, Bool, true, false, List, [], ◌∷◌, ◌++◌, length, take, get_or, refl, sym, ap, ◌∙◌, arith, lit<, zero, suc, append_assoc, append-nil, Some, Result, Ok, Err, IfOk, MatchBool}
-use Rattle.std.proofs.lemmas.Bool.{eqb-true, eq-eqb}
-use Rattle.std.proofs.lemmas.List.{take_all, take_more, map-append}
-use Rattle.std.proofs.lemmas.Str.{chars-IsAscii, chars-append, chars-nil, encodes-append, encodes-chars, IsUtf8-take}
-use Rattle.std.specs.Char.{encode_utf8}
-use Rattle.std.specs.Str.{chars, encode_utf8_all, IsUtf8, IsAscii}
+use Rattle.kdl_layout.proofs.Common.{◌≡◌, ◌≢◌, ℕ, ◌+◌, ◌-◌, ◌<◌, ◌≤◌, ◌==◌, Bool, true, false, List, [], ◌∷◌, ◌++◌, length, take, get_or, refl, sym, ap, ◌∙◌, arith, lit<, zero, suc, append_assoc, append-nil, Some, Result, Ok, Err, IfOk, MatchBool, eqb-true, map-append, chars-IsAscii, chars-append, chars-nil, encodes-append, encodes-chars, IsUtf8-take, encode_utf8, chars, encode_utf8_all, IsUtf8, IsAscii, Text, comment, piece, item_text, line_text, lines, tail, item_view, items_view}
+use Rattle.std.proofs.lemmas.Bool.{eq-eqb}
+use Rattle.std.proofs.lemmas.List.{take_all, take_more}
 use Rattle.std.specs.Str.Pattern.{FindsCharSuffix}
-use Rattle.kdl_text.specs.Chars.{Text}
 use Rattle.kdl_layout.specs.Items as items
-use Rattle.kdl_layout.specs.Items.{comment, piece}
-use Rattle.kdl_layout.specs.Internal.Reading.{item_view, items_view}
-use Rattle.kdl_layout.specs.Written.{item_text, line_text, lines, tail}
-use Rattle.kdl_layout.specs.declared.item.Item.{Item}
+use Rattle.kdl_layout.specs.declared.spaces.Item.{Item}
 use Rattle.kdl_layout.proofs.Rewriting.BeforeNewlines.{line_after}
 
 pub if_ok : {A E P Q : Type 0} (r : Result A E) → (P → Q) → IfOk r (λ (a : A). P) → IfOk r (λ (a : A). Q)

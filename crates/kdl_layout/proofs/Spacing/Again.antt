@@ -1,12 +1,5 @@
 -- What is laid out without spellings is the same once it is laid out again, however many blank lines are kept.
-use Rattle.std.proofs.Common.{◌≡◌, ℕ, true, false}
-use Rattle.std.specs.List.{list_all}
-use Rattle.kdl_text.specs.Chars.{is_space}
-use Rattle.kdl_grammar.specs.Tree.{Node, Document}
-use Rattle.kdl_layout.specs.Blank.{at_start}
-use Rattle.kdl_layout.specs.Config.{Settings}
-use Rattle.kdl_layout.specs.Formatted.{NodeKeepsNone, DocumentKeepsNone}
-use Rattle.kdl_layout.specs.Spaced.{IsSpacedNode, IsSpacedDocument}
+use Rattle.kdl_layout.proofs.Common.{◌≡◌, ℕ, true, false, list_all, is_space, Node, Document, at_start, Settings, NodeKeepsNone, DocumentKeepsNone, IsSpacedNode, IsSpacedDocument}
 use Rattle.kdl_layout.proofs.Respelling.Again.{document_again, node_again}
 use Rattle.kdl_layout.proofs.Respelling.Off.{document_itself, node_itself}
 use Rattle.kdl_layout.proofs.Respelling.Spelled.{spelled_document, spelled_node}

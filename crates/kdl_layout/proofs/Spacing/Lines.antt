@@ -1,32 +1,15 @@
 -- What is counted in the lines that are written; what is kept with blank lines is a gap, and holds the items of its text.
-use Rattle.std.proofs.Common.{◌≡◌, ℕ, zero, suc, Bool, true, false, List, [], ◌∷◌, ◌++◌, map, sym, ap, subst, ◌∙◌, append_assoc, append-nil, refl, ◌+◌, ◌-◌, ◌==◌, length, drop, arith}
-use Rattle.std.proofs.Math.Seq.{drop-append_seam}
-use Rattle.std.proofs.lemmas.Bool.Decides.{nat_tests}
-use Rattle.std.proofs.lemmas.Bool.{and_parts}
+use Rattle.kdl_layout.proofs.Common.{◌≡◌, ℕ, zero, suc, Bool, true, false, List, [], ◌∷◌, ◌++◌, map, sym, ap, subst, ◌∙◌, append_assoc, append-nil, refl, ◌+◌, ◌-◌, ◌==◌, length, drop, arith, drop-append_seam, nat_tests, and_parts, list_all, if◌then◌else◌, min, ◌&&◌, max, Text, times, BlockComment, slashdash, Gap, NodeFormat, Item, GapItems, comment, piece, item_text, line_text, on_line, lines, blank_lines, empty_lines, read, spaced_lines, past_items, at_start, from_item, last_of, newlines, one_if, ItemsIn, WrittenUnless, Settings, indentation, SpacedLines, SpacesTexts, NodeTexts, newline_gap, Before, Nothing, Thing, Last, Cr, Other}
+use Rattle.kdl_text.specs.Chars.{is_space, is_newline_char}
 use Rattle.std.proofs.Math.Nat.{zero-min}
-use Rattle.std.specs.List.{list_all}
-use Rattle.std.specs.Prelude.{if◌then◌else◌, min, ◌&&◌, max}
-use Rattle.kdl_text.specs.Chars.{Text, is_space, times, is_newline_char}
-use Rattle.kdl_text.specs.Trivia.{BlockComment, block as a_block, slashdash}
-use Rattle.kdl_grammar.specs.Grammar.{Gap}
-use Rattle.kdl_grammar.specs.Tree.{NodeFormat}
-use Rattle.kdl_layout.specs.Items.{Item, GapItems, comment, piece}
-use Rattle.kdl_layout.specs.Written.{item_text, line_text, on_line, lines}
+use Rattle.kdl_text.specs.Trivia.{block as a_block}
 use Rattle.kdl_layout.proofs.Listing.ItemsUnique.{gap_in_det}
 use Rattle.kdl_layout.proofs.Rewriting.LinesAgain.{AreStanding, gap_items, one_line, one_gap, spaces_before, spaces_gap, Standing, DroppedLine, line_text_again, text_on_line}
-use Rattle.kdl_layout.specs.Blank.{after_item, blank_lines, empty_lines, past_item, read, spaced_lines, past_items, at_start, from_item, last_after_item, last_before, last_of, newlines, one_if}
-use Rattle.kdl_layout.specs.Kept.{ItemsIn, WrittenUnless}
-use Rattle.kdl_layout.specs.Config.{Settings, indentation}
-use Rattle.kdl_layout.specs.Spaced.{SpacedLines, SpacesTexts}
-use Rattle.kdl_layout.specs.Parts.{NodeTexts}
-use Rattle.kdl_layout.specs.declared.blank.Before.{Before}
-use Rattle.kdl_layout.specs.declared.blank.Before.TheVariants.{Nothing, Thing}
-use Rattle.kdl_layout.specs.declared.blank.Last.{Last}
-use Rattle.kdl_layout.specs.declared.blank.Last.TheVariants.{Cr, Escline, Other}
+use Rattle.kdl_layout.specs.Blank.{after_item, past_item, last_after_item, last_before}
+use Rattle.kdl_layout.specs.declared.blank.Last.TheVariants.{Escline}
 use Rattle.kdl_layout.proofs.Keeping.GapFronts.{Front, nothing, joined, newline}
 use Rattle.kdl_layout.proofs.Keeping.KeptPlaces.{level_spaces}
 use Rattle.kdl_layout.proofs.Rewriting.LastCharacters.{space_other}
-use Rattle.kdl_grammar.proofs.ReadingBack.Reads.{newline_gap}
 
 -- a space is no slash, no newline and no backslash
 pub space_no_slash : (c : ℕ) → is_space c ≡ true → (c == 47) ≡ false

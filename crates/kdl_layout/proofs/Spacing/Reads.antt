@@ -1,18 +1,7 @@
 -- What is read and written of a text between nodes, from the items that were read in it.
-use Rattle.std.proofs.Common.{◌≡◌, ℕ, ◌+◌, Bool, arith, List, [], refl, sym, ap, subst, ◌∙◌}
-use Rattle.kdl_text.specs.Chars.{Text}
+use Rattle.kdl_layout.proofs.Common.{◌≡◌, ℕ, ◌+◌, Bool, arith, List, [], refl, sym, ap, subst, ◌∙◌, Text, GapItems, lines, empty_node_format, past_items, past_node, read, spaced_lines, Settings, indentation, ItemsIn, WrittenUnless, Passes, PassesFormat, PassesText, SpacedLines, items_view, Before, Nothing, Thing}
 use Rattle.kdl_layout.specs.Items as items
-use Rattle.kdl_layout.specs.Items.{GapItems}
-use Rattle.kdl_layout.specs.Internal.Reading.{items_view}
-use Rattle.kdl_layout.specs.declared.item.Item.{Item}
-use Rattle.kdl_layout.specs.Written.{lines}
-use Rattle.kdl_parts.specs.Formats.{empty_node_format}
-use Rattle.kdl_layout.specs.Blank.{past_items, past_node, read, spaced_lines}
-use Rattle.kdl_layout.specs.Config.{Settings, indentation}
-use Rattle.kdl_layout.specs.Kept.{ItemsIn, WrittenUnless}
-use Rattle.kdl_layout.specs.Spaced.{Passes, PassesFormat, PassesText, SpacedLines}
-use Rattle.kdl_layout.specs.declared.blank.Before.{Before}
-use Rattle.kdl_layout.specs.declared.blank.Before.TheVariants.{Nothing, Thing}
+use Rattle.kdl_layout.specs.declared.spaces.Item.{Item}
 use Rattle.kdl_layout.proofs.Keeping.KeptReads.{kept_empty, kept_same}
 use Rattle.kdl_layout.proofs.Listing.ItemsUnique.{gap_items_det}
 use Rattle.kdl_layout.proofs.Spacing.Lines.{zero_lines}

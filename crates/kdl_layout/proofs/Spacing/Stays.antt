@@ -1,10 +1,6 @@
 -- What layout with blank lines makes flags no entry, and no level is too great.
-use Rattle.std.proofs.Common.{ℕ, ◌+◌}
-use Rattle.kdl_grammar.specs.Tree.{Node, node, Children, no_children, children, Document, document, Nodes, none, first}
-use Rattle.kdl_layout.specs.Config.{Settings}
-use Rattle.kdl_layout.specs.Formatted.{NodeLevelsFit, ChildrenLevelsFit, NodesLevelsFit, DocumentLevelsFit, NodeKeepsNone, ChildrenKeepNone, DocumentKeepsNone, NodesKeepNone}
-use Rattle.kdl_layout.specs.Spaced.{IsSpacedNode, IsSpacedChildren, AreSpacedNodes, IsSpacedDocument}
-use Rattle.kdl_layout.specs.declared.blank.Before.{Before}
+use Rattle.kdl_layout.proofs.Common.{ℕ, ◌+◌, Node, node, Children, no_children, children, Document, document, Nodes, none, first, Settings, NodeKeepsNone, ChildrenKeepNone, DocumentKeepsNone, NodesKeepNone, IsSpacedNode, IsSpacedChildren, AreSpacedNodes, IsSpacedDocument, Before}
+use Rattle.kdl_layout.specs.Formatted.{NodeLevelsFit, ChildrenLevelsFit, NodesLevelsFit, DocumentLevelsFit}
 use Rattle.kdl_layout.proofs.Formatting.FormattedUnique.{entries_keep_none}
 
 module _ (number : ℕ) (s : Settings) where

@@ -1,26 +1,11 @@
 -- What is laid out is the same once it is laid out again, however many blank lines are kept.
-use Rattle.std.proofs.Common.{◌≡◌, ℕ, zero, suc, ◌+◌, Bool, true, false, List, ◌∷◌, ◌++◌, map, refl, sym, ap, subst, ◌∙◌, append_assoc, append-nil, Option, Some, option_map, None, []}
+use Rattle.kdl_layout.proofs.Common.{◌≡◌, ℕ, zero, suc, ◌+◌, Bool, true, false, List, ◌∷◌, ◌++◌, map, refl, sym, ap, subst, ◌∙◌, append_assoc, append-nil, Option, Some, option_map, None, [], list_all, list_any, if◌then◌else◌, ◌||◌, ◌&&◌, not, is_some, Text, is_space, NodeFormat, DocumentFormat, Node, Nodes, Item, GapItems, on_line, at_start, empty_lines, last_in, one_if, past_items, past_node, read, spaced_lines, newlines, Settings, indentation, or_empty, or_empty_document, newline_if_none, in_braces, ItemsIn, without_bom, WrittenUnless, Passes, PassesText, SpacesTexts, IsSpacedLine, PassesNode, PassesNodes, IsSpacedContent, IsSpacedBraced, SpacedLines, SpacesContent, PassesFormat, NodeTexts, line_of, has_block, content_of, IsTypedFormat, with_type_texts, Before, Thing, Other}
+use Rattle.kdl_text.specs.Chars.{is_newline_char}
 use Rattle.std.proofs.lemmas.List.Folds.{list_any-append}
-use Rattle.std.specs.List.{list_all, list_any}
-use Rattle.std.specs.Prelude.{if◌then◌else◌, ◌||◌, ◌&&◌, not, is_some}
-use Rattle.kdl_text.specs.Chars.{Text, is_space, is_newline_char}
-use Rattle.kdl_grammar.specs.Tree.{NodeFormat, DocumentFormat, Node, Nodes}
-use Rattle.kdl_layout.specs.Items.{Item, GapItems}
-use Rattle.kdl_layout.specs.Written.{on_line}
 use Rattle.kdl_layout.proofs.Listing.ItemsUnique.{gap_in_det}
 use Rattle.kdl_layout.proofs.Rewriting.LinesAgain.{newline_items}
-use Rattle.kdl_layout.specs.Blank.{at_start, empty_lines, last_in, one_if, past_items, past_node, read, spaced_lines, newlines}
-use Rattle.kdl_layout.specs.Config.{Settings, indentation}
-use Rattle.kdl_layout.specs.Formatted.{or_empty, or_empty_document, newline_if_none, in_braces}
-use Rattle.kdl_layout.specs.Kept.{ItemsIn, without_bom, WrittenUnless}
-use Rattle.kdl_layout.specs.Spaced.{Passes, PassesText, SpacesTexts, IsSpacedLine, PassesNode, PassesNodes, IsSpacedContent, IsSpacedBraced, SpacedLines, SpacesContent, PassesFormat}
-use Rattle.kdl_layout.specs.Parts.{NodeTexts, line_of, has_block, content_of}
-use Rattle.kdl_layout.specs.declared.blank.Before.{Before}
-use Rattle.kdl_layout.specs.declared.blank.Before.TheVariants.{Thing}
-use Rattle.kdl_layout.specs.declared.blank.Last.TheVariants.{Other}
-use Rattle.kdl_layout.specs.Respelled.{IsTypedFormat, with_type_texts}
 use Rattle.kdl_layout.proofs.Keeping.GapFronts.{alone, joined, newline_if, indented, gap_without_bom}
-use Rattle.kdl_layout.proofs.Keeping.KeptAgain as kept
+use Rattle.kdl_layout.proofs.Keeping.KeptReads as kept
 use Rattle.kdl_layout.proofs.Keeping.KeptPlaces.{level_spaces}
 use Rattle.kdl_layout.proofs.Spacing.Lines.{spaced_items, times_front, again, again_past, lines_again, past_first, passed_again, spaced_again, spaces_count, lines_first, read_first, no_lines}
 use Rattle.kdl_layout.proofs.Spacing.Reads.{any_before, passes_as, read_nothing}

@@ -1,5 +1,5 @@
 -- The texts in memory that layout keeps with spellings.
-use Rattle.std.specs.Prelude.{◌≡◌, ◌&&◌, not, is_some, [], Bool, true, false, Option, Some, None, option_map}
+use Rattle.std.specs.Prelude.{◌≡◌, ◌&&◌, not, is_some, [], Bool, true, false, Option, Some, None, String, option_map}
 use Rattle.kdl_text.specs.Chars.{Text}
 use Rattle.kdl_value.specs.Tree.{text_of}
 use Rattle.kdl_entry.specs.Tree.{Entry, EntryFormat}
@@ -7,11 +7,11 @@ use Rattle.kdl_grammar.specs.Tree.{NodeFormat}
 use Rattle.kdl_layout.specs.Config.{Settings}
 use Rattle.kdl_layout.specs.Formatted.{or_empty}
 use Rattle.kdl_layout.specs.Respelled.{KeepsForm, TypeTexts, KeptTypeTexts, KeptTypeTextsIf, KeptPlaceIf, KeptLeading, entry_type_texts, node_type_texts, with_type_texts}
-use Rattle.kdl_layout.specs.declared.kept.TypeTexts as held
+use Rattle.std.specs.declared.alloc.Global.{Global}
 
 -- the texts around a type in memory, as characters
-abbrev pub type_texts_view : held.TypeTexts → TypeTexts
-type_texts_view x = record { before_name = text_of x.before_name; after_name = text_of x.after_name; after = text_of x.after }
+abbrev pub type_texts_view : String Global × String Global × String Global → TypeTexts
+type_texts_view x = record { before_name = text_of x.0; after_name = text_of x.1; after = text_of x.2 }
 
 -- what is kept around the type of a node with this format, if anything is
 abbrev pub KeptTypeTextsIn : Bool → Option NodeFormat → Option TypeTexts → Type 0

@@ -11,13 +11,11 @@ use Rattle.kdl_grammar.specs.ReadsBack.{NodesEnd, AddsNothing}
 use Rattle.kdl_layout.specs.Items.{Item, GapItems, Place, PlaceItems, takes_blocks, line_end}
 use Rattle.kdl_layout.specs.Lacks.{newlines, InPlace, AreNodeSpaces, PlaceLacks}
 use Rattle.kdl_layout.specs.Internal.Reading.{Adding, Leaves, Run, place_view}
-use Rattle.kdl_layout.specs.declared.item.Place as held
-use Rattle.kdl_layout.specs.declared.places.GapPiece.{GapPiece}
-use Rattle.kdl_layout.specs.declared.places.GapPiece.TheVariants.{Until, Last}
-use Rattle.kdl_layout.specs.declared.places.PlacePiece.{PlacePiece}
-use Rattle.kdl_layout.specs.declared.places.PlacePiece.TheVariants.{Onward, InEscline}
-use Rattle.kdl_layout.specs.declared.ends.Ending.{Ending}
-use Rattle.kdl_layout.specs.declared.ends.Ending.TheVariants.{Before, InReturn, Open}
+use Rattle.kdl_layout.specs.declared.spaces.Place as held
+use Rattle.std.specs.declared.ops.ControlFlow.{ControlFlow}
+use Rattle.std.specs.declared.ops.ControlFlow.TheVariants.{Continue, Break as Breaks}
+use Rattle.kdl_layout.specs.declared.spaces.Ending.{Ending}
+use Rattle.kdl_layout.specs.declared.spaces.Ending.TheVariants.{Before, InReturn, Open}
 
 -- how a line ends: before a rest, in a CR, or at the end of the text
 abbrev pub LineEnds : Text → Ending → Type 0
@@ -87,15 +85,15 @@ GapRead s (Some k) old new = Adding (GapItems s) old new × GapEnds s k
 GapRead s None old new = (all : List Item) → GapItems s all → ⊥
 
 -- a piece of a gap that ends so: what follows an escline or a comment in it may lack a newline
-abbrev pub piece_of : Ending → GapPiece
-piece_of (Before r) = Until r
-piece_of InReturn = Last 0
-piece_of Open = Last 1
+abbrev pub piece_of : Ending → ControlFlow ℕ (Bor (List ℕ))
+piece_of (Before r) = Continue r
+piece_of InReturn = Breaks 0
+piece_of Open = Breaks 1
 
 -- the first piece of a gap ends before a rest; or it is the whole text; or the text is not a gap
-abbrev pub GapPieceEnds : Text → Option GapPiece → Option (List Item) → Option (List Item) → Type 0
-GapPieceEnds s (Some (Until r)) old new = Adding (Through s (chars r.now)) old new × (length (chars r.now) < length s)
-GapPieceEnds s (Some (Last k)) old new = GapRead s (Some k) old new
+abbrev pub GapPieceEnds : Text → Option (ControlFlow ℕ (Bor (List ℕ))) → Option (List Item) → Option (List Item) → Type 0
+GapPieceEnds s (Some (Continue r)) old new = Adding (Through s (chars r.now)) old new × (length (chars r.now) < length s)
+GapPieceEnds s (Some (Breaks k)) old new = GapRead s (Some k) old new
 GapPieceEnds s None old new = GapRead s None old new
 
 -- s in the place p has these items and continues as r in the place q, and s may come before what r may come before
@@ -105,9 +103,9 @@ pub record PlaceThrough (p : Place) (s : Text) (q : Place) (r : Text) (is : List
   pub blocks : takes_blocks p ≡ true → takes_blocks q ≡ true
 
 -- the first piece ends before a rest; or it is the whole text, and ends in an escline that lacks a newline; or the text may not be in the place
-abbrev pub PlacePieceEnds : held.Place → Text → Option PlacePiece → Option (List Item) → Option (List Item) → Type 0
-PlacePieceEnds p s (Some (Onward q r)) old new = Adding (PlaceThrough (place_view p) s (place_view q) (chars r.now)) old new × (length (chars r.now) < length s)
-PlacePieceEnds p s (Some InEscline) old new = Adding (PlaceItems (place_view p) s) old new × ((z : Text) → InPlace (place_view p) (s ++ (10 ∷ z)) z)
+abbrev pub PlacePieceEnds : held.Place → Text → Option (ControlFlow (Unit {0}) (held.Place × Bor (List ℕ))) → Option (List Item) → Option (List Item) → Type 0
+PlacePieceEnds p s (Some (Continue (q, r))) old new = Adding (PlaceThrough (place_view p) s (place_view q) (chars r.now)) old new × (length (chars r.now) < length s)
+PlacePieceEnds p s (Some (Breaks u)) old new = Adding (PlaceItems (place_view p) s) old new × ((z : Text) → InPlace (place_view p) (s ++ (10 ∷ z)) z)
 PlacePieceEnds p s None old new = (all : List Item) → PlaceItems (place_view p) s all → ⊥
 
 -- the items of the text in the place were added; or it may not be there

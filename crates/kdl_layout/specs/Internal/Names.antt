@@ -48,6 +48,16 @@ spelling_of (Some f) = f.value_repr
 abbrev pub emptied : Option Identifier → Option Identifier
 emptied o = option_map (λ (i : Identifier). plain_identifier []) o
 
+-- the entry with an empty key, with an empty type, and without the spelling of its value, where it has them
+abbrev pub emptied_key : Entry → Entry
+emptied_key e = record e { name = emptied e.name }
+
+abbrev pub emptied_type : Entry → Entry
+emptied_type e = record e { ty = emptied e.ty }
+
+abbrev pub unspelled_value : Entry → Entry
+unspelled_value e = record e { format = option_map without_value e.format }
+
 -- whether the format of an entry with the value v has a spelling of v
 abbrev pub HasSpelling : Value → Option EntryFormat → Bool → Type 0
 HasSpelling v None b = b ≡ false

@@ -5,33 +5,32 @@ use Rattle.kdl_text.specs.Spans.{bytes}
 use Rattle.kdl_syntax.specs.Tokens.{Token}
 use Rattle.kdl_syntax.specs.Control.{Control, at, node_slashdash}
 use Rattle.kdl_syntax.specs.Internal.Views.{ended_view}
+use Rattle.kdl_syntax.specs.declared.control.Ended.{Ended}
 use Rattle.kdl_layout.specs.Internal.Lacking.{EndsNode}
 use Rattle.kdl_layout.specs.Internal.Passing.{Goal, for_node, for_part, End, returned, ended, Passes, NodePasses, PartPasses, slashdash_in}
 use Rattle.kdl_layout.specs.Items.{ItemEnd, Place, after_block, spaced, takes_blocks}
-use Rattle.kdl_layout.specs.declared.dropped.NodeEnd.{NodeEnd}
-use Rattle.kdl_layout.specs.declared.ends.Ending.{Ending}
-use Rattle.kdl_layout.specs.declared.dropped.PartEnd.{PartEnd}
+use Rattle.kdl_layout.specs.declared.spaces.Ending.{Ending}
 
 -- the text r is in s after n bytes
 abbrev pub Before : Text → ℕ → Text → Type 0
 Before s n r = (p : Text) × (s ≡ p ++ r) × (bytes p ≡ n)
 
--- the node after the `/-` ends there
-pub data EndsAt (t : Text) (e : NodeEnd) : Type 0 where
-  returns : {k : Token} {u v i : Text} {y : Ending} (w : Text) → NodePasses (at node_slashdash []) t t (returned k u v) → ItemEnd u v i → t ≡ w ++ v → Before t e.item i → EndsNode v u y → e.ending ≡ Some y → EndsAt t e
-  ends : {w : Text} → NodePasses (at node_slashdash []) t t (ended w) → Before t e.item w → e.ending ≡ None → EndsAt t e
+-- the item of the node after the `/-` ends after so many bytes, and its terminator, if there is one, ends so
+pub data EndsAt (t : Text) (e : ℕ × Option Ending) : Type 0 where
+  returns : {k : Token} {u v i : Text} {y : Ending} (w : Text) → NodePasses (at node_slashdash []) t t (returned k u v) → ItemEnd u v i → t ≡ w ++ v → Before t e.0 i → EndsNode v u y → e.1 ≡ Some y → EndsAt t e
+  ends : {w : Text} → NodePasses (at node_slashdash []) t t (ended w) → Before t e.0 w → e.1 ≡ None → EndsAt t e
 
 -- the control comes to no end
 abbrev pub EndsNowhere : Goal → Control → Text → Type 0
 EndsNowhere g c t = (e : End) → Passes g c t t e → ⊥
 
-abbrev pub AnswersDroppedNode : Text → Option NodeEnd → Type 0
+abbrev pub AnswersDroppedNode : Text → Option (ℕ × Option Ending) → Type 0
 AnswersDroppedNode t (Some e) = EndsAt t e
 AnswersDroppedNode t None = EndsNowhere for_node (at node_slashdash []) t
 
 -- an entry or a block that is slashdashed in the place ends there
-abbrev pub AnswersDroppedPart : Place → Text → Option PartEnd → Type 0
-AnswersDroppedPart p t (Some e) = (u : Text) × PartPasses (slashdash_in p) t t (ended_view e.ended) u × Before t e.at u
+abbrev pub AnswersDroppedPart : Place → Text → Option (ℕ × Ended) → Type 0
+AnswersDroppedPart p t (Some e) = (u : Text) × PartPasses (slashdash_in p) t t (ended_view e.1) u × Before t e.0 u
 AnswersDroppedPart p t None = EndsNowhere for_part (slashdash_in p) t
 
 -- whether what was slashdashed may be in the place: a block, or an entry

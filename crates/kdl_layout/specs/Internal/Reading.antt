@@ -9,10 +9,10 @@ use Rattle.kdl_syntax.specs.Tokens.{Token, BeginsToken, space, newline, slashdas
 use Rattle.kdl_entry.specs.Places.{between}
 use Rattle.kdl_layout.specs.Items as items
 use Rattle.kdl_layout.specs.Items.{line_end, GapItems, PlaceItems, before_entry, before_block, after_block}
-use Rattle.kdl_layout.specs.declared.item.Item.{Item}
-use Rattle.kdl_layout.specs.declared.item.Item.TheVariants.{Comment, Piece}
-use Rattle.kdl_layout.specs.declared.item.Place.{Place}
-use Rattle.kdl_layout.specs.declared.item.Place.TheVariants.{BeforeEntry, BeforeBlock, AfterBlock}
+use Rattle.kdl_layout.specs.declared.spaces.Item.{Item}
+use Rattle.kdl_layout.specs.declared.spaces.Item.TheVariants.{Comment, Piece}
+use Rattle.kdl_layout.specs.declared.spaces.Place.{Place}
+use Rattle.kdl_layout.specs.declared.spaces.Place.TheVariants.{BeforeEntry, BeforeBlock, AfterBlock}
 use Rattle.kdl_layout.specs.declared.spaces.Start.{Start}
 use Rattle.kdl_layout.specs.declared.spaces.Start.TheVariants.{Space, Break, Backslash, Slashdash, End, Other}
 

@@ -1,6 +1,6 @@
-use Rattle.std.proofs.Common.{Bool, drop, ap, sym, rules, ◌+◌, ◌∙◌, ◌≡◌, false, arith}
+use Rattle.std.proofs.Common.{Bool, drop, ap, sym, rules, refl, length, ◌+◌, ◌-◌, ◌==◌, ◌∙◌, ◌≡◌, false, arith}
 use Rattle.std.specs.Prelude.{◌&&◌}
-use Rattle.kdl_layout.specs.OneLine.{is_last, nodes_on_line}
+use Rattle.kdl_layout.specs.OneLine.{nodes_on_line}
 use Rattle.kdl.specs.Tree.{nodes_tree}
 use Rattle.kdl.proofs.LayingOut.Lines.{line_next}
 use Rattle.kdl.proofs.layout.nodes_on_line.Goals as goal
@@ -12,5 +12,5 @@ returns-then-not-is_on_line c =
     let bad : c.is_on_line.result ≡ false = search rules in
     sym
     (c.loop-i.invariant
-    ∙ line_next ns i c.index-nodes-i.result (is_last c.followed_by.result) c.is_on_line.result (omega arith) (sym c.index-nodes-i.is) c.followed_by.ensures c.is_on_line.ensures
+    ∙ line_next ns i c.index-nodes-i.result (length ns - i - 1 == 0) c.is_on_line.result (omega arith) (sym c.index-nodes-i.is) refl c.is_on_line.ensures
     ∙ ap (λ (b : Bool). b && nodes_on_line (nodes_tree (drop (i + 1) ns))) bad)

@@ -1,7 +1,4 @@
-use Rattle.std.proofs.Common.{◌≡◌, drop, length}
-use denote.Text.{Utf8}
-use denote.Shadow.{shadow}
-use Rattle.std.specs.Str.{chars}
+use Rattle.kdl_layout.proofs.Common.{◌≡◌, drop, length, chars, Utf8, shadow}
 use Rattle.kdl_layout.proofs.blank.after_chars.Given as goal
 
 -- as many characters of the text are passed as of the other one

@@ -1,13 +1,6 @@
-use Rattle.std.proofs.Common.{◌≡◌, ◌≢◌, ℕ, ◌-◌, ◌==◌, Bool, true, false, List, [], ◌∷◌, ◌++◌, length, take, refl, sym, ap, ◌∙◌, arith, append-nil}
-use Rattle.std.proofs.lemmas.Bool.{eqb-true}
-use Rattle.std.proofs.lemmas.Str.{chars-append, encodes-append, encodes-chars, IsUtf8-take}
+use Rattle.kdl_layout.proofs.Common.{◌≡◌, ◌≢◌, ℕ, ◌-◌, ◌==◌, Bool, true, false, List, [], ◌∷◌, ◌++◌, length, take, refl, sym, ap, ◌∙◌, arith, append-nil, eqb-true, chars-append, encodes-append, encodes-chars, IsUtf8-take, encode_utf8, chars, encode_utf8_all, IsUtf8, Text, last_in, Cr, Other}
 use Rattle.std.proofs.lemmas.Str.Pattern.{ends_char}
-use Rattle.std.specs.Char.{encode_utf8}
-use Rattle.std.specs.Str.{chars, encode_utf8_all, IsUtf8}
-use Rattle.kdl_text.specs.Chars.{Text}
 use Rattle.kdl_layout.proofs.Rewriting.Pushing.{one_char}
-use Rattle.kdl_layout.specs.Blank.{last_in}
-use Rattle.kdl_layout.specs.declared.blank.Last.TheVariants.{Cr, Other}
 use Rattle.kdl_layout.proofs.blank.last_in.Goals as goal
 
 -- a text that ends with CR

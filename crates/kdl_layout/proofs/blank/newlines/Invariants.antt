@@ -1,8 +1,4 @@
-use Rattle.std.proofs.Common.{◌≡◌, ◌+◌, length}
-use denote.Text.{Utf8}
-use denote.Shadow.{shadow}
-use Rattle.std.specs.Str.{chars}
-use Rattle.kdl_layout.specs.Blank.{from_item, last_of, newlines}
+use Rattle.kdl_layout.proofs.Common.{◌≡◌, ◌+◌, length, chars, from_item, last_of, newlines, Utf8, shadow}
 use Rattle.kdl_layout.proofs.blank.newlines.Given as goal
 
 -- what is counted and what is left are all

@@ -1,7 +1,5 @@
-use Rattle.std.proofs.Common.{◌≡◌, ◌++◌, sym, ap, ◌∙◌}
-use Rattle.std.proofs.lemmas.Str.{chars_past_char, chars-nil}
+use Rattle.kdl_layout.proofs.Common.{◌≡◌, ◌++◌, sym, ap, ◌∙◌, chars_past_char, chars-nil, chars}
 use Rattle.std.proofs.lemmas.List.{nil_from_length}
-use Rattle.std.specs.Str.{chars}
 use Rattle.std.specs.Prelude.{encode_utf8}
 use Rattle.kdl_layout.proofs.blank.next_char.Goals as goal
 

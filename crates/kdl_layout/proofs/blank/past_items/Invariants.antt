@@ -1,9 +1,4 @@
-use Rattle.std.proofs.Common.{◌≡◌, drop}
-use denote.Text.{Utf8}
-use denote.Shadow.{shadow}
-use Rattle.std.specs.Str.{chars}
-use Rattle.kdl_layout.specs.Internal.Reading.{items_view}
-use Rattle.kdl_layout.specs.Blank.{past_items}
+use Rattle.kdl_layout.proofs.Common.{◌≡◌, drop, chars, past_items, Utf8, shadow, items_view}
 use Rattle.kdl_layout.proofs.blank.past_items.Given as goal
 
 -- the rest, with the items that are left, comes to the same

@@ -1,10 +1,4 @@
-use Rattle.std.proofs.Common.{◌≡◌, ◌++◌, drop, false}
-use denote.Text.{Utf8}
-use denote.Shadow.{shadow}
-use Rattle.std.specs.Str.{chars}
-use Rattle.kdl_layout.specs.Internal.Reading.{items_view}
-use Rattle.kdl_value.specs.Tree.{text_of}
-use Rattle.kdl_layout.specs.Blank.{past_items, spaced_lines}
+use Rattle.kdl_layout.proofs.Common.{◌≡◌, ◌++◌, drop, false, chars, text_of, past_items, spaced_lines, Utf8, shadow, items_view}
 use Rattle.kdl_layout.proofs.blank.push_spaced_lines.Given as goal
 
 -- what is written and what the rest has, with the items that are left, come to the same

@@ -1,10 +1,6 @@
-use Rattle.std.proofs.Common.{[], sym, ap, subst, ◌∙◌, ℕ}
-use Rattle.std.specs.Str.{chars}
-use Rattle.kdl_text.specs.Internal.Here.{Here}
+use Rattle.kdl_layout.proofs.Common.{[], sym, ap, subst, ◌∙◌, ℕ, chars, Here, kind_view, for_node}
 use Rattle.kdl_syntax.specs.Internal.Views.{control_view}
-use Rattle.kdl_syntax.specs.Internal.Handed.{kind_view}
 use Rattle.kdl_syntax.specs.Control.{at, node_slashdash}
-use Rattle.kdl_layout.specs.Internal.Passing.{for_node}
 use Rattle.kdl_layout.proofs.Dropping.Paths.{node_on}
 use Rattle.kdl_layout.proofs.Dropping.TokenLoop.{Goes, node_starts, refused_on, goes_further, node_stops, faulty, refused_here, node_returns, token_places, token_ends, cut_shorter}
 use Rattle.kdl_layout.proofs.dropped.pass_node.Goals as goal
@@ -15,7 +11,7 @@ tokens-init c =
 
 pub returns-in-Ok-None : goal.returns-in-Ok-None
 returns-in-Ok-None c =
-    node_stops (chars c.args.text.now) c.tokens.lexer (control_view c.tokens.control) c.tokens.last c.last_end.result c.tokens.invariant (rw c.in-Ok-None.field-0-is at c.in-Ok-None.ensures.lexed) c.last_end.ensures
+    rw (c.then_some.ensures, c.may_end.ensures) (node_stops (chars c.args.text.now) c.tokens.lexer (control_view c.tokens.control) c.tokens.last c.tokens.invariant (rw c.in-Ok-None.field-0-is at c.in-Ok-None.ensures.lexed))
 
 pub returns-in-Err-Faulty : goal.returns-in-Err-Faulty
 returns-in-Err-Faulty c = faulty c.tokens.invariant (rw c.in-Err-Faulty.field-0-is at c.in-Err-Faulty.ensures.lexed)
@@ -25,18 +21,18 @@ returns-then-not-branch c =
     let f = rw c.if-not-branch.true at c.in_ok-take.ensures in
     refused_here c.tokens.invariant c.in-Ok-Some.token (rw c.in-Ok-Some.field-0-is at c.in-Ok-Some.ensures.lexed) f (refused_on (control_view c.tokens.control) (kind_view c.in-Ok-Some.token.kind) f)
 
-pub node_end-requires-clause-at : goal.node_end-requires-clause-at
-node_end-requires-clause-at c = token_places c.tokens.invariant c.in-Ok-Some.token (rw c.in-Ok-Some.field-0-is at c.in-Ok-Some.ensures.lexed) c.next.ensures.moves
+pub node_end-item-requires-clause-at : goal.node_end-item-requires-clause-at
+node_end-item-requires-clause-at c = token_places c.tokens.invariant c.in-Ok-Some.token (rw c.in-Ok-Some.field-0-is at c.in-Ok-Some.ensures.lexed) c.next.ensures.moves
 
-pub node_end-requires-clause-ends : goal.node_end-requires-clause-ends
-node_end-requires-clause-ends c = token_ends c.tokens.invariant (rw c.if-not-branch.false at c.in_ok-take.ensures) (sym c.is_between_nodes.ensures ∙ c.if-is_between_nodes.true)
+pub node_end-item-requires-clause-ends : goal.node_end-item-requires-clause-ends
+node_end-item-requires-clause-ends c = token_ends c.tokens.invariant (rw c.if-not-branch.false at c.in_ok-take.ensures) (sym c.is_between_nodes.ensures ∙ c.if-is_between_nodes.true)
 
 pub returns-then-is_between_nodes : goal.returns-then-is_between_nodes
 returns-then-is_between_nodes c =
     let h = rw c.in-Ok-Some.field-0-is at c.in-Ok-Some.ensures.lexed in
     let f = rw c.if-not-branch.false at c.in_ok-take.ensures in
-    node_returns (chars c.args.text.now) c.tokens.lexer c.next.new.self (control_view c.tokens.control) (control_view c.take.new.self) c.in-Ok-Some.token c.tokens.last c.node_end.result c.tokens.invariant h c.next.ensures.moves f
-    (sym c.is_between_nodes.ensures ∙ c.if-is_between_nodes.true) c.node_end.ensures
+    node_returns (chars c.args.text.now) c.tokens.lexer c.next.new.self (control_view c.tokens.control) (control_view c.take.new.self) c.in-Ok-Some.token c.tokens.last c.node_end-item.result.0 c.node_end-item.result.1 c.tokens.invariant h c.next.ensures.moves f
+    (sym c.is_between_nodes.ensures ∙ c.if-is_between_nodes.true) c.node_end-item.ensures
 
 pub tokens-smaller : goal.tokens-smaller
 tokens-smaller c =

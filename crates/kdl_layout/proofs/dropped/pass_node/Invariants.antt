@@ -1,8 +1,6 @@
-use Rattle.std.proofs.Common.{[], length}
+use Rattle.kdl_layout.proofs.Common.{[], length, chars, for_node}
 use Rattle.kdl_syntax.specs.Internal.Views.{control_view}
-use Rattle.std.specs.Str.{chars}
 use Rattle.kdl_syntax.specs.Control.{at, node_slashdash}
-use Rattle.kdl_layout.specs.Internal.Passing.{for_node}
 use Rattle.kdl_layout.proofs.Dropping.TokenLoop.{Goes}
 use Rattle.kdl_layout.proofs.dropped.pass_node.Given as goal
 

@@ -1,10 +1,5 @@
-use Rattle.std.proofs.Common.{sym, ap, subst, ◌∙◌, ℕ}
-use Rattle.std.specs.Str.{chars}
-use Rattle.kdl_text.specs.Internal.Here.{Here}
+use Rattle.kdl_layout.proofs.Common.{sym, ap, subst, ◌∙◌, ℕ, chars, Here, kind_view, place_view, for_part, slashdash_in}
 use Rattle.kdl_syntax.specs.Internal.Views.{control_view}
-use Rattle.kdl_syntax.specs.Internal.Handed.{kind_view}
-use Rattle.kdl_layout.specs.Internal.Reading.{place_view}
-use Rattle.kdl_layout.specs.Internal.Passing.{for_part, slashdash_in}
 use Rattle.kdl_layout.proofs.Dropping.TokenLoop.{Goes, part_starts, part_on, goes_further, part_stops, faulty, refused_here, part_word, part_over, cut_shorter}
 use Rattle.kdl_layout.proofs.dropped.pass_part.Goals as goal
 
@@ -14,7 +9,7 @@ tokens-init c =
 
 pub returns-in-Ok-None : goal.returns-in-Ok-None
 returns-in-Ok-None c =
-    part_stops (place_view c.args.place) (chars c.args.text.now) c.tokens.lexer (control_view c.tokens.control) c.tokens.last c.word_end.result c.tokens.invariant (rw c.in-Ok-None.field-0-is at c.in-Ok-None.ensures.lexed) c.word_end.ensures
+    rw (c.then_some.ensures, c.is_word.ensures) (part_stops (place_view c.args.place) (chars c.args.text.now) c.tokens.lexer (control_view c.tokens.control) c.tokens.last c.tokens.invariant (rw c.in-Ok-None.field-0-is at c.in-Ok-None.ensures.lexed))
 
 pub returns-in-Err-Faulty : goal.returns-in-Err-Faulty
 returns-in-Err-Faulty c = faulty c.tokens.invariant (rw c.in-Err-Faulty.field-0-is at c.in-Err-Faulty.ensures.lexed)
@@ -22,8 +17,8 @@ returns-in-Err-Faulty c = faulty c.tokens.invariant (rw c.in-Err-Faulty.field-0-
 pub returns-then-ends_word : goal.returns-then-ends_word
 returns-then-ends_word c =
     let h = rw c.in-Ok-Some.field-0-is at c.in-Ok-Some.ensures.lexed in
-    part_word (place_view c.args.place) (chars c.args.text.now) c.tokens.lexer c.next.new.self (control_view c.tokens.control) c.in-Ok-Some.token c.tokens.last c.word_end-then-ends_word.result c.tokens.invariant h
-    (sym c.ends_word.ensures ∙ c.if-ends_word.true) c.word_end-then-ends_word.ensures
+    part_word (place_view c.args.place) (chars c.args.text.now) c.tokens.lexer c.next.new.self (control_view c.tokens.control) c.in-Ok-Some.token c.tokens.last c.tokens.invariant h
+    (sym c.ends_word.ensures ∙ c.if-ends_word.true)
 
 pub returns-then-not-branch : goal.returns-then-not-branch
 returns-then-not-branch c =

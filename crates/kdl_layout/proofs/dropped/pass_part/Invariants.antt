@@ -1,8 +1,5 @@
-use Rattle.std.proofs.Common.{length}
+use Rattle.kdl_layout.proofs.Common.{length, chars, place_view, for_part, slashdash_in}
 use Rattle.kdl_syntax.specs.Internal.Views.{control_view}
-use Rattle.kdl_layout.specs.Internal.Reading.{place_view}
-use Rattle.std.specs.Str.{chars}
-use Rattle.kdl_layout.specs.Internal.Passing.{for_part, slashdash_in}
 use Rattle.kdl_layout.proofs.Dropping.TokenLoop.{Goes}
 use Rattle.kdl_layout.proofs.dropped.pass_part.Given as goal
 

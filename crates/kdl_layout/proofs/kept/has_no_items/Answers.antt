@@ -1,6 +1,4 @@
-use Rattle.std.proofs.Common.{ap}
-use Rattle.std.specs.Str.{chars}
-use Rattle.kdl_layout.specs.Internal.Reading.{items_view}
+use Rattle.kdl_layout.proofs.Common.{ap, chars, items_view}
 use Rattle.kdl_layout.proofs.Keeping.KeptReads.{no_elements}
 use Rattle.kdl_layout.proofs.kept.has_no_items.Goals as goal
 use Rattle.kdl_layout.proofs.Respelling.Kept.{empty_view, no_items}

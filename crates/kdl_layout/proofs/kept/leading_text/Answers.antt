@@ -1,8 +1,4 @@
-use Rattle.std.proofs.Common.{◌++◌, ap, ◌∙◌}
-use Rattle.std.specs.Str.{chars}
-use Rattle.kdl_text.specs.Chars.{Text}
-use Rattle.kdl_value.specs.Tree.{text_of}
-use Rattle.kdl_layout.specs.Config.{settings}
+use Rattle.kdl_layout.proofs.Common.{◌++◌, ap, ◌∙◌, chars, Text, text_of, settings}
 use Rattle.kdl_layout.proofs.Texts.{space_text}
 use Rattle.kdl_layout.proofs.kept.leading_text.Goals as goal
 use Rattle.kdl_layout.proofs.Respelling.Kept.{leading_copied, leading_laid}

@@ -1,4 +1,4 @@
-use Rattle.kdl_entry.proofs.Slicing.Between.{empty_text}
+use Rattle.kdl_layout.proofs.Common.{empty_text}
 use Rattle.kdl_layout.proofs.kept.no_text.Goals as goal
 
 pub returns : goal.returns

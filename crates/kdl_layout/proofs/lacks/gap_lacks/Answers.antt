@@ -1,6 +1,4 @@
-use Rattle.std.proofs.lemmas.Result.{IfOk-weaker}
-use Rattle.std.specs.Str.{chars}
-use Rattle.kdl_layout.specs.Internal.Reading.{held}
+use Rattle.kdl_layout.proofs.Common.{IfOk-weaker, chars, held}
 use Rattle.kdl_layout.proofs.Lacking.Fewest.{gap_answer}
 use Rattle.kdl_layout.proofs.lacks.gap_lacks.Goals as goal
 

@@ -1,6 +1,4 @@
-use Rattle.std.proofs.lemmas.Result.{IfOk-weaker}
-use Rattle.std.specs.Str.{chars}
-use Rattle.kdl_layout.specs.Internal.Reading.{held}
+use Rattle.kdl_layout.proofs.Common.{IfOk-weaker, chars, held}
 use Rattle.kdl_layout.proofs.Lacking.SpaceEnds.{only_are}
 use Rattle.kdl_layout.proofs.lacks.is_node_spaces.Goals as goal
 

@@ -1,6 +1,4 @@
-use Rattle.std.proofs.lemmas.Result.{IfOk-weaker}
-use Rattle.std.specs.Str.{chars}
-use Rattle.kdl_layout.specs.Internal.Reading.{held, place_view}
+use Rattle.kdl_layout.proofs.Common.{IfOk-weaker, chars, held, place_view}
 use Rattle.kdl_layout.proofs.Lacking.PlacePieces.{place_lacked}
 use Rattle.kdl_layout.proofs.lacks.place_lacks.Goals as goal
 

@@ -1,6 +1,4 @@
-use Rattle.std.proofs.lemmas.Result.{IfOk-weaker}
-use Rattle.std.specs.Str.{chars}
-use Rattle.kdl_layout.specs.Internal.Reading.{held}
+use Rattle.kdl_layout.proofs.Common.{IfOk-weaker, chars, held}
 use Rattle.kdl_layout.proofs.Lacking.Terminators.{semicolon_gap, line_gap, return_alone, open_alone, end_alone, no_terminator}
 use Rattle.kdl_layout.proofs.Listing.Starts.{break_of, no_break, begun}
 use Rattle.kdl_layout.proofs.lacks.terminator_lacks.Goals as goal

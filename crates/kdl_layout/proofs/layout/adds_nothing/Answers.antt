@@ -1,10 +1,5 @@
-use Rattle.std.proofs.Common.{[], refl, sym, ◌∙◌}
-use Rattle.std.specs.Str.{chars}
-use Rattle.kdl_layout.specs.Blank.{spaced_lines}
-use Rattle.kdl_layout.specs.Items.{GapItems}
-use Rattle.kdl_layout.specs.Kept.{ItemsIn}
+use Rattle.kdl_layout.proofs.Common.{[], refl, sym, ◌∙◌, chars, spaced_lines, GapItems, ItemsIn, indentation, settings}
 use Rattle.kdl_layout.proofs.Rewriting.Pushing.{no_bytes}
-use Rattle.kdl_layout.specs.Config.{indentation, settings}
 use Rattle.kdl_layout.proofs.Keeping.KeptReads.{blank_gap, kept_empty, kept_none}
 use Rattle.kdl_layout.proofs.Spacing.Reads.{lines_empty, uncounted}
 use Rattle.kdl_layout.proofs.layout.adds_nothing.Goals as goal

@@ -1,9 +1,4 @@
-use Rattle.std.proofs.Common.{ap, ◌∙◌}
-use Rattle.std.proofs.lemmas.Str.{chars-nil}
-use Rattle.kdl_layout.specs.Blank.{past_node}
-use Rattle.kdl_layout.specs.Config.{settings}
-use Rattle.kdl_layout.specs.Formatted.{or_empty}
-use Rattle.kdl_parts.specs.Formats.{node_texts}
+use Rattle.kdl_layout.proofs.Common.{ap, ◌∙◌, chars-nil, past_node, settings, or_empty, node_texts}
 use Rattle.kdl_layout.proofs.Spacing.Reads.{format_none, uncounted}
 use Rattle.kdl_layout.proofs.layout.after_line.Goals as goal
 use Rattle.kdl_layout.proofs.layout.after_line.Goals.{in_default-via-in-Some+else-layout-ne0, in_default-via-in_default}

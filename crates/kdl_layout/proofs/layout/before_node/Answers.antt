@@ -1,4 +1,4 @@
-use Rattle.kdl_value.specs.Tree.{text_of}
+use Rattle.kdl_layout.proofs.Common.{text_of}
 use Rattle.kdl_layout.proofs.layout.before_node.Goals as goal
 
 pub returns : goal.returns

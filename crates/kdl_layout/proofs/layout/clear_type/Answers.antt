@@ -1,4 +1,4 @@
-use Rattle.kdl_entry.proofs.Slicing.Between.{empty_text}
+use Rattle.kdl_layout.proofs.Common.{empty_text}
 use Rattle.kdl_layout.proofs.Texts.{type_cleared}
 use Rattle.kdl_layout.proofs.layout.clear_type.Goals as goal
 

@@ -1,8 +1,4 @@
-use Rattle.std.proofs.Common.{◌++◌, sym, ap, ◌∙◌}
-use Rattle.kdl_text.specs.Chars.{Text}
-use Rattle.kdl_value.specs.Print.{print_value}
-use Rattle.kdl_value.specs.Tree.{text_of}
-use Rattle.kdl_layout.specs.Parts.{following}
+use Rattle.kdl_layout.proofs.Common.{◌++◌, sym, ap, ◌∙◌, Text, print_value, text_of, following}
 use Rattle.kdl_layout.proofs.Texts.{empty_string, entry_made, space_text}
 use Rattle.kdl_layout.proofs.layout.format_after.Goals as goal
 

@@ -1,8 +1,4 @@
-use Rattle.std.proofs.Common.{◌++◌, ap, sym, ◌∙◌, add-one, ℕ}
-use Rattle.std.specs.Str.{chars}
-use Rattle.kdl_text.specs.Chars.{Text}
-use Rattle.kdl_layout.specs.Config.{indentation, settings}
-use Rattle.kdl_entry.proofs.Slicing.Between.{empty_text}
+use Rattle.kdl_layout.proofs.Common.{◌++◌, ap, sym, ◌∙◌, add-one, ℕ, chars, Text, indentation, settings, empty_text}
 use Rattle.kdl_layout.proofs.layout.further.Goals as goal
 
 pub returns : goal.returns

@@ -1,8 +1,4 @@
-use Rattle.std.proofs.Common.{Option, Some, subst}
-use Rattle.kdl_value.specs.Tree.{text_of}
-use Rattle.kdl_entry.specs.Tree.{EntryFormat, entry_format_tree}
-use Rattle.kdl_layout.specs.Config.{settings}
-use Rattle.kdl_layout.specs.Kept.{KeptBefore}
+use Rattle.kdl_layout.proofs.Common.{Option, Some, subst, text_of, EntryFormat, entry_format_tree, settings, KeptBefore}
 use Rattle.kdl_layout.proofs.Keeping.KeptReads.{kept_flagged, kept_bare}
 use Rattle.kdl_layout.proofs.layout.kept_before.Goals as goal
 use Rattle.kdl_layout.proofs.layout.kept_before.Goals.{in_default-via-in-Some+else-not-format, in_default-via-in_default}

@@ -1,13 +1,5 @@
-use Rattle.std.proofs.Common.{◌≡◌, Bool, [], false, refl, true}
-use Rattle.std.proofs.lemmas.Result.{IfOk-weaker}
-use Rattle.std.specs.Str.{chars}
-use Rattle.kdl_text.specs.Chars.{Text}
-use Rattle.kdl_value.specs.Tree.{text_of}
-use Rattle.kdl_layout.specs.Items.{after_block}
-use Rattle.kdl_layout.specs.Internal.Reading.{place_view}
-use Rattle.kdl_layout.specs.declared.item.Place.{Place}
-use Rattle.kdl_layout.specs.Config.{Settings, settings}
-use Rattle.kdl_layout.specs.Kept.{KeptBeforeBlock, last_place}
+use Rattle.kdl_layout.proofs.Common.{◌≡◌, Bool, [], false, refl, true, IfOk-weaker, chars, Text, text_of, after_block, Settings, settings, KeptBeforeBlock, last_place, place_view}
+use Rattle.kdl_layout.specs.declared.spaces.Place.{Place}
 use Rattle.kdl_layout.proofs.layout.kept_before_block.Goals as goal
 
 no_block : (s : Settings) (p : Place) (place t : Text) → (p ≡ Place.AfterBlock → ⊥) → t ≡ [] → (has : Bool) → place_view p ≡ last_place has → KeptBeforeBlock s has place t

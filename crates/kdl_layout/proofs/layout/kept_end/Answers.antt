@@ -1,4 +1,4 @@
-use Rattle.std.specs.Str.{chars}
+use Rattle.kdl_layout.proofs.Common.{chars}
 use Rattle.kdl_layout.proofs.Keeping.KeptReads.{end_kept}
 use Rattle.kdl_layout.proofs.layout.kept_end.Goals as goal
 

@@ -1,10 +1,4 @@
-use Rattle.std.proofs.Common.{[], refl, ap, sym, ◌∙◌}
-use Rattle.std.specs.Str.{chars}
-use Rattle.kdl_value.specs.Tree.{text_of}
-use Rattle.kdl_layout.specs.Items.{PlaceItems}
-use Rattle.kdl_layout.specs.Kept.{ItemsIn}
-use Rattle.kdl_layout.specs.Internal.Reading.{items_view, place_view}
-use Rattle.kdl_layout.specs.Written.{tail}
+use Rattle.kdl_layout.proofs.Common.{[], refl, ap, sym, ◌∙◌, chars, text_of, PlaceItems, ItemsIn, tail, items_view, place_view}
 use Rattle.kdl_layout.proofs.Keeping.KeptReads.{kept_empty, kept_items, kept_none, spaces_in, written_after}
 use Rattle.kdl_layout.proofs.layout.kept_tail.Goals as goal
 use Rattle.kdl_layout.proofs.layout.kept_tail.Goals.{in-Some+in_ok-push_tail, in_default}

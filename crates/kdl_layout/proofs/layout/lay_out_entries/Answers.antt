@@ -1,6 +1,4 @@
-use Rattle.std.proofs.Common.{arith, map, subst, sym, ap, ◌∙◌}
-use Rattle.kdl_entry.specs.Tree.{entry_tree, cleared}
-use Rattle.kdl_layout.specs.Config.{settings}
+use Rattle.kdl_layout.proofs.Common.{arith, map, subst, sym, ap, ◌∙◌, entry_tree, cleared, settings}
 use Rattle.kdl_layout.proofs.Respelling.Leaves.{entry_stays}
 use Rattle.kdl_layout.proofs.Formatting.EntriesRead.{Stays, all_stay, each_stays, flagged_stays, laid_stays}
 use Rattle.kdl_layout.proofs.Loops.{LaidEntry, turned_start, turned_more, turned_all, turned_same, turned_exchanged, turned_each, turned_each_set, entries_laid, entries_fit}

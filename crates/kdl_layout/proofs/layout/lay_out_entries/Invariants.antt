@@ -1,6 +1,4 @@
-use Rattle.std.proofs.Common.{map}
-use Rattle.kdl_entry.specs.Tree.{entry_tree}
-use Rattle.kdl_layout.specs.Config.{settings}
+use Rattle.kdl_layout.proofs.Common.{map, entry_tree, settings}
 use Rattle.kdl_layout.proofs.Loops.{Turned, LaidEntry}
 use Rattle.kdl_layout.proofs.layout.lay_out_entries.Given as goal
 

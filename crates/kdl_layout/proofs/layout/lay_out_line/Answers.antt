@@ -1,16 +1,4 @@
-use Rattle.std.proofs.Common.{◌≡◌, ℕ, Bool, Option, None, Some, ap, sym, subst, ◌∙◌}
-use Rattle.std.specs.Str.{chars}
-use Rattle.kdl_text.specs.Chars.{Text}
-use Rattle.kdl_grammar.specs.Tree.{NodeFormat}
-use Rattle.kdl_parts.specs.Formats.{empty_node_format, node_format_tree, node_texts}
-use Rattle.kdl_parts.specs.declared.format.KdlNodeFormat.{KdlNodeFormat}
-use Rattle.kdl_layout.specs.Items.{Place}
-use Rattle.kdl_layout.specs.Internal.Reading.{place_view}
-use Rattle.kdl_layout.specs.Config.{Settings, indentation, settings}
-use Rattle.kdl_layout.specs.Formatted.{or_empty}
-use Rattle.kdl_layout.specs.Kept.{last_place}
-use Rattle.kdl_layout.specs.Spaced.{IsSpacedLine, PassesFormat}
-use Rattle.kdl_layout.specs.declared.blank.Before.{Before}
+use Rattle.kdl_layout.proofs.Common.{◌≡◌, ℕ, Bool, Option, None, Some, ap, sym, subst, ◌∙◌, chars, Text, NodeFormat, empty_node_format, node_format_tree, node_texts, KdlNodeFormat, Place, Settings, indentation, settings, or_empty, last_place, IsSpacedLine, PassesFormat, place_view, Before}
 use Rattle.kdl_layout.proofs.layout.lay_out_line.Goals as goal
 
 formless : (number : ℕ) (s : Settings) (margin : Text) (p : Place) (b next : Before) (o : Option KdlNodeFormat) (f : NodeFormat) (g : Option NodeFormat) → o ≡ None → f ≡ empty_node_format

@@ -1,11 +1,4 @@
-use Rattle.std.proofs.Common.{◌≡◌, ◌∙◌, Option, ap, option_map, refl, subst, true, Bool, Bor}
-use Rattle.kdl_value.specs.Tree.{text_of}
-use Rattle.kdl_entry.specs.Tree.{Entry, Identifier, autoformatted, entry_format_tree, entry_tree, identifier_tree}
-use Rattle.kdl_entry.specs.declared.identifier.KdlIdentifier.{KdlIdentifier}
-use Rattle.kdl_layout.specs.Config.{settings}
-use Rattle.kdl_layout.specs.Internal.Names.{Keeps, HasSpelling, autoformatted_but}
-use Rattle.kdl_layout.specs.Respelled.{KeptForm}
-use Rattle.kdl_layout.specs.Parts.{following, put_format}
+use Rattle.kdl_layout.proofs.Common.{◌≡◌, ◌∙◌, Option, ap, option_map, refl, subst, true, Bool, Bor, text_of, Entry, Identifier, autoformatted, entry_format_tree, entry_tree, identifier_tree, KdlIdentifier, settings, KeptForm, following, put_format, Keeps, HasSpelling, autoformatted_but}
 use Rattle.kdl_layout.proofs.Respelling.Entries.{respelled_form, spelled_entry, spelled_form, taken_same}
 use Rattle.kdl_layout.proofs.layout.lay_out_spelled.Goals as goal
 use Rattle.kdl_layout.proofs.layout.lay_out_spelled.Goals.{then-branch+in_ok-format, else-branch+in_ok-format-2}

@@ -1,8 +1,4 @@
-use Rattle.std.proofs.Common.{[], ◌∷◌, ◌++◌, ap, sym, ◌∙◌, append-nil, subst}
-use Rattle.std.specs.Str.{chars}
-use Rattle.kdl_text.specs.Chars.{Text}
-use Rattle.kdl_value.specs.Tree.{text_of}
-use Rattle.kdl_layout.specs.Kept.{KeptEnd}
+use Rattle.kdl_layout.proofs.Common.{[], ◌∷◌, ◌++◌, ap, sym, ◌∙◌, append-nil, subst, chars, Text, text_of, KeptEnd}
 use Rattle.kdl_layout.proofs.Texts.{space_text}
 use Rattle.kdl_layout.proofs.layout.line_end.Goals as goal
 use Rattle.kdl_layout.proofs.layout.line_end.Goals.{in-Some+in_ok-push_text+in_ok-push_text-2, in_default}

@@ -1,13 +1,4 @@
-use Rattle.std.proofs.Common.{◌++◌, ◌∷◌, [], Some, refl, ap, subst, ◌∙◌, List, ℕ}
-use Rattle.std.specs.Str.{chars}
-use Rattle.kdl_text.specs.Chars.{Text}
-use Rattle.kdl_parts.specs.Formats.{node_format_tree}
-use Rattle.kdl_value.specs.Tree.{text_of}
-use Rattle.kdl_layout.specs.Blank.{past_node}
-use Rattle.kdl_layout.specs.Config.{settings}
-use Rattle.kdl_layout.specs.Kept.{KeptBeforeBlock, KeptEnd}
-use Rattle.kdl_layout.specs.Spaced.{SpacedLines}
-use Rattle.kdl_layout.specs.Parts.{NodeTexts, line_of}
+use Rattle.kdl_layout.proofs.Common.{◌++◌, ◌∷◌, [], Some, refl, ap, subst, ◌∙◌, List, ℕ, chars, Text, node_format_tree, text_of, past_node, settings, KeptBeforeBlock, KeptEnd, SpacedLines, NodeTexts, line_of}
 use Rattle.kdl_layout.proofs.Keeping.KeptReads.{tail_at}
 use Rattle.kdl_layout.proofs.Spacing.Reads.{lines_after, lines_as}
 use Rattle.kdl_layout.proofs.Texts.{line_put, put_text, space_text, newline_text}

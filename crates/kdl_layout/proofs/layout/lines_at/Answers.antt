@@ -1,8 +1,4 @@
-use Rattle.std.proofs.Common.{subst, sym}
-use Rattle.std.specs.Str.{chars}
-use Rattle.kdl_text.specs.Chars.{Text}
-use Rattle.kdl_layout.specs.Config.{settings}
-use Rattle.kdl_layout.specs.Spaced.{SpacedLines}
+use Rattle.kdl_layout.proofs.Common.{subst, sym, chars, Text, settings, SpacedLines}
 use Rattle.kdl_layout.proofs.layout.lines_at.Goals as goal
 
 pub returns-then-adds_nothing : goal.returns-then-adds_nothing

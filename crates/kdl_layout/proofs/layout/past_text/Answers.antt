@@ -1,6 +1,4 @@
-use Rattle.std.proofs.lemmas.Result.{IfOk-weaker}
-use Rattle.std.specs.Str.{chars}
-use Rattle.kdl_layout.specs.Spaced.{Passes}
+use Rattle.kdl_layout.proofs.Common.{IfOk-weaker, chars, Passes}
 use Rattle.kdl_layout.proofs.Spacing.Reads.{passes_read}
 use Rattle.kdl_layout.proofs.layout.past_text.Goals as goal
 

@@ -1,6 +1,4 @@
-use Rattle.std.proofs.Common.{rules, ◌++◌, sym, ap}
-use Rattle.std.specs.Str.{chars}
-use Rattle.kdl_text.specs.Chars.{Text}
+use Rattle.kdl_layout.proofs.Common.{rules, ◌++◌, sym, ap, chars, Text}
 use Rattle.kdl_layout.proofs.Texts.{empty_string}
 use Rattle.kdl_layout.proofs.layout.prepare.Goals as goal
 

@@ -1,5 +1,4 @@
-use Rattle.kdl_value.specs.Print.{print_value}
-use Rattle.kdl_value.specs.Tree.{value_tree}
+use Rattle.kdl_layout.proofs.Common.{print_value, value_tree}
 use Rattle.kdl_layout.proofs.Texts.{printed_text}
 use Rattle.kdl_layout.proofs.layout.printed.Goals as goal
 

@@ -1,6 +1,4 @@
-use Rattle.std.proofs.Common.{subst}
-use Rattle.kdl_value.specs.Data.{Value}
-use Rattle.kdl_value.specs.WellFormed.{IsWellFormed}
+use Rattle.kdl_layout.proofs.Common.{subst, Value, IsWellFormed}
 use Rattle.kdl_layout.proofs.Entries.{scalars}
 use Rattle.kdl_layout.proofs.layout.well_formed_entry.Goals as goal
 

@@ -1,5 +1,4 @@
-use Rattle.std.proofs.Common.{◌++◌, ap, ◌∙◌, sym, List, ℕ}
-use Rattle.std.specs.Char.{encode_utf8}
+use Rattle.kdl_layout.proofs.Common.{◌++◌, ap, ◌∙◌, sym, List, ℕ, encode_utf8}
 use Rattle.kdl_layout.proofs.Texts.{bom_cut, no_bom}
 use Rattle.kdl_layout.proofs.layout.without_bom.Goals as goal
 

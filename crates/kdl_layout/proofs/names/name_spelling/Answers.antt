@@ -1,6 +1,4 @@
-use Rattle.std.proofs.Common.{◌≡◌, ◌∙◌, false, sym, true}
-use Rattle.std.specs.Str.{chars}
-use Rattle.kdl_entry.specs.Tree.{identifier_tree}
+use Rattle.kdl_layout.proofs.Common.{◌≡◌, ◌∙◌, false, sym, true, chars, identifier_tree}
 use Rattle.kdl_layout.proofs.Respelling.Entries.{name_kept, name_removed, no_name_kept}
 use Rattle.kdl_layout.proofs.names.name_spelling.Goals as goal
 

@@ -1,8 +1,5 @@
-use Rattle.std.proofs.Common.{◌≡◌, ◌∙◌, [], Option, Some, option_map, ap, List, ℕ}
+use Rattle.kdl_layout.proofs.Common.{◌≡◌, ◌∙◌, [], Option, Some, option_map, ap, List, ℕ, Identifier, entry_tree, identifier_tree, plain_identifier, KdlIdentifier, emptied}
 use Rattle.std.specs.Str.{chars}
-use Rattle.kdl_entry.specs.Tree.{Identifier, entry_tree, identifier_tree, plain_identifier}
-use Rattle.kdl_entry.specs.declared.identifier.KdlIdentifier.{KdlIdentifier}
-use Rattle.kdl_layout.specs.Internal.Names.{emptied}
 use Rattle.kdl_layout.proofs.names.take_key.Goals as goal
 
 pub returns-in-Some-clause-left : goal.returns-in-Some-clause-left

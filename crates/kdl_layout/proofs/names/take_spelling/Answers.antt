@@ -1,10 +1,5 @@
-use Rattle.std.proofs.Common.{◌≡◌, ◌∙◌, [], Option, Some, option_map, ap}
-use Rattle.kdl_text.specs.Chars.{Text}
-use Rattle.kdl_value.specs.Tree.{text_of}
-use Rattle.kdl_entry.specs.Tree.{EntryFormat, entry_format_tree, entry_tree}
-use Rattle.kdl_entry.specs.declared.entry.KdlEntryFormat.{KdlEntryFormat}
-use Rattle.kdl_layout.specs.Internal.Names.{spelling_of, without_value}
-use Rattle.kdl_entry.proofs.Slicing.Between.{empty_text}
+use Rattle.kdl_layout.proofs.Common.{◌≡◌, ◌∙◌, [], Option, Some, option_map, ap, Text, text_of, EntryFormat, entry_format_tree, entry_tree, KdlEntryFormat, empty_text, without_value}
+use Rattle.kdl_layout.specs.Internal.Names.{spelling_of}
 use Rattle.kdl_layout.proofs.names.take_spelling.Goals as goal
 
 pub returns-in-Some-clause-left : goal.returns-in-Some-clause-left

@@ -1,6 +1,4 @@
-use Rattle.std.proofs.Common.{◌≡◌, ◌++◌, map}
-use Rattle.kdl_layout.specs.OneLine.{formats_in_line}
-use Rattle.kdl_parts.specs.Formats.{node_format_tree}
+use Rattle.kdl_layout.proofs.Common.{◌≡◌, ◌++◌, map, formats_in_line, node_format_tree}
 use Rattle.kdl_layout.proofs.one_line.formats_in_line.Given as goal
 
 abbrev pub invariant-loop-left : goal.invariant-loop-left

@@ -1,5 +1,4 @@
-use Rattle.std.proofs.Common.{[], ◌∷◌, refl}
-use Rattle.std.specs.Str.{chars}
+use Rattle.kdl_layout.proofs.Common.{[], ◌∷◌, refl, chars}
 use Rattle.kdl_layout.proofs.Dropping.TokenLoop.{after_dash}
 use Rattle.kdl_layout.proofs.places.after_dash.Goals as goal
 

@@ -1,6 +1,4 @@
-use Rattle.std.proofs.Common.{Some, ap}
-use Rattle.std.specs.Str.{chars}
-use Rattle.kdl_layout.specs.Internal.Reading.{items_view}
+use Rattle.kdl_layout.proofs.Common.{Some, ap, chars, items_view}
 use Rattle.kdl_layout.proofs.Lacking.GapPieces.{gap_listed}
 use Rattle.kdl_layout.proofs.places.gap_items.Goals as goal
 

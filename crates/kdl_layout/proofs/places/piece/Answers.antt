@@ -1,4 +1,4 @@
-use Rattle.std.specs.Str.{chars}
+use Rattle.kdl_layout.proofs.Common.{chars}
 use Rattle.kdl_layout.proofs.Dropping.TokenLoop.{piece_of, piece_cut, piece_between}
 use Rattle.kdl_layout.proofs.places.piece.Goals as goal
 

@@ -1,6 +1,4 @@
-use Rattle.std.proofs.Common.{Some, ap}
-use Rattle.std.specs.Str.{chars}
-use Rattle.kdl_layout.specs.Internal.Reading.{items_view, place_view}
+use Rattle.kdl_layout.proofs.Common.{Some, ap, chars, items_view, place_view}
 use Rattle.kdl_layout.proofs.Lacking.PlacePieces.{place_listed}
 use Rattle.kdl_layout.proofs.places.place_items.Goals as goal
 

@@ -1,9 +1,4 @@
-use Rattle.std.proofs.Common.{length}
-use denote.Text.{Utf8}
-use denote.Shadow.{shadow}
-use Rattle.std.specs.Str.{chars}
-use Rattle.kdl_layout.specs.Internal.Lacking.{Through}
-use Rattle.kdl_layout.specs.Internal.Reading.{Adding, held}
+use Rattle.kdl_layout.proofs.Common.{length, chars, Utf8, shadow, Through, Adding, held}
 use Rattle.kdl_layout.proofs.places.read_gap.Given as goal
 
 abbrev pub invariant-pieces : goal.invariant-pieces

@@ -1,6 +1,4 @@
-use Rattle.std.proofs.Common.{sym, ◌∙◌}
-use Rattle.std.specs.Str.{chars}
-use Rattle.kdl_layout.specs.Internal.Reading.{held, place_view}
+use Rattle.kdl_layout.proofs.Common.{sym, ◌∙◌, chars, held, place_view}
 use Rattle.kdl_layout.proofs.Lacking.PlacePieces.{place_start, place_turn, place_done, place_lacking, place_refused, place_undone}
 use Rattle.kdl_layout.proofs.Listing.Starts.{no_chars, some_chars}
 use Rattle.kdl_layout.proofs.places.read_place.Goals as goal
@@ -12,19 +10,19 @@ pub place_piece-requires : goal.place_piece-requires
 place_piece-requires c = some_chars c.pieces.rest.now c.pieces.invariant.0 (sym c.is_empty.ensures ∙ c.pieces-test.true)
 
 pub pieces-smaller : goal.pieces-smaller
-pieces-smaller c = rw c.same-rest.ensures (rw (c.in-Some-Onward.is, c.in-Some-Onward.field-0-is) at c.in_ok-next.ensures).1
+pieces-smaller c = rw c.same-rest.ensures (rw (c.in-Some-Continue.is, c.in-Some-Continue.field-0-is) at c.in_ok-next.ensures).1
 
 pub pieces-preserved : goal.pieces-preserved
 pieces-preserved c = (
   c.same-rest.utf8,
-  place_turn (place_view c.args.place) (place_view c.pieces.place) (place_view c.in-Some-Onward.next) (chars c.args.text.now) (chars c.pieces.rest.now) (chars c.same-rest.result.now) (chars c.in-Some-Onward.following.now) c.pieces.invariant.1
-      (rw (c.in-Some-Onward.is, c.in-Some-Onward.field-0-is) at c.in_ok-next.ensures).0 c.same-rest.ensures,
+  place_turn (place_view c.args.place) (place_view c.pieces.place) (place_view c.in-Some-Continue.next) (chars c.args.text.now) (chars c.pieces.rest.now) (chars c.same-rest.result.now) (chars c.in-Some-Continue.following.now) c.pieces.invariant.1
+      (rw (c.in-Some-Continue.is, c.in-Some-Continue.field-0-is) at c.in_ok-next.ensures).0 c.same-rest.ensures,
 )
 
-pub returns-in-Some-InEscline : goal.returns-in-Some-InEscline
-returns-in-Some-InEscline c =
+pub returns-in-Some-Break : goal.returns-in-Some-Break
+returns-in-Some-Break c =
     place_lacking (place_view c.args.place) (place_view c.pieces.place) (chars c.args.text.now) (chars c.pieces.rest.now) c.pieces.invariant.1
-    (rw (c.in-Some-InEscline.is, c.in-Some-InEscline.field-0-is) at c.in_ok-next.ensures)
+    (rw (c.in-Some-Break.is, c.in-Some-Break.field-0-is) at c.in_ok-next.ensures)
 
 pub returns-in-None : goal.returns-in-None
 returns-in-None c = place_refused (place_view c.args.place) (place_view c.pieces.place) (chars c.args.text.now) (chars c.pieces.rest.now) c.pieces.invariant.1 (rw c.in-None.is at c.in_ok-next.ensures)

@@ -1,9 +1,4 @@
-use Rattle.std.proofs.Common.{length}
-use denote.Text.{Utf8}
-use denote.Shadow.{shadow}
-use Rattle.std.specs.Str.{chars}
-use Rattle.kdl_layout.specs.Internal.Lacking.{PlaceThrough}
-use Rattle.kdl_layout.specs.Internal.Reading.{Adding, held, place_view}
+use Rattle.kdl_layout.proofs.Common.{length, chars, Utf8, shadow, PlaceThrough, Adding, held, place_view}
 use Rattle.kdl_layout.proofs.places.read_place.Given as goal
 
 abbrev pub invariant-pieces : goal.invariant-pieces

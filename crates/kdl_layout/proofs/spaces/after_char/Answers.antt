@@ -1,6 +1,4 @@
-use Rattle.std.proofs.Common.{sym, ap, ◌∷◌, ◌∙◌}
-use Rattle.std.specs.Str.{chars}
-use Rattle.kdl_text.specs.Chars.{Text}
+use Rattle.kdl_layout.proofs.Common.{sym, ap, ◌∷◌, ◌∙◌, chars, Text}
 use Rattle.kdl_layout.proofs.Listing.Starts.{ate_moves, cut_len, parts_at}
 use Rattle.kdl_layout.proofs.spaces.after_char.Goals as goal
 

@@ -1,4 +1,4 @@
-use Rattle.std.specs.Str.{chars}
+use Rattle.kdl_layout.proofs.Common.{chars}
 use Rattle.kdl_layout.proofs.spaces.break_ending.Goals as goal
 
 pub line_ending-requires : goal.line_ending-requires

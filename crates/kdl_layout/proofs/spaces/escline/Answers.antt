@@ -1,5 +1,4 @@
-use Rattle.std.specs.Str.{chars}
-use Rattle.kdl_layout.specs.Internal.Reading.{held}
+use Rattle.kdl_layout.proofs.Common.{chars, held}
 use Rattle.kdl_layout.proofs.Lacking.SpaceEnds.{escline_start, escline_on, escline_break, escline_ends, escline_none}
 use Rattle.kdl_layout.proofs.Listing.Starts.{starts_shorter, break_of, no_ws, no_escline_end}
 use Rattle.kdl_layout.proofs.spaces.escline.Goals as goal

@@ -1,8 +1,4 @@
-use Rattle.std.proofs.Common.{length}
-use denote.Text.{Utf8}
-use denote.Shadow.{shadow}
-use Rattle.std.specs.Str.{chars}
-use Rattle.kdl_layout.specs.Internal.Reading.{Adding, held}
+use Rattle.kdl_layout.proofs.Common.{length, chars, Utf8, shadow, Adding, held}
 use Rattle.kdl_layout.proofs.Lacking.SpaceEnds.{EsclineTo}
 use Rattle.kdl_layout.proofs.spaces.escline.Given as goal
 

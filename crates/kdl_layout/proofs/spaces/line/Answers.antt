@@ -1,5 +1,4 @@
-use Rattle.std.proofs.Common.{◌∙◌}
-use Rattle.std.specs.Str.{chars}
+use Rattle.kdl_layout.proofs.Common.{◌∙◌, chars}
 use Rattle.kdl_text.proofs.Spacing.SpaceReads.{moves_ran}
 use Rattle.kdl_layout.proofs.Listing.Starts.{skips_line, parts_at}
 use Rattle.kdl_layout.proofs.spaces.line.Goals as goal

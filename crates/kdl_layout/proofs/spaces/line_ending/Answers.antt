@@ -1,4 +1,4 @@
-use Rattle.std.proofs.Common.{sym, ◌∙◌}
+use Rattle.kdl_layout.proofs.Common.{sym, ◌∙◌}
 use Rattle.kdl_layout.proofs.Lacking.SpaceEnds.{break_before}
 use Rattle.kdl_layout.proofs.Listing.Starts.{no_chars, some_chars}
 use Rattle.kdl_layout.proofs.spaces.line_ending.Goals as goal

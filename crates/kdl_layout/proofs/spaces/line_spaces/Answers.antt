@@ -1,6 +1,4 @@
-use Rattle.std.proofs.lemmas.Result.{IfOk-weaker}
-use Rattle.std.specs.Str.{chars}
-use Rattle.kdl_layout.specs.Internal.Reading.{held}
+use Rattle.kdl_layout.proofs.Common.{IfOk-weaker, chars, held}
 use Rattle.kdl_layout.proofs.Lacking.SpaceEnds.{as_lines, break_adds}
 use Rattle.kdl_layout.proofs.Listing.Starts.{break_of, no_break}
 use Rattle.kdl_layout.proofs.spaces.line_spaces.Goals as goal

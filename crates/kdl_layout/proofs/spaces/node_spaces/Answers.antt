@@ -1,10 +1,4 @@
-use Rattle.std.proofs.Common.{sym, subst}
-use Rattle.std.proofs.lemmas.Result.{IfOk-weaker}
-use Rattle.kdl_text.specs.Chars.{Text}
-use Rattle.kdl_text.specs.Trivia.{NodeSpace}
-use Rattle.kdl_layout.specs.Items.{SpaceItems}
-use Rattle.kdl_layout.specs.Internal.Lacking.{Spaces}
-use Rattle.kdl_layout.specs.Internal.Reading.{held}
+use Rattle.kdl_layout.proofs.Common.{sym, subst, IfOk-weaker, Text, NodeSpace, SpaceItems, Spaces, held}
 use Rattle.kdl_layout.proofs.Lacking.SpaceEnds.{space_adds}
 use Rattle.kdl_layout.proofs.Listing.Starts.{no_node_space}
 use Rattle.kdl_layout.proofs.spaces.node_spaces.Goals as goal

@@ -1,7 +1,4 @@
-use Rattle.std.proofs.Common.{sym, ◌∙◌, Some, None}
-use Rattle.std.specs.Str.{chars}
-use Rattle.kdl_layout.specs.Internal.Reading.{held}
-use Rattle.kdl_layout.specs.declared.ends.Ending.TheVariants.{InReturn, Open}
+use Rattle.kdl_layout.proofs.Common.{sym, ◌∙◌, Some, None, chars, held, InReturn, Open}
 use Rattle.kdl_layout.proofs.Lacking.SpaceEnds.{spaces_start, spaces_on, not_spaces, all_spaces}
 use Rattle.kdl_layout.proofs.Listing.Starts.{no_chars, some_chars}
 use Rattle.kdl_layout.proofs.spaces.only_spaces.Goals as goal

@@ -1,8 +1,4 @@
-use Rattle.std.proofs.Common.{length}
-use denote.Text.{Utf8}
-use denote.Shadow.{shadow}
-use Rattle.std.specs.Str.{chars}
-use Rattle.kdl_layout.specs.Internal.Reading.{Adding, held}
+use Rattle.kdl_layout.proofs.Common.{length, chars, Utf8, shadow, Adding, held}
 use Rattle.kdl_layout.proofs.Lacking.SpaceEnds.{SpacesFrom}
 use Rattle.kdl_layout.proofs.spaces.only_spaces.Given as goal
 

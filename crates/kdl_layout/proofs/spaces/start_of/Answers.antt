@@ -1,4 +1,4 @@
-use Rattle.std.specs.Str.{chars}
+use Rattle.kdl_layout.proofs.Common.{chars}
 use Rattle.kdl_layout.proofs.Listing.Starts.{token_before, token_read}
 use Rattle.kdl_layout.proofs.spaces.start_of.Goals as goal
 

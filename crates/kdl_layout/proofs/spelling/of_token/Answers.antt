@@ -1,8 +1,5 @@
-use Rattle.std.proofs.Common.{Global, String, subst, sym}
+use Rattle.kdl_layout.proofs.Common.{Global, String, subst, sym, text_of, value_tree, KdlValue, IsSpelling}
 use Rattle.kdl_value.specs.Data as data'
-use Rattle.kdl_value.specs.Tree.{text_of, value_tree}
-use Rattle.kdl_value.specs.declared.value.KdlValue.{KdlValue}
-use Rattle.kdl_layout.specs.Respelled.{IsSpelling}
 use Rattle.kdl_layout.proofs.Respelling.Spellings.{cut_spelling, cut_string, cut_value, no_end, other_kind}
 use Rattle.kdl_layout.proofs.spelling.of_token.Goals as goal
 

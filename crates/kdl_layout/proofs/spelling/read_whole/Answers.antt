@@ -1,6 +1,4 @@
-use Rattle.std.proofs.Common.{ap}
-use Rattle.std.specs.Str.{chars}
-use Rattle.kdl_text.specs.Internal.Here.{Here}
+use Rattle.kdl_layout.proofs.Common.{ap, chars, Here}
 use Rattle.kdl_layout.proofs.Respelling.Spellings.{faulty_spells}
 use Rattle.kdl_layout.proofs.spelling.read_whole.Goals as goal
 

@@ -1,7 +1,5 @@
-use Rattle.std.proofs.Common.{ap}
-use Rattle.std.proofs.lemmas.Bool.Decides.{Decides-at}
+use Rattle.kdl_layout.proofs.Common.{ap, Decides-at, chars}
 use Rattle.std.proofs.lemmas.Slice.Eq.{bytes_eq-Decides}
-use Rattle.std.specs.Str.{chars}
 use Rattle.kdl_text.proofs.Looking.Texts.{chars_same}
 use Rattle.kdl_layout.proofs.spelling.same.Goals as goal
 

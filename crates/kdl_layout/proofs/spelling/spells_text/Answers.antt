@@ -1,7 +1,4 @@
-use Rattle.std.proofs.Common.{◌≡◌, false, true}
-use Rattle.std.specs.Str.{chars}
-use Rattle.kdl_value.specs.Data.{text}
-use Rattle.kdl_layout.specs.Internal.Whole.{whole_view}
+use Rattle.kdl_layout.proofs.Common.{◌≡◌, false, true, chars, text, whole_view}
 use Rattle.kdl_layout.proofs.Respelling.Spellings.{decides_text, spelling_text}
 use Rattle.kdl_layout.proofs.spelling.spells_text.Goals as goal
 

@@ -1,6 +1,4 @@
-use Rattle.std.specs.Str.{chars}
-use Rattle.kdl_value.specs.Tree.{value_tree}
-use Rattle.kdl_layout.specs.Internal.Whole.{whole_view}
+use Rattle.kdl_layout.proofs.Common.{chars, value_tree, whole_view}
 use Rattle.kdl_layout.proofs.Respelling.Spellings.{decides_value}
 use Rattle.kdl_layout.proofs.spelling.spells_value.Goals as goal
 

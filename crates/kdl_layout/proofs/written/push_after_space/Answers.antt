@@ -1,10 +1,5 @@
-use Rattle.std.proofs.Common.{[], ◌∷◌, ◌++◌, sym, ap, ◌∙◌, arith, append-nil}
-use Rattle.std.specs.Str.{chars}
-use Rattle.kdl_text.specs.Chars.{Text}
-use Rattle.kdl_value.specs.Tree.{text_of}
-use Rattle.kdl_layout.specs.Internal.Reading.{item_view}
-use Rattle.kdl_layout.specs.Written.{tail}
-use Rattle.kdl_layout.specs.declared.item.Item.{Item}
+use Rattle.kdl_layout.proofs.Common.{[], ◌∷◌, ◌++◌, sym, ap, ◌∙◌, arith, append-nil, chars, Text, text_of, tail, item_view}
+use Rattle.kdl_layout.specs.declared.spaces.Item.{Item}
 use Rattle.kdl_layout.proofs.Rewriting.Pushing.{if_ok, one_char, two, three, escline_text}
 use Rattle.kdl_layout.proofs.written.push_after_space.Goals as goal
 

@@ -1,9 +1,4 @@
-use Rattle.std.proofs.Common.{rules, ◌≡◌, ◌++◌, ap, ◌∙◌, arith}
-use Rattle.std.specs.Str.{chars}
-use Rattle.kdl_text.specs.Chars.{Text}
-use Rattle.kdl_value.specs.Tree.{text_of}
-use Rattle.kdl_layout.specs.Internal.Reading.{item_view}
-use Rattle.kdl_layout.specs.Written.{item_text, line_text}
+use Rattle.kdl_layout.proofs.Common.{rules, ◌≡◌, ◌++◌, ap, ◌∙◌, arith, chars, Text, text_of, item_text, line_text, item_view}
 use Rattle.kdl_layout.proofs.Rewriting.Pushing.{if_ok, one_char, three}
 use Rattle.kdl_layout.proofs.written.push_line.Goals as goal
 use Rattle.kdl_layout.proofs.written.push_line.Goals.{in-Comment, in-Comment-2}

@@ -1,7 +1,5 @@
-use Rattle.std.proofs.Common.{◌++◌, sym, ap, ◌∙◌, arith}
+use Rattle.kdl_layout.proofs.Common.{◌++◌, sym, ap, ◌∙◌, arith, Text, text_of}
 use Rattle.std.proofs.lemmas.Str.Pattern.{strip_suffix_char}
-use Rattle.kdl_text.specs.Chars.{Text}
-use Rattle.kdl_value.specs.Tree.{text_of}
 use Rattle.kdl_layout.proofs.Rewriting.Pushing.{if_ok, one_char, two, line_shorter, line_same}
 use Rattle.kdl_layout.proofs.written.push_line_text.Goals as goal
 

@@ -1,8 +1,4 @@
-use Rattle.std.proofs.Common.{◌++◌, sym, ap, ◌∙◌, arith, append-nil}
-use Rattle.std.specs.Str.{chars}
-use Rattle.kdl_text.specs.Chars.{Text}
-use Rattle.kdl_value.specs.Tree.{text_of}
-use Rattle.kdl_layout.specs.Written.{lines}
+use Rattle.kdl_layout.proofs.Common.{◌++◌, sym, ap, ◌∙◌, arith, append-nil, chars, Text, text_of, lines}
 use Rattle.kdl_layout.proofs.Rewriting.Pushing.{one_more, all_written, lines_after}
 use Rattle.kdl_layout.proofs.written.push_lines.Goals as goal
 

@@ -1,8 +1,4 @@
-use Rattle.std.proofs.Common.{◌≡◌, ◌++◌, take}
-use Rattle.std.specs.Str.{chars}
-use Rattle.kdl_value.specs.Tree.{text_of}
-use Rattle.kdl_layout.specs.Internal.Reading.{items_view}
-use Rattle.kdl_layout.specs.Written.{lines}
+use Rattle.kdl_layout.proofs.Common.{◌≡◌, ◌++◌, take, chars, text_of, lines, items_view}
 use Rattle.kdl_layout.proofs.written.push_lines.Given as goal
 
 abbrev pub invariant-loop-item : goal.invariant-loop-item

@@ -1,6 +1,4 @@
-use Rattle.std.proofs.Common.{sym, arith, append-nil}
-use Rattle.kdl_value.specs.Tree.{text_of}
-use Rattle.kdl_layout.specs.Written.{tail}
+use Rattle.kdl_layout.proofs.Common.{sym, arith, append-nil, text_of, tail}
 use Rattle.kdl_layout.proofs.Rewriting.Pushing.{one_more, all_written, tail_after}
 use Rattle.kdl_layout.proofs.written.push_tail.Goals as goal
 

@@ -1,7 +1,4 @@
-use Rattle.std.proofs.Common.{◌≡◌, ◌++◌, take}
-use Rattle.kdl_value.specs.Tree.{text_of}
-use Rattle.kdl_layout.specs.Internal.Reading.{items_view}
-use Rattle.kdl_layout.specs.Written.{tail}
+use Rattle.kdl_layout.proofs.Common.{◌≡◌, ◌++◌, take, text_of, tail, items_view}
 use Rattle.kdl_layout.proofs.written.push_tail.Given as goal
 
 abbrev pub invariant-loop-item : goal.invariant-loop-item

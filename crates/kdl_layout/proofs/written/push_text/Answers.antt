@@ -1,7 +1,4 @@
-use Rattle.std.proofs.Common.{refl}
-use Rattle.std.proofs.lemmas.Str.{IsUtf8-string_bytes}
-use Rattle.std.specs.Prelude.{string_bytes}
-use Rattle.std.specs.Str.{chars}
+use Rattle.kdl_layout.proofs.Common.{refl, IsUtf8-string_bytes, string_bytes, chars}
 use Rattle.kdl_text.proofs.Looking.SliceCost.{pushed}
 use Rattle.kdl_layout.proofs.written.push_text.Goals as goal
 

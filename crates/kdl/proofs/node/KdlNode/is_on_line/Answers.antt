@@ -1,11 +1,10 @@
-use Rattle.std.proofs.Common.{rules}
-use Rattle.kdl_layout.specs.OneLine.{is_last}
+use Rattle.std.proofs.Common.{rules, ◌==◌}
 use Rattle.kdl.specs.declared.document.KdlDocument.TheViews.{the_lemmas}
 use Rattle.kdl.proofs.LayingOut.Lines.{node_block, node_line}
 use Rattle.kdl.proofs.node.KdlNode.is_on_line.Goals as goal
 
 pub returns-then-is_some : goal.returns-then-is_some
-returns-then-is_some c = node_block c.args.self.now (is_last c.args.position) (search (rules, the_lemmas))
+returns-then-is_some c = node_block c.args.self.now (c.args.following == 0) (search (rules, the_lemmas))
 
 pub returns : goal.returns
-returns c = node_line c.args.self.now (is_last c.args.position) c.is_line.result (search (rules, the_lemmas)) (search (rules, the_lemmas))
+returns c = node_line c.args.self.now (c.args.following == 0) c.is_line.result (search (rules, the_lemmas)) (search (rules, the_lemmas))

@@ -1,5 +1,4 @@
-use Rattle.std.proofs.Common.{ap, refl, ◌∷◌, []}
-use Rattle.kdl_text.specs.Chars.{Text}
+use Rattle.kdl_layout.proofs.Common.{ap, refl, ◌∷◌, [], Text}
 use Rattle.kdl_layout.specs.Config.{defaults}
 use Rattle.kdl_layout.proofs.Texts.{ascii_text}
 use Rattle.kdl_layout.proofs.config.FormatConfigDefault.default.Goals as goal

@@ -1,4 +1,4 @@
-use Rattle.std.proofs.lemmas.Bool.Decides.{Decides-at}
+use Rattle.kdl_layout.proofs.Common.{Decides-at}
 use Rattle.kdl_value.proofs.Comparing.Equality.{value_decides}
 use Rattle.kdl_layout.proofs.spelling.WholeText.is.Goals as goal
 

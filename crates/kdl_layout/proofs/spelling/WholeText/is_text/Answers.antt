@@ -1,8 +1,4 @@
-use Rattle.std.proofs.Common.{◌≡◌, ◌∙◌, ap, sym}
-use Rattle.std.specs.Str.{chars}
-use Rattle.kdl_value.specs.Data.{text}
-use Rattle.kdl_value.specs.Tree.{value_tree}
-use Rattle.kdl_layout.specs.Internal.Whole.{whole_view}
+use Rattle.kdl_layout.proofs.Common.{◌≡◌, ◌∙◌, ap, sym, chars, text, value_tree, whole_view}
 use Rattle.kdl_layout.proofs.Respelling.Spellings.{text_same, text_value_is}
 use Rattle.kdl_layout.proofs.spelling.WholeText.is_text.Goals as goal
 

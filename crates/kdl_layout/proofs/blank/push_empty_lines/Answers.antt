@@ -1,5 +1,5 @@
-use Rattle.kdl_value.specs.Tree.{text_of}
-use Rattle.kdl_layout.proofs.blank.push_newlines.Goals as goal
+use Rattle.kdl_layout.proofs.Common.{text_of}
+use Rattle.kdl_layout.proofs.blank.push_empty_lines.Goals as goal
 use Rattle.kdl_layout.proofs.Texts.{more_newlines}
 
 pub loop-line-preserved : goal.loop-line-preserved

@@ -1,10 +1,6 @@
-use Rattle.std.proofs.Common.{sym, ap, ◌++◌, ◌∙◌}
-use Rattle.std.specs.Str.{chars}
-use Rattle.kdl_text.specs.Chars.{Text}
-use Rattle.kdl_entry.proofs.Slicing.Between.{is_between}
-use Rattle.kdl_layout.specs.Items.{line_end}
+use Rattle.kdl_layout.proofs.Common.{sym, ap, ◌++◌, ◌∙◌, chars, Text, is_between, line_end}
 use Rattle.kdl_layout.proofs.Listing.Starts.{whole_comment}
-use Rattle.kdl_layout.proofs.terminator.line_comment.Goals as goal
+use Rattle.kdl_layout.proofs.layout.line_comment.Goals as goal
 
 pub returns-in-None : goal.returns-in-None
 returns-in-None c =

@@ -1,7 +1,6 @@
-use Rattle.std.proofs.Common.{ap, ◌∙◌}
-use Rattle.std.specs.Str.{chars}
+use Rattle.kdl_layout.proofs.Common.{ap, ◌∙◌, chars}
 use Rattle.kdl_layout.proofs.Listing.Cuts.{cut_boundary, cut_front, cut_after}
-use Rattle.kdl_layout.proofs.slices.cut.Goals as goal
+use Rattle.kdl_layout.proofs.spaces.cut.Goals as goal
 
 pub split_at-requires : goal.split_at-requires
 split_at-requires c = let (p, r, e, n) = c.requires in cut_boundary c.args.text.now p r c.args.at c.utf8.text e n
