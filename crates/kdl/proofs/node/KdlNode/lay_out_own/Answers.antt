@@ -15,7 +15,7 @@ use Rattle.kdl.proofs.LayingOut.PartsSpaced.{own_passes, fitting_node, nodes_fit
 use Rattle.kdl.proofs.LayingOut.StaysReading.{own_stays}
 use Rattle.kdl.proofs.node.KdlNode.lay_out_own.Goals as goal
 
--- what is done with the spelling of the type, behind a reference
+-- what is done with the spelling of the type, which is borrowed
 keeps_of : (keep : Bool) (x : SpellingRule) (o : Option (Bor KdlIdentifier)) (p : Option KdlIdentifier) → option_copied o ≡ p → Keeps keep (option_map (λ i. identifier_tree i.now) o) x → Keeps keep (option_map identifier_tree p) x
 keeps_of keep x None p e k = subst (λ (z : Option KdlIdentifier). Keeps keep (option_map identifier_tree z) x) e k
 keeps_of keep x (Some i) p e k = subst (λ (z : Option KdlIdentifier). Keeps keep (option_map identifier_tree z) x) e k
