@@ -6,7 +6,6 @@
 ghost use Rattle.kdl_diagnostics.specs.Internal.Noted.{Keeps, Lexed};
 ghost use Rattle.kdl_diagnostics.specs.Internal.Outsets.{IsSingle};
 ghost use Rattle.kdl_syntax.specs.Control.{at, finish};
-ghost use Rattle.kdl_syntax.specs.Internal.Views.{phase_view};
 ghost use Rattle.std.specs.Prelude.{◌≡◌, ◌+◌, ◌<◌, [], false, length, None, if◌then◌else◌, true};
 
 use crate::kind::Kind;
@@ -55,7 +54,7 @@ pub(crate) fn in_node() -> Phase {
 
 /// Whether something is expected in the phase, so that the text may not end here.
 pub(crate) fn is_due(phase: Phase) -> bool
-    ensures { finish (at (phase_view phase) []) ≡ (if result then false else true) }
+    ensures { finish (at phase []) ≡ (if result then false else true) }
 {
     !matches!(phase, Phase::Gap | Phase::InNode(_) | Phase::Kept)
 }

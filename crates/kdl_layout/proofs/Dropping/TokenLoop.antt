@@ -3,7 +3,10 @@ use Rattle.kdl_layout.proofs.Common.{◌≡◌, ◌↔◌, ◌⊎◌, inl, inr, 
 use Rattle.kdl_text.specs.Chars.Star.{none as no_star, more}
 use Rattle.kdl_syntax.specs.declared.lexer.Token.{Token as CodeToken}
 use Rattle.kdl_syntax.proofs.Lexing.TokenUnique.{token_shorter}
-use Rattle.kdl_syntax.specs.Control.{fresh, spaced, later, gap, node_slashdash, type_done, in_node, Phase, Frame, in_block, Control, at, step, finish, held, is_gap, is_over, is_block, is_word}
+use Rattle.kdl_syntax.specs.Control.{Control, at, step, finish, held, is_gap, is_over, is_block, is_word}
+use Rattle.kdl_syntax.specs.declared.control.{Frame.TheVariants.Node as NodeBlock, Phase.Phase, Frame.Frame, Word.TheVariants.MayBeKey, Owner.TheVariants.Value as OfValue}
+use Rattle.kdl_syntax.specs.declared.control.Phase.TheVariants.{Gap, NodeSlashdash, TypeDone, InNode}
+use Rattle.kdl_syntax.specs.declared.control.Spot.TheVariants.{Fresh, Spaced, Later}
 use Rattle.kdl_syntax.specs.Internal.Views.{ended_view}
 use Rattle.kdl_syntax.specs.declared.control.Ended.TheVariants.{Entry}
 use Rattle.kdl_layout.specs.Internal.Passing.{before, part_end, ends, Passes}
@@ -86,10 +89,10 @@ Of P (Some d) = P d
 
 -- after a space the control takes more of them, and stays what it is; nothing ends there
 space_turn : (c : Control) → Of (λ d. (step d space ≡ Some d) × (is_over c ≡ false → is_over d ≡ false)) (step c space)
-space_turn (at gap fs) = (refl, λ o. refl)
-space_turn (at (in_node (fresh b)) fs) = (refl, λ o. refl)
-space_turn (at (in_node (spaced b)) fs) = (refl, λ o. refl)
-space_turn (at (in_node later) fs) = (refl, λ o. o)
+space_turn (at Gap fs) = (refl, λ o. refl)
+space_turn (at (InNode (Fresh b)) fs) = (refl, λ o. refl)
+space_turn (at (InNode (Spaced b)) fs) = (refl, λ o. refl)
+space_turn (at (InNode Later) fs) = (refl, λ o. o)
 space_turn _ = (refl, λ o. refl)
 
 pub is_not : (b : Bool) → not b ≡ true → b ≡ false
@@ -107,17 +110,17 @@ spaced_turn g c {d} f h = go g (subst (Of (λ d. (step d space ≡ Some d) × (i
 to_gap : (k : Token) (fs : List Frame) (p : Phase) → is_gap (at p fs) ≡ false → held is_gap (step (at p fs) k) ≡ true → (k ≡ newline) ⊎ (k ≡ semicolon)
 to_gap newline fs p g e = inl refl
 to_gap semicolon fs p g e = inr refl
-to_gap k (in_block ∷ fs) gap g e = absurd cc
-to_gap k fs (in_node (fresh true)) g e = absurd cc
-to_gap k fs (in_node (spaced true)) g e = absurd cc
-to_gap k fs (type_done true) g e = absurd cc
+to_gap k (NodeBlock ∷ fs) Gap g e = absurd cc
+to_gap k fs (InNode (Fresh MayBeKey)) g e = absurd cc
+to_gap k fs (InNode (Spaced MayBeKey)) g e = absurd cc
+to_gap k fs (TypeDone OfValue) g e = absurd cc
 to_gap k fs p g e = absurd cc
 
 pub gap_turn : (c : Control) (k : Token) → is_gap c ≡ false → held is_gap (step c k) ≡ true → (k ≡ newline) ⊎ (k ≡ semicolon)
 gap_turn (at p fs) k g e = to_gap k fs p g e
 
-gap_is : (d : Control) → is_gap d ≡ true → d ≡ at gap []
-gap_is (at gap []) e = refl
+gap_is : (d : Control) → is_gap d ≡ true → d ≡ at Gap []
+gap_is (at Gap []) e = refl
 gap_is _ e = absurd cc
 
 -- over a run of spaces
@@ -187,8 +190,8 @@ not_over after_block = refl
 starts : (g : Goal) (first : Control) (t : Text) (here : Here) (c : Control) → here.rest ≡ t → here.at ≡ 0 → c ≡ first → is_end g first ≡ false → Goes g first here c t 0
 starts g first t here c e n h o = record { following = t; same = rw (e, h) (λ x. (λ p. p, λ p. p)); counted = ([], refl, refl); text = ([], sym e, sym n); under_way = rw h o }
 
-pub node_starts : (t : Text) (here : Here) (c : Control) → here.rest ≡ t → here.at ≡ 0 → c ≡ at node_slashdash [] → Goes for_node (at node_slashdash []) here c t 0
-node_starts t here c e n h = starts for_node (at node_slashdash []) t here c e n h refl
+pub node_starts : (t : Text) (here : Here) (c : Control) → here.rest ≡ t → here.at ≡ 0 → c ≡ at NodeSlashdash [] → Goes for_node (at NodeSlashdash []) here c t 0
+node_starts t here c e n h = starts for_node (at NodeSlashdash []) t here c e n h refl
 
 pub part_starts : (p : Place) (t : Text) (here : Here) (c : Control) → here.rest ≡ t → here.at ≡ 0 → c ≡ slashdash_in p → Goes for_part (slashdash_in p) here c t 0
 part_starts p t here c e n h = starts for_part (slashdash_in p) t here c e n h (not_over p)
@@ -227,7 +230,7 @@ at_stop z f (stops (returns {r = r} {k = k} t h)) = no_token (subst (λ (a : Tex
 at_stop z f (stops (ends g h)) = cc
 at_stop z f (goes {r = r} {k = k} t h g p) = no_token (subst (λ (a : Text). BeginsToken a k r) z t)
 
-pub node_stops : (t : Text) (here : Here) (c : Control) (last : ℕ) → Goes for_node (at node_slashdash []) here c t last → here.rest ≡ [] → AnswersDroppedNode t (then_some (finish c) (last, None))
+pub node_stops : (t : Text) (here : Here) (c : Control) (last : ℕ) → Goes for_node (at NodeSlashdash []) here c t last → here.rest ≡ [] → AnswersDroppedNode t (then_some (finish c) (last, None))
 node_stops t here c last g z = go (finish c) refl
   where
     go : (b : Bool) → finish c ≡ b → AnswersDroppedNode t (then_some b (last, None))
@@ -243,10 +246,10 @@ last_turn {c = c} {d = d} g (spaces n) f h = ends_spaces (gap_turn c space g (ap
     ends_spaces (inl e) = cc
     ends_spaces (inr e) = cc
 
-pub token_ends : {old : Here} {c d : Control} {k : Token} {t : Text} {last : ℕ} → Goes for_node (at node_slashdash []) old c t last → step c k ≡ Some d → is_gap d ≡ true → (k ≡ newline) ⊎ (k ≡ semicolon)
+pub token_ends : {old : Here} {c d : Control} {k : Token} {t : Text} {last : ℕ} → Goes for_node (at NodeSlashdash []) old c t last → step c k ≡ Some d → is_gap d ≡ true → (k ≡ newline) ⊎ (k ≡ semicolon)
 token_ends {c = c} {k = k} g f x = gap_turn c k g.under_way (ap (held is_gap) f ∙ x)
 
-pub node_returns : (t : Text) (old new : Here) (c d : Control) (k : CodeToken) (last n : ℕ) (y : Ending) → Goes for_node (at node_slashdash []) old c t last → HandsOut old k new → Moves old new → step c (kind_view k.kind) ≡ Some d → is_gap d ≡ true
+pub node_returns : (t : Text) (old new : Here) (c d : Control) (k : CodeToken) (last n : ℕ) (y : Ending) → Goes for_node (at NodeSlashdash []) old c t last → HandsOut old k new → Moves old new → step c (kind_view k.kind) ≡ Some d → is_gap d ≡ true
     → (i : Text) × ItemEnd k.at.start.rest k.at.end.rest i × Before t n i × EndsNode k.at.end.rest k.at.start.rest y → AnswersDroppedNode t (Some (n, Some y))
 node_returns t old new c d k last n y g h m f x (i, j, a, o) =
     let p = (g.same (returned (kind_view k.kind) old.rest new.rest)).1 (last_turn g.under_way h.cuts f x) in

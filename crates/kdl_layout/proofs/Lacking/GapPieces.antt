@@ -4,7 +4,8 @@ use Rattle.kdl_text.specs.Chars.{none}
 use Rattle.kdl_text.specs.Internal.Here.{first}
 use Rattle.kdl_grammar.specs.Data as nodes'
 use Rattle.kdl_grammar.specs.Data.{Node, Nodes}
-use Rattle.kdl_syntax.specs.Control.{Control, at, node_slashdash}
+use Rattle.kdl_syntax.specs.Control.{Control, at}
+use Rattle.kdl_syntax.specs.declared.control.Phase.TheVariants.{NodeSlashdash}
 use Rattle.kdl_grammar.specs.ReadsBack.{NodesEnd}
 use Rattle.kdl_grammar.proofs.ReadingBack.Closing.{after_lf}
 use Rattle.kdl_layout.specs.Lacks.{newlines}
@@ -92,7 +93,7 @@ some_end : {u v e : Text} → ItemEnd u v e → u ≡ [] → ⊥
 some_end ItemEnd.semicolon e = cc
 some_end (ItemEnd.line b) e = omega (arith, break_shorter b, ap length e)
 
-module _ {b u v e : Text} {k : Token} (p : NodePasses (at node_slashdash []) b b (returned k u v)) (i : ItemEnd u v e) where
+module _ {b u v e : Text} {k : Token} (p : NodePasses (at NodeSlashdash []) b b (returned k u v)) (i : ItemEnd u v e) where
   the_node : HasGap v → (t : Text) × (x : Node) × Slashdash (47 ∷ 45 ∷ b) t × IsNode true t u x
   the_node h = go (dash_items ((node_returned p i (piece (between (47 ∷ 45 ∷ b) e) ∷ h.0)).1 (h.0, refl, h.1)))
     where
@@ -134,7 +135,7 @@ ended_spaces : {c : Control} {last s w : Text} → NodePasses c last s (passing.
 ended_spaces (stops (ends g f)) ss = ss
 ended_spaces (goes t f g p) ss = ended_spaces p (moved_spaces t ss)
 
-module _ {b u : Text} (p : NodePasses (at node_slashdash []) b b (passing.ended u)) where
+module _ {b u : Text} (p : NodePasses (at NodeSlashdash []) b b (passing.ended u)) where
   spaces_after : Star NodeSpace u []
   spaces_after = ended_spaces p none
 
@@ -171,7 +172,7 @@ module _ {b u : Text} (p : NodePasses (at node_slashdash []) b b (passing.ended 
 abbrev nothing_after : {v : Text} → [] ≡ v → HasGap v
 nothing_after e = ([], subst (λ (h : Text). GapItems h []) e GapItems.none)
 
-module _ {b u v c : Text} {k : Token} (p : NodePasses (at node_slashdash []) b b (returned k u v)) (i : ItemEnd u v c) {node : Text} (q : node ≡ between (47 ∷ 45 ∷ b) c) (old now : Option (List Item)) (m : now ≡ added old (piece node ∷ [])) where
+module _ {b u v c : Text} {k : Token} (p : NodePasses (at NodeSlashdash []) b b (returned k u v)) (i : ItemEnd u v c) {node : Text} (q : node ≡ between (47 ∷ 45 ∷ b) c) (old now : Option (List Item)) (m : now ≡ added old (piece node ∷ [])) where
   one_item : [] ≡ v → Adding (GapItems (47 ∷ 45 ∷ b)) old now
   one_item e = adding (piece node ∷ []) m (rw q (leaves_all (GapItems (47 ∷ 45 ∷ b)) (GapItems v) (piece (between (47 ∷ 45 ∷ b) c) ∷ []) (node_returned p i) (nothing_after e).1))
 

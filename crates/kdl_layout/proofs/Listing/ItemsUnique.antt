@@ -1,6 +1,7 @@
 -- A gap, or a place in a node, has one list of items at most.
 use Rattle.kdl_layout.proofs.Common.{◌≡◌, refl, List, [], ◌∷◌, ◌++◌, sym, ap, subst, ◌∙◌, Text, slashdash, between, Item, piece, GapItems, Place, takes_entries, PlaceItems, EndItems, ItemsIn, ended, NodePasses}
-use Rattle.kdl_syntax.specs.Control.{at, node_slashdash}
+use Rattle.kdl_syntax.specs.Control.{at}
+use Rattle.kdl_syntax.specs.declared.control.Phase.TheVariants.{NodeSlashdash}
 use Rattle.kdl_layout.proofs.Dropping.DroppedNodes.{passes_node, passes_last, tight_same, node_returned, node_ended}
 use Rattle.kdl_layout.proofs.Dropping.DroppedParts.{place_quiet, entry_passes, block_passes, part_leaves}
 use Rattle.kdl_layout.proofs.Listing.SpaceItems.{gap_space, gap_end, place_space, place_end}
@@ -13,7 +14,7 @@ gap_items_det {js = js} (GapItems.dropped_node {e = e} (slashdash {s = t} ls) x 
     ap (λ (l : List Item). piece (between (47 ∷ 45 ∷ t) e) ∷ l) (gap_items_det g w.2) ∙ sym w.1
 gap_items_det {js = js} (GapItems.last_node {u = u} (slashdash {s = t} ls) x tight ss g) h =
     let q = passes_last ls x ss in
-    let w = (node_ended (subst (λ (z : Text). NodePasses (at node_slashdash []) t t (ended z)) (tight_same tight q.1 q.2) q.3) js).0 h in
+    let w = (node_ended (subst (λ (z : Text). NodePasses (at NodeSlashdash []) t t (ended z)) (tight_same tight q.1 q.2) q.3) js).0 h in
     ap (λ (l : List Item). piece (between (47 ∷ 45 ∷ t) u) ∷ l) (gap_items_det g w.2) ∙ sym w.1
 
 pub place_items_det : {p : Place} {s : Text} {is js : List Item} → PlaceItems p s is → PlaceItems p s js → is ≡ js

@@ -3,7 +3,8 @@ use Rattle.std.specs.Prelude.{◌≡◌, ℕ, Bool, true, false, if◌then◌els
 use Rattle.kdl_text.specs.Chars.{Text}
 use Rattle.kdl_text.specs.Spans.{bytes}
 use Rattle.kdl_syntax.specs.Tokens.{Token}
-use Rattle.kdl_syntax.specs.Control.{Control, at, node_slashdash}
+use Rattle.kdl_syntax.specs.Control.{Control, at}
+use Rattle.kdl_syntax.specs.declared.control.Phase.TheVariants.{NodeSlashdash}
 use Rattle.kdl_syntax.specs.Internal.Views.{ended_view}
 use Rattle.kdl_syntax.specs.declared.control.Ended.{Ended}
 use Rattle.kdl_layout.specs.Internal.Lacking.{EndsNode}
@@ -26,7 +27,7 @@ EndsNowhere g c t = (e : End) → Passes g c t t e → ⊥
 
 abbrev pub AnswersDroppedNode : Text → Option (ℕ × Option Ending) → Type 0
 AnswersDroppedNode t (Some e) = EndsAt t e
-AnswersDroppedNode t None = EndsNowhere for_node (at node_slashdash []) t
+AnswersDroppedNode t None = EndsNowhere for_node (at NodeSlashdash []) t
 
 -- an entry or a block that is slashdashed in the place ends there
 abbrev pub AnswersDroppedPart : Place → Text → Option (ℕ × Ended) → Type 0
