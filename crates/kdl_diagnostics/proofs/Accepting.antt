@@ -8,7 +8,9 @@ use Rattle.kdl_syntax.specs.Internal.Handed.{Cuts, one, spaces}
 use Rattle.kdl_syntax.specs.Tokens.{Token, space, BeginsToken, t_space, t_bom, NoToken}
 use Rattle.kdl_syntax.proofs.Lexing.TokenUnique.{token_det, no_token}
 use Rattle.kdl_syntax.specs.Control as c
+use Rattle.kdl_syntax.specs.declared.control.{Phase.TheVariants.Gap, Phase.TheVariants.InNode, Spot.TheVariants.Fresh}
 use Rattle.kdl_syntax.specs.EntryControl as e
+use Rattle.kdl_syntax.specs.declared.entry_control.EntryControl.{EntryControl, TheVariants.Dropping, TheVariants.Under}
 use Rattle.kdl_syntax.specs.NodeControl.{NodeControl, in_text, node_step}
 use Rattle.kdl_diagnostics.specs.TextControl.{TextControl, in_document, in_node, in_entry, in_identifier, text_step, text_finish, text_start, Takes, ends, takes, AcceptsDocument, no_bom, after_bom}
 use Rattle.kdl_diagnostics.specs.declared.whole.Whole.TheVariants.{Document}
@@ -19,45 +21,19 @@ Of P (Some d) = P d
 
 -- a space more changes nothing
 control_again : (y : c.Control) → Of (λ z. c.step z space ≡ Some z) (c.step y space)
-control_again (c.at c.gap fs) = refl
-control_again (c.at c.node_slashdash fs) = refl
-control_again (c.at (c.type_open b) fs) = refl
-control_again (c.at (c.type_name b) fs) = refl
-control_again (c.at (c.type_done b) fs) = refl
-control_again (c.at (c.in_node (c.fresh b)) fs) = refl
-control_again (c.at (c.in_node (c.spaced b)) fs) = refl
-control_again (c.at (c.in_node c.later) fs) = refl
-control_again (c.at c.property fs) = refl
-control_again (c.at c.entry_slashdash fs) = refl
-control_again (c.at c.block_slashdash fs) = refl
-control_again (c.at c.kept fs) = refl
-control_again (c.at c.kept_slashdash fs) = refl
+control_again (c.at (InNode (Fresh w)) fs) = refl
+control_again (c.at p fs) = refl
 
 node_again : (n : NodeControl) → Of (λ m. node_step m space ≡ Some m) (node_step n space)
-node_again (in_text true (c.at c.gap [])) = refl
-node_again (in_text false (c.at c.gap [])) = refl
-node_again (in_text b (c.at c.gap (f ∷ fs))) = refl
-node_again (in_text b (c.at c.node_slashdash fs)) = refl
-node_again (in_text b (c.at (c.type_open o) fs)) = refl
-node_again (in_text b (c.at (c.type_name o) fs)) = refl
-node_again (in_text b (c.at (c.type_done o) fs)) = refl
-node_again (in_text b (c.at (c.in_node (c.fresh w)) fs)) = refl
-node_again (in_text b (c.at (c.in_node (c.spaced w)) fs)) = refl
-node_again (in_text b (c.at (c.in_node c.later) fs)) = refl
-node_again (in_text b (c.at c.property fs)) = refl
-node_again (in_text b (c.at c.entry_slashdash fs)) = refl
-node_again (in_text b (c.at c.block_slashdash fs)) = refl
-node_again (in_text b (c.at c.kept fs)) = refl
-node_again (in_text b (c.at c.kept_slashdash fs)) = refl
+node_again (in_text true (c.at Gap [])) = refl
+node_again (in_text false (c.at Gap [])) = refl
+node_again (in_text b (c.at (InNode (Fresh w)) fs)) = refl
+node_again (in_text b (c.at p fs)) = refl
 
-pub entry_again : (p : e.EntryControl) → Of (λ q. e.entry_step q space ≡ Some q) (e.entry_step p space)
-entry_again e.ahead = refl
-entry_again (e.dropping (c.in_node (c.fresh b))) = refl
-entry_again (e.dropping p) = refl
-entry_again (e.under (c.in_node q)) = refl
-entry_again (e.under p) = refl
-entry_again e.word = refl
-entry_again e.done = refl
+pub entry_again : (p : EntryControl) → Of (λ q. e.entry_step q space ≡ Some q) (e.entry_step p space)
+entry_again (Dropping (InNode (Fresh w))) = refl
+entry_again (Under (InNode q)) = refl
+entry_again p = refl
 
 lifted : {S : Type 0} (step : S → Token → Option S) (wrap : S → TextControl) → ((s : S) → text_step (wrap s) space ≡ option_map wrap (step s space)) → (o : Option S) → Of (λ z. step z space ≡ Some z) o → Of (λ z. text_step z space ≡ Some z) (option_map wrap o)
 lifted step wrap h None a = tt

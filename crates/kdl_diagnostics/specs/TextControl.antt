@@ -2,8 +2,10 @@
 use Rattle.std.specs.Prelude.{◌≡◌, Bool, true, false, [], ◌∷◌, Option, Some, None, option_map}
 use Rattle.kdl_text.specs.Chars.{Text}
 use Rattle.kdl_syntax.specs.Tokens.{Token, string, BeginsToken}
-use Rattle.kdl_syntax.specs.Control.{Control, at, gap, step, finish}
-use Rattle.kdl_syntax.specs.EntryControl.{EntryControl, ahead, entry_step, entry_finish}
+use Rattle.kdl_syntax.specs.Control.{Control, at, step, finish}
+use Rattle.kdl_syntax.specs.declared.control.Phase.TheVariants.{Gap}
+use Rattle.kdl_syntax.specs.EntryControl.{entry_step, entry_finish}
+use Rattle.kdl_syntax.specs.declared.entry_control.EntryControl.{EntryControl, TheVariants.Ahead}
 use Rattle.kdl_syntax.specs.NodeControl.{NodeControl, node_start, node_step, node_finish}
 use Rattle.kdl_diagnostics.specs.declared.whole.Whole.{Whole}
 use Rattle.kdl_diagnostics.specs.declared.whole.Whole.TheVariants.{Document, Node, Entry, Identifier}
@@ -32,9 +34,9 @@ text_finish (in_identifier b) = b
 
 -- at the start of the text
 abbrev pub text_start : Whole → TextControl
-text_start Document = in_document (at gap [])
+text_start Document = in_document (at Gap [])
 text_start Node = in_node node_start
-text_start Entry = in_entry ahead
+text_start Entry = in_entry Ahead
 text_start Identifier = in_identifier false
 
 -- from here on, the text is cut into tokens that the control takes one after another, and it may end after them

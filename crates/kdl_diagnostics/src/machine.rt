@@ -4,7 +4,6 @@
 //! the control continues from there.
 
 ghost use Rattle.kdl_syntax.specs.Control.{at, finish};
-ghost use Rattle.kdl_syntax.specs.Internal.Views.{phase_view};
 ghost use Rattle.std.specs.Prelude.{◌≡◌, [], false, if◌then◌else◌, true};
 
 use crate::lexemes::{LexemeKind, StringRole};
@@ -61,7 +60,7 @@ pub(crate) fn token_kind(alloc: Global, kind: LexemeKind) -> Option<TokenKind> {
 
 /// Whether something is expected in the phase, so that the text may not end here.
 pub(crate) fn is_due(phase: Phase) -> bool
-    ensures { finish (at (phase_view phase) []) ≡ (if result then false else true) }
+    ensures { finish (at phase []) ≡ (if result then false else true) }
 {
     !matches!(phase, Phase::Gap | Phase::InNode(_) | Phase::Kept)
 }

@@ -1,7 +1,6 @@
 //! Which token may come where in a text, and where the reader of faults may begin.
 
 ghost use Rattle.kdl_syntax.specs.EntryControl.{entry_finish};
-ghost use Rattle.kdl_syntax.specs.Internal.EntryViews.{entry_view};
 ghost use Rattle.kdl_diagnostics.specs.Internal.Outsets.{LacksAt, depth, text_view};
 ghost use Rattle.kdl_diagnostics.specs.TextControl.{text_finish, text_start, text_step};
 ghost use Rattle.kdl_diagnostics.specs.declared.whole.Whole.TheVariants.{Entry, Identifier, Node};
@@ -67,7 +66,7 @@ fn is_slashdashed(control: EntryControl) -> bool {
 
 /// The place in the text of an entry, as far as the control knows it.
 fn place_in_entry(control: EntryControl) -> Outset
-    ensures { entry_finish (entry_view control) ≡ false → LacksAt Entry 0 result }
+    ensures { entry_finish control ≡ false → LacksAt Entry 0 result }
 {
     match control {
         EntryControl::Ahead => Outset::in_phase(in_node()),

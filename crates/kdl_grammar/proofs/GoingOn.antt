@@ -10,7 +10,8 @@ use Rattle.kdl_syntax.proofs.Moving.Puts.{begins_first, front_first, more_first,
 use Rattle.kdl_grammar.specs.Data.{Nodes}
 use Rattle.kdl_grammar.specs.GoingOn.{Derived, Viable, Alive, AliveInToken, DeadAtToken, DeadAtFront, RefusedAtPiece, DerivedAtEnd}
 use Rattle.kdl_grammar.specs.Grammar.{AreNodes, IsDocument, IsDocumentIn}
-use Rattle.kdl_syntax.specs.Control.{Control, at, gap, accepts, finish, step}
+use Rattle.kdl_syntax.specs.Control.{Control, at, accepts, finish, step}
+use Rattle.kdl_syntax.specs.declared.control.Phase.TheVariants.{Gap}
 use Rattle.kdl_grammar.specs.Going.{Goes, here, goes, Reaches, no_bom, after_bom}
 use Rattle.kdl_grammar.proofs.Reading.Erased.{accepted_nodes}
 use Rattle.kdl_grammar.proofs.Reading.Refusing.{near_after, rest_of, dead_nodes, refused_here, refuses_two}
@@ -19,16 +20,16 @@ use Rattle.kdl_grammar.proofs.Reading.Viable.{reads, viable, goes_length}
 
 -- what the machine went over in a text that is p before r: p, or p without the U+FEFF that begins it
 data Went (p r : Text) (c : Control) : Type 0 where
-  plain : begins 0xFEFF (p ++ r) ≡ false → Goes (at gap []) (p ++ r) c r → Went p r c
-  marked : {q : Text} → p ≡ 0xFEFF ∷ q → Goes (at gap []) (q ++ r) c r → Went p r c
+  plain : begins 0xFEFF (p ++ r) ≡ false → Goes (at Gap []) (p ++ r) c r → Went p r c
+  marked : {q : Text} → p ≡ 0xFEFF ∷ q → Goes (at Gap []) (q ++ r) c r → Went p r c
 
 went : (p r : Text) {t : Text} {c : Control} → Reaches t c r → t ≡ p ++ r → Went p r c
-went p r {c = c} (no_bom h g) e = plain (ap (begins 0xFEFF) (sym e) ∙ h) (subst (λ (z : Text). Goes (at gap []) z c r) e g)
+went p r {c = c} (no_bom h g) e = plain (ap (begins 0xFEFF) (sym e) ∙ h) (subst (λ (z : Text). Goes (at Gap []) z c r) e g)
 went [] r (after_bom g) e = absurd (omega (arith, goes_length g, ap length e))
 went (d ∷ p) r {c = c} (after_bom {t = t} g) e =
     let a : d ≡ 0xFEFF = cc in
     let b : t ≡ p ++ r = cc in
-    marked (ap (λ z. z ∷ p) a) (subst (λ (z : Text). Goes (at gap []) z c r) b g)
+    marked (ap (λ z. z ∷ p) a) (subst (λ (z : Text). Goes (at Gap []) z c r) b g)
 
 pub alive : Alive
 alive p r c g = go (went p r g refl)
@@ -52,9 +53,9 @@ following (goes x y g) b f = goes x y (following g b f)
 pub alive_in_token : AliveInToken
 alive_in_token p r u c d k some g b f = longer (alive (p ++ (r ++ u)) [] d (go (went p r g refl)))
   where
-    over : (q : Text) → Goes (at gap []) (q ++ r) c r → Goes (at gap []) ((q ++ (r ++ u)) ++ []) d []
+    over : (q : Text) → Goes (at Gap []) (q ++ r) c r → Goes (at Gap []) ((q ++ (r ++ u)) ++ []) d []
     over q g =
-        subst (λ (z : Text). Goes (at gap []) z d []) (sym (append-nil (q ++ (r ++ u)))) (following (near_after q r (r ++ u) (more_first r u some) g) b f)
+        subst (λ (z : Text). Goes (at Gap []) z d []) (sym (append-nil (q ++ (r ++ u)))) (following (near_after q r (r ++ u) (more_first r u some) g) b f)
 
     no_bom_more : (q : Text) → begins 0xFEFF (q ++ r) ≡ false → begins 0xFEFF ((q ++ (r ++ u)) ++ []) ≡ false
     no_bom_more [] h = ap (begins 0xFEFF) (append-nil (r ++ u)) ∙ begins_first 0xFEFF (r ++ u) r (more_first r u some) ∙ h
@@ -69,7 +70,7 @@ alive_in_token p r u c d k some g b f = longer (alive (p ++ (r ++ u)) [] d (go (
 
 -- U+FEFF comes before no nodes but once
 no_bom_nodes : {s : Text} {xs : Nodes} → AreNodes true (0xFEFF ∷ s) [] xs → ⊥
-no_bom_nodes n = let (ks, l, a) = accepted_nodes n in refused_here (at gap []) t_bom refl l a
+no_bom_nodes n = let (ks, l, a) = accepted_nodes n in refused_here (at Gap []) t_bom refl l a
 
 -- a document without U+FEFF before it, or with it
 data Parts (t : Text) : Type 0 where

@@ -10,7 +10,9 @@ use Rattle.kdl_syntax.proofs.Moving.Puts.{front_first, two_parts, two_some}
 use Rattle.kdl_grammar.specs.Data.{Nodes}
 use Rattle.kdl_grammar.specs.GoingOn.{BeginsNoOther, DerivedNode, NodeAlive, NodeDeadAtToken}
 use Rattle.kdl_grammar.specs.Grammar.{AreNodes, last_gap, node_then, node_text}
-use Rattle.kdl_syntax.specs.Control.{fresh, later, Phase, gap, node_slashdash, type_open, type_name, type_done, in_node, property, entry_slashdash, block_slashdash, kept, kept_slashdash, Frame, in_dropped, in_later, Control, at, step, finish}
+use Rattle.kdl_syntax.specs.Control.{Control, at, step, finish}
+use Rattle.kdl_syntax.specs.declared.control.{Spot.TheVariants.Fresh, Spot.TheVariants.Later, Frame.TheVariants.Dropped as DroppedBlock, Frame.TheVariants.Later as LaterBlock, Phase.Phase, Frame.Frame, Word.Word as ControlWord, Owner.Owner, Word.TheVariants.MayBeKey, Word.TheVariants.NoKey, Owner.TheVariants.Name as OfName, Owner.TheVariants.Value as OfValue}
+use Rattle.kdl_syntax.specs.declared.control.Phase.TheVariants.{Gap, NodeSlashdash, TypeOpen, TypeName, TypeDone, InNode, Property, EntrySlashdash, BlockSlashdash, Kept, KeptSlashdash}
 use Rattle.kdl_grammar.specs.Going.{Goes, here, goes}
 use Rattle.kdl_grammar.specs.NodeControl.{NodeControl, in_text, node_step, node_finish, node_start, NodeReaches, NodeRefusesFront}
 use Rattle.kdl_grammar.proofs.Reading.NodeComplete.{NodeGoes, and_then, lines_stay, at_end, at_close, Stands, between, in_open, kept_open, no_line, found_node, gap_only}
@@ -46,7 +48,7 @@ rest_passes g x = record { last = x.last; there = follows g x.there; ends = x.en
 
 -- where the node has ended only line-spaces are left
 abbrev after_node : NodeControl
-after_node = in_text true (at gap [])
+after_node = in_text true (at Gap [])
 
 line_then : {s t : Text} {m : NodeControl} (k : Token) → BeginsToken s k t → node_step after_node k ≡ Some m → (m ≡ after_node → Star LineSpace t []) → Star LineSpace s []
 line_then space (t_space n) e f = more (LineSpace.space n) (f cc)
@@ -67,13 +69,13 @@ pub lines_left : {l : NodeControl} {p : Phase} {s : Text} → Stands p s → Nod
 lines_left between g = only_lines refl g
 lines_left (in_open at_end) g = no_star
 lines_left (kept_open at_end) g = no_star
-lines_left (in_open {p = q} at_close) (goes b e g) = absurd (refuse_close (in_node q) refl b e)
-lines_left (kept_open at_close) (goes b e g) = absurd (refuse_close kept refl b e)
+lines_left (in_open {p = q} at_close) (goes b e g) = absurd (refuse_close (InNode q) refl b e)
+lines_left (kept_open at_close) (goes b e g) = absurd (refuse_close Kept refl b e)
 
 lines_pass : {p : Phase} {s : Text} → Stands p s → Star LineSpace s [] → Passes (in_text true (at p [])) s
-lines_pass between ls = record { last = in_text true (at gap []); there = lines_stay refl refl ls; ends = refl }
-lines_pass (in_open {p = q} c) no_star = record { last = in_text true (at (in_node q) []); there = here; ends = refl }
-lines_pass (kept_open c) no_star = record { last = in_text true (at kept []); there = here; ends = refl }
+lines_pass between ls = record { last = in_text true (at Gap []); there = lines_stay refl refl ls; ends = refl }
+lines_pass (in_open {p = q} c) no_star = record { last = in_text true (at (InNode q) []); there = here; ends = refl }
+lines_pass (kept_open c) no_star = record { last = in_text true (at Kept []); there = here; ends = refl }
 lines_pass (in_open c) (more n m) = absurd (no_line c n)
 lines_pass (kept_open c) (more n m) = absurd (no_line c n)
 
@@ -119,7 +121,7 @@ begin true = []
 begin false = 97 ∷ []
 
 abbrev pub ending : Phase → List Frame → Bool → Text
-ending gap [] b = begin b
+ending Gap [] b = begin b
 ending _ _ b = following b
 
 abbrev pub closed_text : Phase → List Frame → Bool → Text
@@ -128,23 +130,23 @@ closed_text p fs b = closing_text fs ++ ending p fs b
 abbrev pub out_text : Phase → List Frame → Bool → Text
 out_text p fs b = missing_text p ++ closed_text p fs b
 
-a_node : Passes (in_text false (at gap [])) (97 ∷ [])
-a_node = record { last = in_text true (at (in_node (fresh false)) []); there = goes (a_word [] refl) refl here; ends = refl }
+a_node : Passes (in_text false (at Gap [])) (97 ∷ [])
+a_node = record { last = in_text true (at (InNode (Fresh NoKey)) []); there = goes (a_word [] refl) refl here; ends = refl }
 
-ended : (b : Bool) {p : Phase} → node_step (in_text false (at p [])) semicolon ≡ Some (in_text false (at gap [])) → finish (at p []) ≡ true → Passes (in_text b (at p [])) (following b)
+ended : (b : Bool) {p : Phase} → node_step (in_text false (at p [])) semicolon ≡ Some (in_text false (at Gap [])) → finish (at p []) ≡ true → Passes (in_text b (at p [])) (following b)
 ended true {p = p} e f = record { last = in_text true (at p []); there = here; ends = f }
 ended false e f = over t_semicolon e a_node
 
 closes : {p : Phase} → Ends p → (fs : List Frame) (b : Bool) → Passes (in_text b (at p fs)) (closed_text p fs b)
-closes at_gap [] true = record { last = in_text true (at gap []); there = here; ends = refl }
+closes at_gap [] true = record { last = in_text true (at Gap []); there = here; ends = refl }
 closes at_gap [] false = a_node
 closes at_node [] b = ended b refl refl
 closes at_kept [] b = ended b refl refl
-closes at_gap (in_dropped ∷ fs) b = over t_closing refl (closes (at_node {p = later}) fs b)
+closes at_gap (DroppedBlock ∷ fs) b = over t_closing refl (closes (at_node {p = Later}) fs b)
 closes at_gap (f ∷ fs) b = over t_closing refl (closes at_kept fs b)
-closes at_node (in_dropped ∷ fs) b = over t_closing refl (closes (at_node {p = later}) fs b)
+closes at_node (DroppedBlock ∷ fs) b = over t_closing refl (closes (at_node {p = Later}) fs b)
 closes at_node (f ∷ fs) b = over t_closing refl (closes at_kept fs b)
-closes at_kept (in_dropped ∷ fs) b = over t_closing refl (closes (at_node {p = later}) fs b)
+closes at_kept (DroppedBlock ∷ fs) b = over t_closing refl (closes (at_node {p = Later}) fs b)
 closes at_kept (f ∷ fs) b = over t_closing refl (closes at_kept fs b)
 
 no_semicolon : is_identifier_char 59 ≡ false
@@ -167,36 +169,40 @@ after_feed [] false = refl
 after_feed (f ∷ fs) b = refl
 
 -- from each state some text passes
-named : (w : Bool) (fs : List Frame) (b : Bool) {n : NodeControl} → node_step n (string (97 ∷ [])) ≡ Some (in_text b (at (in_node (fresh w)) fs)) → Passes n (97 ∷ (closing_text fs ++ following b))
-named w fs b e = over (a_word (closing_text fs ++ following b) (after_class fs b)) e (closes (at_node {p = fresh w}) fs b)
+named : (w : ControlWord) (fs : List Frame) (b : Bool) {n : NodeControl} → node_step n (string (97 ∷ [])) ≡ Some (in_text b (at (InNode (Fresh w)) fs)) → Passes n (97 ∷ (closing_text fs ++ following b))
+named w fs b e = over (a_word (closing_text fs ++ following b) (after_class fs b)) e (closes (at_node {p = Fresh w}) fs b)
+
+done_takes : (o : Owner) (fs : List Frame) (b : Bool) → node_step (in_text b (at (TypeDone o) fs)) (string (97 ∷ [])) ≡ Some (in_text b (at (InNode (Fresh NoKey)) fs))
+done_takes OfName fs b = refl
+done_takes OfValue fs b = refl
 
 pub out : (p : Phase) (fs : List Frame) (b : Bool) → Passes (in_text b (at p fs)) (out_text p fs b)
-out gap fs b = closes at_gap fs b
-out node_slashdash fs b = named false fs b refl
-out (type_open o) fs b = over (a_word (41 ∷ 97 ∷ (closing_text fs ++ following b)) no_right) refl (over t_right refl (named false fs b refl))
-out (type_name o) fs b = over t_right refl (named false fs b refl)
-out (type_done o) fs b = named false fs b refl
-out (in_node p) fs b = closes (at_node {p = p}) fs b
-out property fs b = named false fs b refl
-out entry_slashdash fs b = named true fs b refl
-out block_slashdash fs b = over t_opening refl (closes at_gap (in_dropped ∷ fs) b)
-out kept fs b = closes at_kept fs b
-out kept_slashdash fs b = over t_opening refl (closes at_gap (in_later ∷ fs) b)
+out Gap fs b = closes at_gap fs b
+out NodeSlashdash fs b = named NoKey fs b refl
+out (TypeOpen o) fs b = over (a_word (41 ∷ 97 ∷ (closing_text fs ++ following b)) no_right) refl (over t_right refl (named NoKey fs b (done_takes o fs b)))
+out (TypeName o) fs b = over t_right refl (named NoKey fs b (done_takes o fs b))
+out (TypeDone o) fs b = named NoKey fs b (done_takes o fs b)
+out (InNode p) fs b = closes (at_node {p = p}) fs b
+out Property fs b = named NoKey fs b refl
+out EntrySlashdash fs b = named MayBeKey fs b refl
+out BlockSlashdash fs b = over t_opening refl (closes at_gap (DroppedBlock ∷ fs) b)
+out Kept fs b = closes at_kept fs b
+out KeptSlashdash fs b = over t_opening refl (closes at_gap (LaterBlock ∷ fs) b)
 
-gap_feed : (fs : List Frame) (b : Bool) → begins 10 (closed_text gap fs b) ≡ false
+gap_feed : (fs : List Frame) (b : Bool) → begins 10 (closed_text Gap fs b) ≡ false
 gap_feed [] true = refl
 gap_feed [] false = refl
 gap_feed (f ∷ fs) b = refl
 
 out_feed : (p : Phase) (fs : List Frame) (b : Bool) → begins 10 (out_text p fs b) ≡ false
-out_feed gap fs b = gap_feed fs b
-out_feed (in_node p) fs b = after_feed fs b
-out_feed kept fs b = after_feed fs b
+out_feed Gap fs b = gap_feed fs b
+out_feed (InNode p) fs b = after_feed fs b
+out_feed Kept fs b = after_feed fs b
 out_feed p fs b = refl
 
 word_fits : (p : Phase) (fs : List Frame) (b : Bool) → worded (at p fs) ≡ true → (starts is_identifier_char (out_text p fs b) ≡ false) × (begins 34 (out_text p fs b) ≡ false)
-word_fits (in_node (fresh w)) fs b e = (after_class fs b, after_quote fs b)
-word_fits (type_name o) fs b e = (no_right, refl)
+word_fits (InNode (Fresh w)) fs b e = (after_class fs b, after_quote fs b)
+word_fits (TypeName o) fs b e = (no_right, refl)
 word_fits p fs b e = absurd cc
 
 out_fits : (c : Control) (k : Token) (p : Phase) (fs : List Frame) (b : Bool) → step c k ≡ Some (at p fs) → Fits k (out_text p fs b)

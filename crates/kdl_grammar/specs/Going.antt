@@ -2,7 +2,8 @@
 use Rattle.std.specs.Prelude.{◌≡◌, false, [], ◌∷◌, ◌++◌, Option, Some, None}
 use Rattle.kdl_text.specs.Chars.{Text, begins}
 use Rattle.kdl_syntax.specs.Tokens.{Token, BeginsToken}
-use Rattle.kdl_syntax.specs.Control.{Control, at, gap, step}
+use Rattle.kdl_syntax.specs.Control.{Control, at, step}
+use Rattle.kdl_syntax.specs.declared.control.Phase.TheVariants.{Gap}
 
 -- by these steps, from one state to the other over the tokens of s up to the rest r
 pub data GoesBy {S : Type 0} (step : S → Token → Option S) : S → Text → S → Text → Type 0 where
@@ -15,8 +16,8 @@ Goes = GoesBy step
 
 -- it reaches the state by the text t of a document up to the rest r: by its tokens, after the U+FEFF that t may begin with
 pub data Reaches : Text → Control → Text → Type 0 where
-  no_bom : {t r : Text} {c : Control} → begins 0xFEFF t ≡ false → Goes (at gap []) t c r → Reaches t c r
-  after_bom : {t r : Text} {c : Control} → Goes (at gap []) t c r → Reaches (0xFEFF ∷ t) c r
+  no_bom : {t r : Text} {c : Control} → begins 0xFEFF t ≡ false → Goes (at Gap []) t c r → Reaches t c r
+  after_bom : {t r : Text} {c : Control} → Goes (at Gap []) t c r → Reaches (0xFEFF ∷ t) c r
 
 -- it refuses each token at the start of a text with this front
 abbrev pub RefusesFront : Control → Text → Type 0

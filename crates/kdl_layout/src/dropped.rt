@@ -6,7 +6,7 @@ ghost use Rattle.kdl_syntax.specs.Control.{at, finish, is_word};
 ghost use Rattle.kdl_layout.specs.Internal.Passing.{follows_word, of_spaces, slashdash_in};
 ghost use Rattle.kdl_layout.specs.Items.{ItemEnd};
 ghost use Rattle.kdl_layout.specs.Internal.Lacking.{EndsNode};
-ghost use Rattle.kdl_syntax.specs.Internal.Views.{control_view, ended_view, phase_view};
+ghost use Rattle.kdl_syntax.specs.Internal.Views.{control_view, ended_view};
 ghost use Rattle.kdl_layout.specs.Internal.Passed.{AfterPart, AnswersDroppedNode, AnswersDroppedPart, Before};
 ghost use Rattle.kdl_layout.specs.Internal.Reading.{place_view};
 ghost use Rattle.kdl_layout.specs.declared.ends.Ending.{Ending};
@@ -151,7 +151,7 @@ pub(crate) fn pass_node(alloc: Global, text: &str) -> Result<Option<NodeEnd<'_>>
 
 /// The phase after the `/-` in a place.
 fn slashdash_phase(place: Place) -> Phase
-    ensures { at (phase_view result) [] ≡ slashdash_in (place_view place) }
+    ensures { at result [] ≡ slashdash_in (place_view place) }
 {
     match place {
         Place::BeforeEntry(_) | Place::BeforeBlock => Phase::EntrySlashdash,

@@ -8,7 +8,5 @@ pub mod Fitting
 pub mod Order
 -- The lemmas that the functions of a file cite.
 pub mod Rules
--- The move of a token's event is the control's step.
-pub mod EventMoves
 -- The open blocks, the last one at the end.
 pub mod OpenBlocks

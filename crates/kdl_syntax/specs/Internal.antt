@@ -4,9 +4,5 @@
 pub mod Handed
 -- The order of two places, as an equation.
 pub mod Order
--- What the fields of the control of an entry text represent.
-pub mod EntryViews
--- What a token is for the tree, in each phase.
-pub mod Events
--- What the fields of the control represent.
+-- What the fields of the controls represent.
 pub mod Views

@@ -2,11 +2,12 @@
 
 ghost use Rattle.kdl_syntax.specs.Control as control;
 ghost use Rattle.kdl_syntax.specs.Control.{is_block, is_gap, is_over, is_word};
-ghost use Rattle.kdl_syntax.specs.Internal.Views.{control_view, ended_view, frame_view, phase_view, spot_view};
+ghost use Rattle.kdl_syntax.specs.Internal.Views.{control_view, ended_view};
+ghost use Rattle.kdl_syntax.specs.declared.control.Frame.{Frame};
 ghost use Rattle.kdl_syntax.specs.Internal.Handed.{kind_view};
 ghost use Rattle.std.specs.Prelude.{◌≡◌, ◌∷◌, IfOk, List, MatchOption, Some, None, [], true, false, if◌then◌else◌};
 
-use crate::events::Move;
+use crate::events::{Event, next_phase};
 use crate::lexer::TokenKind;
 use std::alloc::{AllocError, Global};
 
@@ -78,7 +79,7 @@ pub enum Ended {
 
 /// Whether a string that may be a key is here.
 fn may_be_key(spot: Spot) -> bool
-    ensures { result ≡ is_word (control.at (control.in_node (spot_view spot)) []) }
+    ensures { result ≡ is_word (control.at (Phase.InNode spot) []) }
 {
     match spot {
         Spot::Fresh(word) | Spot::Spaced(word) => matches!(word, Word::MayBeKey),
@@ -88,8 +89,7 @@ fn may_be_key(spot: Spot) -> bool
 
 /// The phase after the block.
 fn after_block(frame: Frame) -> Phase
-    ensures { (fs : List control.Frame) → control.popped (frame_view frame ∷ fs) ≡
-        Some (control.at (phase_view result) fs) }
+    ensures { (fs : List Frame) → control.popped (frame ∷ fs) ≡ Some (control.at result fs) }
 {
     match frame {
         Frame::Dropped => Phase::InNode(Spot::Later),
@@ -111,7 +111,7 @@ impl Control {
     /// let control = Control::new(alloc, Phase::Gap); // a node may begin here
     /// ```
     pub fn new(alloc: Global, phase: Phase) -> Self
-        ensures { control_view result ≡ control.at (phase_view phase) [] }
+        ensures { control_view result ≡ control.at phase [] }
     {
         Control {
             phase,
@@ -229,17 +229,18 @@ impl Control {
         ensures { IfOk result (λ b. control.step (control_view self.old) (kind_view kind.now) ≡
             (if b then Some (control_view self.new) else None)) }
     {
-        match self.phase.token_move(kind) {
-            Move::To(phase) => self.phase = phase,
-            Move::Open(frame) => {
-                self.frames.push(frame)?;
-                self.phase = Phase::Gap;
-            }
-            Move::Close => match self.frames.pop() {
-                Some(frame) => self.phase = after_block(frame),
-                None => return Ok(false),
-            },
-            Move::Refuse => return Ok(false),
+        let Some(event) = self.phase.event(kind) else {
+            return Ok(false);
+        };
+        if let Event::Opening(frame) = event {
+            self.frames.push(frame)?;
+            self.phase = Phase::Gap;
+        } else if let Some(phase) = next_phase(event) {
+            self.phase = phase;
+        } else if let Some(frame) = self.frames.pop() {
+            self.phase = after_block(frame);
+        } else {
+            return Ok(false);
         }
         Ok(true)
     }

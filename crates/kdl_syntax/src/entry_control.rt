@@ -1,11 +1,8 @@
 //! Which token may come where in the text of one entry.
 
-ghost use Rattle.kdl_syntax.specs.EntryControl as spec;
-ghost use Rattle.kdl_syntax.specs.EntryControl.{dropped_turn, entry_step};
-ghost use Rattle.kdl_syntax.specs.Internal.EntryViews.{entry_view};
-ghost use Rattle.kdl_syntax.specs.Internal.Views.{phase_view};
+ghost use Rattle.kdl_syntax.specs.EntryControl.{dropped_turn, entry_finish, entry_step};
 ghost use Rattle.kdl_syntax.specs.Internal.Handed.{kind_view};
-ghost use Rattle.std.specs.Prelude.{◌≡◌, option_map};
+ghost use Rattle.std.specs.Prelude.{◌≡◌};
 
 use crate::control::{Owner, Phase, Spot};
 use crate::lexer::TokenKind;
@@ -27,7 +24,7 @@ pub enum EntryControl {
 
 /// Before the entry.
 fn in_ahead(kind: &TokenKind) -> Option<EntryControl>
-    ensures { option_map entry_view result ≡ entry_step spec.ahead (kind_view kind.now) }
+    ensures { result ≡ entry_step EntryControl.Ahead (kind_view kind.now) }
 {
     match kind {
         TokenKind::Space | TokenKind::Newline => Some(EntryControl::Ahead),
@@ -41,7 +38,7 @@ fn in_ahead(kind: &TokenKind) -> Option<EntryControl>
 
 /// The phase after a token in or after a slashdashed entry, or `None` if the token may not come here.
 fn dropped_turn(phase: Phase, kind: &TokenKind) -> Option<Phase>
-    ensures { option_map phase_view result ≡ dropped_turn (phase_view phase) (kind_view kind.now) }
+    ensures { result ≡ dropped_turn phase (kind_view kind.now) }
 {
     match (phase, kind) {
         (Phase::InNode(Spot::Fresh(_)), TokenKind::Slashdash) => None,
@@ -52,8 +49,7 @@ fn dropped_turn(phase: Phase, kind: &TokenKind) -> Option<Phase>
 
 /// In or after a slashdashed entry. After spaces the entry may begin.
 fn in_dropping(phase: Phase, kind: &TokenKind) -> Option<EntryControl>
-    ensures { option_map entry_view result
-        ≡ entry_step (spec.dropping (phase_view phase)) (kind_view kind.now) }
+    ensures { result ≡ entry_step (EntryControl.Dropping phase) (kind_view kind.now) }
 {
     match (phase, kind) {
         (
@@ -66,8 +62,7 @@ fn in_dropping(phase: Phase, kind: &TokenKind) -> Option<EntryControl>
 
 /// In the entry, which ends with its value.
 fn in_under(phase: Phase, kind: &TokenKind) -> Option<EntryControl>
-    ensures { option_map entry_view result
-        ≡ entry_step (spec.under (phase_view phase)) (kind_view kind.now) }
+    ensures { result ≡ entry_step (EntryControl.Under phase) (kind_view kind.now) }
 {
     match phase.after(kind)? {
         Phase::InNode(_) => Some(EntryControl::Done),
@@ -77,7 +72,7 @@ fn in_under(phase: Phase, kind: &TokenKind) -> Option<EntryControl>
 
 /// After a string that may be the entry's key.
 fn in_word(kind: &TokenKind) -> Option<EntryControl>
-    ensures { option_map entry_view result ≡ entry_step spec.word (kind_view kind.now) }
+    ensures { result ≡ entry_step EntryControl.Word (kind_view kind.now) }
 {
     match kind {
         TokenKind::Space => Some(EntryControl::Word),
@@ -89,7 +84,7 @@ fn in_word(kind: &TokenKind) -> Option<EntryControl>
 
 /// After the entry.
 fn in_done(kind: &TokenKind) -> Option<EntryControl>
-    ensures { option_map entry_view result ≡ entry_step spec.done (kind_view kind.now) }
+    ensures { result ≡ entry_step EntryControl.Done (kind_view kind.now) }
 {
     match kind {
         TokenKind::Space | TokenKind::Newline => Some(EntryControl::Done),
@@ -105,8 +100,7 @@ impl EntryControl {
     /// let none = EntryControl::Ahead.after(&TokenKind::Opening); // `None`: an entry has no block
     /// ```
     pub fn after(self, kind: &TokenKind) -> Option<EntryControl>
-        ensures { option_map entry_view result
-            ≡ entry_step (entry_view self) (kind_view kind.now) }
+        ensures { result ≡ entry_step self (kind_view kind.now) }
     {
         match self {
             EntryControl::Ahead => in_ahead(kind),
@@ -123,7 +117,7 @@ impl EntryControl {
     /// let ends = EntryControl::Ahead.may_end(); // false: the entry is yet to come
     /// ```
     pub fn may_end(self) -> bool
-        ensures { result ≡ spec.entry_finish (entry_view self) }
+        ensures { result ≡ entry_finish self }
     {
         matches!(self, EntryControl::Word | EntryControl::Done)
     }

@@ -1,9 +1,7 @@
 //! What a token is for the tree of a document, in each phase of the grammar.
 
 ghost use Rattle.kdl_syntax.specs.Control as control;
-ghost use Rattle.kdl_syntax.specs.Control.{without_block};
-ghost use Rattle.kdl_syntax.specs.Internal.Events.{event_of, spaced_spot};
-ghost use Rattle.kdl_syntax.specs.Internal.Views.{IsMove, move_of, phase_view};
+ghost use Rattle.kdl_syntax.specs.Control.{at, event_of, spaced_of, step, without_block};
 ghost use Rattle.kdl_syntax.specs.declared.control.Phase.TheVariants.{
   Gap,
   NodeSlashdash,
@@ -20,7 +18,7 @@ ghost use Rattle.kdl_syntax.specs.declared.control.Phase.TheVariants.{
 ghost use Rattle.kdl_syntax.specs.declared.events.Event.TheVariants.{Skip};
 ghost use Rattle.kdl_syntax.specs.Internal.Handed.{kind_view};
 ghost use Rattle.kdl_syntax.specs.Tokens.{space};
-ghost use Rattle.std.specs.Prelude.{◌≡◌, [], Some, option_map};
+ghost use Rattle.std.specs.Prelude.{◌≡◌, [], Some};
 
 use crate::control::{Frame, Owner, Phase, Spot, Word};
 use crate::lexer::TokenKind;
@@ -68,15 +66,6 @@ pub enum Event {
     NodeClosing,
     /// A `}` that also ends a node with a block.
     KeptClosing,
-}
-
-/// What a token does.
-#[derive(Clone, Copy)]
-pub(crate) enum Move {
-    To(Phase),
-    Open(Frame),
-    Close,
-    Refuse,
 }
 
 /// What a token is between nodes.
@@ -153,7 +142,7 @@ fn in_property(kind: &TokenKind) -> Option<Event>
 
 /// The place in a node after spaces.
 fn spaced(spot: Spot) -> Spot
-    ensures { result ≡ spaced_spot spot }
+    ensures { result ≡ spaced_of spot }
 {
     match spot {
         Spot::Fresh(word) | Spot::Spaced(word) => Spot::Spaced(word),
@@ -231,28 +220,29 @@ fn in_kept_slashdash(kind: &TokenKind) -> Option<Event>
     }
 }
 
-/// What the token of an event does.
+/// The phase after the token of an event, or `None` where it opens or closes a block.
 #[inline(always)]
-fn event_move(event: Event) -> Move
-    ensures { result ≡ move_of (Some event) }
+pub(crate) fn next_phase(event: Event) -> Option<Phase>
+    ensures { result ≡ control.next_phase event }
 {
-    match event {
-        Event::Skip(phase) => Move::To(phase),
-        Event::Name | Event::TypedName => Move::To(Phase::InNode(Spot::Fresh(Word::NoKey))),
-        Event::NameType => Move::To(Phase::TypeOpen(Owner::Name)),
-        Event::ValueType | Event::KeyedType => Move::To(Phase::TypeOpen(Owner::Value)),
-        Event::TypeName(owner) => Move::To(Phase::TypeName(owner)),
-        Event::TypeEnd(owner) => Move::To(Phase::TypeDone(owner)),
-        Event::Word => Move::To(Phase::InNode(Spot::Fresh(Word::MayBeKey))),
+    Some(match event {
+        Event::Skip(phase) => phase,
+        Event::Name | Event::TypedName => Phase::InNode(Spot::Fresh(Word::NoKey)),
+        Event::NameType => Phase::TypeOpen(Owner::Name),
+        Event::ValueType | Event::KeyedType => Phase::TypeOpen(Owner::Value),
+        Event::TypeName(owner) => Phase::TypeName(owner),
+        Event::TypeEnd(owner) => Phase::TypeDone(owner),
+        Event::Word => Phase::InNode(Spot::Fresh(Word::MayBeKey)),
         Event::Argument | Event::TypedValue | Event::KeyedValue => {
-            Move::To(Phase::InNode(Spot::Fresh(Word::NoKey)))
+            Phase::InNode(Spot::Fresh(Word::NoKey))
         }
-        Event::Equals => Move::To(Phase::Property),
-        Event::EntrySlashdash => Move::To(Phase::EntrySlashdash),
-        Event::NodeEnd | Event::KeptEnd => Move::To(Phase::Gap),
-        Event::Opening(frame) => Move::Open(frame),
-        Event::GapClosing | Event::NodeClosing | Event::KeptClosing => Move::Close,
-    }
+        Event::Equals => Phase::Property,
+        Event::EntrySlashdash => Phase::EntrySlashdash,
+        Event::NodeEnd | Event::KeptEnd => Phase::Gap,
+        Event::Opening(_) | Event::GapClosing | Event::NodeClosing | Event::KeptClosing => {
+            return None;
+        }
+    })
 }
 
 impl Phase {
@@ -298,17 +288,6 @@ impl Phase {
         }
     }
 
-    /// What the token does.
-    #[tactic(auto, using(crate::proofs::EventMoves::moves))]
-    #[inline(always)]
-    pub(crate) fn token_move(self, kind: &TokenKind) -> Move
-        ensures { IsMove (phase_view self) (kind_view kind.now) result }
-    {
-        match self.event(kind) {
-            Some(event) => event_move(event),
-            None => Move::Refuse,
-        }
-    }
     /// Returns the phase after a token, where no block is open, or `None` if the token may not come
     /// here or opens a block.
     ///
@@ -318,12 +297,8 @@ impl Phase {
     /// let block = Phase::EntrySlashdash.after(&TokenKind::Opening); // `None`
     /// ```
     pub fn after(self, kind: &TokenKind) -> Option<Phase>
-        ensures { option_map phase_view result ≡
-            without_block (control.step (control.at (phase_view self) []) (kind_view kind.now)) }
+        ensures { result ≡ without_block (step (at self []) (kind_view kind.now)) }
     {
-        match self.token_move(kind) {
-            Move::To(phase) => Some(phase),
-            _ => None,
-        }
+        next_phase(self.event(kind)?)
     }
 }

@@ -1,7 +1,7 @@
 //! Which token may come where in the text of one node.
 
-ghost use Rattle.kdl_syntax.specs.Internal.EntryViews as view;
-ghost use Rattle.kdl_syntax.specs.Internal.EntryViews.{node_view};
+ghost use Rattle.kdl_syntax.specs.Internal.Views as view;
+ghost use Rattle.kdl_syntax.specs.Internal.Views.{node_view};
 ghost use Rattle.kdl_syntax.specs.NodeControl as spec;
 ghost use Rattle.kdl_syntax.specs.NodeControl.{node_step};
 ghost use Rattle.kdl_syntax.specs.Internal.Handed.{kind_view};

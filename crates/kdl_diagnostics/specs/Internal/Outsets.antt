@@ -4,9 +4,9 @@ use Rattle.kdl_text.specs.Chars.{Text}
 use Rattle.kdl_text.specs.Internal.Here.{Here}
 use Rattle.kdl_syntax.specs.declared.lexer.Token.{Token}
 use Rattle.kdl_syntax.specs.Control as c
+use Rattle.kdl_syntax.specs.declared.control.Phase.{Phase}
 use Rattle.kdl_syntax.specs.NodeControl.{in_text}
-use Rattle.kdl_syntax.specs.Internal.EntryViews.{entry_view, node_view}
-use Rattle.kdl_syntax.specs.Internal.Views.{control_view, phase_view}
+use Rattle.kdl_syntax.specs.Internal.Views.{node_view, control_view}
 use Rattle.kdl_diagnostics.specs.Internal.Noted.{Untold}
 use Rattle.kdl_diagnostics.specs.Internal.Reading.{LiesIn}
 use Rattle.kdl_diagnostics.specs.TextControl as spec
@@ -26,7 +26,7 @@ use Rattle.kdl_diagnostics.specs.declared.whole.Whole.TheVariants.{Document, Nod
 abbrev pub view_as : Whole → TextControl → spec.TextControl
 view_as Document t = spec.in_document (control_view t.node.control)
 view_as Node t = spec.in_node (node_view t.node)
-view_as Entry t = spec.in_entry (entry_view t.entry)
+view_as Entry t = spec.in_entry t.entry
 view_as Identifier t = spec.in_identifier t.has_string
 
 abbrev pub text_view : TextControl → spec.TextControl
@@ -49,13 +49,13 @@ IsSingle Entry = Unit {0}
 IsSingle _ = ⊥
 
 -- where the text ends, something is due in the phase, or n blocks are open, or the only node or entry has not begun
-pub data Lacks (w : Whole) (n : ℕ) (p : c.Phase) (has_item : Bool) : Type 0 where
+pub data Lacks (w : Whole) (n : ℕ) (p : Phase) (has_item : Bool) : Type 0 where
   due : c.finish (c.at p []) ≡ false → Lacks w n p has_item
   in_block : 0 < n → Lacks w n p has_item
   no_item : IsSingle w → has_item ≡ false → Lacks w n p has_item
 
 abbrev pub LacksAt : Whole → ℕ → Outset → Type 0
-LacksAt w n o = Lacks w n (phase_view o.phase) o.has_item
+LacksAt w n o = Lacks w n o.phase o.has_item
 
 -- the open blocks are those of the control
 abbrev pub Matched : Prefix → Type 0
@@ -96,7 +96,7 @@ pub data BeginsAt (f : Prefix) (o : Outset) (here : Here) : Type 0 where
 
 -- something is missing if the text ends where the reader is
 pub record Lacking (r : Reader) : Type 0 where
-  pub lacks : Lacks r.state.whole (length r.notes.blocks.items) (phase_view r.state.control.phase) r.state.has_item
+  pub lacks : Lacks r.state.whole (length r.notes.blocks.items) r.state.control.phase r.state.has_item
   pub untold : Untold r.notes.blocks.items
   pub cut : r.is_cut ≡ false
 

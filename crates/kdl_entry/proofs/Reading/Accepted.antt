@@ -4,7 +4,8 @@ use Rattle.kdl_text.specs.Chars.{Text}
 use Rattle.kdl_text.specs.Trivia.ValueEnd.{nothing}
 use Rattle.kdl_syntax.specs.Pieces.{StringPiece}
 use Rattle.kdl_syntax.specs.Tokens.{Token, string, BeginsToken, t_string}
-use Rattle.kdl_syntax.specs.EntryControl.{EntryControl, ahead, entry_step}
+use Rattle.kdl_syntax.specs.EntryControl.{entry_step}
+use Rattle.kdl_syntax.specs.declared.entry_control.EntryControl.{EntryControl, TheVariants.Ahead}
 use Rattle.kdl_diagnostics.specs.TextControl.{TextControl, in_entry, in_identifier, text_step, text_finish, Takes}
 use Rattle.kdl_diagnostics.specs.TextControl as text
 use Rattle.kdl_entry.specs.Data.{Entry}
@@ -22,8 +23,8 @@ over_entry (text.takes {d = d} {k = k} b e a) p q =
     let (r, f, g) = stepped (entry_step p k) d (ap (λ z. text_step z k) (sym q) ∙ e) in
     takes b f (over_entry a r g)
 
-pub accepted_entry : (t : Text) → Takes (in_entry ahead) t → (x : Entry) × IsEntryText t x
-accepted_entry t a = accepts_derived (over_entry a ahead refl)
+pub accepted_entry : (t : Text) → Takes (in_entry Ahead) t → (x : Entry) × IsEntryText t x
+accepted_entry t a = accepts_derived (over_entry a Ahead refl)
 
 -- nothing comes after the string of an identifier text
 nothing_after : {c : TextControl} {t : Text} → Takes c t → c ≡ in_identifier true → t ≡ []

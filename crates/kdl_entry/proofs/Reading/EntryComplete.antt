@@ -1,5 +1,5 @@
 -- What the grammar derives as an entry text, the machine reads, and the entry that it builds is laid.
-use Rattle.std.proofs.Common.{◌≡◌, Bool, true, false, [], ◌∷◌, Option, Some, None, option_map, refl, ap, subst}
+use Rattle.std.proofs.Common.{◌≡◌, true, [], ◌∷◌, Option, Some, None, option_map, refl, ap, subst}
 use Rattle.kdl_text.specs.Chars.{Text, Star, plus}
 use Rattle.kdl_text.specs.Chars.Star.{none as no_star, more}
 use Rattle.kdl_text.specs.Trivia.{NodeSpace, LineSpace, slashdash}
@@ -9,7 +9,8 @@ use Rattle.kdl_value.specs.Data.{Value, text}
 use Rattle.kdl_entry.specs.Entries.{IsString, string as a_string', IsPlainValue, a_string, a_plain, parens, MaybeType, untyped, typed, value as a_value, IsEntry, property, argument, DroppedFirst, dropped_first, BeforeEntry, before_entry, IsEntryText, entry_text}
 use Rattle.kdl_entry.specs.Internal.EntryMachine.{Word, State, ahead, dropping, under, word, done, opened_parts, word_at, entry_by, argument_of, step, ended, Runs, stops, reads, AnswersEntry}
 use Rattle.kdl_entry.specs.Internal.Parts.{TypeParts, KeyParts, type_of, before_name, after_name, after_type, identifier_at, Parts}
-use Rattle.kdl_syntax.specs.Control.{fresh, spaced, type_open, type_name, type_done, in_node, property as in_property, entry_slashdash}
+use Rattle.kdl_syntax.specs.declared.control.{Spot.TheVariants.Fresh, Spot.TheVariants.Spaced, Word.Word as ControlWord, Word.TheVariants.MayBeKey, Word.TheVariants.NoKey, Owner.TheVariants.Value as OfValue}
+use Rattle.kdl_syntax.specs.declared.control.Phase.TheVariants.{TypeOpen, TypeName, TypeDone, InNode, Property, EntrySlashdash}
 use Rattle.kdl_entry.specs.Laid.{LaidIdentifier, spelled, LaidType, no_type, a_type, no_key, a_key, LaidItem, item, LaidEntryText, laid_entry_text}
 use Rattle.kdl_entry.specs.Places.{span_of, between}
 use Rattle.kdl_syntax.specs.Tokens.{space, newline, slashdash as a_slashdash, string, value, left, t_space, t_newline, t_slashdash, t_string, t_value, t_left, t_right, t_equals}
@@ -40,13 +41,13 @@ module _ (whole : Text) where
   record Starts (st : State) : Type 0 where
     to_string : (v s r : Text) → step whole st (string v) s r ≡ Some (word (word_at whole v s r) r)
     to_value : (v : Value) (s r : Text) → step whole st (value v) s r ≡ Some (done (entry_by (between whole s) None None v (between s r)) r)
-    to_left : (s r : Text) → step whole st left s r ≡ Some (under (type_open true) (opened_parts s (between whole s) r))
-    to_slashdash : (s r : Text) → step whole st a_slashdash s r ≡ Some (dropping entry_slashdash)
+    to_left : (s r : Text) → step whole st left s r ≡ Some (under (TypeOpen OfValue) (opened_parts s (between whole s) r))
+    to_slashdash : (s r : Text) → step whole st a_slashdash s r ≡ Some (dropping EntrySlashdash)
 
   at_ahead : Starts ahead
   at_ahead = record { to_string = λ v s r. refl; to_value = λ v s r. refl; to_left = λ s r. refl; to_slashdash = λ s r. refl }
 
-  at_spaced : (b : Bool) → Starts (dropping (in_node (spaced b)))
+  at_spaced : (b : ControlWord) → Starts (dropping (InNode (Spaced b)))
   at_spaced b = record { to_string = λ v s r. refl; to_value = λ v s r. refl; to_left = λ s r. refl; to_slashdash = λ s r. refl }
 
   -- after the entry e
@@ -61,21 +62,21 @@ module _ (whole : Text) where
   parts y s1 s2 s3 s4 t = record { name = identifier_at whole y s2 s3; before = between s1 s2; after = between s3 (41 ∷ s4); following = between s4 t }
 
   kept_type : (out : Entry) → {s1 s2 s3 s4 t r y : Text} {v : Value} → Star NodeSpace s1 s2 → IsString true s2 s3 y → Star NodeSpace s3 (41 ∷ s4) → Star NodeSpace s4 t → IsPlainValue true t r v
-      → (h q : Text) (k : Option KeyParts) (i : Identifier) (b a : Text) → Runs whole out (done (entry_by q k (Some (parts y s1 s2 s3 s4 t)) v (between t r)) r) r → Runs whole out (under (type_open true) (item_at h q s1 k i b a)) s1
+      → (h q : Text) (k : Option KeyParts) (i : Identifier) (b a : Text) → Runs whole out (done (entry_by q k (Some (parts y s1 s2 s3 s4 t)) v (between t r)) r) r → Runs whole out (under (TypeOpen OfValue) (item_at h q s1 k i b a)) s1
   kept_type out {s1 = s1} {s2 = s2} {s3 = s3} {s4 = s4} {t = t} {r = r} {y = y} ss d us vs p h q k i b a x =
       let n = identifier_at whole y s2 s3 in
-      stay out (under (type_open true) (item_at h q s1 k i b a)) (λ s r. refl) ss (read_string out d refl
-      (stay out (under (type_name true) (item_at h q s3 k n (between s1 s2) a)) (λ s r. refl) us (reads t_right refl
-      (stay out (under (type_done true) (item_at h q s4 k n (between s1 s2) (between s3 (41 ∷ s4)))) (λ s r. refl) vs
-      (read_plain out p (under (type_done true) (item_at h q s4 k n (between s1 s2) (between s3 (41 ∷ s4)))) (λ v. done (entry_by q k (Some (parts y s1 s2 s3 s4 t)) v (between t r)) r) (λ v. refl) (λ v. refl) x)))))
+      stay out (under (TypeOpen OfValue) (item_at h q s1 k i b a)) (λ s r. refl) ss (read_string out d refl
+      (stay out (under (TypeName OfValue) (item_at h q s3 k n (between s1 s2) a)) (λ s r. refl) us (reads t_right refl
+      (stay out (under (TypeDone OfValue) (item_at h q s4 k n (between s1 s2) (between s3 (41 ∷ s4)))) (λ s r. refl) vs
+      (read_plain out p (under (TypeDone OfValue) (item_at h q s4 k n (between s1 s2) (between s3 (41 ∷ s4)))) (λ v. done (entry_by q k (Some (parts y s1 s2 s3 s4 t)) v (between t r)) r) (λ v. refl) (λ v. refl) x)))))
 
   dropped_type : (out : Entry) → {s1 s2 s3 s4 t r y : Text} {v : Value} → Star NodeSpace s1 s2 → IsString true s2 s3 y → Star NodeSpace s3 (41 ∷ s4) → Star NodeSpace s4 t → IsPlainValue true t r v
-      → Runs whole out (dropping (in_node (fresh false))) r → Runs whole out (dropping (type_open true)) s1
+      → Runs whole out (dropping (InNode (Fresh NoKey))) r → Runs whole out (dropping (TypeOpen OfValue)) s1
   dropped_type out ss d us vs p x =
-      stay out (dropping (type_open true)) (λ s r. refl) ss (read_string out d refl
-      (stay out (dropping (type_name true)) (λ s r. refl) us (reads t_right refl
-      (stay out (dropping (type_done true)) (λ s r. refl) vs
-      (read_plain out p (dropping (type_done true)) (λ v. dropping (in_node (fresh false))) (λ v. refl) (λ v. refl) x)))))
+      stay out (dropping (TypeOpen OfValue)) (λ s r. refl) ss (read_string out d refl
+      (stay out (dropping (TypeName OfValue)) (λ s r. refl) us (reads t_right refl
+      (stay out (dropping (TypeDone OfValue)) (λ s r. refl) vs
+      (read_plain out p (dropping (TypeDone OfValue)) (λ v. dropping (InNode (Fresh NoKey))) (λ v. refl) (λ v. refl) x)))))
 
   pub spelled_at : {s r v : Text} → IsString true s r v → LaidIdentifier true whole (identifier_at whole v s r) s r
   spelled_at d = spelled (place d (end_string d)) refl
@@ -86,18 +87,18 @@ module _ (whole : Text) where
     laid : LaidType true whole (type_of type) (before_name type) (after_name type) (after_type type) s t
     same : option_map (λ (i : Identifier). i.value) (type_of type) ≡ y
     starts : (out : Entry) (st : State) → Starts st → ((st' : State) → After (entry_by (between whole s) None type v (between t r)) r st' → Runs whole out st' r) → Runs whole out st s
-    drops : (out : Entry) → ((b : Bool) → Runs whole out (dropping (in_node (fresh b))) r) → Runs whole out (dropping entry_slashdash) s
+    drops : (out : Entry) → ((b : ControlWord) → Runs whole out (dropping (InNode (Fresh b))) r) → Runs whole out (dropping EntrySlashdash) s
     after_key : (out : Entry) (h q from : Text) (i : Identifier) (b : Text) → Runs whole out (done (entry_by q (Some (record { name = i; before = b; following = between from s })) type v (between t r)) r) r
-        → Runs whole out (under in_property (item_at h q from None i b [])) s
-    drops_after : (out : Entry) → Runs whole out (dropping (in_node (fresh false))) r → Runs whole out (dropping in_property) s
+        → Runs whole out (under Property (item_at h q from None i b [])) s
+    drops_after : (out : Entry) → Runs whole out (dropping (InNode (Fresh NoKey))) r → Runs whole out (dropping Property) s
 
   starts_plain : {s r : Text} {v : Value} → IsPlainValue true s r v → (out : Entry) (st : State) → Starts st → ((st' : State) → After (entry_by (between whole s) None None v (between s r)) r st' → Runs whole out st' r) → Runs whole out st s
   starts_plain {s = s} {r = r} (a_string {v = v} d) out st z a = read_string out d (z.to_string v s r) (a (word (word_at whole v s r) r) (is_word refl))
   starts_plain {s = s} {r = r} (a_plain {v = v} p e) out st z a = reads (t_value p) (z.to_value v s r) (a (done (entry_by (between whole s) None None v (between s r)) r) is_done)
 
-  drops_plain : {s r : Text} {v : Value} → IsPlainValue true s r v → (out : Entry) → ((b : Bool) → Runs whole out (dropping (in_node (fresh b))) r) → Runs whole out (dropping entry_slashdash) s
-  drops_plain (a_string d) out a = read_string out d refl (a true)
-  drops_plain (a_plain p e) out a = reads (t_value p) refl (a false)
+  drops_plain : {s r : Text} {v : Value} → IsPlainValue true s r v → (out : Entry) → ((b : ControlWord) → Runs whole out (dropping (InNode (Fresh b))) r) → Runs whole out (dropping EntrySlashdash) s
+  drops_plain (a_string d) out a = read_string out d refl (a MayBeKey)
+  drops_plain (a_plain p e) out a = reads (t_value p) refl (a NoKey)
 
   read_value : {s t r : Text} {y : Option Text} {v : Value} → MaybeType true s t y → IsPlainValue true t r v → ReadValue s t r y v
   read_value {s = s} {r = r} {v = v} untyped d = record {
@@ -106,15 +107,15 @@ module _ (whole : Text) where
     same = refl;
     starts = λ out st z a. starts_plain d out st z a;
     drops = λ out a. drops_plain d out a;
-    after_key = λ out h q from i b x. read_plain out d (under in_property (item_at h q from None i b [])) (λ v. done (entry_by q (Some (record { name = i; before = b; following = between from s })) None v (between s r)) r) (λ v. refl) (λ v. refl) x;
-    drops_after = λ out x. read_plain out d (dropping in_property) (λ v. dropping (in_node (fresh false))) (λ v. refl) (λ v. refl) x;
+    after_key = λ out h q from i b x. read_plain out d (under Property (item_at h q from None i b [])) (λ v. done (entry_by q (Some (record { name = i; before = b; following = between from s })) None v (between s r)) r) (λ v. refl) (λ v. refl) x;
+    drops_after = λ out x. read_plain out d (dropping Property) (λ v. dropping (InNode (Fresh NoKey))) (λ v. refl) (λ v. refl) x;
   }
   read_value {s = s} {t = t} {r = r} {v = v} (typed (parens {s = s1} {t = s2} {u = s3} {r = s4} {v = y} ss u us) vs) d = record {
     type = Some (parts y s1 s2 s3 s4 t);
     laid = a_type (place ss (end_spaces ss)) (spelled_at u) (place us (end_spaces us)) (place vs (end_spaces vs));
     same = refl;
     starts = λ out st z a. reads t_left (z.to_left s s1) (kept_type out ss u us vs d s (between whole s) None (plain_identifier []) [] [] (a (done (entry_by (between whole s) None (Some (parts y s1 s2 s3 s4 t)) v (between t r)) r) is_done));
-    drops = λ out a. reads t_left refl (dropped_type out ss u us vs d (a false));
+    drops = λ out a. reads t_left refl (dropped_type out ss u us vs d (a NoKey));
     after_key = λ out h q from i b x. reads t_left refl (kept_type out ss u us vs d h q (Some (record { name = i; before = b; following = between from s })) (plain_identifier []) [] [] x);
     drops_after = λ out x. reads t_left refl (dropped_type out ss u us vs d x);
   }
@@ -124,12 +125,12 @@ module _ (whole : Text) where
     laid : (leading trailing : Text) → LaidItem true whole leading trailing (span_of whole whole []) (ended whole trailing (tree leading)) s r
     same : (leading trailing : Text) → entry_data (ended whole trailing (tree leading)) ≡ e
     starts : (out : Entry) (st : State) → Starts st → ((st' : State) → After (tree (between whole s)) r st' → Runs whole out st' r) → Runs whole out st s
-    drops : (out : Entry) → ((b : Bool) → Runs whole out (dropping (in_node (fresh b))) r) → Runs whole out (dropping entry_slashdash) s
+    drops : (out : Entry) → ((b : ControlWord) → Runs whole out (dropping (InNode (Fresh b))) r) → Runs whole out (dropping EntrySlashdash) s
 
   -- over the spaces between a dropped string and its `=`
-  to_equals : (out : Entry) → {s u : Text} → Star NodeSpace s (61 ∷ u) → Runs whole out (dropping in_property) u → Runs whole out (dropping (in_node (fresh true))) s
+  to_equals : (out : Entry) → {s u : Text} → Star NodeSpace s (61 ∷ u) → Runs whole out (dropping Property) u → Runs whole out (dropping (InNode (Fresh MayBeKey))) s
   to_equals out no_star a = reads t_equals refl a
-  to_equals out (more n m) a = reads (t_space n) refl (stay out (dropping (in_node (spaced true))) (λ s r. refl) m (reads t_equals refl a))
+  to_equals out (more n m) a = reads (t_space n) refl (stay out (dropping (InNode (Spaced MayBeKey))) (λ s r. refl) m (reads t_equals refl a))
 
   read_item : {s r : Text} {e : data'.Entry} → IsEntry true s r e → ReadItem s r e
   read_item {s = s} {r = r} (argument {v = v} (a_value {t = t} y d)) =
@@ -151,16 +152,16 @@ module _ (whole : Text) where
         same = λ q x. ap (λ (z : Option Text). record { key = Some k; ty = z; value = v }) V.same;
         starts = λ out st x a.
             read_string out d (x.to_string k s t) (stay out (word (word_at whole k s t) t) (λ s r. refl) ss (reads t_equals refl
-            (stay out (under in_property (item_at whole (between whole s) u None i (between t (61 ∷ u)) [])) (λ s r. refl) us
+            (stay out (under Property (item_at whole (between whole s) u None i (between t (61 ∷ u)) [])) (λ s r. refl) us
             (V.after_key out whole (between whole s) u i (between t (61 ∷ u)) (a (done (entry_by (between whole s) (Some n) V.type v (between p r)) r) is_done)))));
-        drops = λ out a. read_string out d refl (to_equals out ss (stay out (dropping in_property) (λ s r. refl) us (V.drops_after out (a false))));
+        drops = λ out a. read_string out d refl (to_equals out ss (stay out (dropping Property) (λ s r. refl) us (V.drops_after out (a NoKey))));
       }
 
   read_dropped : (out : Entry) → {s t : Text} → Star (DroppedFirst true) s t → (st : State) → Starts st → ((st' : State) → Starts st' → Runs whole out st' t) → Runs whole out st s
   read_dropped out no_star st z f = f st z
   read_dropped out (more (dropped_first (slashdash ls) i (plus n ss)) ds) st z f =
-      reads t_slashdash (z.to_slashdash _ _) (lines out (dropping entry_slashdash) (λ s r. refl) (λ s r. refl) ls ((read_item i).drops out
-      (λ b. reads (t_space n) refl (stay out (dropping (in_node (spaced b))) (λ s r. refl) ss (read_dropped out ds (dropping (in_node (spaced b))) (at_spaced b) f)))))
+      reads t_slashdash (z.to_slashdash _ _) (lines out (dropping EntrySlashdash) (λ s r. refl) (λ s r. refl) ls ((read_item i).drops out
+      (λ b. reads (t_space n) refl (stay out (dropping (InNode (Spaced b))) (λ s r. refl) ss (read_dropped out ds (dropping (InNode (Spaced b))) (at_spaced b) f)))))
 
   after_done : {r : Text} (e : Entry) (from : Text) → Star LineSpace r [] → Runs whole (ended whole (between from []) e) (done e from) r
   after_done e from ls = lines (ended whole (between from []) e) (done e from) (λ s r. refl) (λ s r. refl) ls (stops refl)

@@ -2,9 +2,10 @@
 use Rattle.std.proofs.Common.{◌≡◌, Bool, true, false, [], Option, Some, None, option_map, refl, sym, ap, subst, ◌∙◌}
 use Rattle.kdl_text.specs.Chars.{Text}
 use Rattle.kdl_syntax.specs.Tokens.{Token, space, string, value, left, BeginsToken}
-use Rattle.kdl_syntax.specs.Control as control
-use Rattle.kdl_syntax.specs.Control.{spaced, type_open, type_name, type_done, in_node, property}
-use Rattle.kdl_syntax.specs.EntryControl.{EntryControl, ahead, dropping, under, entry_step, entry_finish, dropped_turn}
+use Rattle.kdl_syntax.specs.declared.control.{Spot.TheVariants.Spaced, Phase.Phase, Owner.TheVariants.Name as OfName, Owner.TheVariants.Value as OfValue}
+use Rattle.kdl_syntax.specs.declared.control.Phase.TheVariants.{TypeOpen, TypeName, TypeDone, InNode, Property}
+use Rattle.kdl_syntax.specs.EntryControl.{entry_step, entry_finish, dropped_turn}
+use Rattle.kdl_syntax.specs.declared.entry_control.EntryControl.{EntryControl, TheVariants.Ahead, TheVariants.Dropping, TheVariants.Under}
 use Rattle.kdl_entry.specs.Data as data'
 use Rattle.kdl_entry.specs.Entries.{IsEntryText}
 use Rattle.kdl_entry.specs.Internal.EntryMachine as machine
@@ -13,43 +14,43 @@ use Rattle.kdl_entry.specs.Tree.{Entry}
 use Rattle.kdl_entry.proofs.Reading.EntrySound.{derived}
 
 -- the phases in an entry that has a type or a key
-abbrev in_item : control.Phase → Bool
-in_item (type_open b) = true
-in_item (type_name b) = true
-in_item (type_done b) = true
-in_item property = true
+abbrev in_item : Phase → Bool
+in_item (TypeOpen b) = true
+in_item (TypeName b) = true
+in_item (TypeDone b) = true
+in_item Property = true
 in_item _ = false
 
 -- in an entry, the control is in no other phase
 abbrev placed : EntryControl → Bool
-placed (under p) = in_item p
+placed (Under p) = in_item p
 placed _ = true
 
 abbrev if_placed : Option EntryControl → Bool
 if_placed None = true
 if_placed (Some c) = placed c
 
-dropped : (whole : Text) (k : Token) (s r : Text) (o : Option control.Phase)
-    → (option_map phase_of (if_taken (option_map dropping o) (λ c. begin_to whole c k s r)) ≡ option_map dropping o) × (if_placed (option_map dropping o) ≡ true)
+dropped : (whole : Text) (k : Token) (s r : Text) (o : Option Phase)
+    → (option_map phase_of (if_taken (option_map Dropping o) (λ c. begin_to whole c k s r)) ≡ option_map Dropping o) × (if_placed (option_map Dropping o) ≡ true)
 dropped whole k s r None = (refl, refl)
 dropped whole k s r (Some p) = (refl, refl)
 
 -- the control after a token is that at the state after it
 same_turn : (whole : Text) (st : State) (k : Token) (s r : Text) → placed (phase_of st) ≡ true
     → (option_map phase_of (step whole st k s r) ≡ entry_step (phase_of st) k) × (if_placed (entry_step (phase_of st) k) ≡ true)
-same_turn whole (machine.dropping (in_node (spaced b))) (string v) s r h = (refl, refl)
-same_turn whole (machine.dropping (in_node (spaced b))) (value v) s r h = (refl, refl)
-same_turn whole (machine.dropping (in_node (spaced b))) left s r h = (refl, refl)
+same_turn whole (machine.dropping (InNode (Spaced b))) (string v) s r h = (refl, refl)
+same_turn whole (machine.dropping (InNode (Spaced b))) (value v) s r h = (refl, refl)
+same_turn whole (machine.dropping (InNode (Spaced b))) left s r h = (refl, refl)
 same_turn whole (machine.dropping p) k s r h = dropped whole k s r (dropped_turn p k)
-same_turn whole (machine.under (type_open b) it) space s r h = (refl, refl)
-same_turn whole (machine.under (type_open b) it) _ s r h = (refl, refl)
-same_turn whole (machine.under (type_name b) it) space s r h = (refl, refl)
-same_turn whole (machine.under (type_name b) it) _ s r h = (refl, refl)
-same_turn whole (machine.under (type_done true) it) (value v) s r h = (refl, refl)
-same_turn whole (machine.under (type_done false) it) (value v) s r h = (refl, refl)
-same_turn whole (machine.under (type_done b) it) _ s r h = (refl, refl)
-same_turn whole (machine.under property it) space s r h = (refl, refl)
-same_turn whole (machine.under property it) _ s r h = (refl, refl)
+same_turn whole (machine.under (TypeOpen b) it) space s r h = (refl, refl)
+same_turn whole (machine.under (TypeOpen b) it) _ s r h = (refl, refl)
+same_turn whole (machine.under (TypeName b) it) space s r h = (refl, refl)
+same_turn whole (machine.under (TypeName b) it) _ s r h = (refl, refl)
+same_turn whole (machine.under (TypeDone OfValue) it) (value v) s r h = (refl, refl)
+same_turn whole (machine.under (TypeDone OfName) it) (value v) s r h = (refl, refl)
+same_turn whole (machine.under (TypeDone b) it) _ s r h = (refl, refl)
+same_turn whole (machine.under Property it) space s r h = (refl, refl)
+same_turn whole (machine.under Property it) _ s r h = (refl, refl)
 same_turn whole (machine.under _ it) k s r h = absurd cc
 same_turn whole _ space s r h = (refl, refl)
 same_turn whole _ _ s r h = (refl, refl)
@@ -80,5 +81,5 @@ runs whole st h (takes {d = d} {s = s} {r = r} {k = k} b e a) q =
     (y.0, reads b x.1 y.1)
 
 -- it accepts only texts that are derived
-pub accepts_derived : {t : Text} → Accepts ahead t → (x : data'.Entry) × IsEntryText t x
+pub accepts_derived : {t : Text} → Accepts Ahead t → (x : data'.Entry) × IsEntryText t x
 accepts_derived {t = t} a = let x = runs t machine.ahead refl a refl in derived t x.0 x.1

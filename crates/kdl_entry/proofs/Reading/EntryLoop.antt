@@ -5,9 +5,11 @@ use Rattle.kdl_text.specs.Chars.Star.{none as no_star, more}
 use Rattle.kdl_text.specs.Internal.Here.{Here}
 use Rattle.kdl_text.specs.Internal.Reading.{Moves}
 use Rattle.kdl_text.specs.Trivia.{NodeSpace}
-use Rattle.kdl_syntax.specs.Control.{Phase, fresh, spaced, type_open, type_name, in_node, property}
-use Rattle.kdl_syntax.specs.EntryControl as control
-use Rattle.kdl_syntax.specs.EntryControl.{EntryControl, entry_step}
+use Rattle.kdl_syntax.specs.declared.control.{Spot.TheVariants.Fresh, Spot.TheVariants.Spaced, Phase.Phase}
+use Rattle.kdl_syntax.specs.declared.control.Phase.TheVariants.{TypeOpen, TypeName, InNode, Property}
+use Rattle.kdl_syntax.specs.declared.entry_control.EntryControl.TheVariants as control
+use Rattle.kdl_syntax.specs.EntryControl.{entry_step}
+use Rattle.kdl_syntax.specs.declared.entry_control.EntryControl.{EntryControl}
 use Rattle.kdl_entry.specs.Internal.EntryMachine.{Word, State, ahead, dropping, under, word, done, phase_of, valued, begin_to, value_of, under_to, word_to, go_to, if_taken, step, finish, Runs, stops, reads}
 use Rattle.kdl_entry.specs.Internal.Counted.{EndsIn, InOrder, Recounted}
 use Rattle.kdl_entry.specs.Internal.EntryReading.{AnswersEntryText, Ended, Same, Stands, Stepped}
@@ -28,9 +30,9 @@ module _ (whole : Text) where
   -- the place of a space does not matter
   anywhere : (st : State) (s r t q : Text) → step whole st space s r ≡ step whole st space t q
   anywhere ahead s r t q = refl
-  anywhere (dropping (in_node (spaced b))) s r t q = refl
+  anywhere (dropping (InNode (Spaced b))) s r t q = refl
   anywhere (dropping p) s r t q = refl
-  anywhere (under (in_node p) it) s r t q = refl
+  anywhere (under (InNode p) it) s r t q = refl
   anywhere (under p it) s r t q = refl
   anywhere (word w f) s r t q = refl
   anywhere (done e f) s r t q = refl
@@ -41,9 +43,9 @@ module _ (whole : Text) where
   -- and a space more changes nothing
   again : (st st' : State) (s r t q : Text) → step whole st space s r ≡ Some st' → step whole st' space t q ≡ Some st'
   again ahead st' s r t q e = to_same ahead st' t q e refl
-  again (dropping (in_node (fresh b))) st' s r t q e = to_same (dropping (in_node (spaced b))) st' t q e refl
+  again (dropping (InNode (Fresh b))) st' s r t q e = to_same (dropping (InNode (Spaced b))) st' t q e refl
   again (dropping p) st' s r t q e = to_same (dropping p) st' t q e refl
-  again (under (in_node p) it) st' s r t q e = absurd cc
+  again (under (InNode p) it) st' s r t q e = absurd cc
   again (under p it) st' s r t q e = to_same (under p it) st' t q e refl
   again (word w f) st' s r t q e = to_same (word w f) st' t q e refl
   again (done x f) st' s r t q e = to_same (done x f) st' t q e refl
@@ -91,17 +93,17 @@ module _ (whole s r : Text) (w : EndsIn whole s) (b : EndsIn s r) where
   ends_here = in_order_here (then_ends w b)
 
   begin_stands : (c : EntryControl) (st : State) (k : Token) → begin_to whole c k s r ≡ Some st → Stands whole st r
-  begin_stands control.ahead st k e = to ahead st e tt
-  begin_stands (control.dropping p) st k e = to (dropping p) st e tt
-  begin_stands (control.under p) st k e = to _ st e ends_here
-  begin_stands control.word st (string v) e = to _ st e ends_here
-  begin_stands control.done st (value v) e = to _ st e ends_here
+  begin_stands control.Ahead st k e = to ahead st e tt
+  begin_stands (control.Dropping p) st k e = to (dropping p) st e tt
+  begin_stands (control.Under p) st k e = to _ st e ends_here
+  begin_stands control.Word st (string v) e = to _ st e ends_here
+  begin_stands control.Done st (value v) e = to _ st e ends_here
   begin_stands _ st k e = absurd cc
 
   item_stands : (p : Phase) (it : Parts) (k : Token) → InOrder whole it.from s → InOrder whole (taken p whole it k s r).from r
-  item_stands (type_open c) it (string v) a = ends_here
-  item_stands (type_name c) it right a = ends_here
-  item_stands property it left a = ends_here
+  item_stands (TypeOpen c) it (string v) a = ends_here
+  item_stands (TypeName c) it right a = ends_here
+  item_stands Property it left a = ends_here
   item_stands p it k a = in_order_on a b
 
   value_stands : (p : Phase) (it : Parts) (o : Option Value) (st : State) → option_map (λ v. done (valued p it v s r) r) o ≡ Some st → Stands whole st r
@@ -109,12 +111,12 @@ module _ (whole s r : Text) (w : EndsIn whole s) (b : EndsIn s r) where
   value_stands p it (Some v) st e = to _ st e ends_here
 
   under_stands : (p : Phase) (it : Parts) (c : EntryControl) (k : Token) (st : State) → under_to whole p it c k s r ≡ Some st → InOrder whole it.from s → Stands whole st r
-  under_stands p it (control.under q) k st e a = to _ st e (item_stands p it k a)
+  under_stands p it (control.Under q) k st e a = to _ st e (item_stands p it k a)
   under_stands p it c k st e a = value_stands p it (value_of k) st e
 
   word_stands : (w : Word) (f : Text) (c : EntryControl) → InOrder whole f s → Stands whole (word_to whole w f c s r) r
-  word_stands w f control.word a = in_order_on a b
-  word_stands w f (control.under p) a = ends_here
+  word_stands w f control.Word a = in_order_on a b
+  word_stands w f (control.Under p) a = ends_here
   word_stands w f c a = in_order_on a b
 
   go_stands : (x st : State) (c : EntryControl) (k : Token) → go_to whole x c k s r ≡ Some st → Stands whole x s → Stands whole st r

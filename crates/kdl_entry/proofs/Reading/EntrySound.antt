@@ -7,7 +7,8 @@ use Rattle.kdl_entry.specs.Data as data'
 use Rattle.kdl_value.specs.Data.{Value}
 use Rattle.kdl_entry.specs.Entries.{IsString, string as a_string', IsPlainValue, a_string, a_plain, parens, untyped, typed, IsValue, value as a_value, IsEntry, property, argument, DroppedFirst, dropped_first, before_entry, IsEntryText, entry_text}
 use Rattle.kdl_entry.specs.Internal.EntryMachine.{Word, State, ahead, dropping, under, word, done, step, Runs, stops, reads, AnswersEntry}
-use Rattle.kdl_syntax.specs.Control.{Phase, fresh, spaced, type_open, type_name, type_done, in_node, property as in_property, entry_slashdash}
+use Rattle.kdl_syntax.specs.declared.control.{Spot.TheVariants.Fresh, Spot.TheVariants.Spaced, Phase.Phase, Word.Word as ControlWord, Owner.Owner, Word.TheVariants.MayBeKey, Word.TheVariants.NoKey, Owner.TheVariants.Name as OfName, Owner.TheVariants.Value as OfValue}
+use Rattle.kdl_syntax.specs.declared.control.Phase.TheVariants.{TypeOpen, TypeName, TypeDone, InNode, Property, EntrySlashdash}
 use Rattle.kdl_entry.specs.Internal.Parts.{Parts}
 use Rattle.kdl_syntax.specs.Tokens.{Token, string, value, left, bom, BeginsToken, t_space, t_newline, t_slashdash, t_string, t_value, t_left, t_right, t_equals}
 use Rattle.kdl_entry.specs.Tree.{Entry}
@@ -48,20 +49,20 @@ data SpacedThen : Text → Type 0 where
   spaced_then : {s t : Text} → Star NodeSpace s t → Left t → SpacedThen s
 
 abbrev InItem : Phase → Bool → Text → Type 0
-InItem (type_open c) b s = OpenThen b s
-InItem (type_name c) b s = NamedThen b s
-InItem (type_done c) b s = ClosedThen b s
-InItem in_property b s = ValueThen b s
+InItem (TypeOpen c) b s = OpenThen b s
+InItem (TypeName c) b s = NamedThen b s
+InItem (TypeDone c) b s = ClosedThen b s
+InItem Property b s = ValueThen b s
 InItem _ b s = Unit {0}
 
-abbrev Key : Bool → Bool → Text → Type 0
-Key false b s = ⊥
-Key true b s = KeyThen b s
+abbrev Key : ControlWord → Bool → Text → Type 0
+Key NoKey b s = ⊥
+Key MayBeKey b s = KeyThen b s
 
 abbrev DroppedThen : Phase → Text → Type 0
-DroppedThen entry_slashdash s = SlashdashThen s
-DroppedThen (in_node (fresh b)) s = Then false s ⊎ Key b false s
-DroppedThen (in_node (spaced b)) s = SpacedThen s ⊎ Key b false s
+DroppedThen EntrySlashdash s = SlashdashThen s
+DroppedThen (InNode (Fresh b)) s = Then false s ⊎ Key b false s
+DroppedThen (InNode (Spaced b)) s = SpacedThen s ⊎ Key b false s
 DroppedThen p s = InItem p false s
 
 abbrev Rest : State → Text → Type 0
@@ -105,19 +106,19 @@ value_typed (open_then ss w (named_then us (closed_then vs p d))) = value_then n
 key_space : {b : Bool} {s r : Text} → NodeSpace s r → KeyThen b r → KeyThen b s
 key_space n (key_then ss v) = key_then (more n ss) v
 
-maybe_key : {s r : Text} (b : Bool) → NodeSpace s r → Key b false r → Key b false s
-maybe_key false n k = k
-maybe_key true n k = key_space n k
+maybe_key : {s r : Text} (b : ControlWord) → NodeSpace s r → Key b false r → Key b false s
+maybe_key NoKey n k = k
+maybe_key MayBeKey n k = key_space n k
 
-fresh_space : {s r : Text} (b : Bool) → NodeSpace s r → SpacedThen r ⊎ Key b false r → Then false s ⊎ Key b false s
+fresh_space : {s r : Text} (b : ControlWord) → NodeSpace s r → SpacedThen r ⊎ Key b false r → Then false s ⊎ Key b false s
 fresh_space b n (inl (spaced_then ss l)) = inl (and_more (plus n ss) l)
 fresh_space b n (inr k) = inr (maybe_key b n k)
 
-spaced_space : {s r : Text} (b : Bool) → NodeSpace s r → SpacedThen r ⊎ Key b false r → SpacedThen s ⊎ Key b false s
+spaced_space : {s r : Text} (b : ControlWord) → NodeSpace s r → SpacedThen r ⊎ Key b false r → SpacedThen s ⊎ Key b false s
 spaced_space b n (inl (spaced_then ss l)) = inl (spaced_then (more n ss) l)
 spaced_space b n (inr k) = inr (maybe_key b n k)
 
-no_key : {s : Text} → Then false s ⊎ Key false false s → Then false s
+no_key : {s : Text} → Then false s ⊎ Key NoKey false s → Then false s
 no_key (inl d) = d
 no_key (inr k) = absurd k
 
@@ -129,10 +130,10 @@ word_space n (inl d) = inl (last_space (LineSpace.space n) d)
 word_space n (inr k) = inr (key_space n k)
 
 item_space : {s r : Text} (p : Phase) (b : Bool) → NodeSpace s r → InItem p b r → InItem p b s
-item_space (type_open c) b n (open_then ss w d) = open_then (more n ss) w d
-item_space (type_name c) b n (named_then ss d) = named_then (more n ss) d
-item_space (type_done c) b n (closed_then ss w d) = closed_then (more n ss) w d
-item_space in_property b n (value_then ss w d) = value_then (more n ss) w d
+item_space (TypeOpen c) b n (open_then ss w d) = open_then (more n ss) w d
+item_space (TypeName c) b n (named_then ss d) = named_then (more n ss) d
+item_space (TypeDone c) b n (closed_then ss w d) = closed_then (more n ss) w d
+item_space Property b n (value_then ss w d) = value_then (more n ss) w d
 item_space _ b n d = tt
 
 module _ (whole : Text) (out : Entry) where
@@ -157,58 +158,60 @@ module _ (whole : Text) (out : Entry) where
   word_end : {s : Text} (w : Word) (from : Text) → Runs whole out (word w from) s → ValueEnd true s
   word_end w from a = ends a (λ k s r. taken (λ k. step whole (word w from) k s r) (λ v. refl) (λ v. refl) refl refl k)
 
-  fresh_end : {s : Text} (b : Bool) → Runs whole out (dropping (in_node (fresh b))) s → ValueEnd true s
-  fresh_end b a = ends a (λ k s r. taken (λ k. step whole (dropping (in_node (fresh b))) k s r) (λ v. refl) (λ v. refl) refl refl k)
+  fresh_end : {s : Text} (b : ControlWord) → Runs whole out (dropping (InNode (Fresh b))) s → ValueEnd true s
+  fresh_end b a = ends a (λ k s r. taken (λ k. step whole (dropping (InNode (Fresh b))) k s r) (λ v. refl) (λ v. refl) refl refl k)
 
-  type_end : {s : Text} (b : Bool) → Runs whole out (dropping (type_name b)) s → ValueEnd true s
-  type_end b a = ends a (λ k s r. taken (λ k. step whole (dropping (type_name b)) k s r) (λ v. refl) (λ v. refl) refl refl k)
+  type_end : {s : Text} (b : Owner) → Runs whole out (dropping (TypeName b)) s → ValueEnd true s
+  type_end b a = ends a (λ k s r. taken (λ k. step whole (dropping (TypeName b)) k s r) (λ v. refl) (λ v. refl) refl refl k)
 
   done_end : {s : Text} (x : Entry) (from : Text) → Runs whole out (done x from) s → ValueEnd true s
   done_end x from a = ends a (λ k s r. taken (λ k. step whole (done x from) k s r) (λ v. refl) (λ v. refl) refl refl k)
 
-  named_end : {s : Text} (b : Bool) (it : Parts) → Runs whole out (under (type_name b) it) s → ValueEnd true s
-  named_end b it a = ends a (λ k s r. taken (λ k. step whole (under (type_name b) it) k s r) (λ v. refl) (λ v. refl) refl refl k)
+  named_end : {s : Text} (b : Owner) (it : Parts) → Runs whole out (under (TypeName b) it) s → ValueEnd true s
+  named_end b it a = ends a (λ k s r. taken (λ k. step whole (under (TypeName b) it) k s r) (λ v. refl) (λ v. refl) refl refl k)
 
   in_item : {s r : Text} {k : Token} {st : State} (p : Phase) (it : Parts) → BeginsToken s k r → step whole (under p it) k s r ≡ Some st → Runs whole out st r → Rest st r → InItem p true s
-  in_item (type_open b) it (t_space n) e a d = item_space (type_open b) true n (back _ (under (type_open b) it) _ e d)
-  in_item (type_open b) it (t_string p) e a d = open_then no_star (a_string' p (named_end b _ (back_run _ _ e a))) (back _ (under (type_name b) _) _ e d)
-  in_item (type_name b) it (t_space n) e a d = item_space (type_name b) true n (back _ (under (type_name b) it) _ e d)
-  in_item (type_name b) it t_right e a d = named_then no_star (back _ (under (type_done b) _) _ e d)
-  in_item (type_done b) it (t_space n) e a d = item_space (type_done b) true n (back _ (under (type_done b) it) _ e d)
-  in_item (type_done b) it (t_string p) e a d = closed_then no_star (a_string (a_string' p (done_end _ _ (back_run _ _ e a)))) (back _ (done _ _) _ e d)
-  in_item (type_done true) it (t_value p) e a d = closed_then no_star (a_plain p (done_end _ _ (back_run _ _ e a))) (back _ (done _ _) _ e d)
-  in_item in_property it (t_space n) e a d = item_space in_property true n (back _ (under in_property it) _ e d)
-  in_item in_property it (t_string p) e a d = value_of (a_string (a_string' p (done_end _ _ (back_run _ _ e a)))) (back _ (done _ _) _ e d)
-  in_item in_property it (t_value p) e a d = value_of (a_plain p (done_end _ _ (back_run _ _ e a))) (back _ (done _ _) _ e d)
-  in_item in_property it t_left e a d = value_typed (back _ (under (type_open true) _) _ e d)
+  in_item (TypeOpen b) it (t_space n) e a d = item_space (TypeOpen b) true n (back _ (under (TypeOpen b) it) _ e d)
+  in_item (TypeOpen b) it (t_string p) e a d = open_then no_star (a_string' p (named_end b _ (back_run _ _ e a))) (back _ (under (TypeName b) _) _ e d)
+  in_item (TypeName b) it (t_space n) e a d = item_space (TypeName b) true n (back _ (under (TypeName b) it) _ e d)
+  in_item (TypeName b) it t_right e a d = named_then no_star (back _ (under (TypeDone b) _) _ e d)
+  in_item (TypeDone b) it (t_space n) e a d = item_space (TypeDone b) true n (back _ (under (TypeDone b) it) _ e d)
+  in_item (TypeDone OfName) it (t_string p) e a d = closed_then no_star (a_string (a_string' p (done_end _ _ (back_run _ _ e a)))) (back _ (done _ _) _ e d)
+  in_item (TypeDone OfValue) it (t_string p) e a d = closed_then no_star (a_string (a_string' p (done_end _ _ (back_run _ _ e a)))) (back _ (done _ _) _ e d)
+  in_item (TypeDone OfValue) it (t_value p) e a d = closed_then no_star (a_plain p (done_end _ _ (back_run _ _ e a))) (back _ (done _ _) _ e d)
+  in_item Property it (t_space n) e a d = item_space Property true n (back _ (under Property it) _ e d)
+  in_item Property it (t_string p) e a d = value_of (a_string (a_string' p (done_end _ _ (back_run _ _ e a)))) (back _ (done _ _) _ e d)
+  in_item Property it (t_value p) e a d = value_of (a_plain p (done_end _ _ (back_run _ _ e a))) (back _ (done _ _) _ e d)
+  in_item Property it t_left e a d = value_typed (back _ (under (TypeOpen OfValue) _) _ e d)
   in_item _ it t e a d = first_of (search rules, cc)
 
   -- in or after a slashdashed entry
   in_dropped : {s r : Text} {k : Token} {st : State} (p : Phase) → BeginsToken s k r → step whole (dropping p) k s r ≡ Some st → Runs whole out st r → Rest st r → DroppedThen p s
-  in_dropped entry_slashdash (t_space n) e a d = slashdash_space (LineSpace.space n) (back _ (dropping entry_slashdash) _ e d)
-  in_dropped entry_slashdash (t_newline n) e a d = slashdash_space (LineSpace.«break» n) (back _ (dropping entry_slashdash) _ e d)
-  in_dropped entry_slashdash (t_string p) e a d = slashdash_then no_star (entry_of (a_string' p (fresh_end true (back_run _ _ e a))) (back _ (dropping (in_node (fresh true))) _ e d))
-  in_dropped entry_slashdash (t_value p) e a d = slashdash_then no_star (entry_plain (a_plain p (fresh_end false (back_run _ _ e a))) (no_key (back _ (dropping (in_node (fresh false))) _ e d)))
-  in_dropped entry_slashdash t_left e a d = slashdash_then no_star (entry_typed (back _ (dropping (type_open true)) _ e d))
-  in_dropped (type_open b) (t_space n) e a d = item_space (type_open b) false n (back _ (dropping (type_open b)) _ e d)
-  in_dropped (type_open b) (t_string p) e a d = open_then no_star (a_string' p (type_end b (back_run _ _ e a))) (back _ (dropping (type_name b)) _ e d)
-  in_dropped (type_name b) (t_space n) e a d = item_space (type_name b) false n (back _ (dropping (type_name b)) _ e d)
-  in_dropped (type_name b) t_right e a d = named_then no_star (back _ (dropping (type_done b)) _ e d)
-  in_dropped (type_done b) (t_space n) e a d = item_space (type_done b) false n (back _ (dropping (type_done b)) _ e d)
-  in_dropped (type_done b) (t_string p) e a d = closed_then no_star (a_string (a_string' p (fresh_end false (back_run _ _ e a)))) (no_key (back _ (dropping (in_node (fresh false))) _ e d))
-  in_dropped (type_done true) (t_value p) e a d = closed_then no_star (a_plain p (fresh_end false (back_run _ _ e a))) (no_key (back _ (dropping (in_node (fresh false))) _ e d))
-  in_dropped in_property (t_space n) e a d = item_space in_property false n (back _ (dropping in_property) _ e d)
-  in_dropped in_property (t_string p) e a d = value_of (a_string (a_string' p (fresh_end false (back_run _ _ e a)))) (no_key (back _ (dropping (in_node (fresh false))) _ e d))
-  in_dropped in_property (t_value p) e a d = value_of (a_plain p (fresh_end false (back_run _ _ e a))) (no_key (back _ (dropping (in_node (fresh false))) _ e d))
-  in_dropped in_property t_left e a d = value_typed (back _ (dropping (type_open true)) _ e d)
-  in_dropped (in_node (fresh b)) (t_space n) e a d = fresh_space b n (back _ (dropping (in_node (spaced b))) _ e d)
-  in_dropped (in_node (fresh true)) t_equals e a d = inr (key_then no_star (back _ (dropping in_property) _ e d))
-  in_dropped (in_node (spaced b)) (t_space n) e a d = spaced_space b n (back _ (dropping (in_node (spaced b))) _ e d)
-  in_dropped (in_node (spaced true)) t_equals e a d = inr (key_then no_star (back _ (dropping in_property) _ e d))
-  in_dropped (in_node (spaced b)) t_slashdash e a d = inl (spaced_then no_star (left_slashdash (back _ (dropping entry_slashdash) _ e d)))
-  in_dropped (in_node (spaced b)) (t_string p) e a d = inl (spaced_then no_star (left_entry (entry_of (a_string' p (word_end _ _ (back_run _ _ e a))) (back _ (word _ _) _ e d))))
-  in_dropped (in_node (spaced b)) (t_value p) e a d = inl (spaced_then no_star (left_entry (entry_plain (a_plain p (done_end _ _ (back_run _ _ e a))) (back _ (done _ _) _ e d))))
-  in_dropped (in_node (spaced b)) t_left e a d = inl (spaced_then no_star (left_entry (entry_typed (back _ (under (type_open true) _) _ e d))))
+  in_dropped EntrySlashdash (t_space n) e a d = slashdash_space (LineSpace.space n) (back _ (dropping EntrySlashdash) _ e d)
+  in_dropped EntrySlashdash (t_newline n) e a d = slashdash_space (LineSpace.«break» n) (back _ (dropping EntrySlashdash) _ e d)
+  in_dropped EntrySlashdash (t_string p) e a d = slashdash_then no_star (entry_of (a_string' p (fresh_end MayBeKey (back_run _ _ e a))) (back _ (dropping (InNode (Fresh MayBeKey))) _ e d))
+  in_dropped EntrySlashdash (t_value p) e a d = slashdash_then no_star (entry_plain (a_plain p (fresh_end NoKey (back_run _ _ e a))) (no_key (back _ (dropping (InNode (Fresh NoKey))) _ e d)))
+  in_dropped EntrySlashdash t_left e a d = slashdash_then no_star (entry_typed (back _ (dropping (TypeOpen OfValue)) _ e d))
+  in_dropped (TypeOpen b) (t_space n) e a d = item_space (TypeOpen b) false n (back _ (dropping (TypeOpen b)) _ e d)
+  in_dropped (TypeOpen b) (t_string p) e a d = open_then no_star (a_string' p (type_end b (back_run _ _ e a))) (back _ (dropping (TypeName b)) _ e d)
+  in_dropped (TypeName b) (t_space n) e a d = item_space (TypeName b) false n (back _ (dropping (TypeName b)) _ e d)
+  in_dropped (TypeName b) t_right e a d = named_then no_star (back _ (dropping (TypeDone b)) _ e d)
+  in_dropped (TypeDone b) (t_space n) e a d = item_space (TypeDone b) false n (back _ (dropping (TypeDone b)) _ e d)
+  in_dropped (TypeDone OfName) (t_string p) e a d = closed_then no_star (a_string (a_string' p (fresh_end NoKey (back_run _ _ e a)))) (no_key (back _ (dropping (InNode (Fresh NoKey))) _ e d))
+  in_dropped (TypeDone OfValue) (t_string p) e a d = closed_then no_star (a_string (a_string' p (fresh_end NoKey (back_run _ _ e a)))) (no_key (back _ (dropping (InNode (Fresh NoKey))) _ e d))
+  in_dropped (TypeDone OfValue) (t_value p) e a d = closed_then no_star (a_plain p (fresh_end NoKey (back_run _ _ e a))) (no_key (back _ (dropping (InNode (Fresh NoKey))) _ e d))
+  in_dropped Property (t_space n) e a d = item_space Property false n (back _ (dropping Property) _ e d)
+  in_dropped Property (t_string p) e a d = value_of (a_string (a_string' p (fresh_end NoKey (back_run _ _ e a)))) (no_key (back _ (dropping (InNode (Fresh NoKey))) _ e d))
+  in_dropped Property (t_value p) e a d = value_of (a_plain p (fresh_end NoKey (back_run _ _ e a))) (no_key (back _ (dropping (InNode (Fresh NoKey))) _ e d))
+  in_dropped Property t_left e a d = value_typed (back _ (dropping (TypeOpen OfValue)) _ e d)
+  in_dropped (InNode (Fresh b)) (t_space n) e a d = fresh_space b n (back _ (dropping (InNode (Spaced b))) _ e d)
+  in_dropped (InNode (Fresh MayBeKey)) t_equals e a d = inr (key_then no_star (back _ (dropping Property) _ e d))
+  in_dropped (InNode (Spaced b)) (t_space n) e a d = spaced_space b n (back _ (dropping (InNode (Spaced b))) _ e d)
+  in_dropped (InNode (Spaced MayBeKey)) t_equals e a d = inr (key_then no_star (back _ (dropping Property) _ e d))
+  in_dropped (InNode (Spaced b)) t_slashdash e a d = inl (spaced_then no_star (left_slashdash (back _ (dropping EntrySlashdash) _ e d)))
+  in_dropped (InNode (Spaced b)) (t_string p) e a d = inl (spaced_then no_star (left_entry (entry_of (a_string' p (word_end _ _ (back_run _ _ e a))) (back _ (word _ _) _ e d))))
+  in_dropped (InNode (Spaced b)) (t_value p) e a d = inl (spaced_then no_star (left_entry (entry_plain (a_plain p (done_end _ _ (back_run _ _ e a))) (back _ (done _ _) _ e d))))
+  in_dropped (InNode (Spaced b)) t_left e a d = inl (spaced_then no_star (left_entry (entry_typed (back _ (under (TypeOpen OfValue) _) _ e d))))
   in_dropped _ t e a d = first_of (search rules, cc)
 
   sound : {s : Text} {st : State} → Runs whole out st s → Rest st s
@@ -217,15 +220,15 @@ module _ (whole : Text) (out : Entry) where
   sound (stops e) = absurd cc
   sound (reads {st = ahead} (t_space n) e a) = text_space (LineSpace.space n) (back _ ahead _ e (sound a))
   sound (reads {st = ahead} (t_newline n) e a) = text_space (LineSpace.«break» n) (back _ ahead _ e (sound a))
-  sound (reads {st = ahead} t_slashdash e a) = text_left (left_slashdash (back _ (dropping entry_slashdash) _ e (sound a)))
+  sound (reads {st = ahead} t_slashdash e a) = text_left (left_slashdash (back _ (dropping EntrySlashdash) _ e (sound a)))
   sound (reads {st = ahead} (t_string p) e a) = text_left (left_entry (entry_of (a_string' p (word_end _ _ (back_run _ _ e a))) (back _ (word _ _) _ e (sound a))))
   sound (reads {st = ahead} (t_value p) e a) = text_left (left_entry (entry_plain (a_plain p (done_end _ _ (back_run _ _ e a))) (back _ (done _ _) _ e (sound a))))
-  sound (reads {st = ahead} t_left e a) = text_left (left_entry (entry_typed (back _ (under (type_open true) _) _ e (sound a))))
+  sound (reads {st = ahead} t_left e a) = text_left (left_entry (entry_typed (back _ (under (TypeOpen OfValue) _) _ e (sound a))))
   sound (reads {st = dropping p} t e a) = in_dropped p t e a (sound a)
   sound (reads {st = under p it} t e a) = in_item p it t e a (sound a)
   sound (reads {st = word w from} (t_space n) e a) = word_space n (back _ (word w from) _ e (sound a))
   sound (reads {st = word w from} (t_newline n) e a) = inl (last_space (LineSpace.«break» n) (back _ (done _ _) _ e (sound a)))
-  sound (reads {st = word w from} t_equals e a) = inr (key_then no_star (back _ (under in_property _) _ e (sound a)))
+  sound (reads {st = word w from} t_equals e a) = inr (key_then no_star (back _ (under Property _) _ e (sound a)))
   sound (reads {st = done x from} (t_space n) e a) = last_space (LineSpace.space n) (back _ (done x from) _ e (sound a))
   sound (reads {st = done x from} (t_newline n) e a) = last_space (LineSpace.«break» n) (back _ (done x from) _ e (sound a))
   sound (reads t e a) = absurd cc

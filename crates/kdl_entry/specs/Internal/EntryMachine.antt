@@ -1,8 +1,9 @@
 -- The machine that reads a text that is one entry: it reads the tokens once. The token k is in the text s before r, in the text `whole`.
 -- The control says which token may come. The start of a place is kept as the text from there on; of a slashdashed entry only the phase is kept.
 use Rattle.std.specs.Prelude.{◌≡◌, [], Option, Some, None, option_map}
-use Rattle.kdl_syntax.specs.Control.{Phase}
-use Rattle.kdl_syntax.specs.EntryControl as control
+use Rattle.kdl_syntax.specs.declared.control.Phase.{Phase}
+use Rattle.kdl_syntax.specs.declared.entry_control.EntryControl.TheVariants as control
+use Rattle.kdl_syntax.specs.declared.entry_control.EntryControl.{EntryControl}
 use Rattle.kdl_syntax.specs.EntryControl.{entry_step}
 use Rattle.kdl_text.specs.Chars.{Text}
 use Rattle.kdl_text.specs.declared.span.SourceSpan.{SourceSpan}
@@ -29,12 +30,12 @@ pub data State : Type 0 where
   done : Entry → Text → State
 
 -- the control at a state
-abbrev pub phase_of : State → control.EntryControl
-phase_of ahead = control.ahead
-phase_of (dropping p) = control.dropping p
-phase_of (under p it) = control.under p
-phase_of (word w from) = control.word
-phase_of (done e from) = control.done
+abbrev pub phase_of : State → EntryControl
+phase_of ahead = control.Ahead
+phase_of (dropping p) = control.Dropping p
+phase_of (under p it) = control.Under p
+phase_of (word w from) = control.Word
+phase_of (done e from) = control.Done
 
 -- an entry being read, after the `(` of its type, which is in s before r
 abbrev pub opened_parts : Text → Text → Text → Parts
@@ -65,12 +66,12 @@ abbrev pub valued : Phase → Parts → Value → Text → Text → Entry
 valued p it v s r = entry_by it.leading (key_given p it s) (type_given p it s) v (between s r)
 
 -- the state after a token before the entry, where the control goes to c
-abbrev pub begin_to : Text → control.EntryControl → Token → Text → Text → Option State
-begin_to whole control.ahead k s r = Some ahead
-begin_to whole (control.dropping p) k s r = Some (dropping p)
-begin_to whole (control.under p) k s r = Some (under p (opened_parts s (between whole s) r))
-begin_to whole control.word (string v) s r = Some (word (word_at whole v s r) r)
-begin_to whole control.done (value v) s r = Some (done (entry_by (between whole s) None None v (between s r)) r)
+abbrev pub begin_to : Text → EntryControl → Token → Text → Text → Option State
+begin_to whole control.Ahead k s r = Some ahead
+begin_to whole (control.Dropping p) k s r = Some (dropping p)
+begin_to whole (control.Under p) k s r = Some (under p (opened_parts s (between whole s) r))
+begin_to whole control.Word (string v) s r = Some (word (word_at whole v s r) r)
+begin_to whole control.Done (value v) s r = Some (done (entry_by (between whole s) None None v (between s r)) r)
 begin_to whole c k s r = None
 
 -- the value that a token is
@@ -84,18 +85,18 @@ abbrev pub value_to : Phase → Parts → Token → Text → Text → Option Sta
 value_to p it k s r = option_map (λ v. done (valued p it v s r) r) (value_of k)
 
 -- the state after a token in the entry, where the control goes to c
-abbrev pub under_to : Text → Phase → Parts → control.EntryControl → Token → Text → Text → Option State
-under_to whole p it (control.under q) k s r = Some (under q (taken p whole it k s r))
+abbrev pub under_to : Text → Phase → Parts → EntryControl → Token → Text → Text → Option State
+under_to whole p it (control.Under q) k s r = Some (under q (taken p whole it k s r))
 under_to whole p it c k s r = value_to p it k s r
 
 -- the state after a token that follows a string that may be a key, where the control goes to c
-abbrev pub word_to : Text → Word → Text → control.EntryControl → Text → Text → State
-word_to whole w from control.word s r = word w from
-word_to whole w from (control.under p) s r = under p (keyed_parts whole w.leading (word_identifier w) (between from s) r)
+abbrev pub word_to : Text → Word → Text → EntryControl → Text → Text → State
+word_to whole w from control.Word s r = word w from
+word_to whole w from (control.Under p) s r = under p (keyed_parts whole w.leading (word_identifier w) (between from s) r)
 word_to whole w from c s r = done (argument_of w) from
 
 -- the state after a token, where the control goes to c
-abbrev pub go_to : Text → State → control.EntryControl → Token → Text → Text → Option State
+abbrev pub go_to : Text → State → EntryControl → Token → Text → Text → Option State
 go_to whole ahead c k s r = begin_to whole c k s r
 go_to whole (dropping p) c k s r = begin_to whole c k s r
 go_to whole (under p it) c k s r = under_to whole p it c k s r
@@ -103,7 +104,7 @@ go_to whole (word w from) c k s r = Some (word_to whole w from c s r)
 go_to whole (done e from) c k s r = Some (done e from)
 
 -- the state after a token, by the control; none if the token may not come
-abbrev pub if_taken : Option control.EntryControl → (control.EntryControl → Option State) → Option State
+abbrev pub if_taken : Option EntryControl → (EntryControl → Option State) → Option State
 if_taken None f = None
 if_taken (Some c) f = f c
 

@@ -1,7 +1,6 @@
 -- The machine's state that a reader of an entry holds, and what its steps return.
 use Rattle.std.specs.Prelude.{◌≡◌, ◌↔◌, Option, Some, None, Result, Ok, Err}
 use Rattle.kdl_text.specs.Chars.{Text}
-use Rattle.kdl_syntax.specs.Internal.Views.{phase_view}
 use Rattle.kdl_entry.specs.Internal.Building.{parts_view}
 use Rattle.kdl_entry.specs.Internal.Counted.{InOrder}
 use Rattle.kdl_entry.specs.Internal.EntryMachine as machine
@@ -23,8 +22,8 @@ word_view w = record { leading = text_of w.leading; value = text_of w.value; rep
 -- the machine's state that the reader's state represents
 abbrev pub state_view : State → machine.State
 state_view Start = machine.ahead
-state_view (Dropping p) = machine.dropping (phase_view p)
-state_view (Under p it) = under (phase_view p) (parts_view it)
+state_view (Dropping p) = machine.dropping p
+state_view (Under p it) = under p (parts_view it)
 state_view (Pending w) = word (word_view w) w.end.rest
 state_view (Done e from) = done (entry_tree e) from.rest
 

@@ -6,7 +6,8 @@ use Rattle.kdl_text.specs.declared.span.SourceSpan.{SourceSpan}
 use Rattle.kdl_value.specs.Data.{Value}
 use Rattle.kdl_entry.specs.Places.{between, span_of}
 use Rattle.kdl_syntax.specs.Tokens.{Token, string, left, right}
-use Rattle.kdl_syntax.specs.Control.{Phase, type_open, type_name, property}
+use Rattle.kdl_syntax.specs.declared.control.Phase.{Phase}
+use Rattle.kdl_syntax.specs.declared.control.Phase.TheVariants.{TypeOpen, TypeName, Property}
 use Rattle.kdl_entry.specs.Tree.{Identifier, plain_identifier, Entry}
 
 -- a type, and the texts before its name, after it, and after the `)`
@@ -121,17 +122,17 @@ reopened k r it = record (emptied it) { key = Some k; from = r }
 
 -- after a token in the phase that is not the value
 abbrev pub taken : Phase → Text → Parts → Token → Text → Text → Parts
-taken (type_open b) whole it (string v) s r = named_at (identifier_at whole v s r) (between it.from s) r it
-taken (type_name b) whole it right s r = closed_at (between it.from s) r it
-taken property whole it left s r = reopened (key_at it s) r it
+taken (TypeOpen b) whole it (string v) s r = named_at (identifier_at whole v s r) (between it.from s) r it
+taken (TypeName b) whole it right s r = closed_at (between it.from s) r it
+taken Property whole it left s r = reopened (key_at it s) r it
 taken p whole it k s r = it
 
 -- the key, if the value begins at s in the phase
 abbrev pub key_given : Phase → Parts → Text → Option KeyParts
-key_given property it s = Some (key_at it s)
+key_given Property it s = Some (key_at it s)
 key_given p it s = it.key
 
 -- the type, if the value begins at s in the phase
 abbrev pub type_given : Phase → Parts → Text → Option TypeParts
-type_given property it s = None
+type_given Property it s = None
 type_given p it s = Some (type_at it s)

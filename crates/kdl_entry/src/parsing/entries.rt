@@ -1,8 +1,6 @@
 //! Entries that are a whole text, read token by token.
 #![tactic(auto, using(crate::proofs::Rules::entries))]
 
-ghost use Rattle.kdl_syntax.specs.Internal.EntryViews.{entry_view};
-ghost use Rattle.kdl_syntax.specs.Internal.Views.{phase_view};
 ghost use Rattle.kdl_entry.specs.Internal.Building.{parts_view};
 ghost use Rattle.kdl_entry.specs.Internal.EntryMachine as machine;
 ghost use Rattle.kdl_entry.specs.Internal.EntryMachine.{argument_of, begin_to, ended, finish, phase_of, step, value_of, value_to, word_to};
@@ -79,7 +77,7 @@ fn begin_to<'a>(
     token: Token<'a>,
 ) -> Result<State<'a>, LexFailure>
     requires leading { EndsIn source.old.text token.at.start.rest }
-    ensures did { Stepped (begin_to source.old.text (entry_view next)
+    ensures did { Stepped (begin_to source.old.text next
         (kind_view token.entry.kind) token.entry.at.start.rest token.entry.at.end.rest)
         result }
     ensures same { Recounted source.old source.new }
@@ -133,7 +131,7 @@ fn at_value<'a>(
     token: Token<'a>,
 ) -> Result<State<'a>, LexFailure>
     requires from { Within source.old parts.from token.at.start }
-    ensures did { Stepped (value_to (phase_view phase) (parts_view parts.entry)
+    ensures did { Stepped (value_to phase (parts_view parts.entry)
         (kind_view token.entry.kind) token.entry.at.start.rest token.entry.at.end.rest)
         result }
     ensures same { Recounted source.old source.new }
@@ -157,7 +155,7 @@ fn word_to<'a>(
 ) -> Result<State<'a>, AllocError>
     requires { Within source.old word.end at.now.start }
     ensures is { IfOk result (λ st. state_view st
-        ≡ word_to source.old.text (word_view word.entry) word.entry.end.rest (entry_view next)
+        ≡ word_to source.old.text (word_view word.entry) word.entry.end.rest next
         at.now.start.rest at.now.end.rest) }
     ensures same { Recounted source.old source.new }
 {
@@ -201,7 +199,7 @@ fn ended<'a>(
 impl<'a> State<'a> {
     /// The control here.
     fn control(&self) -> EntryControl
-        ensures { entry_view result ≡ phase_of (state_view self.now) }
+        ensures { result ≡ phase_of (state_view self.now) }
     {
         match self {
             State::Start => EntryControl::Ahead,

@@ -3,7 +3,6 @@
 //! The same for an entry that is a whole text and for those of a document. Which token may come is up to the control.
 #![tactic(auto, using(crate::proofs::Rules::parts))]
 
-ghost use Rattle.kdl_syntax.specs.Internal.Views.{phase_view};
 ghost use Rattle.kdl_entry.specs.Internal.Building.{key_view, type_view, parts_view, Holds};
 ghost use Rattle.kdl_entry.specs.Internal.Counted.{Recounted, Sliced, Within};
 ghost use Rattle.kdl_syntax.specs.Internal.Handed.{kind_view};
@@ -447,7 +446,7 @@ impl<'a> Parts<'a> {
     ) -> Result<(), AllocError>
         requires from { Within source.old self.old.from token.at.start }
         ensures is { OnOk result
-            (parts_view self.new ≡ spec.taken (phase_view phase) source.old.text (parts_view self.old)
+            (parts_view self.new ≡ spec.taken phase source.old.text (parts_view self.old)
             (kind_view token.entry.kind) token.entry.at.start.rest token.entry.at.end.rest) }
         ensures same { Recounted source.old source.new }
     {
@@ -475,10 +474,10 @@ impl<'a> Parts<'a> {
         requires from { Within source.old self.old.from start.now }
         ensures key { IfOk result
             (λ g. option_map key_view g.key
-            ≡ spec.key_given (phase_view phase) (parts_view self.old) start.now.rest) }
+            ≡ spec.key_given phase (parts_view self.old) start.now.rest) }
         ensures ty { IfOk result
             (λ g. option_map type_view g.ty
-            ≡ spec.type_given (phase_view phase) (parts_view self.old) start.now.rest) }
+            ≡ spec.type_given phase (parts_view self.old) start.now.rest) }
         ensures value { IfOk result (λ g. g.value ≡ value) }
         ensures leading { OnOk result (text_of self.new.leading ≡ text_of self.old.leading) }
         ensures same { Recounted source.old source.new }

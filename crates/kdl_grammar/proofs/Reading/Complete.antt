@@ -1,5 +1,5 @@
 -- What the grammar derives, the machine reads, and the tree that it builds is laid.
-use Rattle.std.proofs.Common.{◌≡◌, Bool, true, false, List, [], ◌∷◌, ◌++◌, Option, Some, None, option_map, map, refl, sym, ap, subst, ◌∙◌, append_assoc, append-nil}
+use Rattle.std.proofs.Common.{◌≡◌, Bool, true, List, [], ◌∷◌, ◌++◌, Option, Some, None, option_map, map, refl, sym, ap, subst, ◌∙◌, append_assoc, append-nil}
 use Rattle.kdl_text.specs.Chars.{Text, Star, plus}
 use Rattle.kdl_text.specs.Chars.Star.{none as no_star, more}
 use Rattle.kdl_text.specs.Trivia.{NodeSpace, Break, LineSpace, Slashdash, slashdash, ValueEnd}
@@ -26,6 +26,7 @@ use Rattle.kdl_grammar.specs.Tree.{Node, node, Children, no_children, children, 
 use Rattle.kdl_entry.specs.Internal.Parts.{TypeParts, KeyParts, type_of, before_name, after_name, after_type, key_identifier, identifier_at, entry_at}
 use Rattle.kdl_grammar.specs.Internal.Machine.{Under, Kept, Slot, no_name, for_name, no_value, for_value, Pending, pending, Spot, fresh, spaced, later, gap, node_slashdash, type_name, type_done, in_node, property, entry_slashdash, block_slashdash, kept, kept_slashdash, Frame, in_block, in_dropped, in_later, State, at, origin, moved, entry_slot, kept_text, kept_name, text_before, opened, keyed, with_entry, filled, node_at, closed, closed_kept, ended, inside, content_at, spaced_of, slashdash_at, given, worded, typed, step, finish, initial, Runs, stops, reads, AnswersDocument}
 use Rattle.kdl_grammar.proofs.Moving.Ends.{end_terminator, end_gap, end_dropped_block}
+use Rattle.kdl_syntax.specs.declared.control.{Owner.Owner, Owner.TheVariants.Name as OfName, Owner.TheVariants.Value as OfValue}
 pub mod OneLaid
 
 pub runs_det : {whole : Text} {x y : Document} {st : State} {s : Text} → Runs whole x st s → Runs whole y st s → x ≡ y
@@ -68,11 +69,11 @@ abbrev tail_of : Children → Text → Text → Text → Tail
 tail_of k before place end = record { k = k; before = before; place = place; end = end }
 
 -- the value of an entry may be of any kind, a name is a string
-data Fills : Bool → Text → Text → Value → Type 0 where
-  by_string : {b : Bool} {s r v : Text} → IsString true s r v → Fills b s r (text v)
-  by_plain : {s r : Text} {v : Value} → PlainPiece s r v → ValueEnd true r → Fills true s r v
+data Fills : Owner → Text → Text → Value → Type 0 where
+  by_string : {b : Owner} {s r v : Text} → IsString true s r v → Fills b s r (text v)
+  by_plain : {s r : Text} {v : Value} → PlainPiece s r v → ValueEnd true r → Fills OfValue s r v
 
-value_fills : {s r : Text} {v : Value} → IsPlainValue true s r v → Fills true s r v
+value_fills : {s r : Text} {v : Value} → IsPlainValue true s r v → Fills OfValue s r v
 value_fills (a_string d) = by_string d
 value_fills (a_plain p e) = by_plain p e
 
@@ -136,17 +137,17 @@ module _ (whole : Text) where
   read_string out (a_string' p e) f a = reads (t_string p) f a
 
   -- a state that takes a string here, or a type first, and a value where one may be
-  record Takes (b : Bool) (st : State) (s : Text) (c : Slot) (l : Option Nodes) (fs : List Frame) (from : Text) : Type 0 where
+  record Takes (b : Owner) (st : State) (s : Text) (c : Slot) (l : Option Nodes) (fs : List Frame) (from : Text) : Type 0 where
     to_string : (v r : Text) → (o : Option Pending) × (step whole st (string v) s r ≡ Some (given whole c None (text v) o l fs from s r))
-    to_value : b ≡ true → (v : Value) (r : Text) → step whole st (value v) s r ≡ Some (given whole c None v None l fs from s r)
+    to_value : b ≡ OfValue → (v : Value) (r : Text) → step whole st (value v) s r ≡ Some (given whole c None v None l fs from s r)
     to_left : (r : Text) → step whole st left s r ≡ Some (at (opened b c r) l fs from)
 
-  read_fill : (out : Document) → {b : Bool} {s r : Text} {v : Value} → Fills b s r v → (st : State) (c : Slot) (l : Option Nodes) (fs : List Frame) (from : Text) → Takes b st s c l fs from
+  read_fill : (out : Document) → {b : Owner} {s r : Text} {v : Value} → Fills b s r v → (st : State) (c : Slot) (l : Option Nodes) (fs : List Frame) (from : Text) → Takes b st s c l fs from
       → ((o : Option Pending) → Runs whole out (given whole c None v o l fs from s r) r) → Runs whole out st s
   read_fill out {r = r} (by_string {v = v} d) st c l fs from k a = let q = k.to_string v r in read_string out d q.1 (a q.0)
   read_fill out {r = r} (by_plain {v = v} p e) st c l fs from k a = reads (t_value p) (k.to_value refl v r) (a None)
 
-  read_done : (out : Document) → {b : Bool} {s r : Text} {v : Value} → Fills b s r v → (c : Slot) (q : Text) (i : Identifier) (d a : Text) (l : Option Nodes) (fs : List Frame) (from : Text)
+  read_done : (out : Document) → {b : Owner} {s r : Text} {v : Value} → Fills b s r v → (c : Slot) (q : Text) (i : Identifier) (d a : Text) (l : Option Nodes) (fs : List Frame) (from : Text)
       → Runs whole out (given whole c (typed q i d a s) v None l fs from s r) r → Runs whole out (at (type_done b c q i d a) l fs from) s
   read_done out (by_string d') c q i d a l fs from x = read_string out d' refl x
   read_done out (by_plain p e) c q i d a l fs from x = reads (t_value p) refl x
@@ -162,14 +163,14 @@ module _ (whole : Text) where
   same_type (no_value u) s1 s2 s3 s4 p t i v l fs from r = refl
   same_type (for_value u q s k) s1 s2 s3 s4 p t i v l fs from r = refl
 
-  record ReadFilled (b : Bool) (s t r : Text) (y : Option Text) (v : Value) : Type 0 where
+  record ReadFilled (b : Owner) (s t r : Text) (y : Option Text) (v : Value) : Type 0 where
     type : Option TypeParts
     laid : LaidType true whole (type_of type) (before_name type) (after_name type) (after_type type) s t
     same : option_map (λ (i : Identifier). i.value) (type_of type) ≡ y
     runs : (out : Document) → (st : State) (c : Slot) (l : Option Nodes) (fs : List Frame) (from : Text) → Takes b st s c l fs from
         → ((o : Option Pending) → Runs whole out (given whole c type v o l fs from t r) r) → Runs whole out st s
 
-  read_filled : {b : Bool} {s t r : Text} {y : Option Text} {v : Value} → MaybeType true s t y → Fills b t r v → ReadFilled b s t r y v
+  read_filled : {b : Owner} {s t r : Text} {y : Option Text} {v : Value} → MaybeType true s t y → Fills b t r v → ReadFilled b s t r y v
   read_filled untyped d = record { type = None; laid = no_type; same = refl; runs = λ out st c l fs from k a. read_fill out d st c l fs from k a }
   read_filled {b = b} {t = t} {r = r} {v = v} (a_typed {v = y} (parens {s = s1} {t = s2} {u = s3} {r = s4} ss u us) vs) d =
       let i = identifier_at whole y s2 s3 in
@@ -201,7 +202,7 @@ module _ (whole : Text) where
     laid : (leading : Text) (span : SourceSpan) → LaidItem true whole leading [] span (entry_at span leading key type val (between here r)) s r
     same : record { key = option_map (λ (i : Identifier). i.value) (key_identifier key); ty = option_map (λ (i : Identifier). i.value) (type_of type); value = val } ≡ e
     runs : (out : Document) → (st : State) (c : Slot) (l : Option Nodes) (fs : List Frame) (from : Text) → ((v r : Text) → step whole st (string v) s r ≡ Some (worded whole c v l fs from s r))
-        → ((v : Value) (r : Text) → step whole st (value v) s r ≡ Some (given whole c None v None l fs from s r)) → ((r : Text) → step whole st left s r ≡ Some (at (opened true c r) l fs from))
+        → ((v : Value) (r : Text) → step whole st (value v) s r ≡ Some (given whole c None v None l fs from s r)) → ((r : Text) → step whole st left s r ≡ Some (at (opened OfValue c r) l fs from))
         → ((o : Option Pending) → Runs whole out (given whole (slot_of c key) type val o l fs from here r) r) → Runs whole out st s
 
   read_equals : (out : Document) → {s u : Text} {h : Option Under} {c : Slot} {k : Identifier} {a : Text} {l : Option Nodes} {fs : List Frame} {from : Text} → Star NodeSpace s (61 ∷ u) → Runs whole out (at (property c k (kept_text c (between a (61 ∷ u))) (kept_text c u)) l fs from) u → Runs whole out (at (in_node h (fresh (Some (pending c k a)))) l fs from) s
@@ -355,10 +356,10 @@ module _ (whole : Text) where
       I.runs out (at (in_node h (spaced o)) l fs (origin h from p)) c l fs (origin h from p)
       (λ v r. ap (λ (c' : Slot). Some (worded whole c' v l fs (origin h from p) t r)) (sym (slot_between h from p t)))
       (λ v r. ap (λ (c' : Slot). Some (given whole c' None v None l fs (origin h from p) t r)) (sym (slot_between h from p t)))
-      (λ r. ap (λ (c' : Slot). Some (at (opened true c' r) l fs (origin h from p))) (sym (slot_between h from p t)))
+      (λ r. ap (λ (c' : Slot). Some (at (opened OfValue c' r) l fs (origin h from p))) (sym (slot_between h from p t)))
       (λ o'. subst (λ (st : State). Runs whole out st u) (ap (λ (z : Text). at (in_node (add h (entry_of q I)) (fresh o')) l fs z) (origin_add h (entry_of q I) from u) ∙ after_value h I.key I.type I.val o' l fs q t from p I.here u) (a o'))
 
-  node_runs : (out : Document) → {t m w r v q : Text} {n : Text} {y : Option Text} {es : List entry_data'.Entry} {k : data'.Children} {xs : data'.Nodes} (X : ReadFilled false t m w y (text n)) (Y : ReadName w w r v es k) (D : ReadNodes v q xs) (l : Option Nodes) (fs : List Frame) (from s : Text)
+  node_runs : (out : Document) → {t m w r v q : Text} {n : Text} {y : Option Text} {es : List entry_data'.Entry} {k : data'.Children} {xs : data'.Nodes} (X : ReadFilled OfName t m w y (text n)) (Y : ReadName w w r v es k) (D : ReadNodes v q xs) (l : Option Nodes) (fs : List Frame) (from s : Text)
       → Runs whole out (at gap (extended l (first (node_at whole (record { leading = between s t; start = t; ty = X.type; name = identifier_at whole n m w; entries = Y.entries }) Y.tail.k Y.tail.before Y.tail.place Y.tail.end r) D.tree)) fs (origin l from D.last)) q
       → Runs whole out (at gap l fs (origin l from s)) t
   node_runs out {t = t} {m = m} {r = r} {v = v} {q = q} X Y D None fs from s a =
@@ -377,7 +378,7 @@ module _ (whole : Text) where
     read_gap out (line_space (LineSpace.space n) g) l fs from a = reads (t_space n) refl (read_gap out g l fs from a)
     read_gap out (line_space (LineSpace.«break» n) g) l fs from a = reads (t_newline n) refl (read_gap out g l fs from a)
     read_gap out (dropped_node {u = w} {v = v} (slashdash {r = t} ls) (named {u = u} y z d) e g) l fs from a =
-        let X = read_filled {b = false} y (by_string z) in
+        let X = read_filled {b = OfName} y (by_string z) in
         let Y = read_name d e u no_star in
         reads t_slashdash refl (lines out (at node_slashdash l fs from) (λ s r. refl) (λ s r. refl) ls
         (X.runs out (at node_slashdash l fs from) no_name l fs from (record { to_string = λ v r. (None, refl); to_value = λ e v r. cc; to_left = λ r. refl })
@@ -496,7 +497,7 @@ module _ (whole : Text) where
       runs = λ out l fs from a. read_gap out g l fs (origin l from s) (subst (λ (l' : Option Nodes). Runs whole out (at gap l' fs (origin l from s)) r) (extended_none l) a);
     }
     read_nodes (node_then {s = s} {t = t} {u = r} g (named {t = m} {u = w} {n = n} y z d) e ds) =
-        let X = read_filled {b = false} y (by_string z) in
+        let X = read_filled {b = OfName} y (by_string z) in
         let Y = read_name d e w no_star in
         let D = read_nodes ds in
         let u : Under = record { leading = between s t; start = t; ty = X.type; name = identifier_at whole n m w; entries = Y.entries } in
@@ -550,7 +551,7 @@ pub record BuiltNode (t : Text) (x : data'.Node) : Type 0 where
 
 pub built_node : {t : Text} {x : data'.Node} → IsNodeText t x → BuiltNode t x
 built_node {t = t} (node_text {u = s} {v = v} {r = r} g (named {t = m} {u = w} {n = n} y z d) e ls) =
-    let X = read_filled t {b = false} y (by_string z) in
+    let X = read_filled t {b = OfName} y (by_string z) in
     let Y = read_name t d e w no_star in
     record {
       tree = node (record {
@@ -579,7 +580,7 @@ pub record OnlyNode (t : Text) : Type 0 where
 
 pub only_node : {t : Text} {x : data'.Node} → IsNodeText t x → OnlyNode t
 only_node {t = t} (node_text {u = s} {v = v} {r = r} g (named {t = m} {u = w} {n = n} y z d) e ls) =
-    let X = read_filled t {b = false} y (by_string z) in
+    let X = read_filled t {b = OfName} y (by_string z) in
     let Y = read_name t d e w no_star in
     let G : Gap true r [] = lines_gap ls in
     let D : ReadNodes t r [] data'.none = record {

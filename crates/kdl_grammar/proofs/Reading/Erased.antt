@@ -1,5 +1,5 @@
 -- Without data and places the machine is the one that says which tokens may come; so what it returns is derived.
-use Rattle.std.proofs.Common.{◌≡◌, Bool, true, false, List, [], ◌∷◌, Option, Some, None, option_map, refl, sym, ap, subst, ◌∙◌}
+use Rattle.std.proofs.Common.{◌≡◌, true, List, [], ◌∷◌, Option, Some, None, option_map, refl, sym, ap, subst, ◌∙◌}
 use Rattle.kdl_text.specs.Chars.{Text}
 use Rattle.kdl_syntax.specs.Tokens.{Token, value, closing, bom, t_bom, Lexes, done, next}
 use Rattle.kdl_syntax.proofs.Lexing.TokenUnique.{token_det}
@@ -9,37 +9,41 @@ use Rattle.kdl_grammar.specs.Laid.{LaidDocument, LaidDocumentAs, LaidContent, wi
 use Rattle.kdl_grammar.specs.Tree.{Document, Nodes, document_data}
 use Rattle.kdl_grammar.specs.Internal.Machine.{Pending, pending, Spot, fresh, spaced, later, Phase, gap, node_slashdash, type_open, type_name, type_done, in_node, property, entry_slashdash, block_slashdash, kept, kept_slashdash, Frame, in_block, in_dropped, in_later, State, at, popped, step, finish, initial, Runs, stops, reads, AnswersDocument}
 use Rattle.kdl_syntax.specs.Control as c
+use Rattle.kdl_syntax.specs.declared.control.{Phase.Phase as ControlPhase, Spot.Spot as ControlSpot, Frame.Frame as ControlFrame, Word.Word as ControlWord, Word.TheVariants.MayBeKey, Word.TheVariants.NoKey, Owner.TheVariants.Name as OfName}
+use Rattle.kdl_syntax.specs.declared.control.Phase.TheVariants.{Gap, NodeSlashdash, TypeOpen, TypeName, TypeDone, InNode, Property, EntrySlashdash, BlockSlashdash, Kept, KeptSlashdash}
+use Rattle.kdl_syntax.specs.declared.control.Spot.TheVariants.{Fresh, Spaced, Later}
+use Rattle.kdl_syntax.specs.declared.control.Frame.TheVariants.{Node as NodeBlock, Dropped as DroppedBlock, Later as LaterBlock}
 use Rattle.kdl_grammar.proofs.Reading.Complete.{runs_det, placed, built, bom_data}
 use Rattle.kdl_grammar.proofs.Reading.Sound.{derives}
 
-abbrev pub is_there : Option Pending → Bool
-is_there None = false
-is_there (Some s) = true
+abbrev pub is_there : Option Pending → ControlWord
+is_there None = NoKey
+is_there (Some s) = MayBeKey
 
-abbrev pub a_spot : Spot → c.Spot
-a_spot (fresh o) = c.fresh (is_there o)
-a_spot (spaced o) = c.spaced (is_there o)
-a_spot later = c.later
+abbrev pub a_spot : Spot → ControlSpot
+a_spot (fresh o) = Fresh (is_there o)
+a_spot (spaced o) = Spaced (is_there o)
+a_spot later = Later
 
-abbrev pub a_phase : Phase → c.Phase
-a_phase gap = c.gap
-a_phase node_slashdash = c.node_slashdash
-a_phase (type_open b s a) = c.type_open b
-a_phase (type_name b s q y a) = c.type_name b
-a_phase (type_done b s q y d a) = c.type_done b
-a_phase (in_node h p) = c.in_node (a_spot p)
-a_phase (property s k b a) = c.property
-a_phase (entry_slashdash h) = c.entry_slashdash
-a_phase (block_slashdash h) = c.block_slashdash
-a_phase (kept x) = c.kept
-a_phase (kept_slashdash x) = c.kept_slashdash
+abbrev pub a_phase : Phase → ControlPhase
+a_phase gap = Gap
+a_phase node_slashdash = NodeSlashdash
+a_phase (type_open b s a) = TypeOpen b
+a_phase (type_name b s q y a) = TypeName b
+a_phase (type_done b s q y d a) = TypeDone b
+a_phase (in_node h p) = InNode (a_spot p)
+a_phase (property s k b a) = Property
+a_phase (entry_slashdash h) = EntrySlashdash
+a_phase (block_slashdash h) = BlockSlashdash
+a_phase (kept x) = Kept
+a_phase (kept_slashdash x) = KeptSlashdash
 
-abbrev pub a_frame : Frame → c.Frame
-a_frame (in_block h q l) = c.in_block
-a_frame (in_dropped h l) = c.in_dropped
-a_frame (in_later x l) = c.in_later
+abbrev pub a_frame : Frame → ControlFrame
+a_frame (in_block h q l) = NodeBlock
+a_frame (in_dropped h l) = DroppedBlock
+a_frame (in_later x l) = LaterBlock
 
-abbrev pub a_stack : List Frame → List c.Frame
+abbrev pub a_stack : List Frame → List ControlFrame
 a_stack [] = []
 a_stack (f ∷ fs) = a_frame f ∷ a_stack fs
 
@@ -63,7 +67,7 @@ module _ (whole : Text) where
   erased (at (in_node h (spaced None)) l fs f) closing s r = popped_is _ fs _ s r
   erased (at (in_node h (spaced (Some (pending c k a)))) l fs f) closing s r = popped_is _ fs _ s r
   erased (at (in_node h later) l fs f) closing s r = popped_is _ fs _ s r
-  erased (at (type_done false c q y d a) l fs f) (value v) s r = refl
+  erased (at (type_done OfName c q y d a) l fs f) (value v) s r = refl
   erased (at p l fs f) closing s r = refl
   erased (at p l fs f) k s r = refl
 
@@ -97,7 +101,7 @@ module _ (whole : Text) where
   lexed_runs a = let b = accepted a in (b.tokens, b.lexed)
 
 -- nodes are cut into tokens that may come in this order
-pub accepted_nodes : {s : Text} {x : data'.Nodes} → AreNodes true s [] x → (ks : List Token) × Lexes s ks × (c.accepts (c.at c.gap []) ks ≡ true)
+pub accepted_nodes : {s : Text} {x : data'.Nodes} → AreNodes true s [] x → (ks : List Token) × Lexes s ks × (c.accepts (c.at Gap []) ks ≡ true)
 accepted_nodes {s = s} n = let a = accepted s (placed s n).runs in (a.tokens, a.lexed, a.accepts)
 
 -- U+FEFF ends what the machine reads from between nodes

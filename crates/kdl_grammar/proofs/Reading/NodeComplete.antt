@@ -10,7 +10,11 @@ use Rattle.kdl_syntax.specs.Tokens.{Token, space, newline, slashdash as a_slashd
 use Rattle.kdl_syntax.proofs.Lexing.TokenUnique.{token_det, no_token}
 use Rattle.kdl_grammar.specs.Data.{Node, Children, Nodes}
 use Rattle.kdl_grammar.specs.Grammar.{Terminator, IsNode, named, AfterName, kept_entry, dropped_entry, Blocks, dropped_block, block, no_block, AfterBlock, dropped_later, no_more, Gap, no_gap, line_space, dropped_node, AreNodes, last_gap, node_then, braces}
-use Rattle.kdl_syntax.specs.Control.{Spot, fresh, spaced, later, Phase, gap, node_slashdash, type_open, type_done, in_node, property, entry_slashdash, block_slashdash, kept, kept_slashdash, Frame, in_block, in_dropped, in_later, at, spaced_of, slashdash_at, popped}
+use Rattle.kdl_syntax.specs.Control.{at, spaced_of, popped}
+use Rattle.kdl_syntax.specs.declared.control.{Phase.Phase, Spot.Spot, Frame.Frame, Word.Word as ControlWord, Owner.Owner, Word.TheVariants.MayBeKey, Word.TheVariants.NoKey, Owner.TheVariants.Name as OfName, Owner.TheVariants.Value as OfValue}
+use Rattle.kdl_syntax.specs.declared.control.Phase.TheVariants.{Gap as InGap, NodeSlashdash, TypeOpen, TypeDone, InNode, Property, EntrySlashdash, BlockSlashdash, Kept, KeptSlashdash}
+use Rattle.kdl_syntax.specs.declared.control.Spot.TheVariants.{Fresh, Spaced, Later}
+use Rattle.kdl_syntax.specs.declared.control.Frame.TheVariants.{Node as NodeBlock, Dropped as DroppedBlock, Later as LaterBlock}
 use Rattle.kdl_grammar.specs.Going.{GoesBy, here, goes}
 use Rattle.kdl_grammar.specs.NodeControl.{NodeControl, in_text, with_begun, node_step, node_finish, node_start}
 
@@ -42,24 +46,24 @@ only_close at_close b = (token_det b t_closing).1
 
 -- where nodes may end, or go on after a terminator
 pub data Stands : Phase → Text → Type 0 where
-  between : {v : Text} → Stands gap v
-  in_open : {p : Spot} {v : Text} → Closed v → Stands (in_node p) v
-  kept_open : {v : Text} → Closed v → Stands kept v
+  between : {v : Text} → Stands InGap v
+  in_open : {p : Spot} {v : Text} → Closed v → Stands (InNode p) v
+  kept_open : {v : Text} → Closed v → Stands Kept v
 
 -- slashdashed nodes may come: the node has not begun, or a block is open
 data Free : Bool → List Frame → Type 0 where
   before : Free false []
   inside : {b : Bool} {f : Frame} {fs : List Frame} → Free b (f ∷ fs)
 
-free_space : {b : Bool} {fs : List Frame} → Free b fs → node_step (in_text b (at gap fs)) space ≡ Some (in_text b (at gap fs))
+free_space : {b : Bool} {fs : List Frame} → Free b fs → node_step (in_text b (at InGap fs)) space ≡ Some (in_text b (at InGap fs))
 free_space before = refl
 free_space inside = refl
 
-free_newline : {b : Bool} {fs : List Frame} → Free b fs → node_step (in_text b (at gap fs)) newline ≡ Some (in_text b (at gap fs))
+free_newline : {b : Bool} {fs : List Frame} → Free b fs → node_step (in_text b (at InGap fs)) newline ≡ Some (in_text b (at InGap fs))
 free_newline before = refl
 free_newline inside = refl
 
-free_slashdash : {b : Bool} {fs : List Frame} → Free b fs → node_step (in_text b (at gap fs)) a_slashdash ≡ Some (in_text b (at node_slashdash fs))
+free_slashdash : {b : Bool} {fs : List Frame} → Free b fs → node_step (in_text b (at InGap fs)) a_slashdash ≡ Some (in_text b (at NodeSlashdash fs))
 free_slashdash before = refl
 free_slashdash inside = refl
 
@@ -79,96 +83,96 @@ after : {b : Bool} {fs : List Frame} {c d : NodeControl} {s t r : Text} → Node
 after g x = record { phase = x.phase; stands = x.stands; there = and_then g x.there }
 
 -- a string here is a name or a value, and a type may come
-record Takes (n : NodeControl) (value_too : Bool) (b : Bool) (fs : List Frame) : Type 0 where
-  word : Bool
-  to_string : (v : Text) → node_step n (string v) ≡ Some (in_text b (at (in_node (fresh word)) fs))
-  to_value : value_too ≡ true → (v : Value) → node_step n (value v) ≡ Some (in_text b (at (in_node (fresh false)) fs))
-  to_left : node_step n left ≡ Some (in_text b (at (type_open value_too) fs))
+record Takes (n : NodeControl) (owner : Owner) (b : Bool) (fs : List Frame) : Type 0 where
+  word : ControlWord
+  to_string : (v : Text) → node_step n (string v) ≡ Some (in_text b (at (InNode (Fresh word)) fs))
+  to_value : owner ≡ OfValue → (v : Value) → node_step n (value v) ≡ Some (in_text b (at (InNode (Fresh NoKey)) fs))
+  to_left : node_step n left ≡ Some (in_text b (at (TypeOpen owner) fs))
 
 -- after a name or a value
 record Given (b : Bool) (fs : List Frame) (c : NodeControl) (s r : Text) : Type 0 where
-  word : Bool
-  there : NodeGoes c s (in_text b (at (in_node (fresh word)) fs)) r
+  word : ControlWord
+  there : NodeGoes c s (in_text b (at (InNode (Fresh word)) fs)) r
 
 module _ (b : Bool) (fs : List Frame) where
-  a_name : {s t r v : Text} {y : Option Text} {n : NodeControl} → Takes n false b fs → MaybeType true s t y → IsString true t r v → Given b fs n s r
+  a_name : {s t r v : Text} {y : Option Text} {n : NodeControl} → Takes n OfName b fs → MaybeType true s t y → IsString true t r v → Given b fs n s r
   a_name k untyped (a_string' w x) = record { word = k.word; there = goes (t_string w) (k.to_string _) here }
   a_name k (typed (parens ss (a_string' u x') us) vs) (a_string' w x) =
-      record { word = false; there = goes t_left k.to_left (and_then (spaces_stay refl ss) (goes (t_string u) refl (and_then (spaces_stay refl us) (goes t_right refl (and_then (spaces_stay refl vs) (goes (t_string w) refl here)))))) }
+      record { word = NoKey; there = goes t_left k.to_left (and_then (spaces_stay refl ss) (goes (t_string u) refl (and_then (spaces_stay refl us) (goes t_right refl (and_then (spaces_stay refl vs) (goes (t_string w) refl here)))))) }
 
-  a_plain_value : {s r : Text} {v : Value} {n : NodeControl} → Takes n true b fs → IsPlainValue true s r v → Given b fs n s r
+  a_plain_value : {s r : Text} {v : Value} {n : NodeControl} → Takes n OfValue b fs → IsPlainValue true s r v → Given b fs n s r
   a_plain_value k (a_string (a_string' w x)) = record { word = k.word; there = goes (t_string w) (k.to_string _) here }
-  a_plain_value k (a_plain w x) = record { word = false; there = goes (t_value w) (k.to_value refl _) here }
+  a_plain_value k (a_plain w x) = record { word = NoKey; there = goes (t_value w) (k.to_value refl _) here }
 
-  done_value : {s r : Text} {v : Value} → IsPlainValue true s r v → NodeGoes (in_text b (at (type_done true) fs)) s (in_text b (at (in_node (fresh false)) fs)) r
+  done_value : {s r : Text} {v : Value} → IsPlainValue true s r v → NodeGoes (in_text b (at (TypeDone OfValue) fs)) s (in_text b (at (InNode (Fresh NoKey)) fs)) r
   done_value (a_string (a_string' w x)) = goes (t_string w) refl here
   done_value (a_plain w x) = goes (t_value w) refl here
 
-  a_full_value : {s r : Text} {y : Option Text} {v : Value} {n : NodeControl} → Takes n true b fs → IsValue true s r y v → Given b fs n s r
+  a_full_value : {s r : Text} {y : Option Text} {v : Value} {n : NodeControl} → Takes n OfValue b fs → IsValue true s r y v → Given b fs n s r
   a_full_value k (a_value untyped d) = a_plain_value k d
   a_full_value k (a_value (typed (parens ss (a_string' u x) us) vs) d) =
-      record { word = false; there = goes t_left k.to_left (and_then (spaces_stay refl ss) (goes (t_string u) refl (and_then (spaces_stay refl us) (goes t_right refl (and_then (spaces_stay refl vs) (done_value d)))))) }
+      record { word = NoKey; there = goes t_left k.to_left (and_then (spaces_stay refl ss) (goes (t_string u) refl (and_then (spaces_stay refl us) (goes t_right refl (and_then (spaces_stay refl vs) (done_value d)))))) }
 
-  property_takes : Takes (in_text b (at property fs)) true b fs
-  property_takes = record { word = false; to_string = λ v. refl; to_value = λ e v. refl; to_left = refl }
+  property_takes : Takes (in_text b (at Property fs)) OfValue b fs
+  property_takes = record { word = NoKey; to_string = λ v. refl; to_value = λ e v. refl; to_left = refl }
 
-  an_equals : {s u : Text} → Star NodeSpace s (61 ∷ u) → NodeGoes (in_text b (at (in_node (fresh true)) fs)) s (in_text b (at property fs)) u
+  an_equals : {s u : Text} → Star NodeSpace s (61 ∷ u) → NodeGoes (in_text b (at (InNode (Fresh MayBeKey)) fs)) s (in_text b (at Property fs)) u
   an_equals no_star = goes t_equals refl here
-  an_equals (more n m) = goes (t_space n) refl (and_then (spaces_stay {n = in_text b (at (in_node (spaced true)) fs)} refl m) (goes t_equals refl here))
+  an_equals (more n m) = goes (t_space n) refl (and_then (spaces_stay {n = in_text b (at (InNode (Spaced MayBeKey)) fs)} refl m) (goes t_equals refl here))
 
-  an_entry : {s r : Text} {e : Entry} {n : NodeControl} → (k : Takes n true b fs) → k.word ≡ true → IsEntry true s r e → Given b fs n s r
+  an_entry : {s r : Text} {e : Entry} {n : NodeControl} → (k : Takes n OfValue b fs) → k.word ≡ MayBeKey → IsEntry true s r e → Given b fs n s r
   an_entry k w (argument d) = a_full_value k d
   an_entry k w (a_property (a_string' u x) ss us d) =
       let g = a_full_value property_takes d in
-      record { word = g.word; there = goes (t_string u) (k.to_string _ ∙ ap (λ (z : Bool). Some (in_text b (at (in_node (fresh z)) fs))) w) (and_then (an_equals ss) (and_then (spaces_stay refl us) g.there)) }
+      record { word = g.word; there = goes (t_string u) (k.to_string _ ∙ ap (λ (z : ControlWord). Some (in_text b (at (InNode (Fresh z)) fs))) w) (and_then (an_equals ss) (and_then (spaces_stay refl us) g.there)) }
 
-  abbrev spaced_takes : (w : Bool) → Takes (in_text b (at (in_node (spaced w)) fs)) true b fs
-  spaced_takes w = record { word = true; to_string = λ v. refl; to_value = λ e v. refl; to_left = refl }
+  abbrev spaced_takes : (w : ControlWord) → Takes (in_text b (at (InNode (Spaced w)) fs)) OfValue b fs
+  spaced_takes w = record { word = MayBeKey; to_string = λ v. refl; to_value = λ e v. refl; to_left = refl }
 
-  abbrev dropped_takes : Takes (in_text b (at entry_slashdash fs)) true b fs
-  dropped_takes = record { word = true; to_string = λ v. refl; to_value = λ e v. refl; to_left = refl }
+  abbrev dropped_takes : Takes (in_text b (at EntrySlashdash fs)) OfValue b fs
+  dropped_takes = record { word = MayBeKey; to_string = λ v. refl; to_value = λ e v. refl; to_left = refl }
 
   -- spaces in a node, and then a slashdash
   record Spotted (s r : Text) (p : Spot) : Type 0 where
     spot : Spot
-    there : NodeGoes (in_text b (at (in_node p) fs)) s (in_text b (at (in_node spot) fs)) r
+    there : NodeGoes (in_text b (at (InNode p) fs)) s (in_text b (at (InNode spot) fs)) r
 
   a_space : {s r : Text} (p : Spot) → Star NodeSpace s r → Spotted s r p
   a_space p no_star = record { spot = p; there = here }
   a_space p (more n m) = let x = a_space (spaced_of p) m in record { spot = x.spot; there = goes (t_space n) refl x.there }
 
-  to_entry : {s t r : Text} (w : Bool) → Star NodeSpace s (47 ∷ 45 ∷ t) → Star LineSpace t r → NodeGoes (in_text b (at (in_node (fresh w)) fs)) s (in_text b (at entry_slashdash fs)) r
+  to_entry : {s t r : Text} (w : ControlWord) → Star NodeSpace s (47 ∷ 45 ∷ t) → Star LineSpace t r → NodeGoes (in_text b (at (InNode (Fresh w)) fs)) s (in_text b (at EntrySlashdash fs)) r
   to_entry w no_star ls = goes t_slashdash refl (lines_stay refl refl ls)
-  to_entry w (more n m) ls = goes (t_space n) refl (and_then (spaces_stay {n = in_text b (at (in_node (spaced w)) fs)} refl m) (goes t_slashdash refl (lines_stay refl refl ls)))
+  to_entry w (more n m) ls = goes (t_space n) refl (and_then (spaces_stay {n = in_text b (at (InNode (Spaced w)) fs)} refl m) (goes t_slashdash refl (lines_stay refl refl ls)))
 
-  to_block : {s t : Text} (p : Spot) → Star LineSpace s (123 ∷ t) → NodeGoes (in_text b (at (slashdash_at p) fs)) s (in_text b (at gap (in_dropped ∷ fs))) t
-  to_block (fresh w) ls = and_then (lines_stay {n = in_text b (at entry_slashdash fs)} refl refl ls) (goes t_opening refl here)
-  to_block (spaced w) ls = and_then (lines_stay {n = in_text b (at entry_slashdash fs)} refl refl ls) (goes t_opening refl here)
-  to_block later ls = and_then (lines_stay {n = in_text b (at block_slashdash fs)} refl refl ls) (goes t_opening refl here)
+  to_block : {s t : Text} (p : Spot) → Star LineSpace s (123 ∷ t) → NodeGoes (in_text b (at (InNode p) fs)) (47 ∷ 45 ∷ s) (in_text b (at InGap (DroppedBlock ∷ fs))) t
+  to_block (Fresh w) ls = goes t_slashdash refl (and_then (lines_stay {n = in_text b (at EntrySlashdash fs)} refl refl ls) (goes t_opening refl here))
+  to_block (Spaced w) ls = goes t_slashdash refl (and_then (lines_stay {n = in_text b (at EntrySlashdash fs)} refl refl ls) (goes t_opening refl here))
+  to_block Later ls = goes t_slashdash refl (and_then (lines_stay {n = in_text b (at BlockSlashdash fs)} refl refl ls) (goes t_opening refl here))
 
   -- the terminator
-  node_ends : {s r : Text} (p : Spot) → Terminator s r → Ended b fs (in_text b (at (in_node p) fs)) s r
-  node_ends p Terminator.semicolon = record { phase = gap; stands = between; there = goes t_semicolon refl here }
-  node_ends p (Terminator.newline n) = record { phase = gap; stands = between; there = goes (t_newline (Break.newline n)) refl here }
-  node_ends p (Terminator.comment n) = record { phase = gap; stands = between; there = goes (t_newline (Break.comment n)) refl here }
-  node_ends p Terminator.at_end = record { phase = in_node p; stands = in_open at_end; there = here }
-  node_ends p Terminator.at_close = record { phase = in_node p; stands = in_open at_close; there = here }
+  node_ends : {s r : Text} (p : Spot) → Terminator s r → Ended b fs (in_text b (at (InNode p) fs)) s r
+  node_ends p Terminator.semicolon = record { phase = InGap; stands = between; there = goes t_semicolon refl here }
+  node_ends p (Terminator.newline n) = record { phase = InGap; stands = between; there = goes (t_newline (Break.newline n)) refl here }
+  node_ends p (Terminator.comment n) = record { phase = InGap; stands = between; there = goes (t_newline (Break.comment n)) refl here }
+  node_ends p Terminator.at_end = record { phase = InNode p; stands = in_open at_end; there = here }
+  node_ends p Terminator.at_close = record { phase = InNode p; stands = in_open at_close; there = here }
 
-  kept_ends : {s r : Text} → Terminator s r → Ended b fs (in_text b (at kept fs)) s r
-  kept_ends Terminator.semicolon = record { phase = gap; stands = between; there = goes t_semicolon refl here }
-  kept_ends (Terminator.newline n) = record { phase = gap; stands = between; there = goes (t_newline (Break.newline n)) refl here }
-  kept_ends (Terminator.comment n) = record { phase = gap; stands = between; there = goes (t_newline (Break.comment n)) refl here }
-  kept_ends Terminator.at_end = record { phase = kept; stands = kept_open at_end; there = here }
-  kept_ends Terminator.at_close = record { phase = kept; stands = kept_open at_close; there = here }
+  kept_ends : {s r : Text} → Terminator s r → Ended b fs (in_text b (at Kept fs)) s r
+  kept_ends Terminator.semicolon = record { phase = InGap; stands = between; there = goes t_semicolon refl here }
+  kept_ends (Terminator.newline n) = record { phase = InGap; stands = between; there = goes (t_newline (Break.newline n)) refl here }
+  kept_ends (Terminator.comment n) = record { phase = InGap; stands = between; there = goes (t_newline (Break.comment n)) refl here }
+  kept_ends Terminator.at_end = record { phase = Kept; stands = kept_open at_end; there = here }
+  kept_ends Terminator.at_close = record { phase = Kept; stands = kept_open at_close; there = here }
 
-gap_takes : {b : Bool} {f : Frame} {fs : List Frame} → Takes (in_text b (at gap (f ∷ fs))) false b (f ∷ fs)
-gap_takes = record { word = false; to_string = λ v. refl; to_value = λ e v. cc; to_left = refl }
+gap_takes : {b : Bool} {f : Frame} {fs : List Frame} → Takes (in_text b (at InGap (f ∷ fs))) OfName b (f ∷ fs)
+gap_takes = record { word = NoKey; to_string = λ v. refl; to_value = λ e v. cc; to_left = refl }
 
-slashdash_takes : {b : Bool} {fs : List Frame} → Takes (in_text b (at node_slashdash fs)) false b fs
-slashdash_takes = record { word = false; to_string = λ v. refl; to_value = λ e v. cc; to_left = refl }
+slashdash_takes : {b : Bool} {fs : List Frame} → Takes (in_text b (at NodeSlashdash fs)) OfName b fs
+slashdash_takes = record { word = NoKey; to_string = λ v. refl; to_value = λ e v. cc; to_left = refl }
 
-start_takes : Takes node_start false true []
-start_takes = record { word = false; to_string = λ v. refl; to_value = λ e v. cc; to_left = refl }
+start_takes : Takes node_start OfName true []
+start_takes = record { word = NoKey; to_string = λ v. refl; to_value = λ e v. cc; to_left = refl }
 
 -- nothing but a `}` comes there
 pub no_line : {s r : Text} → Closed s → LineSpace s r → ⊥
@@ -196,30 +200,30 @@ mutual
   gap_goes b fs f (in_open c) (dropped_node (slashdash ls) x e g) = absurd (no_slashdash c)
   gap_goes b fs f (kept_open c) (dropped_node (slashdash ls) x e g) = absurd (no_slashdash c)
 
-  name_goes : (b : Bool) (fs : List Frame) (w : Bool) → {s r v : Text} {es : List Entry} {k : Children} → AfterName true s r es k → Terminator r v → Ended b fs (in_text b (at (in_node (fresh w)) fs)) s v
+  name_goes : (b : Bool) (fs : List Frame) (w : ControlWord) → {s r v : Text} {es : List Entry} {k : Children} → AfterName true s r es k → Terminator r v → Ended b fs (in_text b (at (InNode (Fresh w)) fs)) s v
   name_goes b fs w (kept_entry (plus n ss) i d) e =
       let x = an_entry b fs (spaced_takes b fs w) refl i in
-      after (goes (t_space n) refl (and_then (spaces_stay {n = in_text b (at (in_node (spaced w)) fs)} refl ss) x.there)) (name_goes b fs x.word d e)
+      after (goes (t_space n) refl (and_then (spaces_stay {n = in_text b (at (InNode (Spaced w)) fs)} refl ss) x.there)) (name_goes b fs x.word d e)
   name_goes b fs w (dropped_entry ss (slashdash ls) i d) e =
       let x = an_entry b fs (dropped_takes b fs) refl i in
       after (and_then (to_entry b fs w ss ls) x.there) (name_goes b fs x.word d e)
-  name_goes b fs w (AfterName.blocks d) e = blocks_go b fs (fresh w) d e
+  name_goes b fs w (AfterName.blocks d) e = blocks_go b fs (Fresh w) d e
 
-  blocks_go : (b : Bool) (fs : List Frame) (p : Spot) → {braced : Bool} {s r v : Text} {k : Children} → Blocks true braced s r k → Terminator r v → Ended b fs (in_text b (at (in_node p) fs)) s v
+  blocks_go : (b : Bool) (fs : List Frame) (p : Spot) → {braced : Bool} {s r v : Text} {k : Children} → Blocks true braced s r k → Terminator r v → Ended b fs (in_text b (at (InNode p) fs)) s v
   blocks_go b fs p (dropped_block ss (slashdash ls) (braces ns) d) e =
       let q = a_space b fs p ss in
-      let x = nodes_go b in_dropped fs between ns in
-      after (and_then q.there (goes t_slashdash refl (and_then (to_block b fs q.spot ls) (and_then x.there (goes t_closing (closes b in_dropped fs x.stands) here))))) (blocks_go b fs later d e)
+      let x = nodes_go b DroppedBlock fs between ns in
+      after (and_then q.there (and_then (to_block b fs q.spot ls) (and_then x.there (goes t_closing (closes b DroppedBlock fs x.stands) here)))) (blocks_go b fs Later d e)
   blocks_go b fs p (block ss (braces ns) d) e =
       let q = a_space b fs p ss in
-      let x = nodes_go b in_block fs between ns in
-      after (and_then q.there (goes t_opening refl (and_then x.there (goes t_closing (closes b in_block fs x.stands) here)))) (later_goes b fs d e)
+      let x = nodes_go b NodeBlock fs between ns in
+      after (and_then q.there (goes t_opening refl (and_then x.there (goes t_closing (closes b NodeBlock fs x.stands) here)))) (later_goes b fs d e)
   blocks_go b fs p (no_block ss) e = let q = a_space b fs p ss in after q.there (node_ends b fs q.spot e)
 
-  later_goes : (b : Bool) (fs : List Frame) → {s r v : Text} → AfterBlock true s r → Terminator r v → Ended b fs (in_text b (at kept fs)) s v
+  later_goes : (b : Bool) (fs : List Frame) → {s r v : Text} → AfterBlock true s r → Terminator r v → Ended b fs (in_text b (at Kept fs)) s v
   later_goes b fs (dropped_later ss (slashdash ls) (braces ns) d) e =
-      let x = nodes_go b in_later fs between ns in
-      after (and_then (spaces_stay refl ss) (goes t_slashdash refl (and_then (lines_stay {n = in_text b (at kept_slashdash fs)} refl refl ls) (goes t_opening refl (and_then x.there (goes t_closing (closes b in_later fs x.stands) here)))))) (later_goes b fs d e)
+      let x = nodes_go b LaterBlock fs between ns in
+      after (and_then (spaces_stay refl ss) (goes t_slashdash refl (and_then (lines_stay {n = in_text b (at KeptSlashdash fs)} refl refl ls) (goes t_opening refl (and_then x.there (goes t_closing (closes b LaterBlock fs x.stands) here)))))) (later_goes b fs d e)
   later_goes b fs (no_more ss) e = after (spaces_stay refl ss) (kept_ends b fs e)
 
   nodes_go : (b : Bool) (f : Frame) (fs : List Frame) → {s r : Text} {xs : Nodes} {p : Phase} → Stands p s → AreNodes true s r xs → Ended b (f ∷ fs) (in_text b (at p (f ∷ fs))) s r

@@ -3,7 +3,8 @@ use Rattle.std.proofs.Common.{◌≡◌, Bool, true, false, [], take, Option, So
 use Rattle.kdl_text.specs.Chars.{Text}
 use Rattle.kdl_syntax.specs.Tokens.{Token, space, string, value, BeginsToken}
 use Rattle.kdl_syntax.proofs.Lexing.TokenFronts.{RefusedWith, refused_with}
-use Rattle.kdl_syntax.specs.Control.{gap, Control, at, step}
+use Rattle.kdl_syntax.specs.Control.{Control, at, step}
+use Rattle.kdl_syntax.specs.declared.control.Phase.TheVariants.{Gap}
 use Rattle.kdl_grammar.specs.NodeControl.{NodeControl, in_text, with_begun, between_nodes, node_step, NodeRefusesFront}
 use Rattle.kdl_grammar.proofs.Reading.Refusing.{refused_too}
 
@@ -13,11 +14,11 @@ control_of (in_text b c) = c
 
 -- between nodes with no block open, or elsewhere, where its step is that of a document's control
 data Place (c : Control) : Type 0 where
-  between : c ≡ at gap [] → Place c
+  between : c ≡ at Gap [] → Place c
   elsewhere : ((b : Bool) (k : Token) → node_step (in_text b c) k ≡ with_begun b (step c k)) → Place c
 
 place : (c : Control) → Place c
-place (at gap []) = between refl
+place (at Gap []) = between refl
 place (at p fs) = elsewhere (λ b k. refl)
 
 begun_some : (b : Bool) (o : Option Control) (d : NodeControl) → with_begun b o ≡ Some d → o ≡ Some (control_of d)
@@ -28,7 +29,7 @@ begun_none : (b : Bool) (o : Option Control) → with_begun b o ≡ None → o �
 begun_none b None e = refl
 begun_none b (Some c) e = absurd cc
 
-between_step : (b : Bool) (k : Token) (d : NodeControl) → between_nodes b k ≡ Some d → step (at gap []) k ≡ Some (control_of d)
+between_step : (b : Bool) (k : Token) (d : NodeControl) → between_nodes b k ≡ Some d → step (at Gap []) k ≡ Some (control_of d)
 between_step true space (in_text b d) e = cc
 between_step false space (in_text b d) e = cc
 between_step b k (in_text b' d) e = cc

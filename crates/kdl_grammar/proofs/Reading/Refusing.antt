@@ -11,7 +11,9 @@ use Rattle.kdl_entry.proofs.Moving.TokenMoves.{near, full_of}
 use Rattle.kdl_value.specs.Data.{Value}
 use Rattle.kdl_grammar.specs.Data.{Nodes}
 use Rattle.kdl_grammar.specs.Grammar.{AreNodes}
-use Rattle.kdl_syntax.specs.Control.{fresh, gap, type_done, in_node, Control, at, step, held, accepts}
+use Rattle.kdl_syntax.specs.Control.{Control, at, step, held, accepts}
+use Rattle.kdl_syntax.specs.declared.control.{Spot.TheVariants.Fresh, Owner.TheVariants.Name as OfName}
+use Rattle.kdl_syntax.specs.declared.control.Phase.TheVariants.{Gap, TypeDone, InNode}
 use Rattle.kdl_grammar.specs.Going.{GoesBy, Goes, here, goes, RefusesFront}
 use Rattle.kdl_grammar.proofs.Reading.Erased.{accepted_nodes}
 use Rattle.kdl_grammar.proofs.Reading.Viable.{goes_length, Reads}
@@ -49,18 +51,18 @@ follow {c = c} (goes b e g) (next {ks = ks} b' l) a =
     follow g (subst (λ (z : Text). Lexes z ks) (sym x.0) l) (ap (held (λ c'. accepts c' ks)) (sym e) ∙ ap (λ (z : Token). held (λ c'. accepts c' ks) (step c z)) x.1 ∙ a)
 
 no_string : (c : Control) (v : Text) (w : Text) → step c (string v) ≡ None → step c (string w) ≡ None
-no_string (at (type_done false) fs) v w e = cc
-no_string (at (in_node (fresh b)) fs) v w e = cc
+no_string (at (TypeDone OfName) fs) v w e = cc
+no_string (at (InNode (Fresh b)) fs) v w e = cc
 no_string (at p fs) v w e = cc
 
 no_value : (c : Control) (v : Text) (w : Value) → step c (string v) ≡ None → step c (value w) ≡ None
-no_value (at (type_done false) fs) v w e = cc
-no_value (at (in_node (fresh b)) fs) v w e = cc
+no_value (at (TypeDone OfName) fs) v w e = cc
+no_value (at (InNode (Fresh b)) fs) v w e = cc
 no_value (at p fs) v w e = cc
 
 no_other : (c : Control) (v : Value) (w : Value) → step c (value v) ≡ None → step c (value w) ≡ None
-no_other (at (type_done false) fs) v w e = cc
-no_other (at (in_node (fresh b)) fs) v w e = cc
+no_other (at (TypeDone OfName) fs) v w e = cc
+no_other (at (InNode (Fresh b)) fs) v w e = cc
 no_other (at p fs) v w e = cc
 
 pub refused_too : (c : Control) (k j : Token) → RefusedWith k j → step c k ≡ None → step c j ≡ None
@@ -91,11 +93,11 @@ refused_front d f u some n l a = go (f ++ u) refl l a
         absurd cc
 
 -- the text that the machine goes over to the end is accepted from there on, where it is derived
-pub rest_of : {t r : Text} {c : Control} → Goes (at gap []) t c r → {xs : Nodes} → AreNodes true t [] xs → Reads c r
+pub rest_of : {t r : Text} {c : Control} → Goes (at Gap []) t c r → {xs : Nodes} → AreNodes true t [] xs → Reads c r
 rest_of g n = let (ks, l, a) = accepted_nodes n in follow g l a
 
 -- no nodes begin with what the machine went over and such a front
-pub dead_nodes : (p f r : Text) {d : Control} → f ≢ [] → Goes (at gap []) (p ++ (f ++ r)) d (f ++ r) → RefusesFront d f → (u : Text) {xs : Nodes} → AreNodes true (p ++ (f ++ u)) [] xs → ⊥
+pub dead_nodes : (p f r : Text) {d : Control} → f ≢ [] → Goes (at Gap []) (p ++ (f ++ r)) d (f ++ r) → RefusesFront d f → (u : Text) {xs : Nodes} → AreNodes true (p ++ (f ++ u)) [] xs → ⊥
 dead_nodes p f r {d = d} some g n u {xs = xs} m =
     let q = rest_of (near_after p (f ++ r) (f ++ u) (front_first f u r some) g) m in
     refused_front d f u (λ e. some (front_empty f u e)) n q.lexed q.accepted

@@ -10,7 +10,9 @@ use Rattle.kdl_syntax.proofs.Moving.Puts.{Put, stands, joined}
 use Rattle.kdl_entry.proofs.Moving.TokenMoves.{Fits, last_token, near, full_of}
 use Rattle.kdl_grammar.specs.Data.{Nodes}
 use Rattle.kdl_grammar.specs.Grammar.{AreNodes}
-use Rattle.kdl_syntax.specs.Control.{Spot, fresh, later, Phase, gap, node_slashdash, type_open, type_name, type_done, in_node, property, entry_slashdash, block_slashdash, kept, kept_slashdash, Frame, in_dropped, Control, at, step, held, accepts}
+use Rattle.kdl_syntax.specs.Control.{Control, at, step, held, accepts}
+use Rattle.kdl_syntax.specs.declared.control.{Spot.TheVariants.Fresh, Spot.TheVariants.Later, Frame.TheVariants.Dropped as DroppedBlock, Phase.Phase, Spot.Spot, Frame.Frame, Word.TheVariants.MayBeKey, Word.TheVariants.NoKey, Owner.TheVariants.Name as OfName}
+use Rattle.kdl_syntax.specs.declared.control.Phase.TheVariants.{Gap, NodeSlashdash, TypeOpen, TypeName, TypeDone, InNode, Property, EntrySlashdash, BlockSlashdash, Kept, KeptSlashdash}
 use Rattle.kdl_grammar.specs.Going.{GoesBy, Goes, here, goes}
 use Rattle.kdl_grammar.proofs.Reading.Sound.{derives}
 
@@ -23,47 +25,47 @@ closings [] = []
 closings (f ∷ fs) = closing ∷ closings fs
 
 abbrev pub missing : Phase → List Token
-missing gap = []
-missing node_slashdash = word ∷ []
-missing (type_open b) = word ∷ right ∷ word ∷ []
-missing (type_name b) = right ∷ word ∷ []
-missing (type_done b) = word ∷ []
-missing (in_node p) = []
-missing property = word ∷ []
-missing entry_slashdash = word ∷ []
-missing block_slashdash = opening ∷ closing ∷ []
-missing kept = []
-missing kept_slashdash = opening ∷ closing ∷ []
+missing Gap = []
+missing NodeSlashdash = word ∷ []
+missing (TypeOpen b) = word ∷ right ∷ word ∷ []
+missing (TypeName b) = right ∷ word ∷ []
+missing (TypeDone b) = word ∷ []
+missing (InNode p) = []
+missing Property = word ∷ []
+missing EntrySlashdash = word ∷ []
+missing BlockSlashdash = opening ∷ closing ∷ []
+missing Kept = []
+missing KeptSlashdash = opening ∷ closing ∷ []
 
 -- where nothing is due but the `}` of open blocks
 pub data Ends : Phase → Type 0 where
-  at_gap : Ends gap
-  at_node : {p : Spot} → Ends (in_node p)
-  at_kept : Ends kept
+  at_gap : Ends Gap
+  at_node : {p : Spot} → Ends (InNode p)
+  at_kept : Ends Kept
 
 closes : {p : Phase} → Ends p → (fs : List Frame) → accepts (at p fs) (closings fs) ≡ true
 closes at_gap [] = refl
 closes at_node [] = refl
 closes at_kept [] = refl
-closes at_gap (in_dropped ∷ fs) = closes (at_node {p = later}) fs
+closes at_gap (DroppedBlock ∷ fs) = closes (at_node {p = Later}) fs
 closes at_gap (f ∷ fs) = closes at_kept fs
-closes at_node (in_dropped ∷ fs) = closes (at_node {p = later}) fs
+closes at_node (DroppedBlock ∷ fs) = closes (at_node {p = Later}) fs
 closes at_node (f ∷ fs) = closes at_kept fs
-closes at_kept (in_dropped ∷ fs) = closes (at_node {p = later}) fs
+closes at_kept (DroppedBlock ∷ fs) = closes (at_node {p = Later}) fs
 closes at_kept (f ∷ fs) = closes at_kept fs
 
 -- from each state some tokens are accepted
 pub ends : (p : Phase) (fs : List Frame) → accepts (at p fs) (missing p ++ closings fs) ≡ true
-ends gap fs = closes at_gap fs
-ends (type_open false) fs = closes (at_node {p = fresh false}) fs
-ends (type_name false) fs = closes (at_node {p = fresh false}) fs
-ends (type_done false) fs = closes (at_node {p = fresh false}) fs
-ends (in_node p) fs = closes (at_node {p = p}) fs
-ends entry_slashdash fs = closes (at_node {p = fresh true}) fs
-ends block_slashdash fs = closes (at_node {p = later}) fs
-ends kept fs = closes at_kept fs
-ends kept_slashdash fs = closes at_kept fs
-ends p fs = closes (at_node {p = fresh false}) fs
+ends Gap fs = closes at_gap fs
+ends (TypeOpen OfName) fs = closes (at_node {p = Fresh NoKey}) fs
+ends (TypeName OfName) fs = closes (at_node {p = Fresh NoKey}) fs
+ends (TypeDone OfName) fs = closes (at_node {p = Fresh NoKey}) fs
+ends (InNode p) fs = closes (at_node {p = p}) fs
+ends EntrySlashdash fs = closes (at_node {p = Fresh MayBeKey}) fs
+ends BlockSlashdash fs = closes (at_node {p = Later}) fs
+ends Kept fs = closes at_kept fs
+ends KeptSlashdash fs = closes at_kept fs
+ends p fs = closes (at_node {p = Fresh NoKey}) fs
 
 -- the same as texts
 abbrev pub closing_text : List Frame → Text
@@ -71,17 +73,17 @@ closing_text [] = []
 closing_text (f ∷ fs) = 125 ∷ closing_text fs
 
 abbrev pub missing_text : Phase → Text
-missing_text gap = []
-missing_text node_slashdash = 97 ∷ []
-missing_text (type_open b) = 97 ∷ 41 ∷ 97 ∷ []
-missing_text (type_name b) = 41 ∷ 97 ∷ []
-missing_text (type_done b) = 97 ∷ []
-missing_text (in_node p) = []
-missing_text property = 97 ∷ []
-missing_text entry_slashdash = 97 ∷ []
-missing_text block_slashdash = 123 ∷ 125 ∷ []
-missing_text kept = []
-missing_text kept_slashdash = 123 ∷ 125 ∷ []
+missing_text Gap = []
+missing_text NodeSlashdash = 97 ∷ []
+missing_text (TypeOpen b) = 97 ∷ 41 ∷ 97 ∷ []
+missing_text (TypeName b) = 41 ∷ 97 ∷ []
+missing_text (TypeDone b) = 97 ∷ []
+missing_text (InNode p) = []
+missing_text Property = 97 ∷ []
+missing_text EntrySlashdash = 97 ∷ []
+missing_text BlockSlashdash = 123 ∷ 125 ∷ []
+missing_text Kept = []
+missing_text KeptSlashdash = 123 ∷ 125 ∷ []
 
 abbrev pub rest_text : Phase → List Frame → Text
 rest_text p fs = missing_text p ++ closing_text fs
@@ -111,9 +113,9 @@ closing_feed [] = refl
 closing_feed (f ∷ fs) = refl
 
 no_feed : (p : Phase) (fs : List Frame) → begins 10 (rest_text p fs) ≡ false
-no_feed gap fs = closing_feed fs
-no_feed (in_node p) fs = closing_feed fs
-no_feed kept fs = closing_feed fs
+no_feed Gap fs = closing_feed fs
+no_feed (InNode p) fs = closing_feed fs
+no_feed Kept fs = closing_feed fs
 no_feed p fs = refl
 
 pub a_word : (r : Text) → starts is_identifier_char r ≡ false → BeginsToken (97 ∷ r) word r
@@ -127,19 +129,19 @@ lexes_word : (fs : List Frame) → Lexes (97 ∷ closing_text fs) (word ∷ clos
 lexes_word fs = next (a_word (closing_text fs) (closing_class fs)) (lexes_closings fs)
 
 lexes_rest : (p : Phase) (fs : List Frame) → Lexes (rest_text p fs) (missing p ++ closings fs)
-lexes_rest gap fs = lexes_closings fs
-lexes_rest (type_open b) fs = next (a_word (41 ∷ 97 ∷ closing_text fs) no_right) (next t_right (lexes_word fs))
-lexes_rest (type_name b) fs = next t_right (lexes_word fs)
-lexes_rest (in_node p) fs = lexes_closings fs
-lexes_rest block_slashdash fs = next t_opening (next t_closing (lexes_closings fs))
-lexes_rest kept fs = lexes_closings fs
-lexes_rest kept_slashdash fs = next t_opening (next t_closing (lexes_closings fs))
+lexes_rest Gap fs = lexes_closings fs
+lexes_rest (TypeOpen b) fs = next (a_word (41 ∷ 97 ∷ closing_text fs) no_right) (next t_right (lexes_word fs))
+lexes_rest (TypeName b) fs = next t_right (lexes_word fs)
+lexes_rest (InNode p) fs = lexes_closings fs
+lexes_rest BlockSlashdash fs = next t_opening (next t_closing (lexes_closings fs))
+lexes_rest Kept fs = lexes_closings fs
+lexes_rest KeptSlashdash fs = next t_opening (next t_closing (lexes_closings fs))
 lexes_rest p fs = lexes_word fs
 
 -- after a string, a number or a keyword
 abbrev pub worded : Control → Bool
-worded (at (in_node (fresh b)) fs) = true
-worded (at (type_name b) fs) = true
+worded (at (InNode (Fresh b)) fs) = true
+worded (at (TypeName b) fs) = true
 worded _ = false
 
 abbrev is_worded : Option Control → Bool
@@ -147,12 +149,13 @@ is_worded None = true
 is_worded (Some c) = worded c
 
 string_worded : (c : Control) (v : Text) → is_worded (step c (string v)) ≡ true
-string_worded (at (in_node (fresh b)) fs) v = refl
+string_worded (at (InNode (Fresh b)) fs) v = refl
+string_worded (at (TypeDone OfName) fs) v = refl
 string_worded (at p fs) v = refl
 
 value_worded : (c : Control) (v : Value) → is_worded (step c (value v)) ≡ true
-value_worded (at (type_done false) fs) v = refl
-value_worded (at (in_node (fresh b)) fs) v = refl
+value_worded (at (TypeDone OfName) fs) v = refl
+value_worded (at (InNode (Fresh b)) fs) v = refl
 value_worded (at p fs) v = refl
 
 pub after_string : (c : Control) (v : Text) (d : Control) → step c (string v) ≡ Some d → worded d ≡ true
@@ -163,8 +166,8 @@ after_value c v d e = ap is_worded (sym e) ∙ value_worded c v
 
 -- what ends what is under way goes on with none
 word_fits : (p : Phase) (fs : List Frame) → worded (at p fs) ≡ true → (starts is_identifier_char (rest_text p fs) ≡ false) × (begins 34 (rest_text p fs) ≡ false)
-word_fits (in_node (fresh b)) fs w = (closing_class fs, closing_quote fs)
-word_fits (type_name b) fs w = (no_right, refl)
+word_fits (InNode (Fresh b)) fs w = (closing_class fs, closing_quote fs)
+word_fits (TypeName b) fs w = (no_right, refl)
 word_fits p fs w = absurd cc
 
 fits_rest : (c : Control) (k : Token) (p : Phase) (fs : List Frame) → step c k ≡ Some (at p fs) → Fits k (rest_text p fs)
@@ -214,7 +217,7 @@ pub record Viable (t r : Text) : Type 0 where
   pub derived : AreNodes true (before ++ following) [] nodes
 
 -- Wherever the machine goes in a text, what it went over begins a text that is derived.
-pub viable : {t r : Text} {d : Control} → Goes (at gap []) t d r → Viable t r
+pub viable : {t r : Text} {d : Control} → Goes (at Gap []) t d r → Viable t r
 viable {r = r} {d = at p fs} g =
     let u = rest_text p fs in
     let x = carry u (no_feed p fs) (λ c k e. fits_rest c k p fs e) g in

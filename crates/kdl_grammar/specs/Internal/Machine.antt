@@ -1,7 +1,7 @@
 -- The machine that builds the tree: it reads the tokens of a text once, with a stack of open blocks.
 -- The token k is in the text s before r. The start of a place or an item is kept as the text from there on.
 -- A `None` for a node or for nodes says that they are slashdashed, so that nothing of them is built, and no text of them is kept.
-use Rattle.std.specs.Prelude.{◌≡◌, Bool, true, false, List, [], ◌∷◌, ◌++◌, Option, Some, None}
+use Rattle.std.specs.Prelude.{◌≡◌, List, [], ◌∷◌, ◌++◌, Option, Some, None}
 use Rattle.kdl_text.specs.Chars.{Text}
 use Rattle.kdl_value.specs.Data.{Value, text}
 use Rattle.kdl_syntax.specs.Tokens.{Token, space, newline, slashdash, string, value, left, right, opening, closing, equals, semicolon, BeginsToken}
@@ -10,6 +10,7 @@ use Rattle.kdl_entry.specs.Places.{span_of, between}
 use Rattle.kdl_entry.specs.Tree.{Identifier, plain_identifier, Entry}
 use Rattle.kdl_grammar.specs.Laid.{node_format, content_span, with_bom}
 use Rattle.kdl_grammar.specs.Tree.{Node, node, Children, no_children, children, Document, document, Nodes, none, first, join}
+use Rattle.kdl_syntax.specs.declared.control.{Owner.Owner, Owner.TheVariants.Name as OfName, Owner.TheVariants.Value as OfValue}
 
 -- a node being read
 pub record Under : Type 0 where
@@ -46,9 +47,9 @@ pub data Spot : Type 0 where
 pub data Phase : Type 0 where
   gap : Phase
   node_slashdash : Phase
-  type_open : Bool → Slot → Text → Phase
-  type_name : Bool → Slot → Text → Identifier → Text → Phase
-  type_done : Bool → Slot → Text → Identifier → Text → Text → Phase
+  type_open : Owner → Slot → Text → Phase
+  type_name : Owner → Slot → Text → Identifier → Text → Phase
+  type_done : Owner → Slot → Text → Identifier → Text → Text → Phase
   in_node : Option Under → Spot → Phase
   property : Slot → Identifier → Text → Text → Phase
   entry_slashdash : Option Under → Phase
@@ -108,7 +109,7 @@ text_before None t = []
 text_before (Some u) t = t
 
 -- inside the `(` of a type, which ends at r
-abbrev pub opened : Bool → Slot → Text → Phase
+abbrev pub opened : Owner → Slot → Text → Phase
 opened b c r = type_open b c (kept_text c r)
 
 -- the slot of a value after its key
@@ -195,9 +196,9 @@ from_spaced (spaced o) st = Some st
 from_spaced _ st = None
 
 -- a number or a keyword is allowed where a value may be
-abbrev pub where_value : Bool → State → Option State
-where_value true st = Some st
-where_value false st = None
+abbrev pub where_value : Owner → State → Option State
+where_value OfValue st = Some st
+where_value OfName st = None
 
 -- after the `=` that follows a string
 abbrev pub value_from : Spot → Text → Text → Option Phase
@@ -228,12 +229,12 @@ step whole (at gap l fs from) space s r = Some (at gap l fs from)
 step whole (at gap l fs from) newline s r = Some (at gap l fs from)
 step whole (at gap l fs from) slashdash s r = Some (at node_slashdash l fs from)
 step whole (at gap l fs from) (string v) s r = Some (given whole (name_slot l (between from s) s) None (text v) None l fs from s r)
-step whole (at gap l fs from) left s r = Some (at (opened false (name_slot l (between from s) s) r) l fs from)
+step whole (at gap l fs from) left s r = Some (at (opened OfName (name_slot l (between from s) s) r) l fs from)
 step whole (at gap l fs from) closing s r = popped whole l fs from s r
 step whole (at node_slashdash l fs from) space s r = Some (at node_slashdash l fs from)
 step whole (at node_slashdash l fs from) newline s r = Some (at node_slashdash l fs from)
 step whole (at node_slashdash l fs from) (string v) s r = Some (given whole no_name None (text v) None l fs from s r)
-step whole (at node_slashdash l fs from) left s r = Some (at (opened false no_name r) l fs from)
+step whole (at node_slashdash l fs from) left s r = Some (at (opened OfName no_name r) l fs from)
 step whole (at (type_open b c a) l fs from) space s r = Some (at (type_open b c a) l fs from)
 step whole (at (type_open b c a) l fs from) (string v) s r = Some (at (type_name b c (kept_text c (between a s)) (kept_name c (identifier_at whole v s r)) (kept_text c r)) l fs from)
 step whole (at (type_name b c q i a) l fs from) space s r = Some (at (type_name b c q i a) l fs from)
@@ -244,7 +245,7 @@ step whole (at (type_done b c q i d a) l fs from) (value v) s r = where_value b 
 step whole (at (property c k b a) l fs from) space s r = Some (at (property c k b a) l fs from)
 step whole (at (property c k b a) l fs from) (string v) s r = Some (given whole (keyed c (record { name = k; before = b; following = between a s })) None (text v) None l fs from s r)
 step whole (at (property c k b a) l fs from) (value v) s r = Some (given whole (keyed c (record { name = k; before = b; following = between a s })) None v None l fs from s r)
-step whole (at (property c k b a) l fs from) left s r = Some (at (opened true (keyed c (record { name = k; before = b; following = between a s })) r) l fs from)
+step whole (at (property c k b a) l fs from) left s r = Some (at (opened OfValue (keyed c (record { name = k; before = b; following = between a s })) r) l fs from)
 step whole (at (in_node u p) l fs from) space s r = Some (at (in_node u (spaced_of p)) l fs from)
 step whole (at (in_node u p) l fs from) newline s r = Some (at gap (ended (closed whole u no_children [] (between from s) (between s r) s) l) fs (origin u from r))
 step whole (at (in_node u p) l fs from) semicolon s r = Some (at gap (ended (closed whole u no_children [] (between from s) (between s r) s) l) fs (origin u from r))
@@ -253,13 +254,13 @@ step whole (at (in_node u p) l fs from) opening s r = Some (at gap (inside u) (i
 step whole (at (in_node u p) l fs from) slashdash s r = Some (at (slashdash_at u p) l fs from)
 step whole (at (in_node u p) l fs from) (string v) s r = from_spaced p (worded whole (entry_slot u (between from s) s) v l fs from s r)
 step whole (at (in_node u p) l fs from) (value v) s r = from_spaced p (given whole (entry_slot u (between from s) s) None v None l fs from s r)
-step whole (at (in_node u p) l fs from) left s r = from_spaced p (at (opened true (entry_slot u (between from s) s) r) l fs from)
+step whole (at (in_node u p) l fs from) left s r = from_spaced p (at (opened OfValue (entry_slot u (between from s) s) r) l fs from)
 step whole (at (in_node u p) l fs from) equals s r = stay l fs from (value_from p s r)
 step whole (at (entry_slashdash u) l fs from) space s r = Some (at (entry_slashdash u) l fs from)
 step whole (at (entry_slashdash u) l fs from) newline s r = Some (at (entry_slashdash u) l fs from)
 step whole (at (entry_slashdash u) l fs from) (string v) s r = Some (worded whole (no_value u) v l fs from s r)
 step whole (at (entry_slashdash u) l fs from) (value v) s r = Some (given whole (no_value u) None v None l fs from s r)
-step whole (at (entry_slashdash u) l fs from) left s r = Some (at (opened true (no_value u) r) l fs from)
+step whole (at (entry_slashdash u) l fs from) left s r = Some (at (opened OfValue (no_value u) r) l fs from)
 step whole (at (entry_slashdash u) l fs from) opening s r = Some (at gap None (in_dropped u l ∷ fs) from)
 step whole (at (block_slashdash u) l fs from) space s r = Some (at (block_slashdash u) l fs from)
 step whole (at (block_slashdash u) l fs from) newline s r = Some (at (block_slashdash u) l fs from)

@@ -12,7 +12,9 @@ use Rattle.kdl_syntax.specs.Tokens.{Token, newline, semicolon, BeginsToken, t_sp
 use Rattle.kdl_syntax.proofs.Lexing.TokenUnique.{token_det, no_token}
 use Rattle.kdl_grammar.specs.Data.{Node, Nodes}
 use Rattle.kdl_grammar.specs.Grammar.{Terminator, IsNode, named, no_gap, line_space, dropped_node, AreNodes, last_gap, node_then}
-use Rattle.kdl_syntax.specs.Control.{fresh, later, gap, node_slashdash, in_node, Control, at, step, finish, held, accepts, is_gap, is_over, is_word}
+use Rattle.kdl_syntax.specs.Control.{Control, at, step, finish, held, accepts, is_gap, is_over, is_word}
+use Rattle.kdl_syntax.specs.declared.control.{Spot.TheVariants.Fresh, Spot.TheVariants.Later, Word.TheVariants.NoKey}
+use Rattle.kdl_syntax.specs.declared.control.Phase.TheVariants.{Gap, NodeSlashdash, InNode}
 use Rattle.kdl_grammar.proofs.Reading.Sound.{derives}
 use Rattle.kdl_layout.specs.Items.{Item, piece, ItemEnd, EndsTight, GapItems}
 use Rattle.kdl_layout.specs.Internal.Passed.{EndsNowhere}
@@ -22,8 +24,8 @@ use Rattle.kdl_layout.proofs.Listing.SpaceItems.{line_space_of, dash_no_line}
 
 -- a string that may be a key is not over
 pub over_word : (c : Control) → is_over c ≡ true → is_word c ≡ true → ⊥
-over_word (at (in_node (fresh false)) []) a b = cc
-over_word (at (in_node later) []) a b = cc
+over_word (at (InNode (Fresh NoKey)) []) a b = cc
+over_word (at (InNode Later) []) a b = cc
 over_word _ a b = cc
 
 -- where the control ends it goes on over no token, and ends in one way
@@ -62,11 +64,11 @@ passes_det (goes t f h p) (stops x) = absurd (stays x t h)
 passes_det (goes t f h p) (goes u i j q) = passes_det p (turn_back t f h (goes u i j q))
 
 -- after the name of a node a terminator leads between nodes, and the text may end
-pub tail_ends : {c : Control} → Tail [] c → (step c semicolon ≡ Some (at gap [])) × (step c newline ≡ Some (at gap [])) × (is_gap c ≡ false) × (finish c ≡ true)
+pub tail_ends : {c : Control} → Tail [] c → (step c semicolon ≡ Some (at Gap [])) × (step c newline ≡ Some (at Gap [])) × (is_gap c ≡ false) × (finish c ≡ true)
 tail_ends before_block = (refl, refl, refl, refl)
 tail_ends after_block = (refl, refl, refl, refl)
 
-end_token : {u v e : Text} → ItemEnd u v e → (k : Token) × BeginsToken u k v × ((c : Control) → Tail [] c → step c k ≡ Some (at gap []))
+end_token : {u v e : Text} → ItemEnd u v e → (k : Token) × BeginsToken u k v × ((c : Control) → Tail [] c → step c k ≡ Some (at Gap []))
 end_token ItemEnd.semicolon = (semicolon, t_semicolon, λ c q. (tail_ends q).0)
 end_token (ItemEnd.line n) = (newline, t_newline n, λ c q. (tail_ends q).1)
 
@@ -83,19 +85,19 @@ accepted_back c d last s r k t e g o w x = token_first t e x
 all_here : Here (λ c last s. Accepted c s) []
 all_here p d last s r k t e g x = token_first t e x
 
-pub derived : {s : Text} → Accepted (at gap []) s → (xs : Nodes) × AreNodes true s [] xs
+pub derived : {s : Text} → Accepted (at Gap []) s → (xs : Nodes) × AreNodes true s [] xs
 derived (accepted l f) = derives l f
 
-line_accepted : {s r : Text} → LineSpace s r → Accepted (at gap []) r → Accepted (at gap []) s
+line_accepted : {s r : Text} → LineSpace s r → Accepted (at Gap []) r → Accepted (at Gap []) s
 line_accepted (LineSpace.space n) a = token_first (t_space n) refl a
 line_accepted (LineSpace.«break» n) a = token_first (t_newline n) refl a
 
 -- an item's end leads between nodes
-end_accepted : {u v e : Text} {c : Control} → ItemEnd u v e → Tail [] c → Accepted (at gap []) v → Accepted c u
+end_accepted : {u v e : Text} {c : Control} → ItemEnd u v e → Tail [] c → Accepted (at Gap []) v → Accepted c u
 end_accepted {c = c} e q a = let k = end_token e in token_first k.1 (k.2 c q) a
 
 -- what a gap to the end of the text is cut into may come between nodes
-gap_accepted : {s : Text} {is : List Item} → GapItems s is → Accepted (at gap []) s
+gap_accepted : {s : Text} {is : List Item} → GapItems s is → Accepted (at Gap []) s
 gap_accepted GapItems.none = accepted done refl
 gap_accepted (GapItems.space n g) = line_accepted (line_space_of n) (gap_accepted g)
 gap_accepted (GapItems.dropped_node (slashdash {s = s} ls) x e g) =
@@ -105,7 +107,7 @@ gap_accepted (GapItems.last_node (slashdash {s = s} ls) x tight ss g) =
     token_first t_slashdash refl (drop_node (λ c last s. Accepted c s) accepted_back ls x all_here (λ c w q x' ws. tail_spaces (λ c last s. Accepted c s) accepted_back {last = w} q ss all_here (λ c' q'. accepted done (tail_ends q').3)) s)
 
 -- what the control passes over may come before what may come between nodes
-returned_accepted : {c : Control} {last s u v : Text} {k : Token} → NodePasses c last s (returned k u v) → Accepted (at gap []) v → Accepted c s
+returned_accepted : {c : Control} {last s u v : Text} {k : Token} → NodePasses c last s (returned k u v) → Accepted (at Gap []) v → Accepted c s
 returned_accepted (stops (returns t e)) a = token_first t e a
 returned_accepted (goes t e g p) a = token_first t e (returned_accepted p a)
 
@@ -117,7 +119,7 @@ node_back : (e : End) → Back (λ c last s. NodePasses c last s e)
 node_back e c d last s r k t f g o w p = goes t f (node_on c k f g) p
 
 -- over a node with its terminator the control passes
-pub passes_node : {t t' u v e : Text} {x : Node} → Star LineSpace t t' → IsNode true t' u x → ItemEnd u v e → (k : Token) × NodePasses (at node_slashdash []) t t (returned k u v)
+pub passes_node : {t t' u v e : Text} {x : Node} → Star LineSpace t t' → IsNode true t' u x → ItemEnd u v e → (k : Token) × NodePasses (at NodeSlashdash []) t t (returned k u v)
 passes_node {t = t} {u = u} {v = v} ls x i =
     let k = end_token i in let e = returned k.0 u v in
     (k.0, drop_node (λ c last s. NodePasses c last s e) (node_back e) ls x (over_node e) (λ c w q x' ws. stops (returns k.1 (k.2 c q))) t)
@@ -126,7 +128,7 @@ passes_node {t = t} {u = u} {v = v} ls x i =
 abbrev pub PassesLast : Text → Text → Node → Control → Text → Text → Type 0
 PassesLast t u x c last s = (w : Text) × IsNode true t w x × Star NodeSpace w u × NodePasses c last s (ended w)
 
-pub passes_last : {t t' u : Text} {x : Node} → Star LineSpace t t' → IsNode true t' u x → Star NodeSpace u [] → PassesLast t' u x (at node_slashdash []) t t
+pub passes_last : {t t' u : Text} {x : Node} → Star LineSpace t t' → IsNode true t' u x → Star NodeSpace u [] → PassesLast t' u x (at NodeSlashdash []) t t
 passes_last {t = t} {t' = t'} {u = u} {x = y} ls x ss =
     let here : Here (PassesLast t' u y) [] = λ p d last s r k t e g p'. (p'.0, p'.1, p'.2, goes t e (node_on (at p []) k e g) p'.3) in
     drop_node (PassesLast t' u y) (λ c d last s r k t e g o w p. (p.0, p.1, p.2, goes t e (node_on c k e g) p.3)) ls x here
@@ -176,7 +178,7 @@ item_end_det ItemEnd.semicolon (ItemEnd.line n) = let e = (token_det (t_newline 
 item_end_det (ItemEnd.line n) ItemEnd.semicolon = let e = (token_det (t_newline n) t_semicolon).1 in cc
 item_end_det (ItemEnd.line n) (ItemEnd.line m) = refl
 
-module _ {t u v e : Text} {k : Token} (p : NodePasses (at node_slashdash []) t t (returned k u v)) (i : ItemEnd u v e) where
+module _ {t u v e : Text} {k : Token} (p : NodePasses (at NodeSlashdash []) t t (returned k u v)) (i : ItemEnd u v e) where
   returned_on : {is : List Item} → DroppedItems t is → (js : List Item) × (is ≡ piece (between (47 ∷ 45 ∷ t) e) ∷ js) × GapItems v js
   returned_on (with_end {u = u'} {v = v'} {e = e'} {is = js} ls x j g) =
       let q = passes_node ls x j in
@@ -198,14 +200,14 @@ module _ {t u v e : Text} {k : Token} (p : NodePasses (at node_slashdash []) t t
       go (then_none ls x ds) = let d = passes_det (passes_last ls x no_star).3 p in cc
 
 -- a node that the control passes over to its terminator is dropped: the items are this piece, and those after the terminator
-pub node_returned : {t u v e : Text} {k : Token} → NodePasses (at node_slashdash []) t t (returned k u v) → ItemEnd u v e → (is : List Item) → GapItems (47 ∷ 45 ∷ t) is ↔ ((js : List Item) × (is ≡ piece (between (47 ∷ 45 ∷ t) e) ∷ js) × GapItems v js)
+pub node_returned : {t u v e : Text} {k : Token} → NodePasses (at NodeSlashdash []) t t (returned k u v) → ItemEnd u v e → (is : List Item) → GapItems (47 ∷ 45 ∷ t) is ↔ ((js : List Item) × (is ≡ piece (between (47 ∷ 45 ∷ t) e) ∷ js) × GapItems v js)
 node_returned {t = t} p i is = (λ g. returned_on p i (dash_items g), λ w. subst (λ (z : List Item). GapItems (47 ∷ 45 ∷ t) z) (sym w.1) (returned_back p i w.2))
 
 -- node-spaces leave no more than they begin
 spaces_length : {s r : Text} → Star NodeSpace s r → length r ≤ length s
 spaces_length ss = end_length (star_end (λ u v. node_space_end) ss)
 
-module _ {t w : Text} (p : NodePasses (at node_slashdash []) t t (ended w)) where
+module _ {t w : Text} (p : NodePasses (at NodeSlashdash []) t t (ended w)) where
   ended_tight : {t' : Text} → Star LineSpace t t' → Star NodeSpace w [] → EndsTight t' w
   ended_tight ls ws w' x y (plus n m) =
       let q = passes_last ls y (join (more n m) ws) in
@@ -238,11 +240,11 @@ module _ {t w : Text} (p : NodePasses (at node_slashdash []) t t (ended w)) wher
           GapItems.last_node (slashdash ls) (subst (λ (z : Text). IsNode true t' z y) a q.1) (ended_tight ls ws) ws g
 
 -- so is one that it passes over to the end of the text: the items are this piece, and those of the node-spaces after it
-pub node_ended : {t w : Text} → NodePasses (at node_slashdash []) t t (ended w) → (is : List Item) → GapItems (47 ∷ 45 ∷ t) is ↔ ((js : List Item) × (is ≡ piece (between (47 ∷ 45 ∷ t) w) ∷ js) × GapItems w js)
+pub node_ended : {t w : Text} → NodePasses (at NodeSlashdash []) t t (ended w) → (is : List Item) → GapItems (47 ∷ 45 ∷ t) is ↔ ((js : List Item) × (is ≡ piece (between (47 ∷ 45 ∷ t) w) ∷ js) × GapItems w js)
 node_ended {t = t} p is = (λ g. ended_on p (dash_items g), λ x. subst (λ (z : List Item). GapItems (47 ∷ 45 ∷ t) z) (sym x.1) (ended_back p x.2))
 
 -- where it passes over no node, the text is no gap
-pub node_refused : {t : Text} → EndsNowhere for_node (at node_slashdash []) t → (is : List Item) → GapItems (47 ∷ 45 ∷ t) is → ⊥
+pub node_refused : {t : Text} → EndsNowhere for_node (at NodeSlashdash []) t → (is : List Item) → GapItems (47 ∷ 45 ∷ t) is → ⊥
 node_refused {t = t} refused is g = go (dash_items g)
   where
     go : {is : List Item} → DroppedItems t is → ⊥

@@ -20,7 +20,10 @@ use Rattle.kdl_syntax.proofs.Lexing.TokenUnique.{token_det, no_token}
 use Rattle.kdl_grammar.specs.Data.{Children, Nodes}
 use Rattle.kdl_grammar.specs.Grammar.{Terminator, named, AfterName, kept_entry, dropped_entry, blocks, Blocks, dropped_block, block, no_block, Gap, no_gap, dropped_node, AreNodes, last_gap, node_then, IsBlock, braces}
 use Rattle.kdl_grammar.specs.Grammar.Gap.{line_space as gap_space}
-use Rattle.kdl_syntax.specs.Control.{Control, at, Spot, fresh, spaced, later, Phase, gap, in_node, entry_slashdash, Frame, in_dropped, spaced_of, slashdash_at, step, held, accepts, is_over, is_block, is_word}
+use Rattle.kdl_syntax.specs.Control.{Control, after as after_event, at, event_of, spaced_of, step, held, accepts, is_over, is_block, is_word}
+use Rattle.kdl_syntax.specs.declared.control.{Frame.TheVariants.Dropped as DroppedBlock, Phase.Phase, Spot.Spot, Frame.Frame, Word.Word as ControlWord, Word.TheVariants.MayBeKey, Word.TheVariants.NoKey}
+use Rattle.kdl_syntax.specs.declared.control.Phase.TheVariants.{Gap as InGap, InNode, EntrySlashdash}
+use Rattle.kdl_syntax.specs.declared.control.Spot.TheVariants.{Fresh, Spaced, Later}
 use Rattle.kdl_layout.specs.Items as items
 use Rattle.kdl_layout.specs.Items.{Item, piece, Place, takes_entries, takes_blocks, PlaceItems}
 use Rattle.kdl_layout.specs.Internal.Passed.{EndsNowhere, takes, next_place}
@@ -80,14 +83,14 @@ place_quiet (PlaceItems.dropped_entry e m i g) = dash_quiet m
 place_quiet (PlaceItems.dropped_block e m b g) = dash_quiet m
 
 -- a string ends where no `=` follows
-spaced_ends : {last s : Text} → Quiet s → PartPasses (at (in_node (spaced true)) []) last s false last
+spaced_ends : {last s : Text} → Quiet s → PartPasses (at (InNode (Spaced MayBeKey)) []) last s false last
 spaced_ends (Quiet.here i) = stops (word refl i)
 spaced_ends (Quiet.after_space n q) = goes (t_space n) refl refl (spaced_ends q)
 
-value_passes : {s : Text} → Quiet s → (b : Bool) → PartPasses (at (in_node (fresh b)) []) s s false s
-value_passes (Quiet.here i) true = stops (word refl i)
-value_passes (Quiet.after_space n q) true = goes (t_space n) refl refl (spaced_ends q)
-value_passes q false = stops (over refl)
+value_passes : {s : Text} → Quiet s → (b : ControlWord) → PartPasses (at (InNode (Fresh b)) []) s s false s
+value_passes (Quiet.here i) MayBeKey = stops (word refl i)
+value_passes (Quiet.after_space n q) MayBeKey = goes (t_space n) refl refl (spaced_ends q)
+value_passes q NoKey = stops (over refl)
 
 -- the control passes over an entry, and over a block
 pub entry_passes : {s t u : Text} {e : Entry} → Star LineSpace s t → IsEntry true t u e → Quiet u → (b : Bool) → b ≡ true → (last : Text) → PartPasses (at (slashdash_phase b) []) last s false u
@@ -99,39 +102,39 @@ block_passes {u = u} ls i b last = drop_block (λ c last s. PartPasses c last s 
 
 -- where the control may be in a place: after a dropped block entries come no more
 abbrev Fits : Place → Spot → Type 0
-Fits p q = takes_entries p ≡ true → slashdash_at q ≡ entry_slashdash
+Fits p q = takes_entries p ≡ true → event_of (InNode q) slashdash ≡ event_of (InNode (Fresh NoKey)) slashdash
 
-slashdash_block : (q : Spot) {s : Text} → ((b : Bool) → Accepted (at (slashdash_phase b) []) s) → Accepted (at (slashdash_at q) []) s
-slashdash_block (fresh b) f = f true
-slashdash_block (spaced b) f = f true
-slashdash_block later f = f false
+slashdash_block : (q : Spot) {s : Text} → ((b : Bool) → Accepted (at (slashdash_phase b) []) s) → Accepted (at (InNode q) []) (47 ∷ 45 ∷ s)
+slashdash_block (Fresh b) f = token_first t_slashdash refl (f true)
+slashdash_block (Spaced b) f = token_first t_slashdash refl (f true)
+slashdash_block Later f = token_first t_slashdash refl (f false)
 
 -- what is in a place is accepted
-place_accepted : {p : Place} {s : Text} {is : List Item} → PlaceItems p s is → (q : Spot) → Fits p q → Accepted (at (in_node q) []) s
+place_accepted : {p : Place} {s : Text} {is : List Item} → PlaceItems p s is → (q : Spot) → Fits p q → Accepted (at (InNode q) []) s
 place_accepted (PlaceItems.ends e) q h = accepted done refl
 place_accepted {p = p} (PlaceItems.space d g) q h = token_first (t_space (space_of d)) refl (place_accepted g (spaced_of q) (λ i. slashdash_spaced q ∙ h (sym (entries_spaced true p) ∙ i)))
 place_accepted (PlaceItems.dropped_entry e (a_slashdash {s = s} ls) i g) q h =
-    token_first t_slashdash refl (subst (λ (m : Phase). Accepted (at m []) s) (sym (h e)) (drop_entry (λ c last s. Accepted c s) accepted_back ls i (λ b. place_accepted g (fresh b) (λ j. refl)) s))
-place_accepted (PlaceItems.dropped_block e (a_slashdash {s = s} ls) b g) q h = token_first t_slashdash refl (slashdash_block q (λ c. drop_block (λ c last s. Accepted c s) accepted_back ls b (place_accepted g later (λ j. cc)) c s))
+    token_first t_slashdash (ap (λ o. after_event o []) (h e)) (drop_entry (λ c last s. Accepted c s) accepted_back ls i (λ b. place_accepted g (Fresh b) (λ j. refl)) s)
+place_accepted (PlaceItems.dropped_block e (a_slashdash {s = s} ls) b g) q h = slashdash_block q (λ c. drop_block (λ c last s. Accepted c s) accepted_back ls b (place_accepted g Later (λ j. cc)) c s)
 
 -- where the last token that is no node-space ended, and which spaces come after it
 data Following : Control → Text → Text → Type 0 where
   directly : {c : Control} {s : Text} → Following c s s
-  spaces : {last s : Text} → Plus NodeSpace last s → Following (at (in_node (spaced true)) []) last s
+  spaces : {last s : Text} → Plus NodeSpace last s → Following (at (InNode (Spaced MayBeKey)) []) last s
   other : {c : Control} {last s : Text} → is_over c ≡ false → is_word c ≡ false → Following c last s
 
 -- one space more
 space_leads : (fs : List Frame) (p : Phase) → is_over (at p fs) ≡ false → is_word (at p fs) ≡ false → Of (λ d. (is_over d ≡ false) × (is_word d ≡ false)) (step (at p fs) token'.space)
-space_leads [] (in_node (fresh true)) o w = absurd cc
-space_leads [] (in_node (fresh false)) o w = absurd cc
-space_leads [] (in_node (spaced true)) o w = absurd cc
-space_leads [] (in_node later) o w = absurd cc
-space_leads (f ∷ fs) (in_node q) o w = in_block_on (in_node (spaced_of q)) f fs
+space_leads [] (InNode (Fresh MayBeKey)) o w = absurd cc
+space_leads [] (InNode (Fresh NoKey)) o w = absurd cc
+space_leads [] (InNode (Spaced MayBeKey)) o w = absurd cc
+space_leads [] (InNode Later) o w = absurd cc
+space_leads (f ∷ fs) (InNode q) o w = in_block_on (InNode (spaced_of q)) f fs
 space_leads fs p o w = (refl, refl)
 
-word_leads : (c : Control) → is_word c ≡ true → step c token'.space ≡ Some (at (in_node (spaced true)) [])
-word_leads (at (in_node (fresh true)) []) w = refl
-word_leads (at (in_node (spaced true)) []) w = refl
+word_leads : (c : Control) → is_word c ≡ true → step c token'.space ≡ Some (at (InNode (Spaced MayBeKey)) [])
+word_leads (at (InNode (Fresh MayBeKey)) []) w = refl
+word_leads (at (InNode (Spaced MayBeKey)) []) w = refl
 word_leads _ w = cc
 
 after_word : {c : Control} {last s r : Text} → is_word c ≡ true → Following c last s → NodeSpace s r → Plus NodeSpace last r
@@ -143,7 +146,7 @@ space_after : {c d : Control} {last s r : Text} → Following c last s → is_ov
 space_after {c = c} {d = d} {last = last} {s = s} {r = r} x o n e = go c (is_word c) refl o e x
   where
     go : (c : Control) (b : Bool) → is_word c ≡ b → is_over c ≡ false → step c token'.space ≡ Some d → Following c last s → Following d last r
-    go c true w o e x = let f = word_leads c w in let g : at (in_node (spaced true)) [] ≡ d = cc in subst (λ (z : Control). Following z last r) g (spaces (after_word w x n))
+    go c true w o e x = let f = word_leads c w in let g : at (InNode (Spaced MayBeKey)) [] ≡ d = cc in subst (λ (z : Control). Following z last r) g (spaces (after_word w x n))
     go (at p fs) false w o e x = let i = subst (Of (λ d. (is_over d ≡ false) × (is_word d ≡ false))) e (space_leads fs p o w) in other i.0 i.1
 
 pub a_space : {s r : Text} {k : Token} → BeginsToken s k r → of_spaces k ≡ true → (k ≡ token'.space) × NodeSpace s r
@@ -164,13 +167,13 @@ token_off {c = c} t e (accepted (next {ks = ks} u l) f) =
     let x = token_det t u in
     accepted (subst (λ (z : Text). Lexes z ks) (sym x.0) l) (ap (held (λ (c : Control). accepts c ks)) (sym e ∙ ap (λ (j : Token). step c j) x.1) ∙ f)
 
-spaces_off : {s r : Text} → Star NodeSpace s r → Accepted (at (in_node (spaced true)) []) s → Accepted (at (in_node (spaced true)) []) r
+spaces_off : {s r : Text} → Star NodeSpace s r → Accepted (at (InNode (Spaced MayBeKey)) []) s → Accepted (at (InNode (Spaced MayBeKey)) []) r
 spaces_off no_star a = a
 spaces_off (more n m) a = spaces_off m (token_off (t_space n) refl a)
 
 -- after an entry no entry follows directly; after a block none does
 abbrev ends_in : Bool → Spot → Bool
-ends_in false later = false
+ends_in false Later = false
 ends_in b q = true
 
 over_here : {c : Control} {last s : Text} → is_over c ≡ true → Following c last s → last ≡ s
@@ -178,23 +181,23 @@ over_here x directly = refl
 over_here x (spaces ss) = absurd cc
 over_here x (other o w) = absurd cc
 
-over_accepted : (c : Control) {u : Text} → is_over c ≡ true → ((q : Spot) → ends_in (is_block c) q ≡ true → Accepted (at (in_node q) []) u) → Accepted c u
-over_accepted (at (in_node (fresh false)) []) x f = f (fresh false) refl
-over_accepted (at (in_node later) []) x f = f later refl
+over_accepted : (c : Control) {u : Text} → is_over c ≡ true → ((q : Spot) → ends_in (is_block c) q ≡ true → Accepted (at (InNode q) []) u) → Accepted c u
+over_accepted (at (InNode (Fresh NoKey)) []) x f = f (Fresh NoKey) refl
+over_accepted (at (InNode Later) []) x f = f Later refl
 over_accepted _ x f = absurd cc
 
-word_accepted : (c : Control) {u : Text} → is_word c ≡ true → ((q : Spot) → ends_in false q ≡ true → Accepted (at (in_node q) []) u) → Accepted c u
-word_accepted (at (in_node (fresh true)) []) x f = f (fresh true) refl
-word_accepted (at (in_node (spaced true)) []) x f = f (spaced true) refl
+word_accepted : (c : Control) {u : Text} → is_word c ≡ true → ((q : Spot) → ends_in false q ≡ true → Accepted (at (InNode q) []) u) → Accepted c u
+word_accepted (at (InNode (Fresh MayBeKey)) []) x f = f (Fresh MayBeKey) refl
+word_accepted (at (InNode (Spaced MayBeKey)) []) x f = f (Spaced MayBeKey) refl
 word_accepted _ x f = absurd cc
 
-word_after : {c : Control} {last s : Text} → is_word c ≡ true → Following c last s → ((q : Spot) → ends_in false q ≡ true → Accepted (at (in_node q) []) last) → Accepted c s
+word_after : {c : Control} {last s : Text} → is_word c ≡ true → Following c last s → ((q : Spot) → ends_in false q ≡ true → Accepted (at (InNode q) []) last) → Accepted c s
 word_after {c = c} x directly f = word_accepted c x f
-word_after x (spaces (plus n ss)) f = spaces_off ss (token_off (t_space n) refl (f (fresh true) refl))
+word_after x (spaces (plus n ss)) f = spaces_off ss (token_off (t_space n) refl (f (Fresh MayBeKey) refl))
 word_after x (other o w) f = absurd cc
 
 -- where the control passes over a part, and what comes after it is accepted, all is accepted
-passes_accepted : {c : Control} {last s u : Text} {b : Bool} → PartPasses c last s b u → Following c last s → ((q : Spot) → ends_in b q ≡ true → Accepted (at (in_node q) []) u) → Accepted c s
+passes_accepted : {c : Control} {last s u : Text} {b : Bool} → PartPasses c last s b u → Following c last s → ((q : Spot) → ends_in b q ≡ true → Accepted (at (InNode q) []) u) → Accepted c s
 passes_accepted (stops (over {c = c} x)) h f = subst (λ (z : Text). Accepted c z) (over_here x h) (over_accepted c x f)
 passes_accepted (stops (word x i)) h f = word_after x h f
 passes_accepted {c = c} (goes {k = k} t e o p) h f = token_first t e (passes_accepted p (token_after h (is_not (is_over c) (and_parts (not (is_over c)) (not (is_word c && not (follows_word k))) o).0) t e) f)
@@ -262,20 +265,20 @@ a_name : {s : Text} → BeginsToken (97 ∷ 47 ∷ s) (string (97 ∷ [])) (47 �
 a_name {s = s} = t_string (StringPiece.bare (a_bare refl bare_a (slash_char s)))
 
 -- what is accepted after `/-` is derived: after a name
-part_derived : {t : Text} → Accepted (at entry_slashdash []) t → PartDropped true t
-part_derived {t = t} a = of (nodes_named a_name (derived (token_first a_name refl (token_first {c = at (in_node (fresh false)) []} t_slashdash refl a))).1)
+part_derived : {t : Text} → Accepted (at EntrySlashdash []) t → PartDropped true t
+part_derived {t = t} a = of (nodes_named a_name (derived (token_first a_name refl (token_first {c = at (InNode (Fresh NoKey)) []} t_slashdash refl a))).1)
   where
     of : Named (47 ∷ 45 ∷ t) → PartDropped true t
     of (rest d e) = part_dropped t_slashdash d e
 
 -- and after a block
-braces_pass : {t : Text} (last : Text) → PartPasses (at entry_slashdash []) last (123 ∷ 125 ∷ t) true t
-braces_pass last = goes t_opening refl refl (goes {d = at (in_node later) []} t_closing refl refl (stops (over refl)))
+braces_pass : {t : Text} (last : Text) → PartPasses (at EntrySlashdash []) last (123 ∷ 125 ∷ t) true t
+braces_pass last = goes t_opening refl refl (goes {d = at (InNode Later) []} t_closing refl refl (stops (over refl)))
 
 any_derived : (b : Bool) {t : Text} → Accepted (at (slashdash_phase b) []) t → PartDropped b t
 any_derived true a = part_derived a
 any_derived false {t = t} a =
-    of (part_derived (token_first t_opening refl (token_first {c = at gap (in_dropped ∷ [])} t_closing refl (token_first {c = at (in_node later) []} t_slashdash refl a))))
+    of (part_derived (token_first t_opening refl (token_first {c = at InGap (DroppedBlock ∷ [])} t_closing refl (token_first {c = at (InNode Later) []} t_slashdash refl a))))
   where
     of : PartDropped true (123 ∷ 125 ∷ 47 ∷ 45 ∷ t) → PartDropped false t
     of (an_entry h ls i q) = let e = (part_det (entry_passes ls i q true refl []) (braces_pass [])).0 in absurd cc
@@ -300,9 +303,9 @@ drops {p = p} {t = t} q (PlaceItems.dropped_block {u = u} {is = is} e m x g) =
     dropped {b = true} (drops_block e (a_slashdash ls) x) (block_passes ls x (takes_entries p) t) g (ap (λ (z : Text). piece (between z u) ∷ is) q)
 
 fits_ends : (p : Place) (q : Spot) → ends_in false q ≡ true → Fits p q
-fits_ends p (fresh b) e = λ h. refl
-fits_ends p (spaced b) e = λ h. refl
-fits_ends p later e = absurd cc
+fits_ends p (Fresh b) e = λ h. refl
+fits_ends p (Spaced b) e = λ h. refl
+fits_ends p Later e = absurd cc
 
 module _ {p : Place} {t : Text} where
   -- an entry that is passed over is dropped, and so is a block

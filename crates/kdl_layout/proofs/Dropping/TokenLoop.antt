@@ -14,7 +14,10 @@ use Rattle.kdl_syntax.specs.Internal.Handed.{Cuts, one, spaces, kind_view, Hands
 use Rattle.kdl_syntax.specs.Tokens.{Token, space, newline, semicolon, t_space, BeginsToken, NoToken, t_semicolon}
 use Rattle.kdl_syntax.specs.declared.lexer.Token.{Token as CodeToken}
 use Rattle.kdl_syntax.proofs.Lexing.TokenUnique.{token_det, token_shorter, no_token}
-use Rattle.kdl_syntax.specs.Control.{fresh, spaced, later, gap, node_slashdash, type_done, in_node, Phase, Frame, in_block, Control, at, step, finish, held, is_gap, is_over, is_block, is_word}
+use Rattle.kdl_syntax.specs.Control.{Control, at, step, finish, held, is_gap, is_over, is_block, is_word}
+use Rattle.kdl_syntax.specs.declared.control.{Frame.TheVariants.Node as NodeBlock, Phase.Phase, Frame.Frame, Word.TheVariants.MayBeKey, Owner.TheVariants.Value as OfValue}
+use Rattle.kdl_syntax.specs.declared.control.Phase.TheVariants.{Gap, NodeSlashdash, TypeDone, InNode}
+use Rattle.kdl_syntax.specs.declared.control.Spot.TheVariants.{Fresh, Spaced, Later}
 use Rattle.kdl_syntax.specs.Internal.Views.{ended_view}
 use Rattle.kdl_syntax.specs.declared.control.Ended.{Ended}
 use Rattle.kdl_layout.specs.Items.{ItemEnd, Place, before_entry, before_block, after_block, Item, line_end, GapItems}
@@ -107,10 +110,10 @@ Of P (Some d) = P d
 
 -- after a space the control takes more of them, and stays what it is; nothing ends there
 space_turn : (c : Control) → Of (λ d. (step d space ≡ Some d) × (is_over c ≡ false → is_over d ≡ false)) (step c space)
-space_turn (at gap fs) = (refl, λ o. refl)
-space_turn (at (in_node (fresh b)) fs) = (refl, λ o. refl)
-space_turn (at (in_node (spaced b)) fs) = (refl, λ o. refl)
-space_turn (at (in_node later) fs) = (refl, λ o. o)
+space_turn (at Gap fs) = (refl, λ o. refl)
+space_turn (at (InNode (Fresh b)) fs) = (refl, λ o. refl)
+space_turn (at (InNode (Spaced b)) fs) = (refl, λ o. refl)
+space_turn (at (InNode Later) fs) = (refl, λ o. o)
 space_turn _ = (refl, λ o. refl)
 
 pub is_not : (b : Bool) → not b ≡ true → b ≡ false
@@ -128,17 +131,17 @@ spaced_turn g c {d} f h = go g (subst (Of (λ d. (step d space ≡ Some d) × (i
 to_gap : (k : Token) (fs : List Frame) (p : Phase) → is_gap (at p fs) ≡ false → held is_gap (step (at p fs) k) ≡ true → (k ≡ newline) ⊎ (k ≡ semicolon)
 to_gap newline fs p g e = inl refl
 to_gap semicolon fs p g e = inr refl
-to_gap k (in_block ∷ fs) gap g e = absurd cc
-to_gap k fs (in_node (fresh true)) g e = absurd cc
-to_gap k fs (in_node (spaced true)) g e = absurd cc
-to_gap k fs (type_done true) g e = absurd cc
+to_gap k (NodeBlock ∷ fs) Gap g e = absurd cc
+to_gap k fs (InNode (Fresh MayBeKey)) g e = absurd cc
+to_gap k fs (InNode (Spaced MayBeKey)) g e = absurd cc
+to_gap k fs (TypeDone OfValue) g e = absurd cc
 to_gap k fs p g e = absurd cc
 
 pub gap_turn : (c : Control) (k : Token) → is_gap c ≡ false → held is_gap (step c k) ≡ true → (k ≡ newline) ⊎ (k ≡ semicolon)
 gap_turn (at p fs) k g e = to_gap k fs p g e
 
-gap_is : (d : Control) → is_gap d ≡ true → d ≡ at gap []
-gap_is (at gap []) e = refl
+gap_is : (d : Control) → is_gap d ≡ true → d ≡ at Gap []
+gap_is (at Gap []) e = refl
 gap_is _ e = absurd cc
 
 -- over a run of spaces
@@ -208,8 +211,8 @@ not_over after_block = refl
 starts : (g : Goal) (first : Control) (t : Text) (here : Here) (c : Control) → here.rest ≡ t → here.at ≡ 0 → c ≡ first → is_end g first ≡ false → Goes g first here c t 0
 starts g first t here c e n h o = record { following = t; same = rw (e, h) (λ x. (λ p. p, λ p. p)); counted = ([], refl, refl); text = ([], sym e, sym n); under_way = rw h o }
 
-pub node_starts : (t : Text) (here : Here) (c : Control) → here.rest ≡ t → here.at ≡ 0 → c ≡ at node_slashdash [] → Goes for_node (at node_slashdash []) here c t 0
-node_starts t here c e n h = starts for_node (at node_slashdash []) t here c e n h refl
+pub node_starts : (t : Text) (here : Here) (c : Control) → here.rest ≡ t → here.at ≡ 0 → c ≡ at NodeSlashdash [] → Goes for_node (at NodeSlashdash []) here c t 0
+node_starts t here c e n h = starts for_node (at NodeSlashdash []) t here c e n h refl
 
 pub part_starts : (p : Place) (t : Text) (here : Here) (c : Control) → here.rest ≡ t → here.at ≡ 0 → c ≡ slashdash_in p → Goes for_part (slashdash_in p) here c t 0
 part_starts p t here c e n h = starts for_part (slashdash_in p) t here c e n h (not_over p)
@@ -248,7 +251,7 @@ at_stop z f (stops (returns {r = r} {k = k} t h)) = no_token (subst (λ (a : Tex
 at_stop z f (stops (ends g h)) = cc
 at_stop z f (goes {r = r} {k = k} t h g p) = no_token (subst (λ (a : Text). BeginsToken a k r) z t)
 
-pub node_stops : (t : Text) (here : Here) (c : Control) (last : ℕ) (o : Option NodeEnd) → Goes for_node (at node_slashdash []) here c t last → here.rest ≡ [] → MatchOption o (finish c ≡ false) (λ e. (finish c ≡ true) × (e.item ≡ last) × (e.ending ≡ None)) → AnswersDroppedNode t o
+pub node_stops : (t : Text) (here : Here) (c : Control) (last : ℕ) (o : Option NodeEnd) → Goes for_node (at NodeSlashdash []) here c t last → here.rest ≡ [] → MatchOption o (finish c ≡ false) (λ e. (finish c ≡ true) × (e.item ≡ last) × (e.ending ≡ None)) → AnswersDroppedNode t o
 node_stops t here c last None g z f = λ e p. at_stop z f ((g.same e).0 p)
 node_stops t here c last (Some e) g z (f, i, j) =
     EndsAt.ends {w = g.following} ((g.same (ended g.following)).1 (subst (λ (a : Text). Passes for_node c g.following a (ended g.following)) (sym z) (stops (ends g.under_way f)))) (subst (λ (n : ℕ). Before t n g.following) (sym i) g.counted) j
@@ -262,10 +265,10 @@ last_turn {c = c} {d = d} g (spaces n) f h = ends_spaces (gap_turn c space g (ap
     ends_spaces (inl e) = cc
     ends_spaces (inr e) = cc
 
-pub token_ends : {old : Here} {c d : Control} {k : Token} {t : Text} {last : ℕ} → Goes for_node (at node_slashdash []) old c t last → step c k ≡ Some d → is_gap d ≡ true → (k ≡ newline) ⊎ (k ≡ semicolon)
+pub token_ends : {old : Here} {c d : Control} {k : Token} {t : Text} {last : ℕ} → Goes for_node (at NodeSlashdash []) old c t last → step c k ≡ Some d → is_gap d ≡ true → (k ≡ newline) ⊎ (k ≡ semicolon)
 token_ends {c = c} {k = k} g f x = gap_turn c k g.under_way (ap (held is_gap) f ∙ x)
 
-pub node_returns : (t : Text) (old new : Here) (c d : Control) (k : CodeToken) (last : ℕ) (e : NodeEnd) → Goes for_node (at node_slashdash []) old c t last → HandsOut old k new → Moves old new → step c (kind_view k.kind) ≡ Some d → is_gap d ≡ true
+pub node_returns : (t : Text) (old new : Here) (c d : Control) (k : CodeToken) (last : ℕ) (e : NodeEnd) → Goes for_node (at NodeSlashdash []) old c t last → HandsOut old k new → Moves old new → step c (kind_view k.kind) ≡ Some d → is_gap d ≡ true
     → (i : Text) × (y : Ending) × ItemEnd k.at.start.rest k.at.end.rest i × Before t e.item i × EndsNode k.at.end.rest k.at.start.rest y × (e.ending ≡ Some y) → AnswersDroppedNode t (Some e)
 node_returns t old new c d k last e g h m f x (i, y, j, a, o, z) =
     let p = (g.same (returned (kind_view k.kind) old.rest new.rest)).1 (last_turn g.under_way h.cuts f x) in

@@ -13,7 +13,8 @@ use Rattle.kdl_syntax.specs.Tokens.{Token, BeginsToken, space, newline, t_space,
 use Rattle.kdl_syntax.proofs.Lexing.TokenUnique.{token_det, no_token}
 use Rattle.kdl_grammar.specs.Data.{Node, node, no_children, Nodes, none, first}
 use Rattle.kdl_grammar.specs.Grammar.{Terminator, IsNode, named, AfterName, Blocks, Gap, no_gap, line_space, dropped_node, AreNodes, last_gap, node_then}
-use Rattle.kdl_syntax.specs.Control.{Control, at, node_slashdash, held, is_gap}
+use Rattle.kdl_syntax.specs.Control.{Control, at, held, is_gap}
+use Rattle.kdl_syntax.specs.declared.control.Phase.TheVariants.{NodeSlashdash}
 use Rattle.kdl_grammar.specs.ReadsBack.{AddsNothing, Anything, Terminates}
 use Rattle.kdl_layout.specs.Items.{Item, ItemEnd, GapItems}
 use Rattle.kdl_layout.specs.Lacks.{newlines, GapLacks}
@@ -138,7 +139,7 @@ no_return g j u v p =
 pub letter_dropped : {b t : Text} {x : Node} {xs : Nodes} → Slashdash (47 ∷ 45 ∷ b) t → IsNode true t letter x → AreNodes true (47 ∷ 45 ∷ b) [] xs → xs ≡ none
 letter_dropped {b} {xs = xs} m x ds = go (dash_nodes ds)
   where
-    never : NoReturn (at node_slashdash []) b b
+    never : NoReturn (at NodeSlashdash []) b b
     never = drop_node NoReturn (λ c d last s r k t f g o w p j u v q. p j u v (turn_back t f (node_on c k f g) q)) (dash_lines m) x (λ i d last s r k t f g p j u v q. p j u v (turn_back t f (node_on (at i []) k f g) q)) (λ c w q x' ws. no_return (tail_ends q).2) b
 
     go : DroppedThen b xs → xs ≡ none

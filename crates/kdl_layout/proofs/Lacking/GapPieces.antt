@@ -13,7 +13,8 @@ use Rattle.kdl_entry.proofs.Moving.EntryMoves.{move_spaces, move_slashdash, spac
 use Rattle.kdl_grammar.specs.Data as nodes'
 use Rattle.kdl_grammar.specs.Data.{Node, Nodes}
 use Rattle.kdl_grammar.specs.Grammar.{Terminator, IsNode, Gap, no_gap, line_space, dropped_node, AreNodes}
-use Rattle.kdl_syntax.specs.Control.{Control, at, node_slashdash}
+use Rattle.kdl_syntax.specs.Control.{Control, at}
+use Rattle.kdl_syntax.specs.declared.control.Phase.TheVariants.{NodeSlashdash}
 use Rattle.kdl_grammar.specs.ReadsBack.{AddsNothing, NodesEnd}
 use Rattle.kdl_grammar.proofs.Moving.Moves.{terminator_end}
 use Rattle.kdl_grammar.proofs.ReadingBack.Closing.{after_lf}
@@ -110,7 +111,7 @@ some_end : {u v e : Text} → ItemEnd u v e → u ≡ [] → ⊥
 some_end ItemEnd.semicolon e = cc
 some_end (ItemEnd.line b) e = omega (arith, break_shorter b, ap length e)
 
-module _ {b u v e : Text} {k : Token} (p : NodePasses (at node_slashdash []) b b (returned k u v)) (i : ItemEnd u v e) where
+module _ {b u v e : Text} {k : Token} (p : NodePasses (at NodeSlashdash []) b b (returned k u v)) (i : ItemEnd u v e) where
   the_node : HasGap v → (t : Text) × (x : Node) × Slashdash (47 ∷ 45 ∷ b) t × IsNode true t u x
   the_node h = go (dash_items ((node_returned p i (piece (between (47 ∷ 45 ∷ b) e) ∷ h.0)).1 (h.0, refl, h.1)))
     where
@@ -152,7 +153,7 @@ ended_spaces : {c : Control} {last s w : Text} → NodePasses c last s (passing.
 ended_spaces (stops (ends g f)) ss = ss
 ended_spaces (goes t f g p) ss = ended_spaces p (moved_spaces t ss)
 
-module _ {b u : Text} (p : NodePasses (at node_slashdash []) b b (passing.ended u)) where
+module _ {b u : Text} (p : NodePasses (at NodeSlashdash []) b b (passing.ended u)) where
   spaces_after : Star NodeSpace u []
   spaces_after = ended_spaces p none
 
@@ -193,7 +194,7 @@ item_cut b e (EndsAt.ends p x h) = before_cut x
 abbrev nothing_after : {v : Text} → [] ≡ v → HasGap v
 nothing_after e = ([], subst (λ (h : Text). GapItems h []) e GapItems.none)
 
-module _ {b u v c : Text} {k : Token} (p : NodePasses (at node_slashdash []) b b (returned k u v)) (i : ItemEnd u v c) {node : Text} (q : node ≡ between (47 ∷ 45 ∷ b) c) (old now : Option (List Item)) (m : now ≡ added old (piece node ∷ [])) where
+module _ {b u v c : Text} {k : Token} (p : NodePasses (at NodeSlashdash []) b b (returned k u v)) (i : ItemEnd u v c) {node : Text} (q : node ≡ between (47 ∷ 45 ∷ b) c) (old now : Option (List Item)) (m : now ≡ added old (piece node ∷ [])) where
   one_item : [] ≡ v → Adding (GapItems (47 ∷ 45 ∷ b)) old now
   one_item e = adding (piece node ∷ []) m (rw q (leaves_all (GapItems (47 ∷ 45 ∷ b)) (GapItems v) (piece (between (47 ∷ 45 ∷ b) c) ∷ []) (node_returned p i) (nothing_after e).1))
 

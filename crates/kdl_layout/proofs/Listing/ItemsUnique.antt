@@ -3,7 +3,8 @@ use Rattle.std.proofs.Common.{◌≡◌, refl, List, [], ◌∷◌, ◌++◌, sy
 use Rattle.kdl_text.specs.Chars.{Text}
 use Rattle.kdl_text.specs.Trivia.{slashdash}
 use Rattle.kdl_entry.specs.Places.{between}
-use Rattle.kdl_syntax.specs.Control.{at, node_slashdash}
+use Rattle.kdl_syntax.specs.Control.{at}
+use Rattle.kdl_syntax.specs.declared.control.Phase.TheVariants.{NodeSlashdash}
 use Rattle.kdl_layout.specs.Items.{Item, piece, GapItems, Place, takes_entries, PlaceItems}
 use Rattle.kdl_layout.specs.Internal.Passing.{ended, NodePasses}
 use Rattle.kdl_layout.specs.Kept.{EndItems, ItemsIn}
@@ -19,7 +20,7 @@ gap_items_det {js = js} (GapItems.dropped_node {e = e} (slashdash {s = t} ls) x 
     ap (λ (l : List Item). piece (between (47 ∷ 45 ∷ t) e) ∷ l) (gap_items_det g w.2) ∙ sym w.1
 gap_items_det {js = js} (GapItems.last_node {u = u} (slashdash {s = t} ls) x tight ss g) h =
     let q = passes_last ls x ss in
-    let w = (node_ended (subst (λ (z : Text). NodePasses (at node_slashdash []) t t (ended z)) (tight_same tight q.1 q.2) q.3) js).0 h in
+    let w = (node_ended (subst (λ (z : Text). NodePasses (at NodeSlashdash []) t t (ended z)) (tight_same tight q.1 q.2) q.3) js).0 h in
     ap (λ (l : List Item). piece (between (47 ∷ 45 ∷ t) u) ∷ l) (gap_items_det g w.2) ∙ sym w.1
 
 pub place_items_det : {p : Place} {s : Text} {is js : List Item} → PlaceItems p s is → PlaceItems p s js → is ≡ js

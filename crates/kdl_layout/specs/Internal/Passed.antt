@@ -3,7 +3,8 @@ use Rattle.std.specs.Prelude.{◌≡◌, ℕ, Bool, true, false, if◌then◌els
 use Rattle.kdl_text.specs.Chars.{Text}
 use Rattle.kdl_text.specs.Spans.{bytes}
 use Rattle.kdl_syntax.specs.Tokens.{Token}
-use Rattle.kdl_syntax.specs.Control.{Control, at, node_slashdash}
+use Rattle.kdl_syntax.specs.Control.{Control, at}
+use Rattle.kdl_syntax.specs.declared.control.Phase.TheVariants.{NodeSlashdash}
 use Rattle.kdl_syntax.specs.Internal.Views.{ended_view}
 use Rattle.kdl_layout.specs.Internal.Lacking.{EndsNode}
 use Rattle.kdl_layout.specs.Internal.Passing.{Goal, for_node, for_part, End, returned, ended, Passes, NodePasses, PartPasses, slashdash_in}
@@ -18,8 +19,8 @@ Before s n r = (p : Text) × (s ≡ p ++ r) × (bytes p ≡ n)
 
 -- the node after the `/-` ends there
 pub data EndsAt (t : Text) (e : NodeEnd) : Type 0 where
-  returns : {k : Token} {u v i : Text} {y : Ending} (w : Text) → NodePasses (at node_slashdash []) t t (returned k u v) → ItemEnd u v i → t ≡ w ++ v → Before t e.item i → EndsNode v u y → e.ending ≡ Some y → EndsAt t e
-  ends : {w : Text} → NodePasses (at node_slashdash []) t t (ended w) → Before t e.item w → e.ending ≡ None → EndsAt t e
+  returns : {k : Token} {u v i : Text} {y : Ending} (w : Text) → NodePasses (at NodeSlashdash []) t t (returned k u v) → ItemEnd u v i → t ≡ w ++ v → Before t e.item i → EndsNode v u y → e.ending ≡ Some y → EndsAt t e
+  ends : {w : Text} → NodePasses (at NodeSlashdash []) t t (ended w) → Before t e.item w → e.ending ≡ None → EndsAt t e
 
 -- the control comes to no end
 abbrev pub EndsNowhere : Goal → Control → Text → Type 0
@@ -27,7 +28,7 @@ EndsNowhere g c t = (e : End) → Passes g c t t e → ⊥
 
 abbrev pub AnswersDroppedNode : Text → Option NodeEnd → Type 0
 AnswersDroppedNode t (Some e) = EndsAt t e
-AnswersDroppedNode t None = EndsNowhere for_node (at node_slashdash []) t
+AnswersDroppedNode t None = EndsNowhere for_node (at NodeSlashdash []) t
 
 -- an entry or a block that is slashdashed in the place ends there
 abbrev pub AnswersDroppedPart : Place → Text → Option PartEnd → Type 0

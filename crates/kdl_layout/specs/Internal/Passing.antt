@@ -2,7 +2,9 @@
 use Rattle.std.specs.Prelude.{◌≡◌, Bool, true, false, ◌&&◌, not, if◌then◌else◌, [], Some}
 use Rattle.kdl_text.specs.Chars.{Text}
 use Rattle.kdl_syntax.specs.Tokens.{Token, space, equals, BeginsToken}
-use Rattle.kdl_syntax.specs.Control.{Control, at, gap, entry_slashdash, block_slashdash, Phase, step, held, finish, is_gap, is_over, is_block, is_word}
+use Rattle.kdl_syntax.specs.Control.{Control, at, step, held, finish, is_gap, is_over, is_block, is_word}
+use Rattle.kdl_syntax.specs.declared.control.Phase.{Phase}
+use Rattle.kdl_syntax.specs.declared.control.Phase.TheVariants.{Gap, EntrySlashdash, BlockSlashdash}
 use Rattle.kdl_layout.specs.Items.{Place, takes_entries}
 
 abbrev pub of_spaces : Token → Bool
@@ -36,7 +38,7 @@ pub data End : Type 0 where
 
 -- the control ends before the text s; the last token so far that is not a node-space ended before `last`
 pub data Stops : Goal → Control → Text → Text → End → Type 0 where
-  returns : {c : Control} {last s r : Text} {k : Token} → BeginsToken s k r → step c k ≡ Some (at gap []) → Stops for_node c last s (returned k s r)
+  returns : {c : Control} {last s r : Text} {k : Token} → BeginsToken s k r → step c k ≡ Some (at Gap []) → Stops for_node c last s (returned k s r)
   ends : {c : Control} {last : Text} → is_gap c ≡ false → finish c ≡ true → Stops for_node c last [] (ended last)
   over : {c : Control} {last s : Text} → is_over c ≡ true → Stops for_part c last s (part_end (is_block c) last)
   word : {c : Control} {last s : Text} → is_word c ≡ true → EndsWord s → Stops for_part c last s (part_end false last)
@@ -59,8 +61,8 @@ PartPasses c last s b u = Passes for_part c last s (part_end b u)
 
 -- the phase after the `/-` in a place of a node
 abbrev pub slashdash_phase : Bool → Phase
-slashdash_phase true = entry_slashdash
-slashdash_phase false = block_slashdash
+slashdash_phase true = EntrySlashdash
+slashdash_phase false = BlockSlashdash
 
 abbrev pub slashdash_in : Place → Control
 slashdash_in p = at (slashdash_phase (takes_entries p)) []

@@ -2,7 +2,8 @@
 use Rattle.std.proofs.Common.{◌≡◌, true, List, [], ◌∷◌, Option, Some, None, option_map, refl, sym, ap, ◌∙◌}
 use Rattle.kdl_text.specs.Chars.{Text}
 use Rattle.kdl_syntax.specs.Tokens.{Token, Lexes, done, next}
-use Rattle.kdl_syntax.specs.Control.{Control, at, gap, step, accepts, held}
+use Rattle.kdl_syntax.specs.Control.{Control, at, step, accepts, held}
+use Rattle.kdl_syntax.specs.declared.control.Phase.TheVariants.{Gap}
 use Rattle.kdl_syntax.specs.NodeControl.{NodeControl, node_start, node_step}
 use Rattle.kdl_diagnostics.specs.TextControl.{TextControl, in_document, in_node, text_step, text_finish, Takes, ends, takes, AcceptsDocument, no_bom, after_bom}
 use Rattle.kdl_grammar.specs.Going.{here, goes}
@@ -24,8 +25,8 @@ lexed (takes {d = d} {k = k} b e a) m q =
     (k ∷ ks, next b l, ap (held (λ c'. accepts c' ks)) f ∙ h)
 
 pub accepted_document : {t : Text} → AcceptsDocument t → Derived t
-accepted_document (no_bom a) = let (ks, l, h) = lexed a (at gap []) refl in let (xs, n) = derives l h in (xs, IsDocumentIn.no_bom n)
-accepted_document (after_bom a) = let (ks, l, h) = lexed a (at gap []) refl in let (xs, n) = derives l h in (xs, IsDocumentIn.after_bom n)
+accepted_document (no_bom a) = let (ks, l, h) = lexed a (at Gap []) refl in let (xs, n) = derives l h in (xs, IsDocumentIn.no_bom n)
+accepted_document (after_bom a) = let (ks, l, h) = lexed a (at Gap []) refl in let (xs, n) = derives l h in (xs, IsDocumentIn.after_bom n)
 
 -- the tokens of a node text
 over_node : {c : TextControl} {t : Text} → Takes c t → (m : NodeControl) → c ≡ in_node m → Passes m t

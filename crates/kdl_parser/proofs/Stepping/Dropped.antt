@@ -1,17 +1,15 @@
 -- Inside what is slashdashed the machine's step is that of the machine without data.
-use Rattle.std.proofs.Common.{◌≡◌, ℕ, true, false, List, [], ◌∷◌, Option, Some, None, option_map, Result, Ok, Err, refl, sym, ap, subst, ◌∙◌}
+use Rattle.std.proofs.Common.{◌≡◌, ℕ, true, false, reverse, List, [], ◌∷◌, Option, Some, None, option_map, Result, Ok, Err, refl, sym, ap, subst, ◌∙◌}
 use Rattle.kdl_text.specs.Chars.{Text}
 use Rattle.kdl_syntax.specs.Control as c
+use Rattle.kdl_syntax.specs.declared.control.{Spot.TheVariants.Fresh, Spot.TheVariants.Spaced, Frame.TheVariants.Node as NodeBlock, Phase.Phase, Frame.Frame as ControlFrame, Word.TheVariants.MayBeKey, Word.TheVariants.NoKey, Owner.TheVariants.Name as OfName}
+use Rattle.kdl_syntax.specs.declared.control.Phase.TheVariants.{Gap, NodeSlashdash, TypeOpen, TypeName, TypeDone, InNode, EntrySlashdash, BlockSlashdash, Kept, KeptSlashdash}
 use Rattle.kdl_syntax.specs.Tokens.{Token, space, string, closing}
 use Rattle.kdl_grammar.specs.Internal.Machine.{Under, Kept as MachineKept, Frame, State, gap, popped, step, finish}
 use Rattle.kdl_grammar.specs.Tree.{Node, Nodes}
 use Rattle.kdl_syntax.specs.declared.token_span.TokenSpan.{TokenSpan}
 use Rattle.kdl_parser.specs.Internal.Building.{under_view, phase_after, phase_placed, reading_view, state_by, state_view, in_phase, phase_now, node_now, kept_now, nodes_now, frames_view}
-use Rattle.kdl_syntax.specs.Internal.Views.{phase_view, control_view, stacked}
-use Rattle.kdl_syntax.specs.declared.control.Phase.{Phase}
-use Rattle.kdl_syntax.specs.declared.control.Phase.TheVariants.{Gap, NodeSlashdash, InNode, EntrySlashdash, BlockSlashdash, Kept, KeptSlashdash}
-use Rattle.kdl_syntax.specs.declared.control.Spot.TheVariants.{Fresh, Spaced}
-use Rattle.kdl_syntax.specs.declared.control.Word.TheVariants.{MayBeKey}
+use Rattle.kdl_syntax.specs.Internal.Views.{control_view}
 use Rattle.kdl_parser.specs.Internal.Counted.{unsliced_at, unsliced_in}
 use Rattle.kdl_parser.specs.Internal.Events.{is_live}
 use Rattle.kdl_parser.specs.Internal.States.{document_now, TakesToken}
@@ -38,48 +36,48 @@ through f g (Some a) = refl
 
 module _ (whole : Text) (l : Option Nodes) (fs : List Frame) (from : Text) where
   -- at the `}` of an inner block
-  at_block_end : (u : Option Under) (g : c.Frame) (gs : List c.Frame) (x : Option MachineKept) (s r : Text)
+  at_block_end : (u : Option Under) (g : ControlFrame) (gs : List ControlFrame) (x : Option MachineKept) (s r : Text)
       → popped whole None (frames u x l fs (g ∷ gs)) from s r ≡ option_map (inside u x l fs from) (c.popped (g ∷ gs))
-  at_block_end u c.in_block [] None s r = refl
+  at_block_end u NodeBlock [] None s r = refl
   at_block_end u g (h ∷ gs) x s r = refl
   at_block_end u g gs x s r = refl
 
   -- in an inner block
-  in_block : (u : Option Under) (x : Option MachineKept) (p : c.Phase) (g : c.Frame) (gs : List c.Frame) (k : Token) (s r : Text) → Steps whole u x l fs from (c.at p (g ∷ gs)) k s r
-  in_block u x (c.type_open false) g gs space s r = refl
-  in_block u x (c.type_name false) g gs space s r = refl
-  in_block u x (c.type_done false) g gs space s r = refl
-  in_block u x (c.in_node (c.fresh false)) g gs space s r = refl
-  in_block u x (c.in_node (c.spaced false)) g gs space s r = refl
-  in_block u x c.gap g gs closing s r = at_block_end u g gs x s r
-  in_block u x c.kept g gs closing s r = at_block_end u g gs x s r
-  in_block u x (c.in_node p) g gs closing s r = at_block_end u g gs x s r
+  in_block : (u : Option Under) (x : Option MachineKept) (p : Phase) (g : ControlFrame) (gs : List ControlFrame) (k : Token) (s r : Text) → Steps whole u x l fs from (c.at p (g ∷ gs)) k s r
+  in_block u x (TypeOpen OfName) g gs space s r = refl
+  in_block u x (TypeName OfName) g gs space s r = refl
+  in_block u x (TypeDone OfName) g gs space s r = refl
+  in_block u x (InNode (Fresh NoKey)) g gs space s r = refl
+  in_block u x (InNode (Spaced NoKey)) g gs space s r = refl
+  in_block u x Gap g gs closing s r = at_block_end u g gs x s r
+  in_block u x Kept g gs closing s r = at_block_end u g gs x s r
+  in_block u x (InNode p) g gs closing s r = at_block_end u g gs x s r
   in_block u x p g gs space s r = refl
   in_block u x p g gs k s r = refl
 
   -- in a slashdashed node, outside of its blocks
-  in_dropped_node : (p : c.Phase) (k : Token) (s r : Text) → is_node_over k (c.at p []) ≡ false → Steps whole None None l fs from (c.at p []) k s r
-  in_dropped_node c.gap closing s r e = absurd cc
-  in_dropped_node c.gap k s r e = absurd cc
-  in_dropped_node (c.type_open false) space s r e = refl
-  in_dropped_node (c.type_name false) space s r e = refl
-  in_dropped_node (c.type_done false) space s r e = refl
-  in_dropped_node (c.in_node (c.fresh false)) space s r e = refl
-  in_dropped_node (c.in_node (c.spaced false)) space s r e = refl
-  in_dropped_node c.kept closing s r e = absurd cc
-  in_dropped_node (c.in_node p) closing s r e = absurd cc
+  in_dropped_node : (p : Phase) (k : Token) (s r : Text) → is_node_over k (c.at p []) ≡ false → Steps whole None None l fs from (c.at p []) k s r
+  in_dropped_node Gap closing s r e = absurd cc
+  in_dropped_node Gap k s r e = absurd cc
+  in_dropped_node (TypeOpen OfName) space s r e = refl
+  in_dropped_node (TypeName OfName) space s r e = refl
+  in_dropped_node (TypeDone OfName) space s r e = refl
+  in_dropped_node (InNode (Fresh NoKey)) space s r e = refl
+  in_dropped_node (InNode (Spaced NoKey)) space s r e = refl
+  in_dropped_node Kept closing s r e = absurd cc
+  in_dropped_node (InNode p) closing s r e = absurd cc
   in_dropped_node p space s r e = refl
   in_dropped_node p k s r e = refl
 
   -- in a slashdashed part of a node, outside of its blocks
-  in_dropped_part : (u : Under) (x : MachineKept) (p : c.Phase) (k : Token) (s r : Text) → c.finish (c.at p []) ≡ false → is_before_node (c.at p []) ≡ false → Steps whole (Some u) (Some x) l fs from (c.at p []) k s r
-  in_dropped_part u x c.gap k s r e f = absurd cc
-  in_dropped_part u x c.node_slashdash k s r e f = absurd cc
-  in_dropped_part u x (c.in_node p) k s r e f = absurd cc
-  in_dropped_part u x c.kept k s r e f = absurd cc
-  in_dropped_part u x (c.type_open false) space s r e f = refl
-  in_dropped_part u x (c.type_name false) space s r e f = refl
-  in_dropped_part u x (c.type_done false) space s r e f = refl
+  in_dropped_part : (u : Under) (x : MachineKept) (p : Phase) (k : Token) (s r : Text) → c.finish (c.at p []) ≡ false → is_before_node (c.at p []) ≡ false → Steps whole (Some u) (Some x) l fs from (c.at p []) k s r
+  in_dropped_part u x Gap k s r e f = absurd cc
+  in_dropped_part u x NodeSlashdash k s r e f = absurd cc
+  in_dropped_part u x (InNode p) k s r e f = absurd cc
+  in_dropped_part u x Kept k s r e f = absurd cc
+  in_dropped_part u x (TypeOpen OfName) space s r e f = refl
+  in_dropped_part u x (TypeName OfName) space s r e f = refl
+  in_dropped_part u x (TypeDone OfName) space s r e f = refl
   in_dropped_part u x p space s r e f = refl
   in_dropped_part u x p k s r e f = refl
 
@@ -126,7 +124,8 @@ still_dropped (part d) Nothing k p n m e = absurd (none_next (c.step d k) part (
 
 -- the text of a string makes no difference
 step_like : (d : c.Control) (v w : Text) → c.step d (string v) ≡ c.step d (string w)
-step_like (c.at c.gap fs) v w = refl
+step_like (c.at (TypeDone OfName) fs) v w = refl
+step_like (c.at (InNode (Fresh x)) fs) v w = refl
 step_like (c.at p fs) v w = refl
 
 next_like : (j k : Token) (d : Reading) → IsLike j k → next k d ≡ next j d
@@ -163,13 +162,13 @@ module _ {N : Type 0} (tree : N → Node) (b : Builder N) (d : Dropped) (k : Tok
   }
 
   -- the first token after a `/-`
-  first_drops : (result : Result (Unit {0}) LexFailure) (new : Builder N) → b.dropped ≡ Nothing → is_live b.phase ≡ false → reading_view d ≡ after_slashdash (phase_view b.phase) → TakesToken tree (record b { dropped = d }) k span result new → TakesToken tree b k span result new
+  first_drops : (result : Result (Unit {0}) LexFailure) (new : Builder N) → b.dropped ≡ Nothing → is_live b.phase ≡ false → reading_view d ≡ after_slashdash b.phase → TakesToken tree (record b { dropped = d }) k span result new → TakesToken tree b k span result new
   first_drops result new f l i x =
       carried tree b (record b { dropped = d }) k span result new refl
       (ap (λ (st : State). step b.source.text st k span.start.rest span.end.rest) (ap (state_by tree b) i ∙ (begins b.phase l).0 ∙ ap (λ (z : Dropped). state_by tree b (reading_view z)) (sym f)))
       (same_count d b.phase _ _ (begins b.phase l).1 ∙ ap (λ (z : Dropped). unsliced_at z b.phase (bytes b.from.rest) (bytes b.parts.from.rest)) (sym f)) x
     where
-      begins : (p : Phase) → is_live p ≡ false → (state_by tree b (after_slashdash (phase_view p)) ≡ in_phase tree b (phase_now tree b p)) × ((n m : ℕ) → n ≡ unsliced_in p n m)
+      begins : (p : Phase) → is_live p ≡ false → (state_by tree b (after_slashdash p) ≡ in_phase tree b (phase_now tree b p)) × ((n m : ℕ) → n ≡ unsliced_in p n m)
       begins NodeSlashdash e = (refl, λ n m. refl)
       begins EntrySlashdash e = (refl, λ n m. refl)
       begins BlockSlashdash e = (refl, λ n m. refl)
@@ -189,7 +188,7 @@ module _ {N : Type 0} (tree : N → Node) (b : Builder N) (d : Dropped) (j : Tok
   refuses_like a e f k i = drop_refused tree b d k span a (over_like j k (reading_view b.dropped) i ∙ e) (next_like j k (reading_view b.dropped) i ∙ f)
 
   -- the first token after a `/-`
-  pub first_like : (result : Result (Unit {0}) LexFailure) (new : Builder N) → b.dropped ≡ Nothing → is_live b.phase ≡ false → reading_view d ≡ after_slashdash (phase_view b.phase) → TakesLike tree (record b { dropped = d }) j span result new → TakesLike tree b j span result new
+  pub first_like : (result : Result (Unit {0}) LexFailure) (new : Builder N) → b.dropped ≡ Nothing → is_live b.phase ≡ false → reading_view d ≡ after_slashdash b.phase → TakesLike tree (record b { dropped = d }) j span result new → TakesLike tree b j span result new
   first_like result new f l i x k y = first_drops tree b d k span result new f l i (x k y)
 
 over_reading : (k : Token) (d : Reading) → is_over k d ≡ true → is_reading d ≡ true
@@ -203,13 +202,13 @@ module _ {N : Type 0} (tree : N → Node) (b : Builder N) (u : CodeUnder) (f : u
 
   node_over : (d : c.Control) (k : Token) → is_node_over k d ≡ true → let st = inside None None (nodes_now tree b) (frames_view tree b) b.from.rest d in
       ((s r : Text) → step b.source.text (in_phase tree b gap) k s r ≡ step b.source.text st k s r) × (finish b.source.text (in_phase tree b gap) ≡ finish b.source.text st)
-  node_over (c.at c.gap []) k e = (λ s r. refl, refl)
-  node_over (c.at c.kept []) closing e = (λ s r. refl, refl)
-  node_over (c.at (c.in_node p) []) closing e = (λ s r. refl, refl)
+  node_over (c.at Gap []) k e = (λ s r. refl, refl)
+  node_over (c.at Kept []) closing e = (λ s r. refl, refl)
+  node_over (c.at (InNode p) []) closing e = (λ s r. refl, refl)
   node_over (c.at p fs) closing e = absurd cc
   node_over (c.at p fs) k e = absurd cc
 
-  part_ends : (p : Phase) (fs : List c.Frame) → c.finish (c.at (phase_view p) fs) ≡ true → in_phase tree (ended p) (phase_now tree (ended p) p) ≡ inside (Some (node_now b)) (Some (kept_now tree b)) (nodes_now tree b) (frames_view tree b) b.from.rest (c.at (phase_view p) fs)
+  part_ends : (p : Phase) (fs : List ControlFrame) → c.finish (c.at p fs) ≡ true → in_phase tree (ended p) (phase_now tree (ended p) p) ≡ inside (Some (node_now b)) (Some (kept_now tree b)) (nodes_now tree b) (frames_view tree b) b.from.rest (c.at p fs)
   part_ends Gap [] e = refl
   part_ends (InNode (Fresh MayBeKey)) [] e = rw f refl
   part_ends (InNode (Spaced MayBeKey)) [] e = rw f refl
@@ -222,11 +221,11 @@ module _ {N : Type 0} (tree : N → Node) (b : Builder N) (u : CodeUnder) (f : u
   same_over Nothing k e = absurd cc
   same_over (DroppedNode d) k e = node_over (control_view d) k e
   same_over (DroppedPart q) k e =
-      let same = part_ends q.control.phase (stacked [] q.control.frames.items) e in
+      let same = part_ends q.control.phase (reverse q.control.frames.items) e in
       (λ s r. ap (λ (st : State). step b.source.text st k s r) same, ap (finish b.source.text) same)
 
   -- its phase is none after a `/-`, and none inside a type or after a `=`
-  live_end : (p : Phase) (fs : List c.Frame) → c.finish (c.at (phase_view p) fs) ≡ true → (is_live p ≡ true) × ((t s : Text) → phase_placed t (phase_now tree (ended p) p) s) × ((n m : ℕ) → unsliced_in p n m ≡ n)
+  live_end : (p : Phase) (fs : List ControlFrame) → c.finish (c.at p fs) ≡ true → (is_live p ≡ true) × ((t s : Text) → phase_placed t (phase_now tree (ended p) p) s) × ((n m : ℕ) → unsliced_in p n m ≡ n)
   live_end Gap fs e = (refl, (λ t s. tt), λ n m. refl)
   live_end Kept fs e = (refl, (λ t s. tt), λ n m. refl)
   live_end (InNode (Fresh w)) fs e = (refl, (λ t s. tt), λ n m. refl)
@@ -236,7 +235,7 @@ module _ {N : Type 0} (tree : N → Node) (b : Builder N) (u : CodeUnder) (f : u
   live_after : (d : Dropped) (k : Token) → is_over k (reading_view d) ≡ true → let p = phase_after d in (is_live p ≡ true) × ((t s : Text) → phase_placed t (phase_now tree (ended p) p) s) × ((n m : ℕ) → unsliced_in p n m ≡ n)
   live_after Nothing k e = absurd cc
   live_after (DroppedNode d) k e = live_end Gap [] refl
-  live_after (DroppedPart q) k e = live_end q.control.phase (stacked [] q.control.frames.items) e
+  live_after (DroppedPart q) k e = live_end q.control.phase (reverse q.control.frames.items) e
 
   pub leaves : (k : Token) (p : Phase) → is_over k (reading_view b.dropped) ≡ true → p ≡ phase_after b.dropped → Leaves tree b (ended p)
   leaves k p e g = subst (λ (q : Phase). Leaves tree b (ended q)) (sym g) (record {

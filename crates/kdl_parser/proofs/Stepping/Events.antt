@@ -2,12 +2,7 @@
 use Rattle.std.proofs.Common.{◌≡◌, ℕ, true, ◌++◌, Option, Some, None, Result, refl, sym, ap, subst, ◌∙◌}
 use Rattle.kdl_text.specs.Chars.{Text}
 use Rattle.kdl_text.specs.Spans.{bytes}
-use Rattle.kdl_syntax.specs.Internal.Events.{event_of}
-use Rattle.kdl_syntax.specs.declared.control.Owner.TheVariants.{Name}
-use Rattle.kdl_syntax.specs.declared.control.Phase.{Phase}
-use Rattle.kdl_syntax.specs.declared.control.Phase.TheVariants.{Gap, NodeSlashdash, TypeOpen, TypeName, TypeDone, InNode, EntrySlashdash, BlockSlashdash, KeptSlashdash}
-use Rattle.kdl_syntax.specs.declared.control.Spot.TheVariants.{Fresh, Spaced}
-use Rattle.kdl_syntax.specs.declared.control.Word.TheVariants.{MayBeKey}
+use Rattle.kdl_syntax.specs.Control.{event_of}
 use Rattle.kdl_syntax.specs.declared.events.Event.{Event}
 use Rattle.kdl_syntax.specs.declared.events.Event.TheVariants.{Name as NodeName}
 use Rattle.kdl_entry.proofs.Slicing.Between.{is_between}
@@ -28,6 +23,8 @@ use Rattle.kdl_parser.specs.Internal.States.{step_at, step_in, TakesIn, TakesTok
 use Rattle.kdl_parser.specs.declared.builder.Builder.{Builder}
 use Rattle.kdl_parser.specs.declared.builder.dropping.Dropped.{Dropped}
 use Rattle.kdl_parser.specs.declared.builder.dropping.Dropped.TheVariants.{Nothing}
+use Rattle.kdl_syntax.specs.declared.control.{Spot.TheVariants.Fresh, Spot.TheVariants.Spaced, Phase.Phase, Word.TheVariants.MayBeKey, Owner.TheVariants.Name}
+use Rattle.kdl_syntax.specs.declared.control.Phase.TheVariants.{Gap, NodeSlashdash, TypeOpen, TypeName, TypeDone, InNode, EntrySlashdash, BlockSlashdash, KeptSlashdash}
 
 -- the state after the event, if there is one
 abbrev pub stepped_by : {N : Type 0} → (N → Node) → Builder N → Option Event → Token → TokenSpan → Option State

@@ -1,11 +1,12 @@
 -- Where the place under way and the place in a type or after `=` began lies before the text that is left.
-use Rattle.std.proofs.Common.{◌≡◌, true, false, List, [], ◌∷◌, Option, Some, None, subst}
+use Rattle.std.proofs.Common.{◌≡◌, List, [], ◌∷◌, Option, Some, None, subst}
 use Rattle.kdl_text.specs.Chars.{Text}
 use Rattle.kdl_entry.proofs.Slicing.Between.{in_order_here, in_order_on, then_ends}
 use Rattle.kdl_syntax.specs.Tokens.{Token, space, newline, string, value, left, right, opening, closing, equals, semicolon}
 use Rattle.kdl_grammar.specs.Internal.Machine.{Under, Kept, Slot, no_name, for_name, no_value, for_value, pending, fresh, spaced, Phase, gap, type_open, type_name, type_done, in_node, property, kept, Frame, in_block, in_dropped, in_later, State, at, origin, kept_text, moved, popped, step}
 use Rattle.kdl_parser.specs.Internal.Building.{node_now, kept_now, nodes_now, frames_view, phase_now, reading_view, state_view, EndsIn, InOrder, place_placed, phase_placed, Placed}
 use Rattle.kdl_syntax.specs.Control as c
+use Rattle.kdl_syntax.specs.declared.control.{Owner.TheVariants.Name as OfName, Owner.TheVariants.Value as OfValue}
 use Rattle.kdl_grammar.specs.Tree.{Node, Nodes}
 use Rattle.kdl_parser.specs.Internal.Dropping.{Reading, nothing, node, part, reading_state}
 use Rattle.kdl_parser.specs.declared.builder.Builder.{Builder}
@@ -60,8 +61,8 @@ module _ (whole s r : Text) (v : EndsIn whole s) (b : EndsIn s r) where
   all_placed (type_name f c q i d) right l fs from a y = (a, place_here c)
   all_placed (type_done f c q i e d) space l fs from a y = (a, place_on c d y)
   all_placed (type_done f c q i e d) (string v) l fs from a y = (moved_ends c a, tt)
-  all_placed (type_done true c q i e d) (value v) l fs from a y = (moved_ends c a, tt)
-  all_placed (type_done false c q i e d) (value v) l fs from a y = tt
+  all_placed (type_done OfValue c q i e d) (value v) l fs from a y = (moved_ends c a, tt)
+  all_placed (type_done OfName c q i e d) (value v) l fs from a y = tt
   all_placed (property c i e d) space l fs from a y = (a, place_on c d y)
   all_placed (property c i e d) (string v) l fs from a y = (moved_ends _ a, tt)
   all_placed (property c i e d) (value v) l fs from a y = (moved_ends _ a, tt)

@@ -2,14 +2,7 @@
 use Rattle.std.specs.Prelude.{◌≡◌, List, [], ◌∷◌, map, Option, Some, None, option_map, Result, Ok, Err}
 use Rattle.std.specs.Global.{Box}
 use Rattle.kdl_text.specs.Chars.{Text}
-use Rattle.kdl_syntax.specs.Internal.Views.{owner_view, control_view}
-use Rattle.kdl_syntax.specs.declared.control.Owner.{Owner}
-use Rattle.kdl_syntax.specs.declared.control.Owner.TheVariants.{Name, Value}
-use Rattle.kdl_syntax.specs.declared.control.Phase.{Phase}
-use Rattle.kdl_syntax.specs.declared.control.Phase.TheVariants.{Gap, NodeSlashdash, TypeOpen, TypeName, TypeDone, InNode, Property, EntrySlashdash, BlockSlashdash, Kept, KeptSlashdash}
-use Rattle.kdl_syntax.specs.declared.control.Spot.TheVariants.{Fresh, Spaced, Later}
-use Rattle.kdl_syntax.specs.declared.control.Word.{Word}
-use Rattle.kdl_syntax.specs.declared.control.Word.TheVariants.{MayBeKey, NoKey}
+use Rattle.kdl_syntax.specs.Internal.Views.{control_view}
 use Rattle.kdl_entry.specs.Internal.Building.{type_view, parts_view}
 use Rattle.kdl_entry.specs.declared.parsing.parts.TypeParts.{TypeParts}
 use Rattle.kdl_value.specs.Data.{text}
@@ -32,6 +25,9 @@ use Rattle.kdl_parser.specs.declared.builder.Under.{Under}
 use Rattle.kdl_parser.specs.declared.builder.WaitingWord.{WaitingWord}
 use Rattle.kdl_parser.specs.declared.builder.dropping.Dropped.{Dropped}
 use Rattle.kdl_parser.specs.declared.builder.dropping.Dropped.TheVariants.{Nothing, Node as DroppedNode, Part as DroppedPart}
+use Rattle.kdl_syntax.specs.declared.control.{Phase.Phase, Word.Word, Owner.Owner, Word.TheVariants.MayBeKey, Word.TheVariants.NoKey, Owner.TheVariants.Name, Owner.TheVariants.Value}
+use Rattle.kdl_syntax.specs.declared.control.Phase.TheVariants.{Gap, NodeSlashdash, TypeOpen, TypeName, TypeDone, InNode, Property, EntrySlashdash, BlockSlashdash, Kept, KeptSlashdash}
+use Rattle.kdl_syntax.specs.declared.control.Spot.TheVariants.{Fresh, Spaced, Later}
 
 -- a type on the heap
 abbrev pub boxed_type : Box TypeParts → under_way.TypeParts
@@ -93,9 +89,9 @@ kept_now tree b = kept_of tree b (node_now b)
 abbrev pub phase_now : {N : Type 0} → (N → Node) → Builder N → Phase → machine.Phase
 phase_now tree b Gap = machine.gap
 phase_now tree b NodeSlashdash = machine.node_slashdash
-phase_now tree b (TypeOpen o) = machine.type_open (owner_view o) (slot_of o (under_view b.under) (parts_view b.parts)) b.parts.from.rest
-phase_now tree b (TypeName o) = machine.type_name (owner_view o) (slot_of o (under_view b.under) (parts_view b.parts)) (text_of b.parts.before) (identifier_tree b.parts.name) b.parts.from.rest
-phase_now tree b (TypeDone o) = machine.type_done (owner_view o) (slot_of o (under_view b.under) (parts_view b.parts)) (text_of b.parts.before) (identifier_tree b.parts.name) (text_of b.parts.after) b.parts.from.rest
+phase_now tree b (TypeOpen o) = machine.type_open o (slot_of o (under_view b.under) (parts_view b.parts)) b.parts.from.rest
+phase_now tree b (TypeName o) = machine.type_name o (slot_of o (under_view b.under) (parts_view b.parts)) (text_of b.parts.before) (identifier_tree b.parts.name) b.parts.from.rest
+phase_now tree b (TypeDone o) = machine.type_done o (slot_of o (under_view b.under) (parts_view b.parts)) (text_of b.parts.before) (identifier_tree b.parts.name) (text_of b.parts.after) b.parts.from.rest
 phase_now tree b (InNode (Fresh w)) = machine.in_node (Some (node_now b)) (machine.fresh (pending_now w b.source.text b.from.rest b.waiting (under_view b.under)))
 phase_now tree b (InNode (Spaced w)) = machine.in_node (Some (node_now b)) (machine.spaced (pending_now w b.source.text b.from.rest b.waiting (under_view b.under)))
 phase_now tree b (InNode Later) = machine.in_node (Some (node_now b)) machine.later

@@ -4,38 +4,42 @@ use Rattle.std.specs.Prelude.{◌≡◌, Bool, true, false, List, [], ◌∷◌,
 use Rattle.kdl_text.specs.Chars.{Text}
 use Rattle.kdl_entry.specs.Tree.{plain_identifier}
 use Rattle.kdl_syntax.specs.Control as c
+use Rattle.kdl_syntax.specs.declared.control.{Phase.Phase as ControlPhase, Spot.Spot as ControlSpot, Frame.Frame as ControlFrame, Word.Word as ControlWord, Owner.Owner, Word.TheVariants.MayBeKey, Word.TheVariants.NoKey, Owner.TheVariants.Name as OfName, Owner.TheVariants.Value as OfValue}
+use Rattle.kdl_syntax.specs.declared.control.Phase.TheVariants.{Gap, NodeSlashdash, TypeOpen, TypeName, TypeDone, InNode, Property, EntrySlashdash, BlockSlashdash, Kept as KeptPhase, KeptSlashdash}
+use Rattle.kdl_syntax.specs.declared.control.Spot.TheVariants.{Fresh, Spaced, Later}
+use Rattle.kdl_syntax.specs.declared.control.Frame.TheVariants.{Node as NodeBlock, Dropped as DroppedBlock, Later as LaterBlock}
 use Rattle.kdl_syntax.specs.Tokens.{Token, closing}
 use Rattle.kdl_grammar.specs.Internal.Machine.{Under, Kept, Slot, no_name, no_value, pending, Pending, Spot, fresh, spaced, later, Phase, gap, node_slashdash, type_open, type_name, type_done, in_node, property, entry_slashdash, block_slashdash, kept, kept_slashdash, Frame, in_block, in_dropped, in_later, State, at}
 use Rattle.kdl_grammar.specs.Tree.{Nodes}
 
 -- the slot of what has a type: a name, unless it is in a node
-abbrev pub slot : Bool → Option Under → Slot
-slot false None = no_name
-slot false (Some u) = no_value (Some u)
-slot true u = no_value u
+abbrev pub slot : Owner → Option Under → Slot
+slot OfName None = no_name
+slot OfName (Some u) = no_value (Some u)
+slot OfValue u = no_value u
 
 -- a slashdashed string that may be a key
-abbrev pub word : Bool → Option Under → Option Pending
-word false u = None
-word true u = Some (pending (no_value u) (plain_identifier []) [])
+abbrev pub word : ControlWord → Option Under → Option Pending
+word NoKey u = None
+word MayBeKey u = Some (pending (no_value u) (plain_identifier []) [])
 
-abbrev pub spot : Option Under → c.Spot → Spot
-spot u (c.fresh b) = fresh (word b u)
-spot u (c.spaced b) = spaced (word b u)
-spot u c.later = later
+abbrev pub spot : Option Under → ControlSpot → Spot
+spot u (Fresh b) = fresh (word b u)
+spot u (Spaced b) = spaced (word b u)
+spot u Later = later
 
-abbrev pub phase : Option Under → Option Kept → c.Phase → Phase
-phase u x c.gap = gap
-phase u x c.node_slashdash = node_slashdash
-phase u x (c.type_open b) = type_open b (slot b u) []
-phase u x (c.type_name b) = type_name b (slot b u) [] (plain_identifier []) []
-phase u x (c.type_done b) = type_done b (slot b u) [] (plain_identifier []) [] []
-phase u x (c.in_node p) = in_node u (spot u p)
-phase u x c.property = property (no_value u) (plain_identifier []) [] []
-phase u x c.entry_slashdash = entry_slashdash u
-phase u x c.block_slashdash = block_slashdash u
-phase u x c.kept = kept x
-phase u x c.kept_slashdash = kept_slashdash x
+abbrev pub phase : Option Under → Option Kept → ControlPhase → Phase
+phase u x Gap = gap
+phase u x NodeSlashdash = node_slashdash
+phase u x (TypeOpen b) = type_open b (slot b u) []
+phase u x (TypeName b) = type_name b (slot b u) [] (plain_identifier []) []
+phase u x (TypeDone b) = type_done b (slot b u) [] (plain_identifier []) [] []
+phase u x (InNode p) = in_node u (spot u p)
+phase u x Property = property (no_value u) (plain_identifier []) [] []
+phase u x EntrySlashdash = entry_slashdash u
+phase u x BlockSlashdash = block_slashdash u
+phase u x KeptPhase = kept x
+phase u x KeptSlashdash = kept_slashdash x
 
 -- the block of the node x, which is built if there is one; else that of a slashdashed node
 abbrev pub block_of : Option Kept → Option Nodes → Frame
@@ -43,13 +47,13 @@ block_of None l = in_block None [] l
 block_of (Some x) l = in_later (Some x) l
 
 -- the outermost block inside what is slashdashed, with the nodes around it
-abbrev pub outermost : c.Frame → Option Under → Option Kept → Option Nodes → Frame
-outermost c.in_block u x l = block_of x l
-outermost c.in_dropped u x l = in_dropped u l
-outermost c.in_later u x l = in_later x l
+abbrev pub outermost : ControlFrame → Option Under → Option Kept → Option Nodes → Frame
+outermost NodeBlock u x l = block_of x l
+outermost DroppedBlock u x l = in_dropped u l
+outermost LaterBlock u x l = in_later x l
 
 -- the open blocks inside what is slashdashed, and those around it
-abbrev pub frames : Option Under → Option Kept → Option Nodes → List Frame → List c.Frame → List Frame
+abbrev pub frames : Option Under → Option Kept → Option Nodes → List Frame → List ControlFrame → List Frame
 frames u x l fs [] = fs
 frames u x l fs (g ∷ []) = outermost g u x l ∷ fs
 frames u x l fs (g ∷ h ∷ gs) = outermost g None None None ∷ frames u x l fs (h ∷ gs)
@@ -66,7 +70,7 @@ is_node_over k d = c.is_gap d
 
 -- after a `/-` between nodes
 abbrev pub is_before_node : c.Control → Bool
-is_before_node (c.at c.node_slashdash []) = true
+is_before_node (c.at NodeSlashdash []) = true
 is_before_node _ = false
 
 -- what is slashdashed and being read: nothing, a node, or a part of the current node
@@ -81,8 +85,8 @@ is_reading nothing = false
 is_reading _ = true
 
 -- what is slashdashed, directly after the `/-` of the phase
-abbrev pub after_slashdash : c.Phase → Reading
-after_slashdash c.node_slashdash = node (c.at c.node_slashdash [])
+abbrev pub after_slashdash : ControlPhase → Reading
+after_slashdash NodeSlashdash = node (c.at NodeSlashdash [])
 after_slashdash p = part (c.at p [])
 
 -- it is over before the token

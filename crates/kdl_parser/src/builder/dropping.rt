@@ -51,7 +51,6 @@ pub(super) enum Dropped {
 
 impl Dropped {
     ghost use Rattle.kdl_syntax.specs.Control as control;
-    ghost use Rattle.kdl_syntax.specs.Internal.Views.{phase_view};
     ghost use Rattle.kdl_syntax.specs.Internal.Handed.{kind_view};
     ghost use Rattle.kdl_parser.specs.Internal.Building.{phase_after, reading_view};
     ghost use Rattle.kdl_parser.specs.Internal.Dropping.{after_slashdash, is_over, next, part};
@@ -59,7 +58,7 @@ impl Dropped {
 
     /// What is slashdashed, directly after the `/-` of the phase.
     fn after_slashdash(alloc: Global, phase: Phase) -> Self
-        ensures { reading_view result ≡ after_slashdash (phase_view phase) }
+        ensures { reading_view result ≡ after_slashdash phase }
     {
         match phase {
             Phase::NodeSlashdash => Dropped::Node(Control::new(alloc, phase)),
@@ -69,8 +68,8 @@ impl Dropped {
 
     /// A slashdashed part of a node, in the phase.
     pub(super) fn part(alloc: Global, phase: Phase) -> Self
-        requires { is_before_node (control.at (phase_view phase) []) ≡ false }
-        ensures { reading_view result ≡ part (control.at (phase_view phase) []) }
+        requires { is_before_node (control.at phase []) ≡ false }
+        ensures { reading_view result ≡ part (control.at phase []) }
     {
         Dropped::Part(DroppedPart {
             control: Control::new(alloc, phase),

@@ -26,10 +26,11 @@ use Rattle.kdl_grammar.specs.Tree.{NodeFormat, Node, node, Children, no_children
 use Rattle.kdl_grammar.proofs.Reading.Complete.{Tail, tail_of, Fills, value_fills, by_string, read_filled, read_item, entry_of, read_end, read_name, read_blocks, read_later, read_nodes, placed, lines_gap}
 use Rattle.kdl_grammar.proofs.Laying.LaidIsDerived.{dropped_first, no_block_of, block_of, later_of, plain_of, braced_of, first_entry, name_of, children_of, nodes_of, content_of}
 use Rattle.kdl_grammar.proofs.Reading.Erased.{answers_det}
+use Rattle.kdl_syntax.specs.declared.control.{Owner.Owner, Owner.TheVariants.Name as OfName}
 
 module _ (whole : Text) where
   -- the type that the machine keeps is the one that is laid
-  type_same : {kind : Bool} {b a h s t r : Text} {ty : Option Identifier} {v : Value} (y : LaidType true whole ty b a h s t) (d : Fills kind t r v)
+  type_same : {kind : Owner} {b a h s t r : Text} {ty : Option Identifier} {v : Value} (y : LaidType true whole ty b a h s t) (d : Fills kind t r v)
       → SameType (read_filled whole {b = kind} (maybe_type true whole y) d).type ty b a h
   unfolding read_filled maybe_type
   type_same no_type d = record { name = refl; before = refl; after = refl; following = refl }
@@ -141,7 +142,7 @@ module _ (whole : Text) where
   -- the first node is made of its parts, and those after it stay
   node_then_same : {s t m w r v q : Text} {n : Text} {y : Option Text} {es : List entry_data'.Entry} {k : data'.Children} {xs : data'.Nodes} (g : Gap true s t) (y' : MaybeType true t m y) (z : IsString true m w n) (d : AfterName true w r es k) (e : Terminator r v) (ds : AreNodes true v q xs)
       → ((read_nodes whole (node_then g (named y' z d) e ds)).tree
-      ≡ first (node_at whole (record { leading = between s t; start = t; ty = (read_filled whole {b = false} y' (by_string z)).type; name = identifier_at whole n m w; entries = (read_name whole d e w no_star).entries }) (read_name whole d e w no_star).tail.k (read_name whole d e w no_star).tail.before (read_name whole d e w no_star).tail.place (read_name whole d e w no_star).tail.end r) (read_nodes whole ds).tree)
+      ≡ first (node_at whole (record { leading = between s t; start = t; ty = (read_filled whole {b = OfName} y' (by_string z)).type; name = identifier_at whole n m w; entries = (read_name whole d e w no_star).entries }) (read_name whole d e w no_star).tail.k (read_name whole d e w no_star).tail.before (read_name whole d e w no_star).tail.place (read_name whole d e w no_star).tail.end r) (read_nodes whole ds).tree)
       × ((read_nodes whole (node_then g (named y' z d) e ds)).last ≡ (read_nodes whole ds).last)
   unfolding read_nodes
   node_then_same g y' z d e ds = (refl, refl)
@@ -192,7 +193,7 @@ module _ (whole : Text) where
     nodes_same (a_node {leading = leading} {s = s} {t = t} {u = r'} {at = at} l (laid_node {u = w} y n es k) e z ns) g =
         let Y = read_name whole (name_of true whole es (children_of true whole k)) e.is w no_star in
         let a = node_then_same l.is (maybe_type true whole y) (string_of true whole n) (name_of true whole es (children_of true whole k)) e.is (nodes_of true whole ns g) in
-        let T = type_same {kind = false} y (by_string (string_of true whole n)) in
+        let T = type_same {kind = OfName} y (by_string (string_of true whole n)) in
         let b = T.name in
         let c = T.before in
         let d = T.after in

@@ -3,7 +3,8 @@ use Rattle.std.specs.Str.{chars}
 use Rattle.kdl_text.specs.Internal.Here.{Here}
 use Rattle.kdl_syntax.specs.Internal.Views.{control_view}
 use Rattle.kdl_syntax.specs.Internal.Handed.{kind_view}
-use Rattle.kdl_syntax.specs.Control.{at, node_slashdash}
+use Rattle.kdl_syntax.specs.Control.{at}
+use Rattle.kdl_syntax.specs.declared.control.Phase.TheVariants.{NodeSlashdash}
 use Rattle.kdl_layout.specs.Internal.Passing.{for_node}
 use Rattle.kdl_layout.proofs.Dropping.Paths.{node_on}
 use Rattle.kdl_layout.proofs.Dropping.TokenLoop.{Goes, node_starts, refused_on, goes_further, node_stops, faulty, refused_here, node_returns, token_places, token_ends, cut_shorter}
@@ -48,4 +49,4 @@ tokens-preserved c =
     let h = rw c.in-Ok-Some.field-0-is at c.in-Ok-Some.ensures.lexed in
     let f = rw c.if-not-branch.false at c.in_ok-take.ensures in
     let x = sym c.is_between_nodes.ensures ∙ c.if-is_between_nodes.false in
-    subst (λ (n : ℕ). Goes for_node (at node_slashdash []) c.next.new.self (control_view c.take.new.self) (chars c.args.text.now) n) (sym c.end_after-last.ensures) (goes_further c.tokens.invariant c.in-Ok-Some.token h c.next.ensures.moves f (node_on (control_view c.tokens.control) (kind_view c.in-Ok-Some.token.kind) f x) x)
+    subst (λ (n : ℕ). Goes for_node (at NodeSlashdash []) c.next.new.self (control_view c.take.new.self) (chars c.args.text.now) n) (sym c.end_after-last.ensures) (goes_further c.tokens.invariant c.in-Ok-Some.token h c.next.ensures.moves f (node_on (control_view c.tokens.control) (kind_view c.in-Ok-Some.token.kind) f x) x)
