@@ -219,11 +219,6 @@ impl fmt::Display for KdlNode {
 }
 
 /// Returns a copy with the same texts and spans, at each depth, or an error if an allocation fails.
-///
-/// ```
-/// let node = KdlNode::parse(alloc, "a 1")?;
-/// let same = node.clone()? == node; // true
-/// ```
 impl Clone for KdlNode {
     ghost is_clone = { λ v w. node_tree w ≡ node_tree v };
 

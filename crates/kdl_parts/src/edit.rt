@@ -23,12 +23,9 @@ pub fn push(entries: &mut Vec<KdlEntry>, entry: KdlEntry) -> Result<(), (KdlEntr
     }
 }
 
-/// Inserts the entry under the key. Under a name, an entry without a name gets that name; the entry replaces the last
-/// property whose name has that value, which is returned, and is appended if there is none. Under an index, the entry
-/// is inserted directly before the argument at that place among the arguments, or appended if there is none.
-///
-/// A replacement does not allocate. If an allocation fails, returns the entry in the error, with the key for its name
-/// if it had none, and leaves the entries unchanged.
+/// Inserts the entry under the key, as `KdlNode::insert` does: in place of the last property of that name, which is
+/// returned, or before that argument; last if there is none. A replacement does not allocate. If an allocation fails,
+/// returns the entry in the error, with the key for its name if it had none, and leaves the entries unchanged.
 pub fn insert(
     entries: &mut Vec<KdlEntry>,
     key: NodeKey,

@@ -58,11 +58,6 @@ impl KdlNodeFormat {
 }
 
 /// Returns a copy with the same texts, or an error if an allocation fails.
-///
-/// ```
-/// let format = KdlNodeFormat::new(alloc);
-/// let same = format.clone()? == format; // true
-/// ```
 impl Clone for KdlNodeFormat {
     ghost is_clone = { λ v w. node_format_tree w ≡ node_format_tree v };
 
@@ -119,11 +114,6 @@ impl KdlDocumentFormat {
 }
 
 /// Returns a copy with the same texts, or an error if an allocation fails.
-///
-/// ```
-/// let format = KdlDocumentFormat::new(alloc);
-/// let same = format.clone()? == format; // true
-/// ```
 impl Clone for KdlDocumentFormat {
     ghost is_clone = { λ v w. document_format_tree w ≡ document_format_tree v };
 

@@ -1,4 +1,5 @@
-//! Look-ups among the entries of a node, by the name of a property or by the place of an argument.
+//! Look-ups among the entries of a node, by the name of a property or by the place of an argument. A key finds the last
+//! property whose name has its value, or the argument at its place among the arguments.
 
 ghost use Rattle.kdl_parts.specs.EntryLists.{argument_at, found, has_name, held_value, is_argument, last_place, nth_place, property_named, value_of};
 ghost use Rattle.kdl_parts.specs.Written.{entries_row, set_value_at, with_argument_value, with_found, with_found_value, HasProperty};
@@ -14,8 +15,7 @@ use crate::places::{last_property, nth_argument, place};
 use kdl_entry::{KdlEntry, KdlIdentifier, KdlValue};
 use std::alloc::AllocError;
 
-/// Returns the entry that the key finds: the last property whose name has the key's value, or the argument at the key's
-/// place among the arguments.
+/// Returns the entry that the key finds.
 pub fn entry(entries: &[KdlEntry], key: NodeKey) -> Option<&KdlEntry>
     ensures { option_map (λ e. e.now) result ≡ found key entries.now }
 {
@@ -98,9 +98,8 @@ pub fn has_property(entries: &[KdlEntry], name: &str) -> bool
     last_property(entries, name).is_some()
 }
 
-/// Returns the place of the last property of that name. If there is none, first appends one with the value null. If an
-/// allocation for it fails, returns an error and leaves the entries unchanged. An existing property is found without
-/// allocating.
+/// Returns the place of the last property of that name. If there is none, first appends one with the value null; only
+/// this allocates. If an allocation fails, returns an error and leaves the entries unchanged.
 pub fn property_or_null(entries: &mut Vec<KdlEntry>, name: &str) -> Result<usize, AllocError>
     ensures found { IfOk result (λ i. HasProperty (last_place (has_name name.now) entries.old.items)
         name.now entries.old i entries.new) }
