@@ -2,18 +2,17 @@
 use Rattle.std.proofs.Common.{◌≡◌, List, [], ◌∷◌, ◌++◌, map, ap, ◌∙◌, sym, refl, append_assoc, None, Some}
 use Rattle.std.proofs.lemmas.List.{map-append}
 use Rattle.kdl_grammar.specs.Tree.{Node, node, children}
-use Rattle.kdl.specs.Internal.Copied.{with_children, with_block, closed, outermost}
+use Rattle.kdl.specs.Internal.Copied.{CopyFrame, with_children, with_block, closed, outermost}
 use Rattle.kdl.specs.Tree.{head_tree, node_tree}
 use Rattle.kdl.specs.declared.node.KdlNode.{KdlNode}
 use Rattle.kdl.specs.declared.document.KdlDocument.{KdlDocument}
 use Rattle.kdl.specs.declared.document.KdlDocument.TheViews.{out-KdlDocument, out-KdlNode}
-use Rattle.kdl.specs.declared.clone.CopyFrame.{CopyFrame}
 use Rattle.kdl.proofs.Trees.{document_tree_out, node_tree_out}
 
 -- one more block that is open
-outermost_more : (os : List CopyFrame) (o : CopyFrame) (ns : List Node) → outermost (os ++ o ∷ []) ns ≡ outermost os (closed o ns ++ map node_tree o.following.now)
+outermost_more : (os : List CopyFrame) (o : CopyFrame) (ns : List Node) → outermost (os ++ o ∷ []) ns ≡ outermost os (closed o ns ++ map node_tree o.0.following.now)
 outermost_more [] o ns = refl
-outermost_more (p ∷ os) o ns = ap (λ z. closed p z ++ map node_tree p.following.now) (outermost_more os o ns)
+outermost_more (p ∷ os) o ns = ap (λ z. closed p z ++ map node_tree p.0.following.now) (outermost_more os o ns)
 
 -- a node with the children that it has
 pub none_copied : (n : KdlNode) → (out-KdlNode n).children ≡ None → with_children n None ≡ node_tree n
@@ -35,15 +34,15 @@ line_made made made' n c rest e k =
     ∙ append_assoc (map node_tree made) (node_tree n ∷ []) rest
 
 -- a block is opened
-pub block_opened : (o : CopyFrame) (above : List CopyFrame) → (out-KdlNode o.node.now).children ≡ Some o.block.now
-    → outermost (above ++ o ∷ []) (map node_tree (out-KdlDocument o.block.now).nodes.items) ≡ outermost above (map node_tree o.before.items ++ (node_tree o.node.now ∷ map node_tree o.following.now))
+pub block_opened : (o : CopyFrame) (above : List CopyFrame) → (out-KdlNode o.0.node.now).children ≡ Some o.0.block.now
+    → outermost (above ++ o ∷ []) (map node_tree (out-KdlDocument o.0.block.now).nodes.items) ≡ outermost above (map node_tree o.1.items ++ (node_tree o.0.node.now ∷ map node_tree o.0.following.now))
 block_opened o above e =
-    outermost_more above o (map node_tree (out-KdlDocument o.block.now).nodes.items)
-    ∙ ap (λ t. outermost above ((map node_tree o.before.items ++ t ∷ []) ++ map node_tree o.following.now)) (block_copied o.node.now o.block.now e)
-    ∙ ap (outermost above) (append_assoc (map node_tree o.before.items) (node_tree o.node.now ∷ []) (map node_tree o.following.now))
+    outermost_more above o (map node_tree (out-KdlDocument o.0.block.now).nodes.items)
+    ∙ ap (λ t. outermost above ((map node_tree o.1.items ++ t ∷ []) ++ map node_tree o.0.following.now)) (block_copied o.0.node.now o.0.block.now e)
+    ∙ ap (outermost above) (append_assoc (map node_tree o.1.items) (node_tree o.0.node.now ∷ []) (map node_tree o.0.following.now))
 
 -- it is closed
 pub block_closed : (o : CopyFrame) (above : List CopyFrame) (made made' : List KdlNode) → map node_tree made' ≡ closed o (map node_tree made)
-    → outermost above (map node_tree made' ++ map node_tree o.following.now) ≡ outermost (above ++ o ∷ []) (map node_tree made)
+    → outermost above (map node_tree made' ++ map node_tree o.0.following.now) ≡ outermost (above ++ o ∷ []) (map node_tree made)
 block_closed o above made made' e =
-    ap (λ z. outermost above (z ++ map node_tree o.following.now)) e ∙ sym (outermost_more above o (map node_tree made))
+    ap (λ z. outermost above (z ++ map node_tree o.0.following.now)) e ∙ sym (outermost_more above o (map node_tree made))

@@ -10,8 +10,6 @@ pub mod SaidLookups
 pub mod ListLookups
 -- What a node's look-ups find once an entry is inserted, pushed or removed.
 pub mod EntriesFound
--- What a node's look-ups find once the value of an entry is written.
-pub mod WritesFound
 -- What a document's look-ups find once an argument is written.
 pub mod NodesFound
 -- What a document says once a property of one of its nodes is set.

@@ -8,7 +8,7 @@ use Rattle.kdl.proofs.SpanIsIgnored.{document_spanned, node_spanned}
 use Rattle.kdl_parts.proofs.Utf8Parts.{writes}
 
 -- for src/node.rt
-pub ruleset node = (got_name, got_type, got_entries, got_children, node_spanned, writes)
+pub ruleset node = (got_name, got_type, got_entries, got_children, node_spanned)
 
 -- for src/document.rt
 pub ruleset document = (got_nodes, document_spanned, writes)

@@ -6,39 +6,30 @@ ghost use Rattle.std.specs.Prelude.{◌≡◌, map, IfOk};
 
 use crate::document::KdlDocument;
 use crate::node::KdlNode;
+use crate::print::NodeFrame;
 use std::alloc::{AllocError, Global};
 use std::mem;
 
-/// A block that is being copied: its node, its document, the nodes after that node, and the copies of those before it.
-#[derive(Drop)]
-struct CopyFrame<'a> {
-    node: &'a KdlNode,
-    block: &'a KdlDocument,
-    following: &'a [KdlNode],
-    before: Vec<KdlNode>,
-}
-
-/// Returns the copies up to that of the block's node, whose block has the nodes.
-fn close(opened: CopyFrame<'_>, nodes: Vec<KdlNode>) -> Result<Vec<KdlNode>, AllocError>
+/// Returns the copies of the nodes before that of an open block, and that of its node, whose block has the nodes.
+fn close(
+    open: NodeFrame<'_>,
+    mut before: Vec<KdlNode>,
+    nodes: Vec<KdlNode>,
+) -> Result<Vec<KdlNode>, AllocError>
     ensures { IfOk result (λ v. map node_tree v.items ≡
-        closed opened.entry (map node_tree nodes.items)) }
+        closed (open.entry, before) (map node_tree nodes.items)) }
 {
-    let CopyFrame {
-        node,
-        block,
-        following: _,
-        mut before,
-    } = opened;
-    let children = block.with_nodes(nodes)?;
-    before.push(node.with_children(Some(children))?)?;
+    let children = open.block.with_nodes(nodes)?;
+    before.push(open.node.with_children(Some(children))?)?;
     Ok(before)
 }
 
-/// Returns copies of the nodes, in order. The open blocks are kept on the heap.
+/// Returns copies of the nodes, in order. The open blocks, with the copies of the nodes before each, are kept on the
+/// heap.
 pub(crate) fn copy_nodes(alloc: Global, nodes: &[KdlNode]) -> Result<Vec<KdlNode>, AllocError>
     ensures { IfOk result (λ v. map node_tree v.items ≡ map node_tree nodes.now) }
 {
-    let mut above: Vec<CopyFrame> = Vec::new(alloc);
+    let mut above: Vec<(NodeFrame, Vec<KdlNode>)> = Vec::new(alloc);
     let mut made = Vec::with_capacity(alloc, nodes.len())?;
     let mut rest = nodes;
     'left: loop {
@@ -46,23 +37,23 @@ pub(crate) fn copy_nodes(alloc: Global, nodes: &[KdlNode]) -> Result<Vec<KdlNode
             if let Some(block) = node.children() {
                 let inner = Vec::with_capacity(alloc, block.nodes().len())?;
                 let before = mem::replace(&mut made, inner);
-                above.push(CopyFrame {
+                let open = NodeFrame {
                     node,
                     block,
                     following,
-                    before,
-                })?;
+                };
+                above.push((open, before))?;
                 rest = block.nodes();
             } else {
                 made.push(node.with_children(None)?)?;
                 rest = following;
             }
         } else {
-            let Some(opened) = above.pop() else {
+            let Some((open, before)) = above.pop() else {
                 return Ok(made);
             };
-            rest = opened.following;
-            made = close(opened, made)?;
+            rest = open.following;
+            made = close(open, before, made)?;
         }
     }
 }

@@ -8,7 +8,6 @@ ghost use Rattle.kdl_parser.specs.Internal.Parts.{document_by};
 ghost use Rattle.kdl_parser.specs.Internal.Whole.{whole_by};
 ghost use Rattle.kdl_grammar.specs.Laid.{with_bom};
 ghost use Rattle.kdl_grammar.specs.Print.{print_document};
-ghost use Rattle.kdl.specs.Internal.Left.{Prints, block_end, block_front};
 ghost use Rattle.kdl.specs.Change.{with_document_span};
 ghost use Rattle.kdl.specs.Cleared.{new_document};
 ghost use Rattle.kdl.specs.DocumentLookups.{nodes_of};
@@ -19,9 +18,7 @@ ghost use Rattle.std.specs.Prelude.{◌≡◌, IfOk, None, Some, map, option_map
 ghost use Rattle.std.specs.Str.{encode_utf8_all};
 
 pub mod args;
-mod clear;
 mod fields;
-mod iter;
 mod layout;
 mod lookup;
 mod nodes;
@@ -33,7 +30,7 @@ use crate::print::write_nodes;
 use kdl_parser::{DocumentParts, DocumentText};
 use kdl_parts::KdlDocumentFormat;
 use kdl_parts::format::after_bom;
-use kdl_parts::print::{write_after_brace, write_before_brace, write_leading, write_trailing};
+use kdl_parts::print::{write_leading, write_trailing};
 use kdl_text::span::SourceSpan;
 use std::alloc::{AllocError, Global};
 use std::fmt;
@@ -51,8 +48,8 @@ use std::fmt;
 #[derive(Debug)]
 #[derive_where(PartialEq, Eq, Hash)]
 pub struct KdlDocument {
-    nodes: Vec<KdlNode>,
-    format: Option<KdlDocumentFormat>,
+    pub(crate) nodes: Vec<KdlNode>,
+    pub(crate) format: Option<KdlDocumentFormat>,
     #[derive_where(skip(EqHashOrd))]
     span: SourceSpan,
 }
@@ -87,9 +84,7 @@ impl KdlDocument {
             span: SourceSpan { offset: 0, len: 0 },
         }
     }
-}
 
-impl KdlDocument {
     /// Creates a document without nodes and without a format. Does not allocate.
     ///
     /// ```
@@ -206,28 +201,18 @@ impl KdlDocument {
     {
         self.span = span;
     }
-}
 
-impl KdlDocument {
-    /// Writes the `{` of the block that the document is, up to its first node.
-    pub(crate) fn write_front<W: fmt::Write>(&self, f: &mut fmt::Formatter<W>) -> fmt::Result
-        ensures { Prints W.write_str_gives f.old result (block_front self.now) f.new }
+    /// Returns a document with these nodes, and copies of the texts around the nodes and of the span.
+    pub(crate) fn with_nodes(&self, nodes: Vec<KdlNode>) -> Result<KdlDocument, AllocError>
+        ensures { IfOk result (λ d. document_tree d ≡
+            document_of self.now (map node_tree nodes.items)) }
     {
-        write_after_brace(&self.format, f)?;
-        write_leading(&self.format, f)
-    }
-
-    /// Writes what follows its last node, up to the `}` of the block that the document is. The node of that block is at
-    /// the given depth.
-    pub(crate) fn write_end<W: fmt::Write>(
-        &self,
-        depth: usize,
-        f: &mut fmt::Formatter<W>,
-    ) -> fmt::Result
-        ensures { Prints W.write_str_gives f.old result (block_end self.now depth) f.new }
-    {
-        write_trailing(&self.format, f)?;
-        write_before_brace(&self.format, depth, f)
+        let format = self.format.clone()?;
+        Ok(KdlDocument {
+            nodes,
+            format,
+            span: self.span,
+        })
     }
 }
 
@@ -244,21 +229,6 @@ impl fmt::Display for KdlDocument {
         write_leading(&self.format, f)?;
         write_nodes(*self.nodes.allocator(), &self.nodes, f)?;
         write_trailing(&self.format, f)
-    }
-}
-
-impl KdlDocument {
-    /// Returns a document with these nodes, and copies of the texts around the nodes and of the span.
-    pub(crate) fn with_nodes(&self, nodes: Vec<KdlNode>) -> Result<KdlDocument, AllocError>
-        ensures { IfOk result (λ d. document_tree d ≡
-            document_of self.now (map node_tree nodes.items)) }
-    {
-        let format = self.format.clone()?;
-        Ok(KdlDocument {
-            nodes,
-            format,
-            span: self.span,
-        })
     }
 }
 

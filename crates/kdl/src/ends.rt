@@ -5,7 +5,7 @@ ghost use Rattle.kdl.specs.Nodes.{newlines, printed_format};
 ghost use Rattle.kdl_entry.specs.Tree.{entry_tree};
 ghost use Rattle.kdl_layout.specs.Internal.Reading.{place_view};
 ghost use Rattle.kdl_layout.specs.Kept.{last_place, without_bom};
-ghost use Rattle.kdl_grammar.specs.Print.{before_block, last_has_format};
+ghost use Rattle.kdl_grammar.specs.Print.{before_block};
 ghost use Rattle.kdl_grammar.specs.ReadsBack.{terminator_text};
 ghost use Rattle.kdl_grammar.specs.Tree.{NodeFormat};
 ghost use Rattle.kdl_parts.specs.Formats.{node_format_tree, node_texts};
@@ -18,6 +18,7 @@ use kdl_entry::KdlEntry;
 use kdl_layout::layout::without_bom;
 use kdl_layout::{Place, gap_lacks, place_lacks, push_text, terminator_lacks};
 use kdl_parts::KdlNodeFormat;
+use kdl_parts::print::ends_formatted;
 use std::alloc::{AllocError, Global};
 
 /// What follows a node.
@@ -189,16 +190,6 @@ fn ended(
         return Ok(None);
     }
     Ok(Some(with_newlines(format, before, end)?))
-}
-
-/// Whether the last entry has a format.
-fn ends_formatted(entries: &[KdlEntry]) -> bool
-    ensures { result ≡ last_has_format (map entry_tree entries.now) }
-{
-    match entries.last() {
-        Some(last) => last.format().is_some(),
-        None => false,
-    }
 }
 
 /// What a node of these entries prints before its block if it has no format.

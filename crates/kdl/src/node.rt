@@ -7,7 +7,6 @@ ghost use Rattle.kdl.specs.Tree.{document_says, node_says, node_tree};
 ghost use Rattle.kdl_parser.specs.Internal.NodeText.{text_by};
 ghost use Rattle.kdl_grammar.specs.Print.{print_node};
 ghost use Rattle.kdl.specs.Internal.Copied.{with_children};
-ghost use Rattle.kdl.specs.Internal.Left.{Prints, front, node_before_block, node_end};
 ghost use Rattle.kdl.specs.Change.{with_span};
 ghost use Rattle.kdl.specs.Fields.{block_of, name_of, node_format_of, node_span_of, ty_of};
 ghost use Rattle.kdl.specs.Lookups.{entries_of};
@@ -18,7 +17,6 @@ ghost use Rattle.std.specs.Prelude.{◌≡◌, IfOk, None, Some, map, is_some, o
 ghost use Rattle.std.specs.Str.{encode_utf8_all};
 
 mod children;
-mod clear;
 mod edit;
 mod fields;
 mod from_parts;
@@ -31,7 +29,6 @@ use crate::print::write_nodes;
 use kdl_entry::{KdlEntry, KdlIdentifier};
 use kdl_parser::NodeText;
 use kdl_parts::KdlNodeFormat;
-use kdl_parts::print::{write_before_block, write_end, write_head, write_pieces};
 use kdl_text::span::SourceSpan;
 use std::alloc::{AllocError, Global};
 use std::{fmt, mem, slice};
@@ -48,11 +45,11 @@ use std::{fmt, mem, slice};
 #[derive(Debug, Drop)]
 #[derive_where(PartialEq, Eq, Hash)]
 pub struct KdlNode {
-    ty: Option<KdlIdentifier>,
-    name: KdlIdentifier,
-    entries: Vec<KdlEntry>,
-    children: Option<KdlDocument>,
-    format: Option<KdlNodeFormat>,
+    pub(crate) ty: Option<KdlIdentifier>,
+    pub(crate) name: KdlIdentifier,
+    pub(crate) entries: Vec<KdlEntry>,
+    pub(crate) children: Option<KdlDocument>,
+    pub(crate) format: Option<KdlNodeFormat>,
     #[derive_where(skip(EqHashOrd))]
     span: SourceSpan,
 }
@@ -62,14 +59,7 @@ impl KdlNode {
     pub(crate) fn into_children(self) -> Option<KdlDocument>
         ensures { result ≡ (out-KdlNode self).children }
     {
-        let KdlNode {
-            ty: _,
-            name: _,
-            entries: _,
-            children,
-            format: _,
-            span: _,
-        } = self;
+        let KdlNode { children, .. } = self;
         children
     }
 
@@ -80,9 +70,7 @@ impl KdlNode {
     {
         mem::replace(&mut self.children, children)
     }
-}
 
-impl KdlNode {
     /// Creates the node that is a whole text, with the text after its terminator and the span.
     pub(crate) fn from_text(text: NodeText<KdlNode>) -> KdlNode
         ensures { node_tree result ≡ text_by node_tree text }
@@ -194,53 +182,7 @@ impl KdlNode {
     {
         self.span = span;
     }
-}
 
-impl KdlNode {
-    /// Writes the node at the given depth, up to its last entry.
-    pub(crate) fn write_front<W: fmt::Write>(
-        &self,
-        depth: usize,
-        f: &mut fmt::Formatter<W>,
-    ) -> fmt::Result
-        ensures { Prints W.write_str_gives f.old result (front self.now depth) f.new }
-    {
-        write_head(&self.ty, &self.name, &self.format, depth, f)?;
-        write_pieces(&self.entries, f)
-    }
-
-    /// Writes the text before the `{` of its block.
-    pub(crate) fn write_before_block<W: fmt::Write>(&self, f: &mut fmt::Formatter<W>) -> fmt::Result
-        ensures { Prints W.write_str_gives f.old result (node_before_block self.now) f.new }
-    {
-        write_before_block(&self.format, &self.entries, f)
-    }
-
-    /// Writes the text after its last entry, or after its block.
-    pub(crate) fn write_end<W: fmt::Write>(&self, f: &mut fmt::Formatter<W>) -> fmt::Result
-        ensures { Prints W.write_str_gives f.old result (node_end self.now) f.new }
-    {
-        write_end(&self.format, f)
-    }
-}
-
-/// Prints the node with the texts around its parts. A node without a format is printed after four spaces for each
-/// depth, with one space before its `{` if the last entry has no format, and without a terminator. An entry without a
-/// format follows one space.
-///
-/// ```
-/// let node = KdlNode::parse(alloc, "a  0x1 { b; }")?;
-/// let text = node.to_string(alloc)?; // "a  0x1 { b; }"
-/// ```
-impl fmt::Display for KdlNode {
-    ghost output = { λ n. Some (encode_utf8_all (print_node (node_tree n) 0)) };
-
-    fn fmt<W: fmt::Write>(&self, f: &mut fmt::Formatter<W>) -> fmt::Result {
-        write_nodes(*self.entries.allocator(), slice::from_ref(self), f)
-    }
-}
-
-impl KdlNode {
     /// Returns a copy with these children in place of the node's.
     pub(crate) fn with_children(&self, children: Option<KdlDocument>) -> Result<KdlNode, AllocError>
         ensures { IfOk result (λ n. node_tree n ≡ with_children self.now children) }
@@ -260,12 +202,23 @@ impl KdlNode {
     }
 }
 
-/// Returns a copy with the same texts and spans, at each depth, or an error if an allocation fails.
+/// Prints the node with the texts around its parts. A node without a format is printed after four spaces for each
+/// depth, with one space before its `{` if the last entry has no format, and without a terminator. An entry without a
+/// format follows one space.
 ///
 /// ```
-/// let node = KdlNode::parse(alloc, "a 1")?;
-/// let same = node.clone()? == node; // true
+/// let node = KdlNode::parse(alloc, "a  0x1 { b; }")?;
+/// let text = node.to_string(alloc)?; // "a  0x1 { b; }"
 /// ```
+impl fmt::Display for KdlNode {
+    ghost output = { λ n. Some (encode_utf8_all (print_node (node_tree n) 0)) };
+
+    fn fmt<W: fmt::Write>(&self, f: &mut fmt::Formatter<W>) -> fmt::Result {
+        write_nodes(*self.entries.allocator(), slice::from_ref(self), f)
+    }
+}
+
+/// Returns a copy with the same texts and spans, at each depth, or an error if an allocation fails.
 impl Clone for KdlNode {
     ghost is_clone = { λ v w. node_tree w ≡ node_tree v };
 

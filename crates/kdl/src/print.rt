@@ -1,29 +1,44 @@
 //! How nodes are printed: with a stack on the heap and without recursion, however deep their blocks are.
 #![tactic(auto, using(kdl_parts::proofs::Utf8Parts::writes))]
 
-ghost use Rattle.kdl.specs.Internal.Left.{Prints, closing, line, opening};
+ghost use Rattle.kdl.specs.Internal.Left.{Prints, closing, front, line, opening};
 ghost use Rattle.kdl.specs.Tree.{nodes_tree};
 ghost use Rattle.kdl_grammar.specs.Print.{print_nodes};
 
 use crate::document::KdlDocument;
 use crate::node::KdlNode;
+use kdl_parts::print::{
+    write_before_block, write_block_end, write_block_start, write_end, write_head, write_pieces,
+};
 use std::alloc::Global;
 use std::fmt;
 
 /// An open block: its node, its document, and the nodes after that node.
 #[derive(Clone, Copy)]
-struct PrintFrame<'a> {
-    node: &'a KdlNode,
-    block: &'a KdlDocument,
-    following: &'a [KdlNode],
+pub(crate) struct NodeFrame<'a> {
+    pub node: &'a KdlNode,
+    pub block: &'a KdlDocument,
+    pub following: &'a [KdlNode],
+}
+
+/// Writes a node at the given depth, up to its last entry.
+fn write_front<W: fmt::Write>(
+    node: &KdlNode,
+    depth: usize,
+    f: &mut fmt::Formatter<W>,
+) -> fmt::Result
+    ensures { Prints W.write_str_gives f.old result (front node.now depth) f.new }
+{
+    write_head(&node.ty, &node.name, &node.format, depth, f)?;
+    write_pieces(&node.entries, f)
 }
 
 /// Writes a node without children, at the given depth.
 fn write_line<W: fmt::Write>(node: &KdlNode, depth: usize, f: &mut fmt::Formatter<W>) -> fmt::Result
     ensures { Prints W.write_str_gives f.old result (line node.now depth) f.new }
 {
-    node.write_front(depth, f)?;
-    node.write_end(f)
+    write_front(node, depth, f)?;
+    write_end(&node.format, f)
 }
 
 /// Writes a node at the given depth up to the first node in its block.
@@ -35,9 +50,9 @@ fn write_opening<W: fmt::Write>(
 ) -> fmt::Result
     ensures { Prints W.write_str_gives f.old result (opening node.now block.now depth) f.new }
 {
-    node.write_front(depth, f)?;
-    node.write_before_block(f)?;
-    block.write_front(f)
+    write_front(node, depth, f)?;
+    write_before_block(&node.format, &node.entries, f)?;
+    write_block_start(&block.format, f)
 }
 
 /// Writes what follows the last node in a block: the rest of the block, and the end of its node, which is at the given
@@ -50,8 +65,8 @@ fn write_closing<W: fmt::Write>(
 ) -> fmt::Result
     ensures { Prints W.write_str_gives f.old result (closing node.now block.now depth) f.new }
 {
-    block.write_end(depth, f)?;
-    node.write_end(f)
+    write_block_end(&block.format, depth, f)?;
+    write_end(&node.format, f)
 }
 
 /// Writes nodes one after another, at depth 0. The open blocks are kept on the heap; if an allocation fails, writing
@@ -63,14 +78,14 @@ pub(crate) fn write_nodes<W: fmt::Write>(
 ) -> fmt::Result
     ensures { Prints W.write_str_gives f.old result (print_nodes (nodes_tree nodes.now) 0) f.new }
 {
-    let mut above: Vec<PrintFrame> = Vec::new(alloc);
+    let mut above: Vec<NodeFrame> = Vec::new(alloc);
     let mut rest = nodes;
     'left: loop {
         if let Some((node, following)) = rest.split_first() {
             if let Some(block) = node.children() {
                 write_opening(node, block, above.len(), f)?;
                 if above
-                    .push(PrintFrame {
+                    .push(NodeFrame {
                         node,
                         block,
                         following,

@@ -1,6 +1,6 @@
 -- Where look-ups find an entry.
 use Rattle.std.specs.List.{filter}
-use Rattle.std.specs.Prelude.{ℕ, zero, suc, List, [], ◌∷◌, Bool, true, false, ◌==◌, Option, Some, None, map, option_map, option_and_then, is_none, slice_get, string_bytes, position}
+use Rattle.std.specs.Prelude.{◌≡◌, ◌<◌, IfSome, length, ℕ, zero, suc, List, [], ◌∷◌, Bool, true, false, ◌==◌, Option, Some, None, map, option_map, option_and_then, is_none, slice_get, string_bytes, position}
 use Rattle.std.specs.Cmp.Lexicographic.{pointwise}
 use Rattle.kdl_entry.specs.declared.entry.KdlEntry.{KdlEntry}
 use Rattle.kdl_entry.specs.declared.identifier.KdlIdentifier.{KdlIdentifier}
@@ -83,6 +83,11 @@ place_of (Index n) es = nth_place is_argument es n
 abbrev pub removed_place : NodeKey → List KdlEntry → Option ℕ
 removed_place (Key k) es = position (has_name (string_bytes (string_of k))) es
 removed_place (Index n) es = nth_place is_argument es n
+
+-- r is the place o among the elements, if there is one
+pub record IsFoundAt {A : Type 0} (o : Option ℕ) (xs : List A) (r : Option ℕ) : Type 0 where
+  pub place : r ≡ o
+  pub bound : IfSome r (λ i. i < length xs)
 
 -- what is at a place that was found
 abbrev pub there : {A : Type 0} → Option ℕ → List A → Option A

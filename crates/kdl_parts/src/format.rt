@@ -58,42 +58,24 @@ impl KdlNodeFormat {
 }
 
 /// Returns a copy with the same texts, or an error if an allocation fails.
-///
-/// ```
-/// let format = KdlNodeFormat::new(alloc);
-/// let same = format.clone()? == format; // true
-/// ```
 impl Clone for KdlNodeFormat {
     ghost is_clone = { λ v w. node_format_tree w ≡ node_format_tree v };
 
     fn clone(&self) -> Result<KdlNodeFormat, AllocError> {
-        let leading = self.leading.clone()?;
-        let before_ty_name = self.before_ty_name.clone()?;
-        let after_ty_name = self.after_ty_name.clone()?;
-        let after_ty = self.after_ty.clone()?;
-        let before_children = self.before_children.clone()?;
-        let before_terminator = self.before_terminator.clone()?;
-        let terminator = self.terminator.clone()?;
-        let trailing = self.trailing.clone()?;
         Ok(KdlNodeFormat {
-            leading,
-            before_ty_name,
-            after_ty_name,
-            after_ty,
-            before_children,
-            before_terminator,
-            terminator,
-            trailing,
+            leading: self.leading.clone()?,
+            before_ty_name: self.before_ty_name.clone()?,
+            after_ty_name: self.after_ty_name.clone()?,
+            after_ty: self.after_ty.clone()?,
+            before_children: self.before_children.clone()?,
+            before_terminator: self.before_terminator.clone()?,
+            terminator: self.terminator.clone()?,
+            trailing: self.trailing.clone()?,
         })
     }
 }
 
 /// Creates the format of a new node: a newline as its terminator, and nothing else.
-///
-/// ```
-/// let format = new_format(alloc)?;
-/// let trailing = format.trailing.as_str(); // "\n", and each other text is empty
-/// ```
 pub fn new_format(alloc: Global) -> Result<KdlNodeFormat, AllocError>
     ensures { IfOk result (λ f. node_format_tree f ≡ ended_format) }
 {
@@ -132,18 +114,14 @@ impl KdlDocumentFormat {
 }
 
 /// Returns a copy with the same texts, or an error if an allocation fails.
-///
-/// ```
-/// let format = KdlDocumentFormat::new(alloc);
-/// let same = format.clone()? == format; // true
-/// ```
 impl Clone for KdlDocumentFormat {
     ghost is_clone = { λ v w. document_format_tree w ≡ document_format_tree v };
 
     fn clone(&self) -> Result<KdlDocumentFormat, AllocError> {
-        let leading = self.leading.clone()?;
-        let trailing = self.trailing.clone()?;
-        Ok(KdlDocumentFormat { leading, trailing })
+        Ok(KdlDocumentFormat {
+            leading: self.leading.clone()?,
+            trailing: self.trailing.clone()?,
+        })
     }
 }
 
@@ -164,11 +142,6 @@ fn push_text(text: &mut String, more: &str) -> Result<(), AllocError>
 }
 
 /// Returns the format with U+FEFF before its leading text.
-///
-/// ```
-/// let format = after_bom(alloc, None)?;
-/// let leading = format.leading.as_str(); // only U+FEFF
-/// ```
 pub fn after_bom(
     alloc: Global,
     format: Option<KdlDocumentFormat>,

@@ -19,12 +19,6 @@ use std::marker::Model;
 use std::slice;
 
 /// Returns an iterator over these entries.
-///
-/// ```
-/// for entry in entry_iter(&entries) {
-///     let value = entry.value(); // the values 1 and 2 of `1 a=2`
-/// }
-/// ```
 pub fn entry_iter(entries: &[KdlEntry]) -> EntryIter<'_>
     ensures { result ≡ entries.now }
 {
@@ -32,12 +26,6 @@ pub fn entry_iter(entries: &[KdlEntry]) -> EntryIter<'_>
 }
 
 /// Returns a mutable iterator over these entries.
-///
-/// ```
-/// for entry in entry_iter_mut(&mut entries) {
-///     entry.clear_format(); // `0x1 0x2` becomes `1 2`
-/// }
-/// ```
 pub fn entry_iter_mut(entries: &mut Vec<KdlEntry>) -> EntryIterMut<'_>
     ensures* writes_back { sem 𝓛 (follows entries_row (Array entry_row 0) entries.entry.ghost_name
         (entries_name result) (λ es. with_items entries.old es)) }
@@ -47,12 +35,6 @@ pub fn entry_iter_mut(entries: &mut Vec<KdlEntry>) -> EntryIterMut<'_>
 }
 
 /// Returns an iterator over the values of the arguments among these entries.
-///
-/// ```
-/// for value in args_iter(&entries) {
-///     let number = value.as_integer(); // the numbers 1 and 3 of `1 a=2 3`
-/// }
-/// ```
 pub fn args_iter(entries: &[KdlEntry]) -> ArgsIter<'_>
     ensures { result ≡ arguments entries.now }
 {

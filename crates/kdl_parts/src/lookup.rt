@@ -1,4 +1,5 @@
-//! Look-ups among the entries of a node, by the name of a property or by the place of an argument.
+//! Look-ups among the entries of a node, by the name of a property or by the place of an argument. A key finds the last
+//! property whose name has its value, or the argument at its place among the arguments.
 
 ghost use Rattle.kdl_parts.specs.EntryLists.{argument_at, found, has_name, held_value, is_argument, last_place, nth_place, property_named, value_of};
 ghost use Rattle.kdl_parts.specs.Written.{entries_row, set_value_at, with_argument_value, with_found, with_found_value, HasProperty};
@@ -14,44 +15,23 @@ use crate::places::{last_property, nth_argument, place};
 use kdl_entry::{KdlEntry, KdlIdentifier, KdlValue};
 use std::alloc::AllocError;
 
-/// Returns the entry that the key finds: the last property whose name has the key's value, or the argument at the key's
-/// place among the arguments.
-///
-/// ```
-/// let found = entry(&entries, NodeKey::from(1)); // the argument 3 of `1 a=2 3`
-/// ```
+/// Returns the entry that the key finds.
 pub fn entry(entries: &[KdlEntry], key: NodeKey) -> Option<&KdlEntry>
     ensures { option_map (λ e. e.now) result ≡ found key entries.now }
 {
     let at = place(entries, &key);
     drop(key);
-    match at {
-        Some(at) => Some(&entries[at]),
-        None => None,
-    }
+    Some(&entries[at?])
 }
 
 /// Returns the value of the entry that the key finds.
-///
-/// ```
-/// let found = value(&entries, NodeKey::from_text(alloc, "a")?); // the value 3 of `1 a=2 a=3`
-/// ```
 pub fn value(entries: &[KdlEntry], key: NodeKey) -> Option<&KdlValue>
     ensures { option_map (λ v. value_tree v.now) result ≡ value_of (found key entries.now) }
 {
-    match entry(entries, key) {
-        Some(entry) => Some(entry.value()),
-        None => None,
-    }
+    Some(entry(entries, key)?.value())
 }
 
 /// Returns a mutable reference to the entry that the key finds. All else is unchanged.
-///
-/// ```
-/// if let Some(found) = entry_mut(&mut entries, NodeKey::from(0)) {
-///     *found = KdlEntry::new(KdlValue::from(9)); // `1 a=2` becomes `9 a=2`
-/// }
-/// ```
 pub fn entry_mut(entries: &mut Vec<KdlEntry>, key: NodeKey) -> Option<&mut KdlEntry>
     ensures* writes_back { sem 𝓛 (LendsIf entries_row entry_row entries.entry result
         (with_found key entries.old) entries.old) }
@@ -66,12 +46,6 @@ pub fn entry_mut(entries: &mut Vec<KdlEntry>, key: NodeKey) -> Option<&mut KdlEn
 }
 
 /// Returns a mutable reference to the value of the entry that the key finds. All else is unchanged.
-///
-/// ```
-/// if let Some(found) = value_mut(&mut entries, NodeKey::from(0)) {
-///     *found = KdlValue::from(9); // an entry with a format keeps the spelling of its former value
-/// }
-/// ```
 pub fn value_mut(entries: &mut Vec<KdlEntry>, key: NodeKey) -> Option<&mut KdlValue>
     ensures* writes_back { sem 𝓛 (LendsIf entries_row value_row entries.entry result
         (with_found_value key entries.old) entries.old) }
@@ -86,12 +60,6 @@ pub fn value_mut(entries: &mut Vec<KdlEntry>, key: NodeKey) -> Option<&mut KdlVa
 }
 
 /// Returns a mutable reference to the value of the entry at that place. All else is unchanged.
-///
-/// ```
-/// if entries.len() > 1 {
-///     *value_at_mut(&mut entries, 1) = KdlValue::from(9); // the place counts all entries, and has to exist
-/// }
-/// ```
 pub fn value_at_mut(entries: &mut Vec<KdlEntry>, at: usize) -> &mut KdlValue
     requires { at < length entries.old.items }
     ensures* writes_back { sem 𝓛 (Lends entries_row value_row entries.entry result
@@ -102,12 +70,6 @@ pub fn value_at_mut(entries: &mut Vec<KdlEntry>, at: usize) -> &mut KdlValue
 }
 
 /// Returns the value of the argument at that place among the arguments, counted from 0. It has to exist.
-///
-/// ```
-/// if nth_argument(&entries, 1).is_some() {
-///     let second = argument(&entries, 1); // the value 3 of `1 a=2 3`
-/// }
-/// ```
 pub fn argument(entries: &[KdlEntry], n: usize) -> &KdlValue
     requires { IsSome (nth_place is_argument entries.now n) }
     ensures { value_of (argument_at n entries.now) ≡ Some (value_tree result.now) }
@@ -119,12 +81,6 @@ pub fn argument(entries: &[KdlEntry], n: usize) -> &KdlValue
 }
 
 /// Returns the value of the last property of that name. It has to exist.
-///
-/// ```
-/// if has_property(&entries, "a") {
-///     let last = property(&entries, "a"); // the value 3 of `1 a=2 a=3`
-/// }
-/// ```
 pub fn property<'a>(entries: &'a [KdlEntry], name: &str) -> &'a KdlValue
     requires { IsSome (last_place (has_name name.now) entries.now) }
     ensures { value_of (property_named name.now entries.now) ≡ Some (value_tree result.now) }
@@ -136,23 +92,14 @@ pub fn property<'a>(entries: &'a [KdlEntry], name: &str) -> &'a KdlValue
 }
 
 /// Returns whether there is a property of that name. Names are compared by their values, not by their spellings.
-///
-/// ```
-/// let both = (has_property(&entries, "a"), has_property(&entries, "b")); // true and false for `a=1 b`
-/// ```
 pub fn has_property(entries: &[KdlEntry], name: &str) -> bool
     ensures { result ≡ is_some (last_place (has_name name.now) entries.now) }
 {
     last_property(entries, name).is_some()
 }
 
-/// Returns the place of the last property of that name. If there is none, first appends one with the value null. If an
-/// allocation for it fails, returns an error and leaves the entries unchanged. An existing property is found without
-/// allocating.
-///
-/// ```
-/// let at = property_or_null(&mut entries, "b")?; // the place 2 in `1 a=2`, where `b=#null` is pushed
-/// ```
+/// Returns the place of the last property of that name. If there is none, first appends one with the value null; only
+/// this allocates. If an allocation fails, returns an error and leaves the entries unchanged.
 pub fn property_or_null(entries: &mut Vec<KdlEntry>, name: &str) -> Result<usize, AllocError>
     ensures found { IfOk result (λ i. HasProperty (last_place (has_name name.now) entries.old.items)
         name.now entries.old i entries.new) }
@@ -172,12 +119,6 @@ pub fn property_or_null(entries: &mut Vec<KdlEntry>, name: &str) -> Result<usize
 }
 
 /// Returns a mutable reference to the value that `argument` returns. All else is unchanged.
-///
-/// ```
-/// if nth_argument(&entries, 1).is_some() {
-///     *argument_mut(&mut entries, 1) = KdlValue::from(9); // the last value of `1 a=2 3` is 9 now
-/// }
-/// ```
 pub fn argument_mut(entries: &mut Vec<KdlEntry>, n: usize) -> &mut KdlValue
     requires { IsSome (nth_place is_argument entries.old.items n) }
     ensures* writes_back { sem 𝓛 (Lends entries_row value_row entries.entry result

@@ -1,6 +1,6 @@
 //! The places of the entries that a key names.
 
-ghost use Rattle.kdl_parts.specs.EntryLists.{has_name, is_argument, last_place, nth_place, place_of, removed_place};
+ghost use Rattle.kdl_parts.specs.EntryLists.{IsFoundAt, has_name, is_argument, last_place, nth_place, place_of, removed_place};
 ghost use Rattle.std.specs.Prelude.{◌≡◌, ◌<◌, IfSome, length, position};
 
 use crate::key::NodeKey;
@@ -17,10 +17,6 @@ fn is_property(entry: &KdlEntry, name: &str) -> bool
 }
 
 /// Returns whether the entry is an argument.
-///
-/// ```
-/// let unnamed = is_unnamed(&KdlEntry::parse(alloc, "a")?); // true: a string without `=` is an argument
-/// ```
 pub fn is_unnamed(entry: &KdlEntry) -> bool
     ensures { result ≡ is_argument entry.now }
 {
@@ -29,8 +25,7 @@ pub fn is_unnamed(entry: &KdlEntry) -> bool
 
 /// The place of the last property of that name.
 pub(crate) fn last_property(entries: &[KdlEntry], name: &str) -> Option<usize>
-    ensures place { result ≡ last_place (has_name name.now) entries.now }
-    ensures bound { IfSome result (λ i. i < length entries.now) }
+    ensures { IsFoundAt (last_place (has_name name.now) entries.now) entries.now result }
 {
     let mut found = None;
     for (i, entry) in entries.iter().enumerate() {
@@ -43,8 +38,7 @@ pub(crate) fn last_property(entries: &[KdlEntry], name: &str) -> Option<usize>
 
 /// The place of the argument that is at `n` among the arguments, counted from 0.
 pub(crate) fn nth_argument(entries: &[KdlEntry], n: usize) -> Option<usize>
-    ensures place { result ≡ nth_place is_argument entries.now n }
-    ensures bound { IfSome result (λ i. i < length entries.now) }
+    ensures { IsFoundAt (nth_place is_argument entries.now n) entries.now result }
 {
     let mut left = n;
     for (i, entry) in entries.iter().enumerate() {
@@ -68,8 +62,7 @@ fn first_property(entries: &[KdlEntry], name: &str) -> Option<usize>
 
 /// The place of the entry that the key finds.
 pub(crate) fn place(entries: &[KdlEntry], key: &NodeKey) -> Option<usize>
-    ensures place { result ≡ place_of key.now entries.now }
-    ensures bound { IfSome result (λ i. i < length entries.now) }
+    ensures { IsFoundAt (place_of key.now entries.now) entries.now result }
 {
     match key {
         NodeKey::Key(name) => last_property(entries, name.value()),
@@ -79,8 +72,7 @@ pub(crate) fn place(entries: &[KdlEntry], key: &NodeKey) -> Option<usize>
 
 /// The place of the entry that a removal removes: the first property of that name, or that argument.
 pub(crate) fn place_to_remove(entries: &[KdlEntry], key: &NodeKey) -> Option<usize>
-    ensures place { result ≡ removed_place key.now entries.now }
-    ensures bound { IfSome result (λ i. i < length entries.now) }
+    ensures { IsFoundAt (removed_place key.now entries.now) entries.now result }
 {
     match key {
         NodeKey::Key(name) => first_property(entries, name.value()),

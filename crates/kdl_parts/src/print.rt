@@ -1,11 +1,11 @@
 //! Parts of the printed text.
 #![tactic(auto, using(crate::proofs::Rules::printed))]
 
-ghost use Rattle.kdl_grammar.specs.Print.{after_brace, before_brace, end_text, last_has_format, leading_text, print_piece, spaces, trailing_text};
-ghost use Rattle.kdl_parts.specs.Formats.{document_texts, node_texts};
-ghost use Rattle.kdl_parts.specs.Printed.{Prints, before_block, head_text, pieces};
+ghost use Rattle.kdl_grammar.specs.Print.{end_text, last_has_format, print_piece, spaces};
+ghost use Rattle.kdl_parts.specs.Formats.{node_texts};
+ghost use Rattle.kdl_parts.specs.Printed.{Prints, before_block, block_end, block_start, document_end, document_start, head_text, pieces};
 ghost use Rattle.kdl_entry.specs.Tree.{entry_tree};
-ghost use Rattle.std.specs.Prelude.{◌≡◌, ◌++◌, [], ◌∷◌, map};
+ghost use Rattle.std.specs.Prelude.{◌≡◌, map};
 
 use crate::format::{KdlDocumentFormat, KdlNodeFormat};
 use kdl_entry::{KdlEntry, KdlIdentifier, write_text, write_type};
@@ -23,10 +23,6 @@ fn write_spaces<W: fmt::Write>(depth: usize, f: &mut fmt::Formatter<W>) -> fmt::
 }
 
 /// Writes what comes before the entries of a node at a depth: the leading text, the type and the name.
-///
-/// ```
-/// write_head(&None, &name, &None, 1, f)?; // writes four spaces and the name
-/// ```
 pub fn write_head<W: fmt::Write>(
     ty: &Option<KdlIdentifier>,
     name: &KdlIdentifier,
@@ -53,10 +49,6 @@ pub fn write_head<W: fmt::Write>(
 }
 
 /// Writes the entries of a node.
-///
-/// ```
-/// write_pieces(&entries, f)?; // for `1 a=2`, both without a format, writes " 1 a=2"
-/// ```
 pub fn write_pieces<W: fmt::Write>(entries: &[KdlEntry], f: &mut fmt::Formatter<W>) -> fmt::Result
     ensures { Prints W.write_str_gives f.old result (pieces entries.now) f.new }
 {
@@ -76,8 +68,8 @@ fn write_piece<W: fmt::Write>(entry: &KdlEntry, f: &mut fmt::Formatter<W>) -> fm
     entry.fmt(f)
 }
 
-/// Whether the last entry has a format.
-fn ends_formatted(entries: &[KdlEntry]) -> bool
+/// Returns whether the last entry has a format.
+pub fn ends_formatted(entries: &[KdlEntry]) -> bool
     ensures { result ≡ last_has_format (map entry_tree entries.now) }
 {
     match entries.last() {
@@ -87,10 +79,6 @@ fn ends_formatted(entries: &[KdlEntry]) -> bool
 }
 
 /// Writes what comes before the `{` of a child block.
-///
-/// ```
-/// write_before_block(&None, &[], f)?; // writes one space
-/// ```
 pub fn write_before_block<W: fmt::Write>(
     format: &Option<KdlNodeFormat>,
     entries: &[KdlEntry],
@@ -111,10 +99,6 @@ pub fn write_before_block<W: fmt::Write>(
 }
 
 /// Writes what comes after the last entry, or after the child block.
-///
-/// ```
-/// write_end(&format, f)?; // of a node `a 1 ; // kept` that was read writes " ;"; without a format nothing
-/// ```
 pub fn write_end<W: fmt::Write>(
     format: &Option<KdlNodeFormat>,
     f: &mut fmt::Formatter<W>,
@@ -132,16 +116,11 @@ pub fn write_end<W: fmt::Write>(
 }
 
 /// Writes what comes before the first node.
-///
-/// ```
-/// write_leading(&None, f)?; // writes nothing: a document without a format begins with its first node
-/// ```
 pub fn write_leading<W: fmt::Write>(
     format: &Option<KdlDocumentFormat>,
     f: &mut fmt::Formatter<W>,
 ) -> fmt::Result
-    ensures { Prints W.write_str_gives f.old result
-        (leading_text (document_texts format.now)) f.new }
+    ensures { Prints W.write_str_gives f.old result (document_start format.now) f.new }
 {
     match format {
         Some(format) => write_text(&format.leading, f),
@@ -150,16 +129,11 @@ pub fn write_leading<W: fmt::Write>(
 }
 
 /// Writes what comes after the last node.
-///
-/// ```
-/// write_trailing(&None, f)?; // writes nothing: a document without a format ends with its last node
-/// ```
 pub fn write_trailing<W: fmt::Write>(
     format: &Option<KdlDocumentFormat>,
     f: &mut fmt::Formatter<W>,
 ) -> fmt::Result
-    ensures { Prints W.write_str_gives f.old result
-        (trailing_text (document_texts format.now)) f.new }
+    ensures { Prints W.write_str_gives f.old result (document_end format.now) f.new }
 {
     match format {
         Some(format) => write_text(&format.trailing, f),
@@ -167,39 +141,36 @@ pub fn write_trailing<W: fmt::Write>(
     }
 }
 
-/// Writes the `{` of a child block, and the newline after it.
-///
-/// ```
-/// write_after_brace(&None, f)?; // writes `{` and a newline; with a format only `{`
-/// ```
-pub fn write_after_brace<W: fmt::Write>(
+/// Writes a child block from its `{` up to its first node.
+pub fn write_block_start<W: fmt::Write>(
     format: &Option<KdlDocumentFormat>,
     f: &mut fmt::Formatter<W>,
 ) -> fmt::Result
-    ensures { Prints W.write_str_gives f.old result
-        (123 ∷ after_brace (document_texts format.now)) f.new }
+    ensures { Prints W.write_str_gives f.old result (block_start format.now) f.new }
 {
     match format {
-        Some(_) => f.write_str("{"),
+        Some(format) => {
+            f.write_str("{")?;
+            write_text(&format.leading, f)
+        }
         None => f.write_str("{\n"),
     }
 }
 
-/// Writes the `}` of a child block, and the indentation before it.
-///
-/// ```
-/// write_before_brace(&None, 1, f)?; // writes four spaces and `}`; with a format only `}`
-/// ```
-pub fn write_before_brace<W: fmt::Write>(
+/// Writes a child block from its last node up to its `}`. Its node is at the depth, to which the `}` is indented if the
+/// block has no format.
+pub fn write_block_end<W: fmt::Write>(
     format: &Option<KdlDocumentFormat>,
     depth: usize,
     f: &mut fmt::Formatter<W>,
 ) -> fmt::Result
-    ensures { Prints W.write_str_gives f.old result
-        (before_brace (document_texts format.now) depth ++ 125 ∷ []) f.new }
+    ensures { Prints W.write_str_gives f.old result (block_end format.now depth) f.new }
 {
     match format {
-        Some(_) => f.write_str("}"),
+        Some(format) => {
+            write_text(&format.trailing, f)?;
+            f.write_str("}")
+        }
         None => {
             write_spaces(depth, f)?;
             f.write_str("}")

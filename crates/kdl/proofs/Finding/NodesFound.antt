@@ -17,9 +17,8 @@ use Rattle.kdl.specs.declared.node.KdlNode.{KdlNode}
 use Rattle.kdl.specs.declared.document.KdlDocument.{KdlDocument}
 use Rattle.kdl.specs.declared.document.KdlDocument.TheViews.{out-KdlDocument, out-roll-KdlDocument, out-KdlNode, out-roll-KdlNode}
 use Rattle.kdl.proofs.Finding.DocumentLookups.{found_there}
-use Rattle.kdl.proofs.Finding.EntriesFound.{differ}
+use Rattle.kdl.proofs.Finding.EntriesFound.{differ, value_sets_at}
 use Rattle.kdl.proofs.Finding.ListLookups.{NthIs, Splice, find_first, first_is, got_new, nth_found, nth_is, one_passes, same_passing, splice_set, spliced}
-use Rattle.kdl.proofs.Finding.WritesFound.{value_sets_at}
 
 -- the first node of that name, and the nodes of the document with another one in its place
 record FirstAt (s : List ℕ) (d : KdlDocument) (x n : KdlNode) (i : ℕ) : Type 0 where

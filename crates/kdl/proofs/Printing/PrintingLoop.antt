@@ -17,7 +17,7 @@ use Rattle.kdl.specs.Tree.{head_tree, node_tree, nodes_tree, document_tree}
 use Rattle.kdl.specs.declared.node.KdlNode.{KdlNode}
 use Rattle.kdl.specs.declared.document.KdlDocument.{KdlDocument}
 use Rattle.kdl.specs.declared.document.KdlDocument.TheViews.{out-KdlDocument, out-KdlNode}
-use Rattle.kdl.specs.declared.print.PrintFrame.{PrintFrame}
+use Rattle.kdl.specs.declared.print.NodeFrame.{NodeFrame}
 use Rattle.kdl.proofs.Printing.PrintedParts.{node_printed}
 use Rattle.kdl.proofs.Trees.{document_tree_out}
 
@@ -44,7 +44,7 @@ block_printed n d depth e =
     (print_nodes (nodes_tree (out-KdlDocument d).nodes.items) (depth + 1)) (trailing_text format) (before_brace format depth) (node_end n)
 
 -- one more block that is open
-above_more : (os : List PrintFrame) (o : PrintFrame) (depth at : ℕ) → at ≡ depth + length os
+above_more : (os : List NodeFrame) (o : NodeFrame) (depth at : ℕ) → at ≡ depth + length os
     → print_above (os ++ o ∷ []) depth ≡ closing o.node.now o.block.now at ++ print_nodes (nodes_tree o.following.now) at ++ print_above os depth
 above_more [] o depth at e =
     let k : at ≡ depth = omega (arith, e) in
@@ -56,14 +56,14 @@ above_more (p ∷ os) o depth at e =
 inside : (o c k b a : Text) → o ++ (k ++ (c ++ b ++ a)) ≡ (o ++ k ++ c) ++ (b ++ a)
 inside o c k b a = grind (arith, common_steps)
 
-pub line_left : (n : KdlNode) (following : List KdlNode) (above : List PrintFrame) (at : ℕ) → at ≡ length above → (out-KdlNode n).children ≡ None
+pub line_left : (n : KdlNode) (following : List KdlNode) (above : List NodeFrame) (at : ℕ) → at ≡ length above → (out-KdlNode n).children ≡ None
     → line n at ++ print_left following above ≡ print_left (n ∷ following) above
 line_left n following above at k e =
     ap (λ i. line n i ++ print_left following above) k
     ∙ sym (append_assoc (line n (length above)) (print_nodes (nodes_tree following) (length above)) (print_above above 0))
     ∙ ap (λ t. (t ++ print_nodes (nodes_tree following) (length above)) ++ print_above above 0) (sym (line_printed n (length above) e))
 
-pub block_left : (o : PrintFrame) (above : List PrintFrame) (at : ℕ) → at ≡ length above → (out-KdlNode o.node.now).children ≡ Some o.block.now
+pub block_left : (o : NodeFrame) (above : List NodeFrame) (at : ℕ) → at ≡ length above → (out-KdlNode o.node.now).children ≡ Some o.block.now
     → opening o.node.now o.block.now at ++ print_left (out-KdlDocument o.block.now).nodes.items (above ++ o ∷ []) ≡ print_left (o.node.now ∷ o.following.now) above
 block_left o above at k e =
     let depth = length above in
@@ -79,7 +79,7 @@ block_left o above at k e =
     ∙ ap (λ t. t ++ (following ++ print_above above 0)) (sym (block_printed n d depth e))
     ∙ sym (append_assoc (print_node (node_tree n) depth) following (print_above above 0))
 
-pub end_left : (o : PrintFrame) (above : List PrintFrame) (at : ℕ) → at ≡ length above
+pub end_left : (o : NodeFrame) (above : List NodeFrame) (at : ℕ) → at ≡ length above
     → closing o.node.now o.block.now at ++ print_left o.following.now above ≡ print_left [] (above ++ o ∷ [])
 end_left o above at k =
     ap (λ i. closing o.node.now o.block.now i ++ print_left o.following.now above) k

@@ -2,14 +2,15 @@
 use Rattle.std.specs.Prelude.{ℕ, ◌+◌, List, [], ◌∷◌, ◌++◌, length, map, option_map}
 use Rattle.kdl_text.specs.Chars.{Text}
 use Rattle.kdl_entry.specs.Tree.{entry_tree}
-use Rattle.kdl_grammar.specs.Print.{print_head, print_pieces, print_nodes, before_block, after_brace, before_brace, leading_text, trailing_text, end_text}
-use Rattle.kdl_parts.specs.Formats.{node_format_tree, document_format_tree}
+use Rattle.kdl_grammar.specs.Print.{print_head, print_pieces, print_nodes, before_block, end_text}
+use Rattle.kdl_parts.specs.Formats.{node_format_tree}
 pub use Rattle.kdl_parts.specs.Printed.{Prints}
+use Rattle.kdl_parts.specs.Printed.{block_end, block_start}
 use Rattle.kdl.specs.Tree.{head_tree, nodes_tree}
 use Rattle.kdl.specs.declared.node.KdlNode.{KdlNode}
 use Rattle.kdl.specs.declared.document.KdlDocument.{KdlDocument}
 use Rattle.kdl.specs.declared.document.KdlDocument.TheViews.{out-KdlDocument, out-KdlNode}
-use Rattle.kdl.specs.declared.print.PrintFrame.{PrintFrame}
+use Rattle.kdl.specs.declared.print.NodeFrame.{NodeFrame}
 
 -- a node up to its last entry, at a depth
 abbrev pub front : KdlNode → ℕ → Text
@@ -23,35 +24,23 @@ node_end n = end_text (option_map node_format_tree (out-KdlNode n).format)
 abbrev pub node_before_block : KdlNode → Text
 node_before_block n = before_block (option_map node_format_tree (out-KdlNode n).format) (map entry_tree (out-KdlNode n).entries.items)
 
--- the `{` of a block, up to its first node
-abbrev pub block_front : KdlDocument → Text
-block_front d =
-    let format = option_map document_format_tree (out-KdlDocument d).format in
-    (123 ∷ after_brace format) ++ leading_text format
-
--- a block from its last node to its `}`; the node that it belongs to is at the depth
-abbrev pub block_end : KdlDocument → ℕ → Text
-block_end d depth =
-    let format = option_map document_format_tree (out-KdlDocument d).format in
-    trailing_text format ++ before_brace format depth ++ 125 ∷ []
-
 -- a node without children
 abbrev pub line : KdlNode → ℕ → Text
 line n depth = front n depth ++ node_end n
 
 -- a node up to the first node in its block
 abbrev pub opening : KdlNode → KdlDocument → ℕ → Text
-opening n d depth = front n depth ++ node_before_block n ++ block_front d
+opening n d depth = front n depth ++ node_before_block n ++ block_start (out-KdlDocument d).format
 
 -- a node from the last node in its block to its own end
 abbrev pub closing : KdlNode → KdlDocument → ℕ → Text
-closing n d depth = block_end d depth ++ node_end n
+closing n d depth = block_end (out-KdlDocument d).format depth ++ node_end n
 
 -- the blocks that are open, the outermost first, and the nodes after each
-abbrev pub print_above : List PrintFrame → ℕ → Text
+abbrev pub print_above : List NodeFrame → ℕ → Text
 print_above [] depth = []
 print_above (o ∷ os) depth = print_above os (depth + 1) ++ closing o.node.now o.block.now depth ++ print_nodes (nodes_tree o.following.now) depth
 
 -- the nodes in the innermost block, and then the blocks that are open
-abbrev pub print_left : List KdlNode → List PrintFrame → Text
+abbrev pub print_left : List KdlNode → List NodeFrame → Text
 print_left rest above = print_nodes (nodes_tree rest) (length above) ++ print_above above 0

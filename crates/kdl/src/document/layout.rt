@@ -1,6 +1,5 @@
 //! Layout of documents.
 
-ghost use Rattle.kdl.specs.Change.{with_document_format};
 ghost use Rattle.kdl.specs.Internal.Spacing.{DocumentIsSpaced, IsAround};
 ghost use Rattle.kdl.specs.Layout.{DocumentKeepsReading, DocumentSpaced, IndentsBySpaces, document_bare};
 ghost use Rattle.kdl.specs.LaysOut.{FormatsDocument, KeepsDocument, RereadsDocument};
@@ -56,9 +55,7 @@ impl KdlDocument {
     ///
     /// If no entry is flagged, two documents that are formatted so print equal texts exactly if their data are equal.
     ///
-    /// If an allocation fails, returns an error. The data of the document is then unchanged, and some of it may be
-    /// formatted. It still prints a text with the same data if it did before, and if each entry that keeps its form
-    /// reads back in it.
+    /// What an error leaves is as after `autoformat`.
     ///
     /// ```
     /// let mut document = KdlDocument::parse(alloc, "a  0x10; /* b */ \"b\" { c }")?;
@@ -76,9 +73,8 @@ impl KdlDocument {
     /// Formats the document as the configuration says: from its level on, with its indent for each level, with or
     /// without comments, and with all entries flagged or not.
     ///
-    /// Returns an error if an allocation fails, or if the level of a child would exceed `usize::MAX`. The data of the
-    /// document is then unchanged, and some of it may be formatted. If the indent is spaces, it still prints
-    /// a text with the same data, as after `autoformat`.
+    /// Returns an error if an allocation fails, or if the level of a child would exceed `usize::MAX`. It leaves what an
+    /// error of `autoformat` does; the document still prints a text with the same data if the indent is spaces.
     ///
     /// ```
     /// let config = FormatConfig::builder().indent("\t").build();
@@ -108,9 +104,8 @@ impl KdlDocument {
     /// without that. If the layout keeps blocks on one line, a block that prints one line, without comments and without
     /// blocks in it, is put on one line: `{ a 1; b 2 }`, or `{}` without nodes.
     ///
-    /// Returns an error if an allocation fails, or if the level of a child, or a number of newlines, would exceed
-    /// `usize::MAX`. The data of the document is then unchanged, and some of it may be formatted. If the
-    /// indent is spaces, it still prints a text with the same data, as after `autoformat`.
+    /// Returns an error as `autoformat_config` does, or if a number of newlines would exceed `usize::MAX`. What it leaves
+    /// is the same.
     ///
     /// ```
     /// let layout = Layout { blank_lines: 1, keep_one_line: true, ..Layout::new() };
@@ -206,12 +201,5 @@ impl KdlDocument {
         ensures { result ≡ is_on_one_line (document_tree self.now) }
     {
         braces_on_line(&self.format) && nodes_on_line(&self.nodes)
-    }
-
-    /// Sets the texts around the nodes of the document.
-    pub(crate) fn exchange_format(&mut self, format: Option<KdlDocumentFormat>)
-        ensures { self.new ≡ with_document_format self.old format }
-    {
-        self.format = format;
     }
 }

@@ -23,14 +23,11 @@ use std::alloc::AllocError;
 impl KdlDocument {
     /// Appends the node.
     ///
-    /// Adds a newline if the printed text would not read back without it: after a line comment or a line continuation
-    /// without its newline, and at the end of a node without a terminator. The newline is added to the text before the
-    /// new node, which is the last node or the document's leading text. It is added to the new node itself only if the
+    /// Adds a newline if the printed text would not read back without it, and no superfluous one: after a line comment
+    /// or a line continuation without its newline, and at the end of a node without a terminator. It is added to the text
+    /// before the new node, which is the last node or the document's leading text, and to the new node itself only if the
     /// document has a trailing text. No other text changes. A node without a format that needs a newline gets a format,
     /// of the texts that it prints at depth 0.
-    ///
-    /// No superfluous newline is added: if the last node ends by itself and no text follows it, the new text is the old
-    /// one followed by the node.
     ///
     /// For a block use `KdlNode::push_child`, since a `}` follows there.
     ///

@@ -21,12 +21,9 @@ use std::mem;
 impl KdlNode {
     /// Appends the node to the children, in a new block if there is none.
     ///
-    /// Adds a newline if the printed text would not read back without it: after a line comment or a line continuation
-    /// without its newline, and at the end of a child without a terminator. The newline is added to the text before the
-    /// new child, which is the last child or the leading text of the block. It is added to the new child before a
-    /// trailing text, and before an indented `}` (a block without a format has one). Directly before a `}`, it is added
-    /// to the new child only after a line comment or a line continuation without its newline. No other text changes. A
-    /// child without a format that needs a newline gets a format, of the texts that it prints at depth 0.
+    /// Adds newlines as `KdlDocument::push_node` does: to the text before the new child, and to the new child before a
+    /// trailing text, and before an indented `}` (a block without a format has one). Directly before a `}`, one is added
+    /// to the new child only after a line comment or a line continuation without its newline.
     ///
     /// The text before the node's terminator is moved before a new block, with a newline if it ends in a line
     /// continuation without one.

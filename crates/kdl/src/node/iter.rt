@@ -103,7 +103,7 @@ fn lent_nodes(children: &mut Option<KdlDocument>) -> slice::IterMut<'_, KdlNode>
     ensures { iter_mut_rest result ≡ nodes_in children.old }
 {
     match children {
-        Some(children) => children.iter_nodes_mut(),
+        Some(children) => children.nodes_mut().iter_mut(),
         None => [].iter_mut(),
     }
 }

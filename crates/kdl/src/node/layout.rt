@@ -61,11 +61,8 @@ impl KdlNode {
         self.autoformat_config(&config)
     }
 
-    /// Formats the node like `autoformat`, and removes its comments and slashdashed pieces.
-    ///
-    /// If an allocation fails, returns an error. The data of the node is then unchanged, and some of it may be
-    /// formatted. It still prints a text with the same data if it did before, and if each entry that keeps its form
-    /// reads back in it.
+    /// Formats the node like `autoformat`, and removes its comments and slashdashed pieces. What an error leaves is the
+    /// same.
     ///
     /// ```
     /// let mut node = KdlNode::parse(alloc, "\"a\"   0x10 { /* b */ b; }")?;
@@ -83,9 +80,8 @@ impl KdlNode {
     /// Formats the node and all nodes below it as the configuration says: from its level on, with its indent for each
     /// level, with or without comments, and with all entries flagged or not.
     ///
-    /// Returns an error if an allocation fails, or if the level of a child would exceed `usize::MAX`. The data of the
-    /// node is then unchanged, and some of it may be formatted. If the indent is spaces, it still prints
-    /// a text with the same data, as after `autoformat`.
+    /// Returns an error if an allocation fails, or if the level of a child would exceed `usize::MAX`. It leaves what an
+    /// error of `autoformat` does; the node still prints a text with the same data if the indent is spaces.
     ///
     /// ```
     /// let config = FormatConfig::builder().indent("\t").indent_level(1).build();
@@ -107,17 +103,11 @@ impl KdlNode {
         self.autoformat_layout(&layout)
     }
 
-    /// Formats the node like `autoformat_config`, and keeps blank lines between the nodes in its blocks, and between
-    /// comments and slashdashed pieces that are kept: as many as there are, but at most the layout's number. There are
-    /// none before the node, and none at the start and at the end of a block. If the layout keeps spellings, a value, a
-    /// name, a key or a type keeps its spelling if this means what it did, comments inside a type, after it and around
-    /// `=` stay, and so does a text before an entry that continues the line; an entry that is flagged to keep its form is
-    /// laid out as without that. If the layout keeps blocks on one line, a block that prints one line, without comments
-    /// and without blocks in it, is put on one line, as in a document.
+    /// Formats the node like `autoformat_config`, and keeps blank lines, spellings and blocks on one line as the layout
+    /// says, like `KdlDocument::autoformat_layout`. There are no blank lines before the node.
     ///
-    /// Returns an error if an allocation fails, or if the level of a child, or a number of newlines, would exceed
-    /// `usize::MAX`. The data of the node is then unchanged, and some of it may be formatted. If the
-    /// indent is spaces, it still prints a text with the same data, as after `autoformat`.
+    /// Returns an error as `autoformat_config` does, or if a number of newlines would exceed `usize::MAX`. What it leaves
+    /// is the same.
     ///
     /// ```
     /// let layout = Layout { blank_lines: 1, keep_one_line: true, ..Layout::new() };
@@ -285,9 +275,9 @@ fn set_around(children: &mut Option<KdlDocument>, around: Option<Around>)
     match around {
         Some(Around { braces, line }) => {
             set_formats(children.nodes_mut(), line);
-            children.exchange_format(Some(braces));
+            children.set_format(braces);
         }
-        None => children.exchange_format(None),
+        None => children.clear_format(),
     }
 }
 

@@ -3,8 +3,7 @@ use Rattle.kdl.specs.Cleared.{cleared_document}
 use Rattle.kdl.specs.Internal.Due.{IsAlone}
 use Rattle.kdl.specs.Tree.{document_tree}
 use Rattle.kdl.specs.declared.document.KdlDocument.TheViews.{out-KdlDocument}
-use Rattle.kdl.proofs.Clearing.ClearingLoop.{Walk, Whole, Climb, begun, at_node, leaf_cleared, block_entered, block_left, climb, climb_bound, finished, outermost_is}
-use Rattle.kdl.proofs.Clearing.ClearingEnds.{left_of, leaf_counted, block_counted, end_counted}
+use Rattle.kdl.proofs.Clearing.{Walk, Whole, Climb, begun, at_node, leaf_cleared, block_entered, block_left, climb, climb_bound, finished, outermost_is, left_of, leaf_counted, block_counted, end_counted}
 use Rattle.kdl.proofs.clear.clear_all.Goals as goal
 use Rattle.kdl.proofs.clear.clear_all.Goals.{After-due_from-at}
 

@@ -1,7 +1,6 @@
 use Rattle.kdl.specs.Cleared.{cleared_document}
 use Rattle.kdl.specs.Tree.{document_tree}
-use Rattle.kdl.proofs.Clearing.ClearingLoop.{Walk}
-use Rattle.kdl.proofs.Clearing.ClearingEnds.{left_of}
+use Rattle.kdl.proofs.Clearing.{Walk, left_of}
 use Rattle.kdl.proofs.clear.clear_all.Given as goal
 
 abbrev pub invariant-due : goal.invariant-due

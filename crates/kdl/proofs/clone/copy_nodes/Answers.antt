@@ -1,9 +1,8 @@
 use Rattle.std.proofs.Common.{rules, arith, sym, ◌≡◌, ◌∙◌, ap, [], ◌∷◌, ◌++◌, map, List, Some, None}
 use Rattle.std.proofs.lemmas.List.{append-nil}
-use Rattle.kdl.specs.Internal.Copied.{outermost}
+use Rattle.kdl.specs.Internal.Copied.{CopyFrame, outermost}
 use Rattle.kdl.specs.Internal.Count.{count_left}
 use Rattle.kdl.specs.Tree.{node_tree}
-use Rattle.kdl.specs.declared.clone.CopyFrame.{CopyFrame}
 use Rattle.kdl.specs.declared.document.KdlDocument.TheViews.{out-KdlNode}
 use Rattle.kdl.specs.declared.node.KdlNode.{KdlNode}
 use Rattle.kdl.proofs.CopyingLoop.{none_copied, line_made, block_opened, block_closed}
@@ -13,7 +12,7 @@ use Rattle.kdl.proofs.clone.copy_nodes.Goals as goal
 
 -- the nodes after that of an open block
 abbrev following : CopyFrame → List KdlNode
-following o = o.following.now
+following o = o.0.following.now
 
 pub left-init : goal.left-init
 left-init c =
@@ -22,7 +21,7 @@ left-init c =
 
 pub left-smaller-in-Some-children : goal.left-smaller-in-Some-children
 left-smaller-in-Some-children c =
-    let o : CopyFrame = record { node = c.in-Some.node; block = c.in-Some-children.block; following = c.in-Some.following; before = c.replace-before.result } in
+    let o : CopyFrame = (record { node = c.in-Some.node; block = c.in-Some-children.block; following = c.in-Some.following }, c.replace-before.result) in
     let first : c.left.rest.now ≡ c.in-Some.node.now ∷ c.in-Some.following.now = search rules in
     let has : (out-KdlNode c.in-Some.node.now).children ≡ Some c.in-Some-children.block.now = search rules in
     let pushed : c.push.new.self.items ≡ c.left.above.items ++ o ∷ [] = search rules in
@@ -30,7 +29,7 @@ left-smaller-in-Some-children c =
 
 pub left-preserved-in-Some-children : goal.left-preserved-in-Some-children
 left-preserved-in-Some-children c =
-    let o : CopyFrame = record { node = c.in-Some.node; block = c.in-Some-children.block; following = c.in-Some.following; before = c.replace-before.result } in
+    let o : CopyFrame = (record { node = c.in-Some.node; block = c.in-Some-children.block; following = c.in-Some.following }, c.replace-before.result) in
     let above = c.left.above.items in
     let first : c.left.rest.now ≡ c.in-Some.node.now ∷ c.in-Some.following.now = search rules in
     let has : (out-KdlNode c.in-Some.node.now).children ≡ Some c.in-Some-children.block.now = search rules in
@@ -72,7 +71,7 @@ returns-in_default-pop c =
 
 pub left-smaller : goal.left-smaller
 left-smaller c =
-    let o = c.in-Some-pop.opened in
+    let o : CopyFrame = (c.in-Some-pop.open, c.in-Some-pop.before) in
     let above = c.left.above in
     let before : above.items ≡ c.pop.new.self.items ++ o ∷ [] = search rules in
     let none_left = none_left_is c.left.rest.now c.in_default.ensures.cases in
@@ -80,7 +79,7 @@ left-smaller c =
 
 pub left-preserved : goal.left-preserved
 left-preserved c =
-    let o = c.in-Some-pop.opened in
+    let o : CopyFrame = (c.in-Some-pop.open, c.in-Some-pop.before) in
     let above = c.left.above.items in
     let before : above ≡ c.pop.new.self.items ++ o ∷ [] = search rules in
     let none_left = none_left_is c.left.rest.now c.in_default.ensures.cases in

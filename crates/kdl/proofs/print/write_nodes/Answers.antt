@@ -8,13 +8,13 @@ use Rattle.kdl.specs.Internal.Left.{opening, print_left}
 use Rattle.kdl.specs.Tree.{nodes_tree}
 use Rattle.kdl.specs.declared.document.KdlDocument.TheViews.{out-KdlDocument, out-KdlNode}
 use Rattle.kdl.specs.declared.node.KdlNode.{KdlNode}
-use Rattle.kdl.specs.declared.print.PrintFrame.{PrintFrame}
+use Rattle.kdl.specs.declared.print.NodeFrame.{NodeFrame}
 use Rattle.kdl.proofs.Printing.PrintingLoop.{line_left, block_left, end_left, written_more, none_left_is}
 use Rattle.kdl.proofs.NodeCounts.{line_counted, block_counted, end_counted}
 use Rattle.kdl.proofs.print.write_nodes.Goals as goal
 
 -- the nodes after that of an open block
-abbrev following : PrintFrame → List KdlNode
+abbrev following : NodeFrame → List KdlNode
 following o = o.following.now
 
 pub left-init : goal.left-init
@@ -26,7 +26,7 @@ left-init g c = λ plain. (
 
 pub left-smaller-in-Some-children : goal.left-smaller-in-Some-children
 left-smaller-in-Some-children g c =
-    let o : PrintFrame = record { node = c.in-Some.node; block = c.in-Some-children.block; following = c.in-Some.following } in
+    let o : NodeFrame = record { node = c.in-Some.node; block = c.in-Some-children.block; following = c.in-Some.following } in
     let first : c.left.rest.now ≡ c.in-Some.node.now ∷ c.in-Some.following.now = search rules in
     let has : (out-KdlNode c.in-Some.node.now).children ≡ Some c.in-Some-children.block.now = search rules in
     let pushed : c.push.new.self.items ≡ c.left.above.items ++ o ∷ [] = search rules in
@@ -35,7 +35,7 @@ left-smaller-in-Some-children g c =
 pub left-preserved-in-Some-children : goal.left-preserved-in-Some-children
 left-preserved-in-Some-children g c = λ plain.
     let p = c.left.invariant plain in
-    let o : PrintFrame = record { node = c.in-Some.node; block = c.in-Some-children.block; following = c.in-Some.following } in
+    let o : NodeFrame = record { node = c.in-Some.node; block = c.in-Some-children.block; following = c.in-Some.following } in
     let above = c.left.above in
     let first : c.left.rest.now ≡ c.in-Some.node.now ∷ c.in-Some.following.now = search rules in
     let has : (out-KdlNode c.in-Some.node.now).children ≡ Some c.in-Some-children.block.now = search rules in

@@ -1,35 +1,45 @@
-use Rattle.std.proofs.Common.{◌∙◌, ap, None}
+use Rattle.std.proofs.Common.{◌≡◌, ◌<◌, ◌∙◌, Some, ap, arith, length, refl, sym, unwrap_or}
+use Rattle.std.specs.List.{insert}
+use Rattle.std.proofs.lemmas.Option.{slice_get_read}
 use Rattle.kdl_entry.specs.Tree.{entry_tree}
 use Rattle.kdl_parts.specs.EntryLists.{place_of}
-use Rattle.kdl_parts.proofs.EntryEdits.{key_put, key_replaced, key_succeeds, key_under, index_put, index_replaced, index_succeeds, index_under, if_ok_same, replaced_is, back_is, insert_done, left_alone}
+use Rattle.kdl_parts.proofs.EntryEdits.{key_put, key_replaced, key_under, index_put, index_under, set_around}
 use Rattle.kdl_parts.proofs.edit.insert.Goals as goal
+use Rattle.kdl_parts.proofs.edit.insert.Goals.{In-Some}
 
-pub returns-in-Key : goal.returns-in-Key
-returns-in-Key c =
-    let r = c.put_for.result in
+-- the place that was found is that of an entry
+at_found : (c : In-Some) → Some c.in-Some.at ≡ place_of c.args.key c.args.entries.now.items
+at_found c = sym c.in-Some.is ∙ c.place-at.ensures.place ∙ ap (place_of c.args.key) c.deref.ensures.value
+
+at_bound : (c : In-Some) → c.in-Some.at < length c.args.entries.now.items
+at_bound c = omega (arith, c.in-Some.ensures.bound, ap length c.deref.ensures.value)
+
+pub returns-in-Some-clause-items : goal.returns-in-Some-clause-items
+returns-in-Some-clause-items c =
+    let k = goal.at.returns-in-Some-clause-items c in
+    let f = c.replace.new.dest in
     let es = c.args.entries.now.items in
-    let found = c.place-at.ensures.place ∙ ap (place_of c.args.key) c.deref.ensures.value in
-    let t = key_under c.args.key c.in-Key.name c.named.result (entry_tree c.args.entry) c.in-Key.is c.named.ensures in
-    let h = if_ok_same r _ _ _ es c.put_for.ensures.items (key_put c.args.key c.in-Key.name c.place-at.result c.named.result es c.in-Key.is found) in
     record {
-      items = insert_done r c.args.key c.args.entry c.named.result es _ t h;
-      replaced = replaced_is r _ _ c.put_for.ensures.replaced (key_replaced c.args.key c.in-Key.name c.place-at.result es c.in-Key.is found);
-      succeeds = key_succeeds r c.args.key c.in-Key.name c.place-at.result es c.in-Key.is found c.put_for.ensures.succeeds;
-      back = back_is (λ e. e.0) r c.named.result _ c.put_for.ensures.back t;
-      refused = left_alone r _ es _ h;
+      entry = f;
+      tree = key_under c.args.key c.in-Key.name f (entry_tree c.args.entry) c.in-Key.is (ap entry_tree c.replace.ensures.after ∙ c.named-entry.ensures);
+      items = set_around es c.in-Some.at f (at_bound k.In-Some) ∙ key_put c.args.key c.in-Key.name (Some c.in-Some.at) f es c.in-Key.is (at_found k.In-Some);
     }
 
-pub returns-in-Index : goal.returns-in-Index
-returns-in-Index c =
-    let r = c.put_before.result in
+pub returns-in-Some-clause-replaced : goal.returns-in-Some-clause-replaced
+returns-in-Some-clause-replaced c =
+    let k = goal.at.returns-in-Some-clause-replaced c in
     let es = c.args.entries.now.items in
-    let found = c.place-at.ensures.place ∙ ap (place_of c.args.key) c.deref.ensures.value in
-    let t = index_under c.args.key _ (entry_tree c.args.entry) c.in-Index.is in
-    let h = if_ok_same r _ _ _ es c.put_before.ensures.items (index_put c.args.key _ c.place-at.result c.args.entry es c.in-Index.is found) in
+    ap Some c.replace.ensures.value
+    ∙ sym (slice_get_read es (length es) c.in-Some.at c.index_mut.result.now refl (at_bound k.In-Some) c.index_mut.ensures.value)
+    ∙ key_replaced c.args.key c.in-Key.name (Some c.in-Some.at) es c.in-Key.is (at_found k.In-Some)
+
+pub returns-in-Ok-clause-items : goal.returns-in-Ok-clause-items
+returns-in-Ok-clause-items c =
+    let es = c.args.entries.now.items in
+    let len : c.len.result ≡ length es = omega (arith, c.len.ensures, c.deref.ensures.len, ap length c.deref.ensures.value) in
     record {
-      items = insert_done r c.args.key c.args.entry c.args.entry es _ t h;
-      replaced = replaced_is r None _ c.put_before.ensures.replaced (index_replaced c.args.key _ es c.in-Index.is);
-      succeeds = index_succeeds r c.args.key _ es c.in-Index.is;
-      back = back_is (λ e. e.0) r c.args.entry _ c.put_before.ensures.back t;
-      refused = left_alone r _ es _ h;
+      entry = c.args.entry;
+      tree = index_under c.args.key _ (entry_tree c.args.entry) c.in-Index.is;
+      items = c.in-Ok.ensures.items ∙ ap (λ i. insert es i c.args.entry) (c.unwrap_or-at.ensures ∙ ap (unwrap_or c.place-at.result) len)
+          ∙ index_put c.args.key _ c.place-at.result c.args.entry es c.in-Index.is (c.place-at.ensures.place ∙ ap (place_of c.args.key) c.deref.ensures.value);
     }

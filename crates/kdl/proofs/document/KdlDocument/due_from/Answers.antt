@@ -7,7 +7,7 @@ use Rattle.std.proofs.lemmas.List.Sorted.{IsPartitionPoint-from_clause}
 use Rattle.kdl.specs.declared.document.KdlDocument.TheViews.{out-KdlNode}
 use Rattle.kdl.specs.declared.node.KdlNode.{KdlNode}
 use Rattle.kdl_parts.specs.declared.format.KdlNodeFormat.{KdlNodeFormat}
-use Rattle.kdl.proofs.Clearing.ClearingLoop.{IsDue, IsNotDue}
+use Rattle.kdl.proofs.Clearing.{IsDue, IsNotDue}
 use Rattle.kdl.proofs.document.KdlDocument.due_from.Goals as goal
 
 -- the test that finds the place

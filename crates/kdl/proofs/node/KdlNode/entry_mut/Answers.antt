@@ -4,7 +4,7 @@ use Rattle.kdl_entry.specs.declared.entry.KdlEntry.{KdlEntry}
 use Rattle.kdl.specs.Lookups.{with_found_entry}
 use Rattle.kdl.specs.declared.document.KdlDocument.TheViews.{roll-out-KdlNode}
 use Rattle.kdl.specs.declared.node.KdlNode.{KdlNode}
-use Rattle.kdl.proofs.Finding.WritesFound.{entry_sets, entry_sets_at}
+use Rattle.kdl.proofs.Finding.EntriesFound.{entry_sets, entry_sets_at}
 use Rattle.kdl.proofs.ReadingBack.{entry_loan_reads, entry_loan_respelled, entry_loan_unformed}
 use Rattle.kdl.proofs.PiecesExchanged.{loan_exchanges}
 use Rattle.kdl.proofs.node.KdlNode.entry_mut.Goals as goal

@@ -2,7 +2,7 @@ use Rattle.std.proofs.Common.{◌≡◌, Result, Ok, Err, IsErr, IsOk, OnErr, re
 use Rattle.std.proofs.lemmas.Result.{IfOk-from_err}
 use Rattle.std.specs.Borrow.{name_if_ok}
 use Rattle.kdl.proofs.Finding.NodeLookups.{entries_refused, written, value_found}
-use Rattle.kdl.proofs.Finding.WritesFound.{written_or_pushed}
+use Rattle.kdl.proofs.Finding.EntriesFound.{written_or_pushed}
 use Rattle.kdl.proofs.node.KdlNode.get_or_null_mut.Goals as goal
 use base.Fml.{GName}
 use mathlib.Core.Option.{none}

@@ -5,4 +5,4 @@ use Rattle.kdl.proofs.node.layout.set_around.Goals as goal
 pub returns-in-None : goal.returns-in-None
 returns-in-None c =
     let is : c.args.children.now ≡ Some c.in-Some.children = search rules in
-    rw c.in-None.is (none_set c.args.children.now c.in-Some.children c.exchange_format-in-None.new.self is c.exchange_format-in-None.ensures)
+    rw c.in-None.is (none_set c.args.children.now c.in-Some.children c.clear_format.new.self is c.clear_format.ensures)

@@ -2,7 +2,7 @@ use Rattle.std.proofs.Common.{map}
 use Rattle.kdl.specs.Internal.Due.{due}
 use Rattle.kdl.specs.Tree.{node_tree}
 use Rattle.kdl_parts.proofs.Loops.{Changed}
-use Rattle.kdl.proofs.document.clear.set_nodes_due.Given as goal
+use Rattle.kdl.proofs.clear.set_nodes_due.Given as goal
 
 abbrev pub invariant-loop-node : goal.invariant-loop-node
 invariant-loop-node l = Changed node_tree due l.node-items l.node-index (map node_tree l.initial.node-items)

@@ -2,7 +2,7 @@ use Rattle.std.proofs.Common.{arith}
 use Rattle.kdl.specs.Internal.Due.{due}
 use Rattle.kdl.specs.Tree.{node_tree}
 use Rattle.kdl_parts.proofs.Loops.{changed_more, changed_all}
-use Rattle.kdl.proofs.document.clear.set_nodes_due.Goals as goal
+use Rattle.kdl.proofs.clear.set_nodes_due.Goals as goal
 
 pub loop-node-preserved : goal.loop-node-preserved
 loop-node-preserved c =
