@@ -301,7 +301,7 @@ fits_ends p Later e = absurd cc
 module _ {p : Place} {t : Text} where
   -- an entry that is passed over is dropped, and so is a block
   back : (b : Bool) {u : Text} {js : List Item} → PartPasses (slashdash_in p) t t b u → takes p b ≡ true → PlaceItems (next_place p b) u js → PlaceItems p (47 ∷ 45 ∷ t) (piece (between (47 ∷ 45 ∷ t) u) ∷ js)
-  back false {u} {js} x h g = go (any_derived (takes_entries p) (passes_accepted x directly (λ q e. place_accepted g q (fits_ends (items.spaced NoKey p) q e))))
+  back false {u} {js} x h g = go (any_derived (takes_entries p) (passes_accepted x directly (λ q e. place_accepted g q (fits_ends (items.spaced false p) q e))))
     where
       go : PartDropped (takes_entries p) t → PlaceItems p (47 ∷ 45 ∷ t) (piece (between (47 ∷ 45 ∷ t) u) ∷ js)
       go (an_entry {u = w} {e = e} h ls i q) = PlaceItems.dropped_entry h (a_slashdash ls) (subst (λ (z : Text). IsEntry true w z e) (part_det (entry_passes ls i q (takes_entries p) h t) x).1 i) g
