@@ -1,5 +1,5 @@
 -- A cursor that is back where it was, with steps counted.
-use Rattle.std.proofs.Common.{ℕ, ◌+◌, ◌≤◌, [], refl, ap, sym, ◌∙◌, arith}
+use Rattle.std.proofs.Common.{ℕ, ◌+◌, ◌≤◌, [], ap, sym, ◌∙◌, arith}
 use Rattle.kdl_text.specs.Internal.Here.{Here, Returned}
 use Rattle.kdl_text.specs.Internal.Reading.{Moves}
 use Rattle.kdl_text.specs.Spans.{bytes}
@@ -20,9 +20,6 @@ returned_then j k a b e r s = record {
   counts = omega (arith, r.counts, s.counts);
   same = s.same ∙ r.same;
 }
-
-pub returned_none : (a : Here) → Returned 0 a a
-returned_none a = record { rest = refl; at = refl; most = omega arith; counts = omega arith; same = refl }
 
 -- what a cursor did, one call after another
 pub ruleset advancing = (moves_then, moves_one, moves_two, moves_stayed, moves_ran, moves_returned, stayed_looked, took_from, fewer_bytes)
