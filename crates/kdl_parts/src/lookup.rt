@@ -39,10 +39,8 @@ pub fn entry_mut(entries: &mut Vec<KdlEntry>, key: NodeKey) -> Option<&mut KdlEn
 {
     let at = place(entries, &key);
     drop(key);
-    match at {
-        Some(at) => Some(&mut entries[at]),
-        None => None,
-    }
+    let at = at?;
+    Some(&mut entries[at])
 }
 
 /// Returns a mutable reference to the value of the entry that the key finds. All else is unchanged.
@@ -53,10 +51,8 @@ pub fn value_mut(entries: &mut Vec<KdlEntry>, key: NodeKey) -> Option<&mut KdlVa
 {
     let at = place(entries, &key);
     drop(key);
-    match at {
-        Some(at) => Some(value_at_mut(entries, at)),
-        None => None,
-    }
+    let at = at?;
+    Some(value_at_mut(entries, at))
 }
 
 /// Returns a mutable reference to the value of the entry at that place. All else is unchanged.
