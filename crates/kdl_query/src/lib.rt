@@ -1,0 +1,4 @@
+//! Queries: exactly the nodes of a document that a selector describes.
+#![tactic(auto)]
+
+mod decimal;
