@@ -82,7 +82,7 @@ selected_there x q p h = selector_there x h.1 p h.4
 told : (x : Nodes) (q : Query) → AllByRecursion (Tells x (IsSelected x q)) (all_visits q x)
 told x q = all_tell x (IsSelected x q) (query_parts q) (sees_all x q)
 
-is_chosen : (x : Nodes) (q : Query) (p : Path) → IsSelected x q p → In (chosen_paths (all_visits q x)) p
+pub is_chosen : (x : Nodes) (q : Query) (p : Path) → IsSelected x q p → In (chosen_paths (all_visits q x)) p
 is_chosen x q p h =
     let n = selected_there x q p h in
     selected_chosen x (IsSelected x q) (all_visits q x) (told x q) p (all_visited x (query_parts q) p n.0 n.1) h

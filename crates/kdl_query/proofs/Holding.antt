@@ -14,7 +14,7 @@ use Rattle.kdl_grammar.specs.Data.{Node}
 use Rattle.kdl.specs.Said.{has_key, has_no_key, last_property, nth_argument, said_entries, said_name, said_type}
 use Rattle.kdl_parts.specs.EntryLists.{same_text}
 use Rattle.kdl_query.specs.Data.{Accessor, Literal, NodeTest, Test, TypeTest, always, any_node, argument, arguments, compares, has, name, of_type, properties, property, some_type, ty, type_named, value}
-use Rattle.kdl_query.specs.Decimal.{exact_order}
+use Rattle.kdl_query.specs.Decimal.{Number, both_order, exact_order, number_of}
 use Rattle.kdl_query.specs.Tests.{BothTexts, Compares, ComparesValue, Finds, HasInfix, HasPrefix, HasSuffix, IsSame, IsTyped, Meets, Tests, as_entry}
 use Rattle.kdl_query.specs.Internal.Holds.{any_found, any_property, compares_other, compares_so, compares_string, compares_text, compares_type, compares_value, differs, has_infix, holds, is_last_property, is_named_if, is_same, is_typed, is_typed_if, meets, passes_so, same_truth}
 use Rattle.kdl_query.specs.declared.tree.Comparison.{Comparison}
@@ -29,6 +29,14 @@ never P f = (λ e. absurd (cc), λ h. absurd (f h))
 
 always_so : (P : Type 0) → P → Decides true P
 always_so P h = (λ _. h, λ _. refl)
+
+-- what is no number has no order
+both_none : (o : Option Number) → both_order None o ≡ None
+both_none None = refl
+both_none (Some n) = refl
+
+no_order : (v : Value) (k : Ordering) → both_order None (number_of v) ≡ Some k → ⊥
+no_order v k e = let h : None ≡ Some k = sym (both_none (number_of v)) ∙ e in cc
 
 -- types
 typed_decides : (t : TypeTest) (u : Option Text) → Decides (is_typed t u) (IsTyped t u)
@@ -83,17 +91,19 @@ ge_decides o = either_decides (option_map_or is_gt o false) (option_map_or is_eq
     parts (Some IsGreater) = refl
 
 truth_decided : (b : Bool) (v : Value) → Decides (is_same (truth b) v) (IsSame (truth b) v)
-truth_decided b (text s) = never (exact_order (truth b) (text s) ≡ Some IsEqual) (λ e. cc)
-truth_decided b (integer z) = never (exact_order (truth b) (integer z) ≡ Some IsEqual) (λ e. cc)
-truth_decided b (float t) = never (exact_order (truth b) (float t) ≡ Some IsEqual) (λ e. cc)
+unfolding exact_order
+truth_decided b (text s) = never (exact_order (truth b) (text s) ≡ Some IsEqual) (no_order (text s) IsEqual)
+truth_decided b (integer z) = never (exact_order (truth b) (integer z) ≡ Some IsEqual) (no_order (integer z) IsEqual)
+truth_decided b (float t) = never (exact_order (truth b) (float t) ≡ Some IsEqual) (no_order (float t) IsEqual)
 truth_decided b (truth c) = truth_decides b c
-truth_decided b null = never (exact_order (truth b) null ≡ Some IsEqual) (λ e. cc)
+truth_decided b null = never (exact_order (truth b) null ≡ Some IsEqual) (no_order null IsEqual)
 
 null_decided : (v : Value) → Decides (is_same null v) (IsSame null v)
-null_decided (text s) = never (exact_order null (text s) ≡ Some IsEqual) (λ e. cc)
-null_decided (integer z) = never (exact_order null (integer z) ≡ Some IsEqual) (λ e. cc)
-null_decided (float t) = never (exact_order null (float t) ≡ Some IsEqual) (λ e. cc)
-null_decided (truth b) = never (exact_order null (truth b) ≡ Some IsEqual) (λ e. cc)
+unfolding exact_order
+null_decided (text s) = never (exact_order null (text s) ≡ Some IsEqual) (no_order (text s) IsEqual)
+null_decided (integer z) = never (exact_order null (integer z) ≡ Some IsEqual) (no_order (integer z) IsEqual)
+null_decided (float t) = never (exact_order null (float t) ≡ Some IsEqual) (no_order (float t) IsEqual)
+null_decided (truth b) = never (exact_order null (truth b) ≡ Some IsEqual) (no_order (truth b) IsEqual)
 null_decided null = always_so (Unit {0}) tt
 
 same_decides : (a v : Value) → ((s : Text) → a ≢ text s) → Decides (is_same a v) (IsSame a v)
@@ -143,33 +153,36 @@ infix_decides (c ∷ a) v =
     (Decides-or (starts_with eqb (c ∷ a) v) (has_infix a v) (prefix_decides (c ∷ a) v) (infix_decides a v))
 
 text_decides : (c : Comparison) (a v : Text) → Decides (compares_text c a v) (ComparesValue c (text a) (text v))
+unfolding exact_order
 text_decides Equal a v = bytes_eq-Decides a v
 text_decides NotEqual a v = Decides-not (same_text a v) (bytes_eq-Decides a v)
-text_decides Greater a v = never _ (λ e. cc)
-text_decides GreaterOrEqual a v = never _ (λ h. elim h [ inl e ↦ cc | inr e ↦ cc ])
-text_decides Less a v = never _ (λ e. cc)
-text_decides LessOrEqual a v = never _ (λ h. elim h [ inl e ↦ cc | inr e ↦ cc ])
+text_decides Greater a v = never _ (no_order (text v) IsGreater)
+text_decides GreaterOrEqual a v = never _ (λ h. elim h [ inl e ↦ no_order (text v) IsGreater e | inr e ↦ no_order (text v) IsEqual e ])
+text_decides Less a v = never _ (no_order (text v) IsLess)
+text_decides LessOrEqual a v = never _ (λ h. elim h [ inl e ↦ no_order (text v) IsLess e | inr e ↦ no_order (text v) IsEqual e ])
 text_decides StartsWith a v = prefix_decides a v
 text_decides EndsWith a v = suffix_decides a v
 text_decides Contains a v = infix_decides a v
 
 differs_decides : (c : Comparison) (a : Text) (v : Value) → (IsSame (text a) v → ⊥) → ((R : Text → Text → Type 0) → BothTexts R (text a) v → ⊥) → Decides (differs c) (ComparesValue c (text a) v)
+unfolding exact_order
 differs_decides Equal a v f g = never _ f
 differs_decides NotEqual a v f g = always_so _ f
-differs_decides Greater a v f g = never _ (λ e. cc)
-differs_decides GreaterOrEqual a v f g = never _ (λ h. elim h [ inl e ↦ cc | inr e ↦ cc ])
-differs_decides Less a v f g = never _ (λ e. cc)
-differs_decides LessOrEqual a v f g = never _ (λ h. elim h [ inl e ↦ cc | inr e ↦ cc ])
+differs_decides Greater a v f g = never _ (no_order v IsGreater)
+differs_decides GreaterOrEqual a v f g = never _ (λ h. elim h [ inl e ↦ no_order v IsGreater e | inr e ↦ no_order v IsEqual e ])
+differs_decides Less a v f g = never _ (no_order v IsLess)
+differs_decides LessOrEqual a v f g = never _ (λ h. elim h [ inl e ↦ no_order v IsLess e | inr e ↦ no_order v IsEqual e ])
 differs_decides StartsWith a v f g = never _ (g HasPrefix)
 differs_decides EndsWith a v f g = never _ (g HasSuffix)
 differs_decides Contains a v f g = never _ (g HasInfix)
 
 string_decides : (c : Comparison) (a : Text) (v : Value) → Decides (compares_string c a v) (ComparesValue c (text a) v)
+unfolding exact_order
 string_decides c a (text v) = text_decides c a v
-string_decides c a (integer z) = differs_decides c a (integer z) (λ e. cc) (λ R h. h)
-string_decides c a (float t) = differs_decides c a (float t) (λ e. cc) (λ R h. h)
-string_decides c a (truth b) = differs_decides c a (truth b) (λ e. cc) (λ R h. h)
-string_decides c a null = differs_decides c a null (λ e. cc) (λ R h. h)
+string_decides c a (integer z) = differs_decides c a (integer z) (no_order (integer z) IsEqual) (λ R h. h)
+string_decides c a (float t) = differs_decides c a (float t) (no_order (float t) IsEqual) (λ R h. h)
+string_decides c a (truth b) = differs_decides c a (truth b) (no_order (truth b) IsEqual) (λ R h. h)
+string_decides c a null = differs_decides c a null (no_order null IsEqual) (λ R h. h)
 
 value_decides : (c : Comparison) (a v : Value) → Decides (compares_value c a v) (ComparesValue c a v)
 value_decides c (text a) v = string_decides c a v

@@ -85,11 +85,3 @@ due_entered ls l k n e f g h =
     ap (λ i. visits_of q i k.parts (drop i k.nodes)) f ∙ ap (λ ps. visits_of q 0 ps k.nodes) g ∙ ap (λ ns. visits_of q 0 (entered l.parts) ns) h in
     let inner : inside_last ls n ≡ visits_inside q (entered l.parts) n = ap (λ o. option_map_or (λ m. visits_inside q (entered m.parts) n) o []) e in
     due_last [] ls k ∙ ap (λ d. d ++ due [] ls) (level ∙ sym (inside_listed q (entered l.parts) n) ∙ sym inner)
-
--- a node without a block, and a walk at its end, have nothing inside
-pub nothing_inside : (ls : List LevelSays) (n : Node) → said_child_nodes n ≡ [] → inside_last ls n ≡ []
-nothing_inside ls n e = go (last_or None ls) (path_of ls)
-  where
-    go : (o : Option LevelSays) (q : Path) → option_map_or (λ l. visits_inside q (entered l.parts) n) o [] ≡ []
-    go None q = refl
-    go (Some l) q = inside_listed q (entered l.parts) n ∙ ap (λ ns. visits_of q 0 (entered l.parts) ns) e

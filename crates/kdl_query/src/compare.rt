@@ -2,7 +2,7 @@
 
 ghost use Rattle.kdl_entry.specs.Tree.{entry_data, entry_tree, identifier_tree};
 ghost use Rattle.kdl_parts.specs.EntryLists.{same_text};
-ghost use Rattle.kdl_query.specs.Internal.Holds.{compares_other, compares_so, compares_string, compares_text, compares_type, compares_value, differs, has_infix, is_equal, is_ordered, is_ordered_if, is_same, is_truth, is_typed, same_truth};
+ghost use Rattle.kdl_query.specs.Internal.Holds.{compares_other, compares_so, compares_string, compares_text, compares_type, compares_value, has_infix, is_equal, is_ordered, is_ordered_if, is_same, is_truth, is_typed, same_truth};
 ghost use Rattle.kdl_query.specs.Tests.{as_entry};
 ghost use Rattle.kdl_query.specs.Tree.{literal_says, type_test_says};
 ghost use Rattle.kdl_value.specs.Tree.{value_tree};
