@@ -22,7 +22,7 @@ abbrev pub node_at : Path → Nodes → Option Node
 node_at [] x = None
 node_at (i ∷ p) x = option_and_then (node_below p) (slice_get (said_nodes x) i)
 
--- p stands to q as the combinator says: q is its parent, a node or document around it, the sibling directly before it, a sibling before it
+-- q is the parent of p, a node or document around it, the sibling directly before it, some sibling before it
 abbrev pub Stands : Combinator → Path → Path → Type 0
 Stands Child q p = (i : ℕ) × (p ≡ q ++ i ∷ [])
 Stands Descendant q p = (i : ℕ) × (r : Path) × (p ≡ q ++ i ∷ r)

@@ -24,7 +24,7 @@ pub record PartSays : Type 0 where
 abbrev pub part_says : Part → PartSays
 part_says p = record { link = p.link; test = option_map (λ t. node_test_says t.now) p.test; is_last = p.is_last; marks = p.marks }
 
--- the marks before the first top-level node, after a node, and before the first node in the block of the one visited last
+-- the marks before the first top-level node, after a node, and before the first node in its block
 abbrev pub at_top : Bool → Marks
 at_top b = record { parent = b; ancestor = b; previous = false; earlier = false }
 
@@ -87,6 +87,7 @@ parts_to b (data'.then s c t) = parts_to false s ++ fresh (After c) (Some t) b �
 abbrev pub step_part : Bool → Step → PartSays
 step_part b s = fresh (After s.combinator) (Some (node_test_says s.node)) b
 
+-- the parts of a whole selector; from the document alone it leads to each top-level node
 abbrev pub all_parts : Selector → List PartSays
 all_parts data'.top = fresh Document None false ∷ fresh (After Child) None true ∷ []
 all_parts (data'.start t) = parts_to true (data'.start t)
