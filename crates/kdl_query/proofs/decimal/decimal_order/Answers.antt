@@ -1,0 +1,31 @@
+use Rattle.std.proofs.Common.{rules, ◌≡◌, ℕ, ℤ, ◌+◌, ◌-◌, ◌*◌, ◌/◌, ◌%◌, ◌^◌, ◌<◌, ◌≤◌, pos, neg_ℤ, ◌+ℤ◌, ◌-ℤ◌, ◌*ℤ◌, ◌≤ℤ◌, min, option_map, IfSome, [], length, ◌==◌, position, true, Bool, false, nat_eq, nat_lt, List, ◌∷◌, ◌++◌, slice_index_or, slice_set, bit_and, bit_or, Fits, w8, w32, w64, Bor, MutBor, ◌<ℤ◌, FitsSigned, to_z, of_z}
+use Rattle.kdl_query.specs.Decimal as exact
+use Rattle.kdl_query.specs.DecimalParts.{natural_of, IsDigits, cut_at, whole_of, IsWhole, IsWithin, Clamps, IsDecimal, exponent, followed, raised, lowered, rational_of, number_of, IsKnown}
+use Rattle.kdl_text.specs.Chars.{is_digit, begins}
+use Rattle.kdl_text.specs.Numbers.{FloatText}
+use Rattle.kdl_text.specs.Numbers.{Decimal as IsDecimalText}
+use Rattle.kdl_text.specs.Numbers.{signed, is_exponent_letter}
+use Rattle.kdl_value.specs.Tree.{value_tree, float_text_of}
+use Rattle.std.specs.List.{list_all, before_first, after_first}
+use Rattle.std.specs.Str.Parse.{digits_value}
+use Rattle.std.specs.Ordering.{int_cmp}
+use Rattle.std.proofs.Common.{arith, ◌∙◌, refl}
+use Rattle.std.proofs.lemmas.Int.{ints}
+use Rattle.kdl_query.proofs.Exact.Parts.{clamps_as, turned}
+use Rattle.kdl_query.proofs.Exact.Orders.{by_sign, order_is}
+use Rattle.std.specs.Int.{w128}
+use Rattle.kdl_query.proofs.decimal.decimal_order.Goals as goal
+
+-- src/decimal.rt:225:1
+pub returns : goal.returns
+returns c = let x = raised c.args.a + lowered c.args.b in
+    let y = raised c.args.b + lowered c.args.a in
+    let a = followed c.args.a c.zeros-a_zeros.result in
+    let b = followed c.args.b c.zeros-b_zeros.result in
+    let h : Clamps (2 ^ 99) c.shift-shift.result (pos x -ℤ pos y) = c.shift-shift.ensures.clamps in
+    let i = c.zeros-a_zeros.ensures.least x y (clamps_as (2 ^ 99) c.shift-shift.result _ (pos x -ℤ pos y) (omega (arith, ints)) h) in
+    let j = c.zeros-b_zeros.ensures.least y x (turned c.shift-shift.result _ x y (omega (arith, ints)) h) in
+    let d : Clamps (2 ^ 100) c.difference.result (whole_of a -ℤ whole_of b) = rw (c.followed_by.ensures, c.followed_by-2.ensures) at c.difference.ensures.clamps in
+    let e = clamps_as (2 ^ 100) c.difference.result (to_z w128 (of_z w128 c.difference.result)) (whole_of a -ℤ whole_of b) (omega (arith, ints)) d in
+    c.cmp.ensures ∙ by_sign (to_z w128 (of_z w128 c.difference.result)) (whole_of a) (whole_of b) e
+    ∙ order_is c.args.a c.args.b c.places.result c.places-2.result c.zeros-a_zeros.result c.zeros-b_zeros.result c.places-2.ensures.room c.places.ensures.room i j

@@ -1,0 +1,14 @@
+use Rattle.std.proofs.Common.{rules, ◌≡◌, [], ◌∷◌, ◌∙◌, ap, map}
+use Rattle.kdl.specs.Tree.{document_says}
+use Rattle.kdl_query.specs.Tree.{query_says}
+use Rattle.kdl_query.specs.Internal.Parts.{query_parts}
+use Rattle.kdl_query.specs.Internal.Visits.{LevelSays, due, level_says}
+use Rattle.kdl_query.proofs.Walking.{due_new}
+use Rattle.kdl_query.proofs.walk.Walk.new.Goals as goal
+
+pub returns : goal.returns
+returns c =
+    let items : c.push.new.self.items ≡ c.new.result ∷ [] = search rules in
+    ap (λ ls. due [] (map level_says ls)) items
+    ∙ due_new (level_says c.new.result) (document_says c.args.document.now) (query_parts (query_says c.args.query.now)) (ap (λ (k : LevelSays). k.next) c.new.ensures)
+    (ap (λ (k : LevelSays). k.parts) c.new.ensures ∙ c.in_ok-parts.ensures) (ap (λ (k : LevelSays). k.nodes) c.new.ensures ∙ c.nodes.ensures.said)

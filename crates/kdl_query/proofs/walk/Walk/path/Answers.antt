@@ -1,0 +1,7 @@
+use Rattle.std.proofs.Common.{◌∙◌, ap, map}
+use Rattle.kdl_query.specs.declared.walk.Level.{Level}
+use Rattle.kdl_query.proofs.Levels.{path_mapped}
+use Rattle.kdl_query.proofs.walk.Walk.path.Goals as goal
+
+pub returns : goal.returns
+returns c = c.in_ok-path.ensures ∙ ap (map (λ (l : Level). l.current)) c.deref.ensures.value ∙ path_mapped c.args.self.now.levels.items

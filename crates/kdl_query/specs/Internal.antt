@@ -1,0 +1,4 @@
+-- What the code computes, in its own order.
+pub mod Holds
+pub mod Parts
+pub mod Visits

@@ -1,0 +1,94 @@
+-- The nodes of a document in the order in which a walk visits them.
+use Rattle.std.specs.List.{filter, last_or}
+use Rattle.std.specs.Option.{option_map_or}
+use Rattle.std.specs.Prelude.{ℕ, suc, Bool, List, [], ◌∷◌, ◌++◌, None, map, drop}
+use Rattle.kdl.specs.Tree.{node_says}
+use Rattle.kdl_grammar.specs.Data.{Node, node, Children, no_children, children, Nodes, none, first}
+use Rattle.kdl_query.specs.Data.{Query}
+use Rattle.kdl_query.specs.Selects.{Path}
+use Rattle.kdl_query.specs.Internal.Parts.{PartSays, at_top, ends, entered, part_says, query_parts, visited}
+use Rattle.kdl_query.specs.declared.walk.Level.{Level}
+use Rattle.kdl_query.specs.declared.walk.Visit.{Visit}
+use Rattle.kdl_query.specs.declared.walk.Walk.{Walk}
+use Rattle.std.specs.Prelude.{false}
+
+-- a node that is visited: its path, what it says, and whether a selector ends there
+pub record Visited : Type 0 where
+  pub path : Path
+  pub said : Node
+  pub is_selected : Bool
+
+abbrev pub next_parts : Node → List PartSays → List PartSays
+next_parts n ps = visited n (at_top false) ps
+
+abbrev pub visit_of : Path → List PartSays → Node → Visited
+visit_of p ps n = record { path = p; said = n; is_selected = ends n (at_top false) ps }
+
+abbrev mutual
+  -- the nodes from place i on in the block at q, and those inside them
+  pub visits : Path → ℕ → List PartSays → Nodes → List Visited
+  visits q i ps none = []
+  visits q i ps (first n x) = visit_of (q ++ i ∷ []) ps n ∷ (visits_inside (q ++ i ∷ []) (entered (next_parts n ps)) n ++ visits q (suc i) (next_parts n ps) x)
+
+  -- those inside the node at p
+  pub visits_inside : Path → List PartSays → Node → List Visited
+  visits_inside p ps (node t n es k) = visits_below p ps k
+
+  pub visits_below : Path → List PartSays → Children → List Visited
+  visits_below p ps no_children = []
+  visits_below p ps (children x) = visits p 0 ps x
+
+-- all nodes of a document
+abbrev pub all_visits : Query → Nodes → List Visited
+all_visits q x = visits [] 0 (query_parts q) x
+
+-- the same of a list of nodes
+abbrev pub visits_of : Path → ℕ → List PartSays → List Node → List Visited
+visits_of q i ps [] = []
+visits_of q i ps (n ∷ ns) = visit_of (q ++ i ∷ []) ps n ∷ (visits_inside (q ++ i ∷ []) (entered (next_parts n ps)) n ++ visits_of q (suc i) (next_parts n ps) ns)
+
+-- a level of the walk
+pub record LevelSays : Type 0 where
+  pub nodes : List Node
+  pub next : ℕ
+  pub current : ℕ
+  pub parts : List PartSays
+
+abbrev pub level_says : Level → LevelSays
+level_says l = record { nodes = map node_says l.nodes.now; next = l.next; current = l.current; parts = map part_says l.parts.items }
+
+abbrev pub levels_of : Walk → List LevelSays
+levels_of w = map level_says w.levels.items
+
+-- the path of the node that was visited last
+abbrev pub path_of : List LevelSays → Path
+path_of ls = map (λ l. l.current) ls
+
+abbrev pub level_due : Path → LevelSays → List Visited
+level_due q l = visits_of q l.next l.parts (drop l.next l.nodes)
+
+-- the nodes that are still to be visited, those of the innermost level first
+abbrev pub due : Path → List LevelSays → List Visited
+due q [] = []
+due q (l ∷ ls) = due (q ++ l.current ∷ []) ls ++ level_due q l
+
+abbrev pub walk_due : Walk → List Visited
+walk_due w = due [] (levels_of w)
+
+-- those inside the node that was visited last
+abbrev pub inside_last : List LevelSays → Node → List Visited
+inside_last ls n = option_map_or (λ l. visits_inside (path_of ls) (entered l.parts) n) (last_or None ls) []
+
+-- the node that a walk came to
+abbrev pub came_to : Visit → Walk → Visited
+came_to v w = record { path = path_of (levels_of w); said = node_says v.node.now; is_selected = v.is_selected }
+
+-- the paths, and the nodes, that are selected
+abbrev pub chosen : List Visited → List Visited
+chosen vs = filter (λ v. v.is_selected) vs
+
+abbrev pub chosen_paths : List Visited → List Path
+chosen_paths vs = map (λ v. v.path) (chosen vs)
+
+abbrev pub chosen_nodes : List Visited → List Node
+chosen_nodes vs = map (λ v. v.said) (chosen vs)

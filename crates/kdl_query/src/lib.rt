@@ -1,0 +1,22 @@
+//! Queries: the nodes of a document that a selector describes.
+//!
+//! A query is a list of selectors. A selector begins at the document or at nodes that meet a test, and each further
+//! part names nodes that stand to those before as its combinator says: children, descendants, or later siblings.
+//! [`query_paths`] returns exactly the paths that a query selects, in the order of the document, each once.
+#![tactic(auto)]
+
+mod compare;
+mod decimal;
+mod find;
+mod part;
+mod path;
+mod test;
+mod tree;
+mod walk;
+
+pub use find::{query, query_all, query_paths};
+pub use path::node_at;
+pub use tree::{
+    Accessor, Combinator, Comparison, First, Literal, NodeTest, Query, Selector, Step, Test,
+    TypeTest,
+};

@@ -1,0 +1,146 @@
+//! One walk over the nodes of a document, in its order.
+
+ghost use Rattle.kdl.specs.Tree.{document_says, node_says};
+ghost use Rattle.kdl_query.specs.Internal.Parts.{at_top, ends, part_says};
+ghost use Rattle.kdl_query.specs.Internal.Visits.{all_visits, came_to, inside_last, level_says, levels_of, next_parts, path_of, walk_due};
+ghost use Rattle.kdl_query.specs.Tree.{query_says};
+ghost use Rattle.std.specs.Prelude.{◌≡◌, ◌++◌, ◌∷◌, [], ◌<◌, IfOk, IsSome, MatchOption, OnOk, false, length, map, option_map, slice_get, suc};
+
+use crate::part::{Part, inside, parts_of, visit};
+use crate::tree::Query;
+use kdl::{KdlDocument, KdlNode};
+use std::alloc::{AllocError, Global};
+
+/// The nodes of a block that the walk is in.
+#[derive(Drop)]
+struct Level<'a, 'q> {
+    nodes: &'a [KdlNode],
+    /// The index of the next node.
+    next: usize,
+    /// The index of the node that was visited last.
+    current: usize,
+    parts: Vec<Part<'q>>,
+}
+
+/// A walk over a document: the blocks that it is in, the outermost one first.
+#[derive(Drop)]
+pub(crate) struct Walk<'a, 'q> {
+    levels: Vec<Level<'a, 'q>>,
+}
+
+/// A node that the walk came to, and whether the query selects it.
+#[derive(Drop)]
+pub(crate) struct Visit<'a> {
+    pub(crate) node: &'a KdlNode,
+    pub(crate) is_selected: bool,
+}
+
+impl<'a, 'q> Level<'a, 'q> {
+    /// Before the first of the nodes.
+    fn new(nodes: &'a [KdlNode], parts: Vec<Part<'q>>) -> Level<'a, 'q>
+        ensures { level_says result ≡ record {
+          nodes = map node_says nodes.entry.now;
+          next = 0;
+          current = 0;
+          parts = map part_says parts.entry.items;
+        } }
+    {
+        Level {
+            nodes,
+            next: 0,
+            current: 0,
+            parts,
+        }
+    }
+
+    /// The next node, if there is one.
+    fn next_node(&self) -> Option<&'a KdlNode>
+        ensures node { option_map (λ n. node_says n.now) result
+            ≡ slice_get (level_says self.now).nodes self.now.next }
+        ensures bound { IsSome result → self.now.next < length self.now.nodes.now }
+    {
+        self.nodes.get(self.next)
+    }
+
+    /// Goes on to the next node, which is this one, and returns whether a selector ends there.
+    fn visit(&mut self, node: &KdlNode) -> bool
+        requires { self.old.next < length self.old.nodes.now }
+        ensures level { level_says self.new ≡ record {
+          nodes = (level_says self.old).nodes;
+          next = suc self.old.next;
+          current = self.old.next;
+          parts = next_parts (node_says node.now) (level_says self.old).parts;
+        } }
+        ensures ends { result
+            ≡ ends (node_says node.now) (at_top false) (level_says self.old).parts }
+    {
+        self.current = self.next;
+        self.next += 1;
+        visit(self.parts.as_mut_slice(), node)
+    }
+}
+
+/// The index of the node that was visited last in each level.
+fn indices(alloc: Global, levels: &[Level<'_, '_>]) -> Result<Vec<usize>, AllocError>
+    ensures { IfOk result (λ p. p.items ≡ map (λ l. l.current) levels.now) }
+{
+    levels.iter().map(|level| level.current).collect(alloc)
+}
+
+impl<'a, 'q> Walk<'a, 'q> {
+    /// Begins a walk.
+    pub(crate) fn new(
+        alloc: Global,
+        document: &'a KdlDocument,
+        query: &'q Query,
+    ) -> Result<Walk<'a, 'q>, AllocError>
+        ensures { IfOk result (λ w.
+            walk_due w ≡ all_visits (query_says query.now) (document_says document.now)) }
+    {
+        let mut levels = Vec::new(alloc);
+        let parts = parts_of(alloc, query)?;
+        levels.push(Level::new(document.nodes(), parts))?;
+        Ok(Walk { levels })
+    }
+
+    /// Comes to the next node, or returns `None` if there is none. The nodes in its block come next once it is entered.
+    pub(crate) fn visit(&mut self) -> Result<Option<Visit<'a>>, AllocError>
+        ensures { IfOk result (λ o. MatchOption o (walk_due self.old ≡ []) (λ v.
+            walk_due self.old ≡ came_to v self.new
+            ∷ (inside_last (levels_of self.new) (node_says v.node.now) ++ walk_due self.new))) }
+    {
+        while let Some(mut level) = self.levels.pop() {
+            let Some(node) = level.next_node() else {
+                continue;
+            };
+            let is_selected = level.visit(node);
+            self.levels.push(level)?;
+            return Ok(Some(Visit { node, is_selected }));
+        }
+        Ok(None)
+    }
+
+    /// Enters the block of the node that was visited last.
+    pub(crate) fn enter(&mut self, alloc: Global, node: &'a KdlNode) -> Result<(), AllocError>
+        ensures { OnOk result (walk_due self.new
+            ≡ inside_last (levels_of self.old) (node_says node.entry.now) ++ walk_due self.old) }
+    {
+        let Some(block) = node.children() else {
+            return Ok(());
+        };
+        let Some(level) = self.levels.last() else {
+            return Ok(());
+        };
+        let parts = inside(alloc, &level.parts)?;
+        self.levels.push(Level::new(block.nodes(), parts))?;
+        Ok(())
+    }
+
+    /// The path of the node that was visited last, before its block is entered.
+    pub(crate) fn path(&self, alloc: Global) -> Result<Vec<usize>, AllocError>
+        ensures { IfOk result (λ p. p.items ≡ path_of (levels_of self.now)) }
+    {
+        let path = indices(alloc, &self.levels)?;
+        Ok(path)
+    }
+}
