@@ -121,9 +121,6 @@ no_letter c h = grind (arith, nat_tests)
 no_point : (c : ℕ) → is_digit c ≡ true → is_point c ≡ false
 no_point c h = grind (arith, nat_tests)
 
-letter_no_point : (c : ℕ) → is_exponent_letter c ≡ true → is_point c ≡ false
-letter_no_point c h = grind (arith, nat_tests)
-
 module _ (p : ℕ → Bool) (apart : (c : ℕ) → is_digit c ≡ true → p c ≡ false) where
   before_digits : (v u : Text) → list_all is_digit v ≡ true → before p (v ++ u) ≡ v ++ before p u
   before_digits [] u h = refl
