@@ -1,8 +1,8 @@
 -- The parts into which a number is cut to be compared.
-use Rattle.std.specs.Prelude.{◌≡◌, ℕ, ◌+◌, ◌-◌, ◌*◌, ◌/◌, ◌^◌, ◌<◌, ◌≤◌, ℤ, pos, neg_ℤ, ◌≤ℤ◌, Bool, true, if◌then◌else◌, ◌++◌, length, ◌⊎◌}
+use Rattle.std.specs.Prelude.{◌≡◌, ℕ, ◌+◌, ◌*◌, ◌/◌, ◌^◌, ◌<◌, ◌≤◌, ℤ, pos, neg_ℤ, ◌≤ℤ◌, true, if◌then◌else◌, ◌++◌, length, ◌⊎◌}
 use Rattle.std.specs.List.{list_all}
 use Rattle.std.specs.Str.Parse.{digits_value}
-use Rattle.kdl_text.specs.Chars.{Text, is_digit}
+use Rattle.kdl_text.specs.Chars.{is_digit}
 use Rattle.kdl_text.specs.Numbers.{signed}
 use Rattle.kdl_query.specs.Decimal.{Rational}
 use Rattle.kdl_query.specs.Decimal as exact

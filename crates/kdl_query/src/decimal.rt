@@ -6,12 +6,11 @@
 ghost use Rattle.kdl_query.specs.Decimal as exact;
 ghost use Rattle.kdl_query.specs.DecimalParts.{natural_of, IsDigits, cut_at, whole_of, IsWhole, IsWithin, Clamps, IsDecimal, exponent, followed, raised, lowered, rational_of, number_of, IsKnown};
 ghost use Rattle.kdl_text.specs.Chars.{is_digit, begins};
-ghost use Rattle.kdl_text.specs.Numbers.{FloatText, Decimal as IsDecimalText, signed, is_exponent_letter};
+ghost use Rattle.kdl_text.specs.Numbers.{Decimal as IsDecimalText, is_exponent_letter};
 ghost use Rattle.kdl_value.specs.Tree.{value_tree, float_text_of};
-ghost use Rattle.std.specs.Prelude.{◌≡◌, ℕ, Bool, ℤ, ◌+◌, ◌-◌, ◌*◌, ◌/◌, ◌%◌, ◌^◌, ◌<◌, ◌≤◌, pos, neg_ℤ, ◌+ℤ◌, ◌-ℤ◌, ◌*ℤ◌, ◌≤ℤ◌, min, option_map, IfSome, [], length, ◌==◌, position, true};
+ghost use Rattle.std.specs.Prelude.{◌≡◌, ℕ, Bool, ℤ, ◌+◌, ◌-◌, ◌/◌, ◌%◌, ◌^◌, ◌<◌, ◌≤◌, pos, ◌+ℤ◌, ◌-ℤ◌, ◌*ℤ◌, min, option_map, IfSome, [], length, position, true};
 ghost use Rattle.std.specs.List.{list_all, before_first, after_first};
 ghost use Rattle.std.specs.Str.Parse.{digits_value};
-ghost use Rattle.std.specs.Ordering.{int_cmp};
 
 use kdl_value::{KdlFloat, KdlValue};
 use std::cmp::Ordering;
@@ -33,6 +32,7 @@ impl Digits<'_> {
         ensures bound { result < 2 ^ 63 }
     {
         match self {
+            Digits::Number(n) if n < 1000 => 3,
             Digits::Number(n) if n < 1 << 63 => 19,
             Digits::Number(_) => 39,
             Digits::Text(whole, fraction) => whole.len() + fraction.len(),
@@ -173,7 +173,7 @@ impl<'a> Decimal<'a> {
             digits: Digits::Number(z.unsigned_abs()),
             scale: 0,
             lowers: false,
-            power: Digits::Number(0),
+            power: Digits::Text(&[], &[]),
         }
     }
 

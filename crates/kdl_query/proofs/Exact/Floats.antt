@@ -1,5 +1,5 @@
 -- The texts of floats are decimals, but for three keywords.
-use Rattle.std.proofs.Common.{◌≡◌, ℕ, Bool, true, false, ◌⊎◌, inl, inr, List, [], ◌∷◌, Some, None, ltb-true, refl, sym, ap, subst, ◌∙◌}
+use Rattle.std.proofs.Common.{◌≡◌, ℕ, true, false, inl, inr, List, [], ◌∷◌, Some, None, ltb-true, refl, sym, ap, subst, ◌∙◌}
 use Rattle.std.proofs.lemmas.Bool.{false_from_ne_true, and_parts}
 use Rattle.std.proofs.lemmas.Slice.Eq.{bytes_eq-Decides}
 use Rattle.std.proofs.lemmas.Str.{encodes-chars}
@@ -8,7 +8,7 @@ use Rattle.std.specs.List.{list_all}
 use Rattle.std.specs.Prelude.{codes, nat_lt}
 use Rattle.std.specs.Str.{chars, bytes_eq, IsUtf8, IsAscii, encode_utf8_all}
 use Rattle.kdl_text.specs.Chars.{Text}
-use Rattle.kdl_text.specs.Numbers.{Decimal, FloatKeyword, FloatText}
+use Rattle.kdl_text.specs.Numbers.{Decimal, FloatText}
 use Rattle.kdl_value.specs.Tree.{float_text_of}
 use Rattle.kdl_value.specs.declared.float.KdlFloat.{KdlFloat}
 use Rattle.kdl_value.specs.declared.value.KdlValue.TheVariants.{Float as FloatValue}

@@ -1,9 +1,9 @@
 -- The order of signed numbers that are multiplied.
-use Rattle.std.proofs.Common.{◌≡◌, ℕ, zero, suc, ◌+◌, ◌-◌, ◌*◌, ◌^◌, ◌<◌, ◌≤◌, min, Bool, true, false, ◌⊎◌, inl, inr, ℤ, pos, negsuc, neg_ℤ, ◌*ℤ◌, ◌-ℤ◌, int_cmp, Ordering, Less, Equal, Greater, refl, sym, ap, subst, ◌∙◌, arith, mul_assoc, mul_comm, lt_of_lt_of_le}
-use Rattle.std.proofs.Math.Nat.{mul-lt-mul_of_pos_right, mul-pos, le-mul_of_pos_right, mul-le-mul_left, min-eq_left, min-eq_right, mul-one, zero-mul}
+use Rattle.std.proofs.Common.{◌≡◌, ℕ, zero, suc, ◌+◌, ◌-◌, ◌*◌, ◌^◌, ◌<◌, ◌≤◌, min, Bool, true, false, ◌⊎◌, inl, inr, ℤ, pos, neg_ℤ, ◌*ℤ◌, ◌-ℤ◌, int_cmp, Less, Equal, Greater, refl, sym, ap, subst, ◌∙◌, arith, mul_assoc, mul_comm}
+use Rattle.std.proofs.Math.Nat.{mul-lt-mul_of_pos_right, mul-pos, le-mul_of_pos_right, min-eq_left, min-eq_right, mul-one, zero-mul}
 use Rattle.std.proofs.lemmas.Int.{ints}
 use Rattle.std.proofs.lemmas.Nat.{pow-add}
-use Rattle.std.proofs.lemmas.Bool.{cases_lt, cases_order}
+use Rattle.std.proofs.lemmas.Bool.{cases_lt}
 use Rattle.std.specs.Prelude.{◌<ℤ◌}
 use Rattle.kdl_text.specs.Numbers.{signed}
 use Rattle.kdl_query.specs.Decimal.{rational_order}

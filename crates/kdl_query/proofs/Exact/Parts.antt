@@ -1,5 +1,5 @@
 -- The digits of numbers in parts.
-use Rattle.std.proofs.Common.{◌≡◌, ℕ, zero, suc, ◌+◌, ◌-◌, ◌*◌, ◌/◌, ◌%◌, ◌^◌, ◌<◌, ◌≤◌, Bool, true, false, List, [], ◌∷◌, ◌++◌, length, ◌⊎◌, inl, inr, if◌then◌else◌, ℤ, pos, negsuc, neg_ℤ, ◌+ℤ◌, ◌-ℤ◌, ◌*ℤ◌, Bor, refl, sym, ap, subst, ◌∙◌, arith, length-append}
+use Rattle.std.proofs.Common.{◌≡◌, ℕ, ◌+◌, ◌-◌, ◌*◌, ◌/◌, ◌%◌, ◌^◌, ◌<◌, ◌≤◌, Bool, true, false, List, ◌++◌, length, inl, inr, if◌then◌else◌, ℤ, pos, neg_ℤ, ◌+ℤ◌, ◌-ℤ◌, ◌*ℤ◌, Bor, refl, sym, ap, subst, ◌∙◌, arith, length-append}
 use Rattle.std.proofs.Math.Nat.{mul-lt-mul_of_pos_right, add-zero, div-one, mul-one}
 use Rattle.std.proofs.lemmas.Bool.{and_from}
 use Rattle.std.proofs.lemmas.Int.{ints}
@@ -14,7 +14,7 @@ use Rattle.kdl_query.specs.declared.decimal.Digits.{Digits}
 use Rattle.kdl_query.specs.declared.decimal.Digits.TheVariants.{Number, Text as DigitText}
 use Rattle.kdl_query.specs.declared.decimal.Whole.{Whole}
 use Rattle.kdl_query.specs.declared.decimal.Decimal.{Decimal}
-use Rattle.kdl_query.proofs.Exact.Digits.{ten_pos, ten_rises, value_append, value_below, none_above, low_digits, high_digits, next_place}
+use Rattle.kdl_query.proofs.Exact.Digits.{ten_pos, value_append, value_below, none_above, low_digits, high_digits, next_place}
 
 -- ---- digits
 

@@ -1,15 +1,14 @@
 -- The pieces of a decimal's text are digits.
-use Rattle.std.proofs.Common.{◌≡◌, ℕ, zero, suc, ◌+◌, ◌^◌, ◌<◌, ◌≤◌, Bool, true, false, not, ◌&&◌, ◌||◌, ◌==◌, List, [], ◌∷◌, ◌++◌, length, take, drop, cond, refl, sym, ap, subst, ◌∙◌, arith, append-nil}
+use Rattle.std.proofs.Common.{◌≡◌, ℕ, suc, ◌+◌, ◌^◌, ◌<◌, ◌≤◌, Bool, true, false, not, ◌==◌, List, [], ◌∷◌, ◌++◌, length, take, drop, cond, refl, sym, ap, subst, ◌∙◌, arith, append-nil}
 use Rattle.std.proofs.lemmas.Bool.{and_parts, and_from}
 use Rattle.std.proofs.lemmas.Bool.Decides.{nat_tests}
 use Rattle.std.proofs.lemmas.List.Folds.{list_all-append}
 use Rattle.std.proofs.lemmas.Str.{encodes-chars}
 use Rattle.std.proofs.lemmas.Str.Ascii.{encodes-IsAscii, IsAscii-nil, IsAscii-cons}
 use Rattle.std.specs.List.{list_all, before_first, after_first, position_or_len}
-use Rattle.std.specs.Prelude.{nat_lt}
 use Rattle.std.specs.Str.{chars, IsUtf8, IsAscii}
-use Rattle.kdl_text.specs.Chars.{Text, is_digit, is_sign, starts, begins}
-use Rattle.kdl_text.specs.Numbers.{is_digit_of, Sign, Digits, Integer, integer, Fraction, Exponent, is_exponent_letter, DecimalPart, part, plain, Decimal, decimal}
+use Rattle.kdl_text.specs.Chars.{Text, is_digit, is_sign, starts}
+use Rattle.kdl_text.specs.Numbers.{is_digit_of, Sign, Digits, Integer, integer, Fraction, Exponent, is_exponent_letter, part, plain, Decimal, decimal}
 use Rattle.kdl_text.specs.Numbers.Sign.{none as no_sign, plus, minus}
 use Rattle.kdl_text.specs.Numbers.Digits.{stop, digit, underscore}
 use Rattle.kdl_text.specs.Numbers.Fraction.{none as no_fraction, fraction}
@@ -121,9 +120,6 @@ no_letter c h = grind (arith, nat_tests)
 
 no_point : (c : ℕ) → is_digit c ≡ true → is_point c ≡ false
 no_point c h = grind (arith, nat_tests)
-
-letter_no_point : (c : ℕ) → is_exponent_letter c ≡ true → is_point c ≡ false
-letter_no_point c h = grind (arith, nat_tests)
 
 module _ (p : ℕ → Bool) (apart : (c : ℕ) → is_digit c ≡ true → p c ≡ false) where
   before_digits : (v u : Text) → list_all is_digit v ≡ true → before p (v ++ u) ≡ v ++ before p u
