@@ -18,8 +18,8 @@ Before s n r = (p : Text) × (s ≡ p ++ r) × (bytes p ≡ n)
 
 -- the item of the node after the `/-` ends after so many bytes, and its terminator, if there is one, ends so
 pub data EndsAt (t : Text) (e : ℕ × Option Ending) : Type 0 where
-  returns : {k : Token} {u v i : Text} {y : Ending} (w : Text) → NodePasses (at node_slashdash []) t t (returned k u v) → ItemEnd u v i → t ≡ w ++ v → Before t e.0 i → EndsNode v u y → e.1 ≡ Some y → EndsAt t e
-  ends : {w : Text} → NodePasses (at node_slashdash []) t t (ended w) → Before t e.0 w → e.1 ≡ None → EndsAt t e
+  returns : {k : Token} {u v i : Text} {y : Ending} (w : Text) → NodePasses (at NodeSlashdash []) t t (returned k u v) → ItemEnd u v i → t ≡ w ++ v → Before t e.0 i → EndsNode v u y → e.1 ≡ Some y → EndsAt t e
+  ends : {w : Text} → NodePasses (at NodeSlashdash []) t t (ended w) → Before t e.0 w → e.1 ≡ None → EndsAt t e
 
 -- the control comes to no end
 abbrev pub EndsNowhere : Goal → Control → Text → Type 0
