@@ -16,7 +16,7 @@ use std::alloc::Global;
 impl ParsedNode for KdlNode {
     ghost tree = { node_tree };
 
-    #[inline]
+    #[inline(always)]
     fn from_parts(alloc: Global, parts: NodeParts<KdlNode>) -> KdlNode
         ensures { node_tree result ≡ node_by node_tree parts }
     {
