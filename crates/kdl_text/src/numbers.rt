@@ -391,7 +391,7 @@ fn whole_or_decimal(cursor: &mut Cursor) -> Result<Option<i128>, NumberFault>
 fn has_no_underscore(text: &str) -> bool
     ensures { result ≡ list_all (λ c. not (c == 95)) (chars text.now) }
 {
-    text.chars().all(|c| c != '_')
+    !text.contains('_')
 }
 
 /// Appends the characters except each `_`.

@@ -1,10 +1,15 @@
 -- Readers of numbers that may be decimals, a step at a time.
-use Rattle.std.proofs.Common.{◌≡◌, ℕ, ◌<◌, ◌≤◌, [], ◌∷◌, ◌++◌, Bool, true, false, not, ◌||◌, ◌==◌, length, refl, ap, sym, ◌∙◌, subst, arith, ℤ, Some, None, ◌↔◌, length-append, append-nil, IsTrue, cond, suc, ◌&&◌}
+use Rattle.std.proofs.Common.{◌≡◌, ℕ, ◌<◌, ◌≤◌, [], ◌∷◌, ◌++◌, Bool, true, false, not, ◌||◌, ◌==◌, length, refl, ap, sym, ◌∙◌, subst, arith, ℤ, List, Some, None, ◌↔◌, length-append, append-nil, IsTrue, cond, suc, ◌&&◌}
 use Rattle.std.proofs.lemmas.Bool.{not-true, not-false, ne_eqb}
 use Rattle.std.specs.Prelude.{if◌then◌else◌, Result, Ok, Err, IfOk, Option, MatchOption}
 use Rattle.std.specs.Option.{is_some}
 use Rattle.std.specs.List.{list_all}
+use Rattle.std.specs.Bool.{MatchBool}
+use Rattle.std.specs.Str.{IsUtf8, NonePass, chars}
 use Rattle.std.specs.Str.Parse.{digits_value}
+use Rattle.std.specs.Str.Pattern.{FindsChar}
+use Rattle.std.proofs.lemmas.Str.{chars_from_encodes, encodes-chars}
+use Rattle.std.proofs.lemmas.Str.Pattern.{contains_char, NoCharPasses-char}
 use Rattle.kdl_text.specs.Chars.{Text, is_identifier_char, starts}
 use Rattle.kdl_text.specs.Internal.Here.{Here, Ate, first, sliced}
 use Rattle.kdl_text.specs.Spans.{bytes}
@@ -244,6 +249,29 @@ module _ (s t : Text) (q : s ≡ t) where
         to h =
             let d : Decimal s [] (plain s) = subst (λ r. Decimal s r (plain s)) n (x s (sym (append-nil s) ∙ ap (λ r. s ++ r) (sym n))) in
             subst (λ z. Decimal t [] z) (plain_same t h) (subst (λ z. Decimal z [] (plain z)) q d)
+
+-- `_` is searched for in the bytes of a text
+none_passes : (s : Text) → NonePass (λ c. c == 95) s → has_no_underscore s ≡ true
+none_passes [] h = refl
+none_passes (c ∷ s) h = rw h.0 (none_passes s h.1)
+
+all_pass : (s : Text) → has_no_underscore s ≡ true → NonePass (λ c. c == 95) s
+all_pass [] h = tt
+all_pass (c ∷ s) h = go (c == 95) h (all_pass s)
+  where
+    go : (b : Bool) → (not b && has_no_underscore s) ≡ true → (has_no_underscore s ≡ true → NonePass (λ c. c == 95) s) → (b ≡ false) × NonePass (λ c. c == 95) s
+    go false h i = (refl, i h)
+    go true h i = cc
+
+pub underscore_found : (bs : List ℕ) (r : Bool) → IsUtf8 bs → MatchBool r ((i : ℕ) × (j : ℕ) × FindsChar 95 bs (Some (i, j)) × (i ≤ j) × (j ≤ length bs)) (FindsChar 95 bs None) → not r ≡ has_no_underscore (chars bs)
+underscore_found bs false u h = sym (subst (λ s. has_no_underscore s ≡ true) (chars_from_encodes h.0 bs u h.1) (none_passes h.0 h.2))
+underscore_found bs true u h = go (has_no_underscore (chars bs)) refl
+  where
+    go : (b : Bool) → has_no_underscore (chars bs) ≡ b → false ≡ b
+    go false e = refl
+    go true e =
+        let k = (contains_char 95 bs true h (omega arith)).0 refl in
+        absurd (NoCharPasses-char 95 bs k.0 (chars bs, encodes-chars bs u, all_pass (chars bs) e) (omega arith) k.1 k.2)
 
 -- a character and what follows it, without `_`
 pub plain_drops : (c : ℕ) (s : Text) → c ≡ 95 → plain (c ∷ s) ≡ plain s
