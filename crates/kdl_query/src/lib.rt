@@ -2,7 +2,8 @@
 //!
 //! A query is a list of selectors. A selector begins at the document or at nodes that meet a test, and each further
 //! part names nodes that stand to those before as its combinator says: children, descendants, or later siblings.
-//! [`query_paths`] returns exactly the paths that a query selects, in the order of the document, each once.
+//! [`query_paths`] returns exactly the paths that a query selects, in the order of the document, each once. A query is
+//! not read from a text yet.
 #![tactic(auto)]
 
 mod compare;
