@@ -1,7 +1,7 @@
 //! Queries: the nodes of a document that a selector describes.
 //!
-//! A query is a list of selectors. A selector begins at the document or at nodes that meet a test, and each further
-//! part names nodes that stand to those before as its combinator says: children, descendants, or later siblings.
+//! A query is a list of selectors. A selector begins at the document or at nodes that meet a test. Each further part
+//! selects children, descendants or later siblings of the nodes before it, as its combinator says.
 //! [`query_paths`] returns exactly the paths that a query selects, in the order of the document, each once. A query is
 //! not read from a text yet.
 #![tactic(auto)]

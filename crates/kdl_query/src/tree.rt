@@ -31,7 +31,7 @@ pub struct Step {
     pub(crate) node: NodeTest,
 }
 
-/// How a node stands to the one before it in a selector.
+/// Where a node is, seen from the node before it in a selector.
 #[derive(Clone, Copy, PartialEq, Eq, Debug)]
 pub enum Combinator {
     /// `>`: in its block.
