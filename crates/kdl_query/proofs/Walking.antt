@@ -28,7 +28,7 @@ due_last q (k ∷ ls) l =
 path_last : (ls : List LevelSays) (l : LevelSays) → path_of (ls ++ l ∷ []) ≡ path_of ls ++ l.current ∷ []
 path_last ls l = map-append (λ k. k.current) ls (l ∷ [])
 
-last_level : {A : Type 0} (o : Option A) (ls : List A) (l : A) → last_or o (ls ++ l ∷ []) ≡ Some l
+pub last_level : {A : Type 0} (o : Option A) (ls : List A) (l : A) → last_or o (ls ++ l ∷ []) ≡ Some l
 last_level o [] l = refl
 last_level o (k ∷ ls) l = last_level (Some k) ls l
 

@@ -1,13 +1,16 @@
 //! The nodes that a query selects.
 
 ghost use Rattle.kdl.specs.Tree.{document_says, node_says};
+ghost use Rattle.kdl_query.specs.Counts.{node_count, part_count};
 ghost use Rattle.kdl_query.specs.Selects.{AreSelected, IsFirstSelected, IsSelected, IsSelection, Path};
 ghost use Rattle.kdl_query.specs.Tree.{query_says};
-ghost use Rattle.std.specs.Prelude.{IfOk, MatchOption, map};
+ghost use Rattle.kdl_text.specs.Spans.{raise};
+ghost use Rattle.std.specs.Prelude.{◌≡◌, ◌*◌, IfOk, MatchOption, OnOk, map};
 
 use crate::tree::Query;
 use crate::walk::Walk;
 use kdl::{KdlDocument, KdlNode};
+use kdl_text::cursor::Steps;
 use std::alloc::{AllocError, Global};
 
 /// Returns the paths of the nodes that the query selects, in the order of the document: a path is the index of a
@@ -20,14 +23,39 @@ pub fn query_paths(
     ensures { IfOk result (λ ps. IsSelection (document_says document.now) (query_says query.now)
         (map (λ p. p.items) ps.items)) }
 {
+    query_paths_counted(alloc, document, query, &mut Steps::new())
+}
+
+/// Returns the paths as `query_paths` does, and adds the steps to the count, which saturates at `u64::MAX`. A step is one
+/// look at a node for one part of the query, which is `top()` or a test of a node: each node is looked at once for each
+/// part. If an allocation fails, the count is as it was.
+///
+/// ```
+/// let mut steps = Steps::new();
+/// let paths = query_paths_counted(alloc, &document, &query, &mut steps)?;
+/// let taken = steps.count(); // 12 for 4 nodes and `a > b + c`
+/// ```
+pub fn query_paths_counted(
+    alloc: Global,
+    document: &KdlDocument,
+    query: &Query,
+    steps: &mut Steps,
+) -> Result<Vec<Vec<usize>>, AllocError>
+    ensures selected { IfOk result (λ ps. IsSelection (document_says document.now)
+        (query_says query.now) (map (λ p. p.items) ps.items)) }
+    ensures counted { OnOk result (steps.new ≡ raise steps.old
+        (part_count (query_says query.now) * node_count (document_says document.now))) }
+{
     let mut found = Vec::new(alloc);
     let mut walk = Walk::new(alloc, document, query)?;
-    while let Some(visit) = walk.visit()? {
+    let mut count = 0;
+    while let Some(visit) = walk.visit(&mut count)? {
         if visit.is_selected {
             found.push(walk.path(alloc)?)?;
         }
         walk.enter(alloc, visit.node)?;
     }
+    *steps = Steps::from(steps.count().saturating_add(count));
     Ok(found)
 }
 
@@ -42,7 +70,7 @@ pub fn query_all<'a>(
 {
     let mut found = Vec::new(alloc);
     let mut walk = Walk::new(alloc, document, query)?;
-    while let Some(visit) = walk.visit()? {
+    while let Some(visit) = walk.visit(&mut 0)? {
         if visit.is_selected {
             found.push(visit.node)?;
         }
@@ -64,7 +92,7 @@ pub fn query<'a>(
         (node_says n.now))) }
 {
     let mut walk = Walk::new(alloc, document, query)?;
-    while let Some(visit) = walk.visit()? {
+    while let Some(visit) = walk.visit(&mut 0)? {
         if visit.is_selected {
             return Ok(Some(visit.node));
         }

@@ -15,7 +15,7 @@ mod test;
 mod tree;
 mod walk;
 
-pub use find::{query, query_all, query_paths};
+pub use find::{query, query_all, query_paths, query_paths_counted};
 pub use path::node_at;
 pub use tree::{
     Accessor, Combinator, Comparison, First, Literal, NodeTest, Query, Selector, Step, Test,

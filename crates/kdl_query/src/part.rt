@@ -3,7 +3,8 @@
 ghost use Rattle.kdl.specs.Tree.{node_says};
 ghost use Rattle.kdl_query.specs.Internal.Parts.{all_parts, at_top, after, ends, entered_part, fresh, inside, is_reached, leads_on, part_says, parts_to, query_parts, step_part, visited};
 ghost use Rattle.kdl_query.specs.Tree.{first_says, node_test_says, query_says, selector_says};
-ghost use Rattle.std.specs.Prelude.{◌≡◌, ◌++◌, ◌∷◌, [], IfOk, OnOk, Some, map, option_map, false};
+ghost use Rattle.kdl_text.specs.Spans.{raise};
+ghost use Rattle.std.specs.Prelude.{◌≡◌, ◌++◌, ◌∷◌, [], IfOk, OnOk, Some, length, map, option_map, false};
 
 use crate::test::meets;
 use crate::tree::{Combinator, First, NodeTest, Query, Selector, Step};
@@ -111,10 +112,12 @@ impl<'q> Part<'q> {
         }
     }
 
-    /// Whether the node reaches the part.
-    fn is_reached(&self, before: Marks, node: &KdlNode) -> bool
-        ensures { result ≡ is_reached (part_says self.now) before (node_says node.now) }
+    /// Whether the node reaches the part. Counts one look.
+    fn is_reached(&self, before: Marks, node: &KdlNode, count: &mut u64) -> bool
+        ensures reached { result ≡ is_reached (part_says self.now) before (node_says node.now) }
+        ensures counted { count.new ≡ raise count.old 1 }
     {
+        *count = count.saturating_add(1);
         self.link.leads_on(before)
             && match self.test {
                 Some(test) => meets(node, test),
@@ -123,16 +126,17 @@ impl<'q> Part<'q> {
     }
 }
 
-/// Visits the next node, and returns whether a selector ends there.
-pub(crate) fn visit(parts: &mut [Part<'_>], node: &KdlNode) -> bool
+/// Visits the next node, and returns whether a selector ends there. Counts a look for each part.
+pub(crate) fn visit(parts: &mut [Part<'_>], node: &KdlNode, count: &mut u64) -> bool
     ensures parts { map part_says parts.new ≡
         visited (node_says node.now) (at_top false) (map part_says parts.old) }
     ensures ends { result ≡ ends (node_says node.now) (at_top false) (map part_says parts.old) }
+    ensures counted { raise count.new 0 ≡ raise count.old (length (map part_says parts.old)) }
 {
     let mut is_selected = false;
     let mut before = Marks::at_top(false);
     for part in parts.iter_mut() {
-        let is_reached = part.is_reached(before, node);
+        let is_reached = part.is_reached(before, node, count);
         before = part.marks;
         part.marks = before.after(is_reached);
         is_selected = is_selected || is_reached && part.is_last;

@@ -4,6 +4,7 @@ ghost use Rattle.kdl.specs.Tree.{document_says, node_says};
 ghost use Rattle.kdl_query.specs.Internal.Parts.{at_top, ends, part_says};
 ghost use Rattle.kdl_query.specs.Internal.Visits.{all_visits, came_to, inside_last, level_says, levels_of, next_parts, path_of, walk_due};
 ghost use Rattle.kdl_query.specs.Tree.{query_says};
+ghost use Rattle.kdl_text.specs.Spans.{raise};
 ghost use Rattle.std.specs.Prelude.{◌≡◌, ◌++◌, ◌∷◌, [], ◌<◌, IfOk, IsSome, MatchOption, OnOk, false, length, map, option_map, slice_get, suc};
 
 use crate::part::{Part, inside, parts_of, visit};
@@ -62,8 +63,8 @@ impl<'a, 'q> Level<'a, 'q> {
         self.nodes.get(self.next)
     }
 
-    /// Goes on to the next node, which is this one, and returns whether a selector ends there.
-    fn visit(&mut self, node: &KdlNode) -> bool
+    /// Goes on to the next node, which is this one, and returns whether a selector ends there. Counts a look for each part.
+    fn visit(&mut self, node: &KdlNode, count: &mut u64) -> bool
         requires { self.old.next < length self.old.nodes.now }
         ensures level { level_says self.new ≡ record {
           nodes = (level_says self.old).nodes;
@@ -73,10 +74,11 @@ impl<'a, 'q> Level<'a, 'q> {
         } }
         ensures ends { result
             ≡ ends (node_says node.now) (at_top false) (level_says self.old).parts }
+        ensures counted { raise count.new 0 ≡ raise count.old (length (level_says self.old).parts) }
     {
         self.current = self.next;
         self.next += 1;
-        visit(self.parts.as_mut_slice(), node)
+        visit(self.parts.as_mut_slice(), node, count)
     }
 }
 
@@ -104,16 +106,19 @@ impl<'a, 'q> Walk<'a, 'q> {
     }
 
     /// Comes to the next node, or returns `None` if there is none. The nodes in its block come next once it is entered.
-    pub(crate) fn visit(&mut self) -> Result<Option<Visit<'a>>, AllocError>
-        ensures { IfOk result (λ o. MatchOption o (walk_due self.old ≡ []) (λ v.
+    /// Counts a look for each part of the query.
+    pub(crate) fn visit(&mut self, count: &mut u64) -> Result<Option<Visit<'a>>, AllocError>
+        ensures due { IfOk result (λ o. MatchOption o (walk_due self.old ≡ []) (λ v.
             walk_due self.old ≡ came_to v self.new
             ∷ (inside_last (levels_of self.new) (node_says v.node.now) ++ walk_due self.new))) }
+        ensures counted { IfOk result (λ o. MatchOption o (count.new ≡ count.old) (λ v.
+            raise count.new 0 ≡ raise count.old (came_to v self.new).looks)) }
     {
         while let Some(mut level) = self.levels.pop() {
             let Some(node) = level.next_node() else {
                 continue;
             };
-            let is_selected = level.visit(node);
+            let is_selected = level.visit(node, count);
             self.levels.push(level)?;
             return Ok(Some(Visit { node, is_selected }));
         }

@@ -1,7 +1,7 @@
 -- The nodes of a document in the order in which a walk visits them.
 use Rattle.std.specs.List.{filter, last_or}
 use Rattle.std.specs.Option.{option_map_or}
-use Rattle.std.specs.Prelude.{ℕ, suc, Bool, List, [], ◌∷◌, ◌++◌, None, map, drop}
+use Rattle.std.specs.Prelude.{ℕ, suc, ◌+◌, Bool, List, [], ◌∷◌, ◌++◌, length, None, map, drop}
 use Rattle.kdl.specs.Tree.{node_says}
 use Rattle.kdl_grammar.specs.Data.{Node, node, Children, no_children, children, Nodes, none, first}
 use Rattle.kdl_query.specs.Data.{Query}
@@ -12,17 +12,18 @@ use Rattle.kdl_query.specs.declared.walk.Visit.{Visit}
 use Rattle.kdl_query.specs.declared.walk.Walk.{Walk}
 use Rattle.std.specs.Prelude.{false}
 
--- a node that is visited: its path, what it says, and whether a selector ends there
+-- a node that is visited: its path, what it says, whether a selector ends there, and for how many parts it is looked at
 pub record Visited : Type 0 where
   pub path : Path
   pub said : Node
   pub is_selected : Bool
+  pub looks : ℕ
 
 abbrev pub next_parts : Node → List PartSays → List PartSays
 next_parts n ps = visited n (at_top false) ps
 
 abbrev pub visit_of : Path → List PartSays → Node → Visited
-visit_of p ps n = record { path = p; said = n; is_selected = ends n (at_top false) ps }
+visit_of p ps n = record { path = p; said = n; is_selected = ends n (at_top false) ps; looks = length ps }
 
 abbrev mutual
   -- the nodes from place i on in the block at q, and those inside them
@@ -79,9 +80,18 @@ walk_due w = due [] (levels_of w)
 abbrev pub inside_last : List LevelSays → Node → List Visited
 inside_last ls n = option_map_or (λ l. visits_inside (path_of ls) (entered l.parts) n) (last_or None ls) []
 
+-- the parts of the innermost level
+abbrev pub last_parts : List LevelSays → List PartSays
+last_parts ls = option_map_or (λ l. l.parts) (last_or None ls) []
+
 -- the node that a walk came to
 abbrev pub came_to : Visit → Walk → Visited
-came_to v w = record { path = path_of (levels_of w); said = node_says v.node.now; is_selected = v.is_selected }
+came_to v w = record { path = path_of (levels_of w); said = node_says v.node.now; is_selected = v.is_selected; looks = length (last_parts (levels_of w)) }
+
+-- the looks at all of them
+abbrev pub looks_of : List Visited → ℕ
+looks_of [] = 0
+looks_of (v ∷ vs) = v.looks + looks_of vs
 
 -- the paths, and the nodes, that are selected
 abbrev pub chosen : List Visited → List Visited

@@ -7,5 +7,5 @@ use Rattle.kdl_query.proofs.find.query_all.Goals as goal
 
 pub returns : goal.returns
 returns c =
-    let none : walk_due c.loop-walk.walk ≡ [] = rw c.in_default.is at c.in_ok-visit.ensures in
+    let none : walk_due c.loop-walk.walk ≡ [] = rw c.in_default.is at c.in_ok-visit.ensures.due in
     nodes_found (document_says c.args.document.now) (query_says c.args.query.now) (map (λ n. node_says n.now) c.loop-walk.found.items) (walk_due c.loop-walk.walk) none c.loop-walk.invariant

@@ -1,0 +1,76 @@
+-- How many looks a walk takes.
+use Rattle.std.proofs.Common.{◌≡◌, ℕ, zero, suc, ◌+◌, ◌*◌, Bool, true, false, List, [], ◌∷◌, ◌++◌, length, map, Some, None, refl, ap, ◌∙◌, sym, arith}
+use Rattle.std.proofs.lemmas.List.{length-append, length-map}
+use Rattle.std.proofs.lemmas.List.Concat.{length-flat_map}
+use Rattle.std.proofs.lemmas.List.Sums.{sum_by-cons}
+use Rattle.std.specs.List.{sum_by}
+use Rattle.std.specs.Option.{option_map_or}
+use Rattle.kdl_grammar.specs.Data.{Node, node, Children, no_children, children, Nodes, none, first}
+use Rattle.kdl_query.specs.Counts.{count_below, count_inside, node_count, part_count, parts_in, selector_count}
+use Rattle.kdl_query.specs.Data.{Query, Selector, start, then, top}
+use Rattle.kdl_query.specs.Selects.{Path}
+use Rattle.kdl_query.specs.Internal.Parts.{PartSays, all_parts, entered, fresh, inside, parts_to, query_parts, visited, with_marks}
+use Rattle.kdl_query.specs.Internal.Visits.{LevelSays, Visited, all_visits, last_parts, next_parts, looks_of, visits, visits_below, visits_inside}
+use Rattle.kdl_query.specs.declared.part.Link.TheVariants.{After}
+use Rattle.kdl_query.specs.declared.part.Marks.{Marks}
+use Rattle.kdl_query.proofs.Walking.{last_level}
+
+-- a node changes only marks
+visited_length : (n : Node) (m : Marks) (ps : List PartSays) → length (visited n m ps) ≡ length ps
+visited_length n m [] = refl
+visited_length n m (p ∷ ps) = ap suc (visited_length n p.marks ps)
+
+next_length : (n : Node) (ps : List PartSays) → length (next_parts n ps) ≡ length ps
+next_length n ps = visited_length n _ ps
+
+inside_length : (n : Node) (ps : List PartSays) → length (entered (next_parts n ps)) ≡ length ps
+inside_length n ps = length-map (next_parts n ps) (λ (p : PartSays). with_marks p (inside p.marks)) ∙ next_length n ps
+
+-- the innermost level after the next node has as many as before
+pub last_length : (ls : List LevelSays) (l k : LevelSays) (n : Node) → k.parts ≡ next_parts n l.parts → length (last_parts (ls ++ k ∷ [])) ≡ length l.parts
+last_length ls l k n e = ap (λ o. length (option_map_or (λ (m : LevelSays). m.parts) o [])) (last_level None ls k) ∙ ap length e ∙ next_length n l.parts
+
+-- the parts of a query
+to_length : (b : Bool) (s : Selector) → length (parts_to b s) ≡ parts_in s
+to_length b top = refl
+to_length b (start t) = refl
+to_length b (then s c t) = let e = length-append (parts_to false s) (fresh (After c) (Some t) b ∷ []) in let h = to_length false s in omega (arith, e, h)
+
+all_length : (s : Selector) → length (all_parts s) ≡ selector_count s
+all_length top = refl
+all_length (start t) = refl
+all_length (then s c t) = to_length true (then s c t)
+
+sum_same : (q : Query) → sum_by (λ s. length (all_parts s)) q ≡ part_count q
+sum_same [] = refl
+sum_same (s ∷ q) =
+    let a = sum_by-cons (λ t. length (all_parts t)) s q in
+    let b = sum_by-cons selector_count s q in
+    let e = all_length s in
+    let h = sum_same q in
+    omega (arith, a, b, e, h)
+
+-- the looks at nodes that are visited
+looks_append : (vs ws : List Visited) → looks_of (vs ++ ws) ≡ looks_of vs + looks_of ws
+looks_append [] ws = omega arith
+looks_append (v ∷ vs) ws = let e = looks_append vs ws in omega (arith, e)
+
+mutual
+  visits_looks : (q : Path) (i k : ℕ) (ps : List PartSays) (y : Nodes) → length ps ≡ k → looks_of (visits q i ps y) ≡ k * node_count y
+  visits_looks q i k ps none e = omega arith
+  visits_looks q i k ps (first n y) e =
+      let a = looks_append (visits_inside (q ++ i ∷ []) (entered (next_parts n ps)) n) (visits q (suc i) (next_parts n ps) y) in
+      let b = inside_looks (q ++ i ∷ []) k (entered (next_parts n ps)) n (inside_length n ps ∙ e) in
+      let c = visits_looks q (suc i) k (next_parts n ps) y (next_length n ps ∙ e) in
+      let d : k * suc (count_inside n + node_count y) ≡ k + (k * count_inside n + k * node_count y) = omega arith in
+      omega (arith, a, b, c, d, e)
+
+  inside_looks : (q : Path) (k : ℕ) (ps : List PartSays) (n : Node) → length ps ≡ k → looks_of (visits_inside q ps n) ≡ k * count_inside n
+  inside_looks q k ps (node t s es c) e = below_looks q k ps c e
+
+  below_looks : (q : Path) (k : ℕ) (ps : List PartSays) (c : Children) → length ps ≡ k → looks_of (visits_below q ps c) ≡ k * count_below c
+  below_looks q k ps no_children e = omega arith
+  below_looks q k ps (children y) e = visits_looks q 0 k ps y e
+
+pub all_looks : (q : Query) (x : Nodes) → looks_of (all_visits q x) ≡ part_count q * node_count x
+all_looks q x = visits_looks [] 0 (part_count q) (query_parts q) x (length-flat_map all_parts q ∙ sum_same q)
