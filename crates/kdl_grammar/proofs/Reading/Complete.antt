@@ -24,7 +24,7 @@ use Rattle.kdl_grammar.specs.Laid.{LaidEntries, no_entry, an_entry, laid_node, L
 use Rattle.kdl_grammar.specs.Places.{DroppedBlock, AfterChildren, after as after_children, before as before_children}
 use Rattle.kdl_grammar.specs.Tree.{Node, node, Children, no_children, children, Document, document, Nodes, none, first, join, node_data, children_data, document_data, nodes_data}
 use Rattle.kdl_entry.specs.Internal.Parts.{TypeParts, KeyParts, type_of, before_name, after_name, after_type, key_identifier, identifier_at, entry_at}
-use Rattle.kdl_grammar.specs.Internal.Machine.{Under, Kept, Slot, no_name, for_name, no_value, for_value, Pending, pending, Spot, fresh, spaced, later, gap, node_slashdash, type_name, type_done, in_node, property, entry_slashdash, block_slashdash, kept, kept_slashdash, Frame, in_block, in_dropped, in_later, State, at, origin, moved, entry_slot, kept_text, kept_name, text_before, opened, keyed, with_entry, filled, node_at, closed, closed_kept, ended, inside, content_at, spaced_of, slashdash_at, given, worded, typed, step, finish, initial, Runs, stops, reads, AnswersDocument}
+use Rattle.kdl_grammar.specs.Internal.Machine.{Under, Kept, Slot, no_name, for_name, no_value, for_value, Pending, pending, Spot, fresh, spaced, later, gap, node_slashdash, type_name, type_done, in_node, property, entry_slashdash, block_slashdash, kept, kept_slashdash, Frame, in_block, in_dropped, in_later, State, at, origin, moved, entry_slot, kept_text, kept_name, text_before, opened, keyed, with_entry, filled, node_at, closed, closed_kept, ended, inside, content_at, spaced_of, given, worded, typed, step, finish, initial, Runs, stops, reads, AnswersDocument}
 use Rattle.kdl_grammar.proofs.Moving.Ends.{end_terminator, end_gap, end_dropped_block}
 use Rattle.kdl_syntax.specs.declared.control.{Owner.Owner, Owner.TheVariants.Name as OfName, Owner.TheVariants.Value as OfValue}
 pub mod OneLaid
@@ -149,7 +149,8 @@ module _ (whole : Text) where
 
   read_done : (out : Document) → {b : Owner} {s r : Text} {v : Value} → Fills b s r v → (c : Slot) (q : Text) (i : Identifier) (d a : Text) (l : Option Nodes) (fs : List Frame) (from : Text)
       → Runs whole out (given whole c (typed q i d a s) v None l fs from s r) r → Runs whole out (at (type_done b c q i d a) l fs from) s
-  read_done out (by_string d') c q i d a l fs from x = read_string out d' refl x
+  read_done out (by_string {b = OfName} d') c q i d a l fs from x = read_string out d' refl x
+  read_done out (by_string {b = OfValue} d') c q i d a l fs from x = read_string out d' refl x
   read_done out (by_plain p e) c q i d a l fs from x = reads (t_value p) refl x
 
   spelled_at : {s r v : Text} → IsString true s r v → LaidIdentifier true whole (identifier_at whole v s r) s r
@@ -251,10 +252,10 @@ module _ (whole : Text) where
   spaces_in out h l fs from no_star p f = f p
   spaces_in out h l fs from (more n m) p f = reads (t_space n) refl (spaces_in out h l fs from m (spaced_of p) f)
 
-  open_slashdash : (out : Document) → {s u : Text} (h : Option Under) (l : Option Nodes) (fs : List Frame) (from : Text) → Star LineSpace s (123 ∷ u) → Runs whole out (at gap None (in_dropped h l ∷ fs) from) u → (p : Spot) → Runs whole out (at (slashdash_at h p) l fs from) s
-  open_slashdash out h l fs from ls a (fresh o) = lines out (at (entry_slashdash h) l fs from) (λ s r. refl) (λ s r. refl) ls (reads t_opening refl a)
-  open_slashdash out h l fs from ls a (spaced o) = lines out (at (entry_slashdash h) l fs from) (λ s r. refl) (λ s r. refl) ls (reads t_opening refl a)
-  open_slashdash out h l fs from ls a later = lines out (at (block_slashdash h) l fs from) (λ s r. refl) (λ s r. refl) ls (reads t_opening refl a)
+  open_slashdash : (out : Document) → {s u : Text} (h : Option Under) (l : Option Nodes) (fs : List Frame) (from : Text) → Star LineSpace s (123 ∷ u) → Runs whole out (at gap None (in_dropped h l ∷ fs) from) u → (p : Spot) → Runs whole out (at (in_node h p) l fs from) (47 ∷ 45 ∷ s)
+  open_slashdash out h l fs from ls a (fresh o) = reads t_slashdash refl (lines out (at (entry_slashdash h) l fs from) (λ s r. refl) (λ s r. refl) ls (reads t_opening refl a))
+  open_slashdash out h l fs from ls a (spaced o) = reads t_slashdash refl (lines out (at (entry_slashdash h) l fs from) (λ s r. refl) (λ s r. refl) ls (reads t_opening refl a))
+  open_slashdash out h l fs from ls a later = reads t_slashdash refl (lines out (at (block_slashdash h) l fs from) (λ s r. refl) (λ s r. refl) ls (reads t_opening refl a))
 
   -- a state in which the node may end here; `to` is the state after the terminator
   record Ending (st : State) (s : Text) (to : Text → Text → State) : Type 0 where
@@ -441,8 +442,8 @@ module _ (whole : Text) where
           laid_tail = X.laid_tail;
           laid_end = X.laid_end;
           same_tail = X.same_tail;
-          runs = λ out h l fs from a q. spaces_in out h l fs (origin h from p) ss q (λ q'. reads t_slashdash refl (open_slashdash out h l fs (origin h from p) ls
-              (N.runs out None (in_dropped h l ∷ fs) (origin h from p) (reads t_closing refl (X.runs out h l fs from a later))) q'));
+          runs = λ out h l fs from a q. spaces_in out h l fs (origin h from p) ss q (open_slashdash out h l fs (origin h from p) ls
+              (N.runs out None (in_dropped h l ∷ fs) (origin h from p) (reads t_closing refl (X.runs out h l fs from a later))));
         }
     read_blocks (block {u = u} ss (braces {s = t} ns') d) e p ds bs =
         let N = read_nodes ns' in

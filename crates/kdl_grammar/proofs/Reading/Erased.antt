@@ -7,36 +7,13 @@ use Rattle.kdl_grammar.specs.Data as data'
 use Rattle.kdl_grammar.specs.Grammar.{AreNodes, IsDocument, IsDocumentIn}
 use Rattle.kdl_grammar.specs.Laid.{LaidDocument, LaidDocumentAs, LaidContent, with_bom}
 use Rattle.kdl_grammar.specs.Tree.{Document, Nodes, document_data}
-use Rattle.kdl_grammar.specs.Internal.Machine.{Pending, pending, Spot, fresh, spaced, later, Phase, gap, node_slashdash, type_open, type_name, type_done, in_node, property, entry_slashdash, block_slashdash, kept, kept_slashdash, Frame, in_block, in_dropped, in_later, State, at, popped, step, finish, initial, Runs, stops, reads, AnswersDocument}
+use Rattle.kdl_grammar.specs.Internal.Machine.{pending, fresh, spaced, later, gap, type_done, in_node, kept, Frame, in_block, in_dropped, in_later, State, at, phase_of, popped, step, finish, initial, Runs, stops, reads, AnswersDocument}
 use Rattle.kdl_syntax.specs.Control as c
-use Rattle.kdl_syntax.specs.declared.control.{Phase.Phase as ControlPhase, Spot.Spot as ControlSpot, Frame.Frame as ControlFrame, Word.Word as ControlWord, Word.TheVariants.MayBeKey, Word.TheVariants.NoKey, Owner.TheVariants.Name as OfName}
-use Rattle.kdl_syntax.specs.declared.control.Phase.TheVariants.{Gap, NodeSlashdash, TypeOpen, TypeName, TypeDone, InNode, Property, EntrySlashdash, BlockSlashdash, Kept, KeptSlashdash}
-use Rattle.kdl_syntax.specs.declared.control.Spot.TheVariants.{Fresh, Spaced, Later}
+use Rattle.kdl_syntax.specs.declared.control.{Frame.Frame as ControlFrame, Owner.TheVariants.Name as OfName}
+use Rattle.kdl_syntax.specs.declared.control.Phase.TheVariants.{Gap}
 use Rattle.kdl_syntax.specs.declared.control.Frame.TheVariants.{Node as NodeBlock, Dropped as DroppedBlock, Later as LaterBlock}
 use Rattle.kdl_grammar.proofs.Reading.Complete.{runs_det, placed, built, bom_data}
 use Rattle.kdl_grammar.proofs.Reading.Sound.{derives}
-
-abbrev pub is_there : Option Pending → ControlWord
-is_there None = NoKey
-is_there (Some s) = MayBeKey
-
-abbrev pub a_spot : Spot → ControlSpot
-a_spot (fresh o) = Fresh (is_there o)
-a_spot (spaced o) = Spaced (is_there o)
-a_spot later = Later
-
-abbrev pub a_phase : Phase → ControlPhase
-a_phase gap = Gap
-a_phase node_slashdash = NodeSlashdash
-a_phase (type_open b s a) = TypeOpen b
-a_phase (type_name b s q y a) = TypeName b
-a_phase (type_done b s q y d a) = TypeDone b
-a_phase (in_node h p) = InNode (a_spot p)
-a_phase (property s k b a) = Property
-a_phase (entry_slashdash h) = EntrySlashdash
-a_phase (block_slashdash h) = BlockSlashdash
-a_phase (kept x) = Kept
-a_phase (kept_slashdash x) = KeptSlashdash
 
 abbrev pub a_frame : Frame → ControlFrame
 a_frame (in_block h q l) = NodeBlock
@@ -49,7 +26,7 @@ a_stack (f ∷ fs) = a_frame f ∷ a_stack fs
 
 -- the state without data and places
 abbrev pub a_state : State → c.Control
-a_state (at p l fs from) = c.at (a_phase p) (a_stack fs)
+a_state (at p l fs from) = c.at (phase_of p) (a_stack fs)
 
 module _ (whole : Text) where
   popped_is : (l : Option Nodes) (fs : List Frame) (from s r : Text) → c.popped (a_stack fs) ≡ option_map a_state (popped whole l fs from s r)

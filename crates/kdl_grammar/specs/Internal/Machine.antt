@@ -1,16 +1,23 @@
--- The machine that builds the tree: it reads the tokens of a text once, with a stack of open blocks.
+-- The machine that builds the tree: it reads the tokens of a text once, with a stack of open blocks. The control says what a token is for the tree.
 -- The token k is in the text s before r. The start of a place or an item is kept as the text from there on.
 -- A `None` for a node or for nodes says that they are slashdashed, so that nothing of them is built, and no text of them is kept.
-use Rattle.std.specs.Prelude.{◌≡◌, List, [], ◌∷◌, ◌++◌, Option, Some, None}
+use Rattle.std.specs.Prelude.{◌≡◌, List, [], ◌∷◌, ◌++◌, Option, Some, None, option_map}
+use Rattle.std.specs.Option.{option_and_then}
 use Rattle.kdl_text.specs.Chars.{Text}
 use Rattle.kdl_value.specs.Data.{Value, text}
-use Rattle.kdl_syntax.specs.Tokens.{Token, space, newline, slashdash, string, value, left, right, opening, closing, equals, semicolon, BeginsToken}
+use Rattle.kdl_syntax.specs.Tokens.{Token, string, value, BeginsToken}
+use Rattle.kdl_syntax.specs.Control.{event_of}
+use Rattle.kdl_entry.specs.Internal.EntryMachine.{value_of}
 use Rattle.kdl_entry.specs.Internal.Parts.{TypeParts, KeyParts, type_of, before_name, after_name, after_type, identifier_at, entry_at}
 use Rattle.kdl_entry.specs.Places.{span_of, between}
 use Rattle.kdl_entry.specs.Tree.{Identifier, plain_identifier, Entry}
 use Rattle.kdl_grammar.specs.Laid.{node_format, content_span, with_bom}
 use Rattle.kdl_grammar.specs.Tree.{Node, node, Children, no_children, children, Document, document, Nodes, none, first, join}
-use Rattle.kdl_syntax.specs.declared.control.{Owner.Owner, Owner.TheVariants.Name as OfName, Owner.TheVariants.Value as OfValue}
+use Rattle.kdl_syntax.specs.declared.control.{Owner.Owner, Owner.TheVariants.Name as OfName, Owner.TheVariants.Value as OfValue, Phase.Phase as ControlPhase, Spot.Spot as ControlSpot, Word.Word, Word.TheVariants.MayBeKey, Word.TheVariants.NoKey}
+use Rattle.kdl_syntax.specs.declared.control.Phase.TheVariants.{Gap, NodeSlashdash, TypeOpen, TypeName, TypeDone, InNode, Property, EntrySlashdash, BlockSlashdash, Kept as KeptPhase, KeptSlashdash}
+use Rattle.kdl_syntax.specs.declared.control.Spot.TheVariants.{Fresh, Spaced, Later}
+use Rattle.kdl_syntax.specs.declared.events.Event.{Event}
+use Rattle.kdl_syntax.specs.declared.events.Event.TheVariants as event
 
 -- a node being read
 pub record Under : Type 0 where
@@ -184,32 +191,11 @@ spaced_of (fresh o) = spaced o
 spaced_of (spaced o) = spaced o
 spaced_of later = later
 
--- after `/-` at that spot: an entry or a block may follow, after a slashdashed block only a block
-abbrev pub slashdash_at : Option Under → Spot → Phase
-slashdash_at u (fresh o) = entry_slashdash u
-slashdash_at u (spaced o) = entry_slashdash u
-slashdash_at u later = block_slashdash u
-
--- an entry comes only after spaces
-abbrev pub from_spaced : Spot → State → Option State
-from_spaced (spaced o) st = Some st
-from_spaced _ st = None
-
--- a number or a keyword is allowed where a value may be
-abbrev pub where_value : Owner → State → Option State
-where_value OfValue st = Some st
-where_value OfName st = None
-
 -- after the `=` that follows a string
 abbrev pub value_from : Spot → Text → Text → Option Phase
 value_from (fresh (Some (pending c k a))) s r = Some (property c k (kept_text c (between a s)) (kept_text c r))
 value_from (spaced (Some (pending c k a))) s r = Some (property c k (kept_text c (between a s)) (kept_text c r))
 value_from _ s r = None
-
--- the machine with another phase, if there is one
-abbrev pub stay : Option Nodes → List Frame → Text → Option Phase → Option State
-stay l fs from None = None
-stay l fs from (Some p) = Some (at p l fs from)
 
 -- after the slot's type and its string or value
 abbrev pub given : Text → Slot → Option TypeParts → Value → Option Pending → Option Nodes → List Frame → Text → Text → Text → State
@@ -223,57 +209,72 @@ worded whole c v l fs from s r = given whole c None (text v) (Some (pending c (k
 abbrev pub typed : Text → Identifier → Text → Text → Text → Option TypeParts
 typed before i after a s = Some (record { name = i; before = before; after = after; following = between a s })
 
+-- the control at a spot and in a phase
+abbrev pub word_of : Option Pending → Word
+word_of None = NoKey
+word_of (Some w) = MayBeKey
+
+abbrev pub spot_of : Spot → ControlSpot
+spot_of (fresh o) = Fresh (word_of o)
+spot_of (spaced o) = Spaced (word_of o)
+spot_of later = Later
+
+abbrev pub phase_of : Phase → ControlPhase
+phase_of gap = Gap
+phase_of node_slashdash = NodeSlashdash
+phase_of (type_open b c a) = TypeOpen b
+phase_of (type_name b c q i a) = TypeName b
+phase_of (type_done b c q i d a) = TypeDone b
+phase_of (in_node u p) = InNode (spot_of p)
+phase_of (property c k b a) = Property
+phase_of (entry_slashdash u) = EntrySlashdash
+phase_of (block_slashdash u) = BlockSlashdash
+phase_of (kept x) = KeptPhase
+phase_of (kept_slashdash x) = KeptSlashdash
+
+-- the phase after a token that is nothing for the tree, after which the control is in the phase q
+abbrev pub skipped : Phase → ControlPhase → Phase
+skipped gap NodeSlashdash = node_slashdash
+skipped (in_node u p) BlockSlashdash = block_slashdash u
+skipped (in_node u p) q = in_node u (spaced_of p)
+skipped (kept x) KeptSlashdash = kept_slashdash x
+skipped p q = p
+
+-- the token k is this event, and is in s before r, in the text `whole`
+abbrev pub acts : Text → State → Event → Token → Text → Text → Option State
+acts whole (at p l fs from) (event.Skip q) k s r = Some (at (skipped p q) l fs from)
+acts whole (at gap l fs from) event.Name (string v) s r = Some (given whole (name_slot l (between from s) s) None (text v) None l fs from s r)
+acts whole (at gap l fs from) event.NameType k s r = Some (at (opened OfName (name_slot l (between from s) s) r) l fs from)
+acts whole (at gap l fs from) event.GapClosing k s r = popped whole l fs from s r
+acts whole (at node_slashdash l fs from) event.Name (string v) s r = Some (given whole no_name None (text v) None l fs from s r)
+acts whole (at node_slashdash l fs from) event.NameType k s r = Some (at (opened OfName no_name r) l fs from)
+acts whole (at (type_open b c a) l fs from) (event.TypeName o) (string v) s r = Some (at (type_name b c (kept_text c (between a s)) (kept_name c (identifier_at whole v s r)) (kept_text c r)) l fs from)
+acts whole (at (type_name b c q i a) l fs from) (event.TypeEnd o) k s r = Some (at (type_done b c q i (kept_text c (between a s)) (kept_text c r)) l fs from)
+acts whole (at (type_done b c q i d a) l fs from) event.TypedName j s r = option_map (λ v. given whole c (typed q i d a s) v None l fs from s r) (value_of j)
+acts whole (at (type_done b c q i d a) l fs from) event.TypedValue j s r = option_map (λ v. given whole c (typed q i d a s) v None l fs from s r) (value_of j)
+acts whole (at (property c k b a) l fs from) event.KeyedValue j s r = option_map (λ v. given whole (keyed c (record { name = k; before = b; following = between a s })) None v None l fs from s r) (value_of j)
+acts whole (at (property c k b a) l fs from) event.KeyedType j s r = Some (at (opened OfValue (keyed c (record { name = k; before = b; following = between a s })) r) l fs from)
+acts whole (at (in_node u p) l fs from) event.NodeEnd k s r = Some (at gap (ended (closed whole u no_children [] (between from s) (between s r) s) l) fs (origin u from r))
+acts whole (at (in_node u p) l fs from) event.NodeClosing k s r = popped whole (ended (closed whole u no_children [] (between from s) [] s) l) fs (origin u from s) s r
+acts whole (at (in_node u p) l fs from) (event.Opening f) k s r = Some (at gap (inside u) (in_block u (text_before u (between from s)) l ∷ fs) (origin u from r))
+acts whole (at (in_node u p) l fs from) event.EntrySlashdash k s r = Some (at (entry_slashdash u) l fs from)
+acts whole (at (in_node u p) l fs from) event.Word (string v) s r = Some (worded whole (entry_slot u (between from s) s) v l fs from s r)
+acts whole (at (in_node u p) l fs from) event.Argument (value v) s r = Some (given whole (entry_slot u (between from s) s) None v None l fs from s r)
+acts whole (at (in_node u p) l fs from) event.ValueType k s r = Some (at (opened OfValue (entry_slot u (between from s) s) r) l fs from)
+acts whole (at (in_node u p) l fs from) event.Equals k s r = option_map (λ q. at q l fs from) (value_from p s r)
+acts whole (at (entry_slashdash u) l fs from) event.Word (string v) s r = Some (worded whole (no_value u) v l fs from s r)
+acts whole (at (entry_slashdash u) l fs from) event.Argument (value v) s r = Some (given whole (no_value u) None v None l fs from s r)
+acts whole (at (entry_slashdash u) l fs from) event.ValueType k s r = Some (at (opened OfValue (no_value u) r) l fs from)
+acts whole (at (entry_slashdash u) l fs from) (event.Opening f) k s r = Some (at gap None (in_dropped u l ∷ fs) from)
+acts whole (at (block_slashdash u) l fs from) (event.Opening f) k s r = Some (at gap None (in_dropped u l ∷ fs) from)
+acts whole (at (kept x) l fs from) event.KeptEnd k s r = Some (at gap (ended (closed_kept whole x (between from s) (between s r) s) l) fs (origin x from r))
+acts whole (at (kept x) l fs from) event.KeptClosing k s r = popped whole (ended (closed_kept whole x (between from s) [] s) l) fs (origin x from s) s r
+acts whole (at (kept_slashdash x) l fs from) (event.Opening f) k s r = Some (at gap None (in_later x l ∷ fs) from)
+acts _ _ _ _ _ _ = None
+
 -- the token k is in s before r, in the text `whole`
 abbrev pub step : Text → State → Token → Text → Text → Option State
-step whole (at gap l fs from) space s r = Some (at gap l fs from)
-step whole (at gap l fs from) newline s r = Some (at gap l fs from)
-step whole (at gap l fs from) slashdash s r = Some (at node_slashdash l fs from)
-step whole (at gap l fs from) (string v) s r = Some (given whole (name_slot l (between from s) s) None (text v) None l fs from s r)
-step whole (at gap l fs from) left s r = Some (at (opened OfName (name_slot l (between from s) s) r) l fs from)
-step whole (at gap l fs from) closing s r = popped whole l fs from s r
-step whole (at node_slashdash l fs from) space s r = Some (at node_slashdash l fs from)
-step whole (at node_slashdash l fs from) newline s r = Some (at node_slashdash l fs from)
-step whole (at node_slashdash l fs from) (string v) s r = Some (given whole no_name None (text v) None l fs from s r)
-step whole (at node_slashdash l fs from) left s r = Some (at (opened OfName no_name r) l fs from)
-step whole (at (type_open b c a) l fs from) space s r = Some (at (type_open b c a) l fs from)
-step whole (at (type_open b c a) l fs from) (string v) s r = Some (at (type_name b c (kept_text c (between a s)) (kept_name c (identifier_at whole v s r)) (kept_text c r)) l fs from)
-step whole (at (type_name b c q i a) l fs from) space s r = Some (at (type_name b c q i a) l fs from)
-step whole (at (type_name b c q i a) l fs from) right s r = Some (at (type_done b c q i (kept_text c (between a s)) (kept_text c r)) l fs from)
-step whole (at (type_done b c q i d a) l fs from) space s r = Some (at (type_done b c q i d a) l fs from)
-step whole (at (type_done b c q i d a) l fs from) (string v) s r = Some (given whole c (typed q i d a s) (text v) None l fs from s r)
-step whole (at (type_done b c q i d a) l fs from) (value v) s r = where_value b (given whole c (typed q i d a s) v None l fs from s r)
-step whole (at (property c k b a) l fs from) space s r = Some (at (property c k b a) l fs from)
-step whole (at (property c k b a) l fs from) (string v) s r = Some (given whole (keyed c (record { name = k; before = b; following = between a s })) None (text v) None l fs from s r)
-step whole (at (property c k b a) l fs from) (value v) s r = Some (given whole (keyed c (record { name = k; before = b; following = between a s })) None v None l fs from s r)
-step whole (at (property c k b a) l fs from) left s r = Some (at (opened OfValue (keyed c (record { name = k; before = b; following = between a s })) r) l fs from)
-step whole (at (in_node u p) l fs from) space s r = Some (at (in_node u (spaced_of p)) l fs from)
-step whole (at (in_node u p) l fs from) newline s r = Some (at gap (ended (closed whole u no_children [] (between from s) (between s r) s) l) fs (origin u from r))
-step whole (at (in_node u p) l fs from) semicolon s r = Some (at gap (ended (closed whole u no_children [] (between from s) (between s r) s) l) fs (origin u from r))
-step whole (at (in_node u p) l fs from) closing s r = popped whole (ended (closed whole u no_children [] (between from s) [] s) l) fs (origin u from s) s r
-step whole (at (in_node u p) l fs from) opening s r = Some (at gap (inside u) (in_block u (text_before u (between from s)) l ∷ fs) (origin u from r))
-step whole (at (in_node u p) l fs from) slashdash s r = Some (at (slashdash_at u p) l fs from)
-step whole (at (in_node u p) l fs from) (string v) s r = from_spaced p (worded whole (entry_slot u (between from s) s) v l fs from s r)
-step whole (at (in_node u p) l fs from) (value v) s r = from_spaced p (given whole (entry_slot u (between from s) s) None v None l fs from s r)
-step whole (at (in_node u p) l fs from) left s r = from_spaced p (at (opened OfValue (entry_slot u (between from s) s) r) l fs from)
-step whole (at (in_node u p) l fs from) equals s r = stay l fs from (value_from p s r)
-step whole (at (entry_slashdash u) l fs from) space s r = Some (at (entry_slashdash u) l fs from)
-step whole (at (entry_slashdash u) l fs from) newline s r = Some (at (entry_slashdash u) l fs from)
-step whole (at (entry_slashdash u) l fs from) (string v) s r = Some (worded whole (no_value u) v l fs from s r)
-step whole (at (entry_slashdash u) l fs from) (value v) s r = Some (given whole (no_value u) None v None l fs from s r)
-step whole (at (entry_slashdash u) l fs from) left s r = Some (at (opened OfValue (no_value u) r) l fs from)
-step whole (at (entry_slashdash u) l fs from) opening s r = Some (at gap None (in_dropped u l ∷ fs) from)
-step whole (at (block_slashdash u) l fs from) space s r = Some (at (block_slashdash u) l fs from)
-step whole (at (block_slashdash u) l fs from) newline s r = Some (at (block_slashdash u) l fs from)
-step whole (at (block_slashdash u) l fs from) opening s r = Some (at gap None (in_dropped u l ∷ fs) from)
-step whole (at (kept x) l fs from) space s r = Some (at (kept x) l fs from)
-step whole (at (kept x) l fs from) newline s r = Some (at gap (ended (closed_kept whole x (between from s) (between s r) s) l) fs (origin x from r))
-step whole (at (kept x) l fs from) semicolon s r = Some (at gap (ended (closed_kept whole x (between from s) (between s r) s) l) fs (origin x from r))
-step whole (at (kept x) l fs from) closing s r = popped whole (ended (closed_kept whole x (between from s) [] s) l) fs (origin x from s) s r
-step whole (at (kept x) l fs from) slashdash s r = Some (at (kept_slashdash x) l fs from)
-step whole (at (kept_slashdash x) l fs from) space s r = Some (at (kept_slashdash x) l fs from)
-step whole (at (kept_slashdash x) l fs from) newline s r = Some (at (kept_slashdash x) l fs from)
-step whole (at (kept_slashdash x) l fs from) opening s r = Some (at gap None (in_later x l ∷ fs) from)
-step _ _ _ _ _ = None
+step whole (at p l fs from) k s r = option_and_then (λ x. acts whole (at p l fs from) x k s r) (event_of (phase_of p) k)
 
 -- the document at the end of the text: no block may be open
 abbrev pub at_end : Text → Option Nodes → List Frame → Text → Option Document

@@ -1,5 +1,5 @@
 -- A token's event brings the builder where the machine's step does.
-use Rattle.std.proofs.Common.{◌≡◌, ℕ, true, ◌++◌, Option, Some, None, Result, refl, sym, ap, subst, ◌∙◌}
+use Rattle.std.proofs.Common.{◌≡◌, ℕ, true, List, ◌++◌, Option, Some, None, Result, refl, sym, ap, subst, ◌∙◌}
 use Rattle.kdl_text.specs.Chars.{Text}
 use Rattle.kdl_text.specs.Spans.{bytes}
 use Rattle.kdl_syntax.specs.Control.{event_of}
@@ -7,16 +7,15 @@ use Rattle.kdl_syntax.specs.declared.events.Event.{Event}
 use Rattle.kdl_syntax.specs.declared.events.Event.TheVariants.{Name as NodeName}
 use Rattle.kdl_entry.proofs.Slicing.Between.{is_between}
 use Rattle.kdl_entry.specs.Places.{between}
-use Rattle.kdl_grammar.specs.Internal.Machine as machine
-use Rattle.kdl_grammar.specs.Internal.Machine.{State, step, Pending, pending, value_from, stay}
-use Rattle.kdl_grammar.specs.Tree.{Node}
+use Rattle.kdl_grammar.specs.Internal.Machine.{Under, Frame, State, at, in_node, fresh, spaced, step, Pending, pending}
+use Rattle.kdl_grammar.specs.Tree.{Node, Nodes}
 use Rattle.kdl_syntax.specs.Internal.Handed.{kind_view}
 use Rattle.kdl_syntax.specs.Tokens.{Token, space, equals, string}
 use Rattle.kdl_syntax.specs.declared.lexer.LexFailure.{LexFailure}
 use Rattle.kdl_syntax.specs.declared.lexer.TokenKind.{TokenKind}
 use Rattle.kdl_syntax.specs.declared.lexer.TokenKind.TheVariants.{String as StringKind, Value as ValueKind}
 use Rattle.kdl_syntax.specs.declared.token_span.TokenSpan.{TokenSpan}
-use Rattle.kdl_parser.specs.Internal.Building.{under_view, pending_now, nodes_now, frames_view, state_view, state_by, reading_view, Did}
+use Rattle.kdl_parser.specs.Internal.Building.{under_view, node_now, pending_now, nodes_now, frames_view, state_view, state_by, reading_view, Did}
 use Rattle.kdl_parser.specs.Internal.Counted.{unsliced, unsliced_at, unsliced_in, SlicedOn}
 use Rattle.kdl_parser.specs.Internal.Events.{event_step, mark_step, is_building, is_live, unsliced_before, Acts}
 use Rattle.kdl_parser.specs.Internal.States.{step_at, step_in, TakesIn, TakesToken}
@@ -32,9 +31,9 @@ stepped_by tree b None k span = None
 stepped_by tree b (Some e) k span = event_step tree b e k span
 
 -- a key goes on to its `=` directly and after spaces
-same_from : (o : Option Pending) (s r : Text) → value_from (machine.spaced o) s r ≡ value_from (machine.fresh o) s r
-same_from None s r = refl
-same_from (Some (pending c k a)) s r = refl
+same_equals : (whole : Text) (u : Option Under) (o : Option Pending) (l : Option Nodes) (fs : List Frame) (from s r : Text) → step whole (at (in_node u (spaced o)) l fs from) equals s r ≡ step whole (at (in_node u (fresh o)) l fs from) equals s r
+same_equals whole u None l fs from s r = refl
+same_equals whole u (Some (pending c k a)) l fs from s r = refl
 
 module _ {N : Type 0} (tree : N → Node) (b : Builder N) (span : TokenSpan) where
   in_live : (p : Phase) (k : Token) → is_live p ≡ true → step_in tree b p k span ≡ stepped_by tree b (event_of p k) k span
@@ -42,7 +41,8 @@ module _ {N : Type 0} (tree : N → Node) (b : Builder N) (span : TokenSpan) whe
   in_live EntrySlashdash k e = absurd cc
   in_live BlockSlashdash k e = absurd cc
   in_live KeptSlashdash k e = absurd cc
-  in_live (InNode (Spaced MayBeKey)) equals e = ap (stay (nodes_now tree b) (frames_view tree b) b.from.rest) (same_from (pending_now MayBeKey b.source.text b.from.rest b.waiting (under_view b.under)) span.start.rest span.end.rest)
+  in_live (InNode (Spaced MayBeKey)) equals e =
+      same_equals b.source.text (Some (node_now b)) (pending_now MayBeKey b.source.text b.from.rest b.waiting (under_view b.under)) (nodes_now tree b) (frames_view tree b) b.from.rest span.start.rest span.end.rest
   in_live (InNode (Fresh MayBeKey)) space e = refl
   in_live (TypeOpen Name) space e = refl
   in_live (TypeName Name) space e = refl

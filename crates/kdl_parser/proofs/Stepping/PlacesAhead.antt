@@ -60,7 +60,8 @@ module _ (whole s r : Text) (v : EndsIn whole s) (b : EndsIn s r) where
   all_placed (type_name f c q i d) space l fs from a y = (a, place_on c d y)
   all_placed (type_name f c q i d) right l fs from a y = (a, place_here c)
   all_placed (type_done f c q i e d) space l fs from a y = (a, place_on c d y)
-  all_placed (type_done f c q i e d) (string v) l fs from a y = (moved_ends c a, tt)
+  all_placed (type_done OfName c q i e d) (string v) l fs from a y = (moved_ends c a, tt)
+  all_placed (type_done OfValue c q i e d) (string v) l fs from a y = (moved_ends c a, tt)
   all_placed (type_done OfValue c q i e d) (value v) l fs from a y = (moved_ends c a, tt)
   all_placed (type_done OfName c q i e d) (value v) l fs from a y = tt
   all_placed (property c i e d) space l fs from a y = (a, place_on c d y)
