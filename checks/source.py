@@ -13,7 +13,7 @@ os.chdir(os.path.join(os.path.dirname(os.path.abspath(__file__)), ".."))
 COMMENT = {".rt": r"(?m)(?<!\S)//.*$", ".antt": r"(?m)(?<!\S)--(?!\S).*$"}
 # What is before the name in a declaration of specs/ or proofs/.
 KEYS = r" *(?:(?:abbrev|data|mod|mutual|pub|record|unfoldable) )*"
-USE = re.compile(r"(?m)^ *(pub |ghost |)use ([^\s:;{}]+?)(?:\.\{([^{}]*)\}| as ([^\s;]+)|);?$")
+USE = re.compile(r"(?m)^ *(?:unfoldable )?(pub |ghost |)use ([^\s:;{}]+?)(?:\.\{([^{}]*)\}| as ([^\s;]+)|);?$")
 
 
 def text_of(path: str) -> str:

@@ -1,17 +1,11 @@
 -- Clearing formats without recursion: what is cleared, and what is left to clear, turn by turn.
-use Rattle.std.proofs.Common.{◌≡◌, ℕ, ◌+◌, ◌-◌, ◌<◌, ◌≤◌, true, false, List, [], ◌∷◌, ◌++◌, length, map, get_or, set, refl, ap, ◌∙◌, sym, arith, append_assoc, Option, None, Some, option_map, is_some, subst, Bool, cond, drop, not}
-use Rattle.std.specs.List.{All}
-use Rattle.std.proofs.lemmas.List.{append-nil, length-append, get_or_at, set_at, map_push, length_push, drop_at, drop_more, drop-set-lt}
-use Rattle.std.proofs.lemmas.List.Elements.{All-nil, All-cons, All-head, All-tail, All-push, All-weaker}
-use Rattle.kdl_entry.specs.Tree.{Identifier, Entry, unspelled, cleared}
-use Rattle.kdl_grammar.specs.Tree.{NodeFormat, Head, Node, node, no_children, children, Document, document, listed_nodes, children_of, Children, Nodes, none, first}
-use Rattle.kdl_parts.specs.Formats.{node_format_tree, document_format_tree}
-use Rattle.kdl.specs.Cleared.{cleared_head, cleared_node, cleared_document, cleared_nodes}
-use Rattle.kdl.specs.Internal.Due.{formed, due, is_due, AreDueFrom, ExchangedAt, HasInstead, IsAlone, BecomesDue}
-use Rattle.kdl.specs.Tree.{head_tree, node_tree, nodes_tree, document_tree}
-use Rattle.kdl.specs.declared.node.KdlNode.{KdlNode}
-use Rattle.kdl.specs.declared.document.KdlDocument.{KdlDocument}
-use Rattle.kdl.specs.declared.document.KdlDocument.TheViews.{out-KdlDocument, out-KdlNode}
+use Rattle.kdl.proofs.Common.{◌≡◌, ℕ, ◌+◌, ◌-◌, ◌<◌, ◌≤◌, true, false, List, [], ◌∷◌, ◌++◌, length, map, get_or, set, refl, ap, ◌∙◌, sym, arith, append_assoc, Option, None, Some, option_map, is_some, subst, Bool, cond, drop, not, All, append-nil, length-append, drop_more, drop-set-lt, All-nil, All-cons, All-head, All-tail, Entry, unspelled, NodeFormat, Head, Node, node, no_children, children, Document, document, listed_nodes, children_of, Children, Nodes, none, first, node_format_tree, document_format_tree, cleared_document, due, IsAlone, head_tree, node_tree, nodes_tree, document_tree, KdlNode, KdlDocument, out-KdlDocument, out-KdlNode}
+use Rattle.std.proofs.lemmas.List.{get_or_at, set_at, map_push, length_push, drop_at}
+use Rattle.std.proofs.lemmas.List.Elements.{All-push, All-weaker}
+use Rattle.kdl_entry.specs.Tree.{cleared}
+use Rattle.kdl_layout.proofs.Formatting.PrintsCanonical.{unspelled_twice}
+use Rattle.kdl.specs.Cleared.{cleared_head, cleared_node, cleared_nodes}
+use Rattle.kdl.specs.Internal.Due.{formed, is_due, AreDueFrom, ExchangedAt, HasInstead, BecomesDue}
 use Rattle.kdl.proofs.Trees.{document_tree_out, node_tree_out}
 
 abbrev pub IsCleared : KdlNode → Type 0
@@ -60,12 +54,8 @@ pub record Walk (here : KdlDocument) (above : Option KdlDocument) (at : ℕ) (w 
   pub whole : Whole above (become here done left) w
 
 -- clearing twice
-names_twice : (o : Option Identifier) → option_map unspelled (option_map unspelled o) ≡ option_map unspelled o
-names_twice None = refl
-names_twice (Some i) = refl
-
 entry_twice : (e : Entry) → cleared (cleared e) ≡ cleared e
-entry_twice e = rw (names_twice e.ty, names_twice e.name) refl
+entry_twice e = rw (unspelled_twice e.ty, unspelled_twice e.name) refl
 
 entries_twice : (es : List Entry) → map cleared (map cleared es) ≡ map cleared es
 entries_twice [] = refl

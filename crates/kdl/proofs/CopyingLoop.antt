@@ -1,12 +1,6 @@
 -- What is left to copy, turn by turn.
-use Rattle.std.proofs.Common.{◌≡◌, List, [], ◌∷◌, ◌++◌, map, ap, ◌∙◌, sym, refl, append_assoc, None, Some}
-use Rattle.std.proofs.lemmas.List.{map-append}
-use Rattle.kdl_grammar.specs.Tree.{Node, node, children}
-use Rattle.kdl.specs.Internal.Copied.{CopyFrame, with_children, with_block, closed, outermost}
-use Rattle.kdl.specs.Tree.{head_tree, node_tree}
-use Rattle.kdl.specs.declared.node.KdlNode.{KdlNode}
-use Rattle.kdl.specs.declared.document.KdlDocument.{KdlDocument}
-use Rattle.kdl.specs.declared.document.KdlDocument.TheViews.{out-KdlDocument, out-KdlNode}
+use Rattle.kdl.proofs.Common.{◌≡◌, List, [], ◌∷◌, ◌++◌, map, ap, ◌∙◌, sym, refl, append_assoc, None, Some, map-append, Node, node, children, CopyFrame, outermost, head_tree, node_tree, KdlNode, KdlDocument, out-KdlDocument, out-KdlNode}
+use Rattle.kdl.specs.Internal.Copied.{with_children, with_block, closed}
 use Rattle.kdl.proofs.Trees.{document_tree_out, node_tree_out}
 
 -- one more block that is open

@@ -1,28 +1,11 @@
 -- What is printed where entries or nodes are exchanged, and what edits leave.
-use Rattle.std.proofs.Common.{◌≡◌, ℕ, ◌+◌, List, ◌∷◌, ◌++◌, map, ap, ◌∙◌, sym, refl, append_assoc, take, drop, set, slice_get, Option, None, Some, IfSome, IsSome, Result, Ok, Err, OnOk, OnErr, option_map, Vec, Global}
-use Rattle.std.proofs.lemmas.List.{map-append, take-map, drop-map, set-get_or}
-use Rattle.std.proofs.lemmas.Option.{slice_get_within, get_or_from_slice_get}
-use Rattle.std.specs.Vec.{with_item}
-use Rattle.kdl_text.specs.Chars.{Text}
+use Rattle.kdl.proofs.Common.{◌≡◌, ℕ, ◌+◌, List, ◌∷◌, ◌++◌, map, ap, ◌∙◌, sym, refl, append_assoc, take, drop, set, slice_get, Option, None, Some, IfSome, IsSome, Result, Ok, Err, OnOk, OnErr, option_map, Vec, Global, map-append, take-map, drop-map, slice_get_within, get_or_from_slice_get, with_item, Text, Entry, entry_tree, KdlEntry, with_entries, head_of, tail_of, document_before, document_after, under, put_for, replaced_place, IsInserted, sought, place_of, print_head, print_tail, before_block, after_brace, before_brace, end_text, format_of, print_piece, print_pieces, print_node, print_nodes, print_document, leading_text, trailing_text, Head, NodeFormat, Node, node, Children, no_children, children, children_of, node_tree, nodes_tree, document_tree, head_tree, document_format_tree, node_format_tree, KdlDocument, out-KdlDocument, out-KdlNode, KdlNode, NodeKey, Key, Index, print_pieces-append}
+use Rattle.std.proofs.lemmas.List.{set-get_or}
 use Rattle.kdl_entry.specs.Print.{print_entry}
-use Rattle.kdl_entry.specs.Tree.{Entry, entry_tree}
-use Rattle.kdl_entry.specs.declared.entry.KdlEntry.{KdlEntry}
-use Rattle.kdl.specs.Change.{with_entries, with_entry}
-use Rattle.kdl.specs.EditLaw.{head_of, tail_of, tree_entries, PrintsInstead, PrintsAtPlace, EntriesExchanged, EntryExchanged, FormedPiece, NodesExchanged, NodeExchanged, document_before, document_after}
-use Rattle.kdl_parts.specs.Edits.{under, put_for, replaced_place, IsInserted}
-use Rattle.kdl_parts.specs.EntryLists.{sought, place_of}
-use Rattle.kdl_grammar.specs.Print.{print_head, print_tail, before_block, after_brace, before_brace, end_text, format_of, print_piece, print_pieces, print_node, print_nodes, print_document, leading_text, trailing_text}
-use Rattle.kdl_grammar.specs.Tree.{Head, NodeFormat, Node, node, Children, no_children, children, children_of}
-use Rattle.kdl.specs.Tree.{node_tree, nodes_tree, document_tree, head_tree}
-use Rattle.kdl_parts.specs.Formats.{document_format_tree, node_format_tree}
-use Rattle.kdl.specs.declared.document.KdlDocument.{KdlDocument}
-use Rattle.kdl.specs.declared.document.KdlDocument.TheViews.{out-KdlDocument, out-KdlNode}
-use Rattle.kdl.specs.declared.node.KdlNode.{KdlNode}
-use Rattle.kdl_parts.specs.declared.key.NodeKey.{NodeKey}
-use Rattle.kdl_parts.specs.declared.key.NodeKey.TheVariants.{Key, Index}
+use Rattle.kdl.specs.Change.{with_entry}
+use Rattle.kdl.specs.EditLaw.{tree_entries, PrintsInstead, PrintsAtPlace, EntriesExchanged, EntryExchanged, FormedPiece, NodesExchanged, NodeExchanged}
 use Rattle.kdl.proofs.Printing.PrintedParts.{print_nodes-join}
 use Rattle.kdl_parts.proofs.EntryEdits.{set_around}
-use Rattle.kdl_parts.proofs.PrintedEntries.{print_pieces-append}
 use Rattle.kdl.proofs.Trees.{NodeFields, node_of, document_tree_out, document_tree_roll, node_tree_out, node_tree_roll, nodes_tree-append}
 
 -- the tail does not look at the entries where there is a format

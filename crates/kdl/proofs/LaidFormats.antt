@@ -1,19 +1,8 @@
--- Each node and each entry that is laid in a text has a format.
-use Rattle.std.proofs.Common.{◌≡◌, ℕ, zero, suc, Bool, List, [], ◌∷◌, Option, Some, None, IsSome, map, option_map, slice_get, refl, subst}
-use Rattle.std.proofs.lemmas.Option.{none-some}
-use Rattle.kdl_text.specs.Chars.{Text}
-use Rattle.kdl_text.specs.declared.span.SourceSpan.{SourceSpan}
-use Rattle.kdl_entry.specs.Laid.{LaidEntry, laid_entry}
-use Rattle.kdl_entry.specs.Tree.{Entry, entry_tree}
-use Rattle.kdl_entry.specs.declared.entry.KdlEntry.{KdlEntry}
-use Rattle.kdl_grammar.specs.Laid.{LaidEntries, no_entry, an_entry, LaidNode, laid_node, LaidChildren, no_block, a_block, LaidNodes, no_node, a_node, LaidContent, without_nodes, with_nodes, LaidDocumentAs, with_bom}
-use Rattle.kdl_grammar.specs.Tree.{Node, node, Children, no_children, children, Document, document, Nodes, none, first}
-use Rattle.kdl.specs.DocumentLookups.{nodes_of}
-use Rattle.kdl.specs.Lookups.{entries_of}
-use Rattle.kdl.specs.Tree.{document_tree, node_tree, nodes_tree}
-use Rattle.kdl.specs.declared.document.KdlDocument.{KdlDocument}
-use Rattle.kdl.specs.declared.document.KdlDocument.TheViews.{out-KdlNode}
-use Rattle.kdl.specs.declared.node.KdlNode.{KdlNode}
+-- Each node and each entry that is laid in a text has a format, and keeps no form.
+use Rattle.kdl.proofs.Common.{◌≡◌, ℕ, zero, suc, Bool, false, List, [], ◌∷◌, Option, Some, None, IsSome, map, option_map, slice_get, refl, subst, none-some, Text, SourceSpan, LaidEntry, laid_entry, Entry, entry_tree, KdlEntry, LaidEntries, no_entry, an_entry, LaidNode, laid_node, LaidChildren, no_block, LaidNodes, no_node, a_node, LaidContent, without_nodes, LaidDocumentAs, with_bom, Node, node, Children, no_children, children, Document, document, Nodes, none, first, nodes_of, entries_of, document_tree, node_tree, nodes_tree, KdlDocument, out-KdlNode, KdlNode, NodeKeepsNone, DocumentKeepsNone}
+use Rattle.kdl_grammar.specs.Laid.{a_block, with_nodes, LaidNodeTextAs}
+use Rattle.kdl_layout.specs.Kept.{is_kept_format}
+use Rattle.kdl_layout.specs.Formatted.{EntriesKeepNone, ChildrenKeepNone, NodesKeepNone}
 use Rattle.kdl.proofs.Trees.{document_tree_out, node_tree_out}
 
 abbrev pub EntriesHaveFormats : List Entry → Type 0
@@ -37,36 +26,45 @@ abbrev mutual
   NodesHaveFormats (first n ns) = NodeHasFormats n × NodesHaveFormats ns
 
 module _ (exact : Bool) (whole : Text) where
-  entry_laid : {e : Entry} {s r : Text} → LaidEntry exact whole e s r → IsSome e.format
-  entry_laid (laid_entry l (Rattle.kdl_entry.specs.Laid.item k y v) x) = refl
+  entry_laid : {e : Entry} {s r : Text} → LaidEntry exact whole e s r → (is_kept_format e.format ≡ false) × IsSome e.format
+  entry_laid (laid_entry l (Rattle.kdl_entry.specs.Laid.item k y v) x) = (refl, refl)
 
-  entries_laid : {es : List Entry} {s r : Text} → LaidEntries exact whole es s r → EntriesHaveFormats es
-  entries_laid no_entry = tt
-  entries_laid (an_entry l ls) = (entry_laid l, entries_laid ls)
+  entries_laid : {es : List Entry} {s r : Text} → LaidEntries exact whole es s r → EntriesKeepNone es × EntriesHaveFormats es
+  entries_laid no_entry = (tt, tt)
+  entries_laid (an_entry l ls) = let (a, b) = entry_laid l in let (p, q) = entries_laid ls in ((a, p), (b, q))
 
   mutual
-    node_laid : {leading end trailing s r : Text} {at : SourceSpan} {x : Node} → LaidNode exact whole leading end trailing at x s r → NodeHasFormats x
-    node_laid (laid_node d i e k) = (refl, entries_laid e, children_laid k)
+    node_laid : {leading end trailing s r : Text} {at : SourceSpan} {x : Node} → LaidNode exact whole leading end trailing at x s r → NodeKeepsNone x × NodeHasFormats x
+    node_laid (laid_node d i e k) = let (a, b) = entries_laid e in let (p, q) = children_laid k in ((a, p), (refl, b, q))
 
-    children_laid : {k : Children} {before later s r : Text} → LaidChildren exact whole k before later s r → ChildrenHaveFormats k
-    children_laid (no_block c) = tt
+    children_laid : {k : Children} {before later s r : Text} → LaidChildren exact whole k before later s r → ChildrenKeepNone k × ChildrenHaveFormats k
+    children_laid (no_block c) = (tt, tt)
     children_laid (a_block c d l) = content_laid d
 
-    content_laid : {d : Document} {s r : Text} → LaidContent exact whole d s r → DocumentHasFormats d
-    content_laid (without_nodes g z) = tt
-    content_laid (with_nodes (a_node l n e z ns) g y) = (node_laid n, nodes_laid ns)
+    content_laid : {d : Document} {s r : Text} → LaidContent exact whole d s r → DocumentKeepsNone d × DocumentHasFormats d
+    content_laid (without_nodes g z) = (tt, tt)
+    content_laid (with_nodes (a_node l n e z ns) g y) = let (a, b) = node_laid n in let (p, q) = nodes_laid ns in ((a, p), (b, q))
 
-    nodes_laid : {xs : Nodes} {s r : Text} → LaidNodes exact whole xs s r → NodesHaveFormats xs
-    nodes_laid no_node = tt
-    nodes_laid (a_node l n e z ns) = (node_laid n, nodes_laid ns)
+    nodes_laid : {xs : Nodes} {s r : Text} → LaidNodes exact whole xs s r → NodesKeepNone xs × NodesHaveFormats xs
+    nodes_laid no_node = (tt, tt)
+    nodes_laid (a_node l n e z ns) = let (a, b) = node_laid n in let (p, q) = nodes_laid ns in ((a, p), (b, q))
 
-bom_laid : {exact : Bool} {whole : Text} {d : Document} {s r : Text} → LaidContent exact whole d s r → DocumentHasFormats d → DocumentHasFormats (with_bom d)
+bom_laid : {exact : Bool} {whole : Text} {d : Document} {s r : Text} → LaidContent exact whole d s r → DocumentKeepsNone d × DocumentHasFormats d → DocumentKeepsNone (with_bom d) × DocumentHasFormats (with_bom d)
 bom_laid (without_nodes g z) h = h
 bom_laid (with_nodes ns g z) h = h
 
+document_laid : (exact : Bool) (d : Document) (t : Text) → LaidDocumentAs exact d t → DocumentKeepsNone d × DocumentHasFormats d
+document_laid exact d t (LaidDocumentAs.no_bom c) = content_laid exact t c
+document_laid exact d t (LaidDocumentAs.after_bom {t = u} c) = bom_laid c (content_laid exact t c)
+
+pub laid_keeps_none : (exact : Bool) (d : Document) (t : Text) → LaidDocumentAs exact d t → DocumentKeepsNone d
+laid_keeps_none exact d t l = (document_laid exact d t l).0
+
+pub laid_node_keeps_none : (exact : Bool) (n : Node) (t : Text) → LaidNodeTextAs exact t n → NodeKeepsNone n
+laid_node_keeps_none exact n t (LaidNodeTextAs.laid_node_text g l e z s) = (node_laid exact t l).0
+
 pub laid_formats : (exact : Bool) (d : Document) (t : Text) → LaidDocumentAs exact d t → DocumentHasFormats d
-laid_formats exact d t (LaidDocumentAs.no_bom c) = content_laid exact t c
-laid_formats exact d t (LaidDocumentAs.after_bom {t = u} c) = bom_laid c (content_laid exact t c)
+laid_formats exact d t l = (document_laid exact d t l).1
 
 -- so has each node of such a document in memory
 some_of : {A B : Type 0} (f : A → B) (o : Option A) → IsSome (option_map f o) → IsSome o

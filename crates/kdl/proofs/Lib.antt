@@ -1,3 +1,5 @@
+-- What the proofs of this crate cite most of the standard library, of the crates below, and of the specifications.
+pub mod Common
 -- Layout over a stack of blocks.
 pub mod LayingOut
 -- Clearing formats without recursion.
@@ -16,9 +18,7 @@ pub mod NodeCounts
 pub mod EditLaws
 -- Where one entry is exchanged, put in or taken out, its piece of the printed text is, and no other character.
 pub mod PiecesExchanged
--- What is laid in a text keeps no form.
-pub mod FormKept
--- Each node and each entry that is laid in a text has a format.
+-- Each node and each entry that is laid in a text has a format, and keeps no form.
 pub mod LaidFormats
 -- What a document, or a node, that was read says of the grammar.
 pub mod ParseAnswers

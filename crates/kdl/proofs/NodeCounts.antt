@@ -1,15 +1,9 @@
 -- Counts, level by level.
-use Rattle.std.proofs.Common.{◌≡◌, ℕ, ◌+◌, ◌*◌, ◌<◌, ◌≤◌, List, [], ◌∷◌, ◌++◌, map, ap, ◌∙◌, sym, refl, Option, None, Some, arith, set, length, get_or}
+use Rattle.kdl.proofs.Common.{◌≡◌, ℕ, ◌+◌, ◌*◌, ◌<◌, ◌≤◌, List, [], ◌∷◌, ◌++◌, map, ap, ◌∙◌, sym, refl, Option, None, Some, arith, set, length, get_or, map-append, count_nodes, count_option, count_left, KdlNode, KdlDocument, KdlNode-F, out-KdlDocument, out-KdlNode, map-KdlNode, fold_out-KdlDocument, fold_out-KdlNode}
 use Rattle.std.proofs.Math.Nat.{mul-le-mul_left}
-use Rattle.std.proofs.lemmas.List.{map-append}
 use Rattle.std.specs.List.{sum_by}
 use Rattle.std.proofs.lemmas.List.Sums.{sum_by-cons, sum_by-set, get_or-le-sum_by}
-use Rattle.kdl.specs.Internal.Count.{total, doc_step, node_step, count_doc, count_node, count_nodes, count_option, count_left}
-use Rattle.kdl.specs.declared.node.KdlNode.{KdlNode}
-use Rattle.kdl.specs.declared.document.KdlDocument.{KdlDocument}
-use Rattle.kdl.specs.declared.document.KdlDocument.TheOpen.{KdlNode-F}
-use Rattle.kdl.specs.declared.document.KdlDocument.TheViews.{out-KdlDocument, out-KdlNode}
-use Rattle.kdl.specs.declared.document.KdlDocument.TheFolds.{map-KdlNode, fold_out-KdlDocument, fold_out-KdlNode}
+use Rattle.kdl.specs.Internal.Count.{total, doc_step, node_step, count_doc, count_node}
 
 pub total-append : (xs ys : List ℕ) → total (xs ++ ys) ≡ total xs + total ys
 total-append [] ys = omega arith

@@ -1,7 +1,5 @@
 -- What a document, or a node, that was read says of the grammar.
-use Rattle.std.proofs.Common.{ℕ, false, true, List, Result, IfOk}
-use Rattle.std.proofs.lemmas.Result.{IfOk-weaker}
-use Rattle.std.specs.Str.{chars}
+use Rattle.kdl.proofs.Common.{ℕ, false, true, List, Result, IfOk, IfOk-weaker, chars, node_tree, document_tree, KdlNode, KdlDocument}
 use Rattle.kdl_text.specs.declared.error.ParseFailure.{ParseFailure}
 use Rattle.kdl_grammar.specs.Internal.Machine.{AnswersDocument}
 use Rattle.kdl_grammar.specs.Laid.{LaidNodeText}
@@ -12,10 +10,7 @@ use Rattle.kdl_parser.proofs.Answering.Outcomes as outcomes
 use Rattle.kdl_parser.proofs.Answering.EditedOutcomes as edited_outcomes
 use Rattle.kdl_parser.proofs.Answering.NodeTexts as node_texts
 use Rattle.kdl.specs.Parses.{ParsesDocument, ParsesNodeText}
-use Rattle.kdl.specs.Tree.{node_tree, document_tree}
-use Rattle.kdl.specs.declared.node.KdlNode.{KdlNode}
-use Rattle.kdl.specs.declared.document.KdlDocument.{KdlDocument}
-use Rattle.kdl.proofs.FormKept.{laid_keeps_none, laid_node_keeps_none}
+use Rattle.kdl.proofs.LaidFormats.{laid_keeps_none, laid_node_keeps_none}
 
 pub document_parsed : (text : List ℕ) (r : Result KdlDocument ParseFailure) (old new : ℕ) → IfOk r (λ d. AnswersDocument (chars text) (document_tree d)) → steps.Parses text r old new → ParsesDocument text r
 document_parsed text r old new a p =

@@ -1,29 +1,9 @@
 -- Where one entry is exchanged, put in or taken out, at whatever depth of blocks, its piece of the printed text is, and no other character.
-use Rattle.std.proofs.Common.{◌≡◌, ℕ, ◌+◌, List, [], ◌∷◌, ◌++◌, map, slice_get, Option, Some, None, IfSome, IsSome, Result, Ok, Err, IfOk, OnOk, is_ok, if◌then◌else◌, unwrap_or, Vec, Global, option_and_then, option_map, append_assoc, ap, refl, ◌∙◌, sym, subst}
-use Rattle.std.proofs.lemmas.List.{append-nil, map-append}
-use Rattle.std.proofs.lemmas.Option.{none-some}
-use Rattle.std.specs.Vec.{with_item}
-use Rattle.kdl_text.specs.Chars.{Text}
-use Rattle.kdl_entry.specs.Tree.{Entry, entry_tree}
-use Rattle.kdl_entry.specs.declared.entry.KdlEntry.{KdlEntry}
-use Rattle.kdl_grammar.specs.Print.{after_brace, before_block, before_brace, end_text, format_of, print_document, print_head, print_node, print_piece, print_pieces}
-use Rattle.kdl_grammar.specs.Tree.{Document, DocumentFormat, Head, node, children, children_of}
-use Rattle.kdl_parts.specs.Edits.{removed, replaced_place, under, IsInserted}
-use Rattle.kdl_parts.specs.EntryLists.{place_of, removed_place, sought, there}
-use Rattle.kdl_parts.specs.Formats.{document_format_tree}
-use Rattle.kdl_parts.specs.declared.key.NodeKey.{NodeKey}
-use Rattle.kdl_parts.specs.declared.key.NodeKey.TheVariants.{Key, Index}
-use Rattle.kdl_parts.proofs.PrintedEntries.{print_pieces-append}
+use Rattle.kdl.proofs.Common.{◌≡◌, ℕ, ◌+◌, List, [], ◌∷◌, ◌++◌, map, slice_get, Option, Some, None, IfSome, IsSome, Result, Ok, Err, IfOk, OnOk, is_ok, if◌then◌else◌, unwrap_or, Vec, Global, option_and_then, option_map, append_assoc, ap, refl, ◌∙◌, sym, subst, append-nil, map-append, none-some, with_item, Text, Entry, entry_tree, KdlEntry, after_brace, before_block, before_brace, end_text, format_of, print_document, print_head, print_node, print_piece, print_pieces, Document, DocumentFormat, Head, node, children, children_of, removed, replaced_place, under, IsInserted, place_of, removed_place, sought, there, document_format_tree, NodeKey, Key, Index, print_pieces-append, with_children, with_entries, with_node, is_node_named, node_named, node_place, nodes_of, with_node_named, with_node_there, document_before, document_after, head_of, tail_of, entries_of, found_entry, key_place, with_entry_there, with_found_entry, document_tree, node_tree, KdlNode, KdlDocument, out-KdlDocument, out-KdlNode, out-roll-KdlDocument}
 use Rattle.kdl.specs.Bytes.{IsExchanged, IsExchangedInDocument, IsExchangedInNode, piece_of}
-use Rattle.kdl.specs.Change.{with_children, with_entries, with_node}
-use Rattle.kdl.specs.DocumentLookups.{is_node_named, node_named, node_place, nodes_of, with_node_named, with_node_there}
-use Rattle.kdl.specs.EditLaw.{document_before, document_after, head_of, tail_of, text_before, text_after}
+use Rattle.kdl.specs.EditLaw.{text_before, text_after}
 use Rattle.kdl.specs.Fields.{document_format_of}
-use Rattle.kdl.specs.Lookups.{entries_of, found_entry, key_place, with_entry_there, with_found_entry}
-use Rattle.kdl.specs.Tree.{document_tree, head_tree as head, node_tree}
-use Rattle.kdl.specs.declared.node.KdlNode.{KdlNode}
-use Rattle.kdl.specs.declared.document.KdlDocument.{KdlDocument}
-use Rattle.kdl.specs.declared.document.KdlDocument.TheViews.{out-KdlDocument, out-KdlNode, out-roll-KdlDocument}
+use Rattle.kdl.specs.Tree.{head_tree as head}
 use Rattle.kdl.proofs.EditLaws.{entries_exchanged, entry_exchanged, node_exchanged}
 use Rattle.kdl.proofs.Finding.DocumentLookups.{found_there}
 use Rattle.kdl.proofs.Finding.ListLookups.{Splice, listed, splice_before, splice_for, splice_push, splice_without}

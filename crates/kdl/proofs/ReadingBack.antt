@@ -1,48 +1,26 @@
 -- What edits make of nodes and documents that read back.
-use Rattle.std.proofs.Common.{◌≡◌, refl, ℕ, zero, suc, ◌+◌, Bool, true, false, List, [], ◌∷◌, ◌++◌, map, set, slice_get, Option, Some, None, IfSome, Result, Ok, Err, OnOk, OnErr, IfOk, option_map, option_and_then, Vec, Global, sym, subst, ◌∙◌, arith}
-use Rattle.std.proofs.lemmas.List.Elements.{All-append, All-cons, All-head, All-map, All-nil, All-tail}
+use Rattle.kdl.proofs.Common.{◌≡◌, refl, ℕ, zero, suc, ◌+◌, Bool, true, false, List, [], ◌∷◌, ◌++◌, map, set, slice_get, Option, Some, None, IfSome, Result, Ok, Err, OnOk, OnErr, IfOk, option_map, option_and_then, Vec, Global, sym, subst, ◌∙◌, arith, All-cons, All-head, All-nil, All-tail, IfOk-weaker, All, list_all, if◌then◌else◌, is_ok, with_item, Text, SourceSpan, Value, text_scalars, print_identifier, Identifier, entry_tree, identifier_tree, KdlEntry, KdlIdentifier, no_gap, leading_text, print_document, print_node, trailing_text, Rests, Anything, TextEnd, last_rests, EntryReads, NodeReads, NodesRead, last_node, next_node, ContentReads, one_text, BlockReads, block, DocumentReads, DocumentFormat, document, Node, node, Nodes, children_of, document_data, node_data, node_before, IsInserted, removed, under, place_of, removed_place, sought, there, document_format_tree, NodeKey, Key, Index, with_children, with_entries, with_node, new_document, is_node_named, node_named, node_place, nodes_of, with_node_named, with_node_there, entries_of, found_entry, key_place, with_entry_there, with_found_entry, DocumentReadsBack, NodeEnds, NodeReadsBack, ReadsAs, document_tree, head_tree, node_tree, nodes_tree, KdlDocument, out-KdlDocument, out-KdlNode, KdlNode}
+use Rattle.std.proofs.lemmas.List.Elements.{All-append, All-map}
 use Rattle.std.proofs.lemmas.List.Sorted.{All-permutation}
-use Rattle.std.proofs.lemmas.Result.{IfOk-weaker}
-use Rattle.std.specs.List.{All, items_where_true, list_all}
+use Rattle.std.specs.List.{items_where_true}
 use Rattle.std.specs.List.Retain.{IsFiltered}
 use Rattle.std.specs.List.Sorted.{IsPermutation}
-use Rattle.std.specs.Prelude.{if◌then◌else◌, is_ok}
-use Rattle.std.specs.Vec.{with_item}
-use Rattle.kdl_text.specs.Chars.{Text, is_scalar}
-use Rattle.kdl_text.specs.declared.span.SourceSpan.{SourceSpan}
-use Rattle.kdl_value.specs.Data.{Value}
+use Rattle.kdl_text.specs.Chars.{is_scalar}
 use Rattle.kdl_value.specs.WellFormed.{IsWellFormed}
-use Rattle.kdl_value.proofs.WellFormed.{text_scalars}
 use Rattle.kdl_entry.specs.Entries.{IsIdentifierText}
-use Rattle.kdl_entry.specs.Print.{print_identifier}
-use Rattle.kdl_entry.specs.Tree.{Identifier, entry_tree, identifier_tree, no_span}
-use Rattle.kdl_entry.specs.declared.entry.KdlEntry.{KdlEntry}
-use Rattle.kdl_entry.specs.declared.identifier.KdlIdentifier.{KdlIdentifier}
+use Rattle.kdl_entry.specs.Tree.{no_span}
 use Rattle.kdl_entry.proofs.Laying.FormlessLaid.{formless_reads_back}
 use Rattle.kdl_entry.proofs.WellFormed.{name_scalars}
 use Rattle.kdl_grammar.specs.Data as data'
-use Rattle.kdl_grammar.specs.Grammar.{IsDocument, no_gap}
-use Rattle.kdl_grammar.specs.Print.{leading_text, print_document, print_node, trailing_text}
-use Rattle.kdl_grammar.specs.ReadsBack.{Rests, Anything, TextEnd, AddsNothing, IsGapBefore, last_rests, EntryReads, NodeReads, NodesRead, last_node, next_node, ContentReads, one_text, two_texts, with_nodes as content_nodes, BlockReads, block, DocumentReads}
-use Rattle.kdl_grammar.specs.Tree.{DocumentFormat, document, Node, node, Nodes, none, first, children_of, document_data, node_data}
+use Rattle.kdl_grammar.specs.Grammar.{IsDocument}
+use Rattle.kdl_grammar.specs.ReadsBack.{with_nodes as content_nodes}
 use Rattle.kdl_grammar.proofs.ReadingBack.Composing as composing
-use Rattle.kdl_grammar.proofs.ReadingBack.Composing.{node_before}
+use Rattle.kdl_layout.proofs.Formatting.PartsRead.{content_with}
 use Rattle.kdl_grammar.proofs.ReadingBack.Entries.{formless_reads, new_reads, value_reads}
 use Rattle.kdl_grammar.proofs.ReadingBack.Reads.{node_derived, reads_derived}
-use Rattle.kdl_parts.specs.Edits.{IsInserted, inserted, removed, under}
-use Rattle.kdl_parts.specs.EntryLists.{place_of, removed_place, sought, there}
-use Rattle.kdl_parts.specs.Formats.{document_format_tree}
-use Rattle.kdl_parts.specs.declared.key.NodeKey.{NodeKey}
-use Rattle.kdl_parts.specs.declared.key.NodeKey.TheVariants.{Key, Index}
-use Rattle.kdl.specs.Change.{with_children, with_entries, with_node}
-use Rattle.kdl.specs.Cleared.{new_document, new_node}
-use Rattle.kdl.specs.DocumentLookups.{is_node_named, node_named, node_place, nodes_of, with_node_named, with_node_there}
-use Rattle.kdl.specs.Lookups.{entries_of, found_entry, key_place, with_entry_there, with_found_entry}
-use Rattle.kdl.specs.ReadsBack.{BlockReadsBack, DocumentReadsBack, EntryReadsBack, IsUnformed, NodeEnds, NodeReadsBack, ReadsAs, respelled}
-use Rattle.kdl.specs.Tree.{document_tree, head_tree, node_tree, nodes_tree}
-use Rattle.kdl.specs.declared.document.KdlDocument.{KdlDocument}
-use Rattle.kdl.specs.declared.document.KdlDocument.TheViews.{out-KdlDocument, out-KdlNode}
-use Rattle.kdl.specs.declared.node.KdlNode.{KdlNode}
+use Rattle.kdl_parts.specs.Edits.{inserted}
+use Rattle.kdl.specs.Cleared.{new_node}
+use Rattle.kdl.specs.ReadsBack.{BlockReadsBack, EntryReadsBack, IsUnformed, respelled}
 use Rattle.kdl.proofs.Finding.DocumentLookups.{found_there}
 use Rattle.kdl.proofs.Finding.ListLookups.{Splice, listed, splice_before, splice_for, splice_push, splice_set, splice_without}
 use Rattle.kdl.proofs.Trees.{document_tree_out, document_tree_roll, node_of, node_tree_out, node_tree_roll}
@@ -180,11 +158,6 @@ module _ {M : Type 0} (now : M → KdlEntry) (key : NodeKey) (n : KdlNode) where
   entry_loan_respelled (Some e) h = λ f v ok s. entry_there_reads (key_place key n) n (now e) f (sym h) (λ x. subst EntryReads (sym s) (value_reads (entry_tree (now e)) v x ok))
 
 -- documents
-
-pub content_with : {P : Rests} {l t : Text} (ns : Nodes) → AddsNothing l → NodesRead (last_rests t P) ns → IsGapBefore P t → ContentReads P l t ns
-content_with none a x g = two_texts a g
-content_with (first n ns) a x g = content_nodes a x g
-
 nodes_set : {P : Rests} (ns : List KdlNode) (i : ℕ) (n m : KdlNode) → slice_get ns i ≡ Some n → ReadsAs n m → NodesRead P (nodes_tree ns) → NodesRead P (nodes_tree (set ns i m))
 nodes_set [] i n m h f x = x
 nodes_set {P = P} (y ∷ []) zero n m h f (last_node x) = let same : y ≡ n = cc in last_node (f P (subst (λ (z : KdlNode). NodeReads P (node_tree z)) same x))

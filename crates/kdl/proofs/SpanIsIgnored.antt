@@ -1,14 +1,10 @@
 -- A node, and a document, with another span is equal to what it was.
-use Rattle.std.proofs.Common.{◌≡◌, ◌∙◌, sym, true}
-use Rattle.kdl_text.specs.declared.span.SourceSpan.{SourceSpan}
+use Rattle.kdl.proofs.Common.{◌≡◌, ◌∙◌, sym, true, SourceSpan, KdlNode, KdlDocument, out-KdlNode, roll-KdlNode, out-roll-KdlNode, out-KdlDocument, roll-KdlDocument, out-roll-KdlDocument}
 use Rattle.kdl.specs.Same.{same_node, same_document}
 use Rattle.kdl.specs.contracts.node.KdlNodePartialEq.TheImpl.Laws.{is as node_is}
 use Rattle.kdl.specs.contracts.node.KdlNodeEq.TheImpl.Laws.{laws-law as node_law}
 use Rattle.kdl.specs.contracts.document.KdlDocumentPartialEq.TheImpl.Laws.{is as document_is}
 use Rattle.kdl.specs.contracts.document.KdlDocumentEq.TheImpl.Laws.{laws-law as document_law}
-use Rattle.kdl.specs.declared.node.KdlNode.{KdlNode}
-use Rattle.kdl.specs.declared.document.KdlDocument.{KdlDocument}
-use Rattle.kdl.specs.declared.document.KdlDocument.TheViews.{out-KdlNode, roll-KdlNode, out-roll-KdlNode, out-KdlDocument, roll-KdlDocument, out-roll-KdlDocument}
 
 pub node_spanned : (x : KdlNode) (span : SourceSpan) → same_node x (roll-KdlNode (record (out-KdlNode x) { span = span })) ≡ true
 node_spanned x span =

@@ -1,17 +1,9 @@
 -- The trees of a node and of a document, by their fields.
-use Rattle.std.proofs.Common.{◌≡◌, List, [], ◌∷◌, ◌++◌, map, ap, ◌∙◌, refl, None, Some, option_map}
-use Rattle.std.proofs.lemmas.List.{map-append}
+use Rattle.kdl.proofs.Common.{◌≡◌, List, [], ◌∷◌, ◌++◌, map, ap, ◌∙◌, refl, None, Some, option_map, map-append, KdlEntry, identifier_tree, entry_tree, Document, document, Node, node, first, join, listed_nodes, children_of, head_tree, document_tree, node_tree, nodes_tree, document_format_tree, node_format_tree, KdlNode, KdlDocument, KdlNode-F, out-KdlDocument, out-KdlNode, roll-KdlDocument, roll-KdlNode, map-KdlNode, fold_out-KdlDocument, fold_out-KdlNode}
 use Rattle.std.specs.List.{AllZip}
-use Rattle.kdl_entry.specs.declared.entry.KdlEntry.{KdlEntry}
-use Rattle.kdl_entry.specs.Tree.{identifier_tree, entry_tree}
-use Rattle.kdl_grammar.specs.Tree.{Document, document, Node, node, first, join, listed_nodes, children_of}
-use Rattle.kdl.specs.Tree.{head_tree, document_step, node_step, document_tree, node_tree, nodes_tree}
-use Rattle.kdl_parts.specs.Formats.{document_format_tree, node_format_tree}
-use Rattle.kdl.specs.declared.node.KdlNode.{KdlNode}
-use Rattle.kdl.specs.declared.document.KdlDocument.{KdlDocument}
-use Rattle.kdl.specs.declared.document.KdlDocument.TheOpen.{KdlNode-F, KdlDocument-F}
-use Rattle.kdl.specs.declared.document.KdlDocument.TheViews.{out-KdlDocument, out-KdlNode, roll-KdlDocument, roll-KdlNode}
-use Rattle.kdl.specs.declared.document.KdlDocument.TheFolds.{map-KdlNode, fold_out-KdlDocument, fold_out-KdlNode, fold-roll-KdlDocument, fold-roll-KdlNode}
+use Rattle.kdl.specs.Tree.{document_step, node_step}
+use Rattle.kdl.specs.declared.document.KdlDocument.TheOpen.{KdlDocument-F}
+use Rattle.kdl.specs.declared.document.KdlDocument.TheFolds.{fold-roll-KdlDocument, fold-roll-KdlNode}
 
 -- the fields of a node, and of a document
 abbrev pub NodeFields : Type 0

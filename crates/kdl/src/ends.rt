@@ -21,7 +21,7 @@ use kdl_parts::KdlNodeFormat;
 use kdl_parts::print::ends_formatted;
 use std::alloc::{AllocError, Global};
 
-/// What follows a node.
+/// What follows a node, or a document.
 #[derive(Clone, Copy)]
 pub(crate) enum Rest {
     /// The end of the text.
@@ -30,13 +30,6 @@ pub(crate) enum Rest {
     Brace,
     /// Any text.
     Text,
-}
-
-/// What a document is: a whole text, or the block of a node.
-#[derive(Clone, Copy)]
-pub(crate) enum DocumentKind {
-    Text,
-    Block,
 }
 
 /// Appends that many newlines to the text.

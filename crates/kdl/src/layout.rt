@@ -9,6 +9,7 @@ ghost use Rattle.kdl_layout.specs.Plain.{newline_if};
 ghost use Rattle.kdl_layout.specs.Spaced.{PassesNodes};
 ghost use Rattle.kdl_layout.specs.declared.blank.Before.{Before};
 ghost use Rattle.kdl_layout.specs.declared.config.Layout.{Layout};
+ghost use Rattle.kdl.specs.declared.layout.LayoutFrame.{LayoutFrame};
 ghost use Rattle.kdl_layout.specs.Formatted.{newline_if_none};
 ghost use Rattle.kdl_grammar.specs.Tree.{Node};
 ghost use Rattle.kdl_parts.specs.Formats.{node_format_tree};
@@ -43,44 +44,43 @@ struct LayoutFrame {
     around: Option<Around>,
 }
 
-/// The blocks that are being laid out: the innermost one, and those above it.
-#[derive(Drop)]
-struct Blocks {
-    above: Vec<LayoutFrame>,
-    inner: LayoutFrame,
-}
-
-impl Blocks {
+impl LayoutFrame {
     /// Returns the level of the next node's block, and the indentation there, and reserves room for one more block
     /// above.
-    fn next_level(&mut self, layout: &Layout) -> Result<(usize, String), AllocError>
-        ensures above { self.new.above.items ≡ self.old.above.items }
-        ensures inner { self.new.inner ≡ self.old.inner }
-        ensures room { OnOk result (vec_len self.new.above < vec_capacity self.new.above) }
-        ensures level { IfOk result (λ (l, _). l ≡ self.old.inner.level + 1) }
-        ensures before { IfOk result (λ (l, before). text_of self.old.inner.before
-            ≡ indentation (settings layout.now.config) self.old.inner.level
+    fn next_level(
+        &self,
+        above: &mut Vec<LayoutFrame>,
+        layout: &Layout,
+    ) -> Result<(usize, String), AllocError>
+        ensures above { above.new.items ≡ above.old.items }
+        ensures room { OnOk result (vec_len above.new < vec_capacity above.new) }
+        ensures level { IfOk result (λ (l, _). l ≡ self.now.level + 1) }
+        ensures before { IfOk result (λ (l, before). text_of self.now.before
+            ≡ indentation (settings layout.now.config) self.now.level
             → text_of before ≡ indentation (settings layout.now.config) l) }
     {
-        let Some(level) = self.inner.level.checked_add(1) else {
+        let Some(level) = self.level.checked_add(1) else {
             return Err(AllocError);
         };
-        let alloc = *self.above.allocator();
-        let before = further(alloc, &layout.config, self.inner.before.as_str())?;
-        self.above.reserve(1)?;
+        let alloc = *above.allocator();
+        let before = further(alloc, &layout.config, self.before.as_str())?;
+        above.reserve(1)?;
         Ok((level, before))
     }
 
     /// Lays out the next node, but not the nodes in its block. Those come next, or else what follows the node.
-    fn lay_out_next(&mut self, layout: &Layout) -> Result<(), AllocError>
-        requires { self.old.inner.at < vec_len self.old.inner.nodes }
+    fn lay_out_next(
+        &mut self,
+        above: &mut Vec<LayoutFrame>,
+        layout: &Layout,
+    ) -> Result<(), AllocError>
+        requires { self.old.at < vec_len self.old.nodes }
         ensures stays { IndentsBySpaces (settings layout.now.config)
-            → StepStays layout.now
-            self.old.above.items self.old.inner self.new.above.items self.new.inner }
-        ensures kept { map bare_node (whole self.new.above.items self.new.inner) ≡
-            map bare_node (whole self.old.above.items self.old.inner) }
-        ensures goes_on { OnOk result (GoesOn layout.now
-            self.old.above.items self.old.inner self.new.above.items self.new.inner) }
+            → StepStays layout.now above.old.items self.old above.new.items self.new }
+        ensures kept { map bare_node (whole above.new.items self.new) ≡
+            map bare_node (whole above.old.items self.old) }
+        ensures goes_on { OnOk result
+            (GoesOn layout.now above.old.items self.old above.new.items self.new) }
     {
         let LayoutFrame {
             nodes,
@@ -89,7 +89,7 @@ impl Blocks {
             before,
             next,
             around,
-        } = &mut self.inner;
+        } = self;
         let node = &mut nodes[*at];
         let (following, first, texts) = node.lay_out_own(layout, *level, before.as_str(), *next)?;
         *next = following;
@@ -99,10 +99,10 @@ impl Blocks {
             return Ok(());
         }
         *around = texts;
-        let (level, before) = self.next_level(layout)?;
-        let alloc = *self.above.allocator();
-        let at = self.inner.at;
-        let nodes = self.inner.nodes[at].exchange_nodes(Vec::new(alloc));
+        let (level, before) = self.next_level(above, layout)?;
+        let alloc = *above.allocator();
+        let at = self.at;
+        let nodes = self.nodes[at].exchange_nodes(Vec::new(alloc));
         let block = LayoutFrame {
             nodes,
             at: 0,
@@ -111,65 +111,61 @@ impl Blocks {
             next: first,
             around: None,
         };
-        let outer = mem::replace(&mut self.inner, block);
-        self.above.push_reserved(outer);
+        let outer = mem::replace(self, block);
+        above.push_reserved(outer);
         Ok(())
     }
 
-    /// Puts the nodes of the innermost block back into the node that it belongs to, and sets the texts around them. They
-    /// are laid out, so the node is laid out as well. What follows it comes next.
+    /// Puts the nodes of the block back into the node that it belongs to, and sets the texts around them. They are laid
+    /// out, so the node is laid out as well. What follows it comes next.
     fn leave(&mut self, outer: LayoutFrame)
-        ensures kept { map bare_node (whole self.new.above.items self.new.inner) ≡
-            map bare_node (whole (self.old.above.items ++ outer ∷ []) self.old.inner) }
-        ensures goes_on { vec_len self.old.inner.nodes ≤ self.old.inner.at → (l : Layout)
-            → GoesOn l (self.old.above.items ++ outer ∷ []) self.old.inner
-            self.new.above.items self.new.inner }
-        ensures stays { vec_len self.old.inner.nodes ≤ self.old.inner.at → (l : Layout)
-            → IndentsBySpaces (settings l.config)
-            → StepStays l (self.old.above.items ++ outer ∷ []) self.old.inner
-            self.new.above.items self.new.inner }
-        ensures above { self.new.above ≡ self.old.above }
+        ensures kept { (above : List LayoutFrame) → map bare_node (whole above self.new) ≡
+            map bare_node (whole (above ++ outer ∷ []) self.old) }
+        ensures goes_on { vec_len self.old.nodes ≤ self.old.at
+            → (l : Layout) (above : List LayoutFrame)
+            → GoesOn l (above ++ outer ∷ []) self.old above self.new }
+        ensures stays { vec_len self.old.nodes ≤ self.old.at → (l : Layout)
+            → IndentsBySpaces (settings l.config) → (above : List LayoutFrame)
+            → StepStays l (above ++ outer ∷ []) self.old above self.new }
     {
-        let done = mem::replace(&mut self.inner, outer);
-        let at = self.inner.at;
-        let around = self.inner.around.take();
-        if let Some(node) = self.inner.nodes.get_mut(at) {
+        let done = mem::replace(self, outer);
+        let at = self.at;
+        let around = self.around.take();
+        if let Some(node) = self.nodes.get_mut(at) {
             let _ = node.exchange_nodes(done.nodes);
             node.set_around(around);
-            self.inner.at = at + 1;
+            self.at = at + 1;
         }
     }
 
-    /// Puts the nodes of the innermost block back into the node that it belongs to, laid out or not. The texts around
-    /// them do not change.
+    /// Puts the nodes of the block back into the node that it belongs to, laid out or not. The texts around them do not
+    /// change.
     fn close(&mut self, outer: LayoutFrame)
-        ensures whole { whole self.new.above.items self.new.inner ≡
-            whole (self.old.above.items ++ outer ∷ []) self.old.inner }
-        ensures above { self.new.above ≡ self.old.above }
+        ensures { (above : List LayoutFrame) → whole above self.new ≡
+            whole (above ++ outer ∷ []) self.old }
     {
-        let done = mem::replace(&mut self.inner, outer);
-        let at = self.inner.at;
-        if let Some(node) = self.inner.nodes.get_mut(at) {
+        let done = mem::replace(self, outer);
+        let at = self.at;
+        if let Some(node) = self.nodes.get_mut(at) {
             let _ = node.exchange_nodes(done.nodes);
         }
     }
 
-    /// Lays out all that is left.
-    fn lay_out(&mut self, layout: &Layout) -> Result<(), AllocError>
+    /// Lays out all that is left of the block, and of those above it.
+    fn lay_out(&mut self, above: &mut Vec<LayoutFrame>, layout: &Layout) -> Result<(), AllocError>
         ensures stays { IndentsBySpaces (settings layout.now.config)
-            → StepStays layout.now
-            self.old.above.items self.old.inner self.new.above.items self.new.inner }
-        ensures kept { map bare_node (whole self.new.above.items self.new.inner) ≡
-            map bare_node (whole self.old.above.items self.old.inner) }
+            → StepStays layout.now above.old.items self.old above.new.items self.new }
+        ensures kept { map bare_node (whole above.new.items self.new) ≡
+            map bare_node (whole above.old.items self.old) }
         ensures spaced { OnOk result ((level : ℕ) (c : Before) (olds : List Node)
-            → IsUnderWay layout.now level c olds self.old.above.items self.old.inner
-            → (self.new.above.items ≡ [])
-            × NodesAreSpaced layout.now level c olds (map node_tree self.new.inner.nodes.items)) }
+            → IsUnderWay layout.now level c olds above.old.items self.old
+            → (above.new.items ≡ [])
+            × NodesAreSpaced layout.now level c olds (map node_tree self.new.nodes.items)) }
     {
         'steps: loop {
-            if self.inner.at < self.inner.nodes.len() {
-                self.lay_out_next(layout)?;
-            } else if let Some(outer) = self.above.pop() {
+            if self.at < self.nodes.len() {
+                self.lay_out_next(above, layout)?;
+            } else if let Some(outer) = above.pop() {
                 self.leave(outer);
             } else {
                 return Ok(());
@@ -177,14 +173,13 @@ impl Blocks {
         }
     }
 
-    /// The outermost nodes, with all blocks in their places.
-    fn into_nodes(mut self) -> Vec<KdlNode>
-        ensures { map node_tree result.items ≡ whole self.above.items self.inner }
+    /// The outermost nodes, with all blocks in their places: this one, and those above it.
+    fn into_nodes(mut self, mut above: Vec<LayoutFrame>) -> Vec<KdlNode>
+        ensures { map node_tree result.items ≡ whole above.items self }
     {
-        'closing: while let Some(outer) = self.above.pop() {
+        'closing: while let Some(outer) = above.pop() {
             self.close(outer);
         }
-        let Blocks { above: _, inner } = self;
         let LayoutFrame {
             nodes,
             at: _,
@@ -192,7 +187,7 @@ impl Blocks {
             before: _,
             next: _,
             around: _,
-        } = inner;
+        } = self;
         nodes
     }
 }
@@ -261,18 +256,16 @@ pub(crate) fn lay_out_nodes(
     }
     let alloc = *nodes.allocator();
     let before = indentation(alloc, &layout.config, level)?;
-    let mut blocks = Blocks {
-        above: Vec::new(alloc),
-        inner: LayoutFrame {
-            nodes: mem::replace(nodes, Vec::new(alloc)),
-            at: 0,
-            level,
-            before,
-            next: first,
-            around: None,
-        },
+    let mut above = Vec::new(alloc);
+    let mut inner = LayoutFrame {
+        nodes: mem::replace(nodes, Vec::new(alloc)),
+        at: 0,
+        level,
+        before,
+        next: first,
+        around: None,
     };
-    let outcome = blocks.lay_out(layout);
-    *nodes = blocks.into_nodes();
+    let outcome = inner.lay_out(&mut above, layout);
+    *nodes = inner.into_nodes(above);
     outcome
 }

@@ -1,54 +1,25 @@
 -- What a document says, and prints, once an argument has another value.
-use Rattle.std.proofs.Common.{◌≡◌, ℕ, suc, ◌+◌, Bool, true, false, not, nat_lt, length, List, [], ◌∷◌, ◌++◌, map, cond, set, Option, Some, None, is_none, option_map, string_bytes, IsUtf8, chars, refl, ap, ◌∙◌, sym, subst, arith, append_assoc, append-nil}
-use Rattle.std.proofs.lemmas.Option.{none-some}
+use Rattle.kdl_laws.proofs.Common.{◌≡◌, ℕ, suc, ◌+◌, Bool, true, false, length, List, [], ◌∷◌, ◌++◌, map, cond, Option, Some, None, option_map, string_bytes, IsUtf8, chars, refl, ap, ◌∙◌, sym, subst, arith, append_assoc, none-some, find, if◌then◌else◌, Text, Value, IsWellFormed, print_key, print_type, Entry, entry_data, entry_tree, identifier_tree, KdlEntry, print_piece, children_data, children_of, document_data, node_data, nodes_data, is_argument, same_text, there, Index, is_node_named, node_named, nodes_of, with_node_named, held_entries, entries_of, DocumentReadsBack, EntryReadsBack, document_prints, document_says, document_tree, node_says, nodes_tree, KdlDocument, out-KdlDocument, out-KdlNode, out-roll-KdlDocument, KdlNode, entry_says, same_chars, document_tree_out, node_of, node_tree_out, node_tree_roll}
+use Rattle.std.proofs.Common.{not, nat_lt, set, append-nil}
 use Rattle.std.proofs.lemmas.Str.{IsUtf8-string_bytes}
-use Rattle.std.specs.List.{find, position_or_len}
-use Rattle.std.specs.Prelude.{if◌then◌else◌}
+use Rattle.std.specs.List.{position_or_len}
 use Rattle.std.specs.Vec.{with_item}
-use Rattle.kdl_text.specs.Chars.{Text}
-use Rattle.kdl_value.specs.Data.{Value}
 use Rattle.kdl_value.specs.Print.{print_value}
-use Rattle.kdl_value.specs.WellFormed.{IsWellFormed}
 use Rattle.kdl_entry.specs.Data as data'
-use Rattle.kdl_entry.specs.Print.{print_key, print_type}
-use Rattle.kdl_entry.specs.Tree.{Entry, Identifier, entry_data, entry_tree, identifier_tree}
-use Rattle.kdl_entry.specs.declared.entry.KdlEntry.{KdlEntry}
-use Rattle.kdl_entry.specs.declared.identifier.KdlIdentifier.{KdlIdentifier}
 use Rattle.kdl_grammar.specs.Data as nodes'
-use Rattle.kdl_grammar.specs.Print.{print_piece}
-use Rattle.kdl_grammar.specs.Tree.{children_data, children_of, document_data, node_data, nodes_data}
-use Rattle.kdl_parts.specs.EntryLists.{is_argument, nth_place, nth_step, same_text, there}
+use Rattle.kdl_parts.specs.EntryLists.{nth_place, nth_step}
 use Rattle.kdl_parts.specs.Written.{set_entry_there}
-use Rattle.kdl_parts.specs.declared.key.NodeKey.TheVariants.{Index}
 use Rattle.kdl.specs.Bytes.{IsExchanged, IsExchangedInNode}
-use Rattle.kdl.specs.DocumentLookups.{is_node_named, node_named, node_place, nodes_of, with_node_named, with_node_there}
-use Rattle.kdl.specs.Fields.{held_entries}
-use Rattle.kdl.specs.Lookups.{entries_of, found_entry, key_place, with_found_entry}
-use Rattle.kdl.specs.ReadsBack.{DocumentReadsBack, EntryReadsBack, respelled}
+use Rattle.kdl.specs.DocumentLookups.{node_place, with_node_there}
+use Rattle.kdl.specs.Lookups.{found_entry, key_place, with_found_entry}
+use Rattle.kdl.specs.ReadsBack.{respelled}
 use Rattle.kdl.specs.Said.{has_no_key, is_called}
-use Rattle.kdl.specs.Tree.{document_prints, document_says, document_tree, node_says, nodes_tree}
-use Rattle.kdl.specs.declared.document.KdlDocument.{KdlDocument}
-use Rattle.kdl.specs.declared.document.KdlDocument.TheViews.{out-KdlDocument, out-KdlNode, out-roll-KdlDocument}
-use Rattle.kdl.specs.declared.node.KdlNode.{KdlNode}
 use Rattle.kdl.proofs.Finding.DocumentLookups.{none_there}
-use Rattle.kdl.proofs.Finding.SaidLookups.{entry_says, name_said, same_chars}
+use Rattle.kdl.proofs.Finding.SaidLookups.{has_said_none, map_twice, name_said}
 use Rattle.kdl.proofs.PiecesExchanged.{loan_exchanges, named_exchanges}
 use Rattle.kdl.proofs.ReadingBack.{entry_there_reads, named_reads, other_value_reads}
-use Rattle.kdl.proofs.Trees.{document_tree_out, node_of, node_tree_out, node_tree_roll}
 use Rattle.kdl_laws.proofs.NodesHaveFormats.{named_formed}
 use Rattle.kdl_laws.specs.ArgumentSet.{HasInstead, node_with_argument, with_first_argument, with_said_arg}
-
-map_twice : {A B C : Type 0} (f : A → B) (g : B → C) (xs : List A) → map (λ x. g (f x)) xs ≡ map g (map f xs)
-map_twice f g [] = refl
-map_twice f g (x ∷ xs) = ap (λ l. g (f x) ∷ l) (map_twice f g xs)
-
--- an entry in memory is an argument where it says no key
-keyless : (e : KdlEntry) → is_argument e ≡ has_no_key (entry_says e)
-keyless e = go e.name
-  where
-    go : (o : Option KdlIdentifier) → is_none o ≡ is_none (option_map (λ (i : Identifier). i.value) (option_map identifier_tree o))
-    go None = refl
-    go (Some i) = refl
 
 -- an entry at a place that was found, exchanged
 abbrev set_at : Option ℕ → List KdlEntry → KdlEntry → List KdlEntry
@@ -64,7 +35,7 @@ shifted (Some i) x e f xs r h k = ap (λ l. entry_says x ∷ l) (k h)
 entries_say : (v : Value) (e f : KdlEntry) → entry_says f ≡ record (entry_says e) { value = v } → (es : List KdlEntry) → there (nth_place is_argument es 0) es ≡ Some e
     → map entry_says (set_at (nth_place is_argument es 0) es f) ≡ with_first_argument v (map entry_says es)
 entries_say v e f h [] k = absurd (none-some _ k)
-entries_say v e f h (x ∷ xs) k = go (is_argument x) (has_no_key (entry_says x)) (keyless x) k (entries_say v e f h xs)
+entries_say v e f h (x ∷ xs) k = go (is_argument x) (has_no_key (entry_says x)) (has_said_none x) k (entries_say v e f h xs)
   where
     rest : List data'.Entry
     rest = map entry_says xs

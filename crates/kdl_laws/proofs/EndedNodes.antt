@@ -1,31 +1,12 @@
 -- Nodes that end by themselves, since they end in `;` or a newline.
-use Rattle.std.proofs.Common.{◌≡◌, inl, inr, ℕ, true, [], ◌∷◌, ◌++◌, Option, Some, None, option_map, refl, ap, ◌∙◌, sym, subst}
-use Rattle.std.proofs.lemmas.List.{append-nil}
-use Rattle.kdl_text.specs.Chars.{Text}
-use Rattle.kdl_value.specs.Tree.{text_of}
-use Rattle.kdl_text.specs.Internal.Here.{first as first_char}
-use Rattle.kdl_text.specs.Trivia.{ValueEnd}
-use Rattle.kdl_syntax.proofs.Moving.Puts.{same_piece}
+use Rattle.kdl_laws.proofs.Common.{◌≡◌, inl, inr, ℕ, [], ◌∷◌, ◌++◌, Option, Some, None, option_map, refl, ap, ◌∙◌, sym, subst, append-nil, Text, text_of, Anything, TextEnd, NodeReads, reads, NodeFormat, Head, node, Children, children_of, node_format_tree, KdlNodeFormat, node_format_of, NodeEnds, NodeReadsBack, document_tree, KdlNode, out-KdlNode, node_tree_out, EndsLine}
 use Rattle.kdl_grammar.specs.Grammar.{Terminator}
-use Rattle.kdl_grammar.specs.Places.{BeforeChildren, AfterChildren}
-use Rattle.kdl_grammar.specs.ReadsBack.{Anything, TextEnd, BeforeTerminator, EndReads, NodeReads, reads, Terminates, terminator_text}
-use Rattle.kdl_grammar.specs.Tree.{NodeFormat, Head, node, Children, no_children, children, children_of}
-use Rattle.kdl_grammar.proofs.Moving.Moves.{move_after, move_before, terminator_end}
+use Rattle.kdl_grammar.specs.ReadsBack.{BeforeTerminator, EndReads, Terminates, terminator_text}
+use Rattle.kdl_grammar.proofs.Moving.Moves.{terminator_end}
 use Rattle.kdl_layout.proofs.Rewriting.BeforeNewlines.{a_newline}
-use Rattle.kdl_parts.specs.Formats.{node_format_tree}
-use Rattle.kdl_parts.specs.declared.format.KdlNodeFormat.{KdlNodeFormat}
-use Rattle.kdl.specs.Fields.{node_format_of}
-use Rattle.kdl.specs.ReadsBack.{NodeEnds, NodeReadsBack}
-use Rattle.kdl.specs.Tree.{document_tree, head_tree}
-use Rattle.kdl.specs.declared.node.KdlNode.{KdlNode}
-use Rattle.kdl.specs.declared.document.KdlDocument.TheViews.{out-KdlNode}
-use Rattle.kdl.proofs.Trees.{node_tree_out}
-use Rattle.kdl_laws.specs.Pushed.{EndsLine, IsLineEnded}
-
--- a place before a terminator, before another text that begins alike
-place_moves : (k : Children) (b u x : Text) → BeforeTerminator k (b ++ u) u → first_char x ≡ first_char u → ValueEnd true x → BeforeTerminator k (b ++ x) x
-place_moves no_children b u x c h e = let m = move_before c in subst (λ (y : Text). BeforeChildren y x) (same_piece b m.at refl x) (m.there x h e)
-place_moves (children d) b u x c h e = let m = move_after c in subst (λ (y : Text). AfterChildren y x) (same_piece b m.at refl x) (m.there x h)
+use Rattle.kdl.proofs.Putting.PutReads.{place_moves}
+use Rattle.kdl.specs.Tree.{head_tree}
+use Rattle.kdl_laws.specs.Pushed.{IsLineEnded}
 
 -- a terminator of one character, which ends a node before whatever follows
 record Ends (c : ℕ) : Type 0 where

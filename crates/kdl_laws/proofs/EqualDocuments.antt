@@ -1,9 +1,7 @@
 -- Documents, and nodes, that `==` takes for one print the same, and say the same.
-use Rattle.std.proofs.Common.{◌≡◌, IsTrue}
-use Rattle.kdl.specs.Same.{same_document, same_node}
-use Rattle.kdl.specs.Tree.{document_prints, document_says, document_tree, node_prints, node_says, node_tree}
-use Rattle.kdl.specs.declared.document.KdlDocument.{KdlDocument}
-use Rattle.kdl.specs.declared.node.KdlNode.{KdlNode}
+use Rattle.kdl_laws.proofs.Common.{◌≡◌, same_document, same_node, document_prints, document_says, document_tree, node_says, node_tree, KdlDocument, KdlNode}
+use Rattle.std.proofs.Common.{IsTrue}
+use Rattle.kdl.specs.Tree.{node_prints}
 use Rattle.kdl_laws.proofs.Equality.{document_decides, node_decides}
 use Rattle.kdl_laws.proofs.SpansPrintNothing.{same_data, same_node_data, same_node_print, same_print}
 

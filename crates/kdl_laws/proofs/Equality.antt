@@ -1,31 +1,17 @@
 -- What `==` of nodes and documents means, on trees.
-use Rattle.std.proofs.Common.{◌≡◌, Bool, ◌&&◌, List, [], ◌∷◌, map, Option, Some, None, option_map, ap, sym, ◌∙◌, refl, subst}
-use Rattle.std.proofs.lemmas.Bool.Decides.{Decides-and, Decides-like}
-use Rattle.std.specs.Bool.{Decides}
-use Rattle.std.specs.Cmp.Lexicographic.{pointwise}
-use Rattle.std.specs.Option.{option_eq}
-use Rattle.kdl_entry.proofs.Equality.{option_decides, identifier_decides, entry_decides}
-use Rattle.kdl_entry.specs.Tree.{Identifier, identifier_tree, entry_tree, without_span, without_spans}
-use Rattle.kdl_entry.specs.declared.entry.KdlEntry.{KdlEntry}
-use Rattle.kdl_entry.specs.declared.identifier.KdlIdentifier.{KdlIdentifier}
+use Rattle.kdl_laws.proofs.Common.{◌≡◌, Bool, List, [], ◌∷◌, map, Option, Some, None, option_map, ap, sym, ◌∙◌, refl, subst, Decides-and, Decides-like, Decides, pointwise, option_eq, option_decides, identifier_decides, entry_decides, Identifier, identifier_tree, entry_tree, without_span, without_spans, KdlEntry, KdlIdentifier, node_without_spans, children_without_spans, document_without_spans, nodes_without_spans, same_node, same_document, Head, Node, node, Children, children_of, node_tree, document_tree, nodes_tree, node_format_tree, KdlDocument, out-KdlDocument, out-KdlNode, out-roll-KdlDocument, KdlNode, node_format_decides, document_format_decides, node_of, node_tree_out, node_tree_roll, document_tree_out, document_tree_roll}
+use Rattle.std.proofs.Common.{◌&&◌}
 use Rattle.kdl_entry.specs.contracts.entry.KdlEntryPartialEq.TheImpl as entry_impl
 use Rattle.kdl_entry.specs.contracts.identifier.KdlIdentifierPartialEq.TheImpl as identifier_impl
-use Rattle.kdl.specs.Cleared.{node_without_spans, children_without_spans, document_without_spans, nodes_without_spans}
-use Rattle.kdl.specs.Same.{same_node, same_document}
-use Rattle.kdl_grammar.specs.Tree.{Head, Node, node, Children, children_of}
-use Rattle.kdl.specs.Tree.{node_tree, document_tree, nodes_tree}
-use Rattle.kdl_parts.specs.Formats.{node_format_tree, document_format_tree}
+use Rattle.kdl_parts.specs.Formats.{document_format_tree}
 use Rattle.kdl.specs.contracts.document.KdlDocumentPartialEq.TheImpl.Laws.{is as document_is}
 use Rattle.kdl_parts.specs.contracts.format.KdlDocumentFormatPartialEq.TheImpl as document_format_impl
 use Rattle.kdl.specs.contracts.node.KdlNodePartialEq.TheImpl.Laws.{is as node_is}
 use Rattle.kdl_parts.specs.contracts.format.KdlNodeFormatPartialEq.TheImpl as node_format_impl
-use Rattle.kdl.specs.declared.document.KdlDocument.{KdlDocument}
 use Rattle.kdl.specs.declared.document.KdlDocument.TheFolds.{map-KdlNode, ind-KdlDocument, ind-KdlNode}
 use Rattle.kdl.specs.declared.document.KdlDocument.TheOpen.{KdlNode-F}
-use Rattle.kdl.specs.declared.document.KdlDocument.TheViews.{out-KdlDocument, out-KdlNode, roll-KdlDocument, roll-KdlNode, out-roll-KdlDocument, out-roll-KdlNode}
-use Rattle.kdl.specs.declared.node.KdlNode.{KdlNode}
-use Rattle.kdl_parts.proofs.Equality.{node_format_decides, document_format_decides}
-use Rattle.kdl.proofs.Trees.{NodeFields, DocumentFields, node_of, document_of, node_tree_out, node_tree_roll, document_tree_out, document_tree_roll}
+use Rattle.kdl.specs.declared.document.KdlDocument.TheViews.{roll-KdlDocument, roll-KdlNode, out-roll-KdlNode}
+use Rattle.kdl.proofs.Trees.{NodeFields, DocumentFields, document_of}
 
 -- an identifier's tree, without its span
 abbrev spanless : KdlIdentifier → Identifier

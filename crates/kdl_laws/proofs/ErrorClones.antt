@@ -1,16 +1,13 @@
 -- What clones of errors have, on their trees.
-use Rattle.std.proofs.Common.{◌≡◌, List, [], ◌∷◌, map, ap, refl, arith, Result, Ok, Err, MatchResult, IfOk}
+use Rattle.kdl_laws.proofs.Common.{◌≡◌, List, [], ◌∷◌, map, ap, refl, arith, Result, Ok, Err, IfOk, KdlDiagnostic, KdlError, ParseFailure, Syntax, Memory, diagnostic_tree, error_tree, failure_tree}
+use Rattle.std.proofs.Common.{MatchResult}
 use Rattle.std.proofs.lemmas.Grind.{common_steps}
 use Rattle.std.specs.List.{AllZip}
 use Rattle.std.specs.declared.alloc.AllocError.{AllocError}
 use Rattle.kdl_text.specs.contracts.error.KdlDiagnosticClone.TheImpl as diagnostic_clone
 use Rattle.kdl_text.specs.contracts.error.KdlErrorClone.TheImpl as error_clone
 use Rattle.kdl_text.specs.contracts.error.ParseFailureClone.TheImpl as failure_clone
-use Rattle.kdl_text.specs.declared.error.KdlDiagnostic.{KdlDiagnostic}
-use Rattle.kdl_text.specs.declared.error.KdlError.{KdlError}
-use Rattle.kdl_text.specs.declared.error.ParseFailure.{ParseFailure}
-use Rattle.kdl_text.specs.declared.error.ParseFailure.TheVariants.{Syntax, Memory}
-use Rattle.kdl_laws.specs.Errors.{syntax', diagnostic_tree, error_tree, failure_tree}
+use Rattle.kdl_laws.specs.Errors.{syntax'}
 
 diagnostic_cloned : (d e : KdlDiagnostic) → diagnostic_clone.ghosts.is_clone d e → diagnostic_tree e ≡ diagnostic_tree d
 diagnostic_cloned d e h = grind (arith, common_steps)

@@ -1,13 +1,7 @@
 -- What `==` of errors and of their parts means, on their trees.
-use Rattle.std.proofs.Common.{◌≡◌, List, [], ◌∷◌, map, Option, option_map, String, string_bytes, Global, ap, refl}
-use Rattle.std.proofs.lemmas.Bool.Decides.{Decides-and, Decides-eqb, Decides-like}
-use Rattle.std.proofs.lemmas.Slice.Eq.{bytes_eq-Decides}
-use Rattle.std.specs.Bool.{Decides}
-use Rattle.std.specs.Cmp.Lexicographic.{pointwise}
-use Rattle.std.specs.Option.{option_eq}
+use Rattle.kdl_laws.proofs.Common.{◌≡◌, List, [], ◌∷◌, map, Option, option_map, String, string_bytes, Global, ap, refl, Decides-and, Decides-eqb, Decides-like, bytes_eq-Decides, Decides, pointwise, option_eq, option_decides, KdlDiagnostic, KdlError, ParseFailure, Syntax, Memory, SourceSpan, diagnostic_tree, error_tree, failure_tree}
 use Rattle.std.specs.Rc.{rc_str_bytes}
 use Rattle.std.specs.String.{string_eq}
-use Rattle.kdl_entry.proofs.Equality.{option_decides}
 use Rattle.kdl_value.specs.contracts.float.FloatFailurePartialEq.TheImpl as float_failure_impl
 use Rattle.kdl_text.specs.contracts.error.KdlDiagnosticPartialEq.TheImpl as diagnostic_impl
 use Rattle.kdl_text.specs.contracts.error.KdlErrorPartialEq.TheImpl as error_impl
@@ -16,14 +10,8 @@ use Rattle.kdl_text.specs.contracts.span.SeverityPartialEq.TheImpl as severity_i
 use Rattle.kdl_text.specs.contracts.span.SourceSpanPartialEq.TheImpl as span_impl
 use Rattle.kdl_value.specs.declared.float.FloatFailure.{FloatFailure}
 use Rattle.kdl_value.specs.declared.float.FloatFailure.TheVariants.{NotAFloat, Memory as NoMemory}
-use Rattle.kdl_text.specs.declared.error.KdlDiagnostic.{KdlDiagnostic}
-use Rattle.kdl_text.specs.declared.error.KdlError.{KdlError}
-use Rattle.kdl_text.specs.declared.error.ParseFailure.{ParseFailure}
-use Rattle.kdl_text.specs.declared.error.ParseFailure.TheVariants.{Syntax, Memory}
 use Rattle.kdl_text.specs.declared.span.Severity.{Severity}
 use Rattle.kdl_text.specs.declared.span.Severity.TheVariants.{Advice, Warning, Error}
-use Rattle.kdl_text.specs.declared.span.SourceSpan.{SourceSpan}
-use Rattle.kdl_laws.specs.Errors.{diagnostic_tree, error_tree, failure_tree}
 
 pub span_decides : (s t : SourceSpan) → Decides (span_impl.ghosts.eq s t) (s ≡ t)
 span_decides s t =

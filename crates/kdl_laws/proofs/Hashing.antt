@@ -1,5 +1,5 @@
 -- Two hashers that are written the same bytes.
-use Rattle.std.proofs.Common.{◌≡◌, List, ap, sym, ◌∙◌}
+use Rattle.kdl_laws.proofs.Common.{◌≡◌, List, ap, sym, ◌∙◌}
 use Rattle.std.specs.Prelude.{fold}
 use Rattle.kdl_laws.specs.Hashes.{WritesBoth}
 

@@ -1,14 +1,10 @@
 -- The lists of items, with all that they are of named.
-use Rattle.std.proofs.Common.{◌≡◌, true, List, [], ◌∷◌, ◌++◌, map}
-use Rattle.std.specs.List.{list_all}
-use Rattle.kdl_text.specs.Chars.{Text, is_space}
-use Rattle.kdl_grammar.specs.Tree.{Document, Node}
-use Rattle.kdl_layout.specs.Items.{Item, GapItems, Place, PlaceItems}
+use Rattle.kdl_laws.proofs.Common.{◌≡◌, true, List, [], ◌∷◌, ◌++◌, map, list_all, Text, is_space, Document, Node, Item, GapItems, PlaceItems, DocumentItems, NodeItems}
+use Rattle.kdl_layout.specs.Items.{Place}
 use Rattle.kdl_layout.specs.Written.{lines, on_line, tail}
 use Rattle.kdl_layout.proofs.Listing.ItemsUnique.{gap_items_det, place_items_det}
 use Rattle.kdl_layout.proofs.Rewriting.PlacesAgain.{tail_spaced}
 use Rattle.kdl_layout.proofs.Rewriting.LinesAgain.{lines_spaces}
-use Rattle.kdl_layout.specs.Comments.{DocumentItems, NodeItems}
 use Rattle.kdl_layout.proofs.Keeping.ListUnique.{document_items_det, node_items_det}
 
 pub one_list : (s : Text) (is js : List Item) → GapItems s is → GapItems s js → is ≡ js

@@ -1,11 +1,8 @@
 -- Whether the entries of a document read back in the form that they keep.
-use Rattle.std.proofs.Common.{◌≡◌, Bool, true, false, List, [], ◌∷◌, refl, subst}
+use Rattle.kdl_laws.proofs.Common.{◌≡◌, Bool, true, false, List, [], ◌∷◌, refl, subst, is_space, Entry, Node, node, Children, no_children, children, Document, document, Nodes, none, first, Settings, defaults, NodeKeepsNone, DocumentKeepsNone}
 use Rattle.kdl_text.proofs.Spacing.ValueEnds.{value_end_no_identifier}
-use Rattle.kdl_text.specs.Chars.{is_banned, is_identifier_char, is_newline_char, is_punctuation, is_space}
-use Rattle.kdl_entry.specs.Tree.{Entry}
-use Rattle.kdl_grammar.specs.Tree.{Node, node, Children, no_children, children, Document, document, Nodes, none, first}
-use Rattle.kdl_layout.specs.Config.{Settings, defaults}
-use Rattle.kdl_layout.specs.Formatted.{with_keep_if, EntriesKeepNone, NodeKeepsNone, ChildrenKeepNone, DocumentKeepsNone, NodesKeepNone}
+use Rattle.kdl_text.specs.Chars.{is_banned, is_identifier_char, is_newline_char, is_punctuation}
+use Rattle.kdl_layout.specs.Formatted.{with_keep_if, EntriesKeepNone, ChildrenKeepNone, NodesKeepNone}
 use Rattle.kdl_layout.specs.Kept.{is_kept_format}
 use Rattle.kdl_layout.specs.KeptForm.{KeepsReading, EntriesKeepReading, NodeKeepsReading, ChildrenKeepReading, DocumentKeepsReading, NodesKeepReading}
 use Rattle.kdl_laws.specs.KeptForm.{EmptyFormFails, UnflaggedKeepReading, empty_form}

@@ -1,12 +1,7 @@
 -- What `==` of keys means, on what they look for.
-use Rattle.std.proofs.Common.{◌≡◌}
-use Rattle.std.proofs.lemmas.Bool.Decides.{Decides-eqb, Decides-like}
-use Rattle.std.specs.Bool.{Decides}
-use Rattle.kdl_entry.proofs.Equality.{identifier_decides}
+use Rattle.kdl_laws.proofs.Common.{◌≡◌, Decides-eqb, Decides-like, Decides, identifier_decides, NodeKey, Key, Index}
 use Rattle.kdl_parts.specs.EntryLists.{sought}
 use Rattle.kdl_parts.specs.contracts.key.NodeKeyPartialEq.TheImpl as key_impl
-use Rattle.kdl_parts.specs.declared.key.NodeKey.{NodeKey}
-use Rattle.kdl_parts.specs.declared.key.NodeKey.TheVariants.{Key, Index}
 use Rattle.kdl_laws.specs.Keys.{sought_anywhere}
 
 -- keys are equal exactly where they look for the same, whatever the spans of their names

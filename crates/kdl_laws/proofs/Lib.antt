@@ -1,3 +1,5 @@
+-- What the proofs of this crate cite most of the standard library, of the crates below, and of the specifications.
+pub mod Common
 -- The lemmas that the functions of a file cite.
 pub mod Rules
 -- Documents, and nodes, that `==` takes for one print the same, and say the same.

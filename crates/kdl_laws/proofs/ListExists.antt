@@ -1,15 +1,11 @@
 -- Each document and each node has a list of items.
-use Rattle.std.proofs.Common.{◌≡◌, ℕ, false, List, [], ◌∷◌, ◌++◌}
-use Rattle.kdl_text.specs.Chars.{Text}
-use Rattle.kdl_entry.specs.Tree.{Entry}
+use Rattle.kdl_laws.proofs.Common.{◌≡◌, ℕ, false, List, [], ◌∷◌, ◌++◌, Text, Entry, Node, node, Children, no_children, children, Document, document, Nodes, none, first, Item, GapItems, PlaceItems, EndItems, NodeItems, DocumentItems, Settings, DocumentKeepsNone, NodeKeepsNone, without_bom, IsFormattedDocument, IsFormattedNode}
 use Rattle.kdl_entry.specs.Places.{between}
-use Rattle.kdl_grammar.specs.Tree.{Node, node, Children, no_children, children, Document, document, Nodes, none, first}
-use Rattle.kdl_layout.specs.Items.{Item, comment, line_end, GapItems, before_entry, before_block, PlaceItems}
-use Rattle.kdl_layout.specs.Comments.{ItemsIn, EndItems, EntriesItems, NodeItems, of_node, ChildrenItems, NodesItems, DocumentItems, of_document}
-use Rattle.kdl_layout.specs.Config.{Settings}
-use Rattle.kdl_layout.specs.Formatted.{or_empty, or_empty_document, DocumentKeepsNone, NodeKeepsNone}
-use Rattle.kdl_layout.specs.Kept.{last_place, without_bom, entry_leading}
-use Rattle.kdl_layout.specs.WithComments.{has_block, IsFormattedDocument, IsFormattedNode}
+use Rattle.kdl_layout.specs.Items.{comment, line_end, before_entry, before_block}
+use Rattle.kdl_layout.specs.Comments.{ItemsIn, EntriesItems, of_node, ChildrenItems, NodesItems, of_document}
+use Rattle.kdl_layout.specs.Formatted.{or_empty, or_empty_document}
+use Rattle.kdl_layout.specs.Kept.{last_place, entry_leading}
+use Rattle.kdl_layout.specs.WithComments.{has_block}
 use Rattle.kdl_layout.proofs.Keeping.ListExists.{document_has_items, node_has}
 
 -- it can't be that no list is of the kind

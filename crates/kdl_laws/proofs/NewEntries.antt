@@ -1,9 +1,6 @@
 -- New entries have neither a format nor a spelling.
-use Rattle.std.proofs.Common.{◌≡◌, ◌∙◌, Option, Some, None, ap, option_map, refl, sym, subst}
-use Rattle.kdl_text.specs.Chars.{Text}
-use Rattle.kdl_value.specs.Data.{Value}
-use Rattle.kdl_value.specs.WellFormed.{IsWellFormed}
-use Rattle.kdl_entry.specs.Tree.{Entry, Identifier, cleared, plain_entry, plain_identifier, unspelled}
+use Rattle.kdl_laws.proofs.Common.{◌≡◌, ◌∙◌, Option, Some, None, ap, option_map, refl, sym, subst, Text, Value, IsWellFormed, Entry, Identifier}
+use Rattle.kdl_entry.specs.Tree.{cleared, plain_entry, plain_identifier, unspelled}
 use Rattle.kdl_parts.specs.Edits.{under}
 use Rattle.kdl_parts.specs.EntryLists.{Sought, property}
 use Rattle.kdl.specs.ReadsBack.{IsUnformed}

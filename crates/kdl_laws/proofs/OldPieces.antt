@@ -1,30 +1,17 @@
 -- The piece of an entry that an insertion replaces is the piece of the property that the document says.
-use Rattle.std.proofs.Common.{◌≡◌, ℕ, List, [], map, Option, Some, None, IsUtf8, chars, option_and_then, option_map, slice_get, string_bytes, refl, ap, ◌∙◌, sym, subst}
-use Rattle.std.proofs.lemmas.Option.{get_or_from_slice_get, none-some, slice_get-map, slice_get_within}
-use Rattle.std.specs.List.{All}
+use Rattle.kdl_laws.proofs.Common.{◌≡◌, ℕ, List, [], map, Option, Some, None, IsUtf8, chars, option_map, slice_get, string_bytes, refl, ap, ◌∙◌, sym, subst, get_or_from_slice_get, none-some, slice_get_within, All, entry_tree, KdlEntry, print_piece, NodeReads, TextEnd, there, NodeKey, Key, Index, is_node_named, node_named, nodes_of, entries_of, DocumentReadsBack, EntryReadsBack, NodeReadsBack, document_says, node_says, KdlNode, KdlDocument, out-KdlNode, entry_says, nodes_read_back, node_of, node_tree_out}
+use Rattle.std.proofs.Common.{option_and_then}
+use Rattle.std.proofs.lemmas.Option.{slice_get-map}
 use Rattle.kdl_entry.specs.Data.{Entry as EntryData}
-use Rattle.kdl_entry.specs.Tree.{entry_tree}
-use Rattle.kdl_entry.specs.declared.entry.KdlEntry.{KdlEntry}
 use Rattle.kdl_grammar.specs.Data.{Node as NodeData}
-use Rattle.kdl_grammar.specs.Print.{print_piece}
-use Rattle.kdl_grammar.specs.ReadsBack.{EntryReads, NodeReads, TextEnd}
+use Rattle.kdl_grammar.specs.ReadsBack.{EntryReads}
 use Rattle.kdl_grammar.proofs.ReadingBack.Composing.{entries_read}
 use Rattle.kdl_parts.specs.Edits.{replaced_place}
-use Rattle.kdl_parts.specs.EntryLists.{key_name, there}
-use Rattle.kdl_parts.specs.declared.key.NodeKey.{NodeKey}
-use Rattle.kdl_parts.specs.declared.key.NodeKey.TheVariants.{Key, Index}
+use Rattle.kdl_parts.specs.EntryLists.{key_name}
 use Rattle.kdl.specs.Bytes.{piece_of}
-use Rattle.kdl.specs.DocumentLookups.{is_node_named, node_named, nodes_of}
-use Rattle.kdl.specs.Lookups.{entries_of, entry_there, property_place}
-use Rattle.kdl.specs.ReadsBack.{DocumentReadsBack, EntryReadsBack, NodeReadsBack}
+use Rattle.kdl.specs.Lookups.{entry_there, property_place}
 use Rattle.kdl.specs.Said.{last_property, said_node}
-use Rattle.kdl.specs.Tree.{document_says, node_says}
-use Rattle.kdl.specs.declared.node.KdlNode.{KdlNode}
-use Rattle.kdl.specs.declared.document.KdlDocument.{KdlDocument}
-use Rattle.kdl.specs.declared.document.KdlDocument.TheViews.{out-KdlNode}
-use Rattle.kdl.proofs.Finding.SaidLookups.{entry_says, last_property_said, node_said}
-use Rattle.kdl.proofs.ReadingBack.{nodes_read_back}
-use Rattle.kdl.proofs.Trees.{node_of, node_tree_out}
+use Rattle.kdl.proofs.Finding.SaidLookups.{last_property_said, node_said}
 use Rattle.kdl_laws.specs.Pieces.{IsPieceOf, said_entry_in}
 use Rattle.kdl_laws.proofs.NodesHaveFormats.{find_all}
 

@@ -1,19 +1,16 @@
 -- Spans in a text cut it between characters.
 use Rattle.std.specs.Prelude.{All}
-use Rattle.std.proofs.Common.{◌≡◌, ℕ, ◌+◌, List, [], ◌∷◌, ◌++◌, length, length-append, refl, ap, ◌∙◌, sym, subst, true, append_assoc}
+use Rattle.kdl_laws.proofs.Common.{◌≡◌, ℕ, ◌+◌, List, [], ◌∷◌, ◌++◌, length, refl, ap, ◌∙◌, sym, subst, true, append_assoc, encodes-chars, Text, KdlDiagnostic, KdlError, SourceSpan}
+use Rattle.std.proofs.Common.{length-append}
 use Rattle.std.proofs.lemmas.Bool.{and_parts}
-use Rattle.std.proofs.lemmas.Str.{IsCharBoundary-at_seam, encodes-append, encodes-chars, scalars-chars, length-encode}
+use Rattle.std.proofs.lemmas.Str.{IsCharBoundary-at_seam, encodes-append, scalars-chars, length-encode}
 use Rattle.std.specs.Char.{len_utf8}
 use Rattle.std.specs.Str.{IsCharBoundary, IsUtf8, chars}
 use lib.Utf8.{encodes, encode, scalar, scalars}
 use Rattle.std.proofs.lemmas.List.Elements.{All-weaker}
-use Rattle.kdl_text.specs.Chars.{Text}
 use Rattle.kdl_text.specs.Failures.{IsToldOf, Tells}
-use Rattle.kdl_text.specs.declared.error.KdlDiagnostic.{KdlDiagnostic}
-use Rattle.kdl_text.specs.declared.error.KdlError.{KdlError}
 use Rattle.kdl_laws.specs.Pieces.{IsPiece}
 use Rattle.kdl_text.specs.Spans.{InText, bytes}
-use Rattle.kdl_text.specs.declared.span.SourceSpan.{SourceSpan}
 
 length-encodes : (s : Text) → length (encodes s) ≡ bytes s
 length-encodes [] = refl

@@ -1,15 +1,9 @@
 -- A text has a list of items exactly where it may be before the nodes of a document, and a terminator has items exactly where it is a comment.
-use Rattle.std.proofs.Common.{◌≡◌, ◌↔◌, ℕ, ◌==◌, Bool, true, false, List, [], ◌∷◌, refl, sym, subst, arith}
+use Rattle.kdl_laws.proofs.Common.{◌≡◌, ◌↔◌, ℕ, Bool, true, false, List, [], ◌∷◌, refl, sym, subst, arith, ◌≢◌, if◌then◌else◌, Text, no_gap, Item, GapItems, EndItems, without_bom, gap_without_bom}
+use Rattle.std.proofs.Common.{◌==◌}
 use Rattle.std.proofs.lemmas.Bool.Decides.{nat_tests}
-use Rattle.std.specs.Prelude.{◌≢◌, if◌then◌else◌}
-use Rattle.kdl_text.specs.Chars.{Text}
 use Rattle.kdl_text.specs.Trivia.{LineComment}
-use Rattle.kdl_grammar.specs.Grammar.{no_gap}
-use Rattle.kdl_layout.specs.Items.{Item, GapItems}
 use Rattle.kdl_layout.proofs.Listing.PlaceTexts.{HasGap, gap_has, gap_of}
-use Rattle.kdl_layout.specs.Comments.{EndItems}
-use Rattle.kdl_layout.specs.Kept.{without_bom}
-use Rattle.kdl_layout.proofs.Keeping.GapFronts.{gap_without_bom}
 use Rattle.kdl_laws.specs.Leading.{DocumentLeading, no_bom, after_bom}
 
 -- before the nodes of a document

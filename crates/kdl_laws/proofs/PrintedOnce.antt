@@ -1,16 +1,7 @@
 -- What a document prints is one document at most.
-use Rattle.std.proofs.Common.{◌≡◌, Global, Ok, String, string_bytes, subst, true}
-use Rattle.std.specs.Str.{encode_utf8_all}
-use Rattle.kdl_text.specs.Chars.{Text}
-use Rattle.kdl_value.specs.Tree.{text_of}
+use Rattle.kdl_laws.proofs.Common.{◌≡◌, Global, Ok, String, string_bytes, subst, true, encode_utf8_all, Text, text_of, IsDocument, printed_text, DocumentReadsBack, document_prints, document_says, KdlDocument, document_derived}
 use Rattle.kdl_grammar.specs.Data.{Nodes}
-use Rattle.kdl_grammar.specs.Grammar.{IsDocument}
 use Rattle.kdl_grammar.proofs.LawProofs.{one_document}
-use Rattle.kdl_layout.proofs.Texts.{printed_text}
-use Rattle.kdl.specs.ReadsBack.{DocumentReadsBack}
-use Rattle.kdl.specs.Tree.{document_prints, document_says}
-use Rattle.kdl.specs.declared.document.KdlDocument.{KdlDocument}
-use Rattle.kdl.proofs.ReadingBack.{document_derived}
 
 pub text_printed : (s : String Global) (t : Text) → string_bytes s ≡ encode_utf8_all t → text_of s ≡ t
 text_printed s t h = printed_text {E = Unit {0}} (Ok s) t h

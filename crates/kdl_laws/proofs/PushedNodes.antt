@@ -1,30 +1,18 @@
 -- Nodes pushed to the list of a document, where what is before them ends by itself.
-use Rattle.std.proofs.Common.{◌≡◌, ℕ, suc, ◌-◌, true, List, [], ◌∷◌, ◌++◌, length, map, Option, Some, None, slice_get, Vec, Global, refl, ap, ◌∙◌, sym, subst, arith}
-use Rattle.std.proofs.lemmas.List.{append-nil, map-append}
-use Rattle.std.proofs.lemmas.Option.{get_or_from_slice_get, slice_get_within}
-use Rattle.kdl_text.specs.Chars.{Text}
-use Rattle.kdl_text.specs.declared.span.SourceSpan.{SourceSpan}
+use Rattle.kdl_laws.proofs.Common.{◌≡◌, ℕ, suc, true, List, [], ◌∷◌, ◌++◌, length, map, Option, Some, None, slice_get, Global, refl, ap, ◌∙◌, sym, subst, arith, append-nil, get_or_from_slice_get, slice_get_within, Text, SourceSpan, no_gap, Rests, Anything, TextEnd, NodeReads, Node, document, document_data, node_data, nodes_data, without_bom, nodes_of, DocumentReadsBack, NodeEnds, NodeReadsBack, document_says, document_tree, node_says, node_tree, nodes_tree, KdlNode, KdlDocument, out-KdlDocument, nodes_read_back, document_tree_out, document_tree_roll}
+use Rattle.std.proofs.Common.{◌-◌, Vec}
+use Rattle.std.proofs.lemmas.List.{length-map, map-append}
 use Rattle.kdl_grammar.specs.Data as data'
-use Rattle.kdl_grammar.specs.Grammar.{Gap, no_gap}
+use Rattle.kdl_grammar.specs.Grammar.{Gap}
 use Rattle.kdl_grammar.specs.Print.{leading_text, trailing_text}
-use Rattle.kdl_grammar.specs.ReadsBack.{Rests, Anything, TextEnd, AddsNothing, NodeReads, NodesRead, last_node, next_node, ContentReads, one_text, two_texts, with_nodes, last_rests, DocumentReads}
-use Rattle.kdl_grammar.specs.Tree.{DocumentFormat, Node, document, document_data, listed_nodes, node_data, nodes_data}
+use Rattle.kdl_grammar.specs.ReadsBack.{AddsNothing, NodesRead, last_node, next_node, ContentReads, one_text, two_texts, with_nodes, last_rests, DocumentReads}
+use Rattle.kdl_grammar.specs.Tree.{DocumentFormat, listed_nodes}
 use Rattle.kdl_grammar.proofs.ReadingBack.Composing.{ends_before}
-use Rattle.kdl_layout.specs.Kept.{without_bom}
-use Rattle.kdl_layout.proofs.Keeping.GapFronts.{gap_without_bom}
+use Rattle.kdl.proofs.Putting.DocumentReads.{gap_alone}
 use Rattle.kdl.specs.Change as change
-use Rattle.kdl.specs.DocumentLookups.{nodes_of}
 use Rattle.kdl.specs.Nodes.{said_with, texts_around, trees}
-use Rattle.kdl.specs.ReadsBack.{DocumentReadsBack, NodeEnds, NodeReadsBack}
 use Rattle.kdl.specs.Said.{said_nodes}
-use Rattle.kdl.specs.Tree.{document_says, document_tree, node_says, node_tree, nodes_tree}
-use Rattle.kdl.specs.declared.node.KdlNode.{KdlNode}
-use Rattle.kdl.specs.declared.document.KdlDocument.{KdlDocument}
-use Rattle.kdl.specs.declared.document.KdlDocument.TheViews.{out-KdlDocument}
-use Rattle.kdl.proofs.ReadingBack.{nodes_read_back}
-use Rattle.kdl.proofs.Trees.{document_tree_out, document_tree_roll}
 use Rattle.kdl_laws.specs.Pushed.{EndsBefore, LastEnds}
-use Rattle.kdl_layout.proofs.Listing.PlaceTexts.{gap_items}
 
 -- a node after the last one, which ends by itself
 nodes_pushed : {P : Rests} (n : KdlNode) (ns : List KdlNode) (put : Node) → ((x : KdlNode) → slice_get (n ∷ ns) (length ns) ≡ Some x → NodeEnds x) → NodeReads P put → NodesRead P (nodes_tree (n ∷ ns))
@@ -48,9 +36,6 @@ content_pushed o l t (n ∷ ns) put s e p (with_nodes a x g) =
     with_nodes a (nodes_pushed n ns put (λ y h. last_ends o (slice_get (n ∷ ns) (length ns)) y h here) (ends_before (last_rests t TextEnd) p) x) g
 
 -- U+FEFF begins no gap, and is not of the text after it
-gap_alone : (t : Text) → Gap true t [] → without_bom t ≡ t
-gap_alone t g = gap_without_bom t ((gap_items t).0 g).1
-
 following : (o : Option DocumentFormat) (l : Text) → leading_text o ≡ 0xFEFF ∷ l → without_bom (leading_text o) ≡ l
 following o l h = ap without_bom h
 
@@ -75,14 +60,10 @@ said_last : (ns : List Node) (x : Node) → nodes_data (listed_nodes (ns ++ (x �
 said_last [] x = refl
 said_last (n ∷ ns) x = ap (data'.first (node_data n)) (said_last ns x)
 
-length_trees : (ns : List KdlNode) → length (map node_tree ns) ≡ length ns
-length_trees [] = refl
-length_trees (n ∷ ns) = ap suc (length_trees ns)
-
 pub pushed_says : (d : KdlDocument) (n : KdlNode) (v : Vec KdlNode Global) → v.items ≡ nodes_of d ++ (n ∷ []) → document_says (change.with_nodes d v) ≡ said_with (length (nodes_of d)) (node_says n) (document_says d)
 pushed_says d n v h =
     ap document_data (tree_pushed d n v h) ∙ said_last (trees d) (node_tree n)
-    ∙ ap (λ (k : ℕ). said_with k (node_says n) (nodes_data (listed_nodes (trees d)))) (length_trees (nodes_of d))
+    ∙ ap (λ (k : ℕ). said_with k (node_says n) (nodes_data (listed_nodes (trees d)))) (length-map (nodes_of d) node_tree)
     ∙ ap (λ (z : data'.Nodes). said_with (length (nodes_of d)) (node_says n) z) (sym (ap document_data (document_tree_out d)))
 
 -- the last node of a list is that of the document

@@ -1,11 +1,9 @@
 -- The lemmas that the functions of a file cite.
-use Rattle.kdl_value.proofs.Comparing.Equality.{float_decides, value_decides}
-use Rattle.kdl_value.proofs.Comparing.OrderOnTrees.{float_ordered, float_ties, value_ordered, value_ties, value_total}
+use Rattle.kdl_laws.proofs.Common.{float_decides, value_decides, value_ties, entry_decides, format_decides, identifier_decides, document_format_decides, node_format_decides, gap_items}
+use Rattle.kdl_value.proofs.Comparing.OrderOnTrees.{float_ordered, float_ties, value_ordered, value_total}
 use Rattle.kdl_value.proofs.Floating.DecimalTexts.{decimal_float}
 use Rattle.kdl_value.proofs.Spelling.StringReadsBack.{spelled_alone, spelled_before}
-use Rattle.kdl_entry.proofs.Equality.{entry_decides, format_decides, identifier_decides}
-use Rattle.kdl_parts.proofs.Equality.{document_format_decides, node_format_decides}
-use Rattle.kdl_layout.proofs.Listing.PlaceTexts.{after_block_items, before_block_items, before_entry_items, gap_items}
+use Rattle.kdl_layout.proofs.Listing.PlaceTexts.{after_block_items, before_block_items, before_entry_items}
 use Rattle.kdl_laws.proofs.Equality.{document_decides, node_decides}
 use Rattle.kdl_laws.proofs.ErrorClones.{error_copy, failure_copy}
 use Rattle.kdl_laws.proofs.ErrorEquality.{diagnostic_decides, error_decides, failure_decides, float_failure_decides, severity_decides, span_decides}

@@ -1,15 +1,11 @@
 -- Names and arguments in memory, by what they say.
-use Rattle.std.proofs.Common.{◌≡◌, ℕ, List, IsUtf8, ap, chars, length, filter, sym, ◌∙◌}
+use Rattle.kdl_laws.proofs.Common.{◌≡◌, ℕ, List, IsUtf8, ap, chars, length, sym, ◌∙◌, KdlEntry, is_argument, same_text, entries_of, node_says, KdlNode, same_chars}
+use Rattle.std.proofs.Common.{filter}
 use Rattle.std.proofs.lemmas.List.{length-map}
 use Rattle.std.proofs.lemmas.List.Sums.{length-filter}
 use Rattle.std.specs.List.{count_by}
-use Rattle.kdl_entry.specs.declared.entry.KdlEntry.{KdlEntry}
-use Rattle.kdl_parts.specs.EntryLists.{is_argument, same_text}
-use Rattle.kdl.specs.Lookups.{entries_of}
 use Rattle.kdl.specs.Said.{said_arguments}
-use Rattle.kdl.specs.Tree.{node_says}
-use Rattle.kdl.specs.declared.node.KdlNode.{KdlNode}
-use Rattle.kdl.proofs.Finding.SaidLookups.{arguments_said, same_chars}
+use Rattle.kdl.proofs.Finding.SaidLookups.{arguments_said}
 use Rattle.kdl_value.specs.Tree.{value_tree}
 
 pub texts_compared : (b s : List ℕ) → IsUtf8 b → IsUtf8 s → same_text b s ≡ same_text (chars b) (chars s)

@@ -1,15 +1,9 @@
 -- What a document says once a property of one of its nodes is set.
-use Rattle.std.proofs.Common.{◌≡◌, ℕ, List, Some, IsUtf8, chars}
+use Rattle.kdl_laws.proofs.Common.{◌≡◌, ℕ, List, Some, IsUtf8, chars, Value, node_named, with_node_named, held_entries, document_says, KdlNode, KdlDocument}
 use Rattle.kdl_grammar.specs.Data.{Nodes}
-use Rattle.kdl_value.specs.Data.{Value}
 use Rattle.kdl.specs.Change.{with_entries}
-use Rattle.kdl.specs.DocumentLookups.{node_named, with_node_named}
-use Rattle.kdl.specs.Fields.{held_entries}
 use Rattle.kdl.specs.Found.{IsSet}
 use Rattle.kdl.specs.Said.{IsSetInData}
-use Rattle.kdl.specs.Tree.{document_says}
-use Rattle.kdl.specs.declared.node.KdlNode.{KdlNode}
-use Rattle.kdl.specs.declared.document.KdlDocument.{KdlDocument}
 use Rattle.kdl.proofs.Finding.SaidEdits.{property_set}
 
 pub property_set_in : (s r : List ℕ) (v : Value) (d : KdlDocument) (n m : KdlNode) (x y : Nodes) → IsUtf8 s → IsUtf8 r → Some n ≡ node_named s d → m ≡ with_entries n (held_entries m) → IsSet r v n m → x ≡ document_says d

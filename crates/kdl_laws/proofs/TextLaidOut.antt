@@ -1,19 +1,10 @@
 -- A text that is laid out.
-use Rattle.std.proofs.Common.{◌≡◌, Global, String, string_bytes, refl, subst, sym, true}
-use Rattle.std.specs.Str.{encode_utf8_all}
-use Rattle.std.specs.List.{list_all}
-use Rattle.kdl_text.specs.Chars.{Text, is_space}
-use Rattle.kdl_value.specs.Tree.{text_of}
+use Rattle.kdl_laws.proofs.Common.{◌≡◌, Global, String, string_bytes, refl, subst, sym, true, encode_utf8_all, list_all, Text, is_space, text_of, Settings, defaults, settings, IsLaidDocument, document_stays, document_prints, document_tree, KdlDocument}
 use Rattle.kdl_grammar.specs.Laid.{LaidDocument}
 use Rattle.kdl_layout.specs.Comments.{CommentsStay}
-use Rattle.kdl_layout.specs.Config.{Settings, defaults, settings}
-use Rattle.kdl_layout.specs.OneLine.{IsLaidDocument}
 use Rattle.kdl_layout.specs.declared.config.Layout.{Layout}
 use Rattle.kdl_layout.proofs.OneLine.Again as line
-use Rattle.kdl_layout.proofs.Spacing.Again.{document_stays}
 use Rattle.kdl.specs.Layout.{DocumentKeepsNoForm, DocumentLaidOut, DocumentSpaced}
-use Rattle.kdl.specs.Tree.{document_prints, document_tree}
-use Rattle.kdl.specs.declared.document.KdlDocument.{KdlDocument}
 use Rattle.kdl_laws.specs.LaidOut.{IsLaidOut, IsSpacedOut}
 use Rattle.kdl_laws.proofs.PrintedOnce.{printed}
 

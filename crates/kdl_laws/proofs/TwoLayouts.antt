@@ -1,31 +1,21 @@
 -- What two layouts make.
-use Rattle.std.proofs.Common.{◌≡◌, ℕ, Bool, true, false, sym, ap, ◌∙◌, subst, ◌↔◌, Result, Ok, Err, IfOk}
-use Rattle.std.specs.List.{list_all}
-use Rattle.kdl_text.specs.Chars.{Text, is_space}
+use Rattle.kdl_laws.proofs.Common.{◌≡◌, ℕ, Bool, true, false, sym, ap, ◌∙◌, subst, ◌↔◌, Result, Ok, Err, IfOk, list_all, Text, is_space, IsDocument, Document, Node, Settings, DocumentKeepsNone, NodeKeepsNone, IsFormattedDocument, IsFormattedNode, IsLaidDocument, document_stays}
 use Rattle.kdl_grammar.specs.Data as data'
-use Rattle.kdl_grammar.specs.Grammar.{IsDocument}
-use Rattle.kdl_grammar.specs.Tree.{Document, Node}
 use Rattle.kdl_layout.specs.Blank.{at_start}
 use Rattle.kdl_layout.specs.Canonical.{canonical, Canonical}
-use Rattle.kdl_layout.specs.Config.{IndentsBySpaces, Settings}
-use Rattle.kdl_layout.specs.Formatted.{DocumentKeepsNone, NodeKeepsNone}
-use Rattle.kdl_layout.specs.WithComments.{IsFormattedDocument, IsFormattedNode}
+use Rattle.kdl_layout.specs.Config.{IndentsBySpaces}
 use Rattle.kdl_layout.specs.Respelled.{IsSpelledDocument, IsSpelledNode}
 use Rattle.kdl_layout.specs.Spaced.{IsSpacedDocument, IsSpacedNode}
-use Rattle.kdl_layout.specs.OneLine.{IsLaidDocument, IsLaidNode}
+use Rattle.kdl_layout.specs.OneLine.{IsLaidNode}
 use Rattle.kdl_layout.proofs.OneLine.Again as again
 use Rattle.kdl_layout.proofs.OneLine.Same.{document_off, node_off}
 use Rattle.kdl_layout.proofs.Respelling.Off as off
-use Rattle.kdl_layout.proofs.Spacing.Again.{document_stays, node_stays}
-use Rattle.kdl_layout.proofs.Formatting.FormattedUnique.{formatted_det}
+use Rattle.kdl_layout.proofs.Spacing.Again.{node_stays}
 
 -- two canonical texts are the same exactly where the data are
 pub same_texts : (indent : Text) (level : ℕ) (x y : data'.Nodes) (t u : Text) → Canonical indent level x → Canonical indent level y → t ≡ canonical indent level x → u ≡ canonical indent level y → (t ≡ u) ↔ (x ≡ y)
 same_texts indent level x y t u c d a b =
     (λ e. sym (c.alone y (subst (λ (s : Text). IsDocument s y) (sym b ∙ sym e ∙ a) d.derived)), λ e. a ∙ ap (canonical indent level) e ∙ sym b)
-
-pub one_layout : (s : Settings) (level : ℕ) (d x y : Document) → IsFormattedDocument s level d x → IsFormattedDocument s level d y → x ≡ y
-one_layout s level d x y a b = formatted_det s level d x y a b
 
 -- the second layout changes nothing
 pub twice : {A E : Type 0} (r : Result A E) (s : Settings) (level : ℕ) (d x y : Document) → list_all is_space s.indent ≡ true → s.entry_autoformate_keep ≡ false → DocumentKeepsNone d

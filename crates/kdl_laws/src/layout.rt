@@ -70,7 +70,7 @@ pub fn node_laid_out_twice(node: &mut KdlNode, config: &FormatConfig) -> Result<
 }
 
 /// Layout has one result for a document.
-#[tactic(auto, using(crate::proofs::TwoLayouts::one_layout))]
+#[tactic(auto, using(kdl_layout::proofs::Formatting::FormattedUnique::formatted_det))]
 pub fn one_layout()
     ensures { (s : Settings) (level : ℕ) (d x y : Document) → IsFormattedDocument s level d x
         → IsFormattedDocument s level d y → x ≡ y }

@@ -1,5 +1,5 @@
 -- What the proofs of this crate cite most of the standard library, of the crates below, and of the specifications.
-pub use Rattle.std.proofs.Common.{Bool, Bor, Continue, Err, Global, IfOk, List, MatchBool, MatchOption, None, Ok, Option, Result, Some, String, [], add-one, ap, append-nil, append_assoc, arith, drop, false, get_or, inl, inr, length, length-append, lit<, map, not, option_map, refl, rules, string_bytes, subst, suc, sym, take, true, zero, ℕ, ◌++◌, ◌+◌, ◌-◌, ◌<◌, ◌==◌, ◌||◌, ◌↔◌, ◌∙◌, ◌∷◌, ◌≡◌, ◌≢◌, ◌≤◌, ◌⊎◌}
+pub use Rattle.std.proofs.Common.{Bool, Bor, Continue, Err, Global, IfOk, IsTrue, List, MatchBool, MatchOption, None, Ok, Option, Result, Some, String, [], add-one, ap, append-nil, append_assoc, arith, drop, false, get_or, if◌then◌else◌, inl, inr, is_some, length, length-append, lit<, map, max, min, not, option_map, refl, rules, string_bytes, subst, suc, sym, take, true, zero, ℕ, ◌&&◌, ◌++◌, ◌+◌, ◌-◌, ◌<◌, ◌==◌, ◌||◌, ◌↔◌, ◌∙◌, ◌∷◌, ◌≡◌, ◌≢◌, ◌≤◌, ◌⊎◌}
 pub use Rattle.std.proofs.Math.Bool.{and-false}
 pub use Rattle.std.proofs.Math.Seq.{drop-append_seam}
 pub use Rattle.std.proofs.lemmas.Bool.{and_parts, eqb-true}
@@ -12,8 +12,8 @@ pub use Rattle.std.specs.Bool.{then_some}
 pub use Rattle.std.specs.Char.{encode_utf8}
 pub use Rattle.std.specs.Cmp.Derive.{both_true}
 pub use Rattle.std.specs.List.{All, list_all, list_any, repeat}
-pub use Rattle.std.specs.Prelude.{IsTrue, if◌then◌else◌, is_some, max, min, ◌&&◌}
-pub use Rattle.std.specs.Str.{IsAscii, IsUtf8, chars, encode_utf8_all}
+pub use Rattle.std.specs.Str.{IsAscii, IsUtf8, encode_utf8_all}
+unfoldable pub use Rattle.std.specs.Str.{chars}
 pub use Rattle.kdl_entry.proofs.Laying.ValueReadsBack.{printed_string, printed_value}
 pub use Rattle.kdl_entry.proofs.Moving.EntryEnds.{end_slashdash, end_spaces, end_type}
 pub use Rattle.kdl_entry.proofs.Moving.EntryMoves.{move_entry, move_slashdash, move_spaces, move_string, punctuation_end, spaces_end}
@@ -64,18 +64,24 @@ pub use Rattle.kdl_parts.specs.declared.format.KdlNodeFormat.{KdlNodeFormat}
 pub use Rattle.kdl_syntax.proofs.Lexing.TokenUnique.{no_token, token_det}
 pub use Rattle.kdl_syntax.proofs.Moving.FarMoves.{any_run}
 pub use Rattle.kdl_syntax.proofs.Moving.Puts.{Put, also, joined, same, same_piece, stands}
+pub use Rattle.kdl_syntax.specs.Control.{Control, accepts, at, event_of, finish, is_block, is_gap, is_over, is_word, spaced_of, step}
 pub use Rattle.kdl_syntax.specs.Internal.Handed.{Cuts, HandsOut, kind_view, one, spaces}
+pub use Rattle.kdl_syntax.specs.Internal.Views.{control_view, ended_view}
 pub use Rattle.kdl_syntax.specs.Pieces.{StringPiece}
 pub use Rattle.kdl_syntax.specs.Tokens.{BeginsToken, Lexes, NoToken, Token, done, newline, next, semicolon, space, string, t_closing, t_left, t_newline, t_opening, t_semicolon, t_slashdash, t_space, t_string, t_value}
+pub use Rattle.kdl_syntax.specs.declared.control.{Frame.Frame, Phase.Phase, Spot.Spot, Word.TheVariants.MayBeKey, Word.TheVariants.NoKey}
 pub use Rattle.kdl_syntax.specs.declared.control.Ended.{Ended}
+pub use Rattle.kdl_syntax.specs.declared.control.Phase.TheVariants.{EntrySlashdash, InNode, NodeSlashdash, TypeDone}
+pub use Rattle.kdl_syntax.specs.declared.control.Spot.TheVariants.{Fresh, Later, Spaced}
 pub use Rattle.kdl_syntax.specs.declared.lexer.TokenKind.{TokenKind}
 pub use Rattle.kdl_text.proofs.Looking.MovesJoin.{bytes-append}
 pub use Rattle.kdl_text.proofs.Looking.Stars.{join, snoc, star_map}
 pub use Rattle.kdl_text.proofs.Spacing.SpacePieces.{block_shorter, break_shorter, end_length, node_space_end, node_space_shorter, star_end}
 pub use Rattle.kdl_text.proofs.Spacing.SpaceUnique.{backslash_no_space, break_det, newline_begins, no_line_comment, node_space_det, slash_no_newline, slash_no_space}
 pub use Rattle.kdl_text.proofs.Spacing.ValueEnds.{space_ends, value_end_no_identifier}
-pub use Rattle.kdl_text.specs.Bare.{is_bare}
-pub use Rattle.kdl_text.specs.Chars.{Newline, Plus, Space, Star, Text, begins, begins_two, crlf, is_banned, is_identifier_char, is_newline_char, is_punctuation, is_scalar, is_space, more, plus, starts, times}
+unfoldable pub use Rattle.kdl_text.specs.Bare.{is_bare}
+pub use Rattle.kdl_text.specs.Chars.{Newline, Plus, Space, Star, Text, begins, begins_two, crlf, is_scalar, more, plus, starts, times}
+unfoldable pub use Rattle.kdl_text.specs.Chars.{is_banned, is_identifier_char, is_newline_char, is_punctuation, is_space}
 pub use Rattle.kdl_text.specs.Internal.Here.{Here}
 pub use Rattle.kdl_text.specs.Internal.Reading.{Moves}
 pub use Rattle.kdl_text.specs.Spans.{bytes}

@@ -1,6 +1,5 @@
 -- Texts that are node-spaces, and texts that are none.
-use Rattle.kdl_layout.proofs.Common.{◌≡◌, true, [], ◌∷◌, refl, ap, Text, starts, crlf, more, Plus, plus, Space, Parts, block, Ws, EscEnd, escline, NodeSpace, node_space_det, space_ends, value_end_no_identifier, AreNodeSpaces}
-use Rattle.kdl_text.specs.Chars.{is_space, is_newline_char, is_banned, is_punctuation, is_identifier_char}
+use Rattle.kdl_layout.proofs.Common.{◌≡◌, true, [], ◌∷◌, refl, ap, Text, starts, crlf, more, Plus, plus, Space, Parts, block, Ws, EscEnd, escline, NodeSpace, node_space_det, space_ends, value_end_no_identifier, AreNodeSpaces, is_space, is_newline_char, is_banned, is_punctuation, is_identifier_char}
 use Rattle.kdl_text.specs.Chars.{none}
 use Rattle.kdl_layout.proofs.Lacking.SpaceEnds.{goes_past}
 use Rattle.kdl_layout.proofs.Rewriting.BeforeNewlines.{a_newline}

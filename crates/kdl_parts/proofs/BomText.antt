@@ -1,8 +1,7 @@
 -- The text of one character, as U+FEFF, and a text after it.
-use Rattle.std.proofs.Common.{◌≡◌, List, ℕ, [], ◌∷◌, ◌++◌, Result, IfOk, is_ok, if◌then◌else◌, ap, sym, ◌∙◌, refl, append-nil}
-use Rattle.std.proofs.lemmas.Str.{chars-nil, chars_past_char}
-use Rattle.std.specs.Char.{encode_utf8}
-use Rattle.std.specs.Str.{chars, IsUtf8}
+use Rattle.kdl_parts.proofs.Common.{◌≡◌, List, ℕ, [], ◌∷◌, ◌++◌, ap, sym, ◌∙◌, refl, chars-nil, encode_utf8, chars, IsUtf8}
+use Rattle.std.proofs.Common.{Result, IfOk, is_ok, if◌then◌else◌, append-nil}
+use Rattle.std.proofs.lemmas.Str.{chars_past_char}
 use Rattle.kdl_text.proofs.Looking.SliceCost.{pushed}
 
 pub one_char : (c : ℕ) (bs ns : List ℕ) → bs ≡ [] → IsUtf8 ns → ns ≡ bs ++ encode_utf8 c → chars ns ≡ c ∷ []

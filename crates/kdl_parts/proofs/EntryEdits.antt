@@ -1,12 +1,8 @@
 -- What edits of a list of entries leave.
-use Rattle.std.proofs.Common.{◌≡◌, ℕ, ◌+◌, ◌<◌, List, ◌∷◌, ◌++◌, ap, ◌∙◌, sym, length, take, drop, set, is_some, true, false, Option, None, Some, option_map, unwrap_or, refl, add-one, arith}
-use Rattle.std.proofs.lemmas.List.{drop_all, set_split, take_all}
-use Rattle.std.specs.List.{insert}
-use Rattle.kdl_entry.specs.Tree.{Identifier, Entry, entry_tree, identifier_tree}
-use Rattle.kdl_entry.specs.declared.identifier.KdlIdentifier.{KdlIdentifier}
-use Rattle.kdl_entry.specs.declared.entry.KdlEntry.{KdlEntry}
+use Rattle.kdl_parts.proofs.Common.{◌≡◌, ℕ, ◌+◌, ◌<◌, List, ◌∷◌, ◌++◌, ap, ◌∙◌, sym, length, take, drop, set, is_some, true, false, Option, None, Some, option_map, unwrap_or, refl, add-one, arith, drop_all, take_all, insert, Identifier, Entry, entry_tree, identifier_tree, KdlIdentifier, KdlEntry, property, place_of}
+use Rattle.std.proofs.lemmas.List.{set_split}
 use Rattle.kdl_parts.specs.Edits.{under, put_for, replaced_place, inserted}
-use Rattle.kdl_parts.specs.EntryLists.{property, sought, place_of, there}
+use Rattle.kdl_parts.specs.EntryLists.{sought, there}
 use Rattle.kdl_parts.specs.declared.key.NodeKey.{NodeKey}
 use Rattle.kdl_parts.specs.declared.key.NodeKey.TheVariants.{Key, Index}
 

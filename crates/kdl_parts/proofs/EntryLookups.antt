@@ -1,21 +1,16 @@
 -- Look-ups in lists, an element at a time, and the bytes of names.
-use Rattle.std.proofs.Common.{◌≡◌, ℕ, suc, ◌+◌, ◌≤◌, List, [], ◌∷◌, ◌++◌, length, Bool, true, false, Option, None, Some, option_and_then, option_map, slice_get, Vec, Global, refl, ap, ◌∙◌, sym, arith, string_bytes}
-use Rattle.std.proofs.lemmas.List.{length-map}
+use Rattle.kdl_parts.proofs.Common.{◌≡◌, ℕ, suc, ◌+◌, ◌≤◌, List, [], ◌∷◌, ◌++◌, length, true, false, Option, None, Some, option_map, slice_get, refl, ap, ◌∙◌, sym, arith, string_bytes, length-map, IsUtf8-string_bytes, IsUtf8, chars, Text, Identifier, identifier_tree, KdlEntry, KdlIdentifier, arguments, is_argument, last_place}
+use Rattle.std.proofs.Common.{Bool, option_and_then, Vec, Global}
 use Rattle.std.proofs.lemmas.List.Sums.{count_by-le-length, length-filter}
 use Rattle.std.proofs.lemmas.Option.{none-some}
-use Rattle.std.proofs.lemmas.Str.{IsUtf8-string_bytes, encodes-chars}
+use Rattle.std.proofs.lemmas.Str.{encodes-chars}
 use Rattle.std.specs.List.{filter}
-use Rattle.std.specs.Str.{IsUtf8, chars}
 use Rattle.std.specs.Vec.{with_item}
 use lib.Utf8.{encodes}
-use Rattle.kdl_text.specs.Chars.{Text}
 use Rattle.kdl_value.specs.Data.{Value}
 use Rattle.kdl_value.specs.Tree.{value_tree}
-use Rattle.kdl_entry.specs.Tree.{Identifier, identifier_tree}
-use Rattle.kdl_entry.specs.declared.entry.KdlEntry.{KdlEntry}
-use Rattle.kdl_entry.specs.declared.identifier.KdlIdentifier.{KdlIdentifier}
 use Rattle.kdl_value.specs.declared.value.KdlValue.{KdlValue}
-use Rattle.kdl_parts.specs.EntryLists.{arguments, is_argument, later, last_place, same_text, is_name}
+use Rattle.kdl_parts.specs.EntryLists.{later, same_text, is_name}
 use Rattle.kdl_parts.specs.Written.{set_value_at}
 
 -- texts of the same characters have the same bytes

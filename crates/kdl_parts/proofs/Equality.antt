@@ -1,9 +1,9 @@
 -- What `==` of formats means, on their trees.
-use Rattle.std.proofs.Common.{◌≡◌, ap}
+use Rattle.kdl_parts.proofs.Common.{◌≡◌, ap, node_format_tree}
 use Rattle.std.proofs.lemmas.Bool.Decides.{Decides-and, Decides-like}
 use Rattle.std.specs.Bool.{Decides}
 use Rattle.kdl_value.proofs.Comparing.Equality.{text_decides}
-use Rattle.kdl_parts.specs.Formats.{node_format_tree, document_format_tree}
+use Rattle.kdl_parts.specs.Formats.{document_format_tree}
 use Rattle.kdl_parts.specs.contracts.format.KdlDocumentFormatPartialEq.TheImpl as document_format_impl
 use Rattle.kdl_parts.specs.contracts.format.KdlNodeFormatPartialEq.TheImpl as node_format_impl
 use Rattle.kdl_parts.specs.declared.format.KdlDocumentFormat.{KdlDocumentFormat}

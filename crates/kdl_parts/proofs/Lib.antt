@@ -1,3 +1,5 @@
+-- What the proofs of this crate cite most of the standard library, of the crates below, and of the specifications.
+pub mod Common
 -- What edits of a list of entries leave.
 pub mod EntryEdits
 -- Look-ups in lists, an element at a time.

@@ -1,6 +1,6 @@
 -- A loop that changes the elements of a list one by one.
-use Rattle.std.proofs.Common.{◌≡◌, ℕ, zero, suc, ◌+◌, ◌<◌, ◌≤◌, List, [], ◌∷◌, ◌++◌, length, map, take, drop, set, refl, ap, ◌∙◌, arith, add-one, get_or}
-use Rattle.std.proofs.lemmas.List.{take_all, drop_all, length-map, append-nil}
+use Rattle.kdl_parts.proofs.Common.{◌≡◌, ℕ, suc, ◌+◌, ◌<◌, ◌≤◌, List, [], ◌∷◌, ◌++◌, length, map, take, drop, set, refl, ap, ◌∙◌, arith, add-one, get_or, take_all, drop_all, length-map, append-nil}
+use Rattle.std.proofs.Common.{zero}
 use Rattle.std.proofs.Math.Seq.{take-append_seam}
 
 -- what a loop has made of a list whose start is `start`: the first i are changed, the others are as they were

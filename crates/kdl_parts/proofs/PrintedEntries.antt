@@ -1,11 +1,8 @@
 -- What the entries of a node print, one by one.
-use Rattle.std.proofs.Common.{◌≡◌, ℕ, suc, ◌+◌, ◌-◌, ◌<◌, List, [], ◌∷◌, ◌++◌, map, ap, ◌∙◌, sym, refl, append_assoc, arith, length, take, get_or, slice_get, not, Option, None, Some, option_map, is_some, is_none}
-use Rattle.std.proofs.lemmas.List.{take_more, map-append, append-nil}
-use Rattle.std.proofs.lemmas.Str.{encodes-append}
-use Rattle.std.specs.Str.{encode_utf8_all}
-use Rattle.kdl_entry.specs.Tree.{Entry, entry_tree, entry_format_tree}
-use Rattle.kdl_entry.specs.declared.entry.KdlEntry.{KdlEntry}
-use Rattle.kdl_grammar.specs.Print.{print_piece, print_pieces, last_has_format}
+use Rattle.kdl_parts.proofs.Common.{◌≡◌, ℕ, suc, ◌+◌, ◌<◌, List, [], ◌∷◌, ◌++◌, map, ap, ◌∙◌, sym, refl, arith, length, take, get_or, slice_get, Option, None, Some, option_map, is_some, append-nil, encodes-append, encode_utf8_all, Entry, entry_tree, entry_format_tree, KdlEntry, print_pieces}
+use Rattle.std.proofs.Common.{◌-◌, append_assoc, not, is_none}
+use Rattle.std.proofs.lemmas.List.{take_more, map-append}
+use Rattle.kdl_grammar.specs.Print.{print_piece, last_has_format}
 
 -- one text after another
 pub print_pieces-append : (es fs : List Entry) → print_pieces (es ++ fs) ≡ print_pieces es ++ print_pieces fs

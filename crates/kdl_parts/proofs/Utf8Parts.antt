@@ -1,10 +1,7 @@
 -- The UTF-8 of a text, part by part.
-use Rattle.std.proofs.Common.{◌≡◌, ℕ, ◌+◌, ◌*◌, [], ◌∷◌, ◌++◌, arith, refl, replicate}
-use Rattle.std.proofs.lemmas.Grind.{common_steps}
+use Rattle.kdl_parts.proofs.Common.{◌≡◌, ℕ, ◌+◌, ◌*◌, [], ◌∷◌, ◌++◌, arith, refl, replicate, common_steps, encodes-append, chars-nil, encode_utf8, encode_utf8_all}
 use Rattle.std.proofs.lemmas.List.{replicate-append-replicate}
-use Rattle.std.proofs.lemmas.Str.{encode_ascii, encodes-append, chars-nil}
-use Rattle.std.specs.Char.{encode_utf8}
-use Rattle.std.specs.Str.{encode_utf8_all}
+use Rattle.std.proofs.lemmas.Str.{encode_ascii}
 
 -- a space, a newline and the braces are one byte each
 pub space_is : encode_utf8 32 ≡ 32 ∷ []

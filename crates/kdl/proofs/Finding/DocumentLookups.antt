@@ -1,20 +1,8 @@
 -- Nodes found by their name.
-use Rattle.std.proofs.Common.{◌≡◌, ℕ, suc, ◌≤◌, List, [], ◌∷◌, length, Bool, Option, None, Some, option_and_then, option_map, refl, ap, ◌∙◌, sym, arith, position, slice_get, string_bytes}
-use Rattle.std.proofs.lemmas.List.Sums.{count_by-le-length, length-filter}
-use Rattle.std.proofs.lemmas.Option.{none-some}
-use Rattle.std.proofs.lemmas.Str.{IsUtf8-string_bytes}
-use Rattle.std.specs.List.{cons_option, filter, filter_map, find}
-use Rattle.std.specs.Prelude.{codes}
-use Rattle.std.specs.Str.{IsUtf8, chars}
-use Rattle.kdl_value.specs.Data.{Value}
-use Rattle.kdl_value.specs.Tree.{value_tree}
-use Rattle.kdl_entry.specs.Tree.{identifier_tree}
-use Rattle.kdl_entry.specs.declared.entry.KdlEntry.{KdlEntry}
-use Rattle.kdl_entry.specs.declared.identifier.KdlIdentifier.{KdlIdentifier}
-use Rattle.kdl.specs.DocumentLookups.{argument_value, dash_arguments, first_argument, is_node_named}
-use Rattle.kdl_parts.specs.EntryLists.{same_text}
-use Rattle.kdl.specs.declared.node.KdlNode.{KdlNode, out-KdlNode}
-use Rattle.kdl_parts.proofs.EntryLookups.{found_at, same_bytes}
+use Rattle.kdl.proofs.Common.{◌≡◌, ℕ, suc, ◌≤◌, List, [], ◌∷◌, length, Bool, Option, None, Some, option_and_then, option_map, refl, ap, ◌∙◌, sym, arith, position, slice_get, string_bytes, length-filter, none-some, IsUtf8-string_bytes, cons_option, filter, filter_map, find, codes, IsUtf8, chars, Value, value_tree, identifier_tree, KdlEntry, KdlIdentifier, argument_value, dash_arguments, first_argument, is_node_named, same_text, KdlNode, same_bytes}
+use Rattle.std.proofs.lemmas.List.Sums.{count_by-le-length}
+use Rattle.kdl.specs.declared.node.KdlNode.{out-KdlNode}
+use Rattle.kdl_parts.proofs.EntryLookups.{found_at}
 use Rattle.kdl.proofs.Finding.ListLookups.{find_first, first_is, nth_found}
 
 -- a node whose name's text was compared

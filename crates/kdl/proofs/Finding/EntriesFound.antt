@@ -1,30 +1,12 @@
 -- What a node's look-ups find once an entry is inserted, pushed, removed or written.
-use Rattle.std.proofs.Common.{if◌then◌else◌, is_ok, Vec, Global, ◌≡◌, ℕ, suc, ◌+◌, ◌<◌, ◌≤◌, Bool, true, false, List, [], ◌∷◌, ◌++◌, length, take, drop, slice_get, string_bytes, encode_utf8_all, Option, None, Some, IfSome, IfNone, Result, Ok, Err, OnOk, option_map, unwrap_or, refl, ap, ◌∙◌, sym, subst, arith, cond, add-one, is_none, position, set, IsSome}
-use Rattle.std.proofs.lemmas.List.Sums.{length-filter}
-use Rattle.std.proofs.lemmas.Option.{none-some}
-use Rattle.std.proofs.lemmas.Slice.Eq.{bytes_eq-Decides}
-use Rattle.std.proofs.lemmas.Str.{IsUtf8-string_bytes, encodes-chars}
-use Rattle.std.specs.List.{filter, last_or}
-use Rattle.std.specs.Str.{chars, IsUtf8}
-use Rattle.kdl_value.specs.Data.{Value}
-use Rattle.kdl_value.specs.Tree.{value_tree}
-use Rattle.kdl_entry.specs.Tree.{Identifier, Entry, entry_tree, identifier_tree, plain_identifier}
-use Rattle.kdl_entry.specs.declared.entry.KdlEntry.{KdlEntry}
-use Rattle.kdl_entry.specs.declared.identifier.KdlIdentifier.{KdlIdentifier}
-use Rattle.kdl_parts.specs.Edits.{GoesUnder, HasArgumentAt, HasRoomAt, IsInserted, put_before, put_for, under, removed, without}
-use Rattle.kdl_parts.specs.EntryLists.{property, sought, key_name, key_index, is_argument, has_name, is_name, same_text, last_place, nth_place, there}
-use Rattle.kdl_parts.specs.declared.key.NodeKey.{NodeKey}
-use Rattle.kdl_parts.specs.declared.key.NodeKey.TheVariants.{Key, Index}
-use Rattle.kdl_parts.proofs.EntryLookups.{same_bytes, set_value_is}
-use Rattle.kdl.specs.Change.{with_entries, with_value}
-use Rattle.kdl.specs.Found.{IsSet, IsAdded, IsArgumentSet, IsPutIn, IsTakenOut, IsTakenOutAt, argument_count, value_at}
-use Rattle.kdl.specs.Lookups.{entries_of, property_value, found_entry, held_value, key_place, property_place, with_entry_there, with_found_entry, with_found_value, with_value_there, HasWritten}
-use Rattle.kdl.specs.declared.document.KdlDocument.TheViews.{out-KdlNode, out-roll-KdlNode}
-use Rattle.kdl.specs.declared.node.KdlNode.{KdlNode}
+use Rattle.kdl.proofs.Common.{if◌then◌else◌, is_ok, Vec, Global, ◌≡◌, ℕ, suc, ◌+◌, ◌<◌, ◌≤◌, Bool, true, false, List, [], ◌∷◌, ◌++◌, length, take, drop, slice_get, string_bytes, Option, None, Some, IfSome, IfNone, Result, Ok, Err, OnOk, option_map, unwrap_or, refl, ap, ◌∙◌, sym, subst, arith, cond, add-one, is_none, position, set, IsSome, length-filter, none-some, bytes_eq-Decides, IsUtf8-string_bytes, encodes-chars, filter, last_or, chars, IsUtf8, Value, value_tree, Identifier, Entry, entry_tree, identifier_tree, KdlEntry, KdlIdentifier, IsInserted, put_before, put_for, under, removed, without, sought, is_argument, has_name, is_name, same_text, last_place, nth_place, there, NodeKey, Key, Index, same_bytes, set_value_is, with_entries, with_value, IsSet, IsArgumentSet, entries_of, property_value, found_entry, held_value, key_place, property_place, with_entry_there, with_found_entry, with_found_value, out-KdlNode, out-roll-KdlNode, KdlNode, with_item, KdlValue, set_value_at}
+use Rattle.std.proofs.Common.{encode_utf8_all}
+use Rattle.kdl_entry.specs.Tree.{plain_identifier}
+use Rattle.kdl_parts.specs.Edits.{GoesUnder, HasArgumentAt, HasRoomAt}
+use Rattle.kdl_parts.specs.EntryLists.{property, key_name, key_index}
+use Rattle.kdl.specs.Found.{IsAdded, IsPutIn, IsTakenOut, IsTakenOutAt, argument_count, value_at}
+use Rattle.kdl.specs.Lookups.{with_value_there, HasWritten}
 use Rattle.kdl.proofs.Finding.ListLookups.{LastIs, NthIs, Splice, around_itself, back, first_is, got_before, got_else, got_later, got_new, last_found, last_is, last_new, nth_found, nth_is, one_passes, rest_of_first, same_length, same_passing, splice_cut, splice_put, splice_push, spliced, LastAt, NthAt, splice_set}
-use Rattle.std.specs.Vec.{with_item}
-use Rattle.kdl_value.specs.declared.value.KdlValue.{KdlValue}
-use Rattle.kdl_parts.specs.Written.{set_value_at}
 
 -- the value of an entry that was found
 abbrev pub value_in : Option KdlEntry → Option Value

@@ -1,12 +1,10 @@
 -- What passes a test in a list, and in one in which some elements took the place of others.
-use Rattle.std.proofs.Common.{nat_lt, not, position, ◌≡◌, ℕ, zero, suc, ◌+◌, ◌<◌, ◌≤◌, Bool, true, false, List, [], ◌∷◌, ◌++◌, length, take, drop, set, slice_get, Option, None, Some, option_map, refl, ap, ◌∙◌, sym, subst, arith, cond, append-nil, add-one}
-use Rattle.std.proofs.lemmas.Bool.Decides.{nat_tests}
-use Rattle.std.proofs.lemmas.List.{length-append, set_split, take-append-drop}
+use Rattle.kdl.proofs.Common.{not, position, ◌≡◌, ℕ, zero, suc, ◌+◌, ◌<◌, ◌≤◌, Bool, true, false, List, [], ◌∷◌, ◌++◌, length, take, drop, set, slice_get, Option, None, Some, option_map, refl, ap, ◌∙◌, sym, subst, arith, cond, add-one, nat_tests, length-append, none-some, slice_get_within, filter, find, last_or, put_before, put_for, without, last_place, nth_place, there}
+use Rattle.std.proofs.Common.{nat_lt, append-nil}
+use Rattle.std.proofs.lemmas.List.{set_split, take-append-drop}
 use Rattle.std.proofs.lemmas.List.Elements.{filter-append}
-use Rattle.std.proofs.lemmas.Option.{none-some, slice_get_within}
-use Rattle.std.specs.List.{filter, find, last_or, position_or_len}
-use Rattle.kdl_parts.specs.Edits.{put_before, put_for, without}
-use Rattle.kdl_parts.specs.EntryLists.{last_place, later, nth_place, nth_step, there}
+use Rattle.std.specs.List.{position_or_len}
+use Rattle.kdl_parts.specs.EntryLists.{later, nth_step}
 
 -- a list around one of its elements
 pub around_itself : {A : Type 0} (xs : List A) (i : ℕ) (x : A) → slice_get xs i ≡ Some x → xs ≡ take i xs ++ (x ∷ drop (suc i) xs)

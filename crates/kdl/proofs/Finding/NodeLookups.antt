@@ -1,20 +1,13 @@
 -- What look-ups find, and nodes with one entry changed or pushed.
-use Rattle.std.proofs.Common.{◌≡◌, ℕ, List, [], ◌∷◌, ◌++◌, length, Option, None, Some, option_map, ap, ◌∙◌, sym, slice_get, slice_set, Vec, Global}
+use Rattle.kdl.proofs.Common.{◌≡◌, ℕ, List, [], ◌∷◌, ◌++◌, length, Option, None, Some, option_map, ap, ◌∙◌, sym, slice_get, Vec, Global, none-some, value_tree, Entry, KdlEntry, KdlValue, with_entries, with_value, set_value_at, set_value_is, entries_of, out-KdlNode, roll-KdlNode, out-roll-KdlNode, KdlNode}
+use Rattle.std.proofs.Common.{slice_set}
 use Rattle.std.proofs.Math.Seq.{set-append_seam}
-use Rattle.std.proofs.lemmas.Option.{none-some}
 use Rattle.kdl_value.specs.Data.{null}
-use Rattle.kdl_value.specs.Tree.{value_tree, or_null}
-use Rattle.kdl_entry.specs.Tree.{Entry}
-use Rattle.kdl_entry.specs.declared.entry.KdlEntry.{KdlEntry}
-use Rattle.kdl_value.specs.declared.value.KdlValue.{KdlValue}
-use Rattle.kdl.specs.Change.{with_entries, with_value}
-use Rattle.kdl_parts.specs.Written.{set_value_at, HasProperty, IsPushed}
+use Rattle.kdl_value.specs.Tree.{or_null}
+use Rattle.kdl_parts.specs.Written.{HasProperty, IsPushed}
 pub use Rattle.kdl_parts.proofs.EntryLookups.{name_compared}
-use Rattle.kdl_parts.proofs.EntryLookups.{set_value_is}
 use Rattle.kdl.proofs.Finding.ListLookups.{get_seam}
-use Rattle.kdl.specs.Lookups.{entries_of, value_there, HasPushed, HasSameEntries, HasWritten}
-use Rattle.kdl.specs.declared.document.KdlDocument.TheViews.{out-KdlNode, roll-KdlNode, out-roll-KdlNode}
-use Rattle.kdl.specs.declared.node.KdlNode.{KdlNode}
+use Rattle.kdl.specs.Lookups.{value_there, HasPushed, HasSameEntries, HasWritten}
 
 -- a node with other entries has those
 pub with_entries_out : (n : KdlNode) (v : Vec KdlEntry Global) → (out-KdlNode (with_entries n v)).entries ≡ v

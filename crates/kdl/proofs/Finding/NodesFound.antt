@@ -1,21 +1,7 @@
 -- What a document's look-ups find once an argument is written.
-use Rattle.std.proofs.Common.{◌≡◌, ℕ, Bool, true, false, length, take, List, [], ◌∷◌, ◌++◌, set, Option, Some, None, IsSome, option_and_then, slice_get, refl, ap, ◌∙◌, sym, string_bytes, Vec, Global}
-use Rattle.std.proofs.lemmas.Option.{none-some}
-use Rattle.std.proofs.lemmas.Slice.Eq.{bytes_eq-Decides}
-use Rattle.std.specs.List.{filter}
-use Rattle.std.specs.Vec.{with_item}
-use Rattle.kdl_value.specs.Tree.{value_tree}
-use Rattle.kdl_value.specs.declared.value.KdlValue.{KdlValue}
-use Rattle.kdl_entry.specs.declared.entry.KdlEntry.{KdlEntry}
-use Rattle.kdl_parts.specs.EntryLists.{nth_place, same_text}
-use Rattle.kdl_parts.specs.declared.key.NodeKey.TheVariants.{Index}
-use Rattle.kdl.specs.Change.{with_entries}
-use Rattle.kdl.specs.DocumentLookups.{argument_named, first_argument, is_node_named, node_named, node_place, nodes_of, with_argument_named, with_argument_in, with_argument_there, with_node_named, with_node_there}
-use Rattle.kdl.specs.Found.{IsArgumentSet, IsSetIn}
-use Rattle.kdl.specs.Lookups.{held_value, value_of, with_found_value}
-use Rattle.kdl.specs.declared.node.KdlNode.{KdlNode}
-use Rattle.kdl.specs.declared.document.KdlDocument.{KdlDocument}
-use Rattle.kdl.specs.declared.document.KdlDocument.TheViews.{out-KdlDocument, out-roll-KdlDocument, out-KdlNode, out-roll-KdlNode}
+use Rattle.kdl.proofs.Common.{◌≡◌, ℕ, Bool, true, false, length, take, List, [], ◌∷◌, ◌++◌, set, Option, Some, None, IsSome, option_and_then, slice_get, refl, ap, ◌∙◌, sym, string_bytes, Vec, Global, none-some, bytes_eq-Decides, filter, with_item, value_tree, KdlValue, KdlEntry, nth_place, same_text, Index, with_entries, argument_named, first_argument, is_node_named, node_named, node_place, nodes_of, with_argument_in, with_argument_there, with_node_named, with_node_there, IsArgumentSet, held_value, value_of, with_found_value, KdlNode, KdlDocument, out-KdlDocument, out-roll-KdlDocument, out-KdlNode, out-roll-KdlNode}
+use Rattle.kdl.specs.DocumentLookups.{with_argument_named}
+use Rattle.kdl.specs.Found.{IsSetIn}
 use Rattle.kdl.proofs.Finding.DocumentLookups.{found_there}
 use Rattle.kdl.proofs.Finding.EntriesFound.{differ, value_sets_at}
 use Rattle.kdl.proofs.Finding.ListLookups.{NthIs, Splice, find_first, first_is, got_new, nth_found, nth_is, one_passes, same_passing, splice_set, spliced}

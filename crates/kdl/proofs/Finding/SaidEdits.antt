@@ -1,26 +1,11 @@
 -- What a document says once a property of one of its nodes is set.
-use Rattle.std.proofs.Common.{◌≡◌, ℕ, Bool, true, false, List, [], ◌∷◌, Some, option_and_then, option_map, refl, ap, subst, ◌∙◌, sym}
+use Rattle.kdl.proofs.Common.{◌≡◌, ℕ, Bool, true, false, List, [], ◌∷◌, Some, option_and_then, option_map, refl, ap, subst, ◌∙◌, sym, bytes_eq-Decides, encodes, one_answer, IsUtf8, chars, Text, Value, Identifier, identifier_tree, same_text, there, with_entries, node_named, with_node_named, IsSet, entries_of, property_place, property_value, said_argument, said_children, said_node, said_property, said_type, document_says, node_says, KdlNode, KdlDocument, out-KdlNode, out-roll-KdlNode}
 use Rattle.std.proofs.Math.Utf8.{scalars}
 use Rattle.std.proofs.lemmas.Bool.{true≢false}
-use Rattle.std.proofs.lemmas.Slice.Eq.{bytes_eq-Decides}
 use Rattle.std.proofs.lemmas.Str.{chars-encodes, is_utf8-from_IsUtf8, scalars-chars}
-use lib.Utf8.{encodes}
-use Rattle.std.specs.Bool.{one_answer}
-use Rattle.std.specs.Str.{IsUtf8, chars, is_utf8}
-use Rattle.kdl_text.specs.Chars.{Text}
-use Rattle.kdl_value.specs.Data.{Value}
-use Rattle.kdl_entry.specs.Tree.{Identifier, identifier_tree}
-use Rattle.kdl_parts.specs.EntryLists.{same_text, there}
-use Rattle.kdl.specs.Change.{with_entries}
-use Rattle.kdl.specs.DocumentLookups.{node_named, with_node_named}
+use Rattle.std.specs.Str.{is_utf8}
 use Rattle.kdl.specs.Fields.{held_entries}
-use Rattle.kdl.specs.Found.{IsSet}
-use Rattle.kdl.specs.Lookups.{entries_of, property_place, property_value}
-use Rattle.kdl.specs.Said.{IsSetInData, said_argument, said_children, said_node, said_property, said_type}
-use Rattle.kdl.specs.Tree.{document_says, node_says}
-use Rattle.kdl.specs.declared.node.KdlNode.{KdlNode}
-use Rattle.kdl.specs.declared.document.KdlDocument.{KdlDocument}
-use Rattle.kdl.specs.declared.document.KdlDocument.TheViews.{out-KdlNode, out-roll-KdlNode}
+use Rattle.kdl.specs.Said.{IsSetInData}
 use Rattle.kdl.proofs.Finding.NodesFound.{node_found, node_others}
 use Rattle.kdl.proofs.Finding.SaidLookups.{Tests, argument_said, children_said, node_said, node_tested, property_said, property_tested, same_chars, type_said, value_in, value_of_says}
 

@@ -1,37 +1,13 @@
 -- What look-ups find in memory is what the data say, and data that are the same are the same to each look-up.
-use Rattle.std.proofs.Common.{Bor, ◌≡◌, ℕ, Bool, true, false, List, [], ◌∷◌, map, Option, Some, None, is_none, is_some, option_and_then, option_map, slice_get, string_bytes, refl, ap, ◌∙◌, sym, cond}
-use Rattle.std.proofs.lemmas.Option.{slice_get-map}
-use Rattle.std.proofs.lemmas.Slice.Eq.{bytes_eq-Decides}
-use Rattle.std.proofs.lemmas.Str.{IsUtf8-string_bytes, encodes-chars}
-use lib.Utf8.{encodes}
-use Rattle.std.specs.Bool.{one_answer}
-use Rattle.std.specs.List.{cons_option, filter, filter_map, find, last_or}
+use Rattle.kdl.proofs.Common.{Bor, ◌≡◌, ℕ, Bool, true, false, List, [], ◌∷◌, map, Option, Some, None, is_none, is_some, option_and_then, option_map, slice_get, string_bytes, refl, ap, ◌∙◌, sym, cond, slice_get-map, bytes_eq-Decides, IsUtf8-string_bytes, encodes-chars, encodes, one_answer, cons_option, filter, filter_map, find, last_or, codes, unwrap_or, IsUtf8, chars, Text, Value, text_of, value_tree, KdlValue, Identifier, identifier_tree, entry_tree, entry_data, KdlEntry, KdlIdentifier, node_data, nodes_data, document_data, children_data, children_of, has_name, is_argument, is_name, last_place, nth_place, same_text, sought, there, NodeKey, Key, Index, same_bytes, argument_named, argument_value, dash_arguments, first_argument, is_node_named, node_named, nodes_of, child_nodes, nodes_in, entries_of, found_entry, property_place, property_value, value_of, said_argument, said_children, said_node, said_property, said_type, document_says, document_tree, node_says, nodes_tree, KdlNode, KdlDocument, out-KdlNode}
 use Rattle.std.specs.Option.{option_map_or}
-use Rattle.std.specs.Prelude.{codes, unwrap_or}
-use Rattle.std.specs.Str.{IsUtf8, chars}
-use Rattle.kdl_text.specs.Chars.{Text}
-use Rattle.kdl_value.specs.Data.{Value}
-use Rattle.kdl_value.specs.Tree.{text_of, value_tree}
 use Rattle.kdl_entry.specs.Data as data'
-use Rattle.kdl_value.specs.declared.value.KdlValue.{KdlValue}
-use Rattle.kdl_entry.specs.Tree.{Identifier, identifier_tree, entry_tree, entry_data}
-use Rattle.kdl_entry.specs.declared.entry.KdlEntry.{KdlEntry}
-use Rattle.kdl_entry.specs.declared.identifier.KdlIdentifier.{KdlIdentifier}
 use Rattle.kdl_grammar.specs.Data as nodes'
-use Rattle.kdl_grammar.specs.Tree.{node_data, nodes_data, document_data, children_data, children_of}
-use Rattle.kdl_parts.specs.EntryLists.{has_name, is_argument, is_name, last_place, nth_place, same_text, sought, there, arguments}
-use Rattle.kdl_parts.specs.declared.key.NodeKey.{NodeKey}
-use Rattle.kdl_parts.specs.declared.key.NodeKey.TheVariants.{Key, Index}
-use Rattle.kdl_parts.proofs.EntryLookups.{same_bytes}
-use Rattle.kdl.specs.DocumentLookups.{argument_named, argument_value, arguments_of, dash_arguments, dash_arguments_of, first_argument, is_node_named, node_named, nodes_of}
+use Rattle.kdl_parts.specs.EntryLists.{arguments}
+use Rattle.kdl.specs.DocumentLookups.{arguments_of, dash_arguments_of}
 use Rattle.kdl.specs.Finds.{FindsSame, GivesArgument, GivesProperty, NodeFindsSame}
-use Rattle.kdl.specs.Iterators.{child_nodes, nodes_in}
-use Rattle.kdl.specs.Lookups.{entries_of, found_entry, found_value, property_place, property_value, value_of}
-use Rattle.kdl.specs.Said.{has_no_key, is_called, last_property, nodes_inside, nth_argument, said_child_nodes, said_arg, said_args, said_argument, said_arguments, said_children, said_dash_args, said_dashes, said_entries, said_entry, said_name, said_node, said_nodes, said_property, said_type, said_value}
-use Rattle.kdl.specs.Tree.{document_says, document_tree, node_says, nodes_tree}
-use Rattle.kdl.specs.declared.node.KdlNode.{KdlNode}
-use Rattle.kdl.specs.declared.document.KdlDocument.{KdlDocument}
-use Rattle.kdl.specs.declared.document.KdlDocument.TheViews.{out-KdlNode}
+use Rattle.kdl.specs.Lookups.{found_value}
+use Rattle.kdl.specs.Said.{has_no_key, is_called, last_property, nodes_inside, nth_argument, said_child_nodes, said_arg, said_args, said_arguments, said_dash_args, said_dashes, said_entries, said_entry, said_name, said_nodes, said_value}
 use Rattle.kdl.proofs.Finding.ListLookups.{LastIs, find_first, last_found, last_is, nth_found}
 use Rattle.kdl.proofs.Trees.{document_tree_out, node_tree_out}
 
@@ -57,7 +33,7 @@ given_mapped : {A B C : Type 0} (f : A → B) (g : A → Option C) (h : B → Op
 given_mapped f g h e [] = refl
 given_mapped f g h e (x ∷ xs) = ap (λ o. cons_option o (filter_map g xs)) (e x) ∙ ap (cons_option (h (f x))) (given_mapped f g h e xs)
 
-map_twice : {A B C : Type 0} (f : A → B) (g : B → C) (xs : List A) → map (λ x. g (f x)) xs ≡ map g (map f xs)
+pub map_twice : {A B C : Type 0} (f : A → B) (g : B → C) (xs : List A) → map (λ x. g (f x)) xs ≡ map g (map f xs)
 map_twice f g [] = refl
 map_twice f g (x ∷ xs) = ap (λ l. g (f x) ∷ l) (map_twice f g xs)
 
@@ -102,7 +78,7 @@ has_tested_name s q t e = go e.name
     go None = refl
     go (Some i) = t.same (string_bytes i.value) (IsUtf8-string_bytes i.value)
 
-has_said_none : (e : KdlEntry) → is_argument e ≡ has_no_key (entry_says e)
+pub has_said_none : (e : KdlEntry) → is_argument e ≡ has_no_key (entry_says e)
 has_said_none e = go e.name
   where
     go : (o : Option KdlIdentifier) → is_none o ≡ is_none (option_map (λ (i : Identifier). i.value) (option_map identifier_tree o))

@@ -1,24 +1,9 @@
 -- Blocks that are laid out, step by step.
-use Rattle.std.proofs.Common.{◌≡◌, ℕ, zero, suc, ◌+◌, ◌<◌, ◌≤◌, List, [], ◌∷◌, ◌++◌, length, map, drop, set, get_or, Option, None, Some, option_map, refl, sym, ap, ◌∙◌, subst, arith, add-one, Vec, Global, Result, Ok, Err, IfOk}
+use Rattle.kdl.proofs.Common.{◌≡◌, ℕ, zero, suc, ◌+◌, ◌<◌, ◌≤◌, List, [], ◌∷◌, ◌++◌, length, map, drop, set, get_or, Option, None, Some, option_map, refl, sym, ap, ◌∙◌, subst, arith, add-one, Vec, Global, Result, Ok, Err, IfOk, append-nil, drop_more, drop_all, drop-set-lt, text_of, IndentsBySpaces, indentation, settings, Before, Layout, bare_node, bare_nodes, DocumentFormat, NodeFormat, Node, node, no_children, children, children_of, document, listed_nodes, Around, document_format_tree, with_nodes, count_left, child_nodes, nodes_in, filled_block, filled, with_at, whole, NodeIsSpaced, PassesAt, NodesAreSpaced, PartlyOpen, IsAtLevel, IsUnderWay, GoesOn, with_braces, with_formats, braces_of, lined, enclosed, StaysAs, head_tree, node_tree, document_tree, KdlNode, KdlDocument, out-KdlDocument, out-KdlNode, out-roll-KdlDocument, LayoutFrame}
 use Rattle.std.specs.Prelude.{MatchOption}
-use Rattle.std.proofs.lemmas.List.{append-nil, drop_more, drop_all, drop-set-lt, get_or-set_same, set-set}
-use Rattle.kdl_value.specs.Tree.{text_of}
-use Rattle.kdl_layout.specs.Config.{IndentsBySpaces, indentation, settings}
-use Rattle.kdl_layout.specs.declared.blank.Before.{Before}
-use Rattle.kdl_layout.specs.declared.config.Layout.{Layout}
-use Rattle.kdl_layout.specs.Formatted.{bare_node, bare_children, bare_nodes}
-use Rattle.kdl_grammar.specs.Tree.{DocumentFormat, NodeFormat, Node, node, no_children, children, children_of, document, listed_nodes}
-use Rattle.kdl.specs.declared.layout.Around.{Around}
-use Rattle.kdl_parts.specs.Formats.{document_format_tree}
-use Rattle.kdl.specs.Change.{with_nodes}
-use Rattle.kdl.specs.Internal.Count.{count_left}
-use Rattle.kdl.specs.Iterators.{child_nodes, nodes_in}
-use Rattle.kdl.specs.Internal.Spacing.{filled_block, filled, with_at, outermost, whole, NodeIsSpaced, PassesAt, NodesAreSpaced, Partly, PartlyOpen, IsSpacedBut, IsAtLevel, IsUnderWay, GoesOn, with_braces, with_formats, braces_of, line_of, lined, enclosed, StaysAs}
-use Rattle.kdl.specs.Tree.{head_tree, node_tree, document_tree}
-use Rattle.kdl.specs.declared.node.KdlNode.{KdlNode}
-use Rattle.kdl.specs.declared.document.KdlDocument.{KdlDocument}
-use Rattle.kdl.specs.declared.document.KdlDocument.TheViews.{out-KdlDocument, out-KdlNode, out-roll-KdlDocument}
-use Rattle.kdl.specs.declared.layout.LayoutFrame.{LayoutFrame}
+use Rattle.std.proofs.lemmas.List.{get_or-set_same, set-set}
+use Rattle.kdl_layout.specs.Formatted.{bare_children}
+use Rattle.kdl.specs.Internal.Spacing.{outermost, Partly, IsSpacedBut, line_of}
 use Rattle.kdl.proofs.NodeCounts.{line_counted, block_counted, end_counted}
 use Rattle.kdl.proofs.Trees.{node_tree_out, document_tree_out}
 

@@ -1,18 +1,10 @@
 -- What the calls that lay out promise, from what the layout makes.
-use Rattle.std.proofs.Common.{◌≡◌, ℕ, Bool, true, false, refl, sym, ap, ◌∙◌, subst, Result, OnOk}
-use Rattle.std.proofs.lemmas.Result.{on_ok_weaker}
-use Rattle.kdl_text.specs.Chars.{is_space}
+use Rattle.kdl.proofs.Common.{◌≡◌, ℕ, Bool, true, false, refl, sym, ap, ◌∙◌, subst, Result, OnOk, on_ok_weaker, is_space, print_document, print_node, Document, document_data, Node, node_data, at_start, IndentsBySpaces, Settings, defaults, settings, DocumentKeepsNone, NodeKeepsNone, IsLaidDocument, IsSpelledNode, Layout, NodeIsSpaced, StaysAs, RereadsDocument, RereadsNode, DocumentReadsBack, document_says, document_tree, node_says, node_tree, KdlDocument, KdlNode}
 use Rattle.kdl_grammar.specs.Laid.{LaidDocument}
-use Rattle.kdl_grammar.specs.Print.{print_document, print_node}
-use Rattle.kdl_grammar.specs.Tree.{Document, document_data, Node, node_data}
-use Rattle.kdl_layout.specs.Blank.{at_start}
-use Rattle.kdl_layout.specs.Config.{IndentsBySpaces, Settings, defaults, settings}
-use Rattle.kdl_layout.specs.Formatted.{DocumentKeepsNone, NodeKeepsNone}
-use Rattle.kdl_layout.specs.OneLine.{IsLaidDocument, IsLaidNode}
-use Rattle.kdl_layout.specs.Respelled.{IsSpelledDocument, IsSpelledNode}
+use Rattle.kdl_layout.specs.OneLine.{IsLaidNode}
+use Rattle.kdl_layout.specs.Respelled.{IsSpelledDocument}
 use Rattle.kdl_layout.specs.Spaced.{IsSpacedDocument, IsSpacedNode}
 use Rattle.kdl_layout.specs.WithComments.{IsFormattedDocument, IsFormattedNode}
-use Rattle.kdl_layout.specs.declared.config.Layout.{Layout}
 use Rattle.kdl_layout.proofs.Spacing.Stays as spaced
 use Rattle.kdl_layout.proofs.Respelling.Leaves as left
 use Rattle.kdl_layout.proofs.Respelling.Off as off
@@ -24,13 +16,9 @@ use Rattle.kdl_layout.proofs.Keeping.CommentsStay.{comments_stay, node_comments_
 use Rattle.kdl_layout.proofs.Formatting.FormattedUnique as layout
 use Rattle.kdl_layout.proofs.Formatting.PrintsCanonical.{bare_document_data, bare_node_data, document_canonical, node_canonical}
 use Rattle.kdl_layout.proofs.Formatting.CanonicalReadsBack.{canonical_reads, canonical_node_reads}
-use Rattle.kdl.specs.Internal.Spacing.{DocumentIsSpaced, NodeIsSpaced, StaysAs}
+use Rattle.kdl.specs.Internal.Spacing.{DocumentIsSpaced}
 use Rattle.kdl.specs.Layout.{DocumentKeepsReading, DocumentLaidOut, NodeLaidOut, document_bare, node_bare}
-use Rattle.kdl.specs.LaysOut.{FormatsDocument, FormatsNode, KeepsDocument, KeepsNode, RereadsDocument, RereadsNode}
-use Rattle.kdl.specs.ReadsBack.{DocumentReadsBack}
-use Rattle.kdl.specs.Tree.{document_says, document_tree, node_says, node_tree}
-use Rattle.kdl.specs.declared.document.KdlDocument.{KdlDocument}
-use Rattle.kdl.specs.declared.node.KdlNode.{KdlNode}
+use Rattle.kdl.specs.LaysOut.{FormatsDocument, FormatsNode, KeepsDocument, KeepsNode}
 use Rattle.kdl.proofs.Finding.SaidLookups.{finds_same, node_finds_same}
 
 -- what layout makes where no block stays on one line

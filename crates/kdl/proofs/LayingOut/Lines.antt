@@ -1,25 +1,10 @@
 -- Nodes on one line: whether they are, and their formats.
-use Rattle.std.proofs.Common.{◌≡◌, ℕ, zero, suc, ◌+◌, ◌-◌, ◌<◌, ◌≤◌, ◌==◌, Bool, true, false, List, [], ◌∷◌, length, map, drop, set, get_or, Option, None, Some, option_map, refl, sym, ap, ◌∙◌, subst, arith, add-one, length-drop}
-use Rattle.std.proofs.lemmas.Bool.{eqb-true}
-use Rattle.std.proofs.lemmas.List.{drop_more}
+use Rattle.kdl.proofs.Common.{◌≡◌, ℕ, zero, suc, ◌+◌, ◌-◌, ◌<◌, ◌≤◌, ◌==◌, Bool, true, false, List, [], ◌∷◌, length, map, drop, set, get_or, Option, None, Some, option_map, refl, sym, ap, ◌∙◌, subst, arith, add-one, eqb-true, drop_more, list_all, ◌&&◌, is_some, entry_tree, identifier_tree, DocumentFormat, NodeFormat, Head, Node, node, children, children_of, document, listed_nodes, node_format_tree, node_texts, KdlNodeFormat, or_empty, is_on_one_line, nodes_on_line, Layout, with_format, IsAround, IsAroundIf, braces_of, filled_block, lined, with_formats, with_texts, nodes_in, document_tree, head_tree, node_tree, nodes_tree, KdlDocument, out-KdlDocument, out-KdlNode, Around, KdlNode}
+use Rattle.std.proofs.Common.{length-drop}
 use Rattle.std.proofs.lemmas.List.Folds.{list_all-map}
-use Rattle.std.specs.List.{list_all}
-use Rattle.std.specs.Prelude.{◌&&◌, is_some}
-use Rattle.kdl_entry.specs.Tree.{entry_tree, identifier_tree}
-use Rattle.kdl_grammar.specs.Tree.{DocumentFormat, NodeFormat, Head, Node, node, children, children_of, document, listed_nodes}
-use Rattle.kdl_parts.specs.Formats.{node_format_tree, node_texts}
-use Rattle.kdl_parts.specs.declared.format.KdlNodeFormat.{KdlNodeFormat}
-use Rattle.kdl_layout.specs.Formatted.{or_empty}
-use Rattle.kdl_layout.specs.OneLine.{entry_on_line, head_on_line, is_end, is_on_one_line, line_on_line, maybe_on_line, name_on_line, node_on_line, nodes_on_line}
-use Rattle.kdl_layout.specs.declared.config.Layout.{Layout}
-use Rattle.kdl.specs.Change.{with_document_format, with_format}
-use Rattle.kdl.specs.Internal.Spacing.{IsAround, IsAroundIf, braces_of, filled_block, lined, put_format, with_formats, with_texts}
-use Rattle.kdl.specs.Iterators.{nodes_in}
-use Rattle.kdl.specs.Tree.{document_tree, head_tree, node_tree, nodes_tree}
-use Rattle.kdl.specs.declared.document.KdlDocument.{KdlDocument}
-use Rattle.kdl.specs.declared.document.KdlDocument.TheViews.{out-KdlDocument, out-KdlNode}
-use Rattle.kdl.specs.declared.layout.Around.{Around}
-use Rattle.kdl.specs.declared.node.KdlNode.{KdlNode}
+use Rattle.kdl_layout.specs.OneLine.{entry_on_line, head_on_line, is_end, line_on_line, maybe_on_line, name_on_line, node_on_line}
+use Rattle.kdl.specs.Change.{with_document_format}
+use Rattle.kdl.specs.Internal.Spacing.{put_format}
 use Rattle.kdl.proofs.Trees.{document_tree_roll, node_tree_out, node_tree_roll}
 
 -- the formats that are left, set from a place on

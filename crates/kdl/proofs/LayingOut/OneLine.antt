@@ -1,37 +1,14 @@
 -- A block that is laid out, with its texts: on one line, or on more.
-use Rattle.std.proofs.Common.{◌≡◌, ℕ, suc, ◌+◌, ◌<◌, ◌^◌, ◌==◌, Bool, true, false, List, [], ◌∷◌, length, map, Option, None, Some, option_map, refl, sym, ap, ◌∙◌, subst}
-use Rattle.std.proofs.lemmas.Bool.{and_parts, eqb-true}
-use Rattle.std.specs.List.{list_all}
-use Rattle.std.specs.Prelude.{◌&&◌, is_some, not}
-use Rattle.kdl_text.specs.Chars.{is_space}
-use Rattle.kdl_text.specs.declared.span.SourceSpan.{SourceSpan}
-use Rattle.kdl_entry.specs.Tree.{entry_tree, identifier_tree}
-use Rattle.kdl_grammar.specs.ReadsBack.{Anything, BlockEnd, ContentReads, NodesRead, BlockReads, block}
-use Rattle.kdl_grammar.specs.Print.{leading_text, trailing_text}
-use Rattle.kdl_grammar.specs.Tree.{DocumentFormat, NodeFormat, Head, Node, node, children, children_of, Document, document, Nodes, listed_nodes, node_data}
-use Rattle.kdl_grammar.proofs.ReadingBack.Composing.{block_reads, with_block}
-use Rattle.kdl_parts.specs.Formats.{document_format_tree, node_format_tree}
-use Rattle.kdl_layout.specs.Config.{IndentsBySpaces, Settings, settings}
-use Rattle.kdl_layout.specs.Formatted.{or_empty, or_empty_document}
-use Rattle.kdl_layout.specs.Internal.Names.{Keeps, KeepsName, with_spelling, with_spelling_if}
-use Rattle.kdl_layout.specs.KeptForm.{NodesKeepReading}
-use Rattle.kdl_layout.specs.OneLine.{braces_in_line, braces_on_line, formats_in_line, in_one_line, is_on_one_line, node_in_line, nodes_in_line, nodes_on_line, one_lined_children, one_lined_document, one_lined_node, one_lined_nodes}
-use Rattle.kdl_layout.specs.Respelled.{AreSpelledEntries, IsTypedFormat}
-use Rattle.kdl_layout.specs.Spaced.{IsSpacedBraced, IsSpacedChildren, IsSpacedLine}
-use Rattle.kdl_layout.specs.WellFormed.{IsWellFormedNode}
-use Rattle.kdl_layout.specs.declared.blank.Before.{Before}
-use Rattle.kdl_layout.specs.declared.config.Layout.{Layout}
-use Rattle.kdl_layout.specs.declared.names.SpellingRule.{SpellingRule}
+use Rattle.kdl.proofs.Common.{◌≡◌, ℕ, suc, ◌+◌, ◌<◌, ◌==◌, Bool, true, false, List, [], ◌∷◌, length, map, Option, None, Some, option_map, refl, sym, ap, ◌∙◌, subst, eqb-true, list_all, ◌&&◌, is_some, not, is_space, SourceSpan, entry_tree, identifier_tree, Anything, BlockEnd, ContentReads, NodesRead, BlockReads, block, leading_text, trailing_text, DocumentFormat, NodeFormat, Head, Node, node, children, children_of, Document, document, Nodes, listed_nodes, node_data, block_reads, with_block, document_format_tree, node_format_tree, IndentsBySpaces, Settings, settings, or_empty, or_empty_document, Keeps, KeepsName, with_spelling, with_spelling_if, NodesKeepReading, formats_in_line, is_on_one_line, nodes_on_line, one_lined_node, one_lined_nodes, AreSpelledEntries, IsTypedFormat, IsSpacedChildren, IsSpacedLine, IsWellFormedNode, Before, Layout, SpellingRule, BlockIsSpaced, IsAround, IsAroundIf, NodeIsSpaced, NodesAreSpaced, StaysAs, braces_of, enclosed, filled, filled_block, lined, with_braces, with_formats, with_texts, document_tree, head_tree, node_tree, nodes_tree, KdlDocument, out-KdlDocument, out-KdlNode, Around, KdlNode}
+use Rattle.std.proofs.Common.{◌^◌}
+use Rattle.std.proofs.lemmas.Bool.{and_parts}
+use Rattle.kdl_layout.specs.OneLine.{braces_in_line, braces_on_line, in_one_line, node_in_line, nodes_in_line, one_lined_children, one_lined_document}
+use Rattle.kdl_layout.specs.Spaced.{IsSpacedBraced}
 use Rattle.kdl_layout.proofs.Formatting.PartsRead as parts
 use Rattle.kdl_layout.proofs.Formatting.PartsRead.{AreLined, braced_reads}
 use Rattle.kdl_layout.proofs.OneLine.Reads.{content_ends, one_line_reads}
 use Rattle.kdl_layout.proofs.OneLine.Same.{nodes_flat}
-use Rattle.kdl.specs.Internal.Spacing.{BlockIsSpaced, BlockSpacing, IsAround, IsAroundIf, NodeIsSpaced, NodesAreSpaced, StaysAs, braces_of, enclosed, filled, filled_block, lined, with_braces, with_formats, with_texts}
-use Rattle.kdl.specs.Tree.{document_tree, head_tree, node_tree, nodes_tree}
-use Rattle.kdl.specs.declared.document.KdlDocument.{KdlDocument}
-use Rattle.kdl.specs.declared.document.KdlDocument.TheViews.{out-KdlDocument, out-KdlNode}
-use Rattle.kdl.specs.declared.layout.Around.{Around}
-use Rattle.kdl.specs.declared.node.KdlNode.{KdlNode}
+use Rattle.kdl.specs.Internal.Spacing.{BlockSpacing}
 use Rattle.kdl.proofs.LayingOut.Lines.{no_formats}
 use Rattle.kdl.proofs.LayingOut.PartsSpaced.{NodesLaid, laid_node, nodes_laid}
 use Rattle.kdl.proofs.Trees.{document_tree_out, node_tree_out}

@@ -1,30 +1,9 @@
 -- Nodes and documents whose parts were laid out.
-use Rattle.std.proofs.Common.{◌≡◌, ℕ, suc, Bool, List, [], ◌∷◌, length, map, Option, None, Some, option_map, refl, sym, ap, ◌∙◌, subst, Vec, Global, arith}
-use Rattle.std.specs.Prelude.{is_some, not, ◌&&◌, slice_get, ◌-◌}
-use Rattle.kdl_value.proofs.WellFormed.{text_scalars}
-use Rattle.kdl_entry.specs.Tree.{Identifier, identifier_tree, entry_tree, entry_data, unspelled}
-use Rattle.kdl_text.specs.declared.span.SourceSpan.{SourceSpan}
-use Rattle.kdl_grammar.specs.Tree.{NodeFormat, document_data, Head, Node, node, Nodes, listed_nodes, Document, document, children_of, first, node_data, nodes_data, children_data, DocumentFormat}
-use Rattle.kdl_layout.specs.Config.{Settings, settings}
-use Rattle.kdl_layout.specs.Internal.Names.{Keeps, KeepsName, with_spelling, with_spelling_if}
-use Rattle.kdl_layout.specs.OneLine.{IsLaidDocument, one_lined_node, one_lined_nodes}
-use Rattle.kdl_layout.specs.Respelled.{IsTypedFormat, IsRespelled, IsRespelledIf, AreRespelledChildren, AreRespelledNodes, AreSpelledEntries, IsSpelledNode}
-use Rattle.kdl_layout.specs.Spaced.{IsSpacedLine, IsSpacedContent, IsSpacedChildren, AreSpacedNodes, PassesFormat, PassesNodes}
-use Rattle.kdl_layout.specs.declared.blank.Before.{Before}
-use Rattle.kdl_layout.specs.declared.config.Layout.{Layout}
-use Rattle.kdl_parts.specs.declared.format.KdlNodeFormat.{KdlNodeFormat}
-use Rattle.kdl_layout.specs.Formatted.{or_empty, or_empty_document, bare_node, bare_nodes, bare_document}
-use Rattle.kdl_layout.specs.WellFormed.{IsWellFormedNode, AreWellFormed, AreWellFormedChildren, AreWellFormedEntries}
-use Rattle.kdl_layout.specs.WithComments.{has_block}
-use Rattle.kdl_layout.specs.declared.names.SpellingRule.{SpellingRule}
-use Rattle.kdl_layout.proofs.Entries.{scalars}
-use Rattle.kdl_parts.specs.Formats.{node_format_tree, node_texts, document_format_tree}
-use Rattle.kdl.specs.Iterators.{child_nodes, nodes_in}
-use Rattle.kdl.specs.Internal.Spacing.{NodesAreSpaced, PassesAt, filled_block, filled, with_braces, with_texts}
-use Rattle.kdl.specs.Tree.{node_tree, document_tree, nodes_tree}
-use Rattle.kdl.specs.declared.node.KdlNode.{KdlNode}
-use Rattle.kdl.specs.declared.document.KdlDocument.{KdlDocument}
-use Rattle.kdl.specs.declared.document.KdlDocument.TheViews.{out-KdlNode, out-KdlDocument}
+use Rattle.kdl.proofs.Common.{◌≡◌, ℕ, suc, Bool, List, [], ◌∷◌, length, map, Option, None, Some, option_map, refl, sym, ap, ◌∙◌, subst, Vec, Global, arith, is_some, not, ◌&&◌, slice_get, ◌-◌, text_scalars, Identifier, identifier_tree, entry_tree, entry_data, unspelled, SourceSpan, NodeFormat, document_data, Head, Node, node, Nodes, listed_nodes, Document, document, children_of, first, node_data, nodes_data, children_data, DocumentFormat, Settings, settings, Keeps, KeepsName, with_spelling, with_spelling_if, IsLaidDocument, one_lined_node, one_lined_nodes, IsTypedFormat, IsRespelledIf, AreSpelledEntries, IsSpelledNode, IsSpacedLine, IsSpacedContent, IsSpacedChildren, Before, Layout, KdlNodeFormat, or_empty, or_empty_document, bare_node, bare_nodes, IsWellFormedNode, has_block, SpellingRule, scalars, node_format_tree, node_texts, document_format_tree, child_nodes, nodes_in, NodesAreSpaced, PassesAt, filled_block, filled, with_braces, with_texts, node_tree, document_tree, nodes_tree, KdlNode, KdlDocument, out-KdlNode, out-KdlDocument}
+use Rattle.kdl_layout.specs.Respelled.{IsRespelled, AreRespelledChildren, AreRespelledNodes}
+use Rattle.kdl_layout.specs.Spaced.{AreSpacedNodes, PassesFormat, PassesNodes}
+use Rattle.kdl_layout.specs.Formatted.{bare_document}
+use Rattle.kdl_layout.specs.WellFormed.{AreWellFormed, AreWellFormedChildren, AreWellFormedEntries}
 use Rattle.kdl.proofs.LayingOut.BlockSteps.{bare_alike}
 use Rattle.kdl.proofs.Trees.{node_tree_out, document_tree_out}
 

@@ -1,39 +1,15 @@
 -- Nodes that still read back, after each step of layout.
-use Rattle.std.proofs.Common.{◌≡◌, ℕ, zero, suc, ◌+◌, ◌<◌, ◌≤◌, List, [], ◌∷◌, ◌++◌, length, map, set, get_or, Option, None, Some, option_map, refl, sym, ap, ◌∙◌, subst, arith, Bool, true, Vec, Global}
-use Rattle.std.specs.List.{All, list_all}
-use Rattle.std.specs.Prelude.{◌&&◌, is_some, not}
-use Rattle.kdl_text.specs.Chars.{Text, is_space}
-use Rattle.kdl_text.specs.declared.span.SourceSpan.{SourceSpan}
-use Rattle.kdl_entry.specs.Tree.{Entry, Identifier, entry_tree, identifier_tree, unspelled}
-use Rattle.kdl_layout.specs.Config.{Settings, indentation, settings}
-use Rattle.kdl_layout.specs.Formatted.{or_empty, or_empty_document}
-use Rattle.kdl_layout.specs.KeptForm.{EntriesKeepReading, DocumentKeepsReading, NodesKeepReading}
-use Rattle.kdl_layout.specs.Internal.Names.{Keeps, KeepsName, with_spelling, with_spelling_if}
-use Rattle.kdl_layout.specs.Spaced.{IsSpacedContent, IsSpacedLine}
-use Rattle.kdl_layout.specs.WithComments.{has_block}
-use Rattle.kdl_layout.specs.declared.blank.Before.{Before}
-use Rattle.kdl_layout.specs.declared.config.Layout.{Layout}
-use Rattle.kdl_layout.proofs.Entries.{scalars}
+use Rattle.kdl.proofs.Common.{◌≡◌, ℕ, zero, suc, ◌+◌, ◌<◌, ◌≤◌, List, [], ◌∷◌, ◌++◌, length, map, set, get_or, Option, None, Some, option_map, refl, sym, ap, ◌∙◌, subst, arith, Bool, true, Vec, Global, All, list_all, ◌&&◌, is_some, not, Text, is_space, SourceSpan, Entry, Identifier, entry_tree, identifier_tree, unspelled, Settings, indentation, settings, or_empty, or_empty_document, NodesKeepReading, Keeps, KeepsName, with_spelling, with_spelling_if, IsSpacedContent, IsSpacedLine, has_block, Before, Layout, scalars, IsRespelledIf, IsTypedFormat, SpellingRule, Rests, Anything, EntryReads, NodesRead, last_node, next_node, ContentReads, BlockReads, block, DocumentReads, DocumentFormat, NodeFormat, Head, Node, node, children_of, document, listed_nodes, block_reads, with_block, document_format_tree, node_format_tree, text_of, text_scalars, filled_block, filled, with_at, whole, enclosed, PartlyOpen, IsAtLevel, IsUnderWay, NodeStays, StaysAs, StayAs, StepStays, child_nodes, nodes_in, document_tree, head_tree, node_tree, nodes_tree, KdlDocument, out-KdlDocument, out-KdlNode, LayoutFrame, KdlNode}
+use Rattle.kdl_layout.specs.KeptForm.{EntriesKeepReading, DocumentKeepsReading}
 use Rattle.kdl_layout.proofs.Formatting.PartsRead.{document_reads, own_reads}
 use Rattle.kdl_layout.proofs.Respelling.Written.{NameReads, NameReadsIf, respelled_reads, respelled_reads_if, typed_line}
-use Rattle.kdl_layout.specs.Respelled.{IsRespelledIf, IsTypedFormat}
-use Rattle.kdl_layout.specs.declared.names.SpellingRule.{SpellingRule}
-use Rattle.kdl_grammar.specs.ReadsBack.{Rests, Anything, EntryReads, NodesRead, last_node, next_node, ContentReads, with_nodes as content_nodes, BlockReads, block, DocumentReads}
-use Rattle.kdl_grammar.specs.Tree.{DocumentFormat, NodeFormat, Head, Node, node, children_of, document, listed_nodes}
-use Rattle.kdl_grammar.proofs.ReadingBack.Composing.{block_reads, entries_read, with_block}
-use Rattle.kdl_parts.specs.Formats.{document_format_tree, node_format_tree}
-use Rattle.kdl_value.specs.Tree.{text_of}
-use Rattle.kdl_value.proofs.WellFormed.{text_scalars}
-use Rattle.kdl.specs.Internal.Spacing.{filled_block, filled, with_at, outermost, whole, enclosed, PartlyOpen, IsAtLevel, IsUnderWay, NodeStays, NodesStay, StaysAs, StayAs, StepStays}
-use Rattle.kdl.specs.Iterators.{child_nodes, nodes_in}
-use Rattle.kdl.specs.Tree.{document_tree, head_tree, node_tree, nodes_tree}
-use Rattle.kdl.specs.declared.document.KdlDocument.{KdlDocument}
-use Rattle.kdl.specs.declared.document.KdlDocument.TheViews.{out-KdlDocument, out-KdlNode}
-use Rattle.kdl.specs.declared.layout.LayoutFrame.{LayoutFrame}
-use Rattle.kdl.specs.declared.node.KdlNode.{KdlNode}
+use Rattle.kdl_grammar.specs.ReadsBack.{with_nodes as content_nodes}
+use Rattle.kdl_grammar.proofs.ReadingBack.Composing.{entries_read}
+use Rattle.kdl.specs.Internal.Spacing.{outermost, NodesStay}
 use Rattle.kdl.proofs.LayingOut.BlockSteps.{Opened, node_is, outermost_more, partly_all}
 use Rattle.kdl.proofs.LayingOut.PartsSpaced.{block_there}
-use Rattle.kdl.proofs.ReadingBack.{content_with, whole_as}
+use Rattle.kdl.proofs.ReadingBack.{whole_as}
+use Rattle.kdl_layout.proofs.Formatting.PartsRead.{content_with}
 use Rattle.kdl.proofs.Trees.{document_tree_out, node_tree_out}
 
 module _ (s : Settings) where

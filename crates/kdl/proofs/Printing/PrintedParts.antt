@@ -1,13 +1,5 @@
 -- What nodes and documents print, part by part.
-use Rattle.std.proofs.Common.{◌≡◌, ℕ, ◌++◌, map, ap, ◌∙◌, sym, refl, append_assoc, option_map}
-use Rattle.kdl_entry.specs.Tree.{entry_tree}
-use Rattle.kdl_grammar.specs.Print.{print_head, print_tail, leading_text, trailing_text, print_document, print_pieces, print_node, print_nodes}
-use Rattle.kdl_grammar.specs.Tree.{Nodes, none, first, join, children_of}
-use Rattle.kdl.specs.Tree.{head_tree, node_tree, nodes_tree, document_tree}
-use Rattle.kdl_parts.specs.Formats.{document_format_tree}
-use Rattle.kdl.specs.declared.node.KdlNode.{KdlNode}
-use Rattle.kdl.specs.declared.document.KdlDocument.{KdlDocument}
-use Rattle.kdl.specs.declared.document.KdlDocument.TheViews.{out-KdlDocument, out-KdlNode}
+use Rattle.kdl.proofs.Common.{◌≡◌, ℕ, ◌++◌, map, ap, ◌∙◌, sym, refl, append_assoc, option_map, entry_tree, print_head, print_tail, leading_text, trailing_text, print_document, print_pieces, print_node, print_nodes, Nodes, none, first, join, children_of, head_tree, node_tree, nodes_tree, document_tree, document_format_tree, KdlNode, KdlDocument, out-KdlDocument, out-KdlNode}
 use Rattle.kdl.proofs.Trees.{document_tree_out, node_tree_out}
 
 -- one text after another

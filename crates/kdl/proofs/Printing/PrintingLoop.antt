@@ -1,23 +1,8 @@
 -- What is left to print, turn by turn.
-use Rattle.std.proofs.Common.{◌≡◌, ℕ, ◌+◌, List, [], ◌∷◌, ◌++◌, map, ap, ◌∙◌, sym, refl, append_assoc, length, None, Some, option_map, arith}
-use Rattle.std.proofs.lemmas.List.{append-nil, length-append}
-use Rattle.std.proofs.lemmas.Str.{encodes-append}
-use Rattle.std.proofs.lemmas.Grind.{common_steps}
+use Rattle.kdl.proofs.Common.{◌≡◌, ℕ, ◌+◌, List, [], ◌∷◌, ◌++◌, map, ap, ◌∙◌, sym, refl, append_assoc, length, None, Some, option_map, arith, append-nil, length-append, encodes-append, common_steps, HasWritten, encode_utf8_all, Text, entry_tree, print_head, print_pieces, print_tail, print_node, print_nodes, after_brace, before_brace, leading_text, trailing_text, Children, children, children_of, document_format_tree, opening, print_left, head_tree, node_tree, nodes_tree, document_tree, KdlNode, KdlDocument, out-KdlDocument, out-KdlNode, NodeFrame}
 use Rattle.std.proofs.Output.{has_written_append}
-use Rattle.std.specs.Fmt.{HasWritten}
-use Rattle.std.specs.Str.{encode_utf8_all}
 use Rattle.std.specs.declared.fmt.Formatter.{Formatter}
-use Rattle.kdl_text.specs.Chars.{Text}
-use Rattle.kdl_entry.specs.Tree.{entry_tree}
-use Rattle.kdl_grammar.specs.Print.{print_head, print_pieces, print_tail, print_node, print_nodes, after_brace, before_brace, leading_text, trailing_text}
-use Rattle.kdl_grammar.specs.Tree.{Children, children, children_of}
-use Rattle.kdl_parts.specs.Formats.{document_format_tree}
-use Rattle.kdl.specs.Internal.Left.{line, opening, closing, node_end, node_before_block, print_above, print_left}
-use Rattle.kdl.specs.Tree.{head_tree, node_tree, nodes_tree, document_tree}
-use Rattle.kdl.specs.declared.node.KdlNode.{KdlNode}
-use Rattle.kdl.specs.declared.document.KdlDocument.{KdlDocument}
-use Rattle.kdl.specs.declared.document.KdlDocument.TheViews.{out-KdlDocument, out-KdlNode}
-use Rattle.kdl.specs.declared.print.NodeFrame.{NodeFrame}
+use Rattle.kdl.specs.Internal.Left.{line, closing, node_end, node_before_block, print_above}
 use Rattle.kdl.proofs.Printing.PrintedParts.{node_printed}
 use Rattle.kdl.proofs.Trees.{document_tree_out}
 

@@ -1,24 +1,11 @@
 -- Nodes that read back, with a child put into their block, or into a new one.
-use Rattle.std.proofs.Common.{◌≡◌, inl, inr, ℕ, [], ◌∷◌, ◌++◌, ap, ◌∙◌, sym, refl, subst, append-nil, Option, Some, None, option_map, Result, Ok, Err, OnErr, OnOk}
-use Rattle.kdl_text.specs.Chars.{Text, none as no_star}
+use Rattle.kdl.proofs.Common.{◌≡◌, inl, inr, ℕ, [], ◌∷◌, ◌++◌, ap, ◌∙◌, sym, refl, subst, Option, Some, None, option_map, Result, Ok, Err, OnErr, OnOk, Text, Terminator, no_gap, last_gap, BeforeChildren, after, Rests, MayFollow, terminator_text, EndReads, NodeReads, reads, a_block, BlockReads, NodeFormat, Head, node, no_children, children, children_of, Document, before_alone, node_texts, KdlNodeFormat, with_children, with_format, new_document, BlockBegins, PlaceSays, ReadsIn, block_format, newlines, NodeReadsBack, ReadsAs, document_tree, head_tree, node_tree, KdlDocument, out-KdlNode, out-roll-KdlNode, KdlNode, false}
+use Rattle.std.proofs.Common.{append-nil}
+use Rattle.kdl_text.specs.Chars.{none as no_star}
 use Rattle.kdl_grammar.specs.Data as data'
-use Rattle.kdl_grammar.specs.Grammar.{Terminator, no_gap, last_gap}
-use Rattle.kdl_grammar.specs.Places.{BeforeChildren, after}
-use Rattle.kdl_grammar.specs.ReadsBack.{Rests, MayFollow, terminator_text, NodesEnd, EndReads, NodeReads, reads, a_block, BlockReads}
-use Rattle.kdl_grammar.specs.Tree.{NodeFormat, Head, node, no_children, children, children_of, Document}
-use Rattle.kdl_layout.proofs.Lacking.Alone.{before_alone, before_brace}
-use Rattle.kdl_parts.specs.Formats.{node_texts}
-use Rattle.kdl_parts.specs.declared.format.KdlNodeFormat.{KdlNodeFormat}
-use Rattle.kdl.specs.Change.{with_children, with_format}
-use Rattle.kdl.specs.Cleared.{new_document}
-use Rattle.kdl.specs.Internal.Ends.{BlockBegins, BlockSays, PlaceSays, ReadsIn, block_format}
-use Rattle.kdl.specs.Nodes.{newlines}
-use Rattle.kdl.specs.ReadsBack.{NodeReadsBack, ReadsAs}
-use Rattle.kdl.specs.Tree.{document_tree, head_tree, node_tree}
-use Rattle.kdl.specs.declared.document.KdlDocument.{KdlDocument}
-use Rattle.kdl.specs.declared.document.KdlDocument.TheViews.{out-KdlNode, out-roll-KdlNode}
-use Rattle.kdl.specs.declared.ends.DocumentKind.{DocumentKind}
-use Rattle.kdl.specs.declared.node.KdlNode.{KdlNode}
+use Rattle.kdl_grammar.specs.ReadsBack.{NodesEnd}
+use Rattle.kdl_layout.proofs.Lacking.Alone.{before_brace}
+use Rattle.kdl.specs.Internal.Ends.{BlockSays}
 use Rattle.kdl.proofs.Putting.PutReads.{may_end}
 use Rattle.kdl.proofs.ReadingBack.{block_exchanged, new_block_reads}
 use Rattle.kdl.proofs.Trees.{NodeFields, node_tree_out, node_tree_roll}
@@ -65,7 +52,7 @@ block_tree m x e g o s t =
     ∙ ap (λ (z : Option NodeFormat). node (record h { format = z }) (children (document_tree e))) t
 
 -- a child in a new block
-pub new_child_reads : (n m m' x : KdlNode) (d e : KdlDocument) (o : Option Text) → (out-KdlNode m).children ≡ None → document_tree d ≡ new_document → (ReadsIn DocumentKind.Block d → NodeReadsBack n → ReadsIn DocumentKind.Block e)
+pub new_child_reads : (n m m' x : KdlNode) (d e : KdlDocument) (o : Option Text) → (out-KdlNode m).children ≡ None → document_tree d ≡ new_document → (ReadsIn false d → NodeReadsBack n → ReadsIn false e)
     → BlockSays (node_texts (out-KdlNode m).format) o → BlockBegins o m x → m' ≡ with_children x (Some e) → NodeReadsBack n → ReadsAs m m'
 new_child_reads n m m' x d e o k made put says (g, s, t) r c P y =
     let h = head_tree (out-KdlNode m) in
@@ -74,7 +61,7 @@ new_child_reads n m m' x d e o k made put says (g, s, t) r c P y =
     subst (NodeReads P) (sym (ap node_tree r ∙ block_tree m x e g o s t)) (block_put P h o (document_tree e) says (put (new_block_reads d made) c) own)
 
 -- a child in the block of the node, or none where the call is refused
-pub child_reads : {T E : Type 0} (r : Result T E) (n m : KdlNode) (d e : KdlDocument) → (out-KdlNode m).children ≡ Some d → OnOk r (ReadsIn DocumentKind.Block d → NodeReadsBack n → ReadsIn DocumentKind.Block e)
+pub child_reads : {T E : Type 0} (r : Result T E) (n m : KdlNode) (d e : KdlDocument) → (out-KdlNode m).children ≡ Some d → OnOk r (ReadsIn false d → NodeReadsBack n → ReadsIn false e)
     → OnErr r (document_tree e ≡ document_tree d) → NodeReadsBack n → ReadsAs m (with_children m (Some e))
 child_reads (Ok a) n m d e h put same c = block_exchanged m d e h (λ b. put b c)
 child_reads (Err a) n m d e h put same c = block_exchanged m d e h (subst BlockReads (sym same))

@@ -1,31 +1,10 @@
 -- Documents and blocks that read back, with a node added.
-use Rattle.std.proofs.Common.{◌≡◌, ℕ, suc, ◌<◌, Bool, true, false, List, [], ◌∷◌, ◌++◌, length, map, set, ap, ◌∙◌, sym, refl, subst, arith, Option, Some, None, option_map, if◌then◌else◌, ◌==◌, add-one}
-use Rattle.std.proofs.lemmas.Bool.Decides.{nat_tests}
-use Rattle.std.proofs.lemmas.List.{length-map, map-set}
-use Rattle.std.proofs.lemmas.Option.{slice_get-map}
-use Rattle.std.specs.List.{insert}
-use Rattle.kdl_text.specs.Chars.{Text}
-use Rattle.kdl_text.specs.Trivia.{LineSpace, Slashdash, slashdash}
-use Rattle.kdl_text.specs.declared.span.SourceSpan.{SourceSpan}
-use Rattle.kdl_syntax.specs.Tokens.{t_space, t_newline, t_bom}
-use Rattle.kdl_syntax.proofs.Lexing.TokenUnique.{token_det}
-use Rattle.kdl_layout.specs.Kept.{without_bom}
-use Rattle.kdl_grammar.specs.Grammar.{Gap, no_gap, line_space, dropped_node}
-use Rattle.kdl_grammar.specs.Print.{leading_text, trailing_text}
-use Rattle.kdl_grammar.specs.ReadsBack.{Rests, Anything, TextEnd, BlockEnd, MayFollow, AddsNothing, last_rests, NodeReads, NodesRead, no_node, last_node, next_node, ContentReads, one_text, two_texts, with_nodes, BlockReads, block, DocumentReads}
-use Rattle.kdl_grammar.specs.Tree.{DocumentFormat, Node, Nodes, document, listed_nodes}
+use Rattle.kdl.proofs.Common.{◌≡◌, ℕ, suc, ◌<◌, Bool, true, false, List, [], ◌∷◌, ◌++◌, length, map, set, ap, ◌∙◌, sym, subst, arith, Option, Some, None, option_map, add-one, length-map, map-set, slice_get-map, insert, Text, SourceSpan, without_bom, Gap, leading_text, trailing_text, Rests, Anything, TextEnd, BlockEnd, MayFollow, AddsNothing, last_rests, NodeReads, NodesRead, last_node, next_node, ContentReads, one_text, two_texts, BlockReads, block, DocumentReads, DocumentFormat, Node, Nodes, document, listed_nodes, KdlNodeFormat, nodes_of, EndsAs, GapSays, IsRestAt, LeadsExactly, PutAfter, PutFirst, ReadsIn, end_with, led_with, newlines, texts_around, trees, NodeReadsBack, document_tree, node_tree, KdlDocument, out-KdlDocument, Rest, KdlNode}
+use Rattle.kdl_layout.proofs.Keeping.GapFronts.{gap_without_bom}
+use Rattle.kdl_layout.proofs.Listing.PlaceTexts.{gap_items}
+use Rattle.kdl_grammar.specs.ReadsBack.{no_node, with_nodes}
 use Rattle.kdl_grammar.proofs.ReadingBack.Composing.{ends_before, weaker}
-use Rattle.kdl_parts.specs.declared.format.KdlNodeFormat.{KdlNodeFormat}
-use Rattle.kdl.specs.DocumentLookups.{nodes_of}
-use Rattle.kdl.specs.Internal.Ends.{EndsAs, GapSays, IsRestAt, LeadsExactly, PutAfter, PutFirst, ReadsIn, end_with, led_with, rests_after}
-use Rattle.kdl.specs.Nodes.{newlines, texts_around, trees}
-use Rattle.kdl.specs.ReadsBack.{NodeReadsBack}
-use Rattle.kdl.specs.Tree.{document_tree, node_tree}
-use Rattle.kdl.specs.declared.document.KdlDocument.{KdlDocument}
-use Rattle.kdl.specs.declared.document.KdlDocument.TheViews.{out-KdlDocument}
-use Rattle.kdl.specs.declared.ends.DocumentKind.{DocumentKind}
-use Rattle.kdl.specs.declared.ends.Rest.{Rest}
-use Rattle.kdl.specs.declared.node.KdlNode.{KdlNode}
+use Rattle.kdl.specs.Internal.Ends.{rests_after}
 use Rattle.kdl.proofs.Putting.PutReads.{content_put, content_put_first}
 use Rattle.kdl.proofs.Putting.Puts.{insert_trees, leads_printed, leads_trailing, texts_kept}
 use Rattle.kdl.proofs.ReadingBack.{whole_as}
@@ -45,29 +24,9 @@ content_weaker P Q l t ns w (one_text g) = one_text (λ r q. g r (w r q))
 content_weaker P Q l t ns w (two_texts a g) = two_texts a (λ r q. g r (w r q))
 content_weaker P Q l t ns w (with_nodes a x g) = with_nodes a (all_weaker P Q t w x) (λ r q. g r (w r q))
 
--- U+FEFF begins no gap
-bom_line : (s : Text) {r : Text} → LineSpace (0xFEFF ∷ s) r → ⊥
-bom_line s (LineSpace.space n) = let e = (token_det (t_space n) t_bom).1 in cc
-bom_line s (LineSpace.«break» n) = let e = (token_det (t_newline n) t_bom).1 in cc
-
-slashdash_text : {s t : Text} → Slashdash s t → (u : Text) × (s ≡ 47 ∷ u)
-slashdash_text (slashdash {s = s} l) = (45 ∷ s, refl)
-
-bom_gap : (s : Text) {t r : Text} → t ≡ 0xFEFF ∷ s → r ≡ [] → Gap true t r → ⊥
-bom_gap s e h no_gap = cc
-bom_gap s e h (line_space {t = u} n g) = bom_line s (subst (λ (z : Text). LineSpace z u) e n)
-bom_gap s e h (dropped_node m x t g) = let k = slashdash_text m in bom_first (sym k.1 ∙ e)
-  where
-    bom_first : {u s : Text} → ◌≡◌ {A = Text} (47 ∷ u) (0xFEFF ∷ s) → ⊥
-    bom_first e = cc
-
-gap_alone : (t : Text) → Gap true t [] → without_bom t ≡ t
-gap_alone [] g = refl
-gap_alone (c ∷ s) g = go (c == 0xFEFF) refl
-  where
-    go : (b : Bool) → (c == 0xFEFF) ≡ b → (if b then s else c ∷ s) ≡ c ∷ s
-    go false e = refl
-    go true e = let h : c ≡ 0xFEFF = grind (arith, nat_tests) in absurd (bom_gap s (ap (λ (d : ℕ). d ∷ s) h) refl g)
+-- a gap does not begin with U+FEFF
+pub gap_alone : (t : Text) → Gap true t [] → without_bom t ≡ t
+gap_alone t g = gap_without_bom t ((gap_items t).0 g).1
 
 plain_says : (t : Text) (k : ℕ) → GapSays (without_bom t) k → Gap true t [] → AddsNothing (t ++ newlines k)
 plain_says t k says g = subst (λ (z : Text). GapSays z k) (gap_alone t g) says g
@@ -79,18 +38,18 @@ same_rests None (Some t) r m = m
 same_rests (Some f) (Some t) r m = m
 
 -- what may follow the node that is put in
-put_ends : (b : DocumentKind) (i : ℕ) (d : KdlDocument) (rest : Rest) (n m : KdlNode) → IsRestAt b i d rest → EndsAs rest n m → NodeReadsBack n
+put_ends : (b : Bool) (i : ℕ) (d : KdlDocument) (rest : Rest) (n m : KdlNode) → IsRestAt b i d rest → EndsAs rest n m → NodeReadsBack n
     → (i < length (trees d) → NodeReads Anything (node_tree m)) × NodeReads (last_rests (trailing_text (texts_around d)) (rests_after b (texts_around d))) (node_tree m)
 put_ends b i d Rest.End n m (e, (l, t)) s r =
     let x : NodeReads TextEnd (node_tree m) = subst (λ (z : KdlNode). NodeReads TextEnd (node_tree z)) (sym s) r in (
       λ h. absurd (omega (arith, length-map (nodes_of d) node_tree)),
       subst (λ (z : Text). NodeReads (last_rests z (rests_after b (texts_around d))) (node_tree m)) (sym t)
-          (subst (λ (z : DocumentKind). NodeReads (rests_after z (texts_around d)) (node_tree m)) (sym e) x),
+          (subst (λ (z : Bool). NodeReads (rests_after z (texts_around d)) (node_tree m)) (sym e) x),
     )
 put_ends b i d Rest.Brace n m (e, f, k, (l, t)) s r = (
   λ h. absurd (omega (arith, length-map (nodes_of d) node_tree)),
   subst (λ (z : Text). NodeReads (last_rests z (rests_after b (texts_around d))) (node_tree m)) (sym t)
-      (subst (λ (z : DocumentKind). NodeReads (rests_after z (texts_around d)) (node_tree m)) (sym e)
+      (subst (λ (z : Bool). NodeReads (rests_after z (texts_around d)) (node_tree m)) (sym e)
       (subst (λ (z : Option DocumentFormat). NodeReads (BlockEnd z) (node_tree m)) (sym k) (s TextEnd f r))),
 )
 put_ends b i d Rest.Text n m w s r = let x = s TextEnd r in (λ h. x, ends_before (last_rests (trailing_text (texts_around d)) (rests_after b (texts_around d))) x)
@@ -131,14 +90,14 @@ first_tree : (n : KdlNode) (d e : KdlDocument) (p : PutFirst n d e) → document
 first_tree n d e p = tree_as e (led_with p.leading (texts_around d)) (node_tree n ∷ trees d) p.texts (ap (map node_tree) p.nodes ∙ insert_trees (nodes_of d) 0 n)
 
 -- what has to be allowed after a node that is put in: the nodes after it, and what follows the document
-abbrev PutEnds : DocumentKind → ℕ → KdlDocument → Node → Type 0
+abbrev PutEnds : Bool → ℕ → KdlDocument → Node → Type 0
 PutEnds b i d x = (i < length (trees d) → NodeReads Anything x) × NodeReads (last_rests (trailing_text (texts_around d)) (rests_after b (texts_around d))) x
 
-first_reads : (b : DocumentKind) (n : KdlNode) (d e : KdlDocument) → PutFirst n d e → PutEnds b 0 d (node_tree n) → ReadsIn b d → ReadsIn b e
-first_reads DocumentKind.Text n d e p (a, x) r =
+first_reads : (b : Bool) (n : KdlNode) (d e : KdlDocument) → PutFirst n d e → PutEnds b 0 d (node_tree n) → ReadsIn b d → ReadsIn b e
+first_reads true n d e p (a, x) r =
     subst DocumentReads (sym (first_tree n d e p))
     (document_first (texts_around d) p.leading (out-KdlDocument d).span (out-KdlDocument e).span (trees d) (node_tree n) p.exact a x (subst DocumentReads (document_tree_out d) r))
-first_reads DocumentKind.Block n d e p (a, x) r =
+first_reads false n d e p (a, x) r =
     subst BlockReads (sym (first_tree n d e p))
     (block_first (texts_around d) p.leading (out-KdlDocument d).span (out-KdlDocument e).span (trees d) (node_tree n) p.exact a x (subst BlockReads (document_tree_out d) r))
 
@@ -163,21 +122,21 @@ after_content P i n d e p l a x c =
 block_of : {o : Option DocumentFormat} {at : SourceSpan} {ns : Nodes} → BlockReads (document o at ns) → ContentReads (BlockEnd o) (leading_text o) (trailing_text o) ns
 block_of (block c) = c
 
-after_reads : (b : DocumentKind) (i : ℕ) (n : KdlNode) (d e : KdlDocument) → PutAfter i n d e → PutEnds b (suc i) d (node_tree n) → ReadsIn b d → ReadsIn b e
-after_reads DocumentKind.Text i n d e p (a, x) r =
+after_reads : (b : Bool) (i : ℕ) (n : KdlNode) (d e : KdlDocument) → PutAfter i n d e → PutEnds b (suc i) d (node_tree n) → ReadsIn b d → ReadsIn b e
+after_reads true i n d e p (a, x) r =
     subst DocumentReads (sym (after_tree i n d e p))
     (whole_as (texts_around d) (out-KdlDocument d).span (out-KdlDocument e).span (listed_nodes (trees d)) (listed_nodes (with_after i (end_with p.format p.last) n d))
     (λ l c. after_content TextEnd i n d e p l a x c) (subst DocumentReads (document_tree_out d) r))
-after_reads DocumentKind.Block i n d e p (a, x) r =
+after_reads false i n d e p (a, x) r =
     subst BlockReads (sym (after_tree i n d e p)) (block (after_content (BlockEnd (texts_around d)) i n d e p (leading_text (texts_around d)) a x (block_of (subst BlockReads (document_tree_out d) r))))
 
 -- a node put in at the index j
-pub put_after_reads : (b : DocumentKind) (i j : ℕ) (d e : KdlDocument) (rest : Rest) (n : KdlNode) (own : Option KdlNodeFormat) → suc i ≡ j → IsRestAt b j d rest → EndsAs rest n (end_with own n)
+pub put_after_reads : (b : Bool) (i j : ℕ) (d e : KdlDocument) (rest : Rest) (n : KdlNode) (own : Option KdlNodeFormat) → suc i ≡ j → IsRestAt b j d rest → EndsAs rest n (end_with own n)
     → PutAfter i (end_with own n) d e → ReadsIn b d → NodeReadsBack n → ReadsIn b e
 put_after_reads b i j d e rest n own h at w p r x =
     after_reads b i (end_with own n) d e p (put_ends b (suc i) d rest n (end_with own n) (subst (λ (k : ℕ). IsRestAt b k d rest) (sym h) at) w x) r
 
-pub put_first_reads : (b : DocumentKind) (j : ℕ) (d e : KdlDocument) (rest : Rest) (n : KdlNode) (own : Option KdlNodeFormat) → 0 ≡ j → IsRestAt b j d rest → EndsAs rest n (end_with own n)
+pub put_first_reads : (b : Bool) (j : ℕ) (d e : KdlDocument) (rest : Rest) (n : KdlNode) (own : Option KdlNodeFormat) → 0 ≡ j → IsRestAt b j d rest → EndsAs rest n (end_with own n)
     → PutFirst (end_with own n) d e → ReadsIn b d → NodeReadsBack n → ReadsIn b e
 put_first_reads b j d e rest n own h at w p r x =
     first_reads b (end_with own n) d e p (put_ends b 0 d rest n (end_with own n) (subst (λ (k : ℕ). IsRestAt b k d rest) (sym h) at) w x) r

@@ -1,30 +1,9 @@
 -- Nodes put among others with the newlines that are lacking, and no more.
-use Rattle.std.proofs.Common.{◌≡◌, ℕ, zero, suc, ◌+◌, ◌<◌, ◌≤◌, Bool, List, [], ◌∷◌, ◌++◌, length, map, set, take, drop, ap, ◌∙◌, sym, refl, subst, arith, Option, Some, None, option_map, unwrap_or, is_some, slice_get, add-one, Result, Ok, Err, IfOk, Vec, Global}
-use Rattle.std.proofs.lemmas.List.{append-nil, drop_all, length-map, map-set, take_all}
-use Rattle.std.proofs.lemmas.Option.{slice_get-map}
-use Rattle.std.specs.List.{insert}
-use Rattle.kdl_text.specs.Chars.{Text}
-use Rattle.kdl_layout.specs.Kept.{without_bom}
-use Rattle.kdl_grammar.specs.Places.{BeforeChildren}
-use Rattle.kdl_grammar.specs.ReadsBack.{AddsNothing, Anything, EndReads, NodeReads, reads, terminator_text}
-use Rattle.kdl_grammar.specs.Print.{leading_text, print_nodes, trailing_text}
-use Rattle.kdl_grammar.specs.Tree.{Children, no_children, children_of, Document, DocumentFormat, Head, Node, node, NodeFormat, listed_nodes}
-use Rattle.kdl_parts.specs.Formats.{node_format_tree, node_texts}
-use Rattle.kdl_parts.specs.declared.format.KdlNodeFormat.{KdlNodeFormat}
-use Rattle.kdl.specs.Change.{with_children, with_nodes}
-use Rattle.kdl.specs.Cleared.{new_document}
-use Rattle.kdl.specs.DocumentLookups.{nodes_of}
-use Rattle.kdl.specs.Exact.{BlockBegunExactly, ChildPutExactly, ChildPutExactlyIn, EndsAt, FewerFail, HasOpenEnd, IsBeforeNewline, IsPutExactly, IsPutInBlock, LacksAt, LacksBeforeBrace, LacksBeforeText, LacksInBlock, LacksInText, NodesMayFollow, lengthened, with_more}
-use Rattle.kdl.specs.Fields.{node_format_of}
-use Rattle.kdl.specs.Internal.Ends.{BeginsFewest, BlockBegins, EndsAs, EndsExactly, EndsReadAs, FewestBefore, FormatFewest, GapFewest, GapSays, IsEndedBy, IsEndedExactly, IsNodeEnded, IsRestAt, Lacks, LacksBefore, LeadsExactly, PlaceFewest, PutAfter, PutExactly, PutFirst, block_format, block_if, end_with, formless_count, led_with, with_newlines}
-use Rattle.kdl.specs.Nodes.{BlockBegun, ChildPut, ChildPutIn, EndsWith, IsPut, LeadsWith, WithNewlines, format_or_printed, newlines, printed_format, text_from, text_up_to, texts_around, trees}
-use Rattle.kdl.specs.ReadsBack.{NodeEnds}
-use Rattle.kdl.specs.Tree.{document_prints, document_tree, head_tree, node_prints, node_tree, nodes_tree}
-use Rattle.kdl.specs.declared.document.KdlDocument.{KdlDocument}
-use Rattle.kdl.specs.declared.document.KdlDocument.TheViews.{out-KdlDocument, out-KdlNode}
-use Rattle.kdl.specs.declared.ends.DocumentKind.{DocumentKind}
-use Rattle.kdl.specs.declared.ends.Rest.{Rest}
-use Rattle.kdl.specs.declared.node.KdlNode.{KdlNode}
+use Rattle.kdl.proofs.Common.{◌≡◌, ℕ, zero, suc, ◌+◌, ◌<◌, ◌≤◌, Bool, List, [], ◌∷◌, ◌++◌, length, map, set, take, drop, ap, ◌∙◌, sym, refl, subst, arith, Option, Some, None, option_map, unwrap_or, is_some, slice_get, add-one, Result, Ok, Err, IfOk, Vec, Global, append-nil, drop_all, length-map, map-set, slice_get-map, insert, Text, without_bom, BeforeChildren, AddsNothing, Anything, EndReads, NodeReads, reads, terminator_text, leading_text, print_nodes, trailing_text, Children, no_children, children_of, Document, DocumentFormat, Head, Node, node, NodeFormat, listed_nodes, node_format_tree, node_texts, KdlNodeFormat, with_children, with_nodes, new_document, nodes_of, IsPutExactly, lengthened, node_format_of, BlockBegins, EndsAs, EndsExactly, EndsReadAs, FewestBefore, FormatFewest, GapFewest, GapSays, IsEndedBy, IsNodeEnded, IsRestAt, Lacks, LeadsExactly, PlaceFewest, PutAfter, PutFirst, block_format, block_if, end_with, formless_count, led_with, with_newlines, EndsWith, IsPut, LeadsWith, WithNewlines, format_or_printed, newlines, printed_format, text_from, text_up_to, texts_around, trees, NodeEnds, document_prints, document_tree, head_tree, node_prints, node_tree, nodes_tree, KdlDocument, out-KdlDocument, out-KdlNode, Rest, KdlNode, true, false}
+use Rattle.std.proofs.lemmas.List.{take_all}
+use Rattle.kdl.specs.Exact.{BlockBegunExactly, ChildPutExactly, ChildPutExactlyIn, EndsAt, FewerFail, HasOpenEnd, IsBeforeNewline, IsPutInBlock, LacksAt, LacksBeforeBrace, LacksBeforeText, LacksInBlock, LacksInText, NodesMayFollow, with_more}
+use Rattle.kdl.specs.Internal.Ends.{BeginsFewest, IsEndedExactly, LacksBefore, PutExactly}
+use Rattle.kdl.specs.Nodes.{BlockBegun, ChildPut, ChildPutIn}
 use Rattle.kdl.proofs.Putting.Fewest.{open_fewest}
 use Rattle.kdl.proofs.Putting.NodeEnds.{ends_with}
 use Rattle.kdl.proofs.Putting.Puts.{insert_trees, put_printed_as, span_kept, texts_kept}
@@ -163,12 +142,12 @@ first_put l n d p e x k r a b c = record {
 }
 
 -- what the node itself lacks there
-own_in_text : (i j : ℕ) (n : KdlNode) (d : KdlDocument) (rest : Rest) → IsRestAt DocumentKind.Text i d rest → LacksBefore rest j n → LacksInText i j n d
+own_in_text : (i j : ℕ) (n : KdlNode) (d : KdlDocument) (rest : Rest) → IsRestAt true i d rest → LacksBefore rest j n → LacksInText i j n d
 own_in_text i j n d Rest.End (e, last) x = record { at_end = λ h. x; before_text = λ f. absurd (f last) }
 own_in_text i j n d Rest.Brace (e, f, k, last) x = absurd (cc)
 own_in_text i j n d Rest.Text w x = record { at_end = λ h. let e = (w h).0 in absurd (cc); before_text = λ f. x }
 
-own_in_block : (i j : ℕ) (n : KdlNode) (d : KdlDocument) (rest : Rest) → IsRestAt DocumentKind.Block i d rest → LacksBefore rest j n → LacksInBlock i j n d
+own_in_block : (i j : ℕ) (n : KdlNode) (d : KdlDocument) (rest : Rest) → IsRestAt false i d rest → LacksBefore rest j n → LacksInBlock i j n d
 own_in_block i j n d Rest.End (e, w) x = absurd (cc)
 own_in_block i j n d Rest.Brace (e, f, k, last) x = record { at_brace = λ h g s. x; before_text = λ h. let z = h last in absurd (cc) }
 own_in_block i j n d Rest.Text w x = record { at_brace = λ h g s. let z = (w h).1 in absurd (cc); before_text = λ h. x }
@@ -199,16 +178,16 @@ after_is_put i n own d e rest a p = let b = p.exact in record {
 after_lacks : (i : ℕ) (n : KdlNode) (d e : KdlDocument) (p : PutAfter i n d e) → LacksAt (suc i) p.exact.0 d
 after_lacks i n d e p = λ m h. subst (LacksBeforeText p.exact.0) (same_some p.last m (slice_get (nodes_of d) i) p.there h) p.exact.3
 
-after_exactly : (b : DocumentKind) (i : ℕ) (n : KdlNode) (own : Option KdlNodeFormat) (d e : KdlDocument) (rest : Rest) → IsRestAt b (suc i) d rest → EndsExactly rest n own
+after_exactly : (b : Bool) (i : ℕ) (n : KdlNode) (own : Option KdlNodeFormat) (d e : KdlDocument) (rest : Rest) → IsRestAt b (suc i) d rest → EndsExactly rest n own
     → PutAfter i (end_with own n) d e → PutExactly b (suc i) n d e
 unfolding after_is_put
-after_exactly DocumentKind.Text i n own d e rest at a p =
+after_exactly true i n own d e rest at a p =
     let q = after_is_put i n own d e rest a p in
     record { put = q; prints = put_printed_as (suc i) n d e q; before = after_lacks i (end_with own n) d e p; own = own_in_text (suc i) a.0 n d rest at a.3 }
-after_exactly DocumentKind.Block i n own d e rest at a p =
+after_exactly false i n own d e rest at a p =
     record { put = after_is_put i n own d e rest a p; before = after_lacks i (end_with own n) d e p; own = own_in_block (suc i) a.0 n d rest at a.3 }
 
-pub put_after_exactly : (b : DocumentKind) (i j : ℕ) (n : KdlNode) (own : Option KdlNodeFormat) (d e : KdlDocument) (rest : Rest) → suc i ≡ j → IsRestAt b j d rest → EndsExactly rest n own
+pub put_after_exactly : (b : Bool) (i j : ℕ) (n : KdlNode) (own : Option KdlNodeFormat) (d e : KdlDocument) (rest : Rest) → suc i ≡ j → IsRestAt b j d rest → EndsExactly rest n own
     → PutAfter i (end_with own n) d e → PutExactly b j n d e
 put_after_exactly b i j n own d e rest h at a p =
     subst (λ (k : ℕ). PutExactly b k n d e) h (after_exactly b i n own d e rest (subst (λ (k : ℕ). IsRestAt b k d rest) (sym h) at) a p)
@@ -227,23 +206,23 @@ first_is_put n own d e rest a p = let b = p.exact in record {
   span = p.span;
 }
 
-first_exactly : (b : DocumentKind) (n : KdlNode) (own : Option KdlNodeFormat) (d e : KdlDocument) (rest : Rest) → IsRestAt b 0 d rest → EndsExactly rest n own → PutFirst (end_with own n) d e → PutExactly b 0 n d e
+first_exactly : (b : Bool) (n : KdlNode) (own : Option KdlNodeFormat) (d e : KdlDocument) (rest : Rest) → IsRestAt b 0 d rest → EndsExactly rest n own → PutFirst (end_with own n) d e → PutExactly b 0 n d e
 unfolding first_is_put
-first_exactly DocumentKind.Text n own d e rest at a p =
+first_exactly true n own d e rest at a p =
     let q = first_is_put n own d e rest a p in
     record { put = q; prints = put_printed_as 0 n d e q; before = record { enough = p.exact.3; fewer = p.exact.4 }; own = own_in_text 0 a.0 n d rest at a.3 }
-first_exactly DocumentKind.Block n own d e rest at a p =
+first_exactly false n own d e rest at a p =
     record { put = first_is_put n own d e rest a p; before = record { enough = p.exact.3; fewer = p.exact.4 }; own = own_in_block 0 a.0 n d rest at a.3 }
 
-pub put_first_exactly : (b : DocumentKind) (j : ℕ) (n : KdlNode) (own : Option KdlNodeFormat) (d e : KdlDocument) (rest : Rest) → 0 ≡ j → IsRestAt b j d rest → EndsExactly rest n own
+pub put_first_exactly : (b : Bool) (j : ℕ) (n : KdlNode) (own : Option KdlNodeFormat) (d e : KdlDocument) (rest : Rest) → 0 ≡ j → IsRestAt b j d rest → EndsExactly rest n own
     → PutFirst (end_with own n) d e → PutExactly b j n d e
 put_first_exactly b j n own d e rest h at a p =
     subst (λ (k : ℕ). PutExactly b k n d e) h (first_exactly b n own d e rest (subst (λ (k : ℕ). IsRestAt b k d rest) (sym h) at) a p)
 
 -- the node is put in, in a text or in a block
-pub is_put : (b : DocumentKind) (i : ℕ) (n : KdlNode) (d e : KdlDocument) → PutExactly b i n d e → IsPut i (node_tree n) d e
-is_put DocumentKind.Text i n d e p = p.put
-is_put DocumentKind.Block i n d e p = p.put
+pub is_put : (b : Bool) (i : ℕ) (n : KdlNode) (d e : KdlDocument) → PutExactly b i n d e → IsPut i (node_tree n) d e
+is_put true i n d e p = p.put
+is_put false i n d e p = p.put
 
 -- what is before a new block
 pub begins_fewest : (o : Option NodeFormat) (f : NodeFormat) (t : Text) (k : ℕ) → o ≡ Some f → 0 < k → k ≤ 1 → t ≡ f.before_terminator ++ newlines k → PlaceFewest no_children f.before_terminator k → BeginsFewest o (Some t)

@@ -1,40 +1,28 @@
 -- Fewer newlines at the ends of nodes, which do not do.
-use Rattle.std.proofs.Common.{◌≡◌, inl, ℕ, zero, suc, ◌+◌, ◌≤◌, Bool, true, false, [], ◌∷◌, ◌++◌, length, ap, ◌∙◌, sym, refl, subst, append_assoc, arith, Option, Some, None, unwrap_or}
-use Rattle.std.proofs.lemmas.List.{append-nil}
-use Rattle.kdl_text.specs.Bare.BareString.{bare as a_bare}
-use Rattle.kdl_text.specs.Chars.{Text, Newline, times}
-use Rattle.kdl_syntax.specs.Tokens.{t_newline, t_space}
-use Rattle.kdl_syntax.proofs.Lexing.TokenUnique.{token_det}
+use Rattle.kdl.proofs.Common.{◌≡◌, inl, ℕ, zero, suc, ◌+◌, ◌≤◌, Bool, true, false, [], ◌∷◌, ◌++◌, length, ap, ◌∙◌, sym, refl, subst, append_assoc, arith, Option, Some, None, unwrap_or, append-nil, Text, t_newline, t_space, token_det, ValueEnd, Gap, Terminator, no_gap, last_gap, AfterChildren, BeforeChildren, after, Anything, AddsNothing, BeforeTerminator, Terminates, terminator_text, Children, no_children, children, NodeFormat, PlaceLacks, a_newline, EndFewest, EndSays, FewestBefore, FormatFewest, GapFewest, GapSays, IsLacking, PlaceFewest, PlaceSays, block_if, formless_count, lengthened, newlines, Rest}
+use Rattle.kdl_text.specs.Chars.{Newline, times}
 use Rattle.kdl_layout.specs.Internal.Lacking.{letter}
-use Rattle.kdl_layout.proofs.Lacking.SpaceEnds.{a_space}
 use Rattle.kdl_text.specs.Chars.Star.{none as no_star}
-use Rattle.kdl_text.specs.Trivia.{Break, LineComment, NodeSpace, ValueEnd, Ws}
-use Rattle.kdl_text.proofs.Spacing.ValueEnds.{value_end_no_identifier}
-use Rattle.kdl_syntax.specs.Pieces.{StringPiece}
+use Rattle.kdl_text.specs.Trivia.{Break, LineComment}
 use Rattle.kdl_entry.specs.Entries.{string as a_string', untyped}
 use Rattle.kdl_entry.proofs.Moving.EntryMoves.{punctuation_end}
 use Rattle.kdl_grammar.specs.Data as data'
-use Rattle.kdl_grammar.specs.Grammar.{Gap, Terminator, IsNode, named, no_gap, last_gap, braces}
-use Rattle.kdl_grammar.specs.Places.{AfterChildren, BeforeChildren, after, before}
-use Rattle.kdl_grammar.specs.ReadsBack.{Anything, AddsNothing, BeforeTerminator, Terminates, terminator_text}
-use Rattle.kdl_grammar.specs.Tree.{Children, no_children, children, NodeFormat}
+use Rattle.kdl_grammar.specs.Grammar.{IsNode, named, braces}
+use Rattle.kdl_grammar.specs.Places.{before}
 use Rattle.kdl_grammar.proofs.Laying.LaidIsDerived.{braced_of, later_of, plain_of}
 use Rattle.kdl_grammar.proofs.Moving.Moves.{before_end}
 use Rattle.kdl_layout.specs.Items.{ItemEnd}
-use Rattle.kdl_layout.specs.Lacks.{GapLacks, PlaceLacks, TerminatorLacks}
+use Rattle.kdl_layout.specs.Lacks.{GapLacks, TerminatorLacks}
 use Rattle.kdl_layout.proofs.Dropping.DroppedNodes.{passes_det, passes_node}
-use Rattle.kdl_layout.proofs.Lacking.Fewest.{a, a_piece, letter_node}
-use Rattle.kdl_layout.proofs.Rewriting.BeforeNewlines.{a_newline, newline_end}
+use Rattle.kdl_layout.proofs.Lacking.Fewest.{a, a_piece, letter_node, letter_space}
+use Rattle.kdl_text.proofs.Spacing.ValueEnds.{value_end_no_identifier}
+use Rattle.kdl_text.specs.Bare.BareString.{bare as a_bare}
+use Rattle.kdl_syntax.specs.Pieces.{StringPiece}
+use Rattle.kdl_layout.proofs.Rewriting.BeforeNewlines.{newline_end}
 use Rattle.kdl_layout.specs.Kept.{last_place}
-use Rattle.kdl.specs.Internal.Ends.{EndFewest, EndSays, FewestBefore, FormatFewest, GapFewest, GapSays, IsLacking, PlaceFewest, PlaceSays, block_if, formless_count, newline_count}
-use Rattle.kdl.specs.Exact.{lengthened}
-use Rattle.kdl.specs.Nodes.{newlines}
-use Rattle.kdl.specs.declared.ends.Rest.{Rest}
+use Rattle.kdl.specs.Internal.Ends.{newline_count}
 
 -- a letter after an empty terminator is no terminator
-letter_space : NodeSpace letter (97 ∷ [])
-letter_space = NodeSpace.ws (Ws.space a_space)
-
 no_line : {v : Text} → Break letter v → ⊥
 no_line n = let d = token_det (t_newline n) (t_space letter_space) in cc
 

@@ -1,20 +1,12 @@
 -- Newlines at the ends of nodes.
-use Rattle.std.proofs.Common.{◌≡◌, ◌⊎◌, inl, inr, ℕ, zero, suc, ◌+◌, ◌-◌, Bool, true, false, List, [], ◌∷◌, ◌++◌, ap, ◌∙◌, sym, refl, append_assoc, zero-add, Option, Some, None, option_map, unwrap_or, String, Global}
-use Rattle.std.proofs.lemmas.List.{append-nil, replicate-append-replicate}
+use Rattle.kdl.proofs.Common.{◌≡◌, ◌⊎◌, inl, inr, ℕ, zero, suc, ◌+◌, ◌-◌, Bool, true, false, List, [], ◌∷◌, ◌++◌, ap, ◌∙◌, sym, refl, append_assoc, Option, Some, None, option_map, unwrap_or, Global, append-nil, string_bytes, chars, Text, text_of, end_text, print_head, print_pieces, print_node, before_block, after_brace, before_brace, format_of, print_document, Head, NodeFormat, Node, node, Children, no_children, children, node_data, print_identifier, Entry, node_format_tree, KdlNodeFormat, Lacks, block_format, end_newlines, with_newlines, EndsWith, WithNewlines, newlines, printed_format}
+use Rattle.std.proofs.Common.{zero-add, String}
+use Rattle.std.proofs.lemmas.List.{replicate-append-replicate}
 use Rattle.std.proofs.lemmas.Str.{chars-nil}
-use Rattle.std.specs.Prelude.{string_bytes}
-use Rattle.std.specs.Str.{chars}
-use Rattle.kdl_text.specs.Chars.{Text}
-use Rattle.kdl_value.specs.Tree.{text_of}
 use Rattle.kdl_layout.proofs.Texts.{newline_text, space_text}
-use Rattle.kdl_grammar.specs.Print.{end_text, print_head, print_pieces, print_node, before_block, after_brace, before_brace, format_of, print_document, space_unless}
-use Rattle.kdl_grammar.specs.Tree.{Head, NodeFormat, Node, node, Children, no_children, children, node_data}
-use Rattle.kdl_entry.specs.Print.{print_identifier, print_type}
-use Rattle.kdl_entry.specs.Tree.{Entry}
-use Rattle.kdl_parts.specs.Formats.{empty_node_format, node_format_tree}
-use Rattle.kdl_parts.specs.declared.format.KdlNodeFormat.{KdlNodeFormat}
-use Rattle.kdl.specs.Internal.Ends.{Lacks, block_format, end_newlines, with_newlines}
-use Rattle.kdl.specs.Nodes.{EndsWith, WithNewlines, newlines, printed_format}
+use Rattle.kdl_grammar.specs.Print.{space_unless}
+use Rattle.kdl_entry.specs.Print.{print_type}
+use Rattle.kdl_parts.specs.Formats.{empty_node_format}
 
 -- a text with characters after it
 pub more_newlines : (now was start : Text) (n : ℕ) → now ≡ was ++ chars (10 ∷ []) → was ≡ start ++ newlines n → now ≡ start ++ newlines (n + 1)

@@ -1,39 +1,18 @@
 -- Documents that read back, with a node added or removed.
-use Rattle.std.proofs.Common.{◌≡◌, ◌⊎◌, inl, inr, ℕ, zero, suc, ◌<◌, true, List, [], ◌∷◌, ◌++◌, length, map, take, drop, set, ap, ◌∙◌, sym, refl, subst, append_assoc, arith, Bool, is_some, unwrap_or, Option, Some, None, option_map, slice_get, Result, Ok, Err, IfOk}
-use Rattle.std.proofs.lemmas.List.{append-nil}
-use Rattle.std.proofs.lemmas.Option.{get_or_from_slice_get, slice_get_within, slice_get-map}
-use Rattle.std.specs.List.{insert, remove}
-use Rattle.kdl_text.specs.Chars.{Text}
+use Rattle.kdl.proofs.Common.{◌≡◌, ◌⊎◌, inl, inr, ℕ, zero, suc, ◌<◌, true, List, [], ◌∷◌, ◌++◌, length, map, take, drop, set, ap, ◌∙◌, sym, refl, subst, append_assoc, arith, Bool, is_some, unwrap_or, Option, Some, None, option_map, slice_get, Result, Ok, Err, IfOk, append-nil, get_or_from_slice_get, slice_get_within, slice_get-map, insert, remove, Text, ValueEnd, SourceSpan, Terminator, Gap, no_gap, last_gap, BeforeChildren, AfterChildren, trailing_text, Rests, Anything, TextEnd, BlockEnd, MayFollow, terminator_text, Terminates, AddsNothing, IsGapBefore, BeforeTerminator, EndReads, last_rests, NodeReads, reads, a_block, NodesRead, last_node, next_node, ContentReads, one_text, two_texts, DocumentReads, DocumentFormat, NodeFormat, Head, Node, node, Children, no_children, children, children_of, Document, document, listed_nodes, node_before, before_alone, a_newline, nodes_of, EndSays, EndsAs, EndsReadAs, IsEndedBy, PlaceSays, block_if, end_newlines, end_with, formless_count, with_newlines, node_format_tree, node_texts, KdlNodeFormat, format_or_printed, newlines, printed_format, texts_around, trees, DocumentReadsBack, NodeReadsBack, document_tree, head_tree, node_tree, new_document, Rest, KdlDocument, out-KdlDocument, out-KdlNode, KdlNode}
 use Rattle.kdl_text.specs.Internal.Here.{first as first_char}
-use Rattle.kdl_text.specs.Trivia.{ValueEnd}
-use Rattle.kdl_text.specs.declared.span.SourceSpan.{SourceSpan}
 use Rattle.kdl_syntax.proofs.Moving.Puts.{same_piece}
 use Rattle.kdl_grammar.specs.Data as data'
-use Rattle.kdl_grammar.specs.Grammar.{Terminator, Gap, no_gap, AreNodes, last_gap}
-use Rattle.kdl_grammar.specs.Places.{BeforeChildren, AfterChildren}
-use Rattle.kdl_grammar.specs.Print.{trailing_text}
-use Rattle.kdl_grammar.specs.ReadsBack.{Rests, Anything, TextEnd, BlockEnd, MayFollow, HeadReads, terminator_text, Terminates, AddsNothing, IsGapBefore, BeforeTerminator, EndReads, last_rests, NodeReads, reads, ChildrenRead, no_block, a_block, NodesRead, last_node, next_node, ContentReads, one_text, two_texts, with_nodes, DocumentReads}
-use Rattle.kdl_grammar.specs.Tree.{DocumentFormat, NodeFormat, Head, Node, node, Children, no_children, children, children_of, Document, document, listed_nodes}
+use Rattle.kdl_grammar.specs.Grammar.{AreNodes}
+use Rattle.kdl_grammar.specs.ReadsBack.{HeadReads, ChildrenRead, no_block, with_nodes}
 use Rattle.kdl_grammar.proofs.Moving.Moves.{move_after, move_before, terminator_end}
-use Rattle.kdl_grammar.proofs.ReadingBack.Composing.{node_before, nodes_append, nodes_drop, nodes_take}
+use Rattle.kdl_grammar.proofs.ReadingBack.Composing.{nodes_append, nodes_drop, nodes_take}
 use Rattle.kdl_layout.specs.Lacks.{Terminating}
-use Rattle.kdl_layout.proofs.Lacking.Alone.{after_before_close, before_alone, gap_before_close, terminator_before_close}
-use Rattle.kdl_layout.proofs.Rewriting.BeforeNewlines.{a_newline}
-use Rattle.kdl.specs.DocumentLookups.{nodes_of}
-use Rattle.kdl.specs.Internal.Ends.{EndSays, EndsAs, EndsReadAs, IsEndedBy, PlaceSays, block_if, end_newlines, end_with, formless_count, with_newlines}
-use Rattle.kdl_parts.specs.Formats.{node_format_tree, node_texts}
-use Rattle.kdl_parts.specs.declared.format.KdlNodeFormat.{KdlNodeFormat}
-use Rattle.kdl.specs.Nodes.{format_or_printed, newlines, printed_format, texts_around, trees}
-use Rattle.kdl.specs.ReadsBack.{DocumentReadsBack, NodeReadsBack}
-use Rattle.kdl.specs.Tree.{document_tree, head_tree, node_tree}
+use Rattle.kdl_layout.proofs.Lacking.Alone.{after_before_close, gap_before_close, terminator_before_close}
 use Rattle.kdl.specs.Change as change
-use Rattle.kdl.specs.Cleared.{new_document}
-use Rattle.kdl.specs.declared.ends.Rest.{Rest}
-use Rattle.kdl.specs.declared.document.KdlDocument.{KdlDocument}
-use Rattle.kdl.specs.declared.document.KdlDocument.TheViews.{out-KdlDocument, out-KdlNode}
-use Rattle.kdl.specs.declared.node.KdlNode.{KdlNode}
 use Rattle.kdl.proofs.Putting.Puts.{remove_trees, texts_kept}
-use Rattle.kdl.proofs.ReadingBack.{content_with, nodes_read_back, whole_as}
+use Rattle.kdl.proofs.ReadingBack.{nodes_read_back, whole_as}
+use Rattle.kdl_layout.proofs.Formatting.PartsRead.{content_with}
 use Rattle.kdl.proofs.Trees.{document_tree_out, node_tree_out, node_tree_roll}
 
 -- a node removed
@@ -79,7 +58,7 @@ lf_ends : Terminates Anything (10 ∷ [])
 lf_ends = λ r s xs p z d. (r, Terminator.newline (a_newline r), d)
 
 -- a place before another rest that begins alike
-place_moves : (k : Children) (bt u x : Text) → BeforeTerminator k (bt ++ u) u → first_char x ≡ first_char u → ValueEnd true x → BeforeTerminator k (bt ++ x) x
+pub place_moves : (k : Children) (bt u x : Text) → BeforeTerminator k (bt ++ u) u → first_char x ≡ first_char u → ValueEnd true x → BeforeTerminator k (bt ++ x) x
 place_moves no_children bt u x c h e = let m = move_before c in subst (λ (y : Text). BeforeChildren y x) (same_piece bt m.at refl x) (m.there x h e)
 place_moves (children d) bt u x c h e = let m = move_after c in subst (λ (y : Text). AfterChildren y x) (same_piece bt m.at refl x) (m.there x h)
 

@@ -1,25 +1,9 @@
 -- Nodes added to others: their trees, what is printed, and what is said.
-use Rattle.std.proofs.Common.{◌≡◌, ℕ, zero, suc, ◌+◌, ◌<◌, ◌≤◌, List, [], ◌∷◌, ◌++◌, length, map, take, drop, set, ap, ◌∙◌, sym, refl, append_assoc, arith, Option, Some, option_map, slice_get, get_or, add-one, Vec, Global}
-use Rattle.std.proofs.lemmas.List.{append-nil, map-append, take-map, drop-map}
+use Rattle.kdl.proofs.Common.{◌≡◌, ℕ, zero, suc, ◌+◌, ◌<◌, ◌≤◌, List, [], ◌∷◌, ◌++◌, length, map, take, drop, set, ap, ◌∙◌, sym, refl, append_assoc, arith, Option, Some, option_map, slice_get, get_or, add-one, Vec, Global, append-nil, map-append, take-map, drop-map, get_or_from_slice_get, slice_get-get_or, slice_get-map, with_item, insert, remove, Text, print_node, print_nodes, leading_text, trailing_text, DocumentFormat, Node, Nodes, document_data, listed_nodes, node_data, nodes_data, document_format_tree, KdlNodeFormat, with_nodes, nodes_of, EndsAs, EndsExactly, PutAfter, end_with, IsPut, LeadsWith, WithNewlines, newlines, text_from, text_up_to, texts_around, trees, document_prints, document_says, node_prints, node_says, node_tree, nodes_tree, KdlDocument, out-KdlDocument, out-roll-KdlDocument, roll-KdlDocument, KdlNode}
 use Rattle.std.proofs.lemmas.List.Edits.{get_or-insert_at, get_or-insert_below}
-use Rattle.std.proofs.lemmas.Option.{get_or_from_slice_get, slice_get-get_or, slice_get-map}
-use Rattle.std.specs.Vec.{with_item}
-use Rattle.std.specs.List.{insert, remove}
-use Rattle.kdl_text.specs.Chars.{Text}
 use Rattle.kdl_grammar.specs.Data as data'
-use Rattle.kdl_grammar.specs.Print.{print_node, print_nodes, leading_text, trailing_text}
-use Rattle.kdl_grammar.specs.Tree.{DocumentFormat, Node, Nodes, document_data, listed_nodes, node_data, nodes_data}
-use Rattle.kdl_parts.specs.Formats.{document_format_tree}
-use Rattle.kdl_parts.specs.declared.format.KdlNodeFormat.{KdlNodeFormat}
-use Rattle.kdl.specs.Change.{with_nodes}
-use Rattle.kdl.specs.DocumentLookups.{nodes_of}
-use Rattle.kdl.specs.Internal.Ends.{EndsAs, EndsExactly, PutAfter, end_with}
-use Rattle.kdl.specs.Nodes.{EndedBefore, IsPut, LeadsWith, PrintsPut, PrintsWithout, WithNewlines, newlines, said_with, said_without, text_from, text_up_to, texts_around, trees}
-use Rattle.kdl.specs.Tree.{document_prints, document_says, node_prints, node_says, node_tree, nodes_tree}
-use Rattle.kdl.specs.declared.document.KdlDocument.{KdlDocument}
-use Rattle.kdl.specs.declared.document.KdlDocument.TheViews.{out-KdlDocument, out-roll-KdlDocument, roll-KdlDocument}
+use Rattle.kdl.specs.Nodes.{EndedBefore, PrintsPut, PrintsWithout, said_with, said_without}
 use Rattle.kdl.specs.declared.ends.Rest.TheVariants as Rest
-use Rattle.kdl.specs.declared.node.KdlNode.{KdlNode}
 use Rattle.kdl.proofs.Putting.NodeEnds.{newlines_printed, newlines_said}
 use Rattle.kdl.proofs.Printing.PrintedParts.{document_printed, print_nodes-join}
 use Rattle.kdl.proofs.Trees.{document_tree_out, nodes_of-append}

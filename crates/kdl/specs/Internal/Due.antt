@@ -1,16 +1,13 @@
 -- Nodes that are due to be cleared, and what clearing does to one of them.
 use Rattle.std.specs.List.{All}
-use Rattle.std.specs.Prelude.{◌≡◌, ℕ, Bool, true, false, Option, Some, None, List, [], ◌++◌, is_some, length, map, slice_index_or, slice_set}
+use Rattle.std.specs.Prelude.{◌≡◌, ℕ, Bool, true, false, Option, Some, None, List, ◌++◌, is_some, length, map, slice_index_or, slice_set}
 use Rattle.kdl_grammar.specs.Tree.{NodeFormat, Node, node}
+use Rattle.kdl_parts.specs.Formats.{empty_node_format}
 use Rattle.kdl.specs.Cleared.{cleared_head}
 use Rattle.kdl.specs.Tree.{head_tree, node_tree}
 use Rattle.kdl.specs.declared.node.KdlNode.{KdlNode}
 use Rattle.kdl.specs.declared.document.KdlDocument.{KdlDocument}
 use Rattle.kdl.specs.declared.document.KdlDocument.TheViews.{out-KdlDocument, out-KdlNode}
-
--- a format whose texts are empty
-abbrev pub empty_node_format : NodeFormat
-empty_node_format = record { leading = []; before_ty_name = []; after_ty_name = []; after_ty = []; before_children = []; before_terminator = []; terminator = []; trailing = [] }
 
 -- the format, or an empty one if there is none
 abbrev pub formed : Option NodeFormat → Option NodeFormat

@@ -18,7 +18,6 @@ use Rattle.kdl.specs.Nodes.{EndsWith, LeadsWith, WithNewlines, newlines, texts_a
 use Rattle.kdl.specs.ReadsBack.{BlockReadsBack, DocumentReadsBack}
 use Rattle.kdl.specs.Tree.{node_tree}
 use Rattle.kdl.specs.declared.document.KdlDocument.{KdlDocument, out-KdlDocument}
-use Rattle.kdl.specs.declared.ends.DocumentKind.{DocumentKind}
 use Rattle.kdl.specs.declared.ends.Rest.{Rest}
 use Rattle.kdl.specs.declared.node.KdlNode.{KdlNode, out-KdlNode}
 
@@ -90,21 +89,26 @@ block_format o f = record f { before_children = unwrap_or o f.before_terminator;
 abbrev pub BlockBegins : Option Text → KdlNode → KdlNode → Type 0
 BlockBegins o m m' = (g : Option KdlNodeFormat) × (m' ≡ with_format m g) × (node_texts g ≡ option_map (block_format o) (node_texts (out-KdlNode m).format))
 
+-- the document that this follows is a whole text; else it is a block
+abbrev pub is_text : Rest → Bool
+is_text Rest.End = true
+is_text rest = false
+
 -- what may follow the content of a document that is a whole text, or a block
-abbrev pub rests_after : DocumentKind → Option DocumentFormat → Rests
-rests_after DocumentKind.Text o = TextEnd
-rests_after DocumentKind.Block o = BlockEnd o
+abbrev pub rests_after : Bool → Option DocumentFormat → Rests
+rests_after true o = TextEnd
+rests_after false o = BlockEnd o
 
 -- the document reads back, as a whole text or as a block
-abbrev pub ReadsIn : DocumentKind → KdlDocument → Type 0
-ReadsIn DocumentKind.Text d = DocumentReadsBack d
-ReadsIn DocumentKind.Block d = BlockReadsBack d
+abbrev pub ReadsIn : Bool → KdlDocument → Type 0
+ReadsIn true d = DocumentReadsBack d
+ReadsIn false d = BlockReadsBack d
 
 -- what follows a node that is inserted at the place i, in a whole text or in a block
-abbrev pub IsRestAt : DocumentKind → ℕ → KdlDocument → Rest → Type 0
-IsRestAt b i d Rest.End = (b ≡ DocumentKind.Text) × IsAtEnd i d
-IsRestAt b i d Rest.Brace = (b ≡ DocumentKind.Block) × (f : DocumentFormat) × (texts_around d ≡ Some f) × IsAtEnd i d
-IsRestAt b i d Rest.Text = IsAtEnd i d → (b ≡ DocumentKind.Block) × (texts_around d ≡ None)
+abbrev pub IsRestAt : Bool → ℕ → KdlDocument → Rest → Type 0
+IsRestAt b i d Rest.End = (b ≡ true) × IsAtEnd i d
+IsRestAt b i d Rest.Brace = (b ≡ false) × (f : DocumentFormat) × (texts_around d ≡ Some f) × IsAtEnd i d
+IsRestAt b i d Rest.Text = IsAtEnd i d → (b ≡ false) × (texts_around d ≡ None)
 
 -- one newline if one is lacking, and else none
 abbrev pub newline_count : Option Bool → ℕ
@@ -191,9 +195,9 @@ pub record PutFirst (n : KdlNode) (d e : KdlDocument) : Type 0 where
   pub span : (out-KdlDocument e).span ≡ (out-KdlDocument d).span
 
 -- a node is inserted at i, in a text or a block
-abbrev pub PutExactly : DocumentKind → ℕ → KdlNode → KdlDocument → KdlDocument → Type 0
-PutExactly DocumentKind.Text = IsPutExactly
-PutExactly DocumentKind.Block = IsPutInBlock
+abbrev pub PutExactly : Bool → ℕ → KdlNode → KdlDocument → KdlDocument → Type 0
+PutExactly true = IsPutExactly
+PutExactly false = IsPutInBlock
 
 -- the text before a new block, if it differs from the text before the terminator: that text, which may not be before a newline, with one newline
 abbrev pub BeginsFewest : Option NodeFormat → Option Text → Type 0

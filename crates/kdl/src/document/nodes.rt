@@ -4,7 +4,7 @@ ghost use Rattle.kdl.specs.DocumentLookups.{nodes_of};
 ghost use Rattle.kdl.specs.Change.{with_nodes};
 ghost use Rattle.kdl.specs.Exact.{IsPutExactly, NodesMayFollow};
 ghost use Rattle.kdl.specs.Fields.{held_nodes};
-ghost use Rattle.kdl.specs.Internal.Ends.{LeadsExactly, PutAfter, PutExactly, PutFirst, end_with, led_with, IsRestAt, ReadsIn};
+ghost use Rattle.kdl.specs.Internal.Ends.{LeadsExactly, PutAfter, PutExactly, PutFirst, end_with, led_with, IsRestAt, ReadsIn, is_text};
 ghost use Rattle.kdl.specs.Nodes.{IsPut, PrintsPut, PrintsWithout, said_with, said_without, texts_around};
 ghost use Rattle.kdl.specs.ReadsBack.{DocumentReadsBack, NodeReadsBack};
 ghost use Rattle.kdl.specs.Tree.{document_prints, document_says, document_tree, node_prints, node_says, node_tree};
@@ -15,7 +15,7 @@ ghost use Rattle.std.specs.List.{insert, remove};
 ghost use Rattle.std.specs.Prelude.{◌≡◌, ◌≢◌, ◌<◌, ◌≤◌, ◌++◌, [], IfErr, IfOk, MatchBool, OnErr, OnOk, Some, if◌then◌else◌, is_ok, length, option_map, slice_get};
 
 use crate::document::KdlDocument;
-use crate::ends::{DocumentKind, Rest, gap_newlines, is_empty, push_newlines};
+use crate::ends::{Rest, gap_newlines, is_empty, push_newlines};
 use crate::node::KdlNode;
 use kdl_parts::KdlNodeFormat;
 use std::alloc::AllocError;
@@ -82,7 +82,7 @@ impl KdlDocument {
         ensures back { IfErr result (λ e. e.0 ≡ node) }
         ensures refused { OnErr result (document_tree self.new ≡ document_tree self.old) }
     {
-        self.put(index, node, DocumentKind::Text)
+        self.put(index, node, Rest::End)
     }
 
     /// Removes and returns the node at the index, which has to exist. Everything that the node prints is removed,
@@ -105,23 +105,23 @@ impl KdlDocument {
         self.nodes.remove(index)
     }
 
-    /// Inserts the node before the one at the index, or after the last one. The document is a whole text, or the block
-    /// of a node.
+    /// Inserts the node before the one at the index, or after the last one. The document is a whole text, if its end
+    /// follows it, or else the block of a node.
     pub(crate) fn put(
         &mut self,
         index: usize,
         node: KdlNode,
-        kind: DocumentKind,
+        end: Rest,
     ) -> Result<(), (KdlNode, AllocError)>
         requires { index ≤ length (nodes_of self.old) }
         ensures nodes { OnOk result (IsPut index (node_tree node) self.old self.new) }
-        ensures reads { OnOk result (ReadsIn kind self.old → NodeReadsBack node
-            → ReadsIn kind self.new) }
-        ensures exact { OnOk result (PutExactly kind index node self.old self.new) }
+        ensures reads { OnOk result (ReadsIn (is_text end) self.old → NodeReadsBack node
+            → ReadsIn (is_text end) self.new) }
+        ensures exact { OnOk result (PutExactly (is_text end) index node self.old self.new) }
         ensures back { IfErr result (λ e. e.0 ≡ node) }
         ensures refused { OnErr result (document_tree self.new ≡ document_tree self.old) }
     {
-        let own = match node.ended(self.rest_at(index, kind)) {
+        let own = match node.ended(self.rest_at(index, end)) {
             Ok(own) => own,
             Err(error) => return Err((node, error)),
         };
@@ -143,18 +143,16 @@ impl KdlDocument {
     }
 
     /// What follows a node that is inserted at the index.
-    fn rest_at(&self, index: usize, kind: DocumentKind) -> Rest
-        ensures { IsRestAt kind index self.now result }
+    fn rest_at(&self, index: usize, end: Rest) -> Rest
+        ensures { IsRestAt (is_text end) index self.now result }
     {
         if index < self.nodes.len() || self.has_trailing() {
             return Rest::Text;
         }
-        match kind {
-            DocumentKind::Text => Rest::End,
-            DocumentKind::Block => match &self.format {
-                Some(_) => Rest::Brace,
-                None => Rest::Text,
-            },
+        match (end, &self.format) {
+            (Rest::End, _) => Rest::End,
+            (_, Some(_)) => Rest::Brace,
+            (_, None) => Rest::Text,
         }
     }
 

@@ -12,7 +12,7 @@ ghost use Rattle.kdl_value.specs.Tree.{text_of};
 ghost use Rattle.std.specs.Prelude.{◌≡◌, ◌≤◌, IfErr, IfOk, OnErr, OnOk, None, length, option_map};
 
 use crate::document::KdlDocument;
-use crate::ends::{DocumentKind, Rest, ended_format, place_newlines, push_newlines};
+use crate::ends::{Rest, ended_format, place_newlines, push_newlines};
 use crate::node::KdlNode;
 use kdl_parts::KdlNodeFormat;
 use std::alloc::AllocError;
@@ -49,7 +49,7 @@ impl KdlNode {
         match &mut self.children {
             Some(children) => {
                 let index = children.nodes().len();
-                children.put(index, node, DocumentKind::Block)
+                children.put(index, node, Rest::Brace)
             }
             None => self.put_in_new_block(node),
         }
@@ -74,7 +74,7 @@ impl KdlNode {
         ensures refused { OnErr result (node_tree self.new ≡ node_tree self.old) }
     {
         match &mut self.children {
-            Some(children) => children.put(index, node, DocumentKind::Block),
+            Some(children) => children.put(index, node, Rest::Brace),
             None => self.put_in_new_block(node),
         }
     }
@@ -94,7 +94,7 @@ impl KdlNode {
             Err(error) => return Err((node, error)),
         };
         let mut block = KdlDocument::new(*self.entries.allocator());
-        block.put(0, node, DocumentKind::Block)?;
+        block.put(0, node, Rest::Brace)?;
         self.begin_block(before);
         self.children = Some(block);
         Ok(())

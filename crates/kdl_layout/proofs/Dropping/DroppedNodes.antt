@@ -1,11 +1,10 @@
 -- After a slashdash between nodes: what the control passes over is the node that is dropped, and no other.
-use Rattle.kdl_layout.proofs.Common.{◌≡◌, ◌↔◌, ◌≤◌, true, false, ◌&&◌, not, List, [], ◌∷◌, Some, refl, sym, ap, subst, ◌∙◌, length, arith, and_parts, Text, Star, plus, NodeSpace, Break, LineSpace, slashdash, join, star_end, end_length, node_space_end, node_space_shorter, untyped, typed, between, Token, newline, semicolon, BeginsToken, t_space, t_newline, t_slashdash, t_string, t_semicolon, Lexes, done, next, token_det, no_token, Terminator, IsNode, named, no_gap, line_space, dropped_node, AreNodes, last_gap, node_then, Item, piece, ItemEnd, EndsTight, GapItems, EndsNowhere, moved, follows_word, at_end, Goal, for_node, End, returned, ended, returns, over, word, goes_on, stops, goes, NodePasses}
+use Rattle.kdl_layout.proofs.Common.{◌≡◌, ◌↔◌, ◌≤◌, true, false, ◌&&◌, not, List, [], ◌∷◌, Some, refl, sym, ap, subst, ◌∙◌, length, arith, and_parts, Text, Star, plus, NodeSpace, Break, LineSpace, slashdash, join, star_end, end_length, node_space_end, node_space_shorter, untyped, typed, between, Token, newline, semicolon, BeginsToken, t_space, t_newline, t_slashdash, t_string, t_semicolon, Lexes, done, next, token_det, no_token, Terminator, IsNode, named, no_gap, line_space, dropped_node, AreNodes, last_gap, node_then, Item, piece, ItemEnd, EndsTight, GapItems, EndsNowhere, moved, follows_word, at_end, Goal, for_node, End, returned, ended, returns, over, word, goes_on, stops, goes, NodePasses, Control, at, step, finish, accepts, is_gap, is_over, is_word, NoKey, NodeSlashdash, InNode, Fresh, Later}
 use Rattle.kdl_text.specs.Chars.Star.{none as no_star, more}
 use Rattle.kdl_entry.specs.Entries.{string as a_string'}
 use Rattle.kdl_grammar.specs.Data.{Node, Nodes}
-use Rattle.kdl_syntax.specs.Control.{Control, at, step, finish, held, accepts, is_gap, is_over, is_word}
-use Rattle.kdl_syntax.specs.declared.control.{Spot.TheVariants.Fresh, Spot.TheVariants.Later, Word.TheVariants.NoKey}
-use Rattle.kdl_syntax.specs.declared.control.Phase.TheVariants.{Gap, NodeSlashdash, InNode}
+use Rattle.kdl_syntax.specs.Control.{held}
+use Rattle.kdl_syntax.specs.declared.control.Phase.TheVariants.{Gap}
 use Rattle.kdl_grammar.proofs.Reading.Sound.{derives}
 use Rattle.kdl_layout.specs.Internal.Passing.{before, Stops, ends, Passes}
 use Rattle.kdl_layout.proofs.Dropping.Paths.{Tail, before_block, after_block, at_brace, halts_nodes, Back, Here, node_on, over_node, drop_node, tail_spaces}

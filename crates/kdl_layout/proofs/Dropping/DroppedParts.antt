@@ -1,7 +1,5 @@
 -- What a slashdash drops in a place of a node: the control's passing over it says what it is, and where it ends.
-use Rattle.kdl_layout.proofs.Common.{◌≡◌, ◌↔◌, Bool, true, false, ◌&&◌, not, if◌then◌else◌, List, [], ◌∷◌, Option, Some, refl, sym, ap, subst, ◌∙◌, and_parts, Text, starts, Star, Plus, plus, NodeSpace, LineSpace, Slashdash, snoc, StringPiece, IsString, parens, untyped, typed, MaybeType, IsEntry, a_string, a_plain, IsValue, argument, between, Token, string, BeginsToken, t_space, t_newline, t_slashdash, t_string, t_left, t_opening, t_closing, t_semicolon, Lexes, done, next, t_value, token_det, no_token, Terminator, named, AfterName, kept_entry, dropped_entry, blocks, Blocks, dropped_block, no_block, Gap, no_gap, dropped_node, AreNodes, last_gap, node_then, IsBlock, braces, Item, piece, Place, takes_entries, takes_blocks, PlaceItems, Value, EndsNowhere, takes, next_place, of_spaces, moved, follows_word, for_part, PartPasses, over, word, stops, goes, slashdash_phase, slashdash_in, EndsWord, at_end}
-use Rattle.kdl_text.specs.Chars.{is_identifier_char, is_space, is_newline_char, is_banned, is_punctuation}
-use Rattle.kdl_text.specs.Bare.{is_bare}
+use Rattle.kdl_layout.proofs.Common.{◌≡◌, ◌↔◌, Bool, true, false, ◌&&◌, not, if◌then◌else◌, List, [], ◌∷◌, Option, Some, refl, sym, ap, subst, ◌∙◌, and_parts, Text, starts, Star, Plus, plus, NodeSpace, LineSpace, Slashdash, snoc, StringPiece, IsString, parens, untyped, typed, MaybeType, IsEntry, a_string, a_plain, IsValue, argument, between, Token, string, BeginsToken, t_space, t_newline, t_slashdash, t_string, t_left, t_opening, t_closing, t_semicolon, Lexes, done, next, t_value, token_det, no_token, Terminator, named, AfterName, kept_entry, dropped_entry, blocks, Blocks, dropped_block, no_block, Gap, no_gap, dropped_node, AreNodes, last_gap, node_then, IsBlock, braces, Item, piece, Place, takes_entries, takes_blocks, PlaceItems, Value, EndsNowhere, takes, next_place, of_spaces, moved, follows_word, for_part, PartPasses, over, word, stops, goes, slashdash_phase, slashdash_in, EndsWord, at_end, is_identifier_char, is_space, is_newline_char, is_banned, is_punctuation, is_bare, Control, at, event_of, spaced_of, step, accepts, is_over, is_block, is_word, Phase, Spot, Frame, MayBeKey, NoKey, InNode, EntrySlashdash, Fresh, Spaced, Later}
 use Rattle.kdl_text.specs.Chars.Star.{none as no_star, more}
 use Rattle.kdl_text.specs.Bare.BareString.{bare as a_bare}
 use Rattle.kdl_text.specs.Trivia.Break.{newline as break_newline, comment as break_comment}
@@ -14,10 +12,9 @@ use Rattle.kdl_syntax.specs.Tokens as token'
 use Rattle.kdl_grammar.specs.Data.{Children, Nodes}
 use Rattle.kdl_grammar.specs.Grammar.{block}
 use Rattle.kdl_grammar.specs.Grammar.Gap.{line_space as gap_space}
-use Rattle.kdl_syntax.specs.Control.{Control, after as after_event, at, event_of, spaced_of, step, held, accepts, is_over, is_block, is_word}
-use Rattle.kdl_syntax.specs.declared.control.{Frame.TheVariants.Dropped as DroppedBlock, Phase.Phase, Spot.Spot, Frame.Frame, Word.Word as ControlWord, Word.TheVariants.MayBeKey, Word.TheVariants.NoKey}
-use Rattle.kdl_syntax.specs.declared.control.Phase.TheVariants.{Gap as InGap, InNode, EntrySlashdash}
-use Rattle.kdl_syntax.specs.declared.control.Spot.TheVariants.{Fresh, Spaced, Later}
+use Rattle.kdl_syntax.specs.Control.{after as after_event, held}
+use Rattle.kdl_syntax.specs.declared.control.{Frame.TheVariants.Dropped as DroppedBlock, Word.Word as ControlWord}
+use Rattle.kdl_syntax.specs.declared.control.Phase.TheVariants.{Gap as InGap}
 use Rattle.kdl_layout.specs.Items as items
 use Rattle.kdl_layout.specs.Internal.Passing.{before}
 use Rattle.kdl_layout.proofs.Dropping.DroppedNodes.{Accepted, accepted, token_first, accepted_back, derived, passes_det}

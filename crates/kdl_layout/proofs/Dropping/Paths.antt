@@ -1,15 +1,14 @@
 -- Where the grammar derives a piece, the control goes on over it.
 -- `P c last s` says something of the control before the text s, where the last token that is no node-space ended before `last`.
-use Rattle.kdl_layout.proofs.Common.{◌≡◌, Bool, true, false, ◌&&◌, not, List, [], ◌∷◌, Option, Some, refl, sym, ap, subst, ◌∙◌, and-false, Text, Star, plus, NodeSpace, Break, LineSpace, slashdash, Value, IsString, IsPlainValue, a_string, a_plain, parens, untyped, typed, IsValue, IsEntry, argument, Token, space, newline, string, t_space, t_newline, t_slashdash, t_string, t_value, t_left, t_opening, t_closing, t_semicolon, BeginsToken, token_det, no_token, Terminator, IsNode, named, AfterName, kept_entry, dropped_entry, Blocks, AfterBlock, dropped_later, no_more, Gap, no_gap, line_space, dropped_node, AreNodes, last_gap, node_then, IsBlock, braces, moved, follows_word, for_node, End, goes_on, goes, NodePasses, PartPasses, slashdash_phase}
+use Rattle.kdl_layout.proofs.Common.{◌≡◌, Bool, true, false, ◌&&◌, not, List, [], ◌∷◌, Option, Some, refl, sym, ap, subst, ◌∙◌, and-false, Text, Star, plus, NodeSpace, Break, LineSpace, slashdash, Value, IsString, IsPlainValue, a_string, a_plain, parens, untyped, typed, IsValue, IsEntry, argument, Token, space, newline, string, t_space, t_newline, t_slashdash, t_string, t_value, t_left, t_opening, t_closing, t_semicolon, BeginsToken, token_det, no_token, Terminator, IsNode, named, AfterName, kept_entry, dropped_entry, Blocks, AfterBlock, dropped_later, no_more, Gap, no_gap, line_space, dropped_node, AreNodes, last_gap, node_then, IsBlock, braces, moved, follows_word, for_node, End, goes_on, goes, NodePasses, PartPasses, slashdash_phase, Control, at, event_of, spaced_of, step, is_gap, is_over, is_word, Phase, Spot, Frame, MayBeKey, NoKey, NodeSlashdash, TypeDone, InNode, EntrySlashdash, Fresh, Spaced, Later}
 use Rattle.kdl_text.specs.Chars.Star.{none as no_star, more}
 use Rattle.kdl_entry.specs.Data.{Entry}
 use Rattle.kdl_entry.specs.Entries.{string as a_string', value as a_value', property as a_property}
 use Rattle.kdl_syntax.specs.Tokens.{slashdash as dash, value, left, opening, closing, t_right, t_equals}
 use Rattle.kdl_grammar.specs.Data.{Node, Children, Nodes}
-use Rattle.kdl_syntax.specs.Control.{Control, after, at, event_of, popped, spaced_of, step, is_gap, is_over, is_word}
-use Rattle.kdl_syntax.specs.declared.control.{Phase.Phase, Spot.Spot, Frame.Frame, Word.Word as ControlWord, Owner.Owner, Word.TheVariants.MayBeKey, Word.TheVariants.NoKey, Owner.TheVariants.Name as OfName, Owner.TheVariants.Value as OfValue}
-use Rattle.kdl_syntax.specs.declared.control.Phase.TheVariants.{Gap as InGap, NodeSlashdash, TypeOpen, TypeName, TypeDone, InNode, Property, EntrySlashdash, BlockSlashdash, Kept, KeptSlashdash}
-use Rattle.kdl_syntax.specs.declared.control.Spot.TheVariants.{Fresh, Spaced, Later}
+use Rattle.kdl_syntax.specs.Control.{after, popped}
+use Rattle.kdl_syntax.specs.declared.control.{Word.Word as ControlWord, Owner.Owner, Owner.TheVariants.Name as OfName, Owner.TheVariants.Value as OfValue}
+use Rattle.kdl_syntax.specs.declared.control.Phase.TheVariants.{Gap as InGap, TypeOpen, TypeName, Property, BlockSlashdash, Kept, KeptSlashdash}
 use Rattle.kdl_syntax.specs.declared.control.Frame.TheVariants.{Node as NodeBlock, Dropped as DroppedBlock, Later as LaterBlock}
 
 -- after the name of a node

@@ -1,13 +1,11 @@
 -- The turns of the loops that pass over what a slashdash drops, token by token.
-use Rattle.kdl_layout.proofs.Common.{◌≡◌, ◌↔◌, ◌⊎◌, inl, inr, ℕ, ◌<◌, Bool, true, false, ◌&&◌, not, List, [], ◌∷◌, ◌++◌, length, Option, Some, None, refl, sym, ap, subst, ◌∙◌, arith, append_assoc, if◌then◌else◌, ◌+◌, ◌-◌, ◌≤◌, Bor, length-append, and-false, and_parts, then_some, Text, Star, plus, Here, bytes, Moves, NodeSpace, Break, bytes-append, star_end, end_length, node_space_end, node_space_shorter, Cuts, one, spaces, kind_view, HandsOut, Token, space, newline, semicolon, t_space, BeginsToken, NoToken, t_semicolon, token_det, no_token, Ended, ItemEnd, Place, before_entry, before_block, after_block, Item, line_end, GapItems, chars, IsUtf8, between, TokenKind, is_between, EndsNode, of_spaces, moved, follows_word, EndsWord, at_end, Goal, for_node, for_part, End, returned, ended, returns, over, word, goes_on, stops, goes, slashdash_in, EndsAt, EndsNowhere, AnswersDroppedPart, Ending, Cut}
+use Rattle.kdl_layout.proofs.Common.{◌≡◌, ◌↔◌, ◌⊎◌, inl, inr, ℕ, ◌<◌, Bool, true, false, ◌&&◌, not, List, [], ◌∷◌, ◌++◌, length, Option, Some, None, refl, sym, ap, subst, ◌∙◌, arith, append_assoc, if◌then◌else◌, ◌+◌, ◌-◌, ◌≤◌, Bor, length-append, and-false, and_parts, then_some, Text, Star, plus, Here, bytes, Moves, NodeSpace, Break, bytes-append, star_end, end_length, node_space_end, node_space_shorter, Cuts, one, spaces, kind_view, HandsOut, Token, space, newline, semicolon, t_space, BeginsToken, NoToken, t_semicolon, token_det, no_token, Ended, ItemEnd, Place, before_entry, before_block, after_block, Item, line_end, GapItems, chars, IsUtf8, between, TokenKind, is_between, EndsNode, of_spaces, moved, follows_word, EndsWord, at_end, Goal, for_node, for_part, End, returned, ended, returns, over, word, goes_on, stops, goes, slashdash_in, EndsAt, EndsNowhere, AnswersDroppedPart, Ending, Cut, Control, at, step, finish, is_gap, is_over, is_block, is_word, NodeSlashdash, TypeDone, InNode, Fresh, Spaced, Later, ended_view}
 use Rattle.kdl_text.specs.Chars.Star.{none as no_star, more}
 use Rattle.kdl_syntax.specs.declared.lexer.Token.{Token as CodeToken}
 use Rattle.kdl_syntax.proofs.Lexing.TokenUnique.{token_shorter}
-use Rattle.kdl_syntax.specs.Control.{Control, at, step, finish, held, is_gap, is_over, is_block, is_word}
+use Rattle.kdl_syntax.specs.Control.{held}
 use Rattle.kdl_syntax.specs.declared.control.{Frame.TheVariants.Node as NodeBlock, Phase.Phase, Frame.Frame, Word.TheVariants.MayBeKey, Owner.TheVariants.Value as OfValue}
-use Rattle.kdl_syntax.specs.declared.control.Phase.TheVariants.{Gap, NodeSlashdash, TypeDone, InNode}
-use Rattle.kdl_syntax.specs.declared.control.Spot.TheVariants.{Fresh, Spaced, Later}
-use Rattle.kdl_syntax.specs.Internal.Views.{ended_view}
+use Rattle.kdl_syntax.specs.declared.control.Phase.TheVariants.{Gap}
 use Rattle.kdl_syntax.specs.declared.control.Ended.TheVariants.{Entry}
 use Rattle.kdl_layout.specs.Internal.Passing.{before, part_end, ends, Passes}
 use Rattle.kdl_layout.specs.Internal.Passed.{Before, AnswersDroppedNode}

@@ -1,6 +1,5 @@
 -- Layout loses no comment: what a document holds of them is, each as it is on a line, what is held by the document that is laid in the printed text.
-use Rattle.kdl_layout.proofs.Common.{◌≡◌, ℕ, ◌+◌, Bool, true, false, List, [], ◌∷◌, ◌++◌, map, refl, sym, ap, subst, ◌∙◌, Option, Some, append_assoc, append-nil, None, ◌||◌, and_parts, map-append, list_all, ◌&&◌, Text, ValueEnd, LineSpace, SourceSpan, print_identifier, print_type, print_key, Terminator, Gap, no_gap, line_space, print_pieces, print_node, print_tail, print_nodes, print_document, print_piece, NodeFormat, DocumentFormat, Head, Node, node, Children, no_children, children, Document, document, Nodes, none, first, node_data, children_data, nodes_data, document_data, BeforeChildren, Item, before_block, GapItems, PlaceItems, Place, before_entry, on_line, tail, AreNodeSpaces, InPlace, NodeItems, of_node, ChildrenItems, NodesItems, DocumentItems, of_document, EntriesItems, Settings, indentation, or_empty, or_empty_document, newline_if_none, in_braces, NodeKeepsNone, ChildrenKeepNone, NodesKeepNone, DocumentKeepsNone, last_place, without_bom, KeptEnd, WrittenUnless, entry_leading, at_start, past_node, braces_in_line, braces_on_line, in_one_line, is_on_one_line, nodes_in_line, nodes_on_line, one_lined_children, one_lined_document, one_lined_node, one_lined_nodes, end_on_line, head_on_line, node_in_line, TypeTexts, with_type_texts, IsSpelling, SpacesTexts, NodeTexts, line_of, content_of, has_block, IsWellFormedNode, AreWellFormedChildren, AreWellFormed, only_spaces, no_line_comment, punctuation_end, Identifier, Entry, empty_format, Value, Before}
-use Rattle.kdl_text.specs.Chars.{is_space}
+use Rattle.kdl_layout.proofs.Common.{◌≡◌, ℕ, ◌+◌, Bool, true, false, List, [], ◌∷◌, ◌++◌, map, refl, sym, ap, subst, ◌∙◌, Option, Some, append_assoc, append-nil, None, ◌||◌, and_parts, map-append, list_all, ◌&&◌, Text, ValueEnd, LineSpace, SourceSpan, print_identifier, print_type, print_key, Terminator, Gap, no_gap, line_space, print_pieces, print_node, print_tail, print_nodes, print_document, print_piece, NodeFormat, DocumentFormat, Head, Node, node, Children, no_children, children, Document, document, Nodes, none, first, node_data, children_data, nodes_data, document_data, BeforeChildren, Item, before_block, GapItems, PlaceItems, Place, before_entry, on_line, tail, AreNodeSpaces, InPlace, NodeItems, of_node, ChildrenItems, NodesItems, DocumentItems, of_document, EntriesItems, Settings, indentation, or_empty, or_empty_document, newline_if_none, in_braces, NodeKeepsNone, ChildrenKeepNone, NodesKeepNone, DocumentKeepsNone, last_place, without_bom, KeptEnd, WrittenUnless, entry_leading, at_start, past_node, braces_in_line, braces_on_line, in_one_line, is_on_one_line, nodes_in_line, nodes_on_line, one_lined_children, one_lined_document, one_lined_node, one_lined_nodes, end_on_line, head_on_line, node_in_line, TypeTexts, with_type_texts, IsSpelling, SpacesTexts, NodeTexts, line_of, content_of, has_block, IsWellFormedNode, AreWellFormedChildren, AreWellFormed, only_spaces, no_line_comment, punctuation_end, Identifier, Entry, empty_format, Value, Before, is_space}
 use Rattle.kdl_entry.specs.Places.{span_of}
 use Rattle.kdl_grammar.specs.Laid.{node_format, content_span, laid_node, LaidChildren, no_block, a_block, LaidNodes, no_node, a_node, LaidContent, without_nodes, with_nodes, LaidDocument, LaidDocumentAs, LaidEntries, no_entry, an_entry}
 use Rattle.kdl_grammar.specs.Print.{print_head, end_text}

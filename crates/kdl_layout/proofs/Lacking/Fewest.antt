@@ -1,7 +1,5 @@
 -- Fewer newlines are not enough.
-use Rattle.kdl_layout.proofs.Common.{◌≡◌, ◌⊎◌, inl, inr, ℕ, zero, suc, ◌+◌, ◌-◌, ◌<◌, true, false, not, [], ◌∷◌, ◌++◌, length, List, Option, Some, None, refl, sym, ap, subst, ◌∙◌, arith, append_assoc, Text, Star, more, Ws, NodeSpace, Break, LineSpace, Slashdash, slashdash, ValueEnd, StringPiece, parens, untyped, typed, Token, BeginsToken, space, newline, t_space, t_newline, t_slashdash, t_string, t_left, token_det, no_token, Terminator, IsNode, named, AfterName, Blocks, Gap, no_gap, line_space, dropped_node, AreNodes, last_gap, node_then, AddsNothing, Anything, Terminates, Item, ItemEnd, GapItems, letter, GapRead, adding, moved, returned, NodePasses, returns, stops, goes}
-use Rattle.kdl_text.specs.Bare.{is_bare}
-use Rattle.kdl_text.specs.Chars.{is_identifier_char, is_space, is_newline_char, is_banned, is_punctuation}
+use Rattle.kdl_layout.proofs.Common.{◌≡◌, ◌⊎◌, inl, inr, ℕ, zero, suc, ◌+◌, ◌-◌, ◌<◌, true, false, not, [], ◌∷◌, ◌++◌, length, List, Option, Some, None, refl, sym, ap, subst, ◌∙◌, arith, append_assoc, Text, Star, more, Ws, NodeSpace, Break, LineSpace, Slashdash, slashdash, ValueEnd, StringPiece, parens, untyped, typed, Token, BeginsToken, space, newline, t_space, t_newline, t_slashdash, t_string, t_left, token_det, no_token, Terminator, IsNode, named, AfterName, Blocks, Gap, no_gap, line_space, dropped_node, AreNodes, last_gap, node_then, AddsNothing, Anything, Terminates, Item, ItemEnd, GapItems, letter, GapRead, adding, moved, returned, NodePasses, returns, stops, goes, is_bare, is_identifier_char, is_space, is_newline_char, is_banned, is_punctuation, Control, at, is_gap, NodeSlashdash}
 use Rattle.kdl_text.specs.Bare.BareString.{bare as a_bare}
 use Rattle.kdl_text.specs.Chars.{none as no_star}
 use Rattle.kdl_text.proofs.Spacing.SpacePieces.{line_space_shorter}
@@ -9,8 +7,7 @@ use Rattle.kdl_text.proofs.Spacing.SpaceUnique.{line_space_det}
 use Rattle.kdl_entry.specs.Entries.{string as a_string'}
 use Rattle.kdl_syntax.specs.Tokens as token'
 use Rattle.kdl_grammar.specs.Data.{Node, node, no_children, Nodes, none, first}
-use Rattle.kdl_syntax.specs.Control.{Control, at, held, is_gap}
-use Rattle.kdl_syntax.specs.declared.control.Phase.TheVariants.{NodeSlashdash}
+use Rattle.kdl_syntax.specs.Control.{held}
 use Rattle.kdl_layout.specs.Lacks.{newlines, GapLacks}
 use Rattle.kdl_layout.specs.Internal.Lacking.{Fewest}
 use Rattle.kdl_layout.proofs.Dropping.DroppedNodes.{turn_back, passes_det, passes_last, passes_node, DroppedThen, then_nodes, then_none, dash_nodes, tail_ends}

@@ -1,11 +1,9 @@
 -- What the first piece of a gap adds to the nodes after it.
-use Rattle.kdl_layout.proofs.Common.{◌≡◌, ℕ, Bool, true, false, if◌then◌else◌, List, [], ◌∷◌, ◌++◌, length, Option, Some, None, Continue, Bor, refl, sym, ap, subst, ◌∙◌, arith, append_assoc, append-nil, eqb-true, chars, Text, begins, Star, more, bytes, NodeSpace, Break, LineSpace, Slashdash, slashdash, ValueEnd, snoc, break_shorter, Token, BeginsToken, move_spaces, move_slashdash, spaces_end, Terminator, IsNode, Gap, no_gap, line_space, dropped_node, AreNodes, AddsNothing, terminator_end, gap_nodes, between, Item, piece, line_end, LineSpaceItems, GapItems, ItemEnd, EndsTight, letter, LineEnds, left, EndsNode, Spaces, OnlySpaces, Through, GapRead, EndsAt, of_spaces, moved, returned, NodePasses, stops, goes, Leaves, added, Adding, adding, Ending, InReturn, Open}
+use Rattle.kdl_layout.proofs.Common.{◌≡◌, ℕ, Bool, true, false, if◌then◌else◌, List, [], ◌∷◌, ◌++◌, length, Option, Some, None, Continue, Bor, refl, sym, ap, subst, ◌∙◌, arith, append_assoc, append-nil, eqb-true, chars, Text, begins, Star, more, bytes, NodeSpace, Break, LineSpace, Slashdash, slashdash, ValueEnd, snoc, break_shorter, Token, BeginsToken, move_spaces, move_slashdash, spaces_end, Terminator, IsNode, Gap, no_gap, line_space, dropped_node, AreNodes, AddsNothing, terminator_end, gap_nodes, between, Item, piece, line_end, LineSpaceItems, GapItems, ItemEnd, EndsTight, letter, LineEnds, left, EndsNode, Spaces, OnlySpaces, Through, GapRead, EndsAt, of_spaces, moved, returned, NodePasses, stops, goes, Leaves, added, Adding, adding, Ending, InReturn, Open, Control, at, NodeSlashdash}
 use Rattle.kdl_text.specs.Chars.{none}
 use Rattle.kdl_text.specs.Internal.Here.{first}
 use Rattle.kdl_grammar.specs.Data as nodes'
 use Rattle.kdl_grammar.specs.Data.{Node, Nodes}
-use Rattle.kdl_syntax.specs.Control.{Control, at}
-use Rattle.kdl_syntax.specs.declared.control.Phase.TheVariants.{NodeSlashdash}
 use Rattle.kdl_grammar.specs.ReadsBack.{NodesEnd}
 use Rattle.kdl_grammar.proofs.ReadingBack.Closing.{after_lf}
 use Rattle.kdl_layout.specs.Lacks.{newlines}

@@ -1,5 +1,5 @@
 -- The pieces of a place: their items, and what the text may come before.
-use Rattle.kdl_layout.proofs.Common.{◌≡◌, ℕ, ◌<◌, Bool, true, false, List, [], ◌∷◌, ◌++◌, length, Option, Some, None, Continue, Bor, refl, sym, subst, ◌∙◌, arith, append_assoc, append-nil, chars, Text, Star, more, Plus, plus, bytes, NodeSpace, slashdash, ValueEnd, value_end_no_identifier, StringPiece, untyped, between, punctuation_end, Terminator, IsNode, named, AfterName, Blocks, no_gap, dropped_node, last_gap, braces, after, before, before_end, terminator_end, Item, piece, SpaceItems, Place, before_entry, before_block, after_block, may_end, takes_blocks, spaced, PlaceItems, ends, InPlace, Ended, gap_nodes, letter, Spaces, PlaceThrough, AnswersDroppedPart, takes, next_place, PartPasses, slashdash_in, place_view, Run, added, Adding, adding, Ending, InReturn, Open}
+use Rattle.kdl_layout.proofs.Common.{◌≡◌, ℕ, ◌<◌, Bool, true, false, List, [], ◌∷◌, ◌++◌, length, Option, Some, None, Continue, Bor, refl, sym, subst, ◌∙◌, arith, append_assoc, append-nil, chars, Text, Star, more, Plus, plus, bytes, NodeSpace, slashdash, ValueEnd, value_end_no_identifier, StringPiece, untyped, between, punctuation_end, Terminator, IsNode, named, AfterName, Blocks, no_gap, dropped_node, last_gap, braces, after, before, before_end, terminator_end, Item, piece, SpaceItems, Place, before_entry, before_block, after_block, may_end, takes_blocks, spaced, PlaceItems, ends, InPlace, Ended, gap_nodes, letter, Spaces, PlaceThrough, AnswersDroppedPart, takes, next_place, PartPasses, slashdash_in, place_view, Run, added, Adding, adding, Ending, InReturn, Open, ended_view}
 use Rattle.std.proofs.Common.{Break}
 use Rattle.kdl_text.specs.Bare.BareString.{bare as a_bare}
 use Rattle.kdl_text.specs.Chars.{none}
@@ -8,7 +8,6 @@ use Rattle.kdl_entry.proofs.Moving.EntryMoves.{leading_end}
 use Rattle.kdl_grammar.specs.Data as nodes'
 use Rattle.kdl_grammar.specs.Data.{Node, node, no_children, children}
 use Rattle.kdl_grammar.proofs.Laying.LaidIsDerived.{later_of, plain_of}
-use Rattle.kdl_syntax.specs.Internal.Views.{ended_view}
 use Rattle.kdl_layout.specs.Lacks.{newlines, Lacks, BeforeEach, PlaceLacks}
 use Rattle.kdl_layout.specs.Internal.Lacking.{PlacePieceEnds, PlaceRead}
 use Rattle.kdl_layout.specs.Internal.Passed.{AfterPart}
@@ -108,7 +107,7 @@ front (before_entry b) s = s
 front before_block s = 97 ∷ s
 front after_block s = 97 ∷ 123 ∷ 125 ∷ s
 
-letter_piece : {s : Text} → ValueEnd true s → StringPiece (97 ∷ s) s (97 ∷ [])
+pub letter_piece : {s : Text} → ValueEnd true s → StringPiece (97 ∷ s) s (97 ∷ [])
 letter_piece e = StringPiece.bare (a_bare refl a_piece (value_end_no_identifier e))
 
 place_node : (p : Place) → takes_blocks p ≡ true → {s r : Text} → InPlace p s r → ValueEnd true s → (x : Node) × IsNode true (front p s) r x

@@ -1,6 +1,5 @@
 -- How node-spaces and line-spaces end.
-use Rattle.kdl_layout.proofs.Common.{◌≡◌, ℕ, ◌<◌, Bool, true, false, ◌&&◌, ◌==◌, [], ◌∷◌, ◌++◌, length, Option, Some, None, Bor, List, refl, sym, ap, subst, ◌∙◌, arith, append_assoc, append-nil, if◌then◌else◌, ◌≤◌, ◌↔◌, IsTrue, length-append, eqb-true, chars, Text, begins, begins_two, Newline, crlf, Star, Plus, plus, Space, more, Line, LineComment, Ws, EscEnd, escline, NodeSpace, Break, LineSpace, BlockComment, join, star_map, snoc, block_shorter, node_space_shorter, break_shorter, node_space_end, star_end, end_length, newline_begins, break_det, node_space_det, Token, BeginsToken, t_space, Item, line_end, EsclineItems, SpaceItems, LineSpaceItems, GapItems, any_run, Put, AreNodeSpaces, letter, LineEnds, left, Spaces, OnlySpaces, Starts, Run, added, found, Adding, adding, Leaves, Ending, InReturn, Open}
-use Rattle.kdl_text.specs.Chars.{is_space, is_newline_char}
+use Rattle.kdl_layout.proofs.Common.{◌≡◌, ℕ, ◌<◌, Bool, true, false, ◌&&◌, ◌==◌, [], ◌∷◌, ◌++◌, length, Option, Some, None, Bor, List, refl, sym, ap, subst, ◌∙◌, arith, append_assoc, append-nil, if◌then◌else◌, ◌≤◌, ◌↔◌, IsTrue, length-append, eqb-true, chars, Text, begins, begins_two, Newline, crlf, Star, Plus, plus, Space, more, Line, LineComment, Ws, EscEnd, escline, NodeSpace, Break, LineSpace, BlockComment, join, star_map, snoc, block_shorter, node_space_shorter, break_shorter, node_space_end, star_end, end_length, newline_begins, break_det, node_space_det, Token, BeginsToken, t_space, Item, line_end, EsclineItems, SpaceItems, LineSpaceItems, GapItems, any_run, Put, AreNodeSpaces, letter, LineEnds, left, Spaces, OnlySpaces, Starts, Run, added, found, Adding, adding, Leaves, Ending, InReturn, Open, is_space, is_newline_char}
 use Rattle.kdl_text.specs.Chars.{one, none}
 use Rattle.kdl_text.specs.Trivia.{line as a_line}
 use Rattle.kdl_text.proofs.Spacing.SpacePieces.{newline_shorter}

@@ -1,7 +1,5 @@
 -- A gap, or a place in a node, has one list of items at most.
-use Rattle.kdl_layout.proofs.Common.{◌≡◌, refl, List, [], ◌∷◌, ◌++◌, sym, ap, subst, ◌∙◌, Text, slashdash, between, Item, piece, GapItems, Place, takes_entries, PlaceItems, EndItems, ItemsIn, ended, NodePasses}
-use Rattle.kdl_syntax.specs.Control.{at}
-use Rattle.kdl_syntax.specs.declared.control.Phase.TheVariants.{NodeSlashdash}
+use Rattle.kdl_layout.proofs.Common.{◌≡◌, refl, List, [], ◌∷◌, ◌++◌, sym, ap, subst, ◌∙◌, Text, slashdash, between, Item, piece, GapItems, Place, takes_entries, PlaceItems, EndItems, ItemsIn, ended, NodePasses, at, NodeSlashdash}
 use Rattle.kdl_layout.proofs.Dropping.DroppedNodes.{passes_node, passes_last, tight_same, node_returned, node_ended}
 use Rattle.kdl_layout.proofs.Dropping.DroppedParts.{place_quiet, entry_passes, block_passes, part_leaves}
 use Rattle.kdl_layout.proofs.Listing.SpaceItems.{gap_space, gap_end, place_space, place_end}

@@ -1,6 +1,5 @@
 -- What begins a text, by its first token; and with what no text begins that begins otherwise.
-use Rattle.kdl_layout.proofs.Common.{◌≡◌, ℕ, true, false, Option, Some, None, List, [], ◌∷◌, ◌++◌, length, Bor, refl, sym, ap, subst, ◌∙◌, arith, ◌<◌, Bool, not, ◌==◌, if◌then◌else◌, chars, IsUtf8, is_between, Text, Plus, plus, Newline, Space, Star, begins_two, starts, Here, bytes, Moves, BlockComment, LineComment, Ws, EscEnd, NodeSpace, Break, break_shorter, star_end, end_length, block_shorter, slash_no_space, backslash_no_space, newline_begins, slash_no_newline, Cuts, one, HandsOut, kind_view, Token, BeginsToken, space, newline, t_space, t_newline, t_slashdash, TokenKind, token_det, no_token, comment, piece, line_end, EsclineItems, SpaceItems, LineSpaceItems, chars-nil, encodes-chars, and_parts, eqb-true, list_all, bytes-append, Cut, Starts, Run, found}
-use Rattle.kdl_text.specs.Chars.{is_newline_char}
+use Rattle.kdl_layout.proofs.Common.{◌≡◌, ℕ, true, false, Option, Some, None, List, [], ◌∷◌, ◌++◌, length, Bor, refl, sym, ap, subst, ◌∙◌, arith, ◌<◌, Bool, not, ◌==◌, if◌then◌else◌, chars, IsUtf8, is_between, Text, Plus, plus, Newline, Space, Star, begins_two, starts, Here, bytes, Moves, BlockComment, LineComment, Ws, EscEnd, NodeSpace, Break, break_shorter, star_end, end_length, block_shorter, slash_no_space, backslash_no_space, newline_begins, slash_no_newline, Cuts, one, HandsOut, kind_view, Token, BeginsToken, space, newline, t_space, t_newline, t_slashdash, TokenKind, token_det, no_token, comment, piece, line_end, EsclineItems, SpaceItems, LineSpaceItems, chars-nil, encodes-chars, and_parts, eqb-true, list_all, bytes-append, Cut, Starts, Run, found, is_newline_char}
 use Rattle.kdl_text.specs.Chars.{none}
 use Rattle.kdl_text.specs.Chars.Space.{space as a_space}
 use Rattle.kdl_text.specs.Internal.Here.{Ate, Stayed, Skips, first}

@@ -1,6 +1,5 @@
 -- A block on one line is on one line again once it is laid out again.
-use Rattle.kdl_layout.proofs.Common.{◌≡◌, ℕ, zero, suc, ◌+◌, Bool, true, false, [], ◌∷◌, ◌++◌, refl, sym, ap, subst, ◌∙◌, Option, None, Some, ◌||◌, List, option_map, and_parts, both_true, list_all, ◌&&◌, not, is_some, if◌then◌else◌, Text, SourceSpan, no_line_comment, NodeFormat, DocumentFormat, Head, Node, node, Children, no_children, children, Document, document, Nodes, none, first, GapItems, before_block, PlaceItems, before_entry, tail, at_start, blank_lines, past_items, past_node, read, Settings, indentation, or_empty, or_empty_document, newline_if_none, in_braces, DocumentKeepsNone, NodeKeepsNone, with_keep_if, ItemsIn, KeptEnd, EndItems, WrittenUnless, entry_leading, is_kept_format, IsLaidDocument, IsLaidNode, braces_in_line, braces_on_line, head_on_line, in_one_line, is_end, is_on_one_line, line_on_line, node_in_line, nodes_in_line, nodes_on_line, one_lined_node, one_lined_children, one_lined_document, one_lined_nodes, entry_on_line, form_on_line, maybe_on_line, name_on_line, only_spaces, plain_line, no_newline, IsTypedFormat, KeptTypeTexts, TypeTexts, node_type_texts, KeptSpelling, IsRespelled, IsRespelledIf, text_before, KeptLeading, KeepsForm, KeptForm, entry_type_texts, HasSpellings, HasSpellingsUnless, IsRespelledEntry, AreRespelledEntries, Passes, PassesFormat, PassesNode, PassesNodes, SpacedLines, SpacesContent, SpacesTexts, IsSpacedBraced, IsSpacedLine, NodeTexts, AreFormattedEntries, IsFormattedEntry, following, Entry, EntryFormat, Identifier, unspelled, kept, with_keep, autoformatted, autoformatted_format, Before}
-use Rattle.kdl_text.specs.Chars.{is_space}
+use Rattle.kdl_layout.proofs.Common.{◌≡◌, ℕ, zero, suc, ◌+◌, Bool, true, false, [], ◌∷◌, ◌++◌, refl, sym, ap, subst, ◌∙◌, Option, None, Some, ◌||◌, List, option_map, and_parts, both_true, list_all, ◌&&◌, not, is_some, if◌then◌else◌, Text, SourceSpan, no_line_comment, NodeFormat, DocumentFormat, Head, Node, node, Children, no_children, children, Document, document, Nodes, none, first, GapItems, before_block, PlaceItems, before_entry, tail, at_start, blank_lines, past_items, past_node, read, Settings, indentation, or_empty, or_empty_document, newline_if_none, in_braces, DocumentKeepsNone, NodeKeepsNone, with_keep_if, ItemsIn, KeptEnd, EndItems, WrittenUnless, entry_leading, is_kept_format, IsLaidDocument, IsLaidNode, braces_in_line, braces_on_line, head_on_line, in_one_line, is_end, is_on_one_line, line_on_line, node_in_line, nodes_in_line, nodes_on_line, one_lined_node, one_lined_children, one_lined_document, one_lined_nodes, entry_on_line, form_on_line, maybe_on_line, name_on_line, only_spaces, plain_line, no_newline, IsTypedFormat, KeptTypeTexts, TypeTexts, node_type_texts, KeptSpelling, IsRespelled, IsRespelledIf, text_before, KeptLeading, KeepsForm, KeptForm, entry_type_texts, HasSpellings, HasSpellingsUnless, IsRespelledEntry, AreRespelledEntries, Passes, PassesFormat, PassesNode, PassesNodes, SpacedLines, SpacesContent, SpacesTexts, IsSpacedBraced, IsSpacedLine, NodeTexts, AreFormattedEntries, IsFormattedEntry, following, Entry, EntryFormat, Identifier, unspelled, kept, with_keep, autoformatted, autoformatted_format, Before, is_space}
 use Rattle.kdl_layout.specs.OneLine.{maybe_form_on_line, spelling_on_line}
 use Rattle.kdl_layout.proofs.Rewriting.LinesAgain.{newline_items, spaces_items}
 use Rattle.kdl_layout.proofs.Keeping.GapFronts.{alone, joined, newline_if, indented}

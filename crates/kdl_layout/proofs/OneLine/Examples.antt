@@ -1,6 +1,5 @@
 -- Values that are not on one line, and others that are.
-use Rattle.kdl_layout.proofs.Common.{◌≡◌, true, false, [], ◌∷◌, refl, Some, None, empty_format, Head, node, no_children, children, document, none, first, end_on_line, form_on_line, is_on_one_line, no_newline, only_spaces}
-use Rattle.kdl_text.specs.Chars.{is_newline_char, is_space}
+use Rattle.kdl_layout.proofs.Common.{◌≡◌, true, false, [], ◌∷◌, refl, Some, None, empty_format, Head, node, no_children, children, document, none, first, end_on_line, form_on_line, is_on_one_line, no_newline, only_spaces, is_newline_char, is_space}
 use Rattle.kdl_entry.specs.Tree.{no_span}
 use Rattle.kdl_layout.specs.OneLine.{node_on_line}
 

@@ -1,6 +1,5 @@
 -- A second layout that keeps spellings changes nothing: layout does not look at them, and what was put back is put back again.
-use Rattle.kdl_layout.proofs.Common.{◌≡◌, ℕ, Bool, true, false, List, [], ◌∷◌, ◌++◌, refl, sym, ap, subst, ◌∙◌, Option, Some, None, option_map, list_all, ◌&&◌, ◌||◌, not, is_some, Text, Value, print_value, Identifier, EntryFormat, empty_format, Entry, unspelled, cleared, autoformatted, NodeFormat, Head, Node, node, Children, children, Document, document, Nodes, first, before_entry, PlaceItems, tail, Settings, with_keep_if, or_empty, or_empty_document, EntriesKeepNone, NodeKeepsNone, ChildrenKeepNone, DocumentKeepsNone, NodesKeepNone, ItemsIn, WrittenUnless, KeptBefore, is_kept_format, entry_leading, only_spaces, KeptSpelling, IsRespelled, IsRespelledIf, IsSpelling, text_before, KeptLeading, KeptPlaceIf, TypeTexts, KeptTypeTexts, KeptTypeTextsIf, KeepsForm, KeptForm, entry_type_texts, node_type_texts, with_type_texts, IsTypedFormat, HasSpellings, HasSpellingsUnless, IsRespelledEntry, AreRespelledEntries, IsSpacedLine, following, IsFormattedEntry, AreFormattedEntries, has_block, Before}
-use Rattle.kdl_text.specs.Chars.{is_space}
+use Rattle.kdl_layout.proofs.Common.{◌≡◌, ℕ, Bool, true, false, List, [], ◌∷◌, ◌++◌, refl, sym, ap, subst, ◌∙◌, Option, Some, None, option_map, list_all, ◌&&◌, ◌||◌, not, is_some, Text, Value, print_value, Identifier, EntryFormat, empty_format, Entry, unspelled, cleared, autoformatted, NodeFormat, Head, Node, node, Children, children, Document, document, Nodes, first, before_entry, PlaceItems, tail, Settings, with_keep_if, or_empty, or_empty_document, EntriesKeepNone, NodeKeepsNone, ChildrenKeepNone, DocumentKeepsNone, NodesKeepNone, ItemsIn, WrittenUnless, KeptBefore, is_kept_format, entry_leading, only_spaces, KeptSpelling, IsRespelled, IsRespelledIf, IsSpelling, text_before, KeptLeading, KeptPlaceIf, TypeTexts, KeptTypeTexts, KeptTypeTextsIf, KeepsForm, KeptForm, entry_type_texts, node_type_texts, with_type_texts, IsTypedFormat, HasSpellings, HasSpellingsUnless, IsRespelledEntry, AreRespelledEntries, IsSpacedLine, following, IsFormattedEntry, AreFormattedEntries, has_block, Before, is_space}
 use Rattle.kdl_entry.specs.Tree.{unspelled_names}
 use Rattle.kdl_layout.proofs.Texts.{no_format}
 use Rattle.kdl_layout.proofs.Rewriting.PlacesAgain.{tail_spaced}
@@ -17,7 +16,7 @@ use Rattle.kdl_layout.proofs.Formatting.PrintsCanonical.{unspelled_twice}
 auto_cleared : (e : Entry) → is_kept_format e.format ≡ false → autoformatted e ≡ cleared e
 auto_cleared e n = ap (λ (o : Option EntryFormat). record (unspelled_names e) { format = o }) (no_format e.format n)
 
-cleared_again : (e : Entry) → cleared (cleared e) ≡ cleared e
+pub cleared_again : (e : Entry) → cleared (cleared e) ≡ cleared e
 cleared_again e = rw (unspelled_twice e.name, unspelled_twice e.ty) refl
 
 text_stays : (b : Bool) (e : Entry) (q t u : Text) → WrittenUnless b (PlaceItems (before_entry false) q) tail t → WrittenUnless b (PlaceItems (before_entry false) (entry_leading (following t (cleared e)).format)) tail u → u ≡ t

@@ -1,6 +1,5 @@
 -- What the definitions of kept spellings do not allow: for each of them something that is no instance.
-use Rattle.kdl_layout.proofs.Common.{◌≡◌, Bool, true, false, [], ◌∷◌, refl, subst, sym, ap, ◌∙◌, Option, Some, None, list_all, ◌&&◌, not, is_some, Text, is_scalar, SourceSpan, Value, print_value, spelled, IsWellFormed, IsIdentifierText, Identifier, EntryFormat, Entry, DocumentFormat, Head, Document, document, Nodes, no_children, children, AreNodeSpaces, Settings, or_empty, only_spaces, IsSpelling, KeptSpelling, IsRespelled, IsRespelledIf, IsContinued, KeptForm, KeptLeading, KeptPlace, KeptPlaceIf, KeepsForm, IsTypedFormat, entry_type_texts, HasSpellings, HasSpellingsUnless, IsRespelledHead, AreRespelledChildren, IsRespelledDocument}
-use Rattle.kdl_text.specs.Chars.{is_space}
+use Rattle.kdl_layout.proofs.Common.{◌≡◌, Bool, true, false, [], ◌∷◌, refl, subst, sym, ap, ◌∙◌, Option, Some, None, list_all, ◌&&◌, not, is_some, Text, is_scalar, SourceSpan, Value, print_value, spelled, IsWellFormed, IsIdentifierText, Identifier, EntryFormat, Entry, DocumentFormat, Head, Document, document, Nodes, no_children, children, AreNodeSpaces, Settings, or_empty, only_spaces, IsSpelling, KeptSpelling, IsRespelled, IsRespelledIf, IsContinued, KeptForm, KeptLeading, KeptPlace, KeptPlaceIf, KeepsForm, IsTypedFormat, entry_type_texts, HasSpellings, HasSpellingsUnless, IsRespelledHead, AreRespelledChildren, IsRespelledDocument, is_space, and-false}
 use Rattle.kdl_entry.proofs.Laying.TextUnique.{one_identifier}
 use Rattle.kdl_layout.specs.Respelled.{IsCommented}
 use Rattle.kdl_layout.proofs.Respelling.Kept.{spaces_continue_nothing}
@@ -78,11 +77,7 @@ no_flagged s e m e' n h = n h
 
 -- a node without a type has the texts around its parts that layout leaves, and a block stays
 pub no_other_head : (s : Settings) (h m h' : Head) → h.ty ≡ None → (h'.format ≡ m.format → ⊥) → IsRespelledHead true s h m h' → ⊥
-no_other_head s h m h' e n r = n (subst (λ (b : Bool). IsTypedFormat b (or_empty h.format) m.format h'.format) (ap (λ (o : Option Identifier). not s.no_comments && is_some o) e ∙ and_never (not s.no_comments)) r.format)
-  where
-    and_never : (b : Bool) → (b && false) ≡ false
-    and_never true = refl
-    and_never false = refl
+no_other_head s h m h' e n r = n (subst (λ (b : Bool). IsTypedFormat b (or_empty h.format) m.format h'.format) (ap (λ (o : Option Identifier). not s.no_comments && is_some o) e ∙ and-false (not s.no_comments)) r.format)
 
 pub no_block_lost : (keep : Bool) (s : Settings) (d m : Document) → AreRespelledChildren keep s (children d) (children m) no_children → ⊥
 no_block_lost keep s d m h = h

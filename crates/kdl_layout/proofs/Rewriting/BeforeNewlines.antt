@@ -1,6 +1,5 @@
 -- Node-spaces and nodes that come before a newline come before LF too, where CR at their end is LF.
-use Rattle.kdl_layout.proofs.Common.{◌≡◌, ℕ, Bool, true, false, ◌&&◌, ◌==◌, List, [], ◌∷◌, ◌++◌, refl, sym, ap, subst, ◌∙◌, append_assoc, if◌then◌else◌, Text, starts, Newline, crlf, Star, more, Plus, plus, BlockComment, block, Line, Ws, EscEnd, escline, NodeSpace, ValueEnd, space_ends, end_spaces, end_slashdash, end_type, move_spaces, move_slashdash, move_string, move_entry, punctuation_end, spaces_end, any_run, Put, stands, also, joined, same, IsNode, named, AfterName, kept_entry, dropped_entry, Blocks, dropped_block, no_block, AfterBlock, dropped_later, no_more, IsBlock, braces, move_nodes, line_text}
-use Rattle.kdl_text.specs.Chars.{is_newline_char}
+use Rattle.kdl_layout.proofs.Common.{◌≡◌, ℕ, Bool, true, false, ◌&&◌, ◌==◌, List, [], ◌∷◌, ◌++◌, refl, sym, ap, subst, ◌∙◌, append_assoc, if◌then◌else◌, Text, starts, Newline, crlf, Star, more, Plus, plus, BlockComment, block, Line, Ws, EscEnd, escline, NodeSpace, ValueEnd, space_ends, end_spaces, end_slashdash, end_type, move_spaces, move_slashdash, move_string, move_entry, punctuation_end, spaces_end, any_run, Put, stands, also, joined, same, IsNode, named, AfterName, kept_entry, dropped_entry, Blocks, dropped_block, no_block, AfterBlock, dropped_later, no_more, IsBlock, braces, move_nodes, line_text, is_newline_char}
 use Rattle.std.proofs.lemmas.List.{append_cancel_right}
 use Rattle.kdl_text.specs.Chars.{one, none, space as a_space}
 use Rattle.kdl_text.specs.Internal.Here.{first}

@@ -1,7 +1,5 @@
 -- No string, number, keyword, entry, block or block comment ends with CR.
-use Rattle.kdl_layout.proofs.Common.{◌≡◌, ℕ, zero, suc, ◌≤◌, ◌<◌, Bool, true, false, ◌||◌, ◌==◌, List, [], ◌∷◌, ◌++◌, Option, Some, None, refl, sym, ap, ◌∙◌, append_assoc, arith, and_parts, nat_tests, list_all, if◌then◌else◌, Text, times, Parts, block, Ws, Keyword, True, Value, StringPiece, IsString, IsPlainValue, a_string, a_plain, IsValue, value, IsEntry, property, argument, end_spaces, end_type, Put, IsBlock, braces, move_nodes}
-use Rattle.kdl_text.specs.Chars.{is_identifier_char, is_space, is_newline_char, is_banned, is_punctuation}
-use Rattle.kdl_text.specs.Bare.{is_bare}
+use Rattle.kdl_layout.proofs.Common.{◌≡◌, ℕ, zero, suc, ◌≤◌, ◌<◌, Bool, true, false, ◌||◌, ◌==◌, List, [], ◌∷◌, ◌++◌, Option, Some, None, refl, sym, ap, ◌∙◌, append_assoc, arith, and_parts, nat_tests, list_all, if◌then◌else◌, Text, times, Parts, block, Ws, Keyword, True, Value, StringPiece, IsString, IsPlainValue, a_string, a_plain, IsValue, value, IsEntry, property, argument, end_spaces, end_type, Put, IsBlock, braces, move_nodes, is_identifier_char, is_space, is_newline_char, is_banned, is_punctuation, is_bare}
 use Rattle.kdl_text.specs.Dedent.{LineUnit}
 use Rattle.kdl_text.specs.Chars.{space as a_space}
 use Rattle.kdl_text.specs.Bare.{BareString, bare as bare_text}

@@ -1,6 +1,5 @@
 -- Items that are written on lines of their own are items of a gap again, and the lines are a gap.
-use Rattle.kdl_layout.proofs.Common.{◌≡◌, ℕ, Bool, true, false, ◌==◌, List, [], ◌∷◌, ◌++◌, refl, sym, ap, subst, ◌∙◌, append_assoc, append-nil, arith, and_parts, nat_tests, list_all, if◌then◌else◌, map, Text, starts, is_space, Star, more, plus, BlockComment, Line, LineComment, Ws, NodeSpace, Break, Slashdash, ValueEnd, newline_begins, between, between_is, is_between, move_spaces, move_slashdash, punctuation_end, spaces_end, Put, stands, also, joined, IsNode, Gap, line_space, Item, comment, piece, line_end, EsclineItems, SpaceItems, LineSpaceItems, ItemEnd, EndsTight, GapItems, item_text, line_text, lines, on_line}
-use Rattle.kdl_text.specs.Chars.{is_newline_char}
+use Rattle.kdl_layout.proofs.Common.{◌≡◌, ℕ, Bool, true, false, ◌==◌, List, [], ◌∷◌, ◌++◌, refl, sym, ap, subst, ◌∙◌, append_assoc, append-nil, arith, and_parts, nat_tests, list_all, if◌then◌else◌, map, Text, starts, is_space, Star, more, plus, BlockComment, Line, LineComment, Ws, NodeSpace, Break, Slashdash, ValueEnd, newline_begins, between, between_is, is_between, move_spaces, move_slashdash, punctuation_end, spaces_end, Put, stands, also, joined, IsNode, Gap, line_space, Item, comment, piece, line_end, EsclineItems, SpaceItems, LineSpaceItems, ItemEnd, EndsTight, GapItems, item_text, line_text, lines, on_line, is_newline_char}
 use Rattle.kdl_text.specs.Chars.{none, space as a_space}
 use Rattle.kdl_text.specs.Internal.Here.{first}
 use Rattle.kdl_text.specs.Trivia.{line as a_line}

@@ -1,6 +1,5 @@
 -- Items that are written in a place of a node are items of such a place again, and what is written may be there.
-use Rattle.kdl_layout.proofs.Common.{◌≡◌, Bool, true, false, List, [], ◌∷◌, ◌++◌, refl, sym, subst, ◌∙◌, append_assoc, append-nil, Text, Space, more, plus, BlockComment, LineComment, Ws, EscEnd, escline, NodeSpace, Slashdash, ValueEnd, IsEntry, between, between_is, is_between, move_slashdash, move_entry, Put, joined, IsBlock, Item, comment, piece, line_end, EsclineItems, SpaceItems, Place, before_entry, before_block, after_block, takes_entries, takes_blocks, spaced, PlaceItems, ends, InPlace, tail}
-use Rattle.kdl_text.specs.Chars.{is_space}
+use Rattle.kdl_layout.proofs.Common.{◌≡◌, Bool, true, false, List, [], ◌∷◌, ◌++◌, refl, sym, subst, ◌∙◌, append_assoc, append-nil, Text, Space, more, plus, BlockComment, LineComment, Ws, EscEnd, escline, NodeSpace, Slashdash, ValueEnd, IsEntry, between, between_is, is_between, move_slashdash, move_entry, Put, joined, IsBlock, Item, comment, piece, line_end, EsclineItems, SpaceItems, Place, before_entry, before_block, after_block, takes_entries, takes_blocks, spaced, PlaceItems, ends, InPlace, tail, is_space}
 use Rattle.kdl_text.specs.Chars.{none, space as a_space}
 use Rattle.kdl_entry.specs.Data.{Entry}
 use Rattle.kdl_grammar.specs.Data.{Nodes}

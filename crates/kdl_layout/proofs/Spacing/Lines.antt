@@ -1,6 +1,5 @@
 -- What is counted in the lines that are written; what is kept with blank lines is a gap, and holds the items of its text.
-use Rattle.kdl_layout.proofs.Common.{◌≡◌, ℕ, zero, suc, Bool, true, false, List, [], ◌∷◌, ◌++◌, map, sym, ap, subst, ◌∙◌, append_assoc, append-nil, refl, ◌+◌, ◌-◌, ◌==◌, length, drop, arith, drop-append_seam, nat_tests, and_parts, list_all, if◌then◌else◌, min, ◌&&◌, max, Text, times, BlockComment, slashdash, Gap, NodeFormat, Item, GapItems, comment, piece, item_text, line_text, on_line, lines, blank_lines, empty_lines, read, spaced_lines, past_items, at_start, from_item, last_of, newlines, one_if, ItemsIn, WrittenUnless, Settings, indentation, SpacedLines, SpacesTexts, NodeTexts, newline_gap, Before, Nothing, Thing, Last, Cr, Other}
-use Rattle.kdl_text.specs.Chars.{is_space, is_newline_char}
+use Rattle.kdl_layout.proofs.Common.{◌≡◌, ℕ, zero, suc, Bool, true, false, List, [], ◌∷◌, ◌++◌, map, sym, ap, subst, ◌∙◌, append_assoc, append-nil, refl, ◌+◌, ◌-◌, ◌==◌, length, drop, arith, drop-append_seam, nat_tests, and_parts, list_all, if◌then◌else◌, min, ◌&&◌, max, Text, times, BlockComment, slashdash, Gap, NodeFormat, Item, GapItems, comment, piece, item_text, line_text, on_line, lines, blank_lines, empty_lines, read, spaced_lines, past_items, at_start, from_item, last_of, newlines, one_if, ItemsIn, WrittenUnless, Settings, indentation, SpacedLines, SpacesTexts, NodeTexts, newline_gap, Before, Nothing, Thing, Last, Cr, Other, is_space, is_newline_char}
 use Rattle.std.proofs.Math.Nat.{zero-min}
 use Rattle.kdl_text.specs.Trivia.{block as a_block}
 use Rattle.kdl_layout.proofs.Listing.ItemsUnique.{gap_in_det}

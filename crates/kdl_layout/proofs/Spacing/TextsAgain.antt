@@ -1,6 +1,5 @@
 -- What is laid out is the same once it is laid out again, however many blank lines are kept.
-use Rattle.kdl_layout.proofs.Common.{◌≡◌, ℕ, zero, suc, ◌+◌, Bool, true, false, List, ◌∷◌, ◌++◌, map, refl, sym, ap, subst, ◌∙◌, append_assoc, append-nil, Option, Some, option_map, None, [], list_all, list_any, if◌then◌else◌, ◌||◌, ◌&&◌, not, is_some, Text, is_space, NodeFormat, DocumentFormat, Node, Nodes, Item, GapItems, on_line, at_start, empty_lines, last_in, one_if, past_items, past_node, read, spaced_lines, newlines, Settings, indentation, or_empty, or_empty_document, newline_if_none, in_braces, ItemsIn, without_bom, WrittenUnless, Passes, PassesText, SpacesTexts, IsSpacedLine, PassesNode, PassesNodes, IsSpacedContent, IsSpacedBraced, SpacedLines, SpacesContent, PassesFormat, NodeTexts, line_of, has_block, content_of, IsTypedFormat, with_type_texts, Before, Thing, Other}
-use Rattle.kdl_text.specs.Chars.{is_newline_char}
+use Rattle.kdl_layout.proofs.Common.{◌≡◌, ℕ, zero, suc, ◌+◌, Bool, true, false, List, ◌∷◌, ◌++◌, map, refl, sym, ap, subst, ◌∙◌, append_assoc, append-nil, Option, Some, option_map, None, [], list_all, list_any, if◌then◌else◌, ◌||◌, ◌&&◌, not, is_some, Text, is_space, NodeFormat, DocumentFormat, Node, Nodes, Item, GapItems, on_line, at_start, empty_lines, last_in, one_if, past_items, past_node, read, spaced_lines, newlines, Settings, indentation, or_empty, or_empty_document, newline_if_none, in_braces, ItemsIn, without_bom, WrittenUnless, Passes, PassesText, SpacesTexts, IsSpacedLine, PassesNode, PassesNodes, IsSpacedContent, IsSpacedBraced, SpacedLines, SpacesContent, PassesFormat, NodeTexts, line_of, has_block, content_of, IsTypedFormat, with_type_texts, Before, Thing, Other, is_newline_char}
 use Rattle.std.proofs.lemmas.List.Folds.{list_any-append}
 use Rattle.kdl_layout.proofs.Listing.ItemsUnique.{gap_in_det}
 use Rattle.kdl_layout.proofs.Rewriting.LinesAgain.{newline_items}

@@ -1,8 +1,4 @@
-use Rattle.std.proofs.Common.{arith, ◌≡◌, ◌∙◌, ap, sym, subst, length, Some}
-use Rattle.kdl.specs.Cleared.{cleared_document}
-use Rattle.kdl.specs.Internal.Due.{IsAlone}
-use Rattle.kdl.specs.Tree.{document_tree}
-use Rattle.kdl.specs.declared.document.KdlDocument.TheViews.{out-KdlDocument}
+use Rattle.kdl.proofs.Common.{arith, ◌≡◌, ◌∙◌, ap, sym, subst, length, Some, cleared_document, IsAlone, document_tree, out-KdlDocument}
 use Rattle.kdl.proofs.Clearing.{Walk, Whole, Climb, begun, at_node, leaf_cleared, block_entered, block_left, climb, climb_bound, finished, outermost_is, left_of, leaf_counted, block_counted, end_counted}
 use Rattle.kdl.proofs.clear.clear_all.Goals as goal
 use Rattle.kdl.proofs.clear.clear_all.Goals.{After-due_from-at}

@@ -1,5 +1,4 @@
-use Rattle.kdl.specs.Cleared.{cleared_document}
-use Rattle.kdl.specs.Tree.{document_tree}
+use Rattle.kdl.proofs.Common.{cleared_document, document_tree}
 use Rattle.kdl.proofs.Clearing.{Walk, left_of}
 use Rattle.kdl.proofs.clear.clear_all.Given as goal
 

@@ -1,6 +1,4 @@
-use Rattle.std.proofs.Common.{arith}
-use Rattle.kdl.specs.Internal.Due.{due}
-use Rattle.kdl.specs.Tree.{node_tree}
+use Rattle.kdl.proofs.Common.{arith, due, node_tree}
 use Rattle.kdl_parts.proofs.Loops.{changed_more, changed_all}
 use Rattle.kdl.proofs.clear.set_nodes_due.Goals as goal
 

@@ -1,6 +1,4 @@
-use Rattle.std.proofs.Common.{map}
-use Rattle.kdl.specs.Internal.Due.{due}
-use Rattle.kdl.specs.Tree.{node_tree}
+use Rattle.kdl.proofs.Common.{map, due, node_tree}
 use Rattle.kdl_parts.proofs.Loops.{Changed}
 use Rattle.kdl.proofs.clear.set_nodes_due.Given as goal
 

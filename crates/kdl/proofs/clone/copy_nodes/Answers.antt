@@ -1,10 +1,4 @@
-use Rattle.std.proofs.Common.{rules, arith, sym, ◌≡◌, ◌∙◌, ap, [], ◌∷◌, ◌++◌, map, List, Some, None}
-use Rattle.std.proofs.lemmas.List.{append-nil}
-use Rattle.kdl.specs.Internal.Copied.{CopyFrame, outermost}
-use Rattle.kdl.specs.Internal.Count.{count_left}
-use Rattle.kdl.specs.Tree.{node_tree}
-use Rattle.kdl.specs.declared.document.KdlDocument.TheViews.{out-KdlNode}
-use Rattle.kdl.specs.declared.node.KdlNode.{KdlNode}
+use Rattle.kdl.proofs.Common.{rules, arith, sym, ◌≡◌, ◌∙◌, ap, [], ◌∷◌, ◌++◌, map, List, Some, None, append-nil, CopyFrame, outermost, count_left, node_tree, out-KdlNode, KdlNode}
 use Rattle.kdl.proofs.CopyingLoop.{none_copied, line_made, block_opened, block_closed}
 use Rattle.kdl.proofs.NodeCounts.{line_counted, block_counted, end_counted}
 use Rattle.kdl.proofs.Printing.PrintingLoop.{none_left_is}

@@ -1,7 +1,4 @@
-use Rattle.std.proofs.Common.{◌≡◌, ◌++◌, map}
-use Rattle.kdl.specs.Internal.Copied.{outermost}
-use Rattle.kdl.specs.Tree.{node_tree}
-use Rattle.kdl.specs.Internal.Count.{count_left}
+use Rattle.kdl.proofs.Common.{◌≡◌, ◌++◌, map, outermost, node_tree, count_left}
 use Rattle.kdl.proofs.clone.copy_nodes.Given as goal
 
 abbrev pub invariant-left : goal.invariant-left

@@ -1,5 +1,4 @@
-use Rattle.std.proofs.Common.{rules, arith, ap, ◌∙◌, ◌+◌, ◌≤◌, ◌≡◌}
-use Rattle.kdl.specs.Internal.Count.{count_nodes, count_option}
+use Rattle.kdl.proofs.Common.{rules, arith, ap, ◌∙◌, ◌+◌, ◌≤◌, ◌≡◌, count_nodes, count_option}
 use Rattle.kdl.specs.declared.node.KdlNode.{out-KdlNode}
 use Rattle.kdl.proofs.NodeCounts.{left, goes_down, count_doc_out}
 use Rattle.kdl.proofs.drop.dismantle.Goals as goal

@@ -1,5 +1,4 @@
-use Rattle.std.proofs.Common.{◌+◌, ◌*◌}
-use Rattle.kdl.specs.Internal.Count.{count_nodes, count_option}
+use Rattle.kdl.proofs.Common.{◌+◌, ◌*◌, count_nodes, count_option}
 use Rattle.kdl.proofs.drop.dismantle.Given as goal
 
 abbrev pub decreases-loop-up : goal.decreases-loop-up

@@ -1,4 +1,4 @@
-use Rattle.std.proofs.Common.{rules, ◌-◌, ap, sym}
+use Rattle.kdl.proofs.Common.{rules, ◌-◌, ap, sym}
 use Rattle.kdl.proofs.NodeCounts.{exchanged}
 use Rattle.kdl.proofs.drop.exchange_last.Goals as goal
 

@@ -1,7 +1,4 @@
-use Rattle.std.proofs.Common.{◌≡◌, ◌++◌, ap, subst, sym, ◌∙◌}
-use Rattle.std.specs.Str.{chars}
-use Rattle.kdl_text.specs.Chars.{Text}
-use Rattle.kdl.specs.Internal.Ends.{EndFewest, EndSays, IsLacking}
+use Rattle.kdl.proofs.Common.{◌≡◌, ◌++◌, ap, subst, sym, ◌∙◌, chars, Text, EndFewest, EndSays, IsLacking}
 use Rattle.kdl.proofs.Putting.Fewest.{end_read}
 use Rattle.kdl.proofs.Putting.NodeEnds.{empty_string}
 use Rattle.kdl.proofs.ends.end_newlines.Goals as goal

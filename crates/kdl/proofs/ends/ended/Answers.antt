@@ -1,6 +1,4 @@
-use Rattle.std.proofs.Common.{◌<◌, ◌+◌, arith, is_some, sym, subst}
-use Rattle.kdl_parts.specs.Formats.{node_format_tree}
-use Rattle.kdl.specs.Internal.Ends.{EndsReadAs, block_if}
+use Rattle.kdl.proofs.Common.{◌<◌, ◌+◌, arith, is_some, sym, subst, node_format_tree, EndsReadAs, block_if}
 use Rattle.kdl.proofs.Putting.Exact.{something_lacking}
 use Rattle.kdl.proofs.ends.ended.Goals as goal
 use Rattle.kdl.proofs.ends.ended.Goals.{else-before-eq0-via-then-before-eq0+else-end-eq0, else-before-eq0-via-else-before-eq0}

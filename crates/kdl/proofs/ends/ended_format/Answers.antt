@@ -1,5 +1,4 @@
-use Rattle.std.proofs.Common.{is_some}
-use Rattle.kdl.specs.Internal.Ends.{block_if}
+use Rattle.kdl.proofs.Common.{is_some, block_if}
 use Rattle.kdl.proofs.Putting.PutReads.{format_ok}
 use Rattle.kdl.proofs.ends.ended_format.Goals as goal
 

@@ -1,5 +1,4 @@
-use Rattle.std.proofs.Common.{map}
-use Rattle.kdl_entry.specs.Tree.{entry_tree}
+use Rattle.kdl.proofs.Common.{map, entry_tree}
 use Rattle.kdl.proofs.Putting.NodeEnds.{empty_string, formless_made, newline_put}
 use Rattle.kdl.proofs.ends.ended_formless.Goals as goal
 

@@ -1,7 +1,4 @@
-use Rattle.std.proofs.Common.{subst, sym}
-use Rattle.std.specs.Str.{chars}
-use Rattle.kdl_layout.specs.Kept.{without_bom}
-use Rattle.kdl.specs.Internal.Ends.{GapFewest, GapSays, IsLacking}
+use Rattle.kdl.proofs.Common.{subst, sym, chars, without_bom, GapFewest, GapSays, IsLacking}
 use Rattle.kdl.proofs.Putting.Fewest.{gap_read}
 use Rattle.kdl.proofs.ends.gap_newlines.Goals as goal
 

@@ -1,5 +1,4 @@
-use Rattle.std.proofs.Common.{ap, ◌∙◌}
-use Rattle.std.specs.Str.{chars}
+use Rattle.kdl.proofs.Common.{ap, ◌∙◌, chars}
 use Rattle.kdl.proofs.Putting.PutReads.{some_text}
 use Rattle.kdl.proofs.ends.has_end.Goals as goal
 

@@ -1,9 +1,4 @@
-use Rattle.std.proofs.Common.{◌+◌, ◌++◌, ap, arith, inr, is_some, subst}
-use Rattle.std.specs.Str.{chars}
-use Rattle.kdl_text.specs.Chars.{Text}
-use Rattle.kdl_parts.specs.Formats.{node_format_tree}
-use Rattle.kdl.specs.Internal.Ends.{EndFewest, PlaceFewest, PlaceSays, block_if}
-use Rattle.kdl_grammar.specs.ReadsBack.{terminator_text}
+use Rattle.kdl.proofs.Common.{◌+◌, ◌++◌, ap, arith, inr, is_some, subst, chars, Text, node_format_tree, EndFewest, PlaceFewest, PlaceSays, block_if, terminator_text}
 use Rattle.kdl.proofs.Putting.Fewest.{ended_before, open_before}
 use Rattle.kdl.proofs.Putting.PutReads.{both_empty, open_read, says_as, terminator_read}
 use Rattle.kdl.proofs.ends.newlines.Goals as goal

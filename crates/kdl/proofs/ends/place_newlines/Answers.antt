@@ -1,7 +1,4 @@
-use Rattle.std.proofs.Common.{is_some, subst, sym}
-use Rattle.std.specs.Str.{chars}
-use Rattle.kdl_layout.specs.Lacks.{PlaceLacks}
-use Rattle.kdl.specs.Internal.Ends.{IsLacking, PlaceFewest, PlaceSays, block_if}
+use Rattle.kdl.proofs.Common.{is_some, subst, sym, chars, PlaceLacks, IsLacking, PlaceFewest, PlaceSays, block_if}
 use Rattle.kdl.proofs.Putting.Fewest.{place_read}
 use Rattle.kdl.proofs.ends.place_newlines.Goals as goal
 

@@ -1,4 +1,4 @@
-use Rattle.kdl_value.specs.Tree.{text_of}
+use Rattle.kdl.proofs.Common.{text_of}
 use Rattle.kdl.proofs.Putting.NodeEnds.{more_newlines}
 use Rattle.kdl.proofs.ends.push_newlines.Goals as goal
 

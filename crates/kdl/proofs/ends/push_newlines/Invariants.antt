@@ -1,6 +1,4 @@
-use Rattle.std.proofs.Common.{◌≡◌, ◌++◌}
-use Rattle.kdl_value.specs.Tree.{text_of}
-use Rattle.kdl.specs.Nodes.{newlines}
+use Rattle.kdl.proofs.Common.{◌≡◌, ◌++◌, text_of, newlines}
 use Rattle.kdl.proofs.ends.push_newlines.Given as goal
 
 abbrev pub invariant-loop-newline : goal.invariant-loop-newline

@@ -1,5 +1,4 @@
-use Rattle.std.proofs.Common.{◌≡◌, ◌∙◌, ap, false, true, sym}
-use Rattle.kdl_value.specs.Tree.{text_of}
+use Rattle.kdl.proofs.Common.{◌≡◌, ◌∙◌, ap, false, true, sym, text_of}
 use Rattle.kdl.proofs.Putting.NodeEnds.{empty_string, no_space_put, space_put}
 use Rattle.kdl.proofs.ends.space_before_block.Goals as goal
 use Rattle.kdl.proofs.ends.space_before_block.Goals.{then-not-ends_formatted+in_ok-push_text, else-not-ends_formatted}

@@ -1,4 +1,4 @@
-use Rattle.std.proofs.Common.{sym}
+use Rattle.kdl.proofs.Common.{sym}
 use Rattle.kdl.proofs.LayingOut.PartsSpaced.{last_passes}
 use Rattle.kdl.proofs.layout.before_trailing.Goals as goal
 

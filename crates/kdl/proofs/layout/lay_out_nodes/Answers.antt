@@ -1,7 +1,4 @@
-use Rattle.std.proofs.Common.{None, map, rules}
-use Rattle.kdl_layout.specs.Config.{settings}
-use Rattle.kdl.specs.Tree.{node_tree}
-use Rattle.kdl.specs.declared.layout.LayoutFrame.{LayoutFrame}
+use Rattle.kdl.proofs.Common.{None, map, rules, settings, node_tree, LayoutFrame}
 use Rattle.kdl.proofs.LayingOut.BlockSteps.{all_laid}
 use Rattle.kdl.proofs.LayingOut.StaysReading.{all_stays, stay_same}
 use Rattle.kdl.proofs.layout.lay_out_nodes.Goals as goal
@@ -16,12 +13,12 @@ pub returns-clause-stays : goal.returns-clause-stays
 returns-clause-stays c ok =
     let b : LayoutFrame = record { nodes = c.replace.result; at = 0; level = c.args.level; before = c.in_ok-before.before; next = c.args.first; around = None } in
     let new = c.lay_out-outcome.new.self in
-    all_stays c.args.layout.now c.args.level c.args.first c.args.nodes.now.items c.into_nodes.result.items c.new.result.items new.above.items b new.inner
+    all_stays c.args.layout.now c.args.level c.args.first c.args.nodes.now.items c.into_nodes.result.items c.new-above.result.items c.lay_out-outcome.new.above.items b new
     (search rules) (search rules) (search rules) (search rules) (search rules) (search rules) (search rules) (c.lay_out-outcome.ensures.stays ok)
 
 pub returns-clause-spaced : goal.returns-clause-spaced
 returns-clause-spaced c =
     let b : LayoutFrame = record { nodes = c.replace.result; at = 0; level = c.args.level; before = c.in_ok-before.before; next = c.args.first; around = None } in
     let new = c.lay_out-outcome.new.self in
-    all_laid c.lay_out-outcome.result c.args.layout.now c.args.level c.args.first c.args.nodes.now.items c.into_nodes.result.items c.new.result.items new.above.items b new.inner
+    all_laid c.lay_out-outcome.result c.args.layout.now c.args.level c.args.first c.args.nodes.now.items c.into_nodes.result.items c.new-above.result.items c.lay_out-outcome.new.above.items b new
     (search rules) (search rules) (search rules) (search rules) (search rules) (search rules) (search rules) c.lay_out-outcome.ensures.spaced

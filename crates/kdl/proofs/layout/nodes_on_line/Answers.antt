@@ -1,7 +1,4 @@
-use Rattle.std.proofs.Common.{Bool, drop, ap, sym, rules, refl, length, ◌+◌, ◌-◌, ◌==◌, ◌∙◌, ◌≡◌, false, arith}
-use Rattle.std.specs.Prelude.{◌&&◌}
-use Rattle.kdl_layout.specs.OneLine.{nodes_on_line}
-use Rattle.kdl.specs.Tree.{nodes_tree}
+use Rattle.kdl.proofs.Common.{Bool, drop, ap, sym, rules, refl, length, ◌+◌, ◌-◌, ◌==◌, ◌∙◌, ◌≡◌, false, arith, ◌&&◌, nodes_on_line, nodes_tree}
 use Rattle.kdl.proofs.LayingOut.Lines.{line_next}
 use Rattle.kdl.proofs.layout.nodes_on_line.Goals as goal
 

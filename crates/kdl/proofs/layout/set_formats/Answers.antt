@@ -1,11 +1,5 @@
-use Rattle.std.proofs.Common.{◌≡◌, ◌∷◌, ◌++◌, [], List, drop, take, get_or, length, map, ap, refl, sym, ◌∙◌, rules, arith}
-use Rattle.std.specs.Vec.Iter.{into_iter_items}
-use Rattle.kdl.specs.Internal.Spacing.{with_formats}
-use Rattle.kdl.specs.Tree.{node_tree}
-use Rattle.kdl.specs.declared.node.KdlNode.{KdlNode}
+use Rattle.kdl.proofs.Common.{◌≡◌, ◌∷◌, ◌++◌, [], List, drop, take, get_or, length, map, ap, refl, sym, ◌∙◌, rules, arith, into_iter_items, with_formats, node_tree, KdlNode, node_format_tree, KdlNodeFormat}
 use Rattle.kdl_parts.proofs.Loops.{given_back}
-use Rattle.kdl_parts.specs.Formats.{node_format_tree}
-use Rattle.kdl_parts.specs.declared.format.KdlNodeFormat.{KdlNodeFormat}
 use Rattle.kdl.proofs.LayingOut.Lines.{all_from, format_put, formats_from, none_from, nothing_left, one_more, set_here}
 use Rattle.kdl.proofs.layout.set_formats.Goals as goal
 

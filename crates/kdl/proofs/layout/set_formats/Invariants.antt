@@ -1,8 +1,5 @@
-use Rattle.std.proofs.Common.{◌≡◌, length, map}
-use Rattle.std.specs.Vec.Iter.{into_iter_items, into_iter_len}
-use Rattle.kdl.specs.Internal.Spacing.{with_formats}
-use Rattle.kdl.specs.Tree.{node_tree}
-use Rattle.kdl_parts.specs.Formats.{node_format_tree}
+use Rattle.kdl.proofs.Common.{◌≡◌, length, map, into_iter_items, with_formats, node_tree, node_format_tree}
+use Rattle.std.specs.Vec.Iter.{into_iter_len}
 use Rattle.kdl.proofs.LayingOut.Lines.{formats_from}
 use Rattle.kdl.proofs.layout.set_formats.Given as goal
 

@@ -1,14 +1,5 @@
-use Rattle.std.proofs.Common.{rules, arith, refl, sym, ◌≡◌, ◌∙◌, ap, [], ◌∷◌, ◌++◌, length, List, Some, None}
-use Rattle.std.proofs.lemmas.List.{append-nil}
+use Rattle.kdl.proofs.Common.{rules, arith, refl, sym, ◌≡◌, ◌∙◌, ap, [], ◌∷◌, ◌++◌, length, List, Some, None, append-nil, encode_utf8_all, print_nodes, count_left, opening, print_left, nodes_tree, out-KdlDocument, out-KdlNode, KdlNode, NodeFrame}
 use Rattle.std.specs.Result.{IsOk}
-use Rattle.std.specs.Str.{encode_utf8_all}
-use Rattle.kdl_grammar.specs.Print.{print_nodes}
-use Rattle.kdl.specs.Internal.Count.{count_left}
-use Rattle.kdl.specs.Internal.Left.{opening, print_left}
-use Rattle.kdl.specs.Tree.{nodes_tree}
-use Rattle.kdl.specs.declared.document.KdlDocument.TheViews.{out-KdlDocument, out-KdlNode}
-use Rattle.kdl.specs.declared.node.KdlNode.{KdlNode}
-use Rattle.kdl.specs.declared.print.NodeFrame.{NodeFrame}
 use Rattle.kdl.proofs.Printing.PrintingLoop.{line_left, block_left, end_left, written_more, none_left_is}
 use Rattle.kdl.proofs.NodeCounts.{line_counted, block_counted, end_counted}
 use Rattle.kdl.proofs.print.write_nodes.Goals as goal

@@ -1,10 +1,5 @@
-use Rattle.std.proofs.Common.{◌≡◌, ℕ, ◌++◌, List}
-use Rattle.std.specs.Fmt.{HasWritten, IsPlainFormatter}
-use Rattle.std.specs.Str.{encode_utf8_all}
-use Rattle.kdl_grammar.specs.Print.{print_nodes}
-use Rattle.kdl.specs.Internal.Count.{count_left}
-use Rattle.kdl.specs.Internal.Left.{print_left}
-use Rattle.kdl.specs.Tree.{nodes_tree}
+use Rattle.kdl.proofs.Common.{◌≡◌, ℕ, ◌++◌, List, HasWritten, encode_utf8_all, print_nodes, count_left, print_left, nodes_tree}
+use Rattle.std.specs.Fmt.{IsPlainFormatter}
 use Rattle.kdl.proofs.print.write_nodes.Given as goal
 
 abbrev pub invariant-left : goal.invariant-left

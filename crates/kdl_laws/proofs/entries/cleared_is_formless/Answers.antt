@@ -1,6 +1,4 @@
-use Rattle.std.proofs.Common.{subst}
-use Rattle.kdl_value.specs.Data.{Value}
-use Rattle.kdl_value.specs.WellFormed.{IsWellFormed}
+use Rattle.kdl_laws.proofs.Common.{subst, Value, IsWellFormed}
 use Rattle.kdl_entry.proofs.WellFormed.{name_scalars}
 use Rattle.kdl_laws.proofs.entries.cleared_is_formless.Goals as goal
 

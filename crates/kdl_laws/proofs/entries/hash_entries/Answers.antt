@@ -1,5 +1,5 @@
 use Rattle.kdl_entry.specs.contracts.entry.KdlEntryHash.TheImpl as impl_of
-use Rattle.kdl_entry.proofs.Equality.{entry_decides}
+use Rattle.kdl_laws.proofs.Common.{entry_decides}
 use Rattle.kdl_laws.proofs.Hashing.{both_written}
 use Rattle.kdl_laws.proofs.entries.hash_entries.Goals as goal
 

@@ -1,5 +1,5 @@
 use Rattle.kdl_entry.specs.contracts.entry.KdlEntryFormatHash.TheImpl as impl_of
-use Rattle.kdl_entry.proofs.Equality.{format_decides}
+use Rattle.kdl_laws.proofs.Common.{format_decides}
 use Rattle.kdl_laws.proofs.Hashing.{both_written}
 use Rattle.kdl_laws.proofs.entries.hash_formats.Goals as goal
 

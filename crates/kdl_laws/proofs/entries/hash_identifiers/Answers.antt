@@ -1,5 +1,5 @@
 use Rattle.kdl_entry.specs.contracts.identifier.KdlIdentifierHash.TheImpl as impl_of
-use Rattle.kdl_entry.proofs.Equality.{identifier_decides}
+use Rattle.kdl_laws.proofs.Common.{identifier_decides}
 use Rattle.kdl_laws.proofs.Hashing.{both_written}
 use Rattle.kdl_laws.proofs.entries.hash_identifiers.Goals as goal
 

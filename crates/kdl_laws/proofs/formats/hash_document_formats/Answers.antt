@@ -1,5 +1,5 @@
 use Rattle.kdl_parts.specs.contracts.format.KdlDocumentFormatHash.TheImpl as impl_of
-use Rattle.kdl_parts.proofs.Equality.{document_format_decides}
+use Rattle.kdl_laws.proofs.Common.{document_format_decides}
 use Rattle.kdl_laws.proofs.Hashing.{both_written}
 use Rattle.kdl_laws.proofs.formats.hash_document_formats.Goals as goal
 

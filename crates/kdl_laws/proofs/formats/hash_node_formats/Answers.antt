@@ -1,5 +1,5 @@
 use Rattle.kdl_parts.specs.contracts.format.KdlNodeFormatHash.TheImpl as impl_of
-use Rattle.kdl_parts.proofs.Equality.{node_format_decides}
+use Rattle.kdl_laws.proofs.Common.{node_format_decides}
 use Rattle.kdl_laws.proofs.Hashing.{both_written}
 use Rattle.kdl_laws.proofs.formats.hash_node_formats.Goals as goal
 

@@ -1,5 +1,4 @@
-use Rattle.kdl.specs.Tree.{node_tree}
-use Rattle.kdl_layout.specs.Config.{settings}
+use Rattle.kdl_laws.proofs.Common.{node_tree, settings}
 use Rattle.kdl_laws.proofs.TwoLayouts.{node_twice}
 use Rattle.kdl_laws.proofs.layout.node_laid_out_twice.Goals as goal
 

@@ -1,5 +1,4 @@
-use Rattle.kdl.specs.Tree.{document_tree}
-use Rattle.kdl_layout.specs.Config.{settings}
+use Rattle.kdl_laws.proofs.Common.{document_tree, settings}
 use Rattle.kdl_laws.proofs.TwoLayouts.{spaced_twice}
 use Rattle.kdl_laws.proofs.layout.spaced_twice.Goals as goal
 

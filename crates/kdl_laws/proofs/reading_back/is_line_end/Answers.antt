@@ -1,8 +1,7 @@
-use Rattle.std.proofs.Common.{◌≡◌, List, inl, inr, ap, chars, codes, refl, sym, true, ℕ, ◌∙◌}
-use Rattle.std.proofs.lemmas.Slice.Eq.{bytes_eq-Decides}
-use Rattle.std.proofs.lemmas.Str.{chars-encodes, encodes-chars}
-use Rattle.std.specs.Str.{IsUtf8, encode_utf8_all}
-use Rattle.kdl_laws.specs.Pushed.{EndsLine}
+use Rattle.kdl_laws.proofs.Common.{◌≡◌, List, inl, inr, ap, chars, refl, sym, true, ℕ, ◌∙◌, bytes_eq-Decides, encodes-chars, encode_utf8_all, EndsLine}
+use Rattle.std.proofs.Common.{codes}
+use Rattle.std.proofs.lemmas.Str.{chars-encodes}
+use Rattle.std.specs.Str.{IsUtf8}
 use Rattle.kdl_laws.proofs.reading_back.is_line_end.Goals as goal
 
 semicolon : chars (codes ";") ≡ codes ";"

@@ -1,8 +1,6 @@
-use Rattle.std.proofs.Common.{◌≡◌, [], Bool, List, chars, subst, sym, true, false, ℕ}
-use Rattle.std.specs.Prelude.{MatchBool, ◌≢◌}
-use Rattle.kdl_value.specs.Tree.{text_of}
+use Rattle.kdl_laws.proofs.Common.{◌≡◌, [], Bool, List, chars, subst, sym, true, false, ℕ, ◌≢◌, text_of, EndsLine}
+use Rattle.std.specs.Prelude.{MatchBool}
 use Rattle.kdl_layout.proofs.Rewriting.Pushing.{no_bytes}
-use Rattle.kdl_laws.specs.Pushed.{EndsLine}
 use Rattle.kdl_laws.proofs.reading_back.is_line_ended.Goals as goal
 
 pub returns-then-is_empty : goal.returns-then-is_empty

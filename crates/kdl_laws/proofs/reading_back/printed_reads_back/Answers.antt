@@ -1,9 +1,4 @@
-use Rattle.std.proofs.Common.{Ok, subst, sym}
-use Rattle.kdl_text.specs.Chars.{Text}
-use Rattle.kdl_grammar.specs.Grammar.{IsDocument}
-use Rattle.kdl.specs.Tree.{document_prints, document_says}
-use Rattle.kdl_layout.proofs.Texts.{printed_text}
-use Rattle.kdl.proofs.ReadingBack.{document_derived}
+use Rattle.kdl_laws.proofs.Common.{Ok, subst, sym, Text, IsDocument, document_prints, document_says, printed_text, document_derived}
 use Rattle.kdl_laws.proofs.reading_back.printed_reads_back.Goals as goal
 
 pub returns : goal.returns

@@ -1,4 +1,4 @@
-use Rattle.kdl_value.proofs.Comparing.OrderOnTrees.{value_ties}
+use Rattle.kdl_laws.proofs.Common.{value_ties}
 use Rattle.kdl_laws.proofs.values.compare_values.Goals as goal
 
 pub returns-clause-equal : goal.returns-clause-equal

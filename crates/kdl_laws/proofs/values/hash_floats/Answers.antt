@@ -1,5 +1,5 @@
 use Rattle.kdl_value.specs.contracts.float.KdlFloatHash.TheImpl as impl_of
-use Rattle.kdl_value.proofs.Comparing.Equality.{float_decides}
+use Rattle.kdl_laws.proofs.Common.{float_decides}
 use Rattle.kdl_laws.proofs.Hashing.{both_written}
 use Rattle.kdl_laws.proofs.values.hash_floats.Goals as goal
 

@@ -1,5 +1,5 @@
 use Rattle.kdl_value.specs.contracts.value.KdlValueHash.TheImpl as impl_of
-use Rattle.kdl_value.proofs.Comparing.Equality.{value_decides}
+use Rattle.kdl_laws.proofs.Common.{value_decides}
 use Rattle.kdl_laws.proofs.Hashing.{both_written}
 use Rattle.kdl_laws.proofs.values.hash_values.Goals as goal
 

@@ -1,7 +1,4 @@
-use Rattle.kdl_layout.proofs.Common.{[], sym, ap, subst, ◌∙◌, ℕ, chars, Here, kind_view, for_node}
-use Rattle.kdl_syntax.specs.Internal.Views.{control_view}
-use Rattle.kdl_syntax.specs.Control.{at}
-use Rattle.kdl_syntax.specs.declared.control.Phase.TheVariants.{NodeSlashdash}
+use Rattle.kdl_layout.proofs.Common.{[], sym, ap, subst, ◌∙◌, ℕ, chars, Here, kind_view, for_node, control_view, at, NodeSlashdash}
 use Rattle.kdl_layout.proofs.Dropping.Paths.{node_on}
 use Rattle.kdl_layout.proofs.Dropping.TokenLoop.{Goes, node_starts, refused_on, goes_further, node_stops, faulty, refused_here, node_returns, token_places, token_ends, cut_shorter}
 use Rattle.kdl_layout.proofs.dropped.pass_node.Goals as goal

@@ -1,7 +1,4 @@
-use Rattle.kdl_layout.proofs.Common.{[], length, chars, for_node}
-use Rattle.kdl_syntax.specs.Internal.Views.{control_view}
-use Rattle.kdl_syntax.specs.Control.{at}
-use Rattle.kdl_syntax.specs.declared.control.Phase.TheVariants.{NodeSlashdash}
+use Rattle.kdl_layout.proofs.Common.{[], length, chars, for_node, control_view, at, NodeSlashdash}
 use Rattle.kdl_layout.proofs.Dropping.TokenLoop.{Goes}
 use Rattle.kdl_layout.proofs.dropped.pass_node.Given as goal
 

@@ -1,5 +1,4 @@
-use Rattle.kdl_layout.proofs.Common.{sym, ap, subst, ◌∙◌, ℕ, chars, Here, kind_view, place_view, for_part, slashdash_in}
-use Rattle.kdl_syntax.specs.Internal.Views.{control_view}
+use Rattle.kdl_layout.proofs.Common.{sym, ap, subst, ◌∙◌, ℕ, chars, Here, kind_view, place_view, for_part, slashdash_in, control_view}
 use Rattle.kdl_layout.proofs.Dropping.TokenLoop.{Goes, part_starts, part_on, goes_further, part_stops, faulty, refused_here, part_word, part_over, cut_shorter}
 use Rattle.kdl_layout.proofs.dropped.pass_part.Goals as goal
 

@@ -1,5 +1,4 @@
-use Rattle.kdl_layout.proofs.Common.{length, chars, place_view, for_part, slashdash_in}
-use Rattle.kdl_syntax.specs.Internal.Views.{control_view}
+use Rattle.kdl_layout.proofs.Common.{length, chars, place_view, for_part, slashdash_in, control_view}
 use Rattle.kdl_layout.proofs.Dropping.TokenLoop.{Goes}
 use Rattle.kdl_layout.proofs.dropped.pass_part.Given as goal
 

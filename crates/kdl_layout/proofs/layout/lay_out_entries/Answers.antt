@@ -22,32 +22,6 @@ returns-in_err-lay_out_entry-clause-same c =
     turned_exchanged entry_tree (LaidEntry keep s) cleared (λ e e' k. entry_stays keep s e e' k.0) c.args.entries.now.len l.entry-index l.entry-items c.deref_mut-entry-items.result.now c.args.entries.now.items
     c.lay_out_entry.new.entry c.entry-item.result c.deref_mut-entry-items.ensures.value (omega arith) (omega arith) l.invariant (ap cleared c.in_err-lay_out_entry.ensures.flagged ∙ flag_cleared s.entry_autoformate_keep _)
 
-pub returns-clause-same : goal.returns-clause-same
-returns-clause-same c =
-    let l = c.loop-entry in
-    let keep = c.args.layout.now.keep_spelling in
-    let s = settings c.args.layout.now.config in
-    turned_same entry_tree (LaidEntry keep s) cleared (λ e e' k. entry_stays keep s e e' k.0) c.args.entries.now.len l.entry-index l.entry-items c.deref_mut-entry-items.result.now c.args.entries.now.items
-    c.deref_mut-entry-items.ensures.value (omega arith) l.invariant
-
-pub returns-clause-formatted : goal.returns-clause-formatted
-returns-clause-formatted c =
-    let l = c.loop-entry in
-    let keep = c.args.layout.now.keep_spelling in
-    let s = settings c.args.layout.now.config in
-    entries_laid keep s _ _
-    (turned_all entry_tree (LaidEntry keep s) c.args.entries.now.len l.entry-index l.entry-items c.deref_mut-entry-items.result.now c.args.entries.now.items
-    c.deref_mut-entry-items.ensures.value (omega arith) (omega arith) l.invariant)
-
-pub returns-clause-well_formed : goal.returns-clause-well_formed
-returns-clause-well_formed c =
-    let l = c.loop-entry in
-    let keep = c.args.layout.now.keep_spelling in
-    let s = settings c.args.layout.now.config in
-    entries_fit keep s _ _
-    (turned_all entry_tree (LaidEntry keep s) c.args.entries.now.len l.entry-index l.entry-items c.deref_mut-entry-items.result.now c.args.entries.now.items
-    c.deref_mut-entry-items.ensures.value (omega arith) (omega arith) l.invariant)
-
 pub returns-in_err-lay_out_entry-clause-reads : goal.returns-in_err-lay_out_entry-clause-reads
 returns-in_err-lay_out_entry-clause-reads c k a =
     let l = c.loop-entry in
@@ -58,11 +32,19 @@ returns-in_err-lay_out_entry-clause-reads c k a =
     c.lay_out_entry.new.entry c.entry-item.result c.deref_mut-entry-items.ensures.value (omega arith) (omega arith) l.invariant
     (λ h. subst (Stays s) (sym c.in_err-lay_out_entry.ensures.flagged) (flagged_stays s _ h)) (all_stay s (map entry_tree c.args.entries.now.items) a k))
 
-pub returns-clause-reads : goal.returns-clause-reads
-returns-clause-reads c k a =
+pub returns : goal.returns
+returns c =
     let l = c.loop-entry in
     let keep = c.args.layout.now.keep_spelling in
     let s = settings c.args.layout.now.config in
-    each_stays s _
-    (turned_each entry_tree (LaidEntry keep s) (Stays s) (λ e e' d h. laid_stays keep s e e' d.0 d.1 h) c.args.entries.now.len l.entry-index l.entry-items c.deref_mut-entry-items.result.now c.args.entries.now.items
-    c.deref_mut-entry-items.ensures.value (omega arith) l.invariant (all_stay s (map entry_tree c.args.entries.now.items) a k))
+    let old = c.args.entries.now in
+    let here = c.deref_mut-entry-items.result.now in
+    let all = turned_all entry_tree (LaidEntry keep s) old.len l.entry-index l.entry-items here old.items c.deref_mut-entry-items.ensures.value (omega arith) (omega arith) l.invariant in
+    record {
+      same = turned_same entry_tree (LaidEntry keep s) cleared (λ e e' k. entry_stays keep s e e' k.0) old.len l.entry-index l.entry-items here old.items c.deref_mut-entry-items.ensures.value (omega arith) l.invariant;
+      reads = λ k a. each_stays s _
+          (turned_each entry_tree (LaidEntry keep s) (Stays s) (λ e e' d h. laid_stays keep s e e' d.0 d.1 h) old.len l.entry-index l.entry-items here old.items
+          c.deref_mut-entry-items.ensures.value (omega arith) l.invariant (all_stay s (map entry_tree old.items) a k));
+      formatted = entries_laid keep s _ _ all;
+      well_formed = entries_fit keep s _ _ all;
+    }

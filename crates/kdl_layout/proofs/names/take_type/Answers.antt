@@ -1,5 +1,4 @@
-use Rattle.kdl_layout.proofs.Common.{◌≡◌, ◌∙◌, [], Option, Some, option_map, ap, List, ℕ, Identifier, entry_tree, identifier_tree, plain_identifier, KdlIdentifier, emptied}
-use Rattle.std.specs.Str.{chars}
+use Rattle.kdl_layout.proofs.Common.{◌≡◌, ◌∙◌, [], Option, Some, option_map, ap, List, ℕ, Identifier, entry_tree, identifier_tree, plain_identifier, KdlIdentifier, emptied, chars}
 use Rattle.kdl_layout.proofs.names.take_type.Goals as goal
 
 pub returns-in-Some-clause-left : goal.returns-in-Some-clause-left

@@ -1,5 +1,4 @@
-use Rattle.std.proofs.Common.{arith}
-use Rattle.kdl_entry.specs.Tree.{entry_tree, cleared}
+use Rattle.kdl_parts.proofs.Common.{arith, entry_tree, cleared}
 use Rattle.kdl_parts.proofs.Loops.{changed_more}
 use Rattle.kdl_parts.proofs.edit.clear_formats.Goals as goal
 

@@ -1,5 +1,4 @@
-use Rattle.std.proofs.Common.{map}
-use Rattle.kdl_entry.specs.Tree.{entry_tree, cleared}
+use Rattle.kdl_parts.proofs.Common.{map, entry_tree, cleared}
 use Rattle.kdl_parts.proofs.Loops.{Changed}
 use Rattle.kdl_parts.proofs.edit.clear_formats.Given as goal
 

@@ -1,8 +1,4 @@
-use Rattle.std.proofs.Common.{◌≡◌, ◌<◌, ◌∙◌, Some, ap, arith, length, refl, sym, unwrap_or}
-use Rattle.std.specs.List.{insert}
-use Rattle.std.proofs.lemmas.Option.{slice_get_read}
-use Rattle.kdl_entry.specs.Tree.{entry_tree}
-use Rattle.kdl_parts.specs.EntryLists.{place_of}
+use Rattle.kdl_parts.proofs.Common.{◌≡◌, ◌<◌, ◌∙◌, Some, ap, arith, length, refl, sym, unwrap_or, insert, slice_get_read, entry_tree, place_of}
 use Rattle.kdl_parts.proofs.EntryEdits.{key_put, key_replaced, key_under, index_put, index_under, set_around}
 use Rattle.kdl_parts.proofs.edit.insert.Goals as goal
 use Rattle.kdl_parts.proofs.edit.insert.Goals.{In-Some}

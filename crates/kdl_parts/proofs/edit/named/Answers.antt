@@ -1,5 +1,4 @@
-use Rattle.std.proofs.Common.{◌∙◌, sym}
-use Rattle.kdl_entry.specs.Tree.{identifier_tree, entry_tree}
+use Rattle.kdl_parts.proofs.Common.{◌∙◌, sym, identifier_tree, entry_tree}
 use Rattle.kdl_parts.proofs.EntryEdits.{own_name, given_name}
 use Rattle.kdl_parts.proofs.edit.named.Goals as goal
 

@@ -1,9 +1,5 @@
-use Rattle.std.proofs.Common.{[], ◌∷◌, ap, ◌∙◌}
-use Rattle.std.proofs.lemmas.Str.{IsUtf8-string_bytes}
-use Rattle.std.specs.Prelude.{string_bytes}
-use Rattle.kdl_text.specs.Chars.{Text}
+use Rattle.kdl_parts.proofs.Common.{[], ◌∷◌, ap, ◌∙◌, IsUtf8-string_bytes, string_bytes, Text, node_format_tree}
 use Rattle.kdl_grammar.specs.Tree.{NodeFormat}
-use Rattle.kdl_parts.specs.Formats.{node_format_tree}
 use Rattle.kdl_parts.proofs.BomText.{one_char}
 use Rattle.kdl_parts.proofs.format.new_format.Goals as goal
 

@@ -1,5 +1,4 @@
-use Rattle.std.proofs.lemmas.Str.{IsUtf8-string_bytes}
-use Rattle.std.specs.Prelude.{string_bytes}
+use Rattle.kdl_parts.proofs.Common.{IsUtf8-string_bytes, string_bytes}
 use Rattle.kdl_parts.proofs.BomText.{joined}
 use Rattle.kdl_parts.proofs.format.push_text.Goals as goal
 

@@ -1,6 +1,4 @@
-use Rattle.std.proofs.Common.{◌≡◌}
-use Rattle.std.specs.Slice.Iter.{iter_rest}
-use Rattle.kdl_parts.specs.EntryLists.{arguments}
+use Rattle.kdl_parts.proofs.Common.{◌≡◌, iter_rest, arguments}
 use Rattle.kdl_parts.proofs.iter.next_argument.Given as goal
 
 abbrev pub invariant-loop-entry : goal.invariant-loop-entry

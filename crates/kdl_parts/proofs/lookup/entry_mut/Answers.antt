@@ -1,6 +1,5 @@
-use Rattle.std.proofs.Common.{ap, inl, length, sym, ◌∙◌}
-use Rattle.std.proofs.lemmas.Option.{slice_get_read}
-use Rattle.kdl_parts.specs.EntryLists.{place_of}
+use Rattle.kdl_parts.proofs.Common.{ap, length, sym, ◌∙◌, slice_get_read, place_of}
+use Rattle.std.proofs.Common.{inl}
 use Rattle.kdl_parts.specs.Written.{set_entry_there}
 use Rattle.kdl_parts.proofs.EntryLookups.{found_at}
 use Rattle.kdl_parts.proofs.lookup.entry_mut.Goals as goal

@@ -1,5 +1,4 @@
-use Rattle.std.proofs.Common.{refl, ap, sym, Some}
-use Rattle.std.proofs.lemmas.Option.{slice_get_read}
+use Rattle.kdl_parts.proofs.Common.{refl, ap, sym, Some, slice_get_read}
 use Rattle.kdl_parts.proofs.EntryLookups.{set_value_is}
 use Rattle.kdl_parts.proofs.lookup.value_at_mut.Goals as goal
 

@@ -1,4 +1,4 @@
-use Rattle.std.proofs.Common.{◌∙◌}
+use Rattle.kdl_parts.proofs.Common.{◌∙◌}
 use Rattle.kdl_parts.proofs.EntryLookups.{name_compared}
 use Rattle.kdl_parts.proofs.places.is_property.Goals as goal
 

@@ -1,5 +1,4 @@
-use Rattle.std.proofs.Common.{arith}
-use Rattle.std.proofs.lemmas.Grind.{common_steps}
+use Rattle.kdl_parts.proofs.Common.{arith, common_steps}
 use Rattle.kdl_parts.proofs.EntryLookups.{last_place_push}
 use Rattle.kdl_parts.proofs.places.last_property.Goals.{then-is_property, else-is_property}
 use Rattle.kdl_parts.proofs.places.last_property.Goals as goal

@@ -1,5 +1,5 @@
-use Rattle.std.proofs.Common.{◌≡◌, ◌<◌, length, take, IfSome}
-use Rattle.kdl_parts.specs.EntryLists.{has_name, last_place}
+use Rattle.kdl_parts.proofs.Common.{◌≡◌, ◌<◌, length, take, has_name, last_place}
+use Rattle.std.proofs.Common.{IfSome}
 use Rattle.kdl_parts.proofs.places.last_property.Given as goal
 
 abbrev pub invariant-loop-i : goal.invariant-loop-i

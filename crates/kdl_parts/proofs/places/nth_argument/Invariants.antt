@@ -1,5 +1,5 @@
-use Rattle.std.proofs.Common.{◌≡◌, drop}
-use Rattle.kdl_parts.specs.EntryLists.{nth_place, is_argument}
+use Rattle.kdl_parts.proofs.Common.{◌≡◌, drop, is_argument}
+use Rattle.kdl_parts.specs.EntryLists.{nth_place}
 use Rattle.kdl_parts.proofs.EntryLookups.{after}
 use Rattle.kdl_parts.proofs.places.nth_argument.Given as goal
 

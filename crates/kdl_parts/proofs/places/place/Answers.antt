@@ -1,6 +1,4 @@
-use Rattle.std.proofs.Common.{◌∙◌, ap}
-use Rattle.std.proofs.lemmas.Str.{IsUtf8-string_bytes}
-use Rattle.kdl_parts.specs.EntryLists.{has_name, last_place}
+use Rattle.kdl_parts.proofs.Common.{◌∙◌, ap, IsUtf8-string_bytes, has_name, last_place}
 use Rattle.kdl_parts.proofs.EntryLookups.{same_bytes}
 use Rattle.kdl_parts.proofs.places.place.Goals as goal
 

@@ -1,7 +1,5 @@
-use Rattle.std.proofs.Common.{◌∙◌, ap}
-use Rattle.std.proofs.lemmas.Str.{IsUtf8-string_bytes}
+use Rattle.kdl_parts.proofs.Common.{◌∙◌, ap, IsUtf8-string_bytes, has_name}
 use Rattle.std.specs.Prelude.{position}
-use Rattle.kdl_parts.specs.EntryLists.{has_name}
 use Rattle.kdl_parts.proofs.EntryLookups.{same_bytes}
 use Rattle.kdl_parts.proofs.places.place_to_remove.Goals as goal
 

@@ -1,5 +1,4 @@
-use Rattle.std.proofs.Common.{◌∙◌, sym}
-use Rattle.kdl_entry.specs.Tree.{entry_format_tree}
+use Rattle.kdl_parts.proofs.Common.{◌∙◌, sym, entry_format_tree}
 use Rattle.kdl_parts.proofs.PrintedEntries.{has_format, last_formatted}
 use Rattle.kdl_parts.proofs.print.ends_formatted.Goals as goal
 

@@ -1,8 +1,4 @@
-use Rattle.std.proofs.Common.{map, take}
-use Rattle.std.specs.Fmt.{HasWritten, IsPlainFormatter}
-use Rattle.std.specs.Str.{encode_utf8_all}
-use Rattle.kdl_entry.specs.Tree.{entry_tree}
-use Rattle.kdl_grammar.specs.Print.{print_pieces}
+use Rattle.kdl_parts.proofs.Common.{map, take, HasWritten, IsPlainFormatter, encode_utf8_all, entry_tree, print_pieces}
 use Rattle.kdl_parts.proofs.print.write_pieces.Given as goal
 
 abbrev pub invariant-loop-entry : goal.invariant-loop-entry

@@ -1,6 +1,4 @@
-use Rattle.std.proofs.Common.{◌*◌, replicate}
-use Rattle.std.specs.Fmt.{HasWritten, IsPlainFormatter}
-use Rattle.std.specs.Str.{encode_utf8_all}
+use Rattle.kdl_parts.proofs.Common.{◌*◌, replicate, HasWritten, IsPlainFormatter, encode_utf8_all}
 use Rattle.kdl_parts.proofs.print.write_spaces.Given as goal
 
 abbrev pub invariant-loop-level : goal.invariant-loop-level

@@ -1,9 +1,4 @@
-use Rattle.std.proofs.Common.{◌≡◌, ap, ◌∙◌, false, length, refl, rules, true}
-use Rattle.kdl.specs.Tree.{document_tree}
-use Rattle.kdl.specs.declared.document.KdlDocument.TheViews.{the_lemmas, out-KdlDocument}
-use Rattle.kdl.specs.declared.layout.Around.{Around}
-use Rattle.kdl_layout.specs.OneLine.{formats_in_line, is_on_one_line}
-use Rattle.kdl_parts.specs.Formats.{document_format_tree}
+use Rattle.kdl.proofs.Common.{◌≡◌, ap, ◌∙◌, false, length, refl, rules, true, document_tree, the_lemmas, out-KdlDocument, Around, formats_in_line, is_on_one_line, document_format_tree}
 use Rattle.kdl.proofs.LayingOut.Lines.{around_if}
 use Rattle.kdl.proofs.document.KdlDocument.around.Goals as goal
 use Rattle.kdl.proofs.document.KdlDocument.around.Goals.{else-layout-via-then-layout+else-is_on_one_line, else-layout-via-else-layout}

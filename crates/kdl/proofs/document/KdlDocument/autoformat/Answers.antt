@@ -1,6 +1,4 @@
-use Rattle.std.proofs.Common.{rules}
-use Rattle.kdl_layout.specs.Config.{settings, defaults}
-use Rattle.kdl.specs.LaysOut.{RereadsDocument}
+use Rattle.kdl.proofs.Common.{rules, settings, defaults, RereadsDocument}
 use Rattle.kdl.proofs.LayingOut.LayoutCalls.{settled, spaces_are}
 use Rattle.kdl.proofs.document.KdlDocument.autoformat.Goals as goal
 

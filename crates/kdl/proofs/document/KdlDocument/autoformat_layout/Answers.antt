@@ -1,4 +1,4 @@
-use Rattle.std.proofs.lemmas.Result.{on_ok_weaker}
+use Rattle.kdl.proofs.Common.{on_ok_weaker}
 use Rattle.kdl.proofs.LayingOut.LayoutCalls.{formats_document, keeps_document, rereads_document}
 use Rattle.kdl.proofs.document.KdlDocument.autoformat_layout.Goals as goal
 

@@ -1,12 +1,9 @@
-use Rattle.std.proofs.Common.{rules, arith, ◌≡◌, ℕ, ◌-◌, ◌<◌, ◌≤◌, List, [], ◌∷◌, ◌++◌, length, get_or, ap, ◌∙◌, refl, Bool, true, false, Option, None, Some, is_none, is_some, inl, inr}
-use Rattle.std.specs.List.{AllWithin, All}
+use Rattle.kdl.proofs.Common.{rules, arith, ◌≡◌, ℕ, ◌-◌, ◌<◌, ◌≤◌, List, [], ◌∷◌, ◌++◌, length, get_or, ap, ◌∙◌, refl, Bool, true, false, Option, None, Some, is_none, is_some, inl, inr, All, length-append, out-KdlNode, KdlNode, KdlNodeFormat}
+use Rattle.std.specs.List.{AllWithin}
 use Rattle.std.specs.List.Sorted.{IsPartitionedBy, IsPartitionPoint}
 use Rattle.std.proofs.lemmas.Bool.{cases_lt}
-use Rattle.std.proofs.lemmas.List.{length-append, get_or_append_left, get_or-append_right}
+use Rattle.std.proofs.lemmas.List.{get_or_append_left, get_or-append_right}
 use Rattle.std.proofs.lemmas.List.Sorted.{IsPartitionPoint-from_clause}
-use Rattle.kdl.specs.declared.document.KdlDocument.TheViews.{out-KdlNode}
-use Rattle.kdl.specs.declared.node.KdlNode.{KdlNode}
-use Rattle.kdl_parts.specs.declared.format.KdlNodeFormat.{KdlNodeFormat}
 use Rattle.kdl.proofs.Clearing.{IsDue, IsNotDue}
 use Rattle.kdl.proofs.document.KdlDocument.due_from.Goals as goal
 

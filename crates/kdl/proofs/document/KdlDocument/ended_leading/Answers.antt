@@ -1,12 +1,6 @@
 use Rattle.kdl.proofs.Putting.Exact.{leads_exactly}
-use Rattle.std.proofs.Common.{ap, arith, subst}
-use Rattle.std.specs.Str.{chars}
-use Rattle.kdl_layout.specs.Kept.{without_bom}
-use Rattle.kdl_text.specs.Chars.{Text}
-use Rattle.kdl_value.specs.Tree.{text_of}
-use Rattle.kdl_parts.specs.Formats.{document_format_tree, document_texts}
-use Rattle.kdl.specs.Internal.Ends.{GapSays, GapFewest}
-use Rattle.kdl.specs.Nodes.{texts_around}
+use Rattle.kdl.proofs.Common.{ap, arith, subst, chars, without_bom, Text, text_of, document_format_tree, GapSays, GapFewest, texts_around}
+use Rattle.kdl_parts.specs.Formats.{document_texts}
 use Rattle.kdl.proofs.Putting.NodeEnds.{copy_put}
 use Rattle.kdl.proofs.document.KdlDocument.ended_leading.Goals as goal
 

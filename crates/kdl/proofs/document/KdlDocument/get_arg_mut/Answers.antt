@@ -1,7 +1,4 @@
-use Rattle.std.proofs.Common.{◌≡◌, Some, ap, inl, length, option_and_then, position, sym, ◌∙◌}
-use Rattle.std.proofs.lemmas.Option.{slice_get_read}
-use Rattle.kdl.specs.DocumentLookups.{argument_named, first_argument, is_node_named, nodes_of, with_argument_in, with_argument_there}
-use Rattle.kdl.specs.Lookups.{held_value}
+use Rattle.kdl.proofs.Common.{◌≡◌, Some, ap, inl, length, option_and_then, position, sym, ◌∙◌, slice_get_read, argument_named, first_argument, is_node_named, nodes_of, with_argument_in, with_argument_there, held_value}
 use Rattle.kdl.proofs.Finding.DocumentLookups.{found_is}
 use Rattle.kdl.proofs.Finding.NodesFound.{argument_sets}
 use Rattle.kdl.proofs.document.KdlDocument.get_arg_mut.Goals as goal

@@ -1,7 +1,4 @@
-use Rattle.std.proofs.Common.{◌≡◌, Some, ap, inl, length, option_map, position, refl, sym, ◌∙◌}
-use Rattle.std.proofs.lemmas.Option.{slice_get_read}
-use Rattle.kdl.specs.DocumentLookups.{is_node_named, node_named, nodes_of, with_node_there}
-use Rattle.kdl.specs.Tree.{node_says}
+use Rattle.kdl.proofs.Common.{◌≡◌, Some, ap, inl, length, option_map, position, refl, sym, ◌∙◌, slice_get_read, is_node_named, node_named, nodes_of, with_node_there, node_says}
 use Rattle.kdl.proofs.Finding.DocumentLookups.{found_is, none_there}
 use Rattle.kdl.proofs.Finding.SaidLookups.{node_said}
 use Rattle.kdl.proofs.PiecesExchanged.{named_exchanges}

@@ -1,4 +1,4 @@
-use Rattle.std.proofs.lemmas.Result.{on_ok_weaker}
+use Rattle.kdl.proofs.Common.{on_ok_weaker}
 use Rattle.kdl.proofs.Putting.Puts.{put_prints, put_says}
 use Rattle.kdl.proofs.document.KdlDocument.insert_node.Goals as goal
 

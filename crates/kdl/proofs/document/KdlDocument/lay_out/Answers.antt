@@ -1,11 +1,4 @@
-use Rattle.std.proofs.Common.{rules, option_map, map, ap, subst, ◌∙◌}
-use Rattle.std.proofs.lemmas.Result.{on_ok_weaker}
-use Rattle.kdl_layout.specs.Config.{settings}
-use Rattle.kdl_parts.specs.Formats.{document_format_tree}
-use Rattle.kdl.specs.Internal.Spacing.{NodesAreSpaced, StayAs}
-use Rattle.kdl.specs.Tree.{node_tree, nodes_tree}
-use Rattle.kdl.specs.declared.document.KdlDocument.TheViews.{the_lemmas, out-KdlDocument, out-roll-KdlDocument}
-use Rattle.kdl_layout.specs.Formatted.{bare_node}
+use Rattle.kdl.proofs.Common.{rules, option_map, map, ap, subst, ◌∙◌, on_ok_weaker, settings, document_format_tree, NodesAreSpaced, StayAs, node_tree, nodes_tree, the_lemmas, out-KdlDocument, out-roll-KdlDocument, bare_node}
 use Rattle.kdl.proofs.LayingOut.PartsSpaced.{same_content, laid_content, nodes_fit, fitting_document}
 use Rattle.kdl.proofs.LayingOut.StaysReading.{document_stays}
 use Rattle.kdl.proofs.document.KdlDocument.lay_out.Goals as goal

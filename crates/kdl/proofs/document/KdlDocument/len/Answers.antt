@@ -1,4 +1,4 @@
-use Rattle.std.proofs.Common.{◌∙◌}
+use Rattle.kdl.proofs.Common.{◌∙◌}
 use Rattle.kdl_value.proofs.Spelling.PrintedTexts.{printed_len}
 use Rattle.kdl.proofs.document.KdlDocument.len.Goals as goal
 

@@ -1,9 +1,6 @@
-use Rattle.std.proofs.Common.{◌≡◌, ℕ, OnOk, arith, length, subst}
-use Rattle.kdl.specs.DocumentLookups.{nodes_of}
-use Rattle.kdl.specs.Exact.{IsPutExactly}
+use Rattle.kdl.proofs.Common.{◌≡◌, ℕ, OnOk, arith, length, subst, nodes_of, IsPutExactly, on_ok_weaker}
 use Rattle.kdl.specs.declared.document.KdlDocument.{out-KdlDocument}
 use Rattle.kdl.proofs.Putting.Exact.{appended}
-use Rattle.std.proofs.lemmas.Result.{on_ok_weaker}
 use Rattle.kdl.proofs.document.KdlDocument.push_node.Goals as goal
 
 pub returns-clause-appended : goal.returns-clause-appended

@@ -1,5 +1,4 @@
-use Rattle.std.proofs.Common.{sym}
-use Rattle.kdl.specs.Internal.Ends.{end_with}
+use Rattle.kdl.proofs.Common.{sym, end_with}
 use Rattle.kdl.proofs.Putting.Puts.{after_put}
 use Rattle.kdl.proofs.document.KdlDocument.put_after.Goals as goal
 

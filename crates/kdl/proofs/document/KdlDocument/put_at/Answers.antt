@@ -1,4 +1,4 @@
-use Rattle.std.proofs.Common.{sym}
+use Rattle.kdl.proofs.Common.{sym}
 use Rattle.kdl.proofs.Putting.Puts.{put_at}
 use Rattle.kdl.proofs.document.KdlDocument.put_at.Goals as goal
 

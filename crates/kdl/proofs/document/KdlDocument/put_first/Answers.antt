@@ -1,6 +1,4 @@
-use Rattle.std.proofs.Common.{option_map}
-use Rattle.kdl_value.specs.Tree.{text_of}
-use Rattle.kdl.specs.Internal.Ends.{end_with}
+use Rattle.kdl.proofs.Common.{option_map, text_of, end_with}
 use Rattle.kdl.proofs.Putting.Exact.{first_put}
 use Rattle.kdl.proofs.document.KdlDocument.put_first.Goals as goal
 

@@ -1,7 +1,4 @@
-use Rattle.std.proofs.Common.{Some, ap, sym, ◌∙◌}
-use Rattle.std.proofs.lemmas.Option.{slice_get-get_or}
-use Rattle.kdl.specs.Change.{with_nodes}
-use Rattle.kdl.specs.DocumentLookups.{nodes_of}
+use Rattle.kdl.proofs.Common.{Some, ap, sym, ◌∙◌, slice_get-get_or, with_nodes, nodes_of}
 use Rattle.kdl.proofs.Putting.PutReads.{taken_reads}
 use Rattle.kdl.proofs.Putting.Puts.{nodes_with, span_kept, taken_prints, taken_says, with_nodes_own}
 use Rattle.kdl.proofs.document.KdlDocument.remove_node.Goals as goal

@@ -1,8 +1,4 @@
-use Rattle.std.proofs.Common.{ap, ◌∙◌, sym, map, option_map}
-use Rattle.kdl_grammar.specs.Tree.{document, listed_nodes}
-use Rattle.kdl_parts.specs.Formats.{document_format_tree}
-use Rattle.kdl.specs.Tree.{node_tree}
-use Rattle.kdl.specs.declared.document.KdlDocument.TheViews.{out-KdlDocument}
+use Rattle.kdl.proofs.Common.{ap, ◌∙◌, sym, map, option_map, document, listed_nodes, document_format_tree, node_tree, out-KdlDocument}
 use Rattle.kdl.proofs.Trees.{document_tree_out}
 use Rattle.kdl.proofs.document.KdlDocumentClone.clone.Goals as goal
 

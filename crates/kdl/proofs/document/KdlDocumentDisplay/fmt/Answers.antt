@@ -1,6 +1,4 @@
-use Rattle.std.proofs.Common.{arith}
-use Rattle.std.proofs.lemmas.Grind.{common_steps}
-use Rattle.std.proofs.lemmas.Str.{encodes-append}
+use Rattle.kdl.proofs.Common.{arith, common_steps, encodes-append}
 use Rattle.kdl.proofs.Printing.PrintedParts.{document_printed}
 use Rattle.kdl.proofs.document.KdlDocumentDisplay.fmt.Goals as goal
 

@@ -1,6 +1,4 @@
-use Rattle.std.proofs.Common.{◌≡◌}
-use Rattle.std.specs.Slice.Iter.{iter_rest}
-use Rattle.kdl.specs.DocumentLookups.{dash_arguments}
+use Rattle.kdl.proofs.Common.{◌≡◌, iter_rest, dash_arguments}
 use Rattle.kdl.proofs.document.args.next_dash_argument.Given as goal
 
 abbrev pub invariant-loop-node : goal.invariant-loop-node

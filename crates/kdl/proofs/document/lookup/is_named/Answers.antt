@@ -1,4 +1,4 @@
-use Rattle.std.proofs.Common.{◌∙◌}
+use Rattle.kdl.proofs.Common.{◌∙◌}
 use Rattle.kdl.proofs.Finding.DocumentLookups.{named_compared}
 use Rattle.kdl.proofs.document.lookup.is_named.Goals as goal
 

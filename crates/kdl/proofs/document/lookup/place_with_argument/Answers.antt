@@ -1,6 +1,4 @@
-use Rattle.std.proofs.Common.{ap, length, option_and_then, refl}
-use Rattle.std.proofs.lemmas.Option.{slice_get_read}
-use Rattle.kdl.specs.DocumentLookups.{first_argument, is_node_named}
+use Rattle.kdl.proofs.Common.{ap, length, option_and_then, refl, slice_get_read, first_argument, is_node_named}
 use Rattle.kdl.proofs.Finding.DocumentLookups.{argument_absent, none_there}
 use Rattle.kdl.proofs.document.lookup.place_with_argument.Goals as goal
 

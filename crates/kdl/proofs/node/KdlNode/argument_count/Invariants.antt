@@ -1,6 +1,5 @@
-use Rattle.std.proofs.Common.{◌≡◌, ◌≤◌, take}
+use Rattle.kdl.proofs.Common.{◌≡◌, ◌≤◌, take, is_argument}
 use Rattle.std.specs.List.{count_by}
-use Rattle.kdl_parts.specs.EntryLists.{is_argument}
 use Rattle.kdl.proofs.node.KdlNode.argument_count.Given as goal
 
 abbrev pub invariant-loop-entry : goal.invariant-loop-entry

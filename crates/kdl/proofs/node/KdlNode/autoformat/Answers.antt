@@ -1,6 +1,4 @@
-use Rattle.std.proofs.Common.{rules}
-use Rattle.kdl_layout.specs.Config.{settings, defaults}
-use Rattle.kdl.specs.LaysOut.{RereadsNode}
+use Rattle.kdl.proofs.Common.{rules, settings, defaults, RereadsNode}
 use Rattle.kdl.proofs.LayingOut.LayoutCalls.{settled, spaces_are}
 use Rattle.kdl.proofs.node.KdlNode.autoformat.Goals as goal
 

@@ -1,4 +1,4 @@
-use Rattle.std.proofs.lemmas.Result.{on_ok_weaker}
+use Rattle.kdl.proofs.Common.{on_ok_weaker}
 use Rattle.kdl.proofs.LayingOut.LayoutCalls.{formats_node, keeps_node, rereads_node}
 use Rattle.kdl.proofs.node.KdlNode.autoformat_layout.Goals as goal
 

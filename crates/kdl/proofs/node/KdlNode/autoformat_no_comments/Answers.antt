@@ -1,6 +1,4 @@
-use Rattle.std.proofs.Common.{rules}
-use Rattle.kdl_layout.specs.Config.{settings, without_comments}
-use Rattle.kdl.specs.LaysOut.{RereadsNode}
+use Rattle.kdl.proofs.Common.{rules, settings, without_comments, RereadsNode}
 use Rattle.kdl.proofs.LayingOut.LayoutCalls.{settled, spaces_are}
 use Rattle.kdl.proofs.node.KdlNode.autoformat_no_comments.Goals as goal
 

@@ -1,11 +1,5 @@
 use Rattle.kdl.proofs.Putting.Exact.{begins_fewest}
-use Rattle.std.proofs.Common.{ap, arith, subst}
-use Rattle.std.specs.Str.{chars}
-use Rattle.kdl_text.specs.Chars.{Text}
-use Rattle.kdl_value.specs.Tree.{text_of}
-use Rattle.kdl_grammar.specs.Tree.{no_children}
-use Rattle.kdl.specs.Internal.Ends.{PlaceFewest}
-use Rattle.kdl_parts.specs.Formats.{node_format_tree, node_texts}
+use Rattle.kdl.proofs.Common.{ap, arith, subst, chars, Text, text_of, no_children, PlaceFewest, node_format_tree, node_texts}
 use Rattle.kdl.specs.declared.node.KdlNode.{out-KdlNode}
 use Rattle.kdl.proofs.Putting.ChildReads.{place_says, text_says}
 use Rattle.kdl.proofs.Putting.NodeEnds.{copy_put}

@@ -1,6 +1,4 @@
-use Rattle.std.proofs.Common.{refl}
-use Rattle.std.proofs.lemmas.Result.{IfOk-weaker}
-use Rattle.kdl.specs.declared.document.KdlDocument.TheViews.{out-KdlNode}
+use Rattle.kdl.proofs.Common.{refl, IfOk-weaker, out-KdlNode}
 use Rattle.kdl.proofs.LayingOut.PartsSpaced.{own_passes}
 use Rattle.kdl.proofs.node.KdlNode.before_next.Goals as goal
 

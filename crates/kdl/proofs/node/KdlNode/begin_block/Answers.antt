@@ -1,8 +1,4 @@
-use Rattle.std.proofs.Common.{Some, ap, option_map, refl, sym, ◌∙◌}
-use Rattle.kdl_grammar.specs.Tree.{NodeFormat}
-use Rattle.kdl_parts.specs.Formats.{node_texts}
-use Rattle.kdl_value.specs.Tree.{text_of}
-use Rattle.kdl.specs.Internal.Ends.{block_format}
+use Rattle.kdl.proofs.Common.{Some, ap, option_map, refl, sym, ◌∙◌, NodeFormat, node_texts, text_of, block_format}
 use Rattle.kdl.proofs.Putting.NodeEnds.{block_begun, empty_string}
 use Rattle.kdl.proofs.node.KdlNode.begin_block.Goals as goal
 

@@ -1,5 +1,4 @@
-use Rattle.std.proofs.Common.{rules, refl}
-use Rattle.kdl.specs.Fields.{block_of}
+use Rattle.kdl.proofs.Common.{rules, refl, block_of}
 use Rattle.kdl.proofs.PiecesExchanged.{block_exchanges, some_exchanges}
 use Rattle.kdl.proofs.ReadingBack.{block_exchanged}
 use Rattle.kdl.proofs.node.KdlNode.children_mut.Goals as goal

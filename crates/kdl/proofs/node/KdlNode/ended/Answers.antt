@@ -1,11 +1,5 @@
-use Rattle.kdl.specs.Fields.{node_format_of}
+use Rattle.kdl.proofs.Common.{node_format_of, IfOk, List, is_some, map, subst, entry_tree, KdlEntry, node_texts, IsNodeEnded, block_if, printed_format}
 use Rattle.kdl.proofs.Putting.Exact.{ends_exactly_ok}
-use Rattle.std.proofs.Common.{IfOk, List, is_some, map, subst}
-use Rattle.kdl_entry.specs.Tree.{entry_tree}
-use Rattle.kdl_entry.specs.declared.entry.KdlEntry.{KdlEntry}
-use Rattle.kdl_parts.specs.Formats.{node_texts}
-use Rattle.kdl.specs.Internal.Ends.{IsNodeEnded, block_if}
-use Rattle.kdl.specs.Nodes.{printed_format}
 use Rattle.kdl.specs.declared.node.KdlNode.{out-KdlNode}
 use Rattle.kdl.proofs.node.KdlNode.ended.Goals as goal
 

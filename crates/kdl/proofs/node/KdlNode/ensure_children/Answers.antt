@@ -1,8 +1,4 @@
-use Rattle.std.proofs.Common.{rules, ◌≡◌, Option, None, Some, IfNone, IfSome, unwrap_or, refl, ap, ◌∙◌}
-use Rattle.kdl.specs.Cleared.{new_document}
-use Rattle.kdl.specs.Fields.{block_of}
-use Rattle.kdl.specs.Tree.{document_tree}
-use Rattle.kdl.specs.declared.document.KdlDocument.{KdlDocument}
+use Rattle.kdl.proofs.Common.{rules, ◌≡◌, Option, None, Some, IfNone, IfSome, unwrap_or, refl, ap, ◌∙◌, new_document, block_of, document_tree, KdlDocument}
 use Rattle.kdl.proofs.PiecesExchanged.{ensured_exchanges}
 use Rattle.kdl.proofs.node.KdlNode.ensure_children.Goals as goal
 

@@ -1,4 +1,4 @@
-use Rattle.std.proofs.Common.{rules}
+use Rattle.kdl.proofs.Common.{rules}
 use Rattle.kdl.proofs.ReadingBack.{entries_exchanged}
 use Rattle.kdl.proofs.node.KdlNode.entries_mut.Goals as goal
 

@@ -1,14 +1,8 @@
-use Rattle.std.proofs.Common.{ap, MutBor}
-use Rattle.std.specs.Option.{ghost_name_of}
-use Rattle.kdl_entry.specs.declared.entry.KdlEntry.{KdlEntry}
-use Rattle.kdl.specs.Lookups.{with_found_entry}
-use Rattle.kdl.specs.declared.document.KdlDocument.TheViews.{roll-out-KdlNode}
-use Rattle.kdl.specs.declared.node.KdlNode.{KdlNode}
+use Rattle.kdl.proofs.Common.{ap, MutBor, ghost_name_of, KdlEntry, with_found_entry, roll-out-KdlNode, KdlNode, read_of}
 use Rattle.kdl.proofs.Finding.EntriesFound.{entry_sets, entry_sets_at}
 use Rattle.kdl.proofs.ReadingBack.{entry_loan_reads, entry_loan_respelled, entry_loan_unformed}
 use Rattle.kdl.proofs.PiecesExchanged.{loan_exchanges}
 use Rattle.kdl.proofs.node.KdlNode.entry_mut.Goals as goal
-use borrow.Follows.Closed.{read_of}
 
 pub returns : goal.returns
 returns c = (

@@ -1,12 +1,6 @@
-use Rattle.std.proofs.Common.{ap, MutBor}
-use Rattle.std.specs.Option.{ghost_name_of}
-use Rattle.kdl_value.specs.declared.value.KdlValue.{KdlValue}
-use Rattle.kdl.specs.Lookups.{with_found_value}
-use Rattle.kdl.specs.declared.document.KdlDocument.TheViews.{roll-out-KdlNode}
-use Rattle.kdl.specs.declared.node.KdlNode.{KdlNode}
+use Rattle.kdl.proofs.Common.{ap, MutBor, ghost_name_of, KdlValue, with_found_value, roll-out-KdlNode, KdlNode, read_of}
 use Rattle.kdl.proofs.Finding.EntriesFound.{value_sets, value_sets_at}
 use Rattle.kdl.proofs.node.KdlNode.get_mut.Goals as goal
-use borrow.Follows.Closed.{read_of}
 
 pub returns : goal.returns
 returns c = (

@@ -1,4 +1,5 @@
-use Rattle.std.proofs.Common.{◌≡◌, Result, Ok, Err, IsErr, IsOk, OnErr, refl}
+use Rattle.kdl.proofs.Common.{◌≡◌, Result, Ok, Err, OnErr, refl}
+use Rattle.std.proofs.Common.{IsErr, IsOk}
 use Rattle.std.proofs.lemmas.Result.{IfOk-from_err}
 use Rattle.std.specs.Borrow.{name_if_ok}
 use Rattle.kdl.proofs.Finding.NodeLookups.{entries_refused, written, value_found}

@@ -1,5 +1,4 @@
-use Rattle.std.proofs.Common.{rules, ◌==◌}
-use Rattle.kdl.specs.declared.document.KdlDocument.TheViews.{the_lemmas}
+use Rattle.kdl.proofs.Common.{rules, ◌==◌, the_lemmas}
 use Rattle.kdl.proofs.LayingOut.Lines.{node_block, node_line}
 use Rattle.kdl.proofs.node.KdlNode.is_on_line.Goals as goal
 

@@ -1,11 +1,4 @@
-use Rattle.std.proofs.Common.{rules, sym, subst, ap, ◌∙◌, map}
-use Rattle.kdl.specs.Internal.Spacing.{NodeStays, braces_of, lined, with_braces}
-use Rattle.kdl.specs.Iterators.{child_nodes, nodes_in}
-use Rattle.kdl.specs.Tree.{node_tree}
-use Rattle.kdl.specs.declared.document.KdlDocument.TheViews.{out-KdlNode, roll-KdlNode, out-roll-KdlNode}
-use Rattle.kdl_layout.specs.Blank.{at_start}
-use Rattle.kdl_layout.specs.Config.{settings}
-use Rattle.kdl_layout.specs.Formatted.{bare_node}
+use Rattle.kdl.proofs.Common.{rules, sym, subst, ap, ◌∙◌, map, NodeStays, braces_of, lined, with_braces, child_nodes, nodes_in, node_tree, out-KdlNode, roll-KdlNode, out-roll-KdlNode, at_start, settings, bare_node}
 use Rattle.kdl.proofs.LayingOut.BlockSteps.{node_is, node_below, filled_below, laid_below, bare_enclosed, bare_filled}
 use Rattle.kdl.proofs.LayingOut.StaysReading.{below_stays}
 use Rattle.kdl.proofs.node.KdlNode.lay_out.Goals as goal

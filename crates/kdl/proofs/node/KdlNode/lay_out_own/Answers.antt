@@ -1,14 +1,5 @@
-use Rattle.std.proofs.Common.{rules, ◌≡◌, Bool, Bor, None, Option, Some, option_map, map, ◌+◌, refl, subst}
+use Rattle.kdl.proofs.Common.{rules, ◌≡◌, Bool, Bor, None, Option, Some, option_map, map, ◌+◌, refl, subst, is_some, child_nodes, node_tree, entry_tree, identifier_tree, KdlIdentifier, Keeps, SpellingRule, node_format_tree, the_lemmas, out-KdlNode}
 use Rattle.std.specs.Option.{option_copied}
-use Rattle.std.specs.Prelude.{is_some}
-use Rattle.kdl.specs.Iterators.{child_nodes}
-use Rattle.kdl.specs.Tree.{node_tree}
-use Rattle.kdl_entry.specs.Tree.{entry_tree, identifier_tree}
-use Rattle.kdl_entry.specs.declared.identifier.KdlIdentifier.{KdlIdentifier}
-use Rattle.kdl_layout.specs.Internal.Names.{Keeps}
-use Rattle.kdl_layout.specs.declared.names.SpellingRule.{SpellingRule}
-use Rattle.kdl_parts.specs.Formats.{node_format_tree}
-use Rattle.kdl.specs.declared.document.KdlDocument.TheViews.{the_lemmas, out-KdlNode}
 use Rattle.kdl_layout.proofs.Respelling.Kept.{typed_put}
 use Rattle.kdl.proofs.LayingOut.OneLine.{own_spaced}
 use Rattle.kdl.proofs.LayingOut.PartsSpaced.{own_passes, fitting_node, nodes_fit}

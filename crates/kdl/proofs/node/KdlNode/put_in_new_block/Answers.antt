@@ -1,6 +1,5 @@
 use Rattle.kdl.proofs.Putting.Exact.{child_put, new_block_exactly}
-use Rattle.std.proofs.Common.{option_map, refl}
-use Rattle.kdl_value.specs.Tree.{text_of}
+use Rattle.kdl.proofs.Common.{option_map, refl, text_of}
 use Rattle.kdl.proofs.Putting.ChildReads.{new_child_reads}
 use Rattle.kdl.proofs.node.KdlNode.put_in_new_block.Goals as goal
 

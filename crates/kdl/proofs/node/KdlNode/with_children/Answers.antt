@@ -1,5 +1,4 @@
-use Rattle.std.proofs.Common.{rules, ◌∙◌, refl}
-use Rattle.kdl.specs.declared.document.KdlDocument.TheViews.{out-KdlNode}
+use Rattle.kdl.proofs.Common.{rules, ◌∙◌, refl, out-KdlNode}
 use Rattle.kdl.proofs.Trees.{node_tree_roll, entries_cloned, same_node}
 use Rattle.kdl.proofs.node.KdlNode.with_children.Goals as goal
 

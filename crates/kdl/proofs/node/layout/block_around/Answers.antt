@@ -1,7 +1,4 @@
-use Rattle.std.proofs.Common.{rules, Option, None, Some, subst, sym, ◌≡◌}
-use Rattle.kdl.specs.Internal.Spacing.{BlockIsSpaced}
-use Rattle.kdl.specs.declared.document.KdlDocument.{KdlDocument}
-use Rattle.kdl_layout.specs.Blank.{at_start}
+use Rattle.kdl.proofs.Common.{rules, Option, None, Some, subst, sym, ◌≡◌, BlockIsSpaced, KdlDocument, at_start}
 use Rattle.kdl.proofs.LayingOut.OneLine.{document_block, no_block_laid}
 use Rattle.kdl.proofs.node.layout.block_around.Goals as goal
 

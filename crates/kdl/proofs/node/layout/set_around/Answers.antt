@@ -1,4 +1,4 @@
-use Rattle.std.proofs.Common.{rules, Some, ◌≡◌}
+use Rattle.kdl.proofs.Common.{rules, Some, ◌≡◌}
 use Rattle.kdl.proofs.LayingOut.Lines.{none_set}
 use Rattle.kdl.proofs.node.layout.set_around.Goals as goal
 

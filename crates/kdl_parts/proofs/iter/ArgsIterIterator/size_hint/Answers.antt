@@ -1,4 +1,4 @@
-use Rattle.std.specs.Slice.Iter.{iter_rest}
+use Rattle.kdl_parts.proofs.Common.{iter_rest}
 use Rattle.kdl_parts.proofs.EntryLookups.{arguments_within}
 use Rattle.kdl_parts.proofs.iter.ArgsIterIterator.size_hint.Goals as goal
 

@@ -1,6 +1,4 @@
-use Rattle.std.proofs.Common.{Some, ap}
-use Rattle.std.proofs.lemmas.Str.{IsUtf8-string_bytes}
-use Rattle.kdl_entry.specs.Tree.{Identifier}
+use Rattle.kdl_parts.proofs.Common.{Some, ap, IsUtf8-string_bytes, Identifier}
 use Rattle.kdl_parts.proofs.EntryLookups.{same_bytes}
 use Rattle.kdl_parts.proofs.key.NodeKey.from_text.Goals as goal
 

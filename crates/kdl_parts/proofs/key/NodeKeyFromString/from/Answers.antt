@@ -1,7 +1,4 @@
-use Rattle.std.proofs.Common.{Some, ap}
-use Rattle.std.proofs.lemmas.Str.{IsUtf8-string_bytes}
-use Rattle.kdl_entry.specs.Tree.{Identifier}
-use Rattle.kdl_parts.specs.EntryLists.{property}
+use Rattle.kdl_parts.proofs.Common.{Some, ap, IsUtf8-string_bytes, Identifier, property}
 use Rattle.kdl_parts.proofs.EntryLookups.{same_bytes}
 use Rattle.kdl_parts.proofs.key.NodeKeyFromString.from.Goals as goal
 

@@ -1,4 +1,4 @@
-use Rattle.std.specs.Slice.Iter.{iter_rest}
+use Rattle.kdl.proofs.Common.{iter_rest}
 use Rattle.kdl.proofs.Finding.DocumentLookups.{dashes_within}
 use Rattle.kdl.proofs.document.args.DashArgsIterIterator.size_hint.Goals as goal
 

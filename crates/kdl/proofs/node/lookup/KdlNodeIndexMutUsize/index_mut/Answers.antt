@@ -1,6 +1,4 @@
-use Rattle.std.proofs.Common.{Some, refl, sym}
-use Rattle.kdl_value.specs.declared.value.KdlValue.{KdlValue}
-use Rattle.kdl_parts.specs.declared.key.NodeKey.TheVariants.{Index}
+use Rattle.kdl.proofs.Common.{Some, refl, sym, KdlValue, Index}
 use Rattle.kdl.proofs.Finding.EntriesFound.{value_sets_at}
 use Rattle.kdl.proofs.node.lookup.KdlNodeIndexMutUsize.index_mut.Goals as goal
 

@@ -1,13 +1,10 @@
-use Rattle.std.proofs.Common.{rules, refl, sym, subst, ap, ◌≡◌, ◌∙◌, ◌<◌, map}
-use Rattle.kdl.specs.Internal.Spacing.{IsUnderWay, StayAs, left, whole}
-use Rattle.kdl_layout.specs.Config.{settings}
-use Rattle.kdl_layout.specs.Formatted.{bare_node}
+use Rattle.kdl.proofs.Common.{rules, refl, sym, subst, ap, ◌≡◌, ◌∙◌, ◌<◌, map, IsUnderWay, StayAs, left, whole, settings, bare_node}
 use Rattle.kdl.proofs.LayingOut.BlockSteps.{all_done}
 use Rattle.kdl.proofs.LayingOut.StaysReading.{stay_same, stay_then}
-use Rattle.kdl.proofs.layout.Blocks.lay_out.Goals as goal
+use Rattle.kdl.proofs.layout.LayoutFrame.lay_out.Goals as goal
 
 pub steps-init : goal.steps-init
-steps-init c = (refl, λ level x olds u. u, λ ok level x olds u. stay_same (settings c.args.layout.now.config) (whole c.args.self.now.above.items c.args.self.now.inner))
+steps-init c = (refl, λ level x olds u. u, λ ok level x olds u. stay_same (settings c.args.layout.now.config) (whole c.args.above.now.items c.args.self.now))
 
 pub steps-smaller-in-Continue-1 : goal.steps-smaller-in-Continue-1
 steps-smaller-in-Continue-1 c = c.in_ok-lay_out_next.ensures.goes_on.1
@@ -28,33 +25,34 @@ returns-in_err-lay_out_next-clause-stays c ok level x olds u =
 
 pub steps-smaller : goal.steps-smaller
 steps-smaller c =
-    let new = c.leave.new.self in
-    subst (λ z. left new.above.items new.inner < left z c.steps.self.inner) (sym c.in-Some.ensures.items) (c.leave.ensures.goes_on (search rules) c.args.layout.now).1
+    let above = c.pop.new.self.items in
+    subst (λ z. left above c.leave.new.self < left z c.steps.self) (sym c.in-Some.ensures.items) (c.leave.ensures.goes_on (search rules) c.args.layout.now above).1
 
 pub steps-preserved : goal.steps-preserved
 steps-preserved c =
-    let inner = c.steps.self.inner in
+    let inner = c.steps.self in
+    let above = c.pop.new.self.items in
     let before = c.in-Some.ensures.items in (
-      c.leave.ensures.kept ∙ ap (λ z. map bare_node (whole z inner)) (sym before) ∙ c.steps.invariant.0,
-      λ level x olds u. (c.leave.ensures.goes_on (search rules) c.args.layout.now).0 level x olds
+      c.leave.ensures.kept above ∙ ap (λ z. map bare_node (whole z inner)) (sym before) ∙ c.steps.invariant.0,
+      λ level x olds u. (c.leave.ensures.goes_on (search rules) c.args.layout.now above).0 level x olds
           (subst (λ z. IsUnderWay c.args.layout.now level x olds z inner) before (c.steps.invariant.1 level x olds u)),
       λ ok level x olds u. stay_then (settings c.args.layout.now.config) (c.steps.invariant.2 ok level x olds u)
-          (subst (λ z. StayAs (settings c.args.layout.now.config) (whole z inner) (whole c.leave.new.self.above.items c.leave.new.self.inner)) (sym before)
-          (c.leave.ensures.stays (search rules) c.args.layout.now ok level x olds (subst (λ z. IsUnderWay c.args.layout.now level x olds z inner) before (c.steps.invariant.1 level x olds u)))),
+          (subst (λ z. StayAs (settings c.args.layout.now.config) (whole z inner) (whole above c.leave.new.self)) (sym before)
+          (c.leave.ensures.stays (search rules) c.args.layout.now ok above level x olds (subst (λ z. IsUnderWay c.args.layout.now level x olds z inner) before (c.steps.invariant.1 level x olds u)))),
     )
 
 pub returns-in_default-clause-kept : goal.returns-in_default-clause-kept
 returns-in_default-clause-kept c =
-    let same : c.pop.new.self.items ≡ c.steps.self.above.items = search rules in
-    ap (λ z. map bare_node (whole z c.steps.self.inner)) same ∙ c.steps.invariant.0
+    let same : c.pop.new.self.items ≡ c.steps.above.items = search rules in
+    ap (λ z. map bare_node (whole z c.steps.self)) same ∙ c.steps.invariant.0
 
 pub returns-in_default-clause-stays : goal.returns-in_default-clause-stays
 returns-in_default-clause-stays c ok level x olds u =
-    let same : c.steps.self.above.items ≡ c.pop.new.self.items = search rules in
-    subst (λ z. StayAs (settings c.args.layout.now.config) (whole c.args.self.now.above.items c.args.self.now.inner) (whole z c.steps.self.inner)) same (c.steps.invariant.2 ok level x olds u)
+    let same : c.steps.above.items ≡ c.pop.new.self.items = search rules in
+    subst (λ z. StayAs (settings c.args.layout.now.config) (whole c.args.above.now.items c.args.self.now) (whole z c.steps.self)) same (c.steps.invariant.2 ok level x olds u)
 
 pub returns-in_default-clause-spaced : goal.returns-in_default-clause-spaced
 returns-in_default-clause-spaced c level x olds u = (
   search rules,
-  all_done c.args.layout.now c.steps.self.above.items c.steps.self.inner level x olds (search rules) (search rules) (c.steps.invariant.1 level x olds u),
+  all_done c.args.layout.now c.steps.above.items c.steps.self level x olds (search rules) (search rules) (c.steps.invariant.1 level x olds u),
 )

@@ -1,39 +1,28 @@
-use Rattle.std.proofs.Common.{rules, sym, subst, ◌≡◌, ◌++◌, ◌∷◌, [], ap, ◌∙◌, ◌+◌, Option, map}
-use Rattle.std.specs.Str.{chars}
-use Rattle.std.specs.Vec.{with_item}
-use Rattle.kdl_layout.specs.Config.{indentation, settings}
-use Rattle.kdl_layout.specs.Formatted.{bare_node}
-use Rattle.kdl.specs.Iterators.{child_nodes}
-use Rattle.kdl.specs.declared.layout.Around.{Around}
-use Rattle.kdl_value.specs.Tree.{text_of}
-use Rattle.kdl.specs.Internal.Spacing.{GoesOn, NodeStays, StayAs, whole}
-use Rattle.kdl.specs.Tree.{node_tree}
-use Rattle.kdl.specs.declared.layout.LayoutFrame.{LayoutFrame}
-use Rattle.kdl_layout.specs.declared.blank.Before.{Before}
+use Rattle.kdl.proofs.Common.{rules, sym, subst, ◌≡◌, ◌++◌, ◌∷◌, [], ap, ◌∙◌, ◌+◌, Option, map, chars, with_item, indentation, settings, bare_node, child_nodes, Around, text_of, GoesOn, NodeStays, StayAs, whole, node_tree, LayoutFrame, Before}
 use Rattle.kdl.proofs.LayingOut.BlockSteps.{Own, bare_next, bare_enclosed, line_goes_on, line_is_laid, node_is, open_block}
 use Rattle.kdl.proofs.LayingOut.StaysReading.{next_stays}
-use Rattle.kdl.proofs.layout.Blocks.lay_out_next.Goals as goal
+use Rattle.kdl.proofs.layout.LayoutFrame.lay_out_next.Goals as goal
 
 pub returns-in_err-following-clause-stays : goal.returns-in_err-following-clause-stays
 returns-in_err-following-clause-stays c ok level x olds u =
     let l = c.args.layout.now in
-    let b = c.args.self.now.inner in
+    let b = c.args.self.now in
     let b' : LayoutFrame = record { nodes = with_item b.nodes b.at c.lay_out_own.new.self; at = b.at; level = b.level; before = b.before; next = b.next; around = b.around } in
     let is : chars c.as_str.result.now ≡ text_of b.before = search rules in
-    next_stays l c.args.self.now.above.items b b' c.index_mut-node.result.now c.lay_out_own.new.self (search rules) (search rules) (search rules)
+    next_stays l c.args.above.now.items b b' c.index_mut-node.result.now c.lay_out_own.new.self (search rules) (search rules) (search rules)
     (λ k h. c.lay_out_own.ensures.stays ok (is ∙ h.1 ∙ ap (indentation (settings l.config)) (sym h.0))) level x olds u
 
 pub returns-in_err-following-clause-kept : goal.returns-in_err-following-clause-kept
 returns-in_err-following-clause-kept c =
-    let b = c.args.self.now.inner in
+    let b = c.args.self.now in
     let b' : LayoutFrame = record { nodes = with_item b.nodes b.at c.lay_out_own.new.self; at = b.at; level = b.level; before = b.before; next = b.next; around = b.around } in
-    bare_next c.args.self.now.above.items b b' c.index_mut-node.result.now c.lay_out_own.new.self (search rules) (search rules) c.lay_out_own.ensures.kept (search rules)
+    bare_next c.args.above.now.items b b' c.index_mut-node.result.now c.lay_out_own.new.self (search rules) (search rules) c.lay_out_own.ensures.kept (search rules)
 
 pub returns-then-not-has_nodes : goal.returns-then-not-has_nodes
 returns-then-not-has_nodes c =
     let l = c.args.layout.now in
     let s = settings l.config in
-    let b = c.args.self.now.inner in
+    let b = c.args.self.now in
     let n = c.index_mut-node.result.now in
     let m = c.lay_out_own.new.self in
     let m' = c.set_around.new.self in
@@ -41,42 +30,44 @@ returns-then-not-has_nodes c =
     let b' : LayoutFrame = record { nodes = with_item b.nodes b.at m'; at = b.at + 1; level = b.level; before = b.before; next = c.in_ok-following.following; around = b.around } in
     let is : chars c.as_str.result.now ≡ text_of b.before = search rules in
     record {
-      stays = λ ok level x olds u. next_stays l c.args.self.now.above.items b b' n m' (search rules) (search rules) (search rules)
+      stays = λ ok level x olds u. next_stays l c.args.above.now.items b b' n m' (search rules) (search rules) (search rules)
           (λ k h P y.
           let e = is ∙ h.1 ∙ ap (indentation s) (sym h.0) in
           let laid = line_is_laid l b c.in_ok-following.following c.in_ok-following.first g n m c.lay_out_own.ensures.block (λ h. search rules) b.level (c.in_ok-following.ensures.spaced e) in
           subst (NodeStays s P) (sym c.set_around.ensures) (laid.1 ok P (c.lay_out_own.ensures.stays ok e P y)))
           level x olds u;
-      kept = bare_next c.args.self.now.above.items b b' n m' (search rules) (search rules)
+      kept = bare_next c.args.above.now.items b b' n m' (search rules) (search rules)
           (ap bare_node c.set_around.ensures ∙ bare_enclosed g m (map node_tree (child_nodes m)) ∙ sym (ap bare_node (node_is m)) ∙ c.lay_out_own.ensures.kept) (search rules);
-      goes_on = line_goes_on l c.args.self.now.above.items b b' c.in_ok-following.first g n m m' (search rules) (search rules) (search rules) (search rules) (search rules) (search rules)
+      goes_on = line_goes_on l c.args.above.now.items b b' c.in_ok-following.first g n m m' (search rules) (search rules) (search rules) (search rules) (search rules) (search rules)
           c.lay_out_own.ensures.block (λ h. search rules) c.set_around.ensures (λ e. c.in_ok-following.ensures.spaced (is ∙ e));
     }
 
 pub returns-in_err-level-clause-stays : goal.returns-in_err-level-clause-stays
 returns-in_err-level-clause-stays c ok level x olds u =
     let l = c.args.layout.now in
-    let b = c.args.self.now.inner in
-    let b1 = c.next_level.new.self.inner in
-    let above : c.next_level.new.self.above.items ≡ c.args.self.now.above.items = search rules in
+    let b = c.args.self.now in
+    let b1 : LayoutFrame = record { nodes = with_item b.nodes b.at c.lay_out_own.new.self; at = b.at; level = b.level; before = b.before; next = c.in_ok-following.following; around = c.in_ok-following.texts } in
+    let above : c.next_level.new.above.items ≡ c.args.above.now.items = search rules in
     let is : chars c.as_str.result.now ≡ text_of b.before = search rules in
-    subst (λ z. StayAs (settings l.config) (whole c.args.self.now.above.items b) (whole z b1)) (sym above)
-    (next_stays l c.args.self.now.above.items b b1 c.index_mut-node.result.now c.lay_out_own.new.self (search rules) (search rules) (search rules)
+    subst (λ z. StayAs (settings l.config) (whole c.args.above.now.items b) (whole z b1)) (sym above)
+    (next_stays l c.args.above.now.items b b1 c.index_mut-node.result.now c.lay_out_own.new.self (search rules) (search rules) (search rules)
     (λ k h. c.lay_out_own.ensures.stays ok (is ∙ h.1 ∙ ap (indentation (settings l.config)) (sym h.0))) level x olds u)
 
 pub returns-in_err-level-clause-kept : goal.returns-in_err-level-clause-kept
 returns-in_err-level-clause-kept c =
-    let above : c.next_level.new.self.above.items ≡ c.args.self.now.above.items = search rules in
-    ap (λ z. map bare_node (whole z c.next_level.new.self.inner)) above
-    ∙ bare_next c.args.self.now.above.items c.args.self.now.inner c.next_level.new.self.inner c.index_mut-node.result.now c.lay_out_own.new.self (search rules) (search rules) c.lay_out_own.ensures.kept (search rules)
+    let b = c.args.self.now in
+    let b1 : LayoutFrame = record { nodes = with_item b.nodes b.at c.lay_out_own.new.self; at = b.at; level = b.level; before = b.before; next = c.in_ok-following.following; around = c.in_ok-following.texts } in
+    let above : c.next_level.new.above.items ≡ c.args.above.now.items = search rules in
+    ap (λ z. map bare_node (whole z b1)) above
+    ∙ bare_next c.args.above.now.items b b1 c.index_mut-node.result.now c.lay_out_own.new.self (search rules) (search rules) c.lay_out_own.ensures.kept (search rules)
 
 pub returns : goal.returns
 returns c =
     let l = c.args.layout.now in
     let s = settings l.config in
-    let above = c.args.self.now.above.items in
-    let b = c.args.self.now.inner in
-    let b1 = c.next_level.new.self.inner in
+    let above = c.args.above.now.items in
+    let b = c.args.self.now in
+    let b1 : LayoutFrame = record { nodes = with_item b.nodes b.at c.lay_out_own.new.self; at = b.at; level = b.level; before = b.before; next = c.in_ok-following.following; around = c.in_ok-following.texts } in
     let outer = c.replace-outer.result in
     let inner = c.replace-outer.new.dest in
     let n = c.index_mut-node.result.now in

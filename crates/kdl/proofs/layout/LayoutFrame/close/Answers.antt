@@ -1,13 +1,9 @@
-use Rattle.std.proofs.Common.{rules, ◌++◌, ◌∷◌, [], ap, ◌∙◌}
-use Rattle.std.specs.Vec.{with_item}
-use Rattle.kdl.specs.Internal.Spacing.{whole}
-use Rattle.kdl.specs.declared.layout.LayoutFrame.{LayoutFrame}
+use Rattle.kdl.proofs.Common.{rules, ◌++◌, ◌∷◌, [], ap, ◌∙◌, with_item, whole, LayoutFrame}
 use Rattle.kdl.proofs.LayingOut.BlockSteps.{node_changed, end_whole, end_whole_none}
-use Rattle.kdl.proofs.layout.Blocks.close.Goals as goal
+use Rattle.kdl.proofs.layout.LayoutFrame.close.Goals as goal
 
-pub returns-in-Some-clause-whole : goal.returns-in-Some-clause-whole
-returns-in-Some-clause-whole c =
-    let above = c.args.self.now.above.items in
+pub returns-in-Some : goal.returns-in-Some
+returns-in-Some c above =
     let r = c.replace-done in
     let o = r.new.dest in
     let e = r.ensures in
@@ -17,9 +13,8 @@ returns-in-Some-clause-whole c =
     ∙ ap (λ z. whole (above ++ z ∷ []) r.result) e.after
     ∙ ap (λ i. whole (above ++ c.args.outer ∷ []) i) e.value
 
-pub returns-in_default-clause-whole : goal.returns-in_default-clause-whole
-returns-in_default-clause-whole c =
-    let above = c.args.self.now.above.items in
+pub returns-in_default : goal.returns-in_default
+returns-in_default c above =
     let r = c.replace-done in
     let o = r.new.dest in
     let e = r.ensures in

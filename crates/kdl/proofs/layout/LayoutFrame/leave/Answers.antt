@@ -1,17 +1,10 @@
-use Rattle.std.proofs.Common.{rules, subst, ◌+◌, ◌++◌, ◌∷◌, [], ap, ◌∙◌, ◌≡◌, map}
-use Rattle.std.specs.Vec.{with_item}
-use Rattle.kdl_layout.specs.Config.{settings}
-use Rattle.kdl_layout.specs.Formatted.{bare_node}
-use Rattle.kdl.specs.Internal.Spacing.{GoesOn, StayAs, StepStays, braces_of, enclosed, lined, whole, with_braces}
-use Rattle.kdl.specs.Tree.{node_tree}
-use Rattle.kdl.specs.declared.layout.LayoutFrame.{LayoutFrame}
+use Rattle.kdl.proofs.Common.{rules, subst, ◌+◌, ◌++◌, ◌∷◌, [], ap, ◌∙◌, ◌≡◌, map, with_item, settings, bare_node, GoesOn, StayAs, StepStays, braces_of, enclosed, lined, whole, with_braces, node_tree, LayoutFrame, List}
 use Rattle.kdl.proofs.LayingOut.BlockSteps.{filled_exchanged, end_bare, end_whole_none, end_goes_on_there, end_goes_on_none}
 use Rattle.kdl.proofs.LayingOut.StaysReading.{end_stays, stay_same}
-use Rattle.kdl.proofs.layout.Blocks.leave.Goals as goal
+use Rattle.kdl.proofs.layout.LayoutFrame.leave.Goals as goal
 
 pub returns-in-Some : goal.returns-in-Some
 returns-in-Some c =
-    let above = c.args.self.now.above.items in
     let r = c.replace-done in
     let o = r.new.dest in
     let e = r.ensures in
@@ -23,33 +16,30 @@ returns-in-Some c =
     ∙ ap (with_braces (braces_of c.take-around.result)) (filled_exchanged n c.exchange_nodes.new.self r.result.nodes (lined c.take-around.result) c.exchange_nodes.ensures.has)
     ∙ ap (λ g. enclosed g n (map node_tree r.result.nodes.items)) taken in
     record {
-      kept = end_bare above o r.result b n m (search rules) (search rules) tree (search rules)
+      kept = λ above. end_bare above o r.result b n m (search rules) (search rules) tree (search rules)
           ∙ ap (λ z. map bare_node (whole (above ++ z ∷ []) r.result)) e.after
           ∙ ap (λ i. map bare_node (whole (above ++ c.args.outer ∷ []) i)) e.value;
-      goes_on = λ all s. subst (λ i. GoesOn s (above ++ c.args.outer ∷ []) i above b) e.value
+      goes_on = λ all s above. subst (λ i. GoesOn s (above ++ c.args.outer ∷ []) i above b) e.value
           (subst (λ z. GoesOn s (above ++ z ∷ []) r.result above b) e.after
           (end_goes_on_there above o r.result b n m (search rules) (search rules) tree (search rules) (search rules) (search rules) (search rules) (search rules) (search rules) s));
-      stays = λ all l ok. subst (λ i. StepStays l (above ++ c.args.outer ∷ []) i above b) e.value
+      stays = λ all l ok above. subst (λ i. StepStays l (above ++ c.args.outer ∷ []) i above b) e.value
           (subst (λ z. StepStays l (above ++ z ∷ []) r.result above b) e.after
           (end_stays l ok above o r.result b n m (search rules) (search rules) tree (search rules) (search rules)));
-      above = search rules;
     }
 
 pub returns-in_default : goal.returns-in_default
 returns-in_default c =
-    let above = c.args.self.now.above.items in
     let r = c.replace-done in
     let o = r.new.dest in
     let e = r.ensures in
     let o' = record o { around = c.take-around.new.self } in
-    let same = end_whole_none above o r.result o' (search rules) (search rules)
+    let same : (above : List LayoutFrame) → whole above o' ≡ whole (above ++ c.args.outer ∷ []) c.args.self.now = λ above. end_whole_none above o r.result o' (search rules) (search rules)
     ∙ ap (λ z. whole (above ++ z ∷ []) r.result) e.after
     ∙ ap (λ i. whole (above ++ c.args.outer ∷ []) i) e.value in
     record {
-      kept = ap (map bare_node) same;
-      goes_on = λ all s. subst (λ i. GoesOn s (above ++ c.args.outer ∷ []) i above o') e.value
+      kept = λ above. ap (map bare_node) (same above);
+      goes_on = λ all s above. subst (λ i. GoesOn s (above ++ c.args.outer ∷ []) i above o') e.value
           (subst (λ z. GoesOn s (above ++ z ∷ []) r.result above o') e.after
           (end_goes_on_none above o r.result o' (search rules) (search rules) (search rules) (search rules) (search rules) (search rules) s));
-      stays = λ all l ok level x olds u. subst (λ z. StayAs (settings l.config) z (whole above o')) same (stay_same (settings l.config) (whole above o'));
-      above = search rules;
+      stays = λ all l ok above level x olds u. subst (λ z. StayAs (settings l.config) z (whole above o')) (same above) (stay_same (settings l.config) (whole above o'));
     }
