@@ -1,7 +1,0 @@
-use Rattle.std.proofs.lemmas.Str.{IsUtf8-string_bytes}
-use Rattle.std.specs.Prelude.{string_bytes}
-use Rattle.kdl_parts.proofs.BomText.{bom_text}
-use Rattle.kdl_parts.proofs.format.bom_text.Goals as goal
-
-pub returns : goal.returns
-returns c = bom_text (string_bytes c.new-bom.result) (string_bytes c.push.new.self) c.new-bom.ensures.bytes (IsUtf8-string_bytes c.push.new.self) c.in_ok-push.ensures.bytes

@@ -1,7 +1,0 @@
-use Rattle.std.proofs.lemmas.Str.{IsUtf8-string_bytes}
-use Rattle.std.specs.Prelude.{string_bytes}
-use Rattle.kdl_parts.proofs.BomText.{joined}
-use Rattle.kdl_parts.proofs.format.push_text.Goals as goal
-
-pub returns : goal.returns
-returns c = joined c.push_str.result (string_bytes c.args.text.now) (string_bytes c.push_str.new.self) c.args.more.now (IsUtf8-string_bytes c.args.text.now) c.push_str.ensures.bytes
