@@ -1,6 +1,7 @@
 -- What a document, or a node, that was read says of the grammar.
-use Rattle.kdl.proofs.Common.{ℕ, false, true, List, Result, IfOk, IfOk-weaker, chars, node_tree, document_tree, KdlNode, KdlDocument}
+use Rattle.kdl.proofs.Common.{ℕ, false, true, List, Result, Ok, Err, IfOk, IfOk-weaker, chars, node_tree, document_tree, KdlNode, KdlDocument}
 use Rattle.kdl_text.specs.declared.error.ParseFailure.{ParseFailure}
+use Rattle.kdl_text.specs.declared.error.ParseFailure.TheVariants.{Syntax, Memory}
 use Rattle.kdl_grammar.specs.Internal.Machine.{AnswersDocument}
 use Rattle.kdl_grammar.specs.Laid.{LaidNodeText}
 use Rattle.kdl_grammar.proofs.Moving.FormerIsPresent.{wider, wider_node}
@@ -28,6 +29,14 @@ document_parsed text r old new a p =
       edited = IfOk-weaker r _ _ (λ d y e x. edited_outcomes.edited_found t (document_tree d) e y x) a;
       reads = IfOk-weaker r _ _ (λ d x. laid_reads true t (document_tree d) (outcomes.laid t (document_tree d) x)) a;
     }
+
+-- what is promised of the parts is promised of the document that they make
+pub made : {A B : Type 0} (text : List ℕ) (x : A) (y : B) (old new : ℕ) → steps.Parses text (Ok x) old new → steps.Parses text (Ok y) old new
+made text x y old new p = record { refused = λ s. absurd s; told = tt; least = p.least; most = p.most; told_most = λ s. absurd s; raised = p.raised }
+
+pub not_made : {A B : Type 0} (text : List ℕ) (f : ParseFailure) (old new : ℕ) → steps.Parses {A = A} text (Err f) old new → steps.Parses {A = B} text (Err f) old new
+not_made text (Syntax e) old new p = record { refused = p.refused; told = p.told; least = tt; most = tt; told_most = p.told_most; raised = p.raised }
+not_made text Memory old new p = record { refused = λ s. absurd s; told = tt; least = tt; most = tt; told_most = λ s. absurd s; raised = p.raised }
 
 pub node_parsed : (text : List ℕ) (r : Result KdlNode ParseFailure) → IfOk r (λ n. LaidNodeText (chars text) (node_tree n)) → steps.ParsesNode text r → ParsesNodeText text r
 node_parsed text r l p =

@@ -5,8 +5,6 @@ ghost use Rattle.kdl.specs.Said.{said_nodes};
 ghost use Rattle.kdl.specs.Tree.{document_of, document_says, document_tree, node_says, node_tree};
 ghost use Rattle.kdl.specs.ReadsBack.{BlockReadsBack, DocumentReadsBack};
 ghost use Rattle.kdl_parser.specs.Internal.Parts.{document_by};
-ghost use Rattle.kdl_parser.specs.Internal.Whole.{whole_by};
-ghost use Rattle.kdl_grammar.specs.Laid.{with_bom};
 ghost use Rattle.kdl_grammar.specs.Print.{print_document};
 ghost use Rattle.kdl.specs.Change.{with_document_span};
 ghost use Rattle.kdl.specs.Cleared.{new_document};
@@ -27,9 +25,8 @@ use crate::clone::copy_nodes;
 use crate::drop::dismantle;
 use crate::node::KdlNode;
 use crate::print::write_nodes;
-use kdl_parser::{DocumentParts, DocumentText};
+use kdl_parser::DocumentParts;
 use kdl_parts::KdlDocumentFormat;
-use kdl_parts::format::after_bom;
 use kdl_parts::print::{write_leading, write_trailing};
 use kdl_text::span::SourceSpan;
 use std::alloc::{AllocError, Global};
@@ -125,28 +122,6 @@ impl KdlDocument {
             format: Some(format),
             span: parts.span,
         }
-    }
-
-    /// Creates a document from the parts of a whole text, with U+FEFF before it if the text begins with one.
-    pub(crate) fn from_text(
-        alloc: Global,
-        text: DocumentText<KdlNode>,
-    ) -> Result<KdlDocument, AllocError>
-        ensures { IfOk result (λ d. document_tree d ≡ whole_by node_tree text) }
-    {
-        let document = KdlDocument::from_parts(text.parts);
-        if text.has_bom {
-            return document.with_bom(alloc);
-        }
-        Ok(document)
-    }
-
-    /// Returns the document with U+FEFF at the beginning of its leading text.
-    fn with_bom(mut self, alloc: Global) -> Result<KdlDocument, AllocError>
-        ensures { IfOk result (λ d. document_tree d ≡ with_bom (document_tree self)) }
-    {
-        self.format = Some(after_bom(alloc, self.format.take())?);
-        Ok(self)
     }
 
     /// Returns the nodes, in order.

@@ -1,10 +1,8 @@
 //! Nodes.
 #![tactic(auto, using(crate::proofs::Rules::node))]
 
-ghost use Rattle.kdl_grammar.specs.Tree.{node};
 ghost use Rattle.kdl.specs.Said.{said_children, said_entries, said_name, said_type};
 ghost use Rattle.kdl.specs.Tree.{document_says, node_says, node_tree};
-ghost use Rattle.kdl_parser.specs.Internal.NodeText.{text_by};
 ghost use Rattle.kdl_grammar.specs.Print.{print_node};
 ghost use Rattle.kdl.specs.Internal.Copied.{with_children};
 ghost use Rattle.kdl.specs.Change.{with_span};
@@ -27,7 +25,6 @@ mod lookup;
 use crate::document::KdlDocument;
 use crate::print::write_nodes;
 use kdl_entry::{KdlEntry, KdlIdentifier};
-use kdl_parser::NodeText;
 use kdl_parts::KdlNodeFormat;
 use kdl_text::span::SourceSpan;
 use std::alloc::{AllocError, Global};
@@ -69,22 +66,6 @@ impl KdlNode {
         ensures has { out-KdlNode self.new ≡ record (out-KdlNode self.old) { children = children } }
     {
         mem::replace(&mut self.children, children)
-    }
-
-    /// Creates the node that is a whole text, with the text after its terminator and the span.
-    pub(crate) fn from_text(text: NodeText<KdlNode>) -> KdlNode
-        ensures { node_tree result ≡ text_by node_tree text }
-    {
-        let NodeText {
-            mut node,
-            trailing,
-            span,
-        } = text;
-        if let Some(format) = &mut node.format {
-            format.trailing = trailing;
-        }
-        node.set_span(span);
-        node
     }
 
     /// Returns the name.

@@ -1,13 +1,9 @@
 //! Documents and nodes, read from a text.
 
 ghost use Rattle.kdl.specs.Parses.{ParsesDocument, ParsesNodeText};
-ghost use Rattle.kdl.specs.Tree.{document_tree, node_tree};
-ghost use Rattle.kdl_grammar.specs.Laid.{LaidNodeText};
-ghost use Rattle.kdl_grammar.specs.Internal.Machine.{AnswersDocument};
-ghost use Rattle.kdl_parser.specs.Internal.Steps.{Parses, ParsesNode};
 ghost use Rattle.kdl_text.specs.Failures.{IsSyntax};
 ghost use Rattle.kdl_text.specs.Spans.{raise};
-ghost use Rattle.std.specs.Prelude.{◌+◌, ◌*◌, ◌≤◌, length, IfOk, OnOk};
+ghost use Rattle.std.specs.Prelude.{◌+◌, ◌*◌, ◌≤◌, length, OnOk};
 ghost use Rattle.std.specs.Str.{chars};
 
 use crate::document::KdlDocument;
@@ -16,28 +12,6 @@ use kdl_parser::{read_document, read_node_text};
 use kdl_text::cursor::Steps;
 use kdl_text::error::ParseFailure;
 use std::alloc::Global;
-
-/// Reads the document that the machine makes of the text. Adds the steps to the count.
-fn parse_from(alloc: Global, text: &str, steps: &mut Steps) -> Result<KdlDocument, ParseFailure>
-    ensures answers { IfOk result (λ d. AnswersDocument (chars text.now) (document_tree d)) }
-    ensures parses { Parses text.now result steps.old steps.new }
-{
-    match read_document(alloc, text, steps) {
-        Ok(document) => Ok(KdlDocument::from_text(alloc, document)?),
-        Err(failure) => Err(failure),
-    }
-}
-
-/// Reads the node that the whole text is.
-fn read_node(alloc: Global, text: &str) -> Result<KdlNode, ParseFailure>
-    ensures laid { IfOk result (λ n. LaidNodeText (chars text.now) (node_tree n)) }
-    ensures parses { ParsesNode text.now result }
-{
-    match read_node_text(alloc, text) {
-        Ok(text) => Ok(KdlNode::from_text(text)),
-        Err(failure) => Err(failure),
-    }
-}
 
 impl KdlDocument {
     /// Parses a document, and keeps every byte of its form (KDL 2.0.0, Document).
@@ -82,7 +56,10 @@ impl KdlDocument {
         ensures told_most { IsSyntax result → steps.new ≤ steps.old + 184 * (length text.now + 1) }
         ensures raised { raise steps.old 1 ≤ steps.new }
     {
-        parse_from(alloc, text, steps)
+        match read_document(alloc, text, steps) {
+            Ok(parts) => Ok(KdlDocument::from_parts(parts)),
+            Err(failure) => Err(failure),
+        }
     }
 
     /// Parses a document of KDL 2, as `parse` does.
@@ -114,6 +91,6 @@ impl KdlNode {
     pub fn parse(alloc: Global, text: &str) -> Result<KdlNode, ParseFailure>
         ensures { ParsesNodeText text.now result }
     {
-        read_node(alloc, text)
+        read_node_text(alloc, text)
     }
 }

@@ -13,8 +13,8 @@ use crate::notes::Notes;
 use crate::state::Progress;
 use crate::text_control::TextControl;
 use crate::whole::Whole;
-use kdl_syntax::{LexFailure, Lexer, Phase, Token, TokenKind};
-use kdl_text::cursor::Checkpoint;
+use kdl_syntax::{LexFailure, Phase, Token, TokenKind, lexer};
+use kdl_text::cursor::{Checkpoint, Cursor};
 use std::alloc::{AllocError, Global};
 
 /// The part of a text up to a place: the tokens before it may come.
@@ -36,13 +36,13 @@ pub(crate) struct Prefix<'a> {
 }
 
 /// Advances past the U+FEFF that a document may begin with.
-fn skip_bom<'a>(whole: Whole, lexer: &mut Lexer<'a>)
-    ensures accepts { Takes (text_start whole) lexer.new.rest ↔ Accepts whole lexer.old.rest }
-    ensures moves { Moves lexer.old lexer.new }
-    ensures costs { Costs 24 1 lexer.old lexer.new }
+fn skip_bom<'a>(whole: Whole, cursor: &mut Cursor<'a>)
+    ensures accepts { Takes (text_start whole) cursor.new.rest ↔ Accepts whole cursor.old.rest }
+    ensures moves { Moves cursor.old cursor.new }
+    ensures costs { Costs 24 1 cursor.old cursor.new }
 {
     if let Whole::Document = whole {
-        let _ = lexer.eat_bom();
+        let _ = cursor.eat('\u{feff}');
     }
 }
 
@@ -67,21 +67,21 @@ impl<'a> Prefix<'a> {
         }
     }
 
-    /// Reads the text before the lexer up to its first fault, or to its end.
-    pub(crate) fn read(&mut self, lexer: &mut Lexer<'a>) -> Result<(), AllocError>
+    /// Reads the text before the cursor up to its first fault, or to its end.
+    pub(crate) fn read(&mut self, cursor: &mut Cursor<'a>) -> Result<(), AllocError>
         requires { IsNew self.old }
-        ensures keeps { (text : Text) → text ≡ lexer.old.rest → IsFrontOf text self.old → IsFrontOf text self.new }
-        ensures exact { IfOk result (λ _. self.new.is_accepted ≡ true ↔ Accepts self.old.control.whole lexer.old.rest) }
+        ensures keeps { (text : Text) → text ≡ cursor.old.rest → IsFrontOf text self.old → IsFrontOf text self.new }
+        ensures exact { IfOk result (λ _. self.new.is_accepted ≡ true ↔ Accepts self.old.control.whole cursor.old.rest) }
         ensures stopped { IfOk result (λ _. self.new.is_accepted ≡ false → IsStopped self.new) }
-        ensures most { OnOk result (lexer.new.steps ≤ lexer.old.steps + (24 * bytes lexer.old.rest + 25)) }
-        ensures counts { raise lexer.old.steps 0 ≤ raise lexer.new.steps 0 }
+        ensures most { OnOk result (cursor.new.steps ≤ cursor.old.steps + (24 * bytes cursor.old.rest + 25)) }
+        ensures counts { raise cursor.old.steps 0 ≤ raise cursor.new.steps 0 }
     {
-        skip_bom(self.control.whole, lexer);
-        self.place = lexer.checkpoint();
+        skip_bom(self.control.whole, cursor);
+        self.place = cursor.checkpoint();
         self.from = self.place.copied();
         self.before = self.control.outset();
         'tokens: loop {
-            let token = match lexer.next(self.alloc) {
+            let token = match lexer::next(cursor, self.alloc) {
                 Ok(Some(token)) => token,
                 Ok(None) => {
                     self.is_accepted = self.control.may_end();

@@ -13,8 +13,7 @@ use crate::front::Prefix;
 use crate::notes::Fault;
 use crate::reader::Reader;
 use crate::whole::Whole;
-use kdl_syntax::Lexer;
-use kdl_text::cursor::Steps;
+use kdl_text::cursor::{Cursor, Steps};
 use kdl_text::error::{KdlDiagnostic, KdlError, ParseFailure};
 use kdl_text::span::Severity;
 use std::alloc::{AllocError, Global};
@@ -68,10 +67,10 @@ fn read_front<'a>(
     ensures most { OnOk result (steps.new ≤ steps.old + (24 * length text.now + 25)) }
     ensures raised { raise steps.old 0 ≤ raise steps.new 0 }
 {
-    let mut lexer = Lexer::new(text, mem::replace(steps, Steps::new()));
-    let mut front = Prefix::new(alloc, whole, lexer.checkpoint());
-    let answer = front.read(&mut lexer);
-    *steps = lexer.into_steps();
+    let mut cursor = Cursor::new(text, mem::replace(steps, Steps::new()));
+    let mut front = Prefix::new(alloc, whole, cursor.checkpoint());
+    let answer = front.read(&mut cursor);
+    *steps = cursor.into_steps();
     answer?;
     Ok(front)
 }

@@ -11,14 +11,14 @@ use Rattle.kdl_value.proofs.WellFormed.{other_value}
 -- for src/entry.rt and src/identifier.rt
 pub ruleset printed = (printed_empty, other_value, empty_text)
 
--- for src/parsing/source.rt
-pub ruleset source = (nothing_between, is_between, is_part, piece_sliced, ahead)
+-- for src/parsing/texts.rt
+pub ruleset texts = (nothing_between, is_between, is_part, piece_sliced, ahead)
 
 -- for src/parsing/parts.rt
 pub ruleset parts = (empty_text, token_fewer)
 
 -- for src/parsing/entries.rt
-pub ruleset entries = (ahead, starts_going, next_going, whole_start, from_start, lexer_told, take_told, all_read, from_end, at_the_end, no_end, found, only, laid, prints, refused)
+pub ruleset entries = (ahead, is_between, starts_going, next_going, whole_start, from_start, lexer_told, take_told, all_read, from_end, at_the_end, no_end, found, only, laid, prints, refused)
 
 -- for src/parsing/identifiers.rt
 pub ruleset identifiers = (identifier_found, identifier_only, identifier_prints)

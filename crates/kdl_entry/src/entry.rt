@@ -151,12 +151,12 @@ impl Clone for KdlEntryFormat {
 #[derive(Debug, Drop)]
 #[derive_where(PartialEq, Eq, Hash)]
 pub struct KdlEntry {
-    ty: Option<KdlIdentifier>,
-    value: KdlValue,
-    name: Option<KdlIdentifier>,
-    format: Option<KdlEntryFormat>,
+    pub(crate) ty: Option<KdlIdentifier>,
+    pub(crate) value: KdlValue,
+    pub(crate) name: Option<KdlIdentifier>,
+    pub(crate) format: Option<KdlEntryFormat>,
     #[derive_where(skip(EqHashOrd))]
-    span: SourceSpan,
+    pub(crate) span: SourceSpan,
 }
 
 impl KdlEntry {
@@ -460,34 +460,6 @@ impl KdlEntry {
         ensures { IfOk result (λ b. IsTrue b ↔ (print_entry (entry_tree self.now) ≡ [])) }
     {
         Ok(self.to_string(alloc)?.is_empty())
-    }
-
-    /// An entry as it was parsed: its key and type, if any, its value, the texts around them and its span.
-    #[inline(always)]
-    pub(crate) fn parsed(
-        ty: Option<KdlIdentifier>,
-        name: Option<KdlIdentifier>,
-        value: KdlValue,
-        format: KdlEntryFormat,
-        span: SourceSpan,
-    ) -> KdlEntry
-        ensures { entry_tree result
-            ≡ record {
-              ty = option_map identifier_tree ty;
-              value = value_tree value;
-              name
-                  = option_map identifier_tree name;
-              format = Some (entry_format_tree format);
-              span = span;
-            } }
-    {
-        KdlEntry {
-            ty,
-            value,
-            name,
-            format: Some(format),
-            span,
-        }
     }
 
     /// Creates a property without type or format, whose span has offset and length 0.

@@ -202,9 +202,9 @@ impl KdlIdentifier {
 /// an allocation fails.
 ///
 /// ```
-/// let mut source = Source::new(alloc, "ab=1", Steps::new());
-/// let token = source.next()?; // the string `ab`
-/// let piece = source.piece(&source.start(), &source.checkpoint());
+/// let mut cursor = Cursor::new("ab=1", Steps::new());
+/// let token = lexer::next(&mut cursor, alloc)?; // the string `ab`
+/// let piece = cursor.slice(&cursor.start());
 /// let span = SourceSpan { offset: 0, len: 2 };
 /// let name = sliced_identifier(alloc, String::from_str(alloc, "ab")?, &piece, span)?; // prints "ab"
 /// ```
@@ -230,9 +230,9 @@ pub fn sliced_identifier(
 /// and is in memory once. Returns an error if an allocation fails.
 ///
 /// ```
-/// let mut source = Source::new(alloc, "ab=1", Steps::new());
-/// let token = source.next()?; // the string `ab`
-/// let piece = source.piece(&source.start(), &source.checkpoint());
+/// let mut cursor = Cursor::new("ab=1", Steps::new());
+/// let token = lexer::next(&mut cursor, alloc)?; // the string `ab`
+/// let piece = cursor.slice(&cursor.start());
 /// let name = bare_identifier(alloc, &piece, SourceSpan { offset: 0, len: 2 })?; // prints "ab"
 /// ```
 #[inline(always)]

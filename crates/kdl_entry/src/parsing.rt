@@ -3,4 +3,4 @@
 mod entries;
 mod identifiers;
 pub mod parts;
-pub mod source;
+pub mod texts;

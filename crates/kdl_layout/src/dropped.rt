@@ -14,8 +14,8 @@ ghost use Rattle.std.specs.Prelude.{◌≡◌, ◌⊎◌, IfOk, [], option_map, 
 ghost use Rattle.std.specs.Str.{chars};
 
 use crate::spaces::{Ending, Place, cut, line, line_ending};
-use kdl_syntax::{Control, Ended, LexFailure, Lexer, Phase, Spot, Token, TokenKind};
-use kdl_text::cursor::Steps;
+use kdl_syntax::{Control, Ended, LexFailure, Phase, Spot, Token, TokenKind, lexer};
+use kdl_text::cursor::{Cursor, Steps};
 use std::alloc::{AllocError, Global};
 
 /// Whether a string that ends what is dropped comes before the token: a space or `=` after it leaves it a key.
@@ -64,11 +64,11 @@ pub(crate) fn pass_node(
 ) -> Result<Option<(usize, Option<Ending<'_>>)>, AllocError>
     ensures { IfOk result (λ o. AnswersDroppedNode (chars text.now) o) }
 {
-    let mut lexer = Lexer::new(text, Steps::new());
+    let mut cursor = Cursor::new(text, Steps::new());
     let mut control = Control::new(alloc, Phase::NodeSlashdash);
     let mut last = 0;
     'tokens: loop {
-        let token = match lexer.next(alloc) {
+        let token = match lexer::next(&mut cursor, alloc) {
             Ok(Some(token)) => token,
             Ok(None) => return Ok(control.may_end().then_some((last, None))),
             Err(LexFailure::Faulty) => return Ok(None),
@@ -117,11 +117,11 @@ pub(crate) fn pass_part(
 ) -> Result<Option<(usize, Ended)>, AllocError>
     ensures { IfOk result (λ o. AnswersDroppedPart (place_view place) (chars text.now) o) }
 {
-    let mut lexer = Lexer::new(text, Steps::new());
+    let mut cursor = Cursor::new(text, Steps::new());
     let mut control = Control::new(alloc, slashdash_phase(place));
     let mut last = 0;
     'tokens: loop {
-        let token = match lexer.next(alloc) {
+        let token = match lexer::next(&mut cursor, alloc) {
             Ok(Some(token)) => token,
             Ok(None) => return Ok(control.is_word().then_some((last, Ended::Entry))),
             Err(LexFailure::Faulty) => return Ok(None),

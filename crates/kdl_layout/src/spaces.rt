@@ -11,7 +11,7 @@ ghost use Rattle.kdl_text.specs.Trivia.{Break, LineSpace, NodeSpace};
 ghost use Rattle.std.specs.Prelude.{◌≡◌, ◌++◌, ◌∷◌, [], IfOk, MatchBool, MatchOption};
 ghost use Rattle.std.specs.Str.{IsUtf8, chars};
 
-use kdl_syntax::{LexFailure, Lexer, Token, TokenKind};
+use kdl_syntax::{LexFailure, Token, TokenKind, lexer};
 use kdl_text::chars::Class;
 use kdl_text::cursor::{Cursor, Steps};
 use std::alloc::{AllocError, Global};
@@ -142,8 +142,8 @@ pub(crate) fn start_of(alloc: Global, text: &str) -> Result<Start<'_>, AllocErro
     if let Some(rest) = after_char(text, '\\') {
         return Ok(Start::Backslash(rest));
     }
-    let mut lexer = Lexer::new(text, Steps::new());
-    match lexer.next(alloc) {
+    let mut cursor = Cursor::new(text, Steps::new());
+    match lexer::next(&mut cursor, alloc) {
         Ok(Some(token)) => Ok(token_start(text, &token)),
         Ok(None) => Ok(Start::End),
         Err(LexFailure::Faulty) => Ok(Start::Other),

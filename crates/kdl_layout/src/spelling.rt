@@ -12,8 +12,8 @@ ghost use Rattle.std.specs.Prelude.{◌≡◌, ◌↔◌, [], IfOk, IsTrue, Ok};
 ghost use Rattle.std.specs.Str.{chars};
 
 use kdl_entry::KdlValue;
-use kdl_syntax::{LexFailure, Lexer, NextToken, Token, TokenKind};
-use kdl_text::cursor::{Checkpoint, Piece, Steps};
+use kdl_syntax::{LexFailure, NextToken, Token, TokenKind, lexer};
+use kdl_text::cursor::{Checkpoint, Cursor, Piece, Steps};
 use std::alloc::{AllocError, Global};
 
 /// The string, number or keyword that a whole text is.
@@ -97,8 +97,8 @@ fn of_next(next: NextToken<'_>) -> Option<WholeText<'_>>
 fn read_whole(alloc: Global, text: &str) -> Result<Option<WholeText<'_>>, AllocError>
     ensures { IfOk result (λ o. Spelled (chars text.now) o) }
 {
-    let mut lexer = Lexer::new(text, Steps::new());
-    match lexer.next_token(alloc) {
+    let mut cursor = Cursor::new(text, Steps::new());
+    match lexer::next_token(&mut cursor, alloc) {
         Ok(next) => Ok(of_next(next)),
         Err(LexFailure::Faulty) => Ok(None),
         Err(LexFailure::Memory) => Err(AllocError),

@@ -3,13 +3,12 @@
 
 ghost use Rattle.kdl_entry.specs.Internal.Counted.{Within};
 ghost use Rattle.kdl_grammar.specs.Internal.Machine.{initial};
-ghost use Rattle.kdl_syntax.specs.Internal.Handed.{kind_view, LexedNext, NextCosts};
+ghost use Rattle.kdl_syntax.specs.Internal.Handed.{kind_view};
 ghost use Rattle.kdl_syntax.specs.Tokens.{space, string};
 ghost use Rattle.kdl_parser.specs.Internal.Building.{state_view, Placed};
 ghost use Rattle.kdl_parser.specs.Internal.Counted.{unsliced};
 ghost use Rattle.kdl_parser.specs.Internal.Events.{Acts, StandsAt, WithinIf, is_building, is_of_parts, mark_step, string_step, value_step};
-ghost use Rattle.kdl_parser.specs.Internal.States.{document_now, document_of_nodes, Ends, Ready, Stays, TakesToken, TakesTurn};
-ghost use Rattle.kdl_text.specs.Internal.Reading.{Moves};
+ghost use Rattle.kdl_parser.specs.Internal.States.{document_now, document_of_nodes, Ends, Ready, TakesToken, TakesTurn};
 ghost use Rattle.kdl_text.specs.Spans.{bytes};
 ghost use Rattle.kdl_value.specs.Tree.{text_of, value_tree};
 ghost use Rattle.std.specs.Prelude.{◌≡◌, ◌++◌, [], true};
@@ -24,10 +23,10 @@ use self::dropping::Dropped;
 use self::growing::Growing;
 use crate::node_parts::{DocumentParts, ParsedNode};
 use kdl_entry::parsing::parts::{Parts, TypeParts, empty};
-use kdl_entry::parsing::source::Source;
 use kdl_entry::{KdlEntry, KdlIdentifier, KdlValue};
-use kdl_syntax::{Event, LexFailure, NextToken, Owner, Phase, TokenKind, TokenSpan};
-use kdl_text::cursor::{Checkpoint, Piece};
+use kdl_syntax::{Event, LexFailure, Owner, Phase, TokenKind, TokenSpan};
+use kdl_text::cursor::{Checkpoint, Cursor, Piece};
+use std::alloc::Global;
 use std::mem;
 
 /// A node being read.
@@ -58,8 +57,9 @@ struct WaitingWord<'a> {
 /// A document being read. It holds nothing of what is slashdashed.
 #[derive(Drop)]
 pub(crate) struct Builder<'a, N> {
-    /// The text, of which each place and each spelling that the document keeps is sliced once.
-    pub(crate) source: Source<'a>,
+    pub(crate) alloc: Global,
+    /// Where the builder is in the text, of which each place and each spelling that the document keeps is sliced once.
+    pub(crate) cursor: Cursor<'a>,
     /// The phase of the grammar, outside of what is slashdashed.
     phase: Phase,
     /// What is slashdashed and being read.
@@ -82,15 +82,15 @@ pub(crate) struct Builder<'a, N> {
 
 impl<'a, N: ParsedNode> Builder<'a, N> {
     /// Creates a builder at the start of a text, or after its U+FEFF.
-    pub(crate) fn new(source: Source<'a>) -> Self
-        ensures state { state_view N.tree result ≡ initial source.entry.rest }
-        ensures unsliced { unsliced result ≡ bytes source.entry.rest }
-        ensures source { result.source ≡ source.entry }
+    pub(crate) fn new(cursor: Cursor<'a>, alloc: Global) -> Self
+        ensures state { state_view N.tree result ≡ initial cursor.entry.rest }
+        ensures unsliced { unsliced result ≡ bytes cursor.entry.rest }
+        ensures cursor { result.cursor ≡ cursor.entry }
     {
-        let alloc = source.alloc();
-        let start = source.checkpoint();
+        let start = cursor.checkpoint();
         Builder {
-            source,
+            alloc,
+            cursor,
             phase: Phase::Gap,
             dropped: Dropped::Nothing,
             parts: Parts::new(alloc, &start),
@@ -120,7 +120,7 @@ impl<'a, N: ParsedNode> Builder<'a, N> {
         at: &TokenSpan<'a>,
     ) -> Result<(), LexFailure>
         requires ready { Ready self.old self.old.from at.now.start }
-        requires parts { WithinIf (is_of_parts event) self.old.source self.old.parts.from at.now.start }
+        requires parts { WithinIf (is_of_parts event) self.old.cursor self.old.parts.from at.now.start }
         ensures { Acts N.tree event (value_step N.tree self.old event (value_tree value) at.now) self.old
             result self.new }
     {
@@ -141,7 +141,7 @@ impl<'a, N: ParsedNode> Builder<'a, N> {
         at: &TokenSpan<'a>,
     ) -> Result<(), LexFailure>
         requires ready { Ready self.old self.old.from at.now.start }
-        requires parts { WithinIf (is_of_parts event) self.old.source self.old.parts.from at.now.start }
+        requires parts { WithinIf (is_of_parts event) self.old.cursor self.old.parts.from at.now.start }
         ensures { Acts N.tree event (string_step N.tree self.old event (text_of text) at.now) self.old
             result self.new }
     {
@@ -149,7 +149,7 @@ impl<'a, N: ParsedNode> Builder<'a, N> {
             Event::Name => self.name_node(text, at),
             Event::TypedName => self.name_typed(text, at),
             Event::TypeName(owner) => {
-                self.parts.take_name(&mut self.source, text, at)?;
+                self.parts.take_name(&mut self.cursor, text, at)?;
                 self.phase = Phase::TypeName(owner);
                 Ok(())
             }
@@ -164,7 +164,7 @@ impl<'a, N: ParsedNode> Builder<'a, N> {
     #[inline(always)]
     fn take_mark(&mut self, event: Event, at: &TokenSpan<'a>) -> Result<(), LexFailure>
         requires ready { Ready self.old self.old.from at.now.start }
-        requires parts { WithinIf (is_of_parts event) self.old.source self.old.parts.from at.now.start }
+        requires parts { WithinIf (is_of_parts event) self.old.cursor self.old.parts.from at.now.start }
         ensures { Acts N.tree event (mark_step N.tree self.old event at.now) self.old result self.new }
     {
         match event {
@@ -175,12 +175,12 @@ impl<'a, N: ParsedNode> Builder<'a, N> {
             Event::NameType => self.open_name(at),
             Event::ValueType => self.open_value(at),
             Event::KeyedType => {
-                self.parts.open_typed(&mut self.source, at)?;
+                self.parts.open_typed(&mut self.cursor, at)?;
                 self.phase = Phase::TypeOpen(Owner::Value);
                 Ok(())
             }
             Event::TypeEnd(owner) => {
-                self.parts.close(&mut self.source, at)?;
+                self.parts.close(&mut self.cursor, at)?;
                 self.phase = Phase::TypeDone(owner);
                 Ok(())
             }
@@ -249,7 +249,7 @@ impl<'a, N: ParsedNode> Builder<'a, N> {
         if let Phase::Gap = self.phase {
             return self.name_bare(at);
         }
-        let text = word.to_string(self.source.alloc())?;
+        let text = word.to_string(self.alloc)?;
         self.take_live(TokenKind::String(text), at)
     }
 
@@ -267,10 +267,10 @@ impl<'a, N: ParsedNode> Builder<'a, N> {
     /// builder is then in an unspecified state.
     #[inline(always)]
     pub(crate) fn take(&mut self, kind: TokenKind, at: &TokenSpan<'a>) -> Result<(), LexFailure>
-        requires placed { Placed self.old.source.text (state_view N.tree self.old) at.now.start.rest }
+        requires placed { Placed self.old.cursor.text (state_view N.tree self.old) at.now.start.rest }
         ensures { TakesTurn N.tree self.old (kind_view kind) at.now result self.new }
     {
-        self.source.count_look();
+        let _ = self.cursor.look();
         if self.is_building() {
             self.take_live(kind, at)
         } else {
@@ -285,11 +285,11 @@ impl<'a, N: ParsedNode> Builder<'a, N> {
         word: &Piece<'a>,
         at: &TokenSpan<'a>,
     ) -> Result<(), LexFailure>
-        requires placed { Placed self.old.source.text (state_view N.tree self.old) at.now.start.rest }
+        requires placed { Placed self.old.cursor.text (state_view N.tree self.old) at.now.start.rest }
         requires reads { at.now.start.rest ≡ word.now ++ at.now.end.rest }
         ensures { TakesTurn N.tree self.old (string word.now) at.now result self.new }
     {
-        self.source.count_look();
+        let _ = self.cursor.look();
         if self.is_building() {
             self.take_bare(word, at)
         } else {
@@ -302,7 +302,7 @@ impl<'a, N: ParsedNode> Builder<'a, N> {
     pub(crate) fn take_space(&mut self, at: &TokenSpan<'a>) -> Result<(), LexFailure>
         ensures { TakesTurn N.tree self.old space at.now result self.new }
     {
-        self.source.count_look();
+        let _ = self.cursor.look();
         if self.is_building() {
             self.take_blank(at)
         } else {
@@ -310,22 +310,11 @@ impl<'a, N: ParsedNode> Builder<'a, N> {
         }
     }
 
-    /// Returns the token here and advances past it, as `Source::next_token` does.
-    #[inline(always)]
-    pub(crate) fn next_token(&mut self) -> Result<NextToken<'a>, LexFailure>
-        ensures lexed { LexedNext self.old.source result self.new.source }
-        ensures moves { Moves self.old.source self.new.source }
-        ensures costs { NextCosts result self.old.source self.new.source }
-        ensures stays { Stays N.tree self.old self.new }
-    {
-        self.source.next_token()
-    }
-
     /// Returns the document at the end of the text, which is here. Fails if something open is not closed. The builder
     /// can't be used afterwards.
     pub(crate) fn finish(&mut self, here: &Checkpoint<'a>) -> Result<DocumentParts<N>, LexFailure>
         requires end { here.now.rest ≡ [] }
-        requires from { Within self.old.source self.old.from here.now }
+        requires from { Within self.old.cursor self.old.from here.now }
         ensures { Ends N.tree (document_now N.tree self.old) (unsliced self.old) self.old result self.new }
     {
         if let Dropped::Nothing = self.dropped {
@@ -361,14 +350,14 @@ impl<'a, N: ParsedNode> Builder<'a, N> {
     /// Returns the document of the nodes, if no block is open.
     fn finish_nodes(&mut self, here: &Checkpoint<'a>) -> Result<DocumentParts<N>, LexFailure>
         requires end { here.now.rest ≡ [] }
-        requires from { Within self.old.source self.old.from here.now }
+        requires from { Within self.old.cursor self.old.from here.now }
         ensures { Ends N.tree (document_of_nodes N.tree self.old) (bytes self.old.from.rest) self.old result self.new }
     {
         if !self.levels.is_empty() {
             return Err(LexFailure::Faulty);
         }
         self.nodes.fit()?;
-        let nodes = mem::replace(&mut self.nodes.items, Vec::new(self.source.alloc()));
+        let nodes = mem::replace(&mut self.nodes.items, Vec::new(self.alloc));
         let document = self.content_up_to(nodes, here)?;
         Ok(document)
     }

@@ -3,28 +3,31 @@
 
 ghost use Rattle.kdl_grammar.specs.Internal.Machine.{AnswersDocument};
 ghost use Rattle.kdl_parser.specs.Internal.Steps.{CountedOn, Parses};
-ghost use Rattle.kdl_parser.specs.Internal.Whole.{AnswersDocumentText, whole_by};
+ghost use Rattle.kdl_parser.specs.Internal.Parts.{document_by};
+ghost use Rattle.kdl_parser.specs.Internal.Whole.{AnswersDocumentText};
 ghost use Rattle.kdl_text.specs.Spans.{raise};
-ghost use Rattle.std.specs.Prelude.{◌≤◌, IfOk};
+ghost use Rattle.kdl_value.specs.Tree.{text_of};
+ghost use Rattle.std.specs.Prelude.{◌≡◌, ◌≤◌, ◌∷◌, IfOk};
 ghost use Rattle.std.specs.Str.{chars};
 
+use crate::builder::Builder;
 use crate::node_parts::{DocumentParts, ParsedNode};
 use crate::token_loop::build;
 use kdl_diagnostics::{Whole, failure};
-use kdl_entry::parsing::source::Source;
 use kdl_syntax::LexFailure;
-use kdl_text::cursor::Steps;
+use kdl_text::cursor::{Cursor, Steps};
 use kdl_text::error::ParseFailure;
-use std::alloc::Global;
+use std::alloc::{AllocError, Global};
 use std::mem;
 
-/// A document that is a whole text.
-#[derive(Drop)]
-pub struct DocumentText<N> {
-    /// The content of the document, after the U+FEFF.
-    pub parts: DocumentParts<N>,
-    /// Whether the text begins with U+FEFF.
-    pub has_bom: bool,
+/// Returns the text with U+FEFF before it.
+fn after_bom(alloc: Global, text: &str) -> Result<String, AllocError>
+    ensures { IfOk result (λ s. text_of s ≡ 0xFEFF ∷ chars text.now) }
+{
+    let mut whole = String::new(alloc);
+    whole.push('\u{feff}')?;
+    whole.push_str(text)?;
+    Ok(whole)
 }
 
 /// Returns the machine's result on the text, and adds the steps to the count.
@@ -32,17 +35,21 @@ fn read_counted<N: ParsedNode>(
     alloc: Global,
     text: &str,
     steps: &mut Steps,
-) -> Result<DocumentText<N>, LexFailure>
+) -> Result<DocumentParts<N>, LexFailure>
     ensures answers { AnswersDocumentText N.tree (chars text.now) result }
     ensures counted { CountedOn result (chars text.now) steps.old steps.new }
     ensures raised { raise steps.old 1 ≤ steps.new }
 {
-    let mut source = Source::new(alloc, text, mem::replace(steps, Steps::new()));
-    let has_bom = source.eat_bom();
-    match build(source, steps) {
-        Ok(parts) => Ok(DocumentText { parts, has_bom }),
-        Err(failure) => Err(failure),
+    let mut cursor = Cursor::new(text, mem::replace(steps, Steps::new()));
+    let has_bom = cursor.eat('\u{feff}');
+    let mut builder = Builder::new(cursor, alloc);
+    let read = build(&mut builder);
+    *steps = builder.cursor.into_steps();
+    let mut parts = read?;
+    if has_bom {
+        parts.leading = after_bom(alloc, &parts.leading)?;
     }
+    Ok(parts)
 }
 
 /// Parses a document (KDL 2.0.0, Document), and adds the steps of parsing to the count, which saturates at `u64::MAX`.
@@ -54,9 +61,9 @@ pub fn read_document<N: ParsedNode>(
     alloc: Global,
     text: &str,
     steps: &mut Steps,
-) -> Result<DocumentText<N>, ParseFailure>
+) -> Result<DocumentParts<N>, ParseFailure>
     // The result is the machine's result on the text.
-    ensures found { IfOk result (λ d. AnswersDocument (chars text.now) (whole_by N.tree d)) }
+    ensures found { IfOk result (λ d. AnswersDocument (chars text.now) (document_by N.tree d)) }
     ensures parses { Parses text.now result steps.old steps.new }
 {
     match read_counted(alloc, text, steps) {

@@ -9,6 +9,6 @@ mod node_parts;
 mod node_text;
 mod token_loop;
 
-pub use document_text::{DocumentText, read_document};
+pub use document_text::read_document;
 pub use node_parts::{DocumentParts, NodeParts, ParsedNode};
-pub use node_text::{NodeText, read_node_text};
+pub use node_text::read_node_text;

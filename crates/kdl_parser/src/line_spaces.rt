@@ -6,8 +6,8 @@ ghost use Rattle.kdl_parser.specs.Internal.LineSpaces.{AreLineSpaces};
 ghost use Rattle.std.specs.Prelude.{◌≡◌};
 ghost use Rattle.std.specs.Str.{chars};
 
-use kdl_syntax::{LexFailure, Lexer, TokenKind};
-use kdl_text::cursor::Steps;
+use kdl_syntax::{LexFailure, TokenKind, lexer};
+use kdl_text::cursor::{Cursor, Steps};
 use std::alloc::Global;
 
 /// Whether the token is made of line-spaces.
@@ -22,8 +22,8 @@ fn is_line_space(kind: &TokenKind) -> bool
 pub(crate) fn line_spaces(alloc: Global, text: &str) -> Result<(), LexFailure>
     ensures { AreLineSpaces (chars text.now) result }
 {
-    let mut lexer = Lexer::new(text, Steps::new());
-    'tokens: while let Some(token) = lexer.next(alloc)? {
+    let mut cursor = Cursor::new(text, Steps::new());
+    'tokens: while let Some(token) = lexer::next(&mut cursor, alloc)? {
         if !is_line_space(&token.kind) {
             // Dropped by a call, since that is one step of the proof; the end of its scope would be many.
             drop(token);

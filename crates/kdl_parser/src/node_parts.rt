@@ -2,7 +2,9 @@
 
 ghost use Rattle.kdl_grammar.specs.Laid.{node_span};
 ghost use Rattle.kdl_grammar.specs.Tree.{Node};
+ghost use Rattle.kdl_parser.specs.Internal.NodeText.{with_text_after};
 ghost use Rattle.kdl_parser.specs.Internal.Parts.{node_by};
+ghost use Rattle.kdl_value.specs.Tree.{text_of};
 ghost use Rattle.std.specs.Prelude.{◌≡◌};
 
 use kdl_entry::parsing::parts::TypeParts;
@@ -55,6 +57,10 @@ pub trait ParsedNode: Drop {
     /// Creates the node from these parts.
     fn from_parts(alloc: Global, parts: NodeParts<Self>) -> Self
         ensures { tree result ≡ node_by tree parts };
+
+    /// Returns the node as one that is a whole text, of this span, with the text after its terminator.
+    fn with_text_after(self, trailing: String, span: SourceSpan) -> Self
+        ensures { tree result ≡ with_text_after (tree self) (text_of trailing) span };
 
     /// The span of the node in the text, in bytes.
     fn span(&self) -> SourceSpan

@@ -2,33 +2,22 @@
 #![tactic(auto, using(crate::proofs::Rules::node_text))]
 
 ghost use Rattle.kdl_grammar.specs.Laid.{LaidNodeText};
-ghost use Rattle.kdl_parser.specs.Internal.NodeText.{ReadsOne, IsOnly, AnswersNodeText, text_by};
+ghost use Rattle.kdl_parser.specs.Internal.NodeText.{ReadsOne, IsOnly, AnswersNodeText};
 ghost use Rattle.kdl_parser.specs.Internal.Steps.{ParsesNode};
 ghost use Rattle.kdl_value.specs.Tree.{text_of};
 ghost use Rattle.std.specs.Prelude.{IfOk};
 ghost use Rattle.std.specs.Str.{chars};
 
+use crate::builder::Builder;
 use crate::line_spaces::line_spaces;
 use crate::node_parts::ParsedNode;
 use crate::token_loop::build;
 use kdl_diagnostics::{Whole, failure};
-use kdl_entry::parsing::source::Source;
 use kdl_syntax::LexFailure;
-use kdl_text::cursor::Steps;
+use kdl_text::cursor::{Cursor, Steps};
 use kdl_text::error::ParseFailure;
 use kdl_text::span::SourceSpan;
 use std::alloc::Global;
-
-/// A node that is a whole text.
-#[derive(Drop)]
-pub struct NodeText<N> {
-    /// The node.
-    pub node: N,
-    /// The text after its terminator.
-    pub trailing: String,
-    /// The span of the whole text, in bytes.
-    pub span: SourceSpan,
-}
 
 /// Returns the only node, or `None` if there are more or none.
 fn only_node<N: Drop>(nodes: Vec<N>) -> Option<N>
@@ -54,18 +43,14 @@ fn with_line_spaces<N: ParsedNode>(
     text: &str,
     node: N,
     trailing: String,
-) -> Result<NodeText<N>, LexFailure>
+) -> Result<N, LexFailure>
     requires { ReadsOne (chars text.now) (N.tree node) (text_of trailing) }
     ensures { AnswersNodeText N.tree (chars text.now) result }
 {
     match line_spaces(alloc, trailing.as_str()) {
         Ok(()) => {
             let len = text.len();
-            Ok(NodeText {
-                node,
-                trailing,
-                span: SourceSpan { offset: 0, len },
-            })
+            Ok(node.with_text_after(trailing, SourceSpan { offset: 0, len }))
         }
         Err(failure) => {
             drop(node);
@@ -76,11 +61,11 @@ fn with_line_spaces<N: ParsedNode>(
 }
 
 /// Reads the node that the text is.
-fn read_whole<N: ParsedNode>(alloc: Global, text: &str) -> Result<NodeText<N>, LexFailure>
+fn read_whole<N: ParsedNode>(alloc: Global, text: &str) -> Result<N, LexFailure>
     ensures { AnswersNodeText N.tree (chars text.now) result }
 {
-    let source = Source::new(alloc, text, Steps::new());
-    match build(source, &mut Steps::new()) {
+    let cursor = Cursor::new(text, Steps::new());
+    match build(&mut Builder::new(cursor, alloc)) {
         Ok(document) => match only_node(document.nodes) {
             Some(node) => with_line_spaces(alloc, text, node, document.trailing),
             None => Err(LexFailure::Faulty),
@@ -92,9 +77,9 @@ fn read_whole<N: ParsedNode>(alloc: Global, text: &str) -> Result<NodeText<N>, L
 /// Parses a text that is exactly one node: line-spaces and slashdashed nodes before it, and only line-spaces after its
 /// terminator (KDL 2.0.0, Node). Returns `Syntax` if the text is not a node; its error has a diagnostic for each fault,
 /// and at least one. Returns `Memory` if an allocation fails.
-pub fn read_node_text<N: ParsedNode>(alloc: Global, text: &str) -> Result<NodeText<N>, ParseFailure>
+pub fn read_node_text<N: ParsedNode>(alloc: Global, text: &str) -> Result<N, ParseFailure>
     // The node that is returned is located in the text, which it is.
-    ensures found { IfOk result (λ n. LaidNodeText (chars text.now) (text_by N.tree n)) }
+    ensures found { IfOk result (λ n. LaidNodeText (chars text.now) (N.tree n)) }
     ensures parses { ParsesNode text.now result }
 {
     match read_whole(alloc, text) {

@@ -1,11 +1,8 @@
 //! The texts around nodes and documents.
 #![tactic(auto, using(crate::proofs::Utf8Parts::writes))]
 
-ghost use Rattle.kdl_value.specs.Tree.{text_of};
-ghost use Rattle.kdl_grammar.specs.Laid.{bom_format};
-ghost use Rattle.kdl_parts.specs.Formats.{document_format_tree, document_texts, empty_node_format, ended_format, node_format_tree};
-ghost use Rattle.std.specs.Prelude.{◌≡◌, ◌++◌, [], ◌∷◌, IfOk};
-ghost use Rattle.std.specs.Str.{chars};
+ghost use Rattle.kdl_parts.specs.Formats.{document_format_tree, empty_node_format, ended_format, node_format_tree};
+ghost use Rattle.std.specs.Prelude.{◌≡◌, [], IfOk};
 
 use std::alloc::{AllocError, Global};
 
@@ -123,40 +120,4 @@ impl Clone for KdlDocumentFormat {
             trailing: self.trailing.clone()?,
         })
     }
-}
-
-/// U+FEFF as a text.
-fn bom_text(alloc: Global) -> Result<String, AllocError>
-    ensures { IfOk result (λ s. text_of s ≡ 0xFEFF ∷ []) }
-{
-    let mut bom = String::new(alloc);
-    bom.push('\u{feff}')?;
-    Ok(bom)
-}
-
-/// Appends a text to another.
-fn push_text(text: &mut String, more: &str) -> Result<(), AllocError>
-    ensures { IfOk result (λ _. text_of text.new ≡ text_of text.old ++ chars more.now) }
-{
-    text.push_str(more)
-}
-
-/// Returns the format with U+FEFF before its leading text.
-pub fn after_bom(
-    alloc: Global,
-    format: Option<KdlDocumentFormat>,
-) -> Result<KdlDocumentFormat, AllocError>
-    ensures { IfOk result (λ f. document_format_tree f ≡ bom_format (document_texts format)) }
-{
-    let mut leading = bom_text(alloc)?;
-    let Some(format) = format else {
-        let mut format = KdlDocumentFormat::new(alloc);
-        format.leading = leading;
-        return Ok(format);
-    };
-    push_text(&mut leading, &format.leading)?;
-    Ok(KdlDocumentFormat {
-        leading,
-        trailing: format.trailing,
-    })
 }

@@ -11,20 +11,19 @@ ghost use Rattle.kdl_syntax.specs.declared.lexer.LexFailure.TheVariants.{Memory}
 ghost use Rattle.kdl_text.specs.Chars.{starts, is_digit, is_identifier_char, is_space};
 ghost use Rattle.kdl_text.specs.Numbers as numbers;
 ghost use Rattle.kdl_text.specs.Numbers.{FloatText};
-ghost use Rattle.kdl_text.specs.Internal.Here.{Ahead, Ate, IsPart, Stayed, first, looked, sliced, tail};
+ghost use Rattle.kdl_text.specs.Internal.Here.{Stayed, first, tail};
 ghost use Rattle.kdl_text.specs.Internal.Reading.{Moves};
-ghost use Rattle.std.specs.Prelude.{◌≡◌, ◌==◌, ◌||◌, ◌++◌, true, false, Some, None, IfOk};
+ghost use Rattle.std.specs.Prelude.{◌≡◌, ◌==◌, ◌||◌, true, false, Some, None, IfOk};
 ghost use Rattle.std.specs.Str.{chars};
 
 use crate::token_span::TokenSpan;
 use kdl_text::chars::{Class, is_digit, is_identifier_char, is_newline_char, is_sign, is_space};
-use kdl_text::cursor::{Checkpoint, Cursor, Piece, Steps, newline};
+use kdl_text::cursor::{Cursor, Piece, newline};
 use kdl_text::numbers::{Keyword, Number, NumberFailure, begins_number, read_keyword, read_number};
 use kdl_text::strings::{StringFailure, bare_string, letter_string, quoted_string, raw_string};
 use kdl_text::trivia::{SlashRead, escline, slash};
 use kdl_value::{KdlValue, parsed_float};
 use std::alloc::{AllocError, AllocFailed, Global};
-use std::marker::Model;
 
 /// Why no token was returned.
 #[derive(Clone, Copy)]
@@ -361,195 +360,86 @@ fn token_kind(c: char, cursor: &mut Cursor, alloc: Global) -> Result<TokenKind, 
     other_token(c, cursor, alloc)
 }
 
-/// The tokens of a text, one at a time.
-#[derive(Drop)]
-pub struct Lexer<'a> {
-    cursor: Cursor<'a>,
+/// Returns the token here and advances past it, or returns `None` at the end of the text.
+///
+/// Returns `Faulty` if no token begins here, and `Memory` if the allocation for the token's value fails. A token costs at
+/// most 24 steps for each of its bytes, and the end of the text one. If no token begins here, each byte that was read costs
+/// at most 24, and the fault itself 24.
+///
+/// ```
+/// let mut cursor = Cursor::new("a }", Steps::new());
+/// let name = lexer::next(&mut cursor, alloc)?; // the string `a`, with its start and end
+/// let spaces = lexer::next(&mut cursor, alloc)?; // the run of spaces
+/// let closing = lexer::next(&mut cursor, alloc)?; // the `}`: the lexer does not check whether it may be here
+/// let none = lexer::next(&mut cursor, alloc)?; // `None`: the end of the text
+/// ```
+#[inline(always)]
+pub fn next<'a>(cursor: &mut Cursor<'a>, alloc: Global) -> Result<Option<Token<'a>>, LexFailure>
+    ensures lexed { Lexed cursor.old result cursor.new }
+    ensures alone { ReadsAlone cursor.old result cursor.new }
+    ensures moves { Moves cursor.old cursor.new }
+    ensures costs { LexCosts result cursor.old cursor.new }
+{
+    match next_token(cursor, alloc)? {
+        NextToken::Space(at) => Ok(Some(Token {
+            kind: TokenKind::Space,
+            at,
+        })),
+        NextToken::Newline(at) => Ok(Some(Token {
+            kind: TokenKind::Newline,
+            at,
+        })),
+        NextToken::Word(word, at) => Ok(Some(Token {
+            kind: TokenKind::String(word.to_string(alloc)?),
+            at,
+        })),
+        NextToken::Other(token) => Ok(Some(token)),
+        NextToken::End => Ok(None),
+    }
 }
 
-impl<'a> Model for Lexer<'a> {
-    ghost use Rattle.kdl_text.specs.Internal.Here.{Here};
-
-    ghost Value = { Here };
-
-    ghost view = { λ l. l.cursor };
-}
-
-impl<'a> Lexer<'a> {
-    /// Creates a lexer at the start of the text, which adds to the given count of steps.
-    ///
-    /// ```
-    /// let mut lexer = Lexer::new("a=1", Steps::new());
-    /// while let Some(token) = lexer.next(alloc)? {
-    ///     let kind = token.kind; // the string `a`, the `=`, the value 1
-    /// }
-    /// ```
-    pub fn new(text: &'a str, steps: Steps) -> Self
-        ensures { result ≡ record {
-          text = chars text.now;
-          rest = chars text.now;
-          at = 0;
-          steps = steps;
-        } }
-    {
-        Lexer {
-            cursor: Cursor::new(text, steps),
-        }
+/// Advances as `next` does, at the same cost, and returns the most common tokens apart: a run of spaces, a line feed, a
+/// comment, and a bare string that begins with an ASCII letter. Fails as `next` does.
+///
+/// ```
+/// let mut cursor = Cursor::new("a }", Steps::new());
+/// let word = lexer::next_token(&mut cursor, alloc)?; // `NextToken::Word`, the string `a`
+/// let spaces = lexer::next_token(&mut cursor, alloc)?; // `NextToken::Space`, with its span
+/// let closing = lexer::next_token(&mut cursor, alloc)?; // `NextToken::Other`, the `}`
+/// ```
+#[inline(always)]
+pub fn next_token<'a>(cursor: &mut Cursor<'a>, alloc: Global) -> Result<NextToken<'a>, LexFailure>
+    ensures lexed { LexedNext cursor.old result cursor.new }
+    ensures alone { AloneNext cursor.old result cursor.new }
+    ensures apart { ReturnsApart cursor.old result cursor.new }
+    ensures moves { Moves cursor.old cursor.new }
+    ensures costs { NextCosts result cursor.old cursor.new }
+{
+    let start = cursor.checkpoint();
+    let Some(c) = cursor.look() else {
+        return Ok(NextToken::End);
+    };
+    if is_space(c) {
+        cursor.skip(Class::Space);
+        return Ok(NextToken::Space(TokenSpan::new(start, cursor.checkpoint())));
     }
-
-    /// Consumes the lexer and returns its count of steps.
-    ///
-    /// ```
-    /// let mut lexer = Lexer::new("a", Steps::new());
-    /// let token = lexer.next(alloc)?;
-    /// let count = lexer.into_steps().count(); // at least 1, at most 24
-    /// ```
-    pub fn into_steps(self) -> Steps
-        ensures { result ≡ self.entry.steps }
-    {
-        self.cursor.into_steps()
+    if c == '\n' {
+        let _ = cursor.take();
+        return Ok(NextToken::Newline(TokenSpan::new(start, cursor.checkpoint())));
     }
-
-    /// Returns the place where the lexer is.
-    ///
-    /// ```
-    /// let mut lexer = Lexer::new("ab=1", Steps::new());
-    /// let start = lexer.checkpoint();
-    /// let token = lexer.next(alloc)?; // the lexer has moved on, and `start` is still where it was taken
-    /// ```
-    pub fn checkpoint(&self) -> Checkpoint<'a>
-        ensures rest { result.rest ≡ self.now.rest }
-        ensures at { result.at ≡ self.now.at }
-        ensures part { IsPart self.now.text result.rest }
-    {
-        self.cursor.checkpoint()
-    }
-
-    /// Advances past a U+FEFF if one is here, and returns whether it is. Costs a step.
-    ///
-    /// ```
-    /// let mut lexer = Lexer::new("\u{feff}a", Steps::new());
-    /// let has_bom = lexer.eat_bom(); // true, and the string `a` is the next token
-    /// ```
-    pub fn eat_bom(&mut self) -> bool
-        ensures { Ate 0xFEFF result self.old self.new }
-    {
-        self.cursor.eat('\u{feff}')
-    }
-
-    /// Returns the piece of the lexer's text between two places. Costs a step for each of its bytes.
-    ///
-    /// ```
-    /// let mut lexer = Lexer::new("ab=1", Steps::new());
-    /// let from = lexer.checkpoint();
-    /// let token = lexer.next(alloc)?; // the string `ab`
-    /// let to = lexer.checkpoint();
-    /// let text = lexer.slice_between(&from, &to).to_string(alloc)?; // "ab"
-    /// ```
-    #[inline]
-    pub fn slice_between(&mut self, from: &Checkpoint<'a>, to: &Checkpoint<'a>) -> Piece<'a>
-        requires order { Ahead from.now to.now }
-        requires part { IsPart self.old.text from.now.rest }
-        ensures result { from.now.rest ≡ result ++ to.now.rest }
-        ensures moved { self.new ≡ sliced result self.old }
-    {
-        self.cursor.slice_between(from, to)
-    }
-
-    /// Counts a look at a token. Costs a step.
-    ///
-    /// ```
-    /// let mut lexer = Lexer::new("a", Steps::new());
-    /// lexer.count_look();
-    /// let count = lexer.into_steps().count(); // 1
-    /// ```
-    #[inline]
-    pub fn count_look(&mut self)
-        ensures { self.new ≡ looked self.old }
-    {
-        let _ = self.cursor.look();
-    }
-
-    /// Returns the token here and advances past it, or returns `None` at the end of the text.
-    ///
-    /// Returns `Faulty` if no token begins here, and `Memory` if the allocation for the token's value fails. A token costs at most 24 steps for each of its bytes, and the end of the text one.
-    /// If no token begins here, each byte that was read costs at most 24, and the fault itself 24.
-    ///
-    /// ```
-    /// let mut lexer = Lexer::new("a }", Steps::new());
-    /// let name = lexer.next(alloc)?; // the string `a`, with its start and end
-    /// let spaces = lexer.next(alloc)?; // the run of spaces
-    /// let closing = lexer.next(alloc)?; // the `}`: the lexer does not check whether it may be here
-    /// let none = lexer.next(alloc)?; // `None`: the end of the text
-    /// ```
-    #[inline(always)]
-    pub fn next(&mut self, alloc: Global) -> Result<Option<Token<'a>>, LexFailure>
-        ensures lexed { Lexed self.old result self.new }
-        ensures alone { ReadsAlone self.old result self.new }
-        ensures moves { Moves self.old self.new }
-        ensures costs { LexCosts result self.old self.new }
-    {
-        match self.next_token(alloc)? {
-            NextToken::Space(at) => Ok(Some(Token {
-                kind: TokenKind::Space,
-                at,
-            })),
-            NextToken::Newline(at) => Ok(Some(Token {
-                kind: TokenKind::Newline,
-                at,
-            })),
-            NextToken::Word(word, at) => Ok(Some(Token {
-                kind: TokenKind::String(word.to_string(alloc)?),
-                at,
-            })),
-            NextToken::Other(token) => Ok(Some(token)),
-            NextToken::End => Ok(None),
-        }
-    }
-
-    /// Advances as `next` does, at the same cost, and returns the most common tokens apart: a run of spaces, a line feed,
-    /// a comment, and a bare string that begins with an ASCII letter. Fails as `next` does.
-    ///
-    /// ```
-    /// let mut lexer = Lexer::new("a }", Steps::new());
-    /// let word = lexer.next_token(alloc)?; // `NextToken::Word`, the string `a`
-    /// let spaces = lexer.next_token(alloc)?; // `NextToken::Space`, with its span
-    /// let closing = lexer.next_token(alloc)?; // `NextToken::Other`, the `}`
-    /// ```
-    #[inline(always)]
-    pub fn next_token(&mut self, alloc: Global) -> Result<NextToken<'a>, LexFailure>
-        ensures lexed { LexedNext self.old result self.new }
-        ensures alone { AloneNext self.old result self.new }
-        ensures apart { ReturnsApart self.old result self.new }
-        ensures moves { Moves self.old self.new }
-        ensures costs { NextCosts result self.old self.new }
-    {
-        let start = self.cursor.checkpoint();
-        let Some(c) = self.cursor.look() else {
-            return Ok(NextToken::End);
+    if c.is_ascii_alphabetic() {
+        let Some(word) = letter_string(c, cursor) else {
+            return Err(LexFailure::Faulty);
         };
-        if is_space(c) {
-            self.cursor.skip(Class::Space);
-            return Ok(NextToken::Space(TokenSpan::new(start, self.cursor.checkpoint())));
-        }
-        if c == '\n' {
-            let _ = self.cursor.take();
-            return Ok(NextToken::Newline(TokenSpan::new(start, self.cursor.checkpoint())));
-        }
-        if c.is_ascii_alphabetic() {
-            let Some(word) = letter_string(c, &mut self.cursor) else {
-                return Err(LexFailure::Faulty);
-            };
-            return Ok(NextToken::Word(word, TokenSpan::new(start, self.cursor.checkpoint())));
-        }
-        if c == '/' {
-            let read = slash(&mut self.cursor);
-            return after_slash(read, TokenSpan::new(start, self.cursor.checkpoint()));
-        }
-        let kind = token_kind(c, &mut self.cursor, alloc)?;
-        Ok(NextToken::Other(Token {
-            kind,
-            at: TokenSpan::new(start, self.cursor.checkpoint()),
-        }))
+        return Ok(NextToken::Word(word, TokenSpan::new(start, cursor.checkpoint())));
     }
+    if c == '/' {
+        let read = slash(cursor);
+        return after_slash(read, TokenSpan::new(start, cursor.checkpoint()));
+    }
+    let kind = token_kind(c, cursor, alloc)?;
+    Ok(NextToken::Other(Token {
+        kind,
+        at: TokenSpan::new(start, cursor.checkpoint()),
+    }))
 }

@@ -5,13 +5,13 @@
 mod control;
 mod entry_control;
 mod events;
-mod lexer;
+pub mod lexer;
 mod node_control;
 mod token_span;
 
 pub use control::{Control, Ended, Frame, Owner, Phase, Spot, Word};
 pub use entry_control::EntryControl;
 pub use events::Event;
-pub use lexer::{LexFailure, Lexer, NextToken, Token, TokenKind};
+pub use lexer::{LexFailure, NextToken, Token, TokenKind};
 pub use node_control::NodeControl;
 pub use token_span::TokenSpan;

@@ -18,10 +18,10 @@ impl<'a> TokenSpan<'a> {
     /// Creates a span from a place and a later one.
     ///
     /// ```
-    /// let mut lexer = Lexer::new("ab=1", Steps::new());
-    /// let start = lexer.checkpoint();
-    /// let token = lexer.next(alloc)?;
-    /// let at = TokenSpan::new(start, lexer.checkpoint()); // the span of `ab`, as in `token.at`
+    /// let mut cursor = Cursor::new("ab=1", Steps::new());
+    /// let start = cursor.checkpoint();
+    /// let token = lexer::next(&mut cursor, alloc)?;
+    /// let at = TokenSpan::new(start, cursor.checkpoint()); // the span of `ab`, as in `token.at`
     /// ```
     #[inline(always)]
     #[tactic(auto, using(crate::proofs::Order::is_end))]

@@ -348,6 +348,18 @@ impl<'a> Cursor<'a> {
         self.at
     }
 
+    /// Returns the start of the text.
+    #[inline]
+    pub fn start(&self) -> Checkpoint<'a>
+        ensures { result ≡ record { rest = self.now.text; at = 0 } }
+    {
+        let _len = self.text.len();
+        Checkpoint {
+            rest: self.text,
+            at: 0,
+        }
+    }
+
     /// Returns the place of the cursor, to slice from later.
     #[inline]
     pub fn checkpoint(&self) -> Checkpoint<'a>

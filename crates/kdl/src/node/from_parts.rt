@@ -1,8 +1,11 @@
 //! Nodes, created from their parsed parts.
+#![tactic(auto, using(crate::proofs::Trees::node_tree_out))]
 
 ghost use Rattle.kdl.specs.Tree.{node_tree};
 ghost use Rattle.kdl_grammar.specs.Laid.{node_span};
+ghost use Rattle.kdl_parser.specs.Internal.NodeText.{with_text_after};
 ghost use Rattle.kdl_parser.specs.Internal.Parts.{node_by};
+ghost use Rattle.kdl_value.specs.Tree.{text_of};
 ghost use Rattle.std.specs.Prelude.{◌≡◌};
 
 use super::KdlNode;
@@ -66,7 +69,16 @@ impl ParsedNode for KdlNode {
         }
     }
 
-    #[tactic(auto, using(crate::proofs::Trees::node_tree_out))]
+    fn with_text_after(mut self, trailing: String, span: SourceSpan) -> KdlNode
+        ensures { node_tree result ≡ with_text_after (node_tree self) (text_of trailing) span }
+    {
+        if let Some(format) = &mut self.format {
+            format.trailing = trailing;
+        }
+        self.set_span(span);
+        self
+    }
+
     fn span(&self) -> SourceSpan
         ensures { result ≡ node_span (node_tree self.now) }
     {

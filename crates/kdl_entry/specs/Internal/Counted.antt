@@ -12,15 +12,15 @@ EndsIn t s = (p : Text) × (t ≡ p ++ s)
 abbrev pub InOrder : Text → Text → Text → Type 0
 InOrder t from s = EndsIn t from × EndsIn t s × EndsIn from s
 
--- the places are in the source's text, in this order
+-- the places are in the cursor's text, in this order
 abbrev pub Within : Here → Position → Position → Type 0
 Within z from to = InOrder z.text from.rest to.rest
 
--- the first place is in the source's text, and the second one is ahead of it
+-- the first place is in the cursor's text, and the second one is ahead of it
 abbrev pub Opens : Here → Position → Position → Type 0
 Opens z from to = EndsIn z.text from.rest × Ahead from to
 
--- the source is the same but for its count, which did not fall
+-- the cursor is the same but for its count, which did not fall
 pub record Recounted (old new : Here) : Type 0 where
   pub text : new.text ≡ old.text
   pub rest : new.rest ≡ old.rest
@@ -31,7 +31,7 @@ pub record Recounted (old new : Here) : Type 0 where
 pub record Sliced (m n : ℕ) (old new : ℕ) : Type 0 where
   pub most : new + n ≤ old + m
 
--- the text between two places was sliced: the source is the same but for its count
+-- the text between two places was sliced: the cursor is the same but for its count
 pub record Slices (from to : Position) (old new : Here) : Type 0 where
   pub same : Recounted old new
   pub sliced : Sliced (bytes from.rest) (bytes to.rest) old.steps new.steps

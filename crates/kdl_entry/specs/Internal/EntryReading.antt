@@ -41,7 +41,7 @@ Stepped o (Ok st) = o ≡ Some (state_view st)
 Stepped o (Err Faulty) = o ≡ None
 Stepped o (Err Memory) = Unit {0}
 
--- a step at a token, given the machine's result o: the source is the same but for its count
+-- a step at a token, given the machine's result o: the cursor is the same but for its count
 pub record Takes (o : Option machine.State) (result : Result State LexFailure) (old new : Here) : Type 0 where
   pub did : Stepped o result
   pub same : Recounted old new

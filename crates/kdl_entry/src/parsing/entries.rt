@@ -14,12 +14,12 @@ ghost use Rattle.std.specs.Prelude.{◌≡◌, [], None, Some, IfOk, option_map}
 ghost use Rattle.std.specs.Str.{chars};
 
 use super::parts::{Given, Parts, entry_from};
-use super::source::Source;
+use super::texts::{span_between, text_between, token_text};
 use crate::entry::KdlEntry;
 use crate::identifier::sliced_identifier;
 use kdl_diagnostics::{Whole, failure};
-use kdl_syntax::{EntryControl, LexFailure, Phase, Token, TokenKind, TokenSpan};
-use kdl_text::cursor::{Checkpoint, Piece, Steps};
+use kdl_syntax::{EntryControl, LexFailure, Phase, Token, TokenKind, TokenSpan, lexer};
+use kdl_text::cursor::{Checkpoint, Cursor, Piece, Steps};
 use kdl_text::error::ParseFailure;
 use kdl_text::span::SourceSpan;
 use kdl_value::KdlValue;
@@ -68,38 +68,40 @@ fn argument(alloc: Global, word: PendingWord) -> Result<KdlEntry, AllocError>
 /// Takes a token before the entry. The control goes to `next`.
 fn begin_to<'a>(
     next: EntryControl,
-    source: &mut Source<'a>,
+    cursor: &mut Cursor<'a>,
+    alloc: Global,
     token: Token<'a>,
 ) -> Result<State<'a>, LexFailure>
-    requires leading { EndsIn source.old.text token.at.start.rest }
-    ensures { Takes (begin_to source.old.text next
+    requires leading { EndsIn cursor.old.text token.at.start.rest }
+    ensures { Takes (begin_to cursor.old.text next
         (kind_view token.entry.kind) token.entry.at.start.rest token.entry.at.end.rest)
-        result source.old source.new }
+        result cursor.old cursor.new }
 {
     let Token { kind, at } = token;
+    let start = cursor.start();
     match (next, kind) {
         (EntryControl::Ahead, _) => Ok(State::Start),
         (EntryControl::Dropping(phase), _) => Ok(State::Dropping(phase)),
         (EntryControl::Under(phase), _) => {
-            let leading = source.text(&source.start(), &at.start)?;
-            let mut parts = Parts::new(source.alloc(), &at.start);
+            let leading = text_between(cursor, alloc, &start, &at.start)?;
+            let mut parts = Parts::new(alloc, &at.start);
             parts.open(leading, &at.start, &at.end);
             Ok(State::Under(phase, parts))
         }
         (EntryControl::Word, TokenKind::String(value)) => {
-            let leading = source.text(&source.start(), &at.start)?;
+            let leading = text_between(cursor, alloc, &start, &at.start)?;
             Ok(State::Pending(PendingWord {
                 leading,
                 value,
-                repr: source.piece(&at.start, &at.end),
-                span: source.span(&at.start, &at.end),
+                repr: cursor.slice_between(&at.start, &at.end),
+                span: span_between(cursor, &at.start, &at.end),
                 end: at.end,
             }))
         }
         (EntryControl::Done, TokenKind::Value(value)) => {
-            let leading = source.text(&source.start(), &at.start)?;
-            let repr = source.text(&at.start, &at.end)?;
-            let entry = entry_from(source.alloc(), UNPLACED, leading, Given::plain(value), repr);
+            let leading = text_between(cursor, alloc, &start, &at.start)?;
+            let repr = token_text(cursor, alloc, &at)?;
+            let entry = entry_from(alloc, UNPLACED, leading, Given::plain(value), repr);
             Ok(State::Done(entry, at.end))
         }
         _ => Err(LexFailure::Faulty),
@@ -121,20 +123,20 @@ fn value_of(kind: TokenKind) -> Option<KdlValue>
 fn at_value<'a>(
     phase: Phase,
     mut parts: Parts<'a>,
-    source: &mut Source<'a>,
+    cursor: &mut Cursor<'a>,
     token: Token<'a>,
 ) -> Result<State<'a>, LexFailure>
-    requires from { Within source.old parts.from token.at.start }
+    requires from { Within cursor.old parts.from token.at.start }
     ensures { Takes (value_to phase (parts_view parts.entry)
         (kind_view token.entry.kind) token.entry.at.start.rest token.entry.at.end.rest)
-        result source.old source.new }
+        result cursor.old cursor.new }
 {
     let Token { kind, at } = token;
     let Some(value) = value_of(kind) else {
         return Err(LexFailure::Faulty);
     };
-    let given = parts.give(phase, source, value, &at.start)?;
-    let repr = source.token(&at)?;
+    let given = parts.give(phase, cursor, value, &at.start)?;
+    let repr = token_text(cursor, parts.alloc, &at)?;
     let entry = entry_from(parts.alloc, UNPLACED, parts.leading, given, repr);
     Ok(State::Done(entry, at.end))
 }
@@ -143,22 +145,23 @@ fn at_value<'a>(
 fn word_to<'a>(
     next: EntryControl,
     word: PendingWord<'a>,
-    source: &mut Source<'a>,
+    cursor: &mut Cursor<'a>,
+    alloc: Global,
     at: &TokenSpan<'a>,
 ) -> Result<State<'a>, AllocError>
-    requires { Within source.old word.end at.now.start }
+    requires { Within cursor.old word.end at.now.start }
     ensures is { IfOk result (λ st. state_view st
-        ≡ word_to source.old.text (word_view word.entry) word.entry.end.rest next
+        ≡ word_to cursor.old.text (word_view word.entry) word.entry.end.rest next
         at.now.start.rest at.now.end.rest) }
-    ensures same { Recounted source.old source.new }
+    ensures same { Recounted cursor.old cursor.new }
 {
     match next {
         EntryControl::Word => Ok(State::Pending(word)),
         EntryControl::Under(phase) => {
-            let before = source.text(&word.end, &at.start)?;
-            let name = sliced_identifier(source.alloc(), word.value, &word.repr, word.span)?;
-            let start = source.start();
-            let mut parts = Parts::new(source.alloc(), &start);
+            let before = text_between(cursor, alloc, &word.end, &at.start)?;
+            let name = sliced_identifier(alloc, word.value, &word.repr, word.span)?;
+            let start = cursor.start();
+            let mut parts = Parts::new(alloc, &start);
             parts.open(word.leading, &start, &at.end);
             parts.name = name;
             parts.before = before;
@@ -166,7 +169,7 @@ fn word_to<'a>(
         }
         _ => {
             let end = word.end.copied();
-            Ok(State::Done(argument(source.alloc(), word)?, end))
+            Ok(State::Done(argument(alloc, word)?, end))
         }
     }
 }
@@ -174,20 +177,21 @@ fn word_to<'a>(
 /// The entry, whose span is the whole text, with the text after it, which ends here.
 fn ended<'a>(
     mut entry: KdlEntry,
-    source: &mut Source<'a>,
+    cursor: &mut Cursor<'a>,
+    alloc: Global,
     from: &Checkpoint<'a>,
     here: &Checkpoint<'a>,
 ) -> Result<KdlEntry, AllocError>
     requires end { here.now.rest ≡ [] }
-    requires from { Within source.old from.now here.now }
+    requires from { Within cursor.old from.now here.now }
     ensures { IfOk result (λ e. entry_tree e
-        ≡ machine.ended source.old.text (between from.now.rest []) (entry_tree entry)) }
+        ≡ machine.ended cursor.old.text (between from.now.rest []) (entry_tree entry)) }
 {
-    let trailing = source.text(from, here)?;
+    let trailing = text_between(cursor, alloc, from, here)?;
     if let Some(format) = entry.format_mut() {
         format.trailing = trailing;
     }
-    entry.set_span(source.span(&source.start(), here));
+    entry.set_span(span_between(cursor, &cursor.start(), here));
     Ok(entry)
 }
 
@@ -206,26 +210,31 @@ impl<'a> State<'a> {
     }
 
     /// Takes a token. Fails if the token may not be here.
-    fn take(self, source: &mut Source<'a>, token: Token<'a>) -> Result<State<'a>, LexFailure>
-        requires leading { EndsIn source.old.text token.at.start.rest }
-        requires from { Stands source.old.text (state_view self) token.at.start.rest }
-        ensures { Takes (step source.old.text (state_view self.entry)
+    fn take(
+        self,
+        cursor: &mut Cursor<'a>,
+        alloc: Global,
+        token: Token<'a>,
+    ) -> Result<State<'a>, LexFailure>
+        requires leading { EndsIn cursor.old.text token.at.start.rest }
+        requires from { Stands cursor.old.text (state_view self) token.at.start.rest }
+        ensures { Takes (step cursor.old.text (state_view self.entry)
             (kind_view token.entry.kind) token.entry.at.start.rest token.entry.at.end.rest)
-            result source.old source.new }
+            result cursor.old cursor.new }
     {
         let Some(next) = self.control().after(&token.kind) else {
             return Err(LexFailure::Faulty);
         };
         match self {
-            State::Start | State::Dropping(_) => begin_to(next, source, token),
+            State::Start | State::Dropping(_) => begin_to(next, cursor, alloc, token),
             State::Under(phase, mut parts) => match next {
                 EntryControl::Under(next) => {
-                    parts.take(phase, source, token)?;
+                    parts.take(phase, cursor, token)?;
                     Ok(State::Under(next, parts))
                 }
-                _ => at_value(phase, parts, source, token),
+                _ => at_value(phase, parts, cursor, token),
             },
-            State::Pending(word) => Ok(word_to(next, word, source, &token.at)?),
+            State::Pending(word) => Ok(word_to(next, word, cursor, alloc, &token.at)?),
             State::Done(entry, from) => Ok(State::Done(entry, from)),
         }
     }
@@ -233,37 +242,38 @@ impl<'a> State<'a> {
     /// Returns the entry at the end of the text, or `None` if there is none.
     fn finish(
         self,
-        source: &mut Source<'a>,
+        cursor: &mut Cursor<'a>,
+        alloc: Global,
         here: &Checkpoint<'a>,
     ) -> Result<Option<KdlEntry>, AllocError>
         requires end { here.now.rest ≡ [] }
-        requires from { Stands source.old.text (state_view self) here.now.rest }
+        requires from { Stands cursor.old.text (state_view self) here.now.rest }
         ensures { IfOk result (λ e. Ended
-            (finish source.old.text (state_view self.entry)) e) }
+            (finish cursor.old.text (state_view self.entry)) e) }
     {
         match self {
             State::Pending(word) => {
                 let end = word.end.copied();
-                let entry = argument(source.alloc(), word)?;
-                Ok(Some(ended(entry, source, &end, here)?))
+                let entry = argument(alloc, word)?;
+                Ok(Some(ended(entry, cursor, alloc, &end, here)?))
             }
-            State::Done(entry, from) => Ok(Some(ended(entry, source, &from, here)?)),
+            State::Done(entry, from) => Ok(Some(ended(entry, cursor, alloc, &from, here)?)),
             _ => Ok(None),
         }
     }
 }
 
-/// Reads the entry that the text is; the source is at its start.
-fn read_tokens(source: &mut Source) -> Result<KdlEntry, LexFailure>
-    requires rest { source.old.rest ≡ source.old.text }
-    ensures { AnswersEntryText source.old.text result }
+/// Reads the entry that the text is; the cursor is at its start.
+fn read_tokens(cursor: &mut Cursor, alloc: Global) -> Result<KdlEntry, LexFailure>
+    requires rest { cursor.old.rest ≡ cursor.old.text }
+    ensures { AnswersEntryText cursor.old.text result }
 {
     let mut state = State::Start;
-    'tokens: while let Some(token) = source.next()? {
-        state = state.take(source, token)?;
+    'tokens: while let Some(token) = lexer::next(cursor, alloc)? {
+        state = state.take(cursor, alloc, token)?;
     }
-    let here = source.checkpoint();
-    match state.finish(source, &here)? {
+    let here = cursor.checkpoint();
+    match state.finish(cursor, alloc, &here)? {
         Some(entry) => Ok(entry),
         None => Err(LexFailure::Faulty),
     }
@@ -303,7 +313,7 @@ impl KdlEntry {
             → ⊥ }
         ensures told { TellsOnSyntax text.now result }
     {
-        match read_tokens(&mut Source::new(alloc, text, Steps::new())) {
+        match read_tokens(&mut Cursor::new(text, Steps::new()), alloc) {
             Ok(entry) => Ok(entry),
             Err(LexFailure::Faulty) => {
                 Err(failure(alloc, text, Whole::Entry, &mut Steps::new()))

@@ -5,11 +5,11 @@ ghost use Rattle.kdl_entry.specs.Internal.IdentifierReading.{AnswersIdentifierTe
 ghost use Rattle.std.specs.Prelude.{◌≡◌, ◌↔◌, IsTrue, []};
 ghost use Rattle.std.specs.Str.{chars};
 
-use super::source::Source;
+use super::texts::token_identifier;
 use crate::identifier::KdlIdentifier;
 use kdl_diagnostics::{Whole, failure};
-use kdl_syntax::{LexFailure, Token, TokenKind};
-use kdl_text::cursor::{Checkpoint, Steps};
+use kdl_syntax::{LexFailure, Token, TokenKind, lexer};
+use kdl_text::cursor::{Checkpoint, Cursor, Steps};
 use kdl_text::error::ParseFailure;
 use std::alloc::Global;
 
@@ -20,12 +20,12 @@ fn is_end(place: &Checkpoint) -> bool
     place.char_span().len == 0
 }
 
-/// Reads the identifier that the text is; the source is at its start.
-fn read_token(source: &mut Source) -> Result<KdlIdentifier, LexFailure>
-    requires { source.old.rest ≡ source.old.text }
-    ensures { AnswersIdentifierText source.old.text result }
+/// Reads the identifier that the text is; the cursor is at its start.
+fn read_token(cursor: &mut Cursor, alloc: Global) -> Result<KdlIdentifier, LexFailure>
+    requires { cursor.old.rest ≡ cursor.old.text }
+    ensures { AnswersIdentifierText cursor.old.text result }
 {
-    let Token { kind, at } = match source.next() {
+    let Token { kind, at } = match lexer::next(cursor, alloc) {
         Ok(Some(token)) => token,
         Ok(None) => return Err(LexFailure::Faulty),
         Err(failure) => return Err(failure),
@@ -36,7 +36,7 @@ fn read_token(source: &mut Source) -> Result<KdlIdentifier, LexFailure>
     if !is_end(&at.end) {
         return Err(LexFailure::Faulty);
     }
-    Ok(source.identifier(value, &at)?)
+    Ok(token_identifier(cursor, alloc, value, &at)?)
 }
 
 impl KdlIdentifier {
@@ -74,7 +74,7 @@ impl KdlIdentifier {
             → ⊥ }
         ensures told { TellsOnSyntax text.now result }
     {
-        match read_token(&mut Source::new(alloc, text, Steps::new())) {
+        match read_token(&mut Cursor::new(text, Steps::new()), alloc) {
             Ok(identifier) => Ok(identifier),
             Err(LexFailure::Faulty) => {
                 Err(failure(alloc, text, Whole::Identifier, &mut Steps::new()))

@@ -14,11 +14,11 @@ ghost use Rattle.kdl_entry.specs.Tree.{entry_tree};
 ghost use Rattle.kdl_text.specs.Internal.Here.{Ahead};
 ghost use Rattle.std.specs.Prelude.{◌≡◌, [], Some, None, IfOk, OnOk, option_map};
 
-use super::source::Source;
+use super::texts::{text_between, token_identifier};
 use crate::entry::{KdlEntry, KdlEntryFormat};
 use crate::identifier::KdlIdentifier;
 use kdl_syntax::{Phase, Token, TokenKind, TokenSpan};
-use kdl_text::cursor::Checkpoint;
+use kdl_text::cursor::{Checkpoint, Cursor};
 use kdl_text::span::SourceSpan;
 use kdl_value::KdlValue;
 use std::alloc::{AllocError, Global};
@@ -148,15 +148,21 @@ pub fn entry_from(
         after_eq,
         autoformat_keep: false,
     };
-    KdlEntry::parsed(ty, name, value, format, span)
+    KdlEntry {
+        ty,
+        value,
+        name,
+        format: Some(format),
+        span,
+    }
 }
 
 impl<'a> Parts<'a> {
     /// Creates empty parts at the place. Does not allocate.
     ///
     /// ```
-    /// let source = Source::new(alloc, "(u8)1", Steps::new());
-    /// let parts = Parts::new(alloc, &source.start()); // `open` and `open_keyed` begin an entry in them
+    /// let cursor = Cursor::new("(u8)1", Steps::new());
+    /// let parts = Parts::new(alloc, &cursor.start()); // `open` and `open_keyed` begin an entry in them
     /// ```
     pub fn new(alloc: Global, place: &Checkpoint<'a>) -> Parts<'a>
         ensures is { parts_view result ≡ spec.no_parts place.now.rest }
@@ -179,9 +185,9 @@ impl<'a> Parts<'a> {
     /// ends at `end`.
     ///
     /// ```
-    /// let mut source = Source::new(alloc, "(u8)1", Steps::new());
-    /// let mut parts = Parts::new(alloc, &source.start());
-    /// if let Some(left) = source.next()? {
+    /// let mut cursor = Cursor::new("(u8)1", Steps::new());
+    /// let mut parts = Parts::new(alloc, &cursor.start());
+    /// if let Some(left) = lexer::next(&mut cursor, alloc)? {
     ///     parts.open(empty(alloc), &left.at.start, &left.at.end); // the type's name is expected
     /// }
     /// ```
@@ -203,34 +209,34 @@ impl<'a> Parts<'a> {
     /// Continues after the string that is the type's name.
     pub fn take_name(
         &mut self,
-        source: &mut Source<'a>,
+        cursor: &mut Cursor<'a>,
         value: String,
         at: &TokenSpan<'a>,
     ) -> Result<(), AllocError>
-        requires from { Within source.old self.old.from at.now.start }
+        requires from { Within cursor.old self.old.from at.now.start }
         ensures named { OnOk result
             (parts_view self.new ≡ spec.named_at
-            (identifier_at source.old.text (text_of value) at.now.start.rest at.now.end.rest)
+            (identifier_at cursor.old.text (text_of value) at.now.start.rest at.now.end.rest)
             (between self.old.from.rest at.now.start.rest) at.now.end.rest (parts_view self.old)) }
-        ensures slices { SlicesOn self.old.from self.new.from result source.old source.new }
+        ensures slices { SlicesOn self.old.from self.new.from result cursor.old cursor.new }
         ensures from { OnOk result (Ahead self.new.from at.now.end) }
     {
-        self.before = source.text(&self.from, &at.start)?;
-        self.name = source.identifier(value, at)?;
+        self.before = text_between(cursor, self.alloc, &self.from, &at.start)?;
+        self.name = token_identifier(cursor, self.alloc, value, at)?;
         self.from = at.end.copied();
         Ok(())
     }
 
     /// Continues after the `)` of the type.
-    pub fn close(&mut self, source: &mut Source<'a>, at: &TokenSpan<'a>) -> Result<(), AllocError>
-        requires from { Within source.old self.old.from at.now.start }
+    pub fn close(&mut self, cursor: &mut Cursor<'a>, at: &TokenSpan<'a>) -> Result<(), AllocError>
+        requires from { Within cursor.old self.old.from at.now.start }
         ensures closed { OnOk result
             (parts_view self.new ≡ spec.closed_at
             (between self.old.from.rest at.now.start.rest) at.now.end.rest (parts_view self.old)) }
-        ensures slices { SlicesOn self.old.from self.new.from result source.old source.new }
+        ensures slices { SlicesOn self.old.from self.new.from result cursor.old cursor.new }
         ensures from { OnOk result (Ahead self.new.from at.now.end) }
     {
-        self.after = source.text(&self.from, &at.start)?;
+        self.after = text_between(cursor, self.alloc, &self.from, &at.start)?;
         self.from = at.end.copied();
         Ok(())
     }
@@ -238,16 +244,16 @@ impl<'a> Parts<'a> {
     /// The type, at the start of the value.
     pub fn type_parts(
         &mut self,
-        source: &mut Source<'a>,
+        cursor: &mut Cursor<'a>,
         start: &Checkpoint<'a>,
     ) -> Result<TypeParts, AllocError>
-        requires from { Within source.old self.old.from start.now }
+        requires from { Within cursor.old self.old.from start.now }
         ensures is { IfOk result
             (λ y. type_view y ≡ spec.type_at (parts_view self.old) start.now.rest) }
         ensures taken { OnOk result (parts_view self.new ≡ spec.without_type (parts_view self.old)) }
-        ensures slices { SlicesOn self.old.from start.now result source.old source.new }
+        ensures slices { SlicesOn self.old.from start.now result cursor.old cursor.new }
     {
-        let following = source.text(&self.from, start)?;
+        let following = text_between(cursor, self.alloc, &self.from, start)?;
         let name = mem::replace(&mut self.name, KdlIdentifier::from(empty(self.alloc)));
         let before = mem::replace(&mut self.before, empty(self.alloc));
         let after = mem::replace(&mut self.after, empty(self.alloc));
@@ -263,16 +269,16 @@ impl<'a> Parts<'a> {
     #[inline(always)]
     pub fn key_parts(
         &mut self,
-        source: &mut Source<'a>,
+        cursor: &mut Cursor<'a>,
         start: &Checkpoint<'a>,
     ) -> Result<KeyParts, AllocError>
-        requires from { Within source.old self.old.from start.now }
+        requires from { Within cursor.old self.old.from start.now }
         ensures is { IfOk result
             (λ k. key_view k ≡ spec.key_at (parts_view self.old) start.now.rest) }
         ensures taken { OnOk result (parts_view self.new ≡ spec.emptied (parts_view self.old)) }
-        ensures slices { SlicesOn self.old.from start.now result source.old source.new }
+        ensures slices { SlicesOn self.old.from start.now result cursor.old cursor.new }
     {
-        let following = source.text(&self.from, start)?;
+        let following = text_between(cursor, self.alloc, &self.from, start)?;
         let name = mem::replace(&mut self.name, KdlIdentifier::from(empty(self.alloc)));
         let before = mem::replace(&mut self.before, empty(self.alloc));
         Ok(KeyParts {
@@ -285,17 +291,17 @@ impl<'a> Parts<'a> {
     /// Begins the type of the value at its `(`, after the key.
     pub fn open_typed(
         &mut self,
-        source: &mut Source<'a>,
+        cursor: &mut Cursor<'a>,
         at: &TokenSpan<'a>,
     ) -> Result<(), AllocError>
-        requires from { Within source.old self.old.from at.now.start }
+        requires from { Within cursor.old self.old.from at.now.start }
         ensures is { OnOk result (parts_view self.new ≡ spec.reopened
             (spec.key_at (parts_view self.old) at.now.start.rest) at.now.end.rest
             (parts_view self.old)) }
         ensures from { OnOk result (self.new.from ≡ at.now.end) }
-        ensures slices { SlicesOn self.old.from self.new.from result source.old source.new }
+        ensures slices { SlicesOn self.old.from self.new.from result cursor.old cursor.new }
     {
-        let key = self.key_parts(source, &at.start)?;
+        let key = self.key_parts(cursor, &at.start)?;
         self.key = Some(key);
         self.from = at.end.copied();
         Ok(())
@@ -304,26 +310,26 @@ impl<'a> Parts<'a> {
     /// Continues after a token that may come in the phase and is not the entry's value.
     ///
     /// ```
-    /// parts.take(Phase::TypeOpen(Owner::Value), &mut source, name)?; // the type has its name
-    /// parts.take(Phase::TypeName(Owner::Value), &mut source, right)?; // the type has ended
+    /// parts.take(Phase::TypeOpen(Owner::Value), &mut cursor, name)?; // the type has its name
+    /// parts.take(Phase::TypeName(Owner::Value), &mut cursor, right)?; // the type has ended
     /// ```
     pub fn take(
         &mut self,
         phase: Phase,
-        source: &mut Source<'a>,
+        cursor: &mut Cursor<'a>,
         token: Token<'a>,
     ) -> Result<(), AllocError>
-        requires from { Within source.old self.old.from token.at.start }
+        requires from { Within cursor.old self.old.from token.at.start }
         ensures is { OnOk result
-            (parts_view self.new ≡ spec.taken phase source.old.text (parts_view self.old)
+            (parts_view self.new ≡ spec.taken phase cursor.old.text (parts_view self.old)
             (kind_view token.entry.kind) token.entry.at.start.rest token.entry.at.end.rest) }
-        ensures same { Recounted source.old source.new }
+        ensures same { Recounted cursor.old cursor.new }
     {
         let Token { kind, at } = token;
         match (phase, kind) {
-            (Phase::TypeOpen(_), TokenKind::String(value)) => { self.take_name(source, value, &at) }
-            (Phase::TypeName(_), TokenKind::Right) => self.close(source, &at),
-            (Phase::Property, TokenKind::Left) => self.open_typed(source, &at),
+            (Phase::TypeOpen(_), TokenKind::String(value)) => { self.take_name(cursor, value, &at) }
+            (Phase::TypeName(_), TokenKind::Right) => self.close(cursor, &at),
+            (Phase::Property, TokenKind::Left) => self.open_typed(cursor, &at),
             _ => Ok(()),
         }
     }
@@ -331,16 +337,16 @@ impl<'a> Parts<'a> {
     /// Ends the entry in the phase, with its value, which begins at `start`. Returns its key, its type and the value.
     ///
     /// ```
-    /// let given = parts.give(Phase::Property, &mut source, value, &at.start)?; // no type
+    /// let given = parts.give(Phase::Property, &mut cursor, value, &at.start)?; // no type
     /// ```
     pub fn give(
         &mut self,
         phase: Phase,
-        source: &mut Source<'a>,
+        cursor: &mut Cursor<'a>,
         value: KdlValue,
         start: &Checkpoint<'a>,
     ) -> Result<Given, AllocError>
-        requires from { Within source.old self.old.from start.now }
+        requires from { Within cursor.old self.old.from start.now }
         ensures key { IfOk result
             (λ g. option_map key_view g.key
             ≡ spec.key_given phase (parts_view self.old) start.now.rest) }
@@ -349,17 +355,17 @@ impl<'a> Parts<'a> {
             ≡ spec.type_given phase (parts_view self.old) start.now.rest) }
         ensures value { IfOk result (λ g. g.value ≡ value) }
         ensures leading { OnOk result (text_of self.new.leading ≡ text_of self.old.leading) }
-        ensures same { Recounted source.old source.new }
+        ensures same { Recounted cursor.old cursor.new }
     {
         if let Phase::Property = phase {
-            let key = self.key_parts(source, start)?;
+            let key = self.key_parts(cursor, start)?;
             return Ok(Given {
                 key: Some(key),
                 ty: None,
                 value,
             });
         }
-        let ty = self.type_parts(source, start)?;
+        let ty = self.type_parts(cursor, start)?;
         Ok(Given {
             key: self.key.take(),
             ty: Some(ty),

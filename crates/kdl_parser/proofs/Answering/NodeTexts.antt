@@ -25,9 +25,8 @@ use Rattle.kdl_grammar.proofs.LawProofs.{one_node}
 use Rattle.kdl_value.specs.Tree.{text_of}
 use Rattle.kdl_parser.specs.Internal.Answered.{AnswersParts}
 use Rattle.kdl_parser.specs.Internal.LineSpaces.{AreLineSpaces}
-use Rattle.kdl_parser.specs.Internal.NodeText.{with_text_after, text_by, RunsOnText, RunsToNodes, NoNode}
+use Rattle.kdl_parser.specs.Internal.NodeText.{with_text_after, RunsOnText, RunsToNodes, NoNode}
 use Rattle.kdl_parser.specs.Internal.Parts.{document_by, nodes_tree}
-use Rattle.kdl_parser.specs.declared.node_text.NodeText.{NodeText}
 use Rattle.kdl_parser.specs.declared.node_parts.DocumentParts.{DocumentParts}
 use Rattle.kdl_grammar.proofs.Moving.FormerIsPresent.{wider_node}
 
@@ -101,12 +100,9 @@ one_read tree t d n a e =
     (text_of d.leading, subst (λ z. RunsToNodes t (Some (record { leading = text_of d.leading; trailing = text_of d.trailing })) (nodes_tree tree z)) e (d.span, a))
 
 -- the one node, with the text after it
-pub laid_there : {N : Type 0} (tree : N → Node) (bs : List ℕ) (u : Text) (f : Option DocumentFormat) (n : NodeText N) → IsUtf8 bs → RunsToNodes (chars bs) f (first (tree n.node) none) → text_of n.trailing ≡ trailing_text f
-    → u ≡ trailing_text f → Star LineSpace u [] → n.span ≡ record { offset = 0; len = length bs } → LaidNodeText (chars bs) (text_by tree n)
-laid_there tree bs u f n v a w e ls g =
-    let ls' = subst (λ (z : Text). Star LineSpace z []) e ls in
-    let h : text_by tree n ≡ with_text_after (tree n.node) (trailing_text f) (record { offset = 0; len = length bs }) = ap (λ (p : SourceSpan). with_text_after (tree n.node) (text_of n.trailing) p) g ∙ ap (λ (z : Text). with_text_after (tree n.node) z (record { offset = 0; len = length bs })) w in
-    subst (λ (z : Node). LaidNodeText (chars bs) z) (sym h) (is_alone bs f (tree n.node) v a ls')
+pub laid_there : (bs : List ℕ) (u : Text) (f : Option DocumentFormat) (n m : Node) → IsUtf8 bs → RunsToNodes (chars bs) f (first n none) → u ≡ trailing_text f → Star LineSpace u []
+    → m ≡ with_text_after n (trailing_text f) (record { offset = 0; len = length bs }) → LaidNodeText (chars bs) m
+laid_there bs u f n m v a e ls h = subst (λ (z : Node). LaidNodeText (chars bs) z) (sym h) (is_alone bs f n v a (subst (λ (z : Text). Star LineSpace z []) e ls))
 
 pub none_there : (t u : Text) (f : Option DocumentFormat) (n : Node) (e : LexFailure) → RunsToNodes t f (first n none) → u ≡ trailing_text f → AreLineSpaces u (Err e) → NoNode t e
 none_there t u f n Faulty a e x = no_lines t f (first n none) a (λ ls. x (subst (λ (z : Text). Star LineSpace z []) (sym e) ls))

@@ -34,7 +34,7 @@ refused_plain : {t : Text} {d : Document} → AnswersDocument t d → ((u : Text
 refused_plain (AnswersDocument.no_bom {d = d} a) n f = f d a
 refused_plain (AnswersDocument.after_bom {t = s} a) n f = n s refl
 
-pub plain_answer : {N : Type 0} (tree : N → Node) (t : Text) (p : DocumentParts N) → AnswersParts tree t t (Ok p) → AnswersDocumentText tree t (Ok (record { parts = p; has_bom = false }))
+pub plain_answer : {N : Type 0} (tree : N → Node) (t : Text) (p : DocumentParts N) → AnswersParts tree t t (Ok p) → AnswersDocumentText tree t (Ok p)
 plain_answer tree t p a = AnswersDocument.no_bom a
 
 pub plain_failure : {N : Type 0} (tree : N → Node) (t : Text) (e : LexFailure) → begins 0xFEFF t ≡ false → AnswersParts tree t t (Err e) → AnswersDocumentText tree t (Err e)
@@ -46,7 +46,7 @@ refused_after_bom : {t : Text} {d : Document} → AnswersDocument t d → (u : T
 refused_after_bom (AnswersDocument.no_bom {t = t} {d = d} a) u e f = no_bom_here (subst (λ (z : Text). Runs t d (initial z) z) e a)
 refused_after_bom (AnswersDocument.after_bom {t = s} {d = d} a) u e f = let g : s ≡ u = cc in f d (subst (λ (z : Text). Runs (0xFEFF ∷ s) d (initial z) z) g a)
 
-pub bom_answer : {N : Type 0} (tree : N → Node) (t u : Text) (p : DocumentParts N) → t ≡ 0xFEFF ∷ u → AnswersParts tree t u (Ok p) → AnswersDocumentText tree t (Ok (record { parts = p; has_bom = true }))
+pub bom_answer : {N : Type 0} (tree : N → Node) (t u : Text) (p : DocumentParts N) → t ≡ 0xFEFF ∷ u → AnswersParts tree t u (Ok p) → AnswersDocument t (with_bom (document_by tree p))
 bom_answer tree t u p e a =
     let b : Runs (0xFEFF ∷ u) (document_by tree p) (initial u) u = subst (λ (z : Text). Runs z (document_by tree p) (initial u) u) e a in
     subst (λ (z : Text). AnswersDocument z (with_bom (document_by tree p))) (sym e) (AnswersDocument.after_bom b)

@@ -149,16 +149,16 @@ module _ {N : Type 0} (tree : N → Node) (b : Builder N) (d : Dropped) (k : Tok
   -- a token of what is slashdashed
   drops : is_reading (reading_view b.dropped) ≡ true → is_over k (reading_view b.dropped) ≡ false → next k (reading_view b.dropped) ≡ Some (reading_view d) → TakesToken tree b k span (Ok tt) (record b { dropped = d })
   drops a e f = record {
-    did = reads_on b.source.text (nodes_now tree b) (frames_view tree b) b.from.rest (node_now b) (kept_now tree b) (in_phase tree b (phase_now tree b b.phase)) (reading_view b.dropped) (reading_view d) k span.start.rest span.end.rest a e (begun b.dropped) (sym f);
-    same = unmoved b.source;
+    did = reads_on b.cursor.text (nodes_now tree b) (frames_view tree b) b.from.rest (node_now b) (kept_now tree b) (in_phase tree b (phase_now tree b b.phase)) (reading_view b.dropped) (reading_view d) k span.start.rest span.end.rest a e (begun b.dropped) (sym f);
+    same = unmoved b.cursor;
     sliced = none_sliced {A = Unit {0}} (bytes b.from.rest) _ _ _ (Ok tt) (still_dropped (reading_view b.dropped) d k b.phase _ _ (sym f)) (unsliced_read b.dropped b.phase _ _ a);
   }
 
   -- a token that may not be there
   drop_refused : is_reading (reading_view b.dropped) ≡ true → is_over k (reading_view b.dropped) ≡ false → next k (reading_view b.dropped) ≡ None → TakesToken tree b k span (Err Faulty) (record b { dropped = d })
   drop_refused a e f = record {
-    did = refuses b.source.text (nodes_now tree b) (frames_view tree b) b.from.rest (node_now b) (kept_now tree b) (in_phase tree b (phase_now tree b b.phase)) (reading_view b.dropped) k span.start.rest span.end.rest a e (begun b.dropped) (sym f);
-    same = unmoved b.source;
+    did = refuses b.cursor.text (nodes_now tree b) (frames_view tree b) b.from.rest (node_now b) (kept_now tree b) (in_phase tree b (phase_now tree b b.phase)) (reading_view b.dropped) k span.start.rest span.end.rest a e (begun b.dropped) (sym f);
+    same = unmoved b.cursor;
     sliced = none_sliced {A = Unit {0}} (bytes b.from.rest) (bytes b.from.rest) _ _ (Err Faulty) tt (unsliced_read b.dropped b.phase _ _ a);
   }
 
@@ -166,7 +166,7 @@ module _ {N : Type 0} (tree : N → Node) (b : Builder N) (d : Dropped) (k : Tok
   first_drops : (result : Result (Unit {0}) LexFailure) (new : Builder N) → b.dropped ≡ Nothing → is_live b.phase ≡ false → reading_view d ≡ after_slashdash b.phase → TakesToken tree (record b { dropped = d }) k span result new → TakesToken tree b k span result new
   first_drops result new f l i x =
       carried tree b (record b { dropped = d }) k span result new refl
-      (ap (λ (st : State). step b.source.text st k span.start.rest span.end.rest) (ap (state_by tree b) i ∙ (begins b.phase l).0 ∙ ap (λ (z : Dropped). state_by tree b (reading_view z)) (sym f)))
+      (ap (λ (st : State). step b.cursor.text st k span.start.rest span.end.rest) (ap (state_by tree b) i ∙ (begins b.phase l).0 ∙ ap (λ (z : Dropped). state_by tree b (reading_view z)) (sym f)))
       (same_count d b.phase _ _ (begins b.phase l).1 ∙ ap (λ (z : Dropped). unsliced_at z b.phase (bytes b.from.rest) (bytes b.parts.from.rest)) (sym f)) x
     where
       begins : (p : Phase) → is_live p ≡ false → (state_by tree b (after_slashdash p) ≡ in_phase tree b (phase_now tree b p)) × ((n m : ℕ) → n ≡ unsliced_in p n m)
@@ -202,7 +202,7 @@ module _ {N : Type 0} (tree : N → Node) (b : Builder N) (es : Growing KdlEntry
   ended p = record b { under = record b.under { entries = es }; waiting = None; dropped = Nothing; phase = p }
 
   node_over : (d : c.Control) (k : Token) → is_node_over k d ≡ true → let st = inside None None (nodes_now tree b) (frames_view tree b) b.from.rest d in
-      ((s r : Text) → step b.source.text (in_phase tree b gap) k s r ≡ step b.source.text st k s r) × (finish b.source.text (in_phase tree b gap) ≡ finish b.source.text st)
+      ((s r : Text) → step b.cursor.text (in_phase tree b gap) k s r ≡ step b.cursor.text st k s r) × (finish b.cursor.text (in_phase tree b gap) ≡ finish b.cursor.text st)
   node_over (c.at Gap []) k e = (λ s r. refl, refl)
   node_over (c.at Kept []) closing e = (λ s r. refl, refl)
   node_over (c.at (InNode p) []) closing e = (λ s r. refl, refl)
@@ -218,12 +218,12 @@ module _ {N : Type 0} (tree : N → Node) (b : Builder N) (es : Growing KdlEntry
   part_ends p fs e = absurd cc
 
   same_over : (d : Dropped) (k : Token) → is_over k (reading_view d) ≡ true → let new = ended (phase_after d) in
-      ((s r : Text) → step b.source.text (state_view tree new) k s r ≡ step b.source.text (state_by tree b (reading_view d)) k s r) × (document_now tree new ≡ finish b.source.text (state_by tree b (reading_view d)))
+      ((s r : Text) → step b.cursor.text (state_view tree new) k s r ≡ step b.cursor.text (state_by tree b (reading_view d)) k s r) × (document_now tree new ≡ finish b.cursor.text (state_by tree b (reading_view d)))
   same_over Nothing k e = absurd cc
   same_over (DroppedNode d) k e = node_over (control_view d) k e
   same_over (DroppedPart q) k e =
       let same = part_ends q.control.phase (reverse q.control.frames.items) e in
-      (λ s r. ap (λ (st : State). step b.source.text st k s r) same, ap (finish b.source.text) same)
+      (λ s r. ap (λ (st : State). step b.cursor.text st k s r) same, ap (finish b.cursor.text) same)
 
   -- its phase is none after a `/-`, and none inside a type or after a `=`
   live_end : (p : Phase) (fs : List ControlFrame) → c.finish (c.at p fs) ≡ true → (is_live p ≡ true) × ((t s : Text) → phase_placed t (phase_now tree (ended p) p) s) × ((n m : ℕ) → unsliced_in p n m ≡ n)
@@ -242,11 +242,11 @@ module _ {N : Type 0} (tree : N → Node) (b : Builder N) (es : Growing KdlEntry
   leaves k p e g = subst (λ (q : Phase). Leaves tree b (ended q)) (sym g) (record {
     live = refl;
     building = live.0;
-    source = refl;
+    cursor = refl;
     from = refl;
     unsliced = live.2 (bytes b.from.rest) (bytes b.parts.from.rest) ∙ sym (unsliced_read b.dropped b.phase _ _ (over_reading k (reading_view b.dropped) e));
     step = λ k span e. (same_over b.dropped k e).0 span.start.rest span.end.rest;
-    placed = λ s x. (state_from tree b b.source.text s x, live.1 b.source.text s);
+    placed = λ s x. (state_from tree b b.cursor.text s x, live.1 b.cursor.text s);
     document = (same_over b.dropped k e).1;
   })
     where

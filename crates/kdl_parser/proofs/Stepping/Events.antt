@@ -42,7 +42,7 @@ module _ {N : Type 0} (tree : N → Node) (b : Builder N) (span : TokenSpan) whe
   in_live BlockSlashdash k e = absurd cc
   in_live KeptSlashdash k e = absurd cc
   in_live (InNode (Spaced MayBeKey)) equals e =
-      same_equals b.source.text (Some (node_now b)) (pending_now MayBeKey b.source.text b.from.rest b.waiting (under_view b.under)) (nodes_now tree b) (frames_view tree b) b.from.rest span.start.rest span.end.rest
+      same_equals b.cursor.text (Some (node_now b)) (pending_now MayBeKey b.cursor.text b.from.rest b.waiting (under_view b.under)) (nodes_now tree b) (frames_view tree b) b.from.rest span.start.rest span.end.rest
   in_live (InNode (Fresh MayBeKey)) space e = refl
   in_live (TypeOpen Name) space e = refl
   in_live (TypeName Name) space e = refl
@@ -75,7 +75,7 @@ module _ {N : Type 0} (tree : N → Node) (b b' : Builder N) (span : TokenSpan) 
   -- the machine's step at the token
   token_is : (k : Token) (o : Option Event) → b.dropped ≡ Nothing → is_live b.phase ≡ true → o ≡ event_of b.phase k → step_at tree b k span ≡ stepped_by tree b o k span
   token_is k o d l f =
-      ap (λ (z : Dropped). step b.source.text (state_by tree b (reading_view z)) k span.start.rest span.end.rest) d ∙ in_live tree b span b.phase k l ∙ ap (λ (z : Option Event). stepped_by tree b z k span) (sym f)
+      ap (λ (z : Dropped). step b.cursor.text (state_by tree b (reading_view z)) k span.start.rest span.end.rest) d ∙ in_live tree b span b.phase k l ∙ ap (λ (z : Option Event). stepped_by tree b z k span) (sym f)
 
   unsliced_is : (k : Token) → b.dropped ≡ Nothing → Some e ≡ event_of b.phase k → unsliced_before e (bytes b.from.rest) (bytes b.parts.from.rest) ≡ unsliced b
   unsliced_is k d f =
@@ -87,7 +87,7 @@ module _ {N : Type 0} (tree : N → Node) (b b' : Builder N) (span : TokenSpan) 
   takes k i f x = let d = is_nothing b.dropped b.phase i in record {
     did = subst (λ (o : Option State). Did o result (state_view tree b')) (sym (token_is k (Some e) d (is_phase_live b.dropped b.phase i) f)) x.did;
     same = x.same;
-    sliced = subst (λ (n : ℕ). SlicedOn result n (unsliced b') b.source.steps b'.source.steps) (unsliced_is k d f) x.sliced;
+    sliced = subst (λ (n : ℕ). SlicedOn result n (unsliced b') b.cursor.steps b'.cursor.steps) (unsliced_is k d f) x.sliced;
   }
 
   pub takes_as : (k k' : TokenKind) (o : Option State) → is_building b.dropped b.phase ≡ true → Some e ≡ event_of b.phase (kind_view k) → k ≡ k' → o ≡ event_step tree b e (kind_view k') span → Acts tree e o b result b' → TakesToken tree b (kind_view k) span result b'

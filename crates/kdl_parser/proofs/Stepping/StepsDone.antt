@@ -27,29 +27,29 @@ more_sliced m k s t (Ok x) d = record { most = omega (arith, d.most) }
 more_sliced m k s t (Err Faulty) d = record { most = omega (arith, d.most) }
 more_sliced m k s t (Err Memory) d = tt
 
--- a source is the same as itself
+-- a cursor is the same as itself
 pub unmoved : (z : Here) → Recounted z z
 unmoved z = record { text = refl; rest = refl; at = refl; counts = omega arith }
 
--- where the source is makes no difference
-pub same_state : {N : Type 0} (tree : N → Node) (b : Builder N) (z : Here) → z.text ≡ b.source.text → state_view tree (record b { source = z }) ≡ state_view tree b
-same_state tree b z e = ap (λ (t : Text). state_view tree (record b { source = record z { text = t } })) e
+-- where the cursor is makes no difference
+pub same_state : {N : Type 0} (tree : N → Node) (b : Builder N) (z : Here) → z.text ≡ b.cursor.text → state_view tree (record b { cursor = z }) ≡ state_view tree b
+same_state tree b z e = ap (λ (t : Text). state_view tree (record b { cursor = record z { text = t } })) e
 
 -- where the token does the same from another state
-pub carried : {N : Type 0} (tree : N → Node) (b m : Builder N) (k : Token) (span : TokenSpan) (result : Result (Unit {0}) LexFailure) (new : Builder N) → m.source ≡ b.source → step_at tree m k span ≡ step_at tree b k span → unsliced m ≡ unsliced b
+pub carried : {N : Type 0} (tree : N → Node) (b m : Builder N) (k : Token) (span : TokenSpan) (result : Result (Unit {0}) LexFailure) (new : Builder N) → m.cursor ≡ b.cursor → step_at tree m k span ≡ step_at tree b k span → unsliced m ≡ unsliced b
     → TakesToken tree m k span result new → TakesToken tree b k span result new
 carried tree b m k span result new e f g x = record {
   did = subst (λ (o : Option State). Did o result (state_view tree new)) f x.did;
-  same = subst (λ (z : Here). Recounted z new.source) e x.same;
-  sliced = subst (λ (n : ℕ). SlicedOn result n (unsliced new) b.source.steps new.source.steps) g (subst (λ (z : Here). SlicedOn result (unsliced m) (unsliced new) z.steps new.source.steps) e x.sliced);
+  same = subst (λ (z : Here). Recounted z new.cursor) e x.same;
+  sliced = subst (λ (n : ℕ). SlicedOn result n (unsliced new) b.cursor.steps new.cursor.steps) g (subst (λ (z : Here). SlicedOn result (unsliced m) (unsliced new) z.steps new.cursor.steps) e x.sliced);
 }
 
 -- a step after a look that is counted
-pub looked_takes : {N : Type 0} (tree : N → Node) (b new : Builder N) (z : Here) (k : Token) (span : TokenSpan) (result : Result (Unit {0}) LexFailure) → z ≡ looked b.source → TakesToken tree (record b { source = z }) k span result new → TakesTurn tree b k span result new
+pub looked_takes : {N : Type 0} (tree : N → Node) (b new : Builder N) (z : Here) (k : Token) (span : TokenSpan) (result : Result (Unit {0}) LexFailure) → z ≡ looked b.cursor → TakesToken tree (record b { cursor = z }) k span result new → TakesTurn tree b k span result new
 looked_takes tree b new z k span result e x =
-    let y : TakesToken tree (record b { source = looked b.source }) k span result new = subst (λ (s : Here). TakesToken tree (record b { source = s }) k span result new) e x in
+    let y : TakesToken tree (record b { cursor = looked b.cursor }) k span result new = subst (λ (s : Here). TakesToken tree (record b { cursor = s }) k span result new) e x in
     record {
       did = y.did;
       same = record { text = y.same.text; rest = y.same.rest; at = y.same.at; counts = omega (arith, y.same.counts) };
-      sliced = more_sliced (unsliced b) (unsliced new) b.source.steps new.source.steps result y.sliced;
+      sliced = more_sliced (unsliced b) (unsliced new) b.cursor.steps new.cursor.steps result y.sliced;
     }

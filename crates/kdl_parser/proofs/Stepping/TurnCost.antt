@@ -42,23 +42,23 @@ pub counting_starts : (here : Here) (n : ℕ) → n ≡ bytes here.rest → Coun
 counting_starts here n e = record { least = omega arith; most = omega (arith, e); counts = omega arith }
 
 -- a token, and what the builder slices at it
-pub counting_goes_on : (start before mid after : Here) (k : Token) (ts : TokenSpan) (l m n : ℕ) → m ≡ l → Counting start before l → HandsOver before k ts mid → Moves before mid → Costs 24 0 before mid → Recounted mid after → Sliced (m + 1) n mid.steps after.steps
+pub counting_goes_on : (start before mid after : Here) (k : Token) (ts : TokenSpan) (m n : ℕ) → Counting start before m → HandsOver before k ts mid → Moves before mid → Costs 24 0 before mid → Recounted mid after → Sliced (m + 1) n mid.steps after.steps
     → Counting start after n
-counting_goes_on start before mid after k ts l m n u g h v c r d =
+counting_goes_on start before mid after k ts m n g h v c r d =
     let less = cut_shorter h.cuts in
     let more : bytes mid.rest + 1 ≤ bytes before.rest = omega (arith, less, ap bytes v.piece.1, bytes-append v.piece.0 mid.rest, length-bytes v.piece.0, ap length v.piece.1, length-append v.piece.0 mid.rest) in
     record {
       least = omega (arith, g.least, c.least, r.counts, ap length r.rest);
-      most = omega (arith, g.most, c.most, d.most, u, more, ap bytes r.rest);
+      most = omega (arith, g.most, c.most, d.most, more, ap bytes r.rest);
       counts = omega (arith, g.counts, v.counts, r.counts);
     }
 
 -- the text was read to its end: the builder's result, and what is returned for it
-pub counting_ends : {A : Type 0} (x : A) (start before mid after : Here) (m n : ℕ) → n ≡ m → Counting start before m → before.rest ≡ [] → Moves before mid → Costs 24 1 before mid → Recounted mid after → SlicedOn {A = A} (Ok x) n 0 mid.steps after.steps
+pub counting_ends : {A : Type 0} (x : A) (start before mid after : Here) (m : ℕ) → Counting start before m → before.rest ≡ [] → Moves before mid → Costs 24 1 before mid → Recounted mid after → SlicedOn {A = A} (Ok x) m 0 mid.steps after.steps
     → ReadThrough start after.steps
-counting_ends x start before mid after m n u g e v c r d = record {
+counting_ends x start before mid after m g e v c r d = record {
   least = omega (arith, g.least, v.counts, r.counts, ap length e);
-  most = omega (arith, g.most, c.most, d.most, u, ap bytes e);
+  most = omega (arith, g.most, c.most, d.most, ap bytes e);
 }
 
 -- a token that is not taken, or an end that may not be there

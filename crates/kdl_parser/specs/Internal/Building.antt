@@ -75,7 +75,7 @@ slot_of Value u it = for_value u it.leading it.start it.key
 
 -- the current node, with the pending string
 abbrev pub node_now : {N : Type 0} → Builder N → machine.Under
-node_now b = under_now b.source.text b.from.rest b.waiting (under_view b.under)
+node_now b = under_now b.cursor.text b.from.rest b.waiting (under_view b.under)
 
 -- the node u with the current block
 abbrev pub kept_of : {N : Type 0} → (N → Node) → Builder N → machine.Under → machine.Kept
@@ -91,8 +91,8 @@ phase_now tree b NodeSlashdash = machine.node_slashdash
 phase_now tree b (TypeOpen o) = machine.type_open o (slot_of o (under_view b.under) (parts_view b.parts)) b.parts.from.rest
 phase_now tree b (TypeName o) = machine.type_name o (slot_of o (under_view b.under) (parts_view b.parts)) (text_of b.parts.before) (identifier_tree b.parts.name) b.parts.from.rest
 phase_now tree b (TypeDone o) = machine.type_done o (slot_of o (under_view b.under) (parts_view b.parts)) (text_of b.parts.before) (identifier_tree b.parts.name) (text_of b.parts.after) b.parts.from.rest
-phase_now tree b (InNode (Fresh w)) = machine.in_node (Some (node_now b)) (machine.fresh (pending_now w b.source.text b.from.rest b.waiting (under_view b.under)))
-phase_now tree b (InNode (Spaced w)) = machine.in_node (Some (node_now b)) (machine.spaced (pending_now w b.source.text b.from.rest b.waiting (under_view b.under)))
+phase_now tree b (InNode (Fresh w)) = machine.in_node (Some (node_now b)) (machine.fresh (pending_now w b.cursor.text b.from.rest b.waiting (under_view b.under)))
+phase_now tree b (InNode (Spaced w)) = machine.in_node (Some (node_now b)) (machine.spaced (pending_now w b.cursor.text b.from.rest b.waiting (under_view b.under)))
 phase_now tree b (InNode Later) = machine.in_node (Some (node_now b)) machine.later
 phase_now tree b Property = machine.property (for_value (under_view b.under) (text_of b.parts.leading) b.parts.start.rest None) (identifier_tree b.parts.name) (text_of b.parts.before) b.parts.from.rest
 phase_now tree b EntrySlashdash = machine.entry_slashdash (Some (node_now b))

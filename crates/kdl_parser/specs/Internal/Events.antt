@@ -97,7 +97,7 @@ is_building _ p = false
 -- inside or outside of what is slashdashed, where the current places end at s
 pub record StandsAt {N : Type 0} (is : Bool) (tree : N → Node) (b : Builder N) (s : Position) : Type 0 where
   pub building : is_building b.dropped b.phase ≡ is
-  pub placed : Placed b.source.text (state_view tree b) s.rest
+  pub placed : Placed b.cursor.text (state_view tree b) s.rest
 
 -- what a token did that is this for the tree, given the state to which it brings the builder
 abbrev pub Acts : {N : Type 0} → (N → Node) → Event → Option State → Builder N → Result (Unit {0}) LexFailure → Builder N → Type 0

@@ -2,7 +2,6 @@
 use Rattle.std.specs.Prelude.{◌≡◌, List, [], ◌∷◌, Option, Some, None, Result, Ok, Err}
 use Rattle.kdl_text.specs.Chars.{Text}
 use Rattle.kdl_text.specs.declared.span.SourceSpan.{SourceSpan}
-use Rattle.kdl_value.specs.Tree.{text_of}
 use Rattle.kdl_syntax.specs.declared.lexer.LexFailure.{LexFailure}
 use Rattle.kdl_syntax.specs.declared.lexer.LexFailure.TheVariants.{Faulty, Memory}
 use Rattle.kdl_grammar.specs.Data as data'
@@ -10,7 +9,6 @@ use Rattle.kdl_grammar.specs.Grammar.{IsNodeText}
 use Rattle.kdl_grammar.specs.Laid.{LaidNodeText}
 use Rattle.kdl_grammar.specs.Internal.Machine.{initial, Runs}
 use Rattle.kdl_grammar.specs.Tree.{NodeFormat, DocumentFormat, Node, node, Document, document, Nodes, none, first}
-use Rattle.kdl_parser.specs.declared.node_text.NodeText.{NodeText}
 
 -- a format with another text after the terminator
 abbrev pub trailed : Text → Option NodeFormat → Option NodeFormat
@@ -20,9 +18,6 @@ trailed t (Some f) = Some (record f { trailing = t })
 -- the node with the text after its terminator, and the span of the whole text
 abbrev pub with_text_after : Node → Text → SourceSpan → Node
 with_text_after (node h k) t at = node (record h { format = trailed t h.format; span = at }) k
-
-abbrev pub text_by : {N : Type 0} → (N → Node) → NodeText N → Node
-text_by tree n = with_text_after (tree n.node) (text_of n.trailing) n.span
 
 -- what the machine returns on the text
 abbrev pub RunsOnText : Text → Document → Type 0
@@ -47,6 +42,6 @@ IsOnly ns (Some n) = ns ≡ n ∷ []
 IsOnly {N = N} ns None = (n : N) → ns ≡ n ∷ [] → ⊥
 
 -- the node that the text is, located in it; or the text is not a node
-abbrev pub AnswersNodeText : {N : Type 0} → (N → Node) → Text → Result (NodeText N) LexFailure → Type 0
-AnswersNodeText tree t (Ok n) = LaidNodeText t (text_by tree n)
+abbrev pub AnswersNodeText : {N : Type 0} → (N → Node) → Text → Result N LexFailure → Type 0
+AnswersNodeText tree t (Ok n) = LaidNodeText t (tree n)
 AnswersNodeText tree t (Err e) = NoNode t e

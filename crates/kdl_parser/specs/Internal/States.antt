@@ -23,16 +23,16 @@ use Rattle.kdl_parser.specs.declared.node_parts.DocumentParts.{DocumentParts}
 
 -- the machine's step at the token k
 abbrev pub step_at : {N : Type 0} → (N → Node) → Builder N → Token → TokenSpan → Option State
-step_at tree b k span = machine.step b.source.text (state_view tree b) k span.start.rest span.end.rest
+step_at tree b k span = machine.step b.cursor.text (state_view tree b) k span.start.rest span.end.rest
 
 -- its step in the phase p of the builder
 abbrev pub step_in : {N : Type 0} → (N → Node) → Builder N → Phase → Token → TokenSpan → Option State
-step_in tree b p k span = machine.step b.source.text (in_phase tree b (phase_now tree b p)) k span.start.rest span.end.rest
+step_in tree b p k span = machine.step b.cursor.text (in_phase tree b (phase_now tree b p)) k span.start.rest span.end.rest
 
 -- the nodes, and after them the node u with the block k after this text: the token is its terminator
 abbrev pub ended_node : {N : Type 0} → (N → Node) → Builder N → Under → Children → Text → TokenSpan → Option Nodes
 ended_node tree b u k before span =
-    machine.ended (machine.closed b.source.text (Some u) k before (between b.from.rest span.start.rest) (between span.start.rest span.end.rest) span.start.rest) (nodes_now tree b)
+    machine.ended (machine.closed b.cursor.text (Some u) k before (between b.from.rest span.start.rest) (between span.start.rest span.end.rest) span.start.rest) (nodes_now tree b)
 
 -- after the name of the current node, which ends at r
 abbrev pub node_begun : {N : Type 0} → (N → Node) → Builder N → Option TypeParts → Identifier → Position → State
@@ -41,35 +41,35 @@ node_begun tree b ty name r =
 
 -- the document if the text ends here
 abbrev pub document_now : {N : Type 0} → (N → Node) → Builder N → Option Document
-document_now tree b = machine.finish b.source.text (state_view tree b)
+document_now tree b = machine.finish b.cursor.text (state_view tree b)
 
 -- the document of the nodes, if no block is open
 abbrev pub document_of_nodes : {N : Type 0} → (N → Node) → Builder N → Option Document
-document_of_nodes tree b = machine.at_end b.source.text (nodes_now tree b) (frames_view tree b) b.from.rest
+document_of_nodes tree b = machine.at_end b.cursor.text (nodes_now tree b) (frames_view tree b) b.from.rest
 
 -- outside of what is slashdashed, where the place that begins at t ends at s
 pub record Ready {N : Type 0} (b : Builder N) (t s : Position) : Type 0 where
   pub live : b.dropped ≡ Nothing
-  pub from : Within b.source t s
+  pub from : Within b.cursor t s
 
 -- the pending string became an argument
 pub record Settles {N E : Type 0} (old : Builder N) (result : Result (Unit {0}) E) (new : Builder N) : Type 0 where
   pub under : OnOk result (under_view new.under ≡ node_now old)
   pub rest : OnOk result (new ≡ record old { under = record old.under { entries = new.under.entries }; waiting = None })
-  pub same : Recounted old.source new.source
+  pub same : Recounted old.cursor new.cursor
 
 -- the text between two places was sliced, and nothing else changed
 pub record Slices {N A E : Type 0} (from to : Position) (old : Builder N) (result : Result A E) (new : Builder N) : Type 0 where
-  pub rest : new ≡ record old { source = new.source }
-  pub same : Recounted old.source new.source
-  pub sliced : OnOk result (Sliced (bytes from.rest) (bytes to.rest) old.source.steps new.source.steps)
+  pub rest : new ≡ record old { cursor = new.cursor }
+  pub same : Recounted old.cursor new.cursor
+  pub sliced : OnOk result (Sliced (bytes from.rest) (bytes to.rest) old.cursor.steps new.cursor.steps)
 
 -- the current node, which ends at r, was appended: these are the nodes
 pub record Appends {N E : Type 0} (tree : N → Node) (nodes : Option Nodes) (r : Position) (old : Builder N) (result : Result (Unit {0}) E) (new : Builder N) : Type 0 where
   pub is : OnOk result (nodes_now tree new ≡ nodes)
-  pub rest : OnOk result (new ≡ record old { source = new.source; under = new.under; block = new.block; nodes = new.nodes })
-  pub same : Recounted old.source new.source
-  pub sliced : OnOk result (Sliced (bytes old.from.rest) (bytes r.rest) old.source.steps new.source.steps)
+  pub rest : OnOk result (new ≡ record old { cursor = new.cursor; under = new.under; block = new.block; nodes = new.nodes })
+  pub same : Recounted old.cursor new.cursor
+  pub sliced : OnOk result (Sliced (bytes old.from.rest) (bytes r.rest) old.cursor.steps new.cursor.steps)
 
 -- between nodes, directly after one
 pub record AfterNode {N : Type 0} (b : Builder N) (s : Position) : Type 0 where
@@ -77,23 +77,17 @@ pub record AfterNode {N : Type 0} (b : Builder N) (s : Position) : Type 0 where
   pub from : b.from ≡ s
   pub unsliced : unsliced b ≡ bytes b.from.rest
 
--- a step at a token, given the machine's result o: the source stays, and of the n bytes that were not sliced yet all may have been sliced but those that are still not
+-- a step at a token, given the machine's result o: the cursor stays, and of the n bytes that were not sliced yet all may have been sliced but those that are still not
 pub record Steps {N : Type 0} (tree : N → Node) (o : Option State) (n : ℕ) (old : Builder N) (result : Result (Unit {0}) LexFailure) (new : Builder N) : Type 0 where
   pub did : Did o result (state_view tree new)
-  pub same : Recounted old.source new.source
-  pub sliced : SlicedOn result n (unsliced new) old.source.steps new.source.steps
+  pub same : Recounted old.cursor new.cursor
+  pub sliced : SlicedOn result n (unsliced new) old.cursor.steps new.cursor.steps
 
 -- the end of the text, given the machine's document o: of the n bytes that were not sliced yet all may have been
 pub record Ends {N : Type 0} (tree : N → Node) (o : Option Document) (n : ℕ) (old : Builder N) (result : Result (DocumentParts N) LexFailure) (new : Builder N) : Type 0 where
   pub finished : Finished tree o result
-  pub same : Recounted old.source new.source
-  pub sliced : SlicedOn result n 0 old.source.steps new.source.steps
-
--- the builder is the same but for where its source is
-pub record Stays {N : Type 0} (tree : N → Node) (old new : Builder N) : Type 0 where
-  pub text : new.source.text ≡ old.source.text
-  pub state : state_view tree new ≡ state_view tree old
-  pub unsliced : unsliced new ≡ unsliced old
+  pub same : Recounted old.cursor new.cursor
+  pub sliced : SlicedOn result n 0 old.cursor.steps new.cursor.steps
 
 -- what the token k did in the phase p of the builder
 abbrev pub TakesIn : {N : Type 0} → (N → Node) → Phase → Token → TokenSpan → Builder N → Result (Unit {0}) LexFailure → Builder N → Type 0

@@ -23,18 +23,18 @@ IsLike j k = k ≡ j
 pub record Leaves {N : Type 0} (tree : N → Node) (old new : Builder N) : Type 0 where
   pub live : new.dropped ≡ Nothing
   pub building : is_building new.dropped new.phase ≡ true
-  pub source : new.source ≡ old.source
+  pub cursor : new.cursor ≡ old.cursor
   pub from : new.from ≡ old.from
   pub unsliced : unsliced new ≡ unsliced old
   pub step : (k : Token) (span : TokenSpan) → is_over k (reading_view old.dropped) ≡ true → step_at tree new k span ≡ step_at tree old k span
-  pub placed : (s : Text) → Placed old.source.text (state_view tree old) s → Placed old.source.text (state_view tree new) s
+  pub placed : (s : Text) → Placed old.cursor.text (state_view tree old) s → Placed old.cursor.text (state_view tree new) s
   pub document : document_now tree new ≡ document_now tree old
 
 -- whether it is over before the token k
 abbrev pub IsLeft : {N E : Type 0} → (N → Node) → Builder N → Token → Result Bool E → Builder N → Type 0
 IsLeft tree old k (Ok true) new = (is_over k (reading_view old.dropped) ≡ true) × Leaves tree old new
 IsLeft tree old k (Ok false) new = (is_over k (reading_view old.dropped) ≡ false) × (new ≡ old)
-IsLeft tree old k (Err e) new = Recounted old.source new.source
+IsLeft tree old k (Err e) new = Recounted old.cursor new.cursor
 
 -- what each token like j did
 abbrev pub TakesLike : {N : Type 0} → (N → Node) → Builder N → Token → TokenSpan → Result (Unit {0}) LexFailure → Builder N → Type 0

@@ -17,6 +17,7 @@ use super::Builder;
 use crate::node_parts::{DocumentParts, NodeParts, ParsedNode};
 use kdl_entry::KdlIdentifier;
 use kdl_entry::parsing::parts::{TypeParts, empty};
+use kdl_entry::parsing::texts::{span_between, text_between, token_text};
 use kdl_syntax::TokenSpan;
 use kdl_text::cursor::Checkpoint;
 use kdl_text::span::SourceSpan;
@@ -71,16 +72,16 @@ impl<'a, N: ParsedNode> Builder<'a, N> {
         nodes: Vec<N>,
         end: &Checkpoint<'a>,
     ) -> Result<DocumentParts<N>, AllocError>
-        requires { Within self.old.source self.old.from end.now }
+        requires { Within self.old.cursor self.old.from end.now }
         ensures is { IfOk result (λ d. document_by N.tree d ≡ machine.content_at
-            self.old.source.text (nodes_tree N.tree nodes.items)
+            self.old.cursor.text (nodes_tree N.tree nodes.items)
             (between self.old.from.rest end.now.rest) end.now.rest) }
         ensures slices { Slices self.old.from end.now self.old result self.new }
     {
-        let place = self.source.text(&self.from, end)?;
-        let here = self.source.span(end, &end.copied());
+        let place = text_between(&mut self.cursor, self.alloc, &self.from, end)?;
+        let here = span_between(&self.cursor, end, &end.copied());
         let span = content_span(&nodes, here);
-        let nothing = empty(self.source.alloc());
+        let nothing = empty(self.alloc);
         if nodes.is_empty() {
             return Ok(DocumentParts {
                 leading: place,
@@ -107,17 +108,17 @@ impl<'a, N: ParsedNode> Builder<'a, N> {
         children: Option<DocumentParts<N>>,
         at: &TokenSpan<'a>,
     ) -> Result<(), AllocError>
-        requires from { Within self.old.source self.old.from at.now.start }
+        requires from { Within self.old.cursor self.old.from at.now.start }
         ensures { Appends N.tree (ended_node N.tree self.old (record (under_view self.old.under) {
           ty = option_map type_view ty;
         }) (children_of (option_map (document_by N.tree) children)) (text_of before_children) at.now) at.now.end
             self.old result self.new }
     {
-        let before_terminator = self.source.text(&self.from, &at.start)?;
-        let terminator = self.source.token(at)?;
+        let before_terminator = text_between(&mut self.cursor, self.alloc, &self.from, &at.start)?;
+        let terminator = token_text(&mut self.cursor, self.alloc, at)?;
         self.nodes.make_room()?;
-        let span = self.source.span(&self.under.start, &at.start);
-        let alloc = self.source.alloc();
+        let span = span_between(&self.cursor, &self.under.start, &at.start);
+        let alloc = self.alloc;
         let parts = NodeParts {
             leading: mem::replace(&mut self.under.leading, empty(alloc)),
             ty,
@@ -142,7 +143,7 @@ impl<'a, N: ParsedNode> Builder<'a, N> {
         children: Option<DocumentParts<N>>,
         at: &TokenSpan<'a>,
     ) -> Result<(), AllocError>
-        requires from { Within self.old.source self.old.from at.now.start }
+        requires from { Within self.old.cursor self.old.from at.now.start }
         ensures { Appends N.tree (ended_node N.tree self.old (record (under_view self.old.under) {
           ty = Some (boxed_type ty);
         }) (children_of (option_map (document_by N.tree) children)) (text_of before_children) at.now) at.now.end
@@ -153,12 +154,12 @@ impl<'a, N: ParsedNode> Builder<'a, N> {
 
     /// Takes the current node, whose terminator is the token, and appends it to the nodes.
     pub(super) fn push_ended(&mut self, at: &TokenSpan<'a>) -> Result<(), AllocError>
-        requires from { Within self.old.source self.old.from at.now.start }
+        requires from { Within self.old.cursor self.old.from at.now.start }
         ensures { Appends N.tree (ended_node N.tree self.old (under_view self.old.under) no_children [] at.now)
             at.now.end self.old result self.new }
     {
         self.under.entries.fit()?;
-        let before = empty(self.source.alloc());
+        let before = empty(self.alloc);
         match self.under.ty.take() {
             None => self.push_node(None, before, None, at),
             Some(ty) => self.push_typed(ty, before, None, at),
@@ -168,12 +169,12 @@ impl<'a, N: ParsedNode> Builder<'a, N> {
     /// Takes the node with its block, whose terminator is the token, and appends it to the nodes.
     #[inline(always)]
     pub(super) fn push_kept(&mut self, at: &TokenSpan<'a>) -> Result<(), AllocError>
-        requires from { Within self.old.source self.old.from at.now.start }
+        requires from { Within self.old.cursor self.old.from at.now.start }
         ensures { Appends N.tree (ended_node N.tree self.old (under_view self.old.under)
             (children (document_by N.tree self.old.block)) (text_of self.old.under.before) at.now) at.now.end
             self.old result self.new }
     {
-        let alloc = self.source.alloc();
+        let alloc = self.alloc;
         let before = mem::replace(&mut self.under.before, empty(alloc));
         let block = mem::replace(&mut self.block, no_content(alloc));
         match self.under.ty.take() {

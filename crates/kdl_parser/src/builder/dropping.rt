@@ -163,7 +163,7 @@ impl<'a, N: ParsedNode> Builder<'a, N> {
         ensures { Drops N.tree self.old (kind_view kind.now) at.now result self.new }
     {
         if let Dropped::Nothing = self.dropped {
-            let dropped = Dropped::after_slashdash(self.source.alloc(), self.phase);
+            let dropped = Dropped::after_slashdash(self.alloc, self.phase);
             put(&mut self.dropped, dropped);
             return Some(self.drop_token(kind, at));
         }
@@ -212,11 +212,11 @@ impl<'a, N: ParsedNode> Builder<'a, N> {
         requires { StandsAt false N.tree self.old at.now.start }
         ensures { TakesToken N.tree self.old (string word.now) at.now result self.new }
     {
-        let kind = TokenKind::String(empty(self.source.alloc()));
+        let kind = TokenKind::String(empty(self.alloc));
         match self.drops(&kind, at) {
             Some(taken) => taken,
             None => {
-                let text = word.to_string(self.source.alloc())?;
+                let text = word.to_string(self.alloc)?;
                 self.take_live(TokenKind::String(text), at)
             }
         }

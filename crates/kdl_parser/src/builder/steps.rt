@@ -28,6 +28,7 @@ use super::growing::Growing;
 use super::{Builder, Under, WaitingWord};
 use crate::node_parts::ParsedNode;
 use kdl_entry::parsing::parts::{Given, TypeParts, empty, entry_from};
+use kdl_entry::parsing::texts::{span_between, text_between, token_identifier, token_text};
 use kdl_entry::{KdlIdentifier, KdlValue, bare_identifier, sliced_identifier};
 use kdl_syntax::{LexFailure, Owner, Phase, Spot, TokenSpan, Word};
 use std::alloc::AllocError;
@@ -52,9 +53,9 @@ impl<'a, N: ParsedNode> Builder<'a, N> {
         let Some(word) = self.waiting.take() else {
             return Ok(());
         };
-        let alloc = self.source.alloc();
+        let alloc = self.alloc;
         let repr = word.repr.to_string(alloc)?;
-        let span = self.source.span(&word.start, &self.from);
+        let span = span_between(&self.cursor, &word.start, &self.from);
         self.under.entries.make_room()?;
         let given = Given::plain(KdlValue::String(word.value));
         let entry = entry_from(alloc, span, word.leading, given, repr);
@@ -94,11 +95,11 @@ impl<'a, N: ParsedNode> Builder<'a, N> {
         ensures { TakesIn N.tree (InNode Later) token.opening at.now self.old result self.new }
     {
         self.settle_word()?;
-        let before = self.source.text(&self.from, &at.start)?;
+        let before = text_between(&mut self.cursor, self.alloc, &self.from, &at.start)?;
         self.levels.reserve(1)?;
         self.under.entries.fit()?;
         // Field by field this is one copy of the node; `mem::replace` makes three.
-        let alloc = self.source.alloc();
+        let alloc = self.alloc;
         let mut entries = Growing::new(alloc);
         entries.items = mem::replace(&mut self.under.entries.items, Vec::new(alloc));
         self.levels.push_reserved(Under {
@@ -146,13 +147,13 @@ impl<'a, N: ParsedNode> Builder<'a, N> {
         requires live { self.old.dropped ≡ Nothing }
         ensures state { state_view N.tree self.new
             ≡ node_begun N.tree self.old (option_map boxed_type ty) (identifier_tree name) at.now.end }
-        ensures source { self.new.source ≡ self.old.source }
+        ensures cursor { self.new.cursor ≡ self.old.cursor }
         ensures unsliced { unsliced self.new ≡ bytes at.now.end.rest }
     {
         self.under.ty = ty;
         self.under.name = name;
         if !self.under.entries.items.is_empty() {
-            self.under.entries.items = Vec::new(self.source.alloc());
+            self.under.entries.items = Vec::new(self.alloc);
         }
         self.forget_word();
         self.from = at.end.copied();
@@ -198,15 +199,15 @@ impl<'a, N: ParsedNode> Builder<'a, N> {
             self.new }
     {
         self.settle_word()?;
-        // There is a space before it at least, so here and before an argument `Source::text` would look in vain whether
+        // There is a space before it at least, so here and before an argument `text_between` would look in vain whether
         // there is any text.
-        let place = self.source.piece(&self.from, &at.start);
-        let leading = place.to_string(self.source.alloc())?;
+        let place = self.cursor.slice_between(&self.from, &at.start);
+        let leading = place.to_string(self.alloc)?;
         let word = WaitingWord {
             leading,
             start: at.start.copied(),
             value,
-            repr: self.source.piece(&at.start, &at.end),
+            repr: self.cursor.slice_between(&at.start, &at.end),
         };
         put(&mut self.waiting, Some(word));
         self.from = at.end.copied();
@@ -222,19 +223,19 @@ impl<'a, N: ParsedNode> Builder<'a, N> {
         let Some(word) = self.waiting.take() else {
             put(
                 &mut self.dropped,
-                Dropped::part(self.source.alloc(), Phase::Property),
+                Dropped::part(self.alloc, Phase::Property),
             );
             return Ok(());
         };
-        let before = self.source.text(&self.from, &at.start)?;
+        let before = text_between(&mut self.cursor, self.alloc, &self.from, &at.start)?;
         let WaitingWord {
             leading,
             start: word_start,
             value,
             repr,
         } = word;
-        let span = self.source.span(&word_start, &self.from);
-        let name = sliced_identifier(self.source.alloc(), value, &repr, span)?;
+        let span = span_between(&self.cursor, &word_start, &self.from);
+        let name = sliced_identifier(self.alloc, value, &repr, span)?;
         self.parts.open(leading, &word_start, &at.end);
         self.parts.name = name;
         self.parts.before = before;
@@ -247,7 +248,7 @@ impl<'a, N: ParsedNode> Builder<'a, N> {
         requires { Ready self.old self.old.from at.now.start }
         ensures { TakesIn N.tree Gap token.left at.now self.old result self.new }
     {
-        let leading = self.source.text(&self.from, &at.start)?;
+        let leading = text_between(&mut self.cursor, self.alloc, &self.from, &at.start)?;
         self.parts.open(leading, &at.start, &at.end);
         self.phase = Phase::TypeOpen(Owner::Name);
         Ok(())
@@ -259,7 +260,7 @@ impl<'a, N: ParsedNode> Builder<'a, N> {
         ensures { TakesIn N.tree (InNode (Spaced NoKey)) token.left at.now self.old result self.new }
     {
         self.settle_word()?;
-        let leading = self.source.text(&self.from, &at.start)?;
+        let leading = text_between(&mut self.cursor, self.alloc, &self.from, &at.start)?;
         self.parts.open(leading, &at.start, &at.end);
         self.phase = Phase::TypeOpen(Owner::Value);
         Ok(())
@@ -276,10 +277,13 @@ impl<'a, N: ParsedNode> Builder<'a, N> {
             self.new }
     {
         self.settle_word()?;
-        let alloc = self.source.alloc();
-        let leading = self.source.piece(&self.from, &at.start).to_string(alloc)?;
-        let repr = self.source.token(at)?;
-        let span = self.source.span(&at.start, &at.end);
+        let alloc = self.alloc;
+        let leading = self
+            .cursor
+            .slice_between(&self.from, &at.start)
+            .to_string(alloc)?;
+        let repr = token_text(&mut self.cursor, self.alloc, at)?;
+        let span = span_between(&self.cursor, &at.start, &at.end);
         self.under.entries.make_room()?;
         let entry = entry_from(alloc, span, leading, Given::plain(value), repr);
         self.under.entries.items.push_reserved(entry);
@@ -296,8 +300,8 @@ impl<'a, N: ParsedNode> Builder<'a, N> {
         requires { Ready self.old self.old.parts.from at.now.start }
         ensures { TakesIn N.tree (TypeDone Value) (token.value (value_tree value)) at.now self.old result self.new }
     {
-        let ty = self.parts.type_parts(&mut self.source, &at.start)?;
-        let repr = self.source.token(at)?;
+        let ty = self.parts.type_parts(&mut self.cursor, &at.start)?;
+        let repr = token_text(&mut self.cursor, self.alloc, at)?;
         self.under.entries.make_room()?;
         let key = self.parts.key.take();
         let given = Given {
@@ -305,9 +309,9 @@ impl<'a, N: ParsedNode> Builder<'a, N> {
             ty: Some(ty),
             value,
         };
-        let span = self.source.span(&self.parts.start, &at.end);
-        let leading = mem::replace(&mut self.parts.leading, empty(self.source.alloc()));
-        let entry = entry_from(self.source.alloc(), span, leading, given, repr);
+        let span = span_between(&self.cursor, &self.parts.start, &at.end);
+        let leading = mem::replace(&mut self.parts.leading, empty(self.alloc));
+        let entry = entry_from(self.alloc, span, leading, given, repr);
         self.under.entries.items.push_reserved(entry);
         self.end_entry(at);
         Ok(())
@@ -322,17 +326,17 @@ impl<'a, N: ParsedNode> Builder<'a, N> {
         requires { Ready self.old self.old.parts.from at.now.start }
         ensures { TakesIn N.tree Property (token.value (value_tree value)) at.now self.old result self.new }
     {
-        let key = self.parts.key_parts(&mut self.source, &at.start)?;
-        let repr = self.source.token(at)?;
+        let key = self.parts.key_parts(&mut self.cursor, &at.start)?;
+        let repr = token_text(&mut self.cursor, self.alloc, at)?;
         self.under.entries.make_room()?;
         let given = Given {
             key: Some(key),
             ty: None,
             value,
         };
-        let span = self.source.span(&self.parts.start, &at.end);
-        let leading = mem::replace(&mut self.parts.leading, empty(self.source.alloc()));
-        let entry = entry_from(self.source.alloc(), span, leading, given, repr);
+        let span = span_between(&self.cursor, &self.parts.start, &at.end);
+        let leading = mem::replace(&mut self.parts.leading, empty(self.alloc));
+        let entry = entry_from(self.alloc, span, leading, given, repr);
         self.under.entries.items.push_reserved(entry);
         self.end_entry(at);
         Ok(())
@@ -343,9 +347,9 @@ impl<'a, N: ParsedNode> Builder<'a, N> {
         requires { Ready self.old self.old.from at.now.start }
         ensures { TakesIn N.tree Gap (token.string (text_of name)) at.now self.old result self.new }
     {
-        self.under.leading = self.source.text(&self.from, &at.start)?;
+        self.under.leading = text_between(&mut self.cursor, self.alloc, &self.from, &at.start)?;
         self.under.start = at.start.copied();
-        let name = self.source.identifier(name, at)?;
+        let name = token_identifier(&mut self.cursor, self.alloc, name, at)?;
         self.begin_node(None, name, at);
         Ok(())
     }
@@ -356,11 +360,11 @@ impl<'a, N: ParsedNode> Builder<'a, N> {
         ensures { TakesIn N.tree Gap (token.string (between at.now.start.rest at.now.end.rest)) at.now self.old result
             self.new }
     {
-        self.under.leading = self.source.text(&self.from, &at.start)?;
+        self.under.leading = text_between(&mut self.cursor, self.alloc, &self.from, &at.start)?;
         self.under.start = at.start.copied();
-        let piece = self.source.piece(&at.start, &at.end);
-        let span = self.source.span(&at.start, &at.end);
-        let name = bare_identifier(self.source.alloc(), &piece, span)?;
+        let piece = self.cursor.slice_between(&at.start, &at.end);
+        let span = span_between(&self.cursor, &at.start, &at.end);
+        let name = bare_identifier(self.alloc, &piece, span)?;
         self.begin_node(None, name, at);
         Ok(())
     }
@@ -370,10 +374,10 @@ impl<'a, N: ParsedNode> Builder<'a, N> {
         requires { Ready self.old self.old.parts.from at.now.start }
         ensures { TakesIn N.tree (TypeDone Name) (token.string (text_of name)) at.now self.old result self.new }
     {
-        let ty = self.parts.type_parts(&mut self.source, &at.start)?;
-        let name = self.source.identifier(name, at)?;
-        let ty = Box::new(self.source.alloc(), ty)?;
-        self.under.leading = mem::replace(&mut self.parts.leading, empty(self.source.alloc()));
+        let ty = self.parts.type_parts(&mut self.cursor, &at.start)?;
+        let name = token_identifier(&mut self.cursor, self.alloc, name, at)?;
+        let ty = Box::new(self.alloc, ty)?;
+        self.under.leading = mem::replace(&mut self.parts.leading, empty(self.alloc));
         self.under.start = self.parts.start.copied();
         self.begin_node(Some(ty), name, at);
         Ok(())

@@ -5,11 +5,11 @@ use Rattle.kdl_layout.proofs.dropped.pass_node.Goals as goal
 
 pub tokens-init : goal.tokens-init
 tokens-init c =
-    node_starts (chars c.args.text.now) c.new-lexer.result (control_view c.new-control.result) (ap (λ (h : Here). h.rest) c.new-lexer.ensures) (ap (λ (h : Here). h.at) c.new-lexer.ensures) c.new-control.ensures
+    node_starts (chars c.args.text.now) c.new-cursor.result (control_view c.new-control.result) (ap (λ (h : Here). h.rest) c.new-cursor.ensures) (ap (λ (h : Here). h.at) c.new-cursor.ensures) c.new-control.ensures
 
 pub returns-in-Ok-None : goal.returns-in-Ok-None
 returns-in-Ok-None c =
-    rw (c.then_some.ensures, c.may_end.ensures) (node_stops (chars c.args.text.now) c.tokens.lexer (control_view c.tokens.control) c.tokens.last c.tokens.invariant (rw c.in-Ok-None.field-0-is at c.in-Ok-None.ensures.lexed))
+    rw (c.then_some.ensures, c.may_end.ensures) (node_stops (chars c.args.text.now) c.tokens.cursor (control_view c.tokens.control) c.tokens.last c.tokens.invariant (rw c.in-Ok-None.field-0-is at c.in-Ok-None.ensures.lexed))
 
 pub returns-in-Err-Faulty : goal.returns-in-Err-Faulty
 returns-in-Err-Faulty c = faulty c.tokens.invariant (rw c.in-Err-Faulty.field-0-is at c.in-Err-Faulty.ensures.lexed)
@@ -29,7 +29,7 @@ pub returns-then-is_between_nodes : goal.returns-then-is_between_nodes
 returns-then-is_between_nodes c =
     let h = rw c.in-Ok-Some.field-0-is at c.in-Ok-Some.ensures.lexed in
     let f = rw c.if-not-branch.false at c.in_ok-take.ensures in
-    node_returns (chars c.args.text.now) c.tokens.lexer c.next.new.self (control_view c.tokens.control) (control_view c.take.new.self) c.in-Ok-Some.token c.tokens.last c.node_end-item.result.0 c.node_end-item.result.1 c.tokens.invariant h c.next.ensures.moves f
+    node_returns (chars c.args.text.now) c.tokens.cursor c.next.new.cursor (control_view c.tokens.control) (control_view c.take.new.self) c.in-Ok-Some.token c.tokens.last c.node_end-item.result.0 c.node_end-item.result.1 c.tokens.invariant h c.next.ensures.moves f
     (sym c.is_between_nodes.ensures ∙ c.if-is_between_nodes.true) c.node_end-item.ensures
 
 pub tokens-smaller : goal.tokens-smaller
@@ -42,4 +42,4 @@ tokens-preserved c =
     let h = rw c.in-Ok-Some.field-0-is at c.in-Ok-Some.ensures.lexed in
     let f = rw c.if-not-branch.false at c.in_ok-take.ensures in
     let x = sym c.is_between_nodes.ensures ∙ c.if-is_between_nodes.false in
-    subst (λ (n : ℕ). Goes for_node (at NodeSlashdash []) c.next.new.self (control_view c.take.new.self) (chars c.args.text.now) n) (sym c.end_after-last.ensures) (goes_further c.tokens.invariant c.in-Ok-Some.token h c.next.ensures.moves f (node_on (control_view c.tokens.control) (kind_view c.in-Ok-Some.token.kind) f x) x)
+    subst (λ (n : ℕ). Goes for_node (at NodeSlashdash []) c.next.new.cursor (control_view c.take.new.self) (chars c.args.text.now) n) (sym c.end_after-last.ensures) (goes_further c.tokens.invariant c.in-Ok-Some.token h c.next.ensures.moves f (node_on (control_view c.tokens.control) (kind_view c.in-Ok-Some.token.kind) f x) x)

@@ -4,11 +4,11 @@ use Rattle.kdl_layout.proofs.dropped.pass_part.Goals as goal
 
 pub tokens-init : goal.tokens-init
 tokens-init c =
-    part_starts (place_view c.args.place) (chars c.args.text.now) c.new-lexer.result (control_view c.new-control.result) (ap (λ (h : Here). h.rest) c.new-lexer.ensures) (ap (λ (h : Here). h.at) c.new-lexer.ensures) (c.new-control.ensures ∙ c.slashdash_phase.ensures)
+    part_starts (place_view c.args.place) (chars c.args.text.now) c.new-cursor.result (control_view c.new-control.result) (ap (λ (h : Here). h.rest) c.new-cursor.ensures) (ap (λ (h : Here). h.at) c.new-cursor.ensures) (c.new-control.ensures ∙ c.slashdash_phase.ensures)
 
 pub returns-in-Ok-None : goal.returns-in-Ok-None
 returns-in-Ok-None c =
-    rw (c.then_some.ensures, c.is_word.ensures) (part_stops (place_view c.args.place) (chars c.args.text.now) c.tokens.lexer (control_view c.tokens.control) c.tokens.last c.tokens.invariant (rw c.in-Ok-None.field-0-is at c.in-Ok-None.ensures.lexed))
+    rw (c.then_some.ensures, c.is_word.ensures) (part_stops (place_view c.args.place) (chars c.args.text.now) c.tokens.cursor (control_view c.tokens.control) c.tokens.last c.tokens.invariant (rw c.in-Ok-None.field-0-is at c.in-Ok-None.ensures.lexed))
 
 pub returns-in-Err-Faulty : goal.returns-in-Err-Faulty
 returns-in-Err-Faulty c = faulty c.tokens.invariant (rw c.in-Err-Faulty.field-0-is at c.in-Err-Faulty.ensures.lexed)
@@ -16,7 +16,7 @@ returns-in-Err-Faulty c = faulty c.tokens.invariant (rw c.in-Err-Faulty.field-0-
 pub returns-then-ends_word : goal.returns-then-ends_word
 returns-then-ends_word c =
     let h = rw c.in-Ok-Some.field-0-is at c.in-Ok-Some.ensures.lexed in
-    part_word (place_view c.args.place) (chars c.args.text.now) c.tokens.lexer c.next.new.self (control_view c.tokens.control) c.in-Ok-Some.token c.tokens.last c.tokens.invariant h
+    part_word (place_view c.args.place) (chars c.args.text.now) c.tokens.cursor c.next.new.cursor (control_view c.tokens.control) c.in-Ok-Some.token c.tokens.last c.tokens.invariant h
     (sym c.ends_word.ensures ∙ c.if-ends_word.true)
 
 pub returns-then-not-branch : goal.returns-then-not-branch
@@ -28,7 +28,7 @@ pub returns-in-Some : goal.returns-in-Some
 returns-in-Some c =
     let h = rw c.in-Ok-Some.field-0-is at c.in-Ok-Some.ensures.lexed in
     let f = rw c.if-not-branch.false at c.in_ok-take.ensures in
-    part_over (place_view c.args.place) (chars c.args.text.now) c.tokens.lexer c.next.new.self (control_view c.tokens.control) (control_view c.take.new.self) c.in-Ok-Some.token c.tokens.last c.end_after-last.result c.in-Some.ended c.tokens.invariant h
+    part_over (place_view c.args.place) (chars c.args.text.now) c.tokens.cursor c.next.new.cursor (control_view c.tokens.control) (control_view c.take.new.self) c.in-Ok-Some.token c.tokens.last c.end_after-last.result c.in-Some.ended c.tokens.invariant h
     c.next.ensures.moves (sym c.ends_word.ensures ∙ c.if-ends_word.false) f c.end_after-last.ensures c.in-Some.ensures.0 c.in-Some.ensures.1
 
 pub tokens-smaller : goal.tokens-smaller
@@ -39,5 +39,5 @@ tokens-smaller c =
 pub tokens-preserved : goal.tokens-preserved
 tokens-preserved c =
     let h = rw c.in-Ok-Some.field-0-is at c.in-Ok-Some.ensures.lexed in
-    subst (λ (n : ℕ). Goes for_part (slashdash_in (place_view c.args.place)) c.next.new.self (control_view c.take.new.self) (chars c.args.text.now) n) (sym c.end_after-last.ensures)
+    subst (λ (n : ℕ). Goes for_part (slashdash_in (place_view c.args.place)) c.next.new.cursor (control_view c.take.new.self) (chars c.args.text.now) n) (sym c.end_after-last.ensures)
     (goes_further c.tokens.invariant c.in-Ok-Some.token h c.next.ensures.moves (rw c.if-not-branch.false at c.in_ok-take.ensures) (part_on (control_view c.tokens.control) (kind_view c.in-Ok-Some.token.kind) c.tokens.invariant.under_way (sym c.ends_word.ensures ∙ c.if-ends_word.false)) c.in_default.ensures)

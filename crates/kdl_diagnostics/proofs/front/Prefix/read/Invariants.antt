@@ -8,12 +8,12 @@ use Rattle.kdl_diagnostics.proofs.front.Prefix.read.Given as goal
 
 abbrev pub invariant-tokens : goal.invariant-tokens
 invariant-tokens l = record {
-  fronting : Fronting l.fn.lexer l.lexer;
-  keeps : (text : Text) → text ≡ l.fn.lexer.rest → IsFrontOf text l.fn.self → IsFrontOf text l.self;
-  exact : Takes (text_view l.self.control) l.lexer.rest ↔ Accepts l.fn.self.control.whole l.fn.lexer.rest;
-  ends : EndsBefore l.lexer.rest l.self;
+  fronting : Fronting l.fn.cursor l.cursor;
+  keeps : (text : Text) → text ≡ l.fn.cursor.rest → IsFrontOf text l.fn.self → IsFrontOf text l.self;
+  exact : Takes (text_view l.self.control) l.cursor.rest ↔ Accepts l.fn.self.control.whole l.fn.cursor.rest;
+  ends : EndsBefore l.cursor.rest l.self;
   accepted : l.self.is_accepted ≡ false;
 }
 
 abbrev pub decreases-tokens : goal.decreases-tokens
-decreases-tokens l = length l.lexer.rest
+decreases-tokens l = length l.cursor.rest
