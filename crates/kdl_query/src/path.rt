@@ -1,4 +1,5 @@
 //! Nodes by their paths.
+#![tactic(auto, using(crate::proofs::Holds::found_says))]
 
 ghost use Rattle.kdl.specs.Iterators.{child_nodes};
 ghost use Rattle.kdl.specs.Tree.{document_says, node_says};
@@ -10,7 +11,6 @@ use kdl::{KdlDocument, KdlNode};
 
 /// Returns the node at a path, if there is one. A path is the index of a top-level node, then that of a node in its block,
 /// and so on. There is no node at the empty path.
-#[tactic(auto, using(crate::proofs::Holds::found_says))]
 pub fn node_at<'a>(document: &'a KdlDocument, path: &[usize]) -> Option<&'a KdlNode>
     ensures value { option_map (λ n. n.now) result ≡ held_at path.now document.entry.now }
     ensures said { option_map (λ n. node_says n.now) result
