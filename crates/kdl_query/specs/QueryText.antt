@@ -39,16 +39,6 @@ pub record IsIndex (s r : Text) (i : ℕ) : Type 0 where
   pub decimal : base_prefix s ≡ None
   pub fits : i < 2 ^ 64
 
--- the word of an accessor, and what is between the `(` after it and `)`
-pub data InParentheses : Text → Text → Text → Accessor → Type 0 where
-  first : {r : Text} → InParentheses (codes "val") (41 ∷ r) r (argument 0)
-  nth : {s t r : Text} {i : ℕ} → IsIndex s t i → Spaces t (41 ∷ r) → InParentheses (codes "val") s r (argument i)
-  prop : {s t r v : Text} → IsName s t v → Spaces t (41 ∷ r) → InParentheses (codes "prop") s r (property v)
-  name_of : {r : Text} → InParentheses (codes "name") (41 ∷ r) r name
-  type_of : {r : Text} → InParentheses (codes "tag") (41 ∷ r) r ty
-  values : {r : Text} → InParentheses (codes "values") (41 ∷ r) r arguments
-  props : {r : Text} → InParentheses (codes "props") (41 ∷ r) r properties
-
 -- `! > < ^ $ *`, which begin a comparison before `=`
 abbrev pub begins_comparison : ℕ → Bool
 begins_comparison c = ((c == 33 || c == 62) || (c == 60 || c == 94)) || (c == 36 || c == 42)
@@ -58,12 +48,18 @@ pub record IsKey (s r v : Text) : Type 0 where
   pub name : IsName s r v
   pub apart : begins 61 r ≡ true → BareString s r v → (p : Text) (c : ℕ) → v ≡ p ++ c ∷ [] → begins_comparison c ≡ false
 
--- a word and parentheses, or the name of a property
+-- one of the functions, or the name of a property
 pub data IsAccessor : Text → Text → Accessor → Type 0 where
-  function : {w s t r : Text} {a : Accessor} → Spaces s t → InParentheses w t r a → IsAccessor (w ++ 40 ∷ s) r a
+  first : {s r : Text} → Spaces s (41 ∷ r) → IsAccessor (codes "val(" ++ s) r (argument 0)
+  nth : {s t u r : Text} {i : ℕ} → Spaces s t → IsIndex t u i → Spaces u (41 ∷ r) → IsAccessor (codes "val(" ++ s) r (argument i)
+  prop : {s t u r v : Text} → Spaces s t → IsName t u v → Spaces u (41 ∷ r) → IsAccessor (codes "prop(" ++ s) r (property v)
+  name_of : {s r : Text} → Spaces s (41 ∷ r) → IsAccessor (codes "name(" ++ s) r name
+  type_of : {s r : Text} → Spaces s (41 ∷ r) → IsAccessor (codes "tag(" ++ s) r ty
+  values : {s r : Text} → Spaces s (41 ∷ r) → IsAccessor (codes "values(" ++ s) r arguments
+  props : {s r : Text} → Spaces s (41 ∷ r) → IsAccessor (codes "props(" ++ s) r properties
   key : {s r v : Text} → IsKey s r v → IsAccessor s r (property v)
 
--- a comparison, the longest that is here
+-- a comparison, the longest that is here: `>=` is no `>`
 pub data IsComparison : Text → Text → Comparison → Type 0 where
   equal : {r : Text} → IsComparison (codes "=" ++ r) r Equal
   not_equal : {r : Text} → IsComparison (codes "!=" ++ r) r NotEqual
