@@ -1,8 +1,7 @@
 //! Queries from texts.
 #![tactic(auto, using(crate::proofs::Rules::parse))]
 
-ghost use Rattle.kdl_query.specs.Internal.QueryReading.{IsSpan};
-ghost use Rattle.kdl_text.specs.Internal.Here.{IsPart};
+ghost use Rattle.kdl_text.specs.Internal.Here.{Ahead};
 ghost use Rattle.kdl_text.specs.Spans.{InText};
 ghost use Rattle.std.specs.Prelude.{◌≡◌};
 
@@ -19,7 +18,10 @@ use selectors::read_selectors;
 use std::alloc::Global;
 
 /// The error of a fault where the cursor is. Its span is the word or the character there.
-fn error_at<'a>(fault: Fault, start: &Checkpoint<'a>, cursor: &mut Cursor<'a>) -> QueryError {
+fn error_at<'a>(fault: Fault, start: &Checkpoint<'a>, cursor: &mut Cursor<'a>) -> QueryError
+    requires { Ahead start.now record { rest = cursor.old.rest; at = cursor.old.at } }
+    ensures { InText start.now.rest result.span }
+{
     let from = cursor.checkpoint();
     cursor.skip(Class::Identifier);
     if cursor.at() == from.at() {
@@ -33,13 +35,27 @@ fn error_at<'a>(fault: Fault, start: &Checkpoint<'a>, cursor: &mut Cursor<'a>) -
 }
 
 impl Query {
+    ghost use Rattle.kdl_query.specs.Data as data';
+    ghost use Rattle.kdl_query.specs.QueryText.{IsQuery, IsSyntax, LocatesFault};
+    ghost use Rattle.kdl_query.specs.Tree.{query_says};
+    ghost use Rattle.std.specs.Prelude.{IfOk};
+    ghost use Rattle.std.specs.Str.{chars};
+
     /// Parses a query. Returns `Syntax` if the text is no query, and `Memory` if an allocation fails.
     ///
     /// ```
     /// let query = Query::parse(alloc, "package >> dependencies[platform] || [val() >= 1.5]")?;
     /// let refused = Query::parse(alloc, "a b"); // `Syntax`: an operator is missing
     /// ```
-    pub fn parse(alloc: Global, text: &str) -> Result<Query, QueryFailure> {
+    pub fn parse(alloc: Global, text: &str) -> Result<Query, QueryFailure>
+        // The query is what the grammar derives,
+        ensures found { IfOk result (λ q. IsQuery (chars text.now) (query_says q)) }
+        // and it derives nothing else.
+        ensures only { IfOk result (λ q. (x : data'.Query) → IsQuery (chars text.now) x → x ≡ query_says q) }
+        // A refused text is not derived, and the span of the fault is in it.
+        ensures refused { IsSyntax result → (x : data'.Query) → IsQuery (chars text.now) x → ⊥ }
+        ensures located { LocatesFault (chars text.now) result }
+    {
         let mut cursor = Cursor::new(text, Steps::new());
         let start = cursor.checkpoint();
         match read_selectors(alloc, &mut cursor) {

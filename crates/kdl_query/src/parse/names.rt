@@ -4,13 +4,12 @@
 ghost use Rattle.kdl_query.specs.Internal.QueryReading.{AteText, Closes, IsWord, OneChar, ReadsPiece, TypeRest};
 ghost use Rattle.kdl_query.specs.QueryText.{IsName, IsOperatorWord, Spaces};
 ghost use Rattle.kdl_query.specs.Tree.{type_test_says};
-ghost use Rattle.kdl_text.specs.Chars.{starts, within};
+ghost use Rattle.kdl_text.specs.Chars.{starts};
 ghost use Rattle.kdl_text.specs.Internal.Here.{IsPart};
 ghost use Rattle.kdl_text.specs.Internal.Reading.{Moves, Reads};
 ghost use Rattle.kdl_text.specs.Trivia.{LineSpace};
 ghost use Rattle.kdl_value.specs.Tree.{text_of};
-ghost use Rattle.std.specs.List.{list_all};
-ghost use Rattle.std.specs.Prelude.{◌≡◌, ◌||◌, ◌==◌, ◌↔◌, IsTrue, true, false};
+ghost use Rattle.std.specs.Prelude.{◌≡◌, ◌||◌, ◌==◌, ◌↔◌, IsTrue, false};
 
 use crate::error::{Fault, Refusal};
 use crate::tree::TypeTest;
@@ -41,18 +40,19 @@ pub(super) fn expect(c: char, fault: Fault, cursor: &mut Cursor) -> Result<(), R
     }
 }
 
-/// Advances past the text if it is here, and returns whether it is.
+/// Advances past the ASCII text if it is here, and returns whether it is.
 pub(super) fn eat_text(text: &str, cursor: &mut Cursor) -> bool
-    requires { list_all (within 0 127) text.now ≡ true }
     ensures ate { AteText text.now result cursor.old cursor.new }
     ensures moves { Moves cursor.old cursor.new }
 {
     let start = cursor.checkpoint();
-    for c in text.chars() {
-        if !cursor.eat(c) {
+    let mut rest = text.as_bytes();
+    'bytes: while let Some((byte, after)) = rest.split_first() {
+        if !cursor.eat(char::from(*byte)) {
             cursor.go_to(&start);
             return false;
         }
+        rest = after;
     }
     true
 }
@@ -63,7 +63,10 @@ fn passes_space(cursor: &mut Cursor) -> bool
     ensures moves { Moves cursor.old cursor.new }
 {
     match cursor.look() {
-        Some('/') => matches!(slash(cursor), SlashRead::Block | SlashRead::Line),
+        Some('/') => match slash(cursor) {
+            SlashRead::Block | SlashRead::Line => true,
+            SlashRead::Dash | SlashRead::Unclosed | SlashRead::Other => false,
+        },
         Some('\\') => escline(cursor),
         Some(c) if is_space(c) => {
             cursor.step();
@@ -107,7 +110,13 @@ pub(super) fn close(c: char, fault: Fault, cursor: &mut Cursor) -> Result<(), Re
 fn is_operator(word: &Piece) -> bool
     ensures { IsTrue result ↔ IsOperatorWord word.now }
 {
-    word.is(">") || word.is(">>") || word.is("+") || word.is("++") || word.is("||")
+    if word.is(">") || word.is(">>") {
+        return true;
+    }
+    if word.is("+") || word.is("++") {
+        return true;
+    }
+    word.is("||")
 }
 
 /// Reads the bare string that begins here, which is no operator.

@@ -1,6 +1,17 @@
 //! Readers of tests.
 #![tactic(auto, using(crate::proofs::Rules::parse))]
 
+ghost use Rattle.kdl_query.specs.Internal.QueryReading.{AfterWord, IndexOf, Joins, KeyPiece, ReadsPiece, TestRest, Word};
+ghost use Rattle.kdl_query.specs.QueryText.{AfterAccessor, AreTests, IsAccessor, IsIndex};
+ghost use Rattle.kdl_query.specs.Tree.{accessor_says, test_says};
+ghost use Rattle.kdl_text.specs.Chars as class;
+ghost use Rattle.kdl_text.specs.Chars.{starts};
+ghost use Rattle.kdl_text.specs.Internal.NumberReading.{number_value};
+ghost use Rattle.kdl_text.specs.Internal.Reading.{Moves};
+ghost use Rattle.kdl_text.specs.Numbers.{base_prefix};
+ghost use Rattle.std.specs.Prelude.{◌≡◌, ◌&&◌, ◌↔◌, IsTrue, None, codes, map, true};
+ghost use Rattle.std.specs.Str.{chars};
+
 use crate::error::{Fault, Refusal};
 use crate::parse::literals::{read_comparison, read_literal};
 use crate::parse::names::{close, eat_text, read_name, refuse, skip_spaces};
@@ -11,7 +22,11 @@ use kdl_text::numbers::{Number, NumberFailure, read_number};
 use std::alloc::Global;
 
 /// Whether a digit is here, and no prefix of a base.
-fn begins_index(cursor: &mut Cursor) -> bool {
+fn begins_index(cursor: &mut Cursor) -> bool
+    ensures result { IsTrue result ↔ ((starts class.is_digit cursor.old.rest ≡ true) × (base_prefix cursor.old.rest ≡ None)) }
+    ensures rest { cursor.new.rest ≡ cursor.old.rest }
+    ensures moves { Moves cursor.old cursor.new }
+{
     match cursor.look() {
         Some('0') => !matches!(
             cursor.look_second(),
@@ -23,7 +38,9 @@ fn begins_index(cursor: &mut Cursor) -> bool {
 }
 
 /// The number as an index, if it is one.
-fn index_of(number: Number) -> Option<usize> {
+fn index_of(number: Number) -> Option<usize>
+    ensures { IndexOf (number_value number) result }
+{
     match number {
         Number::Integer(n) if 0 <= n && n <= usize::MAX as i128 => Some(n as usize),
         _ => None,
@@ -31,7 +48,9 @@ fn index_of(number: Number) -> Option<usize> {
 }
 
 /// Reads an index. On a fault the cursor is somewhere in it.
-fn index_here(alloc: Global, cursor: &mut Cursor) -> Result<usize, Refusal> {
+fn index_here(alloc: Global, cursor: &mut Cursor) -> Result<usize, Refusal>
+    ensures { ReadsPiece IsIndex (λ i. i) result cursor.old cursor.new }
+{
     if !begins_index(cursor) {
         return Err(Refusal::Fault(Fault::Index));
     }
@@ -43,7 +62,9 @@ fn index_here(alloc: Global, cursor: &mut Cursor) -> Result<usize, Refusal> {
 }
 
 /// Reads an index.
-fn read_index(alloc: Global, cursor: &mut Cursor) -> Result<usize, Refusal> {
+fn read_index(alloc: Global, cursor: &mut Cursor) -> Result<usize, Refusal>
+    ensures { ReadsPiece IsIndex (λ i. i) result cursor.old cursor.new }
+{
     let start = cursor.checkpoint();
     match index_here(alloc, cursor) {
         Ok(index) => Ok(index),
@@ -53,7 +74,9 @@ fn read_index(alloc: Global, cursor: &mut Cursor) -> Result<usize, Refusal> {
 }
 
 /// Reads the rest of `val(i)`, after its `(`.
-fn read_argument(alloc: Global, cursor: &mut Cursor) -> Result<Accessor, Refusal> {
+fn read_argument(alloc: Global, cursor: &mut Cursor) -> Result<Accessor, Refusal>
+    ensures { ReadsPiece (AfterWord (codes "val(")) accessor_says result cursor.old cursor.new }
+{
     skip_spaces(cursor);
     if cursor.eat(')') {
         return Ok(Accessor::Argument(0));
@@ -64,30 +87,21 @@ fn read_argument(alloc: Global, cursor: &mut Cursor) -> Result<Accessor, Refusal
 }
 
 /// Reads the rest of `prop(k)`, after its `(`.
-fn read_property(alloc: Global, cursor: &mut Cursor) -> Result<Accessor, Refusal> {
+fn read_property(alloc: Global, cursor: &mut Cursor) -> Result<Accessor, Refusal>
+    ensures { ReadsPiece (AfterWord (codes "prop(")) accessor_says result cursor.old cursor.new }
+{
     skip_spaces(cursor);
     let name = read_name(alloc, Fault::Name, cursor)?;
     close(')', Fault::Parenthesis, cursor)?;
     Ok(Accessor::Property(name))
 }
 
-/// Advances past a word and its `(`, and returns the accessor that it is with nothing in the parentheses.
-fn eat_word(cursor: &mut Cursor) -> Option<Accessor> {
-    if eat_text("name(", cursor) {
-        Some(Accessor::Name)
-    } else if eat_text("tag(", cursor) {
-        Some(Accessor::Type)
-    } else if eat_text("values(", cursor) {
-        Some(Accessor::Arguments)
-    } else if eat_text("props(", cursor) {
-        Some(Accessor::Properties)
-    } else {
-        None
-    }
-}
-
 /// Whether the name takes in the first character of a comparison, whose `=` is here.
-fn is_joined(name: &str, cursor: &mut Cursor) -> bool {
+fn is_joined(name: &str, cursor: &mut Cursor) -> bool
+    ensures result { IsTrue result ↔ Joins (chars name.now) cursor.old.rest }
+    ensures rest { cursor.new.rest ≡ cursor.old.rest }
+    ensures moves { Moves cursor.old cursor.new }
+{
     cursor.look() == Some('=')
         && matches!(
             name.chars().next_back(),
@@ -96,7 +110,9 @@ fn is_joined(name: &str, cursor: &mut Cursor) -> bool {
 }
 
 /// Reads the name of a property.
-fn read_key(alloc: Global, cursor: &mut Cursor) -> Result<Accessor, Refusal> {
+fn read_key(alloc: Global, cursor: &mut Cursor) -> Result<Accessor, Refusal>
+    ensures { ReadsPiece KeyPiece accessor_says result cursor.old cursor.new }
+{
     let start = cursor.checkpoint();
     let is_bare = !matches!(cursor.look(), Some('"' | '#'));
     let name = read_name(alloc, Fault::Accessor, cursor)?;
@@ -106,23 +122,39 @@ fn read_key(alloc: Global, cursor: &mut Cursor) -> Result<Accessor, Refusal> {
     Ok(Accessor::Property(name))
 }
 
-/// Reads an accessor.
-fn read_accessor(alloc: Global, cursor: &mut Cursor) -> Result<Accessor, Refusal> {
-    if eat_text("val(", cursor) {
-        return read_argument(alloc, cursor);
-    }
-    if eat_text("prop(", cursor) {
-        return read_property(alloc, cursor);
-    }
-    let Some(accessor) = eat_word(cursor) else {
-        return read_key(alloc, cursor);
-    };
+/// Reads the rest of an accessor with nothing in its parentheses, after its `(`.
+fn read_word(accessor: Accessor, cursor: &mut Cursor) -> Result<Accessor, Refusal>
+    ensures { ReadsPiece (Word (accessor_says accessor)) accessor_says result cursor.old cursor.new }
+{
     close(')', Fault::Parenthesis, cursor)?;
     Ok(accessor)
 }
 
+/// Reads an accessor.
+fn read_accessor(alloc: Global, cursor: &mut Cursor) -> Result<Accessor, Refusal>
+    ensures { ReadsPiece IsAccessor accessor_says result cursor.old cursor.new }
+{
+    if eat_text("val(", cursor) {
+        read_argument(alloc, cursor)
+    } else if eat_text("prop(", cursor) {
+        read_property(alloc, cursor)
+    } else if eat_text("name(", cursor) {
+        read_word(Accessor::Name, cursor)
+    } else if eat_text("tag(", cursor) {
+        read_word(Accessor::Type, cursor)
+    } else if eat_text("values(", cursor) {
+        read_word(Accessor::Arguments, cursor)
+    } else if eat_text("props(", cursor) {
+        read_word(Accessor::Properties, cursor)
+    } else {
+        read_key(alloc, cursor)
+    }
+}
+
 /// Reads the rest of a test, after its accessor and spaces.
-fn after_accessor(alloc: Global, accessor: Accessor, cursor: &mut Cursor) -> Result<Test, Refusal> {
+fn after_accessor(alloc: Global, accessor: Accessor, cursor: &mut Cursor) -> Result<Test, Refusal>
+    ensures { ReadsPiece (AfterAccessor (accessor_says accessor)) test_says result cursor.old cursor.new }
+{
     if cursor.eat(']') {
         return Ok(Test::Has(accessor));
     }
@@ -134,7 +166,9 @@ fn after_accessor(alloc: Global, accessor: Accessor, cursor: &mut Cursor) -> Res
 }
 
 /// Reads the rest of a test, after its `[`.
-pub(super) fn read_test(alloc: Global, cursor: &mut Cursor) -> Result<Test, Refusal> {
+pub(super) fn read_test(alloc: Global, cursor: &mut Cursor) -> Result<Test, Refusal>
+    ensures { ReadsPiece TestRest test_says result cursor.old cursor.new }
+{
     skip_spaces(cursor);
     if cursor.eat(']') {
         return Ok(Test::Always);
@@ -145,7 +179,9 @@ pub(super) fn read_test(alloc: Global, cursor: &mut Cursor) -> Result<Test, Refu
 }
 
 /// Reads all tests here.
-pub(super) fn read_tests(alloc: Global, cursor: &mut Cursor) -> Result<Vec<Test>, Refusal> {
+pub(super) fn read_tests(alloc: Global, cursor: &mut Cursor) -> Result<Vec<Test>, Refusal>
+    ensures { ReadsPiece AreTests (λ v. map test_says v.items) result cursor.old cursor.new }
+{
     let mut tests = Vec::new(alloc);
     'tests: while cursor.eat('[') {
         tests.push(read_test(alloc, cursor)?)?;
