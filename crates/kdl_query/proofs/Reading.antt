@@ -7,14 +7,14 @@ use Rattle.std.specs.Str.{chars}
 use Rattle.std.specs.declared.alloc.Global.{Global}
 use Rattle.kdl_text.specs.Bare.{BareString}
 use Rattle.kdl_text.specs.Chars.{Text, Star, begins, begins_two, starts, is_space, is_newline_char, is_banned, is_punctuation, is_identifier_char}
-use Rattle.kdl_text.specs.Internal.Here.{Here, Took, Ate, AteTwo, Stayed, first, looked}
+use Rattle.kdl_text.specs.Internal.Here.{Here, Took, TookTwo, Stayed, first, looked}
 use Rattle.kdl_text.specs.Internal.Reading.{Moves, Reads, Goes}
 use Rattle.kdl_text.specs.MultiLine.{IsQuoted}
 use Rattle.kdl_text.specs.Raw.{IsRaw}
-use Rattle.kdl_text.specs.Spans.{bytes, raise}
+use Rattle.kdl_text.specs.Spans.{InText, bytes, raise, span_between}
 use Rattle.kdl_text.specs.declared.strings.StringFailure.{StringFailure}
 use Rattle.kdl_text.specs.declared.strings.StringFailure.TheVariants.{Fault as StringFault, Memory as StringMemory}
-use Rattle.kdl_text.proofs.Looking.MovesJoin.{stays, moves_then, moves_one, moves_two, moves_stayed, stayed_looked}
+use Rattle.kdl_text.proofs.Looking.MovesJoin.{bytes-append, stays, moves_then, moves_one, moves_two, moves_stayed, stayed_looked}
 use Rattle.kdl_text.proofs.Quoted.StringUnique.{is_quoted_begins, is_raw_begins}
 use Rattle.kdl_text.proofs.Quoted.BareReads.{bare_begins, bare_det}
 use Rattle.kdl_syntax.specs.Pieces as piece
@@ -130,18 +130,18 @@ pub named_type : (s t u r v : Text) → Spaces s t → IsName t u v → Spaces u
 named_type s t u r v p n q = IsType.named p n q
 
 pub no_type_name : (s t : Text) → Spaces s t → begins 41 t ≡ false → ((r v : Text) → IsName t r v → ⊥) → (r : Text) (y : TypeTest) → TypeRest s r y → ⊥
-no_type_name s t p h n r y x = go x
+no_type_name s t p h n r y x = go r y x
   where
-    go : IsType (40 ∷ s) r y → ⊥
-    go (IsType.any a) = no_char 41 t r h (spaces_det p a)
-    go (IsType.named {u = u} {v = v} a m b) = n u v (subst (λ z. IsName z u v) (spaces_det a p) m)
+    go : (r : Text) (y : TypeTest) → IsType (40 ∷ s) r y → ⊥
+    go r y (IsType.any a) = no_char 41 t r h (spaces_det p a)
+    go r y (IsType.named {u = u} {v = v} a m b) = n u v (subst (λ z. IsName z u v) (spaces_det a p) m)
 
 pub no_type_end : (s t u v : Text) → Spaces s t → IsName t u v → ((r : Text) (x : Unit {0}) → Closes 41 u r x → ⊥) → (r : Text) (y : TypeTest) → TypeRest s r y → ⊥
-no_type_end s t u v p n k r y x = go x
+no_type_end s t u v p n k r y x = go r y x
   where
-    go : IsType (40 ∷ s) r y → ⊥
-    go (IsType.any a) = no_name_at 41 r u v right_no_piece (subst (λ z. IsName z u v) (spaces_det p a) n)
-    go (IsType.named {t = t'} {u = u'} {v = v'} a m b) = k r tt (subst (λ z. Spaces z (41 ∷ r)) (sym (same_at IsName name_det t t' u u' v v' (spaces_det p a) n m).0) b)
+    go : (r : Text) (y : TypeTest) → IsType (40 ∷ s) r y → ⊥
+    go r y (IsType.any a) = no_name_at 41 r u v right_no_piece (subst (λ z. IsName z u v) (spaces_det p a) n)
+    go r y (IsType.named {t = t'} {u = u'} {v = v'} a m b) = k r tt (subst (λ z. Spaces z (41 ∷ r)) (sym (same_at IsName name_det t t' u u' v v' (spaces_det p a) n m).0) b)
 
 -- how much of a text was read
 pub record AteSoFar (f a : Here) (whole left : Text) : Type 0 where
@@ -164,3 +164,34 @@ ate_all f a w l h e = h.on a.rest (ap (λ z. z ++ a.rest) (sym e))
 
 pub ate_not : (f a b : Here) (w l m : Text) (c : ℕ) → AteSoFar f a w l → l ≡ c ∷ m → begins c a.rest ≡ false → b.rest ≡ f.rest → AteText w false f b
 ate_not f a b w l m c h e n k = (λ r i. no_char c a.rest (m ++ r) n (h.back r i ∙ ap (λ z. z ++ r) e), k)
+
+-- the span of a piece is in the text
+pub span_in : (w t r p q : Text) → w ≡ p ++ t → t ≡ q ++ r → InText w (span_between w t r)
+span_in w t r p q e f = (p, q, r, e ∙ ap (λ z. p ++ z) f ∙ sym (append_assoc p q r), omega (arith, ap bytes e, bytes-append p t), omega (arith, ap bytes f, bytes-append q r))
+
+-- a cursor that advanced to a place with the same text before it
+pub record Still (a b : Here) : Type 0 where
+  pub rest : b.rest ≡ a.rest
+  pub moves : Moves a b
+
+pub still_looked : {a b : Here} → b ≡ looked a → Still a b
+still_looked {a = a} {b = b} e = record { rest = ap (λ z. z.rest) e; moves = moves_stayed (stayed_looked a b e) }
+
+pub still_stayed : {k : ℕ} {a b : Here} → Stayed k a b → Still a b
+still_stayed s = record { rest = s.rest; moves = moves_stayed s }
+
+pub still_then : {a b d : Here} → Still a b → Still b d → Still a d
+still_then s t = record { rest = t.rest ∙ s.rest; moves = moves_then s.moves t.moves }
+
+pub one_at : {c : ℕ} {a b d : Here} → Still a b → Took (Some c) b d → a.rest ≡ c ∷ d.rest
+one_at s t = sym s.rest ∙ t.0
+
+pub two_at : {c d : ℕ} {a b e : Here} → Still a b → TookTwo c d b e → a.rest ≡ c ∷ d ∷ e.rest
+two_at s t = sym s.rest ∙ t.rest
+
+-- what was read after looks is what begins before them
+pub after_still : {A B : Type 0} {X : Text → Text → B → Type 0} (says : A → B) (o : Result A Refusal) (a b d : Here) → Still a b → ReadsPiece X says o b d → ReadsPiece X says o a d
+after_still {X = X} says (Ok x) a b d s h = record { returns = subst (λ z. X z d.rest (says x)) s.rest h.returns; moves = moves_then s.moves h.moves }
+after_still {B = B} {X = X} says (Err (Fault f)) a b d s h = record { returns = subst (λ z. (r : Text) (y : B) → X z r y → ⊥) s.rest h.returns; moves = moves_then s.moves h.moves }
+after_still says (Err Memory) a b d s h = record { returns = tt; moves = moves_then s.moves h.moves }
+

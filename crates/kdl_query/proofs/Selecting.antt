@@ -1,17 +1,18 @@
 -- Steps and selectors, one after another.
 use Rattle.std.proofs.Common.{◌≡◌, ℕ, List, [], ◌∷◌, ◌++◌, true, false, codes, refl, sym, ap, ◌∙◌, subst}
-use Rattle.std.proofs.lemmas.List.{append_assoc, append-nil}
+use Rattle.std.proofs.lemmas.Bool.{false≢true}
+use Rattle.std.proofs.lemmas.List.{append_assoc}
 use Rattle.std.specs.Prelude.{map, fold}
 use Rattle.kdl_text.specs.Chars.{Text, Star, begins, begins_two}
 use Rattle.kdl_text.specs.Chars.Star.{none}
 use Rattle.kdl_text.specs.Trivia.{LineSpace}
 use Rattle.kdl_query.specs.Data as data'
 use Rattle.kdl_query.specs.Data.{NodeTest, Query}
-use Rattle.kdl_query.specs.QueryText as text'
 use Rattle.kdl_query.specs.QueryText.{After, IsFirst, IsNode, IsOperator, IsQuery, Spaces, without_bom}
 use Rattle.kdl_query.specs.Internal.QueryReading.{NoStep, Same, Selectors, selectors}
 use Rattle.kdl_query.specs.Tree.{first_says, node_test_says, selector_says, step_says}
 use Rattle.kdl_query.specs.declared.tree.Combinator.{Combinator}
+use Rattle.kdl_query.specs.declared.tree.Combinator.TheVariants.{Child, NextSibling}
 use Rattle.kdl_query.specs.declared.tree.Selector.{Selector}
 use Rattle.kdl_query.specs.declared.tree.Step.{Step}
 use Rattle.kdl_query.proofs.Unique.{spaces_det, operator_det, node_det, first_det, same_at, spaces_at, no_operator_end, no_operator_or, no_or_end, or_same}
@@ -28,37 +29,37 @@ no_spaces h = record { run = none; stops = h }
 
 -- spaces that were skipped change nothing
 skipped_on : {x : data'.Selector} {s t : Text} {q : Query} → Spaces s t → After x s q → After x t q
-skipped_on {t = t} p (text'.ends a) = text'.ends (subst (λ z. Spaces t z) (spaces_det p a) (no_spaces p.stops))
-skipped_on {t = t} p (text'.step a o b n f) = text'.step (subst (λ z. Spaces t z) (spaces_det p a) (no_spaces p.stops)) o b n f
-skipped_on {t = t} p (text'.or a b c f) = text'.or (subst (λ z. Spaces t z) (spaces_det p a) (no_spaces p.stops)) b c f
+skipped_on {t = t} p (After.ends a) = After.ends (subst (λ z. Spaces t z) (spaces_det p a) (no_spaces p.stops))
+skipped_on {t = t} p (After.step a o b n f) = After.step (subst (λ z. Spaces t z) (spaces_det p a) (no_spaces p.stops)) o b n f
+skipped_on {t = t} p (After.or a b c f) = After.or (subst (λ z. Spaces t z) (spaces_det p a) (no_spaces p.stops)) b c f
 
 skipped_back : {x : data'.Selector} {s t : Text} {q : Query} → Spaces s t → After x t q → After x s q
-skipped_back {s = s} p (text'.ends a) = text'.ends (subst (λ z. Spaces s z) (spaces_det (no_spaces p.stops) a) p)
-skipped_back {s = s} p (text'.step a o b n f) = text'.step (subst (λ z. Spaces s z) (spaces_det (no_spaces p.stops) a) p) o b n f
-skipped_back {s = s} p (text'.or a b c f) = text'.or (subst (λ z. Spaces s z) (spaces_det (no_spaces p.stops) a) p) b c f
+skipped_back {s = s} p (After.ends a) = After.ends (subst (λ z. Spaces s z) (spaces_det (no_spaces p.stops) a) p)
+skipped_back {s = s} p (After.step a o b n f) = After.step (subst (λ z. Spaces s z) (spaces_det (no_spaces p.stops) a) p) o b n f
+skipped_back {s = s} p (After.or a b c f) = After.or (subst (λ z. Spaces s z) (spaces_det (no_spaces p.stops) a) p) b c f
 
 pub skipped : (x : data'.Selector) (s t : Text) → Spaces s t → Same (After x s) (After x t)
 skipped x s t p = record { on = λ q h. skipped_on p h; back = λ q h. skipped_back p h }
 
 -- a step, where no space begins
 step_on : {x : data'.Selector} {s v w r : Text} {c : Combinator} {n : NodeTest} {q : Query} → ((t : Text) → LineSpace s t → ⊥) → IsOperator s v c → Spaces v w → IsNode w r n → After x s q → After (data'.then x c n) r q
-step_on h o b m (text'.ends a) = absurd (no_operator_end _ _ _ (sym (spaces_det (no_spaces h) a)) o)
-step_on {x = x} {s = s} {v = v} {w = w} {r = r} {c = c} {n = n} {q = q} h o b m (text'.step {u = u} {v = v'} {w = w'} {r = r'} {c = c'} {n = n'} a o' b' m' f') =
+step_on h o b m (After.ends a) = absurd (no_operator_end _ _ _ (sym (spaces_det (no_spaces h) a)) o)
+step_on {x = x} {s = s} {v = v} {w = w} {r = r} {c = c} {n = n} {q = q} h o b m (After.step {u = u} {v = v'} {w = w'} {r = r'} {c = c'} {n = n'} a o' b' m' f') =
     let (e, g) = same_at IsOperator operator_det s u v v' c c' (spaces_det (no_spaces h) a) o o' in
     let (i, k) = same_at IsNode node_det w w' r r' n n' (spaces_at v v' w w' e b b') m m' in
     subst (λ z. After (data'.then x c n) z q) (sym i) (subst (λ z. After (data'.then x z n) r' q) (sym g) (subst (λ z. After (data'.then x c' z) r' q) (sym k) f'))
-step_on h o b m (text'.or a g i f) = absurd (no_operator_or _ _ _ _ (sym (spaces_det (no_spaces h) a)) o)
+step_on h o b m (After.or a g i f) = absurd (no_operator_or _ _ _ _ (sym (spaces_det (no_spaces h) a)) o)
 
 pub stepped : (x : data'.Selector) (s v w r : Text) (c : Combinator) (n : NodeTest) → ((t : Text) → LineSpace s t → ⊥) → IsOperator s v c → Spaces v w → IsNode w r n → Same (After x s) (After (data'.then x c n) r)
-stepped x s v w r c n h o b m = record { on = λ q f. step_on h o b m f; back = λ q f. text'.step (no_spaces h) o b m f }
+stepped x s v w r c n h o b m = record { on = λ q f. step_on h o b m f; back = λ q f. After.step (no_spaces h) o b m f }
 
 -- an operator, and no node after it
 pub no_step_node : (x : data'.Selector) (s v w : Text) (c : Combinator) (q : Query) → ((t : Text) → LineSpace s t → ⊥) → IsOperator s v c → Spaces v w → ((r : Text) (n : NodeTest) → IsNode w r n → ⊥) → After x s q → ⊥
-no_step_node x s v w c q h o b m (text'.ends a) = no_operator_end _ _ _ (sym (spaces_det (no_spaces h) a)) o
-no_step_node x s v w c q h o b m (text'.step {u = u} {v = v'} {w = w'} {r = r'} {c = c'} {n = n'} a o' b' m' f') =
+no_step_node x s v w c q h o b m (After.ends a) = no_operator_end _ _ _ (sym (spaces_det (no_spaces h) a)) o
+no_step_node x s v w c q h o b m (After.step {u = u} {v = v'} {w = w'} {r = r'} {c = c'} {n = n'} a o' b' m' f') =
     let (e, g) = same_at IsOperator operator_det s u v v' c c' (spaces_det (no_spaces h) a) o o' in
     m r' n' (subst (λ z. IsNode z r' n') (sym (spaces_at v v' w w' e b b')) m')
-no_step_node x s v w c q h o b m (text'.or a g i f) = no_operator_or _ _ _ _ (sym (spaces_det (no_spaces h) a)) o
+no_step_node x s v w c q h o b m (After.or a g i f) = no_operator_or _ _ _ _ (sym (spaces_det (no_spaces h) a)) o
 
 -- how far steps were read
 pub record StepsSoFar (f a : Text) (ts : List Step) : Type 0 where
@@ -75,7 +76,7 @@ steps_begin f a p = record { same = λ x. skipped x f a p; space = p.stops }
 pub steps_on : (f a v w r b : Text) (ts us : List Step) (t : Step) → StepsSoFar f a ts → IsOperator a v t.combinator → Spaces v w → IsNode w r (node_test_says t.node) → Spaces r b → us ≡ ts ++ t ∷ [] → StepsSoFar f b us
 steps_on f a v w r b ts us t h o p n s e = record {
   same = λ x. subst (λ z. Same (After x f) (After z b)) (sym (ap (λ z. fold step_says x z) e ∙ fold_snoc x ts t))
-    (same_then (h.same x) (same_then (stepped (fold step_says x ts) a v w r t.combinator (node_test_says t.node) h.space o p n) (skipped (step_says (fold step_says x ts) t) r b s)));
+      (same_then (h.same x) (same_then (stepped (fold step_says x ts) a v w r t.combinator (node_test_says t.node) h.space o p n) (skipped (step_says (fold step_says x ts) t) r b s)));
   space = s.stops;
 }
 
@@ -103,19 +104,19 @@ pub queries_begin : (f : Text) → QueriesSoFar f (without_bom f) []
 queries_begin f = record { on = λ q h. on q h; back = λ q h. back q h }
   where
     on : (q : Query) → Selectors (without_bom f) q → IsQuery f q
-    on q (selectors a b c) = text'.query a b c
+    on q (selectors a b c) = IsQuery.query a b c
 
     back : (q : Query) → IsQuery f q → (p : Query) × (q ≡ p) × Selectors (without_bom f) p
-    back q (text'.query a b c) = (q, refl, selectors a b c)
+    back q (IsQuery.query a b c) = (q, refl, selectors a b c)
 
 -- `||` after a selector
 or_on : {x : data'.Selector} {r u : Text} {q : Query} → NoStep r → r ≡ codes "||" ++ u → After x r q → (p : Query) × (q ≡ x ∷ p) × Selectors u p
-or_on {u = u} n e (text'.ends a) = absurd (no_or_end u (sym (spaces_det (no_spaces n.space) a) ∙ e))
-or_on {r = r} n e (text'.step {v = v} {c = c} a o b m f) = absurd (n.operator v c (subst (λ z. IsOperator z v c) (sym (spaces_det (no_spaces n.space) a)) o))
-or_on {u = u} n e (text'.or {u = u'} {v = v} {q = q} a b c f) = (q, refl, selectors (subst (λ z. Spaces z v) (sym (or_same u u' (sym e ∙ spaces_det (no_spaces n.space) a))) b) c f)
+or_on {u = u} n e (After.ends a) = absurd (no_or_end u (sym (spaces_det (no_spaces n.space) a) ∙ e))
+or_on {r = r} n e (After.step {v = v} {c = c} a o b m f) = absurd (n.operator v c (subst (λ z. IsOperator z v c) (sym (spaces_det (no_spaces n.space) a)) o))
+or_on {u = u} n e (After.or {u = u'} {v = v} {q = q} a b c f) = (q, refl, selectors (subst (λ z. Spaces z v) (sym (or_same u u' (sym e ∙ spaces_det (no_spaces n.space) a))) b) c f)
 
 or_back : {x : data'.Selector} {r u : Text} {p : Query} → NoStep r → r ≡ codes "||" ++ u → Selectors u p → After x r (x ∷ p)
-or_back {r = r} n e (selectors a b c) = text'.or (subst (λ z. Spaces r z) e (no_spaces n.space)) a b c
+or_back {r = r} n e (selectors a b c) = After.or (subst (λ z. Spaces r z) e (no_spaces n.space)) a b c
 
 pub queries_on : (f a r u : Text) (xs ys : List Selector) (y : Selector) → QueriesSoFar f a (map selector_says xs) → Same (Selectors a) (After (selector_says y) r) → NoStep r → r ≡ codes "||" ++ u → ys ≡ xs ++ y ∷ [] → QueriesSoFar f u (map selector_says ys)
 queries_on f a r u xs ys y h s n e k = subst (λ z. QueriesSoFar f u (map selector_says z)) (sym k) (subst (λ z. QueriesSoFar f u z) (sym (map_snoc xs)) (record { on = on; back = back }))
@@ -135,12 +136,12 @@ queries_on f a r u xs ys y h s n e k = subst (λ z. QueriesSoFar f u (map select
 
 -- the end of the text after a selector, or something else
 end_on : {x : data'.Selector} {r : Text} {q : Query} → NoStep r → begins_two 124 124 r ≡ false → After x r q → (r ≡ []) × (q ≡ x ∷ [])
-end_on n e (text'.ends a) = (spaces_det (no_spaces n.space) a, refl)
-end_on n e (text'.step {v = v} {c = c} a o b m f) = absurd (n.operator v c (subst (λ z. IsOperator z v c) (sym (spaces_det (no_spaces n.space) a)) o))
-end_on n e (text'.or {u = u} a b c f) = let k : begins_two 124 124 _ ≡ true = ap (begins_two 124 124) (spaces_det (no_spaces n.space) a) in cc
+end_on n e (After.ends a) = (spaces_det (no_spaces n.space) a, refl)
+end_on n e (After.step {v = v} {c = c} a o b m f) = absurd (n.operator v c (subst (λ z. IsOperator z v c) (sym (spaces_det (no_spaces n.space) a)) o))
+end_on {r = r} n e (After.or {u = u} a b c f) = let k : begins_two 124 124 r ≡ true = ap (begins_two 124 124) (spaces_det (no_spaces n.space) a) in absurd (false≢true (sym e ∙ k))
 
 pub query_ends : (f a r : Text) (xs ys : List Selector) (y : Selector) → QueriesSoFar f a (map selector_says xs) → Same (Selectors a) (After (selector_says y) r) → NoStep r → r ≡ [] → ys ≡ xs ++ y ∷ [] → IsQuery f (map selector_says ys)
-query_ends f a r xs ys y h s n e k = subst (λ z. IsQuery f (map selector_says z)) (sym k) (subst (IsQuery f) (sym (map_snoc xs)) (h.on (selector_says y ∷ []) (s.back (selector_says y ∷ []) (text'.ends (subst (λ z. Spaces r z) e (no_spaces n.space))))))
+query_ends f a r xs ys y h s n e k = subst (λ z. IsQuery f (map selector_says z)) (sym k) (subst (IsQuery f) (sym (map_snoc xs)) (h.on (selector_says y ∷ []) (s.back (selector_says y ∷ []) (After.ends (subst (λ z. Spaces r z) e (no_spaces n.space))))))
   where
     map_snoc : (xs : List Selector) → map selector_says (xs ++ y ∷ []) ≡ map selector_says xs ++ selector_says y ∷ []
     map_snoc [] = refl
@@ -151,3 +152,10 @@ no_query_on f a r ys y q h s n e k m = let (p, i, j) = h.back q m in k (end_on n
 
 pub no_query_selector : (f a : Text) (ys : Query) (q : Query) → QueriesSoFar f a ys → ((p : Query) → Selectors a p → ⊥) → IsQuery f q → ⊥
 no_query_selector f a ys q h k m = let (p, i, j) = h.back q m in k p j
+
+-- `>` and `+`, not doubled
+pub child_here : (s m r : Text) → s ≡ 62 ∷ r → m ≡ s → begins_two 62 62 m ≡ false → IsOperator s r Child
+child_here s m r e f h = let k : begins_two 62 62 (62 ∷ r) ≡ false = sym (ap (begins_two 62 62) (f ∙ e)) ∙ h in rw e (IsOperator.child k)
+
+pub next_here : (s m r : Text) → s ≡ 43 ∷ r → m ≡ s → begins_two 43 43 m ≡ false → IsOperator s r NextSibling
+next_here s m r e f h = let k : begins_two 43 43 (43 ∷ r) ≡ false = sym (ap (begins_two 43 43) (f ∙ e)) ∙ h in rw e (IsOperator.next_sibling k)

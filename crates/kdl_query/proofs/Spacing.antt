@@ -12,7 +12,7 @@ use Rattle.kdl_text.specs.Trivia.NodeSpace.{ws, escline as node_escline}
 use Rattle.kdl_text.specs.Trivia.Break.{newline as break_newline, comment as break_comment}
 use Rattle.kdl_text.specs.Trivia.LineSpace.{space as line_space, «break» as line_break}
 use Rattle.kdl_text.specs.declared.trivia.SlashRead.TheVariants.{Block, Line, Dash, Unclosed, Other}
-use Rattle.kdl_text.proofs.Looking.MovesJoin.{moves_then}
+use Rattle.kdl_text.proofs.Looking.MovesJoin.{moves_then, stays}
 use Rattle.kdl_text.proofs.Looking.Stars.{snoc}
 use Rattle.kdl_text.proofs.Spacing.SpacePieces.{node_space_shorter, break_shorter}
 use Rattle.kdl_text.proofs.Spacing.SpaceUnique.{slash_no_space, backslash_no_space, slash_no_newline, backslash_no_newline, newline_begins, block_begins, line_comment_begins, escline_begins, line_space_det}
@@ -136,3 +136,6 @@ one_more_space f a b h r m = record { run = snoc h.run ((r b.rest).1 refl); move
 
 pub all_spaces : (f a b : Here) → SpacesSoFar f a → Reads LineSpace false a.rest b.rest → b.rest ≡ a.rest → Spaces f.rest b.rest
 all_spaces f a b h r e = rw e (record { run = h.run; stops = r })
+
+pub spaces_begin : (a : Here) → SpacesSoFar a a
+spaces_begin a = record { run = Star.none; moves = stays a }

@@ -1,15 +1,12 @@
 -- The text of a query. `X t r x`: an X begins the text t, leaves r, and represents x.
-use Rattle.std.specs.Prelude.{◌≡◌, ◌⊎◌, ℕ, ◌<◌, ◌^◌, pos, Bool, true, false, not, ◌&&◌, ◌||◌, ◌==◌, if◌then◌else◌, List, [], ◌∷◌, ◌++◌, Option, Some, None, Result, Ok, Err, codes}
+use Rattle.std.specs.Prelude.{◌≡◌, ◌⊎◌, ℕ, ◌<◌, ◌^◌, pos, Bool, true, false, not, ◌&&◌, ◌||◌, ◌==◌, cond, List, [], ◌∷◌, ◌++◌, Option, Some, None, codes}
 use Rattle.kdl_text.specs.Bare.{BareString}
 use Rattle.kdl_text.specs.Chars.{Text, Star, begins, begins_two, starts, is_digit, is_identifier_char}
 use Rattle.kdl_text.specs.Numbers.{WholeNumber, base_prefix}
-use Rattle.kdl_text.specs.Spans.{InText}
 use Rattle.kdl_text.specs.Trivia.{LineSpace}
 use Rattle.kdl_value.specs.Data.{Value, text, integer, float}
 use Rattle.kdl_syntax.specs.Pieces.{StringPiece, PlainPiece}
 use Rattle.kdl_query.specs.Data.{Accessor, Literal, NodeTest, Query, Selector, Test, TypeTest, always, argument, arguments, compares, has, name, of_type, properties, property, some_type, start, then, top, ty, type_named, value}
-use Rattle.kdl_query.specs.declared.error.QueryFailure.{QueryFailure}
-use Rattle.kdl_query.specs.declared.error.QueryFailure.TheVariants.{Syntax}
 use Rattle.kdl_query.specs.declared.tree.Combinator.{Combinator}
 use Rattle.kdl_query.specs.declared.tree.Combinator.TheVariants.{Child, Descendant, NextSibling, LaterSibling}
 use Rattle.kdl_query.specs.declared.tree.Comparison.{Comparison}
@@ -151,18 +148,8 @@ pub data After : Selector → Text → Query → Type 0 where
 -- the text without a U+FEFF at its front
 abbrev pub without_bom : Text → Text
 without_bom [] = []
-without_bom (c ∷ t) = if c == 0xFEFF then t else c ∷ t
+without_bom (c ∷ t) = cond (c == 0xFEFF) t (c ∷ t)
 
 -- the whole text
 pub data IsQuery : Text → Query → Type 0 where
   query : {t u r : Text} {s : Selector} {q : Query} → Spaces (without_bom t) u → IsFirst u r s → After s r q → IsQuery t q
-
--- the text was refused
-abbrev pub IsSyntax : {A : Type 0} → Result A QueryFailure → Type 0
-IsSyntax (Err (Syntax e)) = Unit {0}
-IsSyntax _ = ⊥
-
--- if so, the span of the fault is in it
-abbrev pub LocatesFault : {A : Type 0} → Text → Result A QueryFailure → Type 0
-LocatesFault t (Err (Syntax e)) = InText t e.span
-LocatesFault t _ = Unit {0}

@@ -36,7 +36,8 @@ fn error_at<'a>(fault: Fault, start: &Checkpoint<'a>, cursor: &mut Cursor<'a>) -
 
 impl Query {
     ghost use Rattle.kdl_query.specs.Data as data';
-    ghost use Rattle.kdl_query.specs.QueryText.{IsQuery, IsSyntax, LocatesFault};
+    ghost use Rattle.kdl_query.specs.QueryText.{IsQuery};
+    ghost use Rattle.kdl_query.specs.Refusals.{IsSyntax, LocatesFault};
     ghost use Rattle.kdl_query.specs.Tree.{query_says};
     ghost use Rattle.std.specs.Prelude.{IfOk};
     ghost use Rattle.std.specs.Str.{chars};

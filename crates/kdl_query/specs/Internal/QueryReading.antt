@@ -90,7 +90,7 @@ pub record Joins (v s : Text) : Type 0 where
   pub before : Text
   pub last : ℕ
   pub name : v ≡ before ++ last ∷ []
-  pub begins : begins_comparison last ≡ true
+  pub compares : begins_comparison last ≡ true
   pub equals : begins 61 s ≡ true
 
 -- the name of a property as an accessor

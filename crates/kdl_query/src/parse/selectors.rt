@@ -178,7 +178,6 @@ fn no_operator(selector: Option<&Selector>) -> Fault {
 
 /// Reads the selectors of a query, to the end of the text.
 pub(super) fn read_selectors(alloc: Global, cursor: &mut Cursor) -> Result<Vec<Selector>, Refusal>
-    requires { cursor.old.rest ≡ cursor.old.text }
     ensures reads { ReadsSelectors result cursor.old.rest }
     ensures moves { Moves cursor.old cursor.new }
 {

@@ -1,0 +1,85 @@
+-- Texts that are queries, and texts that are not.
+use Rattle.std.proofs.Common.{◌≡◌, ℕ, List, [], ◌∷◌, ◌++◌, true, false, codes, refl, sym, subst, inl, inr, pos, arith}
+use Rattle.std.proofs.lemmas.Bool.Decides.{nat_tests}
+use Rattle.std.specs.Prelude.{Some, None}
+use Rattle.kdl_text.specs.Bare.{bare, is_bare}
+use Rattle.kdl_text.specs.Chars.{Text, Star, is_space, is_newline_char, is_banned, is_punctuation, is_identifier_char}
+use Rattle.kdl_text.specs.Chars.Space.{space as space_char}
+use Rattle.kdl_text.specs.Trivia.{BlockComment, LineComment, Escline, LineSpace}
+use Rattle.kdl_text.specs.Trivia.Ws.{space as ws_space, comment as ws_comment}
+use Rattle.kdl_text.specs.Trivia.NodeSpace.{ws, escline}
+use Rattle.kdl_text.specs.Trivia.Break.{newline as break_newline, comment as break_comment}
+use Rattle.kdl_text.specs.Trivia.LineSpace.{space as line_space, «break» as line_break}
+use Rattle.kdl_text.proofs.Spacing.SpaceUnique.{newline_begins}
+use Rattle.kdl_syntax.specs.Pieces as piece
+use Rattle.kdl_syntax.proofs.Lexing.StringUnique.{string_begins}
+use Rattle.kdl_query.specs.Data.{Query, Selector, argument, name, of_type, property, some_type, start, value}
+use Rattle.kdl_query.specs.QueryText.{After, AreTests, IsComparison, IsFirst, IsKey, IsName, IsNode, IsQuery, Spaces, is_allowed}
+use Rattle.kdl_value.specs.Data.{text, integer}
+use Rattle.kdl_query.specs.declared.tree.Comparison.TheVariants.{Equal, Greater, StartsWith}
+use Rattle.kdl_query.proofs.Unique.{query_det, spaces_det}
+
+-- no line-space begins with an identifier character, or at the end of the text
+no_space_at : (c : ℕ) (s t : Text) → is_identifier_char c ≡ true → LineSpace (c ∷ s) t → ⊥
+unfolding is_identifier_char is_space is_newline_char is_banned is_punctuation
+no_space_at c s t h (line_space (ws (ws_space (space_char x)))) = grind (arith, nat_tests)
+no_space_at c s t h (line_space (ws (ws_comment (BlockComment.block b)))) = cc
+no_space_at c s t h (line_space (escline (Escline.escline a b))) = cc
+no_space_at c s t h (line_break (break_newline n)) = let x = newline_begins n in grind (arith, nat_tests)
+no_space_at c s t h (line_break (break_comment (LineComment.line l))) = cc
+
+no_space_end : (t : Text) → LineSpace [] t → ⊥
+no_space_end t (line_space (ws (ws_space x))) = elim x [ ]
+no_space_end t (line_space (ws (ws_comment b))) = elim b [ ]
+no_space_end t (line_space (escline e)) = elim e [ ]
+no_space_end t (line_break (break_newline n)) = elim n [ ]
+no_space_end t (line_break (break_comment l)) = elim l [ ]
+
+at_end : Spaces [] []
+at_end = record { run = Star.none; stops = no_space_end }
+
+a_name : IsName (codes "a") [] (codes "a")
+unfolding is_bare is_identifier_char is_space is_newline_char is_banned is_punctuation
+a_name = record { string = piece.bare (bare {w = codes "a"} refl refl refl); no_operator = λ b o. elim o [ inl e ↦ cc | inr o ↦ elim o [ inl e ↦ cc | inr o ↦ elim o [ inl e ↦ cc | inr o ↦ elim o [ inl e ↦ cc | inr e ↦ cc ] ] ] ]; no_function = refl }
+
+at_a : Spaces (codes "a") (codes "a")
+unfolding is_identifier_char is_space is_newline_char is_banned is_punctuation
+at_a = record { run = Star.none; stops = λ t p. no_space_at 97 [] t refl p }
+
+-- `a`
+pub one_name : IsQuery (codes "a") (start (record { ty = None; name = Some (codes "a"); tests = [] }) ∷ [])
+one_name = IsQuery.query at_a (IsFirst.a_node (IsNode.named a_name (AreTests.none refl))) (After.ends at_end)
+
+-- and nothing else: not `()`
+pub no_other_tree : IsQuery (codes "a") (start (record { ty = Some some_type; name = None; tests = [] }) ∷ []) → ⊥
+no_other_tree h = let e = query_det one_name h in cc
+
+-- the empty text
+pub no_empty : (q : Query) → IsQuery [] q → ⊥
+no_empty q (IsQuery.query {u = u} {r = r} {s = s} a b c) = go r s (subst (λ z. IsFirst z r s) (sym (spaces_det at_end a)) b)
+  where
+    go : (r : Text) (s : Selector) → IsFirst [] r s → ⊥
+    go r s (IsFirst.a_node (IsNode.tested x y)) = elim x [ ]
+    go r s (IsFirst.a_node (IsNode.named x y)) = let f : false ≡ true = string_begins x.string in cc
+    go r s (IsFirst.a_node (IsNode.typed x h y)) = elim x [ ]
+    go r s (IsFirst.a_node (IsNode.both x h z y)) = elim x [ ]
+
+-- `>` is no name
+pub no_operator_name : IsName (codes ">") [] (codes ">") → ⊥
+unfolding is_bare is_identifier_char is_space is_newline_char is_banned is_punctuation
+no_operator_name n = n.no_operator (bare {w = codes ">"} refl refl refl) (inl refl)
+
+-- `a!` before `=` is no key, and `>=` is one comparison
+pub no_joined_key : IsKey (codes "a!=1") (codes "=1") (codes "a!") → ⊥
+unfolding is_bare is_identifier_char is_space is_newline_char is_banned is_punctuation
+no_joined_key k = let e = k.apart refl (bare {w = codes "a!"} refl refl refl) (codes "a") 33 refl in cc
+
+pub longest_comparison : IsComparison (codes ">=1") (codes "=1") Greater → ⊥
+longest_comparison (IsComparison.greater h) = cc
+
+-- `a = 1`, `val() ^= b`; not `a > b`, `name() > 1`, `a ^= (b)`
+pub some_allowed : (is_allowed (property (codes "a")) Equal (value (integer (pos 1))) ≡ true) × (is_allowed (argument 0) StartsWith (value (text (codes "b"))) ≡ true)
+some_allowed = (refl, refl)
+
+pub some_refused : (is_allowed (property (codes "a")) Greater (value (text (codes "b"))) ≡ false) × (is_allowed name Greater (value (integer (pos 1))) ≡ false) × (is_allowed (property (codes "a")) StartsWith (of_type some_type) ≡ false)
+some_refused = (refl, refl, refl)
