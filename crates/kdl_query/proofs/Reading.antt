@@ -194,4 +194,3 @@ pub after_still : {A B : Type 0} {X : Text → Text → B → Type 0} (says : A 
 after_still {X = X} says (Ok x) a b d s h = record { returns = subst (λ z. X z d.rest (says x)) s.rest h.returns; moves = moves_then s.moves h.moves }
 after_still {B = B} {X = X} says (Err (Fault f)) a b d s h = record { returns = subst (λ z. (r : Text) (y : B) → X z r y → ⊥) s.rest h.returns; moves = moves_then s.moves h.moves }
 after_still says (Err Memory) a b d s h = record { returns = tt; moves = moves_then s.moves h.moves }
-

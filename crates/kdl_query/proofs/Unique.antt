@@ -1,6 +1,6 @@
 -- A text has at most one tree as a query; each piece of a query begins a text in one way at most.
-use Rattle.std.proofs.Common.{◌≡◌, ℕ, pos, List, [], ◌∷◌, ◌++◌, true, false, codes, refl, sym, ap, ◌∙◌, subst}
-use Rattle.kdl_text.specs.Chars.{Text, begins, begins_two, starts, is_space, is_newline_char, is_banned, is_punctuation, is_identifier_char}
+use Rattle.std.proofs.Common.{◌≡◌, ℕ, [], ◌∷◌, ◌++◌, true, false, codes, refl, sym, ap, subst}
+use Rattle.kdl_text.specs.Chars.{Text, begins, starts, is_space, is_newline_char, is_banned, is_punctuation, is_identifier_char}
 use Rattle.std.proofs.lemmas.Bool.{and_parts}
 use Rattle.kdl_text.specs.Bare.{BareString, bare, is_bare}
 use Rattle.kdl_text.specs.Strings.{Run}
@@ -13,7 +13,7 @@ use Rattle.kdl_value.specs.Data.{Value, text}
 use Rattle.kdl_syntax.specs.Pieces as piece
 use Rattle.kdl_syntax.specs.Pieces.{StringPiece, PlainPiece}
 use Rattle.kdl_syntax.proofs.Lexing.StringUnique.{begins_piece, string_det, string_begins, string_or_plain, plain_det, plain_begins, quote_identifier, sign_identifier}
-use Rattle.kdl_query.specs.Data.{Accessor, Literal, NodeTest, Query, Selector, Test, TypeTest, argument, of_type, property, start, then, value, type_named}
+use Rattle.kdl_query.specs.Data.{Accessor, NodeTest, Query, Selector, Test, TypeTest, argument, of_type, property, start, then, value, type_named}
 use Rattle.kdl_query.specs.QueryText.{After, AfterAccessor, AreTests, IsAccessor, IsComparison, IsFirst, IsIndex, IsKey, IsLiteral, IsName, IsNode, IsOperator, IsQuery, IsTest, IsType, Spaces, ends_type}
 use Rattle.kdl_query.specs.declared.tree.Combinator.{Combinator}
 use Rattle.kdl_query.specs.declared.tree.Comparison.{Comparison}
@@ -58,10 +58,6 @@ bracket_no_piece = refl
 pub closing_no_piece : begins_piece 93 ≡ false
 unfolding is_identifier_char is_space is_newline_char is_banned is_punctuation
 closing_no_piece = refl
-
-pub equals_no_piece : begins_piece 61 ≡ false
-unfolding is_identifier_char is_space is_newline_char is_banned is_punctuation
-equals_no_piece = refl
 
 no_name_there : (c : ℕ) (s t r v : Text) → begins_piece c ≡ false → c ∷ s ≡ t → IsName t r v → ⊥
 no_name_there c s t r v h e n = no_name_at c s r v h (subst (λ z. IsName z r v) (sym e) n)

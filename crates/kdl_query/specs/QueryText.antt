@@ -1,5 +1,5 @@
 -- The text of a query. `X t r x`: an X begins the text t, leaves r, and represents x.
-use Rattle.std.specs.Prelude.{◌≡◌, ◌⊎◌, ℕ, ◌<◌, ◌^◌, pos, Bool, true, false, not, ◌&&◌, ◌||◌, ◌==◌, cond, List, [], ◌∷◌, ◌++◌, Option, Some, None, codes}
+use Rattle.std.specs.Prelude.{◌≡◌, ◌⊎◌, ℕ, ◌<◌, ◌^◌, pos, Bool, true, false, not, ◌&&◌, ◌||◌, ◌==◌, cond, List, [], ◌∷◌, ◌++◌, Some, None, codes}
 use Rattle.kdl_text.specs.Bare.{BareString}
 use Rattle.kdl_text.specs.Chars.{Text, Star, begins, begins_two, starts, is_digit, is_identifier_char}
 use Rattle.kdl_text.specs.Numbers.{WholeNumber, base_prefix}

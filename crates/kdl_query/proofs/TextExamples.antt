@@ -1,5 +1,5 @@
 -- Texts that are queries, and texts that are not.
-use Rattle.std.proofs.Common.{◌≡◌, ℕ, List, [], ◌∷◌, ◌++◌, true, false, codes, refl, sym, subst, inl, inr, pos, arith}
+use Rattle.std.proofs.Common.{◌≡◌, ℕ, [], ◌∷◌, true, false, codes, refl, sym, subst, inl, inr, pos, arith}
 use Rattle.std.proofs.lemmas.Bool.Decides.{nat_tests}
 use Rattle.std.specs.Prelude.{Some, None}
 use Rattle.kdl_text.specs.Bare.{bare, is_bare}
