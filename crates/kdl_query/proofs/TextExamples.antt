@@ -13,7 +13,7 @@ use Rattle.kdl_text.specs.Trivia.LineSpace.{space as line_space, «break» as li
 use Rattle.kdl_text.proofs.Spacing.SpaceUnique.{newline_begins}
 use Rattle.kdl_syntax.specs.Pieces as piece
 use Rattle.kdl_syntax.proofs.Lexing.StringUnique.{string_begins}
-use Rattle.kdl_query.specs.Data.{Query, Selector, argument, name, of_type, property, some_type, start, value}
+use Rattle.kdl_query.specs.Data.{Query, Selector, argument, name, of_type, property, some_type, start, top, value}
 use Rattle.kdl_query.specs.QueryText.{After, AreTests, IsComparison, IsFirst, IsKey, IsName, IsNode, IsQuery, Spaces, is_allowed}
 use Rattle.kdl_value.specs.Data.{text, integer}
 use Rattle.kdl_query.specs.declared.tree.Comparison.TheVariants.{Equal, Greater, StartsWith}
@@ -50,8 +50,8 @@ at_a = record { run = Star.none; stops = λ t p. no_space_at 97 [] t refl p }
 pub one_name : IsQuery (codes "a") (start (record { ty = None; name = Some (codes "a"); tests = [] }) ∷ [])
 one_name = IsQuery.query at_a (IsFirst.a_node (IsNode.named a_name (AreTests.none refl))) (After.ends at_end)
 
--- and nothing else: not `()`
-pub no_other_tree : IsQuery (codes "a") (start (record { ty = Some some_type; name = None; tests = [] }) ∷ []) → ⊥
+-- and nothing else: not `top()`
+pub no_other_tree : IsQuery (codes "a") (top ∷ []) → ⊥
 no_other_tree h = let e = query_det one_name h in cc
 
 -- the empty text
