@@ -1,0 +1,141 @@
+-- Line-spaces, from what the readers of comments and spaces return.
+use Rattle.std.proofs.Common.{◌≡◌, ℕ, ◌<◌, Bool, [], ◌∷◌, true, false, length, refl, sym, ap, ◌∙◌, subst}
+use Rattle.std.specs.Prelude.{Option, Some, None}
+use Rattle.kdl_text.specs.Chars.{Text, Newline, Space, Star, begins, begins_two, starts, is_space, is_newline_char}
+use Rattle.kdl_text.specs.Chars.Space.{space as space_char}
+use Rattle.kdl_text.specs.Internal.Here.{Here, Stayed, first, looked, stepped, tail}
+use Rattle.kdl_text.specs.Internal.Reading.{Moves, Reads, ReadsNewline}
+use Rattle.kdl_text.specs.Internal.TriviaReading.{ReadsSlash, Opens}
+use Rattle.kdl_text.specs.Trivia.{BlockComment, LineComment, Escline, NodeSpace, Break, LineSpace}
+use Rattle.kdl_text.specs.Trivia.Ws.{space as ws_space, comment as ws_comment}
+use Rattle.kdl_text.specs.Trivia.NodeSpace.{ws, escline as node_escline}
+use Rattle.kdl_text.specs.Trivia.Break.{newline as break_newline, comment as break_comment}
+use Rattle.kdl_text.specs.Trivia.LineSpace.{space as line_space, «break» as line_break}
+use Rattle.kdl_text.specs.declared.trivia.SlashRead.TheVariants.{Block, Line, Dash, Unclosed, Other}
+use Rattle.kdl_text.proofs.Looking.MovesJoin.{moves_then, stays}
+use Rattle.kdl_text.proofs.Looking.Stars.{snoc}
+use Rattle.kdl_text.proofs.Spacing.SpacePieces.{node_space_shorter, break_shorter}
+use Rattle.kdl_text.proofs.Spacing.SpaceUnique.{slash_no_space, backslash_no_space, slash_no_newline, backslash_no_newline, newline_begins, block_begins, line_comment_begins, escline_begins, line_space_det}
+use Rattle.kdl_query.specs.QueryText.{Spaces}
+
+-- one line-space, and no other
+found : {s r : Text} → LineSpace s r → Reads LineSpace true s r
+found {s = s} p t = (λ q. line_space_det q p, λ e. subst (λ z. LineSpace s z) (sym e) p)
+
+-- what a line-space is, by its first character
+at_slash : {s r : Text} → LineSpace (47 ∷ s) r → (BlockComment (47 ∷ s) r → ⊥) → (LineComment (47 ∷ s) r → ⊥) → ⊥
+at_slash (line_space (ws (ws_space (space_char x)))) f g = let y = slash_no_space in cc
+at_slash (line_space (ws (ws_comment b))) f g = f b
+at_slash (line_space (node_escline e)) f g = let y = escline_begins e in cc
+at_slash (line_break (break_newline n)) f g = let x = newline_begins n in let y = slash_no_newline in cc
+at_slash (line_break (break_comment l)) f g = g l
+
+at_backslash : {s r : Text} → LineSpace (92 ∷ s) r → (Escline (92 ∷ s) r → ⊥) → ⊥
+at_backslash (line_space (ws (ws_space (space_char x)))) f = let y = backslash_no_space in cc
+at_backslash (line_space (ws (ws_comment b))) f = let y = block_begins b in cc
+at_backslash (line_space (node_escline e)) f = f e
+at_backslash (line_break (break_newline n)) f = let x = newline_begins n in let y = backslash_no_newline in cc
+at_backslash (line_break (break_comment l)) f = let y = line_comment_begins l in cc
+
+at_other : {c : ℕ} {s r : Text} → (c ≡ 47 → ⊥) → (c ≡ 92 → ⊥) → is_space c ≡ false → LineSpace (c ∷ s) r → (Newline (c ∷ s) r → ⊥) → ⊥
+at_other f g h (line_space (ws (ws_space (space_char x)))) k = cc
+at_other f g h (line_space (ws (ws_comment (BlockComment.block b)))) k = f refl
+at_other f g h (line_space (node_escline (Escline.escline a b))) k = g refl
+at_other f g h (line_break (break_newline n)) k = k n
+at_other f g h (line_break (break_comment (LineComment.line l))) k = f refl
+
+at_end : {r : Text} → LineSpace [] r → ⊥
+at_end (line_space (ws (ws_space x))) = elim x [ ]
+at_end (line_space (ws (ws_comment b))) = elim b [ ]
+at_end (line_space (node_escline e)) = elim e [ ]
+at_end (line_break (break_newline n)) = elim n [ ]
+at_end (line_break (break_comment l)) = elim l [ ]
+
+-- a slash
+pub slash_block : (a b : Here) → Reads BlockComment true a.rest b.rest → Reads LineSpace true a.rest b.rest
+slash_block a b h = found (line_space (ws (ws_comment ((h b.rest).1 refl))))
+
+pub slash_line : (a b : Here) → Reads LineComment true a.rest b.rest → Reads LineSpace true a.rest b.rest
+slash_line a b h = found (line_break (break_comment ((h b.rest).1 refl)))
+
+slash_none : (s r : Text) → first s ≡ Some 47 → ((r : Text) → BlockComment s r → ⊥) → ((r : Text) → LineComment s r → ⊥) → LineSpace s r → ⊥
+slash_none [] r e f g p = cc
+slash_none (c ∷ s) r e f g p =
+    let k : c ≡ 47 = cc in
+    at_slash (subst (λ z. LineSpace (z ∷ s) r) k p) (λ b. f r (subst (λ z. BlockComment (z ∷ s) r) (sym k) b)) (λ l. g r (subst (λ z. LineComment (z ∷ s) r) (sym k) l))
+
+no_block : (s r : Text) → begins_two 47 42 s ≡ false → BlockComment s r → ⊥
+no_block s r h b = let k = block_begins b in cc
+
+no_line : (s r : Text) → begins_two 47 47 s ≡ false → LineComment s r → ⊥
+no_line s r h b = let k = line_comment_begins b in cc
+
+pub slash_other : (a b : Here) → first a.rest ≡ Some 47 → ReadsSlash Other a b → Reads LineSpace false a.rest b.rest
+slash_other a b e h r p = slash_none a.rest r e (λ t. no_block a.rest t h.0) (λ t. no_line a.rest t h.1) p
+
+dash_two : (s : Text) → begins_two 47 42 (47 ∷ 45 ∷ s) ≡ false
+dash_two s = refl
+
+pub slash_dash : (a b : Here) → a.rest ≡ 47 ∷ 45 ∷ b.rest → Reads LineSpace false a.rest b.rest
+slash_dash a b e r p = at_slash (subst (λ z. LineSpace z r) e p) (λ t. no_block _ r refl t) (λ t. no_line _ r refl t)
+
+opens_line : (s r : Text) → begins_two 47 42 s ≡ true → LineComment s r → ⊥
+opens_line s r h (LineComment.line l) = cc
+
+pub slash_unclosed : (a b : Here) → first a.rest ≡ Some 47 → Opens a.rest → Reads LineSpace false a.rest b.rest
+slash_unclosed a b e o r p = slash_none a.rest r e o.unclosed (λ t. opens_line a.rest t o.opens) p
+
+-- a backslash
+pub escline_true : (a b : Here) → Reads Escline true a.rest b.rest → Reads LineSpace true a.rest b.rest
+escline_true a b h = found (line_space (node_escline ((h b.rest).1 refl)))
+
+pub escline_false : (a b : Here) → first a.rest ≡ Some 92 → Reads Escline false a.rest b.rest → Reads LineSpace false a.rest b.rest
+escline_false a b e h r p = go a.rest e h p
+  where
+    go : (s : Text) → first s ≡ Some 92 → ((r : Text) → Escline s r → ⊥) → LineSpace s r → ⊥
+    go [] e h p = cc
+    go (c ∷ s) e h p = let k : c ≡ 92 = cc in at_backslash (subst (λ z. LineSpace (z ∷ s) r) k p) (λ x. h r (subst (λ z. Escline (z ∷ s) r) (sym k) x))
+
+pub escline_reads : (v : Bool) (a b : Here) → first a.rest ≡ Some 92 → Reads Escline v a.rest b.rest → Reads LineSpace v a.rest b.rest
+escline_reads true a b e h = escline_true a b h
+escline_reads false a b e h = escline_false a b e h
+
+-- a space
+pub space_here : (a b : Here) (c : ℕ) → first a.rest ≡ Some c → is_space c ≡ true → b.rest ≡ tail a.rest → Reads LineSpace true a.rest b.rest
+space_here a b c e h k = go a.rest e k
+  where
+    go : (s : Text) → first s ≡ Some c → b.rest ≡ tail s → Reads LineSpace true s b.rest
+    go [] e k = cc
+    go (d ∷ s) e k = let m : is_space d ≡ true = (let n : d ≡ c = cc in ap is_space n ∙ h) in found (line_space (ws (ws_space (subst (λ z. Space (d ∷ s) z) (sym k) (space_char m)))))
+
+-- anything else
+pub newline_true : (a b : Here) → ReadsNewline true a b → Reads LineSpace true a.rest b.rest
+newline_true a b n = found (line_break (break_newline n))
+
+pub newline_false : (a m b : Here) → (first a.rest ≡ Some 47 → ⊥) → (first a.rest ≡ Some 92 → ⊥) → ((c : ℕ) → first a.rest ≡ Some c → is_space c ≡ false) → m.rest ≡ a.rest → ReadsNewline false m b → Reads LineSpace false a.rest b.rest
+newline_false a m b f g h e n r p = go a.rest f g h (λ t x. n.1 t (subst (λ z. Newline z t) (sym e) x)) p
+  where
+    go : (s : Text) → (first s ≡ Some 47 → ⊥) → (first s ≡ Some 92 → ⊥) → ((c : ℕ) → first s ≡ Some c → is_space c ≡ false) → ((t : Text) → Newline s t → ⊥) → LineSpace s r → ⊥
+    go [] f g h n p = at_end p
+    go (c ∷ s) f g h n p = at_other (λ e. f (ap Some e)) (λ e. g (ap Some e)) (h c refl) p (n r)
+
+-- spaces so far
+pub line_space_shorter : {s r : Text} → LineSpace s r → length r < length s
+line_space_shorter (line_space p) = node_space_shorter p
+line_space_shorter (line_break p) = break_shorter p
+
+pub reads_shorter : (s r : Text) → Reads LineSpace true s r → length r < length s
+reads_shorter s r h = line_space_shorter ((h r).1 refl)
+
+pub record SpacesSoFar (first now : Here) : Type 0 where
+  pub run : Star LineSpace first.rest now.rest
+  pub moves : Moves first now
+
+pub one_more_space : (f a b : Here) → SpacesSoFar f a → Reads LineSpace true a.rest b.rest → Moves a b → SpacesSoFar f b
+one_more_space f a b h r m = record { run = snoc h.run ((r b.rest).1 refl); moves = moves_then h.moves m }
+
+pub all_spaces : (f a b : Here) → SpacesSoFar f a → Reads LineSpace false a.rest b.rest → b.rest ≡ a.rest → Spaces f.rest b.rest
+all_spaces f a b h r e = rw e (record { run = h.run; stops = r })
+
+pub spaces_begin : (a : Here) → SpacesSoFar a a
+spaces_begin a = record { run = Star.none; moves = stays a }
