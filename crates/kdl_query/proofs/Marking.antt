@@ -5,7 +5,7 @@ use Rattle.std.proofs.lemmas.List.{append_assoc, append-nil, same_from_push}
 use Rattle.kdl_grammar.specs.Data.{Node, Nodes}
 use Rattle.kdl_query.specs.Data.{NodeTest, Selector, start, then, top}
 use Rattle.kdl_query.specs.Tests.{Meets}
-use Rattle.kdl_query.specs.Selects.{MeetsAt, Path, Reaches, Stands, node_at}
+use Rattle.kdl_query.specs.Selects.{MeetsAt, Path, Reaches, Relates, node_at}
 use Rattle.kdl_query.specs.Internal.Holds.{meets}
 use Rattle.kdl_query.specs.Internal.Parts.{PartSays, after, at_top, inside, is_reached, leads_on, passes}
 use Rattle.kdl_query.specs.declared.part.Link.{Link}
@@ -34,7 +34,7 @@ pub record Knows (x : Nodes) (q : Path) (i : ℕ) (s : Selector) (m : Marks) : T
 
 -- a combinator leads from the selector to a path
 abbrev pub Led : Nodes → Combinator → Selector → Path → Type 0
-Led x c s p = (r : Path) × Reaches x s r × Stands c r p
+Led x c s p = (r : Path) × Reaches x s r × Relates c r p
 
 -- a list with one more has a first element; a list with a first element has a last one
 first_of : (b : Path) (i : ℕ) → (j : ℕ) × (r : Path) × (b ++ i ∷ [] ≡ j ∷ r)

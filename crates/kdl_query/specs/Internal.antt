@@ -2,3 +2,5 @@
 pub mod Holds
 pub mod Parts
 pub mod Visits
+-- What the readers of query texts return.
+pub mod QueryReading

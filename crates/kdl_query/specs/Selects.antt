@@ -23,11 +23,11 @@ node_at [] x = None
 node_at (i ∷ p) x = option_and_then (node_below p) (slice_get (said_nodes x) i)
 
 -- q is the parent of p, a node or document around it, the sibling directly before it, some sibling before it
-abbrev pub Stands : Combinator → Path → Path → Type 0
-Stands Child q p = (i : ℕ) × (p ≡ q ++ i ∷ [])
-Stands Descendant q p = (i : ℕ) × (r : Path) × (p ≡ q ++ i ∷ r)
-Stands NextSibling q p = (r : Path) × (i : ℕ) × (q ≡ r ++ i ∷ []) × (p ≡ r ++ suc i ∷ [])
-Stands LaterSibling q p = (r : Path) × (i : ℕ) × (j : ℕ) × (i < j) × (q ≡ r ++ i ∷ []) × (p ≡ r ++ j ∷ [])
+abbrev pub Relates : Combinator → Path → Path → Type 0
+Relates Child q p = (i : ℕ) × (p ≡ q ++ i ∷ [])
+Relates Descendant q p = (i : ℕ) × (r : Path) × (p ≡ q ++ i ∷ r)
+Relates NextSibling q p = (r : Path) × (i : ℕ) × (q ≡ r ++ i ∷ []) × (p ≡ r ++ suc i ∷ [])
+Relates LaterSibling q p = (r : Path) × (i : ℕ) × (j : ℕ) × (i < j) × (q ≡ r ++ i ∷ []) × (p ≡ r ++ j ∷ [])
 
 -- a node is at the path, and it meets the test
 abbrev pub MeetsAt : Nodes → NodeTest → Path → Type 0
@@ -37,7 +37,7 @@ MeetsAt x t p = IsSomeAnd (node_at p x) (Meets t)
 abbrev pub Reaches : Nodes → Selector → Path → Type 0
 Reaches x top p = p ≡ []
 Reaches x (start t) p = MeetsAt x t p
-Reaches x (then s c t) p = MeetsAt x t p × ((q : Path) × Reaches x s q × Stands c q p)
+Reaches x (then s c t) p = MeetsAt x t p × ((q : Path) × Reaches x s q × Relates c q p)
 
 -- the selector selects the path; `top()` alone selects the top-level nodes
 abbrev pub Selects : Nodes → Selector → Path → Type 0
