@@ -1,0 +1,218 @@
+//! Queries as trees, and random ones.
+
+use crate::data::{Bare, Entry, Spot, Value, Word, value, word};
+use crate::dice::Dice;
+use std::alloc::{AllocError, Global};
+
+/// What a test looks at.
+#[derive(Clone, Copy)]
+pub enum Accessor {
+    Argument(usize),
+    Property(Word),
+    Name,
+    Type,
+    Arguments,
+    Properties,
+}
+
+/// What a comparison has at its right: a type, which may be any, or a value.
+#[derive(Clone, Copy)]
+pub enum Literal {
+    Type(Option<Word>),
+    Value(Value),
+}
+
+/// A test. A comparison is the text of its operator.
+#[derive(Clone, Copy)]
+pub enum Test {
+    Always,
+    Has(Accessor),
+    Compares(Accessor, &'static str, Literal),
+}
+
+/// What a node has to meet. A type may be any.
+#[derive(Drop)]
+pub struct Want {
+    pub ty: Option<Option<Word>>,
+    pub name: Option<Word>,
+    pub tests: Vec<Test>,
+}
+
+/// A selector: its beginning, or a shorter one, the text of an operator, and what comes after it.
+#[derive(Drop)]
+pub enum Chain {
+    Top,
+    Start(Want),
+    Then(Box<Chain>, &'static str, Want),
+}
+
+static OPERATORS: [&str; 4] = [">", ">>", "+", "++"];
+
+static COMPARISONS: [&str; 12] = [
+    "=", "=", "=", "!=", ">", ">=", "<", "<=", "^=", "$=", "*=", "*=",
+];
+
+/// An entry of the node, if it has some.
+fn entry_of(dice: &mut Dice, spot: &Spot) -> Option<Entry> {
+    let at = dice.below(spot.entries.len());
+    spot.entries.get(at).copied()
+}
+
+/// A random accessor, often of an entry of the node.
+fn accessor(dice: &mut Dice, spot: &Spot) -> Accessor {
+    match dice.below(7) {
+        0 | 1 => Accessor::Argument(dice.below(3)),
+        2 => Accessor::Name,
+        3 => Accessor::Type,
+        4 => Accessor::Arguments,
+        5 => Accessor::Properties,
+        _ => match entry_of(dice, spot) {
+            Some(Entry { key: Some(key), .. }) => Accessor::Property(key),
+            _ => Accessor::Property(word(dice)),
+        },
+    }
+}
+
+/// A random literal, often one that an entry of the node has.
+fn literal(dice: &mut Dice, spot: &Spot, accessor: Accessor) -> Literal {
+    let entry = entry_of(dice, spot);
+    let known = match (accessor, entry) {
+        (Accessor::Name, _) => Value::Text(spot.name),
+        (_, Some(entry)) => entry.value,
+        (_, None) => value(dice),
+    };
+    match (dice.below(8), entry) {
+        (0, Some(entry)) => Literal::Type(entry.ty),
+        (1, _) => Literal::Type(None),
+        (2 | 3, _) => Literal::Value(Value::Text(word(dice))),
+        (4, _) => Literal::Value(value(dice)),
+        (_, _) => Literal::Value(known),
+    }
+}
+
+/// A random test.
+fn test(dice: &mut Dice, spot: &Spot) -> Test {
+    let accessor = accessor(dice, spot);
+    match dice.below(8) {
+        0 => Test::Always,
+        1 | 2 => Test::Has(accessor),
+        _ => {
+            let comparison = dice.text(&COMPARISONS);
+            Test::Compares(accessor, comparison, literal(dice, spot, accessor))
+        }
+    }
+}
+
+/// Whether the comparison is allowed between the two.
+fn is_comparable(accessor: Accessor, comparison: &str, literal: Literal) -> bool {
+    let is_text = matches!(literal, Literal::Value(Value::Text(_)));
+    let is_number = matches!(
+        literal,
+        Literal::Value(Value::Number(_) | Value::Keyword("#inf" | "#-inf" | "#nan"))
+    );
+    match (accessor, comparison) {
+        (Accessor::Name | Accessor::Type, ">" | ">=" | "<" | "<=") => false,
+        (Accessor::Name | Accessor::Type, _) => is_text,
+        (_, "=" | "!=") => true,
+        (_, "^=" | "$=" | "*=") => is_text,
+        (_, _) => is_number,
+    }
+}
+
+impl Test {
+    /// Whether the test is allowed.
+    fn is_allowed(&self) -> bool {
+        match self {
+            Test::Compares(accessor, comparison, literal) => {
+                is_comparable(*accessor, comparison, *literal)
+            }
+            _ => true,
+        }
+    }
+}
+
+impl Chain {
+    /// Whether all tests are allowed.
+    pub fn is_allowed(&self) -> bool {
+        match self {
+            Chain::Top => true,
+            Chain::Start(want) => want.is_allowed(),
+            Chain::Then(before, _, want) => want.is_allowed() && before.is_allowed(),
+        }
+    }
+}
+
+/// A random test, which is seldom one that is not allowed.
+fn mostly_allowed(dice: &mut Dice, spot: &Spot) -> Test {
+    for _ in 0..8 {
+        let test = test(dice, spot);
+        if test.is_allowed() || dice.one_in(60) {
+            return test;
+        }
+    }
+    Test::Always
+}
+
+impl Want {
+    /// Whether all tests are allowed.
+    fn is_allowed(&self) -> bool {
+        self.tests.iter().all(|test| test.is_allowed())
+    }
+
+    /// What the node, or one with another name, meets at times.
+    fn new(alloc: Global, dice: &mut Dice, spot: &Spot) -> Result<Want, AllocError> {
+        let mut tests = Vec::new(alloc);
+        if dice.one_in(2) {
+            for _ in 0..dice.below(3) {
+                tests.push(mostly_allowed(dice, spot))?;
+            }
+        }
+        let ty = match dice.below(12) {
+            0 => Some(spot.ty),
+            1 => Some(None),
+            2 => Some(Some(word(dice))),
+            _ => None,
+        };
+        let name = match dice.below(6) {
+            0 => Some(word(dice)),
+            1 | 2 => None,
+            _ => Some(spot.name),
+        };
+        if tests.is_empty() && ty.is_none() && name.is_none() {
+            tests.push(Test::Always)?;
+        }
+        Ok(Want { ty, name, tests })
+    }
+}
+
+/// A random selector, for some of the nodes.
+fn chain(alloc: Global, dice: &mut Dice, spots: &[Spot], other: &Spot) -> Result<Chain, AllocError> {
+    let mut chain = Chain::Top;
+    if !dice.one_in(6) {
+        let at = dice.below(spots.len());
+        chain = Chain::Start(Want::new(alloc, dice, spots.get(at).unwrap_or(other))?);
+    }
+    let most = dice.below(4);
+    for _ in 0..dice.below(most.saturating_add(1)) {
+        let at = dice.below(spots.len());
+        let want = Want::new(alloc, dice, spots.get(at).unwrap_or(other))?;
+        chain = Chain::Then(Box::new(alloc, chain)?, dice.text(&OPERATORS), want);
+    }
+    Ok(chain)
+}
+
+/// The selectors of a random query for some of the nodes.
+pub fn chains(alloc: Global, dice: &mut Dice, spots: &[Spot]) -> Result<Vec<Chain>, AllocError> {
+    let other = Spot {
+        path: Vec::new(alloc),
+        ty: None,
+        name: Word("b", Bare::Anywhere),
+        entries: Vec::new(alloc),
+    };
+    let mut chains = Vec::new(alloc);
+    chains.push(chain(alloc, dice, spots, &other)?)?;
+    if dice.one_in(4) {
+        chains.push(chain(alloc, dice, spots, &other)?)?;
+    }
+    Ok(chains)
+}
