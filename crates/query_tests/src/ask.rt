@@ -1,6 +1,6 @@
 //! Queries as trees, and random ones.
 
-use crate::data::{Bare, Entry, Spot, Value, Word, value, word};
+use crate::data::{Bare, Entry, Spot, Value, Word, random_value, random_word};
 use crate::dice::Dice;
 use std::alloc::{AllocError, Global};
 
@@ -59,7 +59,7 @@ fn entry_of(dice: &mut Dice, spot: &Spot) -> Option<Entry> {
 }
 
 /// A random accessor, often of an entry of the node.
-fn accessor(dice: &mut Dice, spot: &Spot) -> Accessor {
+fn random_accessor(dice: &mut Dice, spot: &Spot) -> Accessor {
     match dice.below(7) {
         0 | 1 => Accessor::Argument(dice.below(3)),
         2 => Accessor::Name,
@@ -68,37 +68,37 @@ fn accessor(dice: &mut Dice, spot: &Spot) -> Accessor {
         5 => Accessor::Properties,
         _ => match entry_of(dice, spot) {
             Some(Entry { key: Some(key), .. }) => Accessor::Property(key),
-            _ => Accessor::Property(word(dice)),
+            _ => Accessor::Property(random_word(dice)),
         },
     }
 }
 
 /// A random literal, often one that an entry of the node has.
-fn literal(dice: &mut Dice, spot: &Spot, accessor: Accessor) -> Literal {
+fn random_literal(dice: &mut Dice, spot: &Spot, accessor: Accessor) -> Literal {
     let entry = entry_of(dice, spot);
     let known = match (accessor, entry) {
         (Accessor::Name, _) => Value::Text(spot.name),
         (_, Some(entry)) => entry.value,
-        (_, None) => value(dice),
+        (_, None) => random_value(dice),
     };
     match (dice.below(8), entry) {
         (0, Some(entry)) => Literal::Type(entry.ty),
         (1, _) => Literal::Type(None),
-        (2 | 3, _) => Literal::Value(Value::Text(word(dice))),
-        (4, _) => Literal::Value(value(dice)),
+        (2 | 3, _) => Literal::Value(Value::Text(random_word(dice))),
+        (4, _) => Literal::Value(random_value(dice)),
         (_, _) => Literal::Value(known),
     }
 }
 
 /// A random test.
-fn test(dice: &mut Dice, spot: &Spot) -> Test {
-    let accessor = accessor(dice, spot);
+fn random_test(dice: &mut Dice, spot: &Spot) -> Test {
+    let accessor = random_accessor(dice, spot);
     match dice.below(8) {
         0 => Test::Always,
         1 | 2 => Test::Has(accessor),
         _ => {
             let comparison = dice.text(&COMPARISONS);
-            Test::Compares(accessor, comparison, literal(dice, spot, accessor))
+            Test::Compares(accessor, comparison, random_literal(dice, spot, accessor))
         }
     }
 }
@@ -145,7 +145,7 @@ impl Chain {
 /// A random test, which is seldom one that is not allowed.
 fn mostly_allowed(dice: &mut Dice, spot: &Spot) -> Test {
     for _ in 0..8 {
-        let test = test(dice, spot);
+        let test = random_test(dice, spot);
         if test.is_allowed() || dice.one_in(60) {
             return test;
         }
@@ -170,11 +170,11 @@ impl Want {
         let ty = match dice.below(12) {
             0 => Some(spot.ty),
             1 => Some(None),
-            2 => Some(Some(word(dice))),
+            2 => Some(Some(random_word(dice))),
             _ => None,
         };
         let name = match dice.below(6) {
-            0 => Some(word(dice)),
+            0 => Some(random_word(dice)),
             1 | 2 => None,
             _ => Some(spot.name),
         };
@@ -186,7 +186,12 @@ impl Want {
 }
 
 /// A random selector, for some of the nodes.
-fn chain(alloc: Global, dice: &mut Dice, spots: &[Spot], other: &Spot) -> Result<Chain, AllocError> {
+fn random_chain(
+    alloc: Global,
+    dice: &mut Dice,
+    spots: &[Spot],
+    other: &Spot,
+) -> Result<Chain, AllocError> {
     let mut chain = Chain::Top;
     if !dice.one_in(6) {
         let at = dice.below(spots.len());
@@ -210,9 +215,9 @@ pub fn chains(alloc: Global, dice: &mut Dice, spots: &[Spot]) -> Result<Vec<Chai
         entries: Vec::new(alloc),
     };
     let mut chains = Vec::new(alloc);
-    chains.push(chain(alloc, dice, spots, &other)?)?;
+    chains.push(random_chain(alloc, dice, spots, &other)?)?;
     if dice.one_in(4) {
-        chains.push(chain(alloc, dice, spots, &other)?)?;
+        chains.push(random_chain(alloc, dice, spots, &other)?)?;
     }
     Ok(chains)
 }

@@ -90,7 +90,7 @@ static NUMBERS: [(&str, i32); 12] = [
 static KEYWORDS: [&str; 6] = ["#true", "#false", "#null", "#inf", "#-inf", "#nan"];
 
 /// A random string.
-pub fn word(dice: &mut Dice) -> Word {
+pub fn random_word(dice: &mut Dice) -> Word {
     let most = dice.below(WORDS.len());
     let at = dice.below(most.saturating_add(1));
     match WORDS.get(at) {
@@ -99,18 +99,19 @@ pub fn word(dice: &mut Dice) -> Word {
     }
 }
 
-/// A random string, or none, which is as likely as all strings together.
-pub fn word_or_none(dice: &mut Dice) -> Option<Word> {
-    if dice.one_in(2) {
-        return None;
+/// A random string in one of so many cases, and else none.
+fn seldom_word(dice: &mut Dice, cases: usize) -> Option<Word> {
+    if dice.one_in(cases) {
+        Some(random_word(dice))
+    } else {
+        None
     }
-    Some(word(dice))
 }
 
 /// A random value.
-pub fn value(dice: &mut Dice) -> Value {
+pub fn random_value(dice: &mut Dice) -> Value {
     match dice.below(5) {
-        0 | 1 => Value::Text(word(dice)),
+        0 | 1 => Value::Text(random_word(dice)),
         2 => Value::Keyword(dice.text(&KEYWORDS)),
         _ => {
             let (digits, power) = dice.pick(&NUMBERS, ("0", 0));
@@ -124,24 +125,24 @@ pub fn value(dice: &mut Dice) -> Value {
 }
 
 /// A random argument or property.
-fn entry(dice: &mut Dice) -> Entry {
+fn random_entry(dice: &mut Dice) -> Entry {
     Entry {
-        key: word_or_none(dice),
-        ty: if dice.one_in(4) { Some(word(dice)) } else { None },
-        value: value(dice),
+        key: seldom_word(dice, 2),
+        ty: seldom_word(dice, 4),
+        value: random_value(dice),
     }
 }
 
 /// A random node at that path.
-fn spot(alloc: Global, dice: &mut Dice, path: Vec<usize>) -> Result<Spot, AllocError> {
+fn random_spot(alloc: Global, dice: &mut Dice, path: Vec<usize>) -> Result<Spot, AllocError> {
     let mut entries = Vec::new(alloc);
     for _ in 0..dice.below(5) {
-        entries.push(entry(dice))?;
+        entries.push(random_entry(dice))?;
     }
     Ok(Spot {
         path,
-        ty: if dice.one_in(4) { Some(word(dice)) } else { None },
-        name: word(dice),
+        ty: seldom_word(dice, 4),
+        name: random_word(dice),
         entries,
     })
 }
@@ -169,7 +170,7 @@ pub fn spots(alloc: Global, dice: &mut Dice) -> Result<Vec<Spot>, AllocError> {
     let mut path = Vec::new(alloc);
     for _ in 0..dice.below(12) {
         path = next_path(dice, &path)?;
-        spots.push(spot(alloc, dice, path.clone()?)?)?;
+        spots.push(random_spot(alloc, dice, path.clone()?)?)?;
     }
     Ok(spots)
 }

@@ -1,5 +1,7 @@
 //! Random choices, the same for the same seed.
 
+ghost use Rattle.std.specs.Prelude.{◌≤◌};
+
 use rand_xoshiro::Xoshiro256PlusPlus;
 use rand_xoshiro::rand_core::{Rng, SeedableRng};
 
@@ -18,7 +20,9 @@ impl Dice {
     }
 
     /// A number below the limit, or 0 if the limit is 0.
-    pub fn below(&mut self, limit: usize) -> usize {
+    pub fn below(&mut self, limit: usize) -> usize
+        ensures { result ≤ limit }
+    {
         if limit == 0 {
             return 0;
         }

@@ -70,7 +70,10 @@ fn main(rt: HostRuntime) -> io::Result<ExitCode> {
     for at in 0..count {
         counts.add(&rt, seed.wrapping_add(at))?;
     }
-    println!(rt; "{} pairs of a document and a query, {} differ", counts.pairs, counts.differ)?;
+    println!(rt;
+        "{} pairs of a document and a query, {} differ",
+        counts.pairs, counts.differ
+    )?;
     Ok(if counts.is_passed() {
         ExitCode::SUCCESS
     } else {

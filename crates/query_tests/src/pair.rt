@@ -75,32 +75,36 @@ impl Pair {
         document: &KdlDocument,
         asked: &Query,
     ) -> Result<Outcome, AllocError> {
-        let mut wanted = Vec::new(alloc);
+        let paths = query_paths(alloc, document, asked)?;
+        let nodes = query_all(alloc, document, asked)?;
+        let first = query(alloc, document, asked)?;
+        let mut count: usize = 0;
         for spot in &self.spots {
             if !is_at(document, spot) {
                 return Ok(Outcome::Differs("`node_at` finds another node"));
             }
-            if is_selected(&self.spots, &self.chains, spot) {
-                wanted.push(spot)?;
+            if !is_selected(&self.spots, &self.chains, spot) {
+                continue;
             }
+            if !is_path(paths.get(count), spot) {
+                return Ok(Outcome::Differs("`query_paths` finds another path"));
+            }
+            if !is_node(document, nodes.get(count).copied(), spot) {
+                return Ok(Outcome::Differs("`query_all` finds another node"));
+            }
+            if count == 0 && !is_node(document, first, spot) {
+                return Ok(Outcome::Differs("`query` finds another node"));
+            }
+            count = count.saturating_add(1);
         }
-        if !are_paths(&query_paths(alloc, document, asked)?, &wanted) {
-            return Ok(Outcome::Differs("`query_paths` finds other paths"));
+        if paths.len() != count || nodes.len() != count || first.is_some() != (count > 0) {
+            return Ok(Outcome::Differs("more nodes are found"));
         }
-        if !are_nodes(document, &query_all(alloc, document, asked)?, &wanted) {
-            return Ok(Outcome::Differs("`query_all` finds other nodes"));
-        }
-        match (query(alloc, document, asked)?, wanted.first()) {
-            (None, None) => {}
-            (Some(node), Some(spot)) if is_node_at(document, node, spot) => {}
-            (_, _) => return Ok(Outcome::Differs("`query` finds another node")),
-        }
-        Ok(Outcome::Agrees(wanted.len()))
+        Ok(Outcome::Agrees(count))
     }
 }
 
-/// Whether the node of the document at that path has this name and so many entries, and has no node after its children
-/// at a path below.
+/// Whether the node of the document at that path has this name and so many entries.
 fn is_at(document: &KdlDocument, spot: &Spot) -> bool {
     match node_at(document, &spot.path) {
         Some(node) => {
@@ -110,28 +114,18 @@ fn is_at(document: &KdlDocument, spot: &Spot) -> bool {
     }
 }
 
-/// Whether it is the node of the document at that path.
-fn is_node_at(document: &KdlDocument, node: &KdlNode, spot: &Spot) -> bool {
-    match node_at(document, &spot.path) {
-        Some(other) => node.span() == other.span(),
+/// Whether this is the path of the node.
+fn is_path(path: Option<&Vec<usize>>, spot: &Spot) -> bool {
+    match path {
+        Some(path) => path.as_slice() == spot.path.as_slice(),
         None => false,
     }
 }
 
-/// Whether these are the paths of the nodes.
-fn are_paths(paths: &[Vec<usize>], spots: &[&Spot]) -> bool {
-    paths.len() == spots.len()
-        && paths
-            .iter()
-            .zip(spots)
-            .all(|(path, spot)| path.as_slice() == spot.path.as_slice())
-}
-
-/// Whether these are the nodes of the document at the paths.
-fn are_nodes(document: &KdlDocument, nodes: &[&KdlNode], spots: &[&Spot]) -> bool {
-    nodes.len() == spots.len()
-        && nodes
-            .iter()
-            .zip(spots)
-            .all(|(node, spot)| is_node_at(document, node, spot))
+/// Whether this is the node of the document at the path.
+fn is_node(document: &KdlDocument, node: Option<&KdlNode>, spot: &Spot) -> bool {
+    match (node, node_at(document, &spot.path)) {
+        (Some(node), Some(other)) => node.span() == other.span(),
+        (_, _) => false,
+    }
 }

@@ -22,13 +22,23 @@ pub struct Writer<'a> {
 }
 
 /// What may be between two entries.
-static GAPS: [&str; 8] = [" ", " ", " ", "  ", " /* c */ ", " \\\n", " /-9 ", " /-a=9\t"];
+static GAPS: [&str; 8] = [
+    " ",
+    " ",
+    " ",
+    "  ",
+    " /* c */ ",
+    " \\\n",
+    " /-9 ",
+    " /-a=9\t",
+];
 
 /// What may end a node.
 static ENDS: [&str; 4] = [";", "\n", " // c\n", " ; /-b { a; }\n"];
 
 /// What may be between two pieces of a query, and what has to be there after a bare name.
 static SPACES: [&str; 7] = ["", "", " ", "\n", "/* c */", " // c\n", " \\\n"];
+
 static SOME_SPACES: [&str; 6] = [" ", " ", "\t", "\n", "/* c */", " // c\n"];
 
 /// Whether the word may be bare in the language.
@@ -154,7 +164,10 @@ impl<'a> Writer<'a> {
             self.add(".")?;
             self.digits(digits.get(place..).unwrap_or("0"))?;
         }
-        let exponent = number.power.saturating_add(after_point as i32).saturating_sub(zeros as i32);
+        let exponent = number
+            .power
+            .saturating_add(after_point as i32)
+            .saturating_sub(zeros as i32);
         if exponent != 0 || self.dice.one_in(4) {
             self.add_one(&["e", "E"])?;
             write!(&mut self.text, "{exponent}")?;
@@ -228,13 +241,18 @@ impl<'a> Writer<'a> {
             self.spot(spot)?;
             last = level;
         }
-        self.between(1, last.max(1))
+        if last > 0 {
+            self.between(1, last)?;
+        }
+        Ok(())
     }
 
     /// Adds spaces, which are needed after a bare name.
     fn spaces(&mut self) -> Result<(), AllocError> {
         match self.text.chars().next_back() {
-            None | Some(')' | ']' | '[' | '(' | '"' | '#' | '>' | '+' | '|') => self.add_one(&SPACES),
+            None | Some(')' | ']' | '[' | '(' | '"' | '#' | '>' | '+' | '|') => self.add_one(
+                &SPACES,
+            ),
             Some(_) => self.add_one(&SOME_SPACES),
         }
     }
