@@ -2,6 +2,7 @@
 
 use crate::data::{Bare, Entry, Spot, Value, Word, random_value, random_word};
 use crate::dice::Dice;
+use crate::relation::is_related;
 use std::alloc::{AllocError, Global};
 
 /// What a test looks at.
@@ -185,23 +186,39 @@ impl Want {
     }
 }
 
-/// A random selector, for some of the nodes.
+/// An operator, mostly one that leads from the first path to the second if there is one.
+fn operator(dice: &mut Dice, before: &[usize], path: &[usize]) -> &'static str {
+    for _ in 0..6 {
+        let operator = dice.text(&OPERATORS);
+        if is_related(before, operator, path) {
+            return operator;
+        }
+    }
+    dice.text(&OPERATORS)
+}
+
+/// A random selector for some of the nodes, each after the one before it in the document.
 fn random_chain(
     alloc: Global,
     dice: &mut Dice,
     spots: &[Spot],
     other: &Spot,
 ) -> Result<Chain, AllocError> {
-    let mut chain = Chain::Top;
-    if !dice.one_in(6) {
-        let at = dice.below(spots.len());
-        chain = Chain::Start(Want::new(alloc, dice, spots.get(at).unwrap_or(other))?);
+    let mut at = dice.below(spots.len());
+    let mut last = spots.get(at).unwrap_or(other);
+    let mut chain = Chain::Start(Want::new(alloc, dice, last)?);
+    if dice.one_in(6) {
+        chain = Chain::Top;
+        last = other;
     }
     let most = dice.below(4);
     for _ in 0..dice.below(most.saturating_add(1)) {
-        let at = dice.below(spots.len());
-        let want = Want::new(alloc, dice, spots.get(at).unwrap_or(other))?;
-        chain = Chain::Then(Box::new(alloc, chain)?, dice.text(&OPERATORS), want);
+        at = at.saturating_add(dice.below(3)).saturating_add(1);
+        let spot = spots.get(at).unwrap_or(other);
+        let operator = operator(dice, &last.path, &spot.path);
+        let want = Want::new(alloc, dice, spot)?;
+        chain = Chain::Then(Box::new(alloc, chain)?, operator, want);
+        last = spot;
     }
     Ok(chain)
 }

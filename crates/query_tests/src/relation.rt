@@ -163,7 +163,7 @@ fn meets(spot: &Spot, want: &Want) -> bool {
 }
 
 /// Whether the first path is related to the second as the operator says.
-fn is_related(before: &[usize], operator: &str, path: &[usize]) -> bool {
+pub fn is_related(before: &[usize], operator: &str, path: &[usize]) -> bool {
     match (operator, before.split_last(), path.split_last()) {
         (">", _, Some((_, parent))) => parent == before,
         (">>", _, Some((_, parent))) => parent.starts_with(before),
