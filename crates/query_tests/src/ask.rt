@@ -169,9 +169,9 @@ impl Want {
             }
         }
         let ty = match dice.below(12) {
-            0 => Some(spot.ty),
-            1 => Some(None),
-            2 => Some(Some(random_word(dice))),
+            0 => Some(None),
+            1 => Some(Some(random_word(dice))),
+            2 | 3 if spot.ty.is_some() => Some(spot.ty),
             _ => None,
         };
         let name = match dice.below(6) {

@@ -3,7 +3,7 @@
 //! `query_tests COUNT SEED` makes COUNT pairs of a document and a query, as trees of its own. It writes both as texts,
 //! reads these by the library, and compares what the query finds with the relation of queries, tried on each path of
 //! the tree. It writes the first pairs that differ, and how many pairs do. The exit code is `FAILURE` if one differs, or
-//! if fewer than half of the queries select a node, as they would then show little.
+//! if fewer than a third of the queries select a node, as they would then show little.
 #![tactic(auto)]
 
 mod ask;
@@ -46,7 +46,7 @@ impl Counts {
 
     /// Whether the queries agree and show something.
     fn is_passed(self) -> bool {
-        self.differ == 0 && self.found >= self.pairs / 2
+        self.differ == 0 && self.found >= self.pairs / 3
     }
 }
 
