@@ -61,7 +61,7 @@ fn entry_of(dice: &mut Dice, spot: &Spot) -> Option<Entry> {
 
 /// A random accessor, often of an entry of the node.
 fn random_accessor(dice: &mut Dice, spot: &Spot) -> Accessor {
-    match dice.below(7) {
+    match dice.below(8) {
         0 | 1 => Accessor::Argument(dice.below(3)),
         2 => Accessor::Name,
         3 => Accessor::Type,

@@ -89,14 +89,18 @@ static NUMBERS: [(&str, i32); 12] = [
 
 static KEYWORDS: [&str; 6] = ["#true", "#false", "#null", "#inf", "#-inf", "#nan"];
 
-/// A random string.
-pub fn random_word(dice: &mut Dice) -> Word {
-    let most = dice.below(WORDS.len());
-    let at = dice.below(most.saturating_add(1));
-    match WORDS.get(at) {
+/// One of the first strings, of which there are so many.
+fn early_word(dice: &mut Dice, count: usize) -> Word {
+    match WORDS.get(dice.below(count)) {
         Some(word) => *word,
         None => ANY,
     }
+}
+
+/// A random string.
+pub fn random_word(dice: &mut Dice) -> Word {
+    let most = dice.below(WORDS.len());
+    early_word(dice, most.saturating_add(1))
 }
 
 /// A random string in one of so many cases, and else none.
@@ -127,7 +131,11 @@ pub fn random_value(dice: &mut Dice) -> Value {
 /// A random argument or property.
 fn random_entry(dice: &mut Dice) -> Entry {
     Entry {
-        key: seldom_word(dice, 2),
+        key: match dice.below(6) {
+            0 => Some(random_word(dice)),
+            1 | 2 => Some(early_word(dice, 3)),
+            _ => None,
+        },
         ty: seldom_word(dice, 4),
         value: random_value(dice),
     }
