@@ -8,6 +8,7 @@ use crate::item::Item;
 use crate::layout::{Asked, lays_out};
 use crate::line::{Call, Kind, Line};
 use crate::notation::{Fills, encode};
+use crate::query::check_query;
 use crate::row::Row;
 use kdl::{FloatFailure, KdlFloat, KdlIdentifier, KdlValue};
 use kdl_diagnostics::Whole;
@@ -62,6 +63,7 @@ pub fn check(case: &Case<'_>) -> Result<(), Fault> {
         Call::String => check_string(case),
         Call::Fronts => check_fronts(case),
         Call::Replaced => check_replaced(case),
+        Call::Query => check_query(case),
         _ => check_item(case),
     }
 }
@@ -118,7 +120,7 @@ fn reads_back(case: &Case<'_>, printed: &str) -> Result<(), Fault> {
 }
 
 /// Checks that each expected line was found.
-fn compare(case: &Case<'_>, dump: &Dump) -> Result<(), Fault> {
+pub fn compare(case: &Case<'_>, dump: &Dump) -> Result<(), Fault> {
     dump.outcome()?;
     for notation in case.row.lines {
         if let Kind::Wanted = Line::of(notation).kind() {

@@ -5,6 +5,7 @@ use kdl::{
     KdlDiagnostic, KdlDocument, KdlDocumentFormat, KdlEntry, KdlEntryFormat, KdlIdentifier,
     KdlNode, KdlNodeFormat, KdlValue, Severity, SourceSpan,
 };
+use kdl_query::QueryError;
 use std::alloc::{AllocError, Global};
 
 /// The lines that a text yields: all of them, or only those of its data, which say what the text means and not how it
@@ -338,6 +339,21 @@ impl Dump {
         self.words("label", &told.label);
         self.words("help", &told.help);
         self.form("", "severity", ": ", severity(told));
+    }
+
+    /// Adds the lines of the error of a query.
+    pub fn query_error(&mut self, error: &QueryError) {
+        let range = range(self.alloc, error.span);
+        let range = self.taken(range);
+        let words = format!(in self.alloc; ": {range} {}", error.message);
+        let words = self.taken(words);
+        self.span("", "refused", error.span);
+        self.form("refused", "", &words, "");
+        self.form("", "message", ": ", error.message);
+        match error.help {
+            Some(help) => self.form("", "help", ": ", help),
+            None => self.form("", "no ", "help", ""),
+        }
     }
 
     /// Adds a message, label or hint of a diagnostic, or that there is none.

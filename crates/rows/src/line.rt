@@ -13,6 +13,7 @@ pub enum Call {
     String,
     Fronts,
     Replaced,
+    Query,
 }
 
 impl Call {
@@ -33,6 +34,14 @@ impl Call {
             _ => false,
         }
     }
+
+    /// Whether the call reads a query.
+    pub fn is_query(self) -> bool {
+        match self {
+            Call::Query => true,
+            _ => false,
+        }
+    }
 }
 
 /// What a line is for.
@@ -46,12 +55,14 @@ pub enum Kind {
     Layout,
     /// Sets a text in a place before layout.
     Place,
+    /// The document that a query is tried on.
+    On,
     /// Says what is expected.
     Wanted,
 }
 
 /// What the lines with these labels and a text are for.
-const KINDS: [(&str, Kind); 13] = [
+const KINDS: [(&str, Kind); 15] = [
     ("document", Kind::Text(Call::Document)),
     ("node", Kind::Text(Call::Node)),
     ("entry", Kind::Text(Call::Entry)),
@@ -60,11 +71,13 @@ const KINDS: [(&str, Kind); 13] = [
     ("string", Kind::Text(Call::String)),
     ("fronts", Kind::Text(Call::Fronts)),
     ("replaced", Kind::Text(Call::Replaced)),
+    ("query", Kind::Text(Call::Query)),
     ("each", Kind::Making),
     ("by", Kind::Making),
     ("within", Kind::Making),
     ("indent", Kind::Layout),
     ("level", Kind::Layout),
+    ("on", Kind::On),
 ];
 
 /// A line of a row: its label, and its text, or none if the line is only a label.

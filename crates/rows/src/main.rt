@@ -17,6 +17,7 @@ mod line;
 mod members;
 mod notation;
 mod places;
+mod query;
 mod row;
 
 use file::{Counts, run_file};

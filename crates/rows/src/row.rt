@@ -22,6 +22,8 @@ struct Seen {
     /// Whether there is a line that says how texts are laid out, or that sets a text before layout.
     has_setting: bool,
     has_layout: bool,
+    has_query: bool,
+    has_document: bool,
 }
 
 impl Seen {
@@ -33,7 +35,12 @@ impl Seen {
         let line = Line::of(line);
         match line.kind() {
             Kind::Text(_) if self.has_wanted => return Some("a text after what is expected: "),
-            Kind::Text(_) => self.has_text = true,
+            Kind::Text(call) => {
+                self.has_text = true;
+                self.has_query = self.has_query || call.is_query();
+            }
+            Kind::On if self.has_document => return Some("a second document: "),
+            Kind::On => self.has_document = true,
             Kind::Making => return making(line),
             Kind::Layout => self.has_setting = true,
             Kind::Place => {
@@ -58,6 +65,9 @@ impl Seen {
         }
         if self.has_setting && !self.has_layout {
             return Some("a setting of layout without layout");
+        }
+        if self.has_document && !self.has_query {
+            return Some("a document without a query");
         }
         None
     }
@@ -93,6 +103,8 @@ impl<'a> Row<'a> {
             has_wanted: false,
             has_setting: false,
             has_layout: false,
+            has_query: false,
+            has_document: false,
         };
         for line in self.lines {
             if let Some(what) = seen.add(line) {
