@@ -1,7 +1,22 @@
 //! Queries: the nodes of a document that a selector describes.
 //!
-//! A query is a list of selectors. A selector begins at the document or at nodes that meet a test. Each further part
-//! selects children, descendants or later siblings of the nodes before it, as its combinator says.
+//! A query is a list of selectors, with `||` between them. A selector begins at the document, `top()`, or at nodes that
+//! meet a test. Each further part selects children (`>`), descendants (`>>`), the next sibling (`+`) or later siblings
+//! (`++`) of the nodes before it. An operator after a bare name needs a space before it.
+//!
+//! | part of a query | nodes |
+//! |---|---|
+//! | `name`, `(t)`, `()`, `(t)name` | with this name, with this type, with a type, with both |
+//! | `[]` | all |
+//! | `[val()]`, `[val(1)]`, `[values()]` | with a first argument, with a second one, with some argument |
+//! | `[k]`, `[prop(k)]`, `[props()]` | with a property `k`, with some property |
+//! | `[tag()]` | with a type |
+//! | `[val() >= 1.5]`, `[k = #true]`, `[name() ^= "a"]` | whose value, property or name compares so |
+//! | `[val() = (u8)]` | whose value has this type |
+//!
+//! The comparisons are `=`, `!=`, `<`, `<=`, `>`, `>=` of numbers by their exact values, and `^=`, `$=`, `*=` of strings:
+//! a text begins with another, ends with it, contains it. Of several properties of a name the last one counts.
+//!
 //! [`Query::parse`] reads a query from its text. [`query_paths`] returns exactly the paths that a query selects, in the
 //! order of the document, each once.
 #![tactic(auto)]
