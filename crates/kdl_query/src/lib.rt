@@ -14,8 +14,8 @@
 //! | `[val() >= 1.5]`, `[k = #true]`, `[name() ^= "a"]` | whose value, property or name compares so |
 //! | `[val() = (u8)]` | whose value has this type |
 //!
-//! The comparisons are `=`, `!=`, `<`, `<=`, `>`, `>=` of numbers by their exact values, and `^=`, `$=`, `*=` of strings:
-//! a text begins with another, ends with it, contains it. Of several properties of a name the last one counts.
+//! Values compare by `=` and `!=`, numbers also by `<`, `<=`, `>` and `>=`, by their exact values, and strings by `^=`
+//! (begins with), `$=` (ends with) and `*=` (contains). Of several properties of a name the last one counts.
 //!
 //! [`Query::parse`] reads a query from its text. [`query_paths`] returns exactly the paths that a query selects, in the
 //! order of the document, each once.
