@@ -1,22 +1,17 @@
 -- From what readers of pieces return to what readers of larger pieces return.
-use Rattle.std.proofs.Common.{◌≡◌, ℕ, ◌<◌, ◌≤◌, pos, Bool, List, [], ◌∷◌, ◌++◌, true, false, codes, length, refl, sym, ap, ◌∙◌, subst, arith, ◌↔◌, IsTrue, inl, inr, ◌==◌, ◌||◌}
-use Rattle.std.proofs.lemmas.Bool.{and_parts}
-use Rattle.std.proofs.lemmas.List.{append_assoc, append-nil}
-use Rattle.std.specs.Prelude.{Option, Some, None, Result, Ok, Err, string_bytes, String, map, fold}
+use Rattle.std.proofs.Common.{◌≡◌, ℕ, ◌≤◌, Bool, [], ◌∷◌, ◌++◌, true, false, refl, sym, ap, ◌∙◌, subst, arith, ◌==◌, ◌||◌}
+use Rattle.std.proofs.lemmas.List.{append_assoc}
+use Rattle.std.specs.Prelude.{Option, Some, Result, Ok, Err}
 use Rattle.std.specs.Option.{option_eq}
 use Rattle.std.specs.Result.{IsErrAnd}
-use Rattle.std.specs.Str.{chars}
-use Rattle.std.specs.declared.alloc.Global.{Global}
 use Rattle.kdl_text.specs.Bare.{BareString}
-use Rattle.kdl_text.specs.Chars.{Text, Star, begins, begins_two, starts, is_space, is_newline_char, is_banned, is_punctuation, is_identifier_char}
+use Rattle.kdl_text.specs.Chars.{Text, begins, starts}
 use Rattle.kdl_text.specs.Internal.Here.{Here, Ate, Took, TookTwo, Skips, Stayed, first, looked, stepped, tail}
-use Rattle.kdl_text.specs.Internal.Reading.{Moves, Reads, Goes}
+use Rattle.kdl_text.specs.Internal.Reading.{Moves}
 use Rattle.kdl_text.specs.MultiLine.{IsQuoted}
 use Rattle.kdl_text.specs.Raw.{IsRaw}
 use Rattle.kdl_text.specs.Spans.{InText, bytes, raise, span_between}
-use Rattle.kdl_text.specs.declared.strings.StringFailure.{StringFailure}
-use Rattle.kdl_text.specs.declared.strings.StringFailure.TheVariants.{Fault as StringFault, Memory as StringMemory}
-use Rattle.kdl_text.proofs.Looking.MovesJoin.{bytes-append, stays, moves_then, moves_one, moves_two, moves_stayed, stayed_looked}
+use Rattle.kdl_text.proofs.Looking.MovesJoin.{bytes-append, stays, moves_then, moves_one, moves_stayed, stayed_looked}
 use Rattle.kdl_text.proofs.Quoted.StringUnique.{is_quoted_begins, is_raw_begins}
 use Rattle.kdl_text.proofs.Quoted.BareReads.{bare_begins, bare_det}
 use Rattle.kdl_value.specs.Tree.{text_of}
@@ -25,7 +20,7 @@ use Rattle.kdl_syntax.specs.Pieces.{StringPiece}
 use Rattle.kdl_syntax.proofs.Lexing.StringUnique.{quote_identifier, quote_sign, sign_identifier, string_det}
 use Rattle.kdl_query.specs.Data.{TypeTest, some_type, type_named}
 use Rattle.kdl_query.specs.QueryText.{IsName, IsOperatorWord, IsType, Spaces}
-use Rattle.kdl_query.specs.Internal.QueryReading.{Returns, ReadsPiece, OneChar, Closes, AteText, IsWord, TypeRest}
+use Rattle.kdl_query.specs.Internal.QueryReading.{ReadsPiece, OneChar, Closes, AteText, IsWord, TypeRest}
 use Rattle.kdl_query.specs.declared.error.Fault.{Fault as FaultKind}
 use Rattle.kdl_query.specs.declared.error.Refusal.{Refusal}
 use Rattle.kdl_query.specs.declared.error.Refusal.TheVariants.{Fault, Memory}
@@ -172,10 +167,7 @@ raw_none s r v h n x = go x.string
 pub raw_unread : (o : Refusal) (a b d : Here) → first a.rest ≡ Some 35 → b ≡ looked a → ((r v : Text) → IsRaw b.rest r v → o ≡ Memory) → Moves b d → ReadsPiece IsWord text_of (Err o) a d
 raw_unread o a b d h e n m = after_still text_of (Err o) a b d (still_looked e) (unread o b d (λ r v w k. raw_none b.rest r v (ap (λ z. first z.rest) e ∙ h) (λ t u q. k (n t u q)) w) m)
 
--- a word with no `(` after it
-pub word_name : (s r v : Text) → IsWord s r v → begins 40 r ≡ false → IsName s r v
-word_name s r v w h = record { string = w.string; no_operator = w.no_operator; no_function = h }
-
+-- a word with a `(` after it
 pub function_none : (s t w r v : Text) → IsWord s t w → begins 40 t ≡ true → IsName s r v → ⊥
 function_none s t w r v x h n = let e : begins 40 t ≡ begins 40 r = ap (begins 40) (string_det x.string n.string).0 in let k = n.no_function in cc
 

@@ -1,12 +1,12 @@
 -- Line-spaces, from what the readers of comments and spaces return.
 use Rattle.std.proofs.Common.{◌≡◌, ◌⊎◌, inl, inr, ℕ, ◌<◌, Bool, [], ◌∷◌, true, false, length, refl, sym, ap, ◌∙◌, subst}
-use Rattle.std.specs.Prelude.{Option, Some, None}
-use Rattle.kdl_text.specs.Chars.{Text, Newline, Space, Star, begins, begins_two, starts, is_space, is_newline_char}
+use Rattle.std.specs.Prelude.{Some, None}
+use Rattle.kdl_text.specs.Chars.{Text, Newline, Space, Star, begins_two, is_space}
 use Rattle.kdl_text.specs.Chars.Space.{space as space_char}
-use Rattle.kdl_text.specs.Internal.Here.{Here, Stayed, first, looked, stepped, tail}
+use Rattle.kdl_text.specs.Internal.Here.{Here, first, looked, tail}
 use Rattle.kdl_text.specs.Internal.Reading.{Moves, Reads, ReadsNewline}
 use Rattle.kdl_text.specs.Internal.TriviaReading.{ReadsSlash, Opens}
-use Rattle.kdl_text.specs.Trivia.{BlockComment, LineComment, Escline, NodeSpace, Break, LineSpace}
+use Rattle.kdl_text.specs.Trivia.{BlockComment, LineComment, Escline, LineSpace}
 use Rattle.kdl_text.specs.Trivia.Ws.{space as ws_space, comment as ws_comment}
 use Rattle.kdl_text.specs.Trivia.NodeSpace.{ws, escline as node_escline}
 use Rattle.kdl_text.specs.Trivia.Break.{newline as break_newline, comment as break_comment}
@@ -73,9 +73,6 @@ no_line s r h b = let k = line_comment_begins b in cc
 
 slash_other : (a b : Here) → first a.rest ≡ Some 47 → ReadsSlash Other a b → Reads LineSpace false a.rest b.rest
 slash_other a b e h r p = slash_none a.rest r e (λ t. no_block a.rest t h.0) (λ t. no_line a.rest t h.1) p
-
-dash_two : (s : Text) → begins_two 47 42 (47 ∷ 45 ∷ s) ≡ false
-dash_two s = refl
 
 slash_dash : (a b : Here) → a.rest ≡ 47 ∷ 45 ∷ b.rest → Reads LineSpace false a.rest b.rest
 slash_dash a b e r p = at_slash (subst (λ z. LineSpace z r) e p) (λ t. no_block _ r refl t) (λ t. no_line _ r refl t)

@@ -1,4 +1,4 @@
-use Rattle.std.proofs.Common.{◌≡◌, true, false, inl, inr, refl, IsTrue}
+use Rattle.std.proofs.Common.{inl, inr, refl, IsTrue}
 use Rattle.std.specs.Str.{chars}
 use Rattle.kdl_query.specs.QueryText.{IsOperatorWord}
 use Rattle.kdl_query.proofs.parse.names.is_operator.Goals as goal
