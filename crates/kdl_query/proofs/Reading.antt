@@ -1,28 +1,26 @@
 -- From what readers of pieces return to what readers of larger pieces return.
-use Rattle.std.proofs.Common.{◌≡◌, ℕ, ◌<◌, ◌≤◌, pos, Bool, List, [], ◌∷◌, ◌++◌, true, false, codes, length, refl, sym, ap, ◌∙◌, subst, arith, ◌↔◌, IsTrue, inl, inr, ◌==◌, ◌||◌}
-use Rattle.std.proofs.lemmas.Bool.{and_parts}
-use Rattle.std.proofs.lemmas.List.{append_assoc, append-nil}
-use Rattle.std.specs.Prelude.{Option, Some, None, Result, Ok, Err, string_bytes, String, map, fold}
-use Rattle.std.specs.Str.{chars}
-use Rattle.std.specs.declared.alloc.Global.{Global}
+use Rattle.std.proofs.Common.{◌≡◌, ℕ, ◌≤◌, Bool, [], ◌∷◌, ◌++◌, true, false, refl, sym, ap, ◌∙◌, subst, arith, ◌==◌, ◌||◌}
+use Rattle.std.proofs.lemmas.List.{append_assoc}
+use Rattle.std.specs.Prelude.{Option, Some, Result, Ok, Err}
+use Rattle.std.specs.Option.{option_eq}
+use Rattle.std.specs.Result.{IsErrAnd}
 use Rattle.kdl_text.specs.Bare.{BareString}
-use Rattle.kdl_text.specs.Chars.{Text, Star, begins, begins_two, starts, is_space, is_newline_char, is_banned, is_punctuation, is_identifier_char}
-use Rattle.kdl_text.specs.Internal.Here.{Here, Took, TookTwo, Stayed, first, looked}
-use Rattle.kdl_text.specs.Internal.Reading.{Moves, Reads, Goes}
+use Rattle.kdl_text.specs.Chars.{Text, begins, starts}
+use Rattle.kdl_text.specs.Internal.Here.{Here, Ate, Took, TookTwo, Skips, Stayed, first, looked, stepped, tail}
+use Rattle.kdl_text.specs.Internal.Reading.{Moves}
 use Rattle.kdl_text.specs.MultiLine.{IsQuoted}
 use Rattle.kdl_text.specs.Raw.{IsRaw}
 use Rattle.kdl_text.specs.Spans.{InText, bytes, raise, span_between}
-use Rattle.kdl_text.specs.declared.strings.StringFailure.{StringFailure}
-use Rattle.kdl_text.specs.declared.strings.StringFailure.TheVariants.{Fault as StringFault, Memory as StringMemory}
-use Rattle.kdl_text.proofs.Looking.MovesJoin.{bytes-append, stays, moves_then, moves_one, moves_two, moves_stayed, stayed_looked}
+use Rattle.kdl_text.proofs.Looking.MovesJoin.{bytes-append, stays, moves_then, moves_one, moves_stayed, stayed_looked}
 use Rattle.kdl_text.proofs.Quoted.StringUnique.{is_quoted_begins, is_raw_begins}
 use Rattle.kdl_text.proofs.Quoted.BareReads.{bare_begins, bare_det}
+use Rattle.kdl_value.specs.Tree.{text_of}
 use Rattle.kdl_syntax.specs.Pieces as piece
 use Rattle.kdl_syntax.specs.Pieces.{StringPiece}
 use Rattle.kdl_syntax.proofs.Lexing.StringUnique.{quote_identifier, quote_sign, sign_identifier, string_det}
 use Rattle.kdl_query.specs.Data.{TypeTest, some_type, type_named}
 use Rattle.kdl_query.specs.QueryText.{IsName, IsOperatorWord, IsType, Spaces}
-use Rattle.kdl_query.specs.Internal.QueryReading.{Returns, ReadsPiece, OneChar, Closes, AteText, IsWord, TypeRest}
+use Rattle.kdl_query.specs.Internal.QueryReading.{ReadsPiece, OneChar, Closes, AteText, IsWord, TypeRest}
 use Rattle.kdl_query.specs.declared.error.Fault.{Fault as FaultKind}
 use Rattle.kdl_query.specs.declared.error.Refusal.{Refusal}
 use Rattle.kdl_query.specs.declared.error.Refusal.TheVariants.{Fault, Memory}
@@ -33,6 +31,12 @@ pub refused : {A B C D : Type 0} {X : Text → Text → B → Type 0} {Y : Text 
     → (((r : Text) (y : B) → X a.rest r y → ⊥) → (r : Text) (y : D) → Y c.rest r y → ⊥) → ReadsPiece Y g (Err e) c d
 refused g (Fault e) c d h m k = record { returns = k h.returns; moves = m }
 refused g Memory c d h m k = record { returns = tt; moves = m }
+
+-- the same, as `?` passes it on
+pub passed_on : {A B C D : Type 0} {X : Text → Text → B → Type 0} {Y : Text → Text → D → Type 0} {f : A → B} (g : C → D) (o : Result C Refusal) (e : Refusal) {a b : Here} (c d : Here) → IsErrAnd o (λ x. x ≡ e) → ReadsPiece X f (Err e) a b → Moves c d
+    → (((r : Text) (y : B) → X a.rest r y → ⊥) → (r : Text) (y : D) → Y c.rest r y → ⊥) → ReadsPiece Y g o c d
+passed_on g (Ok x) e c d i h m k = absurd i
+passed_on {Y = Y} g (Err x) e c d i h m k = subst (λ z. ReadsPiece Y g (Err z) c d) (sym i) (refused g e c d h m k)
 
 -- the character here
 pub no_char : (c : ℕ) (s r : Text) → begins c s ≡ false → s ≡ c ∷ r → ⊥
@@ -65,6 +69,17 @@ pub closes : (c : ℕ) (o : Result (Unit {0}) Refusal) (a b d : Here) → Spaces
 closes c (Ok tt) a b d s m h = closes_ok c a b d s m h
 closes c (Err e) a b d s m h = refused (λ u. u) e a d h (moves_then m h.moves) (λ n r u k. n r u (spaces_det s k))
 
+-- spaces, and another character after them
+pub record PastSpaces (c : ℕ) (a b : Here) : Type 0 where
+  pub spaces : Spaces a.rest b.rest
+  pub other : begins c b.rest ≡ false
+  pub moves : Moves a b
+
+pub past_spaces : (c : ℕ) (a m b : Here) → Spaces a.rest m.rest → Moves a m → Ate c false m b → PastSpaces c a b
+past_spaces c a m b s n (h, e) =
+    let r : m.rest ≡ b.rest = sym (ap (λ z. z.rest) e) in
+    record { spaces = subst (λ z. Spaces a.rest z) r s; other = subst (λ z. begins c z ≡ false) r h; moves = moves_then n (moves_stayed (stayed_looked m b e)) }
+
 -- back at a place
 pub moves_back : (a b d : Here) → Moves a b → d ≡ record b { rest = a.rest; at = a.at } → Moves a d
 moves_back a b d m e = record {
@@ -73,6 +88,37 @@ moves_back a b d m e = record {
   counts = subst (λ z. raise a.steps 0 ≤ raise z 0) (sym (ap (λ z. z.steps) e)) m.counts;
   same = ap (λ z. z.text) e ∙ m.same;
 }
+
+-- a cursor that advanced to a place with the same text before it
+pub record Still (a b : Here) : Type 0 where
+  pub rest : b.rest ≡ a.rest
+  pub moves : Moves a b
+
+pub still_looked : {a b : Here} → b ≡ looked a → Still a b
+still_looked {a = a} {b = b} e = record { rest = ap (λ z. z.rest) e; moves = moves_stayed (stayed_looked a b e) }
+
+pub still_stayed : {k : ℕ} {a b : Here} → Stayed k a b → Still a b
+still_stayed s = record { rest = s.rest; moves = moves_stayed s }
+
+pub still_then : {a b d : Here} → Still a b → Still b d → Still a d
+still_then s t = record { rest = t.rest ∙ s.rest; moves = moves_then s.moves t.moves }
+
+pub one_at : {c : ℕ} {a b d : Here} → Still a b → Took (Some c) b d → a.rest ≡ c ∷ d.rest
+one_at s t = sym s.rest ∙ t.0
+
+pub two_at : {c d : ℕ} {a b e : Here} → Still a b → TookTwo c d b e → a.rest ≡ c ∷ d ∷ e.rest
+two_at s t = sym s.rest ∙ t.rest
+
+-- what was read after looks is what begins before them
+pub after_still : {A B : Type 0} {X : Text → Text → B → Type 0} (says : A → B) (o : Result A Refusal) (a b d : Here) → Still a b → ReadsPiece X says o b d → ReadsPiece X says o a d
+after_still {X = X} says (Ok x) a b d s h = record { returns = subst (λ z. X z d.rest (says x)) s.rest h.returns; moves = moves_then s.moves h.moves }
+after_still {B = B} {X = X} says (Err (Fault f)) a b d s h = record { returns = subst (λ z. (r : Text) (y : B) → X z r y → ⊥) s.rest h.returns; moves = moves_then s.moves h.moves }
+after_still says (Err Memory) a b d s h = record { returns = tt; moves = moves_then s.moves h.moves }
+
+-- no word was read, unless memory failed
+unread : (o : Refusal) (a b : Here) → ((r v : Text) → IsWord a.rest r v → (o ≡ Memory → ⊥) → ⊥) → Moves a b → ReadsPiece IsWord text_of (Err o) a b
+unread (Fault f) a b h m = record { returns = λ r v w. h r v w (λ k. absurd cc); moves = m }
+unread Memory a b h m = record { returns = tt; moves = m }
 
 -- names, by what their readers return
 pub bare_none : (s r v : Text) → starts (λ c. c == 34 || c == 35) s ≡ false → ((r w : Text) → BareString s r w → ⊥) → IsWord s r v → ⊥
@@ -107,6 +153,9 @@ quoted_none s r v h n x = go x.string
     go (piece.quoted q) = n r v q
     go (piece.raw q) = quote_sign s (first_is s 34 h) (is_raw_begins q)
 
+pub quoted_unread : (o : Refusal) (a b d : Here) → first a.rest ≡ Some 34 → b ≡ looked a → ((r v : Text) → IsQuoted b.rest r v → o ≡ Memory) → Moves b d → ReadsPiece IsWord text_of (Err o) a d
+quoted_unread o a b d h e n m = after_still text_of (Err o) a b d (still_looked e) (unread o b d (λ r v w k. quoted_none b.rest r v (ap (λ z. first z.rest) e ∙ h) (λ t u q. k (n t u q)) w) m)
+
 pub raw_none : (s r v : Text) → first s ≡ Some 35 → ((r v : Text) → IsRaw s r v → ⊥) → IsWord s r v → ⊥
 raw_none s r v h n x = go x.string
   where
@@ -115,12 +164,17 @@ raw_none s r v h n x = go x.string
     go (piece.quoted q) = quote_sign s (is_quoted_begins q) (first_is s 35 h)
     go (piece.raw q) = n r v q
 
--- a word with no `(` after it
-pub word_name : (s r v : Text) → IsWord s r v → begins 40 r ≡ false → IsName s r v
-word_name s r v w h = record { string = w.string; no_operator = w.no_operator; no_function = h }
+pub raw_unread : (o : Refusal) (a b d : Here) → first a.rest ≡ Some 35 → b ≡ looked a → ((r v : Text) → IsRaw b.rest r v → o ≡ Memory) → Moves b d → ReadsPiece IsWord text_of (Err o) a d
+raw_unread o a b d h e n m = after_still text_of (Err o) a b d (still_looked e) (unread o b d (λ r v w k. raw_none b.rest r v (ap (λ z. first z.rest) e ∙ h) (λ t u q. k (n t u q)) w) m)
 
+-- a word with a `(` after it
 pub function_none : (s t w r v : Text) → IsWord s t w → begins 40 t ≡ true → IsName s r v → ⊥
 function_none s t w r v x h n = let e : begins 40 t ≡ begins 40 r = ap (begins 40) (string_det x.string n.string).0 in let k = n.no_function in cc
+
+-- the character at which a cursor looks
+pub looked_char : (s : Text) (c : ℕ) (o : Option ℕ) → o ≡ first s → option_eq (λ a b. a == b) o (Some c) ≡ true → begins c s ≡ true
+looked_char [] c o e h = absurd cc
+looked_char (d ∷ s) c o e h = subst (λ z. option_eq (λ a b. a == b) z (Some c) ≡ true) e h
 
 -- types
 pub any_type : (s r : Text) (m : Text) → Spaces s m → m ≡ 41 ∷ r → TypeRest s r some_type
@@ -165,32 +219,17 @@ ate_all f a w l h e = h.on a.rest (ap (λ z. z ++ a.rest) (sym e))
 pub ate_not : (f a b : Here) (w l m : Text) (c : ℕ) → AteSoFar f a w l → l ≡ c ∷ m → begins c a.rest ≡ false → b.rest ≡ f.rest → AteText w false f b
 ate_not f a b w l m c h e n k = (λ r i. no_char c a.rest (m ++ r) n (h.back r i ∙ ap (λ z. z ++ r) e), k)
 
+-- past a run, and one character more
+pub ahead_run : (p : ℕ → Bool) (a b d : Here) → Skips p a b → d ≡ b → (q : Text) × (a.rest ≡ q ++ d.rest)
+ahead_run p a b d (q, r) e = (q, r.text ∙ ap (λ z. q ++ z.rest) (sym e))
+
+pub ahead_step : (p : ℕ → Bool) (a b d : Here) → Skips p a b → d ≡ stepped b → (q : Text) × (a.rest ≡ q ++ d.rest)
+ahead_step p a b d (q, r) e = let (k, f) = go b.rest in (q ++ k, r.text ∙ ap (λ z. q ++ z) (f ∙ ap (λ z. k ++ z.rest) (sym e)) ∙ sym (append_assoc q k d.rest))
+  where
+    go : (s : Text) → (k : Text) × (s ≡ k ++ tail s)
+    go [] = ([], refl)
+    go (c ∷ s) = (c ∷ [], refl)
+
 -- the span of a piece is in the text
 pub span_in : (w t r p q : Text) → w ≡ p ++ t → t ≡ q ++ r → InText w (span_between w t r)
 span_in w t r p q e f = (p, q, r, e ∙ ap (λ z. p ++ z) f ∙ sym (append_assoc p q r), omega (arith, ap bytes e, bytes-append p t), omega (arith, ap bytes f, bytes-append q r))
-
--- a cursor that advanced to a place with the same text before it
-pub record Still (a b : Here) : Type 0 where
-  pub rest : b.rest ≡ a.rest
-  pub moves : Moves a b
-
-pub still_looked : {a b : Here} → b ≡ looked a → Still a b
-still_looked {a = a} {b = b} e = record { rest = ap (λ z. z.rest) e; moves = moves_stayed (stayed_looked a b e) }
-
-pub still_stayed : {k : ℕ} {a b : Here} → Stayed k a b → Still a b
-still_stayed s = record { rest = s.rest; moves = moves_stayed s }
-
-pub still_then : {a b d : Here} → Still a b → Still b d → Still a d
-still_then s t = record { rest = t.rest ∙ s.rest; moves = moves_then s.moves t.moves }
-
-pub one_at : {c : ℕ} {a b d : Here} → Still a b → Took (Some c) b d → a.rest ≡ c ∷ d.rest
-one_at s t = sym s.rest ∙ t.0
-
-pub two_at : {c d : ℕ} {a b e : Here} → Still a b → TookTwo c d b e → a.rest ≡ c ∷ d ∷ e.rest
-two_at s t = sym s.rest ∙ t.rest
-
--- what was read after looks is what begins before them
-pub after_still : {A B : Type 0} {X : Text → Text → B → Type 0} (says : A → B) (o : Result A Refusal) (a b d : Here) → Still a b → ReadsPiece X says o b d → ReadsPiece X says o a d
-after_still {X = X} says (Ok x) a b d s h = record { returns = subst (λ z. X z d.rest (says x)) s.rest h.returns; moves = moves_then s.moves h.moves }
-after_still {B = B} {X = X} says (Err (Fault f)) a b d s h = record { returns = subst (λ z. (r : Text) (y : B) → X z r y → ⊥) s.rest h.returns; moves = moves_then s.moves h.moves }
-after_still says (Err Memory) a b d s h = record { returns = tt; moves = moves_then s.moves h.moves }

@@ -1,16 +1,17 @@
 -- Line-spaces, from what the readers of comments and spaces return.
-use Rattle.std.proofs.Common.{◌≡◌, ℕ, ◌<◌, Bool, [], ◌∷◌, true, false, length, refl, sym, ap, ◌∙◌, subst}
-use Rattle.std.specs.Prelude.{Option, Some, None}
-use Rattle.kdl_text.specs.Chars.{Text, Newline, Space, Star, begins, begins_two, starts, is_space, is_newline_char}
+use Rattle.std.proofs.Common.{◌≡◌, ◌⊎◌, inl, inr, ℕ, ◌<◌, Bool, [], ◌∷◌, true, false, length, refl, sym, ap, ◌∙◌, subst}
+use Rattle.std.specs.Prelude.{Some, None}
+use Rattle.kdl_text.specs.Chars.{Text, Newline, Space, Star, begins_two, is_space}
 use Rattle.kdl_text.specs.Chars.Space.{space as space_char}
-use Rattle.kdl_text.specs.Internal.Here.{Here, Stayed, first, looked, stepped, tail}
+use Rattle.kdl_text.specs.Internal.Here.{Here, first, looked, tail}
 use Rattle.kdl_text.specs.Internal.Reading.{Moves, Reads, ReadsNewline}
 use Rattle.kdl_text.specs.Internal.TriviaReading.{ReadsSlash, Opens}
-use Rattle.kdl_text.specs.Trivia.{BlockComment, LineComment, Escline, NodeSpace, Break, LineSpace}
+use Rattle.kdl_text.specs.Trivia.{BlockComment, LineComment, Escline, LineSpace}
 use Rattle.kdl_text.specs.Trivia.Ws.{space as ws_space, comment as ws_comment}
 use Rattle.kdl_text.specs.Trivia.NodeSpace.{ws, escline as node_escline}
 use Rattle.kdl_text.specs.Trivia.Break.{newline as break_newline, comment as break_comment}
 use Rattle.kdl_text.specs.Trivia.LineSpace.{space as line_space, «break» as line_break}
+use Rattle.kdl_text.specs.declared.trivia.SlashRead.{SlashRead}
 use Rattle.kdl_text.specs.declared.trivia.SlashRead.TheVariants.{Block, Line, Dash, Unclosed, Other}
 use Rattle.kdl_text.proofs.Looking.MovesJoin.{moves_then, stays}
 use Rattle.kdl_text.proofs.Looking.Stars.{snoc}
@@ -52,10 +53,10 @@ at_end (line_break (break_newline n)) = elim n [ ]
 at_end (line_break (break_comment l)) = elim l [ ]
 
 -- a slash
-pub slash_block : (a b : Here) → Reads BlockComment true a.rest b.rest → Reads LineSpace true a.rest b.rest
+slash_block : (a b : Here) → Reads BlockComment true a.rest b.rest → Reads LineSpace true a.rest b.rest
 slash_block a b h = found (line_space (ws (ws_comment ((h b.rest).1 refl))))
 
-pub slash_line : (a b : Here) → Reads LineComment true a.rest b.rest → Reads LineSpace true a.rest b.rest
+slash_line : (a b : Here) → Reads LineComment true a.rest b.rest → Reads LineSpace true a.rest b.rest
 slash_line a b h = found (line_break (break_comment ((h b.rest).1 refl)))
 
 slash_none : (s r : Text) → first s ≡ Some 47 → ((r : Text) → BlockComment s r → ⊥) → ((r : Text) → LineComment s r → ⊥) → LineSpace s r → ⊥
@@ -70,20 +71,39 @@ no_block s r h b = let k = block_begins b in cc
 no_line : (s r : Text) → begins_two 47 47 s ≡ false → LineComment s r → ⊥
 no_line s r h b = let k = line_comment_begins b in cc
 
-pub slash_other : (a b : Here) → first a.rest ≡ Some 47 → ReadsSlash Other a b → Reads LineSpace false a.rest b.rest
+slash_other : (a b : Here) → first a.rest ≡ Some 47 → ReadsSlash Other a b → Reads LineSpace false a.rest b.rest
 slash_other a b e h r p = slash_none a.rest r e (λ t. no_block a.rest t h.0) (λ t. no_line a.rest t h.1) p
 
-dash_two : (s : Text) → begins_two 47 42 (47 ∷ 45 ∷ s) ≡ false
-dash_two s = refl
-
-pub slash_dash : (a b : Here) → a.rest ≡ 47 ∷ 45 ∷ b.rest → Reads LineSpace false a.rest b.rest
+slash_dash : (a b : Here) → a.rest ≡ 47 ∷ 45 ∷ b.rest → Reads LineSpace false a.rest b.rest
 slash_dash a b e r p = at_slash (subst (λ z. LineSpace z r) e p) (λ t. no_block _ r refl t) (λ t. no_line _ r refl t)
 
 opens_line : (s r : Text) → begins_two 47 42 s ≡ true → LineComment s r → ⊥
 opens_line s r h (LineComment.line l) = cc
 
-pub slash_unclosed : (a b : Here) → first a.rest ≡ Some 47 → Opens a.rest → Reads LineSpace false a.rest b.rest
+slash_unclosed : (a b : Here) → first a.rest ≡ Some 47 → Opens a.rest → Reads LineSpace false a.rest b.rest
 slash_unclosed a b e o r p = slash_none a.rest r e o.unclosed (λ t. opens_line a.rest t o.opens) p
+
+-- the same, after a look
+at_look : (a b : Here) → b ≡ looked a → b.rest ≡ a.rest
+at_look a b e = ap (λ z. z.rest) e
+
+pub slash_is : (o : SlashRead) (a b d : Here) → b ≡ looked a → (o ≡ Block) ⊎ (o ≡ Line) → ReadsSlash o b d → Reads LineSpace true a.rest d.rest
+slash_is o a b d e k h = subst (λ s. Reads LineSpace true s d.rest) (at_look a b e) (go k)
+  where
+    go : (o ≡ Block) ⊎ (o ≡ Line) → Reads LineSpace true b.rest d.rest
+    go (inl k) = slash_block b d (subst (λ z. ReadsSlash z b d) k h)
+    go (inr k) = slash_line b d (subst (λ z. ReadsSlash z b d) k h)
+
+pub slash_not : (o : SlashRead) (a b d : Here) → first a.rest ≡ Some 47 → b ≡ looked a → (o ≡ Dash) ⊎ (o ≡ Unclosed) ⊎ (o ≡ Other) → ReadsSlash o b d → Reads LineSpace false a.rest d.rest
+slash_not o a b d f e k h = subst (λ s. Reads LineSpace false s d.rest) (at_look a b e) (go k)
+  where
+    here : first b.rest ≡ Some 47
+    here = ap first (at_look a b e) ∙ f
+
+    go : (o ≡ Dash) ⊎ (o ≡ Unclosed) ⊎ (o ≡ Other) → Reads LineSpace false b.rest d.rest
+    go (inl k) = slash_dash b d (subst (λ z. ReadsSlash z b d) k h)
+    go (inr (inl k)) = slash_unclosed b d here (subst (λ z. ReadsSlash z b d) k h).0
+    go (inr (inr k)) = slash_other b d here (subst (λ z. ReadsSlash z b d) k h)
 
 -- a backslash
 pub escline_true : (a b : Here) → Reads Escline true a.rest b.rest → Reads LineSpace true a.rest b.rest
@@ -101,23 +121,27 @@ escline_reads true a b e h = escline_true a b h
 escline_reads false a b e h = escline_false a b e h
 
 -- a space
-pub space_here : (a b : Here) (c : ℕ) → first a.rest ≡ Some c → is_space c ≡ true → b.rest ≡ tail a.rest → Reads LineSpace true a.rest b.rest
-space_here a b c e h k = go a.rest e k
-  where
-    go : (s : Text) → first s ≡ Some c → b.rest ≡ tail s → Reads LineSpace true s b.rest
-    go [] e k = cc
-    go (d ∷ s) e k = let m : is_space d ≡ true = (let n : d ≡ c = cc in ap is_space n ∙ h) in found (line_space (ws (ws_space (subst (λ z. Space (d ∷ s) z) (sym k) (space_char m)))))
+pub space_here : (s t : Text) (c : ℕ) → first s ≡ Some c → is_space c ≡ true → t ≡ tail s → Reads LineSpace true s t
+space_here [] t c e h k = absurd cc
+space_here (d ∷ s) t c e h k = let m : is_space d ≡ true = (let n : d ≡ c = cc in ap is_space n ∙ h) in found (line_space (ws (ws_space (subst (Space (d ∷ s)) (sym k) (space_char m)))))
 
 -- anything else
-pub newline_true : (a b : Here) → ReadsNewline true a b → Reads LineSpace true a.rest b.rest
-newline_true a b n = found (line_break (break_newline n))
+abbrev pub IsOther : Text → Type 0
+IsOther s = (c : ℕ) → first s ≡ Some c → (c ≡ 47 → ⊥) × (c ≡ 92 → ⊥) × (is_space c ≡ false)
 
-pub newline_false : (a m b : Here) → (first a.rest ≡ Some 47 → ⊥) → (first a.rest ≡ Some 92 → ⊥) → ((c : ℕ) → first a.rest ≡ Some c → is_space c ≡ false) → m.rest ≡ a.rest → ReadsNewline false m b → Reads LineSpace false a.rest b.rest
-newline_false a m b f g h e n r p = go a.rest f g h (λ t x. n.1 t (subst (λ z. Newline z t) (sym e) x)) p
+pub other_char : (s : Text) (c : ℕ) → first s ≡ Some c → (c ≡ 47 → ⊥) → (c ≡ 92 → ⊥) → is_space c ≡ false → IsOther s
+other_char s c e f g h d k = let m : d ≡ c = cc in (λ z. f (sym m ∙ z), λ z. g (sym m ∙ z), ap is_space m ∙ h)
+
+pub other_end : (s : Text) → first s ≡ None → IsOther s
+other_end s e c k = absurd cc
+
+pub newline_reads : (v : Bool) (a m b : Here) → IsOther a.rest → m ≡ looked a → ReadsNewline v m b → Reads LineSpace v a.rest b.rest
+newline_reads true a m b o e n = found (line_break (break_newline (subst (λ z. Newline z b.rest) (at_look a m e) n)))
+newline_reads false a m b o e n = λ r. go r a.rest o (λ x. n.1 r (subst (λ z. Newline z r) (sym (at_look a m e)) x))
   where
-    go : (s : Text) → (first s ≡ Some 47 → ⊥) → (first s ≡ Some 92 → ⊥) → ((c : ℕ) → first s ≡ Some c → is_space c ≡ false) → ((t : Text) → Newline s t → ⊥) → LineSpace s r → ⊥
-    go [] f g h n p = at_end p
-    go (c ∷ s) f g h n p = at_other (λ e. f (ap Some e)) (λ e. g (ap Some e)) (h c refl) p (n r)
+    go : (r s : Text) → IsOther s → (Newline s r → ⊥) → LineSpace s r → ⊥
+    go r [] o n p = at_end p
+    go r (c ∷ s) o n p = let k = o c refl in at_other k.0 k.1 k.2 p n
 
 -- spaces so far
 pub line_space_shorter : {s r : Text} → LineSpace s r → length r < length s

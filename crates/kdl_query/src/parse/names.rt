@@ -134,7 +134,9 @@ fn bare_name(alloc: Global, expected: Fault, cursor: &mut Cursor) -> Result<Stri
 }
 
 /// The refusal of a string that was not read.
-fn string_refusal(expected: Fault, failure: StringFailure) -> Refusal {
+fn string_refusal(expected: Fault, failure: StringFailure) -> Refusal
+    ensures { (result ≡ Refusal.Memory) ↔ (failure ≡ StringFailure.Memory) }
+{
     match failure {
         StringFailure::Fault(_) => Refusal::Fault(expected),
         StringFailure::Memory => Refusal::Memory,
