@@ -121,13 +121,13 @@ unread (Fault f) a b h m = record { returns = λ r v w. h r v w (λ k. absurd cc
 unread Memory a b h m = record { returns = tt; moves = m }
 
 -- names, by what their readers return
+pub apart : (s : Text) → starts (λ c. c == 34 || c == 35) s ≡ false → (starts (λ c. c == 34) s ≡ false) × (starts (λ c. c == 35) s ≡ false)
+apart [] h = (refl, refl)
+apart (c ∷ s) h = (grind arith, grind arith)
+
 pub bare_none : (s r v : Text) → starts (λ c. c == 34 || c == 35) s ≡ false → ((r w : Text) → BareString s r w → ⊥) → IsWord s r v → ⊥
 bare_none s r v h n w = go w.string
   where
-    apart : (s : Text) → starts (λ c. c == 34 || c == 35) s ≡ false → (starts (λ c. c == 34) s ≡ false) × (starts (λ c. c == 35) s ≡ false)
-    apart [] h = (refl, refl)
-    apart (c ∷ s) h = (grind arith, grind arith)
-
     go : StringPiece s r v → ⊥
     go (piece.bare b) = n r v b
     go (piece.quoted q) = let k = is_quoted_begins q in let l = (apart s h).0 in cc

@@ -254,7 +254,7 @@ keyword_piece s r k v h e = plain_token s r v (a_keyword_here s r k v h e)
 pub no_keyword_piece : (s t : Text) → begins_keyword s ≡ true → ReadsKeyword None s t → (r : Text) (v : Value) → ValuePiece s r v → ⊥
 no_keyword_piece s t h n r v p = let (a, b) = keyword_parts s h in no_literal s r v (no_keyword_here s t r a b n) p
 
-no_second : (c : ℕ) → is_identifier_char c ≡ true → (c == 34 || c == 35) ≡ false
+pub no_second : (c : ℕ) → is_identifier_char c ≡ true → (c == 34 || c == 35) ≡ false
 unfolding is_identifier_char is_space is_newline_char is_banned is_punctuation
 no_second c h = grind (arith, nat_tests)
 

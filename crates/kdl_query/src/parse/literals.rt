@@ -119,8 +119,8 @@ fn number(alloc: Global, cursor: &mut Cursor) -> Result<KdlValue, Refusal>
     }
 }
 
-/// Reads the string, the number or the keyword that begins here.
-fn read_value(alloc: Global, cursor: &mut Cursor) -> Result<KdlValue, Refusal>
+/// Reads the string, the number or the keyword that begins here. On a fault the cursor is somewhere in it.
+fn value_here(alloc: Global, cursor: &mut Cursor) -> Result<KdlValue, Refusal>
     ensures { ReadsPiece ValuePiece value_tree result cursor.old cursor.new }
 {
     if begins_number(cursor) {
@@ -130,6 +130,18 @@ fn read_value(alloc: Global, cursor: &mut Cursor) -> Result<KdlValue, Refusal>
         return keyword(alloc, cursor);
     }
     Ok(KdlValue::String(read_name(alloc, Fault::Value, cursor)?))
+}
+
+/// Reads the string, the number or the keyword that begins here.
+fn read_value(alloc: Global, cursor: &mut Cursor) -> Result<KdlValue, Refusal>
+    ensures { ReadsPiece ValuePiece value_tree result cursor.old cursor.new }
+{
+    let start = cursor.checkpoint();
+    match value_here(alloc, cursor) {
+        Ok(value) => Ok(value),
+        Err(Refusal::Fault(fault)) => Err(refuse(fault, &start, cursor)),
+        Err(Refusal::Memory) => Err(Refusal::Memory),
+    }
 }
 
 /// Reads what a comparison has at its right. On a fault the cursor is somewhere in it.

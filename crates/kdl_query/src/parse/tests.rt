@@ -2,14 +2,14 @@
 #![tactic(auto, using(crate::proofs::Rules::parse))]
 
 ghost use Rattle.kdl_query.specs.Internal.QueryReading.{AfterWord, IndexOf, Joins, KeyPiece, ReadsPiece, TestRest, Word};
-ghost use Rattle.kdl_query.specs.QueryText.{AfterAccessor, AreTests, IsAccessor, IsIndex};
+ghost use Rattle.kdl_query.specs.QueryText.{AfterAccessor, AreTests, IsAccessor, IsIndex, begins_comparison};
 ghost use Rattle.kdl_query.specs.Tree.{accessor_says, test_says};
 ghost use Rattle.kdl_text.specs.Chars as class;
 ghost use Rattle.kdl_text.specs.Chars.{starts};
 ghost use Rattle.kdl_text.specs.Internal.NumberReading.{number_value};
 ghost use Rattle.kdl_text.specs.Internal.Reading.{Moves};
 ghost use Rattle.kdl_text.specs.Numbers.{base_prefix};
-ghost use Rattle.std.specs.Prelude.{◌≡◌, ◌&&◌, ◌↔◌, IsTrue, None, codes, map, true};
+ghost use Rattle.std.specs.Prelude.{◌≡◌, ◌&&◌, ◌||◌, ◌==◌, ◌↔◌, IsTrue, None, codes, map, true};
 ghost use Rattle.std.specs.Str.{chars};
 
 use crate::error::{Fault, Refusal};
@@ -96,6 +96,13 @@ fn read_property(alloc: Global, cursor: &mut Cursor) -> Result<Accessor, Refusal
     Ok(Accessor::Property(name))
 }
 
+/// Whether a comparison of two characters begins with c.
+fn begins_comparison(c: char) -> bool
+    ensures { result ≡ begins_comparison c }
+{
+    matches!(c, '!' | '>' | '<' | '^' | '$' | '*')
+}
+
 /// Whether the name takes in the first character of a comparison, whose `=` is here.
 fn is_joined(name: &str, cursor: &mut Cursor) -> bool
     ensures result { IsTrue result ↔ Joins (chars name.now) cursor.old.rest }
@@ -103,10 +110,19 @@ fn is_joined(name: &str, cursor: &mut Cursor) -> bool
     ensures moves { Moves cursor.old cursor.new }
 {
     cursor.look() == Some('=')
-        && matches!(
-            name.chars().next_back(),
-            Some('!' | '>' | '<' | '^' | '$' | '*')
-        )
+        && match name.chars().next_back() {
+            Some(last) => begins_comparison(last),
+            None => false,
+        }
+}
+
+/// Whether a quote or a number sign is here.
+fn begins_quoted(cursor: &mut Cursor) -> bool
+    ensures result { result ≡ starts (λ c. c == 34 || c == 35) cursor.old.rest }
+    ensures rest { cursor.new.rest ≡ cursor.old.rest }
+    ensures moves { Moves cursor.old cursor.new }
+{
+    matches!(cursor.look(), Some('"' | '#'))
 }
 
 /// Reads the name of a property.
@@ -114,9 +130,12 @@ fn read_key(alloc: Global, cursor: &mut Cursor) -> Result<Accessor, Refusal>
     ensures { ReadsPiece KeyPiece accessor_says result cursor.old cursor.new }
 {
     let start = cursor.checkpoint();
-    let is_bare = !matches!(cursor.look(), Some('"' | '#'));
+    let is_quoted = begins_quoted(cursor);
     let name = read_name(alloc, Fault::Accessor, cursor)?;
-    if is_bare && is_joined(name.as_str(), cursor) {
+    if is_quoted {
+        return Ok(Accessor::Property(name));
+    }
+    if is_joined(name.as_str(), cursor) {
         return Err(refuse(Fault::JoinedComparison, &start, cursor));
     }
     Ok(Accessor::Property(name))
