@@ -3,6 +3,7 @@ use Rattle.std.proofs.Common.{◌≡◌, ℕ, ◌<◌, ◌≤◌, pos, Bool, Lis
 use Rattle.std.proofs.lemmas.Bool.{and_parts}
 use Rattle.std.proofs.lemmas.List.{append_assoc, append-nil}
 use Rattle.std.specs.Prelude.{Option, Some, None, Result, Ok, Err, string_bytes, String, map, fold}
+use Rattle.std.specs.Result.{IsErrAnd}
 use Rattle.std.specs.Str.{chars}
 use Rattle.std.specs.declared.alloc.Global.{Global}
 use Rattle.kdl_text.specs.Bare.{BareString}
@@ -33,6 +34,12 @@ pub refused : {A B C D : Type 0} {X : Text → Text → B → Type 0} {Y : Text 
     → (((r : Text) (y : B) → X a.rest r y → ⊥) → (r : Text) (y : D) → Y c.rest r y → ⊥) → ReadsPiece Y g (Err e) c d
 refused g (Fault e) c d h m k = record { returns = k h.returns; moves = m }
 refused g Memory c d h m k = record { returns = tt; moves = m }
+
+-- the same, as `?` passes it on
+pub passed_on : {A B C D : Type 0} {X : Text → Text → B → Type 0} {Y : Text → Text → D → Type 0} {f : A → B} (g : C → D) (o : Result C Refusal) (e : Refusal) {a b : Here} (c d : Here) → IsErrAnd o (λ x. x ≡ e) → ReadsPiece X f (Err e) a b → Moves c d
+    → (((r : Text) (y : B) → X a.rest r y → ⊥) → (r : Text) (y : D) → Y c.rest r y → ⊥) → ReadsPiece Y g o c d
+passed_on g (Ok x) e c d i h m k = absurd i
+passed_on {Y = Y} g (Err x) e c d i h m k = subst (λ z. ReadsPiece Y g (Err z) c d) (sym i) (refused g e c d h m k)
 
 -- the character here
 pub no_char : (c : ℕ) (s r : Text) → begins c s ≡ false → s ≡ c ∷ r → ⊥
