@@ -1,12 +1,14 @@
 -- Nodes and the beginnings of selectors, from what the readers of their parts return.
-use Rattle.std.proofs.Common.{◌≡◌, ℕ, arith, List, [], ◌∷◌, ◌++◌, true, false, codes, refl, sym, ap, ◌∙◌, subst}
+use Rattle.std.proofs.Common.{◌≡◌, ◌==◌, ℕ, arith, List, [], ◌∷◌, ◌++◌, true, false, codes, refl, sym, ap, ◌∙◌, subst}
 use Rattle.std.specs.Prelude.{Option, Some, None, Result, Ok, Err}
-use Rattle.kdl_text.specs.Chars.{Text, begins}
-use Rattle.kdl_text.specs.Internal.Here.{Here}
+use Rattle.std.proofs.Math.Bool.{or-false}
+use Rattle.std.specs.Option.{option_eq}
+use Rattle.kdl_text.specs.Chars.{Text, begins, is_space, is_newline_char, is_banned, is_punctuation, is_identifier_char}
+use Rattle.kdl_text.specs.Internal.Here.{Here, first, tail}
 use Rattle.kdl_text.specs.Internal.Reading.{Moves}
 use Rattle.kdl_text.proofs.Looking.MovesJoin.{moves_then}
 use Rattle.kdl_query.specs.Data.{NodeTest, Selector, Test, TypeTest, start, top}
-use Rattle.kdl_query.specs.QueryText.{AreTests, IsFirst, IsName, IsNode, IsTest, IsType, Spaces}
+use Rattle.kdl_query.specs.QueryText.{AreTests, IsFirst, IsName, IsNode, IsTest, IsType, Spaces, ends_type}
 use Rattle.kdl_query.specs.Internal.QueryReading.{Closes, NameAfter, NodeRest, ReadsPiece, Returns, TypeRest}
 use Rattle.kdl_query.specs.declared.error.Refusal.{Refusal}
 use Rattle.kdl_query.specs.declared.error.Refusal.TheVariants.{Fault, Memory}
@@ -18,6 +20,32 @@ name_after_det s r t x y (NameAfter.nothing h) (NameAfter.nothing k) = (refl, re
 name_after_det s r t x y (NameAfter.nothing h) (NameAfter.named k n) = cc
 name_after_det s r t x y (NameAfter.named k n) (NameAfter.nothing h) = cc
 name_after_det s r t x y (NameAfter.named {v = v} h n) (NameAfter.named {v = w} k m) = let (e, f) = name_det s r t v w n m in (e, ap Some f)
+
+-- `|` after a type
+bar_alone : ends_type (124 ∷ []) ≡ false
+unfolding is_identifier_char is_space is_newline_char is_banned is_punctuation
+bar_alone = refl
+
+bar_then : (e : ℕ) (s : Text) → ends_type (124 ∷ e ∷ s) ≡ (e == 124)
+unfolding is_identifier_char is_space is_newline_char is_banned is_punctuation
+bar_then e s = or-false (e == 124)
+
+bar_ends : (s : Text) → ends_type (124 ∷ s) ≡ option_eq (λ a b. a == b) (first s) (Some 124)
+bar_ends [] = bar_alone
+bar_ends (e ∷ s) = bar_then e s
+
+pub bar_ends_type : (s : Text) (o : Option ℕ) → Some 124 ≡ first s → o ≡ first (tail s) → option_eq (λ a b. a == b) o (Some 124) ≡ ends_type s
+bar_ends_type [] o h k = cc
+bar_ends_type (d ∷ s) o h k =
+    let e : d ≡ 124 = cc in
+    ap (λ z. option_eq (λ a b. a == b) z (Some 124)) k ∙ sym (bar_ends s) ∙ ap (λ z. ends_type (z ∷ s)) (sym e)
+
+-- the name after a type, where a cursor looked at what is there
+pub no_name_after : (s t : Text) → t ≡ s → true ≡ ends_type s → NameAfter s t None
+no_name_after s t e h = subst (λ z. NameAfter s z None) (sym e) (NameAfter.nothing (sym h))
+
+pub name_after : (s t r v : Text) → t ≡ s → false ≡ ends_type s → IsName t r v → NameAfter s r (Some v)
+name_after s t r v e h n = NameAfter.named (sym h) (subst (λ z. IsName z r v) e n)
 
 -- a node with a type
 pub node_typed : (s t u r : Text) (y : TypeTest) (o : Option Text) (xs : List Test) → TypeRest s t y → NameAfter t u o → AreTests u r xs → NodeRest s r (record { ty = Some y; name = o; tests = xs })
@@ -129,3 +157,9 @@ no_document s t e h r x f = go r x (subst (λ z. IsFirst z r x) e f)
 pub no_first_node : (s : Text) → ((r : Text) → s ≡ codes "top(" ++ r → ⊥) → ((r : Text) (n : NodeTest) → IsNode s r n → ⊥) → (r : Text) (x : Selector) → IsFirst s r x → ⊥
 no_first_node s h k r x (IsFirst.document a) = h _ refl
 no_first_node s h k r x (IsFirst.a_node n) = k _ _ n
+
+pub document_at : (s t r : Text) → s ≡ codes "top(" ++ t → Spaces t (41 ∷ r) → IsFirst s r top
+document_at s t r e a = subst (λ z. IsFirst z r top) (sym e) (IsFirst.document a)
+
+pub node_at : (s t r : Text) (n : NodeTest) → t ≡ s → IsNode t r n → IsFirst s r (start n)
+node_at s t r n e a = IsFirst.a_node (subst (λ z. IsNode z r n) e a)

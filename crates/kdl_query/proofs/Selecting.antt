@@ -1,18 +1,26 @@
 -- Steps and selectors, one after another.
-use Rattle.std.proofs.Common.{◌≡◌, ℕ, List, [], ◌∷◌, ◌++◌, true, false, codes, refl, sym, ap, ◌∙◌, subst}
+use Rattle.std.proofs.Common.{◌≡◌, ℕ, ◌<◌, ◌≤◌, Bool, cond, List, [], ◌∷◌, ◌++◌, true, false, codes, length, length-append, refl, sym, ap, ◌∙◌, subst, arith}
 use Rattle.std.proofs.lemmas.Bool.{false≢true}
 use Rattle.std.proofs.lemmas.List.{append_assoc}
-use Rattle.std.specs.Prelude.{map, fold}
+use Rattle.std.specs.Prelude.{Option, Result, Ok, Err, Vec, is_some, map, fold}
+use Rattle.std.specs.Result.{IsErrAnd}
+use Rattle.std.specs.declared.alloc.Global.{Global}
 use Rattle.kdl_text.specs.Chars.{Text, Star, begins, begins_two}
 use Rattle.kdl_text.specs.Chars.Star.{none}
+use Rattle.kdl_text.specs.Internal.Here.{Ate, Here, first}
+use Rattle.kdl_text.specs.Internal.Reading.{Moves}
 use Rattle.kdl_text.specs.Trivia.{LineSpace}
+use Rattle.kdl_text.proofs.Looking.MovesJoin.{moves_one, moves_stayed, stayed_looked}
 use Rattle.kdl_query.specs.Data as data'
 use Rattle.kdl_query.specs.Data.{NodeTest, Query}
 use Rattle.kdl_query.specs.QueryText.{After, IsFirst, IsNode, IsOperator, IsQuery, Spaces, without_bom}
-use Rattle.kdl_query.specs.Internal.QueryReading.{NoStep, Same, Selectors, selectors}
+use Rattle.kdl_query.specs.Internal.QueryReading.{NoStep, ReadsPiece, ReadsSelector, ReadsSteps, Same, Selectors, selectors}
 use Rattle.kdl_query.specs.Tree.{first_says, node_test_says, selector_says, step_says}
+use Rattle.kdl_query.specs.declared.error.Refusal.{Refusal}
+use Rattle.kdl_query.specs.declared.error.Refusal.TheVariants.{Fault, Memory}
 use Rattle.kdl_query.specs.declared.tree.Combinator.{Combinator}
 use Rattle.kdl_query.specs.declared.tree.Combinator.TheVariants.{Child, NextSibling}
+use Rattle.kdl_query.specs.declared.tree.First.{First}
 use Rattle.kdl_query.specs.declared.tree.Selector.{Selector}
 use Rattle.kdl_query.specs.declared.tree.Step.{Step}
 use Rattle.kdl_query.proofs.Unique.{spaces_det, operator_det, node_det, first_det, same_at, spaces_at, no_operator_end, no_operator_or, no_or_end, or_same}
@@ -70,8 +78,8 @@ fold_snoc : (x : data'.Selector) (ts : List Step) (t : Step) → fold step_says 
 fold_snoc x [] t = refl
 fold_snoc x (u ∷ ts) t = fold_snoc (step_says x u) ts t
 
-pub steps_begin : (f a : Text) → Spaces f a → StepsSoFar f a []
-steps_begin f a p = record { same = λ x. skipped x f a p; space = p.stops }
+pub steps_begin : (f a : Text) (ts : List Step) → Spaces f a → ts ≡ [] → StepsSoFar f a ts
+steps_begin f a ts p e = subst (λ z. StepsSoFar f a z) (sym e) (record { same = λ x. skipped x f a p; space = p.stops })
 
 pub steps_on : (f a v w r b : Text) (ts us : List Step) (t : Step) → StepsSoFar f a ts → IsOperator a v t.combinator → Spaces v w → IsNode w r (node_test_says t.node) → Spaces r b → us ≡ ts ++ t ∷ [] → StepsSoFar f b us
 steps_on f a v w r b ts us t h o p n s e = record {
@@ -79,6 +87,34 @@ steps_on f a v w r b ts us t h o p n s e = record {
       (same_then (h.same x) (same_then (stepped (fold step_says x ts) a v w r t.combinator (node_test_says t.node) h.space o p n) (skipped (step_says (fold step_says x ts) t) r b s)));
   space = s.stops;
 }
+
+-- a node that is not read after an operator
+pub steps_fail : (o : Result (Vec Step Global) Refusal) (e : Refusal) (f a v r : Text) (w b : Here) (ts : List Step) (c : Combinator) → IsErrAnd o (λ x. x ≡ e) → StepsSoFar f a ts → IsOperator a v c → Spaces v w.rest → ReadsPiece IsNode node_test_says (Err e) w b → ReadsSteps o f r
+steps_fail (Ok x) e f a v r w b ts c i h p s n = absurd i
+steps_fail (Err x) e f a v r w b ts c i h p s n = subst (λ z. ReadsSteps (Err z) f r) (sym i) (go e n)
+  where
+    go : (e : Refusal) → ReadsPiece IsNode node_test_says (Err e) w b → ReadsSteps (Err e) f r
+    go (Fault k) n = λ x q g. no_step_node (fold step_says x ts) a v w.rest c q h.space p s n.returns ((h.same x).on q g)
+    go Memory n = tt
+
+-- each step takes in a character
+one_shorter : (c : ℕ) (r : Text) → length r < length (c ∷ r)
+one_shorter c r = omega arith
+
+two_shorter : (c d : ℕ) (r : Text) → length r < length (c ∷ d ∷ r)
+two_shorter c d r = omega arith
+
+operator_shorter : {s r : Text} {c : Combinator} → IsOperator s r c → length r < length s
+operator_shorter (IsOperator.child {r = r} h) = one_shorter 62 r
+operator_shorter (IsOperator.descendant {r = r}) = two_shorter 62 62 r
+operator_shorter (IsOperator.next_sibling {r = r} h) = one_shorter 43 r
+operator_shorter (IsOperator.later_sibling {r = r}) = two_shorter 43 43 r
+
+no_longer : {a b : Here} → Moves a b → length b.rest ≤ length a.rest
+no_longer {a = a} {b = b} m = omega (arith, ap length m.piece.1, length-append m.piece.0 b.rest)
+
+pub step_shorter : (a : Text) (v w r b : Here) (c : Combinator) → IsOperator a v.rest c → Moves v w → Moves w r → Moves r b → length b.rest < length a
+step_shorter a v w r b c o l m n = omega (arith, operator_shorter o, no_longer l, no_longer m, no_longer n)
 
 -- a selector, and what follows it
 pub selectors_same : (s t r : Text) (x : data'.Selector) → Spaces s t → IsFirst t r x → Same (Selectors s) (After x r)
@@ -95,12 +131,28 @@ no_first s t q p n (selectors {t = t'} {r = r'} {x = y} p' f' h) = n r' y (subst
 pub no_steps_after : (s t r : Text) (x : data'.Selector) (q : Query) → Spaces s t → IsFirst t r x → ((y : data'.Selector) (p : Query) → After y r p → ⊥) → Selectors s q → ⊥
 no_steps_after s t r x q p f n h = n x q ((selectors_same s t r x p f).on q h)
 
+pub selector_first : (o : Result Selector Refusal) (e : Refusal) (s r : Text) (t b : Here) → IsErrAnd o (λ x. x ≡ e) → Spaces s t.rest → ReadsPiece IsFirst first_says (Err e) t b → ReadsSelector o s r
+selector_first (Ok x) e s r t b i p n = absurd i
+selector_first (Err x) e s r t b i p n = subst (λ z. ReadsSelector (Err z) s r) (sym i) (go e n)
+  where
+    go : (e : Refusal) → ReadsPiece IsFirst first_says (Err e) t b → ReadsSelector (Err e) s r
+    go (Fault k) n = λ q. no_first s t.rest q p n.returns
+    go Memory n = tt
+
+pub selector_steps : (o : Result Selector Refusal) (e : Refusal) (s t u w r : Text) (x : First) → IsErrAnd o (λ x. x ≡ e) → Spaces s t → IsFirst t u (first_says x) → ReadsSteps (Err e) u w → ReadsSelector o s r
+selector_steps (Ok y) e s t u w r x i p f n = absurd i
+selector_steps (Err y) e s t u w r x i p f n = subst (λ z. ReadsSelector (Err z) s r) (sym i) (go e n)
+  where
+    go : (e : Refusal) → ReadsSteps (Err e) u w → ReadsSelector (Err e) s r
+    go (Fault k) n = λ q. no_steps_after s t u (first_says x) q p f n
+    go Memory n = tt
+
 -- the selectors of a query so far: what is left of the text has the rest of them
 pub record QueriesSoFar (f a : Text) (ys : Query) : Type 0 where
   pub on : (q : Query) → Selectors a q → IsQuery f (ys ++ q)
   pub back : (q : Query) → IsQuery f q → (p : Query) × (q ≡ ys ++ p) × Selectors a p
 
-pub queries_begin : (f : Text) → QueriesSoFar f (without_bom f) []
+queries_begin : (f : Text) → QueriesSoFar f (without_bom f) []
 queries_begin f = record { on = λ q h. on q h; back = λ q h. back q h }
   where
     on : (q : Query) → Selectors (without_bom f) q → IsQuery f q
@@ -108,6 +160,33 @@ queries_begin f = record { on = λ q h. on q h; back = λ q h. back q h }
 
     back : (q : Query) → IsQuery f q → (p : Query) × (q ≡ p) × Selectors (without_bom f) p
     back q (IsQuery.query a b c) = (q, refl, selectors a b c)
+
+-- the first character of a text, where it is U+FEFF
+no_bom : (s : Text) → begins 0xFEFF s ≡ false → without_bom s ≡ s
+no_bom [] h = refl
+no_bom (c ∷ t) h = ap (λ b. cond b t (c ∷ t)) h
+
+bom_past : (v : Bool) (f a : Here) → Ate 0xFEFF v f a → without_bom f.rest ≡ a.rest
+bom_past true f a h = ap without_bom h.0
+bom_past false f a h = no_bom f.rest h.0 ∙ sym (ap (λ z. z.rest) h.1)
+
+pub bom_moves : (v : Bool) (f a : Here) → Ate 0xFEFF v f a → Moves f a
+bom_moves true f a h = moves_one h
+bom_moves false f a h = moves_stayed (stayed_looked f a h.1)
+
+pub queries_start : (v : Bool) (f a : Here) (ys : List Selector) → Ate 0xFEFF v f a → ys ≡ [] → QueriesSoFar f.rest a.rest (map selector_says ys)
+queries_start v f a ys h e = subst (λ z. QueriesSoFar f.rest a.rest (map selector_says z)) (sym e) (subst (λ z. QueriesSoFar f.rest z []) (bom_past v f a h) (queries_begin f.rest))
+
+-- whether a look found a character
+pub more_there : (s t : Text) (o : Option ℕ) → t ≡ s → o ≡ first t → is_some o ≡ true → s ≡ [] → ⊥
+more_there s t o e k h n = let m : false ≡ true = sym (ap is_some (k ∙ ap first (e ∙ n))) ∙ h in absurd (false≢true m)
+
+pub end_there : (s t : Text) (o : Option ℕ) → t ≡ s → o ≡ first t → is_some o ≡ false → s ≡ []
+end_there s t o e k h = go s (sym (ap is_some (k ∙ ap first e)) ∙ h)
+  where
+    go : (s : Text) → is_some (first s) ≡ false → s ≡ []
+    go [] h = refl
+    go (c ∷ s) h = absurd (false≢true (sym h))
 
 -- `||` after a selector
 or_on : {x : data'.Selector} {r u : Text} {q : Query} → NoStep r → r ≡ codes "||" ++ u → After x r q → (p : Query) × (q ≡ x ∷ p) × Selectors u p
