@@ -1,15 +1,15 @@
 -- Accessors, literals and tests, from what their readers return.
 use Rattle.std.proofs.Common.{◌≡◌, ℕ, ◌<◌, ◌^◌, ℤ, pos, Bool, List, [], ◌∷◌, ◌++◌, true, false, codes, refl, sym, ap, ◌∙◌, subst, ◌==◌, ◌||◌, arith}
-use Rattle.std.proofs.lemmas.List.{append_assoc, append-nil}
+use Rattle.std.proofs.lemmas.List.{append_assoc, append-nil, map-append}
 use Rattle.std.proofs.Common.{of_z, to_z, IsTrue}
 use Rattle.std.proofs.lemmas.Bool.{and_parts, eqb-true}
 use Rattle.std.proofs.lemmas.Bool.Decides.{nat_tests}
 use Rattle.std.specs.Int.{w128}
-use Rattle.std.specs.Prelude.{Option, Some, None, Result, Ok, Err, String, map, not, string_bytes}
+use Rattle.std.specs.Prelude.{Option, Some, None, Result, Ok, Err, IsErrAnd, String, map, not, string_bytes}
 use Rattle.std.specs.Str.{chars}
 use Rattle.std.specs.declared.alloc.Global.{Global}
 use Rattle.kdl_text.specs.Chars.{Text, begins, begins_two, starts, is_digit, is_space, is_newline_char, is_banned, is_punctuation, is_identifier_char}
-use Rattle.kdl_text.specs.Internal.Here.{Here, first, tail}
+use Rattle.kdl_text.specs.Internal.Here.{Ate, Here, Took, first, tail}
 use Rattle.kdl_text.specs.Internal.NumberReading.{ReadsKeyword, ReadsNumber, number_value}
 use Rattle.kdl_text.specs.Internal.Reading.{Goes, Moves}
 use Rattle.kdl_text.specs.Numbers.{IsKeyword, IsNumber, NumberValue, WholeNumber, base_prefix, begins_number, is_whole, whole_value}
@@ -18,20 +18,20 @@ use Rattle.kdl_text.specs.declared.numbers.Number.{Number}
 use Rattle.kdl_text.specs.declared.numbers.Number.TheVariants.{Integer as IntegerNumber, Decimal as DecimalNumber}
 use Rattle.kdl_text.proofs.Numeric.DecimalUnique.{number_begins}
 use Rattle.kdl_text.proofs.Numeric.KeywordUnique.{keyword_begins}
-use Rattle.kdl_text.proofs.Looking.MovesJoin.{moves_then}
+use Rattle.kdl_text.proofs.Looking.MovesJoin.{moves_one, moves_then}
 use Rattle.kdl_value.specs.Data.{Value, float, integer}
 use Rattle.kdl_syntax.specs.Pieces as piece
 use Rattle.kdl_syntax.specs.Pieces.{keyword_value}
 use Rattle.kdl_syntax.proofs.Lexing.TokenReads.{a_keyword_here, decimal_here, integer_here, no_keyword_here, no_number_here}
 use Rattle.kdl_syntax.specs.Tokens.{BeginsToken, NoToken, string, value as value_token, t_string, t_value}
-use Rattle.kdl_query.specs.Data.{Accessor, Literal, Test, TypeTest, argument, arguments, name, properties, ty}
+use Rattle.kdl_query.specs.Data.{Accessor, Literal, Test, TypeTest, argument, arguments, compares, name, properties, ty}
 use Rattle.kdl_query.specs.QueryText.{AfterAccessor, AreTests, IsAccessor, IsComparison, IsIndex, IsKey, IsLiteral, IsName, IsTest, IsType, Spaces, is_allowed}
 use Rattle.kdl_query.specs.Internal.QueryReading.{AfterWord, Closes, FittingLiteral, IndexOf, KeyPiece, ReadsPiece, Returns, TestRest, TypeRest, ValuePiece, Word, begins_keyword}
 use Rattle.kdl_query.specs.declared.error.Refusal.{Refusal}
 use Rattle.kdl_query.specs.declared.error.Refusal.TheVariants.{Fault, Memory}
 use Rattle.kdl_query.specs.declared.tree.Comparison.{Comparison}
 use Rattle.kdl_query.specs.declared.tree.Comparison.TheVariants.{Greater, Less}
-use Rattle.kdl_query.proofs.Reading.{no_char, refused}
+use Rattle.kdl_query.proofs.Reading.{Still, after_still, no_char, refused, still_looked}
 use Rattle.kdl_query.proofs.Unique.{accessor_det, comparison_det, index_det, left_no_piece, literal_det, name_det, no_accessor_there, no_key_name, no_key_prop, no_key_props, no_key_tag, no_key_val, no_key_values, no_name_at, no_plain_at, same_at, spaces_at, spaces_det, test_det}
 
 -- numbers and keywords as literals
@@ -290,3 +290,76 @@ greater_here s m r e f h = let k : begins_two 62 61 (62 ∷ r) ≡ false = sym (
 
 pub less_here : (s m r : Text) → s ≡ 60 ∷ r → m ≡ s → begins_two 60 61 m ≡ false → IsComparison s r Less
 less_here s m r e f h = let k : begins_two 60 61 (60 ∷ r) ≡ false = sym (ap (begins_two 60 61) (f ∙ e)) ∙ h in rw e (IsComparison.less k)
+
+-- the error that `?` returns
+pub on_exit : {A B : Type 0} {X : Text → Text → B → Type 0} {says : A → B} (o : Result A Refusal) (e : Refusal) (a b : Here) → IsErrAnd o (λ f. f ≡ e) → ReadsPiece X says (Err e) a b → ReadsPiece X says o a b
+on_exit (Ok v) e a b h k = absurd h
+on_exit {X = X} {says = says} (Err f) e a b h k = subst (λ z. ReadsPiece X says (Err z) a b) (sym h) k
+
+-- a word that is not here
+abbrev pub Misses : Text → Text → Text → Type 0
+Misses w s t = ((r : Text) → s ≡ w ++ r → ⊥) × (t ≡ s)
+
+pub no_words : (a b c d e f g : Text) → Misses (codes "val(") a b → Misses (codes "prop(") b c → Misses (codes "name(") c d → Misses (codes "tag(") d e → Misses (codes "values(") e f → Misses (codes "props(") f g → NoWord a
+no_words a b c d e f g (i, h) (j, k) (l, m) (n, o) (p, q) (u, v) = record {
+  val = i;
+  prop = λ r x. j r (h ∙ x);
+  name = λ r x. l r (k ∙ h ∙ x);
+  tag = λ r x. n r (m ∙ k ∙ h ∙ x);
+  values = λ r x. p r (o ∙ m ∙ k ∙ h ∙ x);
+  props = λ r x. u r (q ∙ o ∙ m ∙ k ∙ h ∙ x);
+}
+
+pub still_at : {a b : Here} → b.rest ≡ a.rest → Moves a b → Still a b
+still_at e m = record { rest = e; moves = m }
+
+-- what follows an accessor, where it does not end
+pub comparison_failed : {A : Type 0} (says : A → Test) (a : Accessor) (e : Refusal) (s m b : Here) → Ate 93 false s m → ReadsPiece {A = Comparison} IsComparison (λ x. x) (Err e) m b → ReadsPiece (AfterAccessor a) says (Err e) s b
+comparison_failed says a e s m b (h, x) r =
+    let k = still_looked x in
+    after_still says (Err e) s m b k (refused says e m b r r.moves (no_comparison a m.rest (ap (begins 93) k.rest ∙ h)))
+
+pub literal_failed : {A L : Type 0} (says : A → Test) (of : L → Literal) (a : Accessor) (c : Comparison) (e : Refusal) (s m d u b : Here) → Ate 93 false s m → ReadsPiece {A = Comparison} IsComparison (λ x. x) (Ok c) m d → Spaces d.rest u.rest → Moves d u → ReadsPiece (FittingLiteral a c) of (Err e) u b → ReadsPiece (AfterAccessor a) says (Err e) s b
+literal_failed says of a c e s m d u b (h, x) r p v l =
+    let k = still_looked x in
+    after_still says (Err e) s m b k (refused says e m b l (moves_then r.moves (moves_then v l.moves)) (no_fitting a m.rest d.rest u.rest c (ap (begins 93) k.rest ∙ h) r.returns p))
+
+pub bracket_failed : {A L : Type 0} (says : A → Test) (of : L → Literal) (a : Accessor) (c : Comparison) (l : L) (e : Refusal) (s m d u v b : Here) → Ate 93 false s m → ReadsPiece {A = Comparison} IsComparison (λ x. x) (Ok c) m d → Spaces d.rest u.rest → Moves d u → ReadsPiece (FittingLiteral a c) of (Ok l) u v → ReadsPiece (Closes 93) (λ x. x) (Err e) v b → ReadsPiece (AfterAccessor a) says (Err e) s b
+bracket_failed says of a c l e s m d u v b (h, x) r p w f n =
+    let k = still_looked x in
+    after_still says (Err e) s m b k (refused says e m b n (moves_then r.moves (moves_then w (moves_then f.moves n.moves))) (no_test_end a m.rest d.rest u.rest v.rest c (of l) (ap (begins 93) k.rest ∙ h) r.returns p f.returns))
+
+pub compared_read : {A L : Type 0} (says : A → Test) (of : L → Literal) (y : A) (a : Accessor) (c : Comparison) (l : L) (s m d u v b : Here) → says y ≡ compares a c (of l) → Ate 93 false s m → ReadsPiece {A = Comparison} IsComparison (λ x. x) (Ok c) m d → Spaces d.rest u.rest → Moves d u → ReadsPiece (FittingLiteral a c) of (Ok l) u v → ReadsPiece (Closes 93) (λ x. x) (Ok tt) v b → ReadsPiece (AfterAccessor a) says (Ok y) s b
+compared_read says of y a c l s m d u v b q (h, x) r p w f n =
+    after_still says (Ok y) s m b (still_looked x) (record {
+      returns = subst (AfterAccessor a m.rest b.rest) (sym q) (AfterAccessor.compared r.returns p f.returns.literal f.returns.allowed n.returns);
+      moves = moves_then r.moves (moves_then w (moves_then f.moves n.moves));
+    })
+
+-- the rest of a test, where something is asked
+pub accessor_failed : {A C : Type 0} (says : A → Test) (of : C → Accessor) (e : Refusal) (s t m b : Here) → Spaces s.rest t.rest → Moves s t → Ate 93 false t m → ReadsPiece IsAccessor of (Err e) m b → ReadsPiece TestRest says (Err e) s b
+accessor_failed says of e s t m b p v (h, x) r =
+    let k = still_looked x in
+    refused says e s b r (moves_then v (moves_then k.moves r.moves)) (no_test_accessor s.rest m.rest (subst (λ z. Spaces s.rest z) (sym k.rest) p) (ap (begins 93) k.rest ∙ h))
+
+pub test_read : {A C : Type 0} (says : A → Test) (of : C → Accessor) (x : C) (o : Result A Refusal) (s t m u v b : Here) → Spaces s.rest t.rest → Moves s t → Ate 93 false t m → ReadsPiece IsAccessor of (Ok x) m u → Spaces u.rest v.rest → Moves u v → ReadsPiece (AfterAccessor (of x)) says o v b → ReadsPiece TestRest says o s b
+test_read says of x o s t m u v b p i (h, y) r q j l =
+    let k = still_looked y in
+    record {
+      returns = test_on says o v b s.rest m.rest u.rest v.rest (of x) (subst (λ z. Spaces s.rest z) (sym k.rest) p) r.returns q refl l.returns;
+      moves = moves_then i (moves_then k.moves (moves_then r.moves (moves_then j l.moves)));
+    }
+
+-- one more test in a row
+pub test_more : {A : Type 0} (says : A → Test) (xs ys : List A) (x : A) (f : Text) (a m b : Here) → Goes AreTests f (map says xs) a.rest → Took (Some 91) a m → ReadsPiece TestRest says (Ok x) m b → ys ≡ xs ++ x ∷ [] → Goes AreTests f (map says ys) b.rest
+test_more says xs ys x f a m b g k r e =
+    subst (λ z. Goes AreTests f z b.rest) (sym (ap (map says) e ∙ map-append says xs (x ∷ []))) (goes_on f a.rest b.rest (map says xs) (says x) g (subst (λ z. IsTest z b.rest (says x)) (sym k.0) r.returns))
+
+pub test_failed : {A V : Type 0} (says : A → Test) (all : V → List Test) (xs : List Test) (e : Refusal) (f a m b : Here) → Goes AreTests f.rest xs a.rest → Moves f a → Took (Some 91) a m → ReadsPiece TestRest says (Err e) m b → ReadsPiece AreTests all (Err e) f b
+test_failed says all xs e f a m b g v k r =
+    refused all e f b r (moves_then v (moves_then (moves_one k) r.moves)) (λ n t ys w. goes_wrong f.rest a.rest t xs ys g (ap (begins 91) k.0) (λ u x d. n u x (subst (λ z. IsTest z u x) k.0 d)) w)
+
+pub tests_end : {V : Type 0} (all : V → List Test) (v : V) (f a b : Here) → Goes AreTests f.rest (all v) a.rest → Moves f a → Ate 91 false a b → ReadsPiece AreTests all (Ok v) f b
+tests_end all v f a b g m (h, x) =
+    let k = still_looked x in
+    record { returns = subst (λ z. AreTests f.rest z (all v)) (sym k.rest) (goes_end f.rest a.rest (all v) g h); moves = moves_then m k.moves }
