@@ -1,7 +1,7 @@
 -- Accessors, literals and tests, from what their readers return.
 use Rattle.std.proofs.Common.{◌≡◌, ℕ, ◌<◌, ◌^◌, ℤ, pos, Bool, List, [], ◌∷◌, ◌++◌, true, false, codes, refl, sym, ap, ◌∙◌, subst, ◌==◌, ◌||◌, arith}
 use Rattle.std.proofs.lemmas.List.{append_assoc, append-nil}
-use Rattle.std.proofs.Common.{of_z, to_z, IsTrue}
+use Rattle.std.proofs.Common.{of_z, to_z}
 use Rattle.std.proofs.lemmas.Bool.{and_parts, eqb-true}
 use Rattle.std.proofs.lemmas.Bool.Decides.{nat_tests}
 use Rattle.std.specs.Int.{w128}
@@ -25,7 +25,7 @@ use Rattle.kdl_syntax.specs.Pieces.{keyword_value}
 use Rattle.kdl_syntax.proofs.Lexing.TokenReads.{a_keyword_here, decimal_here, integer_here, no_keyword_here, no_number_here}
 use Rattle.kdl_syntax.specs.Tokens.{BeginsToken, NoToken, string, value as value_token, t_string, t_value}
 use Rattle.kdl_query.specs.Data.{Accessor, Literal, Test, TypeTest, argument, arguments, name, properties, ty}
-use Rattle.kdl_query.specs.QueryText.{AfterAccessor, AreTests, IsAccessor, IsComparison, IsIndex, IsKey, IsLiteral, IsName, IsTest, IsType, Spaces, is_allowed}
+use Rattle.kdl_query.specs.QueryText.{AfterAccessor, AreTests, IsAccessor, IsComparison, IsIndex, IsKey, IsLiteral, IsName, IsTest, Spaces, is_allowed}
 use Rattle.kdl_query.specs.Internal.QueryReading.{AfterWord, Closes, FittingLiteral, IndexOf, KeyPiece, ReadsPiece, Returns, TestRest, TypeRest, ValuePiece, Word, begins_keyword}
 use Rattle.kdl_query.specs.declared.error.Refusal.{Refusal}
 use Rattle.kdl_query.specs.declared.error.Refusal.TheVariants.{Fault, Memory}
@@ -90,9 +90,6 @@ index_unfit s t x n k r i d = k i (sym ((n r (whole_value (pos i))).0 (is_whole 
 
 pub index_faulty : (s : Text) → ((r : Text) (v : NumberValue) → IsNumber s r v → ⊥) → (r : Text) (i : ℕ) → IsIndex s r i → ⊥
 index_faulty s n r i d = n r (whole_value (pos i)) (is_whole d.number)
-
-pub index_unbegun : (s : Text) → ((starts is_digit s ≡ true) × (base_prefix s ≡ None) → IsTrue false) → (r : Text) (i : ℕ) → IsIndex s r i → ⊥
-index_unbegun s h r i d = let k = h (d.unsigned, d.decimal) in cc
 
 -- the arguments of `val` and `prop`
 pub argument_first : (s m r : Text) → Spaces s m → m ≡ 41 ∷ r → AfterWord (codes "val(") s r (argument 0)
@@ -274,15 +271,6 @@ no_type_literal s m e h r l d = go r l (subst (λ z. IsLiteral z r l) e d)
     go r l (IsLiteral.typed a) = h r _ a
     go r l (IsLiteral.string n) = no_name_at 40 m _ _ left_no_piece n
     go r l (IsLiteral.plain p) = no_plain_at 40 m _ _ left_no_piece p
-
-pub no_value_literal : (s : Text) → begins 40 s ≡ false → ((r : Text) (v : Value) → ValuePiece s r v → ⊥) → (r : Text) (l : Literal) → IsLiteral s r l → ⊥
-no_value_literal s h f r l (IsLiteral.typed a) = go a h
-  where
-    go : {s t : Text} {y : TypeTest} → IsType s t y → begins 40 s ≡ false → ⊥
-    go (IsType.any a) h = cc
-    go (IsType.named a b c) h = cc
-no_value_literal s h f r l (IsLiteral.string n) = f r _ (IsLiteral.string n)
-no_value_literal s h f r l (IsLiteral.plain p) = f r _ (IsLiteral.plain p)
 
 -- `>` and `<` without a `=` after them
 pub greater_here : (s m r : Text) → s ≡ 62 ∷ r → m ≡ s → begins_two 62 61 m ≡ false → IsComparison s r Greater
