@@ -91,9 +91,6 @@ index_unfit s t x n k r i d = k i (sym ((n r (whole_value (pos i))).0 (is_whole 
 pub index_faulty : (s : Text) → ((r : Text) (v : NumberValue) → IsNumber s r v → ⊥) → (r : Text) (i : ℕ) → IsIndex s r i → ⊥
 index_faulty s n r i d = n r (whole_value (pos i)) (is_whole d.number)
 
-pub index_unbegun : (s : Text) → ((starts is_digit s ≡ true) × (base_prefix s ≡ None) → IsTrue false) → (r : Text) (i : ℕ) → IsIndex s r i → ⊥
-index_unbegun s h r i d = let k = h (d.unsigned, d.decimal) in cc
-
 -- the arguments of `val` and `prop`
 pub argument_first : (s m r : Text) → Spaces s m → m ≡ 41 ∷ r → AfterWord (codes "val(") s r (argument 0)
 argument_first s m r p e = IsAccessor.first (subst (λ z. Spaces s z) e p)
@@ -274,15 +271,6 @@ no_type_literal s m e h r l d = go r l (subst (λ z. IsLiteral z r l) e d)
     go r l (IsLiteral.typed a) = h r _ a
     go r l (IsLiteral.string n) = no_name_at 40 m _ _ left_no_piece n
     go r l (IsLiteral.plain p) = no_plain_at 40 m _ _ left_no_piece p
-
-pub no_value_literal : (s : Text) → begins 40 s ≡ false → ((r : Text) (v : Value) → ValuePiece s r v → ⊥) → (r : Text) (l : Literal) → IsLiteral s r l → ⊥
-no_value_literal s h f r l (IsLiteral.typed a) = go a h
-  where
-    go : {s t : Text} {y : TypeTest} → IsType s t y → begins 40 s ≡ false → ⊥
-    go (IsType.any a) h = cc
-    go (IsType.named a b c) h = cc
-no_value_literal s h f r l (IsLiteral.string n) = f r _ (IsLiteral.string n)
-no_value_literal s h f r l (IsLiteral.plain p) = f r _ (IsLiteral.plain p)
 
 -- `>` and `<` without a `=` after them
 pub greater_here : (s m r : Text) → s ≡ 62 ∷ r → m ≡ s → begins_two 62 61 m ≡ false → IsComparison s r Greater

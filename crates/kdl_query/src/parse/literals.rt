@@ -1,7 +1,6 @@
 //! Readers of comparisons and of what follows them.
 #![tactic(auto, using(crate::proofs::Rules::parse))]
 
-ghost use Rattle.kdl_query.specs.Data as data';
 ghost use Rattle.kdl_query.specs.Internal.QueryReading.{Finds, FittingLiteral, ReadsPiece, ValuePiece, begins_keyword};
 ghost use Rattle.kdl_query.specs.QueryText as text';
 ghost use Rattle.kdl_query.specs.QueryText.{IsComparison, IsLiteral};

@@ -1,7 +1,7 @@
 use Rattle.kdl_value.specs.Tree.{text_of, value_tree}
 use Rattle.kdl_query.specs.QueryText.{IsLiteral}
 use Rattle.kdl_query.proofs.Keys.{no_string, still_looks}
-use Rattle.kdl_query.proofs.Reading.{Still, after_still, still_then}
+use Rattle.kdl_query.proofs.Reading.{after_still, still_then}
 use Rattle.kdl_query.proofs.parse.literals.value_here.Goals as goal
 
 pub returns-in_err-read_name : goal.returns-in_err-read_name
