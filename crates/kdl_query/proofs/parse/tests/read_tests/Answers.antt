@@ -7,7 +7,7 @@ returns-in_err-read_test c = on_exit _ _ _ _ c.from_residual.ensures.1 (test_fai
 
 pub tests-preserved : goal.tests-preserved
 tests-preserved c = record {
-  goes = test_more _ _ _ _ _ _ _ _ c.tests.invariant.goes c.tests-test.ensures c.in_ok-read_test.ensures c.in_ok-push.ensures.items;
+  goes = test_more _ c.tests.tests.items c.push.new.self.items _ _ c.tests.cursor _ _ c.tests.invariant.goes c.tests-test.ensures c.in_ok-read_test.ensures c.in_ok-push.ensures.items;
   moves = moves_then c.tests.invariant.moves (moves_then (moves_one c.tests-test.ensures) c.in_ok-read_test.ensures.moves);
 }
 
