@@ -43,10 +43,7 @@ no_literal s r v n (IsLiteral.string {v = w} x) = n.none r (string w) (t_string 
 no_literal s r v n (IsLiteral.plain p) = n.none r (value_token v) (t_value p)
 
 -- tests in a row
-pub goes_begin : (f : Text) → Goes AreTests f [] f
-goes_begin f = record { on = λ r v h. h; back = λ r w h. (w, refl, h) }
-
-pub goes_on : (f a b : Text) (xs : List Test) (x : Test) → Goes AreTests f xs a → IsTest a b x → Goes AreTests f (xs ++ x ∷ []) b
+goes_on : (f a b : Text) (xs : List Test) (x : Test) → Goes AreTests f xs a → IsTest a b x → Goes AreTests f (xs ++ x ∷ []) b
 goes_on f a b xs x g t = record { on = on; back = back }
   where
     on : (r : Text) (v : List Test) → AreTests b r v → AreTests f r ((xs ++ x ∷ []) ++ v)
@@ -68,10 +65,10 @@ goes_on f a b xs x g t = record { on = on; back = back }
         let (u, i, j) = next r v k in
         (u, e ∙ ap (λ z. xs ++ z) i ∙ sym (append_assoc xs (x ∷ []) u), j)
 
-pub goes_end : (f a : Text) (xs : List Test) → Goes AreTests f xs a → begins 91 a ≡ false → AreTests f a xs
+goes_end : (f a : Text) (xs : List Test) → Goes AreTests f xs a → begins 91 a ≡ false → AreTests f a xs
 goes_end f a xs g h = subst (AreTests f a) (append-nil xs) (g.on a [] (AreTests.none h))
 
-pub goes_wrong : (f a r : Text) (xs ys : List Test) → Goes AreTests f xs a → begins 91 a ≡ true → ((t : Text) (x : Test) → IsTest a t x → ⊥) → AreTests f r ys → ⊥
+goes_wrong : (f a r : Text) (xs ys : List Test) → Goes AreTests f xs a → begins 91 a ≡ true → ((t : Text) (x : Test) → IsTest a t x → ⊥) → AreTests f r ys → ⊥
 goes_wrong f a r xs ys g h n t = let (v, e, k) = g.back r ys t in go a r v h n k
   where
     go : (a r : Text) (v : List Test) → begins 91 a ≡ true → ((t : Text) (x : Test) → IsTest a t x → ⊥) → AreTests a r v → ⊥
@@ -171,7 +168,7 @@ pub record NoWord (s : Text) : Type 0 where
   pub values : (r : Text) → s ≡ codes "values(" ++ r → ⊥
   pub props : (r : Text) → s ≡ codes "props(" ++ r → ⊥
 
-pub only_key : (s r : Text) (y : Accessor) → NoWord s → IsAccessor s r y → KeyPiece s r y
+only_key : (s r : Text) (y : Accessor) → NoWord s → IsAccessor s r y → KeyPiece s r y
 only_key s r y n (IsAccessor.first a) = absurd (n.val _ refl)
 only_key s r y n (IsAccessor.nth a b c) = absurd (n.val _ refl)
 only_key s r y n (IsAccessor.prop a b c) = absurd (n.prop _ refl)
@@ -189,17 +186,17 @@ key_reads says (Ok x) a b n h = record { returns = key_accessor _ _ _ h.returns;
 key_reads says (Err f) a b n h = refused says f a b h h.moves (λ k r y m. k r y (only_key a.rest r y n m))
 
 -- what follows an accessor
-pub no_comparison : (a : Accessor) (s : Text) → begins 93 s ≡ false → ((r : Text) (c : Comparison) → IsComparison s r c → ⊥) → (r : Text) (x : Test) → AfterAccessor a s r x → ⊥
+no_comparison : (a : Accessor) (s : Text) → begins 93 s ≡ false → ((r : Text) (c : Comparison) → IsComparison s r c → ⊥) → (r : Text) (x : Test) → AfterAccessor a s r x → ⊥
 no_comparison a s h n r x AfterAccessor.alone = cc
 no_comparison a s h n r x (AfterAccessor.compared b p m k q) = n _ _ b
 
-pub no_fitting : (a : Accessor) (s t u : Text) (c : Comparison) → begins 93 s ≡ false → IsComparison s t c → Spaces t u → ((r : Text) (l : Literal) → FittingLiteral a c u r l → ⊥) → (r : Text) (x : Test) → AfterAccessor a s r x → ⊥
+no_fitting : (a : Accessor) (s t u : Text) (c : Comparison) → begins 93 s ≡ false → IsComparison s t c → Spaces t u → ((r : Text) (l : Literal) → FittingLiteral a c u r l → ⊥) → (r : Text) (x : Test) → AfterAccessor a s r x → ⊥
 no_fitting a s t u c h b p n r x AfterAccessor.alone = cc
 no_fitting a s t u c h b p n r x (AfterAccessor.compared {t = t'} {u = u'} {v = v'} {c = c'} {l = l'} b' p' m' k' q') =
     let (e, f) = comparison_det s t t' c c' b b' in
     n v' l' (record { literal = subst (λ z. IsLiteral z v' l') (sym (spaces_at t t' u u' e p p')) m'; allowed = ap (λ z. is_allowed a z l') f ∙ k' })
 
-pub no_test_end : (a : Accessor) (s t u v : Text) (c : Comparison) (l : Literal) → begins 93 s ≡ false → IsComparison s t c → Spaces t u → FittingLiteral a c u v l → ((r : Text) (x : Unit {0}) → Closes 93 v r x → ⊥) → (r : Text) (x : Test) → AfterAccessor a s r x → ⊥
+no_test_end : (a : Accessor) (s t u v : Text) (c : Comparison) (l : Literal) → begins 93 s ≡ false → IsComparison s t c → Spaces t u → FittingLiteral a c u v l → ((r : Text) (x : Unit {0}) → Closes 93 v r x → ⊥) → (r : Text) (x : Test) → AfterAccessor a s r x → ⊥
 no_test_end a s t u v c l h b p m n r x AfterAccessor.alone = cc
 no_test_end a s t u v c l h b p m n r x (AfterAccessor.compared {t = t'} {u = u'} {v = v'} {c = c'} {l = l'} b' p' m' k' q') =
     let (e, f) = comparison_det s t t' c c' b b' in
@@ -209,14 +206,14 @@ pub no_unfit : (a : Accessor) (c : Comparison) (s t : Text) (l : Literal) → Is
 no_unfit a c s t l h k r x f = let (e, m) = literal_det s t r l x h f.literal in let i : is_allowed a c l ≡ is_allowed a c x = ap (is_allowed a c) m in let j = f.allowed in cc
 
 -- the rest of a test
-pub no_test_accessor : (s t : Text) → Spaces s t → begins 93 t ≡ false → ((r : Text) (a : Accessor) → IsAccessor t r a → ⊥) → (r : Text) (x : Test) → TestRest s r x → ⊥
+no_test_accessor : (s t : Text) → Spaces s t → begins 93 t ≡ false → ((r : Text) (a : Accessor) → IsAccessor t r a → ⊥) → (r : Text) (x : Test) → TestRest s r x → ⊥
 no_test_accessor s t p h n r x d = go r x d
   where
     go : (r : Text) (x : Test) → IsTest (91 ∷ s) r x → ⊥
     go r x (IsTest.nothing a) = no_char 93 t r h (spaces_det p a)
     go r x (IsTest.something {u = u} {a = a} b c e f) = n u a (subst (λ z. IsAccessor z u a) (spaces_det b p) c)
 
-pub test_on : {A : Type 0} (says : A → Test) (o : Result A Refusal) (m b : Here) (s t u v : Text) (a : Accessor) → Spaces s t → IsAccessor t u a → Spaces u v → m.rest ≡ v → Returns (AfterAccessor a) says o m.rest b.rest → Returns TestRest says o s b.rest
+test_on : {A : Type 0} (says : A → Test) (o : Result A Refusal) (m b : Here) (s t u v : Text) (a : Accessor) → Spaces s t → IsAccessor t u a → Spaces u v → m.rest ≡ v → Returns (AfterAccessor a) says o m.rest b.rest → Returns TestRest says o s b.rest
 test_on says (Ok x) m b s t u v a p c q e h = IsTest.something p c (subst (λ z. Spaces u z) (sym e) q) h
 test_on says (Err Memory) m b s t u v a p c q e h = tt
 test_on says (Err (Fault f)) m b s t u v a p c q e h = λ r x d. go r x d
