@@ -9,11 +9,10 @@ use Rattle.kdl_text.specs.Internal.Reading.{Moves}
 use Rattle.kdl_text.proofs.Looking.MovesJoin.{moves_then}
 use Rattle.kdl_query.specs.Data.{NodeTest, Selector, Test, TypeTest, start, top}
 use Rattle.kdl_query.specs.QueryText.{AreTests, IsFirst, IsName, IsNode, IsTest, IsType, Spaces, ends_type}
-use Rattle.kdl_query.specs.Internal.QueryReading.{Closes, NameAfter, NodeRest, ReadsPiece, Returns, TypeRest}
+use Rattle.kdl_query.specs.Internal.QueryReading.{Closes, NameAfter, NodeRest, ReadsPiece, TypeRest}
 use Rattle.kdl_query.specs.declared.error.Refusal.{Refusal}
-use Rattle.kdl_query.specs.declared.error.Refusal.TheVariants.{Fault, Memory}
 use Rattle.kdl_query.proofs.Reading.{refused}
-use Rattle.kdl_query.proofs.Unique.{Det, bracket_no_piece, left_no_piece, name_det, no_name_at, no_node_top, same_at, tests_det, type_det}
+use Rattle.kdl_query.proofs.Unique.{Det, bracket_no_piece, left_no_piece, name_det, no_name_at, no_node_top, same_at, type_det}
 
 pub name_after_det : Det NameAfter
 name_after_det s r t x y (NameAfter.nothing h) (NameAfter.nothing k) = (refl, refl)
@@ -153,10 +152,6 @@ no_document s t e h r x f = go r x (subst (λ z. IsFirst z r x) e f)
     go : (r : Text) (x : Selector) → IsFirst (codes "top(" ++ t) r x → ⊥
     go r x (IsFirst.document a) = h r tt a
     go r x (IsFirst.a_node n) = no_node_top _ _ _ n
-
-pub no_first_node : (s : Text) → ((r : Text) → s ≡ codes "top(" ++ r → ⊥) → ((r : Text) (n : NodeTest) → IsNode s r n → ⊥) → (r : Text) (x : Selector) → IsFirst s r x → ⊥
-no_first_node s h k r x (IsFirst.document a) = h _ refl
-no_first_node s h k r x (IsFirst.a_node n) = k _ _ n
 
 pub document_at : (s t r : Text) → s ≡ codes "top(" ++ t → Spaces t (41 ∷ r) → IsFirst s r top
 document_at s t r e a = subst (λ z. IsFirst z r top) (sym e) (IsFirst.document a)

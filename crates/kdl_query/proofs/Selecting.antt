@@ -5,7 +5,7 @@ use Rattle.std.proofs.lemmas.List.{append_assoc}
 use Rattle.std.specs.Prelude.{Option, Result, Ok, Err, Vec, is_some, map, fold}
 use Rattle.std.specs.Result.{IsErrAnd}
 use Rattle.std.specs.declared.alloc.Global.{Global}
-use Rattle.kdl_text.specs.Chars.{Text, Star, begins, begins_two}
+use Rattle.kdl_text.specs.Chars.{Text, begins, begins_two}
 use Rattle.kdl_text.specs.Chars.Star.{none}
 use Rattle.kdl_text.specs.Internal.Here.{Ate, Here, first}
 use Rattle.kdl_text.specs.Internal.Reading.{Moves}
@@ -24,9 +24,6 @@ use Rattle.kdl_query.specs.declared.tree.First.{First}
 use Rattle.kdl_query.specs.declared.tree.Selector.{Selector}
 use Rattle.kdl_query.specs.declared.tree.Step.{Step}
 use Rattle.kdl_query.proofs.Unique.{spaces_det, operator_det, node_det, first_det, same_at, spaces_at, no_operator_end, no_operator_or, no_or_end, or_same}
-
-pub same_refl : (P : Query → Type 0) → Same P P
-same_refl P = record { on = λ q h. h; back = λ q h. h }
 
 pub same_then : {P Q R : Query → Type 0} → Same P Q → Same Q R → Same P R
 same_then a b = record { on = λ q h. b.on q (a.on q h); back = λ q h. a.back q (b.back q h) }
@@ -228,9 +225,6 @@ query_ends f a r xs ys y h s n e k = subst (λ z. IsQuery f (map selector_says z
 
 pub no_query_on : (f a r : Text) (ys : Query) (y : data'.Selector) (q : Query) → QueriesSoFar f a ys → Same (Selectors a) (After y r) → NoStep r → begins_two 124 124 r ≡ false → (r ≡ [] → ⊥) → IsQuery f q → ⊥
 no_query_on f a r ys y q h s n e k m = let (p, i, j) = h.back q m in k (end_on n e (s.on p j)).0
-
-pub no_query_selector : (f a : Text) (ys : Query) (q : Query) → QueriesSoFar f a ys → ((p : Query) → Selectors a p → ⊥) → IsQuery f q → ⊥
-no_query_selector f a ys q h k m = let (p, i, j) = h.back q m in k p j
 
 -- `>` and `+`, not doubled
 pub child_here : (s m r : Text) → s ≡ 62 ∷ r → m ≡ s → begins_two 62 62 m ≡ false → IsOperator s r Child

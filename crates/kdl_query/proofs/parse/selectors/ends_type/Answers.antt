@@ -7,4 +7,4 @@ use Rattle.kdl_query.proofs.parse.selectors.ends_type.Goals as goal
 pub returns-in-Some-eq124-clause-result : goal.returns-in-Some-eq124-clause-result
 returns-in-Some-eq124-clause-result c =
     c.eq.ensures ∙ bar_ends_type c.args.cursor.now.rest _ (sym (ap Some c.in-Some-eq124.field-0-test) ∙ sym c.in-Some-eq124.is ∙ c.look.ensures.result)
-        (c.look_second.ensures.result ∙ ap (λ z. first (tail z.rest)) c.look.ensures.moved)
+    (c.look_second.ensures.result ∙ ap (λ z. first (tail z.rest)) c.look.ensures.moved)
