@@ -1,12 +1,9 @@
 -- From what readers of pieces return to what readers of larger pieces return.
-use Rattle.std.proofs.Common.{◌≡◌, ℕ, ◌<◌, ◌≤◌, pos, Bool, List, [], ◌∷◌, ◌++◌, true, false, codes, length, refl, sym, ap, ◌∙◌, subst, arith, ◌↔◌, IsTrue, inl, inr, ◌==◌, ◌||◌}
-use Rattle.std.proofs.lemmas.Bool.{and_parts}
-use Rattle.std.proofs.lemmas.List.{append_assoc, append-nil}
-use Rattle.std.specs.Prelude.{Option, Some, None, Result, Ok, Err, string_bytes, String, map, fold}
+use Rattle.std.proofs.Common.{◌≡◌, ℕ, ◌≤◌, Bool, [], ◌∷◌, ◌++◌, true, false, refl, sym, ap, ◌∙◌, subst, arith, ◌==◌, ◌||◌}
+use Rattle.std.proofs.lemmas.List.{append_assoc}
+use Rattle.std.specs.Prelude.{Option, Some, Result, Ok, Err}
 use Rattle.std.specs.Option.{option_eq}
 use Rattle.std.specs.Result.{IsErrAnd}
-use Rattle.std.specs.Str.{chars}
-use Rattle.std.specs.declared.alloc.Global.{Global}
 use Rattle.kdl_text.specs.Bare.{BareString}
 use Rattle.kdl_text.specs.Chars.{Text, begins, starts}
 use Rattle.kdl_text.specs.Internal.Here.{Here, Ate, Took, TookTwo, Skips, Stayed, first, looked, stepped, tail}

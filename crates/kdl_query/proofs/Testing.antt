@@ -1,11 +1,11 @@
 -- Accessors, literals and tests, from what their readers return.
-use Rattle.std.proofs.Common.{◌≡◌, ℕ, ◌<◌, ◌^◌, ℤ, pos, Bool, List, [], ◌∷◌, ◌++◌, true, false, codes, refl, sym, ap, ◌∙◌, subst, ◌==◌, ◌||◌, arith}
+use Rattle.std.proofs.Common.{◌≡◌, ℕ, ℤ, pos, Bool, List, [], ◌∷◌, ◌++◌, true, false, codes, refl, sym, ap, ◌∙◌, subst, ◌==◌, ◌||◌, arith}
 use Rattle.std.proofs.lemmas.List.{append_assoc, append-nil, map-append}
-use Rattle.std.proofs.Common.{of_z, to_z, IsTrue}
+use Rattle.std.proofs.Common.{of_z, to_z}
 use Rattle.std.proofs.lemmas.Bool.{and_parts, eqb-true}
 use Rattle.std.proofs.lemmas.Bool.Decides.{nat_tests}
 use Rattle.std.specs.Int.{w128}
-use Rattle.std.specs.Prelude.{Option, Some, None, Result, Ok, Err, IsErrAnd, String, map, not, string_bytes}
+use Rattle.std.specs.Prelude.{Some, None, Result, Ok, Err, IsErrAnd, String, map, not, string_bytes}
 use Rattle.std.specs.Str.{chars}
 use Rattle.std.specs.declared.alloc.Global.{Global}
 use Rattle.kdl_text.specs.Chars.{Text, begins, begins_two, starts, is_digit, is_space, is_newline_char, is_banned, is_punctuation, is_identifier_char}
@@ -25,7 +25,7 @@ use Rattle.kdl_syntax.specs.Pieces.{keyword_value}
 use Rattle.kdl_syntax.proofs.Lexing.TokenReads.{a_keyword_here, decimal_here, integer_here, no_keyword_here, no_number_here}
 use Rattle.kdl_syntax.specs.Tokens.{BeginsToken, NoToken, string, value as value_token, t_string, t_value}
 use Rattle.kdl_query.specs.Data.{Accessor, Literal, Test, TypeTest, argument, arguments, compares, name, properties, ty}
-use Rattle.kdl_query.specs.QueryText.{AfterAccessor, AreTests, IsAccessor, IsComparison, IsIndex, IsKey, IsLiteral, IsName, IsTest, IsType, Spaces, is_allowed}
+use Rattle.kdl_query.specs.QueryText.{AfterAccessor, AreTests, IsAccessor, IsComparison, IsIndex, IsLiteral, IsName, IsTest, Spaces, is_allowed}
 use Rattle.kdl_query.specs.Internal.QueryReading.{AfterWord, Closes, FittingLiteral, IndexOf, KeyPiece, ReadsPiece, Returns, TestRest, TypeRest, ValuePiece, Word, begins_keyword}
 use Rattle.kdl_query.specs.declared.error.Refusal.{Refusal}
 use Rattle.kdl_query.specs.declared.error.Refusal.TheVariants.{Fault, Memory}

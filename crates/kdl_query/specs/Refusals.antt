@@ -1,5 +1,5 @@
 -- Refused query texts.
-use Rattle.std.specs.Prelude.{Result, Ok, Err}
+use Rattle.std.specs.Prelude.{Result, Err}
 use Rattle.kdl_text.specs.Chars.{Text}
 use Rattle.kdl_text.specs.Spans.{InText}
 use Rattle.kdl_query.specs.declared.error.QueryFailure.{QueryFailure}
