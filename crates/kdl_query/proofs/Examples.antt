@@ -1,9 +1,10 @@
 -- A document, and what queries select in it.
-use Rattle.std.proofs.Common.{ℕ, List, [], ◌∷◌, Some, None, codes, pos, true, inl, inr}
+use Rattle.std.proofs.Common.{◌≡◌, refl, ℕ, List, [], ◌∷◌, Some, None, codes, pos, true, inl, inr}
 use Rattle.kdl_value.specs.Data.{Value, text, integer, float, truth}
 use Rattle.kdl_entry.specs.Data.{Entry}
 use Rattle.kdl_grammar.specs.Data.{Node, node, no_children, children, Nodes, none, first}
 use Rattle.kdl_query.specs.Data.{NodeTest, Query, Selector, Test, any_node, argument, arguments, compares, has, name, of_type, property, start, then, top, ty, type_named, value}
+use Rattle.kdl_query.specs.Counts.{node_count, part_count}
 use Rattle.kdl_query.specs.Decimal.{exact_order}
 use Rattle.kdl_query.specs.Selects.{IsSelected, IsSelection}
 use Rattle.kdl_query.specs.declared.tree.Comparison.TheVariants.{Equal, NotEqual, StartsWith, Contains}
@@ -123,3 +124,19 @@ no_value h = elim (is_chosen D (only (start (tested (compares (argument 0) NotEq
 
 no_grandchild : IsSelected D (only (then (start (called (codes "package"))) Child (called (codes "winapi")))) (0 ∷ 2 ∷ 0 ∷ []) → ⊥
 no_grandchild h = is_chosen D (only (then (start (called (codes "package"))) Child (called (codes "winapi")))) (0 ∷ 2 ∷ 0 ∷ []) h
+
+-- 8 nodes, each looked at for each part: package >> name, and top() alone, which has a step to the top-level nodes
+counted : node_count D ≡ 8
+counted = refl
+
+two_parts : part_count (only (then (start (called (codes "package"))) Descendant (called (codes "name")))) ≡ 2
+two_parts = refl
+
+top_has_two : part_count (only top) ≡ 2
+top_has_two = refl
+
+not_one : part_count (only top) ≡ 1 → ⊥
+not_one h = cc
+
+not_top_alone : node_count D ≡ 1 → ⊥
+not_top_alone h = cc

@@ -27,15 +27,9 @@ use Rattle.kdl_query.specs.Internal.QueryReading.{IndexOf, Joins, KeyPiece, Read
 use Rattle.kdl_query.specs.declared.error.Fault.{Fault as FaultKind}
 use Rattle.kdl_query.specs.declared.error.Refusal.{Refusal}
 use Rattle.kdl_query.specs.declared.error.Refusal.TheVariants.{Fault, Memory}
-use Rattle.kdl_query.proofs.Reading.{Still, after_still, apart, moves_back, refused, still_stayed, still_then}
+use Rattle.kdl_query.proofs.Reading.{Still, after_still, apart, moves_back, passed_on, still_stayed, still_then}
 use Rattle.kdl_query.proofs.Testing.{index_faulty, index_found, index_unfit, no_second, no_value}
 use Rattle.kdl_query.proofs.Unique.{name_det}
-
--- the error of a `?` is that of the reader
-pub passed_on : {A B C D : Type 0} {X : Text → Text → B → Type 0} {Y : Text → Text → D → Type 0} {f : A → B} {a b : Here} (g : C → D) (o : Result C Refusal) (e : Refusal) (c d : Here) → IsErrAnd o (λ x. x ≡ e) → ReadsPiece X f (Err e) a b → Moves c d
-    → (((r : Text) (y : B) → X a.rest r y → ⊥) → (r : Text) (y : D) → Y c.rest r y → ⊥) → ReadsPiece Y g o c d
-passed_on g (Ok x) e c d i h m k = absurd i
-passed_on {X = X} {f = f} {a = a} {b = b} g (Err x) e c d i h m k = refused g x c d (subst (λ z. ReadsPiece X f (Err z) a b) (sym i) h) m k
 
 -- a refusal where nothing begins
 pub refused_at : {C D : Type 0} {Y : Text → Text → D → Type 0} (g : C → D) (e : Refusal) (c d : Here) → Moves c d → ((r : Text) (y : D) → Y c.rest r y → ⊥) → ReadsPiece Y g (Err e) c d

@@ -5,7 +5,7 @@ ghost use Rattle.kdl_query.specs.Counts.{node_count, part_count};
 ghost use Rattle.kdl_query.specs.Selects.{AreSelected, IsFirstSelected, IsSelected, IsSelection, Path};
 ghost use Rattle.kdl_query.specs.Tree.{query_says};
 ghost use Rattle.kdl_text.specs.Spans.{raise};
-ghost use Rattle.std.specs.Prelude.{◌≡◌, ◌*◌, IfOk, MatchOption, OnOk, map};
+ghost use Rattle.std.specs.Prelude.{◌≡◌, ◌*◌, IfOk, MatchOption, OnErr, OnOk, map};
 
 use crate::tree::Query;
 use crate::walk::Walk;
@@ -45,6 +45,7 @@ pub fn query_paths_counted(
         (query_says query.now) (map (λ p. p.items) ps.items)) }
     ensures counted { OnOk result (steps.new ≡ raise steps.old
         (part_count (query_says query.now) * node_count (document_says document.now))) }
+    ensures kept { OnErr result (steps.new ≡ steps.old) }
 {
     let mut found = Vec::new(alloc);
     let mut walk = Walk::new(alloc, document, query)?;

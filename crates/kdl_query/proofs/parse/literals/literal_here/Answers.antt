@@ -1,7 +1,7 @@
 use Rattle.kdl_text.proofs.Looking.MovesJoin.{moves_one, moves_then}
 use Rattle.kdl_query.specs.QueryText.{IsLiteral}
 use Rattle.kdl_query.specs.Tree.{literal_says}
-use Rattle.kdl_query.proofs.Keys.{passed_on}
+use Rattle.kdl_query.proofs.Reading.{passed_on}
 use Rattle.kdl_query.proofs.Testing.{no_type_literal}
 use Rattle.kdl_query.proofs.parse.literals.literal_here.Goals as goal
 

@@ -1,8 +1,7 @@
 use Rattle.kdl_text.proofs.Looking.MovesJoin.{moves_one, moves_then}
 use Rattle.kdl_query.specs.QueryText.{IsAccessor}
 use Rattle.kdl_query.specs.Tree.{accessor_says}
-use Rattle.kdl_query.proofs.Keys.{passed_on}
-use Rattle.kdl_query.proofs.Reading.{after_still, still_looked}
+use Rattle.kdl_query.proofs.Reading.{after_still, passed_on, still_looked}
 use Rattle.kdl_query.proofs.Testing.{argument_first, no_argument, no_argument_end}
 use Rattle.kdl_query.proofs.parse.tests.read_argument.Goals as goal
 

@@ -1,7 +1,7 @@
 use Rattle.kdl_text.proofs.Looking.MovesJoin.{moves_then}
 use Rattle.kdl_query.specs.QueryText.{IsAccessor}
 use Rattle.kdl_query.specs.Tree.{accessor_says}
-use Rattle.kdl_query.proofs.Keys.{passed_on}
+use Rattle.kdl_query.proofs.Reading.{passed_on}
 use Rattle.kdl_query.proofs.Testing.{no_property, no_property_end}
 use Rattle.kdl_query.proofs.parse.tests.read_property.Goals as goal
 

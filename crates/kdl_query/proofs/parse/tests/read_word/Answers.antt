@@ -1,5 +1,5 @@
 use Rattle.kdl_query.specs.Tree.{accessor_says}
-use Rattle.kdl_query.proofs.Keys.{passed_on}
+use Rattle.kdl_query.proofs.Reading.{passed_on}
 use Rattle.kdl_query.proofs.parse.tests.read_word.Goals as goal
 
 pub returns-in_err-close : goal.returns-in_err-close
