@@ -76,7 +76,7 @@ selector_there x top p h = node_met (node_at p x) _ h.0
 selector_there x (start t) p h = node_met (node_at p x) _ h
 selector_there x (then s c t) p h = node_met (node_at p x) _ h.0
 
-selected_there : (x : Nodes) (q : Query) (p : Path) → IsSelected x q p → (n : Node) × (node_at p x ≡ Some n)
+pub selected_there : (x : Nodes) (q : Query) (p : Path) → IsSelected x q p → (n : Node) × (node_at p x ≡ Some n)
 selected_there x q p h = selector_there x h.1 p h.4
 
 told : (x : Nodes) (q : Query) → AllByRecursion (Tells x (IsSelected x q)) (all_visits q x)

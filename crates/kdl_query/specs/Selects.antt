@@ -59,6 +59,10 @@ pub record IsSelection (x : Nodes) (q : Query) (ps : List Path) : Type 0 where
   pub each : (p : Path) → Contains ps p ↔ IsSelected x q p
   pub ordered : AllPairs IsBefore ps
 
+-- the query selects the path, and no path before it
+abbrev pub IsFirstPath : Nodes → Query → Path → Type 0
+IsFirstPath x q p = IsSelected x q p × ((r : Path) → IsSelected x q r → (r ≡ p) ⊎ IsBefore p r)
+
 -- these are the nodes at those paths
 pub record AreSelected (x : Nodes) (q : Query) (ns : List Node) : Type 0 where
   pub paths : List Path

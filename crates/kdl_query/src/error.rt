@@ -30,6 +30,26 @@ pub enum QueryFailure {
     Memory,
 }
 
+impl<T: Drop> From<AllocFailed<T>> for QueryFailure {
+    ghost use Rattle.kdl_query.specs.declared.error.QueryFailure.TheVariants.{Memory as OutOfMemory};
+
+    ghost from_gives = { λ _ e. e ≡ OutOfMemory };
+
+    fn from(_: AllocFailed<T>) -> QueryFailure {
+        QueryFailure::Memory
+    }
+}
+
+impl From<AllocError> for QueryFailure {
+    ghost use Rattle.kdl_query.specs.declared.error.QueryFailure.TheVariants.{Memory as OutOfMemory};
+
+    ghost from_gives = { λ _ e. e ≡ OutOfMemory };
+
+    fn from(_: AllocError) -> QueryFailure {
+        QueryFailure::Memory
+    }
+}
+
 /// What is wrong at a place in a text.
 #[derive(Clone, Copy)]
 pub(crate) enum Fault {

@@ -18,13 +18,15 @@
 //! (begins with), `$=` (ends with) and `*=` (contains). Of several properties of a name the last one counts.
 //!
 //! [`Query::parse`] reads a query from its text. [`query_paths`] returns exactly the paths that a query selects, in the
-//! order of the document, each once.
+//! order of the document, each once. [`edit_at`] edits the node at a path.
 #![tactic(auto)]
 
 mod compare;
 mod decimal;
+mod edit;
 mod error;
 mod find;
+pub mod laws;
 mod parse;
 mod part;
 mod path;
@@ -32,6 +34,7 @@ mod test;
 mod tree;
 mod walk;
 
+pub use edit::edit_at;
 pub use error::{QueryError, QueryFailure};
 pub use find::{query, query_all, query_paths, query_paths_counted};
 pub use path::node_at;

@@ -1,6 +1,7 @@
 -- Edits of a node, and of a node inside a document or a block.
 use Rattle.std.specs.Prelude.{◌≡◌, ℕ, List, Option, Some, IfSome, IsSome, option_and_then}
-use Rattle.kdl.specs.Words.{IsAdded, IsArgumentSet, IsTakenOut, Value, block_of, node_format_of, node_named, value_at, with_children, with_node_named}
+use Rattle.kdl_grammar.specs.Data.{node}
+use Rattle.kdl.specs.Words.{IsAdded, IsArgumentSet, IsTakenOut, NodeData, Text, Value, block_of, node_format_of, node_named, value_at, with_children, with_node_named}
 use Rattle.kdl.specs.declared.document.KdlDocument.{KdlDocument}
 use Rattle.kdl.specs.declared.node.KdlNode.{KdlNode}
 
@@ -27,3 +28,7 @@ pub record IsEdited (s : List ℕ) (one other : Value) (n m : KdlNode) : Type 0 
   pub takes : IsTakenOut s n without
   pub adds : IsAdded one without more
   pub sets : IsFirstSet other more m
+
+-- the data of a node, with another name
+abbrev pub renamed : Text → NodeData → NodeData
+renamed s (node ty name es k) = node ty s es k

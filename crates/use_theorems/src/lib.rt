@@ -9,6 +9,7 @@ pub mod layout;
 pub mod loans;
 pub mod nodes;
 pub mod port;
+pub mod queries;
 pub mod reads_back;
 pub mod said;
 pub mod spans;
