@@ -1,7 +1,7 @@
 -- Documents with the node at a path edited.
 use Rattle.std.specs.Prelude.{◌≡◌, ℕ, zero, suc, [], ◌∷◌, Some}
-use Rattle.c_calls.specs.Changes.{AtNode}
-use Rattle.kdl_grammar.specs.Data.{Node, Nodes, children, first, no_children, node, none}
+pub use Rattle.c_calls.specs.Changes.{AtNode, SameTree}
+pub use Rattle.kdl_grammar.specs.Data.{Node, Nodes, children, first, no_children, node, none}
 use Rattle.kdl.specs.Tree.{document_says, node_says}
 use Rattle.kdl.specs.declared.document.KdlDocument.{KdlDocument}
 use Rattle.kdl.specs.declared.node.KdlNode.{KdlNode}

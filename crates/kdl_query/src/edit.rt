@@ -1,9 +1,8 @@
 //! Edits of nodes by their paths.
 
-ghost use Rattle.c_calls.specs.Changes.{AtNode, SameTree};
 ghost use Rattle.kdl.specs.DocumentLookups.{nodes_of};
 ghost use Rattle.kdl.specs.Tree.{document_says};
-ghost use Rattle.kdl_query.specs.Edits.{IsEditedAt};
+ghost use Rattle.kdl_query.specs.Edits.{AtNode, IsEditedAt, SameTree};
 ghost use Rattle.kdl_query.specs.Selects.{node_at};
 ghost use Rattle.std.specs.Fn.{FnOnceReturnsAtMut};
 ghost use Rattle.std.specs.Prelude.{◌≡◌, ◌∷◌, [], IfOk, MatchOption, None, OnErr, slice_get};

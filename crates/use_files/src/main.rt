@@ -6,6 +6,7 @@
 //!   the first node of that name, and otherwise byte for byte.
 //! - `fmt FILE..` formats KDL files, with their comments and groups, and writes them one after another.
 //! - `settings FILE..` loads settings from each file, and prints them or what is wrong with them.
+//! - `find QUERY FILE..` prints the line, the column and the name of each node that the query selects.
 //! - `schema FILE..` checks each document against the rules of a garden, and prints each breach with its bytes.
 //!
 //! Another word is reported on standard error, with what to give. The exit code is `SUCCESS` if every command succeeds,
@@ -13,6 +14,7 @@
 #![tactic(auto)]
 
 mod faults;
+mod find;
 mod garden;
 mod layout;
 mod schema;
@@ -49,9 +51,13 @@ fn perform(rt: &HostRuntime, words: &[&str]) -> io::Result<bool> {
         }),
         ["fmt", files @ ..] => each(rt, files, |file, text| layout::show(rt, file, text)),
         ["settings", files @ ..] => each(rt, files, |file, text| show::show(rt, file, text)),
+        ["find", query, files @ ..] => each(rt, files, |file, text| {
+            find::show(rt, file, text, query)
+        }),
         ["schema", files @ ..] => each(rt, files, |file, text| garden::show(rt, file, text)),
         _ => {
-            let words = "set NAME NUMBER FILE, fmt FILE.., settings FILE.. or schema FILE..";
+            let words =
+                "set NAME NUMBER FILE, fmt FILE.., settings FILE.., find QUERY FILE.. or schema FILE..";
             eprintln!(rt; "use_files: give {words}")?;
             Ok(false)
         }

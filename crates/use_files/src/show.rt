@@ -4,7 +4,7 @@ use crate::settings::{Refused, load};
 use std::io;
 
 /// Returns the line and the column of a byte of the text, counted from 1.
-fn place(text: &str, byte: usize) -> (usize, usize) {
+pub fn place(text: &str, byte: usize) -> (usize, usize) {
     let before = text.get(..byte).unwrap_or(text);
     let line = before.split('\n').count();
     let column = before.chars().rev().take_while(|c| *c != '\n').count();
