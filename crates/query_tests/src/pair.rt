@@ -5,8 +5,8 @@ use crate::data::{Spot, spots};
 use crate::dice::Dice;
 use crate::relation::is_selected;
 use crate::spell::{Language, Writer};
-use kdl::{KdlDocument, KdlNode, ParseFailure};
-use kdl_query::{Query, QueryFailure, node_at, query, query_all, query_paths};
+use kdl::{KdlDocument, KdlIdentifier, KdlNode, ParseFailure};
+use kdl_query::{Query, QueryFailure, edit_at, node_at, query, query_all, query_paths};
 use std::alloc::{AllocError, Global};
 
 /// A document and a query, as trees and as texts.
@@ -52,15 +52,18 @@ impl Pair {
         self.chains.iter().all(|chain| chain.is_allowed())
     }
 
-    /// Reads both texts, and compares what is found.
+    /// Reads both texts, and compares what is found and edited.
     pub fn outcome(&self, alloc: Global) -> Result<Outcome, AllocError> {
-        let document = match KdlDocument::parse(alloc, &self.document_text) {
+        let mut document = match KdlDocument::parse(alloc, &self.document_text) {
             Ok(document) => document,
             Err(ParseFailure::Syntax(_)) => return Ok(Outcome::Differs("the document is refused")),
             Err(ParseFailure::Memory) => return Err(AllocError),
         };
         match (Query::parse(alloc, &self.query_text), self.is_allowed()) {
-            (Ok(query), true) => self.compare(alloc, &document, &query),
+            (Ok(query), true) => match self.compare(alloc, &document, &query)? {
+                Outcome::Agrees(count) => self.edit(alloc, &mut document, count),
+                differs => Ok(differs),
+            },
             (Ok(_), false) => Ok(Outcome::Differs("the query is read")),
             (Err(QueryFailure::Syntax(_)), true) => Ok(Outcome::Differs("the query is refused")),
             (Err(QueryFailure::Syntax(_)), false) => Ok(Outcome::Agrees(0)),
@@ -99,6 +102,27 @@ impl Pair {
         }
         if paths.len() != count || nodes.len() != count || first.is_some() != (count > 0) {
             return Ok(Outcome::Differs("more nodes are found"));
+        }
+        Ok(Outcome::Agrees(count))
+    }
+
+    /// Renames the node at each path in turn, and compares what is then there.
+    fn edit(
+        &self,
+        alloc: Global,
+        document: &mut KdlDocument,
+        count: usize,
+    ) -> Result<Outcome, AllocError> {
+        for spot in &self.spots {
+            let name = KdlIdentifier::from_text(alloc, "renamed")?;
+            let edited = edit_at(alloc, document, &spot.path, |node| node.set_name(name))?;
+            let is_renamed = match node_at(document, &spot.path) {
+                Some(node) => node.name().value() == "renamed",
+                None => false,
+            };
+            if edited.is_none() || !is_renamed {
+                return Ok(Outcome::Differs("`edit_at` edits another node"));
+            }
         }
         Ok(Outcome::Agrees(count))
     }

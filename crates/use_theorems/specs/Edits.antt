@@ -1,6 +1,6 @@
 -- Edits of a node, and of a node inside a document or a block.
 use Rattle.std.specs.Prelude.{◌≡◌, ℕ, List, Option, Some, IfSome, IsSome, option_and_then}
-use Rattle.kdl_grammar.specs.Data.{node}
+use Rattle.kdl_query.specs.Edits.{node}
 use Rattle.kdl.specs.Words.{IsAdded, IsArgumentSet, IsTakenOut, NodeData, Text, Value, block_of, node_format_of, node_named, value_at, with_children, with_node_named}
 use Rattle.kdl.specs.declared.document.KdlDocument.{KdlDocument}
 use Rattle.kdl.specs.declared.node.KdlNode.{KdlNode}

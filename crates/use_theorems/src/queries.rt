@@ -8,7 +8,7 @@ ghost use Rattle.std.specs.Prelude.{◌≡◌, IfOk, false, true};
 ghost use Rattle.use_theorems.specs.Edits.{renamed};
 
 use kdl::{KdlDocument, KdlIdentifier};
-use kdl_query::laws::selections_begin_with_the_first;
+use kdl_query::laws::{selected_paths_have_nodes, selections_begin_with_the_first};
 use kdl_query::{Query, edit_at, query_paths};
 use std::alloc::{AllocError, Global};
 
@@ -30,6 +30,7 @@ pub fn rename_first(
         × (document_says document.new ≡ document_says document.old)) }
 {
     selections_begin_with_the_first();
+    selected_paths_have_nodes();
     let paths = query_paths(alloc, document, query)?;
     let Some(path) = paths.first() else {
         drop(name);
