@@ -1,4 +1,4 @@
-use Rattle.std.proofs.Common.{rules, ◌≡◌, None, Some, ap, refl, slice_get, subst, sym, ◌∙◌}
+use Rattle.std.proofs.Common.{rules, ◌≡◌, None, Some, refl, slice_get, subst, sym}
 use Rattle.kdl.specs.Words.{document_says}
 use Rattle.kdl_query.specs.Selects.{IsFirstPath, Path}
 use Rattle.kdl_query.specs.Tree.{query_says}
