@@ -10,14 +10,17 @@ use Rattle.c_calls.proofs.PathSteps.{at_last}
 use Rattle.kdl_entry.specs.Tree.{entry_data}
 use Rattle.kdl_grammar.specs.Data as data'
 use Rattle.kdl_grammar.specs.Data.{Node, Nodes}
+use Rattle.kdl_grammar.specs.Print.{print_document}
+use Rattle.kdl_grammar.specs.ReadsBack.{DocumentReads}
 use Rattle.kdl_grammar.specs.Tree.{Document, document_data, node_data, nodes_data}
 use Rattle.kdl_grammar.specs.Tree as grammar'
+use Rattle.kdl.specs.Bytes.{IsExchanged}
 use Rattle.kdl.specs.Change.{with_nodes}
 use Rattle.kdl.specs.DocumentLookups.{nodes_of}
 use Rattle.kdl.specs.Fields.{held_nodes}
 use Rattle.kdl.specs.Iterators.{nodes_in}
 use Rattle.kdl.specs.Said.{said_nodes}
-use Rattle.kdl.specs.Tree.{document_of, document_says, document_tree, node_says, node_tree}
+use Rattle.kdl.specs.Tree.{document_of, document_prints, document_says, document_tree, node_says, node_tree}
 use Rattle.kdl.specs.declared.document.KdlDocument.{KdlDocument, out-KdlDocument}
 use Rattle.kdl.specs.declared.node.KdlNode.{KdlNode, out-KdlNode}
 use Rattle.kdl.proofs.Trees.{document_tree_out, document_tree_roll}
@@ -25,6 +28,7 @@ use Rattle.kdl_query.specs.Edits.{IsEditedAt, changed_at, changed_below, changed
 use Rattle.kdl_query.specs.Held.{held_at, held_below}
 use Rattle.kdl_query.specs.Selects.{Path, node_at, node_below}
 use Rattle.kdl_query.proofs.Holds.{held_says}
+use Rattle.kdl_query.proofs.Lifting.{lift}
 
 -- a changed tree says the changed data
 nth_said : (i : ℕ) (f : grammar'.Node → grammar'.Node) (g : Node → Node) → ((n : grammar'.Node) → node_data (f n) ≡ g (node_data n)) → (ns : grammar'.Nodes)
@@ -101,12 +105,16 @@ in_whole p above i R d e o b whole h done closed = record {
 edited : (p : Path) (R : KdlNode → KdlNode → Type 0) (d e : KdlDocument) → AtNode p R d e → IsEditedAt p R d e
 edited p R d e h =
     let was = sym (held_says p d) ∙ ap (option_map node_says) (sym (path_same p d) ∙ h.there) in
+    let l = lift p d h.old h.new h.there in
+    let same : document_tree l.whole ≡ document_tree e = l.tree ∙ sym h.rest in
     record {
       node = h;
       was = was;
       says = λ f is.
           ap document_data h.rest ∙ tree_said p (node_tree h.new) (document_tree d)
           ∙ data_agree p (λ _. node_says h.new) f (node_says h.old) (document_says d) was (sym is);
+      reads = λ r x. subst DocumentReads same (l.document_reads r x);
+      bytes = λ q r x. subst (λ (t : Document). IsExchanged q r (document_prints d) (print_document t 0)) same ((l.prints q r x).prints 0);
     }
 
 none_in_whole : (p above : Path) (i : ℕ) (d w : KdlDocument) (o : Option (List KdlNode)) → p ≡ above ++ i ∷ [] → w ≡ d → nodes_at above (nodes_of w) ≡ o

@@ -2,9 +2,12 @@
 use Rattle.std.specs.Prelude.{◌≡◌, ℕ, zero, suc, [], ◌∷◌, Some}
 pub use Rattle.c_calls.specs.Changes.{AtNode, SameTree}
 pub use Rattle.kdl_grammar.specs.Data.{Node, Nodes, children, first, no_children, node, none}
-use Rattle.kdl.specs.Tree.{document_says, node_says}
+use Rattle.kdl.specs.Bytes.{IsExchanged, IsExchangedInNode}
+use Rattle.kdl.specs.ReadsBack.{DocumentReadsBack, ReadsAs}
+use Rattle.kdl.specs.Tree.{document_prints, document_says, node_says}
 use Rattle.kdl.specs.declared.document.KdlDocument.{KdlDocument}
 use Rattle.kdl.specs.declared.node.KdlNode.{KdlNode}
+use Rattle.kdl_text.specs.Chars.{Text}
 use Rattle.kdl_query.specs.Selects.{Path, node_at}
 
 -- the nodes with the one at i changed by f
@@ -24,8 +27,11 @@ abbrev pub changed_at : Path → (Node → Node) → Nodes → Nodes
 changed_at [] f x = x
 changed_at (i ∷ p) f x = changed_nth i (changed_below p f) x
 
--- e is d with another node at the path, which R relates to the one that was there; all else is unchanged
+-- e is d with another node at the path, which R relates to the one that was there: all else is unchanged, also in the data. If the new node reads back where the old one
+-- did, e reads back if d does. If one piece is exchanged in what the node prints, it is in what the document prints, and all other bytes are unchanged
 pub record IsEditedAt (p : Path) (R : KdlNode → KdlNode → Type 0) (d e : KdlDocument) : Type 0 where
   pub node : AtNode p R d e
   pub was : node_at p (document_says d) ≡ Some (node_says node.old)
   pub says : (f : Node → Node) → f (node_says node.old) ≡ node_says node.new → document_says e ≡ changed_at p f (document_says d)
+  pub reads : ReadsAs node.old node.new → DocumentReadsBack d → DocumentReadsBack e
+  pub bytes : (q r : Text) → IsExchangedInNode q r node.old node.new → IsExchanged q r (document_prints d) (document_prints e)

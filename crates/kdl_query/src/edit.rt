@@ -14,8 +14,8 @@ use std::alloc::{AllocError, Global};
 use std::mem;
 
 /// Calls `edit` with the node at a path, and returns what it returns, or `None` if there is no node at the path. All else
-/// of the document is unchanged. Returns an error if an allocation fails. Without a call of `edit`, the document is
-/// unchanged.
+/// of the document is unchanged, and so are all bytes of the printed text before and after those of the node. Returns an
+/// error if an allocation fails. Without a call of `edit`, the document is unchanged.
 ///
 /// ```
 /// let mut document = KdlDocument::parse(alloc, "a { b 1; c }")?;
