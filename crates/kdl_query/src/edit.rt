@@ -15,7 +15,7 @@ use std::mem;
 
 /// Calls `edit` with the node at a path, and returns what it returns, or `None` if there is no node at the path. All else
 /// of the document is unchanged, and so are all bytes of the printed text before and after those of the node. Returns an
-/// error if an allocation fails. Without a call of `edit`, the document is unchanged.
+/// error if an allocation fails. Without a call of `edit`, the document is unchanged. `edit` has to take any node.
 ///
 /// ```
 /// let mut document = KdlDocument::parse(alloc, "a { b 1; c }")?;
