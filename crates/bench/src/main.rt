@@ -1,5 +1,5 @@
-//! Measures how fast documents are parsed, dropped, printed, formatted, copied and searched, and how much memory they
-//! take.
+//! Measures how fast documents are parsed, dropped, printed, formatted, copied, searched and queried, and how much
+//! memory they take.
 //!
 //! Without arguments it generates texts of five kinds and writes two tables to standard output: the speeds on 1 MB of
 //! each, and on longer and longer ones. With file names as arguments it writes the first table for these files. `write

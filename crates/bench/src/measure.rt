@@ -1,11 +1,15 @@
 //! How long each call takes on a text.
 
 use kdl::{KdlDocument, KdlNode, NodeKey, ParseFailure};
+use kdl_query::{Query, QueryFailure, query_paths};
 use std::io;
 use std::time::{Duration, Instant};
 
 /// The greatest number of nodes that are looked up in a turn.
 const SOUGHT: usize = 64;
+
+/// The query that is measured: three selectors with steps, tests of names, types, properties and arguments.
+const QUERY: &str = "[enabled = #true] >> limits > [val() >= 500] || listen[port < 100] + [] || (u16)leaf";
 
 /// What is measured.
 #[derive(Clone, Copy)]
@@ -16,6 +20,8 @@ pub enum Call {
     Strip,
     Fmt,
     Clone,
+    /// The paths of the nodes that a query selects. The query is parsed before.
+    Query,
     /// Outermost nodes looked up by name, spread over the document; each look-up starts at the first node.
     Node,
     /// Properties of such nodes, each key created from its text.
@@ -23,13 +29,14 @@ pub enum Call {
 }
 
 /// The calls whose time is proportional to the text, with the heads of their columns.
-pub const CALLS: [(&str, Call); 6] = [
+pub const CALLS: [(&str, Call); 7] = [
     ("parse", Call::Parse),
     ("and drop", Call::ParseAndDrop),
     ("print", Call::Print),
     ("strip", Call::Strip),
     ("fmt", Call::Fmt),
     ("clone", Call::Clone),
+    ("query", Call::Query),
 ];
 
 /// Returns the document of a text, or `None` if the text is not a document.
@@ -63,6 +70,7 @@ fn time(
     match call {
         Call::Node | Call::Property => time_to_find(rt, call, document),
         Call::Strip | Call::Fmt => time_to_lay_out(rt, call, document),
+        Call::Query => time_to_query(rt, document),
         _ => time_to_make(rt, call, text, document),
     }
 }
@@ -116,6 +124,18 @@ fn time_to_lay_out(
         Call::Strip => document.autoformat_no_comments()?,
         _ => document.autoformat()?,
     }
+    start.elapsed(rt)
+}
+
+/// The time of the query on the document.
+fn time_to_query(rt: &HostRuntime, document: &KdlDocument) -> io::Result<Duration> {
+    let query = match Query::parse(rt.alloc(), QUERY) {
+        Ok(query) => query,
+        Err(QueryFailure::Syntax(_)) => return Err(io::Error::from(io::ErrorKind::InvalidInput)),
+        Err(QueryFailure::Memory) => return Err(io::Error::from(io::ErrorKind::OutOfMemory)),
+    };
+    let start = Instant::now(rt)?;
+    let _found = query_paths(rt.alloc(), document, &query)?;
     start.elapsed(rt)
 }
 
