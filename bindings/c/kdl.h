@@ -86,6 +86,24 @@ uint32_t kdl_format(struct kdl_document *document);
  * if they have the same data. If an allocation fails, it is as after kdl_format. */
 uint32_t kdl_strip(struct kdl_document *document);
 
+/* How kdl_layout lays a document out. A flag is set if it is not 0. {0} is the layout of
+ * kdl_format. */
+struct kdl_layout {
+    size_t blank_lines;     /* the greatest number of empty lines that are kept between two nodes or
+                               comments */
+    uint32_t no_comments;   /* set: comments and slashdashed pieces are removed */
+    uint32_t keep_spelling; /* set: values, names, keys and types keep their spellings, as 0x10 and
+                               "a" for 16 and a */
+    uint32_t keep_one_line; /* set: a block that is on one line stays on one line */
+};
+
+/* Lays the document out, with the indent once for each level: a text of spaces and tabs. Its data do
+ * not change. Returns KDL_NOT_UTF8 if the indent is not UTF-8, and KDL_FAULTS if it has another
+ * character than the spaces of KDL; the document is then as it was. If an allocation fails, it is as
+ * after kdl_format. */
+uint32_t kdl_layout(struct kdl_document *document, const struct kdl_layout *layout,
+                    const uint8_t *indent, size_t indent_len);
+
 /* Parses a text, and writes the text that kdl_format lays out. */
 uint32_t kdl_format_text(const uint8_t *text, size_t text_len,
                          uint8_t *out, size_t room, size_t *needed);

@@ -1,12 +1,12 @@
 //! Formatting of documents.
 
 ghost use Rattle.kdl.specs.Words.{CommentsStay, DocumentKeepsNoForm, DocumentKeepsReading, DocumentLaidOut, DocumentReadsBack, IsDocument, Text, canonical_text, defaults, document_prints, document_says, document_tree, without_comments};
-ghost use Rattle.c_calls.specs.LaidOut.{IsLaidOut};
+ghost use Rattle.c_calls.specs.LaidOut.{AreSpaces, IsLaidOut, IsLaidOutAs};
 ghost use Rattle.std.specs.Prelude.{◌≡◌, IfOk, string_bytes};
-ghost use Rattle.std.specs.Str.{encode_utf8_all};
+ghost use Rattle.std.specs.Str.{chars, encode_utf8_all};
 
-use crate::status::{OK, OUT_OF_MEMORY};
-use kdl::KdlDocument;
+use crate::status::{FAULTS, OK, OUT_OF_MEMORY};
+use kdl::{FormatConfig, KdlDocument, Layout, is_kdl_space};
 use std::alloc::{AllocError, Global};
 
 /// Formats the document, with its comments, as `KdlDocument::autoformat` does.
@@ -43,6 +43,58 @@ pub fn strip(document: &mut KdlDocument) -> u32
     ensures parses_nothing { result ≡ 1 → ⊥ }
 {
     match document.autoformat_no_comments() {
+        Err(_) => OUT_OF_MEMORY,
+        Ok(()) => OK,
+    }
+}
+
+/// How a document is laid out, but for its indent. A flag is set if it is not 0.
+#[repr(C)]
+#[derive(Clone, Copy)]
+pub struct KdlLayout {
+    /// The greatest number of blank lines that are kept between two nodes or comments.
+    pub blank_lines: usize,
+    /// Set if comments and slashdashed pieces are removed.
+    pub no_comments: u32,
+    /// Set if values, names, keys and types keep their spellings.
+    pub keep_spelling: u32,
+    /// Set if a block that is on one line stays on one line.
+    pub keep_one_line: u32,
+}
+
+/// Lays the document out as `KdlDocument::autoformat_layout` does, with the indent once for each level.
+///
+/// Returns `FAULTS` if the indent has another character than the spaces of KDL, and leaves the document unchanged.
+/// Returns `OUT_OF_MEMORY` if an allocation fails. The data of the document is then unchanged, and some of it may be laid
+/// out.
+pub fn lay_out(document: &mut KdlDocument, layout: &KdlLayout, indent: &str) -> u32
+    ensures data { document_says document.new ≡ document_says document.old }
+    ensures laid { result ≡ 0
+        → IsLaidOutAs layout.now (chars indent.now) document.old document.new }
+    ensures derived { result ≡ 0 → DocumentKeepsNoForm document.old
+        → IsDocument (document_prints document.new) (document_says document.old) }
+    ensures comments { result ≡ 0 → layout.now.no_comments ≡ 0
+        → DocumentKeepsNoForm document.old
+        → CommentsStay (document_tree document.old) (document_prints document.new) }
+    ensures refused { result ≡ 1 → AreSpaces (chars indent.now) → ⊥ }
+    ensures kept { result ≡ 1 → document.new ≡ document.old }
+{
+    if !is_kdl_space(indent) {
+        return FAULTS;
+    }
+    let config = FormatConfig {
+        indent_level: 0,
+        indent,
+        no_comments: layout.no_comments != 0,
+        entry_autoformate_keep: false,
+    };
+    let layout = Layout {
+        config,
+        blank_lines: layout.blank_lines,
+        keep_spelling: layout.keep_spelling != 0,
+        keep_one_line: layout.keep_one_line != 0,
+    };
+    match document.autoformat_layout(&layout) {
         Err(_) => OUT_OF_MEMORY,
         Ok(()) => OK,
     }

@@ -1,13 +1,14 @@
 //! Layout of documents and texts.
 
 ghost use Rattle.kdl.specs.Words.{CommentsStay, DocumentKeepsNoForm, DocumentLaidOut, IsDocument, Nodes, Text, canonical_text, defaults, document_prints, document_says, document_tree};
+ghost use Rattle.kdl_c.specs.Statuses.{IsAmong};
 ghost use Rattle.c_calls.specs.Answers.{Each};
-ghost use Rattle.c_calls.specs.LaidOut.{IsTextLaidOut};
-ghost use Rattle.std.specs.Prelude.{◌≡◌, ◌++◌, drop, length};
+ghost use Rattle.c_calls.specs.LaidOut.{AreSpaces, IsLaidOutAs, IsTextLaidOut};
+ghost use Rattle.std.specs.Prelude.{◌≡◌, ◌++◌, ◌∷◌, [], IsNone, drop, length};
 ghost use Rattle.std.specs.Str.{IsUtf8, chars, encode_utf8_all};
 
 use c_calls::held::Handle;
-use c_calls::laid_out::{format, laid_out, strip};
+use c_calls::laid_out::{KdlLayout, format, laid_out, lay_out, strip};
 use c_calls::status::{NO_DOCUMENT, NOT_UTF8, OUT_OF_MEMORY, of_failure};
 use c_calls::text::put_text;
 use kdl::KdlDocument;
@@ -52,6 +53,44 @@ pub extern "C" fn kdl_strip(alloc: Global, document: &mut Handle) -> u32
         return NO_DOCUMENT;
     };
     let status = strip(&mut held);
+    document.put(held);
+    status
+}
+
+/// Lays the document out with the indent once for each level. Its data do not change. Returns `FAULTS` if the indent has
+/// another character than the spaces of KDL. If an allocation fails, a part of the document may already be laid out.
+#[unsafe(no_mangle)]
+pub extern "C" fn kdl_layout(
+    alloc: Global,
+    document: &mut Handle,
+    layout: &KdlLayout,
+    indent: &[u8],
+) -> u32
+    ensures data { Each (λ d e. document_says e ≡ document_says d)
+        document.old.held.document document.new.held.document }
+    ensures laid { result ≡ 0 → Each (λ d e. IsLaidOutAs layout.now (chars indent.now) d e)
+        document.old.held.document document.new.held.document }
+    ensures derived { result ≡ 0 → Each (λ d e. DocumentKeepsNoForm d
+        → IsDocument (document_prints e) (document_says d))
+        document.old.held.document document.new.held.document }
+    ensures comments { result ≡ 0 → layout.now.no_comments ≡ 0
+        → Each (λ d e. DocumentKeepsNoForm d
+        → CommentsStay (document_tree d) (document_prints e))
+        document.old.held.document document.new.held.document }
+    ensures refused { result ≡ 1 → AreSpaces (chars indent.now) → ⊥ }
+    ensures utf8 { result ≡ 2 → IsUtf8 indent.now → ⊥ }
+    ensures kept { IsAmong (1 ∷ 2 ∷ 5 ∷ []) result
+        → document.new.held.document ≡ document.old.held.document }
+    ensures missing { result ≡ 5 → IsNone document.old.held.document }
+    ensures statuses { IsAmong (0 ∷ 1 ∷ 2 ∷ 3 ∷ 5 ∷ []) result }
+{
+    let Ok(indent) = std::str::from_utf8(indent) else {
+        return NOT_UTF8;
+    };
+    let Some(mut held) = document.take(alloc) else {
+        return NO_DOCUMENT;
+    };
+    let status = lay_out(&mut held, layout, indent);
     document.put(held);
     status
 }
