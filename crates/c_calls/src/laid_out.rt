@@ -77,7 +77,9 @@ pub fn lay_out(document: &mut KdlDocument, layout: &KdlLayout, indent: &str) -> 
         → DocumentKeepsNoForm document.old
         → CommentsStay (document_tree document.old) (document_prints document.new) }
     ensures refused { result ≡ 1 → AreSpaces (chars indent.now) → ⊥ }
-    ensures kept { result ≡ 1 → document.new ≡ document.old }
+    ensures kept { (result ≡ 0 → ⊥) → (result ≡ 3 → ⊥) → document.new ≡ document.old }
+    ensures utf8 { result ≡ 2 → ⊥ }
+    ensures held { result ≡ 5 → ⊥ }
 {
     if !is_kdl_space(indent) {
         return FAULTS;

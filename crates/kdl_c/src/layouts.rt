@@ -1,10 +1,9 @@
 //! Layout of documents and texts.
 
 ghost use Rattle.kdl.specs.Words.{CommentsStay, DocumentKeepsNoForm, DocumentLaidOut, IsDocument, Nodes, Text, canonical_text, defaults, document_prints, document_says, document_tree};
-ghost use Rattle.kdl_c.specs.Statuses.{IsAmong};
 ghost use Rattle.c_calls.specs.Answers.{Each};
 ghost use Rattle.c_calls.specs.LaidOut.{AreSpaces, IsLaidOutAs, IsTextLaidOut};
-ghost use Rattle.std.specs.Prelude.{◌≡◌, ◌++◌, ◌∷◌, [], IsNone, drop, length};
+ghost use Rattle.std.specs.Prelude.{◌≡◌, ◌++◌, IsNone, drop, length};
 ghost use Rattle.std.specs.Str.{IsUtf8, chars, encode_utf8_all};
 
 use c_calls::held::Handle;
@@ -79,10 +78,9 @@ pub extern "C" fn kdl_layout(
         document.old.held.document document.new.held.document }
     ensures refused { result ≡ 1 → AreSpaces (chars indent.now) → ⊥ }
     ensures utf8 { result ≡ 2 → IsUtf8 indent.now → ⊥ }
-    ensures kept { IsAmong (1 ∷ 2 ∷ 5 ∷ []) result
+    ensures kept { (result ≡ 0 → ⊥) → (result ≡ 3 → ⊥)
         → document.new.held.document ≡ document.old.held.document }
     ensures missing { result ≡ 5 → IsNone document.old.held.document }
-    ensures statuses { IsAmong (0 ∷ 1 ∷ 2 ∷ 3 ∷ 5 ∷ []) result }
 {
     let Ok(indent) = std::str::from_utf8(indent) else {
         return NOT_UTF8;
