@@ -22,3 +22,9 @@ pub mod Failing
 pub mod Making
 -- Every node to which steps lead, in memory and in the data.
 pub mod Reached
+-- The steps to the node at a path of indices, and the data after an edit there.
+pub mod Along
+-- What an edit at a path leaves at the paths before it.
+pub mod Apart
+-- A document after an edit at each of some paths.
+pub mod Selected
