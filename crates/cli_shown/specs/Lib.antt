@@ -1,0 +1,2 @@
+-- Values, as they are shown.
+pub mod Values
