@@ -56,7 +56,7 @@ pub fn render(
 }
 
 /// Draws a fault of a text that is no document, such as a query: as `render` does, but without a hint.
-pub fn picture(
+pub fn render_without_hint(
     alloc: Global,
     name: &str,
     lines: &Lines<'_>,
