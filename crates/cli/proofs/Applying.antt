@@ -103,8 +103,3 @@ none_shown p raw false text x (Ok (NotFound s)) a d e h = absurd (cc)
 none_shown p raw all text x (Ok (Usage s)) a d e h = absurd h
 none_shown p raw all text x (Err (Syntax f)) a d e h = absurd h
 none_shown p raw all text x (Err Memory) a d e h = tt
-
--- a string is shown as it is
-pub as_it_is : (t : String Global) (x : Value) (bs : List ℕ) (r : Result (String Global) AllocError) → x ≡ words.text (text_of t) → bs ≡ string_bytes t → IfOk r (λ s. string_bytes s ≡ bs) → IfOk r (λ s. string_bytes s ≡ encode_utf8_all (shown true x))
-as_it_is t x bs (Ok s) e b h = h ∙ b ∙ sym (encodes-chars (string_bytes t) (IsUtf8-string_bytes t)) ∙ ap (λ v. encode_utf8_all (shown true v)) (sym e)
-as_it_is t x bs (Err f) e b h = tt

@@ -13,7 +13,8 @@ use Rattle.kdl_path.specs.declared.path.Path.{Path}
 use Rattle.kdl_path.specs.declared.path.Target.TheVariants.{Node}
 use Rattle.kdl_text.specs.declared.error.ParseFailure.{ParseFailure}
 use Rattle.kdl_text.specs.declared.error.ParseFailure.TheVariants.{Syntax, Memory}
-use Rattle.cli.specs.Shown.{IsShown, asked, line_of}
+use Rattle.cli.specs.Shown.{IsShown, asked}
+use Rattle.cli_shown.specs.Values.{line_of}
 use Rattle.cli_world.specs.Files.{Files, Has}
 use Rattle.cli_world.specs.declared.status.Status.{Status}
 use Rattle.cli_world.specs.declared.status.Status.TheVariants as status

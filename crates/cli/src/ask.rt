@@ -1,17 +1,17 @@
 //! What is done with one text: one of its values, another form of it, or the text with a part of it changed.
 
 ghost use Rattle.cli.specs.Asks.{ActsOnFile, Applies, IsDelivered, IsStatusOf, IsUnedited, ShowsAt};
-ghost use Rattle.cli.specs.Shown.{line_of, shown};
 ghost use Rattle.cli.specs.declared.ask.Action.TheVariants.{FromJson, Get, Insert, Json, Remove, Set};
 ghost use Rattle.kdl.specs.Words.{document_says, value_tree};
 ghost use Rattle.std.specs.List.{flat_map};
 ghost use Rattle.std.specs.Prelude.{◌≡◌, ◌⊎◌, ◌++◌, IfOk, List, OnOk, Some, encode_utf8_all, map, string_bytes, true, ℕ};
 
 use crate::report::{Style, report_faults};
+use cli_shown::{lines_of, push_value};
 use cli_world::status::Status;
 use cli_world::store::Store;
 use cli_world::world::{Unread, World};
-use kdl::{KdlDocument, KdlValue, ParseFailure};
+use kdl::{KdlDocument, ParseFailure};
 use kdl_json::{JsonFailure, from_json, to_json};
 pub use kdl_path::Path;
 use kdl_path::{EditFailure, GetFailure, PathFailure, get, get_all, insert, remove, set};
@@ -173,18 +173,6 @@ fn values_at(
     Ok(Applied::Text(lines_of(alloc, &values, raw)?))
 }
 
-/// Returns a line for each value.
-fn lines_of(alloc: Global, values: &[&KdlValue], raw: bool) -> Result<String, AllocError>
-    ensures { IfOk result (λ s. string_bytes s
-        ≡ flat_map (line_of raw) (map (λ v. value_tree v.now) values.now)) }
-{
-    let mut lines = String::new(alloc);
-    for value in values {
-        push_value(alloc, &mut lines, *value, raw)?;
-    }
-    Ok(lines)
-}
-
 /// Returns a line with the value at the path.
 fn one_value(
     alloc: Global,
@@ -202,36 +190,6 @@ fn one_value(
         }
         Err(GetFailure::Missing(missing)) => Ok(Applied::NotFound(format!(in alloc; "{missing}")?)),
         Err(GetFailure::Memory) => Err(ParseFailure::Memory),
-    }
-}
-
-/// Appends a line with the value.
-fn push_value(
-    alloc: Global,
-    out: &mut String,
-    value: &KdlValue,
-    raw: bool,
-) -> Result<(), AllocError>
-    ensures { OnOk result (string_bytes out.new
-        ≡ string_bytes out.old ++ line_of raw (value_tree value.now)) }
-{
-    let text = if raw {
-        unquoted(alloc, value)?
-    } else {
-        value.to_string(alloc)?
-    };
-    out.push_str(&text)?;
-    out.push('\n')
-}
-
-/// Returns the value as it is printed, but a string without quotes and escapes.
-fn unquoted(alloc: Global, value: &KdlValue) -> Result<String, AllocError>
-    ensures { IfOk result (λ s. string_bytes s
-        ≡ encode_utf8_all (shown true (value_tree value.now))) }
-{
-    match value {
-        KdlValue::String(text) => String::from_str(alloc, text),
-        _ => value.to_string(alloc),
     }
 }
 

@@ -4,6 +4,7 @@ use clap::ArgMatches;
 use cli::ask::{Action, Ask, Path, read_path};
 use cli::completions::Shell;
 use cli::files::Mode;
+use cli::query::{Query, Search, View, read_query};
 use cli::report::{Form, Style};
 use cli::request::{Format, Request};
 use cli::settings::{Given, Indent};
@@ -23,11 +24,30 @@ pub fn path_of(
     read_path(rt.alloc(), path)
 }
 
-/// Returns the request, with that path, or why the words are none.
+/// Returns the query among the words, or a picture of its fault. Without one, returns none.
+pub fn query_of(
+    rt: &HostRuntime,
+    matches: &ArgMatches<'_>,
+) -> Result<Result<Option<Query>, String>, AllocError> {
+    let text = match matches.subcommand() {
+        Some((_, matches)) => matches.get_str("QUERY"),
+        None => None,
+    };
+    let Some(text) = text else {
+        return Ok(Ok(None));
+    };
+    match read_query(rt.alloc(), text, has_colors(rt, rt.stderr().is_terminal()))? {
+        Ok(query) => Ok(Ok(Some(query))),
+        Err(fault) => Ok(Err(fault)),
+    }
+}
+
+/// Returns the request, with that path and that query, or why the words are none.
 pub fn request_of<'m>(
     rt: &HostRuntime,
     matches: &'m ArgMatches<'_>,
     path: &'m Path,
+    query: Option<&'m Query>,
 ) -> Result<Request<'m>, &'static str> {
     let Some((word, matches)) = matches.subcommand() else {
         return Err("give a word: `kdl --help` lists them");
@@ -48,6 +68,7 @@ pub fn request_of<'m>(
             };
             Ok(ask_request(rt, matches, action))
         }
+        "query" => search_request(rt, matches, query),
         "set" => {
             let action = Action::Set {
                 path,
@@ -82,6 +103,43 @@ fn ask_request<'m>(
         replace: matches.get_flag("write"),
         style: style(Form::Human, has_colors(rt, rt.stderr().is_terminal())),
     })
+}
+
+/// The request for the nodes that the query selects.
+fn search_request<'m>(
+    rt: &HostRuntime,
+    matches: &'m ArgMatches<'_>,
+    query: Option<&'m Query>,
+) -> Result<Request<'m>, &'static str> {
+    let Some(query) = query else {
+        return Err("give a query");
+    };
+    Ok(Request::Search {
+        names: matches.get_strs("FILE").unwrap_or(&[]),
+        search: Search {
+            query,
+            view: view(matches)?,
+            style: style(Form::Human, has_colors(rt, rt.stderr().is_terminal())),
+        },
+    })
+}
+
+/// What is shown of the nodes that a query selects.
+fn view(matches: &ArgMatches<'_>) -> Result<View, &'static str> {
+    let flags = (
+        matches.get_flag("raw"),
+        matches.get_flag("json"),
+        matches.get_flag("count"),
+        matches.get_flag("paths"),
+    );
+    match flags {
+        (false, false, false, false) => Ok(View::Text),
+        (true, false, false, false) => Ok(View::Raw),
+        (false, true, false, false) => Ok(View::Json),
+        (false, false, true, false) => Ok(View::Count),
+        (false, false, false, true) => Ok(View::Paths),
+        _ => Err("give one of `--raw`, `--json`, `--count` and `--paths`"),
+    }
 }
 
 /// The name of the file, or of the standard input.

@@ -1,0 +1,6 @@
+-- Values on lines.
+pub mod Values
+-- What nodes print after their leading texts.
+pub mod Texts
+-- The steps of a PATH.
+pub mod Steps
