@@ -73,6 +73,22 @@ const WRITE: Flag = Flag {
     help: "Writes the file, if it changes, instead of the output",
 };
 
+/// Takes the path as a query.
+const IS_QUERY: Flag = Flag {
+    long: "query",
+    short: None,
+    value: None,
+    help: "Takes PATH as a query, and changes each node that it selects",
+};
+
+/// What is changed of each node.
+const ENTRY: Flag = Flag {
+    long: "entry",
+    short: None,
+    value: Some(("#N|@KEY", Values::Text)),
+    help: "With `--query`: the argument `#N` or the property `@KEY` of each node",
+};
+
 /// The files of a word that takes several.
 const FILES: Operand = Operand {
     name: "FILE",
@@ -292,16 +308,18 @@ static WORDS: [Word; 11] = [
                 value: None,
                 help: "Makes the node, argument or property if it is not there",
             },
+            IS_QUERY,
+            ENTRY,
         ],
-        examples: "Examples:\n  kdl set server/port 8081 -w config.kdl\n  kdl set server/@host '\"a b\"' config.kdl",
+        examples: "Examples:\n  kdl set server/port 8081 -w config.kdl\n  kdl set server/@host '\"a b\"' config.kdl\n  kdl set --query 'server > port' 8081 config.kdl",
         is_hidden: false,
     },
     Word {
         name: "remove",
         about: "Takes away a node, an argument or a property",
         operands: &[PATH, FILE],
-        flags: &[WRITE],
-        examples: "Examples:\n  kdl remove server/@host config.kdl",
+        flags: &[WRITE, IS_QUERY, ENTRY],
+        examples: "Examples:\n  kdl remove server/@host config.kdl\n  kdl remove --query 'server[off]' config.kdl",
         is_hidden: false,
     },
     Word {

@@ -1,7 +1,7 @@
 //! Requests from the words of the command line.
 
 use clap::ArgMatches;
-use cli::ask::{Action, Ask, Path, read_path};
+use cli::ask::{Action, Ask, Path, read_entry, read_path};
 use cli::completions::Shell;
 use cli::files::Mode;
 use cli::query::{Query, Search, View, read_query};
@@ -12,16 +12,22 @@ use std::alloc::AllocError;
 use std::env;
 use std::io::IsTerminal;
 
-/// Returns the path among the words, or what is wrong with it. Without one, returns that of the document.
+/// Returns the path among the words, or what is wrong with it. Without one, returns that of the document. Beside a query, the
+/// path is that of the entry that the words name.
 pub fn path_of(
     rt: &HostRuntime,
     matches: &ArgMatches<'_>,
 ) -> Result<Result<Path, String>, AllocError> {
-    let path = match matches.subcommand() {
-        Some((_, matches)) => matches.get_str("PATH").unwrap_or("/"),
-        None => "/",
+    let Some((_, matches)) = matches.subcommand() else {
+        return read_path(rt.alloc(), "/");
     };
-    read_path(rt.alloc(), path)
+    if !matches.get_flag("query") {
+        return read_path(rt.alloc(), matches.get_str("PATH").unwrap_or("/"));
+    }
+    match matches.get_str("entry") {
+        Some(entry) => read_entry(rt.alloc(), entry),
+        None => read_path(rt.alloc(), "/"),
+    }
 }
 
 /// Returns the query among the words, or a picture of its fault. Without one, returns none.
@@ -30,6 +36,7 @@ pub fn query_of(
     matches: &ArgMatches<'_>,
 ) -> Result<Result<Option<Query>, String>, AllocError> {
     let text = match matches.subcommand() {
+        Some((_, matches)) if matches.get_flag("query") => matches.get_str("PATH"),
         Some((_, matches)) => matches.get_str("QUERY"),
         None => None,
     };
@@ -69,15 +76,8 @@ pub fn request_of<'m>(
             Ok(ask_request(rt, matches, action))
         }
         "query" => search_request(rt, matches, query),
-        "set" => {
-            let action = Action::Set {
-                path,
-                value: text(matches, "VALUE"),
-                create: matches.get_flag("create"),
-            };
-            Ok(ask_request(rt, matches, action))
-        }
-        "remove" => Ok(ask_request(rt, matches, Action::Remove { path })),
+        "set" => Ok(ask_request(rt, matches, set_action(matches, path, query)?)),
+        "remove" => Ok(ask_request(rt, matches, remove_action(matches, path, query)?)),
         "insert" => {
             let action = Action::Insert {
                 path,
@@ -88,6 +88,58 @@ pub fn request_of<'m>(
         "json" => Ok(ask_request(rt, matches, Action::Json)),
         "from-json" => Ok(ask_request(rt, matches, Action::FromJson)),
         _ => Err("give a word: `kdl --help` lists them"),
+    }
+}
+
+/// The action of `set`, at the path or in each node that the query selects.
+fn set_action<'m>(
+    matches: &'m ArgMatches<'_>,
+    path: &'m Path,
+    query: Option<&'m Query>,
+) -> Result<Action<'m>, &'static str> {
+    let value = text(matches, "VALUE");
+    let create = matches.get_flag("create");
+    match query {
+        Some(_) if create => Err("`--create` does not go with `--query`"),
+        Some(query) => Ok(Action::SetEach {
+            query,
+            target: &path.target,
+            value,
+        }),
+        None => {
+            without_entry(matches)?;
+            Ok(Action::Set {
+                path,
+                value,
+                create,
+            })
+        }
+    }
+}
+
+/// The action of `remove`, at the path or of each node that the query selects.
+fn remove_action<'m>(
+    matches: &'m ArgMatches<'_>,
+    path: &'m Path,
+    query: Option<&'m Query>,
+) -> Result<Action<'m>, &'static str> {
+    match query {
+        Some(query) => Ok(Action::RemoveEach {
+            query,
+            target: &path.target,
+        }),
+        None => {
+            without_entry(matches)?;
+            Ok(Action::Remove { path })
+        }
+    }
+}
+
+/// Refuses an entry beside a path.
+fn without_entry(matches: &ArgMatches<'_>) -> Result<(), &'static str> {
+    match matches.get_str("entry") {
+        Some(_) => Err("`--entry` goes with `--query`"),
+        None => Ok(()),
     }
 }
 

@@ -4,7 +4,7 @@ use Rattle.std.specs.List.{AllByRecursion}
 use Rattle.kdl_entry.specs.Data.{Entry}
 use Rattle.kdl_grammar.specs.Data as data'
 use Rattle.kdl.specs.Nodes.{said_without}
-use Rattle.kdl.specs.Said.{said_child_nodes, said_entries, said_nodes}
+use Rattle.kdl.specs.Said.{said_entries, said_nodes}
 use Rattle.kdl_query.specs.Selects.{IsBefore, Path, node_at, node_below}
 use Rattle.kdl_path.specs.Each.{Edit, edited, edited_each}
 use Rattle.kdl_path.specs.Edits.{with_block, with_nth}

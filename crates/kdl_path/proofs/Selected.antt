@@ -1,5 +1,5 @@
 -- A document after an edit at each of some paths.
-use Rattle.std.proofs.Common.{◌≡◌, ◌<◌, ◌⊎◌, inr, ℕ, zero, suc, Bool, true, false, Contains, List, [], ◌∷◌, ◌++◌, get_or, length, map, Option, None, Some, IsSome, is_some, option_and_then, option_map, refl, ap, ◌∙◌, sym, subst, arith, append_assoc, append-nil, Vec, Global, String, string_bytes, Ok}
+use Rattle.std.proofs.Common.{◌≡◌, ◌<◌, inr, ℕ, zero, suc, Bool, true, false, Contains, List, [], ◌∷◌, ◌++◌, get_or, length, Option, None, Some, IsSome, is_some, option_and_then, option_map, refl, ap, ◌∙◌, sym, subst, arith, append_assoc, append-nil, Vec, Global, String, string_bytes, Ok}
 use Rattle.std.proofs.lemmas.List.{map-append}
 use Rattle.std.proofs.lemmas.List.Elements.{Contains-append_right}
 use Rattle.std.proofs.lemmas.Option.{none-some}
@@ -14,7 +14,6 @@ use Rattle.kdl_layout.proofs.Texts.{printed_text}
 use Rattle.kdl_grammar.specs.Grammar.{IsDocument}
 use Rattle.c_calls.specs.Changes.{AtNode}
 use Rattle.c_calls.specs.Entries.{IsValueText}
-use Rattle.kdl.specs.Bytes.{IsExchanged}
 use Rattle.kdl.specs.DocumentLookups.{nodes_of}
 use Rattle.kdl.specs.Lookups.{entries_of}
 use Rattle.kdl.specs.ReadsBack.{DocumentReadsBack}
@@ -186,9 +185,6 @@ set_misses all rest before p t v given d e o k so none =
     let n = next all rest before p so.done o so.paths k in
     (p, subst (λ l. Contains l p) (sym n.paths) (Contains-append_right before (p ∷ so.done) p (contains_first p so.done)), sym (value_kept t v given p so.done d e n.ordered so.set) ∙ none)
 
-pub set_ended : (all rest : List Path) (t : Target) (v : Value) (given : Text) (d e : KdlDocument) → rest ≡ [] → IsSetSo all rest t v given d e → IsSetOnEach all t v given d e
-set_ended all rest t v given d e h so = subst (λ l. IsSetOnEach l t v given d e) (sym (so.paths ∙ ap (λ l. l ++ so.done) h)) so.set
-
 -- the same of `remove_at_paths`
 pub record IsRemovedSo (all rest : List Path) (t : Target) (d e : KdlDocument) : Type 0 where
   pub done : List Path
@@ -208,9 +204,6 @@ pub removal_misses : (all rest before : List Path) (p : Path) (t : Target) (d e 
 removal_misses all rest before p t d e o k so none =
     let n = next all rest before p so.done o so.paths k in
     (p, subst (λ l. Contains l p) (sym n.paths) (Contains-append_right before (p ∷ so.done) p (contains_first p so.done)), none_as (named_node t (document_says e) p) (named_node t (document_says d) p) (named_kept t p so.done d e n.ordered so.removed) none)
-
-pub removal_ended : (all rest : List Path) (t : Target) (d e : KdlDocument) → rest ≡ [] → IsRemovedSo all rest t d e → IsRemovedOnEach all t d e
-removal_ended all rest t d e h so = subst (λ l. IsRemovedOnEach l t d e) (sym (so.paths ∙ ap (λ l. l ++ so.done) h)) so.removed
 
 -- one path
 held_said : (p : Path) (d : KdlDocument) (n : KdlNode) → held_at p d ≡ Some n → query.node_at p (document_says d) ≡ Some (node_says n)
