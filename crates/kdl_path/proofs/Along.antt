@@ -16,7 +16,7 @@ use Rattle.kdl.specs.declared.node.KdlNode.{KdlNode}
 use Rattle.kdl.proofs.Finding.SaidLookups.{children_said, nodes_said}
 use Rattle.kdl_query.specs.Held.{held_at, held_below}
 use Rattle.kdl_query.specs.Selects.{Path}
-use Rattle.kdl_path.specs.Each.{Edit, edited}
+use Rattle.kdl_path.specs.Internal.OnEach.{Edit, edited}
 use Rattle.kdl_path.specs.Edits.{changed_at, changed_below, with_block, with_nth, with_there, without_node, without_there}
 use Rattle.kdl_path.specs.Internal.Located.{Leads, place_of_step}
 use Rattle.kdl_path.specs.Paths.{step_place}

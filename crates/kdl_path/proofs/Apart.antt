@@ -6,7 +6,7 @@ use Rattle.kdl_grammar.specs.Data as data'
 use Rattle.kdl.specs.Nodes.{said_without}
 use Rattle.kdl.specs.Said.{said_entries, said_nodes}
 use Rattle.kdl_query.specs.Selects.{IsBefore, Path, node_at, node_below}
-use Rattle.kdl_path.specs.Each.{Edit, edited, edited_each}
+use Rattle.kdl_path.specs.Internal.OnEach.{Edit, edited, edited_each}
 use Rattle.kdl_path.specs.Edits.{with_block, with_nth}
 
 -- an edit that leaves the nodes before its place

@@ -26,5 +26,7 @@ pub mod Reached
 pub mod Along
 -- What an edit at a path leaves at the paths before it.
 pub mod Apart
+-- Edits at paths, from the last path to the first, are an edit of each node at one of the paths.
+pub mod Everywhere
 -- A document after an edit at each of some paths.
 pub mod Selected

@@ -26,13 +26,13 @@ use Rattle.kdl_query.specs.Selects as query
 use Rattle.kdl_query.specs.Data.{Query}
 use Rattle.kdl_query.specs.Selects.{IsBefore, IsSelected, IsSelection, Path}
 use Rattle.kdl_query.proofs.Holds.{held_says}
-use Rattle.kdl_path.specs.Each.{AreExchanged, IsRemovedAtEach, IsSetAtEach, RemoveEachFails, SetEachFails, edited, edited_each, named_node, removed, set_value, value_at}
+use Rattle.kdl_path.specs.Each.{AreExchanged, IsRemovedAtEach, IsSetAtEach, RemoveEachFails, SetEachFails, edited_at, named_node, removed, value_at}
 use Rattle.kdl_path.specs.Edits.{entry_place, node_with_value, node_without_entry, with_target, without_target}
 use Rattle.kdl_path.specs.Internal.Changed.{IsValueSet}
 use Rattle.kdl_path.specs.Internal.Done.{IsDoneAt, IsNamed, IsRemovedAt}
 use Rattle.kdl_path.specs.Internal.Failing.{MissesIf}
 use Rattle.kdl_path.specs.Internal.Located.{Leads, place_of_target}
-use Rattle.kdl_path.specs.Internal.OnEach.{IsRemovedOnEach, IsSetOnEach, paths_of}
+use Rattle.kdl_path.specs.Internal.OnEach.{IsRemovedOnEach, IsSetOnEach, edited, edited_each, paths_of, removing, setting}
 use Rattle.kdl_path.specs.Paths as path
 use Rattle.kdl_path.specs.Paths.{value_in}
 use Rattle.kdl_path.specs.declared.failure.EditFailure.{EditFailure}
@@ -44,6 +44,7 @@ use Rattle.kdl_path.specs.declared.value.Spelled.{Spelled}
 use Rattle.kdl_path.proofs.Along.{changed_along, steps_to, without_along}
 use Rattle.kdl_path.proofs.Apart.{KeepsBefore, kept_before_each, nth_before, without_before}
 use Rattle.kdl_path.proofs.Edited.{out_says, target_missing, target_named}
+use Rattle.kdl_path.proofs.Everywhere.{Ascends, Replaces, everywhere}
 use Rattle.kdl_path.proofs.Places.{leads_said, value_is_there, value_missing}
 use Rattle.kdl_path.proofs.Values.{value_done}
 
@@ -87,21 +88,21 @@ none_as a None h e = refl
 none_as a (Some y) h e = let f : is_some a ≡ false = ap is_some e in absurd (cc)
 
 -- the edits leave what is before
-set_keeps : (t : Target) (v : Value) → KeepsBefore (set_value t v)
+set_keeps : (t : Target) (v : Value) → KeepsBefore (setting t v)
 set_keeps t v i j x h = nth_before (node_with_value t v) i j x h
 
-removed_keeps : (t : Target) → KeepsBefore (removed t)
+removed_keeps : (t : Target) → KeepsBefore (removing t)
 removed_keeps Node i j x h = without_before i j x h
 removed_keeps (Argument k) i j x h = nth_before (node_without_entry (Argument k)) i j x h
 removed_keeps (Property s) i j x h = nth_before (node_without_entry (Property s)) i j x h
 
 value_kept : (t : Target) (v : Value) (given : Text) (p : Path) (ps : List Path) (d e : KdlDocument) → AllByRecursion (IsBefore p) ps → IsSetOnEach ps t v given d e → value_at t (document_says e) p ≡ value_at t (document_says d) p
 value_kept t v given p ps d e b h =
-    ap (λ x. value_at t x p) h.says ∙ same_value t (query.node_at p (edited_each (set_value t v) ps (document_says d))) (query.node_at p (document_says d)) (kept_before_each (set_value t v) (set_keeps t v) p ps (document_says d) b)
+    ap (λ x. value_at t x p) h.says ∙ same_value t (query.node_at p (edited_each (setting t v) ps (document_says d))) (query.node_at p (document_says d)) (kept_before_each (setting t v) (set_keeps t v) p ps (document_says d) b)
 
 named_kept : (t : Target) (p : Path) (ps : List Path) (d e : KdlDocument) → AllByRecursion (IsBefore p) ps → IsRemovedOnEach ps t d e → is_some (named_node t (document_says e) p) ≡ is_some (named_node t (document_says d) p)
 named_kept t p ps d e b h =
-    ap (λ x. is_some (named_node t x p)) h.says ∙ same_named t (query.node_at p (edited_each (removed t) ps (document_says d))) (query.node_at p (document_says d)) (kept_before_each (removed t) (removed_keeps t) p ps (document_says d) b)
+    ap (λ x. is_some (named_node t x p)) h.says ∙ same_named t (query.node_at p (edited_each (removing t) ps (document_says d))) (query.node_at p (document_says d)) (kept_before_each (removing t) (removed_keeps t) p ps (document_says d) b)
 
 -- one path more
 pub contains_first : {A : Type 0} (p : A) (ps : List A) → Contains (p ∷ ps) p
@@ -128,7 +129,7 @@ set_next t v given p ps d e f b done one =
     let same = value_kept t v given p ps d e b done in
     record {
       reads = one.reads;
-      says = one.says ∙ ap (edited (set_value t v) p) done.says;
+      says = one.says ∙ ap (edited (setting t v) p) done.says;
       bytes = exchanged_next same done.bytes one.bytes;
       there = contains_each (λ q. IsSome (value_at t (document_says d) q)) p ps (subst (λ (o : Option Value). IsSome o) same (one.there p (contains_first p []))) done.there;
     }
@@ -139,7 +140,7 @@ removed_none t d r = record { reads = r; says = refl; there = λ p c. absurd (co
 removed_next : (t : Target) (p : Path) (ps : List Path) (d e f : KdlDocument) → AllByRecursion (IsBefore p) ps → IsRemovedOnEach ps t d e → IsRemovedOnEach (p ∷ []) t e f → IsRemovedOnEach (p ∷ ps) t d f
 removed_next t p ps d e f b done one = record {
   reads = one.reads;
-  says = one.says ∙ ap (edited (removed t) p) done.says;
+  says = one.says ∙ ap (edited (removing t) p) done.says;
   there = contains_each (λ q. IsSome (named_node t (document_says d) q)) p ps (sym (named_kept t p ps d e b done) ∙ one.there p (contains_first p [])) done.there;
 }
 
@@ -218,15 +219,15 @@ set_on t v given p d e n i h place ok at r =
     let there : option_and_then (value_in t) (path.node_at ss (said_nodes (document_says d))) ≡ value_in t (node_says n) = ap (option_and_then (value_in t)) (leads_said ss p d n leads) in
     record {
       reads = x.reads;
-      says = x.says ∙ changed_along (node_with_value t v) (set_value t v) (λ i y. refl) ss p d n leads;
+      says = x.says ∙ changed_along (node_with_value t v) (setting t v) (λ i y. refl) ss p d n leads;
       bytes = AreExchanged.exchange x.was (λ w k. x.former w (there ∙ sym here ∙ k)) AreExchanged.nothing x.bytes;
       there = contains_each (λ q. IsSome (value_at t (document_says d) q)) p [] (subst (λ (o : Option Value). IsSome o) (sym here) (value_is_there t n i (sym place))) (λ q c. absurd (contains_nothing q c));
     }
 
-removed_along : (t : Target) (ss : List Step) (p : Path) (d : KdlDocument) (n : KdlNode) → Leads ss p (nodes_of d) None n → without_target t ss (document_says d) ≡ edited (removed t) p (document_says d)
-removed_along Node ss p d n h = without_along (removed Node) (λ i x. refl) ss p d n h
-removed_along (Argument k) ss p d n h = changed_along (node_without_entry (Argument k)) (removed (Argument k)) (λ i x. refl) ss p d n h
-removed_along (Property s) ss p d n h = changed_along (node_without_entry (Property s)) (removed (Property s)) (λ i x. refl) ss p d n h
+removed_along : (t : Target) (ss : List Step) (p : Path) (d : KdlDocument) (n : KdlNode) → Leads ss p (nodes_of d) None n → without_target t ss (document_says d) ≡ edited (removing t) p (document_says d)
+removed_along Node ss p d n h = without_along (removing Node) (λ i x. refl) ss p d n h
+removed_along (Argument k) ss p d n h = changed_along (node_without_entry (Argument k)) (removing (Argument k)) (λ i x. refl) ss p d n h
+removed_along (Property s) ss p d n h = changed_along (node_without_entry (Property s)) (removing (Property s)) (λ i x. refl) ss p d n h
 
 pub removed_on : (t : Target) (p : Path) (d e : KdlDocument) (n : KdlNode) (o : Option ℕ) → held_at p d ≡ Some n → IsNamed t n o → ((ss : List Step) → Leads ss p (nodes_of d) None n → IsRemovedAt ss t d e) → IsRemovedOnEach (p ∷ []) t d e
 removed_on t p d e n o h named f =
@@ -252,6 +253,19 @@ value_missing_at t p d n h e = sym (ap (option_and_then (value_in t)) h) ∙ sym
 
 pub name_missing_at : (t : Target) (p : Path) (d : KdlDocument) (n : KdlNode) → Some (node_says n) ≡ query.node_at p (document_says d) → (t ≡ Node → ⊥) × (place_of_target t (entries_of n) ≡ None) → named_node t (document_says d) p ≡ None
 name_missing_at t p d n h e = sym (ap (option_and_then (with_target t)) h) ∙ target_missing t n e.0 e.1
+
+-- the edits of all paths
+setting_replaces : (t : Target) (v : Value) → Replaces (setting t v) (λ n. Some (node_with_value t v n))
+setting_replaces t v = record { none = λ i. refl; zero = λ n x. refl; suc = λ i n x. refl }
+
+removing_replaces : (t : Target) → Replaces (removing t) (removed t)
+removing_replaces Node = record { none = λ i. refl; zero = λ n x. refl; suc = λ i n x. refl }
+removing_replaces (Argument k) = record { none = λ i. refl; zero = λ n x. refl; suc = λ i n x. refl }
+removing_replaces (Property s) = record { none = λ i. refl; zero = λ n x. refl; suc = λ i n x. refl }
+
+ascends : (ps : List Path) → AllPairs IsBefore ps → Ascends ps
+ascends [] h = tt
+ascends (p ∷ ps) h = (after_these [] p ps h, ascends ps (λ i j d l m. h (suc i) (suc j) d (omega (arith, l)) (omega (arith, m))))
 
 -- failures at a path that is selected
 pub set_each_missing : (q : Query) (t : Target) (given text : Text) (x : data'.Nodes) (ps : List Path) (e : EditFailure) → IsDocument text x → IsSelection x q ps → MissesIf ((p : Path) × Contains ps p × (value_at t x p ≡ None)) e
@@ -286,7 +300,7 @@ set_each_ends q t s given text ps d e out x is spelled ok only prints selection 
       found = record { selection = selection; some = some; each = λ p k. set.there p ((selection.each p).1 k) };
       value = value_tree s.value;
       reads = ok;
-      says = out_says e out (edited_each (set_value t (value_tree s.value)) ps y) bytes set.reads set.says;
+      says = out_says e out (edited_at ps (λ n. Some (node_with_value t (value_tree s.value) n)) y) bytes set.reads (set.says ∙ everywhere (setting t (value_tree s.value)) (λ n. Some (node_with_value t (value_tree s.value) n)) (setting_replaces t (value_tree s.value)) ps (ascends ps selection.ordered) y);
       bytes = chain;
     })
 
@@ -296,5 +310,5 @@ remove_each_ends q t text ps d e out x y only selection some h bytes =
     subst (λ (z : data'.Nodes). IsRemovedAtEach z q t (text_of out)) (sym (only x y)) (record {
       paths = ps;
       found = record { selection = selection; some = some; each = λ p k. h.there p ((selection.each p).1 k) };
-      says = out_says e out (edited_each (removed t) ps (document_says d)) bytes h.reads h.says;
+      says = out_says e out (edited_at ps (removed t) (document_says d)) bytes h.reads (h.says ∙ everywhere (removing t) (removed t) (removing_replaces t) ps (ascends ps selection.ordered) (document_says d));
     })

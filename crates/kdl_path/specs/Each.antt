@@ -1,10 +1,13 @@
 -- The data of a document, and its text, after an edit at each node that a query selects.
-use Rattle.std.specs.Prelude.{◌≡◌, ◌⊎◌, ℕ, List, [], ◌∷◌, Option, Some, None, IsSome, option_and_then}
-use Rattle.kdl.specs.Words.{IsDocument, IsExchanged, NodeData, Nodes, Text, Value, said_without}
+use Rattle.std.specs.Cmp.Lexicographic.{pointwise}
+use Rattle.std.specs.List.{list_any}
+use Rattle.std.specs.Prelude.{◌≡◌, ◌==◌, ◌⊎◌, ℕ, suc, Bool, true, false, List, [], ◌∷◌, Option, Some, None, IsSome, option_and_then}
+use Rattle.kdl.specs.Words.{IsDocument, IsExchanged, NodeData, Nodes, Text, Value}
+use Rattle.kdl_grammar.specs.Data as data'
 use Rattle.c_calls.specs.Entries.{IsValueText}
 use Rattle.kdl_query.specs.Data.{Query}
 use Rattle.kdl_query.specs.Selects.{IsSelected, IsSelection, Path, node_at}
-use Rattle.kdl_path.specs.Edits.{node_with_value, node_without_entry, with_block, with_nth, with_target}
+use Rattle.kdl_path.specs.Edits.{node_with_value, node_without_entry, with_target}
 use Rattle.kdl_path.specs.Failures.{IsNoDocument}
 use Rattle.kdl_path.specs.Paths.{value_in}
 use Rattle.kdl_path.specs.declared.failure.EditFailure.{EditFailure}
@@ -12,30 +15,39 @@ use Rattle.kdl_path.specs.declared.failure.EditFailure.TheVariants as edit
 use Rattle.kdl_path.specs.declared.path.Target.{Target}
 use Rattle.kdl_path.specs.declared.path.Target.TheVariants.{Node, Argument, Property}
 
--- nodes after an edit of the one at a place among them
-abbrev pub Edit : Type 0
-Edit = ℕ → Nodes → Nodes
+-- a node, if there is one, before other nodes
+abbrev pub with_first : Option NodeData → Nodes → Nodes
+with_first None x = x
+with_first (Some n) x = data'.first n x
 
--- with another value for the entry that a target names in the node
-abbrev pub set_value : Target → Value → Edit
-set_value t v i x = with_nth i (node_with_value t v) x
+-- a node, or what an edit gives in its place
+abbrev pub edited_if : Bool → (NodeData → Option NodeData) → NodeData → Option NodeData
+edited_if true f n = f n
+edited_if false f n = Some n
 
--- without the node, or without the entry that a target names in it
-abbrev pub removed : Target → Edit
-removed Node i x = said_without i x
-removed (Argument k) i x = with_nth i (node_without_entry (Argument k)) x
-removed (Property s) i x = with_nth i (node_without_entry (Property s)) x
+abbrev mutual
+  -- nodes from the place i on, and those inside them: for each at a path that s has, f gives the node in its place, or none
+  pub edited_where : (Path → Bool) → (NodeData → Option NodeData) → ℕ → Nodes → Nodes
+  edited_where s f i data'.none = data'.none
+  edited_where s f i (data'.first n x) = with_first (edited_if (s (i ∷ [])) f (edited_inside (λ p. s (i ∷ p)) f n)) (edited_where s f (suc i) x)
 
--- the nodes of a document after an edit of the one at a path
-abbrev pub edited : Edit → Path → Nodes → Nodes
-edited f [] x = x
-edited f (i ∷ []) x = f i x
-edited f (i ∷ j ∷ p) x = with_nth i (with_block (edited f (j ∷ p))) x
+  pub edited_inside : (Path → Bool) → (NodeData → Option NodeData) → NodeData → NodeData
+  edited_inside s f (data'.node ty name es data'.no_children) = data'.node ty name es data'.no_children
+  edited_inside s f (data'.node ty name es (data'.children x)) = data'.node ty name es (data'.children (edited_where s f 0 x))
 
--- the same of the one at each of the paths, from the last path to the first
-abbrev pub edited_each : Edit → List Path → Nodes → Nodes
-edited_each f [] x = x
-edited_each f (p ∷ ps) x = edited f p (edited_each f ps x)
+-- the path is one of these
+abbrev pub is_among : List Path → Path → Bool
+is_among ps p = list_any (pointwise ◌==◌ p) ps
+
+-- the nodes of a document with an edit of those at the paths
+abbrev pub edited_at : List Path → (NodeData → Option NodeData) → Nodes → Nodes
+edited_at ps f x = edited_where (is_among ps) f 0 x
+
+-- a node without the entry that a target names, or no node
+abbrev pub removed : Target → NodeData → Option NodeData
+removed Node n = None
+removed (Argument i) n = Some (node_without_entry (Argument i) n)
+removed (Property s) n = Some (node_without_entry (Property s) n)
 
 -- the value that a target names in the node at a path, and that node if it has the entry that the target names
 abbrev pub value_at : Target → Nodes → Path → Option Value
@@ -67,14 +79,14 @@ pub record IsSetAtEach (x : Nodes) (q : Query) (t : Target) (given text out : Te
   pub found : FindsAtEach x q (value_at t x) paths
   pub value : Value
   pub reads : IsValueText given value
-  pub says : IsDocument out (edited_each (set_value t value) paths x)
+  pub says : IsDocument out (edited_at paths (λ n. Some (node_with_value t value n)) x)
   pub bytes : AreExchanged x t given paths text out
 
 -- the data of out are x without each node that the query selects, or without the entry that the target names in each
 pub record IsRemovedAtEach (x : Nodes) (q : Query) (t : Target) (out : Text) : Type 0 where
   pub paths : List Path
   pub found : FindsAtEach x q (named_node t x) paths
-  pub says : IsDocument out (edited_each (removed t) paths x)
+  pub says : IsDocument out (edited_at paths (removed t) x)
 
 -- `set_each` fails: VALUE is no value, the text is no document, or the query selects nothing in it, or a node without the value; or memory runs out
 abbrev pub SetEachFails : Query → Target → Text → Text → EditFailure → Type 0
