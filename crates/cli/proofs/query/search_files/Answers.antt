@@ -16,3 +16,9 @@ loop-name-preserved g c =
       found = searched_more (g.S.Store.known c.args.world.now.files) (g.S.Store.known c.loop-name.world.files) _ _ _ _ c.search_file-searched.result c.loop-name.status c.worst-status.result c.loop-name.is_hit _ (ap g.S.Store.known c.loop-name.invariant.files) c.loop-name.invariant.found c.search_file-searched.ensures.found more worst (?);
       files = c.search_file-searched.ensures.files ∙ c.loop-name.invariant.files;
     }
+
+pub returns-clause-found : goal.returns-clause-found
+returns-clause-found g c =
+    let all = take_all c.loop-name.name-index c.args.names.now c.loop-name-test.false in
+    let so = subst (λ (ns : List (Bor (List ℕ))). SearchedSoFar (g.S.Store.known c.args.world.now.files) c.args.search.now (map (λ (n : Bor (List ℕ)). n.now) ns) c.loop-name.status c.loop-name.is_hit) all c.loop-name.invariant.found in
+    searched_all _ _ _ c.loop-name.status c.status_of.result _ c.loop-name.is_hit so c.status_of.ensures c.worst.ensures
