@@ -1,14 +1,13 @@
 -- Files that are searched one after another.
 use Rattle.std.proofs.Common.{◌≡◌, ◌∙◌, ℕ, max, Bool, true, false, ◌||◌, ◌==◌, List, [], ◌∷◌, ◌++◌, ap, length, map, refl, subst, sym, arith}
-use Rattle.std.specs.Io.KnownBytes.{Appends}
-use Rattle.std.specs.Prelude.{IsUtf8, Option, if◌then◌else◌}
-use Rattle.cli.specs.Searches.{IsGiven, IsPrinted, IsSearchOf, IsSearched, PrintsNodes, Searches, SearchesFiles, Shows, any_hit, is_hit, status_searched, worst_searched}
+use Rattle.std.specs.Prelude.{if◌then◌else◌}
+use Rattle.cli.specs.Searches.{IsSearchOf, Searches, SearchesFiles, any_hit, is_hit, status_searched, worst_searched}
 use Rattle.cli.specs.Searches.Searches.{none, more}
-use Rattle.cli_world.specs.Files.{Files, Has, IsNoText}
+use Rattle.cli_world.specs.Files.{Files, IsNoText}
 use Rattle.cli_world.specs.Statuses.{code_of}
 use Rattle.cli.specs.declared.query.Search.{Search}
 use Rattle.cli.specs.declared.query.Searched.{Searched}
-use Rattle.cli.specs.declared.query.Searched.TheVariants.{Selected, Nothing, Refused, NotUtf8, Closed, ReadFailed, WriteFailed, Memory}
+use Rattle.cli.specs.declared.query.Searched.TheVariants.{NotUtf8}
 use Rattle.cli_world.specs.declared.status.Status.{Status}
 use Rattle.cli_world.specs.declared.world.Unread.{Unread}
 use Rattle.cli_world.specs.declared.world.Unread.TheVariants as unread
@@ -66,29 +65,3 @@ searched_no_text files s name why n is bad b e = (subst (IsNoText files name) is
 pub some_mapped : {A B : Type 0} (f : A → B) (xs : List A) (n : ℕ) → n ≡ length xs → false ≡ (n == 0) → map f xs ≡ [] → ⊥
 some_mapped f [] n l e h = let no : false ≡ true = e ∙ ap (λ (m : ℕ). m == 0) l in cc
 some_mapped f (x ∷ xs) n l e h = cc
-
--- what is shown of a text that was printed
-pub given_shown : (s : Search) (text out : List ℕ) (given o : Searched) → Shows s text out given → IsGiven given o → IsPrinted o → Shows s text out o
-given_shown s text out given Selected h g p = subst (Shows s text out) (sym g) h
-given_shown s text out given Nothing h g p = subst (Shows s text out) (sym g) h
-given_shown s text out given Refused h g p = absurd p
-given_shown s text out given NotUtf8 h g p = absurd p
-given_shown s text out given Closed h g p = absurd p
-given_shown s text out given ReadFailed h g p = absurd p
-given_shown s text out given WriteFailed h g p = absurd p
-given_shown s text out given Memory h g p = absurd p
-
-pub printed_nodes : (s : Search) (files : Files) (name text out : List ℕ) (given o : Searched) (old new : Option (List ℕ)) → Has files name text → Shows s text out given → IsGiven given o → (IsPrinted o → Appends old new out)
-    → IsPrinted o → PrintsNodes s files name o old new
-printed_nodes s files name text out given o old new has h g a p = record { text = text; out = out; has = has; shows = given_shown s text out given o h g p; appends = a p }
-
--- a file whose text was to be printed
-pub found_given : (files : Files) (name text out : List ℕ) (s : Search) (given o : Searched) → Has files name text → IsUtf8 text → Shows s text out given → IsGiven given o → IsSearchOf files name s o
-found_given files name text out s given Selected has u h g b e = subst (λ (t : List ℕ). IsSearched s t Selected) (sym (has b e)) (u, (out, subst (Shows s text out) (sym g) h))
-found_given files name text out s given Nothing has u h g b e = subst (λ (t : List ℕ). IsSearched s t Nothing) (sym (has b e)) (u, (out, subst (Shows s text out) (sym g) h))
-found_given files name text out s given Refused has u h g b e = absurd (subst (Shows s text out) (sym g) h).hit
-found_given files name text out s given NotUtf8 has u h g b e = absurd (subst (Shows s text out) (sym g) h).hit
-found_given files name text out s given Closed has u h g b e = tt
-found_given files name text out s given ReadFailed has u h g b e = tt
-found_given files name text out s given WriteFailed has u h g b e = tt
-found_given files name text out s given Memory has u h g b e = tt

@@ -1,4 +1,4 @@
-use Rattle.std.proofs.Common.{◌∙◌, ℕ, List, max, ap, refl, subst, map, Bor}
+use Rattle.std.proofs.Common.{◌∙◌, ◌||◌, Bool, ℕ, List, max, ap, refl, subst, map, Bor}
 use Rattle.std.proofs.lemmas.List.{map_more, take_all}
 use Rattle.cli_world.specs.Statuses.{code_of}
 use Rattle.cli_world.specs.declared.status.Status.{Status}
@@ -13,7 +13,7 @@ loop-name-preserved g c =
     let worst = c.worst-status.ensures ∙ ap (λ (s : Status). max (code_of c.loop-name.status) (code_of s)) c.status.ensures in
     let more = map_more (λ (n : Bor (List ℕ)). n.now) c.args.names.now c.loop-name.name-index _ c.loop-name-test.true in
     record {
-      found = searched_more (g.S.Store.known c.args.world.now.files) (g.S.Store.known c.loop-name.world.files) _ _ _ _ c.search_file-searched.result c.loop-name.status c.worst-status.result c.loop-name.is_hit _ (ap g.S.Store.known c.loop-name.invariant.files) c.loop-name.invariant.found c.search_file-searched.ensures.found more worst (?);
+      found = searched_more (g.S.Store.known c.args.world.now.files) (g.S.Store.known c.loop-name.world.files) _ _ _ _ c.search_file-searched.result c.loop-name.status c.worst-status.result c.loop-name.is_hit _ (ap g.S.Store.known c.loop-name.invariant.files) c.loop-name.invariant.found c.search_file-searched.ensures.found more worst (ap (λ (b : Bool). c.loop-name.is_hit || b) c.is_hit-is_hit.ensures);
       files = c.search_file-searched.ensures.files ∙ c.loop-name.invariant.files;
     }
 
