@@ -1,13 +1,8 @@
 -- The results of actions, and their statuses.
-use Rattle.std.proofs.Common.{Bor, [], ◌∷◌, ◌==◌, true, false, length, ◌∙◌, ap, refl, Global, string_bytes, ◌≡◌, List, ℕ, Bool, Some, Ok, Err, Result, chars, inl, inr, subst, sym}
+use Rattle.std.proofs.Common.{Bor, [], ◌∷◌, ◌==◌, true, false, length, ◌∙◌, refl, ◌≡◌, List, ℕ, Bool, Some, Ok, Err, Result, chars, inl, inr, subst, sym}
 use Rattle.std.proofs.lemmas.Bool.{eqb-true}
 use Rattle.std.proofs.lemmas.Option.{none-some}
-use Rattle.std.proofs.lemmas.Str.{IsUtf8-string_bytes, encodes-chars}
-use Rattle.std.specs.Prelude.{IfOk, String, encode_utf8_all}
-use Rattle.std.specs.declared.alloc.AllocError.{AllocError}
-use Rattle.cli.specs.Shown.{shown}
-use Rattle.kdl.specs.Words.{IsDocument, Nodes, Value, text_of}
-use Rattle.kdl.specs.Words as words
+use Rattle.kdl.specs.Words.{IsDocument, Nodes}
 use Rattle.kdl_path.specs.Paths.{all_at}
 use Rattle.kdl_path.proofs.Reached.{none_there}
 use Rattle.kdl_path.specs.Each.{RemoveEachFails, SetEachFails}

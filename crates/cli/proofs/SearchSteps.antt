@@ -1,5 +1,5 @@
 -- Files that are searched one after another.
-use Rattle.std.proofs.Common.{◌≡◌, ◌∙◌, ℕ, max, Bool, true, false, ◌||◌, List, [], ◌∷◌, ◌++◌, ap, refl, subst, sym, arith}
+use Rattle.std.proofs.Common.{◌≡◌, ◌∙◌, ℕ, max, Bool, true, false, ◌||◌, ◌==◌, List, [], ◌∷◌, ◌++◌, ap, length, map, refl, subst, sym, arith}
 use Rattle.std.specs.Prelude.{if◌then◌else◌}
 use Rattle.cli.specs.Searches.{IsSearchOf, Searches, SearchesFiles, any_hit, is_hit, status_searched, worst_searched}
 use Rattle.cli.specs.Searches.Searches.{none, more}
@@ -60,3 +60,8 @@ searched_all files s names status last result hit so l r = record {
 -- a file that is not UTF-8
 pub searched_no_text : (files : Files) (s : Search) (name : List ℕ) (why : Unread) (n : ℕ) → why ≡ unread.NotUtf8 n → IsNoText files name why → IsSearchOf files name s NotUtf8
 searched_no_text files s name why n is bad b e = (subst (IsNoText files name) is bad b e).0
+
+-- some paths
+pub some_mapped : {A B : Type 0} (f : A → B) (xs : List A) (n : ℕ) → n ≡ length xs → false ≡ (n == 0) → map f xs ≡ [] → ⊥
+some_mapped f [] n l e h = let no : false ≡ true = e ∙ ap (λ (m : ℕ). m == 0) l in cc
+some_mapped f (x ∷ xs) n l e h = cc

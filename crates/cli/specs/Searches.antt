@@ -18,7 +18,7 @@ use Rattle.cli_world.specs.declared.status.Status.{Status}
 use Rattle.cli_world.specs.declared.status.Status.TheVariants.{Done, Found, Failed}
 use Rattle.cli.specs.declared.query.Search.{Search}
 use Rattle.cli.specs.declared.query.Searched.{Searched}
-use Rattle.cli.specs.declared.query.Searched.TheVariants.{Selected, Nothing, Refused, NotUtf8, Closed, ReadFailed, WriteFailed, Memory}
+use Rattle.cli.specs.declared.query.Searched.TheVariants.{Selected, Nothing, Refused, NotUtf8, Closed, WriteFailed}
 
 -- the text is this query; it is none, and a report of why is there
 abbrev pub IsReadQuery : Text → Result Query (String Global) → Type 0

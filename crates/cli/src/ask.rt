@@ -2,9 +2,8 @@
 
 ghost use Rattle.cli.specs.Asks.{ActsOnFile, Applies, IsDelivered, IsStatusOf, IsUnedited, ShowsAt};
 ghost use Rattle.cli.specs.declared.ask.Action.TheVariants.{FromJson, Get, Insert, Json, Remove, RemoveEach, Set, SetEach};
-ghost use Rattle.kdl.specs.Words.{document_says, value_tree};
-ghost use Rattle.std.specs.List.{flat_map};
-ghost use Rattle.std.specs.Prelude.{◌≡◌, ◌⊎◌, ◌++◌, IfOk, List, OnOk, Some, encode_utf8_all, map, string_bytes, true, ℕ};
+ghost use Rattle.kdl.specs.Words.{document_says};
+ghost use Rattle.std.specs.Prelude.{◌≡◌, ◌⊎◌, List, Some, ℕ};
 
 use crate::report::{Style, report_faults};
 use cli_shown::{lines_of, push_value};

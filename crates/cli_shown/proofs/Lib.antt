@@ -1,5 +1,5 @@
--- Values on lines.
-pub mod Values
+-- Strings without quotes.
+pub mod Quoting
 -- What nodes print after their leading texts.
 pub mod Texts
 -- The steps of a PATH.

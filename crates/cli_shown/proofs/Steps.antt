@@ -1,9 +1,10 @@
 -- The steps of a PATH.
-use Rattle.std.proofs.Common.{Bor, ◌≡◌, ◌∙◌, ◌+◌, ◌≤◌, ℕ, zero, suc, Bool, true, false, List, [], ◌∷◌, ◌++◌, None, Option, Some, ap, append-nil, append_assoc, arith, decimal, length, map, option_map, refl, slice_get, string_bytes, sym, take}
+use Rattle.std.proofs.Common.{◌≡◌, ◌∙◌, ◌≤◌, ℕ, zero, suc, Bool, true, false, List, [], ◌∷◌, ◌++◌, Some, ap, append_assoc, arith, length, map, option_map, refl, Result, slice_get, string_bytes, take}
 use Rattle.std.proofs.lemmas.Option.{slice_get-map}
+use Rattle.std.proofs.lemmas.Result.{on_ok_weaker}
 use Rattle.std.proofs.lemmas.Str.{IsUtf8-string_bytes}
 use Rattle.std.specs.List.{filter}
-use Rattle.std.specs.Prelude.{cond}
+use Rattle.std.specs.Prelude.{OnOk, cond}
 use Rattle.std.specs.Str.{IsUtf8, chars}
 use Rattle.kdl.proofs.Finding.SaidLookups.{name_said, same_chars}
 use Rattle.kdl.specs.Said.{is_called}
@@ -44,10 +45,19 @@ filter_short p (x ∷ xs) = go (p x) (filter_short p xs)
     go true h = omega (arith, h)
     go false h = omega (arith, h)
 
--- the index of a step
-pub index_shown : (n : ℕ) → (n ≡ 0 → ⊥) → index_bytes n ≡ 91 ∷ decimal n ++ (93 ∷ [])
-index_shown zero h = absurd (h refl)
-index_shown (suc n) h = refl
+pub take_short : {A : Type 0} (i : ℕ) (xs : List A) → length (take i xs) ≤ i
+take_short zero xs = omega arith
+take_short (suc i) [] = omega arith
+take_short (suc i) (x ∷ xs) = let h = take_short i xs in omega (arith, h)
+
+-- a step after the name
+pub step_pushed : {E : Type 0} (r : Result (Unit {0}) E) (i : ℕ) (ns before : List KdlNode) (n : KdlNode) (old mid new value : List ℕ) (count : ℕ) → IsUtf8 value → chars value ≡ said_name (node_says n) → mid ≡ old ++ name_bytes (chars value)
+    → before ≡ take i ns → count ≡ length (filter (is_node_named value) before) → OnOk r (new ≡ mid ++ index_bytes count) → OnOk r (new ≡ old ++ step_bytes i (map node_says ns) (node_says n))
+step_pushed r i ns before n old mid new value count u is named taken counts e =
+    let k : count ≡ named_before i (said_name (node_says n)) (map node_says ns) =
+    counts ∙ ap (λ (l : List KdlNode). length (filter (is_node_named value) l)) taken ∙ counted value u i ns ∙ ap (λ (t : List ℕ). named_before i t (map node_says ns)) is in
+    on_ok_weaker r (λ h. h ∙ ap (λ (m : List ℕ). m ++ index_bytes count) named ∙ append_assoc old (name_bytes (chars value)) (index_bytes count)
+    ∙ ap (λ (t : List ℕ). old ++ (name_bytes t ++ index_bytes count)) is ∙ ap (λ (m : ℕ). old ++ (name_bytes (said_name (node_says n)) ++ index_bytes m)) k) e
 
 -- one step, and the rest of the path in the block of its node
 pub stepped : (i : ℕ) (p : Path) (ns kids : List KdlNode) (n : KdlNode) (old step sep : List ℕ) → slice_get ns i ≡ Some n → map node_says kids ≡ said_child_nodes (node_says n)
@@ -55,13 +65,8 @@ pub stepped : (i : ℕ) (p : Path) (ns kids : List KdlNode) (n : KdlNode) (old s
     → sep ++ path_bytes p (map node_says kids) ≡ old ++ path_bytes (i ∷ p) (map node_says ns)
 stepped i p ns kids n old step sep there inside a b =
     let g : slice_get (map node_says ns) i ≡ Some (node_says n) = slice_get-map node_says ns i ∙ ap (option_map node_says) there in
-    rw g (ap (λ (t : List ℕ). t ++ path_bytes p (map node_says kids)) (b ∙ ap (λ (t : List ℕ). t ++ separator p) a)
-    ∙ append_assoc (old ++ step_bytes i (map node_says ns) (node_says n)) (separator p) (path_bytes p (map node_says kids))
-    ∙ append_assoc old (step_bytes i (map node_says ns) (node_says n)) (separator p ++ path_bytes p (map node_says kids))
-    ∙ ap (λ (xs : List NodeData). old ++ step_bytes i (map node_says ns) (node_says n) ++ separator p ++ path_bytes p xs) inside)
-
--- no node is there
-pub nowhere : (i : ℕ) (p : Path) (ns : List KdlNode) (out : List ℕ) → slice_get ns i ≡ None → out ++ path_bytes (i ∷ p) (map node_says ns) ≡ out
-nowhere i p ns out none =
-    let g : slice_get (map node_says ns) i ≡ None = slice_get-map node_says ns i ∙ ap (option_map node_says) none in
-    rw g (append-nil out)
+    let here = step_bytes i (map node_says ns) (node_says n) in
+    let rest = path_bytes p (map node_says kids) in
+    rw g (ap (λ (t : List ℕ). t ++ rest) (b ∙ ap (λ (t : List ℕ). t ++ separator p) a ∙ append_assoc old here (separator p))
+    ∙ append_assoc old (here ++ separator p) rest
+    ∙ ap (λ (xs : List NodeData). old ++ (here ++ separator p ++ path_bytes p xs)) inside)

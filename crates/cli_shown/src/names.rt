@@ -3,7 +3,7 @@
 ghost use Rattle.cli_shown.specs.Names.{begins_with_at, index_bytes, name_bytes, path_bytes, separator, step_bytes};
 ghost use Rattle.kdl.specs.Words.{document_says, is_node_named, node_says, said_child_nodes, said_nodes};
 ghost use Rattle.std.specs.List.{filter};
-ghost use Rattle.std.specs.Prelude.{◌≡◌, ◌∷◌, ◌++◌, [], if◌then◌else◌, OnOk, chars, length, map, string_bytes, take};
+ghost use Rattle.std.specs.Prelude.{◌≡◌, ◌∷◌, ◌++◌, [], if◌then◌else◌, OnOk, chars, length, map, option_map, slice_get, string_bytes, take};
 
 use itoa::Buffer;
 use kdl::{KdlDocument, KdlIdentifier, KdlNode};
@@ -36,7 +36,7 @@ fn push_steps(
     let mut nodes = nodes;
     let mut rest = path;
     while let Some((index, below)) = rest.split_first() {
-        let Some(node) = nodes.get(*index) else {
+        let Some(node) = nth(nodes, *index) else {
             return Ok(());
         };
         push_step(alloc, out, nodes, *index, node)?;
@@ -45,6 +45,13 @@ fn push_steps(
         rest = below;
     }
     Ok(())
+}
+
+/// Returns the node at that place, if there is one.
+fn nth(nodes: &[KdlNode], index: usize) -> Option<&KdlNode>
+    ensures { option_map (λ n. n.now) result ≡ slice_get nodes.now index }
+{
+    nodes.get(index)
 }
 
 /// Returns the nodes in the block of a node.

@@ -175,11 +175,7 @@ pub fn to_json(alloc: Global, document: &KdlDocument) -> Result<String, AllocErr
 }
 
 /// Writes a node.
-fn write_node(
-    alloc: Global,
-    out: &mut Writer<Global>,
-    node: &KdlNode,
-) -> Result<(), AllocError>
+fn write_node(alloc: Global, out: &mut Writer<Global>, node: &KdlNode) -> Result<(), AllocError>
     ensures { Appends result out.old out.new (node_tokens (node_says node.now)) }
 {
     write_head(out, node)?;

@@ -1,6 +1,6 @@
 use Rattle.std.proofs.Common.{ap}
 use Rattle.kdl.specs.Words.{value_tree}
-use Rattle.cli_shown.proofs.Values.{as_it_is}
+use Rattle.cli_shown.proofs.Quoting.{as_it_is}
 use Rattle.cli_shown.proofs.values.unquoted.Goals as goal
 
 pub returns-in-String : goal.returns-in-String

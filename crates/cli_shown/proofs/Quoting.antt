@@ -1,4 +1,4 @@
--- Values on lines.
+-- Strings without quotes.
 use Rattle.std.proofs.Common.{Global, String, string_bytes, ◌≡◌, ◌∙◌, ap, sym, List, ℕ, IfOk, Ok, Err, Result, true}
 use Rattle.std.proofs.lemmas.Str.{IsUtf8-string_bytes, encodes-chars}
 use Rattle.std.specs.Str.{encode_utf8_all}
