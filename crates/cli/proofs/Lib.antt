@@ -6,3 +6,5 @@ pub mod FileSteps
 pub mod CheckSteps
 -- The results of actions, and their statuses.
 pub mod Applying
+-- Files that are searched one after another.
+pub mod SearchSteps

@@ -4,6 +4,7 @@ use Rattle.kdl.specs.Words.{IsDocument, IsNodeText, NodeData, Nodes, Value}
 use Rattle.c_calls.specs.Entries.{IsValueText}
 use Rattle.kdl_layout.specs.WellFormed.{AreWellFormed}
 use Rattle.kdl_json.specs.Form.{IsJsonOf, json_text}
+use Rattle.kdl_path.specs.Each.{FindsNone, IsRemovedAtEach, IsSetAtEach, named_node, value_at}
 use Rattle.kdl_path.specs.Edits.{HasPlace, IsInsertedAt, IsSetAt, named_at, without}
 use Rattle.kdl_path.specs.Failures.{IsNoDocument, IsUnset}
 use Rattle.kdl_path.specs.Paths.{at_path}
@@ -11,9 +12,11 @@ use Rattle.kdl_path.specs.declared.failure.EditFailure.{EditFailure}
 use Rattle.kdl_path.specs.declared.failure.EditFailure.TheVariants as edit
 use Rattle.kdl_path.specs.declared.path.Path.{Path}
 use Rattle.kdl_path.specs.declared.path.Target.TheVariants.{Node}
+use Rattle.kdl_query.specs.Tree.{query_says}
 use Rattle.kdl_text.specs.declared.error.ParseFailure.{ParseFailure}
 use Rattle.kdl_text.specs.declared.error.ParseFailure.TheVariants.{Syntax, Memory}
-use Rattle.cli.specs.Shown.{IsShown, asked, line_of}
+use Rattle.cli.specs.Shown.{IsShown, asked}
+use Rattle.cli_shown.specs.Values.{line_of}
 use Rattle.cli_world.specs.Files.{Files, Has}
 use Rattle.cli_world.specs.declared.status.Status.{Status}
 use Rattle.cli_world.specs.declared.status.Status.TheVariants as status
@@ -21,7 +24,7 @@ use Rattle.cli.specs.declared.ask.Applied.{Applied}
 use Rattle.cli.specs.declared.ask.Applied.TheVariants.{Text, NotFound, Usage}
 use Rattle.cli.specs.declared.ask.Ask.{Ask}
 use Rattle.cli.specs.declared.ask.Action.{Action}
-use Rattle.cli.specs.declared.ask.Action.TheVariants.{Get, Set, Remove, Insert, Json, FromJson}
+use Rattle.cli.specs.declared.ask.Action.TheVariants.{Get, Set, Remove, SetEach, RemoveEach, Insert, Json, FromJson}
 
 -- a value at the path is replaced by VALUE, and no other byte of the text; without `create`, there is one
 abbrev pub IsSet : Path → List ℕ → Bool → List ℕ → List ℕ → Type 0
@@ -43,6 +46,8 @@ abbrev pub Gives : Action → List ℕ → List ℕ → Type 0
 Gives (Get path raw all) text new = IsShown path.now raw all text new
 Gives (Set path value create) text new = IsSet path.now value.now create text new
 Gives (Remove path) text new = IsRemoved path.now text new
+Gives (SetEach query t value) text new = (x : Nodes) → IsDocument (chars text) x → IsSetAtEach x (query_says query.now) t.now (chars value.now) (chars text) (chars new)
+Gives (RemoveEach query t) text new = (x : Nodes) → IsDocument (chars text) x → IsRemovedAtEach x (query_says query.now) t.now (chars new)
 Gives (Insert path node) text new = IsInserted path.now node.now text new
 Gives Json text new = (x : Nodes) → IsDocument (chars text) x → new ≡ json_text x ++ (10 ∷ [])
 Gives FromJson text new = Unit {0}
@@ -52,6 +57,8 @@ abbrev pub IsNotThere : Action → List ℕ → Type 0
 IsNotThere (Get path raw all) text = (x : Nodes) × IsDocument (chars text) x × (asked path.now all x ≡ [])
 IsNotThere (Set path value create) text = (x : Nodes) × IsDocument (chars text) x × IsUnset path.now create x
 IsNotThere (Remove path) text = (x : Nodes) × IsDocument (chars text) x × (named_at path.now x ≡ None)
+IsNotThere (SetEach query t value) text = (x : Nodes) × IsDocument (chars text) x × FindsNone x (query_says query.now) (value_at t.now x)
+IsNotThere (RemoveEach query t) text = (x : Nodes) × IsDocument (chars text) x × FindsNone x (query_says query.now) (named_node t.now x)
 IsNotThere (Insert path node) text = (x : Nodes) × IsDocument (chars text) x × (HasPlace path.now.steps.items x → ⊥)
 IsNotThere Json text = ⊥
 IsNotThere FromJson text = (x : Nodes) → AreWellFormed x → IsJsonOf text x → ⊥
@@ -59,6 +66,7 @@ IsNotThere FromJson text = (x : Nodes) → AreWellFormed x → IsJsonOf text x �
 -- VALUE is no value, NODE is no node, or the path names no node where it has to
 abbrev pub IsMisused : Action → Type 0
 IsMisused (Set path value create) = (v : Value) → IsValueText (chars value.now) v → ⊥
+IsMisused (SetEach query t value) = (v : Value) → IsValueText (chars value.now) v → ⊥
 IsMisused (Insert path node) = (path.now.target ≡ Node → ⊥) ⊎ ((y : NodeData) → IsNodeText (chars node.now) y → ⊥)
 IsMisused _ = ⊥
 

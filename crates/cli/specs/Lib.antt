@@ -12,3 +12,5 @@ pub mod Requests
 pub mod Config
 -- The values that `get` shows.
 pub mod Shown
+-- What becomes of files in which a query selects nodes.
+pub mod Searches

@@ -1,19 +1,11 @@
 -- The values that `get` shows.
 use Rattle.std.specs.List.{flat_map}
 use Rattle.std.specs.Option.{option_to_list}
-use Rattle.std.specs.Prelude.{Bool, true, false, ℕ, List, [], ◌∷◌, ◌++◌, ◌≡◌, chars, encode_utf8_all}
-use Rattle.kdl.specs.Words.{IsDocument, Nodes, Text, Value, print_value, text}
+use Rattle.std.specs.Prelude.{Bool, true, false, ℕ, List, [], ◌≡◌, chars}
+use Rattle.kdl.specs.Words.{IsDocument, Nodes, Value}
 use Rattle.kdl_path.specs.Paths.{all_at, at_path}
 use Rattle.kdl_path.specs.declared.path.Path.{Path}
-
--- a value as it is shown: a string without quotes and escapes if `raw`, and else as it is printed
-abbrev pub shown : Bool → Value → Text
-shown true (text s) = s
-shown raw v = print_value v
-
--- a value on a line, in bytes
-abbrev pub line_of : Bool → Value → List ℕ
-line_of raw v = encode_utf8_all (shown raw v) ++ (10 ∷ [])
+use Rattle.cli_shown.specs.Values.{line_of}
 
 -- the values that are asked for: each one at the path if `all`, and else the one
 abbrev pub asked : Path → Bool → Nodes → List Value

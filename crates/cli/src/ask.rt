@@ -1,20 +1,23 @@
 //! What is done with one text: one of its values, another form of it, or the text with a part of it changed.
 
 ghost use Rattle.cli.specs.Asks.{ActsOnFile, Applies, IsDelivered, IsStatusOf, IsUnedited, ShowsAt};
-ghost use Rattle.cli.specs.Shown.{line_of, shown};
-ghost use Rattle.cli.specs.declared.ask.Action.TheVariants.{FromJson, Get, Insert, Json, Remove, Set};
-ghost use Rattle.kdl.specs.Words.{document_says, value_tree};
-ghost use Rattle.std.specs.List.{flat_map};
-ghost use Rattle.std.specs.Prelude.{◌≡◌, ◌⊎◌, ◌++◌, IfOk, List, OnOk, Some, encode_utf8_all, map, string_bytes, true, ℕ};
+ghost use Rattle.cli.specs.declared.ask.Action.TheVariants.{FromJson, Get, Insert, Json, Remove, RemoveEach, Set, SetEach};
+ghost use Rattle.kdl.specs.Words.{document_says};
+ghost use Rattle.std.specs.Prelude.{◌≡◌, ◌⊎◌, List, Some, ℕ};
 
 use crate::report::{Style, report_faults};
+use cli_shown::{lines_of, push_value};
 use cli_world::status::Status;
 use cli_world::store::Store;
 use cli_world::world::{Unread, World};
-use kdl::{KdlDocument, KdlValue, ParseFailure};
+use kdl::{KdlDocument, ParseFailure};
 use kdl_json::{JsonFailure, from_json, to_json};
 pub use kdl_path::Path;
-use kdl_path::{EditFailure, GetFailure, PathFailure, get, get_all, insert, remove, set};
+use kdl_path::{
+    EditFailure, GetFailure, PathFailure, Target, get, get_all, insert, remove, remove_each, set,
+    set_each,
+};
+use kdl_query::Query;
 use kdl_report::Lines;
 use std::alloc::{AllocError, Global};
 use std::io::Write;
@@ -38,6 +41,17 @@ pub enum Action<'a> {
     /// Removes what is at a path.
     Remove {
         path: &'a Path,
+    },
+    /// Sets the value that the target names in each node that a query selects.
+    SetEach {
+        query: &'a Query,
+        target: &'a Target,
+        value: &'a str,
+    },
+    /// Removes what the target names of each node that a query selects.
+    RemoveEach {
+        query: &'a Query,
+        target: &'a Target,
     },
     /// Adds the node as the last one in the block at a path.
     Insert {
@@ -81,6 +95,20 @@ pub fn read_path(alloc: Global, text: &str) -> Result<Result<Path, String>, Allo
     }
 }
 
+/// Returns the path of what an entry names of each node, `#N` or `@KEY`, or what is wrong with it.
+pub fn read_entry(alloc: Global, text: &str) -> Result<Result<Path, String>, AllocError> {
+    match Target::parse(alloc, text) {
+        Ok(target) => Ok(Ok(Path {
+            steps: Vec::new(alloc),
+            target,
+        })),
+        Err(PathFailure::Syntax(fault, at)) => {
+            Ok(Err(format!(in alloc; "`--entry {text}`, byte {at}: {fault}")?))
+        }
+        Err(PathFailure::Memory) => Err(AllocError),
+    }
+}
+
 /// Applies the action to a text.
 ///
 /// Returns `Syntax` with the faults of the text if it is not a document, and `Memory` if an allocation fails.
@@ -95,6 +123,12 @@ fn apply(alloc: Global, text: &str, action: Action<'_>) -> Result<Applied, Parse
             create,
         } => text_with(alloc, text, path, value, create),
         Action::Remove { path } => text_without(alloc, text, path),
+        Action::SetEach {
+            query,
+            target,
+            value,
+        } => text_with_each(alloc, text, query, target, value),
+        Action::RemoveEach { query, target } => text_without_each(alloc, text, query, target),
         Action::Insert { path, node } => text_with_node(alloc, text, path, node),
         Action::Json => json_of(alloc, text),
         Action::FromJson => document_of(alloc, text),
@@ -122,6 +156,37 @@ fn text_without(alloc: Global, text: &str, path: &Path) -> Result<Applied, Parse
     ensures { Applies (Remove path.entry) text.now result }
 {
     match remove(alloc, text, path) {
+        Ok(new) => Ok(Applied::Text(new)),
+        Err(failure) => unedited(alloc, failure),
+    }
+}
+
+/// Returns the text with a value in each node that a query selects.
+fn text_with_each(
+    alloc: Global,
+    text: &str,
+    query: &Query,
+    target: &Target,
+    value: &str,
+) -> Result<Applied, ParseFailure>
+    ensures { Applies (SetEach query.entry target.entry value.entry) text.now result }
+{
+    match set_each(alloc, text, query, target, value) {
+        Ok(new) => Ok(Applied::Text(new)),
+        Err(failure) => unedited(alloc, failure),
+    }
+}
+
+/// Returns the text without what the target names of each node that a query selects.
+fn text_without_each(
+    alloc: Global,
+    text: &str,
+    query: &Query,
+    target: &Target,
+) -> Result<Applied, ParseFailure>
+    ensures { Applies (RemoveEach query.entry target.entry) text.now result }
+{
+    match remove_each(alloc, text, query, target) {
         Ok(new) => Ok(Applied::Text(new)),
         Err(failure) => unedited(alloc, failure),
     }
@@ -173,18 +238,6 @@ fn values_at(
     Ok(Applied::Text(lines_of(alloc, &values, raw)?))
 }
 
-/// Returns a line for each value.
-fn lines_of(alloc: Global, values: &[&KdlValue], raw: bool) -> Result<String, AllocError>
-    ensures { IfOk result (λ s. string_bytes s
-        ≡ flat_map (line_of raw) (map (λ v. value_tree v.now) values.now)) }
-{
-    let mut lines = String::new(alloc);
-    for value in values {
-        push_value(alloc, &mut lines, *value, raw)?;
-    }
-    Ok(lines)
-}
-
 /// Returns a line with the value at the path.
 fn one_value(
     alloc: Global,
@@ -202,36 +255,6 @@ fn one_value(
         }
         Err(GetFailure::Missing(missing)) => Ok(Applied::NotFound(format!(in alloc; "{missing}")?)),
         Err(GetFailure::Memory) => Err(ParseFailure::Memory),
-    }
-}
-
-/// Appends a line with the value.
-fn push_value(
-    alloc: Global,
-    out: &mut String,
-    value: &KdlValue,
-    raw: bool,
-) -> Result<(), AllocError>
-    ensures { OnOk result (string_bytes out.new
-        ≡ string_bytes out.old ++ line_of raw (value_tree value.now)) }
-{
-    let text = if raw {
-        unquoted(alloc, value)?
-    } else {
-        value.to_string(alloc)?
-    };
-    out.push_str(&text)?;
-    out.push('\n')
-}
-
-/// Returns the value as it is printed, but a string without quotes and escapes.
-fn unquoted(alloc: Global, value: &KdlValue) -> Result<String, AllocError>
-    ensures { IfOk result (λ s. string_bytes s
-        ≡ encode_utf8_all (shown true (value_tree value.now))) }
-{
-    match value {
-        KdlValue::String(text) => String::from_str(alloc, text),
-        _ => value.to_string(alloc),
     }
 }
 

@@ -6,6 +6,7 @@ pub mod check;
 pub mod config;
 pub mod files;
 pub mod fmt;
+pub mod query;
 pub mod report;
 pub mod request;
 pub mod settings;

@@ -9,6 +9,7 @@ use crate::ask::{Ask, ask_file};
 use crate::check::check_files;
 use crate::config::{Misfit, Unfit, given};
 use crate::files::{Job, Mode, format_files};
+use crate::query::{Search, search_files};
 use crate::report::{Style, report_faults};
 use crate::settings::{Given, Settings};
 use cli_words::completions::{Shell, completions};
@@ -41,9 +42,17 @@ pub enum Request<'a> {
     /// Files are formatted.
     Format(Format<'a>),
     /// The faults of files are shown.
-    Check { names: &'a [&'a str], style: Style },
+    Check {
+        names: &'a [&'a str],
+        style: Style,
+    },
     /// An action on a file.
     Ask(Ask<'a>),
+    /// The nodes of files that a query selects are shown.
+    Search {
+        names: &'a [&'a str],
+        search: Search<'a>,
+    },
     /// The completions of a shell are shown.
     Completions(Shell),
     /// The manual page is shown.
@@ -63,6 +72,7 @@ pub fn run<S: Store, O: Write, E: Write>(
         Request::Format(format) => format_named(alloc, world, &format),
         Request::Check { names, style } => check_named(alloc, world, style, names),
         Request::Ask(ask) => ask_named(alloc, world, &ask),
+        Request::Search { names, search } => search_named(alloc, world, &search, names),
         Request::Completions(shell) => show(world, completions(alloc, shell)),
         Request::Manual => show(world, manual(alloc)),
     }
@@ -81,6 +91,21 @@ fn check_named<S: Store, O: Write, E: Write>(
         return report_usage(world, READ_ONCE);
     }
     check_files(alloc, world, style, or_input(names))
+}
+
+/// Shows the nodes of files that a query selects.
+fn search_named<S: Store, O: Write, E: Write>(
+    alloc: Global,
+    world: &mut World<S, O, E>,
+    search: &Search<'_>,
+    names: &[&str],
+) -> Status
+    ensures { world.new.files ≡ world.old.files }
+{
+    if has_input_twice(names) {
+        return report_usage(world, READ_ONCE);
+    }
+    search_files(alloc, world, search, or_input(names))
 }
 
 /// Applies an action to a file.

@@ -5,3 +5,4 @@
 pub mod entries;
 pub mod formatting;
 pub mod paths;
+pub mod queries;

@@ -73,6 +73,22 @@ const WRITE: Flag = Flag {
     help: "Writes the file, if it changes, instead of the output",
 };
 
+/// Takes the path as a query.
+const IS_QUERY: Flag = Flag {
+    long: "query",
+    short: None,
+    value: None,
+    help: "Takes PATH as a query, and changes each node that it selects",
+};
+
+/// What is changed of each node.
+const ENTRY: Flag = Flag {
+    long: "entry",
+    short: None,
+    value: Some(("#N|@KEY", Values::Text)),
+    help: "With `--query`: the argument `#N` or the property `@KEY` of each node",
+};
+
 /// The files of a word that takes several.
 const FILES: Operand = Operand {
     name: "FILE",
@@ -90,6 +106,31 @@ const FILE: Operand = Operand {
     count: Count::AtMostOnce,
     values: Values::Files,
 };
+
+/// Which nodes of a document.
+const QUERY: Operand = Operand {
+    name: "QUERY",
+    help: "Which nodes, as `server > listen[port >= 1024]`",
+    details: QUERIES,
+    count: Count::Once,
+    values: Values::Text,
+};
+
+const QUERIES: &str =
+    "Which nodes, by their names, types, arguments and properties, and by the nodes around them
+
+  listen           the nodes of this name
+  []               all nodes
+  a > b   a >> b   each `b` in the block of an `a`, or at any depth in it
+  a + b   a ++ b   each `b` that is the next sibling of an `a`, or a later one
+  top() > a        at the top level
+  a || b           both
+  (t)a   ()        with this type, with a type
+  a[k]   a[val(1)] with a property `k`, with a second argument
+  [k = 1]          whose property is so; also `!=`, `<`, `<=`, `>`, `>=` for numbers, and `^=`, `$=`, `*=` for strings
+  [val() = (u8)]   whose first argument has this type; `name()` and `tag()` are the name and the type of the node
+
+A name is any KDL string. After a bare one, write a space before `>`, `+`, `|` or a comparison.";
 
 /// A place in a document.
 const PATH: Operand = Operand {
@@ -117,7 +158,7 @@ pub fn words() -> &'static [Word] {
 }
 
 /// The words.
-static WORDS: [Word; 10] = [
+static WORDS: [Word; 11] = [
     Word {
         name: "fmt",
         about: "Formats files",
@@ -213,6 +254,39 @@ static WORDS: [Word; 10] = [
         is_hidden: false,
     },
     Word {
+        name: "query",
+        about: "Shows the nodes that a query selects",
+        operands: &[QUERY, FILES],
+        flags: &[
+            Flag {
+                long: "raw",
+                short: None,
+                value: None,
+                help: "Shows the first argument of each node that has one, a string without quotes and escapes",
+            },
+            Flag {
+                long: "json",
+                short: None,
+                value: None,
+                help: "Shows the data of each node as JSON on a line",
+            },
+            Flag {
+                long: "count",
+                short: None,
+                value: None,
+                help: "Shows the number of nodes in each file",
+            },
+            Flag {
+                long: "paths",
+                short: None,
+                value: None,
+                help: "Shows the PATH of each node",
+            },
+        ],
+        examples: "Examples:\n  kdl query 'server > listen' config.kdl\n  kdl query --count '[port >= 1024]' *.kdl",
+        is_hidden: false,
+    },
+    Word {
         name: "set",
         about: "Changes a value, and nothing else of the text",
         operands: &[
@@ -234,16 +308,18 @@ static WORDS: [Word; 10] = [
                 value: None,
                 help: "Makes the node, argument or property if it is not there",
             },
+            IS_QUERY,
+            ENTRY,
         ],
-        examples: "Examples:\n  kdl set server/port 8081 -w config.kdl\n  kdl set server/@host '\"a b\"' config.kdl",
+        examples: "Examples:\n  kdl set server/port 8081 -w config.kdl\n  kdl set server/@host '\"a b\"' config.kdl\n  kdl set --query 'server > port' 8081 config.kdl",
         is_hidden: false,
     },
     Word {
         name: "remove",
         about: "Takes away a node, an argument or a property",
         operands: &[PATH, FILE],
-        flags: &[WRITE],
-        examples: "Examples:\n  kdl remove server/@host config.kdl",
+        flags: &[WRITE, IS_QUERY, ENTRY],
+        examples: "Examples:\n  kdl remove server/@host config.kdl\n  kdl remove --query 'server[off]' config.kdl",
         is_hidden: false,
     },
     Word {

@@ -9,12 +9,12 @@ mod requests;
 mod system;
 
 use crate::command::command;
-use crate::requests::{path_of, request_of};
+use crate::requests::{path_of, query_of, request_of};
 use crate::system::System;
 use clap::ArgMatches;
 use cli::request::run;
 use cli::world::World;
-use std::io::ErrorKind;
+use std::io::{ErrorKind, Write};
 use std::process::ExitCode;
 use std::{env, io};
 
@@ -69,7 +69,14 @@ fn run_matches(rt: &HostRuntime, matches: &ArgMatches<'_>) -> io::Result<u8> {
             return Ok(2);
         }
     };
-    match request_of(rt, matches, &path) {
+    let query = match query_of(rt, matches)? {
+        Ok(query) => query,
+        Err(fault) => {
+            let _ = world.err.write_all(fault.as_bytes());
+            return Ok(2);
+        }
+    };
+    match request_of(rt, matches, &path, query.as_ref()) {
         Ok(request) => Ok(run(rt.alloc(), &request, &mut world).code()),
         Err(why) => {
             world.report_usage(why);

@@ -1,9 +1,10 @@
 //! Requests from the words of the command line.
 
 use clap::ArgMatches;
-use cli::ask::{Action, Ask, Path, read_path};
+use cli::ask::{Action, Ask, Path, read_entry, read_path};
 use cli::completions::Shell;
 use cli::files::Mode;
+use cli::query::{Query, Search, View, read_query};
 use cli::report::{Form, Style};
 use cli::request::{Format, Request};
 use cli::settings::{Given, Indent};
@@ -11,23 +12,49 @@ use std::alloc::AllocError;
 use std::env;
 use std::io::IsTerminal;
 
-/// Returns the path among the words, or what is wrong with it. Without one, returns that of the document.
+/// Returns the path among the words, or what is wrong with it. Without one, returns that of the document. Beside a query, the
+/// path is that of the entry that the words name.
 pub fn path_of(
     rt: &HostRuntime,
     matches: &ArgMatches<'_>,
 ) -> Result<Result<Path, String>, AllocError> {
-    let path = match matches.subcommand() {
-        Some((_, matches)) => matches.get_str("PATH").unwrap_or("/"),
-        None => "/",
+    let Some((_, matches)) = matches.subcommand() else {
+        return read_path(rt.alloc(), "/");
     };
-    read_path(rt.alloc(), path)
+    if !matches.get_flag("query") {
+        return read_path(rt.alloc(), matches.get_str("PATH").unwrap_or("/"));
+    }
+    match matches.get_str("entry") {
+        Some(entry) => read_entry(rt.alloc(), entry),
+        None => read_path(rt.alloc(), "/"),
+    }
 }
 
-/// Returns the request, with that path, or why the words are none.
+/// Returns the query among the words, or a picture of its fault. Without one, returns none.
+pub fn query_of(
+    rt: &HostRuntime,
+    matches: &ArgMatches<'_>,
+) -> Result<Result<Option<Query>, String>, AllocError> {
+    let text = match matches.subcommand() {
+        Some((_, matches)) if matches.get_flag("query") => matches.get_str("PATH"),
+        Some((_, matches)) => matches.get_str("QUERY"),
+        None => None,
+    };
+    let Some(text) = text else {
+        return Ok(Ok(None));
+    };
+    match read_query(rt.alloc(), text, has_colors(rt, rt.stderr().is_terminal()))? {
+        Ok(query) => Ok(Ok(Some(query))),
+        Err(fault) => Ok(Err(fault)),
+    }
+}
+
+/// Returns the request, with that path and that query, or why the words are none.
 pub fn request_of<'m>(
     rt: &HostRuntime,
     matches: &'m ArgMatches<'_>,
     path: &'m Path,
+    query: Option<&'m Query>,
 ) -> Result<Request<'m>, &'static str> {
     let Some((word, matches)) = matches.subcommand() else {
         return Err("give a word: `kdl --help` lists them");
@@ -48,15 +75,9 @@ pub fn request_of<'m>(
             };
             Ok(ask_request(rt, matches, action))
         }
-        "set" => {
-            let action = Action::Set {
-                path,
-                value: text(matches, "VALUE"),
-                create: matches.get_flag("create"),
-            };
-            Ok(ask_request(rt, matches, action))
-        }
-        "remove" => Ok(ask_request(rt, matches, Action::Remove { path })),
+        "query" => search_request(rt, matches, query),
+        "set" => Ok(ask_request(rt, matches, set_action(matches, path, query)?)),
+        "remove" => Ok(ask_request(rt, matches, remove_action(matches, path, query)?)),
         "insert" => {
             let action = Action::Insert {
                 path,
@@ -67,6 +88,58 @@ pub fn request_of<'m>(
         "json" => Ok(ask_request(rt, matches, Action::Json)),
         "from-json" => Ok(ask_request(rt, matches, Action::FromJson)),
         _ => Err("give a word: `kdl --help` lists them"),
+    }
+}
+
+/// The action of `set`, at the path or in each node that the query selects.
+fn set_action<'m>(
+    matches: &'m ArgMatches<'_>,
+    path: &'m Path,
+    query: Option<&'m Query>,
+) -> Result<Action<'m>, &'static str> {
+    let value = text(matches, "VALUE");
+    let create = matches.get_flag("create");
+    match query {
+        Some(_) if create => Err("`--create` does not go with `--query`"),
+        Some(query) => Ok(Action::SetEach {
+            query,
+            target: &path.target,
+            value,
+        }),
+        None => {
+            without_entry(matches)?;
+            Ok(Action::Set {
+                path,
+                value,
+                create,
+            })
+        }
+    }
+}
+
+/// The action of `remove`, at the path or of each node that the query selects.
+fn remove_action<'m>(
+    matches: &'m ArgMatches<'_>,
+    path: &'m Path,
+    query: Option<&'m Query>,
+) -> Result<Action<'m>, &'static str> {
+    match query {
+        Some(query) => Ok(Action::RemoveEach {
+            query,
+            target: &path.target,
+        }),
+        None => {
+            without_entry(matches)?;
+            Ok(Action::Remove { path })
+        }
+    }
+}
+
+/// Refuses an entry beside a path.
+fn without_entry(matches: &ArgMatches<'_>) -> Result<(), &'static str> {
+    match matches.get_str("entry") {
+        Some(_) => Err("`--entry` goes with `--query`"),
+        None => Ok(()),
     }
 }
 
@@ -82,6 +155,43 @@ fn ask_request<'m>(
         replace: matches.get_flag("write"),
         style: style(Form::Human, has_colors(rt, rt.stderr().is_terminal())),
     })
+}
+
+/// The request for the nodes that the query selects.
+fn search_request<'m>(
+    rt: &HostRuntime,
+    matches: &'m ArgMatches<'_>,
+    query: Option<&'m Query>,
+) -> Result<Request<'m>, &'static str> {
+    let Some(query) = query else {
+        return Err("give a query");
+    };
+    Ok(Request::Search {
+        names: matches.get_strs("FILE").unwrap_or(&[]),
+        search: Search {
+            query,
+            view: view(matches)?,
+            style: style(Form::Human, has_colors(rt, rt.stderr().is_terminal())),
+        },
+    })
+}
+
+/// What is shown of the nodes that a query selects.
+fn view(matches: &ArgMatches<'_>) -> Result<View, &'static str> {
+    let flags = (
+        matches.get_flag("raw"),
+        matches.get_flag("json"),
+        matches.get_flag("count"),
+        matches.get_flag("paths"),
+    );
+    match flags {
+        (false, false, false, false) => Ok(View::Text),
+        (true, false, false, false) => Ok(View::Raw),
+        (false, true, false, false) => Ok(View::Json),
+        (false, false, true, false) => Ok(View::Count),
+        (false, false, false, true) => Ok(View::Paths),
+        _ => Err("give one of `--raw`, `--json`, `--count` and `--paths`"),
+    }
 }
 
 /// The name of the file, or of the standard input.

@@ -73,6 +73,13 @@ fit_alone : (n : Node) → said_children n ≡ None → IsFitHead n → IsWellFo
 fit_alone (node ty name es no_children) e f = (f.0, f.1, f.2, tt)
 fit_alone (node ty name es (children y)) e f = cc
 
+-- a node after its block, and one without a block
+pub node_with_block : (n : Node) (z : Nodes) (ts : List Token) → said_children n ≡ Some z → head_of n (json'.key (codes "children") ∷ json'.begin_array ∷ nodes_tokens z (json'.end_array ∷ json'.end_object ∷ ts)) ≡ node_tokens n ts
+node_with_block n z ts has = ap (λ (us : List Token). head_of n (json'.key (codes "children") ∷ json'.begin_array ∷ us)) (said_tokens z (json'.end_array ∷ json'.end_object ∷ ts)) ∙ node_inside n z ts has
+
+pub node_without_block : (n : Node) (ts : List Token) → said_children n ≡ None → head_of n (json'.end_object ∷ ts) ≡ node_tokens n ts
+node_without_block n ts has = node_alone n ts has
+
 -- into the block of a node
 pub walk_in : (start out new : Written) (n : Node) (after kids : List Node) (above : List (List Node)) (z x : Nodes) → Walked start out (n ∷ after) above x → said_children n ≡ Some z → kids ≡ said_nodes z → IsFitHead n
     → Appended out new (λ ts. head_of n (json'.key (codes "children") ∷ json'.begin_array ∷ ts)) → Walked start new kids (above ++ after ∷ []) x

@@ -79,6 +79,10 @@ document_tokens x = json'.begin_array ∷ nodes_tokens x (json'.end_array ∷ []
 abbrev pub json_text : Nodes → List ℕ
 json_text x = print (document_tokens x)
 
+-- the JSON of a node, the same way
+abbrev pub node_json_text : Node → List ℕ
+node_json_text n = print (node_tokens n [])
+
 -- the text is the JSON of the data, with any spaces between its tokens
 abbrev pub IsJsonOf : List ℕ → Nodes → Type 0
 IsJsonOf t x = tokens t ≡ document_tokens x

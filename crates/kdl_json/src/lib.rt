@@ -44,4 +44,4 @@ mod write;
 
 pub use failure::{Expected, JsonFailure};
 pub use read::from_json;
-pub use write::to_json;
+pub use write::{node_to_json, to_json};

@@ -3,7 +3,7 @@
 ghost use Rattle.json.specs.Token.{begin_array, end_array, key as token_key, string};
 ghost use Rattle.kdl.specs.Words.{document_says, entry_data, entry_tree, identifier_tree, node_says, value_tree};
 ghost use Rattle.kdl_layout.specs.WellFormed.{AreWellFormed, AreWellFormedEntries, IsWellFormedEntry};
-ghost use Rattle.kdl_json.specs.Form.{entries_tokens, entry_tokens, float_tokens, is_json_number, json_text, member_tokens, nodes_tokens, value_tokens};
+ghost use Rattle.kdl_json.specs.Form.{entries_tokens, entry_tokens, float_tokens, is_json_number, json_text, member_tokens, node_json_text, node_tokens, nodes_tokens, value_tokens};
 ghost use Rattle.kdl_json.specs.Heads.{head_of};
 ghost use Rattle.kdl_json.specs.Writing.{Appends, IsFitHead};
 ghost use Rattle.std.specs.Prelude.{◌≡◌, ◌∷◌, IfOk, Some, OnOk, codes, map, option_map, string_bytes};
@@ -171,5 +171,35 @@ pub fn to_json(alloc: Global, document: &KdlDocument) -> Result<String, AllocErr
     let mut out = Writer::new(Vec::new(alloc));
     out.begin_array()?;
     write_nodes(alloc, &mut out, document)?;
+    Ok(String::from_utf8(out.into_inner()).unwrap())
+}
+
+/// Writes a node.
+fn write_node(alloc: Global, out: &mut Writer<Global>, node: &KdlNode) -> Result<(), AllocError>
+    ensures { Appends result out.old out.new (node_tokens (node_says node.now)) }
+{
+    write_head(out, node)?;
+    match node.children() {
+        Some(block) => {
+            write_block(out)?;
+            write_nodes(alloc, out, block)?;
+            out.end_object()
+        }
+        None => out.end_object(),
+    }
+}
+
+/// Returns the data of the node as JSON, without spaces, as `to_json` writes it among others. Returns an error if an
+/// allocation fails.
+///
+/// ```
+/// let node = KdlNode::parse(alloc, "port 8080")?;
+/// let text = node_to_json(alloc, &node)?; // {"name":"port","entries":[{"value":8080}]}
+/// ```
+pub fn node_to_json(alloc: Global, node: &KdlNode) -> Result<String, AllocError>
+    ensures { IfOk result (λ t. string_bytes t ≡ node_json_text (node_says node.now)) }
+{
+    let mut out = Writer::new(Vec::new(alloc));
+    write_node(alloc, &mut out, node)?;
     Ok(String::from_utf8(out.into_inner()).unwrap())
 }

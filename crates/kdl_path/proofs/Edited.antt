@@ -32,12 +32,12 @@ use Rattle.kdl_path.proofs.Places.{leads_said, target_said}
 use Rattle.kdl_path.proofs.Removed.{child_put, no_leads}
 
 -- the text of a document
-out_says : (e : KdlDocument) (out : String Global) (x : nodes'.Nodes) → string_bytes out ≡ encode_utf8_all (document_prints e) → DocumentReadsBack e → document_says e ≡ x → IsDocument (text_of out) x
+pub out_says : (e : KdlDocument) (out : String Global) (x : nodes'.Nodes) → string_bytes out ≡ encode_utf8_all (document_prints e) → DocumentReadsBack e → document_says e ≡ x → IsDocument (text_of out) x
 out_says e out x bytes reads says =
     let printed : text_of out ≡ document_prints e = printed_text {E = Unit {0}} (Ok out) (document_prints e) bytes in
     subst (λ (z : nodes'.Nodes). IsDocument (text_of out) z) says (subst (λ (z : Text). IsDocument z (document_says e)) (sym printed) (document_derived e reads))
 
-pub removed_text : (p : Path) (text : Text) (d e : KdlDocument) (out : String Global) → ((z : nodes'.Nodes) → IsDocument text z → z ≡ document_says d) → DocumentReadsBack d → (DocumentReadsBack d → IsRemovedAt p d e)
+pub removed_text : (p : Path) (text : Text) (d e : KdlDocument) (out : String Global) → ((z : nodes'.Nodes) → IsDocument text z → z ≡ document_says d) → DocumentReadsBack d → (DocumentReadsBack d → IsRemovedAt p.steps.items p.target d e)
     → string_bytes out ≡ encode_utf8_all (document_prints e) → (x : nodes'.Nodes) → IsDocument text x → IsDocument (text_of out) (without p x)
 removed_text p text d e out only reads removed bytes x y = let h = removed reads in out_says e out (without p x) bytes h.reads (h.says ∙ ap (without p) (sym (only x y)))
 
@@ -60,7 +60,7 @@ some_mapped o i b h = subst (λ (o : Option _). IsSome (option_map (λ _. b) o))
 entry_named : (t : Target) (n : KdlNode) (i : ℕ) → place_of_target t (entries_of n) ≡ Some i → entry_place t (said_entries (node_says n)) ≡ Some i
 entry_named t n i h = ap (entry_place t) (sym (entries_said n)) ∙ sym (target_said t (entries_of n)) ∙ h
 
-target_named : (t : Target) (n : KdlNode) (o : Option ℕ) → IsNamed t n o → IsSome (with_target t (node_says n))
+pub target_named : (t : Target) (n : KdlNode) (o : Option ℕ) → IsNamed t n o → IsSome (with_target t (node_says n))
 target_named Node n o h = refl
 target_named (Argument k) n None h = absurd (cc)
 target_named (Argument k) n (Some i) h = some_mapped (entry_place (Argument k) (said_entries (node_says n))) i (node_says n) (entry_named (Argument k) n i h.1)
@@ -72,7 +72,7 @@ removed_there p is d n o leads named =
     subst (λ (o : Option nodes'.Node). IsSome (option_and_then (with_target p.target) o)) (sym (leads_said p.steps.items is d n leads)) (target_named p.target n o named)
 
 -- what is missing is not there
-target_missing : (t : Target) (n : KdlNode) → (t ≡ Node → ⊥) → place_of_target t (entries_of n) ≡ None → with_target t (node_says n) ≡ None
+pub target_missing : (t : Target) (n : KdlNode) → (t ≡ Node → ⊥) → place_of_target t (entries_of n) ≡ None → with_target t (node_says n) ≡ None
 target_missing Node n f h = absurd (f refl)
 target_missing (Argument k) n f h =
     ap (option_map (λ _. node_says n)) (ap (entry_place (Argument k)) (sym (entries_said n)) ∙ sym (target_said (Argument k) (entries_of n)) ∙ h)
@@ -86,8 +86,8 @@ pub node_missing : (p : Path) (x : nodes'.Nodes) → node_at p.steps.items (said
 node_missing p x h = ap (option_and_then (with_target p.target)) h
 
 -- the node itself is removed
-pub node_removed : (p : Path) (d e : KdlDocument) → p.target ≡ Node → IsNodeRemoved p.steps.items d e → IsRemovedAt p d e
-node_removed p d e t h = record { reads = h.reads; says = h.says ∙ sym (ap (λ t. without_target t p.steps.items (document_says d)) t) }
+pub node_removed : (ss : List Step) (t : Target) (d e : KdlDocument) → t ≡ Node → IsNodeRemoved ss d e → IsRemovedAt ss t d e
+node_removed ss t d e own h = record { reads = h.reads; says = h.says ∙ sym (ap (λ t. without_target t ss (document_says d)) own) }
 
 -- a place in the document
 pub place_there : (ss : List Step) (is : List ℕ) (d : KdlDocument) → LeadsTo ss is (nodes_of d) → HasPlace ss (document_says d)

@@ -22,3 +22,11 @@ pub mod Failing
 pub mod Making
 -- Every node to which steps lead, in memory and in the data.
 pub mod Reached
+-- The steps to the node at a path of indices, and the data after an edit there.
+pub mod Along
+-- What an edit at a path leaves at the paths before it.
+pub mod Apart
+-- Edits at paths, from the last path to the first, are an edit of each node at one of the paths.
+pub mod Everywhere
+-- A document after an edit at each of some paths.
+pub mod Selected

@@ -123,12 +123,12 @@ parent (s ∷ ss) j (k ∷ is) i ns o n h =
     record { above = s ∷ x.above; last = x.last; steps = ap (λ l. s ∷ l) x.steps; node = x.node; leads = (h.0, h.1, h.2, x.leads); place = x.place }
 
 -- the data without a node, by the node above it
-nth_same : (i : ℕ) (f g : nodes'.Node → nodes'.Node) → ((n : nodes'.Node) → f n ≡ g n) → (x : nodes'.Nodes) → with_nth i f x ≡ with_nth i g x
+pub nth_same : (i : ℕ) (f g : nodes'.Node → nodes'.Node) → ((n : nodes'.Node) → f n ≡ g n) → (x : nodes'.Nodes) → with_nth i f x ≡ with_nth i g x
 nth_same i f g h nodes'.none = refl
 nth_same zero f g h (nodes'.first n x) = ap (λ z. nodes'.first z x) (h n)
 nth_same (suc i) f g h (nodes'.first n x) = ap (nodes'.first n) (nth_same i f g h x)
 
-there_same : (o : Option ℕ) (f g : nodes'.Node → nodes'.Node) → ((n : nodes'.Node) → f n ≡ g n) → (x : nodes'.Nodes) → with_there o f x ≡ with_there o g x
+pub there_same : (o : Option ℕ) (f g : nodes'.Node → nodes'.Node) → ((n : nodes'.Node) → f n ≡ g n) → (x : nodes'.Nodes) → with_there o f x ≡ with_there o g x
 there_same None f g h x = refl
 there_same (Some i) f g h x = nth_same i f g h x
 

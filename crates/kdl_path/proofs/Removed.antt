@@ -18,7 +18,6 @@ use Rattle.kdl_path.specs.Edits.{changed_at, node_with_child, node_without_entry
 use Rattle.kdl_path.specs.Internal.Changed.{IsChildPushed, IsChildRemoved}
 use Rattle.kdl_path.specs.Internal.Done.{IsNodeRemoved, IsPutAt, IsRemovedAt}
 use Rattle.kdl_path.specs.Internal.Located.{Leads, place_of_target}
-use Rattle.kdl_path.specs.declared.path.Path.{Path}
 use Rattle.kdl_path.specs.declared.path.Step.{Step}
 use Rattle.kdl_path.specs.declared.path.Target.{Target}
 use Rattle.kdl_path.specs.declared.path.Target.TheVariants.{Node, Argument, Property}
@@ -50,11 +49,11 @@ without_entry Node ss x h = absurd (h refl)
 without_entry (Argument i) ss x h = refl
 without_entry (Property s) ss x h = refl
 
-pub entry_removed : (p : Path) (is : List ℕ) (d e : KdlDocument) (n : KdlNode) (i : ℕ) → Leads p.steps.items is (nodes_of d) None n → Some i ≡ place_of_target p.target (entries_of n) → (p.target ≡ Node → ⊥) → AtNode is (EntryRemoved i) d e
-    → DocumentReadsBack d → IsRemovedAt p d e
-entry_removed p is d e n i leads place entry h r =
-    let x = node_changed p.steps.items is d e n (EntryRemoved i) (node_without_entry p.target) leads h (λ m k. removed_reads n m i k) (λ m k. removed_says p.target n m i (sym place) k) r in
-    record { reads = x.reads; says = x.says ∙ without_entry p.target p.steps.items (document_says d) entry }
+pub entry_removed : (ss : List Step) (t : Target) (is : List ℕ) (d e : KdlDocument) (n : KdlNode) (i : ℕ) → Leads ss is (nodes_of d) None n → Some i ≡ place_of_target t (entries_of n) → (t ≡ Node → ⊥) → AtNode is (EntryRemoved i) d e
+    → DocumentReadsBack d → IsRemovedAt ss t d e
+entry_removed ss t is d e n i leads place entry h r =
+    let x = node_changed ss is d e n (EntryRemoved i) (node_without_entry t) leads h (λ m k. removed_reads n m i k) (λ m k. removed_says t n m i (sym place) k) r in
+    record { reads = x.reads; says = x.says ∙ without_entry t ss (document_says d) entry }
 
 -- a node removed from a block
 pub child_removed : (ss : List Step) (j : ℕ) (is : List ℕ) (i : ℕ) (d e : KdlDocument) (n : KdlNode) → Leads ss (j ∷ is ++ i ∷ []) (nodes_of d) None n → AtNode (j ∷ is) (IsChildRemoved i) d e → DocumentReadsBack d → IsNodeRemoved ss d e

@@ -1,5 +1,5 @@
 -- A value that is set.
-use Rattle.std.proofs.Common.{◌≡◌, All, ℕ, zero, suc, true, List, [], ◌∷◌, ◌++◌, map, set, Option, None, Some, IsSome, Ok, option_map, slice_get, String, Global, string_bytes, refl, ap, ◌∙◌, sym, subst, append_assoc, append-nil}
+use Rattle.std.proofs.Common.{◌≡◌, All, ℕ, zero, suc, true, List, [], ◌∷◌, ◌++◌, map, set, Option, None, Some, IsSome, Ok, option_and_then, option_map, slice_get, String, Global, string_bytes, refl, ap, ◌∙◌, sym, subst, append_assoc, append-nil}
 use Rattle.std.proofs.lemmas.Option.{get_or_from_slice_get, none-some, slice_get-map, slice_get_within}
 use Rattle.kdl_text.specs.Chars.{Text}
 use Rattle.kdl_text.specs.Trivia.{ValueEnd}
@@ -24,6 +24,7 @@ use Rattle.kdl.specs.EditLaw.{text_before, text_after}
 use Rattle.kdl.specs.Fields.{node_format_of}
 use Rattle.kdl.specs.Lookups.{entries_of, with_entry_there}
 use Rattle.kdl.specs.ReadsBack.{DocumentReadsBack, EntryReadsBack, ReadsAs}
+use Rattle.kdl.specs.Said.{said_nodes}
 use Rattle.kdl.specs.Tree.{document_prints, document_says, document_tree, node_says, node_tree}
 use Rattle.kdl.specs.declared.document.KdlDocument.{KdlDocument}
 use Rattle.kdl.specs.declared.document.KdlDocument.TheViews.{out-KdlNode}
@@ -41,13 +42,14 @@ use Rattle.kdl_path.specs.Edits.{IsSetAt, entry_place, node_with_value, with_val
 use Rattle.kdl_path.specs.Internal.Done.{IsDoneAt, SetsOrMakes}
 use Rattle.kdl_path.specs.Internal.Changed.{IsMade, IsValueSet, spaced_format, with_format, with_spelled}
 use Rattle.kdl_path.specs.Internal.Located.{Leads, place_of_target}
-use Rattle.kdl_path.specs.Paths.{at_path, value_in}
+use Rattle.kdl_path.specs.Paths.{at_path, node_at, value_in}
 use Rattle.kdl_path.specs.declared.change.Change.{Change}
 use Rattle.kdl_path.specs.declared.path.Path.{Path}
+use Rattle.kdl_path.specs.declared.path.Step.{Step}
 use Rattle.kdl_path.specs.declared.path.Target.{Target}
 use Rattle.kdl_path.specs.declared.value.Spelled.{Spelled}
 use Rattle.kdl_path.proofs.Lifting.{AnyReads, Lifted, any_formed, lift}
-use Rattle.kdl_path.proofs.Places.{at_node, leads_at, target_said, value_found}
+use Rattle.kdl_path.proofs.Places.{at_node, leads_at, leads_said, target_said, value_found}
 
 -- a value that is a whole text comes before each value end
 value_before : (t : Text) (v : Value) → IsValueText t v → (r : Text) → ValueEnd true r → IsPlainValue true (t ++ r) r v
@@ -103,10 +105,10 @@ entry_is_read n i e h x =
 value_is_read : (e : Entry) → EntryReads e → IsValueText (value_text e e.format) e.value
 value_is_read e x = subst (λ (s : Text). IsPlainValue true s [] e.value) (append-nil (value_text e e.format)) (x.value ValueEnd.nothing)
 
-former_is : (p : Path) (is : List ℕ) (d : KdlDocument) (n : KdlNode) (i : ℕ) (e : KdlEntry) → Leads p.steps.items is (nodes_of d) None n → place_of_target p.target (entries_of n) ≡ Some i → slice_get (entries_of n) i ≡ Some e → AnyReads n
-    → (x : Value) → at_path p (document_says d) ≡ Some x → IsValueText (value_text (entry_tree e) (entry_tree e).format) x
-former_is p is d n i e leads at h r x there =
-    let same : Some (entry_tree e).value ≡ Some x = value_found p.target n i e (sym at) h ∙ sym (at_node p is d n leads) ∙ there in
+former_is : (ss : List Step) (tg : Target) (is : List ℕ) (d : KdlDocument) (n : KdlNode) (i : ℕ) (e : KdlEntry) → Leads ss is (nodes_of d) None n → place_of_target tg (entries_of n) ≡ Some i → slice_get (entries_of n) i ≡ Some e → AnyReads n
+    → (x : Value) → option_and_then (value_in tg) (node_at ss (said_nodes (document_says d))) ≡ Some x → IsValueText (value_text (entry_tree e) (entry_tree e).format) x
+former_is ss tg is d n i e leads at h r x there =
+    let same : Some (entry_tree e).value ≡ Some x = value_found tg n i e (sym at) h ∙ sym (ap (option_and_then (value_in tg)) (leads_said ss is d n leads)) ∙ there in
     let is : (entry_tree e).value ≡ x = cc in
     subst (λ (v : Value). IsValueText (value_text (entry_tree e) (entry_tree e).format) v) is (value_is_read (entry_tree e) (entry_is_read n i e h r))
 
@@ -140,15 +142,15 @@ node_set t v n i e f p h k =
 there_same : (a b : KdlNode) (o : Option KdlNode) → o ≡ Some a → o ≡ Some b → a ≡ b
 there_same a b o h k = cc
 
-pub value_done : (p : Path) (is : List ℕ) (d e : KdlDocument) (n : KdlNode) (i : ℕ) (v : Value) (t : Text) → Leads p.steps.items is (nodes_of d) None n → place_of_target p.target (entries_of n) ≡ Some i
-    → IsValueText t v → AtNode is (IsValueSet i v t) d e → DocumentReadsBack d → IsDoneAt p v t d e
-value_done p is d e n i v t leads at ok h r = go (there_same h.old n _ h.there (leads_at p.steps.items is (nodes_of d) n leads))
+pub value_done : (ss : List Step) (tg : Target) (is : List ℕ) (d e : KdlDocument) (n : KdlNode) (i : ℕ) (v : Value) (t : Text) → Leads ss is (nodes_of d) None n → place_of_target tg (entries_of n) ≡ Some i
+    → IsValueText t v → AtNode is (IsValueSet i v t) d e → DocumentReadsBack d → IsDoneAt ss tg v t d e
+value_done ss tg is d e n i v t leads at ok h r = go (there_same h.old n _ h.there (leads_at ss is (nodes_of d) n leads))
   where
-    go : h.old ≡ n → IsDoneAt p v t d e
+    go : h.old ≡ n → IsDoneAt ss tg v t d e
     go same =
         let s : IsValueSet i v t n h.new = subst (λ (k : KdlNode). IsValueSet i v t k h.new) same h.related in
-        let says : node_says h.new ≡ node_with_value p.target v (node_says n) = ap node_says s.rest ∙ node_set p.target v n i s.old s.new at (ap entry_data s.tree) s.there in
-        let x : Lifted p.steps.items is d n h.new (node_with_value p.target v) = lift p.steps.items is d n h.new (node_with_value p.target v) says leads in
+        let says : node_says h.new ≡ node_with_value tg v (node_says n) = ap node_says s.rest ∙ node_set tg v n i s.old s.new at (ap entry_data s.tree) s.there in
+        let x : Lifted ss is d n h.new (node_with_value tg v) = lift ss is d n h.new (node_with_value tg v) says leads in
         let tree : document_tree e ≡ document_tree x.whole = h.rest ∙ sym x.tree in
         let old = print_piece (entry_tree s.old) in
         let kept : ReadsAs n h.new = subst (λ (k : KdlNode). ReadsAs n k) (sym s.rest) (entry_there_reads (Some i) n s.old s.new s.there (entry_reads s.old s.new v t ok s.tree)) in
@@ -162,12 +164,12 @@ value_done p is d e n i v t leads at ok h r = go (there_same h.old n _ h.there (
           reads = subst DocumentReads (sym tree) (x.document_reads kept r);
           says = ap document_data tree ∙ x.says;
           was = value_text (entry_tree s.old) (entry_tree s.old).format;
-          former = former_is p is d n i s.old leads at s.there (x.node_reads r);
+          former = former_is ss tg is d n i s.old leads at s.there (x.node_reads r);
           bytes = w;
         }
 
 -- the text that the document prints
-pub set_text : (p : Path) (v : Value) (given text : Text) (d e : KdlDocument) (out : String Global) → IsValueText given v → IsDoneAt p v given d e → document_prints d ≡ text → ((x : nodes'.Nodes) → IsDocument text x → x ≡ document_says d)
+pub set_text : (p : Path) (v : Value) (given text : Text) (d e : KdlDocument) (out : String Global) → IsValueText given v → IsDoneAt p.steps.items p.target v given d e → document_prints d ≡ text → ((x : nodes'.Nodes) → IsDocument text x → x ≡ document_says d)
     → text_of out ≡ document_prints e → IsSetAt p given text (text_of out)
 set_text p v given text d e out ok h prints only printed = record {
   value = v;
@@ -179,10 +181,10 @@ set_text p v given text d e out ok h prints only printed = record {
 }
 
 -- the change that sets it, made at the end of the steps
-pub set_done : (p : Path) (is : List ℕ) (d e : KdlDocument) (n : KdlNode) (s : Spelled) (c : Change) → Leads p.steps.items is (nodes_of d) None n → SetsOrMakes p.target s (entries_of n) c → AtNode is (IsMade c) d e → DocumentReadsBack d
-    → IsValueText (text_of s.spelling) (value_tree s.value) → IsDoneAt p (value_tree s.value) (text_of s.spelling) d e
-set_done p is d e n s c leads m at r ok =
-    value_done p is d e n m.at (value_tree s.value) (text_of s.spelling) leads m.place ok (subst (λ (k : Change). AtNode is (IsMade k) d e) m.change at) r
+pub set_done : (ss : List Step) (t : Target) (is : List ℕ) (d e : KdlDocument) (n : KdlNode) (s : Spelled) (c : Change) → Leads ss is (nodes_of d) None n → SetsOrMakes t s (entries_of n) c → AtNode is (IsMade c) d e → DocumentReadsBack d
+    → IsValueText (text_of s.spelling) (value_tree s.value) → IsDoneAt ss t (value_tree s.value) (text_of s.spelling) d e
+set_done ss t is d e n s c leads m at r ok =
+    value_done ss t is d e n m.at (value_tree s.value) (text_of s.spelling) leads m.place ok (subst (λ (k : Change). AtNode is (IsMade k) d e) m.change at) r
 
 pub set_there : (p : Path) (is : List ℕ) (d : KdlDocument) (n : KdlNode) → Leads p.steps.items is (nodes_of d) None n → IsSome (at_path p (document_says d)) → IsSome (value_in p.target (node_says n))
 set_there p is d n leads h = subst (λ (o : Option Value). IsSome o) (at_node p is d n leads) h
@@ -198,9 +200,9 @@ format_given e g h k = ap (λ (o : Option EntryFormat). record e { format = o })
 -- the text after a value is set
 pub set_ends : (p : Path) (s : Spelled) (given text : Text) (d e : KdlDocument) (out : String Global) (x : nodes'.Nodes) → IsDocument text x → IsSome (at_path p x) → text_of s.spelling ≡ given → IsValueText given (value_tree s.value)
     → ((z : nodes'.Nodes) → IsDocument text z → z ≡ document_says d) → document_prints d ≡ text → DocumentReadsBack d
-    → (DocumentReadsBack d → IsValueText (text_of s.spelling) (value_tree s.value) → IsSome (at_path p (document_says d)) → IsDoneAt p (value_tree s.value) (text_of s.spelling) d e)
+    → (DocumentReadsBack d → IsValueText (text_of s.spelling) (value_tree s.value) → IsSome (at_path p (document_says d)) → IsDoneAt p.steps.items p.target (value_tree s.value) (text_of s.spelling) d e)
     → string_bytes out ≡ encode_utf8_all (document_prints e) → IsSetAt p given text (text_of out)
 set_ends p s given text d e out x y there spelled ok only prints reads set bytes =
     let v = value_tree s.value in
     let done = set reads (subst (λ (t : Text). IsValueText t v) (sym spelled) ok) (subst (λ (z : nodes'.Nodes). IsSome (at_path p z)) (only x y) there) in
-    set_text p v given text d e out ok (subst (λ (t : Text). IsDoneAt p v t d e) spelled done) prints only (printed_text {E = Unit {0}} (Ok out) (document_prints e) bytes)
+    set_text p v given text d e out ok (subst (λ (t : Text). IsDoneAt p.steps.items p.target v t d e) spelled done) prints only (printed_text {E = Unit {0}} (Ok out) (document_prints e) bytes)

@@ -10,3 +10,5 @@ pub mod Done
 pub mod Laid
 -- Every node in memory to which the steps of a PATH lead.
 pub mod Every
+-- A document after an edit at each of some paths of indices.
+pub mod OnEach

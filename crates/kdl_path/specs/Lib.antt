@@ -4,5 +4,7 @@ pub mod Paths
 pub mod Edits
 -- What failures mean, and when an edit at a PATH fails.
 pub mod Failures
+-- The data of a document, and its text, after an edit at each node that a query selects.
+pub mod Each
 -- Definitions that no contract of a public call mentions.
 pub mod Internal

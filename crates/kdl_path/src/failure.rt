@@ -10,7 +10,7 @@ use kdl::{KdlError, ParseFailure};
 use std::alloc::{AllocError, AllocFailed};
 use std::fmt;
 
-/// The part of a PATH that a document does not have.
+/// The part of a PATH that a document does not have, or what a query does not select.
 #[derive(Debug, Drop)]
 pub enum Missing {
     /// No node has the name of the step at that index: the name, and the nearest name of a node that is there.
@@ -38,6 +38,8 @@ pub enum Missing {
     },
     /// The PATH is `/`, which is no node and has no value.
     Document,
+    /// The query selects no node.
+    Selection,
 }
 
 /// Writes the nearest name, if there is one.
@@ -80,6 +82,7 @@ impl fmt::Display for Missing {
                 "no argument {index}; arguments of the node: {count}, counted from 0"
             ),
             Missing::Document => write!(f, "the path `/` is the document"),
+            Missing::Selection => write!(f, "the query selects no node"),
         }
     }
 }
@@ -104,7 +107,7 @@ pub enum EditFailure {
     Node(KdlError),
     /// The PATH names an argument or a property where it has to name a node.
     NotNode,
-    /// The document does not have what the PATH names.
+    /// The document does not have what the PATH names, or what the query selects.
     Missing(Missing),
     /// An allocation failed.
     Memory,

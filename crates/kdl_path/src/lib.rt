@@ -22,6 +22,7 @@
 
 mod change;
 mod create;
+mod each;
 mod failure;
 mod insertion;
 mod laid;
@@ -34,6 +35,7 @@ mod removal;
 mod setter;
 mod value;
 
+pub use each::{remove_each, set_each};
 pub use failure::{EditFailure, GetFailure, Missing};
 pub use insertion::insert;
 pub use lookup::{get, get_all};

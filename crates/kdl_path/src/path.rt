@@ -49,6 +49,8 @@ pub enum PathFault {
     NoIndex,
     /// After `#` a whole number is missing.
     NoArgument,
+    /// An entry begins with neither `#` nor `@`.
+    NoEntry,
     /// The PATH does not end where it has to.
     More,
 }
@@ -70,6 +72,7 @@ impl fmt::Display for PathFault {
             PathFault::Unclosed => write!(f, "the string does not end"),
             PathFault::NoIndex => write!(f, "expected a whole number and `]`"),
             PathFault::NoArgument => write!(f, "expected a whole number"),
+            PathFault::NoEntry => write!(f, "expected `#` or `@`"),
             PathFault::More => write!(f, "expected the end of the path"),
         }
     }
@@ -298,6 +301,29 @@ impl Closing {
             self.hashes = 0;
             self.escaped = byte == b'\\' && hashes == 0;
         }
+    }
+}
+
+impl Target {
+    /// Reads the entry that a text names, as at the end of a PATH: `#N`, the argument at that index, or `@KEY`, the last
+    /// property of that name.
+    ///
+    /// Fails with the first fault and its byte in the text, as `Path::parse` does, or if the text begins with neither `#`
+    /// nor `@`.
+    ///
+    /// ```
+    /// let target = Target::parse(alloc, "@host")?; // Target::Property("host")
+    /// ```
+    pub fn parse(alloc: Global, text: &str) -> Result<Target, PathFailure> {
+        let mut reader = Reader {
+            rest: text,
+            len: text.len(),
+        };
+        let is_property = reader.take("@");
+        if !is_property && !text.starts_with('#') {
+            return Err(reader.fault(PathFault::NoEntry));
+        }
+        reader.target(alloc, is_property)
     }
 }
 

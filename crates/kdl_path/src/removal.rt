@@ -8,8 +8,8 @@ ghost use Rattle.kdl_path.specs.Failures.{RemoveFails};
 ghost use Rattle.kdl_path.specs.Internal.Done.{IsNamed, IsNodeRemoved, IsRemovedAt};
 ghost use Rattle.kdl_path.specs.Internal.Located.{Leads, place_of_target};
 ghost use Rattle.kdl_path.specs.declared.failure.EditFailure.TheVariants.{Memory};
-ghost use Rattle.kdl_path.specs.declared.path.Path.{Path};
 ghost use Rattle.kdl_path.specs.declared.path.Step.{Step};
+ghost use Rattle.kdl_path.specs.declared.path.Target.{Target};
 ghost use Rattle.kdl_path.specs.declared.path.Target.TheVariants.{Node};
 ghost use Rattle.kdl_value.specs.Tree.{text_of};
 ghost use Rattle.std.specs.Prelude.{◌≡◌, IfErr, IfOk, IsSome, List, None};
@@ -51,7 +51,7 @@ pub fn remove(alloc: Global, text: &str, path: &Path) -> Result<String, EditFail
 /// Returns the document without what the PATH names.
 fn remove_in(alloc: Global, document: KdlDocument, path: &Path) -> Result<KdlDocument, EditFailure>
     ensures removed { IfOk result (λ d. DocumentReadsBack document
-        → IsRemovedAt path.now document d) }
+        → IsRemovedAt path.now.steps.items path.now.target document d) }
     ensures found { IfOk result (λ d. IsSome (named_at path.now (document_says document))) }
     ensures missing { IfErr result (λ e.
         MissesIf (named_at path.now (document_says document) ≡ None) e) }
@@ -66,7 +66,11 @@ fn remove_in(alloc: Global, document: KdlDocument, path: &Path) -> Result<KdlDoc
 }
 
 /// The place of the entry that the target names, or `None` for the node itself.
-fn named_place(alloc: Global, node: &KdlNode, target: &Target) -> Result<Option<usize>, EditFailure>
+pub(crate) fn named_place(
+    alloc: Global,
+    node: &KdlNode,
+    target: &Target,
+) -> Result<Option<usize>, EditFailure>
     ensures named { IfOk result (λ o. IsNamed target.now node.now o) }
     ensures missing { IfErr result (λ e.
         MissesIf ((target.now ≡ Node → ⊥) × (place_of_target target.now (entries_of node.now) ≡ None)) e) }
@@ -81,15 +85,15 @@ fn named_place(alloc: Global, node: &KdlNode, target: &Target) -> Result<Option<
 }
 
 /// Returns the document without the entry at the place, of the node at the indices, or without that node.
-fn remove_at(
+pub(crate) fn remove_at(
     alloc: Global,
     document: KdlDocument,
     indices: &[usize],
     place: Option<usize>,
 ) -> Result<KdlDocument, EditFailure>
-    ensures removed { IfOk result (λ d. (p : Path) (n : KdlNode)
-        → Leads p.steps.items indices.now (nodes_of document) None n → IsNamed p.target n place
-        → DocumentReadsBack document → IsRemovedAt p document d) }
+    ensures removed { IfOk result (λ d. (ss : List Step) (t : Target) (n : KdlNode)
+        → Leads ss indices.now (nodes_of document) None n → IsNamed t n place
+        → DocumentReadsBack document → IsRemovedAt ss t document d) }
     ensures memory { IfErr result (λ e. e ≡ Memory) }
 {
     match place {

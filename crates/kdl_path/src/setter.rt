@@ -72,7 +72,8 @@ fn set_in(
     ensures set { IfOk result (λ d. DocumentReadsBack document
         → IsValueText (text_of value.spelling) (value_tree value.value)
         → IsSome (at_path path.now (document_says document))
-        → IsDoneAt path.now (value_tree value.value) (text_of value.spelling) document d) }
+        → IsDoneAt path.now.steps.items path.now.target (value_tree value.value)
+        (text_of value.spelling) document d) }
     ensures found { create ≡ false → IfOk result (λ d.
         IsSome (at_path path.now (document_says document))) }
     ensures missing { IfErr result (λ e.

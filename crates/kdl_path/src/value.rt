@@ -19,6 +19,18 @@ pub(crate) struct Spelled {
     pub(crate) spelling: String,
 }
 
+impl Clone for Spelled {
+    ghost is_clone = { λ v w. (value_tree w.value ≡ value_tree v.value)
+        × (text_of w.spelling ≡ text_of v.spelling) };
+
+    fn clone(&self) -> Result<Spelled, AllocError> {
+        Ok(Spelled {
+            value: self.value.clone()?,
+            spelling: self.spelling.clone()?,
+        })
+    }
+}
+
 /// Reads a text as an entry.
 fn read_entry(alloc: Global, text: &str) -> Result<KdlEntry, EditFailure>
     ensures laid { IfOk result (λ e. LaidEntryText (chars text.now) (entry_tree e)) }

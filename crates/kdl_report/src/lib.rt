@@ -43,5 +43,5 @@ pub use diff::unified;
 pub use hints::hint;
 pub use line::short;
 pub use object::json;
-pub use picture::render;
+pub use picture::{render, render_without_hint};
 pub use places::{Lines, Place};

@@ -5,7 +5,7 @@ ghost use Rattle.kdl_report.specs.Picture.{arrow, caret_line, empty_line, gap, h
 ghost use Rattle.kdl_report.specs.Shown.{Appends, text_of};
 ghost use Rattle.kdl_report.specs.Spots.{excerpt_row};
 ghost use Rattle.kdl_text.specs.Chars.{Text};
-ghost use Rattle.std.specs.Prelude.{◌≡◌, Option, IfOk, chars, option_map};
+ghost use Rattle.std.specs.Prelude.{◌≡◌, Option, IfOk, None, chars, option_map};
 
 use crate::hints::hint;
 use crate::places::{Excerpt, Lines, Place};
@@ -52,6 +52,21 @@ pub fn render(
     let mut out = String::new(alloc);
     let hint = hint(lines.text(), fault);
     draw(&mut out, name, lines, fault, hint, color)?;
+    Ok(out)
+}
+
+/// Draws a fault of a text that is no document, such as a query: as `render` does, but without a hint.
+pub fn render_without_hint(
+    alloc: Global,
+    name: &str,
+    lines: &Lines<'_>,
+    fault: &KdlDiagnostic,
+    color: bool,
+) -> Result<String, AllocError>
+    ensures { IfOk result (λ out. text_of out ≡ picture.picture color (chars name.now) lines.now fault.now None) }
+{
+    let mut out = String::new(alloc);
+    draw(&mut out, name, lines, fault, None, color)?;
     Ok(out)
 }
 

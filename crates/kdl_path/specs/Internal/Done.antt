@@ -1,28 +1,27 @@
 -- A document in which a value is set.
-use Rattle.std.specs.Prelude.{◌≡◌, ℕ, List, [], ◌∷◌, Option, None, Some}
-use Rattle.kdl.specs.Words.{DocumentReadsBack, IsExchanged, NodeData, Text, Value, document_prints, document_says, entries_of}
+use Rattle.std.specs.Prelude.{◌≡◌, ℕ, List, [], ◌∷◌, Option, None, Some, option_and_then}
+use Rattle.kdl.specs.Words.{DocumentReadsBack, IsExchanged, NodeData, Text, Value, document_prints, document_says, entries_of, said_nodes}
 use Rattle.kdl.specs.declared.document.KdlDocument.{KdlDocument}
 use Rattle.kdl.specs.declared.node.KdlNode.{KdlNode}
 use Rattle.c_calls.specs.Entries.{IsValueText}
 use Rattle.kdl_entry.specs.declared.entry.KdlEntry.{KdlEntry}
-use Rattle.kdl_path.specs.Edits.{with_node, with_value, without, without_node}
+use Rattle.kdl_path.specs.Edits.{changed_at, node_with_value, with_node, without_node, without_target}
 use Rattle.kdl_path.specs.Internal.Located.{Leads, place_of_target}
-use Rattle.kdl_path.specs.Paths.{at_path}
+use Rattle.kdl_path.specs.Paths.{node_at, value_in}
 use Rattle.kdl_path.specs.declared.change.Change.{Change}
 use Rattle.kdl_path.specs.declared.change.Change.TheVariants.{SetValue}
-use Rattle.kdl_path.specs.declared.path.Path.{Path}
 use Rattle.kdl_path.specs.declared.path.Step.{Step}
 use Rattle.kdl_path.specs.declared.path.Target.{Target}
 use Rattle.kdl_path.specs.declared.path.Target.TheVariants.{Node}
 use Rattle.kdl_path.specs.declared.value.Spelled.{Spelled}
 
--- e reads back, and is d with another value at the PATH: in its data, and in its text, in that spelling
-pub record IsDoneAt (p : Path) (v : Value) (t : Text) (d e : KdlDocument) : Type 0 where
+-- e reads back, and is d with another value for the entry of a target in the node at the end of the steps: in its data, and in its text, in that spelling
+pub record IsDoneAt (ss : List Step) (t : Target) (v : Value) (given : Text) (d e : KdlDocument) : Type 0 where
   pub reads : DocumentReadsBack e
-  pub says : document_says e ≡ with_value p v (document_says d)
+  pub says : document_says e ≡ changed_at ss (node_with_value t v) (document_says d)
   pub was : Text
-  pub former : (x : Value) → at_path p (document_says d) ≡ Some x → IsValueText was x
-  pub bytes : IsExchanged was t (document_prints d) (document_prints e)
+  pub former : (x : Value) → option_and_then (value_in t) (node_at ss (said_nodes (document_says d))) ≡ Some x → IsValueText was x
+  pub bytes : IsExchanged was given (document_prints d) (document_prints e)
 
 -- the change sets the value of the entry that the target names
 pub record SetsOrMakes (t : Target) (s : Spelled) (es : List KdlEntry) (c : Change) : Type 0 where
@@ -30,10 +29,10 @@ pub record SetsOrMakes (t : Target) (s : Spelled) (es : List KdlEntry) (c : Chan
   pub place : place_of_target t es ≡ Some at
   pub change : c ≡ SetValue at s
 
--- e reads back, and its data are those of d without what the PATH names
-pub record IsRemovedAt (p : Path) (d e : KdlDocument) : Type 0 where
+-- e reads back, and its data are those of d without what the target names at the end of the steps
+pub record IsRemovedAt (ss : List Step) (t : Target) (d e : KdlDocument) : Type 0 where
   pub reads : DocumentReadsBack e
-  pub says : document_says e ≡ without p (document_says d)
+  pub says : document_says e ≡ without_target t ss (document_says d)
 
 -- what a target names of a node: the node itself, or the entry at a place
 abbrev pub IsNamed : Target → KdlNode → Option ℕ → Type 0

@@ -1,6 +1,6 @@
 use Rattle.std.proofs.Common.{◌++◌, ◌∙◌, ap}
 use Rattle.kdl.specs.Words.{value_tree}
-use Rattle.cli.specs.Shown.{line_of}
+use Rattle.cli_shown.specs.Values.{line_of}
 use Rattle.cli.proofs.ask.one_value.Goals as goal
 
 pub returns-in_ok-push_value-in-Ok : goal.returns-in_ok-push_value-in-Ok

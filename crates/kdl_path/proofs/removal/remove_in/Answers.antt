@@ -36,7 +36,7 @@ returns-clause-removed c =
     let is = c.in-Ok.located.indices.items in
     let n = c.in-Ok.located.node.now in
     let leads : Leads p.steps.items is (nodes_of d) None n = subst (λ (ss : List Step). Leads ss is (nodes_of d) None n) c.deref.ensures.value c.in-Ok.ensures.leads in
-    if_ok c.remove_at.result _ _ (λ e h r. h p n (subst (λ (l : List ℕ). Leads p.steps.items l (nodes_of d) None n) (sym c.deref-2.ensures.value) leads) c.in_ok-place.ensures.named r) c.remove_at.ensures.removed
+    if_ok c.remove_at.result _ _ (λ e h r. h p.steps.items p.target n (subst (λ (l : List ℕ). Leads p.steps.items l (nodes_of d) None n) (sym c.deref-2.ensures.value) leads) c.in_ok-place.ensures.named r) c.remove_at.ensures.removed
 
 pub returns-clause-found : goal.returns-clause-found
 returns-clause-found c =

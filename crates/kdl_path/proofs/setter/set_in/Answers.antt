@@ -40,7 +40,7 @@ returns-in_ok-change_at-in-Ok-clause-set c = λ r ok there.
     let change = c.in_ok-change-in-Ok.change in
     let leads : Leads p.steps.items is (nodes_of d) None n = subst (λ (ss : List Step). Leads ss is (nodes_of d) None n) c.deref.ensures.value c.in-Ok.ensures.leads in
     let made : AtNode is (IsMade change) d e = subst (λ (l : List ℕ). AtNode l (IsMade change) d e) c.deref-in-Ok.ensures.value c.in_ok-change_at-in-Ok.ensures in
-    set_done p is d e n c.args.value change leads (c.in_ok-change-in-Ok.ensures.set (set_there p is d n leads there)) made r ok
+    set_done p.steps.items p.target is d e n c.args.value change leads (c.in_ok-change-in-Ok.ensures.set (set_there p is d n leads there)) made r ok
 
 pub returns-in_ok-change_at-in-Ok-clause-found : goal.returns-in_ok-change_at-in-Ok-clause-found
 returns-in_ok-change_at-in-Ok-clause-found c = λ u.

@@ -1,0 +1,6 @@
+-- Strings without quotes.
+pub mod Quoting
+-- What nodes print after their leading texts.
+pub mod Texts
+-- The steps of a PATH.
+pub mod Steps

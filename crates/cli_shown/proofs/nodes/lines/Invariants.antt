@@ -1,0 +1,8 @@
+use Rattle.std.proofs.Common.{◌≡◌, map, string_bytes, take}
+use Rattle.std.specs.List.{flat_map}
+use Rattle.cli_shown.specs.Nodes.{shown_at}
+use Rattle.cli_shown.proofs.nodes.lines.Given as goal
+
+-- what is shown of each path so far
+abbrev pub invariant-loop-path : goal.invariant-loop-path
+invariant-loop-path l = string_bytes l.out ≡ flat_map (shown_at l.view l.document) (map (λ p. p.items) (take l.path-index l.paths))

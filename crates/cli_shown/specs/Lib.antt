@@ -1,0 +1,6 @@
+-- Values, as they are shown.
+pub mod Values
+-- The PATH of a node.
+pub mod Names
+-- Nodes, as a view shows them.
+pub mod Nodes

@@ -1,0 +1,178 @@
+//! The nodes at paths of a document, as a view shows them.
+
+ghost use Rattle.cli_shown.specs.Nodes.{ended, ends_line, node_shown, node_text, shown, shown_at};
+ghost use Rattle.cli_shown.specs.Values.{line_of};
+ghost use Rattle.kdl.specs.Words.{document_says, node_prints, node_says, node_tree, said_argument};
+ghost use Rattle.kdl_json.specs.Form.{node_json_text};
+ghost use Rattle.std.specs.List.{flat_map};
+ghost use Rattle.std.specs.Option.{option_map_or};
+ghost use Rattle.std.specs.Prelude.{◌≡◌, ◌∷◌, ◌++◌, [], IfOk, OnOk, decimal, encode_utf8_all, map, string_bytes, true};
+
+use crate::names::push_path;
+use crate::values::push_value;
+use itoa::Buffer;
+use kdl::{KdlDocument, KdlNode, NodeKey};
+use kdl_json::node_to_json;
+use kdl_query::node_at;
+use std::alloc::{AllocError, Global};
+
+/// What is shown of nodes.
+#[derive(Clone, Copy)]
+pub enum View {
+    /// Each node as it is in the text, from its type or name to the end of its terminator, with a newline at the end.
+    Text,
+    /// The first argument of each node that has one, on a line: a string without quotes and escapes.
+    Raw,
+    /// The data of each node as JSON, on a line.
+    Json,
+    /// The number of nodes, on a line.
+    Count,
+    /// The PATH of each node, on a line.
+    Paths,
+}
+
+/// Returns what a view shows of the nodes at these paths, in order. Returns an error if an allocation fails.
+pub fn shown(
+    alloc: Global,
+    document: &KdlDocument,
+    paths: &[Vec<usize>],
+    view: View,
+) -> Result<String, AllocError>
+    ensures { IfOk result (λ s. string_bytes s
+        ≡ shown view document.now (map (λ p. p.items) paths.now)) }
+{
+    match view {
+        View::Count => count_line(alloc, paths.len()),
+        _ => lines(alloc, document, paths, view),
+    }
+}
+
+/// Returns a line with a number.
+fn count_line(alloc: Global, count: usize) -> Result<String, AllocError>
+    ensures { IfOk result (λ s. string_bytes s ≡ decimal count ++ 10 ∷ []) }
+{
+    let mut buffer = Buffer::new();
+    let mut line = String::from_str(alloc, buffer.format(count))?;
+    line.push('\n')?;
+    Ok(line)
+}
+
+/// Returns what a view shows of each node.
+fn lines(
+    alloc: Global,
+    document: &KdlDocument,
+    paths: &[Vec<usize>],
+    view: View,
+) -> Result<String, AllocError>
+    ensures { IfOk result (λ s. string_bytes s
+        ≡ flat_map (shown_at view document.now) (map (λ p. p.items) paths.now)) }
+{
+    let mut out = String::new(alloc);
+    for path in paths {
+        push_lines(alloc, &mut out, document, path, view)?;
+    }
+    Ok(out)
+}
+
+/// Appends what a view shows of the node at a path, if there is one.
+fn push_lines(
+    alloc: Global,
+    out: &mut String,
+    document: &KdlDocument,
+    path: &[usize],
+    view: View,
+) -> Result<(), AllocError>
+    ensures { OnOk result (string_bytes out.new
+        ≡ string_bytes out.old ++ shown_at view document.now path.now) }
+{
+    match node_at(document, path) {
+        Some(node) => push_node(alloc, out, document, path, node, view),
+        None => Ok(()),
+    }
+}
+
+/// Appends what a view shows of the node, which is at a path.
+fn push_node(
+    alloc: Global,
+    out: &mut String,
+    document: &KdlDocument,
+    path: &[usize],
+    node: &KdlNode,
+    view: View,
+) -> Result<(), AllocError>
+    ensures { OnOk result (string_bytes out.new
+        ≡ string_bytes out.old ++ node_shown view (document_says document.now) path.now node.now) }
+{
+    match view {
+        View::Text => push_text(alloc, out, node),
+        View::Raw => push_argument(alloc, out, node),
+        View::Json => push_json(alloc, out, node),
+        View::Count => Ok(()),
+        View::Paths => push_path(alloc, out, document, path),
+    }
+}
+
+/// Appends the text of a node after its leading text, and a newline if it does not end in one.
+fn push_text(alloc: Global, out: &mut String, node: &KdlNode) -> Result<(), AllocError>
+    ensures { OnOk result (string_bytes out.new
+        ≡ string_bytes out.old ++ ended (encode_utf8_all (node_text (node_tree node.now)))) }
+{
+    let printed = node.to_string(alloc)?;
+    push_ended(out, without_leading(&printed, node))
+}
+
+/// Returns what the node prints, without its leading text.
+fn without_leading<'a>(printed: &'a str, node: &KdlNode) -> &'a str
+    requires { printed.now ≡ encode_utf8_all (node_prints node.now) }
+    ensures { result.now ≡ encode_utf8_all (node_text (node_tree node.now)) }
+{
+    let Some(format) = node.format() else {
+        return printed;
+    };
+    match printed.strip_prefix(format.leading.as_str()) {
+        Some(text) => text,
+        None => printed,
+    }
+}
+
+/// Appends a text, and a newline if it does not end in one.
+fn push_ended(out: &mut String, text: &str) -> Result<(), AllocError>
+    ensures { OnOk result (string_bytes out.new ≡ string_bytes out.old ++ ended text.now) }
+{
+    out.push_str(text)?;
+    if ends_line(text) {
+        return Ok(());
+    }
+    out.push('\n')
+}
+
+/// Whether the text ends in a newline.
+fn ends_line(text: &str) -> bool
+    ensures { result ≡ ends_line text.now }
+{
+    match text.as_bytes().last() {
+        Some(last) => *last == b'\n',
+        None => false,
+    }
+}
+
+/// Appends a line with the first argument of a node, if there is one.
+fn push_argument(alloc: Global, out: &mut String, node: &KdlNode) -> Result<(), AllocError>
+    ensures { OnOk result (string_bytes out.new
+        ≡ string_bytes out.old ++ option_map_or (line_of true) (said_argument 0 (node_says node.now)) []) }
+{
+    match node.get(NodeKey::Index(0)) {
+        Some(value) => push_value(alloc, out, value, true),
+        None => Ok(()),
+    }
+}
+
+/// Appends a line with the JSON of a node.
+fn push_json(alloc: Global, out: &mut String, node: &KdlNode) -> Result<(), AllocError>
+    ensures { OnOk result (string_bytes out.new
+        ≡ string_bytes out.old ++ node_json_text (node_says node.now) ++ 10 ∷ []) }
+{
+    let json = node_to_json(alloc, node)?;
+    out.push_str(&json)?;
+    out.push('\n')
+}

@@ -1,0 +1,314 @@
+-- A document after an edit at each of some paths.
+use Rattle.std.proofs.Common.{◌≡◌, ◌<◌, inr, ℕ, zero, suc, Bool, true, false, Contains, List, [], ◌∷◌, ◌++◌, get_or, length, Option, None, Some, IsSome, is_some, option_and_then, option_map, refl, ap, ◌∙◌, sym, subst, arith, append_assoc, append-nil, Vec, Global, String, string_bytes, Ok}
+use Rattle.std.proofs.lemmas.List.{map-append}
+use Rattle.std.proofs.lemmas.List.Elements.{Contains-append_right}
+use Rattle.std.proofs.lemmas.Option.{none-some}
+use Rattle.std.specs.Str.{encode_utf8_all}
+use Rattle.std.specs.List.{AllByRecursion, AllPairs}
+use Rattle.kdl_entry.specs.Data.{Entry}
+use Rattle.kdl_grammar.specs.Data as data'
+use Rattle.kdl_text.specs.Chars.{Text}
+use Rattle.kdl_value.specs.Data.{Value}
+use Rattle.kdl_value.specs.Tree.{text_of, value_tree}
+use Rattle.kdl_layout.proofs.Texts.{printed_text}
+use Rattle.kdl_grammar.specs.Grammar.{IsDocument}
+use Rattle.c_calls.specs.Changes.{AtNode}
+use Rattle.c_calls.specs.Entries.{IsValueText}
+use Rattle.kdl.specs.DocumentLookups.{nodes_of}
+use Rattle.kdl.specs.Lookups.{entries_of}
+use Rattle.kdl.specs.ReadsBack.{DocumentReadsBack}
+use Rattle.kdl.specs.Said.{said_entries, said_nodes}
+use Rattle.kdl.specs.Tree.{document_prints, document_says, node_says}
+use Rattle.kdl.specs.declared.document.KdlDocument.{KdlDocument}
+use Rattle.kdl.specs.declared.node.KdlNode.{KdlNode}
+use Rattle.kdl_query.specs.Held.{held_at}
+use Rattle.kdl_query.specs.Selects as query
+use Rattle.kdl_query.specs.Data.{Query}
+use Rattle.kdl_query.specs.Selects.{IsBefore, IsSelected, IsSelection, Path}
+use Rattle.kdl_query.proofs.Holds.{held_says}
+use Rattle.kdl_path.specs.Each.{AreExchanged, IsRemovedAtEach, IsSetAtEach, RemoveEachFails, SetEachFails, edited_at, named_node, removed, value_at}
+use Rattle.kdl_path.specs.Edits.{entry_place, node_with_value, node_without_entry, with_target, without_target}
+use Rattle.kdl_path.specs.Internal.Changed.{IsValueSet}
+use Rattle.kdl_path.specs.Internal.Done.{IsDoneAt, IsNamed, IsRemovedAt}
+use Rattle.kdl_path.specs.Internal.Failing.{MissesIf}
+use Rattle.kdl_path.specs.Internal.Located.{Leads, place_of_target}
+use Rattle.kdl_path.specs.Internal.OnEach.{IsRemovedOnEach, IsSetOnEach, edited, edited_each, paths_of, removing, setting}
+use Rattle.kdl_path.specs.Paths as path
+use Rattle.kdl_path.specs.Paths.{value_in}
+use Rattle.kdl_path.specs.declared.failure.EditFailure.{EditFailure}
+use Rattle.kdl_path.specs.declared.failure.EditFailure.TheVariants as edit
+use Rattle.kdl_path.specs.declared.path.Step.{Step}
+use Rattle.kdl_path.specs.declared.path.Target.{Target}
+use Rattle.kdl_path.specs.declared.path.Target.TheVariants.{Node, Argument, Property}
+use Rattle.kdl_path.specs.declared.value.Spelled.{Spelled}
+use Rattle.kdl_path.proofs.Along.{changed_along, steps_to, without_along}
+use Rattle.kdl_path.proofs.Apart.{KeepsBefore, kept_before_each, nth_before, without_before}
+use Rattle.kdl_path.proofs.Edited.{out_says, target_missing, target_named}
+use Rattle.kdl_path.proofs.Everywhere.{Ascends, Replaces, everywhere}
+use Rattle.kdl_path.proofs.Places.{leads_said, value_is_there, value_missing}
+use Rattle.kdl_path.proofs.Values.{value_done}
+
+-- what a target names depends on the entries alone
+abbrev value_of : Target → List Entry → Option Value
+value_of t es = value_in t (data'.node None [] es data'.no_children)
+
+value_by_entries : (t : Target) (n : data'.Node) → value_in t n ≡ value_of t (said_entries n)
+value_by_entries Node n = refl
+value_by_entries (Argument i) n = refl
+value_by_entries (Property s) n = refl
+
+same_value : (t : Target) (a b : Option data'.Node) → option_map said_entries a ≡ option_map said_entries b → option_and_then (value_in t) a ≡ option_and_then (value_in t) b
+same_value t None None h = refl
+same_value t None (Some n) h = absurd (none-some _ h)
+same_value t (Some m) None h = absurd (none-some _ (sym h))
+same_value t (Some m) (Some n) h = let same : said_entries m ≡ said_entries n = cc in value_by_entries t m ∙ ap (value_of t) same ∙ sym (value_by_entries t n)
+
+abbrev names : Target → List Entry → Bool
+names Node es = true
+names (Argument i) es = is_some (entry_place (Argument i) es)
+names (Property s) es = is_some (entry_place (Property s) es)
+
+some_mapped : {A B : Type 0} (b : B) (o : Option A) → is_some (option_map (λ _. b) o) ≡ is_some o
+some_mapped b None = refl
+some_mapped b (Some x) = refl
+
+named_by_entries : (t : Target) (n : data'.Node) → is_some (with_target t n) ≡ names t (said_entries n)
+named_by_entries Node n = refl
+named_by_entries (Argument i) n = some_mapped n (entry_place (Argument i) (said_entries n))
+named_by_entries (Property s) n = some_mapped n (entry_place (Property s) (said_entries n))
+
+same_named : (t : Target) (a b : Option data'.Node) → option_map said_entries a ≡ option_map said_entries b → is_some (option_and_then (with_target t) a) ≡ is_some (option_and_then (with_target t) b)
+same_named t None None h = refl
+same_named t None (Some n) h = absurd (none-some _ h)
+same_named t (Some m) None h = absurd (none-some _ (sym h))
+same_named t (Some m) (Some n) h = let same : said_entries m ≡ said_entries n = cc in named_by_entries t m ∙ ap (names t) same ∙ sym (named_by_entries t n)
+
+none_as : {A B : Type 0} (a : Option A) (b : Option B) → is_some a ≡ is_some b → a ≡ None → b ≡ None
+none_as a None h e = refl
+none_as a (Some y) h e = let f : is_some a ≡ false = ap is_some e in absurd (cc)
+
+-- the edits leave what is before
+set_keeps : (t : Target) (v : Value) → KeepsBefore (setting t v)
+set_keeps t v i j x h = nth_before (node_with_value t v) i j x h
+
+removed_keeps : (t : Target) → KeepsBefore (removing t)
+removed_keeps Node i j x h = without_before i j x h
+removed_keeps (Argument k) i j x h = nth_before (node_without_entry (Argument k)) i j x h
+removed_keeps (Property s) i j x h = nth_before (node_without_entry (Property s)) i j x h
+
+value_kept : (t : Target) (v : Value) (given : Text) (p : Path) (ps : List Path) (d e : KdlDocument) → AllByRecursion (IsBefore p) ps → IsSetOnEach ps t v given d e → value_at t (document_says e) p ≡ value_at t (document_says d) p
+value_kept t v given p ps d e b h =
+    ap (λ x. value_at t x p) h.says ∙ same_value t (query.node_at p (edited_each (setting t v) ps (document_says d))) (query.node_at p (document_says d)) (kept_before_each (setting t v) (set_keeps t v) p ps (document_says d) b)
+
+named_kept : (t : Target) (p : Path) (ps : List Path) (d e : KdlDocument) → AllByRecursion (IsBefore p) ps → IsRemovedOnEach ps t d e → is_some (named_node t (document_says e) p) ≡ is_some (named_node t (document_says d) p)
+named_kept t p ps d e b h =
+    ap (λ x. is_some (named_node t x p)) h.says ∙ same_named t (query.node_at p (edited_each (removing t) ps (document_says d))) (query.node_at p (document_says d)) (kept_before_each (removing t) (removed_keeps t) p ps (document_says d) b)
+
+-- one path more
+pub contains_first : {A : Type 0} (p : A) (ps : List A) → Contains (p ∷ ps) p
+contains_first p ps = (0, omega arith, refl)
+
+contains_each : {A : Type 0} (P : A → Type 0) (p : A) (ps : List A) → P p → ((q : A) → Contains ps q → P q) → (q : A) → Contains (p ∷ ps) q → P q
+contains_each {A = A} P p ps h f q c = go c.0 c.1 c.2
+  where
+    go : (k : ℕ) → k < length (p ∷ ps) → get_or (p ∷ ps) k q ≡ q → P q
+    go zero l e = subst P e h
+    go (suc k) l e = f q (k, omega (arith, l), e)
+
+contains_nothing : {A : Type 0} (q : A) → Contains {X = A} [] q → ⊥
+contains_nothing q c = absurd (omega (arith, c.1))
+
+exchanged_next : {x y : data'.Nodes} {t : Target} {given : Text} {p : Path} {ps : List Path} {a b c : Text} → value_at t y p ≡ value_at t x p → AreExchanged x t given ps a b → AreExchanged y t given (p ∷ []) b c → AreExchanged x t given (p ∷ ps) a c
+exchanged_next same done (AreExchanged.exchange was former AreExchanged.nothing e) = AreExchanged.exchange was (λ v h. former v (same ∙ h)) done e
+
+pub set_none : (t : Target) (v : Value) (given : Text) (d : KdlDocument) → DocumentReadsBack d → IsSetOnEach [] t v given d d
+set_none t v given d r = record { reads = r; says = refl; bytes = AreExchanged.nothing; there = λ p c. absurd (contains_nothing p c) }
+
+set_next : (t : Target) (v : Value) (given : Text) (p : Path) (ps : List Path) (d e f : KdlDocument) → AllByRecursion (IsBefore p) ps → IsSetOnEach ps t v given d e → IsSetOnEach (p ∷ []) t v given e f → IsSetOnEach (p ∷ ps) t v given d f
+set_next t v given p ps d e f b done one =
+    let same = value_kept t v given p ps d e b done in
+    record {
+      reads = one.reads;
+      says = one.says ∙ ap (edited (setting t v) p) done.says;
+      bytes = exchanged_next same done.bytes one.bytes;
+      there = contains_each (λ q. IsSome (value_at t (document_says d) q)) p ps (subst (λ (o : Option Value). IsSome o) same (one.there p (contains_first p []))) done.there;
+    }
+
+pub removed_none : (t : Target) (d : KdlDocument) → DocumentReadsBack d → IsRemovedOnEach [] t d d
+removed_none t d r = record { reads = r; says = refl; there = λ p c. absurd (contains_nothing p c) }
+
+removed_next : (t : Target) (p : Path) (ps : List Path) (d e f : KdlDocument) → AllByRecursion (IsBefore p) ps → IsRemovedOnEach ps t d e → IsRemovedOnEach (p ∷ []) t e f → IsRemovedOnEach (p ∷ ps) t d f
+removed_next t p ps d e f b done one = record {
+  reads = one.reads;
+  says = one.says ∙ ap (edited (removing t) p) done.says;
+  there = contains_each (λ q. IsSome (named_node t (document_says d) q)) p ps (sym (named_kept t p ps d e b done) ∙ one.there p (contains_first p [])) done.there;
+}
+
+-- a path is before those after it
+each_after : (p : Path) (ps : List Path) → ((k : ℕ) (d : Path) → k < length ps → IsBefore p (get_or ps k d)) → AllByRecursion (IsBefore p) ps
+each_after p [] f = tt
+each_after p (q ∷ ps) f = (f 0 q (omega arith), each_after p ps (λ k d l. f (suc k) d (omega (arith, l))))
+
+after_these : (before : List Path) (p : Path) (ps : List Path) → AllPairs IsBefore (before ++ p ∷ ps) → AllByRecursion (IsBefore p) ps
+after_these [] p ps h = each_after p ps (λ k d l. h 0 (suc k) d (omega arith) (omega (arith, l)))
+after_these (q ∷ before) p ps h = after_these before p ps (λ i j d l m. h (suc i) (suc j) d (omega (arith, l)) (omega (arith, m)))
+
+-- the paths before the next one, and those that are done
+record Next (all before : List Path) (p : Path) (done : List Path) : Type 0 where
+  pub paths : all ≡ before ++ p ∷ done
+  pub ordered : AllByRecursion (IsBefore p) done
+
+next : (all rest before : List Path) (p : Path) (done : List Path) → AllPairs IsBefore all → all ≡ rest ++ done → rest ≡ before ++ p ∷ [] → Next all before p done
+next all rest before p done o h k =
+    let e : all ≡ before ++ p ∷ done = h ∙ ap (λ l. l ++ done) k ∙ append_assoc before (p ∷ []) done in
+    record { paths = e; ordered = after_these before p done (subst (AllPairs IsBefore) e o) }
+
+pub split_paths : (rest before : List (Vec ℕ Global)) (v : Vec ℕ Global) (p : Path) → rest ≡ before ++ v ∷ [] → p ≡ v.items → paths_of rest ≡ paths_of before ++ p ∷ []
+split_paths rest before v p h e = ap paths_of h ∙ map-append (λ (u : Vec ℕ Global). u.items) before (v ∷ []) ∙ ap (λ i. paths_of before ++ i ∷ []) (sym e)
+
+-- the loop of `set_at_paths`: the paths done, and the document there
+pub record IsSetSo (all rest : List Path) (t : Target) (v : Value) (given : Text) (d e : KdlDocument) : Type 0 where
+  pub done : List Path
+  pub paths : all ≡ rest ++ done
+  pub set : IsSetOnEach done t v given d e
+
+pub set_begins : (all rest : List Path) (t : Target) (v : Value) (given : Text) (d : KdlDocument) → all ≡ rest → DocumentReadsBack d → IsSetSo all rest t v given d d
+set_begins all rest t v given d h r = record { done = []; paths = h ∙ sym (append-nil rest); set = set_none t v given d r }
+
+pub set_goes : (all rest before : List Path) (p : Path) (t : Target) (v : Value) (given : Text) (d e f : KdlDocument) → AllPairs IsBefore all → rest ≡ before ++ p ∷ [] → IsSetSo all rest t v given d e → IsSetOnEach (p ∷ []) t v given e f → IsSetSo all before t v given d f
+set_goes all rest before p t v given d e f o k so one =
+    let n = next all rest before p so.done o so.paths k in
+    record { done = p ∷ so.done; paths = n.paths; set = set_next t v given p so.done d e f n.ordered so.set one }
+
+pub set_misses : (all rest before : List Path) (p : Path) (t : Target) (v : Value) (given : Text) (d e : KdlDocument) → AllPairs IsBefore all → rest ≡ before ++ p ∷ [] → IsSetSo all rest t v given d e → value_at t (document_says e) p ≡ None
+    → (q : Path) × Contains all q × (value_at t (document_says d) q ≡ None)
+set_misses all rest before p t v given d e o k so none =
+    let n = next all rest before p so.done o so.paths k in
+    (p, subst (λ l. Contains l p) (sym n.paths) (Contains-append_right before (p ∷ so.done) p (contains_first p so.done)), sym (value_kept t v given p so.done d e n.ordered so.set) ∙ none)
+
+-- the same of `remove_at_paths`
+pub record IsRemovedSo (all rest : List Path) (t : Target) (d e : KdlDocument) : Type 0 where
+  pub done : List Path
+  pub paths : all ≡ rest ++ done
+  pub removed : IsRemovedOnEach done t d e
+
+pub removal_begins : (all rest : List Path) (t : Target) (d : KdlDocument) → all ≡ rest → DocumentReadsBack d → IsRemovedSo all rest t d d
+removal_begins all rest t d h r = record { done = []; paths = h ∙ sym (append-nil rest); removed = removed_none t d r }
+
+pub removal_goes : (all rest before : List Path) (p : Path) (t : Target) (d e f : KdlDocument) → AllPairs IsBefore all → rest ≡ before ++ p ∷ [] → IsRemovedSo all rest t d e → IsRemovedOnEach (p ∷ []) t e f → IsRemovedSo all before t d f
+removal_goes all rest before p t d e f o k so one =
+    let n = next all rest before p so.done o so.paths k in
+    record { done = p ∷ so.done; paths = n.paths; removed = removed_next t p so.done d e f n.ordered so.removed one }
+
+pub removal_misses : (all rest before : List Path) (p : Path) (t : Target) (d e : KdlDocument) → AllPairs IsBefore all → rest ≡ before ++ p ∷ [] → IsRemovedSo all rest t d e → named_node t (document_says e) p ≡ None
+    → (q : Path) × Contains all q × (named_node t (document_says d) q ≡ None)
+removal_misses all rest before p t d e o k so none =
+    let n = next all rest before p so.done o so.paths k in
+    (p, subst (λ l. Contains l p) (sym n.paths) (Contains-append_right before (p ∷ so.done) p (contains_first p so.done)), none_as (named_node t (document_says e) p) (named_node t (document_says d) p) (named_kept t p so.done d e n.ordered so.removed) none)
+
+-- one path
+held_said : (p : Path) (d : KdlDocument) (n : KdlNode) → held_at p d ≡ Some n → query.node_at p (document_says d) ≡ Some (node_says n)
+held_said p d n h = sym (held_says p d) ∙ ap (option_map node_says) h
+
+pub set_on : (t : Target) (v : Value) (given : Text) (p : Path) (d e : KdlDocument) (n : KdlNode) (i : ℕ) → held_at p d ≡ Some n → place_of_target t (entries_of n) ≡ Some i → IsValueText given v → AtNode p (IsValueSet i v given) d e → DocumentReadsBack d
+    → IsSetOnEach (p ∷ []) t v given d e
+set_on t v given p d e n i h place ok at r =
+    let (ss, leads) = steps_to p d n h in
+    let x : IsDoneAt ss t v given d e = value_done ss t p d e n i v given leads place ok at r in
+    let here : value_at t (document_says d) p ≡ value_in t (node_says n) = ap (option_and_then (value_in t)) (held_said p d n h) in
+    let there : option_and_then (value_in t) (path.node_at ss (said_nodes (document_says d))) ≡ value_in t (node_says n) = ap (option_and_then (value_in t)) (leads_said ss p d n leads) in
+    record {
+      reads = x.reads;
+      says = x.says ∙ changed_along (node_with_value t v) (setting t v) (λ i y. refl) ss p d n leads;
+      bytes = AreExchanged.exchange x.was (λ w k. x.former w (there ∙ sym here ∙ k)) AreExchanged.nothing x.bytes;
+      there = contains_each (λ q. IsSome (value_at t (document_says d) q)) p [] (subst (λ (o : Option Value). IsSome o) (sym here) (value_is_there t n i (sym place))) (λ q c. absurd (contains_nothing q c));
+    }
+
+removed_along : (t : Target) (ss : List Step) (p : Path) (d : KdlDocument) (n : KdlNode) → Leads ss p (nodes_of d) None n → without_target t ss (document_says d) ≡ edited (removing t) p (document_says d)
+removed_along Node ss p d n h = without_along (removing Node) (λ i x. refl) ss p d n h
+removed_along (Argument k) ss p d n h = changed_along (node_without_entry (Argument k)) (removing (Argument k)) (λ i x. refl) ss p d n h
+removed_along (Property s) ss p d n h = changed_along (node_without_entry (Property s)) (removing (Property s)) (λ i x. refl) ss p d n h
+
+pub removed_on : (t : Target) (p : Path) (d e : KdlDocument) (n : KdlNode) (o : Option ℕ) → held_at p d ≡ Some n → IsNamed t n o → ((ss : List Step) → Leads ss p (nodes_of d) None n → IsRemovedAt ss t d e) → IsRemovedOnEach (p ∷ []) t d e
+removed_on t p d e n o h named f =
+    let (ss, leads) = steps_to p d n h in
+    let x = f ss leads in
+    record {
+      reads = x.reads;
+      says = x.says ∙ removed_along t ss p d n leads;
+      there = contains_each (λ q. IsSome (named_node t (document_says d) q)) p [] (ap (λ m. is_some (option_and_then (with_target t) m)) (held_said p d n h) ∙ target_named t n o named) (λ q c. absurd (contains_nothing q c));
+    }
+
+-- no path is selected
+no_items : {A : Type 0} (xs : List A) → length xs ≡ 0 → xs ≡ []
+no_items [] h = refl
+no_items (x ∷ xs) h = absurd (omega arith)
+
+pub none_selected : (x : data'.Nodes) (q : Query) (vs : List (Vec ℕ Global)) → IsSelection x q (paths_of vs) → length vs ≡ 0 → (p : Path) → IsSelected x q p → ⊥
+none_selected x q vs h e p s = contains_nothing p (subst (λ l. Contains (paths_of l) p) (no_items vs e) ((h.each p).1 s))
+
+-- what is missing at a path
+pub value_missing_at : (t : Target) (p : Path) (d : KdlDocument) (n : KdlNode) → Some (node_says n) ≡ query.node_at p (document_says d) → None ≡ place_of_target t (entries_of n) → value_at t (document_says d) p ≡ None
+value_missing_at t p d n h e = sym (ap (option_and_then (value_in t)) h) ∙ sym (value_missing t n e)
+
+pub name_missing_at : (t : Target) (p : Path) (d : KdlDocument) (n : KdlNode) → Some (node_says n) ≡ query.node_at p (document_says d) → (t ≡ Node → ⊥) × (place_of_target t (entries_of n) ≡ None) → named_node t (document_says d) p ≡ None
+name_missing_at t p d n h e = sym (ap (option_and_then (with_target t)) h) ∙ target_missing t n e.0 e.1
+
+-- the edits of all paths
+setting_replaces : (t : Target) (v : Value) → Replaces (setting t v) (λ n. Some (node_with_value t v n))
+setting_replaces t v = record { none = λ i. refl; zero = λ n x. refl; suc = λ i n x. refl }
+
+removing_replaces : (t : Target) → Replaces (removing t) (removed t)
+removing_replaces Node = record { none = λ i. refl; zero = λ n x. refl; suc = λ i n x. refl }
+removing_replaces (Argument k) = record { none = λ i. refl; zero = λ n x. refl; suc = λ i n x. refl }
+removing_replaces (Property s) = record { none = λ i. refl; zero = λ n x. refl; suc = λ i n x. refl }
+
+ascends : (ps : List Path) → AllPairs IsBefore ps → Ascends ps
+ascends [] h = tt
+ascends (p ∷ ps) h = (after_these [] p ps h, ascends ps (λ i j d l m. h (suc i) (suc j) d (omega (arith, l)) (omega (arith, m))))
+
+-- failures at a path that is selected
+pub set_each_missing : (q : Query) (t : Target) (given text : Text) (x : data'.Nodes) (ps : List Path) (e : EditFailure) → IsDocument text x → IsSelection x q ps → MissesIf ((p : Path) × Contains ps p × (value_at t x p ≡ None)) e
+    → SetEachFails q t given text e
+set_each_missing q t given text x ps (edit.Missing m) d s (p, c, h) = (x, d, inr (p, (s.each p).0 c, h))
+set_each_missing q t given text x ps edit.Memory d s h = tt
+set_each_missing q t given text x ps (edit.Text y) d s h = absurd h
+set_each_missing q t given text x ps edit.Value d s h = absurd h
+set_each_missing q t given text x ps (edit.Node y) d s h = absurd h
+set_each_missing q t given text x ps edit.NotNode d s h = absurd h
+
+pub remove_each_missing : (q : Query) (t : Target) (text : Text) (x : data'.Nodes) (ps : List Path) (e : EditFailure) → IsDocument text x → IsSelection x q ps → MissesIf ((p : Path) × Contains ps p × (named_node t x p ≡ None)) e → RemoveEachFails q t text e
+remove_each_missing q t text x ps (edit.Missing m) d s (p, c, h) = (x, d, inr (p, (s.each p).0 c, h))
+remove_each_missing q t text x ps edit.Memory d s h = tt
+remove_each_missing q t text x ps (edit.Text y) d s h = absurd h
+remove_each_missing q t text x ps edit.Value d s h = absurd h
+remove_each_missing q t text x ps (edit.Node y) d s h = absurd h
+remove_each_missing q t text x ps edit.NotNode d s h = absurd h
+
+-- the texts
+pub set_each_ends : (q : Query) (t : Target) (s : Spelled) (given text : Text) (ps : List Path) (d e : KdlDocument) (out : String Global) (x : data'.Nodes) → IsDocument text x → text_of s.spelling ≡ given → IsValueText given (value_tree s.value)
+    → ((z : data'.Nodes) → IsDocument text z → z ≡ document_says d) → document_prints d ≡ text → IsSelection (document_says d) q ps → (ps ≡ [] → ⊥) → IsSetOnEach ps t (value_tree s.value) (text_of s.spelling) d e
+    → string_bytes out ≡ encode_utf8_all (document_prints e) → IsSetAtEach x q t given text (text_of out)
+set_each_ends q t s given text ps d e out x is spelled ok only prints selection some set bytes =
+    let printed : text_of out ≡ document_prints e = printed_text {E = Unit {0}} (Ok out) (document_prints e) bytes in
+    let y = document_says d in
+    let chain : AreExchanged y t given ps text (text_of out) =
+    subst (λ (u : Text). AreExchanged y t u ps text (text_of out)) spelled
+    (subst (λ (u : Text). AreExchanged y t (text_of s.spelling) ps u (text_of out)) prints (subst (λ (u : Text). AreExchanged y t (text_of s.spelling) ps (document_prints d) u) (sym printed) set.bytes)) in
+    subst (λ (z : data'.Nodes). IsSetAtEach z q t given text (text_of out)) (sym (only x is)) (record {
+      paths = ps;
+      found = record { selection = selection; some = some; each = λ p k. set.there p ((selection.each p).1 k) };
+      value = value_tree s.value;
+      reads = ok;
+      says = out_says e out (edited_at ps (λ n. Some (node_with_value t (value_tree s.value) n)) y) bytes set.reads (set.says ∙ everywhere (setting t (value_tree s.value)) (λ n. Some (node_with_value t (value_tree s.value) n)) (setting_replaces t (value_tree s.value)) ps (ascends ps selection.ordered) y);
+      bytes = chain;
+    })
+
+pub remove_each_ends : (q : Query) (t : Target) (text : Text) (ps : List Path) (d e : KdlDocument) (out : String Global) (x : data'.Nodes) → IsDocument text x → ((z : data'.Nodes) → IsDocument text z → z ≡ document_says d)
+    → IsSelection (document_says d) q ps → (ps ≡ [] → ⊥) → IsRemovedOnEach ps t d e → string_bytes out ≡ encode_utf8_all (document_prints e) → IsRemovedAtEach x q t (text_of out)
+remove_each_ends q t text ps d e out x y only selection some h bytes =
+    subst (λ (z : data'.Nodes). IsRemovedAtEach z q t (text_of out)) (sym (only x y)) (record {
+      paths = ps;
+      found = record { selection = selection; some = some; each = λ p k. h.there p ((selection.each p).1 k) };
+      says = out_says e out (edited_at ps (removed t) (document_says d)) bytes h.reads (h.says ∙ everywhere (removing t) (removed t) (removing_replaces t) ps (ascends ps selection.ordered) (document_says d));
+    })
