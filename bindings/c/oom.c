@@ -50,8 +50,9 @@ static uint8_t out[4096], s[4096];
 static struct kdl_row rows[64];
 static struct kdl_fault faults[16];
 static struct kdl_report reports[16];
+static size_t indices[64];
 
-enum { CALLS = 23 };
+enum { CALLS = 28 };
 static uint32_t call(int which, struct kdl_document *d) {
     static const size_t first[] = {0}, large[] = {1, 0};
     size_t n, m;
@@ -78,6 +79,11 @@ static uint32_t call(int which, struct kdl_document *d) {
     case 19: return kdl_set_type(d, first, 1, SIZE_MAX, 1, T("a new type"));
     case 20: return kdl_set_type(d, first, 1, 1, 1, T("a new type"));
     case 21: return kdl_find_entry(d, first, 1, T("k"), &n);
+    case 22: return kdl_query(d, T("b >> [val()] || a"), indices, 64, &m, &n);
+    case 23: return kdl_faults_of(KDL_AS_QUERY, T("a > b c"), faults, 16, &m, s, sizeof s, &n);
+    case 24: return kdl_argument(d, first, 1, 0, rows, s, sizeof s, &n);
+    case 25: return kdl_find_path(d, T("b/\"d e\""), indices, 64, &n);
+    case 26: return kdl_get_path(d, T("b/c#0"), rows, s, sizeof s, &n);
     default: return kdl_get(d, T("a"), rows, s, sizeof s, &n);
     }
 }
@@ -102,7 +108,7 @@ static bool has_the_data(const uint8_t *other, size_t other_len) {
 
 /* Makes the call with the allocation of that number failing. Returns whether there was one. */
 static bool refuses(int which, long number) {
-    bool has_faults = which >= 5 && which <= 7, lays_out = which == 2 || which == 3;
+    bool has_faults = (which >= 5 && which <= 7) || which == 23, lays_out = which == 2 || which == 3;
     struct kdl_document d = none();
     size_t n;
     CHECK(kdl_parse(T(text), &d) == KDL_OK);

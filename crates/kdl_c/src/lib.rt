@@ -10,5 +10,7 @@ mod edits;
 mod layouts;
 mod look_ups;
 mod position;
+mod queries;
 mod rows;
+mod selection;
 mod version;

@@ -36,7 +36,8 @@ mod value;
 
 pub use failure::{EditFailure, GetFailure, Missing};
 pub use insertion::insert;
-pub use lookup::{get, get_all};
+pub use locate::Located;
+pub use lookup::{find, find_entry, get, get_all};
 pub use path::{Path, PathFailure, PathFault, Step, Target};
 pub use removal::remove;
 pub use setter::set;
