@@ -1,5 +1,5 @@
 -- One path more, after those that are one after another.
-use Rattle.std.proofs.Common.{◌≡◌, ℕ, ◌+◌, ◌<◌, List, [], ◌∷◌, ◌++◌, ap, ◌∙◌, sym, refl, append_assoc, append-nil, length, map, slice_index_or, take}
+use Rattle.std.proofs.Common.{◌≡◌, ℕ, ◌+◌, ◌<◌, List, [], ◌∷◌, ◌++◌, ap, ◌∙◌, sym, append_assoc, append-nil, length, map, slice_index_or, take}
 use Rattle.std.proofs.lemmas.List.{map-append, take_more}
 use Rattle.kdl_c.specs.Queries.{flat}
 

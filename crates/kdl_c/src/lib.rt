@@ -9,6 +9,7 @@ mod documents;
 mod edits;
 mod layouts;
 mod look_ups;
+mod places;
 mod position;
 mod queries;
 mod rows;

@@ -7,7 +7,7 @@ ghost use Rattle.c_calls.specs.Rows.{AreTold};
 ghost use Rattle.kdl.specs.Words.{InText};
 ghost use Rattle.kdl_query.specs.Data.{Query as QueryData};
 ghost use Rattle.kdl_query.specs.QueryText.{IsQuery};
-ghost use Rattle.std.specs.Prelude.{◌≡◌, ◌++◌, ◌<◌, ◌≤◌, ◌∷◌, [], IfOk, List, drop, length, map};
+ghost use Rattle.std.specs.Prelude.{◌≡◌, ◌++◌, ◌<◌, ◌∷◌, [], IfOk, List, drop, length, map};
 ghost use Rattle.std.specs.Str.{chars};
 
 use c_calls::faults::KdlFault;

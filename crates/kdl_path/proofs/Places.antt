@@ -185,6 +185,9 @@ value_found t n i e p h =
     let value = λ (o : Option KdlEntry). option_map (λ (x : KdlEntry). value_tree (entry_value_of x)) o in
     sym (ap value h) ∙ ap (λ o. value (there o (entries_of n))) p ∙ value_said_there t n
 
+pub value_missing : (t : Target) (n : KdlNode) → None ≡ place_of_target t (entries_of n) → None ≡ value_in t (node_says n)
+value_missing t n p = ap (λ o. value_there o n) p ∙ value_said_there t n
+
 -- the entry of a target
 entry_said_there : (t : Target) (n : KdlNode) → option_map entry_says (there (place_of_target t (entries_of n)) (entries_of n)) ≡ entry_in t (node_says n)
 entry_said_there Node n = nth_argument_said 0 n

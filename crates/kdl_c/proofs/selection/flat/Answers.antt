@@ -1,4 +1,4 @@
-use Rattle.std.proofs.Common.{rules, ◌≡◌, ◌++◌, ◌∷◌, [], ◌∙◌, ℕ, List, ap, append_assoc, length, map, sym, take}
+use Rattle.std.proofs.Common.{rules, ◌≡◌, ◌++◌, ◌∷◌, [], ◌∙◌, ℕ, List, ap, append_assoc, length, map, sym}
 use Rattle.std.proofs.lemmas.List.{take_all}
 use Rattle.kdl_c.specs.Queries.{flat}
 use Rattle.kdl_c.proofs.FlatSteps.{flat_more}

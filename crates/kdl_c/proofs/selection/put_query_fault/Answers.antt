@@ -1,4 +1,4 @@
-use Rattle.std.proofs.Common.{rules, refl, ◌≡◌, ◌∷◌, [], ℕ, List, length, slice_set}
+use Rattle.std.proofs.Common.{rules, refl, ◌≡◌, ◌∷◌, [], length, slice_set}
 use Rattle.c_calls.specs.Listed.{Fault}
 use Rattle.c_calls.specs.declared.faults.KdlFault.{KdlFault}
 use Rattle.c_calls.proofs.RowSteps.{none_told, told_more}
