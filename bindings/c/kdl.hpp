@@ -633,33 +633,38 @@ inline std::string format_text(std::string_view text) {
     return out;
 }
 
-/// Returns a string in KDL between quotes, with escapes for what a document cannot have as it is.
+namespace detail {
+
+/// Whether a character may be between quotes as it is, without an escape.
+inline bool is_plain(std::uint32_t code) noexcept {
+    bool is_control = code < 0x20 || code == 0x7F || code == 0x85; // and newlines
+    bool is_direction = code == 0x200E || code == 0x200F || (code >= 0x2028 && code <= 0x202E) ||
+                        (code >= 0x2066 && code <= 0x2069); // and newlines
+    return !is_control && !is_direction && code != 0xFEFF && code != '"' && code != '\\';
+}
+
+} // namespace detail
+
+/// Returns a string in KDL between quotes, with escapes for what cannot be there as it is. A text that is not UTF-8 stays
+/// so.
 inline std::string quoted(std::string_view text) {
     std::string out = "\"";
-    for (std::size_t i = 0; i < text.size(); i++) {
-        auto at = [&](std::size_t k) -> unsigned {
-            return i + k < text.size() ? static_cast<unsigned char>(text[i + k]) : 0U;
-        };
-        unsigned code = at(0), size = 1;
-        if (code == 0xC2) { // U+0080 .. U+00BF
-            code = at(1), size = 2;
-        } else if (code == 0xE2 || code == 0xEF) { // U+2000 .. U+2FFF, U+F000 .. U+FFFF
-            code = (code & 15U) << 12 | (at(1) & 63U) << 6 | (at(2) & 63U), size = 3;
+    for (std::size_t i = 0, size = 0; i < text.size(); i += size) {
+        auto at = [&](std::size_t k) { return static_cast<unsigned char>(i + k < text.size() ? text[i + k] : 0); };
+        std::uint32_t code = at(0);
+        size = code < 0xC0 ? 1 : code < 0xE0 ? 2 : code < 0xF0 ? 3 : 4;
+        bool is_stray = code >= 0x80 && size == 1;
+        code = size == 1 ? code : code & 0x7FU >> size;
+        for (std::size_t k = 1; k < size; k++) {
+            code = code << 6 | (at(k) & 63U);
         }
-        bool is_plain = code >= 0x20 && code != 0x7F && code != 0x85 && code != 0x200E && code != 0x200F &&
-                        !(code >= 0x2028 && code <= 0x202E) && !(code >= 0x2066 && code <= 0x2069) &&
-                        code != 0xFEFF;
-        if (code == '"' || code == '\\') {
-            out += '\\';
-        }
-        if (is_plain) {
+        if (is_stray || detail::is_plain(code)) {
             out += text.substr(i, size);
         } else {
             char escape[16];
-            std::snprintf(escape, sizeof escape, "\\u{%x}", code);
+            std::snprintf(escape, sizeof escape, "\\u{%x}", static_cast<unsigned>(code));
             out += escape;
         }
-        i += size - 1;
     }
     return out += '"';
 }

@@ -3,31 +3,35 @@
 ghost use Rattle.kdl.specs.Words.{document_says, said_nodes};
 ghost use Rattle.kdl_c.specs.Statuses.{IsAmong};
 ghost use Rattle.c_calls.specs.Says.{IsWithin, SaysEntry};
-ghost use Rattle.c_calls.specs.declared.status.Unread.TheVariants.{NotUtf8};
 ghost use Rattle.kdl_path.specs.Paths.{AreIndices, entry_at, node_at};
 ghost use Rattle.kdl_path.specs.declared.path.Path.{Path as PathData};
-ghost use Rattle.std.specs.Prelude.{◌≡◌, ◌++◌, ◌<◌, ◌≤◌, ◌∷◌, [], IfErr, IfSome, IsNone, IsSome, IsSomeAnd, List, None, drop, length, take, ℕ};
+ghost use Rattle.std.specs.Prelude.{◌≡◌, ◌++◌, ◌<◌, ◌≤◌, ◌∷◌, [], IfErr, IsNone, IsSome, IsSomeAnd, List, None, drop, length, take, ℕ};
 ghost use Rattle.std.specs.Str.{IsUtf8};
 
 use crate::selection::put_numbers;
 use c_calls::held::Handle;
 use c_calls::row::{KdlRow, put_found};
-use c_calls::status::{NO_DOCUMENT, NOT_FOUND, OUT_OF_MEMORY, Unread};
+use c_calls::status::{FAULTS, NO_DOCUMENT, NOT_FOUND, NOT_UTF8, OUT_OF_MEMORY};
 use kdl::KdlDocument;
 use kdl_path::{Path, PathFailure, find, find_entry};
 use std::alloc::Global;
 
-/// Reads a PATH. Fails if the text is not UTF-8 or not a PATH, or if an allocation fails.
-fn path_of(alloc: Global, place: &[u8]) -> Result<Path, Unread>
-    ensures utf8 { IfErr result (λ r. r ≡ NotUtf8 → IsUtf8 place.now → ⊥) }
+/// Reads a PATH. Returns `NOT_UTF8` if the text is not UTF-8, `FAULTS` if it is not a PATH, and `OUT_OF_MEMORY` if an
+/// allocation fails.
+fn path_of(alloc: Global, place: &[u8]) -> Result<Path, u32>
+    ensures not_done { IfErr result (λ s. s ≡ 0 → ⊥) }
+    ensures room { IfErr result (λ s. s ≡ 4 → ⊥) }
+    ensures held { IfErr result (λ s. s ≡ 5 → ⊥) }
+    ensures found { IfErr result (λ s. s ≡ 6 → ⊥) }
+    ensures utf8 { IfErr result (λ s. s ≡ 2 → IsUtf8 place.now → ⊥) }
 {
     let Ok(text) = std::str::from_utf8(place) else {
-        return Err(Unread::NotUtf8);
+        return Err(NOT_UTF8);
     };
     match Path::parse(alloc, text) {
         Ok(path) => Ok(path),
-        Err(PathFailure::Syntax(_, _)) => Err(Unread::Faults),
-        Err(PathFailure::Memory) => Err(Unread::Memory),
+        Err(PathFailure::Syntax(_, _)) => Err(FAULTS),
+        Err(PathFailure::Memory) => Err(OUT_OF_MEMORY),
     }
 }
 
@@ -72,7 +76,7 @@ fn put_entry_at(
 ) -> u32
     ensures there { IsAmong (0 ∷ 4 ∷ []) result
         → IsSome (entry_at path.now (document_says document.now)) }
-    ensures says { result ≡ 0 → IfSome (entry_at path.now (document_says document.now)) (λ e.
+    ensures says { result ≡ 0 → IsSomeAnd (entry_at path.now (document_says document.now)) (λ e.
         SaysEntry (take string_len.new strings.new) row.new e) }
     ensures absent { result ≡ 6 → entry_at path.now (document_says document.now) ≡ None }
     ensures within { result ≡ 0 → IsWithin string_len.new row.new }
@@ -115,7 +119,7 @@ pub extern "C" fn kdl_find_path(
     *needed = 0;
     let path = match path_of(alloc, place) {
         Ok(path) => path,
-        Err(unread) => return unread.status(),
+        Err(status) => return status,
     };
     let Some(held) = document.take(alloc) else {
         return NO_DOCUMENT;
@@ -145,13 +149,12 @@ pub extern "C" fn kdl_get_path(
     ensures within { result ≡ 0 → IsWithin string_len.new row.new }
     ensures strings { result ≡ 0 → string_len.new ≤ length strings.old }
     ensures same { document.new.held.document ≡ document.old.held.document }
-    ensures utf8 { result ≡ 2 → IsUtf8 place.now → ⊥ }
     ensures missing { result ≡ 5 → IsNone document.old.held.document }
 {
     *string_len = 0;
     let path = match path_of(alloc, place) {
         Ok(path) => path,
-        Err(unread) => return unread.status(),
+        Err(status) => return status,
     };
     let Some(held) = document.take(alloc) else {
         return NO_DOCUMENT;

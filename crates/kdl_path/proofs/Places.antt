@@ -126,10 +126,10 @@ indices_said [] [] ns o n h = tt
 indices_said [] (i ∷ is) ns o n h = absurd h
 indices_said (s ∷ ss) [] ns o n h = absurd h
 indices_said (s ∷ ss) (i ∷ is) ns o n h = (
-    sym (place_said s ns) ∙ h.1,
-    subst (λ (x : Option NodeData). IsSomeAnd x (λ y. AreIndices ss is (said_child_nodes y))) (sym (slice_get-map node_says ns i ∙ ap (option_map node_says) h.2))
-    (subst (AreIndices ss is) (got_child_nodes h.0 (child_nodes h.0) refl) (indices_said ss is (child_nodes h.0) (Some h.0) n h.3)),
-  )
+  sym (place_said s ns) ∙ h.1,
+  subst (λ (x : Option NodeData). IsSomeAnd x (λ y. AreIndices ss is (said_child_nodes y))) (sym (slice_get-map node_says ns i ∙ ap (option_map node_says) h.2))
+      (subst (AreIndices ss is) (got_child_nodes h.0 (child_nodes h.0) refl) (indices_said ss is (child_nodes h.0) (Some h.0) n h.3)),
+)
 
 pub leads_indices : (ss : List Step) (is : List ℕ) (d : KdlDocument) (n : KdlNode) → Leads ss is (nodes_of d) None n → AreIndices ss is (said_nodes (document_says d))
 leads_indices ss is d n h = subst (AreIndices ss is) (nodes_said d) (indices_said ss is (nodes_of d) None n h)

@@ -10,7 +10,8 @@ ghost use Rattle.std.specs.Prelude.{◌≡◌, ◌++◌, IfErr, IfOk, IfSome, No
 
 use crate::failure::{GetFailure, Missing};
 use crate::locate::{
-    Located, Lost, child_nodes, entry_place, is_named, locate, missing_entry, missing_node, step_index,
+    Located, Lost, child_nodes, entry_place, is_named, locate, missing_entry, missing_node,
+    step_index,
 };
 use crate::path::{Path, Step, Target};
 use kdl::{KdlDocument, KdlEntry, KdlNode, KdlValue};

@@ -31,7 +31,7 @@ returns-in-Refused-clause-listed c = λ _.
     let of : AreFaultsOf t (map fault_of c.deref.result.now) = (e, told.0, ap (map fault_of) c.deref.ensures.value) in (
       map fault_of c.deref.result.now,
       as_other c.args.kind c.args.text.now (map fault_of c.deref.result.now) (search rules)
-      (subst (λ s. AreFaultsAs c.args.kind s (map fault_of c.deref.result.now)) same (inl (of, told.2))),
+          (subst (λ s. AreFaultsAs c.args.kind s (map fault_of c.deref.result.now)) same (inl (of, told.2))),
       c.put_faults.ensures.listed,
     )
 
@@ -42,6 +42,6 @@ returns-in-NotValue-clause-listed c = λ _.
     let told = subst (Outcome c.args.kind t) c.in-NotValue.is c.in-Some.ensures.some in (
       not_value t ∷ [],
       as_other c.args.kind c.args.text.now (not_value t ∷ []) (search rules)
-      (subst (λ s. AreFaultsAs c.args.kind s (not_value t ∷ [])) same (inr (told.0, told.1, refl))),
+          (subst (λ s. AreFaultsAs c.args.kind s (not_value t ∷ [])) same (inr (told.0, told.1, refl))),
       c.put_not_value.ensures.listed,
     )

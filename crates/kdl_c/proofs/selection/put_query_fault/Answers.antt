@@ -27,7 +27,7 @@ returns-then-not-is_empty-clause-listed c =
       f ∷ [],
       (f, c.requires, refl),
       listed_one f out (slice_set out 0 row) c.args.strings.now p.new.strings p.new.used p.result.start p.result.len (search rules)
-      p.ensures.start p.ensures.len refl p.ensures.put,
+          p.ensures.start p.ensures.len refl p.ensures.put,
     )
 
 pub returns-else-not-is_empty-clause-listed : goal.returns-else-not-is_empty-clause-listed
@@ -41,5 +41,5 @@ returns-else-not-is_empty-clause-listed c =
       f ∷ [],
       (f, c.requires, refl),
       listed_one f out out c.args.strings.now p.new.strings p.new.used p.result.start p.result.len (search rules)
-      p.ensures.start p.ensures.len (none_set out row none) p.ensures.put,
+          p.ensures.start p.ensures.len (none_set out row none) p.ensures.put,
     )
