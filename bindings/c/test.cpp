@@ -163,7 +163,7 @@ void edits() {
     document.insert_node({}, 2, "last");
     document.remove_node(server, 1);
     CHECK(document.text() ==
-          "server host=\"::1\" b 1 {\n    port (u16)9090 // usual\n}\n\"c d\" k=1\nlast\n");
+          "server host=\"::1\" b 1 {\n    port (u16)9090 // usual\n}\n\"c d\" k=1\nlast");
     std::string before = document.text();
     CHECK(thrown([&] { document.set_value(port, 0, "k=1"); }) == KDL_FAULTS);
     CHECK(thrown([&] { document.insert_entry(port, 0, "a b"); }) == KDL_FAULTS);
