@@ -19,8 +19,9 @@
  * Ownership. A `struct kdl_document` belongs to the caller and begins as {0}, without a document.
  * kdl_parse puts a document in and frees the one before; kdl_free frees it, and may be called
  * twice. What the struct holds belongs to the library: never write into it, never copy a struct
- * that has a document, and free each one before its storage ends. The memory comes from the
- * program's malloc, realloc and free, which have to align to 16 bytes.
+ * that has a document, and free each one before its storage ends. It may be moved: copied, if the
+ * old struct is set to {0} before the next call. The memory comes from the program's malloc,
+ * realloc and free, which have to align to 16 bytes.
  *
  * Threads. A call on a document takes the document out of the struct while it runs, even if it only
  * reads: make one call at a time on each document. Different documents may be used on different
@@ -44,7 +45,7 @@ extern "C" {
 
 /* The number of this interface. A later library with the same calls and structs, or more of them,
  * returns the same number or a larger one from kdl_version. */
-#define KDL_VERSION 1
+#define KDL_VERSION 2
 uint32_t kdl_version(void);
 
 /* A string literal as the two arguments of a text: its bytes without the NUL, and their number. */
@@ -62,6 +63,21 @@ enum {
     KDL_NOT_FOUND = 6      /* what the call names is not there: a node, block, entry, index, offset
                               or kind */
 };
+
+/* The text of a status, as "out of memory"; of another number, "unknown status". It ends in a NUL,
+ * and lasts as long as the program. */
+static inline const char *kdl_status_text(uint32_t status) {
+    switch (status) {
+    case KDL_OK: return "success";
+    case KDL_FAULTS: return "the text has faults";
+    case KDL_NOT_UTF8: return "the text is not UTF-8";
+    case KDL_OUT_OF_MEMORY: return "out of memory";
+    case KDL_TOO_SMALL: return "a buffer has too little room";
+    case KDL_NO_DOCUMENT: return "there is no document";
+    case KDL_NOT_FOUND: return "not found";
+    default: return "unknown status";
+    }
+}
 
 struct kdl_document { bool live; void *at; };
 
@@ -127,12 +143,18 @@ uint32_t kdl_faults(const uint8_t *text, size_t text_len,
                     struct kdl_fault *faults, size_t room, size_t *count,
                     uint8_t *strings, size_t strings_room, size_t *strings_len);
 
-/* How kdl_faults_of reads a text: as kdl_parse, kdl_insert_node, kdl_insert_entry and kdl_set_value
- * do. */
-enum { KDL_AS_DOCUMENT = 0, KDL_AS_NODE = 1, KDL_AS_ENTRY = 2, KDL_AS_VALUE = 3 };
+/* How kdl_faults_of reads a text: as kdl_parse, kdl_insert_node, kdl_insert_entry, kdl_set_value and
+ * kdl_query do. */
+enum {
+    KDL_AS_DOCUMENT = 0,
+    KDL_AS_NODE = 1,
+    KDL_AS_ENTRY = 2,
+    KDL_AS_VALUE = 3,
+    KDL_AS_QUERY = 4 /* since version 2 */
+};
 
-/* Lists the faults of a text of the given kind, as kdl_faults does. For any other kind, returns
- * KDL_NOT_FOUND and sets both counts to 0. */
+/* Lists the faults of a text of the given kind, as kdl_faults does. A query has one fault: the first
+ * one. For any other kind, returns KDL_NOT_FOUND and sets both counts to 0. */
 uint32_t kdl_faults_of(uint32_t kind, const uint8_t *text, size_t text_len,
                        struct kdl_fault *faults, size_t room, size_t *count,
                        uint8_t *strings, size_t strings_room, size_t *strings_len);
@@ -247,6 +269,56 @@ uint32_t kdl_find_entry(struct kdl_document *document, const size_t *path, size_
  * `strings`. */
 uint32_t kdl_get(struct kdl_document *document, const uint8_t *name, size_t name_len,
                  struct kdl_row *row, uint8_t *strings, size_t strings_room, size_t *strings_len);
+
+/* Writes the row of an argument of a node: arguments alone are counted, from 0. `path` is the node's
+ * own. Returns KDL_NOT_FOUND if there is no such node or argument. After KDL_TOO_SMALL, `*row` is set
+ * too; read nothing of `strings`. Since version 2. */
+uint32_t kdl_argument(struct kdl_document *document, const size_t *path, size_t path_len,
+                      size_t number, struct kdl_row *row,
+                      uint8_t *strings, size_t strings_room, size_t *strings_len);
+
+/* ---- Queries, and PATHs ---- */
+
+/* Finds the nodes that a query selects, such as "server > port[val() >= 1024]". Writes their paths
+ * into `indices`, in the order of the document, one after another: each path as its length, and then
+ * its indices. Sets `*count` to the number of paths, and `*needed` to the number of `size_t` that
+ * they take. A node's path is its own, as kdl_node takes it:
+ *
+ *     for (size_t i = 0; i < needed; i += 1 + indices[i]) {
+ *         kdl_node(&document, &indices[i + 1], indices[i], ..);
+ *     }
+ *
+ * After KDL_TOO_SMALL, `indices` is as it was, and both counts are set. Returns KDL_FAULTS if the
+ * text is not a query: kdl_faults_of with KDL_AS_QUERY says why. Returns KDL_NOT_UTF8 if it is not
+ * UTF-8. After any status but KDL_OK and KDL_TOO_SMALL, both counts are 0. Since version 2. */
+uint32_t kdl_query(struct kdl_document *document, const uint8_t *query, size_t query_len,
+                   size_t *indices, size_t room, size_t *count, size_t *needed);
+
+/* A PATH is a text that names a node by the names down to it, and may name an entry of that node:
+ *
+ *     server/port      the first node `port` in the block of the first node `server`; as an entry,
+ *                      its argument 0
+ *     server[2]/port   the same in the third `server`: nodes of one name are counted from 0
+ *     server/port#1    its argument 1: arguments are counted from 0
+ *     server/@host     the last property `host` of `server`
+ *
+ * A name is a KDL string. One that contains `/`, `[`, `]` or `#`, or begins with `@`, or is not a
+ * bare string, is written in quotes. The two calls return KDL_FAULTS if the text is not a PATH,
+ * KDL_NOT_UTF8 if it is not UTF-8, and KDL_NOT_FOUND if the document does not have what it names;
+ * it never has `/`, which is the document itself. */
+
+/* Finds the path of the node that a PATH leads to. If the PATH names an entry, that is the node of
+ * the entry, whether or not it has it. Sets `*needed` to the number of indices. After any status but
+ * KDL_OK, `path` is as it was; after any but KDL_OK and KDL_TOO_SMALL, `*needed` is 0. Since
+ * version 2. */
+uint32_t kdl_find_path(struct kdl_document *document, const uint8_t *place, size_t place_len,
+                       size_t *path, size_t room, size_t *needed);
+
+/* Writes the row of the entry that a PATH names. After KDL_TOO_SMALL, `*row` is set too; read nothing
+ * of `strings`. Since version 2. */
+uint32_t kdl_get_path(struct kdl_document *document, const uint8_t *place, size_t place_len,
+                      struct kdl_row *row, uint8_t *strings, size_t strings_room,
+                      size_t *strings_len);
 
 /* ---- Edits ---- */
 

@@ -74,8 +74,27 @@ static void faults(void) {
     CHECK(kdl_faults_of(KDL_AS_VALUE, T("/*x*/0"), f, 4, &count, s, sizeof s, &len) == KDL_FAULTS);
     CHECK(count == 1 && f[0].start == 0 && f[0].len == 6 && len);
     CHECK(kdl_faults_of(KDL_AS_ENTRY, T("/*x*/0"), f, 4, &count, s, sizeof s, &len) == KDL_OK);
-    CHECK(kdl_faults_of(4, T("a"), f, 4, &count, s, sizeof s, &len) == KDL_NOT_FOUND);
+    /* a query has one fault */
+    CHECK(kdl_faults_of(KDL_AS_QUERY, T("a > b"), f, 4, &count, s, sizeof s, &len) == KDL_OK);
     CHECK(!count && !len);
+    CHECK(kdl_faults_of(KDL_AS_QUERY, T("a b"), f, 4, &count, s, sizeof s, &len) == KDL_FAULTS);
+    CHECK(count == 1 && f[0].start == 2 && f[0].len == 1 && f[0].message_start == 0);
+    CHECK(is_text(s, len, T("Expected an operator")) && f[0].message_len == len);
+    CHECK(kdl_faults_of(KDL_AS_QUERY, T(""), f, 0, &count, s, 0, &len) == KDL_FAULTS && count == 1);
+    CHECK(kdl_faults_of(KDL_AS_QUERY, (const uint8_t *)"\xff", 1, f, 4, &count, s, 9, &len) ==
+          KDL_NOT_UTF8);
+    CHECK(!count && !len);
+    CHECK(kdl_faults_of(5, T("a"), f, 4, &count, s, sizeof s, &len) == KDL_NOT_FOUND);
+    CHECK(!count && !len);
+}
+
+static void statuses(void) {
+    for (uint32_t i = KDL_OK; i <= KDL_NOT_FOUND; i++) {
+        CHECK(strcmp(kdl_status_text(i), kdl_status_text(i + 1)) != 0);
+    }
+    CHECK(strcmp(kdl_status_text(KDL_OUT_OF_MEMORY), "out of memory") == 0);
+    CHECK(strcmp(kdl_status_text(KDL_NOT_FOUND + 1), "unknown status") == 0);
+    CHECK(strcmp(kdl_status_text(UINT32_MAX), "unknown status") == 0);
 }
 
 static void positions(void) {
@@ -155,6 +174,103 @@ static void reading(void) {
     CHECK(kdl_get(&d, T("n"), &row, s, 0, &n) == KDL_TOO_SMALL && n == 4);
     CHECK(row.kind == KDL_ARGUMENT && row.value == KDL_STRING && row.text_len == 4);
     kdl_free(&d);
+}
+
+/* Fills the buffer with a number that no path has. */
+static void blank(size_t *out, size_t room) {
+    for (size_t i = 0; i < room; i++) {
+        out[i] = SIZE_MAX;
+    }
+}
+
+static void queries(void) {
+    static const size_t want[] = {2, 0, 0, 3, 0, 1, 0, 1, 1};
+    enum { ALL = sizeof want / sizeof *want };
+    struct kdl_document d = none();
+    size_t count, needed, out[ALL + 1];
+    CHECK(kdl_parse(T("a { b 1; c { b 2; }; }; b 3"), &d) == KDL_OK);
+    blank(out, ALL + 1);
+    CHECK(kdl_query(&d, T("b"), out, ALL + 1, &count, &needed) == KDL_OK);
+    CHECK(count == 3 && needed == ALL && memcmp(out, want, sizeof want) == 0);
+    CHECK(out[ALL] == SIZE_MAX);
+    /* with too little room nothing is written */
+    for (size_t room = 0; room <= ALL; room++) {
+        size_t *small = (size_t *)(void *)buffer(room * sizeof *small);
+        blank(small, room);
+        uint32_t status = kdl_query(&d, T("b"), small, room, &count, &needed);
+        CHECK(count == 3 && needed == ALL);
+        CHECK(status == (room == ALL ? KDL_OK : KDL_TOO_SMALL));
+        for (size_t i = 0; i < room; i++) {
+            CHECK(small[i] == (room == ALL ? want[i] : SIZE_MAX));
+        }
+        free(small);
+    }
+    /* each path is that of a node */
+    CHECK(kdl_query(&d, T("b[val() > 1] || c"), out, ALL, &count, &needed) == KDL_OK && count == 3);
+    for (size_t i = 0, left = count; left; left--, i += 1 + out[i]) {
+        struct kdl_row row;
+        size_t entries, len;
+        uint8_t s[4];
+        CHECK(i + 1 + out[i] <= needed);
+        CHECK(kdl_node(&d, &out[i + 1], out[i], &entries, &row, s, sizeof s, &len) == KDL_OK);
+        CHECK(is_text(s, len, T(left == 3 ? "c" : "b")));
+    }
+    CHECK(kdl_query(&d, T("x"), out, 0, &count, &needed) == KDL_OK && !count && !needed);
+    CHECK(kdl_query(&d, T("top() > []"), out, ALL, &count, &needed) == KDL_OK && count == 2);
+    count = needed = 7;
+    CHECK(kdl_query(&d, T("a b"), out, ALL, &count, &needed) == KDL_FAULTS && !count && !needed);
+    CHECK(kdl_query(&d, T(""), out, ALL, &count, &needed) == KDL_FAULTS && !count && !needed);
+    CHECK(kdl_query(&d, (const uint8_t *)"\xff", 1, out, ALL, &count, &needed) == KDL_NOT_UTF8);
+    kdl_free(&d);
+    count = needed = 7;
+    CHECK(kdl_query(&d, T("b"), out, ALL, &count, &needed) == KDL_NO_DOCUMENT && !count && !needed);
+}
+
+static void places(void) {
+    const char *text = "server host=a { port 80; }; server 1 x=2 \"two\" host=b host=c { \"a/b\" 3; }";
+    struct kdl_document d = none();
+    struct kdl_row row;
+    size_t n, path[3];
+    uint8_t s[16];
+    CHECK(kdl_parse(T(text), &d) == KDL_OK);
+    blank(path, 3);
+    CHECK(kdl_find_path(&d, T("server/port"), path, 3, &n) == KDL_OK && n == 2);
+    CHECK(path[0] == 0 && path[1] == 0 && path[2] == SIZE_MAX);
+    CHECK(kdl_find_path(&d, T("server[1]/\"a/b\"#7"), path, 2, &n) == KDL_OK && n == 2);
+    CHECK(path[0] == 1 && path[1] == 0);
+    blank(path, 3);
+    CHECK(kdl_find_path(&d, T("server/port"), path, 1, &n) == KDL_TOO_SMALL && n == 2);
+    CHECK(path[0] == SIZE_MAX);
+    CHECK(kdl_find_path(&d, T("server[2]"), path, 3, &n) == KDL_NOT_FOUND && n == 0);
+    CHECK(kdl_find_path(&d, T("/"), path, 3, &n) == KDL_NOT_FOUND && n == 0);
+    CHECK(kdl_find_path(&d, T("server/"), path, 3, &n) == KDL_FAULTS && n == 0);
+    CHECK(kdl_find_path(&d, (const uint8_t *)"\xff", 1, path, 3, &n) == KDL_NOT_UTF8 && n == 0);
+    CHECK(path[0] == SIZE_MAX);
+    /* entries */
+    CHECK(kdl_get_path(&d, T("server/port"), &row, s, sizeof s, &n) == KDL_OK && row.integer == 80);
+    CHECK(kdl_get_path(&d, T("server[1]/@host"), &row, s, sizeof s, &n) == KDL_OK);
+    CHECK(row.kind == KDL_PROPERTY && is_text(s + row.text_start, row.text_len, T("c")));
+    CHECK(kdl_get_path(&d, T("server[1]#1"), &row, s, sizeof s, &n) == KDL_OK);
+    CHECK(row.kind == KDL_ARGUMENT && is_text(s, n, T("two")));
+    CHECK(kdl_get_path(&d, T("server[1]#1"), &row, s, 2, &n) == KDL_TOO_SMALL && n == 3);
+    CHECK(kdl_get_path(&d, T("server[1]#2"), &row, s, sizeof s, &n) == KDL_NOT_FOUND);
+    CHECK(kdl_get_path(&d, T("server"), &row, s, sizeof s, &n) == KDL_NOT_FOUND);
+    CHECK(kdl_get_path(&d, T("/"), &row, s, sizeof s, &n) == KDL_NOT_FOUND);
+    CHECK(kdl_get_path(&d, T("server/@x"), &row, s, sizeof s, &n) == KDL_NOT_FOUND);
+    CHECK(kdl_get_path(&d, T("#"), &row, s, sizeof s, &n) == KDL_FAULTS);
+    CHECK(kdl_get_path(&d, (const uint8_t *)"\xff", 1, &row, s, sizeof s, &n) == KDL_NOT_UTF8);
+    /* arguments alone are counted */
+    path[0] = 1;
+    CHECK(kdl_argument(&d, path, 1, 0, &row, s, sizeof s, &n) == KDL_OK && row.integer == 1);
+    CHECK(kdl_argument(&d, path, 1, 1, &row, s, sizeof s, &n) == KDL_OK && is_text(s, n, T("two")));
+    CHECK(kdl_argument(&d, path, 1, 1, &row, s, 0, &n) == KDL_TOO_SMALL && n == 3);
+    CHECK(row.kind == KDL_ARGUMENT && row.text_len == 3);
+    CHECK(kdl_argument(&d, path, 1, 2, &row, s, sizeof s, &n) == KDL_NOT_FOUND);
+    CHECK(kdl_argument(&d, path, 1, SIZE_MAX, &row, s, sizeof s, &n) == KDL_NOT_FOUND);
+    CHECK(kdl_argument(&d, path, 0, 0, &row, s, sizeof s, &n) == KDL_NOT_FOUND);
+    kdl_free(&d);
+    CHECK(kdl_find_path(&d, T("a"), path, 3, &n) == KDL_NO_DOCUMENT && n == 0);
+    CHECK(kdl_get_path(&d, T("a"), &row, s, sizeof s, &n) == KDL_NO_DOCUMENT);
 }
 
 static void values(void) {
@@ -258,11 +374,11 @@ static void nodes(void) {
 
 /* Makes the writing call of that number, with so much room for rows or faults and for strings, in
  * buffers of exactly that size. Returns the status, and sets the counts. */
-enum { WRITERS = 9 };
+enum { WRITERS = 11 };
 static uint32_t writes(int which, struct kdl_document *d, size_t room, size_t bytes, size_t *count,
                        size_t *len) {
     const char *bad = "a }\nb #treu\n";
-    size_t path[1] = {0}, entries;
+    size_t path[1] = {0}, second[1] = {1}, entries;
     uint8_t *s = buffer(bytes);
     void *rows = buffer(room * sizeof(struct kdl_row));
     struct kdl_row row;
@@ -275,8 +391,10 @@ static uint32_t writes(int which, struct kdl_document *d, size_t room, size_t by
     case 3: status = kdl_node(d, path, 1, &entries, &row, s, bytes, len); break;
     case 4: status = kdl_entry(d, path, 1, 1, &row, s, bytes, len); break;
     case 5: status = kdl_get(d, T("s"), &row, s, bytes, len); break;
-    case 6: status = kdl_faults(T(bad), (struct kdl_fault *)rows, room, count, s, bytes, len); break;
-    case 7: status = kdl_reports(T(bad), (struct kdl_report *)rows, room, count, s, bytes, len); break;
+    case 6: status = kdl_argument(d, second, 1, 0, &row, s, bytes, len); break;
+    case 7: status = kdl_get_path(d, T("s#0"), &row, s, bytes, len); break;
+    case 8: status = kdl_faults(T(bad), (struct kdl_fault *)rows, room, count, s, bytes, len); break;
+    case 9: status = kdl_reports(T(bad), (struct kdl_report *)rows, room, count, s, bytes, len); break;
     default:
         status = kdl_faults_of(KDL_AS_NODE, T(bad), (struct kdl_fault *)rows, room, count, s, bytes,
                                len);
@@ -291,7 +409,8 @@ static void rooms(void) {
     CHECK(kdl_parse(T("(t)a  0x10 \"k\" = #true { b; }\ns \"long text\" // c\n"), &d) == KDL_OK);
     for (int which = 0; which < WRITERS; which++) {
         size_t count, len, all, whole;
-        uint32_t fits = which < 6 ? KDL_OK : KDL_FAULTS, small = which < 6 ? KDL_TOO_SMALL : KDL_FAULTS;
+        bool lists = which >= 8;
+        uint32_t fits = lists ? KDL_FAULTS : KDL_OK, small = lists ? KDL_FAULTS : KDL_TOO_SMALL;
         CHECK(writes(which, &d, 100, 1000, &all, &whole) == fits && whole > 0);
         const size_t bytes[] = {0, 1, whole - 1, whole}, rows[] = {0, 1, all ? all - 1 : 0, all};
         for (int i = 0; i < 16; i++) {
@@ -332,10 +451,10 @@ static void empties(void) {
 }
 
 /* Makes the call of that number on a document with a path. Returns the status; the text stays. */
-enum { CALLS = 18, WITH_PATH = 12 };
+enum { CALLS = 22, WITH_PATH = 13 };
 static uint32_t call(int which, struct kdl_document *d, const size_t *path, size_t len, size_t index) {
     struct kdl_row row;
-    size_t n, m;
+    size_t n, m, k;
     uint8_t s[64];
     switch (which) {
     case 0: return kdl_node(d, path, len, &m, &row, s, sizeof s, &n);
@@ -351,10 +470,14 @@ static uint32_t call(int which, struct kdl_document *d, const size_t *path, size
     case 10: return kdl_remove_node(d, path, len, index);
     case 11: return kdl_find(d, path, len, T("no"), &n);
     case 12: return kdl_insert_node(d, path, len, index, T("x"));
-    case 13: return kdl_print(d, s, sizeof s, &n);
-    case 14: return kdl_format(d);
-    case 15: return kdl_strip(d);
-    case 16: return kdl_tree(d, &row, 1, &m, s, sizeof s, &n);
+    case 13: return kdl_argument(d, path, len, index, &row, s, sizeof s, &n);
+    case 14: return kdl_print(d, s, sizeof s, &n);
+    case 15: return kdl_format(d);
+    case 16: return kdl_strip(d);
+    case 17: return kdl_tree(d, &row, 1, &m, s, sizeof s, &n);
+    case 18: return kdl_query(d, T("a"), &k, 1, &m, &n);
+    case 19: return kdl_find_path(d, T("no"), &m, 1, &n);
+    case 20: return kdl_get_path(d, T("no"), &row, s, sizeof s, &n);
     default: return kdl_get(d, T("no"), &row, s, sizeof s, &n);
     }
 }
@@ -372,11 +495,11 @@ static void nowhere(void) {
             CHECK(call(which, &d, paths[i], lens[i], 0) == KDL_NOT_FOUND);
         }
         /* an index beyond the last, of which a node has two; a block, one */
-        if (which >= 1 && which <= 7) {
+        if ((which >= 1 && which <= 7) || which == 13) {
             CHECK(call(which, &d, path, 1, 3) == KDL_NOT_FOUND);
             CHECK(which == 5 || call(which, &d, path, 1, SIZE_MAX) == KDL_NOT_FOUND);
         }
-        if (which <= 8) { /* no document is a node */
+        if (which <= 8 || which == 13) { /* no document is a node */
             CHECK(call(which, &d, path, 0, 0) == KDL_NOT_FOUND);
         }
         if (which == 10 || which == 12) {
@@ -426,6 +549,11 @@ static void deep(void) {
     drop_rows(&rows);
     CHECK(kdl_node(&d, path, depth, &len, &row, s, 4, &strings) == KDL_OK && row.has_block);
     CHECK(kdl_insert_entry(&d, path, depth, 0, T("1")) == KDL_OK);
+    size_t *deepest = (size_t *)calloc(depth + 1, sizeof *deepest), count, needed;
+    CHECK(deepest && kdl_query(&d, T("a[val() = 1]"), deepest, depth + 1, &count, &needed) == KDL_OK);
+    CHECK(count == 1 && needed == depth + 1 && deepest[0] == depth);
+    CHECK(memcmp(deepest + 1, path, depth * sizeof *path) == 0);
+    free(deepest);
     CHECK(kdl_remove_entry(&d, path, depth, 0) == KDL_OK);
     out = printed(&d, &len);
     CHECK(is_text(out, len, text, 3 * depth));
@@ -471,8 +599,11 @@ static void threads(void) {
 int main(void) {
     documents();
     faults();
+    statuses();
     positions();
     reading();
+    queries();
+    places();
     values();
     edits();
     nodes();

@@ -67,9 +67,10 @@ static bool have_same_data(struct kdl_document *d, struct kdl_document *e) {
 }
 
 /* Checks that the rows from `at` on are those of the block at the path, by calls for one node or
- * entry each, which write their strings to `s`. Returns the first row after the block. */
+ * entry each, which write their strings to `s`, and that `*next` has the paths of their nodes.
+ * Returns the first row after the block, and moves `*next` to the paths after it. */
 static size_t block(struct kdl_document *d, const struct rows *rows, size_t at, size_t *path,
-                    size_t depth, uint8_t *s) {
+                    size_t depth, uint8_t *s, const size_t **next) {
     struct kdl_row row;
     size_t count, entries, len, found;
     CHECK(kdl_node_count(d, path, depth, &count) == KDL_OK);
@@ -77,6 +78,9 @@ static size_t block(struct kdl_document *d, const struct rows *rows, size_t at, 
         const struct kdl_row *node = &rows->all[at++];
         path[depth] = i;
         CHECK(at <= rows->count);
+        CHECK(**next == depth + 1 && memcmp(*next + 1, path, (depth + 1) * sizeof *path) == 0);
+        *next += depth + 2;
+        size_t arguments = 0;
         CHECK(kdl_node(d, path, depth + 1, &entries, &row, s, rows->len, &len) == KDL_OK);
         CHECK(is_same(&row, s, node, rows->strings));
         CHECK(row.start == node->start && row.len == node->len);
@@ -93,10 +97,16 @@ static size_t block(struct kdl_document *d, const struct rows *rows, size_t at, 
                 CHECK(kdl_find_entry(d, path, depth + 1, rows->strings + entry->name_start,
                                      entry->name_len, &found) == KDL_OK);
                 CHECK(found >= j && found < entries);
+            } else {
+                CHECK(kdl_argument(d, path, depth + 1, arguments++, &row, s, rows->len, &len) ==
+                      KDL_OK);
+                CHECK(is_same(&row, s, entry, rows->strings) && row.start == entry->start);
             }
         }
+        CHECK(kdl_argument(d, path, depth + 1, arguments, &row, s, rows->len, &len) ==
+              KDL_NOT_FOUND);
         if (node->has_block) {
-            at = block(d, rows, at, path, depth + 1, s);
+            at = block(d, rows, at, path, depth + 1, s, next);
             CHECK(at < rows->count && rows->all[at].kind == KDL_END);
             at++;
         }
@@ -114,14 +124,27 @@ static size_t depth_of(const struct rows *rows) {
     return most;
 }
 
-/* Checks that the rows and the calls for single nodes and entries agree. */
+/* Returns the paths of all nodes, as a query for them writes them, and sets the count of `size_t`. */
+static size_t *all_paths(struct kdl_document *d, size_t *needed) {
+    size_t count, none;
+    uint32_t status = kdl_query(d, T("[]"), &none, 0, &count, needed);
+    CHECK(status == (*needed ? KDL_TOO_SMALL : KDL_OK));
+    size_t *paths = (size_t *)(void *)buffer(*needed * sizeof *paths);
+    CHECK(kdl_query(d, T("[]"), paths, *needed, &count, needed) == KDL_OK);
+    return paths;
+}
+
+/* Checks that the rows, the query for all nodes, and the calls for single nodes and entries agree. */
 static void rows_agree(struct kdl_document *d) {
     struct rows rows = rows_of(d);
+    size_t needed, *paths = all_paths(d, &needed);
     size_t *path = (size_t *)calloc(depth_of(&rows) + 2, sizeof *path);
     CHECK(path);
     uint8_t *s = buffer(rows.len);
-    CHECK(block(d, &rows, 0, path, 0, s) == rows.count);
+    const size_t *next = paths;
+    CHECK(block(d, &rows, 0, path, 0, s, &next) == rows.count && next == paths + needed);
     free(s);
+    free(paths);
     free(path);
     drop_rows(&rows);
 }

@@ -1,6 +1,6 @@
 //! Look-ups of nodes by name, and of entries by key.
 
-ghost use Rattle.kdl.specs.Words.{argument_named, entry_data, entry_tree, is_node_named, nodes_of, property_place};
+ghost use Rattle.kdl.specs.Words.{argument, argument_named, entry_data, entry_tree, is_node_named, node_says, nodes_of, property_place, said_entry};
 ghost use Rattle.kdl_c.specs.Statuses.{IsAmong};
 ghost use Rattle.c_calls.specs.Paths.{node_at, nodes_at};
 ghost use Rattle.c_calls.specs.Says.{IsWithin, SaysEntry};
@@ -13,6 +13,7 @@ use c_calls::names::{first_argument, first_named, put_index};
 use c_calls::path::{node_at, nodes_at};
 use c_calls::row::{KdlRow, put_found};
 use c_calls::status::{NO_DOCUMENT, NOT_FOUND, NOT_UTF8};
+use kdl::NodeKey;
 use std::alloc::Global;
 
 /// Writes the row of the first argument of the first node of that name in the document. Names are compared by value,
@@ -49,6 +50,48 @@ pub extern "C" fn kdl_get(
     let status = match first_argument(&held, name) {
         None => NOT_FOUND,
         Some(entry) => put_found(alloc, entry, row, strings, string_len),
+    };
+    document.put(held);
+    status
+}
+
+/// Writes the row of an argument of the node at the path. Arguments alone are counted, from 0.
+#[unsafe(no_mangle)]
+pub extern "C" fn kdl_argument(
+    alloc: Global,
+    document: &mut Handle,
+    path: &[usize],
+    number: usize,
+    row: &mut KdlRow,
+    strings: &mut [u8],
+    string_len: &mut usize,
+) -> u32
+    ensures there { IsAmong (0 ∷ 4 ∷ []) result → IsSomeAnd document.old.held.document (λ d.
+        IsSomeAnd (node_at path.now (nodes_of d)) (λ n.
+        IsSome (said_entry (argument number) (node_says n)))) }
+    ensures says { result ≡ 0 → IfSome document.old.held.document (λ d.
+        IfSome (node_at path.now (nodes_of d)) (λ n.
+        IfSome (said_entry (argument number) (node_says n)) (λ e.
+        SaysEntry (take string_len.new strings.new) row.new e))) }
+    ensures absent { result ≡ 6 → IsSomeAnd document.old.held.document (λ d.
+        IfSome (node_at path.now (nodes_of d)) (λ n.
+        IsNone (said_entry (argument number) (node_says n)))) }
+    ensures within { result ≡ 0 → IsWithin string_len.new row.new }
+    ensures strings { result ≡ 0 → string_len.new ≤ length strings.old }
+    ensures same { document.new.held.document ≡ document.old.held.document }
+    ensures missing { result ≡ 5 → IsNone document.old.held.document }
+    ensures parses_nothing { result ≡ 1 → ⊥ }
+{
+    *string_len = 0;
+    let Some(held) = document.take(alloc) else {
+        return NO_DOCUMENT;
+    };
+    let status = match node_at(&held, path) {
+        None => NOT_FOUND,
+        Some(node) => match node.entry(NodeKey::Index(number)) {
+            None => NOT_FOUND,
+            Some(entry) => put_found(alloc, entry, row, strings, string_len),
+        },
     };
     document.put(held);
     status

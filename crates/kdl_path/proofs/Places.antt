@@ -1,5 +1,5 @@
 -- What a PATH names in memory, and in the data.
-use Rattle.std.proofs.Common.{◌≡◌, ℕ, zero, suc, Bool, true, false, List, [], ◌∷◌, map, Option, None, Some, IsSome, is_none, option_and_then, option_map, slice_get, string_bytes, refl, ap, ◌∙◌, sym, subst}
+use Rattle.std.proofs.Common.{◌≡◌, IsSomeAnd, ℕ, zero, suc, Bool, true, false, List, [], ◌∷◌, map, Option, None, Some, IsSome, is_none, option_and_then, option_map, slice_get, string_bytes, refl, ap, ◌∙◌, sym, subst}
 use Rattle.std.proofs.lemmas.Option.{none-some, slice_get-map}
 use Rattle.std.proofs.lemmas.Str.{IsUtf8-string_bytes}
 use Rattle.std.specs.Option.{option_map_or}
@@ -12,19 +12,19 @@ use Rattle.kdl_entry.specs.Tree.{Identifier, identifier_tree}
 use Rattle.kdl_entry.specs.declared.entry.KdlEntry.{KdlEntry}
 use Rattle.kdl_entry.specs.declared.identifier.KdlIdentifier.{KdlIdentifier}
 use Rattle.kdl_parts.specs.EntryLists.{has_name, is_argument, is_name, last_place, later, nth_place, nth_step, same_text, there}
-use Rattle.kdl.specs.Words.{block_of, child_nodes, document_says, entries_of, is_node_named, node_says, nodes_of, said_nodes}
+use Rattle.kdl.specs.Words.{EntryData, NodeData, block_of, child_nodes, document_says, entries_of, is_node_named, node_says, nodes_of, said_child_nodes, said_nodes}
 use Rattle.kdl.specs.Iterators.{nodes_in}
 use Rattle.kdl.specs.Lookups.{value_there}
 use Rattle.kdl.specs.Said.{has_key, has_no_key, is_called}
 use Rattle.kdl.specs.declared.document.KdlDocument.{KdlDocument}
 use Rattle.kdl.specs.declared.document.KdlDocument.TheViews.{out-KdlNode}
 use Rattle.kdl.specs.declared.node.KdlNode.{KdlNode}
-use Rattle.kdl.proofs.Finding.SaidLookups.{argument_said, entry_says, got_child_nodes, name_said, nodes_said, property_said, same_chars}
+use Rattle.kdl.proofs.Finding.SaidLookups.{argument_said, entry_says, got_child_nodes, last_property_said, name_said, nodes_said, nth_argument_said, property_said, same_chars}
 use Rattle.c_calls.specs.Paths as paths
 use Rattle.c_calls.specs.Paths.{block_nodes}
 use Rattle.kdl_path.specs.Edits.{entry_place}
 use Rattle.kdl_path.specs.Internal.Located.{Leads, place_of_step, place_of_target, walk}
-use Rattle.kdl_path.specs.Paths.{at_path, node_at, node_below, step_node, step_place, value_in}
+use Rattle.kdl_path.specs.Paths.{AreIndices, at_path, entry_in, node_at, node_below, step_node, step_place, value_in}
 use Rattle.kdl_path.specs.declared.path.Path.{Path}
 use Rattle.kdl_path.specs.declared.path.Step.{Step}
 use Rattle.kdl_path.specs.declared.path.Target.{Target}
@@ -120,6 +120,20 @@ leads_at [] (i ∷ is) ns n h = absurd h
 leads_at (s ∷ ss) [] ns n h = absurd h
 leads_at (s ∷ ss) (i ∷ is) ns n h = leads_node s ss i is ns None n h
 
+-- the indices in the data
+pub indices_said : (ss : List Step) (is : List ℕ) (ns : List KdlNode) (o : Option KdlNode) (n : KdlNode) → Leads ss is ns o n → AreIndices ss is (map node_says ns)
+indices_said [] [] ns o n h = tt
+indices_said [] (i ∷ is) ns o n h = absurd h
+indices_said (s ∷ ss) [] ns o n h = absurd h
+indices_said (s ∷ ss) (i ∷ is) ns o n h = (
+  sym (place_said s ns) ∙ h.1,
+  subst (λ (x : Option NodeData). IsSomeAnd x (λ y. AreIndices ss is (said_child_nodes y))) (sym (slice_get-map node_says ns i ∙ ap (option_map node_says) h.2))
+      (subst (AreIndices ss is) (got_child_nodes h.0 (child_nodes h.0) refl) (indices_said ss is (child_nodes h.0) (Some h.0) n h.3)),
+)
+
+pub leads_indices : (ss : List Step) (is : List ℕ) (d : KdlDocument) (n : KdlNode) → Leads ss is (nodes_of d) None n → AreIndices ss is (said_nodes (document_says d))
+leads_indices ss is d n h = subst (AreIndices ss is) (nodes_said d) (indices_said ss is (nodes_of d) None n h)
+
 -- the entry of a target
 pub keyless : (e : KdlEntry) → is_argument e ≡ has_no_key (entry_says e)
 keyless e = go e.name
@@ -174,10 +188,22 @@ value_found t n i e p h =
 pub value_missing : (t : Target) (n : KdlNode) → None ≡ place_of_target t (entries_of n) → None ≡ value_in t (node_says n)
 value_missing t n p = ap (λ o. value_there o n) p ∙ value_said_there t n
 
-pub value_past : (t : Target) (n : KdlNode) (i : ℕ) → Some i ≡ place_of_target t (entries_of n) → slice_get (entries_of n) i ≡ None → None ≡ value_in t (node_says n)
-value_past t n i p h =
-    let value = λ (o : Option KdlEntry). option_map (λ (x : KdlEntry). value_tree (entry_value_of x)) o in
-    sym (ap value h) ∙ ap (λ o. value (there o (entries_of n))) p ∙ value_said_there t n
+-- the entry of a target
+entry_said_there : (t : Target) (n : KdlNode) → option_map entry_says (there (place_of_target t (entries_of n)) (entries_of n)) ≡ entry_in t (node_says n)
+entry_said_there Node n = nth_argument_said 0 n
+entry_said_there (Argument i) n = nth_argument_said i n
+entry_said_there (Property s) n = last_property_said (string_bytes s) n (IsUtf8-string_bytes s)
+
+pub entry_found : (t : Target) (n : KdlNode) (i : ℕ) (o : Option KdlEntry) → Some i ≡ place_of_target t (entries_of n) → slice_get (entries_of n) i ≡ o → option_map entry_says o ≡ entry_in t (node_says n)
+entry_found t n i o p h = sym (ap (option_map entry_says) h) ∙ ap (λ q. option_map entry_says (there q (entries_of n))) p ∙ entry_said_there t n
+
+pub entry_missing : (t : Target) (n : KdlNode) → None ≡ place_of_target t (entries_of n) → None ≡ entry_in t (node_says n)
+entry_missing t n p = ap (λ q. option_map entry_says (there q (entries_of n))) p ∙ entry_said_there t n
+
+pub value_of_entry : (t : Target) (x : NodeData) → option_map (λ (e : EntryData). e.value) (entry_in t x) ≡ value_in t x
+value_of_entry Node x = refl
+value_of_entry (Argument i) x = refl
+value_of_entry (Property s) x = refl
 
 -- the value at a PATH
 pub at_node : (p : Path) (is : List ℕ) (d : KdlDocument) (n : KdlNode) → Leads p.steps.items is (nodes_of d) None n → at_path p (document_says d) ≡ value_in p.target (node_says n)

@@ -1,9 +1,9 @@
 -- What a PATH names in the data of a document.
 use Rattle.std.specs.List.{filter, filter_map, flat_map}
 use Rattle.std.specs.Option.{option_to_list}
-use Rattle.std.specs.Prelude.{ℕ, List, [], ◌∷◌, Option, Some, None, option_and_then, unwrap_or}
-use Rattle.kdl.specs.Words.{NodeData, Nodes, Value, said_argument, said_child_nodes, said_nodes, said_property}
-use Rattle.kdl.specs.Said.{is_called}
+use Rattle.std.specs.Prelude.{◌≡◌, ℕ, List, [], ◌∷◌, Option, Some, None, IsSomeAnd, option_and_then, slice_get, unwrap_or}
+use Rattle.kdl.specs.Words.{EntryData, NodeData, Nodes, Value, said_argument, said_child_nodes, said_nodes, said_property}
+use Rattle.kdl.specs.Said.{is_called, last_property, nth_argument}
 use Rattle.kdl_parts.specs.EntryLists.{nth_place, there}
 use Rattle.kdl_value.specs.Tree.{text_of}
 use Rattle.kdl_path.specs.declared.path.Path.{Path}
@@ -28,6 +28,23 @@ node_below (s ∷ ss) x = option_and_then (node_below ss) (step_node s (said_chi
 abbrev pub node_at : List Step → List NodeData → Option NodeData
 node_at [] xs = None
 node_at (s ∷ ss) xs = option_and_then (node_below ss) (step_node s xs)
+
+-- the indices lead where the steps do: each is the place of the node that its step names
+abbrev pub AreIndices : List Step → List ℕ → List NodeData → Type 0
+AreIndices [] [] xs = Unit {0}
+AreIndices [] (i ∷ is) xs = ⊥
+AreIndices (s ∷ ss) [] xs = ⊥
+AreIndices (s ∷ ss) (i ∷ is) xs = (step_place s xs ≡ Some i) × IsSomeAnd (slice_get xs i) (λ x. AreIndices ss is (said_child_nodes x))
+
+-- the entry that a target names in a node: argument 0 for the node itself
+abbrev pub entry_in : Target → NodeData → Option EntryData
+entry_in Node x = nth_argument 0 x
+entry_in (Argument i) x = nth_argument i x
+entry_in (Property s) x = last_property (text_of s) x
+
+-- the entry at a PATH
+abbrev pub entry_at : Path → Nodes → Option EntryData
+entry_at p x = option_and_then (entry_in p.target) (node_at p.steps.items (said_nodes x))
 
 -- the value that a target names in a node: argument 0 for the node itself
 abbrev pub value_in : Target → NodeData → Option Value

@@ -18,11 +18,13 @@ use c_calls::entries::last_property;
 use kdl::{KdlDocument, KdlEntry, KdlNode};
 use std::alloc::{AllocError, AllocFailed, Global};
 
-/// A node, and the indices that lead to it: of a node in the document, of a node in the block of that one, and so on.
+/// A node, and the indices that lead to it.
 #[derive(Drop)]
-pub(crate) struct Located<'a> {
-    pub(crate) node: &'a KdlNode,
-    pub(crate) indices: Vec<usize>,
+pub struct Located<'a> {
+    /// The node.
+    pub node: &'a KdlNode,
+    /// The index of a node in the document, then that of a node in the block of that one, and so on.
+    pub indices: Vec<usize>,
 }
 
 /// Why a node was not located.

@@ -1,19 +1,71 @@
-//! The values at a PATH.
+//! The node, the entry and the values at a PATH.
 
-ghost use Rattle.kdl.specs.Words.{child_nodes, document_says, is_node_named, node_says, said_nodes, value_tree};
+ghost use Rattle.kdl.specs.Words.{child_nodes, document_says, entry_data, entry_tree, is_node_named, node_says, nodes_of, said_nodes, value_tree};
 ghost use Rattle.kdl_path.specs.Failures.{IsMissing};
 ghost use Rattle.kdl_path.specs.Internal.Located.{IsNowhere, named_in};
-ghost use Rattle.kdl_path.specs.Paths.{all_at, at_path, nodes_at, value_in};
+ghost use Rattle.c_calls.specs.Paths.{node_at as indexed_node};
+ghost use Rattle.kdl_path.specs.Paths.{AreIndices, all_at, at_path, entry_at, entry_in, node_at, nodes_at, value_in};
 ghost use Rattle.std.specs.List.{filter, flat_map};
-ghost use Rattle.std.specs.Prelude.{◌≡◌, ◌++◌, IfErr, IfOk, None, OnOk, Some, map, option_map};
+ghost use Rattle.std.specs.Prelude.{◌≡◌, ◌++◌, IfErr, IfOk, IfSome, None, OnOk, Some, map, option_map};
 
 use crate::failure::{GetFailure, Missing};
 use crate::locate::{
-    Lost, child_nodes, entry_place, is_named, locate, missing_entry, missing_node, step_index,
+    Located, Lost, child_nodes, entry_place, is_named, locate, missing_entry, missing_node,
+    step_index,
 };
 use crate::path::{Path, Step, Target};
-use kdl::{KdlDocument, KdlNode, KdlValue};
+use kdl::{KdlDocument, KdlEntry, KdlNode, KdlValue};
 use std::alloc::{AllocError, Global};
+
+/// Returns the node that the PATH leads to, and its indices, or `None` if the document has no such node. Returns an error
+/// if an allocation fails.
+///
+/// ```
+/// let document = KdlDocument::parse(alloc, "a; b { c; }")?;
+/// let found = find(alloc, &document, &Path::parse(alloc, "b/c")?)?; // the node `c`, and the indices 1 and 0
+/// ```
+pub fn find<'a>(
+    alloc: Global,
+    document: &'a KdlDocument,
+    path: &Path,
+) -> Result<Option<Located<'a>>, AllocError>
+    // The node is the one to which the steps lead in the data of the document,
+    ensures said { IfOk result (λ o. option_map (λ l. node_says l.node.now) o
+        ≡ node_at path.now.steps.items (said_nodes (document_says document.now))) }
+    // the indices are its places there, and they lead to it.
+    ensures places { IfOk result (λ o. IfSome o (λ l. AreIndices path.now.steps.items
+        l.indices.items (said_nodes (document_says document.now)))) }
+    ensures there { IfOk result (λ o. IfSome o (λ l.
+        indexed_node l.indices.items (nodes_of document.now) ≡ Some l.node.now)) }
+{
+    match locate(alloc, document, &path.steps) {
+        Ok(located) => Ok(Some(located)),
+        Err(Lost::Document) => Ok(None),
+        Err(Lost::Step(_, _)) => Ok(None),
+        Err(Lost::Memory) => Err(AllocError),
+    }
+}
+
+/// Returns the entry that the PATH names, or argument 0 of its node; `None` if the document has no such entry. Returns an
+/// error if an allocation fails.
+///
+/// ```
+/// let document = KdlDocument::parse(alloc, "a 1 k=2 3")?;
+/// let found = find_entry(alloc, &document, &Path::parse(alloc, "a#1")?)?; // the argument `3`
+/// ```
+pub fn find_entry<'a>(
+    alloc: Global,
+    document: &'a KdlDocument,
+    path: &Path,
+) -> Result<Option<&'a KdlEntry>, AllocError>
+    ensures { IfOk result (λ o. option_map (λ e. entry_data (entry_tree e.now)) o
+        ≡ entry_at path.now (document_says document.now)) }
+{
+    match find(alloc, document, path)? {
+        Some(found) => Ok(entry_of(found.node, &path.target)),
+        None => Ok(None),
+    }
+}
 
 /// Returns the value at the PATH: of the argument or the property that it names, or of argument 0 of its node.
 ///
@@ -67,15 +119,26 @@ fn missing_failure(missing: Result<Missing, AllocError>) -> GetFailure {
     }
 }
 
-/// The value that a target names in a node.
-fn value_of<'a>(node: &'a KdlNode, target: &Target) -> Option<&'a KdlValue>
-    ensures { option_map (λ v. value_tree v.now) result ≡ value_in target.now (node_says node.now) }
+/// The entry that a target names in a node.
+fn entry_of<'a>(node: &'a KdlNode, target: &Target) -> Option<&'a KdlEntry>
+    ensures { option_map (λ e. entry_data (entry_tree e.now)) result
+        ≡ entry_in target.now (node_says node.now) }
 {
     let entries = node.entries();
     let Some(at) = entry_place(entries, target) else {
         return None;
     };
     match entries.get(at) {
+        Some(entry) => Some(entry),
+        None => None,
+    }
+}
+
+/// The value that a target names in a node.
+fn value_of<'a>(node: &'a KdlNode, target: &Target) -> Option<&'a KdlValue>
+    ensures { option_map (λ v. value_tree v.now) result ≡ value_in target.now (node_says node.now) }
+{
+    match entry_of(node, target) {
         Some(entry) => Some(entry.value()),
         None => None,
     }

@@ -4,6 +4,7 @@ use Rattle.kdl.specs.Words.{IsToldOf, Tells}
 use Rattle.c_calls.specs.Listed.{AreFaultsOf, fault_of}
 use Rattle.c_calls.specs.Reading.{AreFaultsAs, Outcome, not_value}
 use Rattle.c_calls.specs.Rows.{AreTold}
+use Rattle.kdl_c.proofs.QuerySteps.{as_other}
 use Rattle.kdl_c.proofs.diagnostics.kdl_faults_of.Goals as goal
 
 pub returns-in-Refused-clause-told : goal.returns-in-Refused-clause-told
@@ -29,7 +30,8 @@ returns-in-Refused-clause-listed c = λ _.
     let told = subst (Outcome c.args.kind t) c.in-Refused.is c.in-Some.ensures.some in
     let of : AreFaultsOf t (map fault_of c.deref.result.now) = (e, told.0, ap (map fault_of) c.deref.ensures.value) in (
       map fault_of c.deref.result.now,
-      subst (λ s. AreFaultsAs c.args.kind s (map fault_of c.deref.result.now)) same (inl (of, told.2)),
+      as_other c.args.kind c.args.text.now (map fault_of c.deref.result.now) (search rules)
+          (subst (λ s. AreFaultsAs c.args.kind s (map fault_of c.deref.result.now)) same (inl (of, told.2))),
       c.put_faults.ensures.listed,
     )
 
@@ -39,6 +41,7 @@ returns-in-NotValue-clause-listed c = λ _.
     let same : t ≡ c.args.text.now = search rules in
     let told = subst (Outcome c.args.kind t) c.in-NotValue.is c.in-Some.ensures.some in (
       not_value t ∷ [],
-      subst (λ s. AreFaultsAs c.args.kind s (not_value t ∷ [])) same (inr (told.0, told.1, refl)),
+      as_other c.args.kind c.args.text.now (not_value t ∷ []) (search rules)
+          (subst (λ s. AreFaultsAs c.args.kind s (not_value t ∷ [])) same (inr (told.0, told.1, refl))),
       c.put_not_value.ensures.listed,
     )
