@@ -17,10 +17,11 @@
 //! Values compare by `=` and `!=`, numbers also by `<`, `<=`, `>` and `>=`, by their exact values, and strings by `^=`
 //! (begins with), `$=` (ends with) and `*=` (contains). Of several properties of a name the last one counts.
 //!
-//! [`Query::parse`] reads a query from its text. [`query_paths`] returns exactly the paths that a query selects, in the
+//! [`Query::parse`] reads a query from its text, and a query prints a text of itself. [`query_paths`] returns exactly the paths that a query selects, in the
 //! order of the document, each once.
 #![tactic(auto)]
 
+mod clone;
 mod compare;
 mod decimal;
 mod error;
@@ -28,6 +29,7 @@ mod find;
 mod parse;
 mod part;
 mod path;
+mod print;
 mod test;
 mod tree;
 mod walk;
