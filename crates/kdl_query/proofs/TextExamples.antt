@@ -1,4 +1,4 @@
--- Texts that are queries, and texts that are not.
+-- Texts that are queries, texts that are not, and texts that queries print.
 use Rattle.std.proofs.Common.{◌≡◌, ℕ, [], ◌∷◌, true, false, codes, refl, sym, subst, inl, inr, pos, arith}
 use Rattle.std.proofs.lemmas.Bool.Decides.{nat_tests}
 use Rattle.std.specs.Prelude.{Some, None}
@@ -13,10 +13,13 @@ use Rattle.kdl_text.specs.Trivia.LineSpace.{space as line_space, «break» as li
 use Rattle.kdl_text.proofs.Spacing.SpaceUnique.{newline_begins}
 use Rattle.kdl_syntax.specs.Pieces as piece
 use Rattle.kdl_syntax.proofs.Lexing.StringUnique.{string_begins}
-use Rattle.kdl_query.specs.Data.{Query, Selector, argument, name, of_type, property, some_type, start, top, value}
+use Rattle.kdl_query.specs.Data.{Query, Selector, argument, compares, has, name, of_type, property, some_type, start, then, top, value}
+use Rattle.kdl_query.specs.Printed.{print_name, print_query}
 use Rattle.kdl_query.specs.QueryText.{After, AreTests, IsComparison, IsFirst, IsKey, IsName, IsNode, IsQuery, Spaces, is_allowed}
-use Rattle.kdl_value.specs.Data.{text, integer}
-use Rattle.kdl_query.specs.declared.tree.Comparison.TheVariants.{Equal, Greater, StartsWith}
+use Rattle.kdl_value.specs.Data.{text, integer, null}
+use Rattle.kdl_value.specs.Spelled.{spelled}
+use Rattle.kdl_query.specs.declared.tree.Combinator.TheVariants.{Child}
+use Rattle.kdl_query.specs.declared.tree.Comparison.TheVariants.{Equal, Greater, NotEqual, StartsWith}
 use Rattle.kdl_query.proofs.Unique.{query_det, spaces_det}
 
 -- no line-space begins with an identifier character, or at the end of the text
@@ -83,3 +86,17 @@ some_allowed = (refl, refl)
 
 pub some_refused : (is_allowed (property (codes "a")) Greater (value (text (codes "b"))) ≡ false) × (is_allowed name Greater (value (integer (pos 1))) ≡ false) × (is_allowed (property (codes "a")) StartsWith (of_type some_type) ≡ false)
 some_refused = (refl, refl, refl)
+
+-- `a` is printed bare, `+` between quotes
+pub printed_bare : print_name (codes "a") ≡ codes "a"
+unfolding is_bare is_identifier_char is_space is_newline_char is_banned is_punctuation spelled
+printed_bare = refl
+
+pub printed_quoted : print_name (codes "+") ≡ 34 ∷ 43 ∷ 34 ∷ []
+unfolding is_bare is_identifier_char is_space is_newline_char is_banned is_punctuation
+printed_quoted = refl
+
+pub printed_selectors : print_query (then (start (record { ty = None; name = Some (codes "a"); tests = [] })) Child (record { ty = Some some_type; name = None; tests = has (property (codes "k")) ∷ compares (argument 0) NotEqual (value null) ∷ [] }) ∷ top ∷ [])
+    ≡ codes "a > ()[k][val() != #null] || top()"
+unfolding is_bare is_identifier_char is_space is_newline_char is_banned is_punctuation spelled
+printed_selectors = refl

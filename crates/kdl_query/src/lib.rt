@@ -17,10 +17,11 @@
 //! Values compare by `=` and `!=`, numbers also by `<`, `<=`, `>` and `>=`, by their exact values, and strings by `^=`
 //! (begins with), `$=` (ends with) and `*=` (contains). Of several properties of a name the last one counts.
 //!
-//! [`Query::parse`] reads a query from its text. [`query_paths`] returns exactly the paths that a query selects, in the
-//! order of the document, each once. [`edit_at`] edits the node at a path.
+//! [`Query::parse`] reads a query from its text, and a query prints such a text. [`query_paths`] returns exactly the paths
+//! that a query selects, in the order of the document, each once. [`edit_at`] edits the node at a path.
 #![tactic(auto)]
 
+mod clone;
 mod compare;
 mod decimal;
 mod edit;
@@ -30,6 +31,7 @@ pub mod laws;
 mod parse;
 mod part;
 mod path;
+mod print;
 mod test;
 mod tree;
 mod walk;

@@ -36,6 +36,7 @@ fn error_at<'a>(fault: Fault, start: &Checkpoint<'a>, cursor: &mut Cursor<'a>) -
 
 impl Query {
     ghost use Rattle.kdl_query.specs.Data as data';
+    ghost use Rattle.kdl_query.specs.Printed.{query_prints};
     ghost use Rattle.kdl_query.specs.QueryText.{IsQuery};
     ghost use Rattle.kdl_query.specs.Refusals.{IsSyntax, LocatesFault};
     ghost use Rattle.kdl_query.specs.Tree.{query_says};
@@ -53,6 +54,8 @@ impl Query {
         ensures found { IfOk result (λ q. IsQuery (chars text.now) (query_says q)) }
         // and it derives nothing else.
         ensures only { IfOk result (λ q. (x : data'.Query) → IsQuery (chars text.now) x → x ≡ query_says q) }
+        // What the query prints is a text of this query too.
+        ensures printed { IfOk result (λ q. IsQuery (query_prints q) (query_says q)) }
         // A refused text is not derived, and the span of the fault is in it.
         ensures refused { IsSyntax result → (x : data'.Query) → IsQuery (chars text.now) x → ⊥ }
         ensures located { LocatesFault (chars text.now) result }

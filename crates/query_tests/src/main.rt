@@ -3,7 +3,10 @@
 //! `query_tests COUNT SEED` makes COUNT pairs of a document and a query, as trees of its own. It writes both as texts,
 //! reads these by the library, and compares what the query finds with the relation of queries, tried on each path of
 //! the tree. It writes the first pairs that differ, and how many pairs do. The exit code is `FAILURE` if one differs, or
-//! if fewer than a third of the queries select a node, as they would then show little.
+//! if fewer than a third of the queries select a node, as they would then show little. What each query prints must be
+//! read as an equal query.
+//!
+//! `query_tests refused` makes each call that allocates, and writes the results (`checks/refused`).
 #![tactic(auto)]
 
 mod ask;
@@ -11,6 +14,7 @@ mod data;
 mod dice;
 mod numbers;
 mod pair;
+mod refused;
 mod relation;
 mod spell;
 
@@ -58,17 +62,15 @@ fn number(word: Option<String>) -> u64 {
     }
 }
 
-fn main(rt: HostRuntime) -> io::Result<ExitCode> {
-    let mut words = env::args(&rt)?.skip(1);
-    let count = number(words.next());
-    let seed = number(words.next());
+/// Tries that many pairs, from that seed on, and writes how many differ.
+fn compare(rt: &HostRuntime, count: u64, seed: u64) -> io::Result<ExitCode> {
     let mut counts = Counts {
         pairs: 0,
         found: 0,
         differ: 0,
     };
     for at in 0..count {
-        counts.add(&rt, seed.wrapping_add(at))?;
+        counts.add(rt, seed.wrapping_add(at))?;
     }
     println!(rt;
         "{} pairs of a document and a query, {} differ",
@@ -79,4 +81,16 @@ fn main(rt: HostRuntime) -> io::Result<ExitCode> {
     } else {
         ExitCode::FAILURE
     })
+}
+
+fn main(rt: HostRuntime) -> io::Result<ExitCode> {
+    let mut words = env::args(&rt)?.skip(1);
+    let first = words.next();
+    if matches!(&first, Some(word) if word.as_str() == "refused") {
+        refused::take_all(&rt)?;
+        return Ok(ExitCode::SUCCESS);
+    }
+    let count = number(first);
+    let seed = number(words.next());
+    compare(&rt, count, seed)
 }

@@ -71,13 +71,16 @@ impl Pair {
         }
     }
 
-    /// Compares all that is found in the document.
+    /// Compares what the query prints, and then all that is found in the document.
     fn compare(
         &self,
         alloc: Global,
         document: &KdlDocument,
         asked: &Query,
     ) -> Result<Outcome, AllocError> {
+        if !is_reread(alloc, asked)? {
+            return Ok(Outcome::Differs("the query prints another one"));
+        }
         let paths = query_paths(alloc, document, asked)?;
         let nodes = query_all(alloc, document, asked)?;
         let first = query(alloc, document, asked)?;
@@ -125,6 +128,15 @@ impl Pair {
             }
         }
         Ok(Outcome::Agrees(count))
+    }
+}
+
+/// Whether what the query prints is read as an equal query, and its copy is equal.
+fn is_reread(alloc: Global, query: &Query) -> Result<bool, AllocError> {
+    match Query::parse(alloc, &query.to_string(alloc)?) {
+        Ok(other) => Ok(other == *query && query.clone()? == other),
+        Err(QueryFailure::Syntax(_)) => Ok(false),
+        Err(QueryFailure::Memory) => Err(AllocError),
     }
 }
 

@@ -1,4 +1,4 @@
-//! The test of a query: the paths of the nodes that it selects, or where it is refused.
+//! The test of a query: what it prints and the paths of the nodes that it selects, or where it is refused.
 
 use crate::checks::{Case, compare};
 use crate::dump::Dump;
@@ -18,15 +18,27 @@ pub fn check_query(case: &Case<'_>) -> Result<(), Fault> {
     compare(case, &dump)
 }
 
-/// Adds the paths that the query selects in the document of the row, if it has one.
+/// Adds what the query prints, and the paths that it selects in the document of the row, if it has one.
 fn is_accepted(case: &Case<'_>, query: &Query, dump: &mut Dump) -> Result<(), Fault> {
     dump.text("accepted", case.text);
+    let printed = query.to_string(case.alloc())?;
+    dump.form("", "prints", ": ", &printed);
+    is_reread(case, query, &printed)?;
     let Some(document) = case.row.setting("on") else {
         return Ok(());
     };
     let document = document_of(case, document)?;
     dump.form("", "selects", ": ", &selected(case, &document, query)?);
     Ok(())
+}
+
+/// Checks that the printed text is one of an equal query.
+fn is_reread(case: &Case<'_>, query: &Query, printed: &str) -> Result<(), Fault> {
+    match Query::parse(case.alloc(), printed) {
+        Ok(other) if other == *query => Ok(()),
+        Err(QueryFailure::Memory) => Err(Fault::from(AllocError)),
+        _ => Err(case.differs("a text of the same query", printed)),
+    }
 }
 
 /// The document that is written so.
