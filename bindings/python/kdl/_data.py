@@ -68,15 +68,25 @@ class Entry:
     Entry(8080, 'port', type='u16')
     """
 
-    __slots__ = ("value", "name", "type", "span")
+    __slots__ = ("value", "name", "type", "_start", "_length")
     value: Value
     name: Optional[str]
     type: Optional[str]
-    span: Tuple[int, int]
+    _start: int
+    _length: int
 
     def __init__(self, value: Value, name: Optional[str] = None, *, type: Optional[str] = None,
                  span: Tuple[int, int] = (0, 0)) -> None:
         self.value, self.name, self.type, self.span = value, name, type, span
+
+    @property
+    def span(self) -> Tuple[int, int]:
+        """Its (start, end) in the text that it was read from, in bytes."""
+        return self._start, self._start + self._length
+
+    @span.setter
+    def span(self, span: Tuple[int, int]) -> None:
+        self._start, self._length = span[0], span[1] - span[0]
 
     def __eq__(self, other: object) -> bool:
         if not isinstance(other, Entry):
@@ -146,12 +156,13 @@ class Node:
     }
     """
 
-    __slots__ = ("name", "type", "entries", "children", "span")
+    __slots__ = ("name", "type", "entries", "children", "_start", "_length")
     name: str
     type: Optional[str]
     entries: MutableSequence[Entry]
     children: Optional[MutableSequence[Node]]
-    span: Tuple[int, int]
+    _start: int
+    _length: int
 
     def __init__(self, name: str, args: Iterable[Value] = (),
                  props: Optional[Mapping[str, Value]] = None,
@@ -164,6 +175,15 @@ class Node:
         self.entries += [Entry(it) for it in args]
         self.entries += [Entry(value, it) for it, value in (props or {}).items()]
         self.children = None if children is None else list(children)
+
+    @property
+    def span(self) -> Tuple[int, int]:
+        """Its (start, end) in the text that it was read from, in bytes."""
+        return self._start, self._start + self._length
+
+    @span.setter
+    def span(self, span: Tuple[int, int]) -> None:
+        self._start, self._length = span[0], span[1] - span[0]
 
     def _whole(self) -> Node:
         """Returns the node as data, only for reading."""
@@ -451,12 +471,12 @@ _IS_NODE_OR_END = bytes(it in (NODE, END) for it in range(256))
 class Rows:
     """The rows of a document, and their strings. Nodes are made of them when they are used."""
 
-    __slots__ = ("_rows", "_strings", "_text", "_begins")
+    __slots__ = ("_rows", "_text", "_is_ascii", "_begins")
 
     def __init__(self, rows: memoryview, strings: bytes) -> None:
-        self._rows, self._strings = rows, strings
-        # In ASCII a byte is a character, and a slice of the text is the string.
-        self._text = strings.decode("ascii") if strings.isascii() else None
+        self._rows = rows
+        # A byte is a character here, also where a character takes several bytes.
+        self._text, self._is_ascii = strings.decode("latin-1"), strings.isascii()
         self._begins: List[int] = []
 
     def begins(self) -> List[int]:
@@ -490,17 +510,18 @@ class Rows:
         was_on = gc.isenabled()
         gc.disable()
         try:
-            if self._text is not None:
-                return nodes_of(rows, self._text.__getitem__)
-            strings = self._strings
-            return nodes_of(rows, lambda part: strings[part].decode())
+            nodes = nodes_of(rows, self._text)
+            if not self._is_ascii:
+                _decode(nodes)
+            return nodes
         finally:
             if was_on:
                 gc.enable()
 
 
-def nodes_of(rows: Any, part: Callable[[slice], str]) -> List[Node]:
-    """Returns the nodes of the rows, in one pass. `part` gives a part of their strings."""
+def nodes_of(rows: Any, text: str) -> List[Node]:
+    """Returns the nodes of the rows, in one pass. The text has a character for each byte of their
+    strings."""
     nodes: List[Node] = []
     above: List[List[Node]] = []
     entries: List[Entry] = []
@@ -509,11 +530,11 @@ def nodes_of(rows: Any, part: Callable[[slice], str]) -> List[Node]:
          start, length) in row.iter_unpack(rows):
         if kind == NODE:
             node = new_node(Node)
-            node.name = part(slice(name, name + name_len))
+            node.name = text[name : name + name_len]
             node.entries = entries = []
             node.children = None
-            node.type = part(slice(type, type + type_len)) if has_type else None
-            node.span = (start, start + length)
+            node.type = text[type : type + type_len] if has_type else None
+            node._start, node._length = start, length
             nodes.append(node)
             if has_block:
                 above.append(nodes)
@@ -523,16 +544,30 @@ def nodes_of(rows: Any, part: Callable[[slice], str]) -> List[Node]:
         else:
             entry = new_entry(Entry)
             if value == STRING:
-                entry.value = part(slice(at, at + at_len))
+                entry.value = text[at : at + at_len]
             elif value == INTEGER:
                 entry.value = integer
             else:
-                entry.value = value_of(value, integer, part(slice(at, at + at_len)))
-            entry.name = part(slice(name, name + name_len)) if kind == PROPERTY else None
-            entry.type = part(slice(type, type + type_len)) if has_type else None
-            entry.span = (start, start + length)
+                entry.value = value_of(value, integer, text[at : at + at_len])
+            entry.name = text[name : name + name_len] if kind == PROPERTY else None
+            entry.type = text[type : type + type_len] if has_type else None
+            entry._start, entry._length = start, length
             entries.append(entry)
     return top
+
+
+def _decode(nodes: Sequence[Node]) -> None:
+    """Decodes the strings of the nodes, of which a character is a byte so far."""
+    decoded: Callable[[Any], Any] = lambda it: it.encode("latin-1").decode() if isinstance(it, str) else it
+    work = [nodes]
+    for block in work:
+        for node in block:
+            node.name, node.type = decoded(node.name), decoded(node.type)
+            for entry in node.entries:
+                entry.value, entry.name = decoded(entry.value), decoded(entry.name)
+                entry.type = decoded(entry.type)
+            if node.children:
+                work.append(node.children)
 
 
 class Nodes(MutableSequence[Node]):

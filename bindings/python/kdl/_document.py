@@ -7,7 +7,7 @@ import threading
 from typing import Any, Dict, Iterator, List, Optional, Tuple, Type, TypeVar, Union
 
 from ._adding import with_added
-from ._data import Entry, Node, Nodes, Rows, Value, node_at, nodes_of
+from ._data import Entry, Node, Nodes, Rows, Value, node_at
 from ._files import Source, read
 from ._library import (
     AS_DOCUMENT, AS_ENTRY, AS_NODE, AS_QUERY, AS_VALUE, NO_INDEX, NOT_FOUND, OK, TOO_SMALL, Handle,
@@ -249,7 +249,7 @@ class Document:
             entry = lambda *it: lib.kdl_entry(self._handle, *at, index, *it)
             more, strings = self._row(entry, strings)
             rows += more
-        return nodes_of(rows, lambda part: strings[part].decode())[0]
+        return Rows(memoryview(rows), strings).node(0)
 
     def _row(self, call: Any, strings: bytes) -> Tuple[bytes, bytes]:
         """Returns the row of a call, and the strings with those of it at their end."""
