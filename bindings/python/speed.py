@@ -76,7 +76,7 @@ def main():
     ]
     if tomllib:
         assert tomllib.loads(toml) == objects
-        rows.insert(2, ("tomllib.loads", "loads", len(toml), least(lambda: tomllib.loads(toml), 3)))
+        rows.insert(3, ("tomllib.loads", "loads", len(toml), least(lambda: tomllib.loads(toml), 3)))
     for name, of, size, took in rows:
         print(f"{name:15} {size:8} bytes {took * 1e3:7.1f} ms, {took / base[of]:5.1f} times json.{of}")
     if len(sys.argv) > 1:
