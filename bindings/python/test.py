@@ -161,13 +161,16 @@ def reads_each(case, document, nodes):
 def adds_each(case, nodes):
     """A node is added to each block, and to each node without one, and nothing else changes."""
     for path in [(), *below(nodes).values()][:4]:
-        for text in ("z 1", "z 1 // of z"):
+        for text, index in (("z 1", None), ("z 1 // of z", None), ("z 1", 0), ("z 1", -1), ("z 1 // of z", 0)):
             document, wanted = Document(case.text), kdl.loads(case.text)
-            added = document.add_node(path, text)
             parent = wanted.node(path) if path else None
             if parent and parent.children is None:
                 parent.children = []
-            (parent.children if parent else wanted).append(Node("z", [1]))
+            block = parent.children if parent else wanted
+            if index == -1 and not block:
+                continue
+            added = document.add_node(path, text, index)
+            block.insert(len(block) if index is None else index, Node("z", [1]))
             assert repr_of(document.to_nodes()) == repr_of(wanted), (case, path, str(document))
             assert added.args == [1] and text in str(document), (case, path)
 

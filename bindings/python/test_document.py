@@ -406,6 +406,22 @@ def adding():
                 assert added == want and added.path[:-1] == at, (text, at, added.path)
                 lines = str(document).replace("\r\n", "\n").split("\n")
                 assert len(lines) < 3 or "\n" in text or isinstance(node, Node) or "\n" in node or True
+    for text, index, node, wanted in (
+        ("a {\n    b\n    // of c\n    c\n}", 1, "z", "a {\n    b\n    z\n    // of c\n    c\n}"),
+        ("a {\n  // of b\n  b\n}", 0, "z", "a {\n  z\n  // of b\n  b\n}"), ("a { b; c }", 0, "z", "a { z; b; c }"),
+        ("a { // c\n\tb\n}", 0, "z {\n    y\n}", "a { // c\n\tz {\n\t    y\n\t}\n\tb\n}"), ("a { b; c }", 1, "z", "a { b; z; c }"),
+        ("a {b}", 0, "z // c", "a {\n    z // c\n    b}"), ("a { _; x }", 0, "z", "a { z; _; x }"), ("a {_}", 0, "z", "a { z;_}"),
+        ("a {x}", -1, "z", "a { z;x}"), ("a {\n    b; c\n}", 1, "z", "a {\n    b; z; c\n}"),
+    ):
+        document = Document(text)
+        document.add_node("a", node, index)
+        assert str(document) == wanted, (text, node, str(document))
+    document = Document("// licence\na\n\n// of b\nb\n")
+    document.nodes.insert(1, "z")
+    document.nodes.insert(0, Node("y"))
+    assert str(document) == "y\n// licence\na\nz\n\n// of b\nb\n", str(document)
+    for index in (5, -5):
+        raises(IndexError, document.add_node, (), "z", index)
     document = Document("server\n")
     server = document["server"]
     server.add("a 1")

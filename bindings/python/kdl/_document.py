@@ -637,15 +637,17 @@ class Document:
             text = _indented(node, len(at), place, count) if isinstance(node, Node) else node
             self._edit(lib.kdl_insert_node, at, place, text=encoded(text), kind=AS_NODE, by=1)
 
-    def add_node(self, path: NodePath, node: Union[Node, str]) -> DocumentNode:
-        r"""Adds a node, or the node of a text in KDL, as the last one of the block of the node at the
-        path, or of the document if the path is (). Returns the new node.
+    def add_node(self, path: NodePath, node: Union[Node, str],
+                 index: Optional[int] = None) -> DocumentNode:
+        r"""Adds a node, or the node of a text in KDL, to the block of the node at the path, or to the
+        document if the path is (): before the node at the index, or as the last. Returns the new node.
 
         In a block on several lines it gets a line of its own, with the indentation of the first node.
         In a block on one line it stays on that line, unless it has a newline or a `//`. A node without
         a block gets one on several lines, indented by 4 spaces, or by a tab after a tab. Further lines
-        of the text are indented as the first one. No other byte changes: see `insert_node` for
-        another place and form. The text of the document is read anew: `insert_node` is faster.
+        of the text are indented as the first one. It is added before the comments in front of the node
+        at the index. Where that form would change other data, as after a `\` at the end of the text, it
+        is that of `insert_node`. The text of the document is read anew: `insert_node` is faster.
 
         >>> document = Document("server {\n  port 80 // c\n}\n")
         >>> document.add_node("server", 'tls #true')
@@ -669,10 +671,10 @@ class Document:
             raise KdlError(faults)
         with self._lock:
             at = self._indices(path)
-            place = self._node_count(at)
-            text = with_added(self, at, lines)
+            place = _place(index, self._node_count(at))
+            text = with_added(self, at, lines, place)
             if text is None:
-                self.insert_node(at, lines + "\n")
+                self.insert_node(at, lines + "\n", place)
             else:
                 check(lib.kdl_parse(text, len(text), self._handle), text)
                 self._changed()

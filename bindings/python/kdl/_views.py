@@ -313,9 +313,10 @@ class DocumentNode(Node):
         for it in old:
             self.document.remove_node(it)
 
-    def add(self, node: Union[Node, str]) -> DocumentNode:
-        """Adds a node as the last one of the block: see `Document.add_node`."""
-        return self.document.add_node(self, node)
+    def add(self, node: Union[Node, str], index: Optional[int] = None) -> DocumentNode:
+        """Adds a node to the block, as the last one or before the one at the index: see
+        `Document.add_node`."""
+        return self.document.add_node(self, node, index)
 
     def remove(self) -> None:
         """Removes the node: see `Document.remove_node`."""
@@ -375,14 +376,11 @@ class DocumentNodes(MutableSequence[Node]):
             it.remove()
 
     def insert(self, index: SupportsIndex, value: Union[Node, str]) -> None:
-        """Inserts a node before the one at the index: see `Document.insert_node`. After the last one
-        it is added as by `Document.add_node`."""
+        """Inserts a node before the one at the index: see `Document.add_node`."""
         with self._document._lock:
-            count, at = len(self), operator.index(index)
-            if at >= count:
-                self._document.add_node(self._where(), value)
-            else:
-                self._document.insert_node(self._where(), value, max(at, -count))
+            count = len(self)
+            place = max(min(operator.index(index), count), -count)
+            self._document.add_node(self._where(), value, place)
 
     def pop(self, index: SupportsIndex = -1) -> Node:
         """Removes the node at the index, and returns it as data."""
