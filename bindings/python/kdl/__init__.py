@@ -43,7 +43,7 @@ A text with faults raises a `KdlError`, which lists all of them:
 """
 from typing import Any
 
-from ._data import Entry, Float, Node, Nodes, Path, Value, loads
+from ._data import Entry, Float, Node, Nodes, Path as Path, Value, loads
 from ._document import Document
 from ._files import Source, read as _read, write as _write
 from ._library import Fault, KdlError, faults, format_text
