@@ -107,6 +107,12 @@ def views():
     assert str(document) == (
         '// licence\na  (hex)16 k=3 last=#true /* c */ { "b b" 3 { (u8)c "e" 5; }; d at=0 {}; } // end\n'
         " a 4.5 6\n"), str(document)
+    prices = Document("a 1.50 2 3.0 4")["a"]
+    prices.args[0] = Float("1.5")
+    prices.args[2] = 3.0
+    prices.args.remove(2)
+    prices.args.insert(1, 2.5)
+    assert str(prices) == "a 1.5 2.5 3.0 4", str(prices)
     # inserted and removed nodes and entries move the others
     first, second, entry, key = a.children[0], a.children[1], a.entries[0], a.entries[1]
     document.insert_node((), "z", 0)
@@ -267,6 +273,13 @@ def queries():
     data[0].children[0][0] = 7
     assert data.query_all("a > b[val() > 2]") == [Node("b", [7]), Node("b", [2.5])]
     assert data.query("b[val() = 2]") is data[1].children[0] and data.query("c") is None
+    # below a node
+    for top in (Document("s { p 1; t { p 2; }; }; p 3"), kdl.loads("s { p 1; t { p 2; }; }; p 3")):
+        assert [it[0] for it in top["s"].query_all("p")] == [1, 2] and top["s"].query("top() > p")[0] == 1
+        assert top["p"].query_all("p") == [] and top["p"].query("p") is None
+        top["s"].query("t > p")[0] = 7
+        assert top.node(["s", "t", "p"])[0] == 7
+        raises(KdlError, top["p"].query, "p p")
     for wrong in ("", "a b", "[", "a >"):
         assert raises(KdlError, data.query, wrong).faults and raises(KdlError, many.query_all, wrong).faults
     raises(UnicodeEncodeError, many.query, "\ud800")
@@ -326,6 +339,14 @@ def paths():
     assert document.get(["server", "x"]) is None and document.get(["server", "x"], 1) == document.get(7, 1) == 1
     assert document.get("server/port") is None and "server/port" not in document and ["x"] not in document
     assert Document("\"a/b\" 1").get("a/b").args == [1]
+    for nodes in (document.nodes, document.to_nodes()):
+        assert nodes["server"].child("port") == nodes[["server", "port"]] == nodes.get(names) == nodes.node(["server", 0])
+        assert "server" in nodes and names in nodes and "x" not in nodes and Node("a", [1]) in nodes and Node("b") not in nodes
+        assert nodes.get("x") is nodes.get(["server", "x"]) is None and nodes.get(9, 5) == 5
+        assert nodes["server"].children.__class__ in (list, kdl.DocumentNodes)
+        raises(KeyError, lambda: nodes["x"])
+        raises(IndexError, nodes.node, ())
+    assert document["server"].children["port"].args == [1, 9] and "port" in document["server"].children
     raises(KeyError, lambda: document["x"])
     raises(KeyError, lambda: document[["server", "x"]])
     raises(IndexError, lambda: document[9])

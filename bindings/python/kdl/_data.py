@@ -110,6 +110,12 @@ def _is_same(one: Value, two: Value) -> bool:
             and isinstance(one, float) == isinstance(two, float))
 
 
+def _stays(old: Value, new: Value) -> bool:
+    """Returns whether the new value needs no change: it is equal, and no `Float` of another text."""
+    texts = [it.text if isinstance(it, Float) else None for it in (old, new)]
+    return _is_same(old, new) and texts[1] in (None, texts[0])
+
+
 def _entry(value: Value, name: Optional[str], type: Optional[str], span: Tuple[int, int]) -> Entry:
     return Entry(value, name, type=type, span=span)
 
@@ -284,6 +290,19 @@ class Node:
         except LookupError:
             return default
 
+    def query(self, text: Union[str, bytes]) -> Any:
+        """Returns the first node below this one that a query selects, or None: see `query_all`."""
+        return next(iter(self.query_all(text)), None)
+
+    def query_all(self, text: Union[str, bytes]) -> List[Any]:
+        """Returns the nodes below this one that a query selects, in their order. The query sees the
+        block as a document: `top() > port` is a child `port`. Raises `KdlError` if the text is no query.
+
+        >>> loads("server { port 1; tls { port 2; }; }")[0].query_all("top() > port")[0].args
+        [1]
+        """
+        return _queried(self.children or [], text)
+
     def to_data(self) -> Any:
         """Returns the plain data of the node: see `Nodes.to_data`."""
         from ._plain import value_of_node
@@ -314,9 +333,8 @@ class Node:
         return dumps([self])[:-1]
 
     def __reduce__(self) -> Any:
-        it: Node = self
-        children = None if it.children is None else list(it.children)
-        return _node, (it.name, it.type, list(it.entries), children, it.span)
+        children = None if self.children is None else list(self.children)
+        return _node, (self.name, self.type, list(self.entries), children, self.span)
 
 
 def _copied(node: Node) -> Node:
@@ -377,6 +395,15 @@ def node_at(nodes: Sequence[Node], path: Path, found: Optional[Node] = None) -> 
     return found
 
 
+def _queried(nodes: Sequence[Node], text: Union[str, bytes]) -> List[Node]:
+    """Returns the nodes among these, and in their blocks, that a query selects."""
+    from ._document import Document
+    from ._writing import text_of
+
+    with Document(text_of(nodes)) as document:
+        return [node_at(nodes, it) for it in document._query(text)]
+
+
 def _then_put(of: Any, name: str) -> Any:
     """Returns the method of a list or dict that then changes the node."""
     plain = getattr(of, name)
@@ -408,13 +435,13 @@ class _Args(List[Value]):
         entries, new = self._of.entries, list(values)
         places = [at for at, it in enumerate(self._of._read().entries) if it.name is None]
         old = [it.value for it in self._of._read().entries if it.name is None]
-        while new and old and _is_same(new[-1], old[-1]) and len(new) != len(old):
-            new.pop(), old.pop()
         first = 0
-        while first < min(len(old), len(new)) and _is_same(old[first], new[first]):
+        while first < min(len(old), len(new)) and _stays(old[first], new[first]):
             first += 1
+        while len(old) != len(new) and min(len(old), len(new)) > first and _stays(old[-1], new[-1]):
+            del new[-1], old[-1]
         for at in range(first, min(len(old), len(new))):
-            if not _is_same(old[at], new[at]):
+            if not _stays(old[at], new[at]):
                 entries[places[at]].value = new[at]
         for at in range(len(old) - 1, len(new) - 1, -1):
             del entries[places[at]]
@@ -452,7 +479,7 @@ class _Props(Dict[str, Value]):
             if key not in values:
                 del node[key]
         for key, value in dict(values).items():
-            if key not in old or not _is_same(old[key], value):
+            if key not in old or not _stays(old[key], value):
                 node[key] = value
 
     def __reduce__(self) -> Any:
@@ -460,8 +487,7 @@ class _Props(Dict[str, Value]):
 
 
 for _name in ("__setitem__", "__delitem__", "__ior__", "clear", "pop", "popitem", "setdefault", "update"):
-    if hasattr(dict, _name):  # Python 3.8 has no __ior__
-        setattr(_Props, _name, _then_put(dict, _name))
+    setattr(_Props, _name, _then_put(dict, _name))
 
 
 # Which rows are nodes or ends.
@@ -604,7 +630,7 @@ class Nodes(MutableSequence[Node]):
                     nodes = self._rows.nodes()
                     for index, node in self._made.items():
                         nodes[index] = node
-                    self._all, self._rows = nodes, None
+                    self._all, self._rows, self._made = nodes, None, {}
         assert self._all is not None
         return self._all
 
@@ -688,11 +714,7 @@ class Nodes(MutableSequence[Node]):
         >>> nodes.query("port[val() > 1]") is nodes[1].children[0]
         True
         """
-        from ._document import Document
-        from ._writing import text_of
-
-        with Document(text_of(self)) as document:
-            return [node_at(self, it) for it in document._query(text)]
+        return _queried(self, text)
 
     def to_data(self) -> Dict[str, Any]:
         """Returns the plain data of the nodes, of which `dumps` makes these nodes again. Raises

@@ -356,6 +356,9 @@ class DocumentNodes(MutableSequence[Node]):
             return self._document._node_count(self._where())
 
     def __getitem__(self, index: Any) -> Any:
+        """Returns the node at the index or path, or a list of nodes for a slice."""
+        if isinstance(index, (str, list, tuple)):
+            return self.node(index)
         with self._document._lock:
             path, document = self._where(), self._document
             above = document._root if self._parent is None else self._parent._place
@@ -364,6 +367,27 @@ class DocumentNodes(MutableSequence[Node]):
             places, indices = above.nodes, range(document._node_count(path))[index]
             made = lambda it: DocumentNode(document, above.below(places, it))
             return [made(it) for it in indices] if isinstance(indices, range) else made(indices)
+
+    def node(self, path: Path) -> DocumentNode:
+        """Returns the node at the path, of which the first step is one of these nodes."""
+        steps = [path] if isinstance(path, (str, int)) else path
+        with self._document._lock:
+            if not steps:
+                raise IndexError("the empty path is no node")
+            return self._document.node([*self._where(), *steps])
+
+    def get(self, path: Path, default: Any = None) -> Any:
+        """Returns the node at the path, or the default if there is none."""
+        try:
+            return self.node(path)
+        except LookupError:
+            return default
+
+    def __contains__(self, value: object) -> bool:
+        """Returns whether a node is equal to that one, or there is one of that name or at that path."""
+        if isinstance(value, (str, list, tuple)):
+            return self.get(value) is not None
+        return any(it == value for it in self)
 
     def __setitem__(self, index: Any, value: Any) -> None:
         with self._document._lock:
