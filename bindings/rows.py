@@ -22,7 +22,7 @@ MEMBERS = {
         *map(chr, [*range(0x202A, 0x202F), *range(0x2066, 0x206A), 0xFEFF]),
     ],
 }
-CALLS = ("document", "node", "entry", "identifier", "float", "string", "fronts", "replaced")
+CALLS = ("document", "node", "entry", "identifier", "float", "string", "fronts", "replaced", "query")
 MARKS = {"⏎": "\n", "⇥": "\t", "␍": "\r", "␠": " "}
 
 

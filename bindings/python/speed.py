@@ -43,10 +43,17 @@ def records(count):
 def least(call, runs=9):
     times = []
     for _ in range(runs):
-        begun = time.perf_counter()
+        begun = time.process_time()
         call()
-        times.append(time.perf_counter() - begun)
+        times.append(time.process_time() - begun)
     return min(times)
+
+
+def edited(document):
+    """Reads and sets a value of each record, and finds some by a query."""
+    for server in document:
+        port = server.child("port")
+        port[0] = port[0] + 1
 
 
 def main():
@@ -58,15 +65,18 @@ def main():
     rows = [
         ("json.loads", "loads", len(as_json), base["loads"]),
         ("kdl.loads", "loads", len(text), least(lambda: kdl.loads(text))),
+        ("  of each node", "loads", len(text), least(lambda: list(kdl.loads(text)))),
         ("json.dumps", "dumps", len(json.dumps(objects)), base["dumps"]),
         ("  with indent=4", "dumps", len(as_json), least(lambda: json.dumps(objects, indent=4))),
         ("kdl.dumps", "dumps", len(text), least(lambda: kdl.dumps(nodes))),
         ("Document.parse", "loads", len(text), least(lambda: kdl.Document(text))),
+        ("  7,500 edits", "loads", len(text), least(lambda: edited(document), 1)),
+        ("  a query", "loads", len(text), least(lambda: document.query_all("server >> [val() = 9090]"))),
         ("str(document)", "dumps", len(text), least(lambda: str(document))),
     ]
     if tomllib:
         assert tomllib.loads(toml) == objects
-        rows.insert(2, ("tomllib.loads", "loads", len(toml), least(lambda: tomllib.loads(toml), 3)))
+        rows.insert(3, ("tomllib.loads", "loads", len(toml), least(lambda: tomllib.loads(toml), 3)))
     for name, of, size, took in rows:
         print(f"{name:15} {size:8} bytes {took * 1e3:7.1f} ms, {took / base[of]:5.1f} times json.{of}")
     if len(sys.argv) > 1:

@@ -1,4 +1,4 @@
-"""The build backend of this folder: a wheel of kdl.py and the shared library that bindings/c/build
+"""The build backend of this folder: a wheel of the package kdl, with the shared library that bindings/c/build
 made. It needs no other package, so that `pip install` works without a network.
 """
 import base64
@@ -38,8 +38,8 @@ def build_wheel(wheel_directory, config_settings=None, metadata_directory=None):
         raise SystemExit(f"there is no {LIBRARY}: run bindings/c/build first")
     info = f"{NAMED}.dist-info"
     files = {
-        "kdl.py": (HERE / "kdl.py").read_bytes(),
-        "libkdl.so": LIBRARY.read_bytes(),
+        **{f"kdl/{it.name}": it.read_bytes() for it in [*sorted((HERE / "kdl").glob("*.py")), HERE / "kdl/py.typed"]},
+        "kdl/libkdl.so": LIBRARY.read_bytes(),
         f"{info}/LICENSE": (HERE.parent.parent / "LICENSE").read_bytes(),
         f"{info}/METADATA": METADATA.encode(),
         f"{info}/WHEEL": WHEEL.encode(),
