@@ -9,7 +9,8 @@ use std::time::{Duration, Instant};
 const SOUGHT: usize = 64;
 
 /// The query that is measured: three selectors with steps, tests of names, types, properties and arguments.
-const QUERY: &str = "[enabled = #true] >> limits > [val() >= 500] || listen[port < 100] + [] || (u16)leaf";
+const QUERY: &str =
+    "[enabled = #true] >> limits > [val() >= 500] || listen[port < 100] + [] || (u16)leaf";
 
 /// What is measured.
 #[derive(Clone, Copy)]
