@@ -64,7 +64,7 @@ static uint32_t queries(struct kdl_document *d) {
     return status;
 }
 
-enum { CALLS = 28, QUERY = 22 };
+enum { CALLS = 29, QUERY = 22, LAYOUT = 27 };
 static uint32_t call(int which, struct kdl_document *d) {
     static const size_t first[] = {0}, large[] = {1, 0};
     size_t n, m;
@@ -96,6 +96,10 @@ static uint32_t call(int which, struct kdl_document *d) {
     case 24: return kdl_argument(d, first, 1, 0, rows, s, sizeof s, &n);
     case 25: return kdl_find_path(d, T("b/\"d e\""), indices, 64, &n);
     case 26: return kdl_get_path(d, T("b/c#0"), rows, s, sizeof s, &n);
+    case LAYOUT: {
+        static const struct kdl_layout kept = {1, 0, 1, 1};
+        return kdl_layout(d, &kept, T("\t"));
+    }
     default: return kdl_get(d, T("a"), rows, s, sizeof s, &n);
     }
 }
@@ -120,7 +124,8 @@ static bool has_the_data(const uint8_t *other, size_t other_len) {
 
 /* Makes the call with the allocation of that number failing. Returns whether there was one. */
 static bool refuses(int which, long number) {
-    bool has_faults = (which >= 5 && which <= 7) || which == 23, lays_out = which == 2 || which == 3;
+    bool has_faults = (which >= 5 && which <= 7) || which == 23;
+    bool lays_out = which == 2 || which == 3 || which == LAYOUT;
     struct kdl_document d = none();
     size_t n;
     CHECK(kdl_parse(T(text), &d) == KDL_OK);

@@ -35,6 +35,45 @@ static void documents(void) {
     CHECK(kdl_format_text((const uint8_t *)"\x80", 1, out, sizeof out, &len) == KDL_NOT_UTF8);
 }
 
+/* A document laid out by kdl_layout. */
+static void lays_out(struct kdl_layout layout, const char *indent, const char *expected) {
+    static const char *const loose = "a   0x10\n\n\n\nb { c 1 }\n// x\nd \"e\"\n";
+    struct kdl_document d = none();
+    CHECK(kdl_parse(T(loose), &d) == KDL_OK);
+    CHECK(kdl_layout(&d, &layout, T(indent)) == KDL_OK);
+    prints(&d, expected);
+    kdl_free(&d);
+}
+
+static void layouts(void) {
+    static const struct kdl_layout all = {2, 1, 1, 1};
+    struct kdl_document d = none();
+    struct kdl_layout layout = {0, 0, 0, 0};
+    lays_out(layout, "    ", "a 16\nb {\n    c 1\n}\n// x\nd e\n");
+    lays_out(layout, "\t", "a 16\nb {\n\tc 1\n}\n// x\nd e\n");
+    lays_out(layout, "", "a 16\nb {\nc 1\n}\n// x\nd e\n");
+    layout.blank_lines = 1;
+    lays_out(layout, "  ", "a 16\n\nb {\n  c 1\n}\n// x\nd e\n");
+    layout.blank_lines = 0;
+    layout.no_comments = 1;
+    lays_out(layout, "  ", "a 16\nb {\n  c 1\n}\nd e\n");
+    layout.no_comments = 0;
+    layout.keep_spelling = 2;
+    lays_out(layout, "  ", "a 0x10\nb {\n  c 1\n}\n// x\nd \"e\"\n");
+    layout.keep_spelling = 0;
+    layout.keep_one_line = UINT32_MAX;
+    lays_out(layout, "  ", "a 16\nb { c 1 }\n// x\nd e\n");
+    lays_out(all, "  ", "a 0x10\n\n\nb { c 1 }\nd \"e\"\n");
+    /* what is no indent leaves the document */
+    CHECK(kdl_layout(&d, &layout, T(" ")) == KDL_NO_DOCUMENT);
+    CHECK(kdl_parse(T(sample), &d) == KDL_OK);
+    CHECK(kdl_layout(&d, &layout, T(" x")) == KDL_FAULTS);
+    CHECK(kdl_layout(&d, &layout, T("\n")) == KDL_FAULTS);
+    CHECK(kdl_layout(&d, &layout, (const uint8_t *)" \xff", 2) == KDL_NOT_UTF8);
+    prints(&d, sample);
+    kdl_free(&d);
+}
+
 static void faults(void) {
     const char *text = "a }\nb #treu\n";
     struct kdl_fault f[4];
@@ -598,6 +637,7 @@ static void threads(void) {
 
 int main(void) {
     documents();
+    layouts();
     faults();
     statuses();
     positions();
