@@ -1,15 +1,17 @@
 """Documents: edits, and nodes that change the text."""
 import copy
+import ctypes
 import pathlib
 import pickle
 import random
+import re
 import tempfile
 import threading
 
 from checking import below, raises
 import kdl
 import rows
-from kdl import Document, Entry, Float, KdlError, Node
+from kdl import Document, Entry, Float, KdlError, Node, _library
 
 
 def edits():
@@ -357,6 +359,36 @@ def paths():
     assert "host" not in str(document) and document.find("server/port").args == [3]
 
 
+def random_paths():
+    """`find` reads random texts as the library reads a PATH."""
+    size, call = _library.size, _library.lib.kdl_find_path
+    out = ctypes.POINTER(size)
+    call.argtypes = [ctypes.POINTER(_library.Handle), ctypes.c_char_p, size, out, size, out]
+    text = 'a 1 k=2 { b 1; b 2 { "x y" 3; "a/b" 4; }; "" 5; "@c" 6; }; a 2 { b 9; }; "a#" 1; é { b 1; }; "\\n" 2'
+    document, found = Document(text), 0
+    pieces = [
+        *'ab/é/[]#@"\\\n x-10=', *'/ / [0] [1] #0 #1 /@k /@ "x y" "a/b" "" """ #"a"# ##" "## \\" true inf /* // (a)'.split(" "),
+        '"@c"', '"a#"', '"\\n"', '"""\n\n\n"""', '#"""\n\n\n"""#', "\\u{e9}", "\ufeff",
+    ]
+    for seed in range(20000):
+        chosen = random.Random(seed)
+        path = "".join(chosen.choices(pieces, k=chosen.randrange(1, 7)))
+        given, places, needed = path.encode(), (size * 8)(), size()
+        status = call(document._handle, given, len(given), places, 8, needed)
+        if status == _library.FAULTS:
+            raises(ValueError, document.find, path)
+            continue
+        # of an argument or a property, the path of its node
+        node = document.find(re.sub("(#[0-9]+|/@.*)$", "", path)) if status == _library.OK else document.find(path)
+        assert status in (_library.OK, _library.NOT_FOUND), (path, status)
+        if status == _library.OK:
+            assert node.path == tuple(places[: needed.value]), (path, node)
+            found += 1
+        else:
+            assert node is None or path == "/", (path, node)
+    assert found > 200, found
+
+
 # Where nodes go
 
 
@@ -544,4 +576,4 @@ def threads():
     assert shared.nodes == kdl.loads(str(shared)) and shared[0].args == [1]
 
 
-TESTS = (edits, views, same_changes, queries, paths, places, adding, equality, first_steps, lives, threads)
+TESTS = (edits, views, same_changes, queries, paths, random_paths, places, adding, equality, first_steps, lives, threads)
