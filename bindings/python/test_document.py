@@ -554,26 +554,31 @@ def lives():
 
 
 def threads():
-    shared = Document("a 1; b 2 { c 3 }\n" * 200)
-    failed = []
+    shared, failed = Document("a 1; b 2 { c 3 }\n" * 200), []
 
-    def work():
+    def work(number):
         try:
-            for _ in range(100):
+            mine = shared.add_node((), f"n{number} 0")
+            for count in range(100):
                 own = Document("x y z { w }")
                 own.insert_entry("x", "1")
-                shared.insert_entry(0, "9", 0)
-                assert shared[0].args[-1] == shared.nodes[0].args[-1] == 1
-                shared.remove_entry(0, 0)
-                bytes(shared), bytes(own), shared._tree(), kdl.faults("}")
+                shared.insert_entry("a", "9", 0)
+                shared.insert_node((), "m", 0)
+                assert shared["a"].args[-1] == shared.to_nodes()["a"].args[-1] == 1
+                mine[0] = count
+                assert mine[0] == count and mine.name == f"n{number}" and str(mine) == f"n{number} {count}"
+                shared.remove_entry("a", 0)
+                shared.remove_node("m")
+                bytes(shared), bytes(own), shared._tree(), kdl.faults("}"), shared.query_all("c")
+            mine.remove()
         except BaseException as error:
             failed.append(error)
 
-    started = [threading.Thread(target=work) for _ in range(6)]
+    started = [threading.Thread(target=work, args=(it,)) for it in range(6)]
     [it.start() for it in started]
     [it.join() for it in started]
-    assert not failed and str(shared) == "a 1; b 2 { c 3 }\n" * 200, failed
-    assert shared.nodes == kdl.loads(str(shared)) and shared[0].args == [1]
+    assert not failed and str(shared) == "a 1; b 2 { c 3 }\n" * 200, (failed, str(shared)[:100])
+    assert shared.to_nodes() == kdl.loads(str(shared)) and shared[0].args == [1]
 
 
 TESTS = (edits, views, same_changes, queries, paths, random_paths, places, adding, equality, first_steps, lives, threads)
