@@ -1,15 +1,17 @@
 """Documents: edits, and nodes that change the text."""
 import copy
+import ctypes
 import pathlib
 import pickle
 import random
+import re
 import tempfile
 import threading
 
 from checking import below, raises
 import kdl
 import rows
-from kdl import Document, Entry, Float, KdlError, Node
+from kdl import Document, Entry, Float, KdlError, Node, _library
 
 
 def edits():
@@ -357,6 +359,36 @@ def paths():
     assert "host" not in str(document) and document.find("server/port").args == [3]
 
 
+def random_paths():
+    """`find` reads random texts as the library reads a PATH."""
+    size, call = _library.size, _library.lib.kdl_find_path
+    out = ctypes.POINTER(size)
+    call.argtypes = [ctypes.POINTER(_library.Handle), ctypes.c_char_p, size, out, size, out]
+    text = 'a 1 k=2 { b 1; b 2 { "x y" 3; "a/b" 4; }; "" 5; "@c" 6; }; a 2 { b 9; }; "a#" 1; é { b 1; }; "\\n" 2'
+    document, found = Document(text), 0
+    pieces = [
+        *'ab/é/[]#@"\\\n x-10=', *'/ / [0] [1] #0 #1 /@k /@ "x y" "a/b" "" """ #"a"# ##" "## \\" true inf /* // (a)'.split(" "),
+        '"@c"', '"a#"', '"\\n"', '"""\n\n\n"""', '#"""\n\n\n"""#', "\\u{e9}", "\ufeff",
+    ]
+    for seed in range(20000):
+        chosen = random.Random(seed)
+        path = "".join(chosen.choices(pieces, k=chosen.randrange(1, 7)))
+        given, places, needed = path.encode(), (size * 8)(), size()
+        status = call(document._handle, given, len(given), places, 8, needed)
+        if status == _library.FAULTS:
+            raises(ValueError, document.find, path)
+            continue
+        # of an argument or a property, the path of its node
+        node = document.find(re.sub("(#[0-9]+|/@.*)$", "", path)) if status == _library.OK else document.find(path)
+        assert status in (_library.OK, _library.NOT_FOUND), (path, status)
+        if status == _library.OK:
+            assert node.path == tuple(places[: needed.value]), (path, node)
+            found += 1
+        else:
+            assert node is None or path == "/", (path, node)
+    assert found > 200, found
+
+
 # Where nodes go
 
 
@@ -522,26 +554,31 @@ def lives():
 
 
 def threads():
-    shared = Document("a 1; b 2 { c 3 }\n" * 200)
-    failed = []
+    shared, failed = Document("a 1; b 2 { c 3 }\n" * 200), []
 
-    def work():
+    def work(number):
         try:
-            for _ in range(100):
+            mine = shared.add_node((), f"n{number} 0")
+            for count in range(100):
                 own = Document("x y z { w }")
                 own.insert_entry("x", "1")
-                shared.insert_entry(0, "9", 0)
-                assert shared[0].args[-1] == shared.nodes[0].args[-1] == 1
-                shared.remove_entry(0, 0)
-                bytes(shared), bytes(own), shared._tree(), kdl.faults("}")
+                shared.insert_entry("a", "9", 0)
+                shared.insert_node((), "m", 0)
+                assert shared["a"].args[-1] == shared.to_nodes()["a"].args[-1] == 1
+                mine[0] = count
+                assert mine[0] == count and mine.name == f"n{number}" and str(mine) == f"n{number} {count}"
+                shared.remove_entry("a", 0)
+                shared.remove_node("m")
+                bytes(shared), bytes(own), shared._tree(), kdl.faults("}"), shared.query_all("c")
+            mine.remove()
         except BaseException as error:
             failed.append(error)
 
-    started = [threading.Thread(target=work) for _ in range(6)]
+    started = [threading.Thread(target=work, args=(it,)) for it in range(6)]
     [it.start() for it in started]
     [it.join() for it in started]
-    assert not failed and str(shared) == "a 1; b 2 { c 3 }\n" * 200, failed
-    assert shared.nodes == kdl.loads(str(shared)) and shared[0].args == [1]
+    assert not failed and str(shared) == "a 1; b 2 { c 3 }\n" * 200, (failed, str(shared)[:100])
+    assert shared.to_nodes() == kdl.loads(str(shared)) and shared[0].args == [1]
 
 
-TESTS = (edits, views, same_changes, queries, paths, places, adding, equality, first_steps, lives, threads)
+TESTS = (edits, views, same_changes, queries, paths, random_paths, places, adding, equality, first_steps, lives, threads)
