@@ -48,7 +48,8 @@ struct fault {
     std::string message, label, help;
 };
 
-/// A call failed: its status, one of those of kdl.h, and for KDL_FAULTS the faults of the text, at least one.
+/// A call failed: its status, one of those of kdl.h, and for KDL_FAULTS the faults of the text, at least one. Only those
+/// of a PATH are not listed.
 class error : public std::runtime_error {
 public:
     explicit error(std::uint32_t status, std::vector<fault> faults = {})
