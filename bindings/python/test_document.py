@@ -509,6 +509,27 @@ def equality():
     assert str(laid) == "a 1\n"
 
 
+def formats():
+    """A layout's settings, each alone, and what is no layout."""
+    loose, four = "a   0x10\n\n\n\nb { c 1 }\nd \"e\"\n", "a 16\nb {\n    c 1\n}\nd e\n"
+    for wanted, given in (
+        (four, {}),
+        (four.replace("    ", "\t"), {"indent": "\t"}),
+        (four.replace("    ", ""), {"indent": 0}),
+        ("a 16\n\nb {\n    c 1\n}\nd e\n", {"blank_lines": 1}),
+        ("a 0x10\nb {\n    c 1\n}\nd \"e\"\n", {"keep_spelling": True}),
+        ("a 16\nb { c 1 }\nd e\n", {"keep_one_line": True}),
+        ("a 0x10\n\n\nb { c 1 }\nd \"e\"\n", {"blank_lines": 2, "keep_spelling": True, "keep_one_line": True}),
+    ):
+        document = Document(loose)
+        document.format(**given)
+        assert str(document) == wanted, (given, str(document))
+    document = Document(loose)
+    for wrong in ({"indent": "x"}, {"indent": "\n"}, {"indent": -1}, {"blank_lines": -1}):
+        raises(ValueError, document.format, **wrong)
+    assert str(document) == loose
+
+
 def first_steps():
     """What a user does first, on one file."""
     with tempfile.TemporaryDirectory() as room:
@@ -581,4 +602,4 @@ def threads():
     assert shared.to_nodes() == kdl.loads(str(shared)) and shared[0].args == [1]
 
 
-TESTS = (edits, views, same_changes, queries, paths, random_paths, places, adding, equality, first_steps, lives, threads)
+TESTS = (edits, views, same_changes, queries, paths, random_paths, places, adding, equality, formats, first_steps, lives, threads)

@@ -10,8 +10,8 @@ from ._adding import with_added
 from ._data import Entry, Node, Nodes, Rows, Value, node_at
 from ._files import Source, read
 from ._library import (
-    AS_DOCUMENT, AS_ENTRY, AS_NODE, AS_QUERY, AS_VALUE, NO_INDEX, NOT_FOUND, OK, TOO_SMALL, Handle,
-    KdlError, check, encoded, faults_of, lib, row, size, steps, texts, written,
+    AS_DOCUMENT, AS_ENTRY, AS_NODE, AS_QUERY, AS_VALUE, FAULTS, NO_INDEX, NOT_FOUND, OK, TOO_SMALL,
+    Handle, KdlError, Layout, check, encoded, faults_of, lib, row, size, steps, texts, written,
 )
 from ._paths import Step, part_of, places_of, read_path
 from ._views import DocumentNode, DocumentNodes, Indices, NodePath, Place, cut
@@ -149,15 +149,35 @@ class Document:
             copy.strip()
             return bytes(copy)
 
-    def format(self) -> None:
-        r"""Lays the document out, with its comments and without empty lines. Its data stay.
+    def format(
+        self, *, indent: Union[int, str] = 4, blank_lines: int = 0, keep_spelling: bool = False,
+        keep_one_line: bool = False,
+    ) -> None:
+        r"""Lays the document out, with its comments. Its data stay.
+
+        The indent of a level is a number of spaces, or a text of spaces and tabs. At most `blank_lines`
+        empty lines in a row are kept. With `keep_spelling`, values, names, keys and types keep their
+        spellings. With `keep_one_line`, a block that is on one line stays on one line. Raises
+        `ValueError` for another indent or a negative number, and then changes nothing.
 
         >>> document = Document("a   0x10; b { c; } // d")
+        >>> document.format(indent=2, keep_spelling=True)
+        >>> str(document)
+        'a 0x10\nb {\n  c\n} // d\n'
         >>> document.format()
         >>> str(document)
         'a 16\nb {\n    c\n} // d\n'
         """
-        self._lay(lib.kdl_format)
+        if blank_lines < 0 or isinstance(indent, int) and indent < 0:
+            raise ValueError("a number of spaces or empty lines is at least 0")
+        text = (" " * indent if isinstance(indent, int) else indent).encode()
+        layout = Layout(blank_lines, False, keep_spelling, keep_one_line)
+        with self._lock:
+            status = lib.kdl_layout(self._handle, layout, text, len(text))
+            self._changed()
+        if status == FAULTS:
+            raise ValueError(f"the indent {indent!r} has another character than spaces and tabs")
+        check(status)
 
     def strip(self) -> None:
         r"""Lays the document out, without its comments. Two documents then print the same text if and

@@ -25,6 +25,12 @@ class Handle(ctypes.Structure):
     _fields_ = [("live", ctypes.c_bool), ("at", ctypes.c_void_p)]
 
 
+class Layout(ctypes.Structure):
+    """How `kdl_layout` lays a document out."""
+
+    _fields_ = [("blank_lines", size), ("no_comments", u32), ("keep_spelling", u32), ("keep_one_line", u32)]
+
+
 def _file() -> str:
     """Returns the shared library: one that is named, in this folder, built here, or installed."""
     here = pathlib.Path(__file__).resolve().parent
@@ -45,6 +51,7 @@ def _loaded(how: Callable[[str], Any]) -> Any:
             "kdl_print": [handle, *strings],
             "kdl_format": [handle],
             "kdl_strip": [handle],
+            "kdl_layout": [handle, ctypes.POINTER(Layout), *text],
             "kdl_format_text": [*text, *strings],
             "kdl_reports": [*text, any_bytes, size, out, *strings],
             "kdl_faults_of": [u32, *text, any_bytes, size, out, *strings],
