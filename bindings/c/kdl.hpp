@@ -77,6 +77,9 @@ inline const std::size_t *indices(const path &of) noexcept {
     return of.empty() ? &none : of.data();
 }
 
+/// The room of the first call where the room that it needs is not known: most results are no longer.
+constexpr std::size_t guess = 64;
+
 /// A buffer of at least one item, so that it has an address.
 template <class T> std::vector<T> room(std::size_t size) { return std::vector<T>(size ? size : 1); }
 
@@ -472,12 +475,12 @@ public:
     /// The paths of the nodes that a query selects, in the order of the document. Throws KDL_FAULTS, with the fault, if
     /// the text is not a query.
     std::vector<path> query(std::string_view text) {
-        std::size_t count = 0, needed = 0, none = 0;
+        std::size_t count = 0, needed = detail::guess;
         std::vector<std::size_t> all;
-        std::uint32_t status = kdl_query(&held_, detail::bytes(text), text.size(), &none, 0, &count, &needed);
-        if (status == KDL_TOO_SMALL) {
-            all = detail::room<std::size_t>(needed);
-            status = kdl_query(&held_, detail::bytes(text), text.size(), all.data(), needed, &count, &needed);
+        std::uint32_t status = KDL_TOO_SMALL;
+        for (int call = 0; call < 2 && status == KDL_TOO_SMALL; call++) {
+            all.resize(needed);
+            status = kdl_query(&held_, detail::bytes(text), text.size(), all.data(), all.size(), &count, &needed);
         }
         if (status == KDL_FAULTS) {
             throw error(status, faults(KDL_AS_QUERY, text));
@@ -518,26 +521,27 @@ public:
     /// The path of the node that a PATH such as "server/port" or "server[2]/port" names. Throws KDL_NOT_FOUND if there is
     /// none, and KDL_FAULTS if the text is not a PATH.
     path find(std::string_view place) {
-        std::size_t needed = 0, none = 0;
-        std::uint32_t status = kdl_find_path(&held_, detail::bytes(place), place.size(), &none, 0, &needed);
-        path found(needed);
-        if (status == KDL_TOO_SMALL) {
-            status = kdl_find_path(&held_, detail::bytes(place), place.size(), found.data(), needed, &needed);
+        path found;
+        std::size_t needed = detail::guess;
+        std::uint32_t status = KDL_TOO_SMALL;
+        for (int call = 0; call < 2 && status == KDL_TOO_SMALL; call++) {
+            found.resize(needed);
+            status = kdl_find_path(&held_, detail::bytes(place), place.size(), found.data(), found.size(), &needed);
         }
         throw_if(status);
+        found.resize(needed);
         return found;
     }
     /// The value that a PATH names, as "server/port", "server/port#1" or "server/@host"; none if it is not there. Throws
     /// KDL_FAULTS if the text is not a PATH.
     std::optional<value> get(std::string_view place) {
         kdl_row row{};
-        std::uint8_t none = 0;
-        std::size_t size = 0;
-        std::uint32_t status =
-            kdl_get_path(&held_, detail::bytes(place), place.size(), &row, &none, 0, &size);
-        auto strings = detail::room<std::uint8_t>(size);
-        if (status == KDL_TOO_SMALL) {
-            status = kdl_get_path(&held_, detail::bytes(place), place.size(), &row, strings.data(), size, &size);
+        std::vector<std::uint8_t> strings;
+        std::size_t size = detail::guess;
+        std::uint32_t status = KDL_TOO_SMALL;
+        for (int call = 0; call < 2 && status == KDL_TOO_SMALL; call++) {
+            strings.resize(size);
+            status = kdl_get_path(&held_, detail::bytes(place), place.size(), &row, strings.data(), strings.size(), &size);
         }
         if (status == KDL_NOT_FOUND) {
             return std::nullopt;

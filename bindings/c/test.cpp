@@ -147,6 +147,15 @@ void look_ups() {
     CHECK(document.get("a[1]/b#1")->integer() == 4 && document.get("b/@k")->string() == "x");
     CHECK(document.get("b")->string() == "long" && !document.get("b#1") && !document.get("x"));
     CHECK(thrown([&] { document.get("#"); }) == KDL_FAULTS);
+    /* more than the room of the first call */
+    std::string text, names, last(1000, 'x');
+    for (int i = 0; i < 100; i++) {
+        text += "a{";
+        names += "a/";
+    }
+    document.parse(text + "b " + last + std::string(100, '}'));
+    CHECK(document.query("[]").size() == 101 && document.find(names + "b") == kdl::path(101));
+    CHECK(document.get(names + "b")->string() == last);
 }
 
 void edits() {
