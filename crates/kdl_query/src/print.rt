@@ -245,7 +245,6 @@ fn write_others<W: Write>(selectors: &[Selector], f: &mut Formatter<W>) -> fmt::
 /// Prints a text of the query: `Query::parse` reads the same query from it.
 ///
 /// ```
-/// let query = Query::parse(alloc, "a>b[ val(0)>=0x10 ]||\"++\"")?; // a syntax error: `a>b` is a name
 /// let query = Query::parse(alloc, "a  > b[ val(0)>=0x10 ]||\"++\"")?;
 /// let text = query.to_string(alloc)?; // `a > b[val() >= 16] || "++"`
 /// ```

@@ -63,8 +63,8 @@ fn parsed(alloc: Global, text: &str) -> Result<Option<Query>, AllocError> {
     }
 }
 
-/// The line of what the call with the query of the text returns.
-fn answer(alloc: Global, text: &str, call: Call) -> Result<String, AllocError> {
+/// The line for the call with the query of the text.
+fn line(alloc: Global, text: &str, call: Call) -> Result<String, AllocError> {
     let Some(asked) = parsed(alloc, text)? else {
         return String::from_str(alloc, "no query");
     };
@@ -101,11 +101,11 @@ fn found(
     format!(in alloc; "{count} found")
 }
 
-/// Makes the call, again if an allocation failed, and prints what it returns.
-fn print_answer(rt: &HostRuntime, text: &str, call: Call) -> io::Result<()> {
-    match answer(rt.alloc(), text, call) {
-        Ok(line) => rt.println(line),
-        Err(_) => rt.println(answer(rt.alloc(), text, call)?),
+/// Makes the call, again if an allocation failed, and prints its line.
+fn print_line(rt: &HostRuntime, text: &str, call: Call) -> io::Result<()> {
+    match line(rt.alloc(), text, call) {
+        Ok(text) => rt.println(text),
+        Err(_) => rt.println(line(rt.alloc(), text, call)?),
     }
 }
 
@@ -113,7 +113,7 @@ fn print_answer(rt: &HostRuntime, text: &str, call: Call) -> io::Result<()> {
 pub fn take_all(rt: &HostRuntime) -> io::Result<()> {
     for text in &QUERIES {
         for call in &CALLS {
-            print_answer(rt, text, *call)?;
+            print_line(rt, text, *call)?;
         }
     }
     Ok(())
