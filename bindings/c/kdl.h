@@ -261,10 +261,20 @@ uint32_t kdl_argument(struct kdl_document *document, const size_t *path, size_t 
 
 /* ---- Queries, and PATHs ---- */
 
-/* Finds the nodes that a query selects, such as "server > port[val() >= 1024]". Writes their paths
- * into `indices`, in the order of the document, one after another: each path as its length, and then
- * its indices. Sets `*count` to the number of paths, and `*needed` to the number of `size_t` that
- * they take. A node's path is its own, as kdl_node takes it:
+/* Finds the nodes that a query selects:
+ *
+ *     a, (t), (t)a, []       a name, a type, both, any node
+ *     [val()], [val(1)]      with a first argument, with a second one
+ *     [k], [tag()]           with a property `k`, with a type
+ *     [val() >= 1024]        whose first argument compares so: = and != any values, < <= > >= numbers,
+ *     [k ^= "x"]             ^= $= *= strings, by their start, end and parts; the same of `k`
+ *     a > b, a >> b          a `b` in the block of an `a`, at any depth in it; top() is the document
+ *     a + b, a ++ b          a `b` directly after an `a`, any later `b` beside it
+ *     a || b                 what one of both selects
+ *
+ * Writes their paths into `indices`, in the order of the document, one after another: each path as
+ * its length, and then its indices. Sets `*count` to the number of paths, and `*needed` to the
+ * number of `size_t` that they take. Each is the path of the node itself, as kdl_node takes it:
  *
  *     for (size_t i = 0; i < needed; i += 1 + indices[i]) {
  *         kdl_node(&document, &indices[i + 1], indices[i], ..);
