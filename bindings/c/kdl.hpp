@@ -16,9 +16,10 @@
 // Ownership. A kdl::document owns its document, and frees it. It can be moved, and not copied.
 //
 // Nodes. A kdl::node is a place in a document: a path of indices. Each member reads or edits the
-// document at that place. The document must outlive its nodes; they stay valid if it is moved. After
-// a node is inserted or removed, the same path may lead to another node, or to none: then members
-// throw kdl::error with KDL_NOT_FOUND. Like an iterator, a node of a const document can edit it.
+// document at that place. The document must outlive its nodes. They stay valid if it is moved, and not
+// if another document is assigned to it. After a node is inserted or removed, the same path may lead
+// to another node, or to none: then members throw kdl::error with KDL_NOT_FOUND. Like an iterator, a
+// node of a const document can edit it.
 //
 // Entries and values. A kdl::entry and a kdl::value are copies: they need no document, and do not
 // change after an edit.

@@ -10,12 +10,12 @@
 #include <sstream>
 #include <type_traits>
 
-#define CHECK(condition)                                                                \
-    do {                                                                                \
-        if (!(condition)) {                                                             \
-            std::fprintf(stderr, "%s:%d: fails: %s\n", __FILE__, __LINE__, #condition); \
-            std::exit(1);                                                               \
-        }                                                                               \
+#define CHECK(condition)                                                                                               \
+    do {                                                                                                               \
+        if (!(condition)) {                                                                                            \
+            std::fprintf(stderr, "%s:%d: fails: %s\n", __FILE__, __LINE__, #condition);                                \
+            std::exit(1);                                                                                              \
+        }                                                                                                              \
     } while (0)
 
 /// How many more allocations of C++ succeed, if `is_limited`.
@@ -79,7 +79,10 @@ client timeout=0x1e
 )";
 
 void round_trip() {
-    for (const char *text : {"", "\n", settings, "a;b", "\xEF\xBB\xBF" "a\r\n", "a \\ // c\n 1", "a { }", "(t)a k=(v)1"}) {
+    for (const char *text : {"", "\n", settings, "a;b",
+                             "\xEF\xBB\xBF"
+                             "a\r\n",
+                             "a \\ // c\n 1", "a { }", "(t)a k=(v)1"}) {
         CHECK(kdl::document(text).to_string() == text);
     }
     std::ostringstream out;
@@ -225,6 +228,11 @@ void query() {
         node.set_argument(0, 30);
     }
     CHECK(document.to_string() == "a { b 1; c { b 2; }; }; b k=x long; a { b 30 4; }");
+    std::vector<kdl::node> found = document.query("b || c");
+    for (auto it = found.rbegin(); it != found.rend(); ++it) {
+        it->remove(); // the last one first, so the paths of the others stay right
+    }
+    CHECK(found.size() == 5 && document.query("[]").size() == 2 && document.query("a").size() == 2);
     CHECK(document.query("x").empty());
     auto faults = faults_of([&] { document.query("a b"); });
     CHECK(faults.size() == 1 && faults[0].start == 2 && faults[0].column == 3 && !faults[0].message.empty());
@@ -247,7 +255,7 @@ void documents() {
     kdl::document document("a 1");
     kdl::node node = document.nodes()[0];
     kdl::document moved(std::move(document));
-    CHECK(moved.to_string() == "a 1" && node.name() == "a"); // the node is still there
+    CHECK(moved.to_string() == "a 1" && node.name() == "a");         // the node is still there
     CHECK(thrown([&] { document.to_string(); }) == KDL_NO_DOCUMENT); // NOLINT: what a moved document does
     CHECK(thrown([&] { document.nodes(); }) == KDL_NO_DOCUMENT && thrown([&] { document.strip(); }) == KDL_NO_DOCUMENT);
     document = std::move(moved);
@@ -361,34 +369,41 @@ void refused_edits() {
     faults = faults_of([&] { document.insert_node(0, "\nx 1\n  #y"); });
     CHECK(!faults.empty() && faults[0].line == 3);
     CHECK(thrown([&] { a.set_value(0, "k=1"); }) == KDL_FAULTS && thrown([&] { a.set_value(0, ""); }) == KDL_FAULTS);
-    CHECK(thrown([&] { a.set_value(1, "1"); }) == KDL_NOT_FOUND && thrown([&] { a.set_argument(2, 1); }) == KDL_NOT_FOUND);
-    CHECK(thrown([&] { a.insert_entry(0, "a b"); }) == KDL_FAULTS && thrown([&] { a.insert_entry(9, "a"); }) == KDL_NOT_FOUND);
-    CHECK(thrown([&] { a.insert_node(0, "}"); }) == KDL_FAULTS && thrown([&] { a.insert_node(2, "c"); }) == KDL_NOT_FOUND);
+    CHECK(thrown([&] { a.set_value(1, "1"); }) == KDL_NOT_FOUND &&
+          thrown([&] { a.set_argument(2, 1); }) == KDL_NOT_FOUND);
+    CHECK(thrown([&] { a.insert_entry(0, "a b"); }) == KDL_FAULTS &&
+          thrown([&] { a.insert_entry(9, "a"); }) == KDL_NOT_FOUND);
+    CHECK(thrown([&] { a.insert_node(0, "}"); }) == KDL_FAULTS &&
+          thrown([&] { a.insert_node(2, "c"); }) == KDL_NOT_FOUND);
     CHECK(thrown([&] { a.remove_entry(1); }) == KDL_NOT_FOUND && thrown([&] { a.set_type(1, "t"); }) == KDL_NOT_FOUND);
     CHECK(thrown([&] { a.set_type(SIZE_MAX, "t"); }) == KDL_NOT_FOUND);
-    CHECK(thrown([&] { a.set_name("\xff"); }) == KDL_NOT_UTF8 && thrown([&] { a.set_property("\xff", 1); }) == KDL_NOT_UTF8);
+    CHECK(thrown([&] { a.set_name("\xff"); }) == KDL_NOT_UTF8 &&
+          thrown([&] { a.set_property("\xff", 1); }) == KDL_NOT_UTF8);
     CHECK(thrown([&] { a.set_argument(0, "\xC2\x05"); }) == KDL_NOT_UTF8);
     CHECK(thrown([&] { a.set_argument(0, "\xE2\x80"); }) == KDL_NOT_UTF8);
     CHECK(document.to_string() == text);
 }
 
 void values() {
-    kdl::document document("v \"a\\u{0}b\" 9223372036854775807 9223372036854775808 1_0.5e+1 #inf #-inf #nan #false #null "
-                           "1e999 -1e999 -9223372036854775809 18446744073709551616 0x1_0");
+    kdl::document document(
+        "v \"a\\u{0}b\" 9223372036854775807 9223372036854775808 1_0.5e+1 #inf #-inf #nan #false #null "
+        "1e999 -1e999 -9223372036854775809 18446744073709551616 0x1_0");
     kdl::node v = document.nodes()[0];
     auto at = [&](std::size_t i) { return v.argument(i).value(); };
     CHECK(at(0).as<std::string>() == std::string("a\0b", 3) && !at(0).try_as<double>() && !at(0).try_as<int>());
     CHECK(at(1).as<std::int64_t>() == INT64_MAX && at(1).as<double>() == 9223372036854775807.0);
     CHECK(!at(1).try_as<int>() && at(1).as<std::uint64_t>() == static_cast<std::uint64_t>(INT64_MAX));
     CHECK(at(2).is<kdl::large_integer>() && at(2).as<double>() == 9223372036854775808.0);
-    CHECK(at(2).as<std::uint64_t>() == 9223372036854775808U && !at(2).try_as<std::int64_t>() && !at(2).try_as<unsigned>());
+    CHECK(at(2).as<std::uint64_t>() == 9223372036854775808U && !at(2).try_as<std::int64_t>() &&
+          !at(2).try_as<unsigned>());
     CHECK(at(2).as<kdl::large_integer>().text == "9223372036854775808" && at(2) == 9223372036854775808U);
     CHECK(at(3).as<double>() == 105.0 && at(3).as<kdl::float_text>().text == "10.5e+1" && at(3).as<float>() == 105.0F);
     CHECK(at(3).is_number() && !at(3).try_as<std::int64_t>() && !at(3).try_as<bool>());
     CHECK(std::isinf(at(4).as<double>()) && at(5).as<double>() < 0 && std::isnan(at(6).as<double>()));
     CHECK(!at(7).as<bool>() && at(8).is_null() && !at(8).try_as<bool>() && at(8) == nullptr && !at(7).is_number());
     CHECK(at(9).as<double>() > 1e308 && std::isinf(at(10).as<double>()) && at(10).as<double>() < 0);
-    CHECK(!at(11).try_as<std::uint64_t>() && !at(12).try_as<std::uint64_t>() && at(12).as<double>() == 18446744073709551616.0);
+    CHECK(!at(11).try_as<std::uint64_t>() && !at(12).try_as<std::uint64_t>() &&
+          at(12).as<double>() == 18446744073709551616.0);
     CHECK(at(13).as<std::int8_t>() == 16 && at(13).as<unsigned char>() == 16 && at(13) != at(1));
     CHECK(kdl::value(-129).try_as<std::int8_t>() == std::nullopt && kdl::value(-128).as<std::int8_t>() == -128);
     CHECK(!kdl::value(-1).try_as<unsigned>() && !kdl::value(256).try_as<std::uint8_t>());
@@ -404,16 +419,20 @@ void values() {
 
 void spellings() {
     CHECK(kdl::value().to_kdl() == "#null" && kdl::value(true).to_kdl() == "#true" && kdl::value(-7).to_kdl() == "-7");
-    CHECK(kdl::value(UINT64_MAX).to_kdl() == "18446744073709551615" && kdl::value(INT64_MIN).to_kdl() == "-9223372036854775808");
-    CHECK(kdl::value(1.0).to_kdl() == "1.0" && kdl::value(-0.0).to_kdl() == "-0.0" && kdl::value(0.1).to_kdl() == "0.1");
-    CHECK(kdl::value(0.1F).to_kdl() == "0.1" && kdl::value(1e300).to_kdl() == "1e+300" && kdl::value(8080.0).to_kdl() == "8080.0");
+    CHECK(kdl::value(UINT64_MAX).to_kdl() == "18446744073709551615" &&
+          kdl::value(INT64_MIN).to_kdl() == "-9223372036854775808");
+    CHECK(kdl::value(1.0).to_kdl() == "1.0" && kdl::value(-0.0).to_kdl() == "-0.0" &&
+          kdl::value(0.1).to_kdl() == "0.1");
+    CHECK(kdl::value(0.1F).to_kdl() == "0.1" && kdl::value(1e300).to_kdl() == "1e+300" &&
+          kdl::value(8080.0).to_kdl() == "8080.0");
     CHECK(kdl::value(0.1 + 0.2).as<double>() == 0.1 + 0.2 && kdl::value(5e-324).as<double>() == 5e-324);
     CHECK(kdl::value(INFINITY).to_kdl() == "#inf" && kdl::value(-INFINITY).to_kdl() == "#-inf");
     CHECK(kdl::value(NAN).to_kdl() == "#nan" && kdl::value("a").to_kdl() == "\"a\"");
     std::string text = "b";
     CHECK(kdl::value(text) == "b" && kdl::value(std::string_view("b")) == text && kdl::value(std::move(text)) == "b");
     CHECK(kdl::value(static_cast<const char *>("c")).is<std::string>() && kdl::quoted("") == "\"\"");
-    CHECK(kdl::quoted("a\"\\\n\t\x1b\xC2\x85\xE2\x80\xA8\xC3\xA9") == "\"a\\\"\\\\\\n\\t\\u{1b}\\u{85}\\u{2028}\xC3\xA9\"");
+    CHECK(kdl::quoted("a\"\\\n\t\x1b\xC2\x85\xE2\x80\xA8\xC3\xA9") ==
+          "\"a\\\"\\\\\\n\\t\\u{1b}\\u{85}\\u{2028}\xC3\xA9\"");
     kdl::document document("a 1");
     kdl::node a = document.nodes()[0];
     for (double number : {0.0, -1.5, 1e22, 123456789.125, 1.7976931348623157e308, 2.2250738585072014e-308, 1e-7}) {
@@ -465,7 +484,10 @@ void characters() {
 
 /// The lines and columns of faults are those of kdl_position.
 void positions() {
-    const std::string text = "\xEF\xBB\xBF" "a\r\nb\rc\nd\x0B" "e\x0C" "f\xC2\x85g\xE2\x80\xA8h\xE2\x80\xA9i\xF0\x9F\x98\x80j\r";
+    const std::string text = "\xEF\xBB\xBF"
+                             "a\r\nb\rc\nd\x0B"
+                             "e\x0C"
+                             "f\xC2\x85g\xE2\x80\xA8h\xE2\x80\xA9i\xF0\x9F\x98\x80j\r";
     std::vector<kdl::fault> faults;
     for (std::size_t at = text.size() + 1; at-- > 0;) {
         if (at == text.size() || (static_cast<unsigned char>(text[at]) & 0xC0U) != 0x80U) {
@@ -479,7 +501,8 @@ void positions() {
         CHECK(at.line == fault.line && at.column == fault.column);
     }
     CHECK(faults.front().line == 10 && thrown([] { kdl::position_of("a", 2); }) == KDL_NOT_FOUND);
-    CHECK(thrown([] { kdl::position_of("\xC3\xA9", 1); }) == KDL_NOT_FOUND && thrown([] { kdl::faults("\xff"); }) == KDL_NOT_UTF8);
+    CHECK(thrown([] { kdl::position_of("\xC3\xA9", 1); }) == KDL_NOT_FOUND &&
+          thrown([] { kdl::faults("\xff"); }) == KDL_NOT_UTF8);
 }
 
 void deep() {
