@@ -405,8 +405,8 @@ public:
     const variant &data() const noexcept { return data_; }
 
     /// The value as a T, if it is one. T is a type of `variant`, an integer of another size, float or
-    /// double. An integer is there if it is in the range of T. A float or double is there for each
-    /// number, and is the nearest one.
+    /// double. An integer is there if it is in the range of T. A double is there for each number, and is
+    /// the nearest one; a float is the nearest one to that double.
     template <class T> std::optional<T> try_as() const {
         if constexpr (std::is_floating_point_v<T>) {
             return as_floating<T>();
