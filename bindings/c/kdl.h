@@ -104,7 +104,7 @@ uint32_t kdl_strip(struct kdl_document *document);
 
 /* How kdl_layout lays a document out. A flag is set if it is not 0. {0} is the layout of
  * kdl_format. */
-struct kdl_layout {
+struct kdl_layout_options {
     size_t blank_lines;     /* the greatest number of empty lines that are kept between two nodes or
                                comments */
     uint32_t no_comments;   /* set: comments and slashdashed pieces are removed */
@@ -117,7 +117,7 @@ struct kdl_layout {
  * not change. Returns KDL_NOT_UTF8 if the indent is not UTF-8, and KDL_FAULTS if it has another
  * character than the spaces of KDL; the document is then as it was. If an allocation fails, it is as
  * after kdl_format. */
-uint32_t kdl_layout(struct kdl_document *document, const struct kdl_layout *layout,
+uint32_t kdl_layout(struct kdl_document *document, const struct kdl_layout_options *layout,
                     const uint8_t *indent, size_t indent_len);
 
 /* Parses a text, and writes the text that kdl_format lays out. */

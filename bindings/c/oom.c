@@ -97,7 +97,7 @@ static uint32_t call(int which, struct kdl_document *d) {
     case 25: return kdl_find_path(d, T("b/\"d e\""), indices, 64, &n);
     case 26: return kdl_get_path(d, T("b/c#0"), rows, s, sizeof s, &n);
     case LAYOUT: {
-        static const struct kdl_layout kept = {1, 0, 1, 1};
+        static const struct kdl_layout_options kept = {1, 0, 1, 1};
         return kdl_layout(d, &kept, T("\t"));
     }
     default: return kdl_get(d, T("a"), rows, s, sizeof s, &n);

@@ -36,7 +36,7 @@ static void documents(void) {
 }
 
 /* A document laid out by kdl_layout. */
-static void lays_out(struct kdl_layout layout, const char *indent, const char *expected) {
+static void lays_out(struct kdl_layout_options layout, const char *indent, const char *expected) {
     static const char *const loose = "a   0x10\n\n\n\nb { c 1 }\n// x\nd \"e\"\n";
     struct kdl_document d = none();
     CHECK(kdl_parse(T(loose), &d) == KDL_OK);
@@ -46,9 +46,9 @@ static void lays_out(struct kdl_layout layout, const char *indent, const char *e
 }
 
 static void layouts(void) {
-    static const struct kdl_layout all = {2, 1, 1, 1};
+    static const struct kdl_layout_options all = {2, 1, 1, 1};
     struct kdl_document d = none();
-    struct kdl_layout layout = {0, 0, 0, 0};
+    struct kdl_layout_options layout = {0, 0, 0, 0};
     lays_out(layout, "    ", "a 16\nb {\n    c 1\n}\n// x\nd e\n");
     lays_out(layout, "\t", "a 16\nb {\n\tc 1\n}\n// x\nd e\n");
     lays_out(layout, "", "a 16\nb {\nc 1\n}\n// x\nd e\n");
