@@ -116,7 +116,7 @@ struct kdl_layout_options {
 /* Lays the document out, with the indent once for each level: a text of spaces and tabs. Its data do
  * not change. Returns KDL_NOT_UTF8 if the indent is not UTF-8, and KDL_FAULTS if it has another
  * character than the spaces of KDL; the document is then as it was. If an allocation fails, it is as
- * after kdl_format. */
+ * after kdl_format. Since version 2. */
 uint32_t kdl_layout(struct kdl_document *document, const struct kdl_layout_options *layout,
                     const uint8_t *indent, size_t indent_len);
 
