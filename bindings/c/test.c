@@ -1,7 +1,9 @@
 /* Tests what each call writes and returns: with buffers of every size, on paths without a node, on
  * a struct without a document, on deep blocks, and on six threads. */
+#define _POSIX_C_SOURCE 200809L
 #include "check.h"
 #include <pthread.h>
+#include <unistd.h>
 
 static const char *const sample =
     "(t)a  0x10 \"k\" = #true // c\nb { c 99999999999999999999; }\n";
@@ -72,6 +74,56 @@ static void layouts(void) {
     CHECK(kdl_layout(&d, &layout, (const uint8_t *)" \xff", 2) == KDL_NOT_UTF8);
     prints(&d, sample);
     kdl_free(&d);
+}
+
+/* Writes a text to a file, and reads it back as a document. */
+static struct kdl_document through_a_file(struct kdl_document *document) {
+    char name[] = "/tmp/kdl-XXXXXX";
+    int file = mkstemp(name);
+    struct kdl_document again = none();
+    size_t len;
+    uint8_t *text = printed(document, &len);
+    CHECK(file >= 0 && write(file, text, len) == (ssize_t)len && close(file) == 0);
+    free(text);
+    text = read_all(name, &len);
+    CHECK(unlink(name) == 0 && kdl_parse(text, len, &again) == KDL_OK);
+    free(text);
+    return again;
+}
+
+/* What a user does first, on one file. */
+static void first_steps(void) {
+    static const char *const wanted =
+        "// the service\nname web\nserver {\n    port 9090 // the usual one\n    tls #true\n}\n";
+    struct kdl_document d = none(), again;
+    struct kdl_row row;
+    struct kdl_fault fault;
+    size_t path[2], len, count, line, column;
+    uint8_t s[64];
+    CHECK(kdl_parse(T("// the service\nname web\nserver {\n    port 0x1F90 // the usual one\n}\nold #true\n"), &d) ==
+          KDL_OK); /* load */
+    CHECK(kdl_get_path(&d, T("server/port"), &row, s, sizeof s, &len) == KDL_OK && row.integer == 8080);
+    CHECK(kdl_find_path(&d, T("server/port"), path, 2, &len) == KDL_OK && len == 2);
+    CHECK(kdl_set_value(&d, path, 2, 0, T("9090")) == KDL_OK); /* change a value, and keep its comment */
+    CHECK(kdl_insert_node(&d, path, 1, 1, T("    tls #true\n")) == KDL_OK); /* add a node */
+    CHECK(kdl_find(&d, path, 0, T("old"), &path[0]) == KDL_OK);
+    CHECK(kdl_remove_node(&d, path, 0, path[0]) == KDL_OK); /* remove one */
+    prints(&d, wanted);
+    CHECK(kdl_node_count(&d, path, 0, &count) == KDL_OK && count == 2); /* iterate */
+    for (path[0] = 0; path[0] < count; path[0]++) {
+        size_t entries;
+        CHECK(kdl_node(&d, path, 1, &entries, &row, s, sizeof s, &len) == KDL_OK);
+        CHECK(is_text(s + row.name_start, row.name_len, T(path[0] ? "server" : "name")));
+    }
+    again = through_a_file(&d); /* dump, and round trip a file */
+    prints(&again, wanted);
+    CHECK(kdl_format(&again) == KDL_OK); /* format */
+    prints(&again, wanted);
+    kdl_free(&again);
+    kdl_free(&d);
+    CHECK(kdl_faults(T("a 1\nb #treu\n"), &fault, 1, &count, s, sizeof s, &len) == KDL_FAULTS && count == 1);
+    CHECK(kdl_position(T("a 1\nb #treu\n"), fault.start, &line, &column) == KDL_OK); /* errors with places */
+    CHECK(line == 2 && column == 3);
 }
 
 static void faults(void) {
@@ -638,6 +690,7 @@ static void threads(void) {
 int main(void) {
     documents();
     layouts();
+    first_steps();
     faults();
     statuses();
     positions();
