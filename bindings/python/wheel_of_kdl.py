@@ -21,7 +21,9 @@ def _said(key):
 
 NAME = _said("name")
 NAMED = f"{NAME.replace('-', '_')}-{_said('version')}"
-TAG = "py3-none-" + re.sub("[-.]", "_", sysconfig.get_platform())
+# On x86-64 Linux, the library needs no symbol of a C library newer than glibc 2.34: `checks/dist` looks.
+PLATFORM = sysconfig.get_platform().replace("linux-x86_64", "manylinux_2_34_x86_64")
+TAG = "py3-none-" + re.sub("[-.]", "_", PLATFORM)
 METADATA = f"""Metadata-Version: 2.1
 Name: {NAME}
 Version: {_said("version")}
