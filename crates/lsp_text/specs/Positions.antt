@@ -1,7 +1,9 @@
 -- Lines, positions and edits of a text, as the Language Server Protocol 3.17 has them. Lines and units count from 0.
-use Rattle.std.specs.Prelude.{◌≡◌, ℕ, zero, suc, ◌+◌, ◌-◌, ◌≤◌, Bool, false, not, ◌&&◌, ◌||◌, ◌==◌, nat_le, nat_lt, min, max, Option, None, Some, List, [], ◌∷◌, ◌++◌, length, take, drop, if◌then◌else◌}
+use Rattle.std.specs.Prelude.{◌≡◌, ℕ, zero, suc, ◌+◌, ◌-◌, ◌≤◌, Bool, false, not, ◌&&◌, ◌||◌, ◌==◌, nat_le, nat_lt, min, max, Option, None, Some, List, [], ◌∷◌, ◌++◌, length, take, drop, string_bytes, if◌then◌else◌}
 use Rattle.std.specs.Char.{len_utf8}
 use Rattle.std.specs.Char.Escape.{encode_utf16}
+use Rattle.std.specs.Str.{chars}
+use Rattle.lsp_text.specs.declared.change.Change.{Change}
 use Rattle.lsp_text.specs.declared.position.Encoding.{Encoding}
 use Rattle.lsp_text.specs.declared.position.Encoding.TheVariants.{Utf8, Utf16, Utf32}
 use Rattle.lsp_text.specs.declared.position.Position.{Position}
@@ -91,6 +93,10 @@ edited e r new t =
     let i = index e r.start t in
     let j = index e r.end t in
     take i t ++ new ++ drop (max i j) t
+
+-- a change in memory: its range, and its text
+abbrev pub change_of : Change → Option Range × Text
+change_of c = (c.range, chars (string_bytes c.text))
 
 -- the text after a change: of a range, or of the whole text
 abbrev pub changed : Encoding → Option Range × Text → Text → Text

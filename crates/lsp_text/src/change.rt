@@ -1,5 +1,9 @@
 //! Changes of a text.
 
+ghost use Rattle.lsp_text.specs.Positions as spec;
+ghost use Rattle.lsp_text.specs.Positions.{all_changed, change_of, edited};
+ghost use Rattle.std.specs.Prelude.{◌≡◌, IfOk, chars, map, string_bytes};
+
 use crate::offset::offset_of;
 use crate::position::{Encoding, Range};
 use std::alloc::{AllocError, Global};
@@ -20,7 +24,9 @@ pub fn replaced(
     range: Range,
     new: &str,
     encoding: Encoding,
-) -> Result<String, AllocError> {
+) -> Result<String, AllocError>
+    ensures { IfOk result (λ out. chars (string_bytes out) ≡ edited encoding range (chars new.now) (chars text.now)) }
+{
     let start = offset_of(text, range.start, encoding);
     let end = offset_of(text, range.end, encoding).max(start);
     let mut out = String::with_capacity(alloc, start + new.len() + (text.len() - end))?;
@@ -36,7 +42,9 @@ fn changed(
     text: &str,
     change: &Change,
     encoding: Encoding,
-) -> Result<String, AllocError> {
+) -> Result<String, AllocError>
+    ensures { IfOk result (λ out. chars (string_bytes out) ≡ spec.changed encoding (change_of change.now) (chars text.now)) }
+{
     match change.range {
         Some(range) => replaced(alloc, text, range, change.text.as_str(), encoding),
         None => String::from_str(alloc, change.text.as_str()),
@@ -49,7 +57,10 @@ pub fn replaced_all(
     text: String,
     changes: &[Change],
     encoding: Encoding,
-) -> Result<String, AllocError> {
+) -> Result<String, AllocError>
+    ensures { IfOk result (λ out. chars (string_bytes out)
+        ≡ all_changed encoding (map change_of changes.now) (chars (string_bytes text))) }
+{
     let mut text = text;
     for change in changes {
         text = changed(alloc, text.as_str(), change, encoding)?;

@@ -1,10 +1,18 @@
 //! The position of a byte offset.
 
+ghost use Rattle.lsp_text.specs.Positions.{index_of_byte, position};
+ghost use Rattle.lsp_text.specs.Steps.{stepped};
+ghost use Rattle.std.specs.Prelude.{◌≡◌, ◌+◌, ◌<◌, ◌^◌, chars};
+
 use crate::position::{Encoding, Position};
 use crate::read::{ends_line, split_first};
 
 /// Returns the position after a character, given the text after the character. A CR before an LF takes no place.
-fn step(position: Position, c: char, rest: &str, encoding: Encoding) -> Position {
+fn step(position: Position, c: char, rest: &str, encoding: Encoding) -> Position
+    requires line { position.line + 1 < 2 ^ 64 }
+    requires character { position.character + 4 < 2 ^ 64 }
+    ensures { result ≡ stepped encoding position c (chars rest.now) }
+{
     if ends_line(c, rest) {
         return Position {
             line: position.line + 1,
@@ -22,7 +30,9 @@ fn step(position: Position, c: char, rest: &str, encoding: Encoding) -> Position
 
 /// Returns the position of a byte offset. An offset inside a character is the start of the character, one inside a CR LF
 /// is the end of its line, and one after the end of the text is that end.
-pub fn position_of(text: &str, offset: usize, encoding: Encoding) -> Position {
+pub fn position_of(text: &str, offset: usize, encoding: Encoding) -> Position
+    ensures { result ≡ position encoding (index_of_byte offset (chars text.now)) (chars text.now) }
+{
     let mut position = Position {
         line: 0,
         character: 0,
