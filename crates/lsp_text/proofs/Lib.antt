@@ -1,2 +1,4 @@
 -- Where the lines and the positions of a text are.
 pub mod Places
+-- The position of a character, and the character of a position, are inverse.
+pub mod Inverse

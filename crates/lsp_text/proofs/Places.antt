@@ -93,7 +93,7 @@ not_false : (b : Bool) → not b ≡ false → b ≡ true
 not_false true h = refl
 not_false false h = absurd (cc h)
 
-same_position : (p : Position) (m n : ℕ) → p.line ≡ m → p.character ≡ n → p ≡ record { line = m; character = n }
+pub same_position : (p : Position) (m n : ℕ) → p.line ≡ m → p.character ≡ n → p ≡ record { line = m; character = n }
 same_position p m n h k = rw (← h, ← k) refl
 
 pub start_ends : (n c : ℕ) (t : Text) → ends_line c t ≡ true → line_start (suc n) (c ∷ t) ≡ suc (line_start n t)
@@ -169,7 +169,7 @@ walked_goes e p q k c n (suc m) t h l s w =
     }
 
 -- a line feed follows a CR that does not end a line
-before_feed : (c : ℕ) (t : Text) → ends_line c t ≡ false → (c == 13) ≡ true → begins_feed t ≡ true
+pub before_feed : (c : ℕ) (t : Text) → ends_line c t ≡ false → (c == 13) ≡ true → begins_feed t ≡ true
 before_feed c t h r = not_false (begins_feed t) (sym (ap (λ z. z && not (begins_feed t)) r) ∙ (or_parts (c == 10) ((c == 13) && not (begins_feed t)) h).1)
 
 is_walked : (e : Encoding) (p : Position) (k : ℕ) (t : Text) → IsWalked e p (walked e p k t) k t
@@ -243,7 +243,7 @@ chars_drop bs i n u e =
     ap (λ z. chars (drop n z)) (parts_of bs i u) ∙ ap (λ z. chars (drop z (encodes f ++ encodes r))) (e ∙ size-encodes f) ∙ ap chars (drop-append_seam (encodes f) (encodes r)) ∙ chars-encodes r ok
 
 -- three parts, one after another
-pub three_parts : (a b d x y z w : List ℕ) → IsUtf8 a → IsUtf8 b → x ≡ [] ++ a → y ≡ x ++ b → z ≡ y ++ d → w ≡ z → chars w ≡ chars a ++ chars b ++ chars d
-three_parts a b d x y z w ua ub ex ey ez ew =
-    let all : w ≡ (a ++ b) ++ d = ew ∙ ez ∙ ap (λ v. v ++ d) (ey ∙ ap (λ v. v ++ b) ex) in
+pub three_parts : (a b d o x y z : List ℕ) → IsUtf8 a → IsUtf8 b → o ≡ [] → x ≡ o ++ a → y ≡ x ++ b → z ≡ y ++ d → chars z ≡ chars a ++ chars b ++ chars d
+three_parts a b d o x y z ua ub eo ex ey ez =
+    let all : z ≡ (a ++ b) ++ d = ez ∙ ap (λ v. v ++ d) (ey ∙ ap (λ v. v ++ b) (ex ∙ ap (λ v. v ++ a) eo)) in
     ap chars all ∙ chars-append (a ++ b) d (IsUtf8-append a b ua ub) ∙ ap (λ v. v ++ chars d) (chars-append a b ua)
