@@ -101,36 +101,36 @@ in_line_here k c t h i =
 
 -- a CR LF in which no character is meant ends a line
 no_return : (k c : ℕ) (t : Text) → (c == 13) ≡ true → begins_feed t ≡ true → lines_before k t ≡ 0 → (IsInLineEnd (suc k) (c ∷ t) → ⊥) → ⊥
-no_return k c [] r f l no = absurd (cc f)
-no_return zero c (d ∷ t) r f l no =
-    no ([], t, (ap (λ z. z ∷ d ∷ t) (eqb-true c 13 r) ∙ ap (λ z. 13 ∷ z ∷ t) (eqb-true d 10 f), refl))
-no_return (suc k) c (d ∷ t) r f l no =
+no_return k c [] r f l outside = absurd (cc f)
+no_return zero c (d ∷ t) r f l outside =
+    outside ([], t, ap (λ z. z ∷ d ∷ t) (eqb-true c 13 r) ∙ ap (λ z. 13 ∷ z ∷ t) (eqb-true d 10 f), refl)
+no_return (suc k) c (d ∷ t) r f l outside =
     let s : lines_before (suc k) (d ∷ t) ≡ suc (lines_before k t) = cond-true _ _ _ (or_left _ _ f) in
     omega (arith, s, l)
 
 in_line_at : (n k c : ℕ) (t : Text) → ends_line c t ≡ false → lines_before k t ≡ n → (IsInLineEnd (suc k) (c ∷ t) → ⊥) → IsInLine n k t → IsInLine n (suc k) (c ∷ t)
-in_line_at zero k c t h l no i = elim (cases_Bool (c == 13)) [
-  | inl r ↦ absurd (no_return k c t r (before_feed c t h r) l no)
+in_line_at zero k c t h l outside i = elim (cases_Bool (c == 13)) [
+  | inl r ↦ absurd (no_return k c t r (before_feed c t h r) l outside)
   | inr r ↦ in_line_here k c t (or_from _ _ (or_parts (c == 10) ((c == 13) && not (begins_feed t)) h).0 r) i
 ]
-in_line_at (suc n) k c t h l no i = in_line_goes n k c t h i
+in_line_at (suc n) k c t h l outside i = in_line_goes n k c t h i
 
 in_line : (k : ℕ) (t : Text) → k ≤ length t → (IsInLineEnd k t → ⊥) → IsInLine (lines_before k t) k t
-in_line zero t h no = record { start = omega arith; end = omega arith }
-in_line (suc k) [] h no = absurd (omega arith)
-in_line (suc k) (c ∷ t) h no =
-    let next : IsInLineEnd k t → ⊥ = λ w. no (c ∷ w.0, w.1, (ap (λ z. c ∷ z) w.2.0, ap suc w.2.1)) in
+in_line zero t h outside = record { start = omega arith; end = omega arith }
+in_line (suc k) [] h outside = absurd (omega arith)
+in_line (suc k) (c ∷ t) h outside =
+    let next : IsInLineEnd k t → ⊥ = λ w. outside (c ∷ w.0, w.1, ap (λ z. c ∷ z) w.2, ap suc w.3) in
     let i : IsInLine (lines_before k t) k t = in_line k t (omega arith) next in
     elim (cases_Bool (ends_line c t)) [
       | inl e ↦ subst (λ (n : ℕ). IsInLine n (suc k) (c ∷ t)) (sym (cond-true _ _ _ e)) (in_line_ends (lines_before k t) k c t e i)
-      | inr e ↦ subst (λ (n : ℕ). IsInLine n (suc k) (c ∷ t)) (sym (cond-false _ _ _ e)) (in_line_at (lines_before k t) k c t e refl no i)
+      | inr e ↦ subst (λ (n : ℕ). IsInLine n (suc k) (c ∷ t)) (sym (cond-false _ _ _ e)) (in_line_at (lines_before k t) k c t e refl outside i)
     ]
 
 pub index_position : (e : Encoding) (k : ℕ) (t : Text) → k ≤ length t → (IsInLineEnd k t → ⊥) → index e (position e k t) t ≡ k
-index_position e k t h no =
+index_position e k t h outside =
     let n = lines_before k t in
     let s = line_start n t in
-    let i : IsInLine n k t = in_line k t h no in
+    let i : IsInLine n k t = in_line k t h outside in
     let f : front e (units_before e k t) (line n t) ≡ take (k - s) (line n t) = ap (λ z. front e (size e z) (line n t)) (line_part n k t i.start) ∙ front_size e (k - s) (line n t) in
     omega (arith, ap length f, length-take (k - s) (line n t), i.start, i.end)
 
@@ -138,8 +138,8 @@ pub byte_index : (k : ℕ) (t : Text) → k ≤ length t → index_of_byte (size
 byte_index k t h = ap length (front_size Utf8 k t) ∙ length-take-le k t h
 
 pub offset_position : (e : Encoding) (k : ℕ) (t : Text) → k ≤ length t → (IsInLineEnd k t → ⊥) → offset e (position e (index_of_byte (size Utf8 (take k t)) t) t) t ≡ size Utf8 (take k t)
-offset_position e k t h no =
-    ap (λ z. offset e (position e z t) t) (byte_index k t h) ∙ ap (λ z. size Utf8 (take z t)) (index_position e k t h no)
+offset_position e k t h outside =
+    ap (λ z. offset e (position e z t) t) (byte_index k t h) ∙ ap (λ z. size Utf8 (take z t)) (index_position e k t h outside)
 
 -- ---- from positions to characters and back
 
@@ -181,8 +181,8 @@ position_index e p t x =
     let n : lines_before (s + length f) t ≡ p.line = lines_at p.line (length f) t x.in_text (front_le e p.character y) in
     let gap : (s + length f) - s ≡ length f = omega arith in
     let u : units_before e (s + length f) t ≡ p.character =
-      ap (λ z. size e (first_line (drop (line_start z t) (take (s + length f) t)))) n ∙ ap (size e) (line_part p.line (s + length f) t (omega arith) ∙ ap (λ z. take z y) gap ∙ front_take e p.character y ∙ part)
-      ∙ sym x.between in
+    ap (λ z. size e (first_line (drop (line_start z t) (take (s + length f) t)))) n ∙ ap (size e) (line_part p.line (s + length f) t (omega arith) ∙ ap (λ z. take z y) gap ∙ front_take e p.character y ∙ part)
+    ∙ sym x.between in
     sym (same_position p (lines_before (s + length f) t) (units_before e (s + length f) t) (sym n) (sym u))
 
 pub position_offset : (e : Encoding) (p : Position) (t : Text) → IsExact e p t → position e (index_of_byte (offset e p t) t) t ≡ p

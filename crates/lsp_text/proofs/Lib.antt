@@ -2,3 +2,5 @@
 pub mod Places
 -- The position of a character, and the character of a position, are inverse.
 pub mod Inverse
+-- An edit of a text is an edit of its units of 16 bits.
+pub mod Units

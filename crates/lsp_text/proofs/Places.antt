@@ -78,7 +78,7 @@ pub is_offset : (bs ds : List ℕ) (i : ℕ) → IsUtf8 bs → IsUtf8 ds → cha
 is_offset bs ds i u v e =
     let f = take i (chars bs) in
     let w : bs ≡ encodes f ++ ds =
-      sym (encodes-chars bs u) ∙ ap encodes (sym (take-append-drop i (chars bs))) ∙ encodes-append f (drop i (chars bs)) ∙ ap (λ x. encodes f ++ x) (ap encodes (sym e) ∙ encodes-chars ds v) in
+    sym (encodes-chars bs u) ∙ ap encodes (sym (take-append-drop i (chars bs))) ∙ encodes-append f (drop i (chars bs)) ∙ ap (λ x. encodes f ++ x) (ap encodes (sym e) ∙ encodes-chars ds v) in
     let n : length bs ≡ length (encodes f) + length ds = ap length w ∙ length-append (encodes f) ds in
     let k : length (encodes f) ≡ length bs - length ds = omega (arith, n) in
     record {
@@ -159,7 +159,7 @@ walked_goes e p q k c n zero t h l s w =
     record {
       line = omega (arith, w.line, g);
       character = w.character ∙ ap (λ z. kept z n + units_before e k t) l ∙ ap (λ z. n + z) (units_first e k t l) ∙ s refl
-        ∙ ap (λ z. p.character + z) (sym (units_here e k c t h l)) ∙ ap (λ z. kept z p.character + units_before e (suc k) (c ∷ t)) (sym (g ∙ l));
+          ∙ ap (λ z. p.character + z) (sym (units_here e k c t h l)) ∙ ap (λ z. kept z p.character + units_before e (suc k) (c ∷ t)) (sym (g ∙ l));
     }
 walked_goes e p q k c n (suc m) t h l s w =
     let g : lines_before (suc k) (c ∷ t) ≡ lines_before k t = cond-false _ _ _ h in
@@ -182,17 +182,17 @@ is_walked e p (suc k) (c ∷ t) = elim (cases_Bool (ends_line c t)) [
       let s : stepped e p c t ≡ q = cond-true _ _ _ h in
       walked_ends e p _ k c t h (subst (λ (r : Position). IsWalked e q (walked e r k t) k t) (sym s) (is_walked e q k t))
   | inr h ↦ elim (cases_Bool (c == 13)) [
-      | inl r ↦
-          let s : stepped e p c t ≡ p = cond-false _ _ _ h ∙ cond-true _ _ _ r in
-          let none : size e (first_line (take k t)) ≡ 0 = ap (size e) (first_line_feed k t (before_feed c t h r)) in
-          let gone : size e (first_line (c ∷ take k t)) ≡ 0 = ap (size e) (cond-true (c == 10 || c == 13) [] (c ∷ first_line (take k t)) (or_right (c == 10) (c == 13) r)) in
-          walked_goes e p _ k c p.character _ t h refl (λ _. omega (arith, none, gone)) (subst (λ (r : Position). IsWalked e p (walked e r k t) k t) (sym s) (is_walked e p k t))
-      | inr r ↦
-          let q : Position = record { line = p.line; character = p.character + units e c } in
-          let s : stepped e p c t ≡ q = cond-false _ _ _ h ∙ cond-false _ _ _ r in
-          let plain : first_line (c ∷ take k t) ≡ c ∷ first_line (take k t) = cond-false _ _ _ (or_from _ _ (or_parts (c == 10) ((c == 13) && not (begins_feed t)) h).0 r) in
-          walked_goes e p _ k c q.character _ t h refl (λ _. omega (arith, ap (size e) plain)) (subst (λ (r : Position). IsWalked e q (walked e r k t) k t) (sym s) (is_walked e q k t))
-    ]
+    | inl r ↦
+        let s : stepped e p c t ≡ p = cond-false _ _ _ h ∙ cond-true _ _ _ r in
+        let none : size e (first_line (take k t)) ≡ 0 = ap (size e) (first_line_feed k t (before_feed c t h r)) in
+        let gone : size e (first_line (c ∷ take k t)) ≡ 0 = ap (size e) (cond-true (c == 10 || c == 13) [] (c ∷ first_line (take k t)) (or_right (c == 10) (c == 13) r)) in
+        walked_goes e p _ k c p.character _ t h refl (λ _. omega (arith, none, gone)) (subst (λ (r : Position). IsWalked e p (walked e r k t) k t) (sym s) (is_walked e p k t))
+    | inr r ↦
+        let q : Position = record { line = p.line; character = p.character + units e c } in
+        let s : stepped e p c t ≡ q = cond-false _ _ _ h ∙ cond-false _ _ _ r in
+        let plain : first_line (c ∷ take k t) ≡ c ∷ first_line (take k t) = cond-false _ _ _ (or_from _ _ (or_parts (c == 10) ((c == 13) && not (begins_feed t)) h).0 r) in
+        walked_goes e p _ k c q.character _ t h refl (λ _. omega (arith, ap (size e) plain)) (subst (λ (r : Position). IsWalked e q (walked e r k t) k t) (sym s) (is_walked e q k t))
+  ]
 ]
 
 pub walked_position : (e : Encoding) (k : ℕ) (t : Text) → walked e (record { line = 0; character = 0 }) k t ≡ position e k t
@@ -200,7 +200,7 @@ walked_position e k t =
     let w = is_walked e (record { line = 0; character = 0 }) k t in
     let l : (walked e (record { line = 0; character = 0 }) k t).line ≡ lines_before k t = w.line ∙ zero-add _ in
     let c : (walked e (record { line = 0; character = 0 }) k t).character ≡ units_before e k t =
-      w.character ∙ ap (λ z. z + units_before e k t) (kept_zero (lines_before k t)) ∙ zero-add _ in
+    w.character ∙ ap (λ z. z + units_before e k t) (kept_zero (lines_before k t)) ∙ zero-add _ in
     same_position _ _ _ l c
 
 -- ---- the character at a byte

@@ -10,7 +10,7 @@ overflow_sub-result c =
     let e = c.args.encoding in
     let p = c.args.position in
     let rest : chars c.from_unit-rest.result.now ≡ drop (index e p t) t =
-      c.from_unit-rest.ensures ∙ ap (λ z. drop (length (front e p.character (first_line z))) z) c.from_line.ensures ∙ sym (index_drop e p t) in
+    c.from_unit-rest.ensures ∙ ap (λ z. drop (length (front e p.character (first_line z))) z) c.from_line.ensures ∙ sym (index_drop e p t) in
     (is_offset c.args.text.now c.from_unit-rest.result.now (index e p t) c.utf8.text c.from_unit-rest.utf8 rest).le
 
 pub returns-clause-offset : goal.returns-clause-offset
@@ -19,7 +19,7 @@ returns-clause-offset c =
     let e = c.args.encoding in
     let p = c.args.position in
     let rest : chars c.from_unit-rest.result.now ≡ drop (index e p t) t =
-      c.from_unit-rest.ensures ∙ ap (λ z. drop (length (front e p.character (first_line z))) z) c.from_line.ensures ∙ sym (index_drop e p t) in
+    c.from_unit-rest.ensures ∙ ap (λ z. drop (length (front e p.character (first_line z))) z) c.from_line.ensures ∙ sym (index_drop e p t) in
     (is_offset c.args.text.now c.from_unit-rest.result.now (index e p t) c.utf8.text c.from_unit-rest.utf8 rest).offset
 
 pub returns-clause-boundary : goal.returns-clause-boundary
@@ -28,5 +28,5 @@ returns-clause-boundary c =
     let e = c.args.encoding in
     let p = c.args.position in
     let rest : chars c.from_unit-rest.result.now ≡ drop (index e p t) t =
-      c.from_unit-rest.ensures ∙ ap (λ z. drop (length (front e p.character (first_line z))) z) c.from_line.ensures ∙ sym (index_drop e p t) in
+    c.from_unit-rest.ensures ∙ ap (λ z. drop (length (front e p.character (first_line z))) z) c.from_line.ensures ∙ sym (index_drop e p t) in
     (is_offset c.args.text.now c.from_unit-rest.result.now (index e p t) c.utf8.text c.from_unit-rest.utf8 rest).boundary
