@@ -1,0 +1,1 @@
+//! Laws of positions and edits, for proofs of callers.

@@ -1,0 +1,25 @@
+//! Texts of a language server, as the Language Server Protocol 3.17 edits them.
+//!
+//! A client names places by line and character, where `character` counts units of the encoding that client and server
+//! agreed on. Lines end at LF, CR LF and CR. `offset_of` returns the byte offset of a position, `position_of` the position
+//! of a byte offset, and `replaced_all` the text after the changes of a `textDocument/didChange`:
+//!
+//! ```
+//! let start = Position { line: 0, character: 6 };
+//! let end = Position { line: 0, character: 10 };
+//! let changes = vec![in alloc; Change { range: Some(Range { start, end }), text: String::from_str(alloc, "8080")? }]?;
+//! let text = replaced_all(alloc, String::from_str(alloc, "port  tcp\n")?, &changes, Encoding::Utf16)?;
+//! ```
+#![tactic(auto)]
+
+mod change;
+pub mod laws;
+mod offset;
+mod place;
+mod position;
+mod read;
+
+pub use change::{Change, replaced, replaced_all};
+pub use offset::offset_of;
+pub use place::position_of;
+pub use position::{Encoding, Position, Range};
