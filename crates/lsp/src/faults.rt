@@ -17,7 +17,7 @@ pub(crate) fn faults_notice(
     encoding: Encoding,
 ) -> Result<String, AllocError> {
     match KdlDocument::parse(alloc, text) {
-        Ok(_) => no_faults_notice(alloc, uri, version),
+        Ok(_document) => no_faults_notice(alloc, uri, version),
         Err(ParseFailure::Syntax(error)) => some_faults_notice(
             alloc, uri, version, text, encoding, &error,
         ),

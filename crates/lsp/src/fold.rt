@@ -1,9 +1,10 @@
 //! Blocks over several lines as folding ranges.
 
 use crate::cursor::Cursor;
+use crate::layout::document_of;
 use crate::write::{Out, begin_reply, finish, put_number};
 use json::Value;
-use kdl::{KdlDocument, KdlNode, ParseFailure};
+use kdl::{KdlDocument, KdlNode};
 use lsp_text::Encoding;
 use std::alloc::{AllocError, Global};
 
@@ -17,15 +18,12 @@ struct Level<'d> {
 /// Returns the reply with the blocks of a text that fold: null if the text is no document.
 pub(crate) fn folds(alloc: Global, id: &Value<'_>, text: &str) -> Result<String, AllocError> {
     let mut out = begin_reply(alloc, id)?;
-    match KdlDocument::parse(alloc, text) {
-        Ok(document) => put_folds(
-            alloc,
-            &mut out,
-            &mut Cursor::new(text, Encoding::Utf8),
-            &document,
-        )?,
-        Err(ParseFailure::Syntax(_)) => out.null()?,
-        Err(ParseFailure::Memory) => return Err(AllocError),
+    match document_of(alloc, text)? {
+        Some(document) => {
+            let mut cursor = Cursor::new(text, Encoding::Utf8);
+            put_folds(alloc, &mut out, &mut cursor, &document)?;
+        }
+        None => out.null()?,
     }
     finish(alloc, out)
 }

@@ -17,6 +17,7 @@ mod faults;
 mod fold;
 mod format;
 mod frame;
+mod layout;
 mod message;
 mod params;
 mod publish;

@@ -4,44 +4,40 @@ use json::Value;
 use lsp_text::{Change, Encoding, Position, Range};
 use std::alloc::{AllocError, Global};
 
-/// Returns the member at the end of the path.
-pub(crate) fn at<'v, 'a>(value: &'v Value<'a>, path: &[&str]) -> Option<&'v Value<'a>> {
-    let mut value = value;
-    for name in path {
-        value = value.get(name)?;
-    }
-    Some(value)
-}
-
-/// Returns the text at the end of the path.
-pub(crate) fn text_at<'a>(value: &Value<'a>, path: &[&str]) -> Option<&'a str> {
-    at(value, path)?.as_str()
+/// Returns a member of a member.
+fn at<'v, 'a>(value: &'v Value<'a>, outer: &str, inner: &str) -> Option<&'v Value<'a>> {
+    value.get(outer)?.get(inner)
 }
 
 /// Returns the URI of the document.
 pub(crate) fn uri<'a>(params: &Value<'a>) -> Option<&'a str> {
-    text_at(params, &["textDocument", "uri"])
+    at(params, "textDocument", "uri")?.as_str()
+}
+
+/// Returns the text of the document.
+pub(crate) fn text<'a>(params: &Value<'a>) -> Option<&'a str> {
+    at(params, "textDocument", "text")?.as_str()
 }
 
 /// Returns the version of the document, if there is one.
 pub(crate) fn version(params: &Value<'_>) -> Option<i64> {
-    at(params, &["textDocument", "version"])?.as_i64()
-}
-
-/// Returns the items, or none if it is no list.
-pub(crate) fn items<'v, 'a>(value: Option<&'v Value<'a>>) -> &'v [Value<'a>] {
-    match value {
-        Some(Value::Array(items)) => items.as_slice(),
-        _ => &[],
-    }
+    at(params, "textDocument", "version")?.as_i64()
 }
 
 /// Returns the first encoding of the client that there is, or UTF-16.
 pub(crate) fn encoding(params: &Value<'_>) -> Encoding {
-    let names = at(params, &["capabilities", "general", "positionEncodings"]);
-    match items(names).iter().find_map(encoding_named) {
+    match first_encoding(params) {
         Some(encoding) => encoding,
         None => Encoding::Utf16,
+    }
+}
+
+/// Returns the first encoding of the client that there is.
+fn first_encoding(params: &Value<'_>) -> Option<Encoding> {
+    let names = at(params, "capabilities", "general")?.get("positionEncodings")?;
+    match names {
+        Value::Array(names) => names.iter().find_map(encoding_named),
+        _ => None,
     }
 }
 
@@ -116,7 +112,7 @@ pub(crate) fn changes(
 
 /// Returns how many spaces a level is indented by, or `None` for a tab: as the options of the client say, or 4.
 pub(crate) fn indent(params: &Value<'_>) -> Option<usize> {
-    let spaces = at(params, &["options", "insertSpaces"]).and_then(Value::as_bool);
+    let spaces = at(params, "options", "insertSpaces").and_then(Value::as_bool);
     if spaces == Some(false) {
         return None;
     }

@@ -1,9 +1,10 @@
 //! The nodes of a document as symbols.
 
 use crate::cursor::Cursor;
+use crate::layout::document_of;
 use crate::write::{Out, begin_reply, finish, put_number, put_range, put_text};
 use json::Value;
-use kdl::{KdlDocument, KdlNode, ParseFailure};
+use kdl::{KdlDocument, KdlNode};
 use lsp_text::{Encoding, Position, Range};
 use std::alloc::{AllocError, Global};
 
@@ -22,10 +23,12 @@ pub(crate) fn symbols(
     encoding: Encoding,
 ) -> Result<String, AllocError> {
     let mut out = begin_reply(alloc, id)?;
-    match KdlDocument::parse(alloc, text) {
-        Ok(document) => put_nodes(alloc, &mut out, &mut Cursor::new(text, encoding), &document)?,
-        Err(ParseFailure::Syntax(_)) => out.null()?,
-        Err(ParseFailure::Memory) => return Err(AllocError),
+    match document_of(alloc, text)? {
+        Some(document) => {
+            let mut cursor = Cursor::new(text, encoding);
+            put_nodes(alloc, &mut out, &mut cursor, &document)?;
+        }
+        None => out.null()?,
     }
     finish(alloc, out)
 }

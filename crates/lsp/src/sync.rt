@@ -1,7 +1,7 @@
 //! Documents that are opened, changed and closed.
 
 use crate::faults::{faults_notice, no_faults_notice};
-use crate::params::{changes, text_at, uri, version};
+use crate::params::{changes, text, uri, version};
 use crate::publish::{Notices, log, publish};
 use crate::state::{Document, State};
 use json::Value;
@@ -15,7 +15,7 @@ pub(crate) fn did_open(
     params: &Value<'_>,
     out: &mut Notices,
 ) -> Result<(), AllocError> {
-    let (Some(uri), Some(text)) = (uri(params), text_at(params, &["textDocument", "text"])) else {
+    let (Some(uri), Some(text)) = (uri(params), text(params)) else {
         return Ok(());
     };
     let version = version(params);
