@@ -1,8 +1,8 @@
 //! The nodes at paths of a document, as a view shows them.
 
-ghost use Rattle.cli_shown.specs.Nodes.{ended, ends_line, node_shown, node_text, shown, shown_at};
+ghost use Rattle.cli_shown.specs.Nodes.{ended, ends_line, node_text, shown, shown_at};
 ghost use Rattle.cli_shown.specs.Values.{line_of};
-ghost use Rattle.kdl.specs.Words.{document_says, node_prints, node_says, node_tree, said_argument};
+ghost use Rattle.kdl.specs.Words.{node_prints, node_says, node_tree, said_argument};
 ghost use Rattle.kdl_json.specs.Form.{node_json_text};
 ghost use Rattle.std.specs.List.{flat_map};
 ghost use Rattle.std.specs.Option.{option_map_or};
@@ -85,24 +85,9 @@ fn push_lines(
     ensures { OnOk result (string_bytes out.new
         ≡ string_bytes out.old ++ shown_at view document.now path.now) }
 {
-    match node_at(document, path) {
-        Some(node) => push_node(alloc, out, document, path, node, view),
-        None => Ok(()),
-    }
-}
-
-/// Appends what a view shows of the node, which is at a path.
-fn push_node(
-    alloc: Global,
-    out: &mut String,
-    document: &KdlDocument,
-    path: &[usize],
-    node: &KdlNode,
-    view: View,
-) -> Result<(), AllocError>
-    ensures { OnOk result (string_bytes out.new
-        ≡ string_bytes out.old ++ node_shown view (document_says document.now) path.now node.now) }
-{
+    let Some(node) = node_at(document, path) else {
+        return Ok(());
+    };
     match view {
         View::Text => push_text(alloc, out, node),
         View::Raw => push_argument(alloc, out, node),

@@ -30,3 +30,5 @@ pub mod Apart
 pub mod Everywhere
 -- A document after an edit at each of some paths.
 pub mod Selected
+-- The data of a document after edits at paths.
+pub mod Examples

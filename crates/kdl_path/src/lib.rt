@@ -13,6 +13,8 @@
 //! A name is a KDL string. One that contains `/`, `[`, `]` or `#`, or begins with `@`, or is no bare string, is written
 //! in quotes: `"a/b"/port`, `server/@"two words"`.
 //!
+//! `set_each` and `remove_each` edit each node that a query of `kdl_query` selects.
+//!
 //! ```
 //! let text = "server {\n    port 0x50 // here\n}\n";
 //! let path = Path::parse(alloc, "server/port")?;

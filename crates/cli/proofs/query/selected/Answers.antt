@@ -13,7 +13,7 @@ returns-then-is_empty c =
       paths = map (λ p. p.items) paths.items;
       selection = c.in_ok-paths.ensures;
       hit = ap (map (λ p. p.items)) (no_items paths.items paths.len paths.ok.0 c.if-is_empty.ensures);
-      shows = c.in_ok-out.ensures ∙ ap (λ (ps : List (Vec ℕ Global)). shown c.args.search.now.view c.in_ok-document.document (map (λ p. p.items) ps)) c.deref.ensures;
+      shows = c.in_ok-out.ensures ∙ ap (λ (ps : List (Vec ℕ Global)). shown c.args.search.now.view c.in_ok-document.document (map (λ p. p.items) ps)) c.deref.ensures.value;
     }
 
 pub returns : goal.returns
@@ -25,5 +25,5 @@ returns c =
       paths = map (λ p. p.items) paths.items;
       selection = c.in_ok-paths.ensures;
       hit = some_mapped (λ p. p.items) paths.items paths.len paths.ok.0 c.if-is_empty.ensures;
-      shows = c.in_ok-out.ensures ∙ ap (λ (ps : List (Vec ℕ Global)). shown c.args.search.now.view c.in_ok-document.document (map (λ p. p.items) ps)) c.deref.ensures;
+      shows = c.in_ok-out.ensures ∙ ap (λ (ps : List (Vec ℕ Global)). shown c.args.search.now.view c.in_ok-document.document (map (λ p. p.items) ps)) c.deref.ensures.value;
     }

@@ -4,7 +4,6 @@ use Rattle.std.specs.Prelude.{codes}
 use Rattle.json.specs.Token.{begin_array, end_array, end_object, key}
 use Rattle.kdl.specs.Said.{said_children}
 use Rattle.kdl.specs.Tree.{document_says, node_says}
-use Rattle.kdl_grammar.specs.Data.{Node}
 use Rattle.kdl_json.specs.Form.{nodes_tokens}
 use Rattle.kdl_json.specs.Heads.{head_of}
 use Rattle.kdl_json.proofs.Appending.{Appended, and_part, append_same, last_token}
