@@ -158,7 +158,7 @@ pub fn words() -> &'static [Word] {
 }
 
 /// The words.
-static WORDS: [Word; 11] = [
+static WORDS: [Word; 12] = [
     Word {
         name: "fmt",
         about: "Formats files",
@@ -354,6 +354,14 @@ static WORDS: [Word; 11] = [
         operands: &[FILE],
         flags: &[],
         examples: "Examples:\n  kdl json config.kdl | kdl from-json",
+        is_hidden: false,
+    },
+    Word {
+        name: "lsp",
+        about: "Serves an editor over the standard input and output",
+        operands: &[],
+        flags: &[],
+        examples: "Examples:\n  kdl lsp",
         is_hidden: false,
     },
     Word {

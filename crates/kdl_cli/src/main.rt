@@ -14,7 +14,8 @@ use crate::system::System;
 use clap::ArgMatches;
 use cli::request::run;
 use cli::world::World;
-use std::io::{ErrorKind, Write};
+use lsp::serve;
+use std::io::{BufWriter, ErrorKind, Write};
 use std::process::ExitCode;
 use std::{env, io};
 
@@ -57,6 +58,9 @@ fn show(rt: &HostRuntime, error: &clap::Error) -> io::Result<u8> {
 
 /// Does what is asked for, and returns the exit status.
 fn run_matches(rt: &HostRuntime, matches: &ArgMatches<'_>) -> io::Result<u8> {
+    if let Some(("lsp", _)) = matches.subcommand() {
+        return serve_editor(rt);
+    }
     let mut world = World {
         files: System::new(rt),
         out: rt.stdout(),
@@ -83,4 +87,11 @@ fn run_matches(rt: &HostRuntime, matches: &ArgMatches<'_>) -> io::Result<u8> {
             Ok(2)
         }
     }
+}
+
+/// Serves an editor over the standard input and output, and returns the exit status.
+fn serve_editor(rt: &HostRuntime) -> io::Result<u8> {
+    let mut output = BufWriter::new(rt.alloc(), rt.stdout())?;
+    let is_shut_down = serve(rt.alloc(), &mut rt.reader(), &mut output)?;
+    Ok(if is_shut_down { 0 } else { 1 })
 }

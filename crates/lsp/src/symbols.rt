@@ -1,0 +1,117 @@
+//! The nodes of a document as symbols.
+
+use crate::cursor::Cursor;
+use crate::layout::document_of;
+use crate::write::{Out, begin_reply, finish, put_number, put_range, put_text};
+use json::Value;
+use kdl::{KdlDocument, KdlNode};
+use lsp_text::{Encoding, Position, Range};
+use std::alloc::{AllocError, Global};
+
+/// A list of nodes that is being written: the nodes that are left, and the node whose block it is, with its start.
+#[derive(Clone, Copy)]
+struct Level<'d> {
+    left: &'d [KdlNode],
+    owner: Option<(&'d KdlNode, Position)>,
+}
+
+/// Returns the reply with the nodes of a text as a tree: null if the text is no document.
+pub(crate) fn symbols(
+    alloc: Global,
+    id: &Value<'_>,
+    text: &str,
+    encoding: Encoding,
+) -> Result<String, AllocError> {
+    let mut out = begin_reply(alloc, id)?;
+    match document_of(alloc, text)? {
+        Some(document) => {
+            let mut cursor = Cursor::new(text, encoding);
+            put_nodes(alloc, &mut out, &mut cursor, &document)?;
+        }
+        None => out.null()?,
+    }
+    finish(alloc, out)
+}
+
+/// Writes the nodes of a document.
+fn put_nodes(
+    alloc: Global,
+    out: &mut Out,
+    cursor: &mut Cursor<'_>,
+    document: &KdlDocument,
+) -> Result<(), AllocError> {
+    let mut levels: Vec<Level<'_>> = Vec::new(alloc);
+    out.begin_array()?;
+    levels.push(Level {
+        left: document.nodes(),
+        owner: None,
+    })?;
+    for _ in 0..u64::MAX {
+        let Some(level) = levels.pop() else {
+            break;
+        };
+        put_next(out, cursor, level, &mut levels)?;
+    }
+    Ok(())
+}
+
+/// Writes the next node of a list up to its block, or the end of the list.
+fn put_next<'d>(
+    out: &mut Out,
+    cursor: &mut Cursor<'_>,
+    level: Level<'d>,
+    levels: &mut Vec<Level<'d>>,
+) -> Result<(), AllocError> {
+    let Some((node, left)) = level.left.split_first() else {
+        out.end_array()?;
+        return match level.owner {
+            Some((node, start)) => put_end(out, cursor, node, start),
+            None => Ok(()),
+        };
+    };
+    levels.push(Level {
+        left,
+        owner: level.owner,
+    })?;
+    let start = cursor.position(node.span().offset);
+    put_head(out, cursor, node)?;
+    match node.children() {
+        Some(block) => {
+            out.key("children")?;
+            out.begin_array()?;
+            levels.push(Level {
+                left: block.nodes(),
+                owner: Some((node, start)),
+            })?;
+            Ok(())
+        }
+        None => put_end(out, cursor, node, start),
+    }
+}
+
+/// Writes a node up to its block.
+fn put_head(out: &mut Out, cursor: &mut Cursor<'_>, node: &KdlNode) -> Result<(), AllocError> {
+    let name = node.name().value();
+    out.begin_object()?;
+    put_text(out, "name", if name.is_empty() { "\"\"" } else { name })?;
+    put_number(out, "kind", kind(node))?;
+    put_range(out, "selectionRange", cursor.range(node.name().span()))
+}
+
+/// Returns the kind of symbol: an object, or a property.
+fn kind(node: &KdlNode) -> usize {
+    if node.children().is_some() { 19 } else { 7 }
+}
+
+/// Writes the end of a node.
+fn put_end(
+    out: &mut Out,
+    cursor: &mut Cursor<'_>,
+    node: &KdlNode,
+    start: Position,
+) -> Result<(), AllocError> {
+    let span = node.span();
+    let end = cursor.position(span.offset.saturating_add(span.len));
+    put_range(out, "range", Range { start, end })?;
+    out.end_object()
+}
