@@ -49,8 +49,8 @@ pub fn parsed(rt: &HostRuntime, text: &str) -> io::Result<Option<KdlDocument>> {
     }
 }
 
-/// Returns the least time of the call in `turns` turns, for look-ups that of one look-up. Returns the greatest time if
-/// the text is not a document.
+/// Returns the least time of the call in `turns` turns, for look-ups that of one look-up, or 0 if none finds anything.
+/// Returns the greatest time if the text is not a document.
 pub fn least_time(rt: &HostRuntime, call: Call, text: &str, turns: usize) -> io::Result<Duration> {
     let mut least = Duration::MAX;
     for _ in 0..turns {
@@ -61,7 +61,7 @@ pub fn least_time(rt: &HostRuntime, call: Call, text: &str, turns: usize) -> io:
     Ok(least)
 }
 
-/// The time of one call, for look-ups that of one look-up.
+/// The time of one call, for look-ups that of one look-up, or 0 if none finds anything.
 fn time(
     rt: &HostRuntime,
     call: Call,
@@ -76,14 +76,17 @@ fn time(
     }
 }
 
-/// The time of a look-up.
+/// The time of a look-up, or 0 if none finds anything.
 fn time_to_find(rt: &HostRuntime, call: Call, document: &KdlDocument) -> io::Result<Duration> {
     let start = Instant::now(rt)?;
     let found = match call {
         Call::Node => nodes_found(document),
         _ => properties_found(rt, document)?,
     };
-    Ok(start.elapsed(rt)? / found.max(1))
+    match found {
+        0 => Ok(Duration::ZERO),
+        _ => Ok(start.elapsed(rt)? / found),
+    }
 }
 
 /// The time of a call that creates a document or a text. The result is dropped after the time is taken.

@@ -1,7 +1,6 @@
 //! The two tables: how fast each call is, and whether it is as fast on longer texts.
 
 use crate::measure::{CALLS, Call, least_time};
-use crate::memory::bytes_to_parse;
 use crate::texts::{KINDS, Kind};
 use std::alloc::{AllocError, Global};
 use std::io;
@@ -24,9 +23,9 @@ pub fn head(rt: &HostRuntime) -> io::Result<()> {
     println!(rt; "  node ns  property ns  memory")
 }
 
-/// Writes a row of the first table.
-pub fn row(rt: &HostRuntime, name: &str, text: &str) -> io::Result<()> {
-    let Some(memory) = bytes_to_parse(rt, text)? else {
+/// Writes a row of the first table. Without the memory to parse the text, it is not a document.
+pub fn row(rt: &HostRuntime, name: &str, text: &str, memory: Option<u64>) -> io::Result<()> {
+    let Some(memory) = memory else {
         return println!(rt; "{name}: no document");
     };
     print!(rt; "{name:<9} {:>9}", text.len())?;
@@ -42,6 +41,9 @@ fn end_row(rt: &HostRuntime, text: &str, memory: u64) -> io::Result<()> {
     let property = least_time(rt, Call::Property, text, turns(text))?.as_nanos();
     let memory = u128::from(memory).saturating_mul(10) / (text.len() as u128).max(1);
     let memory = tenths(rt.alloc(), memory)?;
+    if property == 0 {
+        return println!(rt; "{node:>9}{:>13}{memory:>8}", "-");
+    }
     println!(rt; "{node:>9}{property:>13}{memory:>8}")
 }
 
