@@ -1,14 +1,13 @@
 -- The position of a character, and the character of a position, are inverse.
-use Rattle.std.proofs.Common.{◌≡◌, ℕ, zero, suc, ◌+◌, ◌-◌, ◌<◌, ◌≤◌, Bool, true, false, not, ◌&&◌, ◌||◌, ◌==◌, nat_le, cond, min, List, [], ◌∷◌, ◌++◌, length, take, drop, refl, sym, ap, ◌∙◌, subst, arith, inl, inr}
+use Rattle.std.proofs.Common.{◌≡◌, ℕ, zero, suc, ◌+◌, ◌-◌, ◌≤◌, true, false, not, ◌&&◌, ◌||◌, ◌==◌, nat_le, [], ◌∷◌, length, take, drop, refl, sym, ap, ◌∙◌, subst, arith, inl, inr}
 use Rattle.std.proofs.lemmas.Bool.{cases_Bool, cond-true, cond-false, eqb-true, le-leb, lt-leb, or_from, or_left, or_parts}
 use Rattle.std.proofs.lemmas.List.{drop-take, length-take, length-take-le}
 use Rattle.std.proofs.lemmas.Str.{len_utf8_bounds}
-use Rattle.std.specs.Char.{len_utf8}
 use Rattle.lsp_text.specs.declared.position.Encoding.{Encoding}
 use Rattle.lsp_text.specs.declared.position.Encoding.TheVariants.{Utf8, Utf16, Utf32}
 use Rattle.lsp_text.specs.declared.position.Position.{Position}
 use Rattle.lsp_text.specs.Positions.{IsExact, IsInLineEnd, Text, begins_feed, ends_line, first_line, from_line, front, index, index_of_byte, line, line_start, lines_before, offset, position, size, units, units_before}
-use Rattle.lsp_text.proofs.Places.{before_feed, from_line_le, line_start_drop, same_position, start_ends, start_goes, start_zero}
+use Rattle.lsp_text.proofs.Places.{before_feed, from_line_le, line_start_drop, same_position, start_ends, start_goes}
 
 -- ---- fronts
 
