@@ -32,8 +32,8 @@ pub fn changes_are_changes_of_units()
         → utf16 (all_changed Utf16 cs t) ≡ all_changed Utf32 (map in_units cs) (utf16 t) }
 {}
 
-/// Lines and positions of small texts: CR, CR LF, U+1F600, a combining accent, and
-/// positions after the end of a line and of a text.
+/// Small texts: CR, CR LF, U+1F600, a combining accent, positions after the end of a line and of a text, a range that ends
+/// before its start, and two changes of which the second is in the text of the first.
 pub fn small_texts_are_so()
     ensures cr { from_line 1 (97 ∷ 13 ∷ 98 ∷ []) ≡ 98 ∷ [] }
     ensures cr_lf { line 0 (97 ∷ 13 ∷ 10 ∷ 98 ∷ []) ≡ 97 ∷ [] }
@@ -45,10 +45,12 @@ pub fn small_texts_are_so()
     ensures text_end { index Utf16 (record { line = 9; character = 0 }) (97 ∷ 10 ∷ 98 ∷ []) ≡ 3 }
     ensures backward { edited Utf16 (record { start = record { line = 0; character = 1 }; end = record { line = 0; character = 0 } })
         (99 ∷ []) (97 ∷ 98 ∷ []) ≡ 97 ∷ 99 ∷ 98 ∷ [] }
+    ensures order { let start : Position = record { line = 0; character = 0 } in let r : Range = record { start = start; end = start } in
+        all_changed Utf16 ((Some r, 98 ∷ []) ∷ (Some r, 99 ∷ []) ∷ []) (97 ∷ []) ≡ 99 ∷ 98 ∷ 97 ∷ [] }
 {}
 
-/// What lines and positions are not: CR LF ends one line, NEL ends none, no position is inside a character or a CR LF, and
-/// UTF-16 counts no bytes.
+/// What lines and positions are not: CR LF ends one line, NEL ends none, no position is inside a character or a CR LF,
+/// UTF-16 counts no bytes, and the byte offset inside a CR LF does not come back.
 pub fn small_texts_are_not_so()
     ensures cr_lf { lines_before 2 (13 ∷ 10 ∷ []) ≡ 2 → ⊥ }
     ensures nel { lines_before 1 (0x85 ∷ []) ≡ 1 → ⊥ }
@@ -57,4 +59,5 @@ pub fn small_texts_are_not_so()
     ensures bytes { index Utf16 (record { line = 0; character = 2 }) (233 ∷ 97 ∷ 98 ∷ []) ≡ 1 → ⊥ }
     ensures exact { IsExact Utf16 (record { line = 0; character = 1 }) (0x1_F600 ∷ []) → ⊥ }
     ensures between { IsBetween Utf16 (record { line = 0; character = 1 }) (0x1_F600 ∷ []) → ⊥ }
+    ensures back { offset Utf8 (position Utf8 1 (13 ∷ 10 ∷ [])) (13 ∷ 10 ∷ []) ≡ 1 → ⊥ }
 {}

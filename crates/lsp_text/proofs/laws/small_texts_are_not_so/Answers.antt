@@ -22,3 +22,6 @@ returns-clause-exact c = no_exact
 
 pub returns-clause-between : goal.returns-clause-between
 returns-clause-between c = λ h. omega (arith, h)
+
+pub returns-clause-back : goal.returns-clause-back
+returns-clause-back c = λ h. omega (arith, h)

@@ -27,3 +27,6 @@ returns-clause-text_end c = refl
 
 pub returns-clause-backward : goal.returns-clause-backward
 returns-clause-backward c = refl
+
+pub returns-clause-order : goal.returns-clause-order
+returns-clause-order c = refl
