@@ -1,14 +1,13 @@
 -- The position of a character, and the character of a position, are inverse.
-use Rattle.std.proofs.Common.{◌≡◌, ℕ, zero, suc, ◌+◌, ◌-◌, ◌<◌, ◌≤◌, Bool, true, false, not, ◌&&◌, ◌||◌, ◌==◌, nat_le, cond, min, List, [], ◌∷◌, ◌++◌, length, take, drop, refl, sym, ap, ◌∙◌, subst, arith, inl, inr}
+use Rattle.std.proofs.Common.{◌≡◌, ℕ, zero, suc, ◌+◌, ◌-◌, ◌≤◌, true, false, not, ◌&&◌, ◌||◌, ◌==◌, nat_le, [], ◌∷◌, length, take, drop, refl, sym, ap, ◌∙◌, subst, arith, inl, inr}
 use Rattle.std.proofs.lemmas.Bool.{cases_Bool, cond-true, cond-false, eqb-true, le-leb, lt-leb, or_from, or_left, or_parts}
 use Rattle.std.proofs.lemmas.List.{drop-take, length-take, length-take-le}
 use Rattle.std.proofs.lemmas.Str.{len_utf8_bounds}
-use Rattle.std.specs.Char.{len_utf8}
 use Rattle.lsp_text.specs.declared.position.Encoding.{Encoding}
 use Rattle.lsp_text.specs.declared.position.Encoding.TheVariants.{Utf8, Utf16, Utf32}
 use Rattle.lsp_text.specs.declared.position.Position.{Position}
 use Rattle.lsp_text.specs.Positions.{IsExact, IsInLineEnd, Text, begins_feed, ends_line, first_line, from_line, front, index, index_of_byte, line, line_start, lines_before, offset, position, size, units, units_before}
-use Rattle.lsp_text.proofs.Places.{before_feed, from_line_le, line_start_drop, same_position, start_ends, start_goes, start_zero}
+use Rattle.lsp_text.proofs.Places.{before_feed, from_line_le, line_start_drop, same_position, start_ends, start_goes}
 
 -- ---- fronts
 
@@ -187,3 +186,44 @@ position_index e p t x =
 
 pub position_offset : (e : Encoding) (p : Position) (t : Text) → IsExact e p t → position e (index_of_byte (offset e p t) t) t ≡ p
 position_offset e p t x = ap (λ z. position e z t) (byte_index (index e p t) t (index_le e p t)) ∙ position_index e p t x
+
+-- ---- the positions of characters are exact
+
+lines_le : (k : ℕ) (t : Text) → k ≤ length t → lines_before k t ≤ lines_before (length t) t
+lines_le zero t h = omega arith
+lines_le (suc k) [] h = absurd (omega arith)
+lines_le (suc k) (c ∷ t) h =
+    let i = lines_le k t (omega arith) in
+    elim (cases_Bool (ends_line c t)) [
+      | inl e ↦ omega (arith, i, cond-true (ends_line c t) (suc (lines_before k t)) (lines_before k t) e, cond-true (ends_line c t) (suc (lines_before (length t) t)) (lines_before (length t) t) e)
+      | inr e ↦ omega (arith, i, cond-false (ends_line c t) (suc (lines_before k t)) (lines_before k t) e, cond-false (ends_line c t) (suc (lines_before (length t) t)) (lines_before (length t) t) e)
+    ]
+
+start_at : (n k c : ℕ) (t : Text) → ends_line c t ≡ false → line_start n t ≤ k → line_start n (c ∷ t) ≤ suc k
+start_at zero k c t e h = omega arith
+start_at (suc n) k c t e h = omega (arith, start_goes n c t e, h)
+
+start_before : (k : ℕ) (t : Text) → line_start (lines_before k t) t ≤ k
+start_before zero t = omega arith
+start_before (suc k) [] = omega arith
+start_before (suc k) (c ∷ t) =
+    let i = start_before k t in
+    elim (cases_Bool (ends_line c t)) [
+      | inl e ↦ subst (λ (n : ℕ). line_start n (c ∷ t) ≤ suc k) (sym (cond-true _ _ _ e)) (omega (arith, start_ends (lines_before k t) c t e, i))
+      | inr e ↦ subst (λ (n : ℕ). line_start n (c ∷ t) ≤ suc k) (sym (cond-false _ _ _ e)) (start_at (lines_before k t) k c t e i)
+    ]
+
+pub position_exact : (e : Encoding) (k : ℕ) (t : Text) → k ≤ length t → IsExact e (position e k t) t
+position_exact e k t h = record {
+  in_text = lines_le k t h;
+  count = k - line_start (lines_before k t) t;
+  between = ap (size e) (line_part (lines_before k t) k t (start_before k t));
+}
+
+-- no position inside a pair of surrogates is exact
+inside_pair : (n : ℕ) → 1 ≡ size Utf16 (take n (0x1_F600 ∷ [])) → ⊥
+inside_pair zero e = omega (arith, e)
+inside_pair (suc n) e = omega (arith, e)
+
+pub no_exact : IsExact Utf16 (record { line = 0; character = 1 }) (0x1_F600 ∷ []) → ⊥
+no_exact x = inside_pair x.count x.between

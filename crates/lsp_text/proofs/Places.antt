@@ -87,6 +87,11 @@ is_offset bs ds i u v e =
       boundary = subst (IsCharBoundary bs) k (IsCharBoundary-at_seam bs (encodes f) ds w v);
     }
 
+pub offset_found : (e : Encoding) (p : Position) (bs ls ds : List ℕ) → IsUtf8 bs → IsUtf8 ds → chars ls ≡ from_line p.line (chars bs)
+    → chars ds ≡ drop (length (front e p.character (first_line (chars ls)))) (chars ls) → IsOffset bs ds (index e p (chars bs))
+offset_found e p bs ls ds u v l r =
+    is_offset bs ds (index e p (chars bs)) u v (r ∙ ap (λ z. drop (length (front e p.character (first_line z))) z) l ∙ sym (index_drop e p (chars bs)))
+
 -- ---- reading from left to right
 
 not_false : (b : Bool) → not b ≡ false → b ≡ true

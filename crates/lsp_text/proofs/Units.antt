@@ -1,6 +1,6 @@
 -- An edit of a text is an edit of its units of 16 bits.
-use Rattle.std.proofs.Common.{◌≡◌, ℕ, zero, suc, ◌+◌, ◌-◌, ◌/◌, ◌%◌, ◌<◌, ◌≤◌, Bool, true, false, not, ◌&&◌, ◌||◌, ◌==◌, nat_le, nat_lt, cond, max, min, List, [], ◌∷◌, ◌++◌, length, take, drop, refl, sym, ap, ◌∙◌, append_assoc, length-append, zero-add, arith, inl, inr}
-use Rattle.std.proofs.lemmas.Bool.{cases_Bool, cases_lt, cond-true, cond-false, le-leb, lt-leb, ne_eqb, or_from}
+use Rattle.std.proofs.Common.{◌≡◌, ℕ, zero, suc, ◌+◌, ◌-◌, ◌/◌, ◌%◌, ◌<◌, Bool, true, false, not, ◌&&◌, ◌||◌, ◌==◌, nat_le, nat_lt, cond, max, min, map, Option, None, Some, List, [], ◌∷◌, ◌++◌, length, take, drop, refl, sym, ap, ◌∙◌, append_assoc, length-append, arith, inl, inr}
+use Rattle.std.proofs.lemmas.Bool.{cases_Bool, cond-true, cond-false, le-leb, lt-leb, ne_eqb, or_from}
 use Rattle.std.proofs.lemmas.List.{length-take, take-append-drop, take-append-le}
 use Rattle.std.proofs.lemmas.Bool.Decides.{nat_tests}
 use Rattle.std.proofs.Math.Seq.{drop-append_seam, take-add, take-append_seam}
@@ -8,7 +8,7 @@ use Rattle.std.specs.Char.Escape.{encode_utf16}
 use Rattle.lsp_text.specs.declared.position.Encoding.TheVariants.{Utf16, Utf32}
 use Rattle.lsp_text.specs.declared.position.Position.{Position}
 use Rattle.lsp_text.specs.declared.position.Range.{Range}
-use Rattle.lsp_text.specs.Positions.{IsBetween, Text, after_line, begins_feed, edited, ends_line, first_line, from_line, front, index, line, line_start, size, units, utf16}
+use Rattle.lsp_text.specs.Positions.{AreWhole, IsBetween, IsWhole, Text, after_line, all_changed, begins_feed, changed, edited, ends_line, first_line, from_line, front, in_units, index, line, line_start, size, units, utf16}
 use Rattle.lsp_text.proofs.Inverse.{front_le, front_take}
 use Rattle.lsp_text.proofs.Places.{line_start_drop, size_take_max}
 
@@ -19,12 +19,12 @@ data IsInUnits : ℕ → List ℕ → Type 0 where
   one : {c : ℕ} → units Utf16 c ≡ 1 → IsInUnits c (c ∷ [])
   two : {c a b : ℕ} → units Utf16 c ≡ 2 → 13 < c → 13 < a → 13 < b → IsInUnits c (a ∷ b ∷ [])
 
-in_units_from : (c : ℕ) (b : Bool) → nat_lt c 0x1_0000 ≡ b → IsInUnits c (cond b (c ∷ []) ((0xD800 + (c - 0x1_0000) / 0x400) ∷ (0xDC00 + (c - 0x1_0000) % 0x400) ∷ []))
-in_units_from c true h = one (ap (λ z. cond z 1 2) h)
-in_units_from c false h = two (ap (λ z. cond z 1 2) h) (grind (arith, nat_tests)) (omega arith) (omega arith)
+spelled_from : (c : ℕ) (b : Bool) → nat_lt c 0x1_0000 ≡ b → IsInUnits c (cond b (c ∷ []) ((0xD800 + (c - 0x1_0000) / 0x400) ∷ (0xDC00 + (c - 0x1_0000) % 0x400) ∷ []))
+spelled_from c true h = one (ap (λ z. cond z 1 2) h)
+spelled_from c false h = two (ap (λ z. cond z 1 2) h) (grind (arith, nat_tests)) (omega arith) (omega arith)
 
-in_units : (c : ℕ) → IsInUnits c (encode_utf16 c)
-in_units c = in_units_from c (nat_lt c 0x1_0000) refl
+spelled : (c : ℕ) → IsInUnits c (encode_utf16 c)
+spelled c = spelled_from c (nat_lt c 0x1_0000) refl
 
 plain_unit : (c : ℕ) → 13 < c → (c == 10 || c == 13) ≡ false
 plain_unit c h = or_from _ _ (ne_eqb c 10 (λ e. omega (arith, e, h))) (ne_eqb c 13 (λ e. omega (arith, e, h)))
@@ -44,7 +44,7 @@ length_units c _ (two {c = c'} {a = a} {b = b} e h ha hb) = sym e
 
 length_utf16 : (t : Text) → length (utf16 t) ≡ size Utf16 t
 length_utf16 [] = refl
-length_utf16 (c ∷ t) = omega (arith, length-append (encode_utf16 c) (utf16 t), length_units c (encode_utf16 c) (in_units c), length_utf16 t)
+length_utf16 (c ∷ t) = omega (arith, length-append (encode_utf16 c) (utf16 t), length_units c (encode_utf16 c) (spelled c), length_utf16 t)
 
 begins_units : (c : ℕ) (u s : List ℕ) → IsInUnits c u → begins_feed (u ++ s) ≡ (c == 10)
 begins_units c _ s (one {c = c'} e) = refl
@@ -52,7 +52,7 @@ begins_units c _ s (two {c = c'} {a = a} {b = b} e h ha hb) = ne_eqb a 10 (λ q.
 
 begins_utf16 : (t : Text) → begins_feed (utf16 t) ≡ begins_feed t
 begins_utf16 [] = refl
-begins_utf16 (c ∷ t) = begins_units c (encode_utf16 c) (utf16 t) (in_units c)
+begins_utf16 (c ∷ t) = begins_units c (encode_utf16 c) (utf16 t) (spelled c)
 
 cond_ap : (b : Bool) (x y : Text) → utf16 (cond b x y) ≡ cond b (utf16 x) (utf16 y)
 cond_ap true x y = refl
@@ -66,7 +66,7 @@ after_units c _ t (two {c = c'} {a = a} {b = b} e h ha hb) i =
 
 after_utf16 : (t : Text) → after_line (utf16 t) ≡ utf16 (after_line t)
 after_utf16 [] = refl
-after_utf16 (c ∷ t) = after_units c (encode_utf16 c) t (in_units c) (after_utf16 t)
+after_utf16 (c ∷ t) = after_units c (encode_utf16 c) t (spelled c) (after_utf16 t)
 
 from_utf16 : (n : ℕ) (t : Text) → from_line n (utf16 t) ≡ utf16 (from_line n t)
 from_utf16 zero t = refl
@@ -81,7 +81,7 @@ first_units c _ t (two {c = c'} {a = a} {b = b} e h ha hb) q i =
 
 first_utf16 : (t : Text) → first_line (utf16 t) ≡ utf16 (first_line t)
 first_utf16 [] = refl
-first_utf16 (c ∷ t) = first_units c (encode_utf16 c) t (in_units c) refl (first_utf16 t)
+first_utf16 (c ∷ t) = first_units c (encode_utf16 c) t (spelled c) refl (first_utf16 t)
 
 line_utf16 : (n : ℕ) (t : Text) → line n (utf16 t) ≡ utf16 (line n t)
 line_utf16 n t = ap first_line (from_utf16 n t) ∙ first_utf16 (from_line n t)
@@ -139,7 +139,7 @@ drop_utf16 : (i : ℕ) (t : Text) → drop (length (utf16 (take i t))) (utf16 t)
 drop_utf16 i t =
     ap (λ z. drop (length (utf16 (take i t))) (utf16 z)) (sym (take-append-drop i t)) ∙ ap (drop (length (utf16 (take i t)))) (utf16-append (take i t) (drop i t)) ∙ drop-append_seam (utf16 (take i t)) (utf16 (drop i t))
 
-pub edited_utf16 : (r : Range) (new t : Text) → IsBetween Utf16 r.start t → IsBetween Utf16 r.end t → utf16 (edited Utf16 r new t) ≡ edited Utf32 r (utf16 new) (utf16 t)
+edited_utf16 : (r : Range) (new t : Text) → IsBetween Utf16 r.start t → IsBetween Utf16 r.end t → utf16 (edited Utf16 r new t) ≡ edited Utf32 r (utf16 new) (utf16 t)
 edited_utf16 r new t hs he =
     let i = index Utf16 r.start t in
     let j = index Utf16 r.end t in
@@ -150,3 +150,13 @@ edited_utf16 r new t hs he =
     utf16-append (take i t ++ new) (drop (max i j) t) ∙ ap (λ z. z ++ utf16 (drop (max i j) t)) (utf16-append (take i t) new)
     ∙ ap (λ z. (z ++ utf16 new) ++ utf16 (drop (max i j) t)) (sym (take_utf16 i t)) ∙ ap (λ z. (take (length (utf16 (take i t))) u ++ utf16 new) ++ z) (sym (drop_utf16 (max i j) t))
     ∙ ap (λ z. (take z u ++ utf16 new) ++ drop (length (utf16 (take (max i j) t))) u) (sym si) ∙ ap (λ z. (take (index Utf32 r.start u) u ++ utf16 new) ++ drop z u) (sym sj)
+
+-- ---- changes
+
+changed_utf16 : (c : Option Range × Text) (t : Text) → IsWhole Utf16 c t → utf16 (changed Utf16 c t) ≡ changed Utf32 (in_units c) (utf16 t)
+changed_utf16 (None, new) t h = refl
+changed_utf16 (Some r, new) t h = edited_utf16 r new t h.0 h.1
+
+pub all_changed_utf16 : (cs : List (Option Range × Text)) (t : Text) → AreWhole Utf16 cs t → utf16 (all_changed Utf16 cs t) ≡ all_changed Utf32 (map in_units cs) (utf16 t)
+all_changed_utf16 [] t h = refl
+all_changed_utf16 (c ∷ cs) t h = all_changed_utf16 cs (changed Utf16 c t) h.1 ∙ ap (all_changed Utf32 (map in_units cs)) (changed_utf16 c t h.0)

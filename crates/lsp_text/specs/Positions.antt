@@ -118,7 +118,7 @@ pub record IsExact (e : Encoding) (p : Position) (t : Text) : Type 0 where
   pub count : ℕ
   pub between : p.character ≡ size e (take count (line p.line t))
 
--- no character has the position inside of it
+-- the position is inside no character
 abbrev pub IsBetween : Encoding → Position → Text → Type 0
 IsBetween e p t = size e (front e p.character (line p.line t)) ≡ min p.character (size e (line p.line t))
 
@@ -126,3 +126,17 @@ IsBetween e p t = size e (front e p.character (line p.line t)) ≡ min p.charact
 abbrev pub utf16 : Text → List ℕ
 utf16 [] = []
 utf16 (c ∷ t) = encode_utf16 c ++ utf16 t
+
+-- a change whose text is in units of 16 bits
+abbrev pub in_units : Option Range × Text → Option Range × List ℕ
+in_units c = (c.0, utf16 c.1)
+
+-- the range of a change begins and ends inside no character
+abbrev pub IsWhole : Encoding → Option Range × Text → Text → Type 0
+IsWhole e (None, new) t = Unit {0}
+IsWhole e (Some r, new) t = IsBetween e r.start t × IsBetween e r.end t
+
+-- the same of each change, in the text that those before it leave
+abbrev pub AreWhole : Encoding → List (Option Range × Text) → Text → Type 0
+AreWhole e [] t = Unit {0}
+AreWhole e (c ∷ cs) t = IsWhole e c t × AreWhole e cs (changed e c t)

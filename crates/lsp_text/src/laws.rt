@@ -1,11 +1,11 @@
 //! Laws of positions and edits, for proofs of callers.
 
-ghost use Rattle.lsp_text.specs.Positions.{IsBetween, IsExact, IsInLineEnd, Text, edited, from_line, index, index_of_byte, line, lines_before, offset, position, size, utf16};
+ghost use Rattle.lsp_text.specs.Positions.{AreWhole, IsBetween, IsExact, IsInLineEnd, Text, all_changed, edited, from_line, in_units, index, index_of_byte, line, lines_before, offset, position, size, utf16};
 ghost use Rattle.lsp_text.specs.declared.position.Encoding.{Encoding};
 ghost use Rattle.lsp_text.specs.declared.position.Encoding.TheVariants.{Utf8, Utf16, Utf32};
 ghost use Rattle.lsp_text.specs.declared.position.Position.{Position};
 ghost use Rattle.lsp_text.specs.declared.position.Range.{Range};
-ghost use Rattle.std.specs.Prelude.{◌≡◌, ℕ, ◌≤◌, [], ◌∷◌, length, take};
+ghost use Rattle.std.specs.Prelude.{◌≡◌, ℕ, ◌≤◌, List, [], ◌∷◌, Option, length, map, take};
 
 /// The byte offset of the position of a byte offset is that byte offset, at the start of each character that is not the LF
 /// of a CR LF, and at the end of the text.
@@ -20,15 +20,20 @@ pub fn positions_come_back()
     ensures { (e : Encoding) (p : Position) (t : Text) → IsExact e p t → position e (index_of_byte (offset e p t) t) t ≡ p }
 {}
 
-/// An edit of a text is the same edit of its units of 16 bits, which an editor has, if its range begins and ends in no
-/// character.
-pub fn edits_are_edits_of_units()
-    ensures { (r : Range) (new t : Text) → IsBetween Utf16 r.start t → IsBetween Utf16 r.end t
-        → utf16 (edited Utf16 r new t) ≡ edited Utf32 r (utf16 new) (utf16 t) }
+/// The position of a character is exact, and so is that of the end of the text.
+pub fn positions_are_exact()
+    ensures { (e : Encoding) (k : ℕ) (t : Text) → k ≤ length t → IsExact e (position e k t) t }
 {}
 
-/// Lines and positions of small texts: CR, CR LF, U+1F600, a combining accent, and
-/// positions after the end of a line and of a text.
+/// The text after some changes, in units of 16 bits, is what an editor has after it applies them to its units, if each range
+/// begins and ends inside no character.
+pub fn changes_are_changes_of_units()
+    ensures { (cs : List (Option Range × Text)) (t : Text) → AreWhole Utf16 cs t
+        → utf16 (all_changed Utf16 cs t) ≡ all_changed Utf32 (map in_units cs) (utf16 t) }
+{}
+
+/// Small texts: CR, CR LF, U+1F600, a combining accent, positions after the end of a line and of a text, a range that ends
+/// before its start, and two changes of which the second is in the text of the first.
 pub fn small_texts_are_so()
     ensures cr { from_line 1 (97 ∷ 13 ∷ 98 ∷ []) ≡ 98 ∷ [] }
     ensures cr_lf { line 0 (97 ∷ 13 ∷ 10 ∷ 98 ∷ []) ≡ 97 ∷ [] }
@@ -38,14 +43,21 @@ pub fn small_texts_are_so()
     ensures accent { index Utf16 (record { line = 0; character = 1 }) (101 ∷ 0x301 ∷ []) ≡ 1 }
     ensures line_end { index Utf16 (record { line = 0; character = 9 }) (97 ∷ 10 ∷ 98 ∷ []) ≡ 1 }
     ensures text_end { index Utf16 (record { line = 9; character = 0 }) (97 ∷ 10 ∷ 98 ∷ []) ≡ 3 }
+    ensures backward { edited Utf16 (record { start = record { line = 0; character = 1 }; end = record { line = 0; character = 0 } })
+        (99 ∷ []) (97 ∷ 98 ∷ []) ≡ 97 ∷ 99 ∷ 98 ∷ [] }
+    ensures order { let start : Position = record { line = 0; character = 0 } in let r : Range = record { start = start; end = start } in
+        all_changed Utf16 ((Some r, 98 ∷ []) ∷ (Some r, 99 ∷ []) ∷ []) (97 ∷ []) ≡ 99 ∷ 98 ∷ 97 ∷ [] }
 {}
 
-/// What lines and positions are not: CR LF ends one line, NEL ends none, no position is inside a character or a CR LF, and
-/// UTF-16 counts no bytes.
+/// What lines and positions are not: CR LF ends one line, NEL ends none, no position is inside a character or a CR LF,
+/// UTF-16 counts no bytes, and the byte offset inside a CR LF does not come back.
 pub fn small_texts_are_not_so()
     ensures cr_lf { lines_before 2 (13 ∷ 10 ∷ []) ≡ 2 → ⊥ }
     ensures nel { lines_before 1 (0x85 ∷ []) ≡ 1 → ⊥ }
     ensures inside { index Utf16 (record { line = 0; character = 1 }) (0x1_F600 ∷ 97 ∷ []) ≡ 1 → ⊥ }
     ensures half { index Utf16 (record { line = 0; character = 1 }) (13 ∷ 10 ∷ []) ≡ 1 → ⊥ }
     ensures bytes { index Utf16 (record { line = 0; character = 2 }) (233 ∷ 97 ∷ 98 ∷ []) ≡ 1 → ⊥ }
+    ensures exact { IsExact Utf16 (record { line = 0; character = 1 }) (0x1_F600 ∷ []) → ⊥ }
+    ensures between { IsBetween Utf16 (record { line = 0; character = 1 }) (0x1_F600 ∷ []) → ⊥ }
+    ensures back { offset Utf8 (position Utf8 1 (13 ∷ 10 ∷ [])) (13 ∷ 10 ∷ []) ≡ 1 → ⊥ }
 {}

@@ -5,10 +5,10 @@
 //! of a byte offset, and `replaced_all` the text after the changes of a `textDocument/didChange`:
 //!
 //! ```
-//! let start = Position { line: 0, character: 6 };
-//! let end = Position { line: 0, character: 10 };
+//! let start = Position { line: 0, character: 5 };
+//! let end = Position { line: 0, character: 7 };
 //! let changes = vec![in alloc; Change { range: Some(Range { start, end }), text: String::from_str(alloc, "8080")? }]?;
-//! let text = replaced_all(alloc, String::from_str(alloc, "port  tcp\n")?, &changes, Encoding::Utf16)?;
+//! let text = replaced_all(alloc, String::from_str(alloc, "port 80\n")?, &changes, Encoding::Utf16)?; // "port 8080\n"
 //! ```
 #![tactic(auto)]
 
@@ -18,6 +18,8 @@ mod offset;
 mod place;
 mod position;
 mod read;
+#[cfg(test)]
+mod tests;
 
 pub use change::{Change, replaced, replaced_all};
 pub use offset::offset_of;

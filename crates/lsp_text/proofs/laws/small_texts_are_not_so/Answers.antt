@@ -1,4 +1,5 @@
 use Rattle.std.proofs.Common.{arith}
+use Rattle.lsp_text.proofs.Inverse.{no_exact}
 use Rattle.lsp_text.proofs.laws.small_texts_are_not_so.Goals as goal
 
 pub returns-clause-cr_lf : goal.returns-clause-cr_lf
@@ -15,3 +16,12 @@ returns-clause-half c = λ h. omega (arith, h)
 
 pub returns-clause-bytes : goal.returns-clause-bytes
 returns-clause-bytes c = λ h. omega (arith, h)
+
+pub returns-clause-exact : goal.returns-clause-exact
+returns-clause-exact c = no_exact
+
+pub returns-clause-between : goal.returns-clause-between
+returns-clause-between c = λ h. omega (arith, h)
+
+pub returns-clause-back : goal.returns-clause-back
+returns-clause-back c = λ h. omega (arith, h)

@@ -24,3 +24,9 @@ returns-clause-line_end c = refl
 
 pub returns-clause-text_end : goal.returns-clause-text_end
 returns-clause-text_end c = refl
+
+pub returns-clause-backward : goal.returns-clause-backward
+returns-clause-backward c = refl
+
+pub returns-clause-order : goal.returns-clause-order
+returns-clause-order c = refl

@@ -1,4 +1,4 @@
-use Rattle.std.proofs.Common.{◌≡◌, ◌<◌, ◌^◌, ap, arith, length, rules, sym, ◌∙◌}
+use Rattle.std.proofs.Common.{◌<◌, ◌^◌, ap, arith, length, rules, sym, ◌∙◌}
 use Rattle.std.specs.Str.{chars}
 use Rattle.lsp_text.specs.Positions.{index_of_byte}
 use Rattle.lsp_text.specs.Steps.{walked}
