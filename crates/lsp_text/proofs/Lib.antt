@@ -1,0 +1,6 @@
+-- Where the lines and the positions of a text are.
+pub mod Places
+-- The position of a character, and the character of a position, are inverse.
+pub mod Inverse
+-- An edit of a text is an edit of its units of 16 bits.
+pub mod Units

@@ -18,6 +18,8 @@ mod offset;
 mod place;
 mod position;
 mod read;
+#[cfg(test)]
+mod tests;
 
 pub use change::{Change, replaced, replaced_all};
 pub use offset::offset_of;

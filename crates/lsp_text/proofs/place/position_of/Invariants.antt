@@ -1,7 +1,7 @@
 use Rattle.std.proofs.Common.{◌≡◌, ◌+◌, ◌≤◌, chars, length}
 use denote.Text.{Utf8}
 use denote.Shadow.{shadow}
-use Rattle.lsp_text.specs.Positions.{front, index_of_byte, size}
+use Rattle.lsp_text.specs.Positions.{index_of_byte, size}
 use Rattle.lsp_text.specs.declared.position.Encoding.TheVariants.{Utf8 as Bytes}
 use Rattle.lsp_text.specs.Steps.{walked}
 use Rattle.lsp_text.proofs.place.position_of.Given as goal
