@@ -1,5 +1,8 @@
 //! Documents that are opened, changed and closed.
 
+ghost use Rattle.lsp_text.specs.Positions.{all_changed, change_of};
+ghost use Rattle.std.specs.Prelude.{◌≡◌, IfSome, chars, map, string_bytes};
+
 use crate::faults::{faults_notice, no_faults_notice};
 use crate::params::{changes, text, uri, version};
 use crate::publish::{Notices, log, publish};
@@ -95,7 +98,10 @@ fn changed(
     old: Option<String>,
     changes: &[Change],
     encoding: Encoding,
-) -> Option<String> {
+) -> Option<String>
+    ensures { IfSome old (λ text. IfSome result (λ new. chars (string_bytes new)
+        ≡ all_changed encoding (map change_of changes.now) (chars (string_bytes text)))) }
+{
     let text = match old {
         Some(text) => text,
         None if has_whole_text(changes) => String::new(alloc),
