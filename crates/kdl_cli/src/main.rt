@@ -92,6 +92,6 @@ fn run_matches(rt: &HostRuntime, matches: &ArgMatches<'_>) -> io::Result<u8> {
 /// Serves an editor over the standard input and output, and returns the exit status.
 fn serve_editor(rt: &HostRuntime) -> io::Result<u8> {
     let mut output = BufWriter::new(rt.alloc(), rt.stdout())?;
-    let is_shut_down = serve(rt.alloc(), &mut rt.reader(), &mut output)?;
+    let is_shut_down = serve(rt.alloc(), &mut rt.stdin(), &mut output)?;
     Ok(if is_shut_down { 0 } else { 1 })
 }

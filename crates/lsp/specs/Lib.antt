@@ -1,0 +1,2 @@
+-- Frames of messages, as bytes.
+pub mod Frames

@@ -1,11 +1,17 @@
 //! Frames: a head with the length of a message, and the message.
 
+ghost use Rattle.lsp.specs.Frames.{IsFrontOf, head_end};
+ghost use Rattle.std.specs.Prelude.{◌≡◌, ◌++◌, IfSome};
+
 use std::io;
 use std::io::Write;
 use std::str::from_utf8;
 
 /// The greatest length of a head, in bytes.
 const MAX_HEAD: usize = 4096;
+
+/// What ends a head.
+const HEAD_END: &[u8] = b"\r\n\r\n";
 
 /// What a list of bytes begins with.
 #[derive(Clone, Copy)]
@@ -22,7 +28,10 @@ pub enum Front<'a> {
 ///
 /// A head has a line for each field, and ends with an empty line. The fields come in any order, and `Content-Length` is one of
 /// them. Lines end with CR LF.
-pub fn first_frame(bytes: &[u8]) -> Front<'_> {
+pub fn first_frame(bytes: &[u8]) -> Front<'_>
+    // No byte is lost: the head, its end, the message and what follows are the bytes.
+    ensures { IsFrontOf bytes.now result }
+{
     let Some((head, rest)) = split_head(bytes) else {
         return if bytes.len() > MAX_HEAD {
             Front::Bad
@@ -40,12 +49,22 @@ pub fn first_frame(bytes: &[u8]) -> Front<'_> {
 }
 
 /// Returns the head without its empty line, and what follows.
-fn split_head(bytes: &[u8]) -> Option<(&[u8], &[u8])> {
-    let end = bytes
-        .windows(4)
-        .position(|part| part == b"\r\n\r\n".as_slice())?;
-    let (head, rest) = bytes.split_at_checked(end)?;
-    Some((head, rest.get(4..)?))
+fn split_head(bytes: &[u8]) -> Option<(&[u8], &[u8])>
+    ensures { IfSome result (λ (head, rest). bytes.now ≡ head.now ++ head_end ++ rest.now) }
+{
+    let end = bytes.windows(4).position(|part| part == HEAD_END)?;
+    let (head, tail) = bytes.split_at_checked(end)?;
+    Some((head, after_end(tail)?))
+}
+
+/// Returns what follows the end of a head.
+fn after_end(bytes: &[u8]) -> Option<&[u8]>
+    ensures { IfSome result (λ rest. bytes.now ≡ head_end ++ rest.now) }
+{
+    match bytes {
+        [b'\r', b'\n', b'\r', b'\n', rest @ ..] => Some(rest),
+        _ => None,
+    }
 }
 
 /// Returns the length that a head gives.

@@ -1,5 +1,8 @@
 //! One message of a client.
 
+ghost use Rattle.json.specs.Json.{document};
+ghost use Rattle.std.specs.Prelude.{◌≡◌, None};
+
 use crate::publish::Notices;
 use crate::request::reply;
 use crate::state::{Phase, State};
@@ -11,7 +14,10 @@ use std::alloc::{AllocError, Global};
 /// Takes a message of the client, and returns the messages that the server sends for it, in order.
 ///
 /// Returns an error if there is no memory even for the message that memory is short.
-pub fn step(alloc: Global, state: &mut State, message: &str) -> Result<Vec<String>, AllocError> {
+pub fn step(alloc: Global, state: &mut State, message: &str) -> Result<Vec<String>, AllocError>
+    // A text that is not JSON changes nothing.
+    ensures refused { document message.now ≡ None → state.new ≡ state.old }
+{
     let mut out = Vec::new(alloc);
     let mut scratch = Scratch::new(alloc);
     match Value::parse(alloc, message, &mut scratch) {

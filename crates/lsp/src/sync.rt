@@ -1,5 +1,8 @@
 //! Documents that are opened, changed and closed.
 
+ghost use Rattle.lsp_text.specs.Positions.{all_changed, change_of};
+ghost use Rattle.std.specs.Prelude.{◌≡◌, IfSome, chars, map, string_bytes};
+
 use crate::faults::{faults_notice, no_faults_notice};
 use crate::params::{changes, text, uri, version};
 use crate::publish::{Notices, log, publish};
@@ -66,7 +69,7 @@ pub(crate) fn did_change(
     };
     document.version = version(params);
     let old = document.text.take();
-    document.text = text_after(alloc, old, changes(alloc, params), encoding);
+    document.text = text_after(alloc, old, params, encoding);
     match &document.text {
         Some(text) => {
             let notice = faults_notice(alloc, uri, document.version, text, encoding);
@@ -76,22 +79,35 @@ pub(crate) fn did_change(
     }
 }
 
-/// Returns the text after the changes, or `None` if it is not known.
+/// Returns the text after the changes of a `didChange`, or `None` if it is not known.
 fn text_after(
     alloc: Global,
     old: Option<String>,
-    changes: Result<Option<Vec<Change>>, AllocError>,
+    params: &Value<'_>,
     encoding: Encoding,
 ) -> Option<String> {
-    let Ok(Some(changes)) = changes else {
-        return None;
-    };
+    match changes(alloc, params) {
+        Ok(Some(changes)) => changed(alloc, old, &changes, encoding),
+        _ => None,
+    }
+}
+
+/// Returns the text after changes. Where the old text is not known, one of them is the whole text.
+fn changed(
+    alloc: Global,
+    old: Option<String>,
+    changes: &[Change],
+    encoding: Encoding,
+) -> Option<String>
+    ensures { IfSome old (λ text. IfSome result (λ new. chars (string_bytes new)
+        ≡ all_changed encoding (map change_of changes.now) (chars (string_bytes text)))) }
+{
     let text = match old {
         Some(text) => text,
-        None if has_whole_text(&changes) => String::new(alloc),
+        None if has_whole_text(changes) => String::new(alloc),
         None => return None,
     };
-    replaced_all(alloc, text, &changes, encoding).ok()
+    replaced_all(alloc, text, changes, encoding).ok()
 }
 
 /// Returns whether a change is a whole text.
