@@ -1,3 +1,9 @@
+-- A text has at most one reading as a PATH.
+pub mod PathTexts
+-- What the readers of PATHs return.
+pub mod PathReads
+-- The lemmas that the functions of a file cite.
+pub mod Rules
 -- What a PATH names in memory, and in the data.
 pub mod Places
 -- A document with the node at the end of a path of indices changed.

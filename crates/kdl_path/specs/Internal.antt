@@ -1,3 +1,5 @@
+-- What the readers of PATHs return.
+pub mod PathReading
 -- What the failures of parts of an edit mean.
 pub mod Failing
 -- Nodes and entries in memory that a PATH names.

@@ -1,3 +1,5 @@
+-- The text of a PATH.
+pub mod PathText
 -- What a PATH names in the data of a document.
 pub mod Paths
 -- The data of a document, and its text, after an edit at a PATH.

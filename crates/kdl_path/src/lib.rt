@@ -32,6 +32,7 @@ mod layout;
 mod locate;
 mod lookup;
 mod nearest;
+mod parse;
 mod path;
 mod removal;
 mod setter;

@@ -2,7 +2,7 @@
 
 ghost use Rattle.std.specs.Prelude.{◌≡◌, [], MatchBool};
 
-use kdl::{KdlIdentifier, ParseFailure};
+use kdl::KdlIdentifier;
 use std::alloc::{AllocError, AllocFailed, Global};
 use std::fmt;
 
@@ -90,12 +90,20 @@ impl fmt::Display for PathFailure {
 impl std::error::Error for PathFailure {}
 
 impl From<AllocError> for PathFailure {
+    ghost use Rattle.kdl_path.specs.declared.path.PathFailure.TheVariants.{Memory};
+
+    ghost from_gives = { λ _ e. e ≡ Memory };
+
     fn from(_error: AllocError) -> PathFailure {
         PathFailure::Memory
     }
 }
 
 impl<T: Drop> From<AllocFailed<T>> for PathFailure {
+    ghost use Rattle.kdl_path.specs.declared.path.PathFailure.TheVariants.{Memory};
+
+    ghost from_gives = { λ _ e. e ≡ Memory };
+
     fn from(_error: AllocFailed<T>) -> PathFailure {
         PathFailure::Memory
     }
@@ -142,227 +150,7 @@ impl fmt::Display for Path {
     }
 }
 
-/// The rest of a text that is read from its start.
-#[derive(Drop)]
-struct Reader<'a> {
-    rest: &'a str,
-    len: usize,
-}
-
-impl<'a> Reader<'a> {
-    /// The failure at the next byte.
-    fn fault(&self, fault: PathFault) -> PathFailure {
-        PathFailure::Syntax(fault, self.len.saturating_sub(self.rest.len()))
-    }
-
-    /// Reads the character, which is one byte, if it comes next.
-    fn take(&mut self, character: &str) -> bool {
-        match self.rest.strip_prefix(character) {
-            Some(rest) => {
-                self.rest = rest;
-                true
-            }
-            None => false,
-        }
-    }
-
-    /// Reads a name: a bare string up to `/`, `[`, `]` or `#`, or a string in quotes.
-    fn name(&mut self, alloc: Global) -> Result<String, PathFailure> {
-        let Some(len) = name_len(self.rest) else {
-            return Err(self.fault(PathFault::Unclosed));
-        };
-        let Some((name, rest)) = self.rest.split_at_checked(len) else {
-            return Err(self.fault(PathFault::NoString));
-        };
-        if name.is_empty() || name.starts_with('@') {
-            return Err(self.fault(PathFault::NoName));
-        }
-        match KdlIdentifier::parse(alloc, name) {
-            Ok(name) => {
-                self.rest = rest;
-                Ok(String::from_str(alloc, name.value())?)
-            }
-            Err(ParseFailure::Syntax(_)) => Err(self.fault(PathFault::NoString)),
-            Err(ParseFailure::Memory) => Err(PathFailure::Memory),
-        }
-    }
-
-    /// Reads decimal digits as a number, or returns the fault.
-    fn number(&mut self, fault: PathFault) -> Result<usize, PathFailure> {
-        let rest = self.rest.trim_start_matches(|c: char| c.is_ascii_digit());
-        let digits = self.rest.len().saturating_sub(rest.len());
-        let Some((digits, rest)) = self.rest.split_at_checked(digits) else {
-            return Err(self.fault(fault));
-        };
-        match digits.parse::<usize>() {
-            Ok(number) => {
-                self.rest = rest;
-                Ok(number)
-            }
-            Err(_) => Err(self.fault(fault)),
-        }
-    }
-
-    /// Reads a name, and the index after it if there is one.
-    fn step(&mut self, alloc: Global) -> Result<Step, PathFailure> {
-        let name = self.name(alloc)?;
-        if !self.take("[") {
-            return Ok(Step { name, index: None });
-        }
-        let index = self.number(PathFault::NoIndex)?;
-        if !self.take("]") {
-            return Err(self.fault(PathFault::NoIndex));
-        }
-        Ok(Step {
-            name,
-            index: Some(index),
-        })
-    }
-
-    /// Reads what follows the steps, up to the end.
-    fn target(&mut self, alloc: Global, is_property: bool) -> Result<Target, PathFailure> {
-        let target = if is_property {
-            Target::Property(self.name(alloc)?)
-        } else if self.take("#") {
-            Target::Argument(self.number(PathFault::NoArgument)?)
-        } else {
-            Target::Node
-        };
-        if !self.rest.is_empty() {
-            return Err(self.fault(PathFault::More));
-        }
-        Ok(target)
-    }
-}
-
-/// The length of the name at the start of a text, or `None` if it is a string in quotes that does not end.
-fn name_len(text: &str) -> Option<usize> {
-    let hashes = text
-        .len()
-        .saturating_sub(text.trim_start_matches('#').len());
-    let Some((_, quoted)) = text.split_at_checked(hashes) else {
-        return None;
-    };
-    if quoted.starts_with('"') {
-        let len = quoted_len(quoted, hashes)?;
-        return len.checked_add(hashes);
-    }
-    match text.find(|c: char| c == '/' || c == '[' || c == ']' || c == '#') {
-        Some(len) => Some(len),
-        None => Some(text.len()),
-    }
-}
-
-/// The length of the string in quotes at the start of a text, with the `#` that end it, whose number is given.
-fn quoted_len(text: &str, hashes: usize) -> Option<usize> {
-    let quotes: usize = if text.starts_with("\"\"\"") { 3 } else { 1 };
-    let mut closing = Closing {
-        quotes: 0,
-        hashes: 0,
-        escaped: false,
-    };
-    for (at, byte) in text.bytes().enumerate().skip(quotes) {
-        closing.read(byte, quotes, hashes);
-        if closing.quotes == quotes && closing.hashes == hashes {
-            return at.checked_add(1);
-        }
-    }
-    None
-}
-
-/// How much of the end of a string in quotes is read.
-#[derive(Drop)]
-struct Closing {
-    quotes: usize,
-    hashes: usize,
-    escaped: bool,
-}
-
-impl Closing {
-    /// Reads the next byte of the string.
-    fn read(&mut self, byte: u8, quotes: usize, hashes: usize) {
-        if self.escaped {
-            self.escaped = false;
-            self.quotes = 0;
-            return;
-        }
-        if byte == b'"' {
-            if self.hashes > 0 {
-                self.quotes = 0;
-                self.hashes = 0;
-            }
-            if self.quotes < quotes {
-                self.quotes += 1;
-            }
-        } else if byte == b'#' && self.quotes == quotes && self.hashes < hashes {
-            self.hashes += 1;
-        } else {
-            self.quotes = 0;
-            self.hashes = 0;
-            self.escaped = byte == b'\\' && hashes == 0;
-        }
-    }
-}
-
-impl Target {
-    /// Reads the entry that a text names, as at the end of a PATH: `#N`, the argument at that index, or `@KEY`, the last
-    /// property of that name.
-    ///
-    /// Fails with the first fault and its byte in the text, as `Path::parse` does, or if the text begins with neither `#`
-    /// nor `@`.
-    ///
-    /// ```
-    /// let target = Target::parse(alloc, "@host")?; // Target::Property("host")
-    /// ```
-    pub fn parse(alloc: Global, text: &str) -> Result<Target, PathFailure> {
-        let mut reader = Reader {
-            rest: text,
-            len: text.len(),
-        };
-        let is_property = reader.take("@");
-        if !is_property && !text.starts_with('#') {
-            return Err(reader.fault(PathFault::NoEntry));
-        }
-        reader.target(alloc, is_property)
-    }
-}
-
 impl Path {
-    /// Reads a PATH. A text has at most one reading.
-    ///
-    /// Fails with the first fault and its byte in the text: a name is missing or is no string, a string in quotes does
-    /// not end, a number is missing or does not fit, or more text follows.
-    ///
-    /// ```
-    /// let path = Path::parse(alloc, "server[2]/@host")?; // the property `host` of the third `server`
-    /// ```
-    pub fn parse(alloc: Global, text: &str) -> Result<Path, PathFailure> {
-        let mut steps = Vec::new(alloc);
-        if text == "/" {
-            return Ok(Path {
-                steps,
-                target: Target::Node,
-            });
-        }
-        let mut reader = Reader {
-            rest: text,
-            len: text.len(),
-        };
-        let mut is_property = false;
-        for _step in 0..text.len().saturating_add(1) {
-            steps.push(reader.step(alloc)?)?;
-            if !reader.take("/") {
-                break;
-            }
-            if reader.take("@") {
-                is_property = true;
-                break;
-            }
-        }
-        let target = reader.target(alloc, is_property)?;
-        Ok(Path { steps, target })
-    }
-
     /// Returns whether the PATH is the document.
     pub fn is_document(&self) -> bool
         ensures { MatchBool result (self.now.steps.items ≡ []) (self.now.steps.items ≡ [] → ⊥) }
