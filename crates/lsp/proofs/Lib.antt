@@ -1,0 +1,2 @@
+-- The parts of a list.
+mod Parts

@@ -1,5 +1,5 @@
 -- Frames of messages, as bytes.
-use Rattle.std.specs.Prelude.{◌≡◌, List, ℕ, [], ◌∷◌, ◌++◌}
+use Rattle.std.specs.Prelude.{◌≡◌, List, ℕ, [], ◌∷◌, ◌++◌, codes, decimal, length}
 use Rattle.lsp.specs.declared.frame.Front.{Front}
 use Rattle.lsp.specs.declared.frame.Front.TheVariants.{Whole}
 
@@ -15,3 +15,7 @@ IsFramed bytes message rest = (head : List ℕ) × (bytes ≡ head ++ head_end +
 abbrev pub IsFrontOf : List ℕ → Front → Type 0
 IsFrontOf bytes (Whole message rest) = IsFramed bytes message.now rest.now
 IsFrontOf bytes _ = Unit {0}
+
+-- a message as a frame
+abbrev pub frame_of : List ℕ → List ℕ
+frame_of message = codes "Content-Length: " ++ decimal (length message) ++ head_end ++ message

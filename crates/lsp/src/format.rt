@@ -1,6 +1,7 @@
 //! Formatting.
 
 use crate::cursor::Cursor;
+use crate::difference::{Difference, between};
 use crate::layout::laid_out;
 use crate::params::indent;
 use crate::write::{Out, begin_reply, finish, put_range, put_text};
@@ -25,16 +26,17 @@ pub(crate) fn formatting(
     finish(alloc, out)
 }
 
-/// Writes the edits from a text to another.
+/// Writes the edit of the lines that differ between two texts, if there are any.
 fn put_edits(out: &mut Out, text: &str, new: &str, encoding: Encoding) -> Result<(), AllocError> {
     out.begin_array()?;
     if new != text {
-        let whole = SourceSpan {
-            offset: 0,
-            len: text.len(),
+        let Difference { start, old, new } = between(text, new);
+        let span = SourceSpan {
+            offset: start,
+            len: old.len(),
         };
         out.begin_object()?;
-        put_range(out, "range", Cursor::new(text, encoding).range(whole))?;
+        put_range(out, "range", Cursor::new(text, encoding).range(span))?;
         put_text(out, "newText", new)?;
         out.end_object()?;
     }

@@ -1,7 +1,8 @@
 //! Frames: a head with the length of a message, and the message.
 
-ghost use Rattle.lsp.specs.Frames.{IsFrontOf, head_end};
-ghost use Rattle.std.specs.Prelude.{◌≡◌, ◌++◌, IfSome};
+ghost use Rattle.lsp.specs.Frames.{IsFrontOf, frame_of, head_end};
+ghost use Rattle.std.specs.Io.KnownBytes.{Appends};
+ghost use Rattle.std.specs.Prelude.{◌≡◌, ◌++◌, IfSome, OnOk};
 
 use std::io;
 use std::io::Write;
@@ -83,7 +84,8 @@ fn length_of_field(line: &str) -> Option<usize> {
 }
 
 /// Writes a message as a frame. Returns errors of the writer.
-pub fn write_frame<W: Write>(output: &mut W, message: &str) -> io::Result<()> {
-    write!(output, "Content-Length: {}\r\n\r\n", message.len())?;
-    output.write_all(message.as_bytes())
+pub fn write_frame<W: Write>(output: &mut W, message: &str) -> io::Result<()>
+    ensures { OnOk result (Appends (W.contents output.old) (W.contents output.new) (frame_of message.now)) }
+{
+    write!(output, "Content-Length: {}\r\n\r\n{message}", message.len())
 }

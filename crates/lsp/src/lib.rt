@@ -13,6 +13,7 @@
 #![tactic(auto)]
 
 mod cursor;
+mod difference;
 mod faults;
 mod fold;
 mod format;
