@@ -3,10 +3,11 @@
 ghost use Rattle.kdl.specs.Words.{document_says, said_nodes};
 ghost use Rattle.kdl_c.specs.Statuses.{IsAmong};
 ghost use Rattle.c_calls.specs.Says.{IsWithin, SaysEntry};
+ghost use Rattle.kdl_path.specs.PathText.{IsPath, PathData, path_says};
 ghost use Rattle.kdl_path.specs.Paths.{AreIndices, entry_at, node_at};
-ghost use Rattle.kdl_path.specs.declared.path.Path.{Path as PathData};
-ghost use Rattle.std.specs.Prelude.{◌≡◌, ◌++◌, ◌<◌, ◌≤◌, ◌∷◌, [], IfErr, IsNone, IsSome, IsSomeAnd, List, None, drop, length, take, ℕ};
-ghost use Rattle.std.specs.Str.{IsUtf8};
+ghost use Rattle.kdl_path.specs.declared.path.Path.{Path as HeldPath};
+ghost use Rattle.std.specs.Prelude.{◌≡◌, ◌++◌, ◌<◌, ◌≤◌, ◌∷◌, [], IfErr, IfOk, IsNone, IsSome, IsSomeAnd, List, None, drop, length, take, ℕ};
+ghost use Rattle.std.specs.Str.{IsUtf8, chars};
 
 use crate::selection::put_numbers;
 use c_calls::held::Handle;
@@ -19,6 +20,8 @@ use std::alloc::Global;
 /// Reads a PATH. Returns `NOT_UTF8` if the text is not UTF-8, `FAULTS` if it is not a PATH, and `OUT_OF_MEMORY` if an
 /// allocation fails.
 fn path_of(alloc: Global, place: &[u8]) -> Result<Path, u32>
+    ensures path { IfOk result (λ p. IsPath (chars place.now) (path_says p)) }
+    ensures refused { IfErr result (λ s. s ≡ 1 → (x : PathData) → IsPath (chars place.now) x → ⊥) }
     ensures not_done { IfErr result (λ s. s ≡ 0 → ⊥) }
     ensures room { IfErr result (λ s. s ≡ 4 → ⊥) }
     ensures held { IfErr result (λ s. s ≡ 5 → ⊥) }
@@ -56,6 +59,7 @@ fn put_place(
     ensures kept { (result ≡ 0 → ⊥) → indices.new ≡ indices.old }
     ensures uncounted { IsAmong (3 ∷ 6 ∷ []) result → needed.new ≡ needed.old }
     ensures statuses { IsAmong (0 ∷ 3 ∷ 4 ∷ 6 ∷ []) result }
+    ensures parses_nothing { result ≡ 1 → ⊥ }
 {
     match find(alloc, document, path) {
         Err(_) => OUT_OF_MEMORY,
@@ -104,11 +108,13 @@ pub extern "C" fn kdl_find_path(
     needed: &mut usize,
 ) -> u32
     ensures found { IsAmong (0 ∷ 4 ∷ []) result → IsSomeAnd document.old.held.document (λ d.
-        (p : PathData) × (is : List ℕ)
+        (p : HeldPath) × IsPath (chars place.now) (path_says p) × (is : List ℕ)
         × AreIndices p.steps.items is (said_nodes (document_says d)) × (needed.new ≡ length is)
         × (result ≡ 0 → indices.new ≡ is ++ drop (length is) indices.old)) }
-    ensures absent { result ≡ 6 → IsSomeAnd document.old.held.document (λ d. (p : PathData)
+    ensures absent { result ≡ 6 → IsSomeAnd document.old.held.document (λ d. (p : HeldPath)
+        × IsPath (chars place.now) (path_says p)
         × (node_at p.steps.items (said_nodes (document_says d)) ≡ None)) }
+    ensures refused { result ≡ 1 → (x : PathData) → IsPath (chars place.now) x → ⊥ }
     ensures small { result ≡ 4 → length indices.old < needed.new }
     ensures kept { (result ≡ 0 → ⊥) → indices.new ≡ indices.old }
     ensures cleared { (result ≡ 0 → ⊥) → (result ≡ 4 → ⊥) → needed.new ≡ 0 }
@@ -141,11 +147,14 @@ pub extern "C" fn kdl_get_path(
     strings: &mut [u8],
     string_len: &mut usize,
 ) -> u32
-    ensures says { result ≡ 0 → IsSomeAnd document.old.held.document (λ d. (p : PathData)
+    ensures says { result ≡ 0 → IsSomeAnd document.old.held.document (λ d. (p : HeldPath)
+        × IsPath (chars place.now) (path_says p)
         × IsSomeAnd (entry_at p (document_says d)) (λ e.
         SaysEntry (take string_len.new strings.new) row.new e)) }
-    ensures absent { result ≡ 6 → IsSomeAnd document.old.held.document (λ d. (p : PathData)
+    ensures absent { result ≡ 6 → IsSomeAnd document.old.held.document (λ d. (p : HeldPath)
+        × IsPath (chars place.now) (path_says p)
         × (entry_at p (document_says d) ≡ None)) }
+    ensures refused { result ≡ 1 → (x : PathData) → IsPath (chars place.now) x → ⊥ }
     ensures within { result ≡ 0 → IsWithin string_len.new row.new }
     ensures strings { result ≡ 0 → string_len.new ≤ length strings.old }
     ensures same { document.new.held.document ≡ document.old.held.document }
