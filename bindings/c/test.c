@@ -1,9 +1,7 @@
 /* Tests what each call writes and returns: with buffers of every size, on paths without a node, on
  * a struct without a document, on deep blocks, and on six threads. */
-#define _POSIX_C_SOURCE 200809L
 #include "check.h"
 #include <pthread.h>
-#include <unistd.h>
 
 static const char *const sample =
     "(t)a  0x10 \"k\" = #true // c\nb { c 99999999999999999999; }\n";
@@ -76,18 +74,18 @@ static void layouts(void) {
     kdl_free(&d);
 }
 
-/* Writes a text to a file, and reads it back as a document. */
+/* Writes the text of a document to a file, and reads it back as a document. */
 static struct kdl_document through_a_file(struct kdl_document *document) {
-    char name[] = "/tmp/kdl-XXXXXX";
-    int file = mkstemp(name);
+    FILE *file = tmpfile();
     struct kdl_document again = none();
     size_t len;
-    uint8_t *text = printed(document, &len);
-    CHECK(file >= 0 && write(file, text, len) == (ssize_t)len && close(file) == 0);
+    uint8_t *text = printed(document, &len), *back = buffer(len);
+    CHECK(file && fwrite(text, 1, len, file) == len);
+    rewind(file);
+    CHECK(fread(back, 1, len, file) == len && fgetc(file) == EOF && fclose(file) == 0);
+    CHECK(kdl_parse(back, len, &again) == KDL_OK);
     free(text);
-    text = read_all(name, &len);
-    CHECK(unlink(name) == 0 && kdl_parse(text, len, &again) == KDL_OK);
-    free(text);
+    free(back);
     return again;
 }
 
