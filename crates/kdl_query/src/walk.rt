@@ -131,7 +131,8 @@ impl<'a, 'q> Walk<'a, 'q> {
 
     /// Leaves the innermost block.
     fn leave(&mut self) -> Result<(), AllocError>
-        ensures { OnOk result (self.new.levels.items ≡ take (length self.old.levels.items - 1) self.old.levels.items) }
+        ensures { OnOk result (self.new.levels.items
+            ≡ take (length self.old.levels.items - 1) self.old.levels.items) }
     {
         if let Some(Level { parts, .. }) = self.levels.pop() {
             self.spare.push(parts)?;
