@@ -144,18 +144,17 @@ pub(crate) fn visit(parts: &mut [Part<'_>], node: &KdlNode, count: &mut u64) -> 
     is_selected
 }
 
-/// The parts before the first node in the block of the node that was visited last.
-pub(crate) fn inside<'q>(alloc: Global, parts: &[Part<'q>]) -> Result<Vec<Part<'q>>, AllocError>
-    ensures { IfOk result (λ v.
-        v.items ≡ map entered_part parts.entry.now) }
+/// Replaces parts by others, as they are before the first node in the block of the node that was visited last.
+pub(crate) fn enter<'q>(entered: &mut Vec<Part<'q>>, parts: &[Part<'q>]) -> Result<(), AllocError>
+    ensures { OnOk result (entered.new.items ≡ map entered_part parts.now) }
 {
-    parts
-        .iter()
-        .map(|part| Part {
+    entered.clear();
+    entered.extend(
+        parts.iter().map(|part| Part {
             marks: part.marks.inside(),
             ..*part
-        })
-        .collect(alloc)
+        }),
+    )
 }
 
 /// Appends the first part of a selector.

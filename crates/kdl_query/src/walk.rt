@@ -5,9 +5,9 @@ ghost use Rattle.kdl_query.specs.Internal.Parts.{at_top, ends, part_says};
 ghost use Rattle.kdl_query.specs.Internal.Visits.{all_visits, came_to, inside_last, level_says, levels_of, next_parts, path_of, walk_due};
 ghost use Rattle.kdl_query.specs.Tree.{query_says};
 ghost use Rattle.kdl_text.specs.Spans.{raise};
-ghost use Rattle.std.specs.Prelude.{◌≡◌, ◌++◌, ◌∷◌, [], ◌<◌, IfOk, IsSome, MatchOption, OnOk, false, length, map, option_map, slice_get, suc};
+ghost use Rattle.std.specs.Prelude.{◌≡◌, ◌++◌, ◌∷◌, [], ◌<◌, IfOk, IsSome, MatchOption, OnOk, false, length, map, option_map, slice_get, suc, take, ◌-◌};
 
-use crate::part::{Part, inside, parts_of, visit};
+use crate::part::{Part, enter, parts_of, visit};
 use crate::tree::Query;
 use kdl::{KdlDocument, KdlNode};
 use std::alloc::{AllocError, Global};
@@ -27,6 +27,8 @@ struct Level<'a, 'q> {
 #[derive(Drop)]
 pub(crate) struct Walk<'a, 'q> {
     levels: Vec<Level<'a, 'q>>,
+    /// The lists of blocks that it has left, to be used again.
+    spare: Vec<Vec<Part<'q>>>,
 }
 
 /// A node that the walk came to, and whether the query selects it.
@@ -102,7 +104,10 @@ impl<'a, 'q> Walk<'a, 'q> {
         let mut levels = Vec::new(alloc);
         let parts = parts_of(alloc, query)?;
         levels.push(Level::new(document.nodes(), parts))?;
-        Ok(Walk { levels })
+        Ok(Walk {
+            levels,
+            spare: Vec::new(alloc),
+        })
     }
 
     /// Comes to the next node, or returns `None` if there is none. The nodes in its block come next once it is entered.
@@ -114,15 +119,25 @@ impl<'a, 'q> Walk<'a, 'q> {
         ensures counted { IfOk result (λ o. MatchOption o (count.new ≡ count.old) (λ v.
             raise count.new 0 ≡ raise count.old (came_to v self.new).looks)) }
     {
-        while let Some(mut level) = self.levels.pop() {
-            let Some(node) = level.next_node() else {
-                continue;
-            };
-            let is_selected = level.visit(node, count);
-            self.levels.push(level)?;
-            return Ok(Some(Visit { node, is_selected }));
+        while let Some(level) = self.levels.last_mut() {
+            if let Some(node) = level.next_node() {
+                let is_selected = level.visit(node, count);
+                return Ok(Some(Visit { node, is_selected }));
+            }
+            self.leave()?;
         }
         Ok(None)
+    }
+
+    /// Leaves the innermost block.
+    fn leave(&mut self) -> Result<(), AllocError>
+        ensures { OnOk result (self.new.levels.items
+            ≡ take (length self.old.levels.items - 1) self.old.levels.items) }
+    {
+        if let Some(Level { parts, .. }) = self.levels.pop() {
+            self.spare.push(parts)?;
+        }
+        Ok(())
     }
 
     /// Enters the block of the node that was visited last.
@@ -136,7 +151,8 @@ impl<'a, 'q> Walk<'a, 'q> {
         let Some(level) = self.levels.last() else {
             return Ok(());
         };
-        let parts = inside(alloc, &level.parts)?;
+        let mut parts = self.spare.pop().unwrap_or(Vec::new(alloc));
+        enter(&mut parts, &level.parts)?;
         self.levels.push(Level::new(block.nodes(), parts))?;
         Ok(())
     }

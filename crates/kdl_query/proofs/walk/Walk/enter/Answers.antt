@@ -1,4 +1,4 @@
-use Rattle.std.proofs.Common.{rules, ◌≡◌, ◌-◌, length, [], ◌∷◌, ◌++◌, ◌∙◌, ap, map, option_map}
+use Rattle.std.proofs.Common.{◌≡◌, ◌-◌, length, [], ◌∷◌, ◌++◌, ◌∙◌, ap, map, option_map}
 use Rattle.std.specs.Prelude.{unwrap_or, slice_get}
 use Rattle.std.proofs.lemmas.List.{map-append}
 use Rattle.kdl.specs.Said.{said_nodes}
@@ -12,9 +12,9 @@ use Rattle.kdl_query.proofs.walk.Walk.enter.Goals as goal
 
 pub returns : goal.returns
 returns c =
-    let items : c.push.new.self.items ≡ c.args.self.now.levels.items ++ c.new.result ∷ [] = search rules in
+    let items : c.push.new.self.items ≡ c.args.self.now.levels.items ++ c.new-2.result ∷ [] = c.in_ok-push.ensures.items in
     let last = last_said c.args.self.now.levels.items c.in-Some-last.level.now (c.in-Some-last.ensures.value ∙ ap (λ xs. slice_get xs (length xs - 1)) c.deref.ensures.value) in
-    ap (λ ls. due [] (map level_says ls)) items ∙ ap (due []) (map-append level_says c.args.self.now.levels.items (c.new.result ∷ []))
-    ∙ due_entered (map level_says c.args.self.now.levels.items) (level_says c.in-Some-last.level.now) (level_says c.new.result) (node_says c.args.node.now) last (ap (λ (k : LevelSays). k.next) c.new.ensures)
-    (ap (λ (k : LevelSays). k.parts) c.new.ensures ∙ ap (map part_says) c.in_ok-parts.ensures ∙ ap (λ ps. map part_says (map entered_part ps)) c.deref-2.ensures.value ∙ entered_says c.in-Some-last.level.now.parts.items)
-    (ap (λ (k : LevelSays). k.nodes) c.new.ensures ∙ c.nodes.ensures.said ∙ ap (λ o. unwrap_or (option_map said_nodes o) []) c.in-Some.ensures.said)
+    ap (λ ls. due [] (map level_says ls)) items ∙ ap (due []) (map-append level_says c.args.self.now.levels.items (c.new-2.result ∷ []))
+    ∙ due_entered (map level_says c.args.self.now.levels.items) (level_says c.in-Some-last.level.now) (level_says c.new-2.result) (node_says c.args.node.now) last (ap (λ (k : LevelSays). k.next) c.new-2.ensures)
+    (ap (λ (k : LevelSays). k.parts) c.new-2.ensures ∙ ap (map part_says) c.in_ok-enter.ensures ∙ ap (λ ps. map part_says (map entered_part ps)) c.deref-2.ensures.value ∙ entered_says c.in-Some-last.level.now.parts.items)
+    (ap (λ (k : LevelSays). k.nodes) c.new-2.ensures ∙ c.nodes.ensures.said ∙ ap (λ o. unwrap_or (option_map said_nodes o) []) c.in-Some.ensures.said)
