@@ -7,7 +7,7 @@ import pathlib
 import struct
 from typing import Any, Callable, Dict, List, NamedTuple, Optional, Tuple, Union
 
-VERSION = 2
+VERSION = 3
 OK, FAULTS, NOT_UTF8, OUT_OF_MEMORY, TOO_SMALL, NO_DOCUMENT, NOT_FOUND = range(7)
 AS_DOCUMENT, AS_NODE, AS_ENTRY, AS_VALUE, AS_QUERY = range(5)
 NODE, ARGUMENT, PROPERTY, END = range(1, 5)
@@ -60,6 +60,7 @@ def _loaded(how: Callable[[str], Any]) -> Any:
             "kdl_query": [handle, *text, out, size, out, out],
             "kdl_node_count": [handle, *path, out],
             "kdl_node": [handle, *path, out, any_bytes, *strings],
+            "kdl_node_tree": [handle, *path, any_bytes, size, out, *strings],
             "kdl_entry": [handle, *path, size, any_bytes, *strings],
             "kdl_find": [handle, *path, *text, out],
             "kdl_find_entry": [handle, *path, *text, out],

@@ -1,7 +1,7 @@
 //! Measures how fast documents are parsed, dropped, printed, formatted, copied, searched and queried, and how much
 //! memory they take.
 //!
-//! Without arguments it generates texts of five kinds and writes two tables to standard output: the speeds on 1 MB of
+//! Without arguments it generates texts of six kinds and writes two tables to standard output: the speeds on 1 MB of
 //! each, and on longer and longer ones. With file names as arguments it writes the first table for these files. `write
 //! KIND BYTES` writes such a text; `check BYTES` makes each call on a text of each kind, and writes the results without
 //! times, and then does what `refused` does.

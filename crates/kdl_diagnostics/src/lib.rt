@@ -20,5 +20,5 @@ mod whole;
 
 pub use kind::Kind;
 pub use notes::Fault;
-pub use told::{failure, faults};
+pub use told::{check, failure, faults};
 pub use whole::Whole;
