@@ -8,7 +8,6 @@ ghost use Rattle.std.specs.Str.{chars};
 
 use crate::document::KdlDocument;
 use crate::node::KdlNode;
-use kdl_diagnostics::Whole;
 use kdl_parser::{read_document, read_node_text};
 use kdl_text::cursor::Steps;
 use kdl_text::error::ParseFailure;
@@ -75,7 +74,7 @@ impl KdlDocument {
     pub fn check(alloc: Global, text: &str) -> Result<(), ParseFailure>
         ensures { ChecksDocument text.now result }
     {
-        kdl_diagnostics::check(alloc, text, Whole::Document)
+        kdl_diagnostics::check(alloc, text)
     }
 
     /// Parses a document of KDL 2, as `parse` does.

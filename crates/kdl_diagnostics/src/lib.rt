@@ -5,6 +5,7 @@
 //! accepted text pays nothing for it.
 #![tactic(auto)]
 
+mod acceptance;
 mod ends;
 mod esclines;
 mod front;
@@ -18,7 +19,8 @@ mod text_control;
 mod told;
 mod whole;
 
+pub use acceptance::check;
 pub use kind::Kind;
 pub use notes::Fault;
-pub use told::{check, failure, faults};
+pub use told::{failure, faults};
 pub use whole::Whole;

@@ -3,7 +3,7 @@
 ghost use Rattle.kdl_diagnostics.specs.Internal.Noted.{Counted, IsFrontOf, Noted, OnRefused};
 ghost use Rattle.kdl_diagnostics.specs.Internal.Outsets.{IsStopped};
 ghost use Rattle.kdl_diagnostics.specs.TextControl.{Accepts};
-ghost use Rattle.kdl_text.specs.Failures.{IsSyntax, IsToldOf, Tells, TellsOf, TellsOnSyntax};
+ghost use Rattle.kdl_text.specs.Failures.{IsToldOf, Tells, TellsOf};
 ghost use Rattle.kdl_text.specs.Spans.{InText, raise};
 ghost use Rattle.std.specs.Prelude.{◌≡◌, ◌↔◌, ◌+◌, ◌*◌, ◌<◌, ◌≤◌, [], false, length, true, IfOk, OnOk};
 ghost use Rattle.std.specs.Rc.{rc_str_bytes};
@@ -125,19 +125,4 @@ pub fn failure(alloc: Global, text: &str, whole: Whole, steps: &mut Steps) -> Pa
         Ok(error) => ParseFailure::Syntax(error),
         Err(_) => ParseFailure::Memory,
     }
-}
-
-/// Returns whether the text is accepted. Returns `Syntax` with the faults of a refused text, as `failure` does, and
-/// `Memory` if an allocation fails.
-pub fn check(alloc: Global, text: &str, whole: Whole) -> Result<(), ParseFailure>
-    ensures accepted { IfOk result (λ _. Accepts whole (chars text.now)) }
-    ensures refused { IsSyntax result → Accepts whole (chars text.now) → ⊥ }
-    ensures told { TellsOnSyntax text.now result }
-{
-    let mut steps = Steps::new();
-    let found = faults(alloc, text, whole, &mut steps)?;
-    if found.is_empty() {
-        return Ok(());
-    }
-    Err(ParseFailure::Syntax(error_of(alloc, text, &found)?))
 }

@@ -6,7 +6,7 @@ use crate::dump::Dump;
 use crate::fault::Fault;
 use crate::item::Item;
 use kdl::{KdlDiagnostic, KdlDocument, KdlError, ParseFailure, Steps};
-use kdl_diagnostics::{Whole, check};
+use kdl_diagnostics::{Whole, failure, faults};
 use std::alloc::AllocError;
 
 /// Adds the lines that the text yields, and returns whether it is accepted.
@@ -67,10 +67,13 @@ fn agrees(case: &Case<'_>, whole: Whole, error: Option<&KdlError>) -> Result<(),
 
 /// Checks the text, without creating the item.
 fn checked(case: &Case<'_>, whole: Whole) -> Result<(), ParseFailure> {
-    match whole {
-        Whole::Document => KdlDocument::check(case.alloc(), case.text),
-        _ => check(case.alloc(), case.text, whole),
+    if let Whole::Document = whole {
+        return KdlDocument::check(case.alloc(), case.text);
     }
+    if faults(case.alloc(), case.text, whole, &mut Steps::new())?.is_empty() {
+        return Ok(());
+    }
+    Err(failure(case.alloc(), case.text, whole, &mut Steps::new()))
 }
 
 /// Whether both errors have the same faults.
