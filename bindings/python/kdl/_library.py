@@ -7,7 +7,7 @@ import pathlib
 import struct
 from typing import Any, Callable, Dict, List, NamedTuple, Optional, Tuple, Union
 
-VERSION = 3
+VERSION = 2
 OK, FAULTS, NOT_UTF8, OUT_OF_MEMORY, TOO_SMALL, NO_DOCUMENT, NOT_FOUND = range(7)
 AS_DOCUMENT, AS_NODE, AS_ENTRY, AS_VALUE, AS_QUERY = range(5)
 NODE, ARGUMENT, PROPERTY, END = range(1, 5)
