@@ -6,6 +6,7 @@ ghost use Rattle.kdl_text.specs.Spans.{raise};
 ghost use Rattle.std.specs.Prelude.{◌+◌, ◌*◌, ◌≤◌, length, OnOk};
 ghost use Rattle.std.specs.Str.{chars};
 
+use crate::acceptance::check;
 use crate::document::KdlDocument;
 use crate::node::KdlNode;
 use kdl_parser::{read_document, read_node_text};
@@ -74,7 +75,7 @@ impl KdlDocument {
     pub fn check(alloc: Global, text: &str) -> Result<(), ParseFailure>
         ensures { ChecksDocument text.now result }
     {
-        kdl_diagnostics::check(alloc, text)
+        check(alloc, text)
     }
 
     /// Parses a document of KDL 2, as `parse` does.

@@ -14,8 +14,6 @@ pub mod StringLoops
 pub mod Diagnostics
 -- Where a front ends, and where the reader of faults begins.
 pub mod FrontEnds
--- The loop over the kinds of the tokens of a document.
-pub mod AcceptedLoop
 -- The turns of the loop over the tokens of a front.
 pub mod FrontReads
 -- What a reader of faults costs, and where its cursor goes.

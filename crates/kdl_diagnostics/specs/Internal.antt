@@ -4,7 +4,5 @@
 pub mod Noted
 -- Where the reader of faults begins, and what is missing where a text ends.
 pub mod Outsets
--- The kinds of tokens for a control.
-pub mod Kinds
 -- What the readers of lexemes and value ends advance past, and what that costs.
 pub mod Reading

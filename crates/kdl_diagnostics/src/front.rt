@@ -36,7 +36,7 @@ pub(crate) struct Prefix<'a> {
 }
 
 /// Advances past the U+FEFF that a document may begin with.
-pub(crate) fn skip_bom<'a>(whole: Whole, cursor: &mut Cursor<'a>)
+fn skip_bom<'a>(whole: Whole, cursor: &mut Cursor<'a>)
     ensures accepts { Takes (text_start whole) cursor.new.rest ↔ Accepts whole cursor.old.rest }
     ensures moves { Moves cursor.old cursor.new }
     ensures costs { Costs 24 1 cursor.old cursor.new }

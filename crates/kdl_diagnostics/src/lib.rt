@@ -5,7 +5,6 @@
 //! accepted text pays nothing for it.
 #![tactic(auto)]
 
-mod acceptance;
 mod ends;
 mod esclines;
 mod front;
@@ -19,7 +18,6 @@ mod text_control;
 mod told;
 mod whole;
 
-pub use acceptance::check;
 pub use kind::Kind;
 pub use notes::Fault;
 pub use told::{failure, faults};

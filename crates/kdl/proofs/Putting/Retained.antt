@@ -1,5 +1,5 @@
 -- Documents that read back, with some of their nodes.
-use Rattle.kdl.proofs.Common.{◌≡◌, Bool, true, false, List, [], ◌∷◌, Vec, Global, Option, map, ap, ◌∙◌, sym, refl, subst, arith, Text, SourceSpan, trailing_text, Rests, TextEnd, NodesRead, no_node, ContentReads, DocumentReads, DocumentFormat, Node, document, listed_nodes, nodes_of, texts_around, trees, DocumentReadsBack, document_tree, node_tree, KdlDocument, out-KdlDocument, KdlNode}
+use Rattle.kdl.proofs.Common.{◌≡◌, Bool, true, false, List, [], ◌∷◌, Vec, Global, Option, map, ap, ◌∙◌, sym, refl, subst, arith, Text, SourceSpan, trailing_text, Rests, TextEnd, NodesRead, ContentReads, DocumentReads, DocumentFormat, Node, document, listed_nodes, nodes_of, texts_around, trees, DocumentReadsBack, document_tree, node_tree, KdlDocument, out-KdlDocument, KdlNode}
 use Rattle.std.specs.List.{items_where_true}
 use Rattle.std.specs.List.Retain.{IsFiltered}
 use Rattle.kdl_grammar.specs.ReadsBack.{with_nodes}
@@ -26,8 +26,8 @@ one_kept {P = P} n [] ms e c x = subst (λ (z : List Node). NodesRead P (listed_
 one_kept n (m ∷ ns) ms e c x = nodes_append (n ∷ []) ms (nodes_take 1 (n ∷ m ∷ ns) (omega arith) c) x
 
 nodes_kept : {P : Rests} (bs : List Bool) (ns : List Node) → NodesRead P (listed_nodes ns) → NodesRead P (listed_nodes (items_where_true bs ns))
-nodes_kept [] ns c = no_node
-nodes_kept (b ∷ bs) [] c = no_node
+nodes_kept [] ns c = NodesRead.no_node
+nodes_kept (b ∷ bs) [] c = NodesRead.no_node
 nodes_kept (true ∷ bs) (n ∷ ns) c = one_kept n ns (items_where_true bs ns) (λ e. ap (items_where_true bs) e ∙ none_kept bs) c (nodes_kept bs ns (nodes_drop 1 (n ∷ ns) c))
 nodes_kept (false ∷ bs) (n ∷ ns) c = nodes_kept bs ns (nodes_drop 1 (n ∷ ns) c)
 

@@ -1,14 +1,13 @@
 //! Whether a text is a document.
 
-ghost use Rattle.kdl_diagnostics.specs.Internal.Kinds.{ReadsNext};
-ghost use Rattle.kdl_diagnostics.specs.TextControl.{AcceptsDocument};
+ghost use Rattle.kdl.specs.Internal.Kinds.{ReadsNext};
+ghost use Rattle.kdl_diagnostics.specs.TextControl.{AcceptsDocument, Takes, text_start};
+ghost use Rattle.kdl_diagnostics.specs.declared.whole.Whole.TheVariants.{Document};
 ghost use Rattle.kdl_text.specs.Failures.{IsSyntax, TellsOnSyntax};
 ghost use Rattle.std.specs.Prelude.{◌≡◌, ◌↔◌, true, IfOk};
 ghost use Rattle.std.specs.Str.{chars};
 
-use crate::front::skip_bom;
-use crate::told::failure;
-use crate::whole::Whole;
+use kdl_diagnostics::{Whole, failure};
 use kdl_syntax::{Control, LexFailure, NextToken, Phase, TokenKind, lexer};
 use kdl_text::cursor::{Cursor, Steps};
 use kdl_text::error::ParseFailure;
@@ -29,12 +28,19 @@ fn next_kind(cursor: &mut Cursor<'_>, alloc: Global) -> Result<Option<TokenKind>
     }
 }
 
+/// Advances past the U+FEFF that a document may begin with.
+fn skip_bom(cursor: &mut Cursor<'_>)
+    ensures { Takes (text_start Document) cursor.new.rest ↔ AcceptsDocument cursor.old.rest }
+{
+    let _ = cursor.eat('\u{feff}');
+}
+
 /// Returns whether the text is accepted as a document. Nothing of it is kept.
 fn is_accepted(alloc: Global, text: &str) -> Result<bool, AllocError>
     ensures { IfOk result (λ b. b ≡ true ↔ AcceptsDocument (chars text.now)) }
 {
     let mut cursor = Cursor::new(text, Steps::new());
-    skip_bom(Whole::Document, &mut cursor);
+    skip_bom(&mut cursor);
     let mut control = Control::new(alloc, Phase::Gap);
     'tokens: loop {
         let kind = match next_kind(&mut cursor, alloc) {
@@ -53,7 +59,7 @@ fn is_accepted(alloc: Global, text: &str) -> Result<bool, AllocError>
 
 /// Checks whether the text is accepted as a document. Returns `Syntax` with the faults of a refused text, which is read
 /// again for them, and `Memory` if an allocation fails.
-pub fn check(alloc: Global, text: &str) -> Result<(), ParseFailure>
+pub(crate) fn check(alloc: Global, text: &str) -> Result<(), ParseFailure>
     ensures accepted { IfOk result (λ _. AcceptsDocument (chars text.now)) }
     ensures refused { IsSyntax result → AcceptsDocument (chars text.now) → ⊥ }
     ensures told { TellsOnSyntax text.now result }

@@ -8,7 +8,7 @@ use Rattle.kdl_syntax.specs.declared.control.{Owner.TheVariants.Name as OfName, 
 use Rattle.kdl_syntax.specs.declared.control.Phase.TheVariants.{TypeDone, InNode}
 use Rattle.kdl_syntax.specs.declared.events.Event.{Event}
 use Rattle.kdl_syntax.specs.declared.lexer.TokenKind.{TokenKind}
-use Rattle.kdl_diagnostics.specs.Internal.Kinds.{IsLike}
+use Rattle.kdl.specs.Internal.Kinds.{IsLike}
 use Rattle.kdl_diagnostics.specs.TextControl.{TextControl, in_document, text_step, Takes}
 use Rattle.kdl_diagnostics.proofs.Accepting.{over, refuses, none_begins, at_end}
 use Rattle.kdl_diagnostics.proofs.FrontReads.{cut_shorter}

@@ -1,6 +1,6 @@
 use Rattle.kdl_syntax.specs.Internal.Views.{control_view}
-use Rattle.kdl_diagnostics.proofs.AcceptedLoop.{ended, faulty, next_refused, next_shorter, next_taken}
-use Rattle.kdl_diagnostics.proofs.acceptance.is_accepted.Goals as goal
+use Rattle.kdl.proofs.AcceptedLoop.{ended, faulty, next_refused, next_shorter, next_taken}
+use Rattle.kdl.proofs.acceptance.is_accepted.Goals as goal
 
 pub tokens-smaller : goal.tokens-smaller
 tokens-smaller c = next_shorter c.tokens.cursor.rest c.next_kind.new.cursor.rest c.in-Ok-Some.kind (rw c.in-Ok-Some.field-0-is at c.in-Ok-Some.ensures)
