@@ -290,7 +290,10 @@ const RETAINED: &[(&str, &str)] = &[
     ("b", ""),
     ("// one\nb // two\n// three\n", "// three\n"),
     ("a;b;c", "a;c"),
-    ("a // one\n// two\nb // three\nc // four", "a // one\nc // four"),
+    (
+        "a // one\n// two\nb // three\nc // four",
+        "a // one\nc // four",
+    ),
     ("b 1\na { b 2; }\n/-b 3\nb 4", "a { b 2; }\n"),
 ];
 
