@@ -1,7 +1,8 @@
 //! Measures `kdl` 6.7.1 and `toml_edit` on texts of KDL, with the columns of the table of crate `bench`.
 //!
 //! The arguments are files of KDL. `toml_edit` is given what `toml FILE` writes: TOML with the same data and comments.
-//! `once kdl FILE` and `once toml FILE` parse the file's text once, for a measure of memory around them.
+//! `once kdl FILE` and `once toml FILE` parse the file's text once, for a measure of memory around them; `cat kdl FILE`
+//! and `cat toml FILE` also print it.
 
 mod toml;
 
@@ -113,10 +114,12 @@ fn run() {
     let words: Vec<String> = env::args().skip(1).collect();
     let words: Vec<&str> = words.iter().map(String::as_str).collect();
     match words[..] {
-        [] => fail("peers FILE.. | toml FILE | once kdl|toml FILE"),
+        [] => fail("peers FILE.. | toml FILE | once kdl|toml FILE | cat kdl|toml FILE"),
         ["toml", file] => print!("{}", toml::of_document(&kdl_of(&read(file)))),
         ["once", "kdl", file] => drop(black_box(kdl_of(&read(file)))),
         ["once", "toml", file] => drop(black_box(toml_of(&read(file)))),
+        ["cat", "kdl", file] => print!("{}", kdl_of(&read(file))),
+        ["cat", "toml", file] => print!("{}", toml_of(&read(file))),
         _ => {
             println!("MB/s of the text; nanoseconds for a look-up");
             print!("{:<10}{:<24}{:>9}", "peer", "text", "bytes");

@@ -16,6 +16,7 @@ pub enum Call {
     ParseEntry,
     ParseIdentifier,
     ParseRefused,
+    Check,
     CloneDocument,
     CloneParts,
     CloneError,
@@ -41,13 +42,14 @@ pub enum Call {
 }
 
 /// All of them.
-pub static CALLS: [Call; 28] = [
+pub static CALLS: [Call; 29] = [
     Call::ParseDocument,
     Call::ParseCounted,
     Call::ParseNode,
     Call::ParseEntry,
     Call::ParseIdentifier,
     Call::ParseRefused,
+    Call::Check,
     Call::CloneDocument,
     Call::CloneParts,
     Call::CloneError,
@@ -81,6 +83,7 @@ pub fn answer(alloc: Global, text: &str, call: &Call) -> Result<String, AllocErr
         Call::ParseEntry => printed(alloc, KdlEntry::parse(alloc, " /-0 k = (t)\"\\u{e9}\" ")),
         Call::ParseIdentifier => printed(alloc, KdlIdentifier::parse(alloc, "#\"a b\"#")),
         Call::ParseRefused => refused(alloc),
+        Call::Check => checked(alloc, text),
         Call::CloneError => parts::error_copied(alloc),
         Call::Texts => made(alloc, text),
         Call::Float => float(alloc),
@@ -203,6 +206,22 @@ fn refused(alloc: Global) -> Result<String, AllocError> {
             error.diagnostics.len() as u64,
             "faults",
         ),
+    }
+}
+
+/// How many faults are found in the text, and in a text with three.
+fn checked(alloc: Global, text: &str) -> Result<String, AllocError> {
+    let own = faults_found(alloc, text)?;
+    let wrong = faults_found(alloc, parts::FAULTS)?;
+    format!(in alloc; "{own} and {wrong} faults")
+}
+
+/// How many faults are found in a text.
+fn faults_found(alloc: Global, text: &str) -> Result<usize, AllocError> {
+    match KdlDocument::check(alloc, text) {
+        Ok(()) => Ok(0),
+        Err(ParseFailure::Memory) => Err(AllocError),
+        Err(ParseFailure::Syntax(error)) => Ok(error.diagnostics.len()),
     }
 }
 

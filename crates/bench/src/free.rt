@@ -245,6 +245,8 @@ pub fn calls(alloc: Global, subjects: &mut Subjects) -> bool {
         all &= node_is_changed(alloc, server, names);
     }
     all &= entry_is_made(alloc, names) & names.is_empty();
+    document.retain_nodes(|node| node.children().is_none());
+    all &= document.nodes().is_empty();
     document.set_format(KdlDocumentFormat::new(alloc));
     document.clear_format();
     document.clear_format_recursive();

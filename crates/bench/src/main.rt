@@ -1,10 +1,10 @@
 //! Measures how fast documents are parsed, dropped, printed, formatted, copied, searched and queried, and how much
 //! memory they take.
 //!
-//! Without arguments it generates texts of five kinds and writes two tables to standard output: the speeds on 1 MB of
+//! Without arguments it generates texts of six kinds and writes two tables to standard output: the speeds on 1 MB of
 //! each, and on longer and longer ones. With file names as arguments it writes the first table for these files. `write
-//! KIND BYTES` writes such a text; `check BYTES` makes each call on a text of each kind, and writes the results without
-//! times, and then does what `refused` does.
+//! KIND BYTES` writes such a text; `cat FILE` parses, prints and drops a document; `check BYTES` makes each call on a
+//! text of each kind, and writes the results without times, and then does what `refused` does.
 //!
 //! `refused` makes each call that allocates on two short texts, and writes the results. `items` creates what the calls
 //! that do not allocate are made on. `calls` also makes these calls. `checks/refused` runs the three.
@@ -34,6 +34,15 @@ fn write(rt: &HostRuntime, name: &str, bytes: usize) -> io::Result<()> {
         }
     }
     Err(io::Error::from(ErrorKind::InvalidInput))
+}
+
+/// Parses the text of a file, prints the document, and drops it.
+fn cat(rt: &HostRuntime, name: &str) -> io::Result<()> {
+    let text = fs::read_to_string(rt, name)?;
+    match parsed(rt, &text)? {
+        Some(document) => rt.print(document.to_string(rt.alloc())?),
+        None => Err(io::Error::from(ErrorKind::InvalidInput)),
+    }
 }
 
 /// Makes each call on a text of each kind, and then each call that allocates on two short texts.
@@ -92,6 +101,7 @@ fn table_of(rt: &HostRuntime, names: &[&str]) -> io::Result<()> {
 fn perform(rt: &HostRuntime, words: &[&str]) -> io::Result<()> {
     match words {
         ["write", name, bytes] => write(rt, name, bytes.parse().unwrap_or(0)),
+        ["cat", name] => cat(rt, name),
         ["check", bytes] => check(rt, bytes.parse().unwrap_or(0)),
         ["refused"] => refused::take_some(rt),
         ["calls"] => refused::take_none(rt, true),

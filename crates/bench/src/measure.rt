@@ -17,6 +17,8 @@ const QUERY: &str =
 pub enum Call {
     Parse,
     ParseAndDrop,
+    /// Whether the text is a document, without creating it.
+    Check,
     Print,
     Strip,
     Fmt,
@@ -30,7 +32,7 @@ pub enum Call {
 }
 
 /// The calls whose time is proportional to the text, with the heads of their columns.
-pub const CALLS: [(&str, Call); 7] = [
+pub const CALLS: [(&str, Call); 8] = [
     ("parse", Call::Parse),
     ("and drop", Call::ParseAndDrop),
     ("print", Call::Print),
@@ -38,6 +40,7 @@ pub const CALLS: [(&str, Call); 7] = [
     ("fmt", Call::Fmt),
     ("clone", Call::Clone),
     ("query", Call::Query),
+    ("check", Call::Check),
 ];
 
 /// Returns the document of a text, or `None` if the text is not a document.
@@ -104,6 +107,10 @@ fn time_to_make(
         }
         Call::ParseAndDrop => {
             drop(parsed(rt, text)?);
+            start.elapsed(rt)
+        }
+        Call::Check => {
+            let _checked = KdlDocument::check(rt.alloc(), text).is_ok();
             start.elapsed(rt)
         }
         Call::Print => {

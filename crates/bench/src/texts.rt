@@ -1,4 +1,4 @@
-//! Texts of five kinds, always the same ones.
+//! Texts of six kinds, always the same ones.
 
 ghost use Rattle.std.specs.Prelude.{◌<◌};
 
@@ -19,12 +19,19 @@ pub struct Kind {
     depth: u32,
 }
 
-/// All of them: a little of everything, long strings, numbers in four bases, deep blocks, and comments.
-pub const KINDS: [Kind; 5] = [
+/// All of them: a little of everything, a name and a value on each line, long strings, numbers in four bases, deep
+/// blocks, and comments.
+pub const KINDS: [Kind; 6] = [
     Kind {
         name: "mixed",
         opening: "// The ◊ of the ◊, since ◊.\nservice-№ \"◊-□\" enabled=#true {\n    listen \"0.0.0.0\" port=(u16)□\n    certificate \"/etc/◊/◊-№.pem\" min-version=1.2\n    route \"/items/□\" to=◊ retries=□ /-sticky=#true\n    limits {\n        connections 1_024; timeout-ms □ /* at most */\n        load 0.□\n    }\n    /-debug { trace #false; }\n    labels ◊ eu-west \"◊ ◊\" \\\n        #\"C:\\◊\"# #null\n",
         closing: "}\n\n",
+        depth: 1,
+    },
+    Kind {
+        name: "flat",
+        opening: "◊-№ ◊\n◊-◊ \"◊ ◊ ◊\"\n◊.size □\n◊.№ #true\n◊-ratio □.□\n◊_path \"/◊/◊/□\"\n◊-mask 0x□f\n",
+        closing: "",
         depth: 1,
     },
     Kind {

@@ -6,14 +6,9 @@ use Rattle.std.proofs.lemmas.List.{map-append}
 use Rattle.kdl.specs.Words.{NodeData, Nodes, node_says, said_children, said_nodes}
 use Rattle.kdl.specs.declared.node.KdlNode.{KdlNode}
 use Rattle.kdl_grammar.specs.Data as data'
-use Rattle.c_calls.specs.Flat.{Item, RowsSay, end_item, flattened, head_items, node_items}
+use Rattle.c_calls.specs.Flat.{Item, RowsSay, end_item, flattened, head_items, listed, node_items}
 use Rattle.c_calls.specs.declared.row.KdlRow.{KdlRow}
 use Rattle.c_calls.proofs.FlatSteps.{none_said}
-
--- the items of nodes in a list
-abbrev pub listed : List NodeData → List Item
-listed [] = []
-listed (n ∷ ns) = node_items n ++ listed ns
 
 -- what follows the nodes at hand: for each block that is open, from the last on, an end and the nodes after it
 abbrev pub closed : List (List NodeData) → List Item → List Item
@@ -110,9 +105,16 @@ pub empty : {A : Type 0} (xs : List A) → length xs ≡ 0 → xs ≡ []
 empty [] e = refl
 empty (x ∷ xs) e = absurd (omega (arith, e))
 
-pub start : (rows : List KdlRow) (k : ℕ) (ss : List ℕ) (u : ℕ) (rest : List NodeData) (above : List (List NodeData)) (x : Nodes) → k ≡ 0 → rest ≡ said_nodes x → above ≡ [] → SoFar rows k ss u rest above (flattened x)
-start rows k ss u rest above x e r a = record {
+pub start : (rows : List KdlRow) (k : ℕ) (ss : List ℕ) (u : ℕ) (rest : List NodeData) (above : List (List NodeData)) → k ≡ 0 → above ≡ [] → SoFar rows k ss u rest above (listed rest)
+start rows k ss u rest above e a = record {
   items = [];
   say = subst (λ (n : ℕ). RowsSay rows n ss u []) (sym e) (none_said rows ss u);
-  left = ap (λ (z : List (List NodeData)). listed rest ++ closed z []) a ∙ append-nil (listed rest) ∙ ap listed r ∙ listed_said x;
+  left = ap (λ (z : List (List NodeData)). listed rest ++ closed z []) a ∙ append-nil (listed rest);
 }
+
+-- the nodes of a document, and one node
+pub of_document : (ns : List NodeData) (x : Nodes) → ns ≡ said_nodes x → listed ns ≡ flattened x
+of_document ns x e = ap listed e ∙ listed_said x
+
+pub of_node : (ns : List NodeData) (n : NodeData) → ns ≡ n ∷ [] → listed ns ≡ node_items n
+of_node ns n e = ap listed e ∙ append-nil (node_items n)

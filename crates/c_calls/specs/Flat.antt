@@ -28,6 +28,11 @@ abbrev mutual
   flattened data'.none = []
   flattened (data'.first n x) = node_items n ++ flattened x
 
+-- the items of nodes in a list
+abbrev pub listed : List NodeData → List Item
+listed [] = []
+listed (n ∷ ns) = node_items n ++ listed ns
+
 -- the row has the data of the item
 abbrev pub SaysItem : List ℕ → KdlRow → Item → Type 0
 SaysItem strings r (node_item n) = SaysNode strings r n

@@ -79,10 +79,10 @@ fn read_node(alloc: Global, text: &str) -> Reading
 fn read_document(alloc: Global, text: &str) -> Reading
     ensures { Outcome 0 text.now result }
 {
-    match KdlDocument::parse(alloc, text) {
+    match KdlDocument::check(alloc, text) {
         Err(ParseFailure::Syntax(error)) => Reading::Refused(error),
         Err(ParseFailure::Memory) => Reading::Memory,
-        Ok(_) => Reading::Read,
+        Ok(()) => Reading::Read,
     }
 }
 

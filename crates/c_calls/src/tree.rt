@@ -1,14 +1,15 @@
-//! The rows of a whole document.
+//! The rows of a whole document, or of one node with its block.
 
 ghost use Rattle.kdl.specs.Words.{document_says, node_says};
-ghost use Rattle.c_calls.specs.Flat.{Item, RowsSay, flattened, head_items};
+ghost use Rattle.c_calls.specs.Flat.{Item, RowsSay, flattened, head_items, listed, node_items};
 ghost use Rattle.c_calls.specs.Rows.{AreWithin};
 ghost use Rattle.c_calls.specs.Says.{IsWithin};
-ghost use Rattle.std.specs.Prelude.{◌≡◌, ◌≤◌, ◌+◌, ◌++◌, List, OnOk, length, slice_set};
+ghost use Rattle.std.specs.Prelude.{◌≡◌, ◌≤◌, ◌+◌, ◌++◌, List, OnOk, length, map, slice_set};
 
 use crate::row::{END, KdlRow, NO_VALUE, put_entry, put_node};
 use kdl::{KdlDocument, KdlNode};
 use std::alloc::{AllocError, Global};
+use std::slice;
 
 /// Returns the row that ends a block.
 fn end_row() -> KdlRow
@@ -68,16 +69,16 @@ fn put_node_rows(
     Ok(())
 }
 
-/// Appends the rows of all nodes: for each node its row, the rows of its entries and, if it has a block, the rows of
-/// its children and a row that ends the block.
+/// Appends the rows of nodes: for each node its row, the rows of its entries and, if it has a block, the rows of its
+/// children and a row that ends the block.
 ///
 /// Rows and texts that do not fit are not written, but counted in `count` and `used`.
 ///
 /// Uses a stack on the heap instead of recursion, so that no depth of blocks overflows the call stack. Returns an error
 /// if an allocation fails.
-pub fn put_tree(
+fn put_nodes(
     alloc: Global,
-    document: &KdlDocument,
+    nodes: &[KdlNode],
     rows: &mut [KdlRow],
     count: &mut usize,
     strings: &mut [u8],
@@ -86,10 +87,10 @@ pub fn put_tree(
     ensures within { OnOk result (AreWithin rows.old count.old strings.old used.old
         → AreWithin rows.new count.new strings.new used.new) }
     ensures says { count.old ≡ 0 → used.old ≡ 0 → OnOk result (RowsSay rows.new count.new
-        strings.new used.new (flattened (document_says document.now))) }
+        strings.new used.new (listed (map node_says nodes.now))) }
 {
     let mut above: Vec<&[KdlNode]> = Vec::new(alloc);
-    let mut rest = document.nodes();
+    let mut rest = nodes;
     for _ in 0..u64::MAX {
         if let Some((node, after)) = rest.split_first() {
             put_node_rows(alloc, node, rows, count, strings, used)?;
@@ -109,4 +110,38 @@ pub fn put_tree(
         }
     }
     Err(AllocError)
+}
+
+/// Appends the rows of all nodes of a document, as `put_nodes` does.
+pub fn put_tree(
+    alloc: Global,
+    document: &KdlDocument,
+    rows: &mut [KdlRow],
+    count: &mut usize,
+    strings: &mut [u8],
+    used: &mut usize,
+) -> Result<(), AllocError>
+    ensures within { OnOk result (AreWithin rows.old count.old strings.old used.old
+        → AreWithin rows.new count.new strings.new used.new) }
+    ensures says { count.old ≡ 0 → used.old ≡ 0 → OnOk result (RowsSay rows.new count.new
+        strings.new used.new (flattened (document_says document.now))) }
+{
+    put_nodes(alloc, document.nodes(), rows, count, strings, used)
+}
+
+/// Appends the rows of one node, as `put_nodes` does.
+pub fn put_node_tree(
+    alloc: Global,
+    node: &KdlNode,
+    rows: &mut [KdlRow],
+    count: &mut usize,
+    strings: &mut [u8],
+    used: &mut usize,
+) -> Result<(), AllocError>
+    ensures within { OnOk result (AreWithin rows.old count.old strings.old used.old
+        → AreWithin rows.new count.new strings.new used.new) }
+    ensures says { count.old ≡ 0 → used.old ≡ 0 → OnOk result (RowsSay rows.new count.new
+        strings.new used.new (node_items (node_says node.now))) }
+{
+    put_nodes(alloc, slice::from_ref(node), rows, count, strings, used)
 }

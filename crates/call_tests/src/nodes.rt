@@ -283,3 +283,32 @@ fn nodes_taken_out(rt: HostRuntime) {
     }
     drop(document);
 }
+
+/// A text, and what is printed once its nodes of the name `b` are removed.
+const RETAINED: &[(&str, &str)] = &[
+    ("", ""),
+    ("b", ""),
+    ("// one\nb // two\n// three\n", "// three\n"),
+    ("a;b;c", "a;c"),
+    (
+        "a // one\n// two\nb // three\nc // four",
+        "a // one\nc // four",
+    ),
+    ("b 1\na { b 2; }\n/-b 3\nb 4", "a { b 2; }\n"),
+];
+
+#[test]
+fn nodes_retained(rt: HostRuntime) {
+    let alloc = rt.alloc();
+    for (text, printed) in RETAINED {
+        let mut document = read(&rt, alloc, text);
+        let mut seen: usize = 0;
+        let count = document.nodes().len();
+        document.retain_nodes(|node| {
+            seen = seen.saturating_add(1);
+            node.name().value() != "b"
+        });
+        equal(&rt, &seen, &count);
+        reads_back(&rt, alloc, &document, printed);
+    }
+}

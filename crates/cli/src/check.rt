@@ -115,8 +115,8 @@ pub fn check_file<S: Store, O: Write, E: Write>(
             };
         }
     };
-    match KdlDocument::parse(alloc, &text) {
-        Ok(_) => Checked::Sound,
+    match KdlDocument::check(alloc, &text) {
+        Ok(()) => Checked::Sound,
         Err(ParseFailure::Syntax(error)) => {
             match faults(alloc, name, &text, &error, style) {
                 Ok(faults) => print(world, name, &faults, error.diagnostics.len()),

@@ -22,6 +22,10 @@ pub mod PiecesExchanged
 pub mod LaidFormats
 -- What a document, or a node, that was read says of the grammar.
 pub mod ParseAnswers
+-- The loop over the kinds of the tokens of a document.
+pub mod AcceptedLoop
+-- A text is accepted by the control of documents exactly if it is derived.
+pub mod Checking
 -- What edits make of nodes and documents that read back.
 pub mod ReadingBack
 -- A node, and a document, with another span is equal to what it was.

@@ -4,6 +4,8 @@ pub mod NodeEnds
 pub mod Puts
 -- Documents that read back, with a node put in or taken out.
 pub mod PutReads
+-- Documents that read back, with some of their nodes.
+pub mod Retained
 -- Documents and blocks that read back, with a node put in.
 pub mod DocumentReads
 -- Nodes that read back, with a child put into their block, or into a new one.

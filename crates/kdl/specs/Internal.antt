@@ -2,6 +2,8 @@
 
 -- How many documents and nodes there are in documents and nodes: the measure by which dropping ends.
 pub mod Count
+-- The kinds of tokens for a control.
+pub mod Kinds
 -- Nodes that are due to be cleared, and what clearing does to one of them.
 pub mod Due
 -- The newlines that nodes lack at their ends.

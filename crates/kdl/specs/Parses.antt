@@ -50,3 +50,12 @@ pub record ParsesNodeText (t : List ℕ) (r : Result KdlNode ParseFailure) : Typ
   pub kept : (x : data'.Node) → IsFormerNodeText (chars t) x → IsSyntax r → ⊥
   pub former : (x : data'.Node) → IsFormerNodeText (chars t) x → IfOk r (λ n. node_says n ≡ x)
   pub reads : IfOk r (λ n. NodeReadsBack n)
+
+-- what a check promises of a text and its result
+pub record ChecksDocument (t : List ℕ) (r : Result (Unit {0}) ParseFailure) : Type 0 where
+  -- an accepted text is derived with some data
+  pub found : IfOk r (λ _. (x : Nodes) × IsDocument (chars t) x)
+  -- a refused text is not derived, not by the former language either, and the error has the spans of its faults
+  pub refused : IsSyntax r → (x : Nodes) → IsDocument (chars t) x → ⊥
+  pub told : TellsOnSyntax t r
+  pub kept : (x : Nodes) → IsFormerDocument (chars t) x → IsSyntax r → ⊥

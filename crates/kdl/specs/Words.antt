@@ -48,7 +48,7 @@ pub use Rattle.kdl_grammar.specs.Grammar.{IsDocument, IsNodeText}
 pub use Rattle.kdl_grammar.specs.Laid.{LaidDocument, LaidNodeText}
 pub use Rattle.kdl_grammar.specs.Former.{IsFormerDocument, IsFormerNodeText}
 -- What parsing promises.
-pub use Rattle.kdl.specs.Parses.{ParsesDocument, ParsesNodeText}
+pub use Rattle.kdl.specs.Parses.{ChecksDocument, ParsesDocument, ParsesNodeText}
 -- Which edits of a document keep its text in the grammar.
 pub use Rattle.kdl_grammar.specs.Edited.{EachDocument, IsEdited}
 -- The fields of a node or a document in memory.

@@ -55,6 +55,7 @@
 //! its last one. What `KdlNode::parse` or `KdlEntry::parse` returns spans the whole text.
 #![tactic(auto)]
 
+mod acceptance;
 mod clear;
 mod clone;
 mod document;

@@ -1,11 +1,12 @@
 //! Documents and nodes, read from a text.
 
-ghost use Rattle.kdl.specs.Parses.{ParsesDocument, ParsesNodeText};
+ghost use Rattle.kdl.specs.Parses.{ChecksDocument, ParsesDocument, ParsesNodeText};
 ghost use Rattle.kdl_text.specs.Failures.{IsSyntax};
 ghost use Rattle.kdl_text.specs.Spans.{raise};
 ghost use Rattle.std.specs.Prelude.{◌+◌, ◌*◌, ◌≤◌, length, OnOk};
 ghost use Rattle.std.specs.Str.{chars};
 
+use crate::acceptance::check;
 use crate::document::KdlDocument;
 use crate::node::KdlNode;
 use kdl_parser::{read_document, read_node_text};
@@ -60,6 +61,21 @@ impl KdlDocument {
             Ok(parts) => Ok(KdlDocument::from_parts(parts)),
             Err(failure) => Err(failure),
         }
+    }
+
+    /// Checks whether a text is a document, and creates none. This takes about a third of the time of `parse`.
+    ///
+    /// Returns `Syntax`, with the same faults as `parse`, if the text is not a document. Returns `Memory` if an
+    /// allocation fails.
+    ///
+    /// ```
+    /// let checked = KdlDocument::check(alloc, "host localhost\n"); // `Ok`
+    /// let refused = KdlDocument::check(alloc, "host }\n"); // `Syntax`, at the `}`
+    /// ```
+    pub fn check(alloc: Global, text: &str) -> Result<(), ParseFailure>
+        ensures { ChecksDocument text.now result }
+    {
+        check(alloc, text)
     }
 
     /// Parses a document of KDL 2, as `parse` does.

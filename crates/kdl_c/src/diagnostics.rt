@@ -49,13 +49,13 @@ pub extern "C" fn kdl_faults(
     let Ok(text) = std::str::from_utf8(text) else {
         return NOT_UTF8;
     };
-    match KdlDocument::parse(alloc, text) {
+    match KdlDocument::check(alloc, text) {
         Err(ParseFailure::Memory) => OUT_OF_MEMORY,
         Err(ParseFailure::Syntax(error)) => {
             put_faults(&error.diagnostics, out, count, strings, string_len);
             FAULTS
         }
-        Ok(_) => OK,
+        Ok(()) => OK,
     }
 }
 
@@ -141,12 +141,12 @@ pub extern "C" fn kdl_reports(
     let Ok(text) = std::str::from_utf8(text) else {
         return NOT_UTF8;
     };
-    match KdlDocument::parse(alloc, text) {
+    match KdlDocument::check(alloc, text) {
         Err(ParseFailure::Memory) => OUT_OF_MEMORY,
         Err(ParseFailure::Syntax(error)) => {
             put_reports(&error.diagnostics, out, count, strings, string_len);
             FAULTS
         }
-        Ok(_) => OK,
+        Ok(()) => OK,
     }
 }

@@ -6,7 +6,7 @@ use crate::dump::Dump;
 use crate::fault::Fault;
 use crate::item::Item;
 use kdl::{KdlDiagnostic, KdlDocument, KdlError, ParseFailure, Steps};
-use kdl_diagnostics::{Whole, faults};
+use kdl_diagnostics::{Whole, failure, faults};
 use std::alloc::AllocError;
 
 /// Adds the lines that the text yields, and returns whether it is accepted.
@@ -17,10 +17,10 @@ pub fn answer(case: &Case<'_>, whole: Whole, dump: &mut Dump) -> Result<bool, Fa
     }
 }
 
-/// Checks that the item prints the text, in which there is no fault. Adds the lines of the item.
+/// Checks that the item prints the text, in which no fault is found. Adds the lines of the item.
 fn is_accepted(case: &Case<'_>, whole: Whole, item: &Item, dump: &mut Dump) -> Result<bool, Fault> {
     prints(case, &item.printed(case.alloc())?, case.text)?;
-    agrees(case, whole, false)?;
+    agrees(case, whole, None)?;
     dump.text("accepted", case.text);
     item.add_to(dump);
     Ok(true)
@@ -39,7 +39,7 @@ fn is_refused(
     if !is_told(error, case.text) {
         return Err(case.differs("a place in the text", "none"));
     }
-    agrees(case, whole, true)?;
+    agrees(case, whole, Some(error))?;
     dump.text("refused", case.text);
     dump.diagnostics(&error.diagnostics);
     Ok(false)
@@ -53,14 +53,37 @@ pub fn prints(case: &Case<'_>, printed: &str, text: &str) -> Result<(), Fault> {
     Err(case.differs(text, printed))
 }
 
-/// Checks that a fault is found in the text, read as a whole of the kind, exactly if it is refused.
-fn agrees(case: &Case<'_>, whole: Whole, is_refused: bool) -> Result<(), Fault> {
-    let faults = faults(case.alloc(), case.text, whole, &mut Steps::new())?;
-    match (faults.is_empty(), is_refused) {
-        (true, true) => Err(case.differs("faults", "none")),
-        (false, false) => Err(case.differs("no faults", "some")),
-        (_, _) => Ok(()),
+/// Checks that no fault is found in an accepted text, and those of the error in a refused one.
+fn agrees(case: &Case<'_>, whole: Whole, error: Option<&KdlError>) -> Result<(), Fault> {
+    match (checked(case, whole), error) {
+        (Err(ParseFailure::Memory), _) => Err(Fault::from(AllocError)),
+        (Ok(()), None) => Ok(()),
+        (Err(ParseFailure::Syntax(found)), Some(error)) if have_one_list(&found, error) => Ok(()),
+        (Ok(()), Some(_)) => Err(case.differs("faults", "none")),
+        (Err(ParseFailure::Syntax(_)), None) => Err(case.differs("no faults", "some")),
+        (Err(ParseFailure::Syntax(_)), Some(_)) => Err(case.differs("its faults", "others")),
     }
+}
+
+/// Checks the text, without creating the item.
+fn checked(case: &Case<'_>, whole: Whole) -> Result<(), ParseFailure> {
+    if let Whole::Document = whole {
+        return KdlDocument::check(case.alloc(), case.text);
+    }
+    if faults(case.alloc(), case.text, whole, &mut Steps::new())?.is_empty() {
+        return Ok(());
+    }
+    Err(failure(case.alloc(), case.text, whole, &mut Steps::new()))
+}
+
+/// Whether both errors have the same faults.
+fn have_one_list(one: &KdlError, other: &KdlError) -> bool {
+    let mut all = one.diagnostics.len() == other.diagnostics.len();
+    for (fault, same) in one.diagnostics.iter().zip(other.diagnostics.iter()) {
+        all &= fault.span == same.span && fault.message == same.message;
+        all &= fault.label == same.label && fault.help == same.help;
+    }
+    all
 }
 
 /// The number of diagnostics whose text is compared: to compare all would take too long for a text with many faults.

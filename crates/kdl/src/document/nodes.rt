@@ -11,7 +11,9 @@ ghost use Rattle.kdl.specs.Tree.{document_prints, document_says, document_tree, 
 ghost use Rattle.kdl.specs.declared.document.KdlDocument.{out-KdlDocument};
 ghost use Rattle.kdl_grammar.specs.Print.{trailing_text};
 ghost use Rattle.kdl_value.specs.Tree.{text_of};
+ghost use Rattle.std.specs.Fn.{CalledAt};
 ghost use Rattle.std.specs.List.{insert, remove};
+ghost use Rattle.std.specs.List.Retain.{IsFiltered};
 ghost use Rattle.std.specs.Prelude.{◌≡◌, ◌≢◌, ◌<◌, ◌≤◌, ◌++◌, [], IfErr, IfOk, MatchBool, OnErr, OnOk, Some, if◌then◌else◌, is_ok, length, option_map, slice_get};
 
 use crate::document::KdlDocument;
@@ -103,6 +105,23 @@ impl KdlDocument {
             → DocumentReadsBack self.new × NodeReadsBack result }
     {
         self.nodes.remove(index)
+    }
+
+    /// Retains, in order, the nodes for which `keep` returns true, in one pass. `keep` is called exactly once for each
+    /// node, in order. All that the other nodes print is removed, as by `remove_node`, and no other text.
+    ///
+    /// ```
+    /// let mut document = KdlDocument::parse(alloc, "a 1\nb\n// two\na 2\n")?;
+    /// document.retain_nodes(|node| node.name().value() == "a"); // prints "a 1\n// two\na 2\n"
+    /// ```
+    pub fn retain_nodes<F: FnMut(&KdlNode) -> bool>(&mut self, keep: F)
+        requires { F.IsAlwaysCallable keep }
+        ensures nodes { IsFiltered (CalledAt F.FnMut) keep
+            (nodes_of self.old) (nodes_of self.new) }
+        ensures rest { self.new ≡ with_nodes self.old (held_nodes self.new) }
+        ensures reads { DocumentReadsBack self.old → DocumentReadsBack self.new }
+    {
+        self.nodes.retain(keep);
     }
 
     /// Inserts the node before the one at the index, or after the last one. The document is a whole text, if its end

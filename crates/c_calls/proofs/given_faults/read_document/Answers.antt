@@ -1,7 +1,7 @@
 use Rattle.std.proofs.Common.{rules, arith}
 use mathlib.Core.Path.{subst}
 use Rattle.std.specs.Str.{chars}
-use Rattle.kdl.specs.Words.{IsDocument, Nodes, Tells, document_says}
+use Rattle.kdl.specs.Words.{IsDocument, Nodes, Tells}
 use Rattle.kdl_text.specs.Failures.{TellsOf}
 use Rattle.c_calls.proofs.given_faults.read_document.Goals as goal
 
@@ -13,4 +13,4 @@ returns-in-Err-Syntax c =
     (tells, λ w. refused w.0 w.1, λ k. absurd (omega (arith, k)))
 
 pub returns : goal.returns
-returns c = (document_says c.in-Ok.field-0, c.in-Ok.ensures.found)
+returns c = c.in-Ok.ensures.found
