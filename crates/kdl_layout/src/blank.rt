@@ -242,6 +242,7 @@ pub(crate) fn past_node(terminator: &str) -> Before
 }
 
 /// Returns what comes before the thing after a text whose items are removed or written, as the configuration says.
+#[inline(never)]
 pub(crate) fn past_items(
     config: &FormatConfig,
     before: Before,
@@ -278,6 +279,7 @@ pub(crate) fn push_empty_lines(
 
 /// Appends a line for each item of a text, after at most `number` of the blank lines before it. Returns what comes
 /// before the next thing.
+#[inline(never)]
 pub(crate) fn push_spaced_lines(
     out: &mut String,
     number: usize,

@@ -10,6 +10,7 @@ use kdl_text::chars::is_space;
 
 /// Returns whether each character of the text is one of the 18 spaces (KDL 2.0.0, Whitespace). Returns `true` if the
 /// text is empty.
+#[inline(always)]
 pub fn is_kdl_space(text: &str) -> bool
     ensures { result ≡ list_all class.is_space (chars text.now) }
 {

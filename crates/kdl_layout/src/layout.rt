@@ -86,6 +86,7 @@ fn is_blank_gap(text: &str) -> bool
 }
 
 /// Returns whether it is clear at once that nothing is kept of a text between nodes, and nothing is counted in it.
+#[inline(always)]
 fn adds_nothing(layout: &Layout, place: &str) -> bool
     ensures { IsTrue result → (level : ℕ) (b : Before)
         → KeepsLines layout.now level b (chars place.now) [] b }
@@ -104,6 +105,7 @@ fn adds_nothing(layout: &Layout, place: &str) -> bool
 
 /// Returns what is kept of a text between nodes: a line for each item, after the blank lines before it and the text
 /// `margin`. If blank lines are kept, sets `before` to what comes before the next thing.
+#[inline(always)]
 fn lines_between(
     alloc: Global,
     layout: &Layout,
@@ -141,6 +143,7 @@ fn lines_between(
 }
 
 /// Returns what is kept of a text in a node: each item after a space.
+#[inline(always)]
 fn kept_tail(
     alloc: Global,
     config: &FormatConfig,
@@ -164,6 +167,7 @@ fn kept_tail(
 }
 
 /// Returns what is kept of the text before an entry.
+#[inline(always)]
 fn kept_before(alloc: Global, config: &FormatConfig, entry: &KdlEntry) -> Result<String, AllocError>
     ensures { IfOk result (λ t. KeptBefore (settings config.now) (entry_tree entry.now).format
         (text_of t)) }
@@ -188,6 +192,7 @@ fn printed(alloc: Global, value: &KdlValue) -> Result<String, AllocError>
 
 /// Returns the format of an entry after what is kept of the text before it: `kept` and a space, and the value as it is
 /// printed. If `kept` is empty, returns `None`.
+#[inline(always)]
 fn format_after(
     alloc: Global,
     entry: &KdlEntry,
@@ -303,6 +308,7 @@ pub fn lay_out_entries(entries: &mut Vec<KdlEntry>, layout: &Layout) -> Result<(
 
 /// Returns `kept` with `more` appended. If `kept` is empty, reserves room for `more` in the memory of `old`, and returns
 /// `None`. The text `old` does not change.
+#[inline(always)]
 fn prepare(mut kept: String, old: &mut String, more: &str) -> Result<Option<String>, AllocError>
     ensures same { text_of old.new ≡ text_of old.old }
     ensures ready { IfOk result (λ o. MatchOption o
@@ -319,6 +325,7 @@ fn prepare(mut kept: String, old: &mut String, more: &str) -> Result<Option<Stri
 }
 
 /// Puts a new text in place of an old one. If it is `None`, puts `more` there, in the memory of the old text.
+#[inline(always)]
 fn put(old: &mut String, new: Option<String>, more: &str)
     requires { MatchOption new (length more.now ≤ string_capacity old.old) (λ s. Unit {0}) }
     ensures { MatchOption new (text_of old.new ≡ chars more.now)
@@ -335,6 +342,7 @@ fn put(old: &mut String, new: Option<String>, more: &str)
 
 /// Returns what is kept of the text before the block of a node, if the place before its terminator is `last`. Without a
 /// block, nothing is kept.
+#[inline(always)]
 fn kept_before_block(
     alloc: Global,
     config: &FormatConfig,
@@ -351,6 +359,7 @@ fn kept_before_block(
 }
 
 /// Returns the line comment that the whole text is, without its newline, or `None` if the text is not one.
+#[inline(never)]
 fn line_comment(text: &str) -> Option<&str>
     ensures { MatchOption result (LineComment (chars text.now) [] → ⊥)
         (λ comment. LineComment (chars text.now) []
@@ -371,6 +380,7 @@ fn line_comment(text: &str) -> Option<&str>
 }
 
 /// Returns what is kept of a terminator: if it is a line comment, the comment without its newline.
+#[inline(always)]
 fn kept_end<'a>(config: &FormatConfig, terminator: &'a str) -> Option<&'a str>
     ensures { MatchOption result (KeptEnd config.now.no_comments (chars terminator.now) [] [])
         (λ comment. KeptEnd config.now.no_comments (chars terminator.now) (32 ∷ [])
@@ -385,6 +395,7 @@ fn kept_end<'a>(config: &FormatConfig, terminator: &'a str) -> Option<&'a str>
 /// Returns the text before the terminator of a node, and what comes before the newline that is its terminator. `last` is
 /// what is kept of the text before the terminator. If the old terminator is a line comment that is kept, a space follows
 /// `last`, and the comment comes before the newline.
+#[inline(always)]
 fn line_end(
     alloc: Global,
     config: &FormatConfig,
@@ -404,6 +415,7 @@ fn line_end(
 }
 
 /// Returns what is kept of the text before a node, and the blank lines before the node.
+#[inline(always)]
 fn before_node(
     alloc: Global,
     layout: &Layout,

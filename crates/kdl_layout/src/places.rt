@@ -108,6 +108,7 @@ pub(crate) fn read_gap<'a>(
 /// after it are not part of it.
 ///
 /// Returns an error if an allocation fails.
+#[inline(never)]
 pub fn gap_items<'a>(alloc: Global, text: &'a str) -> Result<Option<Vec<Item<'a>>>, AllocError>
     ensures { IfOk result (λ o. IsGapWith (chars text.now)
         (option_map (λ v. items_view v.items) o)) }
@@ -207,6 +208,7 @@ pub(crate) fn read_place<'a>(
 /// the place.
 ///
 /// Returns an error if an allocation fails.
+#[inline(never)]
 pub fn place_items<'a>(
     alloc: Global,
     place: Place,

@@ -47,6 +47,7 @@ fn push_line(out: &mut String, before: &str, item: Item) -> Result<(), AllocErro
 
 /// Appends a line for each item, after the text `before`. A CR at the end of an item, which ends an escline, is written
 /// as LF: with the newline after it, it would be one newline.
+#[inline(never)]
 pub fn push_lines(out: &mut String, before: &str, items: &[Item]) -> Result<(), AllocError>
     ensures { OnOk result (text_of out.new ≡ text_of out.old ++ lines (chars before.now)
         (items_view items.now)) }
@@ -75,6 +76,7 @@ fn push_after_space(out: &mut String, item: Item) -> Result<(), AllocError>
 }
 
 /// Appends each item after a space. A line comment is written as the end of an escline.
+#[inline(never)]
 pub fn push_tail(out: &mut String, items: &[Item]) -> Result<(), AllocError>
     ensures { OnOk result (text_of out.new ≡ text_of out.old ++ tail (items_view items.now)) }
 {

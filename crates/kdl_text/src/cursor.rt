@@ -258,6 +258,9 @@ impl<'a> Piece<'a> {
     pub fn to_string(&self, alloc: Global) -> Result<String, AllocError>
         ensures { IfOk result (λ s. chars (string_bytes s) ≡ self.now) }
     {
+        if self.text.len() == 1 {
+            return String::from_str(alloc, &self.text[..1]);
+        }
         String::from_str(alloc, self.text)
     }
 

@@ -1,13 +1,16 @@
 //! Runs of ASCII characters of a class, 16 bytes at a time.
 
 ghost use Rattle.kdl_text.specs.Internal.Tables.{outside, column_of, row_of, InsideLen};
-ghost use Rattle.std.specs.Prelude.{◌≡◌, map, not};
+ghost use Rattle.std.specs.Prelude.{◌≡◌, ◌<◌, length, map, not};
 ghost use Rattle.std.specs.Simd.Lanes.{mask_l};
 
 use std::simd::prelude::*;
 
 /// The bit of each row of a table of ASCII characters. A byte above ASCII is in no row.
 const ROW_BITS: [u8; 16] = [1, 2, 4, 8, 16, 32, 64, 128, 0, 0, 0, 0, 0, 0, 0, 0];
+
+/// A byte that is in no table.
+const OUTSIDE: u8 = 255;
 
 #[inline(always)]
 fn columns(v: u8x16, table: u8x16) -> u8x16
@@ -56,8 +59,16 @@ pub fn inside_len(bytes: &[u8], table: &[u8; 16]) -> usize
         }
         count += 16;
     }
-    'rest: while count < bytes.len() && is_inside(bytes[count], table) {
-        count += 1;
-    }
-    count
+    count + inside_front(&bytes[count..], columns)
+}
+
+/// Returns the number of bytes at the front that are in the table, of fewer than 16 bytes.
+#[inline(always)]
+fn inside_front(bytes: &[u8], columns: u8x16) -> usize
+    requires { length bytes.now < 16 }
+    ensures { InsideLen columns bytes.now result }
+{
+    let mut lanes = [OUTSIDE; 16];
+    lanes[..bytes.len()].copy_from_slice(bytes);
+    outsiders(u8x16::from_array(lanes), columns).trailing_zeros() as usize
 }

@@ -18,10 +18,11 @@ use std::fmt::{Formatter, Write};
 pub fn write_text<W: Write>(text: &str, f: &mut Formatter<W>) -> fmt::Result
     ensures { WritesOnOk W.write_str_gives f.old result (encode_utf8_all (chars text.now)) f.new }
 {
-    if text.is_empty() {
-        return Ok(());
+    match text.len() {
+        0 => Ok(()),
+        1 => f.write_str(&text[..1]),
+        _ => f.write_str(text),
     }
-    f.write_str(text)
 }
 
 /// Writes a word, which is ASCII.

@@ -1,7 +1,7 @@
 //! The tool itself, over any reader and any writer.
 #![tactic(auto)]
 
-ghost use Rattle.std.specs.Prelude.{◌≡◌, ◌↔◌, ◌||◌, true, IfOk, IfSome, IsTrue, MatchOption, SomeIff, OnOk, ◌≤◌, chars, length, map, take, flat_map, decimal, encode_utf8_all, option_map, string_bytes};
+ghost use Rattle.std.specs.Prelude.{◌≡◌, ◌↔◌, ◌||◌, ◌++◌, true, IfOk, IfSome, IsTrue, MatchOption, SomeIff, OnOk, ◌≤◌, chars, length, map, take, flat_map, decimal, encode_utf8_all, option_map, string_bytes};
 ghost use Rattle.kdl_text.specs.Failures.{IsSyntax, TellsOnSyntax};
 ghost use Rattle.kdl.specs.Said.{said_arg};
 ghost use Rattle.kdl.specs.Tree.{document_prints, document_says};
@@ -16,11 +16,15 @@ pub mod watched;
 use crate::watched::Watched;
 use kdl::{KdlDiagnostic, KdlDocument, KdlError, ParseFailure};
 use std::alloc::{AllocError, Global};
+use std::fmt::Write as _;
 use std::io::{Read, Write};
 use std::mem;
 
 /// The number of bytes requested at a time.
-const READ_SIZE: usize = 65536;
+const READ_SIZE: usize = 4096;
+
+/// The number of bytes that the input has room for at first. A list of this size grows in place, without being copied.
+const INPUT_SIZE: usize = 262_144;
 
 /// The greatest number of decimal digits of a `usize`.
 const MOST_DIGITS: usize = 20;
@@ -147,7 +151,9 @@ fn read_whole<R: Read>(alloc: Global, reader: &mut Watched<R>) -> Result<Vec<u8>
     ensures failed { reader.new.failed ≡ (is_unread_failed result || reader.old.failed) }
     ensures stops { StopsAtFailure reader.old reader.new }
 {
-    let mut input = Vec::new(alloc);
+    let Ok(mut input) = Vec::with_capacity(alloc, INPUT_SIZE) else {
+        return Err(Unread::Memory);
+    };
     let mut buffer = [0u8; READ_SIZE];
     loop {
         match reader.read(&mut buffer) {
@@ -202,26 +208,34 @@ fn output(alloc: Global, command: Command<'_>, text: &str) -> Result<Option<Stri
 {
     let mut document = KdlDocument::parse(alloc, text)?;
     match command {
-        Command::Cat => Ok(Some(printed(alloc, document)?)),
+        Command::Cat => {
+            let out = String::with_capacity(alloc, text.len())?;
+            Ok(Some(printed(out, document)?))
+        }
         Command::Fmt => {
+            let out = String::with_capacity(alloc, text.len())?;
             document.autoformat()?;
-            Ok(Some(printed(alloc, document)?))
+            Ok(Some(printed(out, document)?))
         }
         Command::Strip => {
+            let out = String::with_capacity(alloc, text.len())?;
             document.autoformat_no_comments()?;
-            Ok(Some(printed(alloc, document)?))
+            Ok(Some(printed(out, document)?))
         }
         Command::Get(name) => Ok(value_line(alloc, &document, name)?),
     }
 }
 
-/// Returns the text of the document. The end of the process frees the document, which is faster.
-fn printed(alloc: Global, document: KdlDocument) -> Result<String, AllocError>
-    ensures { IfOk result (λ s. string_bytes s ≡ encode_utf8_all (document_prints document)) }
+/// Appends the text of the document. The end of the process frees the document, which is faster.
+fn printed(mut out: String, document: KdlDocument) -> Result<String, AllocError>
+    ensures { IfOk result (λ s. string_bytes s
+        ≡ string_bytes out ++ encode_utf8_all (document_prints document)) }
 {
-    let text = document.to_string(alloc)?;
+    if write!(out, "{document}").is_err() {
+        return Err(AllocError);
+    }
     mem::forget(document);
-    Ok(text)
+    Ok(out)
 }
 
 /// The value of the first argument of the first node of that name, on a line.

@@ -1,7 +1,8 @@
 -- Vectors of 16 bytes, and the bytes that they find in a table of ASCII characters.
-use Rattle.std.proofs.Common.{◌≡◌, ℕ, suc, ◌+◌, ◌*◌, ◌/◌, ◌%◌, ◌^◌, ◌<◌, ◌≤◌, Bool, true, false, not, cond, eqb, List, [], ◌∷◌, map, length, get_or, replicate, refl, sym, ap, ◌∙◌, arith, bit_and, w8, Fits, inl, inr}
-use Rattle.std.proofs.lemmas.Bool.{cases_lt}
-use Rattle.std.proofs.lemmas.List.{get_or-map, length-map, ext_get_or}
+use Rattle.std.proofs.Common.{◌≡◌, ℕ, suc, ◌+◌, ◌-◌, ◌*◌, ◌/◌, ◌%◌, ◌^◌, ◌<◌, ◌≤◌, Bool, true, false, not, cond, eqb, List, [], ◌∷◌, drop, map, length, get_or, replicate, refl, sym, ap, subst, ◌∙◌, ◌++◌, arith, bit_and, w8, Fits, inl, inr}
+use Rattle.std.proofs.lemmas.Bool.{cases_lt, eq-eqb, not-true, not-false}
+use Rattle.std.proofs.lemmas.List.{get_or-map, get_or-drop, length-map, length-drop, ext_get_or}
+use Rattle.std.proofs.lemmas.List.Sums.{prefix_len-le-length, prefix_len_passes, prefix_len_stops}
 use Rattle.std.proofs.lemmas.Nat.{and_le_r}
 use Rattle.std.proofs.lemmas.Simd.{Each1-all, Each1-weaker, Each1-zip2, Each1-get_or, Each2-splat, below_from_Fits, length-zip2, zip2-map, map-map, zip2_splat, bitmask_splat, swz_l, SwzOk, SwzOk-from_below, length-swz_l, get_or-swz_l_below, length-chunk, trailing_mask_l, none_from_empty_mask, run_in_chunk_le, run_in_chunk_fails, run_in_chunk_stops}
 use Rattle.std.specs.List.{prefix_len}
@@ -83,3 +84,40 @@ first_found p s n m room is some below =
       inside = none_before p s n m room is some below;
       stops = λ _. run_in_chunk_stops p s n 16 _ 0 room r short;
     }
+
+-- a mask of bytes among which one passes p
+some_at : (p : ℕ → Bool) (s r : List ℕ) (x : ℕ) → p x ≡ true → 0 < mask_l (map p (s ++ x ∷ r))
+some_at p [] r x at = subst (λ b. 0 < cond b 1 0 + 2 * mask_l (map p r)) (sym at) (omega arith)
+some_at p (y ∷ s) r x at = omega (arith, some_at p s r x at)
+
+before_seam : (q : ℕ → Bool) (s r : List ℕ) (x : ℕ) → q x ≡ false → prefix_len q (s ++ x ∷ r) ≡ prefix_len q s
+before_seam q [] r x at = ap (λ b. cond b (1 + prefix_len q r) 0) at
+before_seam q (y ∷ s) r x at = ap (λ n. cond (q y) (1 + n) 0) (before_seam q s r x at)
+
+-- the bytes s before one that passes p: how many come before the first that passes p
+pub front_found : (p : ℕ → Bool) (s r : List ℕ) (x m : ℕ) → length (s ++ x ∷ r) ≤ 64 → p x ≡ true → m ≡ mask_l (map p (s ++ x ∷ r)) → Until p s (count_trailing_zeros 64 m)
+front_found p s r x m few at is =
+    let q : ℕ → Bool = λ y. not (p y) in
+    let n : count_trailing_zeros 64 m ≡ prefix_len q s =
+        ap (count_trailing_zeros 64) is ∙ trailing_mask_l p 64 (s ++ x ∷ r) few (some_at p s r x at) ∙ before_seam q s r x (ap not at) in record {
+      within = omega (arith, n, prefix_len-le-length q s);
+      inside = λ k h. not-true _ (prefix_len_passes q s k 0 (omega (arith, n)));
+      stops = λ h. subst (λ j. p (get_or s j 0) ≡ true) (sym n) (not-false _ (prefix_len_stops q s 0 (omega (arith, n))));
+    }
+
+-- the bytes after the first n, of which none passes p
+pub until_after : (p : ℕ → Bool) (s : List ℕ) (n r : ℕ) → n ≤ length s → ((k : ℕ) → k < n → p (get_or s k 0) ≡ false) → Until p (drop n s) r → Until p s (n + r)
+until_after p s n r room below u = record {
+  within = omega (arith, length-drop n s, u.within);
+  inside = λ k h. elim (cases_lt k n) [
+      | inl l ↦ below k l
+      | inr g ↦
+        let at : n + (k - n) ≡ k = omega arith in
+        subst (λ x. p x ≡ false) (get_or-drop n s (k - n) 0 ∙ ap (λ j. get_or s j 0) at) (u.inside (k - n) (omega arith))
+    ];
+  stops = λ h. subst (λ x. p x ≡ true) (get_or-drop n s r 0) (u.stops (omega (arith, length-drop n s)));
+}
+
+-- a byte above ASCII is in no table
+pub outside_beyond : (t : List ℕ) → outside t 255 ≡ true
+outside_beyond t = eq-eqb _ _ (omega (arith, and_le_r (column_of t 255) 0))

@@ -7,9 +7,3 @@ invariant-vectors l = (l.count ≤ length l.bytes) × ((k : ℕ) → k < l.count
 
 abbrev pub decreases-vectors : goal.decreases-vectors
 decreases-vectors l = length l.bytes - l.count
-
-abbrev pub invariant-rest : goal.invariant-rest
-invariant-rest l = (l.count ≤ length l.bytes) × ((k : ℕ) → k < l.count → outside l.table (get_or l.bytes k 0) ≡ false)
-
-abbrev pub decreases-rest : goal.decreases-rest
-decreases-rest l = length l.bytes - l.count
