@@ -99,7 +99,7 @@ pub front_found : (p : ℕ → Bool) (s r : List ℕ) (x m : ℕ) → length (s 
 front_found p s r x m few at is =
     let q : ℕ → Bool = λ y. not (p y) in
     let n : count_trailing_zeros 64 m ≡ prefix_len q s =
-        ap (count_trailing_zeros 64) is ∙ trailing_mask_l p 64 (s ++ x ∷ r) few (some_at p s r x at) ∙ before_seam q s r x (ap not at) in record {
+    ap (count_trailing_zeros 64) is ∙ trailing_mask_l p 64 (s ++ x ∷ r) few (some_at p s r x at) ∙ before_seam q s r x (ap not at) in record {
       within = omega (arith, n, prefix_len-le-length q s);
       inside = λ k h. not-true _ (prefix_len_passes q s k 0 (omega (arith, n)));
       stops = λ h. subst (λ j. p (get_or s j 0) ≡ true) (sym n) (not-false _ (prefix_len_stops q s 0 (omega (arith, n))));
@@ -110,11 +110,11 @@ pub until_after : (p : ℕ → Bool) (s : List ℕ) (n r : ℕ) → n ≤ length
 until_after p s n r room below u = record {
   within = omega (arith, length-drop n s, u.within);
   inside = λ k h. elim (cases_lt k n) [
-      | inl l ↦ below k l
-      | inr g ↦
+    | inl l ↦ below k l
+    | inr g ↦
         let at : n + (k - n) ≡ k = omega arith in
         subst (λ x. p x ≡ false) (get_or-drop n s (k - n) 0 ∙ ap (λ j. get_or s j 0) at) (u.inside (k - n) (omega arith))
-    ];
+  ];
   stops = λ h. subst (λ x. p x ≡ true) (get_or-drop n s r 0) (u.stops (omega (arith, length-drop n s)));
 }
 
