@@ -1,7 +1,7 @@
 -- The loop over the kinds of the tokens of a document.
-use Rattle.std.proofs.Common.{◌≡◌, ◌↔◌, ◌<◌, Bool, true, false, List, [], length, Option, Some, None, option_map, refl, sym, ap, ◌∙◌, arith}
+use Rattle.std.proofs.Common.{◌≡◌, ◌↔◌, ◌<◌, Bool, true, false, [], length, Option, Some, None, option_map, refl, sym, ap, ◌∙◌}
 use Rattle.kdl_text.specs.Chars.{Text}
-use Rattle.kdl_syntax.specs.Tokens.{Token, space, newline, slashdash, string, value, left, right, opening, closing, equals, semicolon, bom, NoToken}
+use Rattle.kdl_syntax.specs.Tokens.{Token, string, NoToken}
 use Rattle.kdl_syntax.specs.Control.{Control, at, after, event_of, step, finish}
 use Rattle.kdl_syntax.specs.Internal.Handed.{Cuts, kind_view}
 use Rattle.kdl_syntax.specs.declared.control.{Owner.TheVariants.Name as OfName, Owner.TheVariants.Value as OfValue, Phase.Phase, Spot.TheVariants.Fresh, Spot.TheVariants.Spaced, Spot.TheVariants.Later}
@@ -9,7 +9,7 @@ use Rattle.kdl_syntax.specs.declared.control.Phase.TheVariants.{TypeDone, InNode
 use Rattle.kdl_syntax.specs.declared.events.Event.{Event}
 use Rattle.kdl_syntax.specs.declared.lexer.TokenKind.{TokenKind}
 use Rattle.kdl.specs.Internal.Kinds.{IsLike}
-use Rattle.kdl_diagnostics.specs.TextControl.{TextControl, in_document, text_step, Takes}
+use Rattle.kdl_diagnostics.specs.TextControl.{in_document, Takes}
 use Rattle.kdl_diagnostics.proofs.Accepting.{over, refuses, none_begins, at_end}
 use Rattle.kdl_diagnostics.proofs.FrontReads.{cut_shorter}
 

@@ -1,12 +1,12 @@
 -- A document is accepted by the control of its text exactly if it is derived.
-use Rattle.std.proofs.Common.{◌≡◌, ℕ, false, true, List, [], ◌∷◌, Option, Some, None, option_map, Result, Ok, Err, refl, ap, ◌∙◌}
+use Rattle.std.proofs.Common.{◌≡◌, ℕ, false, true, List, [], Option, Some, None, option_map, Result, Ok, Err, refl, ap}
 use Rattle.std.specs.Prelude.{IfOk}
 use Rattle.std.specs.Str.{chars}
 use Rattle.kdl_text.specs.Chars.{Text}
 use Rattle.kdl_text.specs.Failures.{IsSyntax, TellsOnSyntax}
 use Rattle.kdl_text.specs.declared.error.ParseFailure.{ParseFailure}
 use Rattle.kdl_syntax.specs.Tokens.{Token, Lexes, done, next}
-use Rattle.kdl_syntax.specs.Control.{Control, at, step, accepts, finish, held}
+use Rattle.kdl_syntax.specs.Control.{Control, at, step, accepts, held}
 use Rattle.kdl_syntax.specs.declared.control.Phase.TheVariants.{Gap}
 use Rattle.kdl_diagnostics.specs.TextControl.{in_document, Takes, ends, takes, AcceptsDocument}
 use Rattle.kdl_grammar.specs.Data.{Nodes}

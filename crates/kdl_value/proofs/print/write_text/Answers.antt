@@ -1,4 +1,4 @@
-use Rattle.std.proofs.Common.{[], length, refl, sym, arith, ◌∙◌}
+use Rattle.std.proofs.Common.{[], refl, sym, arith, ◌∙◌}
 use Rattle.std.proofs.Output.{has_written_of_eq}
 use Rattle.std.proofs.lemmas.List.{nil_from_length, take_all}
 use Rattle.std.proofs.lemmas.Str.{encodes-chars}
