@@ -99,6 +99,7 @@ pub fn write_before_block<W: fmt::Write>(
 }
 
 /// Writes what comes after the last entry, or after the child block.
+#[inline(always)]
 pub fn write_end<W: fmt::Write>(
     format: &Option<KdlNodeFormat>,
     f: &mut fmt::Formatter<W>,

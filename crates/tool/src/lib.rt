@@ -21,7 +21,7 @@ use std::io::{Read, Write};
 use std::mem;
 
 /// The number of bytes requested at a time.
-const READ_SIZE: usize = 4096;
+const READ_SIZE: usize = 65_536;
 
 /// The number of bytes that the input has room for at first. A list of this size grows in place, without being copied.
 const INPUT_SIZE: usize = 262_144;

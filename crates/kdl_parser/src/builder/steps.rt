@@ -47,6 +47,7 @@ impl<'a, N: ParsedNode> Builder<'a, N> {
     }
 
     /// Turns the pending string, which is there, into an argument.
+    #[inline(always)]
     fn settle_waiting(&mut self) -> Result<(), AllocError>
         ensures { Settles self.old result self.new }
     {
