@@ -77,7 +77,7 @@ def main():
         ("kdl.dumps", "dumps", len(text), least(lambda: kdl.dumps(nodes))),
         ("Document.parse", "loads", len(text), least(lambda: kdl.Document(text))),
         ("  7,500 edits", "loads", len(text), least(lambda: edited(document), 1)),
-        ("  one and a copy", "loads", len(text), least(lambda: edited_once(document))),
+        ("  one, copied", "loads", len(text), least(lambda: edited_once(document))),
         ("kdl.faults", "loads", len(text), least(lambda: kdl.faults(text))),
         ("  a query", "loads", len(text), least(lambda: document.query_all("server >> [val() = 9090]"))),
         ("str(document)", "dumps", len(text), least(lambda: str(document))),
