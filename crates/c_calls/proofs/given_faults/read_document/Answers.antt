@@ -12,5 +12,5 @@ returns-in-Err-Syntax c =
     let refused : (x : Nodes) → IsDocument (chars t) x → ⊥ = search rules in
     (tells, λ w. refused w.0 w.1, λ k. absurd (omega (arith, k)))
 
-pub returns : goal.returns
-returns c = c.in-Ok.ensures.found
+pub returns-in-Ok : goal.returns-in-Ok
+returns-in-Ok c = c.in-Ok.ensures.found

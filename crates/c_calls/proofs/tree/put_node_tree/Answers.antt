@@ -10,4 +10,4 @@ pub returns-clause-says : goal.returns-clause-says
 returns-clause-says c = λ k u.
     let p = c.put_nodes in
     subst (λ (is : List Item). OnOk p.result (RowsSay p.new.rows p.new.count p.new.strings p.new.used is))
-    (of_node (map node_says c.from_ref.result.now) (node_says c.args.node.now) (ap (map node_says) c.from_ref.ensures)) (p.ensures.says k u)
+    (of_node (map node_says c.from_ref.result.now) (node_says c.args.node.now) (ap (map node_says) c.from_ref.ensures.value)) (p.ensures.says k u)

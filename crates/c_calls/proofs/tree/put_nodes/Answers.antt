@@ -40,7 +40,7 @@ loop-preserved c = record {
             let p = w.put_node_rows.new in
             let n = node_says w.in-Some.node.now in
             let b = map node_says w.in-Some.after.now in
-            let kids = w.nodes.result.now in
+            let kids = w.nodes-rest.result.now in
             let x = document_says w.in-Some-children.block.now in
             let split : l.rest.now ≡ w.in-Some.node.now ∷ w.in-Some.after.now = search rules in
             let has : said_children n ≡ Some x = search rules in
@@ -48,7 +48,7 @@ loop-preserved c = record {
             let at = subst (λ (z : List KdlNode). SoFar l.rows l.count l.strings l.used (map node_says z) (stack l.above.items) all) split (l.invariant.says k u) in
             same_so_far p.rows m.rows p.count m.count p.strings m.strings p.used m.used (map node_says kids) (map node_says m.rest.now) (stack l.above.items ++ b ∷ []) (stack m.above.items) all
             w.rows-is w.count-is w.strings-is w.used-is (ap (λ (r : Bor (List KdlNode)). map node_says r.now) w.rest-is) (ap (λ v. stack v.items) w.above-is ∙ stack_push l.above.items w.push.new.self.items w.in-Some.after more)
-            (step_in l.rows p.rows l.count p.count l.strings p.strings l.used p.used n b (map node_says kids) (stack l.above.items) x all at has w.nodes.ensures.said w.in_ok-put_node_rows.ensures.says)
+            (step_in l.rows p.rows l.count p.count l.strings p.strings l.used p.used n b (map node_says kids) (stack l.above.items) x all at has w.nodes-rest.ensures.said w.in_ok-put_node_rows.ensures.says)
         | in-Some+in_ok-put_node_rows+in-None w ↦
             let p = w.put_node_rows.new in
             let n = node_says w.in-Some.node.now in
