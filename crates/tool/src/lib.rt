@@ -23,7 +23,8 @@ use std::mem;
 /// The number of bytes requested at a time.
 const READ_SIZE: usize = 65_536;
 
-/// The number of bytes that the input has room for at first. A list of this size grows in place, without being copied.
+/// The number of bytes that the input has room for at first. The C library gives a list of this size pages of its own,
+/// and grows it without a copy.
 const INPUT_SIZE: usize = 262_144;
 
 /// The greatest number of decimal digits of a `usize`.
@@ -212,6 +213,7 @@ fn output(alloc: Global, command: Command<'_>, text: &str) -> Result<Option<Stri
             let out = String::with_capacity(alloc, text.len())?;
             Ok(Some(printed(out, document)?))
         }
+        // The output has its room before the layout frees texts: a large request goes through all that is free.
         Command::Fmt => {
             let out = String::with_capacity(alloc, text.len())?;
             document.autoformat()?;
@@ -226,7 +228,8 @@ fn output(alloc: Global, command: Command<'_>, text: &str) -> Result<Option<Stri
     }
 }
 
-/// Appends the text of the document. The end of the process frees the document, which is faster.
+/// Returns the text `out` with the text of the document appended. The end of the process frees the document, which is
+/// faster.
 fn printed(mut out: String, document: KdlDocument) -> Result<String, AllocError>
     ensures { IfOk result (λ s. string_bytes s
         ≡ string_bytes out ++ encode_utf8_all (document_prints document)) }
