@@ -8,3 +8,5 @@ pub mod Units
 pub mod Differing
 -- Edits of whole lines, one after another.
 pub mod WholeLines
+-- A walk over a text, which may begin at a place in it.
+pub mod Walking

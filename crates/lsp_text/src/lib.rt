@@ -14,6 +14,7 @@
 #![tactic(auto)]
 
 mod change;
+mod cursor;
 mod edit;
 pub mod laws;
 mod lines;
@@ -25,6 +26,7 @@ mod read;
 mod tests;
 
 pub use change::{Change, replaced, replaced_all};
+pub use cursor::Cursor;
 pub use edit::{Edit, edits};
 pub use offset::offset_of;
 pub use place::position_of;
