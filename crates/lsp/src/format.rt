@@ -1,10 +1,10 @@
 //! Formatting.
 
 use crate::layout::laid_out;
-use crate::params::indent;
-use crate::write::{Out, begin_reply, finish, put_range, put_text};
+use crate::params::{indent, range};
+use crate::write::{Out, Wrong, begin_reply, finish, put_range, put_text, wrong_reply};
 use json::Value;
-use lsp_text::{Edit, Encoding, edits};
+use lsp_text::{Edit, Encoding, Lines, edits, edits_within, mixed};
 use std::alloc::{AllocError, Global};
 
 /// Returns the reply with the edits that lay a text out: none if the text stays, and null if it is no document.
@@ -17,31 +17,48 @@ pub(crate) fn formatting(
 ) -> Result<String, AllocError> {
     let mut out = begin_reply(alloc, id)?;
     match laid_out(alloc, text, indent(params))? {
-        Some(new) => put_edits(alloc, &mut out, text, &new, encoding)?,
+        Some(new) => put_edits(&mut out, &edits(alloc, text, &new, encoding)?)?,
         None => out.null()?,
     }
     finish(alloc, out)
 }
 
-/// Writes the edits that make one text another.
-fn put_edits(
+/// Returns the reply with those of the edits of `formatting` that are within the lines that a range touches. Where the
+/// text after them would be laid out otherwise than the text, there are none.
+pub(crate) fn range_formatting(
     alloc: Global,
-    out: &mut Out,
+    id: &Value<'_>,
+    params: &Value<'_>,
     text: &str,
-    new: &str,
     encoding: Encoding,
-) -> Result<(), AllocError> {
-    out.begin_array()?;
-    for edit in &edits(alloc, text, new, encoding)? {
-        put_edit(out, edit)?;
+) -> Result<String, AllocError> {
+    let Some(range) = range(params) else {
+        return wrong_reply(alloc, id, Wrong::Params);
+    };
+    let mut out = begin_reply(alloc, id)?;
+    match laid_out(alloc, text, indent(params))? {
+        Some(new) => {
+            let within = Lines::of(range);
+            let part = mixed(alloc, text, &new, within)?;
+            if laid_out(alloc, &part, indent(params))? == Some(new) {
+                put_edits(&mut out, &edits_within(alloc, text, &part, within, encoding)?)?;
+            } else {
+                put_edits(&mut out, &[])?;
+            }
+        }
+        None => out.null()?,
     }
-    out.end_array()
+    finish(alloc, out)
 }
 
-/// Writes an edit.
-fn put_edit(out: &mut Out, edit: &Edit<'_>) -> Result<(), AllocError> {
-    out.begin_object()?;
-    put_range(out, "range", edit.range)?;
-    put_text(out, "newText", edit.text)?;
-    out.end_object()
+/// Writes edits.
+fn put_edits(out: &mut Out, edits: &[Edit<'_>]) -> Result<(), AllocError> {
+    out.begin_array()?;
+    for edit in edits {
+        out.begin_object()?;
+        put_range(out, "range", edit.range)?;
+        put_text(out, "newText", edit.text)?;
+        out.end_object()?;
+    }
+    out.end_array()
 }
