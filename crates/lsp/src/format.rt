@@ -41,7 +41,10 @@ pub(crate) fn range_formatting(
             let within = Lines::of(range);
             let part = mixed(alloc, text, &new, within)?;
             if laid_out(alloc, &part, indent(params))? == Some(new) {
-                put_edits(&mut out, &edits_within(alloc, text, &part, within, encoding)?)?;
+                put_edits(
+                    &mut out,
+                    &edits_within(alloc, text, &part, within, encoding)?,
+                )?;
             } else {
                 put_edits(&mut out, &[])?;
             }

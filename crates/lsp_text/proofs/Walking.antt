@@ -1,5 +1,5 @@
 -- A walk over a text, which may begin at a place in it.
-use Rattle.std.proofs.Common.{◌≡◌, ℕ, zero, suc, ◌+◌, ◌-◌, ◌<◌, ◌≤◌, ◌^◌, ◌==◌, cond, true, false, [], ◌∷◌, length, take, drop, refl, sym, ap, ◌∙◌, zero-add, arith, inl, inr}
+use Rattle.std.proofs.Common.{◌≡◌, ℕ, zero, suc, ◌+◌, ◌-◌, ◌≤◌, ◌==◌, [], ◌∷◌, length, take, drop, refl, sym, ap, ◌∙◌, zero-add, arith, inl, inr}
 use Rattle.std.proofs.lemmas.Bool.{cases_Bool, cond-true, cond-false}
 use Rattle.std.proofs.lemmas.List.{drop-drop}
 use Rattle.std.proofs.lemmas.Str.{len_utf8_bounds}
@@ -8,7 +8,7 @@ use Rattle.std.specs.Char.{len_utf8}
 use Rattle.lsp_text.specs.declared.position.Encoding.{Encoding}
 use Rattle.lsp_text.specs.declared.position.Encoding.TheVariants.{Utf8, Utf16, Utf32}
 use Rattle.lsp_text.specs.declared.position.Position.{Position}
-use Rattle.lsp_text.specs.Positions.{Text, ends_line, front, index_of_byte, position, size, units}
+use Rattle.lsp_text.specs.Positions.{Text, ends_line, index_of_byte, position, size, units}
 use Rattle.lsp_text.specs.Steps.{IsPlace, stepped, walked}
 use Rattle.lsp_text.proofs.Inverse.{byte_index, front_fits, front_le}
 use Rattle.lsp_text.proofs.Places.{size-append, walked_position}

@@ -1,10 +1,9 @@
-use Rattle.std.proofs.Common.{rules, ◌≡◌, ◌+◌, ◌-◌, ◌≤◌, suc, ◌∷◌, chars, drop, length, take, ap, arith, sym, ◌∙◌}
+use Rattle.std.proofs.Common.{rules, ◌≡◌, ◌+◌, ◌-◌, ◌≤◌, suc, chars, drop, take, ap, arith, sym, ◌∙◌}
 use Rattle.std.specs.Char.{len_utf8}
 use Rattle.lsp_text.specs.declared.position.Encoding.TheVariants.{Utf8}
 use Rattle.lsp_text.specs.declared.position.Position.{Position}
 use Rattle.lsp_text.specs.Positions.{index_of_byte, size}
-use Rattle.lsp_text.specs.Steps.{stepped, walked}
-use Rattle.lsp_text.proofs.Places.{byte_inside, size-bytes}
+use Rattle.lsp_text.specs.Steps.{walked}
 use Rattle.lsp_text.proofs.Walking.{byte_step, step_near}
 use Rattle.lsp_text.proofs.place.walk.Goals as goal
 

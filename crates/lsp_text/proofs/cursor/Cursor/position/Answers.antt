@@ -1,4 +1,4 @@
-use Rattle.std.proofs.Common.{rules, ◌≡◌, ◌-◌, ◌<◌, ◌^◌, ap, arith, chars, length, ◌∙◌}
+use Rattle.std.proofs.Common.{rules, ◌<◌, ◌^◌, ap, arith, chars, length, ◌∙◌}
 use Rattle.std.specs.Str.{IsUtf8}
 use Rattle.lsp_text.specs.Positions.{index_of_byte, position}
 use Rattle.lsp_text.proofs.Places.{size-bytes}
