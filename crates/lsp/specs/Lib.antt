@@ -1,4 +1,4 @@
 -- Frames of messages, as bytes.
 pub mod Frames
--- Where two texts differ.
-pub mod Differences
+-- Spans of a text as ranges of the protocol.
+pub mod Spans

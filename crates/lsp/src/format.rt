@@ -1,13 +1,10 @@
 //! Formatting.
 
-use crate::cursor::Cursor;
-use crate::difference::{Difference, between};
 use crate::layout::laid_out;
-use crate::params::indent;
-use crate::write::{Out, begin_reply, finish, put_range, put_text};
+use crate::params::{indent, range};
+use crate::write::{Out, Wrong, begin_reply, finish, put_range, put_text, wrong_reply};
 use json::Value;
-use kdl_text::span::SourceSpan;
-use lsp_text::Encoding;
+use lsp_text::{Edit, Encoding, Lines, edits, edits_within, mixed};
 use std::alloc::{AllocError, Global};
 
 /// Returns the reply with the edits that lay a text out: none if the text stays, and null if it is no document.
@@ -20,24 +17,50 @@ pub(crate) fn formatting(
 ) -> Result<String, AllocError> {
     let mut out = begin_reply(alloc, id)?;
     match laid_out(alloc, text, indent(params))? {
-        Some(new) => put_edits(&mut out, text, &new, encoding)?,
+        Some(new) => put_edits(&mut out, &edits(alloc, text, &new, encoding)?)?,
         None => out.null()?,
     }
     finish(alloc, out)
 }
 
-/// Writes the edit of the lines that differ between two texts, if there are any.
-fn put_edits(out: &mut Out, text: &str, new: &str, encoding: Encoding) -> Result<(), AllocError> {
+/// Returns the reply with those of the edits of `formatting` that are within the lines that a range touches. Where the
+/// text after them would be laid out otherwise than the text, there are none.
+pub(crate) fn range_formatting(
+    alloc: Global,
+    id: &Value<'_>,
+    params: &Value<'_>,
+    text: &str,
+    encoding: Encoding,
+) -> Result<String, AllocError> {
+    let Some(range) = range(params) else {
+        return wrong_reply(alloc, id, Wrong::Params);
+    };
+    let mut out = begin_reply(alloc, id)?;
+    match laid_out(alloc, text, indent(params))? {
+        Some(new) => {
+            let within = Lines::of(range);
+            let part = mixed(alloc, text, &new, within)?;
+            if laid_out(alloc, &part, indent(params))? == Some(new) {
+                put_edits(
+                    &mut out,
+                    &edits_within(alloc, text, &part, within, encoding)?,
+                )?;
+            } else {
+                put_edits(&mut out, &[])?;
+            }
+        }
+        None => out.null()?,
+    }
+    finish(alloc, out)
+}
+
+/// Writes edits.
+fn put_edits(out: &mut Out, edits: &[Edit<'_>]) -> Result<(), AllocError> {
     out.begin_array()?;
-    if new != text {
-        let Difference { start, old, new } = between(text, new);
-        let span = SourceSpan {
-            offset: start,
-            len: old.len(),
-        };
+    for edit in edits {
         out.begin_object()?;
-        put_range(out, "range", Cursor::new(text, encoding).range(span))?;
-        put_text(out, "newText", new)?;
+        put_range(out, "range", edit.range)?;
+        put_text(out, "newText", edit.text)?;
         out.end_object()?;
     }
     out.end_array()

@@ -13,7 +13,6 @@
 #![tactic(auto)]
 
 mod cursor;
-mod difference;
 mod faults;
 mod fold;
 mod format;

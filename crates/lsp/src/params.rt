@@ -64,8 +64,13 @@ fn position(value: &Value<'_>) -> Option<Position> {
     })
 }
 
+/// Returns the range of a request.
+pub(crate) fn range(params: &Value<'_>) -> Option<Range> {
+    range_of(params.get("range")?)
+}
+
 /// Returns the range that a value is.
-fn range(value: &Value<'_>) -> Option<Range> {
+fn range_of(value: &Value<'_>) -> Option<Range> {
     Some(Range {
         start: position(value.get("start")?)?,
         end: position(value.get("end")?)?,
@@ -85,7 +90,7 @@ fn edit<'a>(value: &Value<'a>) -> Option<Replacement<'a>> {
     match value.get("range") {
         None | Some(Value::Null) => Some(Replacement { range: None, text }),
         Some(value) => Some(Replacement {
-            range: Some(range(value)?),
+            range: Some(range_of(value)?),
             text,
         }),
     }

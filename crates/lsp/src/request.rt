@@ -1,7 +1,7 @@
 //! Requests.
 
 use crate::fold::folds;
-use crate::format::formatting;
+use crate::format::{formatting, range_formatting};
 use crate::params::{encoding, uri};
 use crate::state::{Phase, State};
 use crate::symbols::symbols;
@@ -67,6 +67,7 @@ fn put_capabilities(out: &mut Out, encoding: Encoding) -> Result<(), AllocError>
     put_number(out, "change", 2)?;
     out.end_object()?;
     put_true(out, "documentFormattingProvider")?;
+    put_true(out, "documentRangeFormattingProvider")?;
     put_true(out, "documentSymbolProvider")?;
     put_true(out, "foldingRangeProvider")?;
     out.end_object()
@@ -103,6 +104,9 @@ fn running_reply(
     };
     match method {
         "textDocument/formatting" => formatting(alloc, id, params, text, state.encoding),
+        "textDocument/rangeFormatting" => {
+            range_formatting(alloc, id, params, text, state.encoding)
+        }
         "textDocument/documentSymbol" => symbols(alloc, id, text, state.encoding),
         _ => folds(alloc, id, text),
     }
@@ -112,6 +116,9 @@ fn running_reply(
 fn is_known(method: &str) -> bool {
     matches!(
         method,
-        "textDocument/formatting" | "textDocument/documentSymbol" | "textDocument/foldingRange"
+        "textDocument/formatting"
+            | "textDocument/rangeFormatting"
+            | "textDocument/documentSymbol"
+            | "textDocument/foldingRange"
     )
 }

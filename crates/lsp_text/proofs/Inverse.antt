@@ -16,7 +16,7 @@ units_least Utf8 c = (len_utf8_bounds c).0
 units_least Utf16 c = grind arith
 units_least Utf32 c = omega arith
 
-front_zero : (e : Encoding) (y : Text) → front e 0 y ≡ []
+pub front_zero : (e : Encoding) (y : Text) → front e 0 y ≡ []
 front_zero e [] = refl
 front_zero e (c ∷ y) = cond-false _ _ _ (lt-leb (units e c) 0 (units_least e c))
 

@@ -4,3 +4,9 @@ pub mod Places
 pub mod Inverse
 -- An edit of a text is an edit of its units of 16 bits.
 pub mod Units
+-- The lines of a text, and where two lists of lines differ.
+pub mod Differing
+-- Edits of whole lines, one after another.
+pub mod WholeLines
+-- A walk over a text, which may begin at a place in it.
+pub mod Walking

@@ -2,3 +2,5 @@
 pub mod Positions
 -- The same, read from left to right, for proofs alone.
 pub mod Steps
+-- The lines of a text, and edits of whole lines.
+pub mod Lines

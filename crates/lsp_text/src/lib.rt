@@ -2,7 +2,8 @@
 //!
 //! A client names places by line and character, where `character` counts units of the encoding that client and server
 //! agreed on. Lines end at LF, CR LF and CR. `offset_of` returns the byte offset of a position, `position_of` the position
-//! of a byte offset, and `replaced_all` the text after the changes of a `textDocument/didChange`:
+//! of a byte offset, `replaced_all` the text after the changes of a `textDocument/didChange`, and `edits` the edits of whole
+//! lines that make one text another:
 //!
 //! ```
 //! let start = Position { line: 0, character: 5 };
@@ -13,8 +14,12 @@
 #![tactic(auto)]
 
 mod change;
+mod cursor;
+mod edit;
 pub mod laws;
+mod lines;
 mod offset;
+mod part;
 mod place;
 mod position;
 mod read;
@@ -22,6 +27,9 @@ mod read;
 mod tests;
 
 pub use change::{Change, replaced, replaced_all};
+pub use cursor::Cursor;
+pub use edit::{Edit, edits};
 pub use offset::offset_of;
+pub use part::{Lines, edits_within, mixed};
 pub use place::position_of;
 pub use position::{Encoding, Position, Range};

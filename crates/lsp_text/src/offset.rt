@@ -9,7 +9,7 @@ use crate::position::{Encoding, Position};
 use crate::read::{ends_line, split_first};
 
 /// Returns the text after its first line and the end of that line.
-fn after_line(text: &str) -> &str
+pub(crate) fn after_line(text: &str) -> &str
     ensures { chars result.now ≡ spec.after_line (chars text.now) }
 {
     let mut rest = text;
@@ -23,7 +23,7 @@ fn after_line(text: &str) -> &str
 }
 
 /// Returns the text from the start of a line on.
-fn from_line(text: &str, line: usize) -> &str
+pub(crate) fn from_line(text: &str, line: usize) -> &str
     ensures { chars result.now ≡ spec.from_line line (chars text.now) }
 {
     let mut rest = text;

@@ -1,2 +1,0 @@
--- The parts of a list.
-mod Parts

@@ -1,0 +1,13 @@
+-- Spans of a text as ranges of the protocol.
+use Rattle.std.specs.Prelude.{ℕ, ◌+◌, ◌-◌, ◌^◌, min}
+use Rattle.kdl_text.specs.declared.span.SourceSpan.{SourceSpan}
+use Rattle.lsp_text.specs.declared.position.Encoding.{Encoding}
+use Rattle.lsp_text.specs.declared.position.Range.{Range}
+use Rattle.lsp_text.specs.Positions.{Text, index_of_byte, position}
+
+-- the range from the position of a span's first byte to that of the byte after its last one
+abbrev pub span_range : Encoding → SourceSpan → Text → Range
+span_range e s t = record {
+  start = position e (index_of_byte s.offset t) t;
+  end = position e (index_of_byte (min (s.offset + s.len) (2 ^ 64 - 1)) t) t;
+}
