@@ -17,7 +17,7 @@ struct Run {
 
 /// What is known of the text before a token.
 #[derive(Drop)]
-struct Folds<'a> {
+struct FoldWriter<'a> {
     text: &'a str,
     cursor: Cursor<'a>,
     /// The line of the name of the last node.
@@ -34,7 +34,7 @@ struct Folds<'a> {
 pub(crate) fn folds(alloc: Global, id: &Value<'_>, text: &str) -> Result<String, AllocError> {
     let mut out = begin_reply(alloc, id)?;
     out.begin_array()?;
-    let mut folds = Folds {
+    let mut folds = FoldWriter {
         text,
         cursor: Cursor::new(text, Encoding::Utf8),
         name: 0,
@@ -55,7 +55,7 @@ pub(crate) fn folds(alloc: Global, id: &Value<'_>, text: &str) -> Result<String,
     finish(alloc, out)
 }
 
-impl<'a> Folds<'a> {
+impl<'a> FoldWriter<'a> {
     /// Takes a token, and writes what ends with it.
     fn take(&mut self, out: &mut Out, token: &Token<'_>, event: Event) -> Result<(), AllocError> {
         let start = token.at.start.at();

@@ -60,7 +60,7 @@ enum Dropped {
 
 /// The tokens that are being written.
 #[derive(Drop)]
-struct Tokens<'a> {
+struct TokenWriter<'a> {
     text: &'a str,
     cursor: Cursor<'a>,
     /// Where the last token begins.
@@ -81,7 +81,7 @@ pub(crate) fn tokens(
     out.begin_object()?;
     out.key("data")?;
     out.begin_array()?;
-    let mut tokens = Tokens {
+    let mut tokens = TokenWriter {
         text,
         cursor: Cursor::new(text, encoding),
         last: Position {
@@ -104,7 +104,7 @@ pub(crate) fn tokens(
     finish(alloc, out)
 }
 
-impl<'a> Tokens<'a> {
+impl<'a> TokenWriter<'a> {
     /// Takes a token, and writes it.
     fn take(
         &mut self,
