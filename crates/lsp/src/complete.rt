@@ -31,6 +31,14 @@ enum Read {
     Other,
 }
 
+/// How names or keys are offered: their kind in the protocol, what is inserted after them, and what they replace.
+#[derive(Clone, Copy)]
+struct Form {
+    kind: usize,
+    end: &'static str,
+    range: Range,
+}
+
 /// A reader of names and keys.
 #[derive(Drop)]
 struct Reader<'a> {
@@ -91,10 +99,14 @@ fn put_items(
     };
     let rest = text.get(front.len()..).unwrap_or("");
     let rest = rest.trim_start_matches(is_identifier_char);
-    let has_sign = matches!(wanted, Wanted::Name) || is_key(alloc, rest)?;
-    let end = if has_sign { "" } else { "=" };
+    let (kind, end) = match wanted {
+        Wanted::Name => (7, ""),
+        Wanted::Key(_) if is_key(alloc, rest)? => (10, ""),
+        Wanted::Key(_) => (10, "="),
+    };
+    let form = Form { kind, end, range };
     for word in &words(alloc, text, front.len(), block, &wanted)? {
-        put_item(alloc, out, word, end, range)?;
+        put_item(alloc, out, word, form)?;
     }
     Ok(())
 }
@@ -197,19 +209,14 @@ impl<'a> Reader<'a> {
     }
 }
 
-/// Writes a name or a key, with what follows it, in place of a range.
-fn put_item(
-    alloc: Global,
-    out: &mut Out,
-    word: &str,
-    end: &str,
-    range: Range,
-) -> Result<(), AllocError> {
+/// Writes a name or a key as it is spelled.
+fn put_item(alloc: Global, out: &mut Out, word: &str, form: Form) -> Result<(), AllocError> {
+    let Form { kind, end, range } = form;
     let label = KdlIdentifier::from_text(alloc, word)?.to_string(alloc)?;
     let new = format!(in alloc; "{label}{end}")?;
     out.begin_object()?;
     put_text(out, "label", &label)?;
-    put_number(out, "kind", 10)?;
+    put_number(out, "kind", kind)?;
     put_text(out, "filterText", word)?;
     out.key("textEdit")?;
     put_edit(out, range, &new)?;

@@ -2,12 +2,12 @@
 
 use crate::cursor::Cursor;
 use crate::layout::document_of;
-use crate::locate::{Part, Site, nodes_at, part_at};
+use crate::locate::{Part, nodes_at, part_at};
+use crate::path::{Target, path_to};
 use crate::place::place;
 use crate::write::{Out, Wrong, begin_reply, finish, put_range, put_text, wrong_reply};
 use json::Value;
 use kdl::{KdlDocument, KdlEntry, KdlNode, KdlValue};
-use kdl_path::{Path, Step, Target};
 use kdl_text::span::SourceSpan;
 use lsp_text::Encoding;
 use std::alloc::{AllocError, Global};
@@ -73,11 +73,9 @@ fn told_in(
     };
     let mut content = String::new(alloc);
     push_part(&mut content, site.node, part)?;
-    if let Some(target) = target_of(alloc, site.node, part)? {
-        let steps = steps_of(alloc, &sites)?;
-        let path = Path { steps, target };
+    if let Some(target) = target_of(site.node, part) {
         content.push_str("\n\n")?;
-        push_code(&mut content, &path.to_string(alloc)?)?;
+        push_code(&mut content, &path_to(alloc, &sites, target)?)?;
     }
     Ok(Some((content, span)))
 }
@@ -86,7 +84,7 @@ fn told_in(
 fn push_part(out: &mut String, node: &KdlNode, part: Part<'_>) -> Result<(), AllocError> {
     match part {
         Part::Name => out.push_str("node"),
-        Part::Type(_) => out.push_str("type"),
+        Part::Type => out.push_str("type"),
         Part::Key(index, entry) if is_last(node, index, entry) => out.push_str("property"),
         Part::Key(..) => out.push_str("property; a later one of the same name replaces it"),
         Part::Value(_, entry) => push_value(out, entry.value()),
@@ -155,23 +153,18 @@ fn longest_run(text: &str) -> usize {
 }
 
 /// Returns what a PATH names of the node for a part, if a PATH names it.
-fn target_of(alloc: Global, node: &KdlNode, part: Part<'_>) -> Result<Option<Target>, AllocError> {
-    let (Part::Key(index, entry) | Part::Value(index, entry)) = part else {
-        return Ok(match part {
-            Part::Name => Some(Target::Node),
-            _ => None,
-        });
+fn target_of<'d>(node: &'d KdlNode, part: Part<'d>) -> Option<Target<'d>> {
+    let (index, entry) = match part {
+        Part::Name => return Some(Target::Node),
+        Part::Type => return None,
+        Part::Key(index, entry) | Part::Value(index, entry) => (index, entry),
     };
     match entry.name() {
-        Some(key) if is_last(node, index, entry) => {
-            let key = String::from_str(alloc, key.value())?;
-            Ok(Some(Target::Property(key)))
-        }
-        Some(_) => Ok(None),
-        None => Ok(Some(match arguments_before(node, index) {
-            0 => Target::Node,
-            count => Target::Argument(count),
-        })),
+        Some(key) => is_last(node, index, entry).then_some(Target::Property(key.value())),
+        None => match arguments_before(node, index) {
+            0 => Some(Target::Node),
+            count => Some(Target::Argument(count)),
+        },
     }
 }
 
@@ -188,20 +181,4 @@ fn is_last(node: &KdlNode, index: usize, entry: &KdlEntry) -> bool {
     };
     let mut later = node.entries().iter().skip(index.saturating_add(1));
     !later.any(|later| later.name().is_some_and(|name| name.value() == key.value()))
-}
-
-/// Returns the steps to the last of some nodes.
-fn steps_of(alloc: Global, sites: &[Site<'_>]) -> Result<Vec<Step>, AllocError> {
-    let mut steps = Vec::with_capacity(alloc, sites.len())?;
-    for Site { before, node } in sites {
-        let name = node.name().value();
-        let same = before.iter().filter(|node| node.name().value() == name);
-        let index = match same.count() {
-            0 => None,
-            count => Some(count),
-        };
-        let name = String::from_str(alloc, name)?;
-        steps.push(Step { name, index })?;
-    }
-    Ok(steps)
 }

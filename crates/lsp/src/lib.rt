@@ -26,6 +26,7 @@ mod layout;
 mod locate;
 mod message;
 mod params;
+mod path;
 mod place;
 mod publish;
 mod request;

@@ -1,6 +1,6 @@
 //! The nodes at a place of a document, and their parts.
 
-ghost use Rattle.std.specs.Prelude.{◌≡◌, ◌×◌, ◌+◌, ◌≤◌, IsTrue};
+ghost use Rattle.std.specs.Prelude.{◌≡◌, ◌+◌, ◌≤◌, IsTrue};
 
 use kdl::{KdlDocument, KdlEntry, KdlIdentifier, KdlNode};
 use kdl_text::span::SourceSpan;
@@ -19,7 +19,7 @@ pub(crate) enum Part<'d> {
     /// The name.
     Name,
     /// The type of the node, or of an entry.
-    Type(&'d KdlIdentifier),
+    Type,
     /// The key of the entry at an index.
     Key(usize, &'d KdlEntry),
     /// The value of the entry at an index.
@@ -104,7 +104,7 @@ pub(crate) fn part_at(node: &KdlNode, offset: usize) -> Option<(Part<'_>, Source
 /// Returns the type, if it is at a place, and its span.
 fn type_at(ty: Option<&KdlIdentifier>, offset: usize) -> Option<(Part<'_>, SourceSpan)> {
     let ty = ty.filter(|ty| touches(ty.span(), offset))?;
-    Some((Part::Type(ty), ty.span()))
+    Some((Part::Type, ty.span()))
 }
 
 /// Returns the span of the value of an entry: the end of the entry.

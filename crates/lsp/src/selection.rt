@@ -1,6 +1,6 @@
 //! The ranges around a place: value, entry, node, block, document.
 
-ghost use Rattle.std.specs.Prelude.{◌×◌, ◌+◌, ◌≤◌, IsTrue};
+ghost use Rattle.std.specs.Prelude.{◌+◌, ◌≤◌, IsTrue};
 
 use crate::cursor::Cursor;
 use crate::layout::document_of;
