@@ -1,6 +1,6 @@
 //! The nodes at a place of a document, and their parts.
 
-ghost use Rattle.std.specs.Prelude.{◌≡◌, ◌+◌, ◌≤◌, IsTrue};
+ghost use Rattle.std.specs.Prelude.{◌+◌, ◌≤◌, IsTrue};
 
 use kdl::{KdlDocument, KdlEntry, KdlIdentifier, KdlNode};
 use kdl_text::span::SourceSpan;
