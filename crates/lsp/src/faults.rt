@@ -1,12 +1,30 @@
 //! The faults of a document.
 
 use crate::cursor::Cursor;
+use crate::state::Client;
 use crate::write::{Out, begin_notice, finish, put_number, put_range, put_text};
-use kdl::{KdlDocument, KdlError, ParseFailure};
+use kdl::{KdlDocument, ParseFailure};
 use kdl_text::error::KdlDiagnostic;
 use kdl_text::span::Severity;
-use lsp_text::Encoding;
+use lsp_text::Range;
 use std::alloc::{AllocError, Global};
+
+/// A document whose faults are being written.
+#[derive(Clone, Copy)]
+pub(crate) struct Report<'a> {
+    uri: &'a str,
+    cursor: Cursor<'a>,
+    has_related: bool,
+}
+
+/// Returns the faults of a text: none if it is a document.
+pub(crate) fn faults_of(alloc: Global, text: &str) -> Result<Vec<KdlDiagnostic>, AllocError> {
+    match KdlDocument::check(alloc, text) {
+        Ok(()) => Ok(Vec::new(alloc)),
+        Err(ParseFailure::Syntax(error)) => Ok(error.diagnostics),
+        Err(ParseFailure::Memory) => Err(AllocError),
+    }
+}
 
 /// Returns the notification of the faults of a document.
 pub(crate) fn faults_notice(
@@ -14,15 +32,15 @@ pub(crate) fn faults_notice(
     uri: &str,
     version: Option<i64>,
     text: &str,
-    encoding: Encoding,
+    client: Client,
 ) -> Result<String, AllocError> {
-    match KdlDocument::parse(alloc, text) {
-        Ok(_document) => no_faults_notice(alloc, uri, version),
-        Err(ParseFailure::Syntax(error)) => some_faults_notice(
-            alloc, uri, version, text, encoding, &error,
-        ),
-        Err(ParseFailure::Memory) => Err(AllocError),
+    let faults = faults_of(alloc, text)?;
+    let mut out = begin_faults(alloc, uri, version)?;
+    let mut report = Report::new(uri, text, client);
+    for fault in &faults {
+        report.put_fault(alloc, &mut out, fault)?;
     }
+    finish_faults(alloc, out)
 }
 
 /// Returns the notification that a document has no faults.
@@ -32,22 +50,6 @@ pub(crate) fn no_faults_notice(
     version: Option<i64>,
 ) -> Result<String, AllocError> {
     let out = begin_faults(alloc, uri, version)?;
-    finish_faults(alloc, out)
-}
-
-fn some_faults_notice(
-    alloc: Global,
-    uri: &str,
-    version: Option<i64>,
-    text: &str,
-    encoding: Encoding,
-    error: &KdlError,
-) -> Result<String, AllocError> {
-    let mut out = begin_faults(alloc, uri, version)?;
-    let mut cursor = Cursor::new(text, encoding);
-    for fault in &error.diagnostics {
-        put_fault(alloc, &mut out, &mut cursor, fault)?;
-    }
     finish_faults(alloc, out)
 }
 
@@ -73,20 +75,60 @@ fn finish_faults(alloc: Global, out: Out) -> Result<String, AllocError> {
     finish(alloc, out)
 }
 
-/// Writes a fault.
-fn put_fault(
-    alloc: Global,
-    out: &mut Out,
-    cursor: &mut Cursor<'_>,
-    fault: &KdlDiagnostic,
-) -> Result<(), AllocError> {
-    let range = cursor.range(fault.span);
-    out.begin_object()?;
-    put_range(out, "range", range)?;
-    put_number(out, "severity", severity(fault.severity))?;
-    put_text(out, "source", "kdl")?;
-    put_message(alloc, out, fault)?;
-    out.end_object()
+impl<'a> Report<'a> {
+    /// Before the faults of a document.
+    pub(crate) fn new(uri: &'a str, text: &'a str, client: Client) -> Report<'a> {
+        Report {
+            uri,
+            cursor: Cursor::new(text, client.encoding),
+            has_related: client.has_related,
+        }
+    }
+
+    /// Writes a fault. What may help is related to it, or the end of the message if the client shows nothing related.
+    pub(crate) fn put_fault(
+        &mut self,
+        alloc: Global,
+        out: &mut Out,
+        fault: &KdlDiagnostic,
+    ) -> Result<(), AllocError> {
+        let range = self.cursor.range(fault.span);
+        let message = match &fault.message {
+            Some(message) => message.as_str(),
+            None => "Unexpected error",
+        };
+        out.begin_object()?;
+        put_range(out, "range", range)?;
+        put_number(out, "severity", severity(fault.severity))?;
+        put_text(out, "source", "kdl")?;
+        match &fault.help {
+            Some(help) if self.has_related => {
+                put_text(out, "message", message)?;
+                self.put_related(out, range, help)?;
+            }
+            Some(help) => {
+                let text = format!(in alloc; "{message}\nhelp: {}", help.as_str())?;
+                put_text(out, "message", &text)?;
+            }
+            None => put_text(out, "message", message)?,
+        }
+        out.end_object()
+    }
+
+    /// Writes what may help at a fault.
+    fn put_related(&self, out: &mut Out, range: Range, help: &str) -> Result<(), AllocError> {
+        out.key("relatedInformation")?;
+        out.begin_array()?;
+        out.begin_object()?;
+        out.key("location")?;
+        out.begin_object()?;
+        put_text(out, "uri", self.uri)?;
+        put_range(out, "range", range)?;
+        out.end_object()?;
+        put_text(out, "message", help)?;
+        out.end_object()?;
+        out.end_array()
+    }
 }
 
 /// Returns the number of a severity.
@@ -95,20 +137,5 @@ fn severity(severity: Severity) -> usize {
         Severity::Error => 1,
         Severity::Warning => 2,
         Severity::Advice => 3,
-    }
-}
-
-/// Writes what is wrong, and a line with what may help.
-fn put_message(alloc: Global, out: &mut Out, fault: &KdlDiagnostic) -> Result<(), AllocError> {
-    let message = match &fault.message {
-        Some(message) => message.as_str(),
-        None => "Unexpected error",
-    };
-    match &fault.help {
-        Some(help) => {
-            let text = format!(in alloc; "{message}\nhelp: {}", help.as_str())?;
-            put_text(out, "message", &text)
-        }
-        None => put_text(out, "message", message),
     }
 }

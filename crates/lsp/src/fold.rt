@@ -1,97 +1,132 @@
-//! Blocks over several lines as folding ranges.
+//! Blocks, block comments and runs of line comments, over several lines, as folding ranges.
 
 use crate::cursor::Cursor;
-use crate::layout::document_of;
-use crate::write::{Out, begin_reply, finish, put_number};
+use crate::scan::{Lexeme, Scanner, is_block_comment, is_line_comment};
+use crate::write::{Out, begin_reply, finish, put_number, put_text};
 use json::Value;
-use kdl::{KdlDocument, KdlNode};
+use kdl_syntax::{Event, Token, TokenKind};
 use lsp_text::Encoding;
 use std::alloc::{AllocError, Global};
 
-/// A list of nodes: those that are left, and the node whose block it is, with the line of its name.
+/// Line comments on lines that follow each other.
 #[derive(Clone, Copy)]
-struct Level<'d> {
-    left: &'d [KdlNode],
-    owner: Option<(&'d KdlNode, usize)>,
+struct Run {
+    first: usize,
+    last: usize,
 }
 
-/// Returns the reply with the blocks of a text that fold: null if the text is no document.
+/// What is known of the text before a token.
+#[derive(Drop)]
+struct FoldWriter<'a> {
+    text: &'a str,
+    cursor: Cursor<'a>,
+    /// The line of the name of the last node.
+    name: usize,
+    /// The same for each open block.
+    open: Vec<usize>,
+    /// The last line comments.
+    run: Option<Run>,
+    /// Whether the line has spaces and block comments only.
+    is_blank: bool,
+}
+
+/// Returns the reply with what folds in a text. In a text with faults, a block that is not closed does not fold.
 pub(crate) fn folds(alloc: Global, id: &Value<'_>, text: &str) -> Result<String, AllocError> {
     let mut out = begin_reply(alloc, id)?;
-    match document_of(alloc, text)? {
-        Some(document) => {
-            let mut cursor = Cursor::new(text, Encoding::Utf8);
-            put_folds(alloc, &mut out, &mut cursor, &document)?;
+    out.begin_array()?;
+    let mut folds = FoldWriter {
+        text,
+        cursor: Cursor::new(text, Encoding::Utf8),
+        name: 0,
+        open: Vec::new(alloc),
+        run: None,
+        is_blank: true,
+    };
+    let mut scanner = Scanner::new(alloc, text);
+    for _ in 0..u64::MAX {
+        match scanner.next(alloc)? {
+            Some(Lexeme::Token(token, event)) => folds.take(&mut out, &token, event)?,
+            Some(Lexeme::Fault { .. }) => folds.is_blank = true,
+            None => break,
         }
-        None => out.null()?,
     }
+    put_run(&mut out, folds.run)?;
+    out.end_array()?;
     finish(alloc, out)
 }
 
-/// Writes the blocks of a document that fold.
-fn put_folds(
-    alloc: Global,
-    out: &mut Out,
-    cursor: &mut Cursor<'_>,
-    document: &KdlDocument,
-) -> Result<(), AllocError> {
-    let mut levels: Vec<Level<'_>> = Vec::new(alloc);
-    out.begin_array()?;
-    levels.push(Level {
-        left: document.nodes(),
-        owner: None,
-    })?;
-    for _ in 0..u64::MAX {
-        let Some(level) = levels.pop() else {
-            break;
+impl<'a> FoldWriter<'a> {
+    /// Takes a token, and writes what ends with it.
+    fn take(&mut self, out: &mut Out, token: &Token<'_>, event: Event) -> Result<(), AllocError> {
+        let start = token.at.start.at();
+        match event {
+            Event::Name | Event::TypedName => self.name = self.cursor.position(start).line,
+            Event::Opening(_) => self.open.push(self.name)?,
+            Event::GapClosing | Event::NodeClosing | Event::KeptClosing => self.close(out, start)?,
+            _ => self.comment(out, token)?,
+        }
+        self.is_blank = match token.kind {
+            TokenKind::Space => self.is_blank,
+            TokenKind::Newline => true,
+            _ => false,
         };
-        put_next(out, cursor, level, &mut levels)?;
+        Ok(())
     }
-    out.end_array()
+
+    /// Writes the block that ends with a `}`, from the line of its node to the line before, if these differ.
+    fn close(&mut self, out: &mut Out, end: usize) -> Result<(), AllocError> {
+        let Some(first) = self.open.pop() else {
+            return Ok(());
+        };
+        self.name = first;
+        let last = self.cursor.position(end).line.saturating_sub(1);
+        put_fold(out, Run { first, last }, None)
+    }
+
+    /// Takes a token that may be a comment.
+    fn comment(&mut self, out: &mut Out, token: &Token<'_>) -> Result<(), AllocError> {
+        let (start, end) = (token.at.start.at(), token.at.end.at());
+        let text = self.text.get(start..end).unwrap_or("");
+        if is_block_comment(&token.kind, text) {
+            let first = self.cursor.position(start).line;
+            let last = self.cursor.position(end).line;
+            return put_fold(out, Run { first, last }, Some("comment"));
+        }
+        if !is_line_comment(&token.kind, text) || !self.is_blank {
+            return Ok(());
+        }
+        let last = self.cursor.position(start).line;
+        match self.run {
+            Some(run) if last <= run.last.saturating_add(1) => {
+                self.run = Some(Run { last, ..run });
+                Ok(())
+            }
+            _ => {
+                let run = self.run.replace(Run { first: last, last });
+                put_run(out, run)
+            }
+        }
+    }
 }
 
-/// Goes to the block of the next node of a list, or writes the block at its end.
-fn put_next<'d>(
-    out: &mut Out,
-    cursor: &mut Cursor<'_>,
-    level: Level<'d>,
-    levels: &mut Vec<Level<'d>>,
-) -> Result<(), AllocError> {
-    let Some((node, left)) = level.left.split_first() else {
-        return match level.owner {
-            Some((node, line)) => put_fold(out, cursor, node, line),
-            None => Ok(()),
-        };
-    };
-    levels.push(Level {
-        left,
-        owner: level.owner,
-    })?;
-    if let Some(block) = node.children() {
-        let line = cursor.position(node.name().span().offset).line;
-        levels.push(Level {
-            left: block.nodes(),
-            owner: Some((node, line)),
-        })?;
+/// Writes line comments, if there are some on more than one line.
+fn put_run(out: &mut Out, run: Option<Run>) -> Result<(), AllocError> {
+    match run {
+        Some(run) => put_fold(out, run, Some("comment")),
+        None => Ok(()),
     }
-    Ok(())
 }
 
-/// Writes a block, from the line of its node to the line before its end, if these differ.
-fn put_fold(
-    out: &mut Out,
-    cursor: &mut Cursor<'_>,
-    node: &KdlNode,
-    line: usize,
-) -> Result<(), AllocError> {
-    let span = node.span();
-    let end = cursor.position(span.offset.saturating_add(span.len)).line;
-    let last = end.saturating_sub(1);
-    if last <= line {
+/// Writes lines that fold, if there is more than one.
+fn put_fold(out: &mut Out, lines: Run, kind: Option<&str>) -> Result<(), AllocError> {
+    if lines.last <= lines.first {
         return Ok(());
     }
     out.begin_object()?;
-    put_number(out, "startLine", line)?;
-    put_number(out, "endLine", last)?;
+    put_number(out, "startLine", lines.first)?;
+    put_number(out, "endLine", lines.last)?;
+    if let Some(kind) = kind {
+        put_text(out, "kind", kind)?;
+    }
     out.end_object()
 }

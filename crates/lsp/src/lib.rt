@@ -8,27 +8,37 @@
 //! let replies = step(alloc, &mut state, "{\"jsonrpc\": \"2.0\", \"id\": 1, \"method\": \"initialize\", \"params\": {}}")?;
 //! ```
 //!
-//! The server publishes the faults of each open document, formats documents, and returns their symbols and folding
-//! ranges.
+//! The server publishes the faults of each open document, and returns fixes of them. It formats documents, and returns
+//! their symbols, folding ranges, selection ranges and tokens. At a place it returns what is there, and the names and keys
+//! that may come.
 #![tactic(auto)]
 
+mod complete;
 mod cursor;
 mod faults;
+mod fix;
 mod fold;
 mod format;
 mod frame;
+mod hover;
 mod layout;
+mod locate;
 mod message;
 mod params;
+mod path;
+mod place;
 mod publish;
 mod request;
+mod scan;
+mod selection;
 mod session;
 mod state;
 mod symbols;
 mod sync;
+mod tokens;
 mod write;
 
 pub use frame::{Front, first_frame, write_frame};
 pub use message::step;
 pub use session::serve;
-pub use state::{Document, Phase, State};
+pub use state::{Client, Document, Phase, State};

@@ -57,7 +57,7 @@ fn number(value: &Value<'_>, name: &str) -> Option<usize> {
 }
 
 /// Returns the position that a value is.
-fn position(value: &Value<'_>) -> Option<Position> {
+pub(crate) fn position(value: &Value<'_>) -> Option<Position> {
     Some(Position {
         line: number(value, "line")?,
         character: number(value, "character")?,

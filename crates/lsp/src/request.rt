@@ -1,10 +1,15 @@
 //! Requests.
 
+use crate::complete::completion;
+use crate::fix::actions;
 use crate::fold::folds;
 use crate::format::{formatting, range_formatting};
+use crate::hover::hover;
 use crate::params::{encoding, uri};
-use crate::state::{Phase, State};
+use crate::selection::selections;
+use crate::state::{Client, Phase, State};
 use crate::symbols::symbols;
+use crate::tokens::{LEGEND, tokens};
 use crate::write::{
     Out, Wrong, begin_reply, finish, null_reply, put_number, put_text, put_true, wrong_reply,
 };
@@ -41,17 +46,20 @@ fn initialize(
     id: &Value<'_>,
     params: &Value<'_>,
 ) -> Result<String, AllocError> {
-    let encoding = encoding(params);
+    let client = Client {
+        encoding: encoding(params),
+        has_related: has_related(params),
+    };
     let mut out = begin_reply(alloc, id)?;
     out.begin_object()?;
-    put_capabilities(&mut out, encoding)?;
+    put_capabilities(&mut out, client.encoding)?;
     out.key("serverInfo")?;
     out.begin_object()?;
     put_text(&mut out, "name", "kdl")?;
     out.end_object()?;
     out.end_object()?;
     let reply = finish(alloc, out)?;
-    state.encoding = encoding;
+    state.client = client;
     state.phase = Phase::Running;
     Ok(reply)
 }
@@ -70,7 +78,52 @@ fn put_capabilities(out: &mut Out, encoding: Encoding) -> Result<(), AllocError>
     put_true(out, "documentRangeFormattingProvider")?;
     put_true(out, "documentSymbolProvider")?;
     put_true(out, "foldingRangeProvider")?;
+    put_true(out, "hoverProvider")?;
+    put_true(out, "selectionRangeProvider")?;
+    out.key("completionProvider")?;
+    out.begin_object()?;
+    out.end_object()?;
+    out.key("codeActionProvider")?;
+    out.begin_object()?;
+    put_names(out, "codeActionKinds", &["quickfix"])?;
+    out.end_object()?;
+    put_token_provider(out)?;
     out.end_object()
+}
+
+/// Writes that there are tokens for highlighting, and their classes.
+fn put_token_provider(out: &mut Out) -> Result<(), AllocError> {
+    out.key("semanticTokensProvider")?;
+    out.begin_object()?;
+    out.key("legend")?;
+    out.begin_object()?;
+    put_names(out, "tokenTypes", &LEGEND)?;
+    put_names(out, "tokenModifiers", &[])?;
+    out.end_object()?;
+    put_true(out, "full")?;
+    out.end_object()
+}
+
+/// Writes a member that is a list of names.
+fn put_names(out: &mut Out, key: &str, names: &[&str]) -> Result<(), AllocError> {
+    out.key(key)?;
+    out.begin_array()?;
+    for name in names {
+        out.string(name)?;
+    }
+    out.end_array()
+}
+
+/// Returns whether the client of `initialize` shows what is related to a fault.
+fn has_related(params: &Value<'_>) -> bool {
+    let faults = params
+        .get("capabilities")
+        .and_then(|value| value.get("textDocument"))
+        .and_then(|value| value.get("publishDiagnostics"));
+    faults
+        .and_then(|value| value.get("relatedInformation"))
+        .and_then(Value::as_bool)
+        == Some(true)
 }
 
 /// Returns the name of an encoding.
@@ -102,12 +155,17 @@ fn running_reply(
     let Some(text) = &document.text else {
         return wrong_reply(alloc, id, Wrong::Unknown);
     };
+    let client = state.client;
+    let encoding = client.encoding;
     match method {
-        "textDocument/formatting" => formatting(alloc, id, params, text, state.encoding),
-        "textDocument/rangeFormatting" => {
-            range_formatting(alloc, id, params, text, state.encoding)
-        }
-        "textDocument/documentSymbol" => symbols(alloc, id, text, state.encoding),
+        "textDocument/formatting" => formatting(alloc, id, params, text, encoding),
+        "textDocument/rangeFormatting" => range_formatting(alloc, id, params, text, encoding),
+        "textDocument/documentSymbol" => symbols(alloc, id, text, encoding),
+        "textDocument/hover" => hover(alloc, id, params, text, encoding),
+        "textDocument/selectionRange" => selections(alloc, id, params, text, encoding),
+        "textDocument/completion" => completion(alloc, id, params, text, encoding),
+        "textDocument/codeAction" => actions(alloc, id, params, text, client),
+        "textDocument/semanticTokens/full" => tokens(alloc, id, text, encoding),
         _ => folds(alloc, id, text),
     }
 }
@@ -120,5 +178,10 @@ fn is_known(method: &str) -> bool {
             | "textDocument/rangeFormatting"
             | "textDocument/documentSymbol"
             | "textDocument/foldingRange"
+            | "textDocument/hover"
+            | "textDocument/selectionRange"
+            | "textDocument/completion"
+            | "textDocument/codeAction"
+            | "textDocument/semanticTokens/full"
     )
 }

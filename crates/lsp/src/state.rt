@@ -26,11 +26,20 @@ pub struct Document {
     pub text: Option<String>,
 }
 
-/// What a server knows: the phase, the encoding of positions, and the open documents by their URIs.
+/// What a client can read.
+#[derive(Clone, Copy, Debug, PartialEq, Eq)]
+pub struct Client {
+    /// What positions count.
+    pub encoding: Encoding,
+    /// Whether it shows what is related to a fault.
+    pub has_related: bool,
+}
+
+/// What a server knows: the phase, the client, and the open documents by their URIs.
 #[derive(Drop)]
 pub struct State {
     pub phase: Phase,
-    pub encoding: Encoding,
+    pub client: Client,
     pub open: BTreeMap<String, Document>,
 }
 
@@ -39,7 +48,10 @@ impl State {
     pub fn new(alloc: Global) -> State {
         State {
             phase: Phase::New,
-            encoding: Encoding::Utf16,
+            client: Client {
+                encoding: Encoding::Utf16,
+                has_related: false,
+            },
             open: BTreeMap::new(alloc),
         }
     }

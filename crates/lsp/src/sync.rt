@@ -26,7 +26,7 @@ pub(crate) fn did_open(
         Ok(()) => publish(
             alloc,
             uri,
-            faults_notice(alloc, uri, version, text, state.encoding),
+            faults_notice(alloc, uri, version, text, state.client),
             out,
         ),
         Err(AllocError) => {
@@ -63,16 +63,16 @@ pub(crate) fn did_change(
     let Some(uri) = uri(params) else {
         return Ok(());
     };
-    let encoding = state.encoding;
+    let client = state.client;
     let Some(document) = state.open.get_mut(uri) else {
         return Ok(());
     };
     document.version = version(params);
     let old = document.text.take();
-    document.text = text_after(alloc, old, params, encoding);
+    document.text = text_after(alloc, old, params, client.encoding);
     match &document.text {
         Some(text) => {
-            let notice = faults_notice(alloc, uri, document.version, text, encoding);
+            let notice = faults_notice(alloc, uri, document.version, text, client);
             publish(alloc, uri, notice, out)
         }
         None => log(alloc, uri, out),

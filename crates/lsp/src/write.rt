@@ -177,3 +177,11 @@ pub(crate) fn put_range(out: &mut Out, key: &str, range: Range) -> Result<(), Al
     put_position(out, "end", range.end)?;
     out.end_object()
 }
+
+/// Writes an edit of a text.
+pub(crate) fn put_edit(out: &mut Out, range: Range, new: &str) -> Result<(), AllocError> {
+    out.begin_object()?;
+    put_range(out, "range", range)?;
+    put_text(out, "newText", new)?;
+    out.end_object()
+}
