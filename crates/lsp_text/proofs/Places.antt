@@ -1,16 +1,16 @@
 -- Where the lines and the positions of a text are.
-use Rattle.std.proofs.Common.{◌≡◌, ℕ, zero, suc, ◌+◌, ◌-◌, ◌<◌, ◌≤◌, Bool, true, false, not, ◌&&◌, ◌||◌, ◌==◌, cond, max, List, [], ◌∷◌, ◌++◌, length, take, drop, refl, sym, ap, ◌∙◌, subst, append_assoc, length-append, zero-add, arith, inl, inr}
-use Rattle.std.proofs.lemmas.Bool.{and_from, and_parts, cases_Bool, cases_lt, cond-true, cond-false, lt-leb, or_from, or_parts, or_right}
+use Rattle.std.proofs.Common.{◌≡◌, ℕ, zero, suc, ◌+◌, ◌-◌, ◌≤◌, Bool, true, false, not, ◌&&◌, ◌||◌, ◌==◌, cond, max, List, [], ◌∷◌, ◌++◌, length, take, drop, refl, sym, ap, ◌∙◌, subst, append_assoc, length-append, zero-add, arith, inl, inr}
+use Rattle.std.proofs.lemmas.Bool.{and_from, and_parts, cases_Bool, cases_lt, cond-true, cond-false, or_from, or_parts, or_right}
 use Rattle.std.proofs.lemmas.List.{drop-drop, drop_at, take-append-drop}
 use Rattle.std.proofs.lemmas.Str.{IsUtf8-append, IsCharBoundary-at_seam, chars-append, chars-encodes, encodes-append, encodes-chars, length-encode, scalars-chars}
 use Rattle.std.proofs.Math.Seq.{take-add, take-append_seam, drop-append_seam}
-use Rattle.std.specs.Char.{len_utf8}
+use Rattle.std.specs.Char.{}
 use Rattle.std.specs.Str.{IsCharBoundary, IsUtf8, chars}
 use lib.Utf8.{encode, encodes, scalar, scalars}
 use Rattle.lsp_text.specs.declared.position.Encoding.{Encoding}
 use Rattle.lsp_text.specs.declared.position.Encoding.TheVariants.{Utf8}
 use Rattle.lsp_text.specs.declared.position.Position.{Position}
-use Rattle.lsp_text.specs.Positions.{Text, after_line, begins_feed, ends_line, first_line, from_line, front, index, index_of_byte, line, line_start, lines_before, position, size, units, units_before}
+use Rattle.lsp_text.specs.Positions.{Text, after_line, begins_feed, ends_line, first_line, from_line, front, index, line, line_start, lines_before, position, size, units, units_before}
 use Rattle.lsp_text.specs.Steps.{stepped, walked}
 
 -- ---- sizes
@@ -207,11 +207,6 @@ walked_position e k t =
     let c : (walked e (record { line = 0; character = 0 }) k t).character ≡ units_before e k t =
     w.character ∙ ap (λ z. z + units_before e k t) (kept_zero (lines_before k t)) ∙ zero-add _ in
     same_position _ _ _ l c
-
--- ---- the character at a byte
-
-pub byte_inside : (n c : ℕ) (s t : Text) → s ≡ c ∷ t → n < len_utf8 c → index_of_byte n s ≡ 0
-byte_inside n c s t e h = ap (index_of_byte n) e ∙ ap length (cond-false _ _ _ (lt-leb (len_utf8 c) n h))
 
 -- ---- parts of a text
 
