@@ -78,7 +78,7 @@ fn wants_fixes(params: &Value<'_>) -> bool {
 impl<'a> Faulty<'a> {
     /// Writes the fixes of the faults in a part of the text.
     fn put_fixes(&self, alloc: Global, out: &mut Out, span: SourceSpan) -> Result<(), AllocError> {
-        let mut tried = 0;
+        let mut tried = 0usize;
         for fault in &self.faults {
             if fault.span.offset > end_of(span) || span.offset > end_of(fault.span) {
                 continue;
@@ -89,7 +89,7 @@ impl<'a> Faulty<'a> {
             if tried == MOST {
                 break;
             }
-            tried += 1;
+            tried = tried.saturating_add(1);
             if self.is_mended(alloc, fault, &fix)? {
                 self.put_action(alloc, out, fault, &fix)?;
             }
