@@ -2,10 +2,9 @@
 
 ghost use Rattle.cli.specs.Asks.{ActsOnFile, Applies, IsDelivered, IsStatusOf, IsUnedited, ShowsAt};
 ghost use Rattle.cli.specs.declared.ask.Action.TheVariants.{FromJson, Get, Insert, Json, Remove, RemoveEach, Set, SetEach};
-ghost use Rattle.kdl.specs.Words.{IsDocument, Nodes, document_says};
-ghost use Rattle.std.specs.Prelude.{◌≡◌, ◌⊎◌, List, Some, chars, ℕ};
+ghost use Rattle.kdl.specs.Words.{document_says};
+ghost use Rattle.std.specs.Prelude.{◌≡◌, ◌⊎◌, List, Some, ℕ};
 
-use crate::disposal::Disposal;
 use crate::report::{Style, report_faults};
 use cli_shown::{lines_of, push_value};
 use cli_world::status::Status;
@@ -214,7 +213,6 @@ fn json_of(alloc: Global, text: &str) -> Result<Applied, ParseFailure>
 {
     let document = KdlDocument::parse(alloc, text)?;
     let mut json = to_json(alloc, &document)?;
-    Disposal::Leave.dispose(document);
     json.push('\n')?;
     Ok(Applied::Text(json))
 }
@@ -230,29 +228,12 @@ fn values_at(
     ensures { Applies (Get path.entry raw all) text.now result }
 {
     let document = KdlDocument::parse(alloc, text)?;
-    let values = values_in(alloc, &document, path, raw, all);
-    Disposal::Leave.dispose(document);
-    values
-}
-
-/// Returns the value at the path of a document, or each of them, on a line of its own.
-fn values_in(
-    alloc: Global,
-    document: &KdlDocument,
-    path: &Path,
-    raw: bool,
-    all: bool,
-) -> Result<Applied, ParseFailure>
-    ensures { (text : List ℕ) → IsDocument (chars text) (document_says document.now)
-        → ((x : Nodes) → IsDocument (chars text) x → x ≡ document_says document.now)
-        → Applies (Get path.entry raw all) text result }
-{
     if !all {
-        return one_value(alloc, document, path, raw);
+        return one_value(alloc, &document, path, raw);
     }
-    let values = get_all(alloc, document, path)?;
+    let values = get_all(alloc, &document, path)?;
     if values.is_empty() {
-        return one_value(alloc, document, path, raw);
+        return one_value(alloc, &document, path, raw);
     }
     Ok(Applied::Text(lines_of(alloc, &values, raw)?))
 }

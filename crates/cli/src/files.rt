@@ -4,8 +4,7 @@ ghost use Rattle.cli.specs.Outcomes.{ChangesNamed, Delivers, FormatsFile, Format
 ghost use Rattle.std.specs.Io.KnownBytes.{Appends};
 ghost use Rattle.std.specs.Prelude.{◌≡◌, map};
 
-use crate::disposal::Disposal;
-use crate::fmt::formatted_once;
+use crate::fmt::formatted;
 use crate::report::{Style, report_faults};
 use crate::settings::Settings;
 use cli_world::status::Status;
@@ -89,22 +88,20 @@ pub fn format_files<S: Store, O: Write, E: Write>(
     ensures others { ChangesNamed job.now.mode (map (λ n. n.now) names.now)
         (S.known world.old.files) (S.known world.new.files) }
 {
-    let disposal = Disposal::of_files(names.len());
     let mut status = Status::Done;
     for name in names {
-        let outcome = format_file(alloc, world, job, name, disposal);
+        let outcome = format_file(alloc, world, job, name);
         status = status.worst(outcome.status(job.mode));
     }
     status
 }
 
 /// Formats a file.
-fn format_file<S: Store, O: Write, E: Write>(
+pub fn format_file<S: Store, O: Write, E: Write>(
     alloc: Global,
     world: &mut World<S, O, E>,
     job: &Job,
     name: &str,
-    disposal: Disposal,
 ) -> Outcome
     ensures formats { FormatsFile job.now name.now result
         (S.known world.old.files) (S.known world.new.files) }
@@ -123,7 +120,7 @@ fn format_file<S: Store, O: Write, E: Write>(
             };
         }
     };
-    match formatted_once(alloc, &text, &job.settings, disposal) {
+    match formatted(alloc, &text, &job.settings) {
         Ok(new) => deliver(alloc, world, job.mode, name, &text, &new),
         Err(ParseFailure::Syntax(error)) => {
             match report_faults(alloc, world, name, &text, &error, job.style) {

@@ -4,7 +4,6 @@ ghost use Rattle.cli.specs.Formatted.{IsFormatted};
 ghost use Rattle.kdl.specs.Words.{IsDocument, IsSyntax, Nodes, TellsOnSyntax, text_of};
 ghost use Rattle.std.specs.Prelude.{◌≡◌, ◌↔◌, IfOk, IsTrue, List, chars, ℕ};
 
-use crate::disposal::Disposal;
 use crate::settings::Settings;
 use kdl::{FormatConfig, KdlDocument, Layout, ParseFailure};
 use kdl_laws::layout::second_spaced_layout;
@@ -24,22 +23,6 @@ pub fn formatted(alloc: Global, text: &str, settings: &Settings) -> Result<Strin
     ensures refused { IsSyntax result → (x : Nodes) → IsDocument (chars text.now) x → ⊥ }
     ensures told { TellsOnSyntax text.now result }
 {
-    formatted_once(alloc, text, settings, Disposal::Free)
-}
-
-/// Returns the document of the text, laid out, as `formatted` does, and disposes of the document.
-pub(crate) fn formatted_once(
-    alloc: Global,
-    text: &str,
-    settings: &Settings,
-    disposal: Disposal,
-) -> Result<String, ParseFailure>
-    ensures says { IfOk result (λ out. (x : Nodes) → IsDocument (chars text.now) x
-        → IsDocument (text_of out) x) }
-    ensures laid_out { IfOk result (λ out. IsFormatted settings.now (chars text.now) (text_of out)) }
-    ensures refused { IsSyntax result → (x : Nodes) → IsDocument (chars text.now) x → ⊥ }
-    ensures told { TellsOnSyntax text.now result }
-{
     printed_reads_once();
     second_spaced_layout();
     let mut document = KdlDocument::parse(alloc, text)?;
@@ -51,9 +34,7 @@ pub(crate) fn formatted_once(
         keep_one_line: !settings.expand,
     };
     document.autoformat_layout(&layout)?;
-    let out = document.to_string(alloc)?;
-    disposal.dispose(document);
-    Ok(out)
+    Ok(document.to_string(alloc)?)
 }
 
 /// Returns whether layout changes the text.

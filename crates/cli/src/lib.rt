@@ -4,7 +4,6 @@
 pub mod ask;
 pub mod check;
 pub mod config;
-mod disposal;
 pub mod files;
 pub mod fmt;
 pub mod query;
