@@ -1,5 +1,5 @@
 -- How many looks a walk takes.
-use Rattle.std.proofs.Common.{◌≡◌, ℕ, suc, ◌+◌, ◌*◌, Bool, true, false, List, [], ◌∷◌, ◌++◌, length, Some, None, refl, ap, ◌∙◌, arith}
+use Rattle.std.proofs.Common.{◌≡◌, ℕ, suc, ◌+◌, ◌*◌, Bool, List, [], ◌∷◌, ◌++◌, length, Option, Some, None, refl, ap, ◌∙◌, arith}
 use Rattle.std.proofs.lemmas.List.{length-append, length-map}
 use Rattle.std.proofs.lemmas.List.Concat.{length-flat_map}
 use Rattle.std.proofs.lemmas.List.Sums.{sum_by-cons}
@@ -9,37 +9,37 @@ use Rattle.kdl_grammar.specs.Data.{Node, node, Children, no_children, children, 
 use Rattle.kdl_query.specs.Counts.{count_below, count_inside, node_count, part_count, parts_in, selector_count}
 use Rattle.kdl_query.specs.Data.{Query, Selector, start, then, top}
 use Rattle.kdl_query.specs.Selects.{Path}
-use Rattle.kdl_query.specs.Internal.Parts.{PartSays, all_parts, entered, fresh, inside, parts_to, query_parts, visited, with_marks}
+use Rattle.kdl_query.specs.Internal.Parts.{PartSays, all_parts, entered, entering, fresh, parts_to, query_parts, visited, with_marks}
 use Rattle.kdl_query.specs.Internal.Visits.{LevelSays, Visited, all_visits, last_parts, next_parts, looks_of, visits, visits_below, visits_inside}
 use Rattle.kdl_query.specs.declared.part.Link.TheVariants.{After}
-use Rattle.kdl_query.specs.declared.part.Marks.{Marks}
+use Rattle.kdl_query.specs.declared.tree.Combinator.{Combinator}
 use Rattle.kdl_query.proofs.Walking.{last_level}
 
 -- a node changes only marks
-visited_length : (n : Node) (m : Marks) (ps : List PartSays) → length (visited n m ps) ≡ length ps
+visited_length : (n : Node) (m : Bool) (ps : List PartSays) → length (visited n m ps) ≡ length ps
 visited_length n m [] = refl
-visited_length n m (p ∷ ps) = ap suc (visited_length n p.marks ps)
+visited_length n m (p ∷ ps) = ap suc (visited_length n p.marks.here ps)
 
 next_length : (n : Node) (ps : List PartSays) → length (next_parts n ps) ≡ length ps
 next_length n ps = visited_length n _ ps
 
 inside_length : (n : Node) (ps : List PartSays) → length (entered (next_parts n ps)) ≡ length ps
-inside_length n ps = length-map (next_parts n ps) (λ (p : PartSays). with_marks p (inside p.marks)) ∙ next_length n ps
+inside_length n ps = length-map (next_parts n ps) (λ (p : PartSays). with_marks p (entering p.marks)) ∙ next_length n ps
 
 -- the innermost level after the next node has as many as before
 pub last_length : (ls : List LevelSays) (l k : LevelSays) (n : Node) → k.parts ≡ next_parts n l.parts → length (last_parts (ls ++ k ∷ [])) ≡ length l.parts
 last_length ls l k n e = ap (λ o. length (option_map_or (λ (m : LevelSays). m.parts) o [])) (last_level None ls k) ∙ ap length e ∙ next_length n l.parts
 
 -- the parts of a query
-to_length : (b : Bool) (s : Selector) → length (parts_to b s) ≡ parts_in s
-to_length b top = refl
-to_length b (start t) = refl
-to_length b (then s c t) = let e = length-append (parts_to false s) (fresh (After c) (Some t) b ∷ []) in let h = to_length false s in omega (arith, e, h)
+to_length : (o : Option Combinator) (s : Selector) → length (parts_to o s) ≡ parts_in s
+to_length o top = refl
+to_length o (start t) = refl
+to_length o (then s c t) = let e = length-append (parts_to (Some c) s) (fresh After (Some t) o ∷ []) in let h = to_length (Some c) s in omega (arith, e, h)
 
 all_length : (s : Selector) → length (all_parts s) ≡ selector_count s
 all_length top = refl
 all_length (start t) = refl
-all_length (then s c t) = to_length true (then s c t)
+all_length (then s c t) = to_length None (then s c t)
 
 sum_same : (q : Query) → sum_by (λ s. length (all_parts s)) q ≡ part_count q
 sum_same [] = refl

@@ -320,9 +320,9 @@ name_if_decides (Some s) u = bytes_eq-Decides u s
 
 pub meets_decides : (t : NodeTest) (n : Node) → Decides (meets t n) (Meets t n)
 meets_decides t n =
-    let a = is_typed_if t.ty (said_type n) in
-    let b = is_named_if t.name (said_name n) in
+    let a = is_named_if t.name (said_name n) in
+    let b = is_typed_if t.ty (said_type n) in
     let c = list_all (λ u. holds u n) t.tests in
     let tests : Decides c (All (λ u. Tests u n) t.tests) = Decides-by_and (λ u. holds u n) (λ u. Tests u n) (list_all (λ u. holds u n)) (λ u. test_decides u n) refl (λ _ _. refl) t.tests in
-    Decides-like (a && b && c) (λ w. record { ty = w.0.0; name = w.0.1; tests = w.1 }) (λ m. ((m.ty, m.name), m.tests))
-    (Decides-and (a && b) c (Decides-and a b (type_if_decides t.ty (said_type n)) (name_if_decides t.name (said_name n))) tests)
+    Decides-like (a && b && c) (λ w. record { ty = w.0.1; name = w.0.0; tests = w.1 }) (λ m. ((m.name, m.ty), m.tests))
+    (Decides-and (a && b) c (Decides-and a b (name_if_decides t.name (said_name n)) (type_if_decides t.ty (said_type n))) tests)

@@ -1,5 +1,5 @@
 -- What the marks of a part tell of its selector, and how a node changes them.
-use Rattle.std.proofs.Common.{◌≡◌, ℕ, zero, suc, ◌<◌, Bool, ◌&&◌, ◌||◌, [], ◌∷◌, ◌++◌, Option, Some, None, ◌⊎◌, inl, inr, Decides, IsSomeAnd, refl, ap, ◌∙◌, sym, subst, arith}
+use Rattle.std.proofs.Common.{◌≡◌, ℕ, zero, suc, ◌<◌, Bool, true, false, ◌&&◌, ◌||◌, [], ◌∷◌, ◌++◌, Option, Some, None, option_map, ◌⊎◌, inl, inr, Decides, IsSomeAnd, refl, ap, ◌∙◌, sym, subst, arith}
 use Rattle.std.proofs.lemmas.Bool.Decides.{Decides-and, Decides-like, Decides-or}
 use Rattle.std.proofs.lemmas.List.{append_assoc, append-nil, same_from_push}
 use Rattle.kdl_grammar.specs.Data.{Node, Nodes}
@@ -7,13 +7,13 @@ use Rattle.kdl_query.specs.Data.{NodeTest, Selector, start, then, top}
 use Rattle.kdl_query.specs.Tests.{Meets}
 use Rattle.kdl_query.specs.Selects.{MeetsAt, Path, Reaches, Relates, node_at}
 use Rattle.kdl_query.specs.Internal.Holds.{meets}
-use Rattle.kdl_query.specs.Internal.Parts.{PartSays, after, at_top, inside, is_reached, leads_on, passes}
+use Rattle.kdl_query.specs.Internal.Parts.{PartSays, begins, is_reached, leads_on, marked, passes}
 use Rattle.kdl_query.specs.declared.part.Link.{Link}
 use Rattle.kdl_query.specs.declared.part.Link.TheVariants.{Document, Start, After}
 use Rattle.kdl_query.specs.declared.part.Marks.{Marks}
 use Rattle.kdl_query.specs.declared.tree.Combinator.{Combinator}
 use Rattle.kdl_query.specs.declared.tree.Combinator.TheVariants.{Child, Descendant, NextSibling, LaterSibling}
-use Rattle.kdl_query.proofs.Holding.{meets_decides}
+use Rattle.kdl_query.proofs.Holding.{meets_decides, never}
 
 -- the selector leads to the path or to one around it, to the place directly before i in the block at q, to one before i
 abbrev pub Around : Nodes → Selector → Path → Type 0
@@ -25,12 +25,24 @@ JustBefore x s q i = (j : ℕ) × (i ≡ suc j) × Reaches x s (q ++ j ∷ [])
 abbrev pub Before : Nodes → Selector → Path → ℕ → Type 0
 Before x s q i = (j : ℕ) × (j < i) × Reaches x s (q ++ j ∷ [])
 
--- the marks tell where the selector leads, seen from place i in the block at q
-pub record Knows (x : Nodes) (q : Path) (i : ℕ) (s : Selector) (m : Marks) : Type 0 where
-  pub parent : Decides m.parent (Reaches x s q)
-  pub ancestor : Decides m.ancestor (Around x s q)
-  pub previous : Decides m.previous (JustBefore x s q i)
-  pub earlier : Decides m.earlier (Before x s q i)
+-- the combinator leads from the selector to place i in the block at q, as marks tell it
+abbrev pub Leads : Nodes → Path → ℕ → Selector → Combinator → Type 0
+Leads x q i s Child = Reaches x s q
+Leads x q i s Descendant = Around x s q
+Leads x q i s NextSibling = JustBefore x s q i
+Leads x q i s LaterSibling = Before x s q i
+
+-- the selector of a part, and what leads on from it
+abbrev pub Origin : Type 0
+Origin = Option (Selector × Combinator)
+
+abbrev pub origin : PartSays → Selector → Origin
+origin p s = option_map (λ c. (s, c)) p.next
+
+-- the mark tells whether place i in the block at q may be reached from there
+abbrev pub Knows : Nodes → Path → ℕ → Origin → Bool → Type 0
+Knows x q i None m = Unit {0}
+Knows x q i (Some o) m = Decides m (Leads x q i o.0 o.1)
 
 -- a combinator leads from the selector to a path
 abbrev pub Led : Nodes → Combinator → Selector → Path → Type 0
@@ -73,22 +85,18 @@ to_earlier x s q i w =
     let lt : w.2.1 < w.2.2 = w.2.3 in
     (w.2.1, omega (arith, lt, e.1), sibling x s q w.0 w.2.0 w.2.1 e.0 w.2.4 w.1)
 
--- the mark that a combinator asks for tells whether it leads to place i
-led : (x : Nodes) (q : Path) (i : ℕ) (s : Selector) (m : Marks) → Knows x q i s m → (c : Combinator) → Decides (leads_on (After c) m) (Led x c s (q ++ i ∷ []))
-led x q i s m k Child = Decides-like m.parent (λ h. (q, h, (i, refl))) (to_parent x s q i) k.parent
-led x q i s m k Descendant = Decides-like m.ancestor (from_around x s q i) (to_around x s q i) k.ancestor
-led x q i s m k NextSibling = Decides-like m.previous (λ w. (q ++ w.0 ∷ [], w.2, (q, w.0, refl, ap (λ n. q ++ n ∷ []) w.1))) (to_previous x s q i) k.previous
-led x q i s m k LaterSibling = Decides-like m.earlier (λ w. (q ++ w.0 ∷ [], w.2, (q, w.0, i, w.1, refl, refl))) (to_earlier x s q i) k.earlier
+-- a mark tells whether the combinator leads to place i
+led : (x : Nodes) (q : Path) (i : ℕ) (s : Selector) (c : Combinator) (m : Bool) → Decides m (Leads x q i s c) → Decides m (Led x c s (q ++ i ∷ []))
+led x q i s Child m k = Decides-like m (λ h. (q, h, (i, refl))) (to_parent x s q i) k
+led x q i s Descendant m k = Decides-like m (from_around x s q i) (to_around x s q i) k
+led x q i s NextSibling m k = Decides-like m (λ w. (q ++ w.0 ∷ [], w.2, (q, w.0, refl, ap (λ n. q ++ n ∷ []) w.1))) (to_previous x s q i) k
+led x q i s LaterSibling m k = Decides-like m (λ w. (q ++ w.0 ∷ [], w.2, (q, w.0, i, w.1, refl, refl))) (to_earlier x s q i) k
 
 -- the part is that of the selector, after the part of the one before
-abbrev pub IsPart : Option Selector → PartSays → Selector → Type 0
+abbrev pub IsPart : Origin → PartSays → Selector → Type 0
 IsPart b p top = p.link ≡ Document
 IsPart b p (start t) = (p.link ≡ Start) × ((n : Node) → passes p.test n ≡ meets t n)
-IsPart b p (then s c t) = (p.link ≡ After c) × (b ≡ Some s) × ((n : Node) → passes p.test n ≡ meets t n)
-
-abbrev pub KnowsIf : Nodes → Path → ℕ → Option Selector → Marks → Type 0
-KnowsIf x q i None m = Unit {0}
-KnowsIf x q i (Some s) m = Knows x q i s m
+IsPart b p (then s c t) = (p.link ≡ After) × (b ≡ Some (s, c)) × ((n : Node) → passes p.test n ≡ meets t n)
 
 at_node : (x : Nodes) (t : NodeTest) (p : Path) (n : Node) → node_at p x ≡ Some n → (b : Bool) → Decides b (Meets t n) → Decides b (MeetsAt x t p)
 at_node x t p n e b d = let P : Option Node → Type 0 = λ o. Decides b (IsSomeAnd o (Meets t)) in subst P (sym e) d
@@ -102,20 +110,18 @@ nonempty (j ∷ q) i e = cc
 
 -- a node reaches a part exactly if the selector leads to its path
 pub reached : (x : Nodes) (q : Path) (i : ℕ) (n : Node) → node_at (q ++ i ∷ []) x ≡ Some n
-    → (b : Option Selector) (m : Marks) → KnowsIf x q i b m → (p : PartSays) (s : Selector) → IsPart b p s → Decides (is_reached p m n) (Reaches x s (q ++ i ∷ []))
+    → (b : Origin) (m : Bool) → Knows x q i b m → (p : PartSays) (s : Selector) → IsPart b p s → Decides (is_reached p m n) (Reaches x s (q ++ i ∷ []))
 reached x q i n e b m k p top h =
     let P : Link → Type 0 = λ l. Decides (leads_on l m && passes p.test n) (q ++ i ∷ [] ≡ []) in
     subst P (sym h) (λ w. absurd (cc), λ w. absurd (nonempty q i w))
 reached x q i n e b m k p (start t) h =
     let P : Link → Type 0 = λ l. Decides (leads_on l m && passes p.test n) (MeetsAt x t (q ++ i ∷ [])) in
     subst P (sym h.0) (passes_at x p t (q ++ i ∷ []) n e (h.1 n))
-reached x q i n e None m k p (then s c t) h = absurd (cc h.1)
-reached x q i n e (Some s') m k p (then s c t) h =
-    let same : s' ≡ s = cc h.1 in
-    let K : Selector → Type 0 = λ u. Knows x q i u m in
-    let d = Decides-and (leads_on (After c) m) (passes p.test n) (led x q i s m (subst K same k) c) (passes_at x p t (q ++ i ∷ []) n e (h.2 n)) in
+reached x q i n e b m k p (then s c t) h =
+    let K : Origin → Type 0 = λ o. Knows x q i o m in
+    let d = Decides-and m (passes p.test n) (led x q i s c m (subst K h.1 k)) (passes_at x p t (q ++ i ∷ []) n e (h.2 n)) in
     let P : Link → Type 0 = λ l. Decides (leads_on l m && passes p.test n) (Reaches x (then s c t) (q ++ i ∷ [])) in
-    subst P (sym h.0) (Decides-like (leads_on (After c) m && passes p.test n) (λ w. (w.1, w.0)) (λ w. (w.1, w.0)) d)
+    subst P (sym h.0) (Decides-like (m && passes p.test n) (λ w. (w.1, w.0)) (λ w. (w.1, w.0)) d)
 
 below_or_at : (j i : ℕ) → j < suc i → (j < i) ⊎ (j ≡ i)
 below_or_at zero zero h = inr refl
@@ -124,13 +130,14 @@ below_or_at (suc j) zero h = absurd (omega (arith, h))
 below_or_at (suc j) (suc i) h = elim (below_or_at j i (omega (arith, h))) [ inl l ↦ inl (omega (arith, l)) | inr e ↦ inr (ap suc e) ]
 
 -- what the marks after the node tell
-pub knows_after : (x : Nodes) (q : Path) (i : ℕ) (s : Selector) (m : Marks) (b : Bool) → Knows x q i s m → Decides b (Reaches x s (q ++ i ∷ [])) → Knows x q (suc i) s (after b m)
-knows_after x q i s m b k d = record {
-  parent = k.parent;
-  ancestor = k.ancestor;
-  previous = Decides-like b (λ h. (i, refl, h)) (λ w. let e : i ≡ w.0 = omega (arith, w.1) in let P : ℕ → Type 0 = λ j. Reaches x s (q ++ j ∷ []) in subst P (sym e) w.2) d;
-  earlier = Decides-like (m.earlier || b) (from_either x s q i) (to_either x s q i) (Decides-or m.earlier b k.earlier d);
-}
+pub knows_after : (x : Nodes) (q : Path) (i : ℕ) (s : Selector) (o : Option Combinator) (m : Marks) (b k : Bool) → Knows x q i (option_map (λ c. (s, c)) o) m.here → Decides b (Reaches x s (q ++ i ∷ []))
+    → Knows x q (suc i) (option_map (λ c. (s, c)) o) (marked o b k m).here
+knows_after x q i s None m b k h d = tt
+knows_after x q i s (Some Child) m b k h d = h
+knows_after x q i s (Some Descendant) m b k h d = h
+knows_after x q i s (Some NextSibling) m b k h d =
+    Decides-like b (λ r. (i, refl, r)) (λ w. let e : i ≡ w.0 = omega (arith, w.1) in let P : ℕ → Type 0 = λ j. Reaches x s (q ++ j ∷ []) in subst P (sym e) w.2) d
+knows_after x q i s (Some LaterSibling) m b k h d = Decides-like (m.here || b) (from_either x s q i) (to_either x s q i) (Decides-or m.here b h d)
   where
     from_either : (x : Nodes) (s : Selector) (q : Path) (i : ℕ) → Before x s q i ⊎ Reaches x s (q ++ i ∷ []) → Before x s q (suc i)
     from_either x s q i (inl w) = let lt : w.0 < i = w.1 in (w.0, omega (arith, lt), w.2)
@@ -143,17 +150,21 @@ knows_after x q i s m b k d = record {
     to_either : (x : Nodes) (s : Selector) (q : Path) (i : ℕ) → Before x s q (suc i) → Before x s q i ⊎ Reaches x s (q ++ i ∷ [])
     to_either x s q i w = last_or_before x s q i w.0 (below_or_at w.0 i w.1) w.2
 
--- what the marks in the block of the node tell
-pub knows_inside : (x : Nodes) (q : Path) (i : ℕ) (s : Selector) (m : Marks) → Knows x q (suc i) s m → Knows x (q ++ i ∷ []) 0 s (inside m)
-knows_inside x q i s m k =
-    let here : Decides m.previous (Reaches x s (q ++ i ∷ [])) =
-    Decides-like m.previous (λ w. let e : w.0 ≡ i = omega (arith, w.1) in let P : ℕ → Type 0 = λ j. Reaches x s (q ++ j ∷ []) in subst P e w.2) (λ h. (i, refl, h)) k.previous in
-    record {
-      parent = here;
-      ancestor = Decides-like (m.ancestor || m.previous) (from_either x s q i) (to_either x s q i) (Decides-or m.ancestor m.previous k.ancestor here);
-      previous = (λ e. absurd (cc), λ w. absurd (omega (arith, w.1)));
-      earlier = (λ e. absurd (cc), λ w. absurd (omega (arith, w.1)));
-    }
+-- no sibling is before the first node of a block
+none_before : (x : Nodes) (s : Selector) (q : Path) → Before x s q 0 → ⊥
+none_before x s q w = let lt : w.0 < 0 = w.1 in absurd (omega (arith, lt))
+
+none_just_before : (x : Nodes) (s : Selector) (q : Path) → JustBefore x s q 0 → ⊥
+none_just_before x s q w = absurd (omega (arith, w.1))
+
+-- what the marks tell in the block of the node
+pub knows_inside : (x : Nodes) (q : Path) (i : ℕ) (s : Selector) (o : Option Combinator) (m : Marks) (b : Bool) → Knows x q i (option_map (λ c. (s, c)) o) m.here → Decides b (Reaches x s (q ++ i ∷ []))
+    → Knows x (q ++ i ∷ []) 0 (option_map (λ c. (s, c)) o) (marked o b true m).inside
+knows_inside x q i s None m b h d = tt
+knows_inside x q i s (Some Child) m b h d = d
+knows_inside x q i s (Some NextSibling) m b h d = never (JustBefore x s (q ++ i ∷ []) 0) (none_just_before x s (q ++ i ∷ []))
+knows_inside x q i s (Some LaterSibling) m b h d = never (Before x s (q ++ i ∷ []) 0) (none_before x s (q ++ i ∷ []))
+knows_inside x q i s (Some Descendant) m b h d = Decides-like (m.here || b) (from_either x s q i) (to_either x s q i) (Decides-or m.here b h d)
   where
     from_either : (x : Nodes) (s : Selector) (q : Path) (i : ℕ) → Around x s q ⊎ Reaches x s (q ++ i ∷ []) → Around x s (q ++ i ∷ [])
     from_either x s q i (inl w) = (w.0, w.1 ++ i ∷ [], ap (λ l. l ++ i ∷ []) w.2 ∙ append_assoc w.0 w.1 (i ∷ []), w.3)
@@ -171,10 +182,16 @@ first_nil : (a b : Path) → [] ≡ a ++ b → a ≡ []
 first_nil [] b e = refl
 first_nil (i ∷ a) b e = absurd (cc e)
 
-pub knows_at_top : (x : Nodes) (s : Selector) (b : Bool) → Decides b (Reaches x s []) → Knows x [] 0 s (at_top b)
-knows_at_top x s b d = record {
-  parent = d;
-  ancestor = Decides-like b (λ h. ([], [], refl, h)) (λ w. let P : Path → Type 0 = λ t. Reaches x s t in subst P (first_nil w.0 w.1 w.2) w.3) d;
-  previous = (λ e. absurd (cc), λ w. absurd (omega (arith, w.1)));
-  earlier = (λ e. absurd (cc), λ w. absurd (omega (arith, w.1)));
-}
+pub knows_top : (x : Nodes) (o : Option Combinator) → Knows x [] 0 (option_map (λ c. (top, c)) o) (begins Document o)
+knows_top x None = tt
+knows_top x (Some Child) = (λ _. refl, λ _. refl)
+knows_top x (Some Descendant) = (λ _. ([], [], refl, refl), λ _. refl)
+knows_top x (Some NextSibling) = never (JustBefore x top [] 0) (none_just_before x top [])
+knows_top x (Some LaterSibling) = never (Before x top [] 0) (none_before x top [])
+
+pub knows_other : (x : Nodes) (s : Selector) (o : Option Combinator) → (Reaches x s [] → ⊥) → Knows x [] 0 (option_map (λ c. (s, c)) o) false
+knows_other x s None f = tt
+knows_other x s (Some Child) f = never (Reaches x s []) f
+knows_other x s (Some Descendant) f = never (Around x s []) (λ w. let P : Path → Type 0 = λ t. Reaches x s t in f (subst P (first_nil w.0 w.1 w.2) w.3))
+knows_other x s (Some NextSibling) f = never (JustBefore x s [] 0) (none_just_before x s [])
+knows_other x s (Some LaterSibling) f = never (Before x s [] 0) (none_before x s [])

@@ -1,5 +1,5 @@
 -- A walk visits each node of a document once, in order, and tells of each whether it is selected.
-use Rattle.std.proofs.Common.{◌≡◌, ℕ, zero, suc, ◌+◌, ◌<◌, List, [], ◌∷◌, ◌++◌, map, Option, Some, None, ◌⊎◌, inl, inr, Decides, refl, ap, ◌∙◌, sym, subst, arith, slice_get, option_and_then}
+use Rattle.std.proofs.Common.{◌≡◌, ℕ, zero, suc, true, ◌+◌, ◌<◌, List, [], ◌∷◌, ◌++◌, map, Option, Some, None, ◌⊎◌, inl, inr, Decides, refl, ap, ◌∙◌, sym, subst, arith, slice_get, option_and_then}
 use Rattle.std.specs.List.{AllByRecursion}
 use Rattle.std.proofs.lemmas.List.{append_assoc, map-append}
 use Rattle.kdl_text.specs.Chars.{Text}
@@ -7,7 +7,7 @@ use Rattle.kdl_entry.specs.Data.{Entry}
 use Rattle.kdl_grammar.specs.Data.{Node, node, Children, no_children, children, Nodes, none, first}
 use Rattle.kdl.specs.Said.{said_child_nodes, said_nodes}
 use Rattle.kdl_query.specs.Selects.{IsBefore, Path, node_at, node_below}
-use Rattle.kdl_query.specs.Internal.Parts.{PartSays, entered}
+use Rattle.kdl_query.specs.Internal.Parts.{PartSays, entered, has_block}
 use Rattle.kdl_query.specs.Internal.Visits.{Visited, next_parts, visits, visits_below, visits_inside}
 use Rattle.kdl_query.proofs.Seeing.{Sees, sees_after, sees_ends, sees_inside}
 
@@ -65,18 +65,18 @@ mutual
       let w' = sees_after x S q i ps n w e in (
         record { there = e; selected = sees_ends x S q i ps n w e },
         each_append (Tells x S) (visits_inside (q ++ i ∷ []) (entered (next_parts n ps)) n) (visits q (suc i) (next_parts n ps) y)
-            (tells_inside x S q i (next_parts n ps) n (sees_inside x S q i (next_parts n ps) w') (under_inside x q i n e))
+            (tells_inside x S q i (next_parts n ps) n (sees_inside x S q i ps n w e) (under_inside x q i n e))
             (tells_visits x S q (suc i) (next_parts n ps) y w' (under_rest x q i n (said_nodes y) u)),
       )
 
-  tells_inside : (x : Nodes) (S : Path → Type 0) (q : Path) (i : ℕ) (ps : List PartSays) (n : Node) → Sees x S (q ++ i ∷ []) 0 (entered ps) → Under x (q ++ i ∷ []) 0 (said_child_nodes n)
+  tells_inside : (x : Nodes) (S : Path → Type 0) (q : Path) (i : ℕ) (ps : List PartSays) (n : Node) → (has_block n ≡ true → Sees x S (q ++ i ∷ []) 0 (entered ps)) → Under x (q ++ i ∷ []) 0 (said_child_nodes n)
       → AllTell x S (visits_inside (q ++ i ∷ []) (entered ps) n)
   tells_inside x S q i ps (node t s es k) w u = tells_below x S (q ++ i ∷ []) (entered ps) t s es k w u
 
-  tells_below : (x : Nodes) (S : Path → Type 0) (q : Path) (ps : List PartSays) (t : Option Text) (s : Text) (es : List Entry) (k : Children) → Sees x S q 0 ps → Under x q 0 (said_child_nodes (node t s es k))
+  tells_below : (x : Nodes) (S : Path → Type 0) (q : Path) (ps : List PartSays) (t : Option Text) (s : Text) (es : List Entry) (k : Children) → (has_block (node t s es k) ≡ true → Sees x S q 0 ps) → Under x q 0 (said_child_nodes (node t s es k))
       → AllTell x S (visits_below q ps k)
   tells_below x S q ps t s es no_children w u = tt
-  tells_below x S q ps t s es (children y) w u = tells_visits x S q 0 ps y w u
+  tells_below x S q ps t s es (children y) w u = tells_visits x S q 0 ps y (w refl) u
 
 pub all_tell : (x : Nodes) (S : Path → Type 0) (ps : List PartSays) → Sees x S [] 0 ps → AllTell x S (visits [] 0 ps x)
 all_tell x S ps w = tells_visits x S [] 0 ps x w (λ j. let z : 0 + j ≡ j = omega arith in ap (λ k. node_at (k ∷ []) x) z ∙ last (slice_get (said_nodes x) j))

@@ -28,7 +28,7 @@ pub fn query_paths(
 
 /// Returns the paths as `query_paths` does, and adds the steps to the count, which saturates at `u64::MAX`. A step is one
 /// look at a node for one part of the query, which is `top()` or a test of a node: each node is looked at once for each
-/// part. If an allocation fails, the count is as it was.
+/// part, and tested only where the result depends on it. If an allocation fails, the count is as it was.
 ///
 /// ```
 /// let mut steps = Steps::new();

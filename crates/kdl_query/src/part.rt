@@ -1,10 +1,9 @@
 //! The parts of a query's selectors, and where they are reached.
 
 ghost use Rattle.kdl.specs.Tree.{node_says};
-ghost use Rattle.kdl_query.specs.Internal.Parts.{all_parts, at_top, after, ends, entered_part, fresh, inside, is_reached, leads_on, part_says, parts_to, query_parts, step_part, visited};
+ghost use Rattle.kdl_query.specs.Internal.Parts.{after, all_parts, begins, ends, ends_at, entered_part, fresh, has_block, is_reached, leads_on, next_of, part_says, parts_to, query_parts, step_parts, visited};
 ghost use Rattle.kdl_query.specs.Tree.{first_says, node_test_says, query_says, selector_says};
-ghost use Rattle.kdl_text.specs.Spans.{raise};
-ghost use Rattle.std.specs.Prelude.{◌≡◌, ◌++◌, ◌∷◌, [], IfOk, OnOk, Some, length, map, option_map, false};
+ghost use Rattle.std.specs.Prelude.{◌≡◌, ◌++◌, IfOk, OnOk, map, option_map, false};
 
 use crate::test::meets;
 use crate::tree::{Combinator, First, NodeTest, Query, Selector, Step};
@@ -18,21 +17,17 @@ pub(crate) enum Link {
     Document,
     /// Nothing: the selector begins with it.
     Start,
-    /// The part before it, by a combinator.
-    After(Combinator),
+    /// The part before it.
+    After,
 }
 
-/// Where a part of a selector is reached, seen from a place among the nodes of a block.
+/// Whether a node may reach the part after this one, seen from a place among the nodes of a block.
 #[derive(Clone, Copy)]
 pub(crate) struct Marks {
-    /// At the node of the block, or at the document.
-    pub(crate) parent: bool,
-    /// At that node, or at a node or document around it.
-    pub(crate) ancestor: bool,
-    /// At the node directly before the place.
-    pub(crate) previous: bool,
-    /// At some node before the place.
-    pub(crate) earlier: bool,
+    /// The next node may.
+    pub(crate) here: bool,
+    /// The first node in the block of the node that was visited last may.
+    pub(crate) inside: bool,
 }
 
 /// A part of a selector, with its marks.
@@ -41,105 +36,114 @@ pub(crate) struct Part<'q> {
     pub(crate) link: Link,
     /// What a node has to meet, or any node.
     pub(crate) test: Option<&'q NodeTest>,
-    /// Whether the selector ends with it.
-    pub(crate) is_last: bool,
+    /// What leads to the part after it, or `None` if the selector ends with it.
+    pub(crate) next: Option<Combinator>,
     pub(crate) marks: Marks,
 }
 
-impl Marks {
-    /// The marks before the first top-level node.
-    fn at_top(is_document: bool) -> Marks
-        ensures { result ≡ at_top is_document }
-    {
-        Marks {
-            parent: is_document,
-            ancestor: is_document,
-            previous: false,
-            earlier: false,
-        }
-    }
-
-    /// The marks after a node.
-    fn after(self, is_reached: bool) -> Marks
-        ensures { result ≡ after is_reached self }
-    {
-        Marks {
-            previous: is_reached,
-            earlier: self.earlier || is_reached,
-            ..self
-        }
-    }
-
-    /// The marks before the first node in the block of the node that was visited last.
-    fn inside(self) -> Marks
-        ensures { result ≡ inside self }
-    {
-        Marks {
-            parent: self.previous,
-            ancestor: self.ancestor || self.previous,
-            previous: false,
-            earlier: false,
-        }
-    }
+/// Whether the node has a block.
+fn has_block(node: &KdlNode) -> bool
+    ensures { result ≡ has_block (node_says node.now) }
+{
+    node.children().is_some()
 }
 
 impl Link {
-    /// Whether the next node may reach the part, given the marks of the part before it.
-    fn leads_on(self, before: Marks) -> bool
+    /// Whether a first node may reach the part after this one.
+    fn begins(self, next: Option<Combinator>) -> bool
+        ensures { result ≡ begins self next }
+    {
+        match (self, next) {
+            (Link::Document, Some(Combinator::Child | Combinator::Descendant)) => true,
+            _ => false,
+        }
+    }
+
+    /// Whether a node may reach the part, given whether it may by the part before it.
+    fn leads_on(self, before: bool) -> bool
         ensures { result ≡ leads_on self before }
     {
         match self {
             Link::Document => false,
             Link::Start => true,
-            Link::After(Combinator::Child) => before.parent,
-            Link::After(Combinator::Descendant) => before.ancestor,
-            Link::After(Combinator::NextSibling) => before.previous,
-            Link::After(Combinator::LaterSibling) => before.earlier,
+            Link::After => before,
         }
     }
 }
 
 impl<'q> Part<'q> {
-    fn new(link: Link, test: Option<&'q NodeTest>, is_last: bool) -> Part<'q>
-        ensures { part_says result ≡ fresh link (option_map (λ t. node_test_says t.now) test.entry) is_last }
+    fn new(link: Link, test: Option<&'q NodeTest>, next: Option<Combinator>) -> Part<'q>
+        ensures { part_says result ≡ fresh link (option_map (λ t. node_test_says t.now) test.entry) next }
     {
-        let is_document = matches!(link, Link::Document);
         Part {
             link,
             test,
-            is_last,
-            marks: Marks::at_top(is_document),
+            next,
+            marks: Marks {
+                here: link.begins(next),
+                inside: false,
+            },
         }
     }
 
-    /// Whether the node reaches the part. Counts one look.
-    fn is_reached(&self, before: Marks, node: &KdlNode, count: &mut u64) -> bool
-        ensures reached { result ≡ is_reached (part_says self.now) before (node_says node.now) }
-        ensures counted { count.new ≡ raise count.old 1 }
+    /// Whether the node reaches the part, given whether it may by the part before it.
+    fn is_reached(&self, before: bool, node: &KdlNode) -> bool
+        ensures { result ≡ is_reached (part_says self.now) before (node_says node.now) }
     {
-        *count = count.saturating_add(1);
         self.link.leads_on(before)
             && match self.test {
                 Some(test) => meets(node, test),
                 None => true,
             }
     }
+
+    /// The marks after the node. The node is tested only if they depend on it.
+    fn marks_after(&self, before: bool, node: &KdlNode) -> Marks
+        ensures { result ≡ after (part_says self.now) before (node_says node.now) }
+    {
+        let Marks { here, .. } = self.marks;
+        match self.next {
+            Some(Combinator::Child) => Marks {
+                here,
+                inside: has_block(node) && self.is_reached(before, node),
+            },
+            Some(Combinator::Descendant) => Marks {
+                here,
+                inside: here || has_block(node) && self.is_reached(before, node),
+            },
+            Some(Combinator::NextSibling) => Marks {
+                here: self.is_reached(before, node),
+                inside: false,
+            },
+            Some(Combinator::LaterSibling) => Marks {
+                here: here || self.is_reached(before, node),
+                inside: false,
+            },
+            None => self.marks,
+        }
+    }
+
+    /// Whether the selector ends with the part, and the node reaches it.
+    fn ends(&self, before: bool, node: &KdlNode) -> bool
+        ensures { result ≡ ends_at (part_says self.now) before (node_says node.now) }
+    {
+        self.next.is_none() && self.is_reached(before, node)
+    }
 }
 
-/// Visits the next node, and returns whether a selector ends there. Counts a look for each part.
-pub(crate) fn visit(parts: &mut [Part<'_>], node: &KdlNode, count: &mut u64) -> bool
+/// Visits the next node, and returns whether a selector ends there.
+pub(crate) fn visit(parts: &mut [Part<'_>], node: &KdlNode) -> bool
     ensures parts { map part_says parts.new ≡
-        visited (node_says node.now) (at_top false) (map part_says parts.old) }
-    ensures ends { result ≡ ends (node_says node.now) (at_top false) (map part_says parts.old) }
-    ensures counted { raise count.new 0 ≡ raise count.old (length (map part_says parts.old)) }
+        visited (node_says node.now) false (map part_says parts.old) }
+    ensures ends { result ≡ ends (node_says node.now) false (map part_says parts.old) }
 {
     let mut is_selected = false;
-    let mut before = Marks::at_top(false);
+    let mut before = false;
     for part in parts.iter_mut() {
-        let is_reached = part.is_reached(before, node, count);
-        before = part.marks;
-        part.marks = before.after(is_reached);
-        is_selected = is_selected || is_reached && part.is_last;
+        is_selected = is_selected || part.ends(before, node);
+        let here = part.marks.here;
+        part.marks = part.marks_after(before, node);
+        before = here;
     }
     is_selected
 }
@@ -151,35 +155,40 @@ pub(crate) fn enter<'q>(entered: &mut Vec<Part<'q>>, parts: &[Part<'q>]) -> Resu
     entered.clear();
     entered.extend(
         parts.iter().map(|part| Part {
-            marks: part.marks.inside(),
+            marks: Marks {
+                here: part.marks.inside,
+                inside: false,
+            },
             ..*part
         }),
     )
 }
 
-/// Appends the first part of a selector.
+/// What leads to the first of the steps.
+fn next_of(steps: &[Step]) -> Option<Combinator>
+    ensures { result ≡ next_of steps.now }
+{
+    match steps.first() {
+        Some(step) => Some(step.combinator),
+        None => None,
+    }
+}
+
+/// Appends the first part of a selector, before these steps.
 fn push_first<'q>(
     parts: &mut Vec<Part<'q>>,
     first: &'q First,
-    is_last: bool,
+    steps: &[Step],
 ) -> Result<(), AllocError>
     ensures { OnOk result (map part_says parts.new.items
-        ≡ map part_says parts.old.items ++ parts_to is_last (first_says first.now)) }
+        ≡ map part_says parts.old.items ++ parts_to (next_of steps.now) (first_says first.now)) }
 {
+    let next = next_of(steps);
     let part = match first {
-        First::Top => Part::new(Link::Document, None, is_last),
-        First::Node(test) => Part::new(Link::Start, Some(test), is_last),
+        First::Top => Part::new(Link::Document, None, next),
+        First::Node(test) => Part::new(Link::Start, Some(test), next),
     };
     parts.push(part)?;
-    Ok(())
-}
-
-/// Appends the part of a step.
-fn push_step<'q>(parts: &mut Vec<Part<'q>>, step: &'q Step, is_last: bool) -> Result<(), AllocError>
-    ensures { OnOk result (map part_says parts.new.items
-        ≡ map part_says parts.old.items ++ step_part is_last step.now ∷ []) }
-{
-    parts.push(Part::new(Link::After(step.combinator), Some(&step.node), is_last))?;
     Ok(())
 }
 
@@ -190,22 +199,22 @@ fn push_alone<'q>(parts: &mut Vec<Part<'q>>, first: &'q First) -> Result<(), All
 {
     match first {
         First::Top => {
-            push_first(parts, first, false)?;
-            parts.push(Part::new(Link::After(Combinator::Child), None, true))?;
+            parts.push(Part::new(Link::Document, None, Some(Combinator::Child)))?;
+            parts.push(Part::new(Link::After, None, None))?;
             Ok(())
         }
-        First::Node(_) => push_first(parts, first, true),
+        First::Node(_) => push_first(parts, first, &[]),
     }
 }
 
 /// Appends the parts of steps.
 fn push_steps<'q>(parts: &mut Vec<Part<'q>>, steps: &'q [Step]) -> Result<(), AllocError>
     ensures { OnOk result (map part_says parts.new.items
-        ≡ map part_says parts.old.items ++ map (step_part false) steps.now) }
+        ≡ map part_says parts.old.items ++ step_parts steps.now) }
 {
     let mut rest = steps;
     while let Some((step, after)) = rest.split_first() {
-        push_step(parts, step, false)?;
+        parts.push(Part::new(Link::After, Some(&step.node), next_of(after)))?;
         rest = after;
     }
     Ok(())
@@ -216,12 +225,12 @@ fn push_selector<'q>(parts: &mut Vec<Part<'q>>, selector: &'q Selector) -> Resul
     ensures { OnOk result (map part_says parts.new.items
         ≡ map part_says parts.old.items ++ all_parts (selector_says selector.now)) }
 {
-    let Some((last, steps)) = selector.steps.as_slice().split_last() else {
+    let steps = selector.steps.as_slice();
+    if steps.is_empty() {
         return push_alone(parts, &selector.first);
-    };
-    push_first(parts, &selector.first, false)?;
+    }
+    push_first(parts, &selector.first, steps)?;
     push_steps(parts, steps)?;
-    push_step(parts, last, true)?;
     Ok(())
 }
 

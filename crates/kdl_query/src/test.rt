@@ -20,7 +20,7 @@ use kdl::{KdlEntry, KdlNode, NodeKey};
 pub(crate) fn meets(node: &KdlNode, test: &NodeTest) -> bool
     ensures { result ≡ meets (node_test_says test.now) (node_says node.now) }
 {
-    meets_type(node, &test.node_type) && meets_name(node, &test.name) && all_hold(&test.tests, node)
+    meets_name(node, &test.name) && meets_type(node, &test.node_type) && all_hold(&test.tests, node)
 }
 
 /// Whether each test holds of the node.

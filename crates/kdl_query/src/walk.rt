@@ -1,7 +1,7 @@
 //! One walk over the nodes of a document, in its order.
 
 ghost use Rattle.kdl.specs.Tree.{document_says, node_says};
-ghost use Rattle.kdl_query.specs.Internal.Parts.{at_top, ends, part_says};
+ghost use Rattle.kdl_query.specs.Internal.Parts.{ends, part_says};
 ghost use Rattle.kdl_query.specs.Internal.Visits.{all_visits, came_to, inside_last, level_says, levels_of, next_parts, path_of, walk_due};
 ghost use Rattle.kdl_query.specs.Tree.{query_says};
 ghost use Rattle.kdl_text.specs.Spans.{raise};
@@ -74,13 +74,13 @@ impl<'a, 'q> Level<'a, 'q> {
           current = self.old.next;
           parts = next_parts (node_says node.now) (level_says self.old).parts;
         } }
-        ensures ends { result
-            ≡ ends (node_says node.now) (at_top false) (level_says self.old).parts }
+        ensures ends { result ≡ ends (node_says node.now) false (level_says self.old).parts }
         ensures counted { raise count.new 0 ≡ raise count.old (length (level_says self.old).parts) }
     {
         self.current = self.next;
         self.next += 1;
-        visit(self.parts.as_mut_slice(), node, count)
+        *count = count.saturating_add(self.parts.len() as u64);
+        visit(self.parts.as_mut_slice(), node)
     }
 }
 

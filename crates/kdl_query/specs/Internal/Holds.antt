@@ -133,4 +133,4 @@ abbrev pub is_named_if : Option Text → Text → Bool
 is_named_if o n = option_map_or (λ s. same_text n s) o true
 
 abbrev pub meets : NodeTest → Node → Bool
-meets t n = is_typed_if t.ty (said_type n) && is_named_if t.name (said_name n) && list_all (λ u. holds u n) t.tests
+meets t n = is_named_if t.name (said_name n) && is_typed_if t.ty (said_type n) && list_all (λ u. holds u n) t.tests

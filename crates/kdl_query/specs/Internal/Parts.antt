@@ -1,7 +1,8 @@
 -- The parts of a query's selectors, and where they are reached.
 use Rattle.std.specs.List.{flat_map}
 use Rattle.std.specs.Option.{option_map_or}
-use Rattle.std.specs.Prelude.{Bool, true, false, ◌&&◌, ◌||◌, List, [], ◌∷◌, ◌++◌, Option, Some, None, map, option_map}
+use Rattle.std.specs.Prelude.{Bool, true, false, ◌&&◌, ◌||◌, List, [], ◌∷◌, ◌++◌, Option, Some, None, is_none, is_some, map, option_map}
+use Rattle.kdl.specs.Said.{said_children}
 use Rattle.kdl_grammar.specs.Data.{Node}
 use Rattle.kdl_query.specs.Data as data'
 use Rattle.kdl_query.specs.Data.{NodeTest, Selector}
@@ -11,87 +12,107 @@ use Rattle.kdl_query.specs.declared.part.Link.{Link}
 use Rattle.kdl_query.specs.declared.part.Link.TheVariants.{Document, Start, After}
 use Rattle.kdl_query.specs.declared.part.Marks.{Marks}
 use Rattle.kdl_query.specs.declared.part.Part.{Part}
-use Rattle.kdl_query.specs.declared.tree.Step.{Step}
+use Rattle.kdl_query.specs.declared.tree.Combinator.{Combinator}
 use Rattle.kdl_query.specs.declared.tree.Combinator.TheVariants.{Child, Descendant, NextSibling, LaterSibling}
+use Rattle.kdl_query.specs.declared.tree.Step.{Step}
 
--- a part: its link, its test, whether the selector ends with it, its marks
+-- a part: its link, its test, what leads to the part after it, its marks
 pub record PartSays : Type 0 where
   pub link : Link
   pub test : Option NodeTest
-  pub is_last : Bool
+  pub next : Option Combinator
   pub marks : Marks
 
 abbrev pub part_says : Part → PartSays
-part_says p = record { link = p.link; test = option_map (λ t. node_test_says t.now) p.test; is_last = p.is_last; marks = p.marks }
+part_says p = record { link = p.link; test = option_map (λ t. node_test_says t.now) p.test; next = p.next; marks = p.marks }
 
--- the marks before the first top-level node, after a node, and before the first node in its block
-abbrev pub at_top : Bool → Marks
-at_top b = record { parent = b; ancestor = b; previous = false; earlier = false }
+-- the node has a block
+abbrev pub has_block : Node → Bool
+has_block n = is_some (said_children n)
 
-abbrev pub after : Bool → Marks → Marks
-after b m = record { parent = m.parent; ancestor = m.ancestor; previous = b; earlier = m.earlier || b }
+-- a first node may reach the part after one with this link
+abbrev pub begins : Link → Option Combinator → Bool
+begins Document (Some Child) = true
+begins Document (Some Descendant) = true
+begins Document _ = false
+begins Start _ = false
+begins After _ = false
 
-abbrev pub inside : Marks → Marks
-inside m = record { parent = m.previous; ancestor = m.ancestor || m.previous; previous = false; earlier = false }
-
--- the next node may reach a part, given the marks of the part before it
-abbrev pub leads_on : Link → Marks → Bool
-leads_on Document m = false
-leads_on Start m = true
-leads_on (After Child) m = m.parent
-leads_on (After Descendant) m = m.ancestor
-leads_on (After NextSibling) m = m.previous
-leads_on (After LaterSibling) m = m.earlier
+-- a node may reach a part, given whether it may by the part before it
+abbrev pub leads_on : Link → Bool → Bool
+leads_on Document b = false
+leads_on Start b = true
+leads_on After b = b
 
 abbrev pub passes : Option NodeTest → Node → Bool
 passes o n = option_map_or (λ t. meets t n) o true
 
 -- the node reaches it
-abbrev pub is_reached : PartSays → Marks → Node → Bool
-is_reached p m n = leads_on p.link m && passes p.test n
+abbrev pub is_reached : PartSays → Bool → Node → Bool
+is_reached p b n = leads_on p.link b && passes p.test n
+
+-- the marks after a node, given whether it reaches the part and whether it has a block
+abbrev pub marked : Option Combinator → Bool → Bool → Marks → Marks
+marked (Some Child) r k m = record { here = m.here; inside = k && r }
+marked (Some Descendant) r k m = record { here = m.here; inside = m.here || (k && r) }
+marked (Some NextSibling) r k m = record { here = r; inside = false }
+marked (Some LaterSibling) r k m = record { here = m.here || r; inside = false }
+marked None r k m = m
+
+abbrev pub after : PartSays → Bool → Node → Marks
+after p b n = marked p.next (is_reached p b n) (has_block n) p.marks
+
+-- those before the first node in the block of the one visited last
+abbrev pub entering : Marks → Marks
+entering m = record { here = m.inside; inside = false }
 
 abbrev pub with_marks : PartSays → Marks → PartSays
-with_marks p m = record { link = p.link; test = p.test; is_last = p.is_last; marks = m }
+with_marks p m = record { link = p.link; test = p.test; next = p.next; marks = m }
 
--- the parts after a node, given the marks of the part before them, and whether a selector ends there
-abbrev pub visited : Node → Marks → List PartSays → List PartSays
-visited n m [] = []
-visited n m (p ∷ ps) = with_marks p (after (is_reached p m n) p.marks) ∷ visited n p.marks ps
+-- the selector ends with the part, and the node reaches it
+abbrev pub ends_at : PartSays → Bool → Node → Bool
+ends_at p b n = is_none p.next && is_reached p b n
 
-abbrev pub ends : Node → Marks → List PartSays → Bool
-ends n m [] = false
-ends n m (p ∷ ps) = (is_reached p m n && p.is_last) || ends n p.marks ps
+-- the parts after a node, given whether it may reach the first of them, and whether a selector ends there
+abbrev pub visited : Node → Bool → List PartSays → List PartSays
+visited n b [] = []
+visited n b (p ∷ ps) = with_marks p (after p b n) ∷ visited n p.marks.here ps
+
+abbrev pub ends : Node → Bool → List PartSays → Bool
+ends n b [] = false
+ends n b (p ∷ ps) = ends_at p b n || ends n p.marks.here ps
 
 -- the parts before the first node in the block of the one visited last
 abbrev pub entered_part : Part → Part
-entered_part p = record p { marks = inside p.marks }
+entered_part p = record p { marks = entering p.marks }
 
 abbrev pub entered : List PartSays → List PartSays
-entered ps = map (λ p. with_marks p (inside p.marks)) ps
+entered ps = map (λ p. with_marks p (entering p.marks)) ps
 
 -- a part before the first top-level node
-abbrev pub is_document : Link → Bool
-is_document Document = true
-is_document _ = false
+abbrev pub fresh : Link → Option NodeTest → Option Combinator → PartSays
+fresh l t o = record { link = l; test = t; next = o; marks = record { here = begins l o; inside = false } }
 
-abbrev pub fresh : Link → Option NodeTest → Bool → PartSays
-fresh l t b = record { link = l; test = t; is_last = b; marks = at_top (is_document l) }
+-- the parts of a selector, given what leads on from it
+abbrev pub parts_to : Option Combinator → Selector → List PartSays
+parts_to o data'.top = fresh Document None o ∷ []
+parts_to o (data'.start t) = fresh Start (Some t) o ∷ []
+parts_to o (data'.then s c t) = parts_to (Some c) s ++ fresh After (Some t) o ∷ []
 
--- the parts of a selector, and whether the last is the end of it
-abbrev pub parts_to : Bool → Selector → List PartSays
-parts_to b data'.top = fresh Document None b ∷ []
-parts_to b (data'.start t) = fresh Start (Some t) b ∷ []
-parts_to b (data'.then s c t) = parts_to false s ++ fresh (After c) (Some t) b ∷ []
+-- what leads to the first of the steps, and the parts of steps
+abbrev pub next_of : List Step → Option Combinator
+next_of [] = None
+next_of (s ∷ ss) = Some s.combinator
 
--- the part of a step
-abbrev pub step_part : Bool → Step → PartSays
-step_part b s = fresh (After s.combinator) (Some (node_test_says s.node)) b
+abbrev pub step_parts : List Step → List PartSays
+step_parts [] = []
+step_parts (s ∷ ss) = fresh After (Some (node_test_says s.node)) (next_of ss) ∷ step_parts ss
 
 -- the parts of a whole selector; from the document alone it leads to each top-level node
 abbrev pub all_parts : Selector → List PartSays
-all_parts data'.top = fresh Document None false ∷ fresh (After Child) None true ∷ []
-all_parts (data'.start t) = parts_to true (data'.start t)
-all_parts (data'.then s c t) = parts_to true (data'.then s c t)
+all_parts data'.top = fresh Document None (Some Child) ∷ fresh After None None ∷ []
+all_parts (data'.start t) = parts_to None (data'.start t)
+all_parts (data'.then s c t) = parts_to None (data'.then s c t)
 
 abbrev pub query_parts : data'.Query → List PartSays
 query_parts q = flat_map all_parts q

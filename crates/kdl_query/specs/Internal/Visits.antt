@@ -6,7 +6,7 @@ use Rattle.kdl.specs.Tree.{node_says}
 use Rattle.kdl_grammar.specs.Data.{Node, node, Children, no_children, children, Nodes, none, first}
 use Rattle.kdl_query.specs.Data.{Query}
 use Rattle.kdl_query.specs.Selects.{Path}
-use Rattle.kdl_query.specs.Internal.Parts.{PartSays, at_top, ends, entered, part_says, query_parts, visited}
+use Rattle.kdl_query.specs.Internal.Parts.{PartSays, ends, entered, part_says, query_parts, visited}
 use Rattle.kdl_query.specs.declared.walk.Level.{Level}
 use Rattle.kdl_query.specs.declared.walk.Visit.{Visit}
 use Rattle.kdl_query.specs.declared.walk.Walk.{Walk}
@@ -20,10 +20,10 @@ pub record Visited : Type 0 where
   pub looks : ℕ
 
 abbrev pub next_parts : Node → List PartSays → List PartSays
-next_parts n ps = visited n (at_top false) ps
+next_parts n ps = visited n false ps
 
 abbrev pub visit_of : Path → List PartSays → Node → Visited
-visit_of p ps n = record { path = p; said = n; is_selected = ends n (at_top false) ps; looks = length ps }
+visit_of p ps n = record { path = p; said = n; is_selected = ends n false ps; looks = length ps }
 
 abbrev mutual
   -- the nodes from place i on in the block at q, and those inside them

@@ -2,7 +2,7 @@ use Rattle.std.proofs.Common.{◌≡◌, ℕ, ◌-◌, ◌<◌, Bool, false, Lis
 use Rattle.std.proofs.lemmas.List.{map-append}
 use Rattle.kdl.specs.Tree.{node_says}
 use Rattle.kdl_text.specs.Spans.{raise}
-use Rattle.kdl_query.specs.Internal.Parts.{at_top, ends}
+use Rattle.kdl_query.specs.Internal.Parts.{ends}
 use Rattle.kdl_query.specs.Internal.Visits.{LevelSays, Visited, due, inside_last, last_parts, level_says, path_of}
 use Rattle.kdl_query.specs.declared.walk.Level.{Level}
 use Rattle.kdl_query.proofs.Counting.{last_length}
@@ -28,7 +28,7 @@ returns-in-Some-next_node-clause-due c =
     let F : List LevelSays → Bool → ℕ → List Visited = λ ks b m. record { path = path_of ks; said = n; is_selected = b; looks = m } ∷ (inside_last ks n ++ due [] ks) in
     let after = map level_says (slice_set v.items (v.len - 1) c.visit-is_selected.new.self) in
     sym c.loop-level.invariant.due ∙ ap (λ ks. due [] (map level_says ks)) before ∙ ap (due []) (map-append level_says front (c.in-Some.level.now ∷ [])) ∙ next
-    ∙ ap (λ ks. F ks (ends n (at_top false) l.parts) (length l.parts)) (sym levels) ∙ ap (λ b. F after b (length l.parts)) (sym c.visit-is_selected.ensures.ends)
+    ∙ ap (λ ks. F ks (ends n false l.parts) (length l.parts)) (sym levels) ∙ ap (λ b. F after b (length l.parts)) (sym c.visit-is_selected.ensures.ends)
     ∙ ap (F after c.visit-is_selected.result) (sym looks)
 
 pub returns-in-Some-next_node-clause-counted : goal.returns-in-Some-next_node-clause-counted
