@@ -1,5 +1,5 @@
 -- What bytes begin with, by cases.
-use Rattle.std.proofs.Common.{◌≡◌, ℕ, ◌+◌, ◌<◌, ◌≤◌, Bool, true, false, not, nat_le, Option, None, Some, is_some, option_and_then, List, length, take, drop, refl, sym, ap, ◌∙◌, inl, inr, arith}
+use Rattle.std.proofs.Common.{◌≡◌, ℕ, ◌+◌, ◌<◌, ◌≤◌, Bool, true, false, nat_le, Option, None, Some, is_none, option_and_then, List, length, take, drop, refl, sym, ap, ◌∙◌, inl, inr, arith}
 use Rattle.std.specs.Option.{option_map_or}
 use Rattle.std.proofs.lemmas.Bool.{cases_Bool, cond-true, cond-false, le-leb, leb-true, lt-leb}
 use Rattle.std.proofs.lemmas.List.{drop-drop, length-drop, length-take}
@@ -12,7 +12,7 @@ abbrev pub IsNone : List ℕ → Bool → Type 0
 IsNone bytes bad = (frame_in bytes ≡ None) × (is_bad bytes ≡ bad)
 
 abbrev bad_by : List ℕ → Option ℕ → Bool
-bad_by bytes o = option_map_or (λ size. not (is_some (length_in (take size bytes)))) o (nat_le most (length bytes))
+bad_by bytes o = option_map_or (λ size. is_none (length_in (take size bytes))) o (nat_le most (length bytes))
 
 pub headless_part : (bytes : List ℕ) → head_size bytes ≡ None → length bytes < most → IsNone bytes false
 unfolding frame_in is_bad
@@ -25,12 +25,12 @@ headless_bad bytes e l = (ap (option_and_then _) e, ap (bad_by bytes) e ∙ le-l
 pub lengthless : (bytes : List ℕ) (size : ℕ) → head_size bytes ≡ Some size → length_in (take size bytes) ≡ None → IsNone bytes true
 unfolding frame_in is_bad
 lengthless bytes size e h =
-    (ap (option_and_then _) e ∙ ap (option_and_then _) h, ap (bad_by bytes) e ∙ ap (λ (o : Option ℕ). not (is_some o)) h)
+    (ap (option_and_then _) e ∙ ap (option_and_then _) h, ap (bad_by bytes) e ∙ ap (λ (o : Option ℕ). is_none o) h)
 
 pub bodiless : (bytes : List ℕ) (size n : ℕ) → head_size bytes ≡ Some size → length_in (take size bytes) ≡ Some n → length (drop (size + 4) bytes) < n → IsNone bytes false
 unfolding frame_in is_bad
 bodiless bytes size n e h l =
-    (ap (option_and_then _) e ∙ ap (option_and_then _) h ∙ cond-false _ _ _ (lt-leb n (length (drop (size + 4) bytes)) l), ap (bad_by bytes) e ∙ ap (λ (o : Option ℕ). not (is_some o)) h)
+    (ap (option_and_then _) e ∙ ap (option_and_then _) h ∙ cond-false _ _ _ (lt-leb n (length (drop (size + 4) bytes)) l), ap (bad_by bytes) e ∙ ap (λ (o : Option ℕ). is_none o) h)
 
 pub whole : (bytes : List ℕ) (size n : ℕ) → head_size bytes ≡ Some size → length_in (take size bytes) ≡ Some n → n ≤ length (drop (size + 4) bytes) → frame_in bytes ≡ Some (take n (drop (size + 4) bytes), drop n (drop (size + 4) bytes))
 unfolding frame_in

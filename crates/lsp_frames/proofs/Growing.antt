@@ -1,5 +1,5 @@
 -- Frames where more bytes follow, and frames one after the other.
-use Rattle.std.proofs.Common.{◌≡◌, ℕ, zero, suc, ◌+◌, ◌-◌, ◌<◌, ◌≤◌, true, not, nat_le, Option, None, Some, is_some, List, [], ◌∷◌, ◌++◌, length, take, drop, refl, sym, ap, ◌∙◌, inl, inr, subst, arith}
+use Rattle.std.proofs.Common.{◌≡◌, ℕ, zero, suc, ◌+◌, ◌-◌, ◌<◌, ◌≤◌, true, nat_le, Option, None, Some, is_none, List, [], ◌∷◌, ◌++◌, length, take, drop, refl, sym, ap, ◌∙◌, inl, inr, subst, arith}
 use Rattle.std.specs.Option.{option_map_or}
 use Rattle.std.proofs.lemmas.Bool.{cases_lt, leb-true}
 use Rattle.std.proofs.lemmas.List.{drop-append-le, length-append, length-drop, take-append-le, take_all}
@@ -39,11 +39,11 @@ frame_append bytes more message rest e =
     (sym (take-append-le f.count rear more f.fits ∙ f.message_is))
     (sym (drop-append-le f.count rear more f.fits ∙ ap (λ t. t ++ more) f.rest_is))
 
-not_some : (o : Option ℕ) → not (is_some o) ≡ true → o ≡ None
+not_some : (o : Option ℕ) → is_none o ≡ true → o ≡ None
 not_some None e = refl
 not_some (Some n) e = absurd cc
 
-bad_by_head : (bytes more : List ℕ) (o : Option ℕ) → head_size bytes ≡ o → option_map_or (λ size. not (is_some (length_in (take size bytes)))) o (nat_le most (length bytes)) ≡ true → IsNone (bytes ++ more) true
+bad_by_head : (bytes more : List ℕ) (o : Option ℕ) → head_size bytes ≡ o → option_map_or (λ size. is_none (length_in (take size bytes))) o (nat_le most (length bytes)) ≡ true → IsNone (bytes ++ more) true
 bad_by_head bytes more None h e =
     let long = leb-true most (length bytes) e in
     headless_bad (bytes ++ more) (begin_long bytes more long ∙ h) (omega (arith, length-append bytes more))

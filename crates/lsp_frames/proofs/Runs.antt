@@ -4,7 +4,7 @@ use Rattle.std.specs.Option.{option_map_or}
 use Rattle.std.proofs.lemmas.List.{append-nil, append_assoc}
 use Rattle.lsp_frames.specs.Calls.{Call, Push, Next, given_by, left_by, pushed_by}
 use Rattle.lsp_frames.specs.Frames.{AreFrames, AreMessages, frame_in}
-use Rattle.lsp_frames.proofs.Growing.{frame_append, frames_join}
+use Rattle.lsp_frames.proofs.Growing.{frame_append, frames_join, one_cut}
 
 -- the frames after a call of `next_message`, which has given what `o` says
 abbrev AfterNext : List Call → List ℕ → Option (List ℕ × List ℕ) → Type 0
@@ -24,3 +24,8 @@ run_keeps (Next ∷ cs) left = after_next cs left (frame_in left) (run_keeps cs)
 
 pub run_messages : (cs : List Call) (ms : List (List ℕ)) → AreMessages (left_by cs []) ms → AreMessages (pushed_by cs) (given_by cs [] ++ ms)
 run_messages cs ms h = (h.0, frames_join (pushed_by cs) (given_by cs []) (left_by cs []) ms h.0 (run_keeps cs []) h.1, h.2)
+
+pub run_same : (cs ds : List Call) → pushed_by cs ≡ pushed_by ds → frame_in (left_by cs []) ≡ None → frame_in (left_by ds []) ≡ None → given_by cs [] ≡ given_by ds []
+run_same cs ds e none end =
+    let kept = subst (λ (t : List ℕ). AreFrames t (given_by cs []) (left_by cs [])) e (run_keeps cs []) in
+    (one_cut (pushed_by ds) (given_by cs []) (given_by ds []) (left_by cs []) (left_by ds []) kept none (run_keeps ds []) end).0

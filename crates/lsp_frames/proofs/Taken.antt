@@ -1,5 +1,5 @@
 -- What is left where a frame is taken.
-use Rattle.std.proofs.Common.{◌≡◌, ℕ, ◌+◌, ◌-◌, ◌<◌, ◌≤◌, false, not, nat_le, Option, None, Some, is_some, IsSomeAnd, List, [], ◌∷◌, ◌++◌, length, take, drop, map, refl, sym, ap, ◌∙◌, subst, arith}
+use Rattle.std.proofs.Common.{◌≡◌, ℕ, ◌+◌, ◌-◌, ◌<◌, ◌≤◌, false, nat_le, Option, None, Some, is_none, IsSomeAnd, List, [], ◌∷◌, ◌++◌, length, take, drop, map, refl, sym, ap, ◌∙◌, subst, arith}
 use Rattle.std.specs.Option.{option_map_or}
 use Rattle.std.proofs.lemmas.List.{append_assoc, drop-drop, length-drop, map-append, take_rest}
 use Rattle.lsp_frames.specs.declared.front.Front.{Front}
@@ -32,8 +32,8 @@ pub whole_is_not_bad : (bytes message rest : List ℕ) → frame_in bytes ≡ So
 unfolding is_bad
 whole_is_not_bad bytes message rest e =
     let f = frame_parts bytes message rest e in
-    ap (λ (o : Option ℕ). option_map_or (λ size. not (is_some (length_in (take size bytes)))) o (nat_le most (length bytes))) f.head
-    ∙ ap (λ (o : Option ℕ). not (is_some o)) f.given
+    ap (λ (o : Option ℕ). option_map_or (λ size. is_none (length_in (take size bytes))) o (nat_le most (length bytes))) f.head
+    ∙ ap (λ (o : Option ℕ). is_none o) f.given
 
 pub other_than_bad : (bytes : List ℕ) (front : Front) → IsFrontOf bytes front → (front ≡ Bad → ⊥) → is_bad bytes ≡ false
 other_than_bad bytes (Whole message rest) h other = whole_is_not_bad bytes message.now rest.now h

@@ -1,5 +1,5 @@
 -- Frames of messages, as bytes: a head and its end, and as many bytes as the head says.
-use Rattle.std.specs.Prelude.{◌≡◌, ℕ, ◌+◌, Bool, true, false, not, nat_le, Option, None, Some, is_some, option_and_then, MatchOption, IsSomeAnd, List, [], ◌∷◌, ◌++◌, length, take, drop, codes, decimal, if◌then◌else◌}
+use Rattle.std.specs.Prelude.{◌≡◌, ℕ, ◌+◌, Bool, true, false, nat_le, Option, None, Some, is_none, option_and_then, MatchOption, IsSomeAnd, List, [], ◌∷◌, ◌++◌, length, take, drop, codes, decimal, if◌then◌else◌}
 use Rattle.std.specs.Borrow.{Bor}
 use Rattle.std.specs.Option.{option_map_or}
 use Rattle.lsp_frames.specs.declared.front.Front.{Front}
@@ -7,11 +7,11 @@ use Rattle.lsp_frames.specs.declared.front.Front.TheVariants.{Whole, Part, Bad}
 use Rattle.lsp_frames.specs.declared.front.TheConstants.{MAX_HEAD}
 use Rattle.lsp_frames.specs.Heads.{head_end, length_in, place_of}
 
--- the greatest length of a head and its end
+-- how long a head and its end are at most
 abbrev pub most : ℕ
 most = MAX_HEAD + 4
 
--- the length of the head, if its end is within the first bytes
+-- the length of the head, if the head and its end are no longer than that
 unfoldable pub head_size : List ℕ → Option ℕ
 head_size bytes = place_of head_end (take most bytes)
 
@@ -19,13 +19,20 @@ head_size bytes = place_of head_end (take most bytes)
 abbrev pub split : ℕ → List ℕ → Option (List ℕ × List ℕ)
 split n bytes = if nat_le n (length bytes) then Some (take n bytes, drop n bytes) else None
 
+infixl 10 ◌>>=◌
+abbrev pub ◌>>=◌ : {A B : Type 0} → Option A → (A → Option B) → Option B
+o >>= f = option_and_then f o
+
 -- the message of the frame that the bytes begin with, and what follows the frame, if the frame is whole
 unfoldable pub frame_in : List ℕ → Option (List ℕ × List ℕ)
-frame_in bytes = option_and_then (λ size. option_and_then (λ n. split n (drop (size + 4) bytes)) (length_in (take size bytes))) (head_size bytes)
+frame_in bytes = do
+  size ← head_size bytes
+  count ← length_in (take size bytes)
+  split count (drop (size + 4) bytes)
 
--- the bytes have a head that gives no length, or no head ends where one may end at last
+-- the bytes are bad: they have a head that gives no length, or so many bytes have no end of a head
 unfoldable pub is_bad : List ℕ → Bool
-is_bad bytes = option_map_or (λ size. not (is_some (length_in (take size bytes)))) (head_size bytes) (nat_le most (length bytes))
+is_bad bytes = option_map_or (λ size. is_none (length_in (take size bytes))) (head_size bytes) (nat_le most (length bytes))
 
 -- what the bytes begin with
 abbrev pub IsFrontOf : List ℕ → Front → Type 0

@@ -2,7 +2,7 @@
 
 ghost use Rattle.lsp_frames.specs.Calls.{Call, given_by, left_by, pushed_by};
 ghost use Rattle.lsp_frames.specs.Frames.{AreFrames, AreMessages, frame_in, frame_of, is_bad};
-ghost use Rattle.lsp_frames.specs.Heads.{head_end, length_of_line, line_end, number, place_of};
+ghost use Rattle.lsp_frames.specs.Heads.{head_end, length_of_line, line_end, lines, number, place_of};
 ghost use Rattle.std.specs.Prelude.{◌≡◌, ℕ, ◌+◌, ◌^◌, ◌<◌, List, [], ◌∷◌, ◌++◌, true, false, nat_eq, length, take, drop, codes};
 ghost use Rattle.std.specs.List.{starts_with};
 
@@ -26,11 +26,14 @@ pub fn messages_are_one_list()
 {}
 
 /// After any calls of `push` and `next_message`, the bytes pushed are the frames of the messages given, and what is left. So
-/// the messages given, and those of what is left, are the messages of all bytes pushed, in whichever parts they came.
+/// the messages given, and those of what is left, are the messages of all bytes pushed. Calls that push the same bytes, in
+/// whichever parts, and take all whole frames, give the same messages.
 pub fn parts_make_no_difference()
     ensures frames { (calls : List Call) → AreFrames (pushed_by calls) (given_by calls []) (left_by calls []) }
     ensures messages { (calls : List Call) (ms : List (List ℕ)) → AreMessages (left_by calls []) ms
         → AreMessages (pushed_by calls) (given_by calls [] ++ ms) }
+    ensures same { (calls others : List Call) → pushed_by calls ≡ pushed_by others → frame_in (left_by calls []) ≡ None
+        → frame_in (left_by others []) ≡ None → given_by calls [] ≡ given_by others [] }
 {}
 
 /// What `write_frame` writes is read as the message.
@@ -47,8 +50,8 @@ pub fn places_are_first()
         → starts_with nat_eq (drop k bytes) part ≡ false }
 {}
 
-/// Small inputs: fields in any order and names in any case, the first length that is a number, a part of a frame, two frames,
-/// and a head without a length.
+/// Small inputs: fields in any order and names in any case, the first length that is a number, a part of a frame, a head
+/// without a length, and lines, which end at no CR or LF alone.
 pub fn small_inputs_are_so()
     ensures whole { frame_in (codes "Content-Length: 1" ++ head_end ++ codes "ab") ≡ Some (codes "a", codes "b") }
     ensures fields { frame_in (codes "X: y" ++ line_end ++ codes "CONTENT-length:01 " ++ head_end ++ codes "a") ≡ Some (codes "a", []) }
@@ -58,6 +61,8 @@ pub fn small_inputs_are_so()
     ensures goes_on { is_bad (codes "Content-Length: 2" ++ head_end ++ codes "a") ≡ false }
     ensures bad { is_bad (codes "Content-Type: 1" ++ head_end ++ codes "a") ≡ true }
     ensures empty { is_bad head_end ≡ true }
+    ensures lines { lines (codes "a" ++ line_end ++ line_end ++ codes "b") ≡ codes "a" ∷ [] ∷ codes "b" ∷ [] }
+    ensures bare { lines (13 ∷ 97 ∷ 10 ∷ []) ≡ (13 ∷ 97 ∷ 10 ∷ []) ∷ [] }
 {}
 
 /// What frames are not: a message is no longer than its head says and not cut short, what follows it is not the message again,

@@ -30,3 +30,11 @@ returns-clause-bad c = refl
 pub returns-clause-empty : goal.returns-clause-empty
 unfolding frame_in head_size is_bad length_in length_of_line lines number place_of
 returns-clause-empty c = refl
+
+pub returns-clause-lines : goal.returns-clause-lines
+unfolding lines
+returns-clause-lines c = refl
+
+pub returns-clause-bare : goal.returns-clause-bare
+unfolding lines
+returns-clause-bare c = refl
