@@ -7,6 +7,7 @@ ghost use Rattle.std.specs.Prelude.{◌≡◌, ℕ, ◌+◌, ◌^◌, ◌<◌, L
 ghost use Rattle.std.specs.List.{starts_with};
 
 /// A whole frame stays whole where more bytes follow, with its message, and it is not bad.
+#[tactic(auto, using(crate::proofs::Growing::frame_append, crate::proofs::Taken::whole_is_not_bad))]
 pub fn whole_frames_stay_whole()
     ensures stays { (bytes more message rest : List ℕ) → frame_in bytes ≡ Some (message, rest)
         → frame_in (bytes ++ more) ≡ Some (message, rest ++ more) }
@@ -20,6 +21,7 @@ pub fn bad_bytes_stay_bad()
 {}
 
 /// Bytes have one list of messages.
+#[tactic(auto, using(crate::proofs::Growing::one_cut, crate::proofs::Growing::some_cut))]
 pub fn messages_are_one_list()
     ensures some { (bytes : List ℕ) → (ms : List (List ℕ)) × AreMessages bytes ms }
     ensures one { (bytes : List ℕ) (ms ns : List (List ℕ)) → AreMessages bytes ms → AreMessages bytes ns → ms ≡ ns }
@@ -52,6 +54,7 @@ pub fn places_are_first()
 
 /// Small inputs: fields in any order and names in any case, the first length that is a number, a part of a frame, a head
 /// without a length, and lines, which end at no CR or LF alone.
+#[tactic(auto, unfolding(crate::specs::Frames::frame_in, crate::specs::Frames::head_size, crate::specs::Frames::is_bad, crate::specs::Heads::length_in, crate::specs::Heads::length_of_line, crate::specs::Heads::lines, crate::specs::Heads::number, crate::specs::Heads::place_of))]
 pub fn small_inputs_are_so()
     ensures whole { frame_in (codes "Content-Length: 1" ++ head_end ++ codes "ab") ≡ Some (codes "a", codes "b") }
     ensures fields { frame_in (codes "X: y" ++ line_end ++ codes "CONTENT-length:01 " ++ head_end ++ codes "a") ≡ Some (codes "a", []) }
@@ -67,6 +70,7 @@ pub fn small_inputs_are_so()
 
 /// What frames are not: a message is no longer than its head says and not cut short, what follows it is not the message again,
 /// a head without a length may not go on, and lengths have no sign and names no spaces.
+#[tactic(auto, unfolding(crate::specs::Frames::frame_in, crate::specs::Frames::head_size, crate::specs::Frames::is_bad, crate::specs::Heads::length_in, crate::specs::Heads::length_of_line, crate::specs::Heads::lines, crate::specs::Heads::number, crate::specs::Heads::place_of))]
 pub fn small_inputs_are_not_so()
     ensures longer { frame_in (codes "Content-Length: 1" ++ head_end ++ codes "ab") ≡ Some (codes "ab", []) → ⊥ }
     ensures again { frame_in (codes "Content-Length: 1" ++ head_end ++ codes "ab") ≡ Some (codes "a", codes "ab") → ⊥ }
