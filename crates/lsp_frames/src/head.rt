@@ -13,6 +13,7 @@ const LINE_END: &[u8] = b"\r\n";
 const LENGTH_NAME: &[u8] = b"content-length";
 
 /// Returns how many bytes are before the first place that has the part.
+#[tactic(auto, using(crate::proofs::Places::place_found, crate::proofs::Places::place_missing, crate::proofs::Places::tested))]
 pub(crate) fn place_of(part: &[u8], bytes: &[u8]) -> Option<usize>
     ensures place { result ≡ spec.place_of part.now bytes.now }
     ensures within { IfSome result (λ n. n + length part.now ≤ length bytes.now) }
@@ -26,6 +27,7 @@ pub(crate) fn place_of(part: &[u8], bytes: &[u8]) -> Option<usize>
 }
 
 /// Returns the length that a head gives.
+#[tactic(auto, using(crate::proofs::Lines::first_gives, crate::proofs::Lines::last_gives))]
 pub(crate) fn length_in(head: &[u8]) -> Option<usize>
     ensures { result ≡ spec.length_in head.now }
 {
@@ -53,6 +55,7 @@ fn length_of_line(line: &[u8]) -> Option<usize>
 }
 
 /// Returns the number that decimal digits write.
+#[tactic(auto, using(crate::proofs::Numbers::number_empty, crate::proofs::Numbers::number_ends, crate::proofs::Numbers::number_overflows, crate::proofs::Numbers::number_stops))]
 fn number(digits: &[u8]) -> Option<usize>
     ensures { result ≡ spec.number digits.now }
 {
