@@ -1,0 +1,12 @@
+use Rattle.std.proofs.Common.{[]}
+use Rattle.lsp_frames.proofs.Runs.{run_keeps, run_messages, run_same}
+use Rattle.lsp_frames.proofs.laws.parts_make_no_difference.Goals as goal
+
+pub returns-clause-frames : goal.returns-clause-frames
+returns-clause-frames c = λ calls. run_keeps calls []
+
+pub returns-clause-messages : goal.returns-clause-messages
+returns-clause-messages c = run_messages
+
+pub returns-clause-same : goal.returns-clause-same
+returns-clause-same c = run_same
