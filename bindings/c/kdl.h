@@ -248,6 +248,12 @@ uint32_t kdl_node(struct kdl_document *document, const size_t *path, size_t path
                   size_t *entry_count, struct kdl_row *row,
                   uint8_t *strings, size_t strings_room, size_t *strings_len);
 
+/* Writes a node with its entries and its block as rows, as kdl_tree does for a whole document. `path`
+ * is the node's own. Since version 2. */
+uint32_t kdl_node_tree(struct kdl_document *document, const size_t *path, size_t path_len,
+                       struct kdl_row *rows, size_t room, size_t *row_count,
+                       uint8_t *strings, size_t strings_room, size_t *strings_len);
+
 /* Writes the row of an entry. `path` is the node's own. Arguments and properties are counted
  * together, from 0. After KDL_TOO_SMALL, `*row` is set too; read nothing of `strings`. */
 uint32_t kdl_entry(struct kdl_document *document, const size_t *path, size_t path_len,

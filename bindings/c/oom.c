@@ -64,7 +64,7 @@ static uint32_t queries(struct kdl_document *d) {
     return status;
 }
 
-enum { CALLS = 29, QUERY = 22, LAYOUT = 27 };
+enum { CALLS = 30, QUERY = 22, LAYOUT = 27 };
 static uint32_t call(int which, struct kdl_document *d) {
     static const size_t first[] = {0}, large[] = {1, 0};
     size_t n, m;
@@ -96,6 +96,7 @@ static uint32_t call(int which, struct kdl_document *d) {
     case 24: return kdl_argument(d, first, 1, 0, rows, s, sizeof s, &n);
     case 25: return kdl_find_path(d, T("b/\"d e\""), indices, 64, &n);
     case 26: return kdl_get_path(d, T("b/c#0"), rows, s, sizeof s, &n);
+    case 28: return kdl_node_tree(d, large, 1, rows, 64, &m, s, sizeof s, &n);
     case LAYOUT: {
         static const struct kdl_layout_options kept = {1, 0, 1, 1};
         return kdl_layout(d, &kept, T("\t"));

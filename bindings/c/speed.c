@@ -4,8 +4,8 @@
 #include "check.h"
 #include <time.h>
 
-enum { PARTS = 5, EDITS = 10000 };
-static const char *const names[] = {"parse", "print", "tree", "edits", "free"};
+enum { PARTS = 6, EDITS = 10000 };
+static const char *const names[] = {"faults", "parse", "print", "tree", "edits", "free"};
 
 static double now(void) {
     struct timespec time;
@@ -30,20 +30,23 @@ int main(int argc, char **argv) {
     size_t len, n, count, used;
     uint8_t *text = read_all(argv[1], &len), *out = buffer(len), *strings = buffer(2 * len);
     struct kdl_row *rows = (struct kdl_row *)malloc(len * sizeof *rows);
-    double least[PARTS] = {1e9, 1e9, 1e9, 1e9, 1e9}, at[PARTS + 1];
+    double least[PARTS] = {1e9, 1e9, 1e9, 1e9, 1e9, 1e9}, at[PARTS + 1];
+    struct kdl_fault fault;
     CHECK(rows);
     for (int run = 0; run < 20; run++) {
         at[0] = now();
-        CHECK(kdl_parse(text, len, &d) == KDL_OK);
+        CHECK(kdl_faults(text, len, &fault, 1, &count, strings, 2 * len, &used) == KDL_OK);
         at[1] = now();
-        CHECK(kdl_print(&d, out, len, &n) == KDL_OK);
+        CHECK(kdl_parse(text, len, &d) == KDL_OK);
         at[2] = now();
-        CHECK(kdl_tree(&d, rows, len, &count, strings, 2 * len, &used) == KDL_OK);
+        CHECK(kdl_print(&d, out, len, &n) == KDL_OK);
         at[3] = now();
-        edit(&d);
+        CHECK(kdl_tree(&d, rows, len, &count, strings, 2 * len, &used) == KDL_OK);
         at[4] = now();
-        kdl_free(&d);
+        edit(&d);
         at[5] = now();
+        kdl_free(&d);
+        at[6] = now();
         for (int i = 0; i < PARTS; i++) {
             double took = at[i + 1] - at[i];
             least[i] = took < least[i] ? took : least[i];

@@ -226,6 +226,14 @@ static void reading(void) {
     CHECK(kdl_tree(&d, rows, 16, &m, s, sizeof s, &n) == KDL_OK && m == 7 && n == 25);
     CHECK(rows[0].has_type && s[rows[0].type_start] == 't' && rows[0].type_len == 1);
     CHECK(rows[1].integer == 16 && rows[3].has_block && rows[6].kind == KDL_END);
+    /* a node alone: the second one, with its block, and the one in the block */
+    path[0] = 1;
+    CHECK(kdl_node_tree(&d, path, 1, rows, 16, &m, s, sizeof s, &n) == KDL_OK && m == 4);
+    CHECK(rows[0].has_block && rows[2].value == KDL_LARGE_INTEGER && rows[3].kind == KDL_END);
+    CHECK(is_text(s + rows[1].name_start, rows[1].name_len, T("c")));
+    CHECK(kdl_node_tree(&d, path, 2, rows, 16, &m, s, sizeof s, &n) == KDL_OK && m == 2);
+    CHECK(kdl_node_tree(&d, path, 0, rows, 16, &m, s, sizeof s, &n) == KDL_NOT_FOUND && !m && !n);
+    path[0] = 0;
     /* the counts and the row are set if the strings have too little room */
     CHECK(kdl_entry(&d, path, 1, 1, &row, s, 0, &n) == KDL_TOO_SMALL && n == 1);
     CHECK(row.kind == KDL_PROPERTY && row.value == KDL_BOOL && row.integer == 1);
@@ -463,7 +471,7 @@ static void nodes(void) {
 
 /* Makes the writing call of that number, with so much room for rows or faults and for strings, in
  * buffers of exactly that size. Returns the status, and sets the counts. */
-enum { WRITERS = 11 };
+enum { WRITERS = 12 };
 static uint32_t writes(int which, struct kdl_document *d, size_t room, size_t bytes, size_t *count,
                        size_t *len) {
     const char *bad = "a }\nb #treu\n";
@@ -482,8 +490,9 @@ static uint32_t writes(int which, struct kdl_document *d, size_t room, size_t by
     case 5: status = kdl_get(d, T("s"), &row, s, bytes, len); break;
     case 6: status = kdl_argument(d, second, 1, 0, &row, s, bytes, len); break;
     case 7: status = kdl_get_path(d, T("s#0"), &row, s, bytes, len); break;
-    case 8: status = kdl_faults(T(bad), (struct kdl_fault *)rows, room, count, s, bytes, len); break;
-    case 9: status = kdl_reports(T(bad), (struct kdl_report *)rows, room, count, s, bytes, len); break;
+    case 8: status = kdl_node_tree(d, path, 1, (struct kdl_row *)rows, room, count, s, bytes, len); break;
+    case 9: status = kdl_faults(T(bad), (struct kdl_fault *)rows, room, count, s, bytes, len); break;
+    case 10: status = kdl_reports(T(bad), (struct kdl_report *)rows, room, count, s, bytes, len); break;
     default:
         status = kdl_faults_of(KDL_AS_NODE, T(bad), (struct kdl_fault *)rows, room, count, s, bytes,
                                len);
@@ -498,7 +507,7 @@ static void rooms(void) {
     CHECK(kdl_parse(T("(t)a  0x10 \"k\" = #true { b; }\ns \"long text\" // c\n"), &d) == KDL_OK);
     for (int which = 0; which < WRITERS; which++) {
         size_t count, len, all, whole;
-        bool lists = which >= 8;
+        bool lists = which >= 9;
         uint32_t fits = lists ? KDL_FAULTS : KDL_OK, small = lists ? KDL_FAULTS : KDL_TOO_SMALL;
         CHECK(writes(which, &d, 100, 1000, &all, &whole) == fits && whole > 0);
         const size_t bytes[] = {0, 1, whole - 1, whole}, rows[] = {0, 1, all ? all - 1 : 0, all};
@@ -540,7 +549,7 @@ static void empties(void) {
 }
 
 /* Makes the call of that number on a document with a path. Returns the status; the text stays. */
-enum { CALLS = 22, WITH_PATH = 13 };
+enum { CALLS = 23, WITH_PATH = 14 };
 static uint32_t call(int which, struct kdl_document *d, const size_t *path, size_t len, size_t index) {
     struct kdl_row row;
     size_t n, m, k;
@@ -560,13 +569,14 @@ static uint32_t call(int which, struct kdl_document *d, const size_t *path, size
     case 11: return kdl_find(d, path, len, T("no"), &n);
     case 12: return kdl_insert_node(d, path, len, index, T("x"));
     case 13: return kdl_argument(d, path, len, index, &row, s, sizeof s, &n);
-    case 14: return kdl_print(d, s, sizeof s, &n);
-    case 15: return kdl_format(d);
-    case 16: return kdl_strip(d);
-    case 17: return kdl_tree(d, &row, 1, &m, s, sizeof s, &n);
-    case 18: return kdl_query(d, T("a"), &k, 1, &m, &n);
-    case 19: return kdl_find_path(d, T("no"), &m, 1, &n);
-    case 20: return kdl_get_path(d, T("no"), &row, s, sizeof s, &n);
+    case 14: return kdl_node_tree(d, path, len, &row, 1, &m, s, sizeof s, &n);
+    case 15: return kdl_print(d, s, sizeof s, &n);
+    case 16: return kdl_format(d);
+    case 17: return kdl_strip(d);
+    case 18: return kdl_tree(d, &row, 1, &m, s, sizeof s, &n);
+    case 19: return kdl_query(d, T("a"), &k, 1, &m, &n);
+    case 20: return kdl_find_path(d, T("no"), &m, 1, &n);
+    case 21: return kdl_get_path(d, T("no"), &row, s, sizeof s, &n);
     default: return kdl_get(d, T("no"), &row, s, sizeof s, &n);
     }
 }
@@ -588,7 +598,7 @@ static void nowhere(void) {
             CHECK(call(which, &d, path, 1, 3) == KDL_NOT_FOUND);
             CHECK(which == 5 || call(which, &d, path, 1, SIZE_MAX) == KDL_NOT_FOUND);
         }
-        if (which <= 8 || which == 13) { /* no document is a node */
+        if (which <= 8 || which >= 13) { /* no document is a node */
             CHECK(call(which, &d, path, 0, 0) == KDL_NOT_FOUND);
         }
         if (which == 10 || which == 12) {

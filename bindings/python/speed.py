@@ -56,6 +56,12 @@ def edited(document):
         port[0] = port[0] + 1
 
 
+def edited_once(document):
+    """Sets a value of a record, and reads the record whole."""
+    document[0].child("port")[0] = 8081
+    return document[0].copy()
+
+
 def main():
     objects, nodes, toml = records(7500)
     text, as_json = kdl.dumps(nodes), json.dumps(objects, indent=4)
@@ -71,6 +77,8 @@ def main():
         ("kdl.dumps", "dumps", len(text), least(lambda: kdl.dumps(nodes))),
         ("Document.parse", "loads", len(text), least(lambda: kdl.Document(text))),
         ("  7,500 edits", "loads", len(text), least(lambda: edited(document), 1)),
+        ("  one, copied", "loads", len(text), least(lambda: edited_once(document))),
+        ("kdl.faults", "loads", len(text), least(lambda: kdl.faults(text))),
         ("  a query", "loads", len(text), least(lambda: document.query_all("server >> [val() = 9090]"))),
         ("str(document)", "dumps", len(text), least(lambda: str(document))),
     ]

@@ -236,6 +236,27 @@ def same_changes():
                     raises(ReferenceError, lambda: kept.name)
 
 
+def spans(node):
+    """The spans of a node, of its entries and of the nodes in its block."""
+    return [node.span, *(it.span for it in node.entries), *map(spans, node.children or [])]
+
+
+def whole_nodes():
+    """A node that is read whole after an edit is the one of the whole document, spans too, also where its
+    rows or strings take more room than is guessed."""
+    lines = "    /* c */ b 3 {\n        (t)c é \"x y\" k=#null\n        d {}\n    }\n"
+    for times in (0, 1, 20, 200):
+        document = Document("// licence\na\n(t)server 1 k=2 {\n" + lines * times + "}\nend 1.50\n")
+        for at in (1, [1, "b"], [1, -1, "c"], [1, 0, 1], 0, 2):
+            node = document.get(at)
+            if node is None:
+                assert not times
+                continue
+            document["end"][0] = times
+            one, other = node.copy(), document.to_nodes().node(at)
+            assert one == other == node and spans(one) == spans(other), (times, at, one, other)
+
+
 # Queries and PATHs
 
 
@@ -602,4 +623,4 @@ def threads():
     assert shared.to_nodes() == kdl.loads(str(shared)) and shared[0].args == [1]
 
 
-TESTS = (edits, views, same_changes, queries, paths, random_paths, places, adding, equality, formats, first_steps, lives, threads)
+TESTS = (edits, views, same_changes, whole_nodes, queries, paths, random_paths, places, adding, equality, formats, first_steps, lives, threads)

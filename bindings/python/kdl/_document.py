@@ -20,6 +20,8 @@ from ._writing import dumps, spelled, spelled_entry
 D = TypeVar("D", bound="Document")
 # To read all nodes takes as long as to read single ones of so many bytes each.
 _BYTES_FOR_ONE = 128
+# So does to read so many rows of a node with its block.
+_ROWS_FOR_ONE = 8
 
 
 class Document:
@@ -241,11 +243,16 @@ class Document:
         return self._nodes
 
     def _tree(self) -> Tuple[memoryview, bytes]:
-        room, length, count, used = self._len // 8 + 16, self._len + 64, size(), size()
+        tree = lambda *it: lib.kdl_tree(self._handle, *it)
+        return self._rows_of(tree, self._len // 8 + 16, self._len + 64)
+
+    def _rows_of(self, call: Any, room: int, length: int) -> Tuple[memoryview, bytes]:
+        """Returns the rows of a call, and their strings. The room is a first guess."""
+        count, used = size(), size()
         while True:
             rows = ctypes.create_string_buffer(room * row.size)
             strings = ctypes.create_string_buffer(length)
-            status = lib.kdl_tree(self._handle, rows, room, count, strings, length, used)
+            status = call(rows, room, count, strings, length, used)
             if status != TOO_SMALL:
                 break
             room, length = max(count.value, 1), max(used.value, 1)
@@ -260,6 +267,16 @@ class Document:
             if self._nodes is not None or self._reads > 16 + self._len // _BYTES_FOR_ONE:
                 return node_at(self._all_nodes(), path)
             return self._single(path)
+
+    def _node_whole(self, path: Indices) -> Node:
+        """Returns the node at the path for reading, with its children."""
+        with self._lock:
+            if self._nodes is None and self._reads <= 16 + self._len // _BYTES_FOR_ONE:
+                at = steps(path)
+                rows, strings = self._rows_of(lambda *it: lib.kdl_node_tree(self._handle, *at, *it), 64, 1024)
+                self._reads += 1 + len(rows) // row.size // _ROWS_FOR_ONE
+                return Rows(rows, strings).node(0)
+            return node_at(self._all_nodes(), path)
 
     def _single(self, path: Indices) -> Node:
         """Reads one node, without its children."""

@@ -60,6 +60,7 @@ def _loaded(how: Callable[[str], Any]) -> Any:
             "kdl_query": [handle, *text, out, size, out, out],
             "kdl_node_count": [handle, *path, out],
             "kdl_node": [handle, *path, out, any_bytes, *strings],
+            "kdl_node_tree": [handle, *path, any_bytes, size, out, *strings],
             "kdl_entry": [handle, *path, size, any_bytes, *strings],
             "kdl_find": [handle, *path, *text, out],
             "kdl_find_entry": [handle, *path, *text, out],

@@ -243,7 +243,7 @@ class DocumentNode(Node):
 
     def _whole(self) -> Node:
         with self.document._lock:
-            return node_at(self.document._all_nodes(), self._where())
+            return self.document._node_whole(self._where())
 
     def __reduce__(self) -> Any:
         return self.copy().__reduce__()

@@ -1,9 +1,11 @@
 -- The results of actions, and their statuses.
-use Rattle.std.proofs.Common.{Bor, [], ◌∷◌, ◌==◌, true, false, length, ◌∙◌, refl, ◌≡◌, List, ℕ, Bool, Some, Ok, Err, Result, chars, inl, inr, subst, sym}
+use Rattle.std.proofs.Common.{Bor, [], ◌∷◌, ◌==◌, true, false, length, ◌∙◌, ap, append-nil, refl, ◌≡◌, List, ℕ, Bool, Option, Some, Ok, Err, Result, chars, inl, inr, string_bytes, subst, sym}
+use Rattle.std.specs.List.{flat_map}
+use Rattle.std.specs.Option.{option_to_list}
 use Rattle.std.proofs.lemmas.Bool.{eqb-true}
 use Rattle.std.proofs.lemmas.Option.{none-some}
-use Rattle.kdl.specs.Words.{IsDocument, Nodes}
-use Rattle.kdl_path.specs.Paths.{all_at}
+use Rattle.kdl.specs.Words.{IsDocument, Nodes, Value}
+use Rattle.kdl_path.specs.Paths.{all_at, at_path}
 use Rattle.kdl_path.proofs.Reached.{none_there}
 use Rattle.kdl_path.specs.Each.{RemoveEachFails, SetEachFails}
 use Rattle.kdl_path.specs.Failures.{InsertFails, RemoveFails, SetFails}
@@ -15,6 +17,7 @@ use Rattle.kdl_query.specs.Tree.{query_says}
 use Rattle.kdl_query.specs.declared.tree.Query.{Query}
 use Rattle.kdl_text.specs.declared.error.ParseFailure.{ParseFailure}
 use Rattle.kdl_text.specs.declared.error.ParseFailure.TheVariants.{Syntax, Memory}
+use Rattle.cli_shown.specs.Values.{line_of}
 use Rattle.cli_world.specs.Files.{Files, IsNoText}
 use Rattle.cli_world.specs.declared.world.Unread.{Unread}
 use Rattle.cli_world.specs.declared.world.Unread.TheVariants as unread
@@ -115,6 +118,16 @@ uninserted p n text f r h = unmade (Insert p n) text f r (go f h)
 -- the status of an action on a file that is not UTF-8
 pub no_text_status : (files : Files) (name bytes : List ℕ) (a : Action) (why : Unread) (n : ℕ) → why ≡ unread.NotUtf8 n → IsNoText files name why → files name ≡ Some bytes → IsStatusOf a bytes status.Found
 no_text_status files name bytes a why n is h e = inl (subst (IsNoText files name) is h bytes e).0
+
+-- the one value at the path
+pub one_shown : (p : Bor Path) (raw all : Bool) (text : List ℕ) (x : Nodes) (r : Result Applied ParseFailure) → all ≡ false → IsDocument (chars text) x → ((y : Nodes) → IsDocument (chars text) y → y ≡ x) → ShowsAt p.now raw x r → Applies (Get p raw all) text r
+one_shown p raw true text x r a d only h = absurd (cc)
+one_shown p raw false text x (Ok (Text s)) a d only (v, f, g) =
+    λ y e. subst (λ (o : Option Value). (option_to_list o ≡ [] → ⊥) × (string_bytes s ≡ flat_map (line_of raw) (option_to_list o))) (sym (ap (at_path p.now) (only y e) ∙ f)) ((λ h. absurd (cc)), g ∙ sym (append-nil (line_of raw v)))
+one_shown p raw false text x (Ok (NotFound s)) a d only h = (x, d, ap option_to_list h)
+one_shown p raw false text x (Ok (Usage s)) a d only h = absurd h
+one_shown p raw false text x (Err (Syntax f)) a d only h = absurd h
+one_shown p raw false text x (Err Memory) a d only h = tt
 
 -- no value is at the path
 pub no_items : {A : Type 0} (xs : List A) (n : ℕ) → n ≡ length xs → true ≡ (n == 0) → xs ≡ []

@@ -21,6 +21,7 @@ use kdl_query::Query;
 use kdl_report::Lines;
 use std::alloc::{AllocError, Global};
 use std::io::Write;
+use std::mem::ManuallyDrop;
 
 /// What is done with a text.
 #[derive(Clone, Copy)]
@@ -211,7 +212,8 @@ fn text_with_node(
 fn json_of(alloc: Global, text: &str) -> Result<Applied, ParseFailure>
     ensures { Applies Json text.now result }
 {
-    let document = KdlDocument::parse(alloc, text)?;
+    // The end of the process frees the document, which is faster.
+    let document = ManuallyDrop::new(KdlDocument::parse(alloc, text)?);
     let mut json = to_json(alloc, &document)?;
     json.push('\n')?;
     Ok(Applied::Text(json))
@@ -227,7 +229,8 @@ fn values_at(
 ) -> Result<Applied, ParseFailure>
     ensures { Applies (Get path.entry raw all) text.now result }
 {
-    let document = KdlDocument::parse(alloc, text)?;
+    // The end of the process frees the document, which is faster.
+    let document = ManuallyDrop::new(KdlDocument::parse(alloc, text)?);
     if !all {
         return one_value(alloc, &document, path, raw);
     }
@@ -287,7 +290,9 @@ fn document_of(alloc: Global, text: &str) -> Result<Applied, ParseFailure>
     ensures { Applies FromJson text.now result }
 {
     match from_json(alloc, text) {
-        Ok(mut document) => {
+        Ok(document) => {
+            // The end of the process frees the document, which is faster.
+            let mut document = ManuallyDrop::new(document);
             document.autoformat()?;
             Ok(Applied::Text(document.to_string(alloc)?))
         }

@@ -4,6 +4,7 @@ ghost use Rattle.cli.specs.Outcomes.{ChangesNamed, Delivers, FormatsFile, Format
 ghost use Rattle.std.specs.Io.KnownBytes.{Appends};
 ghost use Rattle.std.specs.Prelude.{◌≡◌, map};
 
+use crate::disposal::Disposal;
 use crate::fmt::formatted;
 use crate::report::{Style, report_faults};
 use crate::settings::Settings;
@@ -88,20 +89,22 @@ pub fn format_files<S: Store, O: Write, E: Write>(
     ensures others { ChangesNamed job.now.mode (map (λ n. n.now) names.now)
         (S.known world.old.files) (S.known world.new.files) }
 {
+    let disposal = Disposal::of_files(names.len());
     let mut status = Status::Done;
     for name in names {
-        let outcome = format_file(alloc, world, job, name);
+        let outcome = format_file(alloc, world, job, name, disposal);
         status = status.worst(outcome.status(job.mode));
     }
     status
 }
 
-/// Formats a file.
+/// Formats a file, and disposes of its document.
 pub fn format_file<S: Store, O: Write, E: Write>(
     alloc: Global,
     world: &mut World<S, O, E>,
     job: &Job,
     name: &str,
+    disposal: Disposal,
 ) -> Outcome
     ensures formats { FormatsFile job.now name.now result
         (S.known world.old.files) (S.known world.new.files) }
@@ -120,7 +123,7 @@ pub fn format_file<S: Store, O: Write, E: Write>(
             };
         }
     };
-    match formatted(alloc, &text, &job.settings) {
+    match formatted(alloc, &text, &job.settings, disposal) {
         Ok(new) => deliver(alloc, world, job.mode, name, &text, &new),
         Err(ParseFailure::Syntax(error)) => {
             match report_faults(alloc, world, name, &text, &error, job.style) {

@@ -4,16 +4,22 @@ ghost use Rattle.cli.specs.Formatted.{IsFormatted};
 ghost use Rattle.kdl.specs.Words.{IsDocument, IsSyntax, Nodes, TellsOnSyntax, text_of};
 ghost use Rattle.std.specs.Prelude.{◌≡◌, ◌↔◌, IfOk, IsTrue, List, chars, ℕ};
 
+use crate::disposal::Disposal;
 use crate::settings::Settings;
 use kdl::{FormatConfig, KdlDocument, Layout, ParseFailure};
 use kdl_laws::layout::second_spaced_layout;
 use kdl_laws::reading_back::printed_reads_once;
 use std::alloc::Global;
 
-/// Returns the document of the text, laid out.
+/// Returns the document of the text, laid out, and disposes of the document.
 ///
 /// Returns `Syntax` with the faults of the text if it is not a document, and `Memory` if an allocation fails.
-pub fn formatted(alloc: Global, text: &str, settings: &Settings) -> Result<String, ParseFailure>
+pub fn formatted(
+    alloc: Global,
+    text: &str,
+    settings: &Settings,
+    disposal: Disposal,
+) -> Result<String, ParseFailure>
     // The output is a document with the data of the text, and no others.
     ensures says { IfOk result (λ out. (x : Nodes) → IsDocument (chars text.now) x
         → IsDocument (text_of out) x) }
@@ -34,7 +40,9 @@ pub fn formatted(alloc: Global, text: &str, settings: &Settings) -> Result<Strin
         keep_one_line: !settings.expand,
     };
     document.autoformat_layout(&layout)?;
-    Ok(document.to_string(alloc)?)
+    let out = document.to_string(alloc)?;
+    disposal.dispose(document);
+    Ok(out)
 }
 
 /// Returns whether layout changes the text.
@@ -46,6 +54,6 @@ pub fn would_change(alloc: Global, text: &str, settings: &Settings) -> Result<bo
     ensures refused { IsSyntax result → (x : Nodes) → IsDocument (chars text.now) x → ⊥ }
     ensures told { TellsOnSyntax text.now result }
 {
-    let out = formatted(alloc, text, settings)?;
+    let out = formatted(alloc, text, settings, Disposal::Free)?;
     Ok(out.as_str() != text)
 }

@@ -4,6 +4,7 @@
 pub mod ask;
 pub mod check;
 pub mod config;
+pub mod disposal;
 pub mod files;
 pub mod fmt;
 pub mod query;

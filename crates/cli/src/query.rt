@@ -5,6 +5,7 @@ ghost use Rattle.cli_world.specs.Statuses.{code_of};
 ghost use Rattle.std.specs.Io.KnownBytes.{Appends};
 ghost use Rattle.std.specs.Prelude.{◌≡◌, if◌then◌else◌, IfOk, chars, map};
 
+use crate::disposal::Disposal;
 use crate::report::{Style, report_faults};
 pub use cli_shown::View;
 use cli_shown::shown;
@@ -114,10 +115,11 @@ pub fn search_files<S: Store, O: Write, E: Write>(
     ensures found { SearchesFiles (S.known world.old.files) search.now (map (λ n. n.now) names.now) result }
     ensures files { world.new.files ≡ world.old.files }
 {
+    let disposal = Disposal::of_files(names.len());
     let mut status = Status::Done;
     let mut is_hit = false;
     for name in names {
-        let searched = search_file(alloc, world, search, name);
+        let searched = search_file(alloc, world, search, name, disposal);
         status = status.worst(searched.status());
         is_hit = is_hit | searched.is_hit();
     }
@@ -137,6 +139,7 @@ pub fn search_file<S: Store, O: Write, E: Write>(
     world: &mut World<S, O, E>,
     search: &Search<'_>,
     name: &str,
+    disposal: Disposal,
 ) -> Searched
     ensures found { IsSearchOf (S.known world.old.files) name.now search.now result }
     ensures prints { IsPrinted result → PrintsNodes search.now (S.known world.old.files) name.now result
@@ -153,7 +156,7 @@ pub fn search_file<S: Store, O: Write, E: Write>(
             };
         }
     };
-    match selected(alloc, &text, search) {
+    match selected(alloc, &text, search, disposal) {
         Ok((out, searched)) => print(world, name, &out, searched),
         Err(ParseFailure::Syntax(error)) => {
             match report_faults(alloc, world, name, &text, &error, search.style) {
@@ -172,12 +175,14 @@ fn selected(
     alloc: Global,
     text: &str,
     search: &Search<'_>,
+    disposal: Disposal,
 ) -> Result<(String, Searched), ParseFailure>
     ensures { IsShown search.now text.now result }
 {
     let document = KdlDocument::parse(alloc, text)?;
     let paths = query_paths(alloc, &document, search.query)?;
     let out = shown(alloc, &document, &paths, search.view)?;
+    disposal.dispose(document);
     if paths.is_empty() {
         return Ok((out, Searched::Nothing));
     }

@@ -4,6 +4,7 @@ ghost use Rattle.cli.specs.Formatted.{IsFormatted};
 ghost use Rattle.kdl.specs.Words.{text_of};
 ghost use Rattle.std.specs.Prelude.{◌≡◌, ◌↔◌, IfOk, IsTrue, List, chars, ℕ};
 
+use cli::disposal::Disposal;
 use cli::fmt;
 use cli::settings::Settings;
 use kdl::ParseFailure;
@@ -13,7 +14,7 @@ use std::alloc::Global;
 pub fn formatted(alloc: Global, text: &str, settings: &Settings) -> Result<String, ParseFailure>
     ensures laid_out { IfOk result (λ out. IsFormatted settings.now (chars text.now) (text_of out)) }
 {
-    fmt::formatted(alloc, text, settings)
+    fmt::formatted(alloc, text, settings, Disposal::Free)
 }
 
 /// Returns whether layout changes the text.

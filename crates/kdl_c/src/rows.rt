@@ -2,7 +2,7 @@
 
 ghost use Rattle.kdl.specs.Words.{document_says, entries_of, entry_data, entry_tree, node_says, node_span_of, nodes_of};
 ghost use Rattle.kdl_c.specs.Statuses.{IsAmong};
-ghost use Rattle.c_calls.specs.Flat.{SayAll, flattened};
+ghost use Rattle.c_calls.specs.Flat.{SayAll, flattened, node_items};
 ghost use Rattle.c_calls.specs.Paths.{node_at, nodes_at};
 ghost use Rattle.c_calls.specs.Says.{IsWithin, SaysEntry, SaysNode};
 ghost use Rattle.std.specs.Prelude.{◌≡◌, ◌≤◌, ◌<◌, ◌∷◌, [], All, IfSome, IsNone, IsSome, IsSomeAnd, length, slice_get, take};
@@ -11,7 +11,7 @@ use c_calls::held::Handle;
 use c_calls::path::{node_at, nodes_at};
 use c_calls::row::{KdlRow, put_found, put_node};
 use c_calls::status::{NO_DOCUMENT, NOT_FOUND, OK, OUT_OF_MEMORY, room};
-use c_calls::tree::put_tree;
+use c_calls::tree::{put_node_tree, put_tree};
 use std::alloc::Global;
 
 /// Writes the whole document as rows. Each node has its own row, and a row for each entry. If the node has a block, the
@@ -47,6 +47,47 @@ pub extern "C" fn kdl_tree(
     let status = match put_tree(alloc, &held, rows, row_count, strings, string_len) {
         Err(_) => OUT_OF_MEMORY,
         Ok(()) => room(rows.len(), *row_count, strings.len(), *string_len),
+    };
+    document.put(held);
+    status
+}
+
+/// Writes the node at the path with its block as rows, as `kdl_tree` does for a whole document.
+#[unsafe(no_mangle)]
+pub extern "C" fn kdl_node_tree(
+    alloc: Global,
+    document: &mut Handle,
+    path: &[usize],
+    rows: &mut [KdlRow],
+    row_count: &mut usize,
+    strings: &mut [u8],
+    string_len: &mut usize,
+) -> u32
+    ensures same { document.new.held.document ≡ document.old.held.document }
+    ensures rows { result ≡ 0 → row_count.new ≤ length rows.old }
+    ensures within { result ≡ 0 → All (IsWithin string_len.new) (take row_count.new rows.new) }
+    ensures strings { result ≡ 0 → string_len.new ≤ length strings.old }
+    ensures says { result ≡ 0 → IfSome document.old.held.document (λ d.
+        IfSome (node_at path.now (nodes_of d)) (λ n. SayAll (take string_len.new strings.new)
+        (take row_count.new rows.new) (node_items (node_says n)))) }
+    ensures there { IsAmong (0 ∷ 3 ∷ 4 ∷ []) result → IsSomeAnd document.old.held.document (λ d.
+        IsSome (node_at path.now (nodes_of d))) }
+    ensures absent { result ≡ 6 → IsSomeAnd document.old.held.document (λ d.
+        IsNone (node_at path.now (nodes_of d))) }
+    ensures missing { result ≡ 5 → IsNone document.old.held.document }
+    ensures statuses { IsAmong (0 ∷ 3 ∷ 4 ∷ 5 ∷ 6 ∷ []) result }
+{
+    *row_count = 0;
+    *string_len = 0;
+    let Some(held) = document.take(alloc) else {
+        return NO_DOCUMENT;
+    };
+    let status = match node_at(&held, path) {
+        None => NOT_FOUND,
+        Some(node) => match put_node_tree(alloc, node, rows, row_count, strings, string_len) {
+            Err(_) => OUT_OF_MEMORY,
+            Ok(()) => room(rows.len(), *row_count, strings.len(), *string_len),
+        },
     };
     document.put(held);
     status

@@ -12,7 +12,7 @@ returns-clause-says c x h =
     let keep : c.build.result.entry_autoformate_keep ≡ false = ap (λ (s : Settings). s.entry_autoformate_keep) is in
     let says = (c.in_ok-autoformat_layout.ensures.rereads (subst IndentsBySpaces (sym is) (indents_by_spaces s.indent))).derived keep c.in_ok-document.ensures.keeps_none in
     let same = c.in_ok-document.ensures.only x h in
-    let text = c.printed_reads_once.ensures.text e c.in_ok-to_string.field-0 c.in_ok-to_string.ensures.ok in
+    let text = c.printed_reads_once.ensures.text e c.in_ok-out.out c.in_ok-out.ensures.ok in
     subst (λ (t : Text). IsDocument t x) (sym text) (subst (IsDocument (document_prints e)) (sym same) says)
 
 pub returns-clause-laid_out : goal.returns-clause-laid_out
@@ -28,7 +28,7 @@ returns-clause-laid_out c =
     let comments = (c.in_ok-autoformat_layout.ensures.rereads (subst IndentsBySpaces (sym is) spaces)).comments keep no none in
     let spaced : IsLaidDocument (not s.respell) (not s.expand) s.blank_lines (layout_settings s) 0 (document_tree d) (document_tree e) =
     subst (λ (x : Settings). IsLaidDocument (not s.respell) (not s.expand) s.blank_lines x x.indent_level (document_tree d) (document_tree e)) is c.in_ok-autoformat_layout.ensures.formatted in
-    let prints = c.printed_reads_once.ensures.text e c.in_ok-to_string.field-0 c.in_ok-to_string.ensures.ok in
+    let prints = c.printed_reads_once.ensures.text e c.in_ok-out.out c.in_ok-out.ensures.ok in
     record {
       before = document_tree d;
       after = document_tree e;
