@@ -1,0 +1,4 @@
+-- The head of a frame, and the length that it gives.
+pub mod Heads
+-- Frames of messages, as bytes.
+pub mod Frames
