@@ -1,5 +1,3 @@
--- Frames of messages, as bytes.
-pub mod Frames
 -- Spans of a text as ranges of the protocol.
 pub mod Spans
 -- The documents of a server.

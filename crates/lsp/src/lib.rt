@@ -19,7 +19,6 @@ mod faults;
 mod fix;
 mod fold;
 mod format;
-mod frame;
 mod hover;
 mod layout;
 mod locate;
@@ -38,7 +37,6 @@ mod sync;
 mod tokens;
 mod write;
 
-pub use frame::{Front, first_frame, write_frame};
 pub use message::step;
 pub use session::serve;
 pub use state::{Client, Document, Phase, State};

@@ -11,11 +11,7 @@ use std::alloc::{AllocError, Global};
 pub(crate) type Notices = Vec<String>;
 
 /// Marks that the faults of a document are to be published.
-pub(crate) fn mark_due(
-    alloc: Global,
-    due: &mut Vec<String>,
-    uri: &str,
-) -> Result<(), AllocError> {
+pub(crate) fn mark_due(alloc: Global, due: &mut Vec<String>, uri: &str) -> Result<(), AllocError> {
     if due.iter().all(|other| other.as_str() != uri) {
         due.push(String::from_str(alloc, uri)?)?;
     }
@@ -75,6 +71,8 @@ fn log_memory(alloc: Global, out: &mut Notices) -> Result<(), AllocError> {
 
 /// Sends that the text of a document is not known.
 pub(crate) fn log_unknown(alloc: Global, uri: &str, out: &mut Notices) -> Result<(), AllocError> {
-    let text = format!(in alloc; "kdl: {uri}: a change is not applied: the text is not known up to the next whole text")?;
+    let text = format!(in alloc;
+        "kdl: {uri}: a change is not applied: the text is not known up to the next whole text"
+    )?;
     Ok(out.push(log_notice(alloc, &text)?)?)
 }
