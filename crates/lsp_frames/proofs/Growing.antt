@@ -66,7 +66,7 @@ pub frames_join : (bytes : List ℕ) (ms : List (List ℕ)) (mid : List ℕ) (ns
 frames_join bytes [] mid ns rest h g = subst (λ (t : List ℕ). AreFrames t ns rest) (sym h) g
 frames_join bytes (m ∷ ms) mid ns rest h g = (h.0, h.1, frames_join h.0 ms mid ns rest h.2 g)
 
-pair_parts : (f g : List ℕ × List ℕ) → Some f ≡ Some g → (f.0 ≡ g.0) × (f.1 ≡ g.1)
+pub pair_parts : (f g : List ℕ × List ℕ) → Some f ≡ Some g → (f.0 ≡ g.0) × (f.1 ≡ g.1)
 pair_parts f g e = let same : f ≡ g = cc in (ap (λ (p : List ℕ × List ℕ). p.0) same, ap (λ (p : List ℕ × List ℕ). p.1) same)
 
 other_frame : (bytes m n after rest : List ℕ) → frame_in bytes ≡ Some (m, after) → frame_in bytes ≡ Some (n, rest) → (m ≡ n) × (after ≡ rest)

@@ -10,3 +10,7 @@ pub mod Fronts
 pub mod Growing
 -- What is left where a frame is taken.
 pub mod Taken
+-- Calls on `Frames` keep the frames of all bytes pushed.
+pub mod Runs
+-- What `write_frame` writes is read as the message.
+pub mod Written

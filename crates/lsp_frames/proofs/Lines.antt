@@ -1,10 +1,9 @@
 -- The lines of a head.
 use Rattle.std.proofs.Common.{◌≡◌, ℕ, suc, ◌+◌, true, false, Option, None, Some, is_some, cond, List, [], ◌∷◌, take, drop, refl, sym, ap, ◌∙◌, inl, inr, subst, nat_eq, arith}
 use Rattle.std.specs.List.{onto_first, starts_with}
-use Rattle.std.specs.Option.{option_map}
 use Rattle.std.proofs.lemmas.Bool.{cases_Bool, cond-true, cond-false}
 use Rattle.lsp_frames.specs.Heads.{first_length, length_in, length_of_line, line_end, lines, place_of}
-use Rattle.lsp_frames.proofs.Places.{place_cases, place_fits}
+use Rattle.lsp_frames.proofs.Places.{option_none, place_cases, place_fits, some_none}
 
 -- the first line ends at the first end of a line
 pub lines_found : (bs : List ℕ) (n : ℕ) → place_of line_end bs ≡ Some n → lines bs ≡ take n bs ∷ lines (drop (n + 2) bs)
@@ -22,13 +21,6 @@ lines_found (b ∷ c ∷ bs) n e = elim (place_cases line_end (c ∷ bs) b n e) 
       subst (λ (k : ℕ). lines (b ∷ c ∷ bs) ≡ take k (b ∷ c ∷ bs) ∷ lines (drop (k + 2) (b ∷ c ∷ bs))) (sym h.1.later) goes
 ]
 
-some_none : (n : ℕ) → Some n ≡ None → ⊥
-some_none n e = cc
-
-none_later : (o : Option ℕ) → option_map suc o ≡ None → o ≡ None
-none_later None e = refl
-none_later (Some n) e = absurd cc
-
 -- bytes with no end of a line are one line
 pub lines_missing : (bs : List ℕ) → place_of line_end bs ≡ None → lines bs ≡ bs ∷ []
 unfolding lines place_of
@@ -36,7 +28,7 @@ lines_missing [] e = refl
 lines_missing (b ∷ []) e = refl
 lines_missing (b ∷ c ∷ bs) e = elim (cases_Bool (starts_with nat_eq (b ∷ c ∷ bs) line_end)) [
   | inl h ↦ absurd (some_none 0 (sym (cond-true _ _ _ h) ∙ e))
-  | inr h ↦ cond-false _ _ _ h ∙ ap (onto_first b) (lines_missing (c ∷ bs) (none_later (place_of line_end (c ∷ bs)) (sym (cond-false _ _ _ h) ∙ e)))
+  | inr h ↦ cond-false _ _ _ h ∙ ap (onto_first b) (lines_missing (c ∷ bs) (option_none (place_of line_end (c ∷ bs)) (sym (cond-false _ _ _ h) ∙ e)))
 ]
 
 -- what the lines give, where the first one gives a length

@@ -1,5 +1,5 @@
 -- The first place of a part.
-use Rattle.std.proofs.Common.{◌≡◌, ℕ, zero, suc, ◌+◌, ◌-◌, ◌<◌, ◌≤◌, ◌⊎◌, inl, inr, Bool, true, false, nat_eq, Option, None, Some, List, [], ◌∷◌, ◌++◌, length, take, drop, refl, sym, ap, ◌∙◌, arith}
+use Rattle.std.proofs.Common.{◌≡◌, ℕ, zero, suc, ◌+◌, ◌-◌, ◌<◌, ◌≤◌, ◌⊎◌, inl, inr, Bool, true, false, nat_eq, Option, None, Some, List, [], ◌∷◌, ◌++◌, length, take, drop, refl, sym, ap, ◌∙◌, subst, arith}
 use Rattle.std.specs.List.{starts_with}
 use Rattle.std.specs.Option.{option_map}
 use Rattle.std.proofs.lemmas.Bool.{cases_Bool, cond-true, cond-false}
@@ -71,4 +71,39 @@ place_append part (b ∷ bs) more n e = elim (place_cases part bs b n e) [
       let same = take-append-le (length part) (b ∷ bs) more (omega (arith, place_fits part bs h.1.place h.1.found)) in
       let here : starts_with nat_eq (b ∷ (bs ++ more)) part ≡ false = rw same h.0 in
       cond-false _ _ _ here ∙ ap (option_map suc) (place_append part bs more h.1.place h.1.found) ∙ ap Some (sym h.1.later)
+]
+
+pub place_here : (part bs : List ℕ) (n : ℕ) → place_of part bs ≡ Some n → starts_with nat_eq (drop n bs) part ≡ true
+unfolding place_of
+place_here part [] n e = absurd cc
+place_here part (b ∷ bs) n e = elim (place_cases part bs b n e) [
+  | inl h ↦ subst (λ (k : ℕ). starts_with nat_eq (drop k (b ∷ bs)) part ≡ true) (sym h.1) h.0
+  | inr h ↦ subst (λ (k : ℕ). starts_with nat_eq (drop k (b ∷ bs)) part ≡ true) (sym h.1.later) (place_here part bs h.1.place h.1.found)
+]
+
+pub place_before : (part bs : List ℕ) (n k : ℕ) → place_of part bs ≡ Some n → k < n → starts_with nat_eq (drop k bs) part ≡ false
+unfolding place_of
+place_before part [] n k e l = absurd cc
+place_before part (b ∷ bs) n zero e l = elim (place_cases part bs b n e) [ inl h ↦ absurd (omega (arith, h.1)) | inr h ↦ h.0 ]
+place_before part (b ∷ bs) n (suc k) e l = elim (place_cases part bs b n e) [
+  | inl h ↦ absurd (omega (arith, h.1))
+  | inr h ↦ place_before part bs h.1.place k h.1.found (omega (arith, h.1.later))
+]
+
+pub some_none : (n : ℕ) → Some n ≡ None → ⊥
+some_none n e = cc
+
+pub option_none : (o : Option ℕ) → option_map suc o ≡ None → o ≡ None
+option_none None e = refl
+option_none (Some n) e = absurd cc
+
+pub place_nowhere : (part bs : List ℕ) (k : ℕ) → place_of part bs ≡ None → k < length bs → starts_with nat_eq (drop k bs) part ≡ false
+unfolding place_of
+place_nowhere part [] k e l = absurd (omega arith)
+place_nowhere part (b ∷ bs) k e l = elim (cases_Bool (starts_with nat_eq (b ∷ bs) part)) [
+  | inl h ↦ absurd (some_none 0 (sym (cond-true _ _ _ h) ∙ e))
+  | inr h ↦ elim k as (λ (i : ℕ). i < suc (length bs) → starts_with nat_eq (drop i (b ∷ bs)) part ≡ false) [
+    | zero ↦ λ _. h
+    | suc i ↦ λ m. place_nowhere part bs i (option_none (place_of part bs) (sym (cond-false _ _ _ h) ∙ e)) (omega arith)
+  ] l
 ]

@@ -2,3 +2,5 @@
 pub mod Heads
 -- Frames of messages, as bytes.
 pub mod Frames
+-- Calls on `Frames`, one after the other.
+pub mod Calls
