@@ -14,7 +14,6 @@
 #![tactic(auto)]
 
 mod complete;
-mod cursor;
 mod faults;
 mod fix;
 mod fold;
@@ -31,6 +30,7 @@ mod request;
 mod scan;
 mod selection;
 mod session;
+mod span;
 mod state;
 mod symbols;
 mod sync;

@@ -1,7 +1,8 @@
 //! One message of a client.
 
 ghost use Rattle.json.specs.Json.{document};
-ghost use Rattle.std.specs.Prelude.{◌≡◌, false, IfOk, None};
+ghost use Rattle.lsp.specs.States.{is_down};
+ghost use Rattle.std.specs.Prelude.{◌≡◌, false, IfOk, None, codes};
 
 use crate::publish::{Notices, publish_due};
 use crate::request::reply;
@@ -104,7 +105,11 @@ fn notification(
     method: &str,
     params: &Value<'_>,
     out: &mut Notices,
-) -> Result<(), AllocError> {
+) -> Result<(), AllocError>
+    ensures early { (state.old.phase ≡ Phase.Running → ⊥) → (method.now ≡ codes "exit" → ⊥) → state.new ≡ state.old }
+    ensures exit { method.now ≡ codes "exit"
+        → state.new ≡ record state.old { phase = Phase.Over (is_down state.old.phase) } }
+{
     if method == "exit" {
         let was_down = state.phase == Phase::Down;
         state.phase = Phase::Over { was_down };

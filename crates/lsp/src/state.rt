@@ -1,8 +1,9 @@
 //! What a server knows.
 
+ghost use Rattle.lsp.specs.States as spec;
 ghost use Rattle.lsp.specs.States.{ChangesOnly, IsChanged, document_at, known_text};
 ghost use Rattle.lsp_text.specs.Positions.{all_changed, change_of};
-ghost use Rattle.std.specs.Prelude.{◌≡◌, ◌↔◌, [], Any, IfSome, IsNone, IsSome, IsSomeAnd, IsTrue, MatchOption, OnErr, OnOk, chars, map, string_bytes};
+ghost use Rattle.std.specs.Prelude.{◌≡◌, ◌↔◌, [], false, IfSome, IsNone, IsSome, IsSomeAnd, IsTrue, MatchOption, OnErr, OnOk, chars, map, string_bytes};
 ghost use Rattle.std.specs.BTreeMap.{IsEmpty};
 ghost use Rattle.lsp_text.specs.declared.position.Encoding.TheVariants.{Utf16};
 
@@ -172,19 +173,28 @@ fn changed(
 ) -> Option<String>
     ensures changed { IfSome result (λ new. chars (string_bytes new)
         ≡ all_changed encoding (map change_of changes.now) (known_text old)) }
-    ensures unknown { IsNone old → IsSome result → Any (λ change. IsNone change.range) changes.now }
+    ensures unknown { IsNone old → IsSome result → IsTrue (spec.has_whole_text changes.now) }
 {
-    let text = match old {
-        Some(text) => text,
-        None if has_whole_text(changes) => String::new(alloc),
-        None => return None,
-    };
+    let text = text_before(alloc, old, changes)?;
     replaced_all(alloc, text, changes, encoding).ok()
+}
+
+/// Returns the text before changes, if it is known. The empty text stands for one that is not known where a change is a
+/// whole text.
+fn text_before(alloc: Global, old: Option<String>, changes: &[Change]) -> Option<String>
+    ensures known { IfSome result (λ text. chars (string_bytes text) ≡ known_text old) }
+    ensures unknown { IsNone old → IsSome result → IsTrue (spec.has_whole_text changes.now) }
+{
+    match old {
+        Some(text) => Some(text),
+        None if has_whole_text(changes) => Some(String::new(alloc)),
+        None => None,
+    }
 }
 
 /// Returns whether a change is a whole text.
 fn has_whole_text(changes: &[Change]) -> bool
-    ensures { IsTrue result ↔ Any (λ change. IsNone change.range) changes.now }
+    ensures { result ≡ spec.has_whole_text changes.now }
 {
     changes.iter().any(|change| change.range.is_none())
 }
