@@ -1,6 +1,6 @@
 //! Notifications of the server.
 
-ghost use Rattle.std.specs.Prelude.{◌≡◌, [], OnErr, OnOk};
+ghost use Rattle.std.specs.Prelude.{◌≡◌, OnErr};
 
 use crate::faults::faults_notice;
 use crate::state::State;
