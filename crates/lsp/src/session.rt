@@ -51,7 +51,8 @@ fn read_some<R: Read>(input: &mut R, chunk: &mut [u8]) -> io::Result<usize> {
     Ok(0)
 }
 
-/// Takes the messages of the whole frames, and publishes the faults of the documents that are due after the last one.
+/// Takes the messages of the whole frames, and publishes the faults of the documents that are due after the last one. The
+/// replies are sent before faults are looked for.
 fn serve_frames<W: Write>(
     alloc: Global,
     state: &mut State,
@@ -66,6 +67,7 @@ fn serve_frames<W: Write>(
             break;
         }
     }
+    output.flush()?;
     write_all(output, faults(alloc, state))?;
     output.flush()
 }
