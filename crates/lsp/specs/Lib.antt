@@ -1,4 +1,4 @@
--- Frames of messages, as bytes.
-pub mod Frames
 -- Spans of a text as ranges of the protocol.
 pub mod Spans
+-- The documents of a server.
+pub mod States

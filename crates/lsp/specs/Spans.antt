@@ -1,5 +1,7 @@
 -- Spans of a text as ranges of the protocol.
-use Rattle.std.specs.Prelude.{◌+◌, ◌-◌, ◌^◌, min}
+use Rattle.std.specs.Prelude.{ℕ, ◌+◌, ◌-◌, ◌^◌, min}
+use Rattle.kdl_text.specs.declared.span.Severity.{Severity}
+use Rattle.kdl_text.specs.declared.span.Severity.TheVariants.{Error, Warning, Advice}
 use Rattle.kdl_text.specs.declared.span.SourceSpan.{SourceSpan}
 use Rattle.lsp_text.specs.declared.position.Encoding.{Encoding}
 use Rattle.lsp_text.specs.declared.position.Range.{Range}
@@ -11,3 +13,9 @@ span_range e s t = record {
   start = position e (index_of_byte s.offset t) t;
   end = position e (index_of_byte (min (s.offset + s.len) (2 ^ 64 - 1)) t) t;
 }
+
+-- the number of a severity, as `DiagnosticSeverity` of the protocol
+abbrev pub severity_number : Severity → ℕ
+severity_number Error = 1
+severity_number Warning = 2
+severity_number Advice = 3

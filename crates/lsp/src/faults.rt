@@ -1,12 +1,15 @@
 //! The faults of a document.
 
-use crate::cursor::Cursor;
+ghost use Rattle.lsp.specs.Spans.{severity_number};
+ghost use Rattle.std.specs.Prelude.{◌≡◌};
+
+use crate::span::range_of;
 use crate::state::Client;
 use crate::write::{Out, begin_notice, finish, put_number, put_range, put_text};
 use kdl::{KdlDocument, ParseFailure};
 use kdl_text::error::KdlDiagnostic;
 use kdl_text::span::Severity;
-use lsp_text::Range;
+use lsp_text::{Cursor, Range};
 use std::alloc::{AllocError, Global};
 
 /// A document whose faults are being written.
@@ -92,7 +95,7 @@ impl<'a> Report<'a> {
         out: &mut Out,
         fault: &KdlDiagnostic,
     ) -> Result<(), AllocError> {
-        let range = self.cursor.range(fault.span);
+        let range = range_of(&mut self.cursor, fault.span);
         let message = match &fault.message {
             Some(message) => message.as_str(),
             None => "Unexpected error",
@@ -132,7 +135,9 @@ impl<'a> Report<'a> {
 }
 
 /// Returns the number of a severity.
-fn severity(severity: Severity) -> usize {
+fn severity(severity: Severity) -> usize
+    ensures { result ≡ severity_number severity }
+{
     match severity {
         Severity::Error => 1,
         Severity::Warning => 2,

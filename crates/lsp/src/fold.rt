@@ -1,11 +1,10 @@
 //! Blocks, block comments and runs of line comments, over several lines, as folding ranges.
 
-use crate::cursor::Cursor;
 use crate::scan::{Lexeme, Scanner, is_block_comment, is_line_comment};
 use crate::write::{Out, begin_reply, finish, put_number, put_text};
 use json::Value;
 use kdl_syntax::{Event, Token, TokenKind};
-use lsp_text::Encoding;
+use lsp_text::{Cursor, Encoding};
 use std::alloc::{AllocError, Global};
 
 /// Line comments on lines that follow each other.

@@ -4,7 +4,7 @@ use crate::layout::laid_out;
 use crate::params::{indent, range};
 use crate::write::{Out, Wrong, begin_reply, finish, put_range, put_text, wrong_reply};
 use json::Value;
-use lsp_text::{Edit, Encoding, Lines, edits, edits_within, mixed};
+use lsp_text::{Edit, Encoding, Lines, edits, edits_within};
 use std::alloc::{AllocError, Global};
 
 /// Returns the reply with the edits that lay a text out: none if the text stays, and null if it is no document.
@@ -38,13 +38,9 @@ pub(crate) fn range_formatting(
     let mut out = begin_reply(alloc, id)?;
     match laid_out(alloc, text, indent(params))? {
         Some(new) => {
-            let within = Lines::of(range);
-            let part = mixed(alloc, text, &new, within)?;
-            if laid_out(alloc, &part, indent(params))? == Some(new) {
-                put_edits(
-                    &mut out,
-                    &edits_within(alloc, text, &part, within, encoding)?,
-                )?;
+            let part = edits_within(alloc, text, &new, Lines::of(range), encoding)?;
+            if laid_out(alloc, &part.text, indent(params))?.as_deref() == Some(new.as_str()) {
+                put_edits(&mut out, &part.edits)?;
             } else {
                 put_edits(&mut out, &[])?;
             }

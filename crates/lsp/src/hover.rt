@@ -1,15 +1,15 @@
 //! What is at a place: a value, a key, a type or a node, and its PATH.
 
-use crate::cursor::Cursor;
 use crate::layout::document_of;
 use crate::locate::{Part, nodes_at, part_at};
 use crate::path::{Target, path_to};
 use crate::place::place;
+use crate::span::range_of;
 use crate::write::{Out, Wrong, begin_reply, finish, put_range, put_text, wrong_reply};
 use json::Value;
 use kdl::{KdlDocument, KdlEntry, KdlNode, KdlValue};
 use kdl_text::span::SourceSpan;
-use lsp_text::Encoding;
+use lsp_text::{Cursor, Encoding};
 use std::alloc::{AllocError, Global};
 
 /// Returns the reply with what is at the position of a request: null if that is nothing with a value or a name, or the text
@@ -29,7 +29,11 @@ pub(crate) fn hover(
         Some((content, span)) => {
             out.begin_object()?;
             put_content(&mut out, &content)?;
-            put_range(&mut out, "range", Cursor::new(text, encoding).range(span))?;
+            put_range(
+                &mut out,
+                "range",
+                range_of(&mut Cursor::new(text, encoding), span),
+            )?;
             out.end_object()?;
         }
         None => out.null()?,

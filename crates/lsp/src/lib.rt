@@ -14,12 +14,10 @@
 #![tactic(auto)]
 
 mod complete;
-mod cursor;
 mod faults;
 mod fix;
 mod fold;
 mod format;
-mod frame;
 mod hover;
 mod layout;
 mod locate;
@@ -32,13 +30,13 @@ mod request;
 mod scan;
 mod selection;
 mod session;
+mod span;
 mod state;
 mod symbols;
 mod sync;
 mod tokens;
 mod write;
 
-pub use frame::{Front, first_frame, write_frame};
 pub use message::step;
 pub use session::serve;
 pub use state::{Client, Document, Phase, State};

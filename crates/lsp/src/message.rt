@@ -1,15 +1,19 @@
 //! One message of a client.
 
 ghost use Rattle.json.specs.Json.{document};
-ghost use Rattle.std.specs.Prelude.{◌≡◌, None};
+ghost use Rattle.lsp.specs.States.{is_down};
+ghost use Rattle.std.specs.Prelude.{◌≡◌, false, IfOk, None, codes};
 
-use crate::publish::Notices;
+use crate::publish::{Notices, publish_due};
 use crate::request::reply;
 use crate::state::{Phase, State};
 use crate::sync::{did_change, did_close, did_open};
 use crate::write::{Wrong, wrong_reply};
 use json::{Error, Scratch, Value};
 use std::alloc::{AllocError, Global};
+
+/// How many messages the server sends for one, in most cases.
+const FEW: usize = 4;
 
 /// Takes a message of the client, and returns the messages that the server sends for it, in order.
 ///
@@ -18,14 +22,39 @@ pub fn step(alloc: Global, state: &mut State, message: &str) -> Result<Vec<Strin
     // A text that is not JSON changes nothing.
     ensures refused { document message.now ≡ None → state.new ≡ state.old }
 {
-    let mut out = Vec::new(alloc);
-    let mut scratch = Scratch::new(alloc);
-    match Value::parse(alloc, message, &mut scratch) {
-        Ok(value) => take(alloc, state, &value, &mut out)?,
-        Err(Error::OutOfMemory) => out.push(wrong_reply(alloc, &Value::Null, Wrong::Memory)?)?,
-        Err(_) => out.push(wrong_reply(alloc, &Value::Null, Wrong::Parse)?)?,
+    let mut out = Vec::with_capacity(alloc, FEW)?;
+    if receive(alloc, state, message, &mut out)? {
+        publish_due(alloc, state, &mut out)?;
     }
     Ok(out)
+}
+
+/// Takes a message of the client, and sends the messages for it but for the faults of the documents that are due. Returns
+/// whether the message is JSON.
+pub(crate) fn receive(
+    alloc: Global,
+    state: &mut State,
+    message: &str,
+    out: &mut Notices,
+) -> Result<bool, AllocError>
+    ensures refused { document message.now ≡ None → state.new ≡ state.old }
+    ensures json { document message.now ≡ None → IfOk result (λ is_json. is_json ≡ false) }
+{
+    let mut scratch = Scratch::new(alloc);
+    match Value::parse(alloc, message, &mut scratch) {
+        Ok(value) => {
+            take(alloc, state, &value, out)?;
+            Ok(true)
+        }
+        Err(Error::OutOfMemory) => {
+            out.push(wrong_reply(alloc, &Value::Null, Wrong::Memory)?)?;
+            Ok(false)
+        }
+        Err(_) => {
+            out.push(wrong_reply(alloc, &Value::Null, Wrong::Parse)?)?;
+            Ok(false)
+        }
+    }
 }
 
 /// Takes a message: a request, a notification, or a reply to the server, which is ignored.
@@ -50,7 +79,7 @@ fn is_reply(message: &Value<'_>) -> bool {
     message.get("result").is_some() || message.get("error").is_some()
 }
 
-/// Takes a request.
+/// Takes a request. What is due is published before the session ends.
 fn request(
     alloc: Global,
     state: &mut State,
@@ -59,6 +88,9 @@ fn request(
     params: &Value<'_>,
     out: &mut Notices,
 ) -> Result<(), AllocError> {
+    if method == "shutdown" {
+        publish_due(alloc, state, out)?;
+    }
     let reply = match reply(alloc, state, method, id, params) {
         Ok(reply) => reply,
         Err(AllocError) => wrong_reply(alloc, id, Wrong::Memory)?,
@@ -73,7 +105,11 @@ fn notification(
     method: &str,
     params: &Value<'_>,
     out: &mut Notices,
-) -> Result<(), AllocError> {
+) -> Result<(), AllocError>
+    ensures early { (state.old.phase ≡ Phase.Running → ⊥) → (method.now ≡ codes "exit" → ⊥) → state.new ≡ state.old }
+    ensures exit { method.now ≡ codes "exit"
+        → state.new ≡ record state.old { phase = Phase.Over (is_down state.old.phase) } }
+{
     if method == "exit" {
         let was_down = state.phase == Phase::Down;
         state.phase = Phase::Over { was_down };

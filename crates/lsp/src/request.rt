@@ -1,5 +1,8 @@
 //! Requests.
 
+ghost use Rattle.lsp.specs.States.{encoding_name};
+ghost use Rattle.std.specs.Prelude.{◌≡◌, OnErr, OnOk, codes};
+
 use crate::complete::completion;
 use crate::fix::actions;
 use crate::fold::folds;
@@ -24,7 +27,18 @@ pub(crate) fn reply(
     method: &str,
     id: &Value<'_>,
     params: &Value<'_>,
-) -> Result<String, AllocError> {
+) -> Result<String, AllocError>
+    // A request leaves the state as it was, but for `initialize` before the session and `shutdown` in it.
+    ensures new { state.old.phase ≡ Phase.New → (method.now ≡ codes "initialize" → ⊥) → state.new ≡ state.old }
+    ensures running { state.old.phase ≡ Phase.Running → (method.now ≡ codes "shutdown" → ⊥) → state.new ≡ state.old }
+    ensures down { state.old.phase ≡ Phase.Down → state.new ≡ state.old }
+    ensures err { OnErr result (state.new ≡ state.old) }
+
+    ensures initialize { state.old.phase ≡ Phase.New → method.now ≡ codes "initialize"
+        → OnOk result (state.new ≡ record state.old { phase = Phase.Running; client = state.new.client }) }
+    ensures shutdown { state.old.phase ≡ Phase.Running → method.now ≡ codes "shutdown"
+        → OnOk result (state.new ≡ record state.old { phase = Phase.Down }) }
+{
     match state.phase {
         Phase::New if method == "initialize" => initialize(alloc, state, id, params),
         Phase::New => wrong_reply(alloc, id, Wrong::Early),
@@ -45,7 +59,10 @@ fn initialize(
     state: &mut State,
     id: &Value<'_>,
     params: &Value<'_>,
-) -> Result<String, AllocError> {
+) -> Result<String, AllocError>
+    ensures ok { OnOk result (state.new ≡ record state.old { phase = Phase.Running; client = state.new.client }) }
+    ensures err { OnErr result (state.new ≡ state.old) }
+{
     let client = Client {
         encoding: encoding(params),
         has_related: has_related(params),
@@ -127,7 +144,9 @@ fn has_related(params: &Value<'_>) -> bool {
 }
 
 /// Returns the name of an encoding.
-fn encoding_name(encoding: Encoding) -> &'static str {
+fn encoding_name(encoding: Encoding) -> &'static str
+    ensures { result.now ≡ encoding_name encoding }
+{
     match encoding {
         Encoding::Utf8 => "utf-8",
         Encoding::Utf16 => "utf-16",

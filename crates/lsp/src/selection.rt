@@ -2,7 +2,6 @@
 
 ghost use Rattle.std.specs.Prelude.{◌+◌, ◌≤◌, IsTrue};
 
-use crate::cursor::Cursor;
 use crate::layout::document_of;
 use crate::locate::{block_span, end_of, entry_at, nodes_at, part_at, touches};
 use crate::place::offset_at;
@@ -10,7 +9,7 @@ use crate::write::{Out, Wrong, begin_reply, finish, null_reply, put_range, wrong
 use json::Value;
 use kdl::KdlDocument;
 use kdl_text::span::SourceSpan;
-use lsp_text::{Encoding, Position, Range};
+use lsp_text::{Cursor, Encoding, Position, Range};
 use std::alloc::{AllocError, Global};
 
 /// Returns the reply with the ranges around each position of a request: null if the text is no document.

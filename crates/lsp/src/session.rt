@@ -1,9 +1,10 @@
 //! A session over an input and an output.
 
-use crate::frame::{Front, first_frame, write_frame};
-use crate::message::step;
+use crate::message::receive;
+use crate::publish::{Notices, publish_due};
 use crate::state::{Phase, State};
-use std::alloc::Global;
+use lsp_frames::{Frames, write_frame};
+use std::alloc::{AllocError, Global};
 use std::io;
 use std::io::{ErrorKind, Read, Write};
 use std::str::from_utf8;
@@ -11,73 +12,89 @@ use std::str::from_utf8;
 /// How many bytes are read at a time, at most.
 const CHUNK: usize = 8192;
 
+/// The message that memory is short, where there is no memory for the reply to a request.
+const NO_MEMORY: &str =
+    r#"{"jsonrpc":"2.0","id":null,"error":{"code":-32603,"message":"out of memory"}}"#;
+
 /// Reads messages from the input and writes those of the server to the output, up to `exit`, the end of the input, or what
 /// is no frame. Returns whether `shutdown` came before `exit`.
 ///
-/// Returns errors of the input and the output, and `OutOfMemory`.
+/// The messages of all frames that are whole are taken before faults are published, once for each document that changed.
+///
+/// Returns errors of the input and the output, and `OutOfMemory` if there is no memory for the bytes of the input.
 pub fn serve<R: Read, W: Write>(alloc: Global, input: &mut R, output: &mut W) -> io::Result<bool> {
     let mut state = State::new(alloc);
-    let mut bytes: Vec<u8> = Vec::new(alloc);
+    let mut frames = Frames::new(alloc);
     let mut chunk = [0u8; CHUNK];
     for _ in 0..u64::MAX {
-        let count = match input.read(&mut chunk) {
-            Ok(count) => count,
-            Err(error) if error.kind() == ErrorKind::Interrupted => continue,
-            Err(error) => return Err(error),
-        };
+        let count = read_some(input, &mut chunk)?;
         if count == 0 {
             break;
         }
-        bytes.extend_from_slice(chunk.get(..count).unwrap_or(&[]))?;
-        match serve_frames(alloc, &mut state, &bytes, output)? {
-            Some(left) => keep_last(&mut bytes, left),
-            None => break,
+        frames.push(chunk.get(..count).unwrap_or(&[]))?;
+        serve_frames(alloc, &mut state, &mut frames, output)?;
+        if state.is_over() || frames.is_bad() {
+            break;
         }
     }
     Ok(matches!(state.phase, Phase::Over { was_down: true }))
 }
 
-/// Takes the frames that the bytes begin with. Returns how many bytes are left, or `None` at the end of the session.
+/// Reads bytes of the input into a buffer, and returns how many. A read that is interrupted is done again.
+fn read_some<R: Read>(input: &mut R, chunk: &mut [u8]) -> io::Result<usize> {
+    for _ in 0..u64::MAX {
+        match input.read(chunk) {
+            Err(error) if error.kind() == ErrorKind::Interrupted => {}
+            read => return read,
+        }
+    }
+    Ok(0)
+}
+
+/// Takes the messages of the whole frames, and publishes the faults of the documents that are due after the last one. The
+/// replies are sent before faults are looked for.
 fn serve_frames<W: Write>(
     alloc: Global,
     state: &mut State,
-    bytes: &[u8],
-    output: &mut W,
-) -> io::Result<Option<usize>> {
-    let mut left = bytes;
-    for _ in 0..u64::MAX {
-        match first_frame(left) {
-            Front::Whole { message, rest } => {
-                serve_message(alloc, state, message, output)?;
-                left = rest;
-            }
-            Front::Part => break,
-            Front::Bad => return Ok(None),
-        }
-        if matches!(state.phase, Phase::Over { .. }) {
-            return Ok(None);
-        }
-    }
-    Ok(Some(left.len()))
-}
-
-/// Takes a message, and writes those of the server.
-fn serve_message<W: Write>(
-    alloc: Global,
-    state: &mut State,
-    message: &[u8],
+    frames: &mut Frames,
     output: &mut W,
 ) -> io::Result<()> {
-    // Bytes that are no text are no JSON: so is the empty text.
-    let message = from_utf8(message).unwrap_or("");
-    for reply in &step(alloc, state, message)? {
-        write_frame(output, reply)?;
+    while let Some(message) = frames.next_message() {
+        // Bytes that are no text are no JSON: so is the empty text.
+        let message = from_utf8(message).unwrap_or("");
+        write_all(output, replies(alloc, state, message))?;
+        if state.is_over() {
+            break;
+        }
     }
+    output.flush()?;
+    write_all(output, faults(alloc, state))?;
     output.flush()
 }
 
-/// Keeps the last bytes.
-fn keep_last(bytes: &mut Vec<u8>, count: usize) {
-    let first = bytes.len().saturating_sub(count);
-    bytes.drain(..first);
+/// Takes a message, and returns those of the server for it but for faults.
+fn replies(alloc: Global, state: &mut State, message: &str) -> Result<Notices, AllocError> {
+    let mut out = Vec::with_capacity(alloc, 2)?;
+    receive(alloc, state, message, &mut out)?;
+    Ok(out)
+}
+
+/// Returns the faults of the documents that are due.
+fn faults(alloc: Global, state: &mut State) -> Result<Notices, AllocError> {
+    let mut out = Vec::new(alloc);
+    publish_due(alloc, state, &mut out)?;
+    Ok(out)
+}
+
+/// Writes messages, or that memory was short.
+fn write_all<W: Write>(output: &mut W, messages: Result<Notices, AllocError>) -> io::Result<()> {
+    match messages {
+        Ok(messages) => {
+            for message in &messages {
+                write_frame(output, message)?;
+            }
+            Ok(())
+        }
+        Err(AllocError) => write_frame(output, NO_MEMORY),
+    }
 }

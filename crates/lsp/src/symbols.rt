@@ -1,11 +1,11 @@
 //! The nodes of a document as symbols.
 
-use crate::cursor::Cursor;
 use crate::layout::document_of;
+use crate::span::range_of;
 use crate::write::{Out, begin_reply, finish, put_number, put_range, put_text};
 use json::Value;
 use kdl::{KdlDocument, KdlNode};
-use lsp_text::{Encoding, Position, Range};
+use lsp_text::{Cursor, Encoding, Position, Range};
 use std::alloc::{AllocError, Global};
 
 /// A list of nodes that is being written: the nodes that are left, and the node whose block it is, with its start.
@@ -95,7 +95,7 @@ fn put_head(out: &mut Out, cursor: &mut Cursor<'_>, node: &KdlNode) -> Result<()
     out.begin_object()?;
     put_text(out, "name", if name.is_empty() { "\"\"" } else { name })?;
     put_number(out, "kind", kind(node))?;
-    put_range(out, "selectionRange", cursor.range(node.name().span()))
+    put_range(out, "selectionRange", range_of(cursor, node.name().span()))
 }
 
 /// Returns the kind of symbol: an object, or a property.

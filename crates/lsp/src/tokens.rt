@@ -1,12 +1,11 @@
 //! The tokens of a text for highlighting.
 
-use crate::cursor::Cursor;
 use crate::scan::{Lexeme, Scanner, is_block_comment, is_key, is_line_comment};
 use crate::write::{Out, begin_reply, finish};
 use json::Value;
 use kdl_syntax::{Event, Phase, Token, TokenKind};
 use kdl_text::chars::is_newline_char;
-use lsp_text::{Encoding, Position};
+use lsp_text::{Cursor, Encoding, Position};
 use std::alloc::{AllocError, Global};
 
 /// What a token is highlighted as.

@@ -113,12 +113,11 @@ pub(crate) fn null_reply(alloc: Global, id: &Value<'_>) -> Result<String, AllocE
 }
 
 /// Returns a message for the log of the client.
-pub(crate) fn log_notice(alloc: Global, uri: &str, what: &str) -> Result<String, AllocError> {
+pub(crate) fn log_notice(alloc: Global, text: &str) -> Result<String, AllocError> {
     let mut out = begin_notice(alloc, "window/logMessage")?;
-    let text = format!(in alloc; "kdl: {uri}: {what}")?;
     out.begin_object()?;
     put_number(&mut out, "type", 1)?;
-    put_text(&mut out, "message", &text)?;
+    put_text(&mut out, "message", text)?;
     out.end_object()?;
     finish(alloc, out)
 }

@@ -10,3 +10,7 @@ pub mod Differing
 pub mod WholeLines
 -- A walk over a text, which may begin at a place in it.
 pub mod Walking
+-- Edits of some lines, taken one after another.
+pub mod Within
+-- Edits that are no edits of whole lines, or not those within some lines.
+pub mod Examples

@@ -1,11 +1,12 @@
 //! Laws of positions and edits, for proofs of callers.
 
+ghost use Rattle.lsp_text.specs.Lines.{AreEditsWithin, AreLineEdits};
 ghost use Rattle.lsp_text.specs.Positions.{AreWhole, IsBetween, IsExact, IsInLineEnd, Text, all_changed, edited, from_line, in_units, index, index_of_byte, line, lines_before, offset, position, size, utf16};
 ghost use Rattle.lsp_text.specs.declared.position.Encoding.{Encoding};
 ghost use Rattle.lsp_text.specs.declared.position.Encoding.TheVariants.{Utf8, Utf16, Utf32};
 ghost use Rattle.lsp_text.specs.declared.position.Position.{Position};
 ghost use Rattle.lsp_text.specs.declared.position.Range.{Range};
-ghost use Rattle.std.specs.Prelude.{◌≡◌, ℕ, ◌≤◌, List, [], ◌∷◌, Option, length, map, take};
+ghost use Rattle.std.specs.Prelude.{◌≡◌, ℕ, ◌≤◌, List, [], ◌∷◌, ◌++◌, Option, length, map, take};
 
 /// The byte offset of the position of a byte offset is that byte offset, at the start of each character that is not the LF
 /// of a CR LF, and at the end of the text.
@@ -30,6 +31,12 @@ pub fn positions_are_exact()
 pub fn changes_are_changes_of_units()
     ensures { (cs : List (Option Range × Text)) (t : Text) → AreWhole Utf16 cs t
         → utf16 (all_changed Utf16 cs t) ≡ all_changed Utf32 (map in_units cs) (utf16 t) }
+{}
+
+/// The text after more changes is the text after them of the text after the changes before.
+pub fn changes_follow_changes()
+    ensures { (e : Encoding) (cs ds : List (Option Range × Text)) (t : Text)
+        → all_changed e (cs ++ ds) t ≡ all_changed e ds (all_changed e cs t) }
 {}
 
 /// Small texts: CR, CR LF, U+1F600, a combining accent, positions after the end of a line and of a text, a range that ends
@@ -60,4 +67,21 @@ pub fn small_texts_are_not_so()
     ensures exact { IsExact Utf16 (record { line = 0; character = 1 }) (0x1_F600 ∷ []) → ⊥ }
     ensures between { IsBetween Utf16 (record { line = 0; character = 1 }) (0x1_F600 ∷ []) → ⊥ }
     ensures back { offset Utf8 (position Utf8 1 (13 ∷ 10 ∷ [])) (13 ∷ 10 ∷ []) ≡ 1 → ⊥ }
+{}
+
+/// What edits of whole lines are not: none where a line differs, one that begins with a line that stays, one that begins
+/// inside a line.
+pub fn line_edits_are_not_so()
+    ensures none { (e : Encoding) → AreLineEdits e (97 ∷ []) 0 ((97 ∷ []) ∷ []) ((98 ∷ []) ∷ []) [] → ⊥ }
+    ensures same { (e : Encoding) → AreLineEdits e (97 ∷ 10 ∷ 98 ∷ 10 ∷ []) 0 ((97 ∷ 10 ∷ []) ∷ (98 ∷ 10 ∷ []) ∷ []) ((97 ∷ 10 ∷ []) ∷ (99 ∷ 10 ∷ []) ∷ [])
+        ((record { start = record { line = 0; character = 0 }; end = record { line = 2; character = 0 } }, 97 ∷ 10 ∷ 99 ∷ 10 ∷ []) ∷ []) → ⊥ }
+    ensures inside { AreLineEdits Utf16 (97 ∷ 98 ∷ []) 0 ((97 ∷ 98 ∷ []) ∷ []) ((97 ∷ 99 ∷ []) ∷ [])
+        ((record { start = record { line = 0; character = 1 }; end = record { line = 0; character = 2 } }, 99 ∷ []) ∷ []) → ⊥ }
+{}
+
+/// What edits within some lines are not: none if a line within them differs, and one of a line outside.
+pub fn edits_within_are_not_so()
+    ensures none { AreEditsWithin Utf16 (record { first = 0; end = 1 }) (97 ∷ []) (98 ∷ []) [] → ⊥ }
+    ensures outside { AreEditsWithin Utf16 (record { first = 1; end = 1 }) (97 ∷ []) (98 ∷ [])
+        ((record { start = record { line = 0; character = 0 }; end = record { line = 0; character = 1 } }, 98 ∷ []) ∷ []) → ⊥ }
 {}

@@ -30,6 +30,6 @@ pub use change::{Change, replaced, replaced_all};
 pub use cursor::Cursor;
 pub use edit::{Edit, edits};
 pub use offset::offset_of;
-pub use part::{Lines, edits_within, mixed};
+pub use part::{Lines, Part, edits_within};
 pub use place::position_of;
 pub use position::{Encoding, Position, Range};

@@ -1,0 +1,8 @@
+use Rattle.lsp_text.proofs.Examples.{none_within, outside}
+use Rattle.lsp_text.proofs.laws.edits_within_are_not_so.Goals as goal
+
+pub returns-clause-none : goal.returns-clause-none
+returns-clause-none c = none_within
+
+pub returns-clause-outside : goal.returns-clause-outside
+returns-clause-outside c = outside
