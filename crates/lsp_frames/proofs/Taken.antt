@@ -54,9 +54,6 @@ given_shorter old new message e =
     let r = rest_of_frame old message new e in
     omega (arith, r.some, r.within, ap length r.rest_is, length-drop r.count old)
 
-pub not_given : (old new : List ℕ) → frame_in old ≡ None → new ≡ left_after old → new ≡ old
-not_given old new e n = n ∙ ap (λ (o : Option (List ℕ × List ℕ)). option_map_or (λ f. f.1) o old) e
-
 pub items_pushed : {V : Type 0} (f : V → List ℕ) (new old first : List V) (v : V) (m : List ℕ) (ms : List (List ℕ)) → new ≡ old ++ v ∷ [] → f v ≡ m → map f old ≡ map f first ++ ms → map f new ≡ map f first ++ (ms ++ m ∷ [])
 items_pushed f new old first v m ms n e h =
     ap (map f) n ∙ map-append f old (v ∷ []) ∙ ap (λ t. t ++ f v ∷ []) h ∙ append_assoc (map f first) ms (f v ∷ []) ∙ ap (λ x. map f first ++ (ms ++ x ∷ [])) e

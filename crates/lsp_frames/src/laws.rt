@@ -3,7 +3,7 @@
 ghost use Rattle.lsp_frames.specs.Calls.{Call, given_by, left_by, pushed_by};
 ghost use Rattle.lsp_frames.specs.Frames.{AreFrames, AreMessages, frame_in, frame_of, is_bad};
 ghost use Rattle.lsp_frames.specs.Heads.{head_end, length_of_line, line_end, lines, number, place_of};
-ghost use Rattle.std.specs.Prelude.{◌≡◌, ℕ, ◌+◌, ◌^◌, ◌<◌, List, [], ◌∷◌, ◌++◌, true, false, nat_eq, length, take, drop, codes};
+ghost use Rattle.std.specs.Prelude.{◌≡◌, ℕ, ◌+◌, ◌^◌, ◌<◌, List, [], ◌∷◌, ◌++◌, true, false, nat_eq, length, drop, codes};
 ghost use Rattle.std.specs.List.{starts_with};
 
 /// A whole frame stays whole where more bytes follow, with its message, and it is not bad.
