@@ -1,5 +1,7 @@
 -- Where the lines and the positions of a text are.
 pub mod Places
+-- The lines of a text, by its bytes.
+pub mod Bytes
 -- The position of a character, and the character of a position, are inverse.
 pub mod Inverse
 -- An edit of a text is an edit of its units of 16 bits.

@@ -30,7 +30,7 @@ scalars_before : (xs ys : Text) → scalars (xs ++ ys) ≡ true → scalars xs �
 scalars_before [] ys h = refl
 scalars_before (x ∷ xs) ys h = let p = and_parts (scalar x) (scalars (xs ++ ys)) h in and_from _ _ p.0 (scalars_before xs ys p.1)
 
-scalars_after : (xs ys : Text) → scalars (xs ++ ys) ≡ true → scalars ys ≡ true
+pub scalars_after : (xs ys : Text) → scalars (xs ++ ys) ≡ true → scalars ys ≡ true
 scalars_after [] ys h = h
 scalars_after (x ∷ xs) ys h = scalars_after xs ys (and_parts (scalar x) (scalars (xs ++ ys)) h).1
 

@@ -4,7 +4,7 @@ ghost use Rattle.lsp_text.specs.Positions as spec;
 ghost use Rattle.lsp_text.specs.Positions.{all_changed, change_of, edited};
 ghost use Rattle.std.specs.Prelude.{◌≡◌, IfOk, chars, map, string_bytes};
 
-use crate::offset::offset_of;
+use crate::offset::offsets_of;
 use crate::position::{Encoding, Range};
 use std::alloc::{AllocError, Global};
 
@@ -27,8 +27,8 @@ pub fn replaced(
 ) -> Result<String, AllocError>
     ensures { IfOk result (λ out. chars (string_bytes out) ≡ edited encoding range (chars new.now) (chars text.now)) }
 {
-    let start = offset_of(text, range.start, encoding);
-    let end = offset_of(text, range.end, encoding).max(start);
+    let (start, end) = offsets_of(text, range, encoding);
+    let end = end.max(start);
     let mut out = String::with_capacity(alloc, start + new.len() + (text.len() - end))?;
     out.push_str(&text[..start])?;
     out.push_str(new)?;

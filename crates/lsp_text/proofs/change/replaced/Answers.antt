@@ -10,11 +10,11 @@ returns c =
     let t = c.args.text.now in
     let i = index c.args.encoding c.args.range.start (chars t) in
     let j = index c.args.encoding c.args.range.end (chars t) in
-    let a : c.range.result.now ≡ take c.offset_of-start.result t = search rules in
+    let a : c.range.result.now ≡ take c.offsets_of-start.result.0 t = search rules in
     let d : c.range_from.result.now ≡ drop c.max-end.result t = search rules in
     let at_end : c.max-end.result ≡ size Utf8 (take (max i j) (chars t)) =
-    grind (arith, c.max-end.ensures, c.offset_of.ensures.offset, c.offset_of-start.ensures.offset, size_take_max Utf8 i j (chars t)) in
-    let front : chars c.range.result.now ≡ take i (chars t) = ap chars a ∙ chars_take t i c.offset_of-start.result c.utf8.text c.offset_of-start.ensures.offset in
+    grind (arith, c.max-end.ensures, c.offsets_of-start.ensures.end, c.offsets_of-start.ensures.start, size_take_max Utf8 i j (chars t)) in
+    let front : chars c.range.result.now ≡ take i (chars t) = ap chars a ∙ chars_take t i c.offsets_of-start.result.0 c.utf8.text c.offsets_of-start.ensures.start in
     let back : chars c.range_from.result.now ≡ drop (max i j) (chars t) = ap chars d ∙ chars_drop t (max i j) c.max-end.result c.utf8.text at_end in
     let out = string_bytes c.in_ok-out.out in
     let first = string_bytes c.push_str.new.self in
