@@ -14,5 +14,7 @@ pub mod WholeLines
 pub mod Walking
 -- Edits of some lines, taken one after another.
 pub mod Within
+-- Which edits are tight.
+pub mod Tight
 -- Edits that are no edits of whole lines, or not those within some lines.
 pub mod Examples

@@ -1,12 +1,14 @@
 //! Laws of positions and edits, for proofs of callers.
 
-ghost use Rattle.lsp_text.specs.Lines.{AreEditsWithin, AreLineEdits};
+ghost use Rattle.lsp_text.specs.Lines.{AreEditsWithin, AreLineEdits, edits_in, is_within, line_range, lines};
+ghost use Rattle.lsp_text.specs.declared.part.Lines.{Lines};
+ghost use Rattle.std.specs.List.{Contains};
 ghost use Rattle.lsp_text.specs.Positions.{AreWhole, IsBetween, IsExact, IsInLineEnd, Text, all_changed, edited, from_line, in_units, index, index_of_byte, line, lines_before, offset, position, size, utf16};
 ghost use Rattle.lsp_text.specs.declared.position.Encoding.{Encoding};
 ghost use Rattle.lsp_text.specs.declared.position.Encoding.TheVariants.{Utf8, Utf16, Utf32};
 ghost use Rattle.lsp_text.specs.declared.position.Position.{Position};
 ghost use Rattle.lsp_text.specs.declared.position.Range.{Range};
-ghost use Rattle.std.specs.Prelude.{◌≡◌, ℕ, ◌≤◌, List, [], ◌∷◌, ◌++◌, Option, length, map, take};
+ghost use Rattle.std.specs.Prelude.{◌≡◌, ℕ, ◌≤◌, List, [], ◌∷◌, ◌++◌, Option, length, map, take, true};
 
 /// The byte offset of the position of a byte offset is that byte offset, at the start of each character that is not the LF
 /// of a CR LF, and at the end of the text.
@@ -79,9 +81,22 @@ pub fn line_edits_are_not_so()
         ((record { start = record { line = 0; character = 1 }; end = record { line = 0; character = 2 } }, 99 ∷ []) ∷ []) → ⊥ }
 {}
 
-/// What edits within some lines are not: none if a line within them differs, and one of a line outside.
+/// What edits within some lines are: some of the edits of whole lines. Where the first line that differs is within them, it is
+/// an edit of its own, if the next line stays, the new text lacks the old line, and the old text lacks the new one.
+pub fn edits_within_are_so()
+    ensures some { (e : Encoding) (ls : Lines) (old new : Text) (ds : List (Range × Text)) → AreEditsWithin e ls old new ds
+        → (all : List (Range × Text)) × AreLineEdits e old 0 (lines old) (lines new) all × (ds ≡ edits_in ls all) }
+    ensures line { (e : Encoding) (ls : Lines) (old new : Text) (front u v : List Text) (a b s : Text) (ds : List (Range × Text))
+        → lines old ≡ front ++ (a ∷ s ∷ u) → lines new ≡ front ++ (b ∷ s ∷ v)
+        → (Contains (lines new) a → ⊥) → (Contains (lines old) b → ⊥) → is_within ls (line_range e (length front) 1 old) ≡ true
+        → AreEditsWithin e ls old new ds → Contains ds (line_range e (length front) 1 old, b) }
+{}
+
+/// What edits within some lines are not: none if a line within them differs, even if one after a line that stays differs
+/// too, and one of a line outside.
 pub fn edits_within_are_not_so()
     ensures none { AreEditsWithin Utf16 (record { first = 0; end = 1 }) (97 ∷ []) (98 ∷ []) [] → ⊥ }
+    ensures lost { AreEditsWithin Utf16 (record { first = 0; end = 1 }) (97 ∷ 10 ∷ 98 ∷ 10 ∷ 99 ∷ []) (65 ∷ 10 ∷ 98 ∷ 10 ∷ 67 ∷ []) [] → ⊥ }
     ensures outside { AreEditsWithin Utf16 (record { first = 1; end = 1 }) (97 ∷ []) (98 ∷ [])
         ((record { start = record { line = 0; character = 0 }; end = record { line = 0; character = 1 } }, 98 ∷ []) ∷ []) → ⊥ }
 {}
