@@ -4,10 +4,10 @@ use Rattle.std.specs.BTreeMap.{get_by_text}
 use Rattle.std.specs.Global.{Global}
 use Rattle.std.specs.List.{list_any}
 use Rattle.std.specs.Option.{option_map_or}
-use Rattle.lsp.specs.declared.state.Document.{Document}
-use Rattle.lsp.specs.declared.state.Phase.{Phase}
-use Rattle.lsp.specs.declared.state.Phase.TheVariants.{New, Running, Down, Over}
-use Rattle.lsp.specs.declared.state.State.{State}
+use Rattle.lsp_documents.specs.declared.state.Document.{Document}
+use Rattle.lsp_documents.specs.declared.state.Phase.{Phase}
+use Rattle.lsp_documents.specs.declared.state.Phase.TheVariants.{New, Running, Down, Over}
+use Rattle.lsp_documents.specs.declared.state.State.{State}
 use Rattle.lsp_text.specs.declared.change.Change.{Change}
 use Rattle.lsp_text.specs.declared.position.Encoding.{Encoding}
 use Rattle.lsp_text.specs.declared.position.Encoding.TheVariants.{Utf8, Utf16, Utf32}
@@ -39,12 +39,6 @@ pub record ChangesOnly (old new : State) (uri : List ℕ) : Type 0 where
   pub client : new.client ≡ old.client
   pub due : new.due ≡ old.due
   pub others : (other : List ℕ) → other ≢ uri → document_at new other ≡ document_at old other
-
--- the name of an encoding, as `PositionEncodingKind` of the protocol
-abbrev pub encoding_name : Encoding → List ℕ
-encoding_name Utf8 = codes "utf-8"
-encoding_name Utf16 = codes "utf-16"
-encoding_name Utf32 = codes "utf-32"
 
 -- `shutdown` came, and `exit` did not yet
 abbrev pub is_down : Phase → Bool

@@ -1,7 +1,7 @@
 //! What a server knows.
 
-ghost use Rattle.lsp.specs.States as spec;
-ghost use Rattle.lsp.specs.States.{ChangesOnly, IsChanged, document_at, known_text};
+ghost use Rattle.lsp_documents.specs.States as spec;
+ghost use Rattle.lsp_documents.specs.States.{ChangesOnly, IsChanged, document_at, known_text};
 ghost use Rattle.lsp_text.specs.Positions.{all_changed, change_of};
 ghost use Rattle.std.specs.Prelude.{◌≡◌, ◌↔◌, [], false, IfSome, IsNone, IsSome, IsSomeAnd, IsTrue, MatchOption, OnErr, OnOk, chars, map, string_bytes};
 ghost use Rattle.std.specs.BTreeMap.{IsEmpty};
