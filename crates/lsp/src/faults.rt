@@ -4,11 +4,11 @@ ghost use Rattle.lsp.specs.Spans.{severity_number};
 ghost use Rattle.std.specs.Prelude.{◌≡◌};
 
 use crate::span::range_of;
-use crate::state::Client;
 use crate::write::{Out, begin_notice, finish, put_number, put_range, put_text};
 use kdl::{KdlDocument, ParseFailure};
 use kdl_text::error::KdlDiagnostic;
 use kdl_text::span::Severity;
+use lsp_documents::Client;
 use lsp_text::{Cursor, Range};
 use std::alloc::{AllocError, Global};
 

@@ -2,15 +2,15 @@
 
 use crate::faults::{Report, faults_of};
 use crate::locate::end_of;
-use crate::params::uri;
 use crate::place::span;
 use crate::span::range_of;
-use crate::state::Client;
 use crate::write::{Out, Wrong, begin_reply, finish, put_edit, put_text, put_true, wrong_reply};
 use json::Value;
 use kdl_text::chars::{is_identifier_char, is_newline_char, is_space};
 use kdl_text::error::KdlDiagnostic;
 use kdl_text::span::SourceSpan;
+use lsp_documents::Client;
+use lsp_documents::params::uri;
 use lsp_text::{Cursor, replaced};
 use std::alloc::{AllocError, Global};
 

@@ -1,11 +1,23 @@
 //! Formatting.
 
 use crate::layout::laid_out;
-use crate::params::{indent, range};
 use crate::write::{Out, Wrong, begin_reply, finish, put_range, put_text, wrong_reply};
 use json::Value;
+use lsp_documents::params::{at, number, range};
 use lsp_text::{Edit, Encoding, Lines, edits, edits_within};
 use std::alloc::{AllocError, Global};
+
+/// Returns how many spaces a level is indented by, or `None` for a tab: as the options of the client say, or 4.
+fn indent(params: &Value<'_>) -> Option<usize> {
+    let spaces = at(params, "options", "insertSpaces").and_then(Value::as_bool);
+    if spaces == Some(false) {
+        return None;
+    }
+    let size = params
+        .get("options")
+        .and_then(|options| number(options, "tabSize"));
+    Some(size.unwrap_or(4).min(64))
+}
 
 /// Returns the reply with the edits that lay a text out: none if the text stays, and null if it is no document.
 pub(crate) fn formatting(

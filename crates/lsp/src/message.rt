@@ -1,28 +1,35 @@
 //! One message of a client.
 
-ghost use Rattle.json.specs.Json.{document};
-ghost use Rattle.lsp.specs.States.{is_down};
-ghost use Rattle.std.specs.Prelude.{◌≡◌, false, IfOk, None, codes};
+ghost use Rattle.json.specs.Json.{Json, document};
+ghost use Rattle.json.specs.Value.{value_view};
+ghost use Rattle.lsp.specs.Messages.{TellsIn};
+ghost use Rattle.lsp_documents.specs.Notes.{Agrees, Note, Tells, Texts, after};
+ghost use Rattle.lsp_documents.specs.States.{is_down};
+ghost use Rattle.std.specs.Prelude.{◌≡◌, false, IfOk, None, Some, codes};
 
-use crate::publish::{Notices, publish_due};
+use crate::faults::no_faults_notice;
+use crate::publish::{Notices, log_unknown, publish, publish_due};
 use crate::request::reply;
-use crate::state::{Phase, State};
-use crate::sync::{did_change, did_close, did_open};
 use crate::write::{Wrong, wrong_reply};
 use json::{Error, Scratch, Value};
+use lsp_documents::{Outcome, Phase, State};
 use std::alloc::{AllocError, Global};
-
-/// How many messages the server sends for one, in most cases.
-const FEW: usize = 4;
 
 /// Takes a message of the client, and returns the messages that the server sends for it, in order.
 ///
-/// Returns an error if there is no memory even for the message that memory is short.
+/// Returns an error if there is no memory for the message, which may have changed a document: no document is open then, up
+/// to the next `didOpen`. Returns an error also if there is no memory for the messages that the server sends.
 pub fn step(alloc: Global, state: &mut State, message: &str) -> Result<Vec<String>, AllocError>
     // A text that is not JSON changes nothing.
-    ensures refused { document message.now ≡ None → state.new ≡ state.old }
+    ensures refused { document message.now ≡ None → IfOk result (λ _. state.new ≡ state.old) }
+
+    // In a session, each text that the server knows is the client's, after each message.
+    ensures told { state.old.phase ≡ Phase.Running → (j : Json) (note : Note) (texts : Texts) → document message.now ≡ Some j → TellsIn j note
+        → Agrees state.old texts → Agrees state.new (after state.old.client.encoding note texts) }
+    ensures untold { ((j : Json) (note : Note) → document message.now ≡ Some j → TellsIn j note → ⊥)
+        → (texts : Texts) → Agrees state.old texts → Agrees state.new texts }
 {
-    let mut out = Vec::with_capacity(alloc, FEW)?;
+    let mut out = Vec::new(alloc);
     if receive(alloc, state, message, &mut out)? {
         publish_due(alloc, state, &mut out)?;
     }
@@ -37,8 +44,12 @@ pub(crate) fn receive(
     message: &str,
     out: &mut Notices,
 ) -> Result<bool, AllocError>
-    ensures refused { document message.now ≡ None → state.new ≡ state.old }
+    ensures refused { document message.now ≡ None → IfOk result (λ _. state.new ≡ state.old) }
     ensures json { document message.now ≡ None → IfOk result (λ is_json. is_json ≡ false) }
+    ensures told { state.old.phase ≡ Phase.Running → (j : Json) (note : Note) (texts : Texts) → document message.now ≡ Some j → TellsIn j note
+        → Agrees state.old texts → Agrees state.new (after state.old.client.encoding note texts) }
+    ensures untold { ((j : Json) (note : Note) → document message.now ≡ Some j → TellsIn j note → ⊥)
+        → (texts : Texts) → Agrees state.old texts → Agrees state.new texts }
 {
     let mut scratch = Scratch::new(alloc);
     match Value::parse(alloc, message, &mut scratch) {
@@ -47,8 +58,8 @@ pub(crate) fn receive(
             Ok(true)
         }
         Err(Error::OutOfMemory) => {
-            out.push(wrong_reply(alloc, &Value::Null, Wrong::Memory)?)?;
-            Ok(false)
+            state.close_all();
+            Err(AllocError)
         }
         Err(_) => {
             out.push(wrong_reply(alloc, &Value::Null, Wrong::Parse)?)?;
@@ -63,7 +74,12 @@ fn take(
     state: &mut State,
     message: &Value<'_>,
     out: &mut Notices,
-) -> Result<(), AllocError> {
+) -> Result<(), AllocError>
+    ensures told { state.old.phase ≡ Phase.Running → (note : Note) (texts : Texts) → TellsIn (value_view message.now) note
+        → Agrees state.old texts → Agrees state.new (after state.old.client.encoding note texts) }
+    ensures untold { ((note : Note) → TellsIn (value_view message.now) note → ⊥)
+        → (texts : Texts) → Agrees state.old texts → Agrees state.new texts }
+{
     let params = message.get("params").unwrap_or(&Value::Null);
     let method = message.get("method").and_then(Value::as_str);
     match (method, message.get("id")) {
@@ -87,7 +103,9 @@ fn request(
     id: &Value<'_>,
     params: &Value<'_>,
     out: &mut Notices,
-) -> Result<(), AllocError> {
+) -> Result<(), AllocError>
+    ensures open { state.new.open ≡ state.old.open }
+{
     if method == "shutdown" {
         publish_due(alloc, state, out)?;
     }
@@ -109,19 +127,14 @@ fn notification(
     ensures early { (state.old.phase ≡ Phase.Running → ⊥) → (method.now ≡ codes "exit" → ⊥) → state.new ≡ state.old }
     ensures exit { method.now ≡ codes "exit"
         → state.new ≡ record state.old { phase = Phase.Over (is_down state.old.phase) } }
+    ensures told { state.old.phase ≡ Phase.Running → (note : Note) (texts : Texts) → Tells method.now (value_view params.now) note
+        → Agrees state.old texts → Agrees state.new (after state.old.client.encoding note texts) }
+    ensures untold { ((note : Note) → Tells method.now (value_view params.now) note → ⊥)
+        → (texts : Texts) → Agrees state.old texts → Agrees state.new texts }
 {
-    if method == "exit" {
-        let was_down = state.phase == Phase::Down;
-        state.phase = Phase::Over { was_down };
-        return Ok(());
-    }
-    if state.phase != Phase::Running {
-        return Ok(());
-    }
-    match method {
-        "textDocument/didOpen" => did_open(alloc, state, params, out),
-        "textDocument/didChange" => did_change(alloc, state, params, out),
-        "textDocument/didClose" => did_close(alloc, state, params, out),
-        _ => Ok(()),
+    match state.notify(alloc, method, params) {
+        Outcome::Nothing => Ok(()),
+        Outcome::Unknown(uri) => log_unknown(alloc, uri, out),
+        Outcome::Closed(uri) => publish(alloc, no_faults_notice(alloc, uri, None), out),
     }
 }

@@ -1,8 +1,8 @@
 //! Places in a text that a request names, as byte offsets.
 
-use crate::params::{position, range};
 use json::Value;
 use kdl_text::span::SourceSpan;
+use lsp_documents::params::{position, range};
 use lsp_text::{Encoding, offset_of};
 
 /// Returns the byte offset of a position of the protocol.

@@ -3,20 +3,12 @@
 ghost use Rattle.std.specs.Prelude.{◌≡◌, OnErr};
 
 use crate::faults::faults_notice;
-use crate::state::State;
 use crate::write::log_notice;
+use lsp_documents::State;
 use std::alloc::{AllocError, Global};
 
 /// Messages to be sent, in order.
 pub(crate) type Notices = Vec<String>;
-
-/// Marks that the faults of a document are to be published.
-pub(crate) fn mark_due(alloc: Global, due: &mut Vec<String>, uri: &str) -> Result<(), AllocError> {
-    if due.iter().all(|other| other.as_str() != uri) {
-        due.push(String::from_str(alloc, uri)?)?;
-    }
-    Ok(())
-}
 
 /// Publishes the faults of the documents that are due. If memory is short, they stay due.
 pub(crate) fn publish_due(

@@ -1,6 +1,6 @@
 //! Requests.
 
-ghost use Rattle.lsp.specs.States.{encoding_name};
+ghost use Rattle.lsp.specs.Messages.{encoding_name};
 ghost use Rattle.std.specs.Prelude.{◌≡◌, OnErr, OnOk, codes};
 
 use crate::complete::completion;
@@ -8,15 +8,15 @@ use crate::fix::actions;
 use crate::fold::folds;
 use crate::format::{formatting, range_formatting};
 use crate::hover::hover;
-use crate::params::{encoding, uri};
 use crate::selection::selections;
-use crate::state::{Client, Phase, State};
 use crate::symbols::symbols;
 use crate::tokens::{LEGEND, tokens};
 use crate::write::{
     Out, Wrong, begin_reply, finish, null_reply, put_number, put_text, put_true, wrong_reply,
 };
 use json::Value;
+use lsp_documents::params::{encoding, uri};
+use lsp_documents::{Client, Phase, State};
 use lsp_text::Encoding;
 use std::alloc::{AllocError, Global};
 
@@ -33,6 +33,7 @@ pub(crate) fn reply(
     ensures running { state.old.phase ≡ Phase.Running → (method.now ≡ codes "shutdown" → ⊥) → state.new ≡ state.old }
     ensures down { state.old.phase ≡ Phase.Down → state.new ≡ state.old }
     ensures err { OnErr result (state.new ≡ state.old) }
+    ensures open { state.new.open ≡ state.old.open }
 
     ensures initialize { state.old.phase ≡ Phase.New → method.now ≡ codes "initialize"
         → OnOk result (state.new ≡ record state.old { phase = Phase.Running; client = state.new.client }) }

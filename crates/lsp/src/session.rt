@@ -2,7 +2,7 @@
 
 use crate::message::receive;
 use crate::publish::{Notices, publish_due};
-use crate::state::{Phase, State};
+use lsp_documents::{Phase, State};
 use lsp_frames::{Frames, write_frame};
 use std::alloc::{AllocError, Global};
 use std::io;
@@ -12,9 +12,11 @@ use std::str::from_utf8;
 /// How many bytes are read at a time, at most.
 const CHUNK: usize = 8192;
 
-/// The message that memory is short, where there is no memory for the reply to a request.
-const NO_MEMORY: &str =
-    r#"{"jsonrpc":"2.0","id":null,"error":{"code":-32603,"message":"out of memory"}}"#;
+/// The messages that memory is short, where there is none for a message of the client or for the reply.
+const NO_MEMORY: [&str; 2] = [
+    r#"{"jsonrpc":"2.0","id":null,"error":{"code":-32603,"message":"out of memory"}}"#,
+    r#"{"jsonrpc":"2.0","method":"window/logMessage","params":{"type":1,"message":"kdl: out of memory: open the documents again"}}"#,
+];
 
 /// Reads messages from the input and writes those of the server to the output, up to `exit`, the end of the input, or what
 /// is no frame. Returns whether `shutdown` came before `exit`.
@@ -74,7 +76,7 @@ fn serve_frames<W: Write>(
 
 /// Takes a message, and returns those of the server for it but for faults.
 fn replies(alloc: Global, state: &mut State, message: &str) -> Result<Notices, AllocError> {
-    let mut out = Vec::with_capacity(alloc, 2)?;
+    let mut out = Vec::new(alloc);
     receive(alloc, state, message, &mut out)?;
     Ok(out)
 }
@@ -93,8 +95,12 @@ fn write_all<W: Write>(output: &mut W, messages: Result<Notices, AllocError>) ->
             for message in &messages {
                 write_frame(output, message)?;
             }
-            Ok(())
         }
-        Err(AllocError) => write_frame(output, NO_MEMORY),
+        Err(AllocError) => {
+            for message in &NO_MEMORY {
+                write_frame(output, message)?;
+            }
+        }
     }
+    Ok(())
 }

@@ -1,0 +1,4 @@
+-- Values as numbers, positions and changes.
+pub mod Values
+-- Documents of the server that are those of the client.
+pub mod Agreeing

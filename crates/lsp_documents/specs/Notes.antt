@@ -1,13 +1,11 @@
 -- What a client tells about its documents, and the texts that it has.
-use Rattle.std.specs.Prelude.{◌≡◌, ℕ, Option, None, Some, List, [], ◌∷◌, IfSome, IsSomeAnd, IsTrue, MatchOption, chars, codes, option_map, option_and_then, string_bytes, true}
+use Rattle.std.specs.Prelude.{◌≡◌, ℕ, Option, None, Some, Ok, List, [], ◌∷◌, IfSome, IsSomeAnd, IsTrue, MatchOption, chars, codes, option_map, option_and_then, string_bytes, true, if◌then◌else◌}
 use Rattle.std.specs.Option.{option_map_or}
 use Rattle.std.specs.Str.{bytes_eq}
-use Rattle.std.specs.Str.Parse.{IsNumeral, digits_value}
-use Rattle.std.specs.Update.{update}
+use Rattle.std.specs.Str.Parse.{ParsesUnsigned}
 use Rattle.json.specs.Find.{get, is_null, as_str, as_number}
 use Rattle.json.specs.Json.{Json, array, Items, no_items, item}
-use Rattle.lsp_documents.specs.declared.state.Phase.{Phase}
-use Rattle.lsp_documents.specs.declared.state.Phase.TheVariants.{Running}
+use Rattle.lsp_documents.specs.declared.state.Document.{Document}
 use Rattle.lsp_documents.specs.declared.state.State.{State}
 use Rattle.lsp_documents.specs.States.{document_at}
 use Rattle.lsp_text.specs.declared.position.Encoding.{Encoding}
@@ -29,7 +27,7 @@ text_of params = option_and_then as_str (at (codes "textDocument") (codes "text"
 
 -- the member of that name is the number n
 abbrev pub IsNumber : List ℕ → Json → ℕ → Type 0
-IsNumber name j n = IsSomeAnd (option_and_then as_number (get name j)) (λ digits. IsNumeral 10 digits × (digits_value 10 digits ≡ n))
+IsNumber name j n = IsSomeAnd (option_and_then as_number (get name j)) (λ digits. ParsesUnsigned {E = List ℕ} 64 10 digits (Ok n))
 
 -- a value is the position
 abbrev pub IsPosition : Json → Position → Type 0
@@ -70,17 +68,24 @@ Tells method params (Opened uri text) = (method ≡ codes "textDocument/didOpen"
 Tells method params (Changed uri changes) = (method ≡ codes "textDocument/didChange") × (uri_of params ≡ Some uri) × HasChanges params changes
 Tells method params (Closed uri) = (method ≡ codes "textDocument/didClose") × (uri_of params ≡ Some uri)
 
--- the texts that a client has open, by their URIs
+-- the texts that a client has, by their URIs
 abbrev pub Texts : Type 0
-Texts = List ℕ → Option Text
+Texts = List ℕ → Text
+
+-- the texts with another one for a URI
+abbrev pub with_text : Texts → List ℕ → Text → Texts
+with_text texts uri text other = if bytes_eq uri other then text else texts other
 
 -- the texts of a client after it tells
 abbrev pub after : Encoding → Note → Texts → Texts
-after e (Opened uri text) texts = update bytes_eq texts uri (Some text)
-after e (Changed uri changes) texts = update bytes_eq texts uri (option_map (all_changed e changes) (texts uri))
-after e (Closed uri) texts = update bytes_eq texts uri None
+after e (Opened uri text) texts = with_text texts uri text
+after e (Changed uri changes) texts = with_text texts uri (all_changed e changes (texts uri))
+after e (Closed uri) texts = texts
 
--- the client has each document of the server open, and each text that the server knows is the client's
+-- a text of the document that the server knows is the text
+abbrev pub IsOf : Text → Document → Type 0
+IsOf text document = IfSome document.text (λ known. chars (string_bytes known) ≡ text)
+
+-- each text that the server knows is the client's
 abbrev pub Agrees : State → Texts → Type 0
-Agrees s texts = (uri : List ℕ) → IfSome (document_at s uri) (λ document.
-    IsSomeAnd (texts uri) (λ text. IfSome document.text (λ known. chars (string_bytes known) ≡ text)))
+Agrees s texts = (uri : List ℕ) → IfSome (document_at s uri) (IsOf (texts uri))

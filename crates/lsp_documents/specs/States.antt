@@ -33,12 +33,20 @@ IsChanged e changes version old new =
     × IfSome new.text (λ s. chars (string_bytes s) ≡ all_changed e (map change_of changes) (known_text old.text))
     × (IsNone old.text → IsSome new.text → IsTrue (has_whole_text changes))
 
+-- the documents of other URIs stay as they were
+abbrev pub OthersStay : State → State → List ℕ → Type 0
+OthersStay old new uri = (other : List ℕ) → other ≢ uri → document_at new other ≡ document_at old other
+
 -- all but the document of the URI stays as it was
 pub record ChangesOnly (old new : State) (uri : List ℕ) : Type 0 where
   pub phase : new.phase ≡ old.phase
   pub client : new.client ≡ old.client
   pub due : new.due ≡ old.due
-  pub others : (other : List ℕ) → other ≢ uri → document_at new other ≡ document_at old other
+  pub others : OthersStay old new uri
+
+-- the phase and the client stay as they were
+abbrev pub SessionStays : State → State → Type 0
+SessionStays old new = (new.phase ≡ old.phase) × (new.client ≡ old.client)
 
 -- `shutdown` came, and `exit` did not yet
 abbrev pub is_down : Phase → Bool

@@ -1,31 +1,44 @@
 //! Members of the parameters of a message.
 
+ghost use Rattle.json.specs.Find.{as_str};
+ghost use Rattle.json.specs.Value.{items_view, value_view};
+ghost use Rattle.lsp_documents.specs.Notes as spec;
+ghost use Rattle.lsp_documents.specs.Notes.{AreChanges, HasChanges, IsChange, IsNumber, IsPosition, IsRange, text_of, uri_of};
+ghost use Rattle.lsp_text.specs.Positions.{change_of};
+ghost use Rattle.std.specs.Prelude.{◌≡◌, IfOk, IfSome, chars, map, option_map, option_and_then};
+
 use json::Value;
 use lsp_text::{Change, Encoding, Position, Range};
 use std::alloc::{AllocError, Global};
 
 /// Returns a member of a member.
-fn at<'v, 'a>(value: &'v Value<'a>, outer: &str, inner: &str) -> Option<&'v Value<'a>> {
+pub fn at<'v, 'a>(value: &'v Value<'a>, outer: &str, inner: &str) -> Option<&'v Value<'a>>
+    ensures { option_map (λ v. value_view v.now) result ≡ spec.at outer.now inner.now (value_view value.now) }
+{
     value.get(outer)?.get(inner)
 }
 
 /// Returns the URI of the document.
-pub(crate) fn uri<'a>(params: &Value<'a>) -> Option<&'a str> {
+pub fn uri<'a>(params: &Value<'a>) -> Option<&'a str>
+    ensures { option_map (λ s. s.now) result ≡ uri_of (value_view params.now) }
+{
     at(params, "textDocument", "uri")?.as_str()
 }
 
 /// Returns the text of the document.
-pub(crate) fn text<'a>(params: &Value<'a>) -> Option<&'a str> {
+pub fn text<'a>(params: &Value<'a>) -> Option<&'a str>
+    ensures { option_map (λ s. s.now) result ≡ text_of (value_view params.now) }
+{
     at(params, "textDocument", "text")?.as_str()
 }
 
 /// Returns the version of the document, if there is one.
-pub(crate) fn version(params: &Value<'_>) -> Option<i64> {
+pub fn version(params: &Value<'_>) -> Option<i64> {
     at(params, "textDocument", "version")?.as_i64()
 }
 
 /// Returns the first encoding of the client that there is, or UTF-16.
-pub(crate) fn encoding(params: &Value<'_>) -> Encoding {
+pub fn encoding(params: &Value<'_>) -> Encoding {
     match first_encoding(params) {
         Some(encoding) => encoding,
         None => Encoding::Utf16,
@@ -51,13 +64,17 @@ fn encoding_named(name: &Value<'_>) -> Option<Encoding> {
     }
 }
 
-/// Returns the number at the end of the path.
-fn number(value: &Value<'_>, name: &str) -> Option<usize> {
+/// Returns the number that a member is.
+pub fn number(value: &Value<'_>, name: &str) -> Option<usize>
+    ensures { IfSome result (λ n. IsNumber name.now (value_view value.now) n) }
+{
     usize::try_from(value.get(name)?.as_u64()?).ok()
 }
 
 /// Returns the position that a value is.
-pub(crate) fn position(value: &Value<'_>) -> Option<Position> {
+pub fn position(value: &Value<'_>) -> Option<Position>
+    ensures { IfSome result (λ position. IsPosition (value_view value.now) position) }
+{
     Some(Position {
         line: number(value, "line")?,
         character: number(value, "character")?,
@@ -65,12 +82,14 @@ pub(crate) fn position(value: &Value<'_>) -> Option<Position> {
 }
 
 /// Returns the range of a request.
-pub(crate) fn range(params: &Value<'_>) -> Option<Range> {
+pub fn range(params: &Value<'_>) -> Option<Range> {
     range_of(params.get("range")?)
 }
 
 /// Returns the range that a value is.
-fn range_of(value: &Value<'_>) -> Option<Range> {
+fn range_of(value: &Value<'_>) -> Option<Range>
+    ensures { IfSome result (λ range. IsRange (value_view value.now) range) }
+{
     Some(Range {
         start: position(value.get("start")?)?,
         end: position(value.get("end")?)?,
@@ -85,7 +104,9 @@ struct Replacement<'a> {
 }
 
 /// Returns the change that a value is.
-fn edit<'a>(value: &Value<'a>) -> Option<Replacement<'a>> {
+fn edit<'a>(value: &Value<'a>) -> Option<Replacement<'a>>
+    ensures { IfSome result (λ edit. IsChange (value_view value.now) (edit.range, chars edit.text.now)) }
+{
     let text = value.get("text")?.as_str()?;
     match value.get("range") {
         None | Some(Value::Null) => Some(Replacement { range: None, text }),
@@ -97,13 +118,21 @@ fn edit<'a>(value: &Value<'a>) -> Option<Replacement<'a>> {
 }
 
 /// Returns the changes of a `didChange`, or `None` if there are values that are none.
-pub(crate) fn changes(
-    alloc: Global,
-    params: &Value<'_>,
-) -> Result<Option<Vec<Change>>, AllocError> {
+pub fn changes(alloc: Global, params: &Value<'_>) -> Result<Option<Vec<Change>>, AllocError>
+    ensures { IfOk result (λ found. IfSome found (λ changes.
+        HasChanges (value_view params.now) (map change_of changes.items))) }
+{
     let Some(Value::Array(values)) = params.get("contentChanges") else {
         return Ok(None);
     };
+    changes_of(alloc, values)
+}
+
+/// Returns the changes that values are, or `None` if one is none.
+fn changes_of(alloc: Global, values: &[Value<'_>]) -> Result<Option<Vec<Change>>, AllocError>
+    ensures { IfOk result (λ found. IfSome found (λ changes.
+        AreChanges (items_view values.now) (map change_of changes.items))) }
+{
     let mut changes = Vec::with_capacity(alloc, values.len())?;
     for value in values {
         let Some(Replacement { range, text }) = edit(value) else {
@@ -113,16 +142,4 @@ pub(crate) fn changes(
         changes.push(Change { range, text })?;
     }
     Ok(Some(changes))
-}
-
-/// Returns how many spaces a level is indented by, or `None` for a tab: as the options of the client say, or 4.
-pub(crate) fn indent(params: &Value<'_>) -> Option<usize> {
-    let spaces = at(params, "options", "insertSpaces").and_then(Value::as_bool);
-    if spaces == Some(false) {
-        return None;
-    }
-    let size = params
-        .get("options")
-        .and_then(|options| number(options, "tabSize"));
-    Some(size.unwrap_or(4).min(64))
 }

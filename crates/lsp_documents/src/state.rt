@@ -1,7 +1,8 @@
 //! What a server knows.
 
+ghost use Rattle.lsp_documents.specs.Notes.{Agrees, Texts};
 ghost use Rattle.lsp_documents.specs.States as spec;
-ghost use Rattle.lsp_documents.specs.States.{ChangesOnly, IsChanged, document_at, known_text};
+ghost use Rattle.lsp_documents.specs.States.{ChangesOnly, IsChanged, SessionStays, document_at, known_text};
 ghost use Rattle.lsp_text.specs.Positions.{all_changed, change_of};
 ghost use Rattle.std.specs.Prelude.{◌≡◌, ◌↔◌, [], false, IfSome, IsNone, IsSome, IsSomeAnd, IsTrue, MatchOption, OnErr, OnOk, chars, map, string_bytes};
 ghost use Rattle.std.specs.BTreeMap.{IsEmpty};
@@ -89,7 +90,7 @@ impl State {
     }
 
     /// Returns whether the session is over.
-    pub(crate) fn is_over(&self) -> bool {
+    pub fn is_over(&self) -> bool {
         matches!(self.phase, Phase::Over { .. })
     }
 
@@ -155,6 +156,16 @@ impl State {
         }
     }
 
+    /// Closes all documents, after a message that cannot be read: it may have changed one of them.
+    pub fn close_all(&mut self)
+        ensures session { SessionStays self.old self.new }
+        ensures due { self.new.due ≡ self.old.due }
+        ensures closed { IsEmpty self.new.open }
+        ensures agrees { (texts : Texts) → Agrees self.new texts }
+    {
+        self.open.clear();
+    }
+
     /// Closes a document.
     pub(crate) fn close(&mut self, uri: &str)
         ensures closed { IsNone (document_at self.new uri.now) }
@@ -179,8 +190,8 @@ fn changed(
     replaced_all(alloc, text, changes, encoding).ok()
 }
 
-/// Returns the text before changes, if it is known. The empty text stands for one that is not known where a change is a
-/// whole text.
+/// Returns the text before changes, if it is known. Where a change is a whole text, the empty text takes the place of
+/// one that is not known.
 fn text_before(alloc: Global, old: Option<String>, changes: &[Change]) -> Option<String>
     ensures known { IfSome result (λ text. chars (string_bytes text) ≡ known_text old) }
     ensures unknown { IsNone old → IsSome result → IsTrue (spec.has_whole_text changes.now) }

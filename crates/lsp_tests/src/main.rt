@@ -21,9 +21,9 @@ fn exchange_all(rt: &HostRuntime, alloc: Global) -> io::Result<u64> {
     let mut state = State::new(alloc);
     let mut failed = 0u64;
     for exchange in &EXCHANGES {
-        if !exchange.is_made(alloc, &mut state, exchange.message) {
+        if !exchange.is_made(alloc, &mut state) {
             failed = failed.saturating_add(1);
-            let is_made = exchange.is_made(alloc, &mut state, exchange.again);
+            let is_made = exchange.is_made_again(alloc, &mut state);
             println!(rt;
                 "{}: {}",
                 exchange.name,

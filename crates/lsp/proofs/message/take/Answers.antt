@@ -1,0 +1,31 @@
+use Rattle.std.proofs.Common.{rules, ◌≡◌, ◌∙◌, IsSomeAnd, Option, None, Some, ap, option_map, refl, subst, sym, unwrap_or}
+use Rattle.std.specs.Global.{Global}
+use Rattle.json.specs.declared.value.Value.{fold-roll-Value}
+use Rattle.json.specs.declared.value.Value.TheOpen.{Value-F}
+use Rattle.json.specs.declared.value.Value.TheVariants.{Null, rolls-Null}
+use Rattle.json.specs.Json.{Json, null}
+use Rattle.json.specs.Value.{value_view, view_step}
+use Rattle.lsp.specs.Messages.{method_of, params_of}
+use Rattle.lsp_documents.specs.Notes.{Tells}
+use Rattle.lsp.proofs.message.take.Goals as goal
+
+-- `null` as JSON
+null_is_null : value_view {A = Global} Null ≡ null
+null_is_null = ap (value_view {A = Global}) (sym rolls-Null) ∙ fold-roll-Value Global Json view_step Value-F.Null
+
+-- what a function gives of a value, or of another one in its place
+of_either : {A B : Type 0} (f : A → B) (o : Option A) (d r : A) (g : Option B) (n : B) → r ≡ unwrap_or o d → option_map f o ≡ g → f d ≡ n → f r ≡ unwrap_or g n
+of_either f None d r g n is got none = ap f is ∙ none ∙ ap (λ o. unwrap_or o n) got
+of_either f (Some a) d r g n is got none = ap f is ∙ ap (λ o. unwrap_or o n) got
+
+pub returns-in-Some-None-clause-untold : goal.returns-in-Some-None-clause-untold
+returns-in-Some-None-clause-untold c none texts agrees =
+    let j = value_view c.args.message.now in
+    let method : method_of j ≡ Some c.in-Some-None.method.now = search rules in
+    let params : value_view c.unwrap_or-params.result.now ≡ params_of j =
+    of_either (λ p. value_view p.now) c.get.result _ c.unwrap_or-params.result _ null c.unwrap_or-params.ensures c.get.ensures null_is_null in
+    c.notification.ensures.untold
+    (λ note tells. none note
+    (subst (λ m. IsSomeAnd m (λ name. Tells name (params_of j) note)) (sym method)
+    (subst (λ p. Tells c.in-Some-None.method.now p note) params tells)))
+    texts agrees

@@ -1,0 +1,25 @@
+-- Messages of a client.
+use Rattle.std.specs.Prelude.{ℕ, List, Option, None, IsSomeAnd, codes, is_none, option_and_then, unwrap_or, if◌then◌else◌}
+use Rattle.json.specs.Find.{get, as_str}
+use Rattle.json.specs.Json.{Json, null}
+use Rattle.lsp_documents.specs.Notes.{Note, Tells}
+use Rattle.lsp_text.specs.declared.position.Encoding.{Encoding}
+use Rattle.lsp_text.specs.declared.position.Encoding.TheVariants.{Utf8, Utf16, Utf32}
+
+-- the name of an encoding, as `PositionEncodingKind` of the protocol
+abbrev pub encoding_name : Encoding → List ℕ
+encoding_name Utf8 = codes "utf-8"
+encoding_name Utf16 = codes "utf-16"
+encoding_name Utf32 = codes "utf-32"
+
+-- the method of a notification, which is a message without an identifier
+abbrev pub method_of : Json → Option (List ℕ)
+method_of j = if is_none (get (codes "id") j) then option_and_then as_str (get (codes "method") j) else None
+
+-- the parameters of a message, or null
+abbrev pub params_of : Json → Json
+params_of j = unwrap_or (get (codes "params") j) null
+
+-- a message is a notification that tells it
+abbrev pub TellsIn : Json → Note → Type 0
+TellsIn j note = IsSomeAnd (method_of j) (λ method. Tells method (params_of j) note)

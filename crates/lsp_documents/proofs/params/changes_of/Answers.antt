@@ -1,0 +1,15 @@
+use Rattle.std.proofs.Common.{rules, ◌≡◌, ◌∷◌, [], ◌++◌, ap, chars, string_bytes, sym, subst}
+use Rattle.json.specs.Value.{value_view}
+use Rattle.lsp_documents.specs.Notes.{IsChange}
+use Rattle.lsp_documents.proofs.Values.{next_change}
+use Rattle.lsp_text.specs.declared.change.Change.{Change}
+use Rattle.lsp_text.specs.Positions.{change_of}
+use Rattle.lsp_documents.proofs.params.changes_of.Goals as goal
+
+pub loop-value-preserved : goal.loop-value-preserved
+loop-value-preserved c =
+    let v = c.value-item.result in
+    let change : Change = record { range = c.in-Some.range; text = c.in_ok-text.text } in
+    let one : IsChange (value_view v) (change_of change) = search rules in
+    let pushed : c.push.new.self.items ≡ c.loop-value.changes.items ++ change ∷ [] = search rules in
+    next_change value_view c.args.values.now c.loop-value.value-index v c.loop-value.changes.items c.push.new.self.items change c.loop-value-test.true c.value-item.is c.loop-value.invariant one pushed
