@@ -1,5 +1,5 @@
 -- What a client tells about its documents, and the texts that it has.
-use Rattle.std.specs.Prelude.{◌≡◌, ℕ, Option, None, Some, Ok, List, [], ◌∷◌, IfSome, IsSomeAnd, IsTrue, MatchOption, chars, codes, option_map, option_and_then, string_bytes, true, if◌then◌else◌}
+use Rattle.std.specs.Prelude.{◌≡◌, ℕ, Option, None, Some, Ok, List, [], ◌∷◌, IfSome, IsSomeAnd, IsTrue, chars, codes, option_map, option_and_then, string_bytes, true, if◌then◌else◌}
 use Rattle.std.specs.Option.{option_map_or}
 use Rattle.std.specs.Str.{bytes_eq}
 use Rattle.std.specs.Str.Parse.{ParsesUnsigned}

@@ -1,5 +1,5 @@
 -- The documents of a server.
-use Rattle.std.specs.Prelude.{◌≡◌, ◌≢◌, ℕ, ℤ, Bool, true, false, Option, List, [], IfSome, IsNone, IsSome, IsTrue, String, chars, codes, is_none, map, string_bytes}
+use Rattle.std.specs.Prelude.{◌≡◌, ◌≢◌, ℕ, ℤ, Bool, true, false, Option, List, [], IfSome, IsNone, IsSome, IsTrue, String, chars, is_none, map, string_bytes}
 use Rattle.std.specs.BTreeMap.{get_by_text}
 use Rattle.std.specs.Global.{Global}
 use Rattle.std.specs.List.{list_any}
@@ -10,7 +10,6 @@ use Rattle.lsp_documents.specs.declared.state.Phase.TheVariants.{New, Running, D
 use Rattle.lsp_documents.specs.declared.state.State.{State}
 use Rattle.lsp_text.specs.declared.change.Change.{Change}
 use Rattle.lsp_text.specs.declared.position.Encoding.{Encoding}
-use Rattle.lsp_text.specs.declared.position.Encoding.TheVariants.{Utf8, Utf16, Utf32}
 use Rattle.lsp_text.specs.Positions.{Text, all_changed, change_of}
 
 -- the document of a URI, if it is open

@@ -5,7 +5,7 @@ ghost use Rattle.lsp_documents.specs.Notes.{Agrees, HasChanges, Note, Tells, Tex
 ghost use Rattle.lsp_documents.specs.States.{OthersStay, SessionStays, document_at, is_down};
 ghost use Rattle.lsp_text.specs.Positions.{Text, all_changed, change_of};
 ghost use Rattle.lsp_text.specs.declared.position.Range.{Range};
-ghost use Rattle.std.specs.Prelude.{◌≡◌, ℕ, ◌⊎◌, List, Option, None, Some, IfSome, IsSomeAnd, OnOk, chars, codes, map, option_map, string_bytes};
+ghost use Rattle.std.specs.Prelude.{◌≡◌, ℕ, ◌⊎◌, List, Option, None, Some, IfSome, IsSomeAnd, OnOk, chars, codes, map, string_bytes};
 
 use crate::params::{changes, text, uri, version};
 use crate::state::{Phase, State};

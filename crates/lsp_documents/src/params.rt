@@ -1,11 +1,10 @@
 //! Members of the parameters of a message.
 
-ghost use Rattle.json.specs.Find.{as_str};
 ghost use Rattle.json.specs.Value.{items_view, value_view};
 ghost use Rattle.lsp_documents.specs.Notes as spec;
 ghost use Rattle.lsp_documents.specs.Notes.{AreChanges, HasChanges, IsChange, IsNumber, IsPosition, IsRange, text_of, uri_of};
 ghost use Rattle.lsp_text.specs.Positions.{change_of};
-ghost use Rattle.std.specs.Prelude.{◌≡◌, IfOk, IfSome, chars, map, option_map, option_and_then};
+ghost use Rattle.std.specs.Prelude.{◌≡◌, IfOk, IfSome, chars, map, option_map};
 
 use json::Value;
 use lsp_text::{Change, Encoding, Position, Range};

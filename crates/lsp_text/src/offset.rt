@@ -2,7 +2,7 @@
 
 ghost use Rattle.lsp_text.specs.Positions as spec;
 ghost use Rattle.lsp_text.specs.Positions.{first_line, front, lines_before, offset};
-ghost use Rattle.std.specs.Prelude.{◌≡◌, ℕ, ◌+◌, ◌<◌, ◌≤◌, ◌==◌, ◌||◌, ◌&&◌, not, chars, drop, length, slice_index, if◌then◌else◌};
+ghost use Rattle.std.specs.Prelude.{◌≡◌, ◌+◌, ◌<◌, ◌≤◌, ◌==◌, ◌||◌, ◌&&◌, not, chars, drop, length, slice_index, if◌then◌else◌};
 ghost use Rattle.std.specs.Str.{IsCharBoundary};
 
 use crate::position::{Encoding, Position, Range};

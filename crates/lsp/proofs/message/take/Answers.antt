@@ -1,4 +1,4 @@
-use Rattle.std.proofs.Common.{rules, ◌≡◌, ◌∙◌, IsSomeAnd, Option, None, Some, ap, option_map, refl, subst, sym, unwrap_or}
+use Rattle.std.proofs.Common.{rules, ◌≡◌, ◌∙◌, IsSomeAnd, Option, None, Some, ap, option_map, subst, sym, unwrap_or}
 use Rattle.std.specs.Global.{Global}
 use Rattle.json.specs.declared.value.Value.{fold-roll-Value}
 use Rattle.json.specs.declared.value.Value.TheOpen.{Value-F}

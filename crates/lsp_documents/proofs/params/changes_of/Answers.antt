@@ -1,4 +1,4 @@
-use Rattle.std.proofs.Common.{rules, ◌≡◌, ◌∷◌, [], ◌++◌, ap, chars, string_bytes, sym, subst}
+use Rattle.std.proofs.Common.{rules, ◌≡◌, ◌∷◌, [], ◌++◌}
 use Rattle.json.specs.Value.{value_view}
 use Rattle.lsp_documents.specs.Notes.{IsChange}
 use Rattle.lsp_documents.proofs.Values.{next_change}

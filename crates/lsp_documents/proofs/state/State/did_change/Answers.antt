@@ -1,4 +1,4 @@
-use Rattle.std.proofs.Common.{◌≡◌, ◌∙◌, ap, option_map, subst, sym}
+use Rattle.std.proofs.Common.{◌∙◌, ap, option_map, subst, sym}
 use Rattle.json.specs.Value.{value_view}
 use Rattle.lsp_documents.specs.Notes.{Agrees, with_text}
 use Rattle.lsp_documents.proofs.Agreeing.{one_uri}
