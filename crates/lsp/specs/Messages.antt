@@ -1,7 +1,7 @@
 -- Messages of a client.
 use Rattle.std.specs.Prelude.{ℕ, List, Option, None, IsSomeAnd, codes, is_none, option_and_then, unwrap_or, if◌then◌else◌}
 use Rattle.json.specs.Find.{get, as_str}
-use Rattle.json.specs.Json.{Json, null}
+use Rattle.json.specs.Json.{Json, document, null}
 use Rattle.lsp_documents.specs.Notes.{Note, Tells}
 use Rattle.lsp_text.specs.declared.position.Encoding.{Encoding}
 use Rattle.lsp_text.specs.declared.position.Encoding.TheVariants.{Utf8, Utf16, Utf32}
@@ -23,3 +23,7 @@ params_of j = unwrap_or (get (codes "params") j) null
 -- a message is a notification that tells it
 abbrev pub TellsIn : Json → Note → Type 0
 TellsIn j note = IsSomeAnd (method_of j) (λ method. Tells method (params_of j) note)
+
+-- a text is such a notification
+abbrev pub TextTells : List ℕ → Note → Type 0
+TextTells text note = IsSomeAnd (document text) (λ j. TellsIn j note)

@@ -1,11 +1,11 @@
 //! One message of a client.
 
-ghost use Rattle.json.specs.Json.{Json, document};
+ghost use Rattle.json.specs.Json.{document};
 ghost use Rattle.json.specs.Value.{value_view};
-ghost use Rattle.lsp.specs.Messages.{TellsIn};
+ghost use Rattle.lsp.specs.Messages.{TellsIn, TextTells};
 ghost use Rattle.lsp_documents.specs.Notes.{Agrees, Note, Tells, Texts, after};
-ghost use Rattle.lsp_documents.specs.States.{is_down};
-ghost use Rattle.std.specs.Prelude.{◌≡◌, false, IfOk, None, Some, codes};
+ghost use Rattle.lsp_documents.specs.States.{SessionStays, is_down};
+ghost use Rattle.std.specs.Prelude.{◌≡◌, false, IfOk, None, codes};
 
 use crate::faults::no_faults_notice;
 use crate::publish::{Notices, log_unknown, publish, publish_due};
@@ -24,10 +24,11 @@ pub fn step(alloc: Global, state: &mut State, message: &str) -> Result<Vec<Strin
     ensures refused { document message.now ≡ None → IfOk result (λ _. state.new ≡ state.old) }
 
     // In a session, each text that the server knows is the client's, after each message.
-    ensures told { state.old.phase ≡ Phase.Running → (j : Json) (note : Note) (texts : Texts) → document message.now ≡ Some j → TellsIn j note
+    ensures told { state.old.phase ≡ Phase.Running → (note : Note) (texts : Texts) → TextTells message.now note
         → Agrees state.old texts → Agrees state.new (after state.old.client.encoding note texts) }
-    ensures untold { ((j : Json) (note : Note) → document message.now ≡ Some j → TellsIn j note → ⊥)
+    ensures untold { ((note : Note) → TextTells message.now note → ⊥)
         → (texts : Texts) → Agrees state.old texts → Agrees state.new texts }
+    ensures session { (note : Note) → TextTells message.now note → SessionStays state.old state.new }
 {
     let mut out = Vec::new(alloc);
     if receive(alloc, state, message, &mut out)? {
@@ -46,10 +47,11 @@ pub(crate) fn receive(
 ) -> Result<bool, AllocError>
     ensures refused { document message.now ≡ None → IfOk result (λ _. state.new ≡ state.old) }
     ensures json { document message.now ≡ None → IfOk result (λ is_json. is_json ≡ false) }
-    ensures told { state.old.phase ≡ Phase.Running → (j : Json) (note : Note) (texts : Texts) → document message.now ≡ Some j → TellsIn j note
+    ensures told { state.old.phase ≡ Phase.Running → (note : Note) (texts : Texts) → TextTells message.now note
         → Agrees state.old texts → Agrees state.new (after state.old.client.encoding note texts) }
-    ensures untold { ((j : Json) (note : Note) → document message.now ≡ Some j → TellsIn j note → ⊥)
+    ensures untold { ((note : Note) → TextTells message.now note → ⊥)
         → (texts : Texts) → Agrees state.old texts → Agrees state.new texts }
+    ensures session { (note : Note) → TextTells message.now note → SessionStays state.old state.new }
 {
     let mut scratch = Scratch::new(alloc);
     match Value::parse(alloc, message, &mut scratch) {
@@ -79,6 +81,7 @@ fn take(
         → Agrees state.old texts → Agrees state.new (after state.old.client.encoding note texts) }
     ensures untold { ((note : Note) → TellsIn (value_view message.now) note → ⊥)
         → (texts : Texts) → Agrees state.old texts → Agrees state.new texts }
+    ensures session { (note : Note) → TellsIn (value_view message.now) note → SessionStays state.old state.new }
 {
     let params = message.get("params").unwrap_or(&Value::Null);
     let method = message.get("method").and_then(Value::as_str);
@@ -131,6 +134,7 @@ fn notification(
         → Agrees state.old texts → Agrees state.new (after state.old.client.encoding note texts) }
     ensures untold { ((note : Note) → Tells method.now (value_view params.now) note → ⊥)
         → (texts : Texts) → Agrees state.old texts → Agrees state.new texts }
+    ensures session { (method.now ≡ codes "exit" → ⊥) → SessionStays state.old state.new }
 {
     match state.notify(alloc, method, params) {
         Outcome::Nothing => Ok(()),

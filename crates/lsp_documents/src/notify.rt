@@ -36,6 +36,7 @@ impl State {
             → Agrees self.old texts → Agrees self.new (after self.old.client.encoding note texts) }
         ensures untold { ((note : Note) → Tells method.now (value_view params.now) note → ⊥)
             → (texts : Texts) → Agrees self.old texts → Agrees self.new texts }
+        ensures session { (method.now ≡ codes "exit" → ⊥) → SessionStays self.old self.new }
     {
         if method == "exit" {
             let was_down = self.phase == Phase::Down;
@@ -58,6 +59,7 @@ impl State {
         ensures told { (uri text : List ℕ) (texts : Texts) → uri_of (value_view params.now) ≡ Some uri → text_of (value_view params.now) ≡ Some text
             → Agrees self.old texts → Agrees self.new (with_text texts uri (chars text)) }
         ensures untold { (uri_of (value_view params.now) ≡ None) ⊎ (text_of (value_view params.now) ≡ None) → self.new ≡ self.old }
+        ensures session { SessionStays self.old self.new }
     {
         let (Some(uri), Some(text)) = (uri(params), text(params)) else {
             return Outcome::Nothing;
@@ -93,6 +95,7 @@ impl State {
             → Agrees self.new (with_text texts uri (all_changed self.old.client.encoding changes (texts uri))) }
         ensures untold { ((uri : List ℕ) (changes : List (Option Range × Text)) → uri_of (value_view params.now) ≡ Some uri → HasChanges (value_view params.now) changes → ⊥)
             → (texts : Texts) → Agrees self.old texts → Agrees self.new texts }
+        ensures session { SessionStays self.old self.new }
     {
         let Some(uri) = uri(params) else {
             return Outcome::Nothing;
@@ -115,6 +118,7 @@ impl State {
             → Agrees self.new (with_text texts uri.now (all_changed self.old.client.encoding changes (texts uri.now))) }
         ensures untold { ((changes : List (Option Range × Text)) → HasChanges (value_view params.now) changes → ⊥)
             → (texts : Texts) → Agrees self.old texts → Agrees self.new texts }
+        ensures session { SessionStays self.old self.new }
     {
         match self.due_changes(alloc, uri, params) {
             Some(changes) => self.change(alloc, uri, version(params), &changes),
@@ -135,7 +139,8 @@ impl State {
 
     /// Closes a document.
     fn did_close<'a>(&mut self, params: &Value<'a>) -> Outcome<'a>
-        ensures { (texts : Texts) → Agrees self.old texts → Agrees self.new texts }
+        ensures untold { (texts : Texts) → Agrees self.old texts → Agrees self.new texts }
+        ensures session { SessionStays self.old self.new }
     {
         let Some(uri) = uri(params) else {
             return Outcome::Nothing;

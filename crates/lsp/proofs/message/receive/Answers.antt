@@ -1,8 +1,17 @@
-use Rattle.json.specs.Value.{value_view}
+use Rattle.std.proofs.Common.{IsSomeAnd, subst, sym}
+use Rattle.lsp.specs.Messages.{TellsIn}
 use Rattle.lsp.proofs.message.receive.Goals as goal
 
 pub returns-in_err-take-in-Ok-clause-untold : goal.returns-in_err-take-in-Ok-clause-untold
-returns-in_err-take-in-Ok-clause-untold c none texts agrees = c.take.ensures.untold (λ note tells. none (value_view c.in-Ok.value) note c.in-Ok.ensures.ok tells) texts agrees
+returns-in_err-take-in-Ok-clause-untold c none texts agrees =
+    c.take.ensures.untold (λ note tells. none note (subst (λ o. IsSomeAnd o (λ j. TellsIn j note)) (sym c.in-Ok.ensures.ok) tells)) texts agrees
 
 pub returns-in-Ok-clause-untold : goal.returns-in-Ok-clause-untold
-returns-in-Ok-clause-untold c none texts agrees = c.take.ensures.untold (λ note tells. none (value_view c.in-Ok.value) note c.in-Ok.ensures.ok tells) texts agrees
+returns-in-Ok-clause-untold c none texts agrees =
+    c.take.ensures.untold (λ note tells. none note (subst (λ o. IsSomeAnd o (λ j. TellsIn j note)) (sym c.in-Ok.ensures.ok) tells)) texts agrees
+
+pub returns-in_err-take-in-Ok-clause-session : goal.returns-in_err-take-in-Ok-clause-session
+returns-in_err-take-in-Ok-clause-session c note tells = c.take.ensures.session note (subst (λ o. IsSomeAnd o (λ j. TellsIn j note)) c.in-Ok.ensures.ok tells)
+
+pub returns-in-Ok-clause-session : goal.returns-in-Ok-clause-session
+returns-in-Ok-clause-session c note tells = c.take.ensures.session note (subst (λ o. IsSomeAnd o (λ j. TellsIn j note)) c.in-Ok.ensures.ok tells)
