@@ -23,8 +23,6 @@ mod part;
 mod place;
 mod position;
 mod read;
-#[cfg(test)]
-mod tests;
 
 pub use change::{Change, replaced, replaced_all};
 pub use cursor::Cursor;
