@@ -1,4 +1,2 @@
--- Spans of a text as ranges of the protocol.
-pub mod Spans
--- Messages of a client.
+-- Messages of a client, and names of the protocol.
 pub mod Messages

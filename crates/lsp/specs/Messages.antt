@@ -2,6 +2,8 @@
 use Rattle.std.specs.Prelude.{ℕ, List, Option, None, IsSomeAnd, codes, is_none, option_and_then, unwrap_or, if◌then◌else◌}
 use Rattle.json.specs.Find.{get, as_str}
 use Rattle.json.specs.Json.{Json, document, null}
+use Rattle.kdl_text.specs.declared.span.Severity.{Severity}
+use Rattle.kdl_text.specs.declared.span.Severity.TheVariants.{Error, Warning, Advice}
 use Rattle.lsp_documents.specs.Notes.{Note, Tells}
 use Rattle.lsp_text.specs.declared.position.Encoding.{Encoding}
 use Rattle.lsp_text.specs.declared.position.Encoding.TheVariants.{Utf8, Utf16, Utf32}
@@ -11,6 +13,12 @@ abbrev pub encoding_name : Encoding → List ℕ
 encoding_name Utf8 = codes "utf-8"
 encoding_name Utf16 = codes "utf-16"
 encoding_name Utf32 = codes "utf-32"
+
+-- the number of a severity, as `DiagnosticSeverity` of the protocol
+abbrev pub severity_number : Severity → ℕ
+severity_number Error = 1
+severity_number Warning = 2
+severity_number Advice = 3
 
 -- the method of a notification, which is a message without an identifier
 abbrev pub method_of : Json → Option (List ℕ)

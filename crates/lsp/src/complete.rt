@@ -2,7 +2,6 @@
 
 use crate::place::place;
 use crate::scan::{Lexeme, Scanner, is_key, is_line_comment};
-use crate::span::range_of;
 use crate::write::{Out, Wrong, begin_reply, finish, put_edit, put_number, put_text, wrong_reply};
 use json::Value;
 use kdl::KdlIdentifier;
@@ -71,7 +70,7 @@ pub(crate) fn completion(
         offset: front.len(),
         len: before.len().saturating_sub(front.len()),
     };
-    let range = range_of(&mut Cursor::new(text, encoding), span);
+    let range = Cursor::new(text, encoding).range(span.offset, span.len);
     let mut out = begin_reply(alloc, id)?;
     out.begin_array()?;
     put_items(alloc, &mut out, text, front, range)?;

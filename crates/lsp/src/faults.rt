@@ -1,9 +1,8 @@
 //! The faults of a document.
 
-ghost use Rattle.lsp.specs.Spans.{severity_number};
+ghost use Rattle.lsp.specs.Messages.{severity_number};
 ghost use Rattle.std.specs.Prelude.{◌≡◌};
 
-use crate::span::range_of;
 use crate::write::{Out, begin_notice, finish, put_number, put_range, put_text};
 use kdl::{KdlDocument, ParseFailure};
 use kdl_text::error::KdlDiagnostic;
@@ -95,7 +94,7 @@ impl<'a> Report<'a> {
         out: &mut Out,
         fault: &KdlDiagnostic,
     ) -> Result<(), AllocError> {
-        let range = range_of(&mut self.cursor, fault.span);
+        let range = self.cursor.range(fault.span.offset, fault.span.len);
         let message = match &fault.message {
             Some(message) => message.as_str(),
             None => "Unexpected error",

@@ -3,7 +3,6 @@
 use crate::faults::{Report, faults_of};
 use crate::locate::end_of;
 use crate::place::span;
-use crate::span::range_of;
 use crate::write::{Out, Wrong, begin_reply, finish, put_edit, put_text, put_true, wrong_reply};
 use json::Value;
 use kdl_text::chars::{is_identifier_char, is_newline_char, is_space};
@@ -105,7 +104,7 @@ impl<'a> Faulty<'a> {
         fix: &Fix,
     ) -> Result<bool, AllocError> {
         let encoding = self.client.encoding;
-        let range = range_of(&mut Cursor::new(self.text, encoding), fix.span);
+        let range = Cursor::new(self.text, encoding).range(fix.span.offset, fix.span.len);
         let text = replaced(alloc, self.text, range, &fix.new, encoding)?;
         let left = faults_of(alloc, &text)?;
         let is_left = left.iter().any(|left| left.span.offset == fault.span.offset
@@ -136,7 +135,10 @@ impl<'a> Faulty<'a> {
         out.begin_object()?;
         out.key(self.uri)?;
         out.begin_array()?;
-        let range = range_of(&mut Cursor::new(self.text, self.client.encoding), fix.span);
+        let range = Cursor::new(self.text, self.client.encoding).range(
+            fix.span.offset,
+            fix.span.len,
+        );
         put_edit(out, range, &fix.new)?;
         out.end_array()?;
         out.end_object()?;

@@ -4,7 +4,6 @@ use crate::layout::document_of;
 use crate::locate::{Part, nodes_at, part_at};
 use crate::path::{Target, path_to};
 use crate::place::place;
-use crate::span::range_of;
 use crate::write::{Out, Wrong, begin_reply, finish, put_range, put_text, wrong_reply};
 use json::Value;
 use kdl::{KdlDocument, KdlEntry, KdlNode, KdlValue};
@@ -32,7 +31,7 @@ pub(crate) fn hover(
             put_range(
                 &mut out,
                 "range",
-                range_of(&mut Cursor::new(text, encoding), span),
+                Cursor::new(text, encoding).range(span.offset, span.len),
             )?;
             out.end_object()?;
         }

@@ -29,7 +29,6 @@ mod request;
 mod scan;
 mod selection;
 mod session;
-mod span;
 mod symbols;
 mod tokens;
 mod write;

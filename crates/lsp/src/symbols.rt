@@ -1,7 +1,6 @@
 //! The nodes of a document as symbols.
 
 use crate::layout::document_of;
-use crate::span::range_of;
 use crate::write::{Out, begin_reply, finish, put_number, put_range, put_text};
 use json::Value;
 use kdl::{KdlDocument, KdlNode};
@@ -95,7 +94,8 @@ fn put_head(out: &mut Out, cursor: &mut Cursor<'_>, node: &KdlNode) -> Result<()
     out.begin_object()?;
     put_text(out, "name", if name.is_empty() { "\"\"" } else { name })?;
     put_number(out, "kind", kind(node))?;
-    put_range(out, "selectionRange", range_of(cursor, node.name().span()))
+    let name = node.name().span();
+    put_range(out, "selectionRange", cursor.range(name.offset, name.len))
 }
 
 /// Returns the kind of symbol: an object, or a property.

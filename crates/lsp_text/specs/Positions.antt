@@ -1,5 +1,5 @@
 -- Lines, positions and edits of a text, as the Language Server Protocol 3.17 has them. Lines and units count from 0.
-use Rattle.std.specs.Prelude.{◌≡◌, ℕ, zero, suc, ◌+◌, ◌-◌, ◌≤◌, Bool, false, not, ◌&&◌, ◌||◌, ◌==◌, nat_le, nat_lt, min, max, Option, None, Some, List, [], ◌∷◌, ◌++◌, length, take, drop, string_bytes, if◌then◌else◌}
+use Rattle.std.specs.Prelude.{◌≡◌, ℕ, zero, suc, ◌+◌, ◌-◌, ◌^◌, ◌≤◌, Bool, false, not, ◌&&◌, ◌||◌, ◌==◌, nat_le, nat_lt, min, max, Option, None, Some, List, [], ◌∷◌, ◌++◌, length, take, drop, string_bytes, if◌then◌else◌}
 use Rattle.std.specs.Char.{len_utf8}
 use Rattle.std.specs.Char.Escape.{encode_utf16}
 use Rattle.std.specs.Str.{chars}
@@ -86,6 +86,13 @@ units_before e k t = size e (first_line (drop (line_start (lines_before k t) t) 
 -- the position of character k
 abbrev pub position : Encoding → ℕ → Text → Position
 position e k t = record { line = lines_before k t; character = units_before e k t }
+
+-- the range from the position of a byte to that of the byte `len` bytes after it
+abbrev pub byte_range : Encoding → ℕ → ℕ → Text → Range
+byte_range e offset len t = record {
+  start = position e (index_of_byte offset t) t;
+  end = position e (index_of_byte (min (offset + len) (2 ^ 64 - 1)) t) t;
+}
 
 -- the text in which the characters of a range are replaced: a range that ends before its start is empty
 abbrev pub edited : Encoding → Range → Text → Text → Text

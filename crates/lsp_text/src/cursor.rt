@@ -1,11 +1,11 @@
 //! Positions of byte offsets that mostly grow.
 
-ghost use Rattle.lsp_text.specs.Positions.{index_of_byte, position};
+ghost use Rattle.lsp_text.specs.Positions.{byte_range, index_of_byte, position};
 ghost use Rattle.lsp_text.specs.Steps.{IsPlace};
 ghost use Rattle.std.specs.Prelude.{◌≡◌, ◌≤◌, chars};
 
 use crate::place::{ORIGIN, Place, walk};
-use crate::position::{Encoding, Position};
+use crate::position::{Encoding, Position, Range};
 
 /// A place in a text from which the next position is looked up. Offsets that do not fall are looked up in the time of one
 /// walk over the text.
@@ -71,5 +71,15 @@ impl<'a> Cursor<'a> {
             position: end.position,
         };
         end.position
+    }
+    /// Returns the range of the bytes from an offset on.
+    pub fn range(&mut self, offset: usize, len: usize) -> Range
+        ensures range { result ≡ byte_range self.old.encoding offset len (chars self.old.text.now) }
+        ensures text { self.new.text.now ≡ self.old.text.now }
+        ensures encoding { self.new.encoding ≡ self.old.encoding }
+    {
+        let start = self.position(offset);
+        let end = self.position(offset.saturating_add(len));
+        Range { start, end }
     }
 }
