@@ -5,7 +5,7 @@ ghost use Rattle.json.specs.Value.{value_view};
 ghost use Rattle.lsp.specs.Messages.{TellsIn, TextTells};
 ghost use Rattle.lsp_documents.specs.Notes.{Agrees, Note, Tells, Texts, after};
 ghost use Rattle.lsp_documents.specs.States.{SessionStays, is_down};
-ghost use Rattle.std.specs.Prelude.{◌≡◌, false, IfOk, None, codes};
+ghost use Rattle.std.specs.Prelude.{◌≡◌, false, IfOk, None, OnErr, OnOk, codes};
 
 use crate::faults::no_faults_notice;
 use crate::publish::{Notices, log_unknown, publish, publish_due};
@@ -14,6 +14,9 @@ use crate::write::{Wrong, wrong_reply};
 use json::{Error, Scratch, Value};
 use lsp_documents::{Outcome, Phase, State};
 use std::alloc::{AllocError, Global};
+
+/// How many messages the server sends for one, in most cases.
+const FEW: usize = 4;
 
 /// Takes a message of the client, and returns the messages that the server sends for it, in order.
 ///
@@ -30,11 +33,27 @@ pub fn step(alloc: Global, state: &mut State, message: &str) -> Result<Vec<Strin
         → (texts : Texts) → Agrees state.old texts → Agrees state.new texts }
     ensures session { (note : Note) → TextTells message.now note → SessionStays state.old state.new }
 {
-    let mut out = Vec::new(alloc);
+    let mut out = room(alloc, state)?;
     if receive(alloc, state, message, &mut out)? {
         publish_due(alloc, state, &mut out)?;
     }
     Ok(out)
+}
+
+/// Returns a list with room for the messages that the server sends for one, in most cases. If there is no memory for it, the
+/// message is lost, and so all documents are closed.
+pub(crate) fn room(alloc: Global, state: &mut State) -> Result<Notices, AllocError>
+    ensures room { OnOk result (state.new ≡ state.old) }
+    ensures lost { OnErr result ((texts : Texts) → Agrees state.new texts) }
+    ensures session { SessionStays state.old state.new }
+{
+    match Vec::with_capacity(alloc, FEW) {
+        Ok(out) => Ok(out),
+        Err(AllocError) => {
+            state.close_all();
+            Err(AllocError)
+        }
+    }
 }
 
 /// Takes a message of the client, and sends the messages for it but for the faults of the documents that are due. Returns

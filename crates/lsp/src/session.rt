@@ -1,6 +1,6 @@
 //! A session over an input and an output.
 
-use crate::message::receive;
+use crate::message::{receive, room};
 use crate::publish::{Notices, publish_due};
 use lsp_documents::{Phase, State};
 use lsp_frames::{Frames, write_frame};
@@ -76,7 +76,7 @@ fn serve_frames<W: Write>(
 
 /// Takes a message, and returns those of the server for it but for faults.
 fn replies(alloc: Global, state: &mut State, message: &str) -> Result<Notices, AllocError> {
-    let mut out = Vec::new(alloc);
+    let mut out = room(alloc, state)?;
     receive(alloc, state, message, &mut out)?;
     Ok(out)
 }

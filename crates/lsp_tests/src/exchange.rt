@@ -42,15 +42,15 @@ impl Exchange {
 }
 
 /// Opens the document with its text at first.
-static OPEN_1: &str =
+const OPEN_1: &str =
     r##"{"jsonrpc":"2.0","method":"textDocument/didOpen","params":{"textDocument":{"uri":"file:///a.kdl","languageId":"kdl","version":1,"text":"a {\n  b 1\n}\n"}}}"##;
 
 /// Opens the document with its text after the first changes.
-static OPEN_2: &str =
+const OPEN_2: &str =
     r##"{"jsonrpc":"2.0","method":"textDocument/didOpen","params":{"textDocument":{"uri":"file:///a.kdl","languageId":"kdl","version":1,"text":"a {\n  b 12 true\n}\n"}}}"##;
 
 /// Opens the document with its text after all changes.
-static OPEN_3: &str =
+const OPEN_3: &str =
     r##"{"jsonrpc":"2.0","method":"textDocument/didOpen","params":{"textDocument":{"uri":"file:///a.kdl","languageId":"kdl","version":1,"text":"a {\n  b 12 #true\n}\n"}}}"##;
 
 /// The exchanges.

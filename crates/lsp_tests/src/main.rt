@@ -1,7 +1,7 @@
 //! A session with the language server.
 //!
 //! `lsp_tests` sends the messages of the session one by one, and then messages that come at once, and writes how many
-//! exchanges failed, and what the server sends for those that come at once.
+//! exchanges failed, what the server sends for those that come at once, and the text of a document after messages about it.
 //!
 //! `lsp_tests refused` sends a message again if the exchange failed, and so prints the same if any one allocation fails
 //! (`checks/refused`).
@@ -9,6 +9,7 @@
 
 mod exchange;
 mod session;
+mod told;
 
 use exchange::EXCHANGES;
 use lsp::State;
@@ -44,5 +45,6 @@ fn main(rt: HostRuntime) -> io::Result<ExitCode> {
     }
     println!(rt; "{failed} exchanges failed")?;
     session::take_at_once(&rt, rt.alloc())?;
+    told::write_text(&rt, rt.alloc())?;
     Ok(ExitCode::SUCCESS)
 }

@@ -1,0 +1,2 @@
+-- Messages, one after another.
+pub mod Told
