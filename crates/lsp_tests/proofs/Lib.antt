@@ -1,0 +1,2 @@
+-- Notes at their places.
+pub mod Notes

@@ -22,11 +22,10 @@ fn tell_all(alloc: Global, state: &mut State, messages: &[&str])
     ensures { state.old.phase ≡ Phase.Running → (notes : List Note) (texts : Texts) → TellAll (map (λ m. m.now) messages.now) notes
         → Agrees state.old texts → Agrees state.new (all_after state.old.client.encoding notes texts) }
 {
-    let mut rest = messages;
-    while let Some((message, after)) = rest.split_first() {
+    for i in 0..messages.len() {
+        let message = messages[i];
         // If memory is short, the server knows no text.
         let _replies = step(alloc, state, message);
-        rest = after;
     }
 }
 
