@@ -1,8 +1,7 @@
 -- Values as numbers, positions and changes.
-use Rattle.std.proofs.Common.{codes, true, chars, IsTrue, refl, ◌≡◌, ◌∙◌, ℕ, ◌+◌, ◌<◌, Option, None, Some, Ok, List, [], ◌∷◌, ◌++◌, IsSomeAnd, MatchOption, length, map, option_and_then, slice_index_or, sym, ap, subst, take}
+use Rattle.std.proofs.Common.{arith, zero, suc, codes, true, chars, IsTrue, refl, ◌≡◌, ◌∙◌, ℕ, ◌+◌, ◌<◌, Option, None, Some, Ok, List, [], ◌∷◌, ◌++◌, IsSomeAnd, length, map, option_and_then, slice_index_or, sym, ap, subst, take}
 use Rattle.std.proofs.lemmas.List.{map-append, take_more}
-use Rattle.std.proofs.lemmas.Option.{none-some}
-use Rattle.std.specs.Option.{ok_or, option_map_or}
+use Rattle.std.specs.Option.{option_map_or}
 use Rattle.std.specs.Str.Parse.{ParsesUnsigned}
 use Rattle.json.specs.Find.{get, is_null, as_number, as_str}
 use Rattle.json.specs.Json.{Json, null, boolean, number, string, array, object, Items, no_items, item}
@@ -12,15 +11,6 @@ use Rattle.lsp_text.specs.declared.change.Change.{Change}
 use Rattle.lsp_text.specs.declared.position.Position.{Position}
 use Rattle.lsp_text.specs.declared.position.Range.{Range}
 use Rattle.lsp_text.specs.Positions.{Text, change_of}
-
--- what `as_u64` returns is the number that the digits write
-writes : (digits : Option (List ℕ)) (n : ℕ) → MatchOption digits (Some n ≡ None) (λ s. ParsesUnsigned 64 10 s (ok_or (Some n) s)) → IsSomeAnd digits (λ s. ParsesUnsigned {E = List ℕ} 64 10 s (Ok n))
-writes None n p = absurd (none-some n (sym p))
-writes (Some digits) n p = p
-
--- a member that `as_u64` reads is that number
-pub member_is_number : (name : List ℕ) (j v : Json) (n : ℕ) → get name j ≡ Some v → MatchOption (as_number v) (Some n ≡ None) (λ s. ParsesUnsigned 64 10 s (ok_or (Some n) s)) → IsNumber name j n
-member_is_number name j v n is p = subst (λ o. IsSomeAnd (option_and_then as_number o) (λ s. ParsesUnsigned {E = List ℕ} 64 10 s (Ok n))) (sym is) (writes (as_number v) n p)
 
 -- values and one more are changes and one more
 pub one_more : (js : List Json) (j : Json) (cs : List (Option Range × Text)) (c : Option Range × Text) → AreChanges (items_of js) cs → IsChange j c → AreChanges (items_of (js ++ j ∷ [])) (cs ++ c ∷ [])
@@ -106,3 +96,18 @@ one_list_of_changes params cs ds a b =
     let same : Some (array a.0) ≡ Some (array b.0) = sym a.1 ∙ b.1 in
     let items : a.0 ≡ b.0 = ap (λ o. option_map_or (λ j. array_inside j a.0) o a.0) same in
     one_list b.0 cs ds (subst (λ js. AreChanges js cs) items a.2) b.2
+
+-- each value is a change, where all are changes
+pub change_at : {A : Type 0} (f : A → Json) (values : List A) (i : ℕ) (v : A) (cs : List (Option Range × Text)) → i < length values → v ≡ slice_index_or values i v
+    → AreChanges (items_of (map f values)) cs → (c : Option Range × Text) × IsChange (f v) c
+change_at f [] i v cs inside is each = absurd (omega (arith, inside))
+change_at f (x ∷ xs) i v [] inside is each = elim each [ ]
+change_at f (x ∷ xs) zero v (d ∷ ds) inside is each = (d, subst (λ y. IsChange (f y) d) (sym is) each.0)
+change_at f (x ∷ xs) (suc i) v (d ∷ ds) inside is each = change_at f xs i v ds (omega (arith, inside)) is each.1
+
+-- the changes that parameters have are those of their values
+pub changes_of_items : (params : Json) (js : Items) (cs : List (Option Range × Text)) → get (codes "contentChanges") params ≡ Some (array js) → HasChanges params cs → AreChanges js cs
+changes_of_items params js cs got has =
+    let same : Some (array has.0) ≡ Some (array js) = sym has.1 ∙ got in
+    let items : has.0 ≡ js = ap (λ o. option_map_or (λ j. array_inside j has.0) o has.0) same in
+    subst (λ is. AreChanges is cs) items has.2

@@ -3,8 +3,8 @@
 ghost use Rattle.json.specs.Value.{items_view, value_view};
 ghost use Rattle.lsp_documents.specs.Notes as spec;
 ghost use Rattle.lsp_documents.specs.Notes.{AreChanges, HasChanges, IsChange, IsNumber, IsPosition, IsRange, text_of, uri_of};
-ghost use Rattle.lsp_text.specs.Positions.{change_of};
-ghost use Rattle.std.specs.Prelude.{◌≡◌, IfOk, IfSome, chars, map, option_map};
+ghost use Rattle.lsp_text.specs.Positions.{Text, change_of};
+ghost use Rattle.std.specs.Prelude.{◌≡◌, ℕ, List, Option, Some, IfOk, IfSome, IsSome, chars, map, option_map};
 
 use json::Value;
 use lsp_text::{Change, Encoding, Position, Range};
@@ -65,14 +65,16 @@ fn encoding_named(name: &Value<'_>) -> Option<Encoding> {
 
 /// Returns the number that a member is.
 pub fn number(value: &Value<'_>, name: &str) -> Option<usize>
-    ensures { IfSome result (λ n. IsNumber name.now (value_view value.now) n) }
+    ensures number { IfSome result (λ n. IsNumber name.now (value_view value.now) n) }
+    ensures each { (n : ℕ) → IsNumber name.now (value_view value.now) n → result ≡ Some n }
 {
     usize::try_from(value.get(name)?.as_u64()?).ok()
 }
 
 /// Returns the position that a value is.
 pub fn position(value: &Value<'_>) -> Option<Position>
-    ensures { IfSome result (λ position. IsPosition (value_view value.now) position) }
+    ensures position { IfSome result (λ position. IsPosition (value_view value.now) position) }
+    ensures each { (position : Position) → IsPosition (value_view value.now) position → result ≡ Some position }
 {
     Some(Position {
         line: number(value, "line")?,
@@ -87,7 +89,8 @@ pub fn range(params: &Value<'_>) -> Option<Range> {
 
 /// Returns the range that a value is.
 fn range_of(value: &Value<'_>) -> Option<Range>
-    ensures { IfSome result (λ range. IsRange (value_view value.now) range) }
+    ensures range { IfSome result (λ range. IsRange (value_view value.now) range) }
+    ensures each { (range : Range) → IsRange (value_view value.now) range → result ≡ Some range }
 {
     Some(Range {
         start: position(value.get("start")?)?,
@@ -104,7 +107,8 @@ struct Replacement<'a> {
 
 /// Returns the change that a value is.
 fn edit<'a>(value: &Value<'a>) -> Option<Replacement<'a>>
-    ensures { IfSome result (λ edit. IsChange (value_view value.now) (edit.range, chars edit.text.now)) }
+    ensures change { IfSome result (λ edit. IsChange (value_view value.now) (edit.range, chars edit.text.now)) }
+    ensures each { (change : Option Range × Text) → IsChange (value_view value.now) change → IsSome result }
 {
     let text = value.get("text")?.as_str()?;
     match value.get("range") {
@@ -118,8 +122,10 @@ fn edit<'a>(value: &Value<'a>) -> Option<Replacement<'a>>
 
 /// Returns the changes of a `didChange`, or `None` if there are values that are none.
 pub fn changes(alloc: Global, params: &Value<'_>) -> Result<Option<Vec<Change>>, AllocError>
-    ensures { IfOk result (λ found. IfSome found (λ changes.
+    ensures changes { IfOk result (λ found. IfSome found (λ changes.
         HasChanges (value_view params.now) (map change_of changes.items))) }
+    ensures each { IfOk result (λ found. (changes : List (Option Range × Text))
+        → HasChanges (value_view params.now) changes → IsSome found) }
 {
     let Some(Value::Array(values)) = params.get("contentChanges") else {
         return Ok(None);
@@ -129,8 +135,10 @@ pub fn changes(alloc: Global, params: &Value<'_>) -> Result<Option<Vec<Change>>,
 
 /// Returns the changes that values are, or `None` if one is none.
 fn changes_of(alloc: Global, values: &[Value<'_>]) -> Result<Option<Vec<Change>>, AllocError>
-    ensures { IfOk result (λ found. IfSome found (λ changes.
+    ensures changes { IfOk result (λ found. IfSome found (λ changes.
         AreChanges (items_view values.now) (map change_of changes.items))) }
+    ensures each { IfOk result (λ found. (changes : List (Option Range × Text))
+        → AreChanges (items_view values.now) changes → IsSome found) }
 {
     let mut changes = Vec::with_capacity(alloc, values.len())?;
     for value in values {
