@@ -4,11 +4,14 @@ use Rattle.std.specs.BTreeMap.{get_by_text}
 use Rattle.std.specs.List.{list_any}
 use Rattle.std.specs.Str.{bytes_eq}
 use Rattle.std.proofs.lemmas.Slice.Eq.{bytes_eq-Decides}
+use Rattle.lsp_documents.specs.declared.notify.Outcome.{Outcome}
+use Rattle.lsp_documents.specs.declared.notify.Outcome.TheVariants.{Nothing}
 use Rattle.lsp_documents.specs.declared.state.Document.{Document}
 use Rattle.lsp_documents.specs.declared.state.State.{State}
 use Rattle.json.specs.Json.{Json}
 use Rattle.lsp_documents.specs.Notes.{Agrees, HasChanges, IsOf, Note, Opened, Changed, Closed, Tells, Texts, after, text_of, uri_of, with_text}
-use Rattle.lsp_documents.specs.States.{IsChanged, OthersStay, document_at, has_whole_text, known_text}
+use Rattle.lsp_documents.specs.Outcomes.{IsTaken}
+use Rattle.lsp_documents.specs.States.{IsChanged, IsKnown, OthersStay, document_at, has_whole_text, known_text}
 use Rattle.lsp_text.specs.declared.change.Change.{Change}
 use Rattle.lsp_text.specs.declared.position.Encoding.{Encoding}
 use Rattle.lsp_text.specs.declared.position.Range.{Range}
@@ -87,6 +90,17 @@ open_untold method params is none = go (uri_of params) (text_of params) refl ref
     go None t uri text = inl uri
     go (Some u) None uri text = inr text
     go (Some u) (Some t) uri text = absurd (none (Opened u (chars t)) (is, uri, ap (option_map chars) text))
+
+-- a text is known after it is opened
+pub open_taken : (method : List ℕ) (params : Json) (old new : State) (said : Outcome) (note : Note) → method ≡ codes "textDocument/didOpen" → Tells method params note
+    → ((uri : List ℕ) → uri_of params ≡ Some uri → IsSome (text_of params) → said ≡ Nothing → IsKnown new uri) → IsTaken old new said note
+open_taken method params old new said (Opened uri text) is tells known = known uri tells.1 (go (text_of params) tells.2)
+  where
+    go : (t : Option (List ℕ)) → option_map chars t ≡ Some text → IsSome t
+    go None mapped = absurd (cc)
+    go (Some t) mapped = refl
+open_taken method params old new said (Changed uri changes) is tells known = let lengths : 20 ≡ 22 = ap length (sym is ∙ tells.0) in absurd (omega (arith, lengths))
+open_taken method params old new said (Closed uri) is tells known = let lengths : 20 ≡ 21 = ap length (sym is ∙ tells.0) in absurd (omega (arith, lengths))
 
 -- there is one URI
 pub one_uri : (found : Option (Bor (List ℕ))) (u : Bor (List ℕ)) (params : Json) (uri : List ℕ) → option_map (λ s. s.now) found ≡ uri_of params → found ≡ Some u → uri_of params ≡ Some uri → u.now ≡ uri

@@ -1,5 +1,5 @@
 -- The documents of a server.
-use Rattle.std.specs.Prelude.{◌≡◌, ◌≢◌, ℕ, ℤ, Bool, true, false, Option, List, [], IfSome, IsNone, IsSome, IsTrue, String, chars, is_none, map, string_bytes}
+use Rattle.std.specs.Prelude.{◌≡◌, ◌≢◌, ℕ, ℤ, Bool, true, false, Option, List, [], IfSome, IsNone, IsSome, IsSomeAnd, IsTrue, String, chars, is_none, map, string_bytes}
 use Rattle.std.specs.BTreeMap.{get_by_text}
 use Rattle.std.specs.Global.{Global}
 use Rattle.std.specs.List.{list_any}
@@ -15,6 +15,10 @@ use Rattle.lsp_text.specs.Positions.{Text, all_changed, change_of}
 -- the document of a URI, if it is open
 abbrev pub document_at : State → List ℕ → Option Document
 document_at s uri = get_by_text s.open uri
+
+-- the document of a URI is open, and its text is known
+abbrev pub IsKnown : State → List ℕ → Type 0
+IsKnown s uri = IsSomeAnd (document_at s uri) (λ document. IsSome document.text)
 
 -- a text, or the empty one if it is not known
 abbrev pub known_text : Option (String Global) → Text

@@ -10,6 +10,7 @@
 //! ```
 #![tactic(auto)]
 
+pub mod laws;
 mod notify;
 pub mod params;
 mod state;

@@ -2,10 +2,11 @@
 
 ghost use Rattle.json.specs.Value.{value_view};
 ghost use Rattle.lsp_documents.specs.Notes.{Agrees, HasChanges, Note, Tells, Texts, after, text_of, uri_of, with_text};
-ghost use Rattle.lsp_documents.specs.States.{OthersStay, SessionStays, document_at, is_down};
+ghost use Rattle.lsp_documents.specs.Outcomes.{IsSo, IsTaken, UnnamedStay};
+ghost use Rattle.lsp_documents.specs.States.{IsKnown, OthersStay, SessionStays, document_at, is_down};
 ghost use Rattle.lsp_text.specs.Positions.{Text, all_changed, change_of};
 ghost use Rattle.lsp_text.specs.declared.position.Range.{Range};
-ghost use Rattle.std.specs.Prelude.{◌≡◌, ℕ, ◌⊎◌, List, Option, None, Some, IfSome, IsSomeAnd, OnOk, chars, codes, map, string_bytes};
+ghost use Rattle.std.specs.Prelude.{◌≡◌, ℕ, ◌⊎◌, List, Option, None, Some, IfSome, IsNone, IsSome, IsSomeAnd, MatchOption, OnOk, chars, codes, map, string_bytes};
 
 use crate::params::{changes, text, uri, version};
 use crate::state::{Phase, State};
@@ -37,6 +38,15 @@ impl State {
         ensures untold { ((note : Note) → Tells method.now (value_view params.now) note → ⊥)
             → (texts : Texts) → Agrees self.old texts → Agrees self.new texts }
         ensures session { (method.now ≡ codes "exit" → ⊥) → SessionStays self.old self.new }
+
+        // A notification changes the document that it names, and no other one.
+        ensures taken { self.old.phase ≡ Phase.Running → (note : Note) → Tells method.now (value_view params.now) note
+            → IsTaken self.old self.new result note }
+        ensures others { UnnamedStay self.old self.new (value_view params.now) }
+        ensures outcome { IsSo result (value_view params.now) self.new }
+        ensures unknown { (method.now ≡ codes "exit" → ⊥) → (method.now ≡ codes "textDocument/didOpen" → ⊥)
+            → (method.now ≡ codes "textDocument/didChange" → ⊥) → (method.now ≡ codes "textDocument/didClose" → ⊥)
+            → self.new ≡ self.old }
     {
         if method == "exit" {
             let was_down = self.phase == Phase::Down;
@@ -60,6 +70,10 @@ impl State {
             → Agrees self.old texts → Agrees self.new (with_text texts uri (chars text)) }
         ensures untold { (uri_of (value_view params.now) ≡ None) ⊎ (text_of (value_view params.now) ≡ None) → self.new ≡ self.old }
         ensures session { SessionStays self.old self.new }
+        ensures known { (uri : List ℕ) → uri_of (value_view params.now) ≡ Some uri → IsSome (text_of (value_view params.now))
+            → result ≡ Outcome.Nothing → IsKnown self.new uri }
+        ensures others { UnnamedStay self.old self.new (value_view params.now) }
+        ensures outcome { IsSo result (value_view params.now) self.new }
     {
         let (Some(uri), Some(text)) = (uri(params), text(params)) else {
             return Outcome::Nothing;
@@ -96,6 +110,10 @@ impl State {
         ensures untold { ((uri : List ℕ) (changes : List (Option Range × Text)) → uri_of (value_view params.now) ≡ Some uri → HasChanges (value_view params.now) changes → ⊥)
             → (texts : Texts) → Agrees self.old texts → Agrees self.new texts }
         ensures session { SessionStays self.old self.new }
+        ensures known { (uri : List ℕ) → uri_of (value_view params.now) ≡ Some uri → result ≡ Outcome.Nothing
+            → MatchOption (document_at self.old uri) (IsNone (document_at self.new uri)) (λ _. IsKnown self.new uri) }
+        ensures others { UnnamedStay self.old self.new (value_view params.now) }
+        ensures outcome { IsSo result (value_view params.now) self.new }
     {
         let Some(uri) = uri(params) else {
             return Outcome::Nothing;
@@ -118,6 +136,7 @@ impl State {
             → Agrees self.new (with_text texts uri.now (all_changed self.old.client.encoding changes (texts uri.now))) }
         ensures untold { ((changes : List (Option Range × Text)) → HasChanges (value_view params.now) changes → ⊥)
             → (texts : Texts) → Agrees self.old texts → Agrees self.new texts }
+        ensures others { OthersStay self.old self.new uri.now }
         ensures session { SessionStays self.old self.new }
     {
         match self.due_changes(alloc, uri, params) {
@@ -141,6 +160,9 @@ impl State {
     fn did_close<'a>(&mut self, params: &Value<'a>) -> Outcome<'a>
         ensures untold { (texts : Texts) → Agrees self.old texts → Agrees self.new texts }
         ensures session { SessionStays self.old self.new }
+        ensures closed { (uri : List ℕ) → uri_of (value_view params.now) ≡ Some uri → IsNone (document_at self.new uri) }
+        ensures others { UnnamedStay self.old self.new (value_view params.now) }
+        ensures outcome { IsSo result (value_view params.now) self.new }
     {
         let Some(uri) = uri(params) else {
             return Outcome::Nothing;

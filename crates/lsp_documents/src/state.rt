@@ -2,7 +2,7 @@
 
 ghost use Rattle.lsp_documents.specs.Notes.{Agrees, Texts};
 ghost use Rattle.lsp_documents.specs.States as spec;
-ghost use Rattle.lsp_documents.specs.States.{ChangesOnly, IsChanged, SessionStays, document_at, known_text};
+ghost use Rattle.lsp_documents.specs.States.{ChangesOnly, IsChanged, IsKnown, SessionStays, document_at, known_text};
 ghost use Rattle.lsp_text.specs.Positions.{all_changed, change_of};
 ghost use Rattle.std.specs.Prelude.{◌≡◌, ◌↔◌, [], false, IfSome, IsNone, IsSome, IsSomeAnd, IsTrue, MatchOption, OnErr, OnOk, chars, map, string_bytes};
 ghost use Rattle.std.specs.BTreeMap.{IsEmpty};
@@ -96,7 +96,7 @@ impl State {
 
     /// Returns whether the text of a document is known.
     pub(crate) fn is_known(&self, uri: &str) -> bool
-        ensures { IsTrue result ↔ IsSomeAnd (document_at self.now uri.now) (λ document. IsSome document.text) }
+        ensures { IsTrue result ↔ IsKnown self.now uri.now }
     {
         match self.open.get(uri) {
             Some(document) => document.text.is_some(),

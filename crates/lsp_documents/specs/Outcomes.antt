@@ -1,0 +1,25 @@
+-- What becomes of the documents of a server after a notification.
+use Rattle.std.specs.Prelude.{◌≡◌, ◌≢◌, ℕ, List, Some, IsNone, MatchOption}
+use Rattle.json.specs.Json.{Json}
+use Rattle.lsp_documents.specs.declared.notify.Outcome.{Outcome}
+use Rattle.lsp_documents.specs.declared.notify.Outcome.TheVariants as outcome
+use Rattle.lsp_documents.specs.declared.state.State.{State}
+use Rattle.lsp_documents.specs.Notes.{Note, Opened, Changed, Closed, uri_of}
+use Rattle.lsp_documents.specs.States.{IsKnown, document_at}
+
+-- the documents that parameters do not name stay as they were
+abbrev pub UnnamedStay : State → State → Json → Type 0
+UnnamedStay old new params = (uri : List ℕ) → uri_of params ≢ Some uri → document_at new uri ≡ document_at old uri
+
+-- after a note with nothing to say, its document is open and its text is known, but one that was not open when it changed
+-- is not open; after it is closed, it is not open
+abbrev pub IsTaken : State → State → Outcome → Note → Type 0
+IsTaken old new said (Opened uri text) = said ≡ outcome.Nothing → IsKnown new uri
+IsTaken old new said (Changed uri changes) = said ≡ outcome.Nothing → MatchOption (document_at old uri) (IsNone (document_at new uri)) (λ _. IsKnown new uri)
+IsTaken old new said (Closed uri) = IsNone (document_at new uri)
+
+-- what a server has to say is so: the text of the document that parameters name is not known, or it is not open
+abbrev pub IsSo : Outcome → Json → State → Type 0
+IsSo outcome.Nothing params s = Unit {0}
+IsSo (outcome.Unknown uri) params s = (uri_of params ≡ Some uri.now) × (IsKnown s uri.now → ⊥)
+IsSo (outcome.Closed uri) params s = (uri_of params ≡ Some uri.now) × IsNone (document_at s uri.now)
