@@ -1,0 +1,2 @@
+-- Small texts as JSON.
+pub mod Texts

@@ -1,10 +1,10 @@
 -- Messages of a client.
-use Rattle.std.specs.Prelude.{ℕ, List, Option, None, IsSomeAnd, codes, is_none, option_and_then, unwrap_or, if◌then◌else◌}
+use Rattle.std.specs.Prelude.{◌≡◌, ℕ, List, Option, None, Some, IfSome, IsNone, IsSomeAnd, codes, is_none, option_and_then, unwrap_or, if◌then◌else◌}
 use Rattle.json.specs.Find.{get, as_str}
 use Rattle.json.specs.Json.{Json, document, null}
 use Rattle.kdl_text.specs.declared.span.Severity.{Severity}
 use Rattle.kdl_text.specs.declared.span.Severity.TheVariants.{Error, Warning, Advice}
-use Rattle.lsp_documents.specs.Notes.{Note, Tells}
+use Rattle.lsp_documents.specs.Notes.{Note, Tells, uri_of}
 use Rattle.lsp_text.specs.declared.position.Encoding.{Encoding}
 use Rattle.lsp_text.specs.declared.position.Encoding.TheVariants.{Utf8, Utf16, Utf32}
 
@@ -35,3 +35,11 @@ TellsIn j note = IsSomeAnd (method_of j) (λ method. Tells method (params_of j) 
 -- a text is such a notification
 abbrev pub TextTells : List ℕ → Note → Type 0
 TextTells text note = IsSomeAnd (document text) (λ j. TellsIn j note)
+
+-- a text is a message that is no notification, or none at all
+abbrev pub IsNoNotification : List ℕ → Type 0
+IsNoNotification text = IfSome (document text) (λ j. IsNone (method_of j))
+
+-- a text is a message that names the document of a URI
+abbrev pub Names : List ℕ → List ℕ → Type 0
+Names text uri = IsSomeAnd (document text) (λ j. uri_of (params_of j) ≡ Some uri)

@@ -1,6 +1,6 @@
 //! Names and keys that may come at a place: those of the nodes in the same block.
 
-use crate::place::place;
+use crate::place::{place, range_of};
 use crate::scan::{Lexeme, Scanner, is_key, is_line_comment};
 use crate::write::{Out, Wrong, begin_reply, finish, put_edit, put_number, put_text, wrong_reply};
 use json::Value;
@@ -8,7 +8,7 @@ use kdl::KdlIdentifier;
 use kdl_syntax::{Event, Owner, Phase, Spot, Token, TokenKind};
 use kdl_text::chars::{is_identifier_char, is_newline_char};
 use kdl_text::span::SourceSpan;
-use lsp_text::{Cursor, Encoding, Range};
+use lsp_text::{Encoding, Range};
 use std::alloc::{AllocError, Global};
 use std::collections::BTreeSet;
 
@@ -70,7 +70,7 @@ pub(crate) fn completion(
         offset: front.len(),
         len: before.len().saturating_sub(front.len()),
     };
-    let range = Cursor::new(text, encoding).range(span.offset, span.len);
+    let range = range_of(text, span, encoding);
     let mut out = begin_reply(alloc, id)?;
     out.begin_array()?;
     put_items(alloc, &mut out, text, front, range)?;

@@ -2,7 +2,7 @@
 
 use crate::faults::{Report, faults_of};
 use crate::locate::end_of;
-use crate::place::span;
+use crate::place::{range_of, span};
 use crate::write::{Out, Wrong, begin_reply, finish, put_edit, put_text, put_true, wrong_reply};
 use json::Value;
 use kdl_text::chars::{is_identifier_char, is_newline_char, is_space};
@@ -10,7 +10,7 @@ use kdl_text::error::KdlDiagnostic;
 use kdl_text::span::SourceSpan;
 use lsp_documents::Client;
 use lsp_documents::params::uri;
-use lsp_text::{Cursor, replaced};
+use lsp_text::replaced;
 use std::alloc::{AllocError, Global};
 
 /// How many fixes are tried for a request, at most: each takes a parse of the text with it.
@@ -104,7 +104,7 @@ impl<'a> Faulty<'a> {
         fix: &Fix,
     ) -> Result<bool, AllocError> {
         let encoding = self.client.encoding;
-        let range = Cursor::new(self.text, encoding).range(fix.span.offset, fix.span.len);
+        let range = range_of(self.text, fix.span, encoding);
         let text = replaced(alloc, self.text, range, &fix.new, encoding)?;
         let left = faults_of(alloc, &text)?;
         let is_left = left.iter().any(|left| left.span.offset == fault.span.offset
@@ -135,10 +135,7 @@ impl<'a> Faulty<'a> {
         out.begin_object()?;
         out.key(self.uri)?;
         out.begin_array()?;
-        let range = Cursor::new(self.text, self.client.encoding).range(
-            fix.span.offset,
-            fix.span.len,
-        );
+        let range = range_of(self.text, fix.span, self.client.encoding);
         put_edit(out, range, &fix.new)?;
         out.end_array()?;
         out.end_object()?;

@@ -3,12 +3,12 @@
 use crate::layout::document_of;
 use crate::locate::{Part, nodes_at, part_at};
 use crate::path::{Target, path_to};
-use crate::place::place;
+use crate::place::{place, range_of};
 use crate::write::{Out, Wrong, begin_reply, finish, put_range, put_text, wrong_reply};
 use json::Value;
 use kdl::{KdlDocument, KdlEntry, KdlNode, KdlValue};
 use kdl_text::span::SourceSpan;
-use lsp_text::{Cursor, Encoding};
+use lsp_text::Encoding;
 use std::alloc::{AllocError, Global};
 
 /// Returns the reply with what is at the position of a request: null if that is nothing with a value or a name, or the text
@@ -28,11 +28,7 @@ pub(crate) fn hover(
         Some((content, span)) => {
             out.begin_object()?;
             put_content(&mut out, &content)?;
-            put_range(
-                &mut out,
-                "range",
-                Cursor::new(text, encoding).range(span.offset, span.len),
-            )?;
+            put_range(&mut out, "range", range_of(text, span, encoding))?;
             out.end_object()?;
         }
         None => out.null()?,

@@ -19,6 +19,7 @@ mod fix;
 mod fold;
 mod format;
 mod hover;
+pub mod laws;
 mod layout;
 mod locate;
 mod message;

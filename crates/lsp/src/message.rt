@@ -2,10 +2,11 @@
 
 ghost use Rattle.json.specs.Json.{document};
 ghost use Rattle.json.specs.Value.{value_view};
-ghost use Rattle.lsp.specs.Messages.{TellsIn, TextTells};
+ghost use Rattle.lsp.specs.Messages.{IsNoNotification, Names, TellsIn, TextTells, method_of, params_of};
 ghost use Rattle.lsp_documents.specs.Notes.{Agrees, Note, Tells, Texts, after};
-ghost use Rattle.lsp_documents.specs.States.{SessionStays, is_down};
-ghost use Rattle.std.specs.Prelude.{◌≡◌, false, IfOk, None, OnErr, OnOk, codes};
+ghost use Rattle.lsp_documents.specs.Outcomes.{UnnamedStay};
+ghost use Rattle.lsp_documents.specs.States.{SessionStays, document_at, is_down};
+ghost use Rattle.std.specs.Prelude.{◌≡◌, ℕ, List, false, IfOk, IsNone, None, OnErr, OnOk, codes};
 
 use crate::faults::no_faults_notice;
 use crate::publish::{Notices, log_unknown, publish, publish_due};
@@ -32,6 +33,11 @@ pub fn step(alloc: Global, state: &mut State, message: &str) -> Result<Vec<Strin
     ensures untold { ((note : Note) → TextTells message.now note → ⊥)
         → (texts : Texts) → Agrees state.old texts → Agrees state.new texts }
     ensures session { (note : Note) → TextTells message.now note → SessionStays state.old state.new }
+
+    // Other documents than the one that the message names stay as they were, and all do unless it is a notification.
+    ensures others { IfOk result (λ _. (uri : List ℕ) → (Names message.now uri → ⊥)
+        → document_at state.new uri ≡ document_at state.old uri) }
+    ensures all { IsNoNotification message.now → IfOk result (λ _. state.new.open ≡ state.old.open) }
 {
     let mut out = room(alloc, state)?;
     if receive(alloc, state, message, &mut out)? {
@@ -71,6 +77,9 @@ pub(crate) fn receive(
     ensures untold { ((note : Note) → TextTells message.now note → ⊥)
         → (texts : Texts) → Agrees state.old texts → Agrees state.new texts }
     ensures session { (note : Note) → TextTells message.now note → SessionStays state.old state.new }
+    ensures others { IfOk result (λ _. (uri : List ℕ) → (Names message.now uri → ⊥)
+        → document_at state.new uri ≡ document_at state.old uri) }
+    ensures all { IsNoNotification message.now → IfOk result (λ _. state.new.open ≡ state.old.open) }
 {
     let mut scratch = Scratch::new(alloc);
     match Value::parse(alloc, message, &mut scratch) {
@@ -101,6 +110,8 @@ fn take(
     ensures untold { ((note : Note) → TellsIn (value_view message.now) note → ⊥)
         → (texts : Texts) → Agrees state.old texts → Agrees state.new texts }
     ensures session { (note : Note) → TellsIn (value_view message.now) note → SessionStays state.old state.new }
+    ensures others { UnnamedStay state.old state.new (params_of (value_view message.now)) }
+    ensures all { IsNone (method_of (value_view message.now)) → state.new.open ≡ state.old.open }
 {
     let params = message.get("params").unwrap_or(&Value::Null);
     let method = message.get("method").and_then(Value::as_str);
@@ -154,6 +165,7 @@ fn notification(
     ensures untold { ((note : Note) → Tells method.now (value_view params.now) note → ⊥)
         → (texts : Texts) → Agrees state.old texts → Agrees state.new texts }
     ensures session { (method.now ≡ codes "exit" → ⊥) → SessionStays state.old state.new }
+    ensures others { UnnamedStay state.old state.new (value_view params.now) }
 {
     match state.notify(alloc, method, params) {
         Outcome::Nothing => Ok(()),

@@ -3,7 +3,7 @@
 use json::Value;
 use kdl_text::span::SourceSpan;
 use lsp_documents::params::{position, range};
-use lsp_text::{Encoding, offset_of};
+use lsp_text::{Cursor, Encoding, Range, offset_of};
 
 /// Returns the byte offset of a position of the protocol.
 pub(crate) fn offset_at(value: &Value<'_>, text: &str, encoding: Encoding) -> Option<usize> {
@@ -24,4 +24,9 @@ pub(crate) fn span(params: &Value<'_>, text: &str, encoding: Encoding) -> Option
         offset,
         len: end.saturating_sub(offset),
     })
+}
+
+/// Returns the range of a span.
+pub(crate) fn range_of(text: &str, span: SourceSpan, encoding: Encoding) -> Range {
+    Cursor::new(text, encoding).range(span.offset, span.len)
 }

@@ -12,11 +12,13 @@ use std::str::from_utf8;
 /// How many bytes are read at a time, at most.
 const CHUNK: usize = 8192;
 
-/// The messages that memory is short, where there is none for a message of the client or for the reply.
-const NO_MEMORY: [&str; 2] = [
-    r#"{"jsonrpc":"2.0","id":null,"error":{"code":-32603,"message":"out of memory"}}"#,
-    r#"{"jsonrpc":"2.0","method":"window/logMessage","params":{"type":1,"message":"kdl: out of memory: open the documents again"}}"#,
-];
+/// The message that memory is short.
+const NO_MEMORY: &str =
+    r#"{"jsonrpc":"2.0","id":null,"error":{"code":-32603,"message":"out of memory"}}"#;
+
+/// The message after it, where memory is short for a message of the client or for the reply.
+const LOST: &str =
+    r#"{"jsonrpc":"2.0","method":"window/logMessage","params":{"type":1,"message":"kdl: out of memory: open the documents again"}}"#;
 
 /// Reads messages from the input and writes those of the server to the output, up to `exit`, the end of the input, or what
 /// is no frame. Returns whether `shutdown` came before `exit`.
@@ -64,13 +66,13 @@ fn serve_frames<W: Write>(
     while let Some(message) = frames.next_message() {
         // Bytes that are no text are no JSON: so is the empty text.
         let message = from_utf8(message).unwrap_or("");
-        write_all(output, replies(alloc, state, message))?;
+        write_all(output, replies(alloc, state, message), &[NO_MEMORY, LOST])?;
         if state.is_over() {
             break;
         }
     }
     output.flush()?;
-    write_all(output, faults(alloc, state))?;
+    write_all(output, faults(alloc, state), &[NO_MEMORY])?;
     output.flush()
 }
 
@@ -88,8 +90,12 @@ fn faults(alloc: Global, state: &mut State) -> Result<Notices, AllocError> {
     Ok(out)
 }
 
-/// Writes messages, or that memory was short.
-fn write_all<W: Write>(output: &mut W, messages: Result<Notices, AllocError>) -> io::Result<()> {
+/// Writes messages, or others if memory was short.
+fn write_all<W: Write>(
+    output: &mut W,
+    messages: Result<Notices, AllocError>,
+    others: &[&str],
+) -> io::Result<()> {
     match messages {
         Ok(messages) => {
             for message in &messages {
@@ -97,7 +103,7 @@ fn write_all<W: Write>(output: &mut W, messages: Result<Notices, AllocError>) ->
             }
         }
         Err(AllocError) => {
-            for message in &NO_MEMORY {
+            for message in others {
                 write_frame(output, message)?;
             }
         }

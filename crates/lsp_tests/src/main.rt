@@ -8,6 +8,7 @@
 #![tactic(auto)]
 
 mod exchange;
+pub mod laws;
 mod session;
 mod told;
 
