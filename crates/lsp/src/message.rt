@@ -3,10 +3,12 @@
 ghost use Rattle.json.specs.Json.{document};
 ghost use Rattle.json.specs.Value.{value_view};
 ghost use Rattle.lsp.specs.Messages.{IsNoNotification, Names, TellsIn, TextTells, method_of, params_of};
-ghost use Rattle.lsp_documents.specs.Notes.{Agrees, Note, Tells, Texts, after};
-ghost use Rattle.lsp_documents.specs.Outcomes.{UnnamedStay};
+ghost use Rattle.lsp_documents.specs.Notes.{Agrees, Changed, Note, Tells, Texts, after};
+ghost use Rattle.lsp_documents.specs.Outcomes.{StaysOpen, UnnamedStay};
 ghost use Rattle.lsp_documents.specs.States.{SessionStays, document_at, is_down};
-ghost use Rattle.std.specs.Prelude.{◌≡◌, ℕ, List, false, IfOk, IsNone, None, OnErr, OnOk, codes};
+ghost use Rattle.lsp_text.specs.Positions.{Text};
+ghost use Rattle.lsp_text.specs.declared.position.Range.{Range};
+ghost use Rattle.std.specs.Prelude.{◌≡◌, ℕ, List, Option, false, IfOk, IsNone, None, OnErr, OnOk, codes};
 
 use crate::faults::no_faults_notice;
 use crate::publish::{Notices, log_unknown, publish, publish_due};
@@ -34,7 +36,10 @@ pub fn step(alloc: Global, state: &mut State, message: &str) -> Result<Vec<Strin
         → (texts : Texts) → Agrees state.old texts → Agrees state.new texts }
     ensures session { (note : Note) → TextTells message.now note → SessionStays state.old state.new }
 
-    // Other documents than the one that the message names stay as they were, and all do unless it is a notification.
+    // A change closes and opens no document. Other documents than the one that the message names stay as they were, and all
+    // do unless it is a notification.
+    ensures stays { (uri : List ℕ) (changes : List (Option Range × Text)) → TextTells message.now (Changed uri changes)
+        → IfOk result (λ _. StaysOpen state.old state.new uri) }
     ensures others { IfOk result (λ _. (uri : List ℕ) → (Names message.now uri → ⊥)
         → document_at state.new uri ≡ document_at state.old uri) }
     ensures all { IsNoNotification message.now → IfOk result (λ _. state.new.open ≡ state.old.open) }
@@ -77,6 +82,8 @@ pub(crate) fn receive(
     ensures untold { ((note : Note) → TextTells message.now note → ⊥)
         → (texts : Texts) → Agrees state.old texts → Agrees state.new texts }
     ensures session { (note : Note) → TextTells message.now note → SessionStays state.old state.new }
+    ensures stays { (uri : List ℕ) (changes : List (Option Range × Text)) → TextTells message.now (Changed uri changes)
+        → IfOk result (λ _. StaysOpen state.old state.new uri) }
     ensures others { IfOk result (λ _. (uri : List ℕ) → (Names message.now uri → ⊥)
         → document_at state.new uri ≡ document_at state.old uri) }
     ensures all { IsNoNotification message.now → IfOk result (λ _. state.new.open ≡ state.old.open) }
@@ -110,6 +117,8 @@ fn take(
     ensures untold { ((note : Note) → TellsIn (value_view message.now) note → ⊥)
         → (texts : Texts) → Agrees state.old texts → Agrees state.new texts }
     ensures session { (note : Note) → TellsIn (value_view message.now) note → SessionStays state.old state.new }
+    ensures stays { (uri : List ℕ) (changes : List (Option Range × Text)) → TellsIn (value_view message.now) (Changed uri changes)
+        → StaysOpen state.old state.new uri }
     ensures others { UnnamedStay state.old state.new (params_of (value_view message.now)) }
     ensures all { IsNone (method_of (value_view message.now)) → state.new.open ≡ state.old.open }
 {
@@ -165,6 +174,8 @@ fn notification(
     ensures untold { ((note : Note) → Tells method.now (value_view params.now) note → ⊥)
         → (texts : Texts) → Agrees state.old texts → Agrees state.new texts }
     ensures session { (method.now ≡ codes "exit" → ⊥) → SessionStays state.old state.new }
+    ensures stays { (uri : List ℕ) (changes : List (Option Range × Text)) → Tells method.now (value_view params.now) (Changed uri changes)
+        → StaysOpen state.old state.new uri }
     ensures others { UnnamedStay state.old state.new (value_view params.now) }
 {
     match state.notify(alloc, method, params) {

@@ -1,5 +1,5 @@
 -- What becomes of the documents of a server after a notification.
-use Rattle.std.specs.Prelude.{◌≡◌, ◌≢◌, ℕ, List, Some, IsNone, MatchOption}
+use Rattle.std.specs.Prelude.{◌≡◌, ◌≢◌, ℕ, List, Some, IsNone, IsSome, MatchOption}
 use Rattle.json.specs.Json.{Json}
 use Rattle.lsp_documents.specs.declared.notify.Outcome.{Outcome}
 use Rattle.lsp_documents.specs.declared.notify.Outcome.TheVariants as outcome
@@ -11,11 +11,15 @@ use Rattle.lsp_documents.specs.States.{IsKnown, document_at}
 abbrev pub UnnamedStay : State → State → Json → Type 0
 UnnamedStay old new params = (uri : List ℕ) → uri_of params ≢ Some uri → document_at new uri ≡ document_at old uri
 
--- after a note with nothing to say, its document is open and its text is known, but one that was not open when it changed
--- is not open; after it is closed, it is not open
+-- a document that was open stays open, and one that was not is not opened
+abbrev pub StaysOpen : State → State → List ℕ → Type 0
+StaysOpen old new uri = MatchOption (document_at old uri) (IsNone (document_at new uri)) (λ _. IsSome (document_at new uri))
+
+-- a document that is opened, and an open one that changes, is open and its text is known, if there is nothing to say; one
+-- that is closed is not open
 abbrev pub IsTaken : State → State → Outcome → Note → Type 0
 IsTaken old new said (Opened uri text) = said ≡ outcome.Nothing → IsKnown new uri
-IsTaken old new said (Changed uri changes) = said ≡ outcome.Nothing → MatchOption (document_at old uri) (IsNone (document_at new uri)) (λ _. IsKnown new uri)
+IsTaken old new said (Changed uri changes) = said ≡ outcome.Nothing → IsSome (document_at old uri) → IsKnown new uri
 IsTaken old new said (Closed uri) = IsNone (document_at new uri)
 
 -- what a server has to say is so: the text of the document that parameters name is not known, or it is not open

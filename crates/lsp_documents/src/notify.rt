@@ -1,12 +1,12 @@
 //! Notifications of a client about its documents.
 
 ghost use Rattle.json.specs.Value.{value_view};
-ghost use Rattle.lsp_documents.specs.Notes.{Agrees, HasChanges, Note, Tells, Texts, after, text_of, uri_of, with_text};
-ghost use Rattle.lsp_documents.specs.Outcomes.{IsSo, IsTaken, UnnamedStay};
+ghost use Rattle.lsp_documents.specs.Notes.{Agrees, Changed, HasChanges, Note, Tells, Texts, after, text_of, uri_of, with_text};
+ghost use Rattle.lsp_documents.specs.Outcomes.{IsSo, IsTaken, StaysOpen, UnnamedStay};
 ghost use Rattle.lsp_documents.specs.States.{IsKnown, OthersStay, SessionStays, document_at, is_down};
 ghost use Rattle.lsp_text.specs.Positions.{Text, all_changed, change_of};
 ghost use Rattle.lsp_text.specs.declared.position.Range.{Range};
-ghost use Rattle.std.specs.Prelude.{◌≡◌, ℕ, ◌⊎◌, List, Option, None, Some, IfSome, IsNone, IsSome, IsSomeAnd, MatchOption, OnOk, chars, codes, map, string_bytes};
+ghost use Rattle.std.specs.Prelude.{◌≡◌, ℕ, ◌⊎◌, List, Option, None, Some, IfSome, IsNone, IsSome, IsSomeAnd, OnOk, chars, codes, map, string_bytes};
 
 use crate::params::{changes, text, uri, version};
 use crate::state::{Phase, State};
@@ -42,6 +42,8 @@ impl State {
         // A notification changes the document that it names, and no other one.
         ensures taken { self.old.phase ≡ Phase.Running → (note : Note) → Tells method.now (value_view params.now) note
             → IsTaken self.old self.new result note }
+        ensures stays { (uri : List ℕ) (changes : List (Option Range × Text)) → Tells method.now (value_view params.now) (Changed uri changes)
+            → StaysOpen self.old self.new uri }
         ensures others { UnnamedStay self.old self.new (value_view params.now) }
         ensures outcome { IsSo result (value_view params.now) self.new }
         ensures unknown { (method.now ≡ codes "exit" → ⊥) → (method.now ≡ codes "textDocument/didOpen" → ⊥)
@@ -110,8 +112,9 @@ impl State {
         ensures untold { ((uri : List ℕ) (changes : List (Option Range × Text)) → uri_of (value_view params.now) ≡ Some uri → HasChanges (value_view params.now) changes → ⊥)
             → (texts : Texts) → Agrees self.old texts → Agrees self.new texts }
         ensures session { SessionStays self.old self.new }
+        ensures stays { (uri : List ℕ) → uri_of (value_view params.now) ≡ Some uri → StaysOpen self.old self.new uri }
         ensures known { (uri : List ℕ) → uri_of (value_view params.now) ≡ Some uri → result ≡ Outcome.Nothing
-            → MatchOption (document_at self.old uri) (IsNone (document_at self.new uri)) (λ _. IsKnown self.new uri) }
+            → IsSome (document_at self.old uri) → IsKnown self.new uri }
         ensures others { UnnamedStay self.old self.new (value_view params.now) }
         ensures outcome { IsSo result (value_view params.now) self.new }
     {
@@ -136,6 +139,7 @@ impl State {
             → Agrees self.new (with_text texts uri.now (all_changed self.old.client.encoding changes (texts uri.now))) }
         ensures untold { ((changes : List (Option Range × Text)) → HasChanges (value_view params.now) changes → ⊥)
             → (texts : Texts) → Agrees self.old texts → Agrees self.new texts }
+        ensures stays { StaysOpen self.old self.new uri.now }
         ensures others { OthersStay self.old self.new uri.now }
         ensures session { SessionStays self.old self.new }
     {

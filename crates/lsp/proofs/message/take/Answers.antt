@@ -6,7 +6,7 @@ use Rattle.json.specs.declared.value.Value.TheVariants.{Null, rolls-Null}
 use Rattle.json.specs.Json.{Json, null}
 use Rattle.json.specs.Value.{value_view, view_step}
 use Rattle.lsp.specs.Messages.{method_of, params_of}
-use Rattle.lsp_documents.specs.Notes.{Tells}
+use Rattle.lsp_documents.specs.Notes.{Changed, Tells}
 use Rattle.lsp.proofs.message.take.Goals as goal
 
 -- `null` as JSON
@@ -29,3 +29,12 @@ returns-in-Some-None-clause-untold c none texts agrees =
     (subst (λ m. IsSomeAnd m (λ name. Tells name (params_of j) note)) (sym method)
     (subst (λ p. Tells c.in-Some-None.method.now p note) params tells)))
     texts agrees
+
+pub returns-in-Some-None-clause-stays : goal.returns-in-Some-None-clause-stays
+returns-in-Some-None-clause-stays c uri changes tells =
+    let j = value_view c.args.message.now in
+    let method : method_of j ≡ Some c.in-Some-None.method.now = search rules in
+    let params : value_view c.unwrap_or-params.result.now ≡ params_of j =
+    of_either (λ p. value_view p.now) c.get.result _ c.unwrap_or-params.result _ null c.unwrap_or-params.ensures c.get.ensures null_is_null in
+    c.notification.ensures.stays uri changes
+    (subst (λ p. Tells c.in-Some-None.method.now p (Changed uri changes)) (sym params) (subst (λ m. IsSomeAnd m (λ name. Tells name (params_of j) (Changed uri changes))) method tells))
