@@ -6,7 +6,8 @@ use Rattle.kdl_grammar.specs.Data.{Node, Nodes}
 use Rattle.kdl_query.specs.Data.{Query, Selector, start, then, top}
 use Rattle.kdl_query.specs.Selects.{AreSelected, IsBefore, IsFirstSelected, IsSelected, IsSelection, Path, Selects, node_at}
 use Rattle.kdl_query.specs.Internal.Parts.{query_parts}
-use Rattle.kdl_query.specs.Internal.Visits.{Visited, all_visits, chosen, chosen_nodes, chosen_paths}
+use Rattle.kdl_query.specs.Internal.Visits.{Passes, Visited, all_visits, chosen, chosen_nodes, chosen_paths}
+use Rattle.kdl_query.proofs.Passing.{passed_chosen}
 use Rattle.kdl_query.proofs.Seeing.{sees_all}
 use Rattle.kdl_query.proofs.Visiting.{Ascends, In, Tells, all_ascend, all_tell, all_visited, paths}
 
@@ -134,20 +135,20 @@ is_first_selected x q p ps n ns e f =
     }
 
 -- at the end of the walk, what was found is all
-pub paths_found : (x : Nodes) (q : Query) (found : List Path) (due : List Visited) → due ≡ [] → found ++ chosen_paths due ≡ chosen_paths (all_visits q x) → IsSelection x q found
+pub paths_found : (x : Nodes) (q : Query) (found : List Path) (due : List Visited) → Passes due [] → found ++ chosen_paths due ≡ chosen_paths (all_visits q x) → IsSelection x q found
 paths_found x q found due e f =
     let P : List Path → Type 0 = λ ps. IsSelection x q ps in
-    subst P (sym f ∙ ap (λ vs. found ++ chosen_paths vs) e ∙ append-nil found) (are_selection x q)
+    subst P (sym f ∙ ap (λ vs. found ++ paths vs) (passed_chosen due [] e) ∙ append-nil found) (are_selection x q)
 
-pub nodes_found : (x : Nodes) (q : Query) (found : List Node) (due : List Visited) → due ≡ [] → found ++ chosen_nodes due ≡ chosen_nodes (all_visits q x) → AreSelected x q found
+pub nodes_found : (x : Nodes) (q : Query) (found : List Node) (due : List Visited) → Passes due [] → found ++ chosen_nodes due ≡ chosen_nodes (all_visits q x) → AreSelected x q found
 nodes_found x q found due e f =
     let P : List Node → Type 0 = λ ns. AreSelected x q ns in
-    subst P (sym f ∙ ap (λ vs. found ++ chosen_nodes vs) e ∙ append-nil found) (are_selected x q)
+    subst P (sym f ∙ ap (λ vs. found ++ map (λ (v : Visited). v.said) vs) (passed_chosen due [] e) ∙ append-nil found) (are_selected x q)
 
-pub none_found : (x : Nodes) (q : Query) (due : List Visited) → due ≡ [] → chosen due ≡ chosen (all_visits q x) → (p : Path) → IsSelected x q p → ⊥
-none_found x q due e f = none_selected x q (ap paths (sym f ∙ ap chosen e))
+pub none_found : (x : Nodes) (q : Query) (due : List Visited) → Passes due [] → chosen due ≡ chosen (all_visits q x) → (p : Path) → IsSelected x q p → ⊥
+none_found x q due e f = none_selected x q (ap paths (sym f ∙ passed_chosen due [] e))
 
-pub first_found : (x : Nodes) (q : Query) (due rest : List Visited) (v : Visited) → due ≡ v ∷ rest → v.is_selected ≡ true → chosen due ≡ chosen (all_visits q x) → IsFirstSelected x q v.said
+pub first_found : (x : Nodes) (q : Query) (due rest : List Visited) (v : Visited) → Passes due (v ∷ rest) → v.is_selected ≡ true → chosen due ≡ chosen (all_visits q x) → IsFirstSelected x q v.said
 first_found x q due rest v e t f =
-    let all : chosen (all_visits q x) ≡ v ∷ chosen rest = sym f ∙ ap chosen e ∙ ap (λ b. cond b (v ∷ chosen rest) (chosen rest)) t in
+    let all : chosen (all_visits q x) ≡ v ∷ chosen rest = sym f ∙ passed_chosen due (v ∷ rest) e ∙ ap (λ b. cond b (v ∷ chosen rest) (chosen rest)) t in
     is_first_selected x q v.path (chosen_paths rest) v.said (chosen_nodes rest) (ap paths all) (ap (map (λ (w : Visited). w.said)) all)

@@ -4,31 +4,26 @@ use Rattle.std.proofs.lemmas.List.{length-append, length-map}
 use Rattle.std.proofs.lemmas.List.Concat.{length-flat_map}
 use Rattle.std.proofs.lemmas.List.Sums.{sum_by-cons}
 use Rattle.std.specs.List.{sum_by}
-use Rattle.std.specs.Option.{option_map_or}
+use Rattle.kdl_text.specs.Spans.{raise}
 use Rattle.kdl_grammar.specs.Data.{Node, node, Children, no_children, children, Nodes, none, first}
 use Rattle.kdl_query.specs.Counts.{count_below, count_inside, node_count, part_count, parts_in, selector_count}
 use Rattle.kdl_query.specs.Data.{Query, Selector, start, then, top}
 use Rattle.kdl_query.specs.Selects.{Path}
 use Rattle.kdl_query.specs.Internal.Parts.{PartSays, all_parts, entered, entering, fresh, parts_to, query_parts, visited, with_marks}
-use Rattle.kdl_query.specs.Internal.Visits.{LevelSays, Visited, all_visits, last_parts, next_parts, looks_of, visits, visits_below, visits_inside}
+use Rattle.kdl_query.specs.Internal.Visits.{Visited, all_visits, next_parts, looks_of, visits, visits_below, visits_inside}
 use Rattle.kdl_query.specs.declared.part.Link.TheVariants.{After}
 use Rattle.kdl_query.specs.declared.tree.Combinator.{Combinator}
-use Rattle.kdl_query.proofs.Walking.{last_level}
 
 -- a node changes only marks
 visited_length : (n : Node) (m : Bool) (ps : List PartSays) → length (visited n m ps) ≡ length ps
 visited_length n m [] = refl
 visited_length n m (p ∷ ps) = ap suc (visited_length n p.marks.here ps)
 
-next_length : (n : Node) (ps : List PartSays) → length (next_parts n ps) ≡ length ps
+pub next_length : (n : Node) (ps : List PartSays) → length (next_parts n ps) ≡ length ps
 next_length n ps = visited_length n _ ps
 
 inside_length : (n : Node) (ps : List PartSays) → length (entered (next_parts n ps)) ≡ length ps
 inside_length n ps = length-map (next_parts n ps) (λ (p : PartSays). with_marks p (entering p.marks)) ∙ next_length n ps
-
--- the innermost level after the next node has as many as before
-pub last_length : (ls : List LevelSays) (l k : LevelSays) (n : Node) → k.parts ≡ next_parts n l.parts → length (last_parts (ls ++ k ∷ [])) ≡ length l.parts
-last_length ls l k n e = ap (λ o. length (option_map_or (λ (m : LevelSays). m.parts) o [])) (last_level None ls k) ∙ ap length e ∙ next_length n l.parts
 
 -- the parts of a query
 to_length : (o : Option Combinator) (s : Selector) → length (parts_to o s) ≡ parts_in s
@@ -51,7 +46,7 @@ sum_same (s ∷ q) =
     omega (arith, a, b, e, h)
 
 -- the looks at nodes that are visited
-looks_append : (vs ws : List Visited) → looks_of (vs ++ ws) ≡ looks_of vs + looks_of ws
+pub looks_append : (vs ws : List Visited) → looks_of (vs ++ ws) ≡ looks_of vs + looks_of ws
 looks_append [] ws = omega arith
 looks_append (v ∷ vs) ws = let e = looks_append vs ws in omega (arith, e)
 
@@ -74,3 +69,10 @@ mutual
 
 pub all_looks : (q : Query) (x : Nodes) → looks_of (all_visits q x) ≡ part_count q * node_count x
 all_looks q x = visits_looks [] 0 (part_count q) (query_parts q) x (length-flat_map all_parts q ∙ sum_same q)
+
+-- a count that is raised by looks, and by more
+pub raised_by : (a b n m : ℕ) → raise b 0 ≡ raise a n → raise b m ≡ raise a (n + m)
+raised_by a b n m e = omega (arith, e)
+
+pub raised_more : (a b m n o : ℕ) → raise b m ≡ raise a n → raise b (m + o) ≡ raise a (n + o)
+raised_more a b m n o e = omega (arith, e)

@@ -1,5 +1,5 @@
 -- A document, and what queries select in it.
-use Rattle.std.proofs.Common.{◌≡◌, refl, ℕ, List, [], ◌∷◌, Some, None, codes, pos, true, inl, inr}
+use Rattle.std.proofs.Common.{◌≡◌, refl, ap, ◌∙◌, sym, cond, ℕ, List, [], ◌∷◌, Some, None, codes, pos, true, inl, inr}
 use Rattle.kdl_value.specs.Data.{Value, text, integer, float, truth}
 use Rattle.kdl_entry.specs.Data.{Entry}
 use Rattle.kdl_grammar.specs.Data.{Node, node, no_children, children, Nodes, none, first}
@@ -9,7 +9,9 @@ use Rattle.kdl_query.specs.Decimal.{exact_order}
 use Rattle.kdl_query.specs.Selects.{IsSelected, IsSelection}
 use Rattle.kdl_query.specs.declared.tree.Comparison.TheVariants.{Equal, NotEqual, StartsWith, Contains}
 use Rattle.kdl_query.specs.declared.tree.Combinator.TheVariants.{Child, Descendant, NextSibling, LaterSibling}
+use Rattle.kdl_query.specs.Internal.Visits.{Passes, Visited}
 use Rattle.kdl_query.proofs.Choosing.{are_selection, is_chosen}
+use Rattle.kdl_query.proofs.Passing.{passed_chosen}
 
 -- package {
 --     name foo
@@ -140,3 +142,7 @@ not_one h = cc
 
 not_top_alone : node_count D ≡ 1 → ⊥
 not_top_alone h = cc
+
+-- a walk passes no node that is selected
+not_passed : (v : Visited) → v.is_selected ≡ true → Passes (v ∷ []) [] → ⊥
+not_passed v t p = let e : v ∷ [] ≡ [] = sym (ap (λ b. cond b (v ∷ []) []) t) ∙ passed_chosen (v ∷ []) [] p in absurd (cc)

@@ -1,7 +1,7 @@
 -- Texts are compared by their bytes, which tells of their characters.
 use Rattle.std.proofs.Common.{◌≡◌, ◌-◌, ℕ, ◌≤◌, Bool, true, false, List, ◌++◌, length, drop, take, eqb, Option, Some, None, is_some, MatchBool, MatchOption, Decides, chars, refl, ap, ◌∙◌, sym, arith}
 use Rattle.std.proofs.lemmas.Bool.Decides.{Decides-eqb, same_from_decides}
-use Rattle.std.proofs.lemmas.Slice.Eq.{starts_is}
+use Rattle.std.proofs.lemmas.Slice.Eq.{bytes_eq-Decides, starts_is}
 use Rattle.std.proofs.Math.Seq.{drop-append_seam}
 use Rattle.std.proofs.lemmas.List.{length-append, take-append-drop}
 use Rattle.std.proofs.lemmas.Str.{IsUtf8-take, chars-append, encodes-append, encodes-chars}
@@ -18,6 +18,12 @@ use Rattle.kdl_query.proofs.Holding.{infix_decides, never, prefix_decides, suffi
 
 pub texts_compared : (b s : List ℕ) → IsUtf8 b → IsUtf8 s → same_text b s ≡ same_text (chars b) (chars s)
 texts_compared b s u v = (same_chars s v).same b u
+
+-- texts of different lengths are not the same
+pub texts_differ : (b s : List ℕ) → IsUtf8 b → IsUtf8 s → (length b ≡ length s → ⊥) → eqb (length b) (length s) ≡ same_text (chars b) (chars s)
+texts_differ b s u v h =
+    same_from_decides (eqb (length b) (length s)) false (Decides-eqb (length b) (length s)) (never (length b ≡ length s) h)
+    ∙ same_from_decides false (same_text b s) (never (b ≡ s) (λ e. h (ap length e))) (bytes_eq-Decides b s) ∙ texts_compared b s u v
 
 -- a text whose characters hold those of n holds its bytes
 encoded : (s n p r : List ℕ) → IsUtf8 s → IsUtf8 n → chars s ≡ p ++ (chars n ++ r) → s ≡ encodes p ++ (n ++ encodes r)

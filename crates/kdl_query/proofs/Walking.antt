@@ -1,13 +1,16 @@
 -- The nodes that a walk has still to visit.
-use Rattle.std.proofs.Common.{◌≡◌, ℕ, zero, suc, List, [], ◌∷◌, ◌++◌, Option, Some, None, refl, ap, ◌∙◌, sym, slice_get, drop}
+use Rattle.std.proofs.Common.{◌≡◌, ℕ, zero, suc, Bool, false, List, [], ◌∷◌, ◌++◌, length, Option, Some, None, refl, ap, ◌∙◌, sym, slice_get, drop}
 use Rattle.std.specs.List.{last_or}
 use Rattle.std.specs.Option.{option_map_or}
 use Rattle.std.proofs.lemmas.List.{append_assoc, append-nil, map-append}
 use Rattle.kdl_grammar.specs.Data.{Node, node, no_children, children, Nodes, none, first}
 use Rattle.kdl.specs.Said.{said_child_nodes, said_nodes}
+use Rattle.kdl.specs.Tree.{node_says}
 use Rattle.kdl_query.specs.Selects.{Path}
-use Rattle.kdl_query.specs.Internal.Parts.{PartSays, entered}
-use Rattle.kdl_query.specs.Internal.Visits.{LevelSays, Visited, due, inside_last, level_due, next_parts, path_of, visit_of, visits, visits_inside, visits_of}
+use Rattle.kdl_query.specs.Internal.Parts.{PartSays, ends, entered, has_block}
+use Rattle.kdl_query.specs.Internal.Visits.{LevelSays, Visited, due, inside_last, last_parts, level_at, level_due, level_left, next_parts, path_of, visit_of, visits, visits_inside, visits_of}
+use Rattle.kdl_query.specs.declared.walk.Visit.{Visit}
+use Rattle.kdl_query.proofs.Counting.{next_length}
 
 -- those of nodes are those of the list of them
 pub visits_listed : (q : Path) (i : ℕ) (ps : List PartSays) (y : Nodes) → visits q i ps y ≡ visits_of q i ps (said_nodes y)
@@ -19,7 +22,7 @@ inside_listed q ps (node t s es no_children) = refl
 inside_listed q ps (node t s es (children y)) = visits_listed q 0 ps y
 
 -- the innermost level is due first
-due_last : (q : Path) (ls : List LevelSays) (l : LevelSays) → due q (ls ++ l ∷ []) ≡ level_due (q ++ path_of ls) l ++ due q ls
+pub due_last : (q : Path) (ls : List LevelSays) (l : LevelSays) → due q (ls ++ l ∷ []) ≡ level_due (q ++ path_of ls) l ++ due q ls
 due_last q [] l = ap (λ p. level_due p l) (sym (append-nil q)) ∙ sym (append-nil (level_due (q ++ []) l))
 due_last q (k ∷ ls) l =
     ap (λ d. d ++ level_due q k) (due_last (q ++ k.current ∷ []) ls l ∙ ap (λ p. level_due p l ++ due (q ++ k.current ∷ []) ls) (append_assoc q (k.current ∷ []) (path_of ls)))
@@ -28,7 +31,7 @@ due_last q (k ∷ ls) l =
 path_last : (ls : List LevelSays) (l : LevelSays) → path_of (ls ++ l ∷ []) ≡ path_of ls ++ l.current ∷ []
 path_last ls l = map-append (λ k. k.current) ls (l ∷ [])
 
-pub last_level : {A : Type 0} (o : Option A) (ls : List A) (l : A) → last_or o (ls ++ l ∷ []) ≡ Some l
+last_level : {A : Type 0} (o : Option A) (ls : List A) (l : A) → last_or o (ls ++ l ∷ []) ≡ Some l
 last_level o [] l = refl
 last_level o (k ∷ ls) l = last_level (Some k) ls l
 
@@ -36,7 +39,7 @@ last_level o (k ∷ ls) l = last_level (Some k) ls l
 abbrev inside_at : Option LevelSays → Path → Node → List Visited
 inside_at o p n = option_map_or (λ k. visits_inside p (entered k.parts) n) o []
 
-pub inside_visited : (ls : List LevelSays) (l : LevelSays) (n : Node) → inside_last (ls ++ l ∷ []) n ≡ visits_inside (path_of ls ++ l.current ∷ []) (entered l.parts) n
+inside_visited : (ls : List LevelSays) (l : LevelSays) (n : Node) → inside_last (ls ++ l ∷ []) n ≡ visits_inside (path_of ls ++ l.current ∷ []) (entered l.parts) n
 inside_visited ls l n = ap (λ o. inside_at o (path_of (ls ++ l ∷ [])) n) (last_level None ls l) ∙ ap (λ p. visits_inside p (entered l.parts) n) (path_last ls l)
 
 -- at the first of the nodes
@@ -55,26 +58,50 @@ drop_one [] i x e = absurd (cc)
 drop_one (y ∷ xs) zero x e = let h : y ≡ x = cc in ap (λ z. z ∷ xs) h
 drop_one (y ∷ xs) (suc i) x e = drop_one xs i x e
 
--- a level without a next node has nothing due
-pub due_none : (ls : List LevelSays) (l : LevelSays) → slice_get l.nodes l.next ≡ None → due [] (ls ++ l ∷ []) ≡ due [] ls
-due_none ls l e = due_last [] ls l ∙ ap (λ ns. visits_of (path_of ls) l.next l.parts ns ++ due [] ls) (drop_all l.nodes l.next e)
+-- nothing is due in a level without a next node
+pub level_none : (q : Path) (l : LevelSays) → slice_get l.nodes l.next ≡ None → level_due q l ≡ []
+level_none q l e = ap (visits_of q l.next l.parts) (drop_all l.nodes l.next e)
 
 -- the next node, those inside it, and those that are due after it
-pub due_next : (ls : List LevelSays) (l k : LevelSays) (n : Node) → slice_get l.nodes l.next ≡ Some n → k.nodes ≡ l.nodes → k.next ≡ suc l.next → k.current ≡ l.next → k.parts ≡ next_parts n l.parts
-    → due [] (ls ++ l ∷ []) ≡ visit_of (path_of (ls ++ k ∷ [])) l.parts n ∷ (inside_last (ls ++ k ∷ []) n ++ due [] (ls ++ k ∷ []))
-due_next ls l k n e f g h j =
-    let q = path_of ls in
-    let p : path_of (ls ++ k ∷ []) ≡ q ++ l.next ∷ [] = path_last ls k ∙ ap (λ i. q ++ i ∷ []) h in
-    let inner : inside_last (ls ++ k ∷ []) n ≡ visits_inside (q ++ l.next ∷ []) (entered (next_parts n l.parts)) n =
-    inside_visited ls k n ∙ ap (λ i. visits_inside (q ++ i ∷ []) (entered k.parts) n) h ∙ ap (λ ps. visits_inside (q ++ l.next ∷ []) (entered ps) n) j in
-    let level : level_due q k ≡ visits_of q (suc l.next) (next_parts n l.parts) (drop (suc l.next) l.nodes) =
-    ap (λ i. visits_of q i k.parts (drop i k.nodes)) g ∙ ap (λ ps. visits_of q (suc l.next) ps (drop (suc l.next) k.nodes)) j ∙ ap (λ ns. visits_of q (suc l.next) (next_parts n l.parts) (drop (suc l.next) ns)) f in
-    let later : due [] (ls ++ k ∷ []) ≡ visits_of q (suc l.next) (next_parts n l.parts) (drop (suc l.next) l.nodes) ++ due [] ls = due_last [] ls k ∙ ap (λ d. d ++ due [] ls) level in
-    due_last [] ls l ∙ ap (λ ns. visits_of q l.next l.parts ns ++ due [] ls) (drop_one l.nodes l.next n e)
-    ∙ ap (λ d. visit_of (q ++ l.next ∷ []) l.parts n ∷ d)
-    (append_assoc (visits_inside (q ++ l.next ∷ []) (entered (next_parts n l.parts)) n) (visits_of q (suc l.next) (next_parts n l.parts) (drop (suc l.next) l.nodes)) (due [] ls)
-    ∙ ap (λ d. visits_inside (q ++ l.next ∷ []) (entered (next_parts n l.parts)) n ++ d) (sym later) ∙ ap (λ d. d ++ due [] (ls ++ k ∷ [])) (sym inner))
-    ∙ ap (λ r. visit_of r l.parts n ∷ (inside_last (ls ++ k ∷ []) n ++ due [] (ls ++ k ∷ []))) (sym p)
+level_next : (q : Path) (l k : LevelSays) (n : Node) → slice_get l.nodes l.next ≡ Some n → k ≡ record { nodes = l.nodes; next = suc l.next; current = l.next; parts = next_parts n l.parts }
+    → level_due q l ≡ visit_of (q ++ k.current ∷ []) l.parts n ∷ (visits_inside (q ++ k.current ∷ []) (entered k.parts) n ++ level_due q k)
+level_next q l k n e f =
+    ap (visits_of q l.next l.parts) (drop_one l.nodes l.next n e)
+    ∙ ap (λ (m : LevelSays). visit_of (q ++ m.current ∷ []) l.parts n ∷ (visits_inside (q ++ m.current ∷ []) (entered m.parts) n ++ level_due q m)) (sym f)
+
+-- a node without a block has no nodes inside it
+pub none_inside : (q : Path) (ps : List PartSays) (n : Node) → has_block n ≡ false → visits_inside q ps n ≡ []
+none_inside q ps (node t s es no_children) e = refl
+none_inside q ps (node t s es (children y)) e = absurd (cc)
+
+-- the node that a level came to
+pub level_came : (q : Path) (l k : LevelSays) (v : Visit) → slice_get l.nodes l.next ≡ Some (node_says v.node.now)
+    → k ≡ record { nodes = l.nodes; next = suc l.next; current = l.next; parts = next_parts (node_says v.node.now) l.parts } → v.is_selected ≡ ends (node_says v.node.now) false l.parts
+    → level_due q l ≡ level_at q v k ∷ level_left q v k
+level_came q l k v e f g =
+    let n = node_says v.node.now in
+    let at : Bool → ℕ → Visited = λ b looks. record { path = q ++ k.current ∷ []; said = n; is_selected = b; looks = looks } in
+    let looks : length k.parts ≡ length l.parts = ap (λ (m : LevelSays). length m.parts) f ∙ next_length n l.parts in
+    level_next q l k n e f ∙ ap (λ b. at b (length l.parts) ∷ level_left q v k) (sym g) ∙ ap (λ i. at v.is_selected i ∷ level_left q v k) (sym looks)
+
+-- and the walk with it
+pub walk_left_is : (ls ks : List LevelSays) (k : LevelSays) (v : Visit) → ks ≡ ls ++ k ∷ []
+    → inside_last ks (node_says v.node.now) ++ due [] ks ≡ level_left (path_of ls) v k ++ due [] ls
+walk_left_is ls ks k v e =
+    let n = node_says v.node.now in
+    let inside = visits_inside (path_of ls ++ k.current ∷ []) (entered k.parts) n in
+    ap (λ ms. inside_last ms n ++ due [] ms) e ∙ ap (λ vs. vs ++ due [] (ls ++ k ∷ [])) (inside_visited ls k n) ∙ ap (λ vs. inside ++ vs) (due_last [] ls k)
+    ∙ sym (append_assoc inside (level_due (path_of ls) k) (due [] ls))
+
+pub walk_came : (ls ks : List LevelSays) (k : LevelSays) (v : Visit) → ks ≡ ls ++ k ∷ []
+    → (level_at (path_of ls) v k ∷ level_left (path_of ls) v k) ++ due [] ls
+    ≡ record { path = path_of ks; said = node_says v.node.now; is_selected = v.is_selected; looks = length (last_parts ks) } ∷ (inside_last ks (node_says v.node.now) ++ due [] ks)
+walk_came ls ks k v e =
+    let at : Path → ℕ → Visited = λ p looks. record { path = p; said = node_says v.node.now; is_selected = v.is_selected; looks = looks } in
+    let left = inside_last ks (node_says v.node.now) ++ due [] ks in
+    let path : path_of ks ≡ path_of ls ++ k.current ∷ [] = ap path_of e ∙ path_last ls k in
+    let looks : length (last_parts ks) ≡ length k.parts = ap (λ ms. length (last_parts ms)) e ∙ ap (λ o. length (option_map_or (λ (m : LevelSays). m.parts) o [])) (last_level None ls k) in
+    ap (λ vs. level_at (path_of ls) v k ∷ vs) (sym (walk_left_is ls ks k v e)) ∙ ap (λ p. at p (length k.parts) ∷ left) (sym path) ∙ ap (λ i. at (path_of ks) i ∷ left) (sym looks)
 
 -- the block of the node that was visited last is due first, once it is entered
 pub due_entered : (ls : List LevelSays) (l k : LevelSays) (n : Node) → last_or None ls ≡ Some l → k.next ≡ 0 → k.parts ≡ entered l.parts → k.nodes ≡ said_child_nodes n

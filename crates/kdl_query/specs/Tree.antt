@@ -1,11 +1,9 @@
 -- What a query in memory says.
-use denote.Ref.{Bor}
-use Rattle.std.specs.Prelude.{Option, map, option_map, fold}
+use Rattle.std.specs.Prelude.{map, option_map, fold}
 use Rattle.kdl_value.specs.Tree.{text_of, value_tree}
 use Rattle.kdl_query.specs.Data as data'
 use Rattle.kdl_query.specs.declared.tree.Accessor.{Accessor}
 use Rattle.kdl_query.specs.declared.tree.Accessor.TheVariants.{Argument, Property, Name, «Type» as TypeOf, Arguments, Properties}
-use Rattle.kdl_query.specs.declared.tree.Comparison.{Comparison}
 use Rattle.kdl_query.specs.declared.tree.First.{First}
 use Rattle.kdl_query.specs.declared.tree.First.TheVariants.{Top, Node}
 use Rattle.kdl_query.specs.declared.tree.Literal.{Literal}
@@ -39,10 +37,6 @@ abbrev pub test_says : Test → data'.Test
 test_says Always = data'.always
 test_says (Has a) = data'.has (accessor_says a)
 test_says (Compares a c l) = data'.compares (accessor_says a) c (literal_says l)
-
--- what an entry is compared with, if it is compared
-abbrev pub wanted_says : Option (Comparison × Bor Literal) → Option (Comparison × data'.Literal)
-wanted_says o = option_map (λ w. (w.0, literal_says w.1.now)) o
 
 abbrev pub node_test_says : NodeTest → data'.NodeTest
 node_test_says t = record { ty = option_map type_test_says t.node_type; name = option_map text_of t.name; tests = map test_says t.tests.items }

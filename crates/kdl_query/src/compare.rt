@@ -19,7 +19,7 @@ use std::cmp::Ordering;
 pub(crate) fn is_text(text: &str, other: &str) -> bool
     ensures { result ≡ same_text (chars text.now) (chars other.now) }
 {
-    text == other
+    text.len() == other.len() && text == other
 }
 
 /// Whether the text begins with the other.

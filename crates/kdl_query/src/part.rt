@@ -1,9 +1,9 @@
 //! The parts of a query's selectors, and where they are reached.
 
 ghost use Rattle.kdl.specs.Tree.{node_says};
-ghost use Rattle.kdl_query.specs.Internal.Parts.{after, all_parts, begins, ends, ends_at, entered_part, fresh, has_block, is_reached, leads_on, next_of, part_says, parts_to, query_parts, step_parts, visited};
+ghost use Rattle.kdl_query.specs.Internal.Parts.{after, all_parts, begins, decides, ends, ends_at, entered_part, fresh, has_block, is_reached, leads_on, marked, next_of, part_says, parts_to, query_parts, step_parts, visited, with_marks};
 ghost use Rattle.kdl_query.specs.Tree.{first_says, node_test_says, query_says, selector_says};
-ghost use Rattle.std.specs.Prelude.{◌≡◌, ◌++◌, IfOk, OnOk, map, option_map, false};
+ghost use Rattle.std.specs.Prelude.{◌≡◌, ◌++◌, ◌||◌, IfOk, OnOk, Some, map, option_map, false, true};
 
 use crate::test::meets;
 use crate::tree::{Combinator, First, NodeTest, Query, Selector, Step};
@@ -42,7 +42,7 @@ pub(crate) struct Part<'q> {
 }
 
 /// Whether the node has a block.
-fn has_block(node: &KdlNode) -> bool
+pub(crate) fn has_block(node: &KdlNode) -> bool
     ensures { result ≡ has_block (node_says node.now) }
 {
     node.children().is_some()
@@ -97,37 +97,62 @@ impl<'q> Part<'q> {
             }
     }
 
-    /// The marks after the node. The node is tested only if they depend on it.
-    fn marks_after(&self, before: bool, node: &KdlNode) -> Marks
-        ensures { result ≡ after (part_says self.now) before (node_says node.now) }
+    /// Whether the marks after the node, or whether the node is selected, depend on whether it reaches the part.
+    fn decides(&self, is_selected: bool, node: &KdlNode) -> bool
+        ensures { result ≡ decides (part_says self.now) is_selected (node_says node.now) }
     {
-        let Marks { here, .. } = self.marks;
         match self.next {
-            Some(Combinator::Child) => Marks {
-                here,
-                inside: has_block(node) && self.is_reached(before, node),
-            },
-            Some(Combinator::Descendant) => Marks {
-                here,
-                inside: here || has_block(node) && self.is_reached(before, node),
-            },
-            Some(Combinator::NextSibling) => Marks {
-                here: self.is_reached(before, node),
-                inside: false,
-            },
-            Some(Combinator::LaterSibling) => Marks {
-                here: here || self.is_reached(before, node),
-                inside: false,
-            },
-            None => self.marks,
+            Some(Combinator::Child) => has_block(node),
+            Some(Combinator::Descendant) => !self.marks.here && has_block(node),
+            Some(Combinator::NextSibling) => true,
+            Some(Combinator::LaterSibling) => !self.marks.here,
+            None => !is_selected,
         }
     }
 
-    /// Whether the selector ends with the part, and the node reaches it.
-    fn ends(&self, before: bool, node: &KdlNode) -> bool
-        ensures { result ≡ ends_at (part_says self.now) before (node_says node.now) }
+    /// Goes on to the node, given whether it may reach the part by the part before it and whether it is selected by another
+    /// part. Returns whether it is selected. The node is tested only if the result or the marks depend on it.
+    fn visit(&mut self, before: bool, is_selected: bool, node: &KdlNode) -> bool
+        ensures part { part_says self.new ≡ with_marks (part_says self.old)
+            (after (part_says self.old) before (node_says node.now)) }
+        ensures ends { result ≡
+            (is_selected || ends_at (part_says self.old) before (node_says node.now)) }
     {
-        self.next.is_none() && self.is_reached(before, node)
+        let is_reached = self.decides(is_selected, node) && self.is_reached(before, node);
+        match self.next {
+            Some(combinator) => {
+                self.marks = self.marks.after(combinator, is_reached);
+                is_selected
+            }
+            None => is_selected || is_reached,
+        }
+    }
+}
+
+impl Marks {
+    /// The marks after a node that has a block, given whether it reaches the part.
+    fn after(self, next: Combinator, is_reached: bool) -> Marks
+        ensures { result ≡ marked (Some next) is_reached true self }
+    {
+        let Marks { here, .. } = self;
+        match next {
+            Combinator::Child => Marks {
+                here,
+                inside: is_reached,
+            },
+            Combinator::Descendant => Marks {
+                here,
+                inside: here || is_reached,
+            },
+            Combinator::NextSibling => Marks {
+                here: is_reached,
+                inside: false,
+            },
+            Combinator::LaterSibling => Marks {
+                here: here || is_reached,
+                inside: false,
+            },
+        }
     }
 }
 
@@ -140,9 +165,8 @@ pub(crate) fn visit(parts: &mut [Part<'_>], node: &KdlNode) -> bool
     let mut is_selected = false;
     let mut before = false;
     for part in parts.iter_mut() {
-        is_selected = is_selected || part.ends(before, node);
         let here = part.marks.here;
-        part.marks = part.marks_after(before, node);
+        is_selected = part.visit(before, is_selected, node);
         before = here;
     }
     is_selected

@@ -3,8 +3,8 @@
 ghost use Rattle.kdl.specs.Said.{has_key, has_no_key, last_property, nth_argument, said_name, said_type};
 ghost use Rattle.kdl.specs.Tree.{node_says};
 ghost use Rattle.kdl_entry.specs.Tree.{entry_data, entry_tree};
-ghost use Rattle.kdl_query.specs.Internal.Holds.{any_found, any_property, holds, is_last_property, is_named_if, is_typed_if, meets, passes_so};
-ghost use Rattle.kdl_query.specs.Tree.{accessor_says, node_test_says, test_says, type_test_says, wanted_says};
+ghost use Rattle.kdl_query.specs.Internal.Holds.{accessor_of, any_found, any_property, holds, is_last_property, is_named_if, is_typed_if, meets, passes_so, wanted_of};
+ghost use Rattle.kdl_query.specs.Tree.{accessor_says, node_test_says, test_says, type_test_says};
 ghost use Rattle.kdl_query.specs.Tests.{as_entry};
 ghost use Rattle.kdl_value.specs.Tree.{text_of};
 ghost use Rattle.std.specs.Option.{option_map_or};
@@ -13,7 +13,7 @@ ghost use Rattle.std.specs.Prelude.{◌≡◌, ◌&&◌, map, option_map, false}
 ghost use Rattle.std.specs.Str.{chars};
 
 use crate::compare::{compares_entry, compares_name, is_text, is_typed};
-use crate::tree::{Accessor, Comparison, Literal, NodeTest, Test, TypeTest};
+use crate::tree::{Accessor, NodeTest, Test, TypeTest};
 use kdl::{KdlEntry, KdlNode, NodeKey};
 
 /// Whether the node meets the test.
@@ -59,75 +59,80 @@ fn meets_name(node: &KdlNode, name: &Option<String>) -> bool
     }
 }
 
+/// What the test looks at, if it looks at anything.
+fn accessor_of(test: &Test) -> Option<&Accessor>
+    ensures { option_map (λ a. accessor_says a.now) result ≡ accessor_of (test_says test.now) }
+{
+    match test {
+        Test::Always => None,
+        Test::Has(accessor) => Some(accessor),
+        Test::Compares(accessor, _, _) => Some(accessor),
+    }
+}
+
 /// Whether the test holds of the node.
 fn holds(test: &Test, node: &KdlNode) -> bool
     ensures { result ≡ holds (test_says test.now) (node_says node.now) }
 {
+    match accessor_of(test) {
+        Some(accessor) => any_found(node, accessor, test),
+        None => true,
+    }
+}
+
+/// Whether the entry compares as the test asks for, if it asks for that.
+fn passes(entry: &KdlEntry, test: &Test) -> bool
+    ensures { result ≡ passes_so (wanted_of (test_says test.now)) (entry_data (entry_tree entry.now)) }
+{
     match test {
-        Test::Always => true,
-        Test::Has(accessor) => any_found(node, accessor, None),
-        Test::Compares(accessor, comparison, literal) => {
-            any_found(node, accessor, Some((*comparison, literal)))
-        }
+        Test::Compares(_, comparison, literal) => compares_entry(entry, *comparison, literal),
+        _ => true,
     }
 }
 
-/// What an entry is compared with, if it is compared.
-type Wanted<'q> = Option<(Comparison, &'q Literal)>;
-
-/// Whether the entry compares as is wanted.
-fn passes(entry: &KdlEntry, wanted: Wanted<'_>) -> bool
-    ensures { result ≡ passes_so (wanted_says wanted.entry) (entry_data (entry_tree entry.now)) }
+/// Whether the name compares as the test asks for, if it asks for that.
+fn name_passes(name: &str, test: &Test) -> bool
+    ensures { result ≡ passes_so (wanted_of (test_says test.now)) (as_entry (chars name.now)) }
 {
-    match wanted {
-        Some((comparison, literal)) => compares_entry(entry, comparison, literal),
-        None => true,
-    }
-}
-
-/// Whether the name compares as is wanted.
-fn name_passes(name: &str, wanted: Wanted<'_>) -> bool
-    ensures { result ≡ passes_so (wanted_says wanted.entry) (as_entry (chars name.now)) }
-{
-    match wanted {
-        Some((comparison, literal)) => compares_name(name, comparison, literal),
-        None => true,
+    match test {
+        Test::Compares(_, comparison, literal) => compares_name(name, *comparison, literal),
+        _ => true,
     }
 }
 
 /// Whether something that the accessor finds passes.
-fn any_found(node: &KdlNode, accessor: &Accessor, wanted: Wanted<'_>) -> bool
-    ensures { result ≡ any_found (passes_so (wanted_says wanted.entry))
+fn any_found(node: &KdlNode, accessor: &Accessor, test: &Test) -> bool
+    ensures { result ≡ any_found (passes_so (wanted_of (test_says test.now)))
         (accessor_says accessor.now) (node_says node.now) }
 {
     match accessor {
-        Accessor::Argument(index) => entry_passes(argument(node, *index), wanted),
-        Accessor::Property(name) => entry_passes(property(node, name.as_str()), wanted),
-        Accessor::Name => name_passes(node.name().value(), wanted),
-        Accessor::Type => type_passes(node, wanted),
-        Accessor::Arguments => some_argument(node.entries(), wanted),
-        Accessor::Properties => some_property(node.entries(), wanted),
+        Accessor::Argument(index) => entry_passes(argument(node, *index), test),
+        Accessor::Property(name) => entry_passes(property(node, name.as_str()), test),
+        Accessor::Name => name_passes(node.name().value(), test),
+        Accessor::Type => type_passes(node, test),
+        Accessor::Arguments => some_argument(node.entries(), test),
+        Accessor::Properties => some_property(node.entries(), test),
     }
 }
 
 /// Whether there is an entry, and it passes.
-fn entry_passes(entry: Option<&KdlEntry>, wanted: Wanted<'_>) -> bool
-    ensures { result ≡ option_map_or (passes_so (wanted_says wanted.entry))
+fn entry_passes(entry: Option<&KdlEntry>, test: &Test) -> bool
+    ensures { result ≡ option_map_or (passes_so (wanted_of (test_says test.now)))
         (option_map (λ e. entry_data (entry_tree e.now)) entry.entry) false }
 {
     match entry {
-        Some(entry) => passes(entry, wanted),
+        Some(entry) => passes(entry, test),
         None => false,
     }
 }
 
 /// Whether the node has a type, and it passes.
-fn type_passes(node: &KdlNode, wanted: Wanted<'_>) -> bool
-    ensures { result ≡ option_map_or (λ t. passes_so (wanted_says wanted.entry) (as_entry t))
+fn type_passes(node: &KdlNode, test: &Test) -> bool
+    ensures { result ≡ option_map_or (λ t. passes_so (wanted_of (test_says test.now)) (as_entry t))
         (said_type (node_says node.now)) false }
 {
     match node.ty() {
-        Some(ty) => name_passes(ty.value(), wanted),
+        Some(ty) => name_passes(ty.value(), test),
         None => false,
     }
 }
@@ -148,13 +153,13 @@ fn is_argument(entry: &KdlEntry) -> bool
 }
 
 /// Whether some argument passes.
-fn some_argument(entries: &[KdlEntry], wanted: Wanted<'_>) -> bool
-    ensures { result ≡ list_any (λ e. has_no_key e && passes_so (wanted_says wanted.entry) e)
+fn some_argument(entries: &[KdlEntry], test: &Test) -> bool
+    ensures { result ≡ list_any (λ e. has_no_key e && passes_so (wanted_of (test_says test.now)) e)
         (map (λ e. entry_data (entry_tree e)) entries.now) }
 {
     let mut rest = entries;
     while let Some((entry, after)) = rest.split_first() {
-        if is_argument(entry) && passes(entry, wanted) {
+        if is_argument(entry) && passes(entry, test) {
             return true;
         }
         rest = after;
@@ -215,13 +220,13 @@ fn is_last_property(entry: &KdlEntry, after: &[KdlEntry]) -> bool
 }
 
 /// Whether some property that is the last one of its name passes.
-fn some_property(entries: &[KdlEntry], wanted: Wanted<'_>) -> bool
-    ensures { result ≡ any_property (passes_so (wanted_says wanted.entry))
+fn some_property(entries: &[KdlEntry], test: &Test) -> bool
+    ensures { result ≡ any_property (passes_so (wanted_of (test_says test.now)))
         (map (λ e. entry_data (entry_tree e)) entries.now) }
 {
     let mut rest = entries;
     while let Some((entry, after)) = rest.split_first() {
-        if passes(entry, wanted) && is_last_property(entry, after) {
+        if passes(entry, test) && is_last_property(entry, after) {
             return true;
         }
         rest = after;

@@ -2,12 +2,14 @@
 
 ghost use Rattle.kdl.specs.Tree.{document_says, node_says};
 ghost use Rattle.kdl_query.specs.Internal.Parts.{ends, part_says};
-ghost use Rattle.kdl_query.specs.Internal.Visits.{all_visits, came_to, inside_last, level_says, levels_of, next_parts, path_of, walk_due};
+ghost use Rattle.kdl_query.specs.Internal.Visits.{Passes, all_visits, came_to, inside_last, level_at, level_due, level_left, level_says, levels_of, looks_of, next_parts, path_of, walk_due, walk_left};
+ghost use Rattle.kdl_query.specs.Selects.{Path};
 ghost use Rattle.kdl_query.specs.Tree.{query_says};
 ghost use Rattle.kdl_text.specs.Spans.{raise};
+ghost use Rattle.std.specs.Option.{option_map_or};
 ghost use Rattle.std.specs.Prelude.{◌≡◌, ◌++◌, ◌∷◌, [], ◌<◌, IfOk, IsSome, MatchOption, OnOk, false, length, map, option_map, slice_get, suc, take, ◌-◌};
 
-use crate::part::{Part, enter, parts_of, visit};
+use crate::part::{Part, enter, has_block, parts_of, visit};
 use crate::tree::Query;
 use kdl::{KdlDocument, KdlNode};
 use std::alloc::{AllocError, Global};
@@ -82,6 +84,23 @@ impl<'a, 'q> Level<'a, 'q> {
         *count = count.saturating_add(self.parts.len() as u64);
         visit(self.parts.as_mut_slice(), node)
     }
+
+    /// Goes on to the next node that is selected or has a block, or to the end of the nodes. Counts a look at each node for
+    /// each part.
+    fn advance(&mut self, count: &mut u64) -> Option<Visit<'a>>
+        ensures due { (q : Path) → MatchOption result (Passes (level_due q (level_says self.old)) []) (λ v.
+            Passes (level_due q (level_says self.old)) (level_at q v (level_says self.new) ∷ level_left q v (level_says self.new))) }
+        ensures counted { (q : Path) → raise count.new (looks_of (option_map_or (λ v. level_left q v (level_says self.new)) result []))
+            ≡ raise count.old (looks_of (level_due q (level_says self.old))) }
+    {
+        while let Some(node) = self.next_node() {
+            let is_selected = self.visit(node, count);
+            if is_selected || has_block(node) {
+                return Some(Visit { node, is_selected });
+            }
+        }
+        None
+    }
 }
 
 /// The index of the node that was visited last in each level.
@@ -110,19 +129,17 @@ impl<'a, 'q> Walk<'a, 'q> {
         })
     }
 
-    /// Comes to the next node, or returns `None` if there is none. The nodes in its block come next once it is entered.
-    /// Counts a look for each part of the query.
+    /// Goes on to the next node that is selected or has a block, or returns `None` if there is none. The nodes in its block
+    /// come next once it is entered. Counts a look at each node for each part of the query.
     pub(crate) fn visit(&mut self, count: &mut u64) -> Result<Option<Visit<'a>>, AllocError>
-        ensures due { IfOk result (λ o. MatchOption o (walk_due self.old ≡ []) (λ v.
-            walk_due self.old ≡ came_to v self.new
-            ∷ (inside_last (levels_of self.new) (node_says v.node.now) ++ walk_due self.new))) }
-        ensures counted { IfOk result (λ o. MatchOption o (count.new ≡ count.old) (λ v.
-            raise count.new 0 ≡ raise count.old (came_to v self.new).looks)) }
+        ensures due { IfOk result (λ o. MatchOption o (Passes (walk_due self.old) []) (λ v.
+            Passes (walk_due self.old) (came_to v self.new ∷ walk_left v self.new))) }
+        ensures counted { IfOk result (λ o. raise count.new (looks_of (option_map_or (λ v. walk_left v self.new) o []))
+            ≡ raise count.old (looks_of (walk_due self.old))) }
     {
         while let Some(level) = self.levels.last_mut() {
-            if let Some(node) = level.next_node() {
-                let is_selected = level.visit(node, count);
-                return Ok(Some(Visit { node, is_selected }));
+            if let Some(visit) = level.advance(count) {
+                return Ok(Some(visit));
             }
             self.leave()?;
         }

@@ -120,6 +120,16 @@ abbrev pub passes_so : Option (Comparison × Literal) → Entry → Bool
 passes_so None e = true
 passes_so (Some w) e = compares_so w.0 w.1 e
 
+-- what a test looks at, and what that is compared with
+abbrev pub accessor_of : Test → Option Accessor
+accessor_of always = None
+accessor_of (has a) = Some a
+accessor_of (compares a c l) = Some a
+
+abbrev pub wanted_of : Test → Option (Comparison × Literal)
+wanted_of (compares a c l) = Some (c, l)
+wanted_of t = None
+
 abbrev pub holds : Test → Node → Bool
 holds always n = true
 holds (has a) n = any_found (passes_so None) a n

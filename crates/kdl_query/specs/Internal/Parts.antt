@@ -1,7 +1,7 @@
 -- The parts of a query's selectors, and where they are reached.
 use Rattle.std.specs.List.{flat_map}
 use Rattle.std.specs.Option.{option_map_or}
-use Rattle.std.specs.Prelude.{Bool, true, false, ◌&&◌, ◌||◌, List, [], ◌∷◌, ◌++◌, Option, Some, None, is_none, is_some, map, option_map}
+use Rattle.std.specs.Prelude.{Bool, true, false, ◌&&◌, ◌||◌, List, [], ◌∷◌, ◌++◌, Option, Some, None, is_none, is_some, map, not, option_map}
 use Rattle.kdl.specs.Said.{said_children}
 use Rattle.kdl_grammar.specs.Data.{Node}
 use Rattle.kdl_query.specs.Data as data'
@@ -61,6 +61,17 @@ marked None r k m = m
 
 abbrev pub after : PartSays → Bool → Node → Marks
 after p b n = marked p.next (is_reached p b n) (has_block n) p.marks
+
+-- whether a node reaches a part decides on the marks after it or on whether it is selected, given whether it is already
+abbrev pub decided_by : Option Combinator → Bool → Bool → Marks → Bool
+decided_by (Some Child) s k m = k
+decided_by (Some Descendant) s k m = not m.here && k
+decided_by (Some NextSibling) s k m = true
+decided_by (Some LaterSibling) s k m = not m.here
+decided_by None s k m = not s
+
+abbrev pub decides : PartSays → Bool → Node → Bool
+decides p s n = decided_by p.next s (has_block n) p.marks
 
 -- those before the first node in the block of the one visited last
 abbrev pub entering : Marks → Marks

@@ -1,7 +1,7 @@
 -- The nodes of a document in the order in which a walk visits them.
 use Rattle.std.specs.List.{filter, last_or}
 use Rattle.std.specs.Option.{option_map_or}
-use Rattle.std.specs.Prelude.{ℕ, suc, ◌+◌, Bool, List, [], ◌∷◌, ◌++◌, length, None, map, drop}
+use Rattle.std.specs.Prelude.{◌≡◌, ℕ, suc, ◌+◌, Bool, List, [], ◌∷◌, ◌++◌, length, None, map, drop}
 use Rattle.kdl.specs.Tree.{node_says}
 use Rattle.kdl_grammar.specs.Data.{Node, node, Children, no_children, children, Nodes, none, first}
 use Rattle.kdl_query.specs.Data.{Query}
@@ -88,6 +88,16 @@ last_parts ls = option_map_or (λ l. l.parts) (last_or None ls) []
 abbrev pub came_to : Visit → Walk → Visited
 came_to v w = record { path = path_of (levels_of w); said = node_says v.node.now; is_selected = v.is_selected; looks = length (last_parts (levels_of w)) }
 
+-- the node that a walk came to in the block at q, and those that are still to be visited from there
+abbrev pub level_at : Path → Visit → LevelSays → Visited
+level_at q v l = record { path = q ++ l.current ∷ []; said = node_says v.node.now; is_selected = v.is_selected; looks = length l.parts }
+
+abbrev pub level_left : Path → Visit → LevelSays → List Visited
+level_left q v l = visits_inside (q ++ l.current ∷ []) (entered l.parts) (node_says v.node.now) ++ level_due q l
+
+abbrev pub walk_left : Visit → Walk → List Visited
+walk_left v w = inside_last (levels_of w) (node_says v.node.now) ++ walk_due w
+
 -- the looks at all of them
 abbrev pub looks_of : List Visited → ℕ
 looks_of [] = 0
@@ -102,3 +112,9 @@ chosen_paths vs = map (λ v. v.path) (chosen vs)
 
 abbrev pub chosen_nodes : List Visited → List Node
 chosen_nodes vs = map (λ v. v.said) (chosen vs)
+
+-- the first list is some that are not selected, and then the second
+pub record Passes (vs ws : List Visited) : Type 0 where
+  pub passed : List Visited
+  pub unselected : chosen passed ≡ []
+  pub rest : vs ≡ passed ++ ws
