@@ -1,5 +1,5 @@
 -- Messages of a client.
-use Rattle.std.specs.Prelude.{◌≡◌, ℕ, List, Option, None, Some, IfSome, IsNone, IsSomeAnd, codes, is_none, option_and_then, unwrap_or, if◌then◌else◌}
+use Rattle.std.specs.Prelude.{◌≡◌, ◌≢◌, ℕ, List, Option, None, Some, IfSome, IsSomeAnd, codes, is_none, option_and_then, unwrap_or, if◌then◌else◌}
 use Rattle.json.specs.Find.{get, as_str}
 use Rattle.json.specs.Json.{Json, document, null}
 use Rattle.kdl_text.specs.declared.span.Severity.{Severity}
@@ -36,9 +36,13 @@ TellsIn j note = IsSomeAnd (method_of j) (λ method. Tells method (params_of j) 
 abbrev pub TextTells : List ℕ → Note → Type 0
 TextTells text note = IsSomeAnd (document text) (λ j. TellsIn j note)
 
--- a text is a message that is no notification, or none at all
-abbrev pub IsNoNotification : List ℕ → Type 0
-IsNoNotification text = IfSome (document text) (λ j. IsNone (method_of j))
+-- a method tells nothing about documents, and is not `exit`
+abbrev pub IsIgnored : List ℕ → Type 0
+IsIgnored method = (method ≢ codes "exit") × (method ≢ codes "textDocument/didOpen") × (method ≢ codes "textDocument/didChange") × (method ≢ codes "textDocument/didClose")
+
+-- a text is no message, or none that is a notification of another method
+abbrev pub IsQuiet : List ℕ → Type 0
+IsQuiet text = IfSome (document text) (λ j. IfSome (method_of j) IsIgnored)
 
 -- a text is a message that names the document of a URI
 abbrev pub Names : List ℕ → List ℕ → Type 0

@@ -2,13 +2,13 @@
 
 ghost use Rattle.json.specs.Json.{document};
 ghost use Rattle.json.specs.Value.{value_view};
-ghost use Rattle.lsp.specs.Messages.{IsNoNotification, Names, TellsIn, TextTells, method_of, params_of};
+ghost use Rattle.lsp.specs.Messages.{IsIgnored, IsQuiet, Names, TellsIn, TextTells, method_of, params_of};
 ghost use Rattle.lsp_documents.specs.Notes.{Agrees, Changed, Note, Tells, Texts, after};
 ghost use Rattle.lsp_documents.specs.Outcomes.{StaysOpen, UnnamedStay};
 ghost use Rattle.lsp_documents.specs.States.{SessionStays, document_at, is_down};
 ghost use Rattle.lsp_text.specs.Positions.{Text};
 ghost use Rattle.lsp_text.specs.declared.position.Range.{Range};
-ghost use Rattle.std.specs.Prelude.{◌≡◌, ℕ, List, Option, false, IfOk, IsNone, None, OnErr, OnOk, codes};
+ghost use Rattle.std.specs.Prelude.{◌≡◌, ℕ, List, Option, false, IfOk, IfSome, None, OnErr, OnOk, codes};
 
 use crate::faults::no_faults_notice;
 use crate::publish::{Notices, log_unknown, publish, publish_due};
@@ -37,12 +37,12 @@ pub fn step(alloc: Global, state: &mut State, message: &str) -> Result<Vec<Strin
     ensures session { (note : Note) → TextTells message.now note → SessionStays state.old state.new }
 
     // A change closes and opens no document. Other documents than the one that the message names stay as they were, and all
-    // do unless it is a notification.
+    // do unless it is a notification about documents.
     ensures stays { (uri : List ℕ) (changes : List (Option Range × Text)) → TextTells message.now (Changed uri changes)
         → IfOk result (λ _. StaysOpen state.old state.new uri) }
     ensures others { IfOk result (λ _. (uri : List ℕ) → (Names message.now uri → ⊥)
         → document_at state.new uri ≡ document_at state.old uri) }
-    ensures all { IsNoNotification message.now → IfOk result (λ _. state.new.open ≡ state.old.open) }
+    ensures all { IsQuiet message.now → IfOk result (λ _. state.new.open ≡ state.old.open) }
 {
     let mut out = room(alloc, state)?;
     if receive(alloc, state, message, &mut out)? {
@@ -86,7 +86,7 @@ pub(crate) fn receive(
         → IfOk result (λ _. StaysOpen state.old state.new uri) }
     ensures others { IfOk result (λ _. (uri : List ℕ) → (Names message.now uri → ⊥)
         → document_at state.new uri ≡ document_at state.old uri) }
-    ensures all { IsNoNotification message.now → IfOk result (λ _. state.new.open ≡ state.old.open) }
+    ensures all { IsQuiet message.now → IfOk result (λ _. state.new.open ≡ state.old.open) }
 {
     let mut scratch = Scratch::new(alloc);
     match Value::parse(alloc, message, &mut scratch) {
@@ -120,7 +120,7 @@ fn take(
     ensures stays { (uri : List ℕ) (changes : List (Option Range × Text)) → TellsIn (value_view message.now) (Changed uri changes)
         → StaysOpen state.old state.new uri }
     ensures others { UnnamedStay state.old state.new (params_of (value_view message.now)) }
-    ensures all { IsNone (method_of (value_view message.now)) → state.new.open ≡ state.old.open }
+    ensures all { IfSome (method_of (value_view message.now)) IsIgnored → state.new.open ≡ state.old.open }
 {
     let params = message.get("params").unwrap_or(&Value::Null);
     let method = message.get("method").and_then(Value::as_str);
@@ -167,6 +167,7 @@ fn notification(
     out: &mut Notices,
 ) -> Result<(), AllocError>
     ensures early { (state.old.phase ≡ Phase.Running → ⊥) → (method.now ≡ codes "exit" → ⊥) → state.new ≡ state.old }
+    ensures ignored { IsIgnored method.now → state.new ≡ state.old }
     ensures exit { method.now ≡ codes "exit"
         → state.new ≡ record state.old { phase = Phase.Over (is_down state.old.phase) } }
     ensures told { state.old.phase ≡ Phase.Running → (note : Note) (texts : Texts) → Tells method.now (value_view params.now) note
