@@ -9,6 +9,7 @@ ghost use Rattle.kdl_text.specs.Chars.{is_digit, begins};
 ghost use Rattle.kdl_text.specs.Numbers.{Decimal as IsDecimalText, is_exponent_letter};
 ghost use Rattle.kdl_value.specs.Tree.{value_tree, float_text_of};
 ghost use Rattle.std.specs.Prelude.{◌≡◌, ℕ, Bool, ℤ, ◌+◌, ◌-◌, ◌/◌, ◌%◌, ◌^◌, ◌<◌, ◌≤◌, pos, ◌+ℤ◌, ◌-ℤ◌, ◌*ℤ◌, min, option_map, IfSome, [], length, position, true};
+ghost use Rattle.std.specs.Ordering.{int_cmp};
 ghost use Rattle.std.specs.List.{list_all, before_first, after_first};
 ghost use Rattle.std.specs.Str.Parse.{digits_value};
 
@@ -130,6 +131,23 @@ fn difference(a: Whole, b: Whole) -> i128
     difference
 }
 
+/// Returns the order of two numbers: that of their digits at the first place where these differ.
+fn whole_order(a: Whole, b: Whole) -> Ordering
+    requires a { IsWhole a }
+    requires b { IsWhole b }
+    ensures { result ≡ int_cmp (whole_of a.entry) (whole_of b.entry) }
+{
+    let mut place = a.places().max(b.places());
+    while 0 < place {
+        place -= 1;
+        let order = a.digit(place).cmp(&b.digit(place));
+        if order.is_ne() {
+            return order;
+        }
+    }
+    Ordering::Equal
+}
+
 /// A decimal: a whole number, of whose digits some are after the point, times a power of 10.
 #[derive(Clone, Copy)]
 struct Decimal<'a> {
@@ -230,7 +248,7 @@ fn decimal_order(a: Decimal, b: Decimal) -> Ordering
     let shift = shift(a, b);
     let a_zeros = zeros(shift, b.digits.places());
     let b_zeros = zeros(-shift, a.digits.places());
-    difference(a.followed_by(a_zeros), b.followed_by(b_zeros)).cmp(&0)
+    whole_order(a.followed_by(a_zeros), b.followed_by(b_zeros))
 }
 
 /// Returns whether a text begins with `-`, and the text without its sign.

@@ -1,14 +1,16 @@
 -- The order of signed numbers that are multiplied.
-use Rattle.std.proofs.Common.{◌≡◌, ℕ, zero, suc, ◌+◌, ◌-◌, ◌*◌, ◌^◌, ◌<◌, ◌≤◌, min, Bool, true, false, ◌⊎◌, inl, inr, ℤ, pos, neg_ℤ, ◌*ℤ◌, ◌-ℤ◌, int_cmp, Less, Equal, Greater, refl, sym, ap, subst, ◌∙◌, arith, mul_assoc, mul_comm}
-use Rattle.std.proofs.Math.Nat.{mul-lt-mul_of_pos_right, mul-pos, le-mul_of_pos_right, min-eq_left, min-eq_right, mul-one, zero-mul}
+use Rattle.std.proofs.Common.{◌≡◌, ℕ, zero, suc, ◌+◌, ◌-◌, ◌*◌, ◌/◌, ◌^◌, ◌<◌, ◌≤◌, min, Bool, true, false, ◌⊎◌, inl, inr, ℤ, pos, neg_ℤ, ◌+ℤ◌, ◌*ℤ◌, int_cmp, Less, Equal, Greater, refl, sym, ap, subst, ◌∙◌, arith, mul_assoc, mul_comm}
+use Rattle.std.proofs.Math.Nat.{div-le_self, div-mul-le_self, mul-lt-mul_of_pos_right, mul-pos, le-mul_of_pos_right, min-eq_left, min-eq_right, mul-one, zero-mul}
 use Rattle.std.proofs.lemmas.Int.{ints}
-use Rattle.std.proofs.lemmas.Nat.{pow-add}
+use Rattle.std.proofs.lemmas.Nat.{le-div, pow-add}
 use Rattle.std.proofs.lemmas.Bool.{cases_lt}
+use Rattle.std.specs.Ordering.{is_ne}
 use Rattle.std.specs.Prelude.{◌<ℤ◌}
 use Rattle.kdl_text.specs.Numbers.{signed}
 use Rattle.kdl_query.specs.Decimal.{rational_order}
-use Rattle.kdl_query.specs.DecimalParts.{natural_of, whole_of, Clamps, followed, raised, lowered, rational_of}
+use Rattle.kdl_query.specs.DecimalParts.{cut_at, natural_of, whole_of, followed, raised, lowered, rational_of}
 use Rattle.kdl_query.specs.declared.decimal.Decimal.{Decimal}
+use Rattle.kdl_query.specs.declared.decimal.Whole.{Whole}
 use Rattle.kdl_query.proofs.Exact.Digits.{ten_pos, ten_rises}
 
 pub less : (a b : ℤ) → a <ℤ b → int_cmp a b ≡ Less
@@ -135,11 +137,29 @@ signed_times false m k = refl
 signed_times true zero k = ap pos (zero-mul k) ∙ sym (ap (λ z. neg_ℤ (pos z)) (zero-mul k))
 signed_times true (suc m) k = refl
 
--- the sign of a clamped difference is the order
-pub by_sign : (r x y : ℤ) → Clamps (2 ^ 100) r (x -ℤ y) → int_cmp r (pos 0) ≡ int_cmp x y
-by_sign r x y (inl h) = same_order r (pos 0) x y (λ k. omega (arith, ints)) (λ k. omega (arith, ints)) (λ k. omega (arith, ints))
-by_sign r x y (inr (inl h)) = let (g, k) = h in same_order r (pos 0) x y (λ l. absurd (omega (arith, ints))) (λ l. absurd (omega (arith, ints))) (λ l. omega (arith, ints))
-by_sign r x y (inr (inr h)) = let (g, k) = h in same_order r (pos 0) x y (λ l. omega (arith, ints)) (λ l. absurd (omega (arith, ints))) (λ l. absurd (omega (arith, ints)))
+-- ---- the first place where two numbers differ
+
+div_less : (m n k : ℕ) → 0 < k → m / k < n / k → m < n
+div_less m n k p h = elim (cases_lt m n) [
+  | inl e ↦ e
+  | inr e ↦ let low = div-mul-le_self n k in let under : n / k ≤ m / k = le-div (n / k) m k p (omega arith) in absurd (omega arith)
+]
+
+cut_order : (s t : Bool) (m n k : ℕ) → 0 < k → signed s (m / k) <ℤ signed t (n / k) → signed s m <ℤ signed t n
+cut_order false false m n k p h = let l : m < n = div_less m n k p (omega (arith, ints)) in omega (arith, ints)
+cut_order false true m n k p h = absurd (omega (arith, ints))
+cut_order true false m n k p h = let l : m / k ≤ m = div-le_self m k in let r : n / k ≤ n = div-le_self n k in omega (arith, ints)
+cut_order true true m n k p h = let l : n < m = div_less n m k p (omega (arith, ints)) in omega (arith, ints)
+
+-- numbers whose digits are the same before a place have the order of the digits there, if these differ
+pub settled : (a b : Whole) (place next : ℕ) (r s x y : ℤ) → x ≡ r → y ≡ s → next ≡ place + 1 → cut_at a next ≡ cut_at b next → cut_at a place ≡ (cut_at a (place + 1) *ℤ pos 10) +ℤ r → cut_at b place ≡ (cut_at b (place + 1) *ℤ pos 10) +ℤ s
+    → is_ne (int_cmp x y) ≡ true → int_cmp x y ≡ int_cmp (whole_of a) (whole_of b)
+settled a b place next r s x y er es at same ea eb differ =
+    let alike : cut_at a (place + 1) ≡ cut_at b (place + 1) = rw (at) at same in
+    same_order x y (whole_of a) (whole_of b)
+    (λ l. cut_order a.negative b.negative (natural_of a.digits * 10 ^ a.zeros) (natural_of b.digits * 10 ^ b.zeros) (10 ^ place) (ten_pos place) (omega (arith, ints)))
+    (λ e. let clash : false ≡ true = sym (ap is_ne (equal x y e)) ∙ differ in absurd (cc))
+    (λ g. cut_order b.negative a.negative (natural_of b.digits * 10 ^ b.zeros) (natural_of a.digits * 10 ^ a.zeros) (10 ^ place) (ten_pos place) (omega (arith, ints)))
 
 raised_by : (s : Bool) (m x y : ℕ) → signed s (m * 10 ^ x) *ℤ pos (10 ^ y) ≡ signed s (m * 10 ^ (x + y))
 raised_by s m x y = signed_times s (m * 10 ^ x) (10 ^ y) ∙ ap (signed s) (mul_assoc m (10 ^ x) (10 ^ y) ∙ ap (λ z. m * z) (sym (pow-add 10 x y)))

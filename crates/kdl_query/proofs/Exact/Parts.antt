@@ -99,7 +99,7 @@ next_difference a b place q r s x y d same at ea eb h ed =
     let apart : (p t : ℤ) → (((p -ℤ t) *ℤ pos 10) +ℤ d) ≡ ((p *ℤ pos 10) +ℤ x) -ℤ ((t *ℤ pos 10) +ℤ y) = λ p t. omega (arith, ints) in
     rw (ea, eb) (subst (λ (z : ℤ). Clamps (2 ^ 100) s z) (apart u v) told)
 
-cut_whole : (w : Whole) (place : ℕ) → place ≤ 0 → cut_at w place ≡ whole_of w
+pub cut_whole : (w : Whole) (place : ℕ) → place ≤ 0 → cut_at w place ≡ whole_of w
 cut_whole w place h =
     let e : place ≡ 0 = omega arith in
     ap (λ i. cut_at w i) e ∙ ap (signed w.negative) (div-one (natural_of w.digits * 10 ^ w.zeros))
