@@ -1,5 +1,5 @@
-use Rattle.std.proofs.Common.{arith, IfSome, IsNone, IsSomeAnd, ◌≡◌, ℕ, [], ◌∷◌, Some, codes, subst}
-use Rattle.lsp.specs.Messages.{TellsIn, method_of, params_of}
+use Rattle.std.proofs.Common.{arith, IfSome, IsSomeAnd, ◌≡◌, ℕ, [], ◌∷◌, Some, codes, refl, subst}
+use Rattle.lsp.specs.Messages.{IsIgnored, TellsIn, method_of, params_of}
 use Rattle.lsp_documents.specs.Notes.{uri_of}
 use Rattle.lsp.proofs.Texts.{braces_are_object, empty_is_none, empty_tells_nothing, exit_is_object, naming_is_object}
 use Rattle.lsp.proofs.laws.messages_are_not_so.Goals as goal
@@ -17,7 +17,7 @@ pub returns-clause-names : goal.returns-clause-names
 returns-clause-names c uri names = let h = subst (λ o. IsSomeAnd o (λ j. uri_of (params_of j) ≡ Some uri)) braces_are_object names in absurd (cc (h))
 
 pub returns-clause-exit : goal.returns-clause-exit
-returns-clause-exit c none = let h = subst (λ o. IfSome o (λ j. IsNone (method_of j))) exit_is_object none in absurd (cc (h))
+returns-clause-exit c quiet = let h : IsIgnored (codes "exit") = subst (λ o. IfSome o (λ j. IfSome (method_of j) IsIgnored)) exit_is_object quiet in h.0 refl
 
 pub returns-clause-other : goal.returns-clause-other
 returns-clause-other c names =
