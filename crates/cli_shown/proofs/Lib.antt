@@ -4,3 +4,5 @@ pub mod Quoting
 pub mod Texts
 -- The steps of a PATH.
 pub mod Steps
+-- The blocks that a path goes through.
+pub mod Blocks

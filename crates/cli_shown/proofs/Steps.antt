@@ -1,18 +1,17 @@
 -- The steps of a PATH.
-use Rattle.std.proofs.Common.{◌≡◌, ◌∙◌, ◌≤◌, ℕ, zero, suc, Bool, true, false, List, [], ◌∷◌, ◌++◌, Some, ap, append_assoc, arith, length, map, option_map, refl, Result, slice_get, string_bytes, take}
+use Rattle.std.proofs.Common.{◌≡◌, ◌∙◌, ◌≤◌, ℕ, zero, suc, Bool, true, false, List, [], ◌∷◌, ◌++◌, Some, ap, append_assoc, arith, length, map, option_map, refl, slice_get, string_bytes, take}
 use Rattle.std.proofs.lemmas.Option.{slice_get-map}
-use Rattle.std.proofs.lemmas.Result.{on_ok_weaker}
 use Rattle.std.proofs.lemmas.Str.{IsUtf8-string_bytes}
 use Rattle.std.specs.List.{filter}
-use Rattle.std.specs.Prelude.{OnOk, cond}
+use Rattle.std.specs.Prelude.{cond}
 use Rattle.std.specs.Str.{IsUtf8, chars}
 use Rattle.kdl.proofs.Finding.SaidLookups.{name_said, same_chars}
 use Rattle.kdl.specs.Said.{is_called}
-use Rattle.kdl.specs.Words.{NodeData, is_node_named, node_says, said_child_nodes, said_name}
+use Rattle.kdl.specs.Words.{NodeData, is_node_named, node_says, said_child_nodes}
 use Rattle.kdl.specs.declared.node.KdlNode.{KdlNode, out-KdlNode}
 use Rattle.kdl_parts.specs.EntryLists.{same_text}
 use Rattle.kdl_query.specs.Selects.{Path}
-use Rattle.cli_shown.specs.Names.{index_bytes, name_bytes, named_before, path_bytes, separator, step_bytes}
+use Rattle.cli_shown.specs.Names.{named_before, path_bytes, separator, step_bytes}
 
 -- a name in memory and in the data
 named_as_called : (s : List ℕ) → IsUtf8 s → (n : KdlNode) → is_node_named s n ≡ is_called (chars s) (node_says n)
@@ -28,7 +27,7 @@ filter_count {A = A} f p q h (x ∷ xs) = go (p x) (q (f x)) (h x) (filter_count
     go true false e i = cc
     go false true e i = cc
 
-map_take : {A B : Type 0} (f : A → B) (i : ℕ) (xs : List A) → map f (take i xs) ≡ take i (map f xs)
+pub map_take : {A B : Type 0} (f : A → B) (i : ℕ) (xs : List A) → map f (take i xs) ≡ take i (map f xs)
 map_take f zero xs = refl
 map_take f (suc i) [] = refl
 map_take f (suc i) (x ∷ xs) = ap (λ l. f x ∷ l) (map_take f i xs)
@@ -49,15 +48,6 @@ pub take_short : {A : Type 0} (i : ℕ) (xs : List A) → length (take i xs) ≤
 take_short zero xs = omega arith
 take_short (suc i) [] = omega arith
 take_short (suc i) (x ∷ xs) = let h = take_short i xs in omega (arith, h)
-
--- a step after the name
-pub step_pushed : {E : Type 0} (r : Result (Unit {0}) E) (i : ℕ) (ns before : List KdlNode) (n : KdlNode) (old mid new value : List ℕ) (count : ℕ) → IsUtf8 value → chars value ≡ said_name (node_says n) → mid ≡ old ++ name_bytes (chars value)
-    → before ≡ take i ns → count ≡ length (filter (is_node_named value) before) → OnOk r (new ≡ mid ++ index_bytes count) → OnOk r (new ≡ old ++ step_bytes i (map node_says ns) (node_says n))
-step_pushed r i ns before n old mid new value count u is named taken counts e =
-    let k : count ≡ named_before i (said_name (node_says n)) (map node_says ns) =
-    counts ∙ ap (λ (l : List KdlNode). length (filter (is_node_named value) l)) taken ∙ counted value u i ns ∙ ap (λ (t : List ℕ). named_before i t (map node_says ns)) is in
-    on_ok_weaker r (λ h. h ∙ ap (λ (m : List ℕ). m ++ index_bytes count) named ∙ append_assoc old (name_bytes (chars value)) (index_bytes count)
-    ∙ ap (λ (t : List ℕ). old ++ (name_bytes t ++ index_bytes count)) is ∙ ap (λ (m : ℕ). old ++ (name_bytes (said_name (node_says n)) ++ index_bytes m)) k) e
 
 -- one step, and the rest of the path in the block of its node
 pub stepped : (i : ℕ) (p : Path) (ns kids : List KdlNode) (n : KdlNode) (old step sep : List ℕ) → slice_get ns i ≡ Some n → map node_says kids ≡ said_child_nodes (node_says n)

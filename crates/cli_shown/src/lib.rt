@@ -3,6 +3,7 @@
 
 mod names;
 mod nodes;
+mod trail;
 mod values;
 
 pub use nodes::{View, shown};

@@ -1,48 +1,58 @@
 //! The PATH of a node.
 
-ghost use Rattle.cli_shown.specs.Names.{begins_with_at, index_bytes, name_bytes, path_bytes, separator, step_bytes};
-ghost use Rattle.kdl.specs.Words.{document_says, is_node_named, node_says, said_child_nodes, said_nodes};
-ghost use Rattle.std.specs.List.{filter};
-ghost use Rattle.std.specs.Prelude.{◌≡◌, ◌∷◌, ◌++◌, [], if◌then◌else◌, OnOk, chars, length, map, option_map, slice_get, string_bytes, take};
+ghost use Rattle.cli_shown.specs.Names.{begins_with_at, index_bytes, name_bytes, path_bytes, separator};
+ghost use Rattle.cli_shown.specs.Internal.Trail.{IsTrail};
+ghost use Rattle.kdl.specs.Words.{document_says, node_says, said_child_nodes, said_name, said_nodes};
+ghost use Rattle.std.specs.Prelude.{◌≡◌, ◌∷◌, ◌++◌, [], if◌then◌else◌, OnOk, chars, map, option_map, slice_get, string_bytes};
 
+use crate::trail::Trail;
 use itoa::Buffer;
 use kdl::{KdlDocument, KdlIdentifier, KdlNode};
 use std::alloc::{AllocError, Global};
 
 /// Appends a line with the PATH of the node at a path.
-pub(crate) fn push_path(
+pub(crate) fn push_path<'a>(
     alloc: Global,
     out: &mut String,
     document: &KdlDocument,
-    path: &[usize],
+    trail: &mut Trail<'a>,
+    path: &'a [usize],
 ) -> Result<(), AllocError>
-    ensures { OnOk result (string_bytes out.new
-        ≡ string_bytes out.old ++ path_bytes path.now (said_nodes (document_says document.now)) ++ 10 ∷ []) }
+    requires { IsTrail trail.old (said_nodes (document_says document.now)) }
+    ensures line { OnOk result (string_bytes out.new
+        ≡ string_bytes out.old ++ path_bytes path.entry.now (said_nodes (document_says document.now)) ++ 10 ∷ []) }
+    ensures trail { OnOk result (IsTrail trail.new (said_nodes (document_says document.now))) }
 {
-    push_steps(alloc, out, document.nodes(), path)?;
+    trail.turn(path);
+    push_steps(alloc, out, document.nodes(), trail)?;
     out.push('\n')
 }
 
-/// Appends the PATH of the node at a path that begins among these nodes.
+/// Appends the PATH of the node at the path of a trail, which begins among these nodes.
 fn push_steps(
     alloc: Global,
     out: &mut String,
     nodes: &[KdlNode],
-    path: &[usize],
+    trail: &mut Trail<'_>,
 ) -> Result<(), AllocError>
-    ensures { OnOk result (string_bytes out.new
-        ≡ string_bytes out.old ++ path_bytes path.now (map node_says nodes.now)) }
+    requires { IsTrail trail.old (map node_says nodes.now) }
+    ensures path { OnOk result (string_bytes out.new
+        ≡ string_bytes out.old ++ path_bytes trail.old.path.now (map node_says nodes.now)) }
+    ensures trail { OnOk result (IsTrail trail.new (map node_says nodes.now)) }
 {
     let mut nodes = nodes;
-    let mut rest = path;
+    let mut rest = trail.path;
+    let mut depth = 0usize;
     while let Some((index, below)) = rest.split_first() {
         let Some(node) = nth(nodes, *index) else {
             return Ok(());
         };
-        push_step(alloc, out, nodes, *index, node)?;
+        trail.reach(alloc, depth, nodes)?;
+        push_step(alloc, out, node, trail.rank(depth, *index))?;
         push_separator(out, below)?;
         nodes = inside(node);
         rest = below;
+        depth += 1;
     }
     Ok(())
 }
@@ -75,50 +85,13 @@ fn push_separator(out: &mut String, path: &[usize]) -> Result<(), AllocError>
     }
 }
 
-/// Appends the step to the node at an index: its name, and its index among the nodes of that name.
-fn push_step(
-    alloc: Global,
-    out: &mut String,
-    nodes: &[KdlNode],
-    index: usize,
-    node: &KdlNode,
-) -> Result<(), AllocError>
+/// Appends the step to a node: its name, and its rank.
+fn push_step(alloc: Global, out: &mut String, node: &KdlNode, rank: usize) -> Result<(), AllocError>
     ensures { OnOk result (string_bytes out.new
-        ≡ string_bytes out.old ++ step_bytes index (map node_says nodes.now) (node_says node.now)) }
+        ≡ string_bytes out.old ++ name_bytes (said_name (node_says node.now)) ++ index_bytes rank) }
 {
-    let name = node.name().value();
-    push_name(alloc, out, name)?;
-    push_index(out, count_named(before(nodes, index), name))
-}
-
-/// Returns the nodes before an index.
-fn before(nodes: &[KdlNode], index: usize) -> &[KdlNode]
-    ensures { result.now ≡ take index nodes.now }
-{
-    match nodes.split_at_checked(index) {
-        Some((before, _)) => before,
-        None => nodes,
-    }
-}
-
-/// Returns how many of the nodes have that name.
-fn count_named(nodes: &[KdlNode], name: &str) -> usize
-    ensures { result ≡ length (filter (is_node_named name.now) nodes.now) }
-{
-    let mut count: usize = 0;
-    for node in nodes {
-        if is_named(node, name) {
-            count += 1;
-        }
-    }
-    count
-}
-
-/// Whether the node has that name.
-fn is_named(node: &KdlNode, name: &str) -> bool
-    ensures { result ≡ is_node_named name.now node.now }
-{
-    node.name().value() == name
+    push_name(alloc, out, node.name().value())?;
+    push_index(out, rank)
 }
 
 /// Appends an index between brackets, or nothing for 0.

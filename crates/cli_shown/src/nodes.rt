@@ -1,14 +1,16 @@
 //! The nodes at paths of a document, as a view shows them.
 
 ghost use Rattle.cli_shown.specs.Nodes.{ended, ends_line, node_text, shown, shown_at};
+ghost use Rattle.cli_shown.specs.Internal.Trail.{IsTrail};
 ghost use Rattle.cli_shown.specs.Values.{line_of};
-ghost use Rattle.kdl.specs.Words.{node_prints, node_says, node_tree, said_argument};
+ghost use Rattle.kdl.specs.Words.{document_says, node_prints, node_says, node_tree, said_argument, said_nodes};
 ghost use Rattle.kdl_json.specs.Form.{node_json_text};
 ghost use Rattle.std.specs.List.{flat_map};
 ghost use Rattle.std.specs.Option.{option_map_or};
 ghost use Rattle.std.specs.Prelude.{◌≡◌, ◌∷◌, ◌++◌, [], IfOk, OnOk, decimal, encode_utf8_all, map, string_bytes, true};
 
 use crate::names::push_path;
+use crate::trail::Trail;
 use crate::values::push_value;
 use itoa::Buffer;
 use kdl::{KdlDocument, KdlNode, NodeKey};
@@ -68,22 +70,26 @@ fn lines(
         ≡ flat_map (shown_at view document.now) (map (λ p. p.items) paths.now)) }
 {
     let mut out = String::new(alloc);
+    let mut trail = Trail::new(alloc);
     for path in paths {
-        push_lines(alloc, &mut out, document, path, view)?;
+        push_lines(alloc, &mut out, document, &mut trail, path, view)?;
     }
     Ok(out)
 }
 
 /// Appends what a view shows of the node at a path, if there is one.
-fn push_lines(
+fn push_lines<'a>(
     alloc: Global,
     out: &mut String,
     document: &KdlDocument,
-    path: &[usize],
+    trail: &mut Trail<'a>,
+    path: &'a [usize],
     view: View,
 ) -> Result<(), AllocError>
-    ensures { OnOk result (string_bytes out.new
-        ≡ string_bytes out.old ++ shown_at view document.now path.now) }
+    requires { IsTrail trail.old (said_nodes (document_says document.now)) }
+    ensures shown { OnOk result (string_bytes out.new
+        ≡ string_bytes out.old ++ shown_at view document.now path.entry.now) }
+    ensures trail { OnOk result (IsTrail trail.new (said_nodes (document_says document.now))) }
 {
     let Some(node) = node_at(document, path) else {
         return Ok(());
@@ -93,7 +99,7 @@ fn push_lines(
         View::Raw => push_argument(alloc, out, node),
         View::Json => push_json(alloc, out, node),
         View::Count => Ok(()),
-        View::Paths => push_path(alloc, out, document, path),
+        View::Paths => push_path(alloc, out, document, trail, path),
     }
 }
 

@@ -1,13 +1,27 @@
-use Rattle.std.proofs.Common.{◌++◌, ◌∙◌, List, ap, map, string_bytes, sym, ℕ}
-use Rattle.kdl.specs.Words.{node_says}
-use Rattle.cli_shown.specs.Names.{path_bytes}
-use Rattle.cli_shown.proofs.Steps.{stepped}
+use Rattle.std.proofs.Common.{◌++◌, ◌∷◌, ◌∙◌, List, ap, map, string_bytes, subst, sym, ℕ}
+use Rattle.kdl.specs.Words.{node_says, said_name}
+use Rattle.cli_shown.specs.Names.{index_bytes, name_bytes, path_bytes}
+use Rattle.cli_shown.specs.Internal.Trail.{IsAt, trail_ranks}
+use Rattle.cli_shown.proofs.Blocks.{moved}
 use Rattle.cli_shown.proofs.names.push_steps.Goals as goal
 
 pub loop-index-preserved : goal.loop-index-preserved
 loop-index-preserved c =
     let l = c.loop-index in
-    stepped c.in-Some.index.now c.in-Some.below.now l.nodes.now c.inside-nodes.result.now c.in-Some-nth.node.now (string_bytes l.out) (string_bytes c.push_step.new.out) (string_bytes c.push_separator.new.out)
-    (sym c.in-Some-nth.ensures) c.inside-nodes.ensures c.in_ok-push_step.ensures c.in_ok-push_separator.ensures
-    ∙ ap (λ (p : List ℕ). string_bytes l.out ++ path_bytes p (map node_says l.nodes.now)) (sym c.in-Some.ensures.cases.0)
-    ∙ l.invariant
+    let i = c.in-Some.index.now in
+    let p = c.in-Some.below.now in
+    let whole = c.args.trail.now.path.now in
+    let top = map node_says c.args.nodes.now in
+    let xs = map node_says l.nodes.now in
+    let split = c.in-Some.ensures.cases.0 in
+    let before : IsAt (trail_ranks l.trail) l.depth (i ∷ p) xs whole top = subst (λ (q : List ℕ). IsAt (trail_ranks l.trail) l.depth q xs whole top) split l.invariant.at in
+    let at = c.in_ok-reach.ensures.at i p whole top before in
+    let within = before.0 in
+    let reached = c.in_ok-reach.ensures.known within in
+    let more = moved (trail_ranks c.reach.new.self) l.depth i p whole l.nodes.now c.inside-nodes.result.now top c.in-Some-nth.node.now (string_bytes l.out) (string_bytes c.push_step.new.out) (string_bytes c.push_separator.new.out)
+    at reached (sym c.in-Some-nth.ensures) c.inside-nodes.ensures (c.in_ok-push_step.ensures ∙ ap (λ (k : ℕ). string_bytes l.out ++ name_bytes (said_name (node_says c.in-Some-nth.node.now)) ++ index_bytes k) c.rank.ensures) c.in_ok-push_separator.ensures in
+    record {
+      text = more.0 ∙ ap (λ (q : List ℕ). string_bytes l.out ++ path_bytes q xs) (sym split) ∙ l.invariant.text;
+      path = c.in_ok-reach.ensures.path ∙ l.invariant.path;
+      at = more.1;
+    }

@@ -1,11 +1,16 @@
 use Rattle.std.proofs.Common.{◌≡◌, ◌++◌, length, map, string_bytes}
 use Rattle.kdl.specs.Words.{node_says}
 use Rattle.cli_shown.specs.Names.{path_bytes}
+use Rattle.cli_shown.specs.Internal.Trail.{IsAt, trail_ranks}
 use Rattle.cli_shown.proofs.names.push_steps.Given as goal
 
 -- the steps so far, and those of the rest, are all
 abbrev pub invariant-loop-index : goal.invariant-loop-index
-invariant-loop-index l = string_bytes l.out ++ path_bytes l.rest (map node_says l.nodes) ≡ string_bytes l.fn.out ++ path_bytes l.path (map node_says l.fn.nodes)
+invariant-loop-index l = record {
+  text : string_bytes l.out ++ path_bytes l.rest (map node_says l.nodes) ≡ string_bytes l.fn.out ++ path_bytes l.fn.trail.path.now (map node_says l.fn.nodes);
+  path : l.trail.path ≡ l.fn.trail.path;
+  at : IsAt (trail_ranks l.trail) l.depth l.rest (map node_says l.nodes) l.fn.trail.path.now (map node_says l.fn.nodes);
+}
 
 abbrev pub decreases-loop-index : goal.decreases-loop-index
 decreases-loop-index l = length l.rest

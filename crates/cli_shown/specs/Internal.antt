@@ -1,0 +1,2 @@
+-- The blocks that a path goes through.
+pub mod Trail

@@ -1,0 +1,33 @@
+-- The blocks that a path goes through.
+use Rattle.std.specs.Option.{option_map_or}
+use Rattle.std.specs.Prelude.{◌≡◌, ◌≤◌, ℕ, List, [], ◌∷◌, ◌++◌, Some, drop, length, map, slice_get, take}
+use Rattle.kdl.specs.Words.{NodeData, said_child_nodes, said_name}
+use Rattle.kdl_query.specs.Selects.{Path}
+use Rattle.cli_shown.specs.Names.{named_before}
+use Rattle.cli_shown.specs.declared.trail.Trail.{Trail}
+
+-- the numbers say of each node of a block how many of its name are before it
+abbrev pub AreRanks : List ℕ → List NodeData → Type 0
+AreRanks rs xs = (i : ℕ) (n : NodeData) → slice_get xs i ≡ Some n → slice_get rs i ≡ Some (named_before i (said_name n) xs)
+
+-- the nodes in the block of the node at an index
+abbrev pub inside_at : ℕ → List NodeData → List NodeData
+inside_at i xs = option_map_or said_child_nodes (slice_get xs i) []
+
+-- these are the ranks in the first blocks that a path goes through
+abbrev pub AreRanksAlong : List (List ℕ) → Path → List NodeData → Type 0
+AreRanksAlong [] p xs = Unit {0}
+AreRanksAlong (r ∷ rs) [] xs = AreRanks r xs × (rs ≡ [])
+AreRanksAlong (r ∷ rs) (i ∷ p) xs = AreRanks r xs × AreRanksAlong rs p (inside_at i xs)
+
+-- these nodes are at a depth of a path that goes on so, and the first of the ranks are those of the blocks on the way there
+abbrev pub IsAt : List (List ℕ) → ℕ → Path → List NodeData → Path → List NodeData → Type 0
+IsAt rs d p xs whole top = (d ≤ length rs) × AreRanksAlong (drop d rs) p xs × ((below : List (List ℕ)) → AreRanksAlong below p xs → AreRanksAlong (take d rs ++ below) whole top)
+
+-- the ranks in the blocks of a trail
+abbrev pub trail_ranks : Trail → List (List ℕ)
+trail_ranks t = map (λ b. b.items) t.blocks.items
+
+-- a trail has the ranks along its path, in a document of these nodes
+abbrev pub IsTrail : Trail → List NodeData → Type 0
+IsTrail t xs = AreRanksAlong (trail_ranks t) t.path.now xs
