@@ -4,5 +4,5 @@ pub mod Values
 pub mod Names
 -- Nodes, as a view shows them.
 pub mod Nodes
--- What the code keeps beside.
+-- What the code keeps between two nodes.
 pub mod Internal

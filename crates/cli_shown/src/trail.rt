@@ -2,7 +2,7 @@
 
 ghost use Rattle.kdl.specs.Words.{NodeData, node_says};
 ghost use Rattle.std.specs.Prelude.{◌≡◌, ◌<◌, ◌≤◌, ℕ, List, [], ◌∷◌, IfOk, OnOk, get_or, length, map, take};
-ghost use Rattle.cli_shown.specs.Internal.Trail.{AreRanks, IsAt, IsTrail, trail_ranks};
+ghost use Rattle.cli_shown.specs.Internal.Trail.{AreRanks, AreRanksAlong, IsAt, IsTrail, trail_ranks};
 ghost use Rattle.kdl_query.specs.Selects.{Path};
 
 use kdl::KdlNode;
@@ -70,6 +70,8 @@ impl<'a> Trail<'a> {
 /// How many steps two paths begin with alike.
 fn shared(path: &[usize], other: &[usize]) -> usize
     ensures same { take result path.now ≡ take result other.now }
+    ensures differ { result < length path.now → result < length other.now
+        → get_or path.now result 0 ≡ get_or other.now result 0 → ⊥ }
     ensures first { result ≤ length path.now }
     ensures second { result ≤ length other.now }
 {
@@ -94,3 +96,13 @@ pub(crate) fn ranks(alloc: Global, nodes: &[KdlNode]) -> Result<Vec<usize>, Allo
     }
     Ok(ranks)
 }
+
+/// What ranks are not: the first node of a block has rank 0, a path without steps goes through one block, and no depth is
+/// below the ranks that are known.
+pub(crate) fn ranks_are_not_so()
+    ensures first { (n : NodeData) → AreRanks (1 ∷ []) (n ∷ []) → ⊥ }
+    ensures missing { (n : NodeData) → AreRanks [] (n ∷ []) → ⊥ }
+    ensures along { (p : Path) (n : NodeData) → AreRanksAlong ((1 ∷ []) ∷ []) p (n ∷ []) → ⊥ }
+    ensures longer { (xs : List NodeData) → AreRanksAlong ([] ∷ [] ∷ []) [] xs → ⊥ }
+    ensures deeper { (p whole : Path) (xs top : List NodeData) → IsAt [] 1 p xs whole top → ⊥ }
+{}

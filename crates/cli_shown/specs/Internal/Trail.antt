@@ -20,7 +20,7 @@ AreRanksAlong [] p xs = Unit {0}
 AreRanksAlong (r ∷ rs) [] xs = AreRanks r xs × (rs ≡ [])
 AreRanksAlong (r ∷ rs) (i ∷ p) xs = AreRanks r xs × AreRanksAlong rs p (inside_at i xs)
 
--- these nodes are at a depth of a path that goes on so, and the first of the ranks are those of the blocks on the way there
+-- a whole path from the top has reached these nodes at a depth, and the rest of it is p; the ranks are those of the blocks along it
 abbrev pub IsAt : List (List ℕ) → ℕ → Path → List NodeData → Path → List NodeData → Type 0
 IsAt rs d p xs whole top = (d ≤ length rs) × AreRanksAlong (drop d rs) p xs × ((below : List (List ℕ)) → AreRanksAlong below p xs → AreRanksAlong (take d rs ++ below) whole top)
 
