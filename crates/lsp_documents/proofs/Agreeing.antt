@@ -4,8 +4,6 @@ use Rattle.std.specs.BTreeMap.{get_by_text}
 use Rattle.std.specs.List.{list_any}
 use Rattle.std.specs.Str.{bytes_eq}
 use Rattle.std.proofs.lemmas.Slice.Eq.{bytes_eq-Decides}
-use Rattle.lsp_documents.specs.declared.notify.Outcome.{Outcome}
-use Rattle.lsp_documents.specs.declared.notify.Outcome.TheVariants.{Nothing}
 use Rattle.lsp_documents.specs.declared.state.Document.{Document}
 use Rattle.lsp_documents.specs.declared.state.State.{State}
 use Rattle.json.specs.Json.{Json}
@@ -92,15 +90,15 @@ open_untold method params is none = go (uri_of params) (text_of params) refl ref
     go (Some u) (Some t) uri text = absurd (none (Opened u (chars t)) (is, uri, ap (option_map chars) text))
 
 -- a text is known after it is opened
-pub open_taken : (method : List ℕ) (params : Json) (old new : State) (said : Outcome) (note : Note) → method ≡ codes "textDocument/didOpen" → Tells method params note
-    → ((uri : List ℕ) → uri_of params ≡ Some uri → IsSome (text_of params) → said ≡ Nothing → IsKnown new uri) → IsTaken old new said note
-open_taken method params old new said (Opened uri text) is tells known = known uri tells.1 (go (text_of params) tells.2)
+pub open_taken : (method : List ℕ) (params : Json) (old new : State) (says : Type 0) (note : Note) → method ≡ codes "textDocument/didOpen" → Tells method params note
+    → ((uri : List ℕ) → uri_of params ≡ Some uri → IsSome (text_of params) → (says → ⊥) → IsKnown new uri) → IsTaken old new says note
+open_taken method params old new says (Opened uri text) is tells known = known uri tells.1 (go (text_of params) tells.2)
   where
     go : (t : Option (List ℕ)) → option_map chars t ≡ Some text → IsSome t
     go None mapped = absurd (cc)
     go (Some t) mapped = refl
-open_taken method params old new said (Changed uri changes) is tells known = let lengths : 20 ≡ 22 = ap length (sym is ∙ tells.0) in absurd (omega (arith, lengths))
-open_taken method params old new said (Closed uri) is tells known = let lengths : 20 ≡ 21 = ap length (sym is ∙ tells.0) in absurd (omega (arith, lengths))
+open_taken method params old new says (Changed uri changes) is tells known = let lengths : 20 ≡ 22 = ap length (sym is ∙ tells.0) in absurd (omega (arith, lengths))
+open_taken method params old new says (Closed uri) is tells known = let lengths : 20 ≡ 21 = ap length (sym is ∙ tells.0) in absurd (omega (arith, lengths))
 
 -- there is one URI
 pub one_uri : (found : Option (Bor (List ℕ))) (u : Bor (List ℕ)) (params : Json) (uri : List ℕ) → option_map (λ s. s.now) found ≡ uri_of params → found ≡ Some u → uri_of params ≡ Some uri → u.now ≡ uri

@@ -15,12 +15,17 @@ UnnamedStay old new params = (uri : List ℕ) → uri_of params ≢ Some uri →
 abbrev pub StaysOpen : State → State → List ℕ → Type 0
 StaysOpen old new uri = MatchOption (document_at old uri) (IsNone (document_at new uri)) (λ _. IsSome (document_at new uri))
 
--- a document that is opened, and an open one that changes, is open and its text is known, if there is nothing to say; one
--- that is closed is not open
-abbrev pub IsTaken : State → State → Outcome → Note → Type 0
-IsTaken old new said (Opened uri text) = said ≡ outcome.Nothing → IsKnown new uri
-IsTaken old new said (Changed uri changes) = said ≡ outcome.Nothing → IsSome (document_at old uri) → IsKnown new uri
-IsTaken old new said (Closed uri) = IsNone (document_at new uri)
+-- a server says that a text is not known
+abbrev pub SaysUnknown : Outcome → Type 0
+SaysUnknown (outcome.Unknown uri) = Unit {0}
+SaysUnknown _ = ⊥
+
+-- a document that is opened, and an open one that changes, is open and its text is known, unless a server says that it is
+-- not; one that is closed is not open
+abbrev pub IsTaken : State → State → Type 0 → Note → Type 0
+IsTaken old new says (Opened uri text) = (says → ⊥) → IsKnown new uri
+IsTaken old new says (Changed uri changes) = (says → ⊥) → IsSome (document_at old uri) → IsKnown new uri
+IsTaken old new says (Closed uri) = IsNone (document_at new uri)
 
 -- what a server has to say is so: the text of the document that parameters name is not known, or it is not open
 abbrev pub IsSo : Outcome → Json → State → Type 0

@@ -51,6 +51,11 @@ pub record ChangesOnly (old new : State) (uri : List ℕ) : Type 0 where
 abbrev pub SessionStays : State → State → Type 0
 SessionStays old new = (new.phase ≡ old.phase) × (new.client ≡ old.client)
 
+-- the session is over
+abbrev pub is_over : Phase → Bool
+is_over (Over b) = true
+is_over _ = false
+
 -- `shutdown` came, and `exit` did not yet
 abbrev pub is_down : Phase → Bool
 is_down New = false

@@ -2,7 +2,7 @@
 
 ghost use Rattle.json.specs.Json.{Json, null, number, string, array, object, Items, no_items, item, no_members, member};
 ghost use Rattle.lsp_documents.specs.Notes.{Agrees, AreChanges, Changed, Closed, IsRangeIf, Note, Opened, Tells, Texts};
-ghost use Rattle.lsp_documents.specs.Outcomes.{IsSo, IsTaken, StaysOpen, UnnamedStay};
+ghost use Rattle.lsp_documents.specs.Outcomes.{IsSo, IsTaken, SaysUnknown, StaysOpen, UnnamedStay};
 ghost use Rattle.lsp_documents.specs.States.{IsKnown, document_at};
 ghost use Rattle.lsp_documents.specs.declared.notify.Outcome.{Outcome};
 ghost use Rattle.lsp_documents.specs.declared.notify.Outcome.TheVariants as outcome;
@@ -49,15 +49,15 @@ pub fn states_are_not_so()
 /// closed, or anything of a document that the parameters do not name.
 pub fn outcomes_are_not_so()
     ensures opened { (old new : State) (uri : List ℕ) (text : Text) → IsNone (document_at new uri)
-        → IsTaken old new outcome.Nothing (Opened uri text) → ⊥ }
+        → IsTaken old new (SaysUnknown outcome.Nothing) (Opened uri text) → ⊥ }
     ensures changed { (old new : State) (uri : List ℕ) (changes : List (Option Range × Text)) → IsSome (document_at old uri)
-        → IsNone (document_at new uri) → IsTaken old new outcome.Nothing (Changed uri changes) → ⊥ }
+        → IsNone (document_at new uri) → IsTaken old new (SaysUnknown outcome.Nothing) (Changed uri changes) → ⊥ }
     ensures stays { (old new : State) (uri : List ℕ) → IsSome (document_at old uri) → IsNone (document_at new uri)
         → StaysOpen old new uri → ⊥ }
     ensures opens { (old new : State) (uri : List ℕ) → IsNone (document_at old uri) → IsSome (document_at new uri)
         → StaysOpen old new uri → ⊥ }
     ensures closed { (old new : State) (said : Outcome) (uri : List ℕ) → IsSome (document_at new uri)
-        → IsTaken old new said (Closed uri) → ⊥ }
+        → IsTaken old new (SaysUnknown said) (Closed uri) → ⊥ }
     ensures unnamed { (old new : State) (uri : List ℕ) → IsSome (document_at old uri) → IsNone (document_at new uri)
         → UnnamedStay old new null → ⊥ }
     ensures unknown { (s : State) (uri : Bor (List ℕ)) (params : Json) → IsKnown s uri.now → IsSo (outcome.Unknown uri) params s → ⊥ }

@@ -2,7 +2,7 @@
 
 ghost use Rattle.json.specs.Value.{value_view};
 ghost use Rattle.lsp_documents.specs.Notes.{Agrees, Changed, HasChanges, Note, Tells, Texts, after, text_of, uri_of, with_text};
-ghost use Rattle.lsp_documents.specs.Outcomes.{IsSo, IsTaken, StaysOpen, UnnamedStay};
+ghost use Rattle.lsp_documents.specs.Outcomes.{IsSo, IsTaken, SaysUnknown, StaysOpen, UnnamedStay};
 ghost use Rattle.lsp_documents.specs.States.{IsKnown, OthersStay, SessionStays, document_at, is_down};
 ghost use Rattle.lsp_text.specs.Positions.{Text, all_changed, change_of};
 ghost use Rattle.lsp_text.specs.declared.position.Range.{Range};
@@ -41,7 +41,7 @@ impl State {
 
         // A notification changes the document that it names, and no other one.
         ensures taken { self.old.phase ≡ Phase.Running → (note : Note) → Tells method.now (value_view params.now) note
-            → IsTaken self.old self.new result note }
+            → IsTaken self.old self.new (SaysUnknown result) note }
         ensures stays { (uri : List ℕ) (changes : List (Option Range × Text)) → Tells method.now (value_view params.now) (Changed uri changes)
             → StaysOpen self.old self.new uri }
         ensures others { UnnamedStay self.old self.new (value_view params.now) }
@@ -73,7 +73,7 @@ impl State {
         ensures untold { (uri_of (value_view params.now) ≡ None) ⊎ (text_of (value_view params.now) ≡ None) → self.new ≡ self.old }
         ensures session { SessionStays self.old self.new }
         ensures known { (uri : List ℕ) → uri_of (value_view params.now) ≡ Some uri → IsSome (text_of (value_view params.now))
-            → result ≡ Outcome.Nothing → IsKnown self.new uri }
+            → (SaysUnknown result → ⊥) → IsKnown self.new uri }
         ensures others { UnnamedStay self.old self.new (value_view params.now) }
         ensures outcome { IsSo result (value_view params.now) self.new }
     {
@@ -113,7 +113,7 @@ impl State {
             → (texts : Texts) → Agrees self.old texts → Agrees self.new texts }
         ensures session { SessionStays self.old self.new }
         ensures stays { (uri : List ℕ) → uri_of (value_view params.now) ≡ Some uri → StaysOpen self.old self.new uri }
-        ensures known { (uri : List ℕ) → uri_of (value_view params.now) ≡ Some uri → result ≡ Outcome.Nothing
+        ensures known { (uri : List ℕ) → uri_of (value_view params.now) ≡ Some uri → (SaysUnknown result → ⊥)
             → IsSome (document_at self.old uri) → IsKnown self.new uri }
         ensures others { UnnamedStay self.old self.new (value_view params.now) }
         ensures outcome { IsSo result (value_view params.now) self.new }

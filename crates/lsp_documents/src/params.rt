@@ -1,10 +1,11 @@
 //! Members of the parameters of a message.
 
+ghost use Rattle.json.specs.Find.{get};
 ghost use Rattle.json.specs.Value.{items_view, value_view};
 ghost use Rattle.lsp_documents.specs.Notes as spec;
 ghost use Rattle.lsp_documents.specs.Notes.{AreChanges, HasChanges, IsChange, IsNumber, IsPosition, IsRange, text_of, uri_of};
 ghost use Rattle.lsp_text.specs.Positions.{Text, change_of};
-ghost use Rattle.std.specs.Prelude.{◌≡◌, ℕ, List, Option, Some, IfOk, IfSome, IsSome, chars, map, option_map};
+ghost use Rattle.std.specs.Prelude.{◌≡◌, ℕ, List, Option, Some, IfOk, IfSome, IsSome, IsSomeAnd, chars, codes, map, option_map};
 
 use json::Value;
 use lsp_text::{Change, Encoding, Position, Range};
@@ -83,7 +84,11 @@ pub fn position(value: &Value<'_>) -> Option<Position>
 }
 
 /// Returns the range of a request.
-pub fn range(params: &Value<'_>) -> Option<Range> {
+pub fn range(params: &Value<'_>) -> Option<Range>
+    ensures range { IfSome result (λ range. IsSomeAnd (get (codes "range") (value_view params.now)) (λ j. IsRange j range)) }
+    ensures each { (range : Range) → IsSomeAnd (get (codes "range") (value_view params.now)) (λ j. IsRange j range)
+        → result ≡ Some range }
+{
     range_of(params.get("range")?)
 }
 

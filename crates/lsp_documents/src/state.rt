@@ -90,7 +90,9 @@ impl State {
     }
 
     /// Returns whether the session is over.
-    pub fn is_over(&self) -> bool {
+    pub fn is_over(&self) -> bool
+        ensures { result ≡ spec.is_over self.now.phase }
+    {
         matches!(self.phase, Phase::Over { .. })
     }
 
