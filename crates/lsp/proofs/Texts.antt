@@ -28,3 +28,8 @@ exit_is_object = refl
 pub naming_is_object : document (codes "{\"params\":{\"textDocument\":{\"uri\":\"a\"}}}") ≡ Some (object (member (codes "params") (object (member (codes "textDocument") (object (member (codes "uri") (string (codes "a")) no_members)) no_members)) no_members))
 unfolding value items members lex punctuate content
 naming_is_object = refl
+
+-- a notification that a document is saved
+pub saving_is_object : document (codes "{\"method\":\"textDocument/didSave\"}") ≡ Some (object (member (codes "method") (string (codes "textDocument/didSave")) no_members))
+unfolding value items members lex punctuate content
+saving_is_object = refl

@@ -1,5 +1,5 @@
 -- Messages of a client.
-use Rattle.std.specs.Prelude.{◌≡◌, ◌≢◌, ℕ, List, Option, None, Some, IfSome, IsSomeAnd, codes, is_none, option_and_then, unwrap_or, if◌then◌else◌}
+use Rattle.std.specs.Prelude.{◌≡◌, ◌≢◌, ℕ, List, Option, None, Some, IfSome, IsSome, IsSomeAnd, codes, is_none, option_and_then, unwrap_or, if◌then◌else◌}
 use Rattle.json.specs.Find.{get, as_str}
 use Rattle.json.specs.Json.{Json, document, null}
 use Rattle.kdl_text.specs.declared.span.Severity.{Severity}
@@ -47,3 +47,10 @@ IsQuiet text = IfSome (document text) (λ j. IfSome (method_of j) IsIgnored)
 -- a text is a message that names the document of a URI
 abbrev pub Names : List ℕ → List ℕ → Type 0
 Names text uri = IsSomeAnd (document text) (λ j. uri_of (params_of j) ≡ Some uri)
+
+-- a message is a request with the identifier; a text is such a message
+abbrev pub AsksIn : Json → Json → Type 0
+AsksIn j id = (get (codes "id") j ≡ Some id) × IsSome (option_and_then as_str (get (codes "method") j))
+
+abbrev pub Asks : List ℕ → Json → Type 0
+Asks text id = IsSomeAnd (document text) (λ j. AsksIn j id)

@@ -2,7 +2,7 @@
 
 use crate::place::{place, range_of};
 use crate::scan::{Lexeme, Scanner, is_key, is_line_comment};
-use crate::write::{Out, Wrong, begin_reply, finish, put_edit, put_number, put_text, wrong_reply};
+use crate::write::{Out, Wrong, begin, end, put_edit, put_number, put_text};
 use json::Value;
 use kdl::KdlIdentifier;
 use kdl_syntax::{Event, Owner, Phase, Spot, Token, TokenKind};
@@ -53,16 +53,15 @@ struct Reader<'a> {
     is_lost: bool,
 }
 
-/// Returns the reply with the names and the keys that may come at the position of a request.
+/// Returns the names and the keys that may come at the position of a request.
 pub(crate) fn completion(
     alloc: Global,
-    id: &Value<'_>,
     params: &Value<'_>,
     text: &str,
     encoding: Encoding,
-) -> Result<String, AllocError> {
+) -> Result<String, Wrong> {
     let Some(offset) = place(params, text, encoding) else {
-        return wrong_reply(alloc, id, Wrong::Params);
+        return Err(Wrong::Params);
     };
     let (before, _) = text.split_at_checked(offset).unwrap_or((text, ""));
     let front = before.trim_end_matches(is_identifier_char);
@@ -71,11 +70,11 @@ pub(crate) fn completion(
         len: before.len().saturating_sub(front.len()),
     };
     let range = range_of(text, span, encoding);
-    let mut out = begin_reply(alloc, id)?;
+    let mut out = begin(alloc);
     out.begin_array()?;
     put_items(alloc, &mut out, text, front, range)?;
     out.end_array()?;
-    finish(alloc, out)
+    Ok(end(alloc, out))
 }
 
 /// Writes what may come after the front of a text in place of a range.

@@ -3,7 +3,7 @@
 use crate::faults::{Report, faults_of};
 use crate::locate::end_of;
 use crate::place::{range_of, span};
-use crate::write::{Out, Wrong, begin_reply, finish, put_edit, put_text, put_true, wrong_reply};
+use crate::write::{Out, Wrong, begin, end, put_edit, put_text, put_true};
 use json::Value;
 use kdl_text::chars::{is_identifier_char, is_newline_char, is_space};
 use kdl_text::error::KdlDiagnostic;
@@ -33,20 +33,19 @@ struct Faulty<'a> {
     faults: Vec<KdlDiagnostic>,
 }
 
-/// Returns the reply with the fixes of the faults in the range of a request.
+/// Returns the fixes of the faults in the range of a request.
 pub(crate) fn actions(
     alloc: Global,
-    id: &Value<'_>,
     params: &Value<'_>,
     text: &str,
     client: Client,
-) -> Result<String, AllocError> {
+) -> Result<String, Wrong> {
     let uri = uri(params);
     let span = span(params, text, client.encoding);
     let (Some(uri), Some(span)) = (uri, span) else {
-        return wrong_reply(alloc, id, Wrong::Params);
+        return Err(Wrong::Params);
     };
-    let mut out = begin_reply(alloc, id)?;
+    let mut out = begin(alloc);
     out.begin_array()?;
     if wants_fixes(params) {
         let faulty = Faulty {
@@ -58,7 +57,7 @@ pub(crate) fn actions(
         faulty.put_fixes(alloc, &mut out, span)?;
     }
     out.end_array()?;
-    finish(alloc, out)
+    Ok(end(alloc, out))
 }
 
 /// Returns whether a request takes quick fixes: it asks for these, or for no kind of action.

@@ -1,8 +1,7 @@
 //! Blocks, block comments and runs of line comments, over several lines, as folding ranges.
 
 use crate::scan::{Lexeme, Scanner, is_block_comment, is_line_comment};
-use crate::write::{Out, begin_reply, finish, put_number, put_text};
-use json::Value;
+use crate::write::{Out, Wrong, begin, end, put_number, put_text};
 use kdl_syntax::{Event, Token, TokenKind};
 use lsp_text::{Cursor, Encoding};
 use std::alloc::{AllocError, Global};
@@ -29,9 +28,9 @@ struct FoldWriter<'a> {
     is_blank: bool,
 }
 
-/// Returns the reply with what folds in a text. In a text with faults, a block that is not closed does not fold.
-pub(crate) fn folds(alloc: Global, id: &Value<'_>, text: &str) -> Result<String, AllocError> {
-    let mut out = begin_reply(alloc, id)?;
+/// Returns what folds in a text. In a text with faults, a block that is not closed does not fold.
+pub(crate) fn folds(alloc: Global, text: &str) -> Result<String, Wrong> {
+    let mut out = begin(alloc);
     out.begin_array()?;
     let mut folds = FoldWriter {
         text,
@@ -51,7 +50,7 @@ pub(crate) fn folds(alloc: Global, id: &Value<'_>, text: &str) -> Result<String,
     }
     put_run(&mut out, folds.run)?;
     out.end_array()?;
-    finish(alloc, out)
+    Ok(end(alloc, out))
 }
 
 impl<'a> FoldWriter<'a> {

@@ -1,7 +1,7 @@
 //! Formatting.
 
 use crate::layout::laid_out;
-use crate::write::{Out, Wrong, begin_reply, finish, put_range, put_text, wrong_reply};
+use crate::write::{Out, Wrong, begin, end, put_range, put_text};
 use json::Value;
 use lsp_documents::params::{at, number, range};
 use lsp_text::{Edit, Encoding, Lines, edits, edits_within};
@@ -19,35 +19,33 @@ fn indent(params: &Value<'_>) -> Option<usize> {
     Some(size.unwrap_or(4).min(64))
 }
 
-/// Returns the reply with the edits that lay a text out: none if the text stays, and null if it is no document.
+/// Returns the edits that lay a text out: none if the text stays, and null if it is no document.
 pub(crate) fn formatting(
     alloc: Global,
-    id: &Value<'_>,
     params: &Value<'_>,
     text: &str,
     encoding: Encoding,
-) -> Result<String, AllocError> {
-    let mut out = begin_reply(alloc, id)?;
+) -> Result<String, Wrong> {
+    let mut out = begin(alloc);
     match laid_out(alloc, text, indent(params))? {
         Some(new) => put_edits(&mut out, &edits(alloc, text, &new, encoding)?)?,
         None => out.null()?,
     }
-    finish(alloc, out)
+    Ok(end(alloc, out))
 }
 
-/// Returns the reply with those of the edits of `formatting` that are within the lines that a range touches. Where the
+/// Returns those of the edits of `formatting` that are within the lines that a range touches. Where the
 /// text after them would be laid out otherwise than the text, there are none.
 pub(crate) fn range_formatting(
     alloc: Global,
-    id: &Value<'_>,
     params: &Value<'_>,
     text: &str,
     encoding: Encoding,
-) -> Result<String, AllocError> {
+) -> Result<String, Wrong> {
     let Some(range) = range(params) else {
-        return wrong_reply(alloc, id, Wrong::Params);
+        return Err(Wrong::Params);
     };
-    let mut out = begin_reply(alloc, id)?;
+    let mut out = begin(alloc);
     match laid_out(alloc, text, indent(params))? {
         Some(new) => {
             let part = edits_within(alloc, text, &new, Lines::of(range), encoding)?;
@@ -59,7 +57,7 @@ pub(crate) fn range_formatting(
         }
         None => out.null()?,
     }
-    finish(alloc, out)
+    Ok(end(alloc, out))
 }
 
 /// Writes edits.

@@ -4,26 +4,25 @@ use crate::layout::document_of;
 use crate::locate::{Part, nodes_at, part_at};
 use crate::path::{Target, path_to};
 use crate::place::{place, range_of};
-use crate::write::{Out, Wrong, begin_reply, finish, put_range, put_text, wrong_reply};
+use crate::write::{Out, Wrong, begin, end, put_range, put_text};
 use json::Value;
 use kdl::{KdlDocument, KdlEntry, KdlNode, KdlValue};
 use kdl_text::span::SourceSpan;
 use lsp_text::Encoding;
 use std::alloc::{AllocError, Global};
 
-/// Returns the reply with what is at the position of a request: null if that is nothing with a value or a name, or the text
+/// Returns what is at the position of a request: null if that is nothing with a value or a name, or the text
 /// is no document.
 pub(crate) fn hover(
     alloc: Global,
-    id: &Value<'_>,
     params: &Value<'_>,
     text: &str,
     encoding: Encoding,
-) -> Result<String, AllocError> {
+) -> Result<String, Wrong> {
     let Some(offset) = place(params, text, encoding) else {
-        return wrong_reply(alloc, id, Wrong::Params);
+        return Err(Wrong::Params);
     };
-    let mut out = begin_reply(alloc, id)?;
+    let mut out = begin(alloc);
     match told(alloc, text, offset)? {
         Some((content, span)) => {
             out.begin_object()?;
@@ -33,7 +32,7 @@ pub(crate) fn hover(
         }
         None => out.null()?,
     }
-    finish(alloc, out)
+    Ok(end(alloc, out))
 }
 
 /// Writes a text in Markdown.

@@ -1,10 +1,12 @@
 //! One message of a client.
+#![tactic(auto, using(crate::proofs::Rules::sending))]
 
-ghost use Rattle.json.specs.Json.{document};
+ghost use Rattle.json.specs.Json.{Json, document};
 ghost use Rattle.json.specs.Value.{value_view};
-ghost use Rattle.lsp.specs.Messages.{IsIgnored, IsQuiet, Names, TellsIn, TextTells, method_of, params_of};
+ghost use Rattle.lsp.specs.Messages.{Asks, AsksIn, IsIgnored, IsQuiet, Names, TellsIn, TextTells, method_of, params_of};
+ghost use Rattle.lsp.specs.Replies.{IsReplyTo, Logs, Replies};
 ghost use Rattle.lsp_documents.specs.Notes.{Agrees, Changed, Note, Tells, Texts, after};
-ghost use Rattle.lsp_documents.specs.Outcomes.{StaysOpen, UnnamedStay};
+ghost use Rattle.lsp_documents.specs.Outcomes.{IsTaken, StaysOpen, UnnamedStay};
 ghost use Rattle.lsp_documents.specs.States.{SessionStays, document_at, is_down};
 ghost use Rattle.lsp_text.specs.Positions.{Text};
 ghost use Rattle.lsp_text.specs.declared.position.Range.{Range};
@@ -13,7 +15,7 @@ ghost use Rattle.std.specs.Prelude.{◌≡◌, ℕ, List, Option, false, IfOk, I
 use crate::faults::no_faults_notice;
 use crate::publish::{Notices, log_unknown, publish, publish_due};
 use crate::request::reply;
-use crate::write::{Wrong, wrong_reply};
+use crate::write::{Wrong, reply_to};
 use json::{Error, Scratch, Value};
 use lsp_documents::{Outcome, Phase, State};
 use std::alloc::{AllocError, Global};
@@ -43,11 +45,20 @@ pub fn step(alloc: Global, state: &mut State, message: &str) -> Result<Vec<Strin
     ensures others { IfOk result (λ _. (uri : List ℕ) → (Names message.now uri → ⊥)
         → document_at state.new uri ≡ document_at state.old uri) }
     ensures all { IsQuiet message.now → IfOk result (λ _. state.new.open ≡ state.old.open) }
+
+    // After `didOpen` and `didChange` in a session the text is known, or a message for the log tells that it is not.
+    ensures taken { state.old.phase ≡ Phase.Running → (note : Note) → TextTells message.now note
+        → IfOk result (λ out. IsTaken state.old state.new (Logs out.items) note) }
+
+    // A request gets a reply with its identifier.
+    ensures replied { (id : Json) → Asks message.now id → IfOk result (λ out. Replies id out.items) }
 {
     let mut out = room(alloc, state)?;
-    if receive(alloc, state, message, &mut out)? {
-        publish_due(alloc, state, &mut out)?;
+    let is_json = receive(alloc, state, message, &mut out)?;
+    if !is_json {
+        return Ok(out);
     }
+    publish_due(alloc, state, &mut out)?;
     Ok(out)
 }
 
@@ -87,6 +98,9 @@ pub(crate) fn receive(
     ensures others { IfOk result (λ _. (uri : List ℕ) → (Names message.now uri → ⊥)
         → document_at state.new uri ≡ document_at state.old uri) }
     ensures all { IsQuiet message.now → IfOk result (λ _. state.new.open ≡ state.old.open) }
+    ensures taken { state.old.phase ≡ Phase.Running → (note : Note) → TextTells message.now note
+        → IfOk result (λ _. IsTaken state.old state.new (Logs out.new.items) note) }
+    ensures replied { (id : Json) → Asks message.now id → IfOk result (λ _. Replies id out.new.items) }
 {
     let mut scratch = Scratch::new(alloc);
     match Value::parse(alloc, message, &mut scratch) {
@@ -99,7 +113,7 @@ pub(crate) fn receive(
             Err(AllocError)
         }
         Err(_) => {
-            out.push(wrong_reply(alloc, &Value::Null, Wrong::Parse)?)?;
+            out.push(reply_to(alloc, &Value::Null, Err(Wrong::Parse))?)?;
             Ok(false)
         }
     }
@@ -121,6 +135,9 @@ fn take(
         → StaysOpen state.old state.new uri }
     ensures others { UnnamedStay state.old state.new (params_of (value_view message.now)) }
     ensures all { IfSome (method_of (value_view message.now)) IsIgnored → state.new.open ≡ state.old.open }
+    ensures taken { state.old.phase ≡ Phase.Running → (note : Note) → TellsIn (value_view message.now) note
+        → OnOk result (IsTaken state.old state.new (Logs out.new.items) note) }
+    ensures replied { (id : Json) → AsksIn (value_view message.now) id → OnOk result (Replies id out.new.items) }
 {
     let params = message.get("params").unwrap_or(&Value::Null);
     let method = message.get("method").and_then(Value::as_str);
@@ -128,7 +145,7 @@ fn take(
         (Some(method), Some(id)) => request(alloc, state, method, id, params, out),
         (Some(method), None) => notification(alloc, state, method, params, out),
         (None, Some(_)) if is_reply(message) => Ok(()),
-        (None, _) => Ok(out.push(wrong_reply(alloc, &Value::Null, Wrong::Invalid)?)?),
+        (None, _) => Ok(out.push(reply_to(alloc, &Value::Null, Err(Wrong::Invalid))?)?),
     }
 }
 
@@ -147,15 +164,30 @@ fn request(
     out: &mut Notices,
 ) -> Result<(), AllocError>
     ensures open { state.new.open ≡ state.old.open }
+    ensures replied { OnOk result (Replies (value_view id.now) out.new.items) }
 {
     if method == "shutdown" {
         publish_due(alloc, state, out)?;
     }
-    let reply = match reply(alloc, state, method, id, params) {
-        Ok(reply) => reply,
-        Err(AllocError) => wrong_reply(alloc, id, Wrong::Memory)?,
-    };
+    let reply = any_reply(alloc, state, method, id, params)?;
     Ok(out.push(reply)?)
+}
+
+/// Returns the reply to a request, or one that memory is short.
+fn any_reply(
+    alloc: Global,
+    state: &mut State,
+    method: &str,
+    id: &Value<'_>,
+    params: &Value<'_>,
+) -> Result<String, AllocError>
+    ensures open { state.new.open ≡ state.old.open }
+    ensures replied { IfOk result (IsReplyTo (value_view id.now)) }
+{
+    match reply(alloc, state, method, id, params) {
+        Ok(reply) => Ok(reply),
+        Err(AllocError) => reply_to(alloc, id, Err(Wrong::Memory)),
+    }
 }
 
 /// Takes a notification. Those that may not come now, and unknown ones, are ignored.
@@ -178,6 +210,8 @@ fn notification(
     ensures stays { (uri : List ℕ) (changes : List (Option Range × Text)) → Tells method.now (value_view params.now) (Changed uri changes)
         → StaysOpen state.old state.new uri }
     ensures others { UnnamedStay state.old state.new (value_view params.now) }
+    ensures taken { state.old.phase ≡ Phase.Running → (note : Note) → Tells method.now (value_view params.now) note
+        → OnOk result (IsTaken state.old state.new (Logs out.new.items) note) }
 {
     match state.notify(alloc, method, params) {
         Outcome::Nothing => Ok(()),

@@ -1,6 +1,8 @@
 //! Notifications of the server.
+#![tactic(auto, using(crate::proofs::Rules::sending))]
 
-ghost use Rattle.std.specs.Prelude.{◌≡◌, OnErr};
+ghost use Rattle.lsp.specs.Replies.{AreIn, Logs};
+ghost use Rattle.std.specs.Prelude.{◌≡◌, OnErr, OnOk};
 
 use crate::faults::faults_notice;
 use crate::write::log_notice;
@@ -20,6 +22,7 @@ pub(crate) fn publish_due(
     ensures client { state.new.client ≡ state.old.client }
     ensures open { state.new.open ≡ state.old.open }
     ensures err { OnErr result (state.new ≡ state.old) }
+    ensures kept { AreIn out.old.items out.new.items }
 {
     match put_due(alloc, state, out) {
         Ok(()) => {
@@ -31,7 +34,9 @@ pub(crate) fn publish_due(
 }
 
 /// Sends the faults of the documents that are due, and whose text is known.
-fn put_due(alloc: Global, state: &State, out: &mut Notices) -> Result<(), AllocError> {
+fn put_due(alloc: Global, state: &State, out: &mut Notices) -> Result<(), AllocError>
+    ensures { AreIn out.old.items out.new.items }
+{
     for uri in &state.due {
         let Some(document) = state.open.get(uri.as_str()) else {
             continue;
@@ -57,12 +62,17 @@ pub(crate) fn publish(
 }
 
 /// Sends that memory was short.
-fn log_memory(alloc: Global, out: &mut Notices) -> Result<(), AllocError> {
-    Ok(out.push(log_notice(alloc, "kdl: out of memory")?)?)
+fn log_memory(alloc: Global, out: &mut Notices) -> Result<(), AllocError>
+    ensures { AreIn out.old.items out.new.items }
+{
+    out.push(log_notice(alloc, "kdl: out of memory")?)?;
+    Ok(())
 }
 
 /// Sends that the text of a document is not known.
-pub(crate) fn log_unknown(alloc: Global, uri: &str, out: &mut Notices) -> Result<(), AllocError> {
+pub(crate) fn log_unknown(alloc: Global, uri: &str, out: &mut Notices) -> Result<(), AllocError>
+    ensures { OnOk result (Logs out.new.items) }
+{
     let text = format!(in alloc;
         "kdl: {uri}: a change is not applied: the text is not known up to the next whole text"
     )?;

@@ -1,7 +1,9 @@
 //! Requests.
 
+ghost use Rattle.json.specs.Value.{value_view};
 ghost use Rattle.lsp.specs.Messages.{encoding_name};
-ghost use Rattle.std.specs.Prelude.{◌≡◌, OnErr, OnOk, codes};
+ghost use Rattle.lsp.specs.Replies.{IsReplyTo};
+ghost use Rattle.std.specs.Prelude.{◌≡◌, IfOk, OnErr, OnOk, codes};
 
 use crate::complete::completion;
 use crate::fix::actions;
@@ -11,9 +13,7 @@ use crate::hover::hover;
 use crate::selection::selections;
 use crate::symbols::symbols;
 use crate::tokens::{LEGEND, tokens};
-use crate::write::{
-    Out, Wrong, begin_reply, finish, null_reply, put_number, put_text, put_true, wrong_reply,
-};
+use crate::write::{Out, Wrong, begin, end, put_number, put_text, put_true, reply_to};
 use json::Value;
 use lsp_documents::params::{encoding, uri};
 use lsp_documents::{Client, Phase, State};
@@ -34,6 +34,7 @@ pub(crate) fn reply(
     ensures down { state.old.phase ≡ Phase.Down → state.new ≡ state.old }
     ensures err { OnErr result (state.new ≡ state.old) }
     ensures open { state.new.open ≡ state.old.open }
+    ensures replied { IfOk result (IsReplyTo (value_view id.now)) }
 
     ensures initialize { state.old.phase ≡ Phase.New → method.now ≡ codes "initialize"
         → OnOk result (state.new ≡ record state.old { phase = Phase.Running; client = state.new.client }) }
@@ -42,15 +43,13 @@ pub(crate) fn reply(
 {
     match state.phase {
         Phase::New if method == "initialize" => initialize(alloc, state, id, params),
-        Phase::New => wrong_reply(alloc, id, Wrong::Early),
         Phase::Running if method == "shutdown" => {
-            let reply = null_reply(alloc, id)?;
+            let null = String::from_str(alloc, "null")?;
+            let reply = reply_to(alloc, id, Ok(null))?;
             state.phase = Phase::Down;
             Ok(reply)
         }
-        Phase::Running if method == "initialize" => wrong_reply(alloc, id, Wrong::Invalid),
-        Phase::Running => running_reply(alloc, state, method, id, params),
-        Phase::Down | Phase::Over { .. } => wrong_reply(alloc, id, Wrong::Invalid),
+        _ => reply_to(alloc, id, content(alloc, state, method, params)),
     }
 }
 
@@ -63,12 +62,13 @@ fn initialize(
 ) -> Result<String, AllocError>
     ensures ok { OnOk result (state.new ≡ record state.old { phase = Phase.Running; client = state.new.client }) }
     ensures err { OnErr result (state.new ≡ state.old) }
+    ensures replied { IfOk result (IsReplyTo (value_view id.now)) }
 {
     let client = Client {
         encoding: encoding(params),
         has_related: has_related(params),
     };
-    let mut out = begin_reply(alloc, id)?;
+    let mut out = begin(alloc);
     out.begin_object()?;
     put_capabilities(&mut out, client.encoding)?;
     out.key("serverInfo")?;
@@ -76,7 +76,7 @@ fn initialize(
     put_text(&mut out, "name", "kdl")?;
     out.end_object()?;
     out.end_object()?;
-    let reply = finish(alloc, out)?;
+    let reply = reply_to(alloc, id, Ok(end(alloc, out)))?;
     state.client = client;
     state.phase = Phase::Running;
     Ok(reply)
@@ -155,38 +155,44 @@ fn encoding_name(encoding: Encoding) -> &'static str
     }
 }
 
-/// Returns the reply to a request about a document.
-fn running_reply(
+/// Returns the result of a request that leaves the state as it is.
+fn content(
     alloc: Global,
     state: &State,
     method: &str,
-    id: &Value<'_>,
     params: &Value<'_>,
-) -> Result<String, AllocError> {
-    if !is_known(method) {
-        return wrong_reply(alloc, id, Wrong::Method);
+) -> Result<String, Wrong> {
+    match state.phase {
+        Phase::New => Err(Wrong::Early),
+        Phase::Running if method == "initialize" => Err(Wrong::Invalid),
+        Phase::Running if is_known(method) => document_content(alloc, state, method, params),
+        Phase::Running => Err(Wrong::Method),
+        Phase::Down | Phase::Over { .. } => Err(Wrong::Invalid),
     }
-    let Some(uri) = uri(params) else {
-        return wrong_reply(alloc, id, Wrong::Params);
-    };
-    let Some(document) = state.open.get(uri) else {
-        return wrong_reply(alloc, id, Wrong::Params);
-    };
-    let Some(text) = &document.text else {
-        return wrong_reply(alloc, id, Wrong::Unknown);
-    };
+}
+
+/// Returns the result of a request about a document.
+fn document_content(
+    alloc: Global,
+    state: &State,
+    method: &str,
+    params: &Value<'_>,
+) -> Result<String, Wrong> {
+    let uri = uri(params).ok_or(Wrong::Params)?;
+    let document = state.open.get(uri).ok_or(Wrong::Params)?;
+    let text = document.text.as_ref().ok_or(Wrong::Unknown)?;
     let client = state.client;
     let encoding = client.encoding;
     match method {
-        "textDocument/formatting" => formatting(alloc, id, params, text, encoding),
-        "textDocument/rangeFormatting" => range_formatting(alloc, id, params, text, encoding),
-        "textDocument/documentSymbol" => symbols(alloc, id, text, encoding),
-        "textDocument/hover" => hover(alloc, id, params, text, encoding),
-        "textDocument/selectionRange" => selections(alloc, id, params, text, encoding),
-        "textDocument/completion" => completion(alloc, id, params, text, encoding),
-        "textDocument/codeAction" => actions(alloc, id, params, text, client),
-        "textDocument/semanticTokens/full" => tokens(alloc, id, text, encoding),
-        _ => folds(alloc, id, text),
+        "textDocument/formatting" => formatting(alloc, params, text, encoding),
+        "textDocument/rangeFormatting" => range_formatting(alloc, params, text, encoding),
+        "textDocument/documentSymbol" => symbols(alloc, text, encoding),
+        "textDocument/hover" => hover(alloc, params, text, encoding),
+        "textDocument/selectionRange" => selections(alloc, params, text, encoding),
+        "textDocument/completion" => completion(alloc, params, text, encoding),
+        "textDocument/codeAction" => actions(alloc, params, text, client),
+        "textDocument/semanticTokens/full" => tokens(alloc, text, encoding),
+        _ => folds(alloc, text),
     }
 }
 

@@ -5,38 +5,38 @@ ghost use Rattle.std.specs.Prelude.{◌+◌, ◌≤◌, IsTrue};
 use crate::layout::document_of;
 use crate::locate::{block_span, end_of, entry_at, nodes_at, part_at, touches};
 use crate::place::offset_at;
-use crate::write::{Out, Wrong, begin_reply, finish, null_reply, put_range, wrong_reply};
+use crate::write::{Out, Wrong, begin, end, put_range};
 use json::Value;
 use kdl::KdlDocument;
 use kdl_text::span::SourceSpan;
 use lsp_text::{Cursor, Encoding, Position, Range};
 use std::alloc::{AllocError, Global};
 
-/// Returns the reply with the ranges around each position of a request: null if the text is no document.
+/// Returns the ranges around each position of a request: null if the text is no document.
 pub(crate) fn selections(
     alloc: Global,
-    id: &Value<'_>,
     params: &Value<'_>,
     text: &str,
     encoding: Encoding,
-) -> Result<String, AllocError> {
+) -> Result<String, Wrong> {
     let Some(Value::Array(places)) = params.get("positions") else {
-        return wrong_reply(alloc, id, Wrong::Params);
+        return Err(Wrong::Params);
     };
+    let mut out = begin(alloc);
     let Some(document) = document_of(alloc, text)? else {
-        return null_reply(alloc, id);
+        out.null()?;
+        return Ok(end(alloc, out));
     };
-    let mut out = begin_reply(alloc, id)?;
     out.begin_array()?;
     for place in places {
         let Some(offset) = offset_at(place, text, encoding) else {
-            return wrong_reply(alloc, id, Wrong::Params);
+            return Err(Wrong::Params);
         };
         let spans = spans_around(alloc, &document, text, offset)?;
         put_selection(alloc, &mut out, &spans, Cursor::new(text, encoding))?;
     }
     out.end_array()?;
-    finish(alloc, out)
+    Ok(end(alloc, out))
 }
 
 /// Returns the spans around a place, each in the one before it. The first is the whole text.

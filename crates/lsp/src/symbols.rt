@@ -1,8 +1,7 @@
 //! The nodes of a document as symbols.
 
 use crate::layout::document_of;
-use crate::write::{Out, begin_reply, finish, put_number, put_range, put_text};
-use json::Value;
+use crate::write::{Out, Wrong, begin, end, put_number, put_range, put_text};
 use kdl::{KdlDocument, KdlNode};
 use lsp_text::{Cursor, Encoding, Position, Range};
 use std::alloc::{AllocError, Global};
@@ -14,14 +13,9 @@ struct Level<'d> {
     owner: Option<(&'d KdlNode, Position)>,
 }
 
-/// Returns the reply with the nodes of a text as a tree: null if the text is no document.
-pub(crate) fn symbols(
-    alloc: Global,
-    id: &Value<'_>,
-    text: &str,
-    encoding: Encoding,
-) -> Result<String, AllocError> {
-    let mut out = begin_reply(alloc, id)?;
+/// Returns the nodes of a text as a tree: null if the text is no document.
+pub(crate) fn symbols(alloc: Global, text: &str, encoding: Encoding) -> Result<String, Wrong> {
+    let mut out = begin(alloc);
     match document_of(alloc, text)? {
         Some(document) => {
             let mut cursor = Cursor::new(text, encoding);
@@ -29,7 +23,7 @@ pub(crate) fn symbols(
         }
         None => out.null()?,
     }
-    finish(alloc, out)
+    Ok(end(alloc, out))
 }
 
 /// Writes the nodes of a document.

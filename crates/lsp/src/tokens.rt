@@ -1,8 +1,7 @@
 //! The tokens of a text for highlighting.
 
 use crate::scan::{Lexeme, Scanner, is_block_comment, is_key, is_line_comment};
-use crate::write::{Out, begin_reply, finish};
-use json::Value;
+use crate::write::{Out, Wrong, begin, end};
 use kdl_syntax::{Event, Phase, Token, TokenKind};
 use kdl_text::chars::is_newline_char;
 use lsp_text::{Cursor, Encoding, Position};
@@ -69,14 +68,9 @@ struct TokenWriter<'a> {
     dropped: Dropped,
 }
 
-/// Returns the reply with the tokens of a text. A line with a fault has tokens up to the fault.
-pub(crate) fn tokens(
-    alloc: Global,
-    id: &Value<'_>,
-    text: &str,
-    encoding: Encoding,
-) -> Result<String, AllocError> {
-    let mut out = begin_reply(alloc, id)?;
+/// Returns the tokens of a text. A line with a fault has tokens up to the fault.
+pub(crate) fn tokens(alloc: Global, text: &str, encoding: Encoding) -> Result<String, Wrong> {
+    let mut out = begin(alloc);
     out.begin_object()?;
     out.key("data")?;
     out.begin_array()?;
@@ -100,7 +94,7 @@ pub(crate) fn tokens(
     }
     out.end_array()?;
     out.end_object()?;
-    finish(alloc, out)
+    Ok(end(alloc, out))
 }
 
 impl<'a> TokenWriter<'a> {

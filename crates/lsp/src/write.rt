@@ -1,5 +1,11 @@
 //! Messages of the server.
 
+ghost use Rattle.json.specs.Print.{IsNumber, print};
+ghost use Rattle.json.specs.Token.{Token, end_object, key, number, string};
+ghost use Rattle.json.specs.Value.{value_view};
+ghost use Rattle.lsp.specs.Replies.{IsId, IsLog, IsReplyTo, IsReplyWith, IsWritten, message_head, notice_head};
+ghost use Rattle.std.specs.Prelude.{◌≡◌, ◌++◌, ◌∷◌, [], IfOk, OnOk, codes, decimal, string_bytes};
+
 use json::{Value, Writer, is_number};
 use lsp_text::{Position, Range};
 use std::alloc::{AllocError, Global};
@@ -52,68 +58,108 @@ impl Wrong {
             Wrong::Unknown => "the text of the document is not known",
         }
     }
+
+    /// Returns the error of a reply as JSON.
+    fn to_json(self, alloc: Global) -> Result<String, AllocError> {
+        let mut out = begin(alloc);
+        out.begin_object()?;
+        out.key("code")?;
+        out.i64(self.code())?;
+        put_text(&mut out, "message", self.text())?;
+        out.end_object()?;
+        Ok(end(alloc, out))
+    }
+}
+
+impl From<AllocError> for Wrong {
+    fn from(_: AllocError) -> Wrong {
+        Wrong::Memory
+    }
+}
+
+/// Begins a JSON text.
+pub(crate) fn begin(alloc: Global) -> Out
+    ensures before { result.before ≡ [] }
+    ensures tokens { result.tokens ≡ [] }
+{
+    Writer::new(Vec::new(alloc))
+}
+
+/// Ends a JSON text.
+pub(crate) fn end(alloc: Global, out: Out) -> String
+    ensures { out.before ≡ [] → string_bytes result ≡ print out.tokens }
+{
+    match String::from_utf8(out.into_inner()) {
+        Ok(text) => text,
+        Err(_) => String::new(alloc),
+    }
 }
 
 /// Begins a message.
-fn begin(alloc: Global) -> Result<Out, AllocError> {
-    let mut out = Writer::new(Vec::new(alloc));
+fn begin_message(alloc: Global) -> Result<Out, AllocError>
+    ensures { IfOk result (λ out. IsWritten out message_head) }
+{
+    let mut out = begin(alloc);
     out.begin_object()?;
     put_text(&mut out, "jsonrpc", "2.0")?;
     Ok(out)
 }
 
 /// Ends a message.
-pub(crate) fn finish(alloc: Global, out: Out) -> Result<String, AllocError> {
+pub(crate) fn finish(alloc: Global, out: Out) -> Result<String, AllocError>
+    ensures { IfOk result (λ m. out.before ≡ [] → string_bytes m ≡ print (out.tokens ++ end_object ∷ [])) }
+{
     let mut out = out;
     out.end_object()?;
-    match String::from_utf8(out.into_inner()) {
-        Ok(text) => Ok(text),
-        Err(_) => Ok(String::new(alloc)),
-    }
-}
-
-/// Begins the reply to a request, up to its result.
-pub(crate) fn begin_reply(alloc: Global, id: &Value<'_>) -> Result<Out, AllocError> {
-    let mut out = begin(alloc)?;
-    put_id(&mut out, id)?;
-    out.key("result")?;
-    Ok(out)
+    Ok(end(alloc, out))
 }
 
 /// Begins a notification, up to its parameters.
-pub(crate) fn begin_notice(alloc: Global, method: &str) -> Result<Out, AllocError> {
-    let mut out = begin(alloc)?;
+pub(crate) fn begin_notice(alloc: Global, method: &str) -> Result<Out, AllocError>
+    ensures { IfOk result (λ out. IsWritten out (notice_head method.now)) }
+{
+    let mut out = begin_message(alloc)?;
     put_text(&mut out, "method", method)?;
     out.key("params")?;
     Ok(out)
 }
 
-/// Returns the reply that a request is wrong.
-pub(crate) fn wrong_reply(
+/// Returns the reply to the request of an identifier: its result as JSON, or what is wrong with it.
+pub(crate) fn reply_to(
     alloc: Global,
     id: &Value<'_>,
-    wrong: Wrong,
-) -> Result<String, AllocError> {
-    let mut out = begin(alloc)?;
-    put_id(&mut out, id)?;
-    out.key("error")?;
-    out.begin_object()?;
-    out.key("code")?;
-    out.i64(wrong.code())?;
-    put_text(&mut out, "message", wrong.text())?;
-    out.end_object()?;
-    finish(alloc, out)
+    content: Result<String, Wrong>,
+) -> Result<String, AllocError>
+    ensures { IfOk result (IsReplyTo (value_view id.now)) }
+{
+    match content {
+        Ok(content) => reply_with(alloc, id, "result", &content),
+        Err(wrong) => reply_with(alloc, id, "error", &wrong.to_json(alloc)?),
+    }
 }
 
-/// Returns the reply whose result is null.
-pub(crate) fn null_reply(alloc: Global, id: &Value<'_>) -> Result<String, AllocError> {
-    let mut out = begin_reply(alloc, id)?;
-    out.null()?;
-    finish(alloc, out)
+/// Returns the reply to the request of an identifier with a member, which is JSON.
+fn reply_with(
+    alloc: Global,
+    id: &Value<'_>,
+    name: &str,
+    content: &str,
+) -> Result<String, AllocError>
+    ensures { IfOk result (IsReplyWith name.now (value_view id.now)) }
+{
+    let mut out = begin_message(alloc)?;
+    put_id(&mut out, id)?;
+    out.key(name)?;
+    let mut reply = end(alloc, out);
+    reply.push_str(content)?;
+    reply.push('}')?;
+    Ok(reply)
 }
 
 /// Returns a message for the log of the client.
-pub(crate) fn log_notice(alloc: Global, text: &str) -> Result<String, AllocError> {
+pub(crate) fn log_notice(alloc: Global, text: &str) -> Result<String, AllocError>
+    ensures { IfOk result IsLog }
+{
     let mut out = begin_notice(alloc, "window/logMessage")?;
     out.begin_object()?;
     put_number(&mut out, "type", 1)?;
@@ -123,7 +169,11 @@ pub(crate) fn log_notice(alloc: Global, text: &str) -> Result<String, AllocError
 }
 
 /// Writes the identifier of a request: a number, a string or null.
-fn put_id(out: &mut Out, id: &Value<'_>) -> Result<(), AllocError> {
+fn put_id(out: &mut Out, id: &Value<'_>) -> Result<(), AllocError>
+    ensures before { out.new.before ≡ out.old.before }
+    ensures written { OnOk result ((t : Token) × IsId (value_view id.now) t
+        × (out.new.tokens ≡ out.old.tokens ++ key (codes "id") ∷ t ∷ [])) }
+{
     out.key("id")?;
     match id {
         Value::String(text) => out.string(text),
@@ -133,7 +183,11 @@ fn put_id(out: &mut Out, id: &Value<'_>) -> Result<(), AllocError> {
 }
 
 /// Writes a number with the same text.
-fn put_literal(out: &mut Out, text: &str) -> Result<(), AllocError> {
+fn put_literal(out: &mut Out, text: &str) -> Result<(), AllocError>
+    ensures before { out.new.before ≡ out.old.before }
+    ensures written { OnOk result ((t : Token) × (IsNumber text.now → t ≡ number text.now)
+        × (out.new.tokens ≡ out.old.tokens ++ t ∷ [])) }
+{
     if is_number(text) {
         out.number(text)
     } else {
@@ -142,14 +196,20 @@ fn put_literal(out: &mut Out, text: &str) -> Result<(), AllocError> {
 }
 
 /// Writes a member that is a text.
-pub(crate) fn put_text(out: &mut Out, key: &str, text: &str) -> Result<(), AllocError> {
-    out.key(key)?;
+pub(crate) fn put_text(out: &mut Out, name: &str, text: &str) -> Result<(), AllocError>
+    ensures before { out.new.before ≡ out.old.before }
+    ensures written { OnOk result (out.new.tokens ≡ out.old.tokens ++ key name.now ∷ string text.now ∷ []) }
+{
+    out.key(name)?;
     out.string(text)
 }
 
 /// Writes a member that is a number.
-pub(crate) fn put_number(out: &mut Out, key: &str, n: usize) -> Result<(), AllocError> {
-    out.key(key)?;
+pub(crate) fn put_number(out: &mut Out, name: &str, n: usize) -> Result<(), AllocError>
+    ensures before { out.new.before ≡ out.old.before }
+    ensures written { OnOk result (out.new.tokens ≡ out.old.tokens ++ key name.now ∷ number (decimal n) ∷ []) }
+{
+    out.key(name)?;
     out.u64(n as u64)
 }
 

@@ -1,5 +1,5 @@
 use Rattle.std.proofs.Common.{arith, IfSome, IsSomeAnd, ◌≡◌, ℕ, [], ◌∷◌, Some, codes, refl, subst}
-use Rattle.lsp.specs.Messages.{IsIgnored, TellsIn, method_of, params_of}
+use Rattle.lsp.specs.Messages.{AsksIn, IsIgnored, TellsIn, method_of, params_of}
 use Rattle.lsp_documents.specs.Notes.{uri_of}
 use Rattle.lsp.proofs.Texts.{braces_are_object, empty_is_none, empty_tells_nothing, exit_is_object, naming_is_object}
 use Rattle.lsp.proofs.laws.messages_are_not_so.Goals as goal
@@ -26,3 +26,6 @@ returns-clause-other c names =
     let uris : Some (a ∷ []) ≡ Some (b ∷ []) = subst (λ o. IsSomeAnd o (λ j. uri_of (params_of j) ≡ Some (codes "b"))) naming_is_object names in
     let same : a ≡ b = cc (uris) in
     omega (arith, same)
+
+pub returns-clause-asks : goal.returns-clause-asks
+returns-clause-asks c id asks = let h = subst (λ o. IsSomeAnd o (λ j. AsksIn j id)) exit_is_object asks in absurd (cc (h.0))

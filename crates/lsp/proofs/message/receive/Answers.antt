@@ -1,5 +1,6 @@
 use Rattle.std.proofs.Common.{IsSomeAnd, subst, sym}
 use Rattle.lsp.specs.Messages.{TellsIn}
+use Rattle.lsp_documents.specs.Notes.{Changed}
 use Rattle.lsp.proofs.message.receive.Goals as goal
 
 pub returns-in_err-take-in-Ok-clause-untold : goal.returns-in_err-take-in-Ok-clause-untold
@@ -15,3 +16,6 @@ returns-in_err-take-in-Ok-clause-session c note tells = c.take.ensures.session n
 
 pub returns-in-Ok-clause-session : goal.returns-in-Ok-clause-session
 returns-in-Ok-clause-session c note tells = c.take.ensures.session note (subst (λ o. IsSomeAnd o (λ j. TellsIn j note)) c.in-Ok.ensures.ok tells)
+
+pub returns-in-Ok-clause-stays : goal.returns-in-Ok-clause-stays
+returns-in-Ok-clause-stays c uri changes tells = c.take.ensures.stays uri changes (subst (λ o. IsSomeAnd o (λ j. TellsIn j (Changed uri changes))) c.in-Ok.ensures.ok tells)

@@ -1,0 +1,48 @@
+-- Messages of the server.
+use Rattle.std.specs.Prelude.{◌≡◌, ◌⊎◌, ◌++◌, ◌∷◌, [], ℕ, List, Contains, String, codes, string_bytes}
+use Rattle.std.specs.Global.{Global}
+use Rattle.json.specs.Json as json
+use Rattle.json.specs.Json.{Json}
+use Rattle.json.specs.Print.{IsNumber, print}
+use Rattle.json.specs.Token.{Token, begin_object, end_object, key, null, number, string}
+use Rattle.json.specs.Written.{Written}
+
+-- a writer has written these tokens
+abbrev pub IsWritten : Written → List Token → Type 0
+IsWritten out ts = (out.before ≡ []) × (out.tokens ≡ ts)
+
+-- the tokens with which each message begins, and those of a notification up to its parameters
+abbrev pub message_head : List Token
+message_head = begin_object ∷ key (codes "jsonrpc") ∷ string (codes "2.0") ∷ []
+
+abbrev pub notice_head : List ℕ → List Token
+notice_head method = message_head ++ key (codes "method") ∷ string method ∷ key (codes "params") ∷ []
+
+-- the token of an identifier: the same string or number, or null
+abbrev pub IsId : Json → Token → Type 0
+IsId (json.string s) t = t ≡ string s
+IsId (json.number s) t = IsNumber s → t ≡ number s
+IsId _ t = t ≡ null
+
+-- a message begins as a reply to the request of an identifier, up to the member of that name
+abbrev pub IsReplyWith : List ℕ → Json → String Global → Type 0
+IsReplyWith name id m = (t : Token) × IsId id t × (rest : List ℕ) × (string_bytes m ≡ print (message_head ++ key (codes "id") ∷ t ∷ key name ∷ []) ++ rest)
+
+-- a message is a reply to the request: with a result, or an error
+abbrev pub IsReplyTo : Json → String Global → Type 0
+IsReplyTo id m = IsReplyWith (codes "result") id m ⊎ IsReplyWith (codes "error") id m
+
+-- a message is one for the log of the client
+abbrev pub IsLog : String Global → Type 0
+IsLog m = (n text : List ℕ) × (string_bytes m ≡ print (notice_head (codes "window/logMessage") ++ begin_object ∷ key (codes "type") ∷ number n ∷ key (codes "message") ∷ string text ∷ end_object ∷ end_object ∷ []))
+
+-- one of the messages is a reply to the request; one is for the log
+unfoldable pub Replies : Json → List (String Global) → Type 0
+Replies id ms = (m : String Global) × Contains ms m × IsReplyTo id m
+
+unfoldable pub Logs : List (String Global) → Type 0
+Logs ms = (m : String Global) × Contains ms m × IsLog m
+
+-- each of the messages is one of the others
+unfoldable pub AreIn : List (String Global) → List (String Global) → Type 0
+AreIn ms ns = (m : String Global) → Contains ms m → Contains ns m
