@@ -1,12 +1,12 @@
 -- The items of a document that are still to be written, while its nodes are walked over a stack.
-use Rattle.std.proofs.Common.{◌≡◌, ◌++◌, ℕ, List, [], ◌∷◌, Option, None, Some, append_assoc, append-nil, ap, ◌∙◌, sym, refl, arith, length, map}
+use Rattle.std.proofs.Common.{◌≡◌, ◌++◌, ◌<◌, ℕ, List, [], ◌∷◌, Option, None, Some, append_assoc, append-nil, ap, ◌∙◌, sym, refl, arith, length, length-append, map}
 use mathlib.Core.Path.{subst}
 use denote.Bor.{Bor}
 use Rattle.std.proofs.lemmas.List.{map-append}
-use Rattle.kdl.specs.Words.{NodeData, Nodes, node_says, said_children, said_nodes}
+use Rattle.kdl.specs.Words.{NodeData, Nodes, node_says, said_children, said_entries, said_nodes}
 use Rattle.kdl.specs.declared.node.KdlNode.{KdlNode}
 use Rattle.kdl_grammar.specs.Data as data'
-use Rattle.c_calls.specs.Flat.{Item, RowsSay, end_item, flattened, head_items, listed, node_items}
+use Rattle.c_calls.specs.Flat.{Item, RowsSay, end_item, entry_item, flattened, head_items, listed, node_item, node_items}
 use Rattle.c_calls.specs.declared.row.KdlRow.{KdlRow}
 use Rattle.c_calls.proofs.FlatSteps.{none_said}
 
@@ -31,23 +31,55 @@ node_split : (n : NodeData) → node_items n ≡ head_items n ++ inside (said_ch
 node_split (data'.node ty name es data'.no_children) = refl
 node_split (data'.node ty name es (data'.children x)) = refl
 
+-- the items of the nodes at hand, and what follows them
+abbrev pub items_left : List NodeData → List (List NodeData) → List Item
+items_left rest above = listed rest ++ closed above []
+
 -- the rows so far say some items, and all items are these and those that are left
 pub record SoFar (rows : List KdlRow) (count : ℕ) (strings : List ℕ) (used : ℕ) (rest : List NodeData) (above : List (List NodeData)) (all : List Item) : Type 0 where
   pub items : List Item
   pub say : RowsSay rows count strings used items
-  pub left : items ++ (listed rest ++ closed above []) ≡ all
+  pub left : items ++ items_left rest above ≡ all
 
-regroup_in : (items head f b c : List Item) → (items ++ head) ++ (f ++ (end_item ∷ (b ++ c))) ≡ items ++ (((head ++ (f ++ end_item ∷ [])) ++ b) ++ c)
-regroup_in items head f b c = simp append_assoc
+regroup_in : (head f b c : List Item) → head ++ (f ++ (end_item ∷ (b ++ c))) ≡ ((head ++ (f ++ end_item ∷ [])) ++ b) ++ c
+regroup_in head f b c = simp append_assoc
 
-regroup_on : (items head b c : List Item) → (items ++ head) ++ (b ++ c) ≡ items ++ (((head ++ []) ++ b) ++ c)
-regroup_on items head b c = simp (append_assoc, append-nil)
-
-regroup_out : (items b c : List Item) → (items ++ end_item ∷ []) ++ (b ++ c) ≡ items ++ (end_item ∷ (b ++ c))
-regroup_out items b c = simp append_assoc
+regroup_on : (head b c : List Item) → head ++ (b ++ c) ≡ ((head ++ []) ++ b) ++ c
+regroup_on head b c = simp (append_assoc, append-nil)
 
 first_items : (n : NodeData) (o : Option Nodes) → said_children n ≡ o → node_items n ≡ head_items n ++ inside o
 first_items n o e = node_split n ∙ ap (λ (p : Option Nodes). head_items n ++ inside p) e
+
+-- the items that are left, before and after a step: into the block of a node, past a node without a block, out of a block
+items_in : (n : NodeData) (after kids : List NodeData) (above : List (List NodeData)) (x : Nodes) → said_children n ≡ Some x → kids ≡ said_nodes x
+    → head_items n ++ items_left kids (above ++ after ∷ []) ≡ items_left (n ∷ after) above
+items_in n after kids above x has here =
+    ap (λ (z : List Item). head_items n ++ z)
+    (ap (λ (z : List Item). z ++ closed (above ++ after ∷ []) []) (ap listed here ∙ listed_said x) ∙ ap (λ (z : List Item). flattened x ++ z) (closed_push above after []))
+    ∙ regroup_in (head_items n) (flattened x) (listed after) (closed above [])
+    ∙ ap (λ (z : List Item). (z ++ listed after) ++ closed above []) (sym (first_items n (Some x) has))
+
+items_on : (n : NodeData) (after : List NodeData) (above : List (List NodeData)) → said_children n ≡ None → head_items n ++ items_left after above ≡ items_left (n ∷ after) above
+items_on n after above has =
+    regroup_on (head_items n) (listed after) (closed above [])
+    ∙ ap (λ (z : List Item). (z ++ listed after) ++ closed above []) (sym (first_items n None has))
+
+items_out : (after : List NodeData) (above : List (List NodeData)) → end_item ∷ items_left after above ≡ items_left [] (above ++ after ∷ [])
+items_out after above = sym (closed_push above after [])
+
+-- so fewer are left
+fewer : (i : Item) (is now all : List Item) → (i ∷ is) ++ now ≡ all → length now < length all
+fewer i is now all e = omega (arith, length-append (i ∷ is) now, ap length e)
+
+pub fewer_in : (n : NodeData) (after kids : List NodeData) (above : List (List NodeData)) (x : Nodes) → said_children n ≡ Some x → kids ≡ said_nodes x
+    → length (items_left kids (above ++ after ∷ [])) < length (items_left (n ∷ after) above)
+fewer_in n after kids above x has here = fewer (node_item n) (map entry_item (said_entries n)) _ _ (items_in n after kids above x has here)
+
+pub fewer_on : (n : NodeData) (after : List NodeData) (above : List (List NodeData)) → said_children n ≡ None → length (items_left after above) < length (items_left (n ∷ after) above)
+fewer_on n after above has = fewer (node_item n) (map entry_item (said_entries n)) _ _ (items_on n after above has)
+
+pub fewer_out : (after : List NodeData) (above : List (List NodeData)) → length (items_left after above) < length (items_left [] (above ++ after ∷ []))
+fewer_out after above = fewer end_item [] _ _ (items_out after above)
 
 -- into the block of a node
 pub step_in : (rows rows' : List KdlRow) (k k' : ℕ) (ss ss' : List ℕ) (u u' : ℕ) (n : NodeData) (after kids : List NodeData) (above : List (List NodeData)) (x : Nodes) (all : List Item)
@@ -56,12 +88,7 @@ pub step_in : (rows rows' : List KdlRow) (k k' : ℕ) (ss ss' : List ℕ) (u u' 
 step_in rows rows' k k' ss ss' u u' n after kids above x all s has here f = record {
   items = s.items ++ head_items n;
   say = f s.items s.say;
-  left =
-      ap (λ (z : List Item). (s.items ++ head_items n) ++ z)
-      (ap (λ (z : List Item). z ++ closed (above ++ after ∷ []) []) (ap listed here ∙ listed_said x) ∙ ap (λ (z : List Item). flattened x ++ z) (closed_push above after []))
-      ∙ regroup_in s.items (head_items n) (flattened x) (listed after) (closed above [])
-      ∙ ap (λ (z : List Item). s.items ++ ((z ++ listed after) ++ closed above [])) (sym (first_items n (Some x) has))
-      ∙ s.left;
+  left = append_assoc s.items (head_items n) (items_left kids (above ++ after ∷ [])) ∙ ap (λ (z : List Item). s.items ++ z) (items_in n after kids above x has here) ∙ s.left;
 }
 
 -- past a node without a block
@@ -71,9 +98,7 @@ pub step_on : (rows rows' : List KdlRow) (k k' : ℕ) (ss ss' : List ℕ) (u u' 
 step_on rows rows' k k' ss ss' u u' n after above all s has f = record {
   items = s.items ++ head_items n;
   say = f s.items s.say;
-  left = regroup_on s.items (head_items n) (listed after) (closed above [])
-      ∙ ap (λ (z : List Item). s.items ++ ((z ++ listed after) ++ closed above [])) (sym (first_items n None has))
-      ∙ s.left;
+  left = append_assoc s.items (head_items n) (items_left after above) ∙ ap (λ (z : List Item). s.items ++ z) (items_on n after above has) ∙ s.left;
 }
 
 -- out of a block
@@ -83,15 +108,7 @@ pub step_out : (rows rows' : List KdlRow) (k k' : ℕ) (ss : List ℕ) (u : ℕ)
 step_out rows rows' k k' ss u after above all s f = record {
   items = s.items ++ end_item ∷ [];
   say = f s.items s.say;
-  left = regroup_out s.items (listed after) (closed above []) ∙ ap (λ (z : List Item). s.items ++ z) (sym (closed_push above after [])) ∙ s.left;
-}
-
-pub same_so_far : (rows rows' : List KdlRow) (k k' : ℕ) (ss ss' : List ℕ) (u u' : ℕ) (rest rest' : List NodeData) (above above' : List (List NodeData)) (all : List Item)
-    → rows' ≡ rows → k' ≡ k → ss' ≡ ss → u' ≡ u → rest' ≡ rest → above' ≡ above → SoFar rows k ss u rest above all → SoFar rows' k' ss' u' rest' above' all
-same_so_far rows rows' k k' ss ss' u u' rest rest' above above' all a b c d e f s = record {
-  items = s.items;
-  say = subst (λ (r : List KdlRow). RowsSay r k' ss' u' s.items) (sym a) (subst (λ (i : ℕ). RowsSay rows i ss' u' s.items) (sym b) (subst (λ (z : List ℕ). RowsSay rows k z u' s.items) (sym c) (subst (λ (i : ℕ). RowsSay rows k ss i s.items) (sym d) s.say)));
-  left = ap (λ (z : List NodeData). s.items ++ (listed z ++ closed above' [])) e ∙ ap (λ (z : List (List NodeData)). s.items ++ (listed rest ++ closed z [])) f ∙ s.left;
+  left = append_assoc s.items (end_item ∷ []) (items_left after above) ∙ ap (λ (z : List Item). s.items ++ z) (items_out after above) ∙ s.left;
 }
 
 -- what the nodes on a stack say

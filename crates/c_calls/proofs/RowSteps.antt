@@ -27,9 +27,6 @@ pushed rows rows' k k' row ss ss' u u' before same more within same_rows counted
     let whole : take k' rows' ≡ take k rows ++ row ∷ [] = ap (λ i. take i rows') step ∙ ap (take (k + 1)) (written r) ∙ take_more_set rows k row here in
     subst (All (IsWithin u')) (sym whole) all
 
-pub same_within : (rows rows' : List KdlRow) (k k' : ℕ) (ss ss' : List ℕ) (u u' : ℕ) → rows' ≡ rows → k' ≡ k → ss' ≡ ss → u' ≡ u → AreWithin rows k ss u → AreWithin rows' k' ss' u'
-same_within rows rows' k k' ss ss' u u' a b c d w = subst (λ r. AreWithin r k' ss' u') (sym a) (subst (λ i. AreWithin rows i ss' u') (sym b) (subst (λ s. AreWithin rows k s u') (sym c) (subst (AreWithin rows k ss) (sym d) w)))
-
 -- one fault more
 pub told_more : (text : List ℕ) (rows rows' : List KdlFault) (k : ℕ) (row : KdlFault) (ss ss' : List ℕ) (u u' : ℕ)
     → AreTold text rows k ss u → length ss' ≡ length ss → u ≤ u' → (u' ≤ length ss → IsTold text u' row)

@@ -91,7 +91,7 @@ fn put_nodes(
 {
     let mut above: Vec<&[KdlNode]> = Vec::new(alloc);
     let mut rest = nodes;
-    for _ in 0..u64::MAX {
+    'left: loop {
         if let Some((node, after)) = rest.split_first() {
             put_node_rows(alloc, node, rows, count, strings, used)?;
             rest = match node.children() {
@@ -109,7 +109,6 @@ fn put_nodes(
             rest = after;
         }
     }
-    Err(AllocError)
 }
 
 /// Appends the rows of all nodes of a document, as `put_nodes` does.

@@ -22,8 +22,14 @@ pub mod Steps
 pub mod Frames
 -- Nodes and documents that are built.
 pub mod Built
+-- They keep no form.
+pub mod Plain
+-- Nor do the nodes whose blocks are being read.
+pub mod OpenNodes
 -- What follows of a result.
 pub mod Results
+-- How many tokens there are.
+pub mod Longer
 -- Entries and nodes in memory are fit.
 pub mod Fit
 -- Tokens appended one after another.

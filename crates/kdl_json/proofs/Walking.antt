@@ -1,5 +1,5 @@
 -- The tokens of a document that are still to be written, while its nodes are walked over a stack.
-use Rattle.std.proofs.Common.{◌≡◌, List, [], ◌∷◌, ◌++◌, Some, None, Bor, arith, length, map, refl, ap, ◌∙◌, sym, subst}
+use Rattle.std.proofs.Common.{◌≡◌, ◌<◌, List, [], ◌∷◌, ◌++◌, Some, None, Bor, arith, length, map, refl, ap, ◌∙◌, sym, subst}
 use Rattle.std.proofs.lemmas.List.{map-append}
 use Rattle.kdl.specs.Tree.{node_says}
 use Rattle.kdl.specs.declared.node.KdlNode.{KdlNode}
@@ -15,6 +15,7 @@ use Rattle.kdl_json.specs.Heads.{head_of}
 use Rattle.kdl_json.specs.Writing.{IsFitHead}
 use Rattle.kdl_json.proofs.Appending.{Appended}
 use Rattle.kdl_json.proofs.Blocks.{AreFit, list_tokens, said_fit, said_tokens}
+use Rattle.kdl_json.proofs.Longer.{head_of_longer}
 
 -- the ends of the open blocks, from the last one on, each with the nodes after it
 abbrev pub closed : List (List Node) → List Token → List Token
@@ -118,6 +119,24 @@ walk_out start out new after above x w a = record {
 pub walked_fit : (start out : Written) (x : Nodes) → Walked start out [] [] x → AreWellFormed x
 walked_fit start out x w = said_fit x (w.fit tt tt)
 
+-- the tokens of the nodes that are left, and of what follows them
+abbrev pub tokens_left : List Node → List (List Node) → List Token
+tokens_left rest above = list_tokens rest (closed above [])
+
+-- fewer are left after a step: into the block of a node, past a node without a block, out of a block
+pub fewer_in : (n : Node) (after kids : List Node) (above : List (List Node)) (z : Nodes) → said_children n ≡ Some z → kids ≡ said_nodes z → length (tokens_left kids (above ++ after ∷ [])) < length (tokens_left (n ∷ after) above)
+fewer_in n after kids above z has here =
+    let ends = json'.end_array ∷ json'.end_object ∷ tokens_left after above in
+    let now : tokens_left kids (above ++ after ∷ []) ≡ list_tokens (said_nodes z) ends =
+    ap (λ (l : List Node). tokens_left l (above ++ after ∷ [])) here ∙ ap (list_tokens (said_nodes z)) (closed_push above after []) in
+    omega (arith, ap length now, head_of_longer n (json'.key (codes "children") ∷ json'.begin_array ∷ list_tokens (said_nodes z) ends), ap length (node_inside n z (tokens_left after above) has))
+
+pub fewer_on : (n : Node) (after : List Node) (above : List (List Node)) → said_children n ≡ None → length (tokens_left after above) < length (tokens_left (n ∷ after) above)
+fewer_on n after above has = omega (arith, head_of_longer n (json'.end_object ∷ tokens_left after above), ap length (node_alone n (tokens_left after above) has))
+
+pub fewer_out : (after : List Node) (above : List (List Node)) → length (tokens_left after above) < length (tokens_left [] (above ++ after ∷ []))
+fewer_out after above = omega (arith, ap length (closed_push above after []))
+
 -- what the nodes on a stack say
 abbrev pub stack : List (Bor (List KdlNode)) → List (List Node)
 stack bs = map (λ b. map node_says b.now) bs
@@ -128,7 +147,3 @@ stack_push bs cs b e = ap stack e ∙ map-append (λ (x : Bor (List KdlNode)). m
 pub empty : {A : Type 0} (xs : List A) → length xs ≡ 0 → xs ≡ []
 empty [] e = refl
 empty (x ∷ xs) e = absurd (omega (arith, e))
-
-pub walked_same : (start out out' : Written) (rest rest' : List Node) (above above' : List (List Node)) (x : Nodes) → out' ≡ out → rest' ≡ rest → above' ≡ above → Walked start out rest above x → Walked start out' rest' above' x
-walked_same start out out' rest rest' above above' x o r a w =
-    subst (λ (z : Written). Walked start z rest' above' x) (sym o) (subst (λ (z : List Node). Walked start out z above' x) (sym r) (subst (λ (z : List (List Node)). Walked start out rest z x) (sym a) w))

@@ -1,9 +1,10 @@
 //! Identifiers, values, entries, nodes and documents of given data.
 
 ghost use Rattle.kdl.specs.Said.{said_nodes};
-ghost use Rattle.kdl.specs.Words.{IsWellFormed, Value, document_says, entry_data, entry_tree, identifier_tree, node_says, none, value_tree};
+ghost use Rattle.kdl.specs.Words.{DocumentKeepsNoForm, IsWellFormed, NodeKeepsNoForm, Value, document_says, entry_data, entry_tree, identifier_tree, node_says, none, value_tree};
 ghost use Rattle.kdl_grammar.specs.Data.{no_children, node};
 ghost use Rattle.kdl_json.specs.Heads.{with_block, with_more};
+ghost use Rattle.kdl_json.specs.Reading.{EntryKeepsNoForm};
 ghost use Rattle.kdl_json.specs.Values.{IsFloatOf, IsNumberOf, IsTextOf};
 ghost use Rattle.kdl_json.specs.declared.failure.JsonFailure.TheVariants.{Memory};
 ghost use Rattle.std.specs.Prelude.{◌≡◌, [], ◌∷◌, ◌++◌, IfOk, MatchResult, option_map};
@@ -61,7 +62,8 @@ pub fn float_value(alloc: Global, text: &str, at: usize) -> Result<KdlValue, Jso
 
 /// Creates an entry.
 pub fn built(name: Option<KdlIdentifier>, ty: Option<KdlIdentifier>, value: KdlValue) -> KdlEntry
-    ensures { entry_data (entry_tree result)
+    ensures plain { EntryKeepsNoForm result }
+    ensures data { entry_data (entry_tree result)
         ≡ record { key = option_map (λ i. (identifier_tree i).value) name; ty = option_map (λ i. (identifier_tree i).value) ty; value = value_tree value } }
 {
     let mut entry = KdlEntry::new(value);
@@ -74,7 +76,8 @@ pub fn built(name: Option<KdlIdentifier>, ty: Option<KdlIdentifier>, value: KdlV
 
 /// Creates a node without entries and children.
 pub fn bare(name: KdlIdentifier, ty: Option<KdlIdentifier>) -> Result<KdlNode, JsonFailure>
-    ensures { MatchResult result (λ n. node_says n
+    ensures plain { IfOk result NodeKeepsNoForm }
+    ensures data { MatchResult result (λ n. node_says n
         ≡ node (option_map (λ i. (identifier_tree i).value) ty) (identifier_tree name).value [] no_children)
         (λ e. e ≡ Memory) }
 {
@@ -87,7 +90,8 @@ pub fn bare(name: KdlIdentifier, ty: Option<KdlIdentifier>) -> Result<KdlNode, J
 
 /// Appends the entry to the node.
 pub fn pushed(mut node: KdlNode, entry: KdlEntry) -> Result<KdlNode, JsonFailure>
-    ensures { MatchResult result (λ m. node_says m
+    ensures plain { NodeKeepsNoForm node → EntryKeepsNoForm entry → IfOk result NodeKeepsNoForm }
+    ensures data { MatchResult result (λ m. node_says m
         ≡ with_more (node_says node) (entry_data (entry_tree entry) ∷ [])) (λ e. e ≡ Memory) }
 {
     match node.push(entry) {
@@ -98,14 +102,16 @@ pub fn pushed(mut node: KdlNode, entry: KdlEntry) -> Result<KdlNode, JsonFailure
 
 /// Creates a document without nodes.
 pub fn empty(alloc: Global) -> KdlDocument
-    ensures { document_says result ≡ none }
+    ensures plain { DocumentKeepsNoForm result }
+    ensures data { document_says result ≡ none }
 {
     KdlDocument::new(alloc)
 }
 
 /// Gives the node a block.
 pub fn enclosed(mut node: KdlNode, block: KdlDocument) -> KdlNode
-    ensures { node_says result ≡ with_block (node_says node) (document_says block) }
+    ensures plain { NodeKeepsNoForm node → DocumentKeepsNoForm block → NodeKeepsNoForm result }
+    ensures data { node_says result ≡ with_block (node_says node) (document_says block) }
 {
     node.set_children(block);
     node
@@ -113,7 +119,8 @@ pub fn enclosed(mut node: KdlNode, block: KdlDocument) -> KdlNode
 
 /// Appends the node to the nodes.
 pub fn appended(mut nodes: KdlDocument, node: KdlNode) -> Result<KdlDocument, JsonFailure>
-    ensures { MatchResult result (λ d. said_nodes (document_says d)
+    ensures plain { DocumentKeepsNoForm nodes → NodeKeepsNoForm node → IfOk result DocumentKeepsNoForm }
+    ensures data { MatchResult result (λ d. said_nodes (document_says d)
         ≡ said_nodes (document_says nodes) ++ node_says node ∷ []) (λ e. e ≡ Memory) }
 {
     match nodes.push_node(node) {

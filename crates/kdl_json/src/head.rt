@@ -1,12 +1,12 @@
 //! Reading a node up to its children: its name, its type and its entries.
 
 ghost use Rattle.json.specs.Token.{Token as Spec, begin_object, end_array, string};
-ghost use Rattle.kdl.specs.Words.{EntryData, IsWellFormed, Text, Value, entry_data, entry_tree, identifier_tree, node_says, value_tree};
+ghost use Rattle.kdl.specs.Words.{EntryData, IsWellFormed, NodeKeepsNoForm, Text, Value, entry_data, entry_tree, identifier_tree, node_says, value_tree};
 ghost use Rattle.kdl_layout.specs.WellFormed.{AreWellFormedEntries, IsWellFormedEntry};
 ghost use Rattle.kdl_grammar.specs.Data.{no_children, node};
 ghost use Rattle.kdl_json.specs.Form.{entries_tokens, entry_tokens, head_tokens, member_tokens, name_tokens, value_tokens};
 ghost use Rattle.kdl_json.specs.Heads.{HasTaken, IsHead, IsNamed, with_more};
-ghost use Rattle.kdl_json.specs.Reading.{Gives, left};
+ghost use Rattle.kdl_json.specs.Reading.{EntryKeepsNoForm, Gives, left};
 ghost use Rattle.kdl_json.specs.Keys.{NotKey};
 ghost use Rattle.std.specs.Prelude.{◌≡◌, [], ◌∷◌, IfOk, List, codes, Option, option_map};
 ghost use Rattle.std.specs.Str.{encode_utf8_all};
@@ -94,6 +94,7 @@ fn entry(alloc: Global, source: &mut Source<'_>) -> Result<KdlEntry, JsonFailure
     ensures reads { (x : EntryData) (rest : List Spec) → IsWellFormedEntry x
         → left source.old ≡ entry_tokens x rest
         → Gives (λ e. entry_data (entry_tree e)) result (left source.new) x rest }
+    ensures plain { IfOk result EntryKeepsNoForm }
 {
     source.begin_object(Expected::Entry)?;
     let name = member(alloc, source, "name")?;
@@ -112,6 +113,7 @@ fn named(alloc: Global, source: &mut Source<'_>) -> Result<KdlNode, JsonFailure>
     ensures reads { (ty : Option Text) (name : Text) (rest : List Spec) → NotKey (codes "type") rest
         → left source.old ≡ name_tokens ty name rest
         → Gives node_says result (left source.new) (node ty name [] no_children) rest }
+    ensures plain { IfOk result NodeKeepsNoForm }
 {
     if !source.take_key("name") {
         return Err(source.unexpected(Expected::NodeName));
@@ -132,15 +134,13 @@ fn entries(
     ensures reads { (es : List EntryData) (rest : List Spec) → AreWellFormedEntries es
         → left source.old ≡ entries_tokens es (end_array ∷ rest)
         → Gives node_says result (left source.new) (with_more (node_says node) es) rest }
+    ensures plain { NodeKeepsNoForm node → IfOk result NodeKeepsNoForm }
 {
-    for _ in 0..u64::MAX {
-        if source.take_end_array() {
-            return Ok(node);
-        }
+    'tokens: while !source.take_end_array() {
         let entry = entry(alloc, source)?;
         node = pushed(node, entry)?;
     }
-    Err(JsonFailure::Memory)
+    Ok(node)
 }
 
 /// Reads a node up to its entries: its name, its type, its entries.
@@ -150,6 +150,7 @@ pub fn head(alloc: Global, source: &mut Source<'_>) -> Result<KdlNode, JsonFailu
         → AreWellFormedEntries es
         → left source.old ≡ head_tokens ty name es rest
         → Gives node_says result (left source.new) (node ty name es no_children) rest }
+    ensures plain { IfOk result NodeKeepsNoForm }
 {
     source.begin_object(Expected::Node)?;
     let node = named(alloc, source)?;

@@ -1,7 +1,7 @@
 //! Reading a document from JSON.
 
 ghost use Rattle.json.specs.Token.{end_array};
-ghost use Rattle.kdl.specs.Words.{Nodes, document_says};
+ghost use Rattle.kdl.specs.Words.{DocumentKeepsNoForm, Nodes, document_says};
 ghost use Rattle.kdl_layout.specs.WellFormed.{AreWellFormed};
 ghost use Rattle.kdl_json.specs.Form.{IsJsonOf, nodes_tokens};
 ghost use Rattle.kdl_json.specs.Reading.{left};
@@ -30,10 +30,11 @@ fn nodes(alloc: Global, source: &mut Source<'_>) -> Result<KdlDocument, JsonFail
     ensures reads { (x : Nodes) → AreWellFormed x
         → left source.old ≡ nodes_tokens x (end_array ∷ [])
         → MatchResult result (λ d. document_says d ≡ x) (λ e. e ≡ Memory) }
+    ensures plain { IfOk result DocumentKeepsNoForm }
 {
     let mut open: Vec<Open> = Vec::new(alloc);
     let mut nodes = empty(alloc);
-    for _ in 0..u64::MAX {
+    'tokens: loop {
         if source.take_end_array() {
             let Some(Open { before, node }) = open.pop() else {
                 source.end()?;
@@ -56,10 +57,12 @@ fn nodes(alloc: Global, source: &mut Source<'_>) -> Result<KdlDocument, JsonFail
             }
         }
     }
-    Err(JsonFailure::Memory)
 }
 
 /// Reads a document from its JSON, in the form that `to_json` writes, with any spaces between its tokens.
+///
+/// No entry of the document is flagged to keep its form, so that `KdlDocument::autoformat_no_comments` gives it the
+/// canonical text of its data.
 ///
 /// If the text is not such a JSON, returns the place and what is expected there. Returns `Memory` if an allocation
 /// fails.
@@ -67,6 +70,7 @@ pub fn from_json(alloc: Global, text: &str) -> Result<KdlDocument, JsonFailure>
     ensures sound { IfOk result (λ d. IsJsonOf text.now (document_says d)) }
     ensures reads { (x : Nodes) → AreWellFormed x → IsJsonOf text.now x
         → MatchResult result (λ d. document_says d ≡ x) (λ e. e ≡ Memory) }
+    ensures plain { IfOk result DocumentKeepsNoForm }
 {
     let mut scratch = Scratch::new(alloc);
     let reader = Reader::new(text, &mut scratch)?;

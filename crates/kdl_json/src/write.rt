@@ -135,7 +135,7 @@ fn write_nodes(
 {
     let mut above: Vec<&[KdlNode]> = Vec::new(alloc);
     let mut rest = document.nodes();
-    for _ in 0..u64::MAX {
+    'left: loop {
         if let Some((node, after)) = rest.split_first() {
             write_head(out, node)?;
             rest = match node.children() {
@@ -158,7 +158,6 @@ fn write_nodes(
             rest = after;
         }
     }
-    Err(AllocError)
 }
 
 /// Returns the data of the document as JSON, without spaces. Returns an error if an allocation fails.

@@ -68,11 +68,11 @@ returns-clause-reads c = λ x rest w e.
     let n = c.in_ok-name.ensures.reads x.key (typed x rest) (no_name x.ty (valued x rest)) (after_first c.in_ok-begin_object.ensures e) in
     let t = c.in_ok-ty.ensures.reads x.ty (keyed x rest) (other_key (codes "value") (codes "type") (valued x rest) type_value) n.1 in
     let v = c.in_ok-value.ensures.reads x.value (end_object ∷ rest) w.2 (after_first c.if-not-take_key.ensures t.1) in
-    (c.built.ensures ∙ same_entry x _ _ _ n.0 t.0 v.0, after_first c.in_ok-end_object.ensures v.1)
+    (c.built.ensures.data ∙ same_entry x _ _ _ n.0 t.0 v.0, after_first c.in_ok-end_object.ensures v.1)
 
 pub returns-clause-sound : goal.returns-clause-sound
 returns-clause-sound c =
     c.in_ok-begin_object.ensures
     ∙ ap (λ (ts : List Token). begin_object ∷ ts) (c.in_ok-name.ensures.sound ∙ ap (member_tokens (codes "name") _) (c.in_ok-ty.ensures.sound ∙ ap (member_tokens (codes "type") _)
     (c.if-not-take_key.ensures ∙ ap (λ (ts : List Token). key (codes "value") ∷ ts) (c.in_ok-value.ensures.sound ∙ ap (value_tokens _) c.in_ok-end_object.ensures))))
-    ∙ ap (λ (x : Entry). entry_tokens x (left c.end_object.new.self)) (sym c.built.ensures)
+    ∙ ap (λ (x : Entry). entry_tokens x (left c.end_object.new.self)) (sym c.built.ensures.data)

@@ -44,11 +44,11 @@ named_reads (Ok n) ty uy name nome new rest h t m e = (h ∙ ap (λ (u : Option 
 named_reads (Err x) ty uy name nome new rest h t m e = h
 
 pub returns-clause-sound : goal.returns-clause-sound
-returns-clause-sound c = named_sound c.bare.result _ _ (left c.args.source.now) (left c.member.new.source) c.bare.ensures
+returns-clause-sound c = named_sound c.bare.result _ _ (left c.args.source.now) (left c.member.new.source) c.bare.ensures.data
     (c.if-not-take_key.ensures ∙ ap (λ (ts : List Token). key (codes "name") ∷ ts) (c.in_ok-name.ensures.sound ∙ ap (λ (ts : List Token). string (encode_utf8_all (identifier_tree c.in_ok-name.name).value) ∷ ts) c.in_ok-ty.ensures.sound))
 
 pub returns-clause-reads : goal.returns-clause-reads
 returns-clause-reads c = λ ty name rest n e.
     let m = c.in_ok-name.ensures.reads name (member_tokens (codes "type") ty rest) (after_first c.if-not-take_key.ensures e) in
     let t = c.in_ok-ty.ensures.reads ty rest n m.1 in
-    named_reads c.bare.result _ ty _ name (left c.member.new.source) rest c.bare.ensures t.0 m.0 t.1
+    named_reads c.bare.result _ ty _ name (left c.member.new.source) rest c.bare.ensures.data t.0 m.0 t.1
