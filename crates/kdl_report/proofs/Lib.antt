@@ -16,3 +16,9 @@ pub mod EditSteps
 pub mod HunkSteps
 -- What the definitions of differences do not allow.
 pub mod DiffExamples
+-- What the readers of hints pass.
+pub mod HintSteps
+-- Tokens of an object that are written one after another.
+pub mod ObjectSteps
+-- One more difference in the list of lines of two texts.
+pub mod TightSteps

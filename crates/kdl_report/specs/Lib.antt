@@ -8,9 +8,15 @@ pub mod Spots
 pub mod Shown
 -- What a diagnostic says.
 pub mod Said
+-- The hint on a fault.
+pub mod Hints
 -- The picture of a fault.
 pub mod Picture
+-- A fault as a JSON object.
+pub mod Object
 -- The lines of two texts as one list.
 pub mod Edits
 -- What is shown of them.
 pub mod Hunks
+-- Differences in which no line is both removed and added.
+pub mod Tight

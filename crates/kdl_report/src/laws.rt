@@ -1,11 +1,14 @@
 //! Laws of places, for proofs of callers.
 
+ghost use Rattle.json.specs.Token.{string};
+ghost use Rattle.kdl_report.specs.Hints.{hint_at, keyword_hint, raw_string_hint, sign_hint};
+ghost use Rattle.kdl_report.specs.Object.{number_member, or_null, text_member};
 ghost use Rattle.kdl_report.specs.Places.{IsLine, column, line_at, line_number, newlines};
 ghost use Rattle.kdl_report.specs.Rows.{first_row, last_row};
 ghost use Rattle.kdl_report.specs.Shown.{carets, shown};
 ghost use Rattle.kdl_text.specs.Chars.{Text};
 ghost use Rattle.kdl_text.specs.declared.span.SourceSpan.{SourceSpan};
-ghost use Rattle.std.specs.Prelude.{◌≡◌, ℕ, [], ◌∷◌, ◌++◌};
+ghost use Rattle.std.specs.Prelude.{◌≡◌, ℕ, List, [], ◌∷◌, ◌++◌, None, Some, codes};
 
 /// The line of a byte is a line of the text, and its number is that of the line.
 pub fn line_of_a_byte_is_a_line()
@@ -34,4 +37,21 @@ pub fn small_texts_are_not_so()
     ensures line { line_at 0 (97 ∷ 10 ∷ []) ≡ 97 ∷ 10 ∷ [] → ⊥ }
     ensures shown { shown (27 ∷ []) ≡ 27 ∷ [] → ⊥ }
     ensures carets { carets [] ≡ [] → ⊥ }
+{}
+
+/// What hints are not, on small texts: a keyword of KDL 1 is not without one, another word has none, and nor has a raw
+/// string without a quote; `[` has not that of `=`.
+pub fn small_hints_are_not_so()
+    ensures keyword { keyword_hint (codes "true") ≡ None → ⊥ }
+    ensures word { (h : List ℕ) → keyword_hint (codes "treu") ≡ Some h → ⊥ }
+    ensures raw { (h : List ℕ) → raw_string_hint (codes "r#1") ≡ Some h → ⊥ }
+    ensures sign { sign_hint (codes "[") ≡ sign_hint (codes "=") → ⊥ }
+    ensures some { hint_at (codes "=") ≡ None → ⊥ }
+{}
+
+/// What the members of an object are not: null is not a text, a text is not left out, and a number is not a text.
+pub fn small_objects_are_not_so()
+    ensures null { or_null None ≡ string (codes "null") → ⊥ }
+    ensures text { text_member (codes "help") (Some []) ≡ text_member (codes "help") None → ⊥ }
+    ensures number { (name text : List ℕ) (n : ℕ) → number_member name n ≡ text_member name (Some text) → ⊥ }
 {}

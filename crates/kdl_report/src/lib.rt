@@ -28,6 +28,7 @@
 //! ```
 #![tactic(auto)]
 
+mod change;
 mod diff;
 mod hints;
 pub mod laws;

@@ -1,8 +1,9 @@
 //! A fault as a JSON object.
 
-ghost use Rattle.std.specs.Prelude.{◌≡◌, OnOk};
+ghost use Rattle.kdl_report.specs.Object.{Puts, fault_json, number_member, place_members, text_member, word_members};
+ghost use Rattle.std.specs.Prelude.{◌≡◌, IfOk, option_map, string_bytes};
 
-use crate::hints::hint;
+use crate::hints::hint_on;
 use crate::places::Lines;
 use crate::words::{optional, word_of};
 use json::Writer;
@@ -19,14 +20,16 @@ pub fn json(
     name: &str,
     lines: &Lines<'_>,
     fault: &KdlDiagnostic,
-) -> Result<String, AllocError> {
+) -> Result<String, AllocError>
+    ensures { IfOk result (λ out. string_bytes out ≡ fault_json name.now lines.now fault.now) }
+{
     let mut out = Writer::new(Vec::new(alloc));
     out.begin_object()?;
     out.key("file")?;
     out.string(name)?;
     put_place(&mut out, lines, fault)?;
     put_words(&mut out, fault)?;
-    put_optional(&mut out, "hint", hint(lines.text(), fault))?;
+    put_optional(&mut out, "hint", hint_on(lines.rest(fault.span.offset)))?;
     out.end_object()?;
     let mut text = String::from_utf8(out.into_inner()).unwrap();
     text.push('\n')?;
@@ -39,7 +42,7 @@ fn put_place(
     lines: &Lines<'_>,
     fault: &KdlDiagnostic,
 ) -> Result<(), AllocError>
-    ensures { OnOk result (out.new.before ≡ out.old.before) }
+    ensures { Puts result out.old out.new (place_members lines.now fault.now) }
 {
     let place = lines.place(fault.span.offset);
     put_number(out, "line", place.line)?;
@@ -50,7 +53,7 @@ fn put_place(
 
 /// Writes what the diagnostic says.
 fn put_words(out: &mut Writer<Global>, fault: &KdlDiagnostic) -> Result<(), AllocError>
-    ensures { OnOk result (out.new.before ≡ out.old.before) }
+    ensures { Puts result out.old out.new (word_members fault.now) }
 {
     out.key("severity")?;
     out.string(word_of(fault.severity))?;
@@ -61,7 +64,7 @@ fn put_words(out: &mut Writer<Global>, fault: &KdlDiagnostic) -> Result<(), Allo
 
 /// Writes a member that is a number.
 fn put_number(out: &mut Writer<Global>, key: &str, n: usize) -> Result<(), AllocError>
-    ensures { OnOk result (out.new.before ≡ out.old.before) }
+    ensures { Puts result out.old out.new (number_member key.now n) }
 {
     out.key(key)?;
     out.u64(n as u64)
@@ -69,7 +72,8 @@ fn put_number(out: &mut Writer<Global>, key: &str, n: usize) -> Result<(), Alloc
 
 /// Writes a member that is a text, or null.
 fn put_optional(out: &mut Writer<Global>, key: &str, text: Option<&str>) -> Result<(), AllocError>
-    ensures { OnOk result (out.new.before ≡ out.old.before) }
+    ensures { Puts result out.old out.new
+        (text_member key.now (option_map (λ s. s.now) text.entry)) }
 {
     out.key(key)?;
     match text {

@@ -1,13 +1,13 @@
 //! The picture of a fault, as rustc and miette draw it.
 
+ghost use Rattle.kdl_report.specs.Hints.{hint_of};
 ghost use Rattle.kdl_report.specs.Picture as picture;
 ghost use Rattle.kdl_report.specs.Picture.{arrow, caret_line, empty_line, gap, head, location, marked_line, marked_lines, notes, paint, source_line, spaced};
 ghost use Rattle.kdl_report.specs.Shown.{Appends, text_of};
 ghost use Rattle.kdl_report.specs.Spots.{excerpt_row};
-ghost use Rattle.kdl_text.specs.Chars.{Text};
-ghost use Rattle.std.specs.Prelude.{◌≡◌, Option, IfOk, None, chars, option_map};
+ghost use Rattle.std.specs.Prelude.{◌≡◌, IfOk, None, chars, option_map};
 
-use crate::hints::hint;
+use crate::hints::hint_on;
 use crate::places::{Excerpt, Lines, Place};
 use crate::shown::{
     digits, put, put_carets, put_char, put_columns, put_number, put_shown, put_times,
@@ -46,11 +46,11 @@ pub fn render(
     fault: &KdlDiagnostic,
     color: bool,
 ) -> Result<String, AllocError>
-    ensures { IfOk result (λ out. (hint : Option Text)
-        × (text_of out ≡ picture.picture color (chars name.now) lines.now fault.now hint)) }
+    ensures { IfOk result (λ out. text_of out ≡ picture.picture color (chars name.now) lines.now
+        fault.now (option_map chars (hint_of lines.now fault.now))) }
 {
     let mut out = String::new(alloc);
-    let hint = hint(lines.text(), fault);
+    let hint = hint_on(lines.rest(fault.span.offset));
     draw(&mut out, name, lines, fault, hint, color)?;
     Ok(out)
 }

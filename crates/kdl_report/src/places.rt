@@ -48,7 +48,7 @@ struct Unit<'a> {
 }
 
 /// The first character, and the text after it.
-fn split_first(text: &str) -> Option<(char, &str)>
+pub(crate) fn split_first(text: &str) -> Option<(char, &str)>
     ensures parts { MatchOption result (chars text.now ≡ []) (λ (c, rest). chars text.now ≡ c ∷ chars rest.now) }
     ensures utf8 { IfSome result (λ (c, rest). IsUtf8 rest.now) }
 {
@@ -93,7 +93,7 @@ fn first_unit(text: &str) -> Option<Unit<'_>>
 }
 
 /// The front of the text, before the rest.
-fn cut<'a>(text: &'a str, rest: &str) -> &'a str
+pub(crate) fn cut<'a>(text: &'a str, rest: &str) -> &'a str
     requires { (p : Text) × (chars text.now ≡ p ++ chars rest.now) }
     ensures { chars text.now ≡ chars result.now ++ chars rest.now }
 {
@@ -165,6 +165,13 @@ fn seek<'a>(spot: Spot<'a>, offset: usize) -> Spot<'a>
         spot = next;
     }
     spot
+}
+
+/// The text from the offset on.
+pub(crate) fn rest_at(text: &str, offset: usize) -> &str
+    ensures { chars result.now ≡ from offset (chars text.now) }
+{
+    seek(start(text), offset).rest
 }
 
 /// The line of the spot, and the part of it before the spot.
@@ -259,6 +266,13 @@ impl<'a> Lines<'a> {
             line: spot.line,
             column: spot.column,
         }
+    }
+
+    /// The text from the offset on.
+    pub(crate) fn rest(&self, offset: usize) -> &'a str
+        ensures { chars result.now ≡ from offset self.now }
+    {
+        self.seek(offset).rest
     }
 
     /// The spot at the offset.

@@ -1,7 +1,7 @@
 //! What a diagnostic says: its severity, message, label and help.
 
 ghost use Rattle.kdl_report.specs.Said.{label_of, message_of, optional, word_of};
-ghost use Rattle.std.specs.Prelude.{◌≡◌, chars, option_map};
+ghost use Rattle.std.specs.Prelude.{◌≡◌, chars, option_map, string_bytes};
 
 use kdl_text::error::KdlDiagnostic;
 use kdl_text::span::Severity;
@@ -19,7 +19,8 @@ pub(crate) fn word_of(severity: Severity) -> &'static str
 
 /// The text of an optional string.
 pub(crate) fn optional(text: &Option<String>) -> Option<&str>
-    ensures { option_map (λ s. chars s.now) result ≡ optional text.now }
+    ensures text { option_map (λ s. chars s.now) result ≡ optional text.now }
+    ensures bytes { option_map (λ s. s.now) result ≡ option_map string_bytes text.now }
 {
     match text {
         Some(text) => Some(text.as_str()),

@@ -14,6 +14,6 @@ returns c =
     let d = and_then _ _ _ _ _ b (as_piece _ _ _ _ c.in_ok-put-2.ensures c.word_of.ensures) in
     let e = and_then _ _ _ _ _ d c.in_ok-put-3.ensures in
     let f = and_then _ _ _ _ _ e (as_piece _ _ _ _ c.in_ok-put_shown.ensures (ap shown c.message_of.ensures)) in
-    let g = and_then _ _ _ _ _ f (as_piece _ _ _ _ c.in_ok-put_label.ensures (ap labelled c.optional.ensures)) in
+    let g = and_then _ _ _ _ _ f (as_piece _ _ _ _ c.in_ok-put_label.ensures (ap labelled c.optional.ensures.text)) in
     let h = and_then _ _ _ _ _ g c.in_ok-put_char.ensures in
     h ∙ ap (λ z. z ++ one_line (chars c.args.name.now) c.args.lines.now c.args.fault.now) none

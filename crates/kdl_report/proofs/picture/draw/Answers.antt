@@ -22,6 +22,6 @@ returns c =
     let a = and_then _ _ _ _ _ c.in_ok-put_head.ensures (as_piece _ _ _ _ c.in_ok-put_arrow.ensures (ap (arrow c.args.color w (chars c.args.name.now)) place)) in
     let b = and_then _ _ _ _ _ a c.in_ok-put_empty_line.ensures in
     let d = and_then _ _ _ _ _ b (as_piece _ _ _ _ c.in_ok-put_excerpts.ensures lines) in
-    let e = as_last c.put_notes.result _ _ _ _ c.put_notes.ensures (ap (λ z. notes c.args.color w z hint) c.optional.ensures) in
+    let e = as_last c.put_notes.result _ _ _ _ c.put_notes.ensures (ap (λ z. notes c.args.color w z hint) c.optional.ensures.text) in
     let P : ℕ → Type 0 = λ k. Appends c.put_notes.result c.args.out.now c.put_notes.new.out (drawn c.args.color k (chars c.args.name.now) t fault hint) in
     subst P width (and_last c.put_notes.result _ _ _ _ _ d e)
