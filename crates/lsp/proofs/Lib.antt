@@ -8,3 +8,15 @@ pub mod Sending
 pub mod Rules
 -- The bytes with which messages of the server begin.
 pub mod Fronts
+-- What is left of a text that is read.
+pub mod Scanning
+-- Nodes in their blocks.
+pub mod Trees
+-- Steps of a session.
+pub mod Steps
+-- Writers that write more.
+pub mod Growing
+-- Faults that are written.
+pub mod Publishing
+-- Edits that are written.
+pub mod Edits

@@ -40,9 +40,9 @@ TextTells text note = IsSomeAnd (document text) (λ j. TellsIn j note)
 abbrev pub IsIgnored : List ℕ → Type 0
 IsIgnored method = (method ≢ codes "exit") × (method ≢ codes "textDocument/didOpen") × (method ≢ codes "textDocument/didChange") × (method ≢ codes "textDocument/didClose")
 
--- a text is no message, or none that is a notification of another method
+-- a text is JSON, but no notification about documents, and not `exit`
 abbrev pub IsQuiet : List ℕ → Type 0
-IsQuiet text = IfSome (document text) (λ j. IfSome (method_of j) IsIgnored)
+IsQuiet text = IsSomeAnd (document text) (λ j. IfSome (method_of j) IsIgnored)
 
 -- a text is a message that names the document of a URI
 abbrev pub Names : List ℕ → List ℕ → Type 0
@@ -54,3 +54,14 @@ AsksIn j id = (get (codes "id") j ≡ Some id) × IsSome (option_and_then as_str
 
 abbrev pub Asks : List ℕ → Json → Type 0
 Asks text id = IsSomeAnd (document text) (λ j. AsksIn j id)
+
+-- a message is the request `initialize` with the identifier; a text is such a message
+abbrev pub StartsIn : Json → Json → Type 0
+StartsIn j id = (get (codes "id") j ≡ Some id) × (option_and_then as_str (get (codes "method") j) ≡ Some (codes "initialize"))
+
+abbrev pub Starts : List ℕ → Json → Type 0
+Starts text id = IsSomeAnd (document text) (λ j. StartsIn j id)
+
+-- a text is the notification `exit`
+abbrev pub Exits : List ℕ → Type 0
+Exits text = IsSomeAnd (document text) (λ j. method_of j ≡ Some (codes "exit"))

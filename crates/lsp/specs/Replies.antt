@@ -6,10 +6,16 @@ use Rattle.json.specs.Json.{Json}
 use Rattle.json.specs.Print.{IsNumber, print}
 use Rattle.json.specs.Token.{Token, begin_object, end_object, key, null, number, string}
 use Rattle.json.specs.Written.{Written}
+use Rattle.lsp.specs.Messages.{encoding_name}
+use Rattle.lsp_text.specs.declared.position.Encoding.{Encoding}
 
 -- a writer has written these tokens
 abbrev pub IsWritten : Written → List Token → Type 0
 IsWritten out ts = (out.before ≡ []) × (out.tokens ≡ ts)
+
+-- a writer has written more
+abbrev pub Grows : Written → Written → Type 0
+Grows old new = (new.before ≡ old.before) × ((more : List Token) × (new.tokens ≡ old.tokens ++ more))
 
 -- the tokens with which each message begins, and those of a notification up to its parameters
 abbrev pub message_head : List Token
@@ -28,6 +34,18 @@ IsId _ t = t ≡ null
 abbrev pub IsReplyWith : List ℕ → Json → String Global → Type 0
 IsReplyWith name id m = (t : Token) × IsId id t × (rest : List ℕ) × (string_bytes m ≡ print (message_head ++ key (codes "id") ∷ t ∷ key name ∷ []) ++ rest)
 
+-- a message is a reply with that content
+abbrev pub IsReplyOf : List ℕ → Json → List ℕ → String Global → Type 0
+IsReplyOf name id content m = (t : Token) × IsId id t × (string_bytes m ≡ print (message_head ++ key (codes "id") ∷ t ∷ key name ∷ []) ++ (content ++ 125 ∷ []))
+
+-- the tokens with which the result of `initialize` begins: what positions count
+abbrev pub greeting_head : Encoding → List Token
+greeting_head e = begin_object ∷ key (codes "capabilities") ∷ begin_object ∷ key (codes "positionEncoding") ∷ string (encoding_name e) ∷ []
+
+-- a message is the reply to `initialize`, with the encoding
+abbrev pub IsGreeting : Json → Encoding → String Global → Type 0
+IsGreeting id e m = (t : Token) × IsId id t × (rest : List ℕ) × (string_bytes m ≡ print (message_head ++ key (codes "id") ∷ t ∷ key (codes "result") ∷ []) ++ (print (greeting_head e) ++ rest))
+
 -- a message is a reply to the request: with a result, or an error
 abbrev pub IsReplyTo : Json → String Global → Type 0
 IsReplyTo id m = IsReplyWith (codes "result") id m ⊎ IsReplyWith (codes "error") id m
@@ -42,6 +60,13 @@ Replies id ms = (m : String Global) × Contains ms m × IsReplyTo id m
 
 unfoldable pub Logs : List (String Global) → Type 0
 Logs ms = (m : String Global) × Contains ms m × IsLog m
+
+-- one of the messages is a reply to `initialize` with the encoding; one is a reply with an error
+unfoldable pub Greets : Json → Encoding → List (String Global) → Type 0
+Greets id e ms = (m : String Global) × Contains ms m × IsGreeting id e m
+
+unfoldable pub Fails : Json → List (String Global) → Type 0
+Fails id ms = (m : String Global) × Contains ms m × IsReplyWith (codes "error") id m
 
 -- each of the messages is one of the others
 unfoldable pub AreIn : List (String Global) → List (String Global) → Type 0

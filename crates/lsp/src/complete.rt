@@ -1,5 +1,7 @@
 //! Names and keys that may come at a place: those of the nodes in the same block.
 
+ghost use Rattle.std.specs.Prelude.{◌≡◌, ◌<◌, [], IfOk, MatchOption, length};
+
 use crate::place::{place, range_of};
 use crate::scan::{Lexeme, Scanner, is_key, is_line_comment};
 use crate::write::{Out, Wrong, begin, end, put_edit, put_number, put_text};
@@ -86,11 +88,7 @@ fn put_items(
     range: Range,
 ) -> Result<(), AllocError> {
     let mut reader = Reader::new(alloc, front);
-    for _ in 0..u64::MAX {
-        if reader.read(alloc)?.is_none() {
-            break;
-        }
-    }
+    while let Some(_read) = reader.read(alloc)? {}
     let block = reader.block();
     let Some(wanted) = reader.wanted() else {
         return Ok(());
@@ -119,10 +117,7 @@ fn words(
 ) -> Result<BTreeSet<String>, AllocError> {
     let mut found: BTreeSet<String> = BTreeSet::new(alloc);
     let mut reader = Reader::new(alloc, text);
-    for _ in 0..u64::MAX {
-        let Some(read) = reader.read(alloc)? else {
-            break;
-        };
+    while let Some(read) = reader.read(alloc)? {
         if reader.start == place || reader.block() != block {
             continue;
         }
@@ -170,7 +165,10 @@ impl<'a> Reader<'a> {
     }
 
     /// Reads a token, or up to the end of a line with a fault. Returns `None` at the end of the text.
-    fn read(&mut self, alloc: Global) -> Result<Option<Read>, AllocError> {
+    fn read(&mut self, alloc: Global) -> Result<Option<Read>, AllocError>
+        ensures { IfOk result (λ o. MatchOption o (self.old.scanner.cursor.rest ≡ [])
+            (λ _. length self.new.scanner.cursor.rest < length self.old.scanner.cursor.rest)) }
+    {
         match self.scanner.next(alloc)? {
             Some(Lexeme::Token(token, event)) => Ok(Some(self.take(alloc, token, event)?)),
             Some(Lexeme::Fault { ends_text }) => {
@@ -181,8 +179,10 @@ impl<'a> Reader<'a> {
         }
     }
 
-    /// Takes a token.
-    fn take(&mut self, alloc: Global, token: Token<'_>, event: Event) -> Result<Read, AllocError> {
+    /// Takes a token, which the scanner has read.
+    fn take(&mut self, alloc: Global, token: Token<'_>, event: Event) -> Result<Read, AllocError>
+        ensures { self.new.scanner ≡ self.old.scanner }
+    {
         let (start, end) = (token.at.start.at(), token.at.end.at());
         let text = self.text.get(start..end).unwrap_or("");
         self.start = start;

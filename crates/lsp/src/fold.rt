@@ -41,11 +41,10 @@ pub(crate) fn folds(alloc: Global, text: &str) -> Result<String, Wrong> {
         is_blank: true,
     };
     let mut scanner = Scanner::new(alloc, text);
-    for _ in 0..u64::MAX {
-        match scanner.next(alloc)? {
-            Some(Lexeme::Token(token, event)) => folds.take(&mut out, &token, event)?,
-            Some(Lexeme::Fault { .. }) => folds.is_blank = true,
-            None => break,
+    while let Some(lexeme) = scanner.next(alloc)? {
+        match lexeme {
+            Lexeme::Token(token, event) => folds.take(&mut out, &token, event)?,
+            Lexeme::Fault { .. } => folds.is_blank = true,
         }
     }
     put_run(&mut out, folds.run)?;

@@ -1,7 +1,12 @@
 //! Formatting.
 
+ghost use Rattle.json.specs.Print.{print};
+ghost use Rattle.json.specs.Token.{null};
+ghost use Rattle.lsp.specs.Formatting.{IsFormatting, edits_tokens};
+ghost use Rattle.std.specs.Prelude.{◌≡◌, ◌++◌, ◌∷◌, [], IfOk, OnOk, string_bytes};
+
 use crate::layout::laid_out;
-use crate::write::{Out, Wrong, begin, end, put_range, put_text};
+use crate::write::{Out, Wrong, begin, end, put_edit};
 use json::Value;
 use lsp_documents::params::{at, number, range};
 use lsp_text::{Edit, Encoding, Lines, edits, edits_within};
@@ -19,19 +24,29 @@ fn indent(params: &Value<'_>) -> Option<usize> {
     Some(size.unwrap_or(4).min(64))
 }
 
-/// Returns the edits that lay a text out: none if the text stays, and null if it is no document.
+/// Returns the edits that lay a text out, as the options of the client say.
 pub(crate) fn formatting(
     alloc: Global,
     params: &Value<'_>,
     text: &str,
     encoding: Encoding,
 ) -> Result<String, Wrong> {
-    let mut out = begin(alloc);
-    match laid_out(alloc, text, indent(params))? {
-        Some(new) => put_edits(&mut out, &edits(alloc, text, &new, encoding)?)?,
-        None => out.null()?,
+    Ok(layout_edits(alloc, text, indent(params), encoding)?)
+}
+
+/// Returns the edits that lay a text out: none if the text stays, and null if it is no document.
+fn layout_edits(
+    alloc: Global,
+    text: &str,
+    indent: Option<usize>,
+    encoding: Encoding,
+) -> Result<String, AllocError>
+    ensures { IfOk result (λ out. IsFormatting encoding indent text.now (string_bytes out)) }
+{
+    match laid_out(alloc, text, indent)? {
+        Some(new) => edits_json(alloc, &edits(alloc, text, &new, encoding)?),
+        None => null_json(alloc),
     }
-    Ok(end(alloc, out))
 }
 
 /// Returns those of the edits of `formatting` that are within the lines that a range touches. Where the
@@ -45,29 +60,43 @@ pub(crate) fn range_formatting(
     let Some(range) = range(params) else {
         return Err(Wrong::Params);
     };
-    let mut out = begin(alloc);
-    match laid_out(alloc, text, indent(params))? {
-        Some(new) => {
-            let part = edits_within(alloc, text, &new, Lines::of(range), encoding)?;
-            if laid_out(alloc, &part.text, indent(params))?.as_deref() == Some(new.as_str()) {
-                put_edits(&mut out, &part.edits)?;
-            } else {
-                put_edits(&mut out, &[])?;
-            }
-        }
-        None => out.null()?,
+    let Some(new) = laid_out(alloc, text, indent(params))? else {
+        return Ok(null_json(alloc)?);
+    };
+    let part = edits_within(alloc, text, &new, Lines::of(range), encoding)?;
+    if laid_out(alloc, &part.text, indent(params))?.as_deref() == Some(new.as_str()) {
+        Ok(edits_json(alloc, &part.edits)?)
+    } else {
+        Ok(edits_json(alloc, &[])?)
     }
+}
+
+/// Returns null.
+fn null_json(alloc: Global) -> Result<String, AllocError>
+    ensures { IfOk result (λ out. string_bytes out ≡ print (null ∷ [])) }
+{
+    let mut out = begin(alloc);
+    out.null()?;
+    Ok(end(alloc, out))
+}
+
+/// Returns edits as JSON.
+fn edits_json(alloc: Global, edits: &[Edit<'_>]) -> Result<String, AllocError>
+    ensures { IfOk result (λ out. string_bytes out ≡ print (edits_tokens edits.now)) }
+{
+    let mut out = begin(alloc);
+    put_edits(&mut out, edits)?;
     Ok(end(alloc, out))
 }
 
 /// Writes edits.
-fn put_edits(out: &mut Out, edits: &[Edit<'_>]) -> Result<(), AllocError> {
+fn put_edits(out: &mut Out, edits: &[Edit<'_>]) -> Result<(), AllocError>
+    ensures before { OnOk result (out.new.before ≡ out.old.before) }
+    ensures written { OnOk result (out.new.tokens ≡ out.old.tokens ++ edits_tokens edits.now) }
+{
     out.begin_array()?;
     for edit in edits {
-        out.begin_object()?;
-        put_range(out, "range", edit.range)?;
-        put_text(out, "newText", edit.text)?;
-        out.end_object()?;
+        put_edit(out, edit.range, edit.text)?;
     }
     out.end_array()
 }

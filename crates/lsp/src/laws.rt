@@ -1,20 +1,29 @@
 //! Laws of messages, for proofs of callers.
 
 ghost use Rattle.json.specs.Json.{Json, string};
+ghost use Rattle.kdl_text.specs.declared.error.KdlDiagnostic.{KdlDiagnostic};
+ghost use Rattle.lsp.specs.Faults.{AreDiagnostics, IsFaultsNotice, PublishEach, known_at};
+ghost use Rattle.lsp.specs.Formatting.{IsEditsTo, IsFormatting};
 ghost use Rattle.lsp.specs.Messages.{Asks, IsQuiet, Names, TextTells};
-ghost use Rattle.lsp.specs.Replies.{AreIn, IsLog, IsReplyTo, Logs, Replies};
+ghost use Rattle.lsp.specs.Replies.{AreIn, IsGreeting, IsLog, IsReplyTo, Logs, Replies};
+ghost use Rattle.lsp.specs.Turns.{ArePublished, IsNew, IsOver, IsText, Sent, Takes, Took};
 ghost use Rattle.lsp_documents.specs.Notes.{Note};
+ghost use Rattle.lsp_documents.specs.declared.state.Phase.TheVariants as Phase;
+ghost use Rattle.lsp_documents.specs.declared.state.State.{State};
+ghost use Rattle.lsp_text.specs.declared.position.Encoding.{Encoding};
+ghost use Rattle.lsp_text.specs.declared.position.Encoding.TheVariants.{Utf8, Utf32};
 ghost use Rattle.std.specs.Global.{Global};
-ghost use Rattle.std.specs.Prelude.{◌≡◌, ◌∷◌, ℕ, List, [], String, codes, string_bytes};
+ghost use Rattle.std.specs.Prelude.{◌≡◌, ◌∷◌, ℕ, ℤ, List, [], Option, Some, String, chars, codes, string_bytes};
 
 /// What texts are not: the empty text and an object without members tell nothing and name no document, a message that names
-/// a document names no other one, and `exit` is not ignored.
+/// a document names no other one, and neither the empty text nor `exit` is ignored.
 pub fn messages_are_not_so()
     ensures empty { (note : Note) → TextTells [] note → ⊥ }
     ensures object { (note : Note) → TextTells (codes "{}") note → ⊥ }
     ensures unnamed { (uri : List ℕ) → Names [] uri → ⊥ }
     ensures names { (uri : List ℕ) → Names (codes "{}") uri → ⊥ }
     ensures other { Names (codes "{\"params\":{\"textDocument\":{\"uri\":\"a\"}}}") (codes "b") → ⊥ }
+    ensures quiet { IsQuiet [] → ⊥ }
     ensures exit { IsQuiet (codes "{\"method\":\"exit\"}") → ⊥ }
     ensures asks { (id : Json) → Asks (codes "{\"method\":\"exit\"}") id → ⊥ }
 {}
@@ -33,4 +42,29 @@ pub fn replies_are_not_so()
     ensures unsent { (id : Json) → Replies id [] → ⊥ }
     ensures unlogged { Logs [] → ⊥ }
     ensures lost { (m : String Global) → AreIn (m ∷ []) [] → ⊥ }
+{}
+
+/// What turns are not: silence after a request, or after a text that is not JSON, a reply to `initialize` with another
+/// encoding, and a session that goes on as one that is over.
+pub fn turns_are_not_so()
+    ensures silent { (old new : State) (message : List ℕ) (id : Json) → Asks message id → Takes old message (Some []) new → ⊥ }
+    ensures deaf { (old new : State) → Takes old [] (Some []) new → ⊥ }
+    ensures encoding { (m : String Global) → IsGreeting (string (codes "a")) Utf8 m → IsGreeting (string (codes "a")) Utf32 m → ⊥ }
+    ensures text { IsText (97 ∷ []) (98 ∷ []) → ⊥ }
+    ensures unpublished { (message : List ℕ) (sent : Sent) → ArePublished (Took message sent ∷ []) → ⊥ }
+    ensures on { (s : State) → s.phase ≡ Phase.Running → IsOver s [] (Some (97 ∷ [])) → ⊥ }
+    ensures fresh { (s : State) → s.phase ≡ Phase.Running → IsNew s → ⊥ }
+{}
+
+/// What is not published: nothing for a document whose text is known, faults of another document, and none for a fault.
+pub fn faults_are_not_so()
+    ensures none { (s : State) (uri : String Global) (k : Option ℤ × List ℕ) → known_at s (string_bytes uri) ≡ Some k → PublishEach s (uri ∷ []) [] → ⊥ }
+    ensures other { (e f : Encoding) (v w : Option ℤ) (text words : List ℕ) (m : String Global) → IsFaultsNotice e (codes "a") v text m → IsFaultsNotice f (codes "b") w words m → ⊥ }
+    ensures fewer { (e : Encoding) (text : List ℕ) (d : KdlDiagnostic) (ds : List KdlDiagnostic) → AreDiagnostics e text (d ∷ ds) [] → ⊥ }
+{}
+
+/// What formatting does not give: no text at all, and no edits for a text that changes.
+pub fn formatting_is_not_so()
+    ensures silent { (e : Encoding) (indent : Option ℕ) (text : List ℕ) → IsFormatting e indent text [] → ⊥ }
+    ensures unedited { (e : Encoding) (text new : List ℕ) → (chars text ≡ chars new → ⊥) → IsEditsTo e text new (codes "[]") → ⊥ }
 {}

@@ -1,6 +1,8 @@
 //! The nodes at a place of a document, and their parts.
 
-ghost use Rattle.std.specs.Prelude.{◌+◌, ◌≤◌, IsTrue};
+ghost use Rattle.kdl.specs.Iterators.{child_nodes};
+ghost use Rattle.kdl.specs.declared.node.KdlNode.{KdlNode};
+ghost use Rattle.std.specs.Prelude.{◌≡◌, ◌+◌, ◌++◌, ◌∷◌, ◌≤◌, IfSome, IsTrue, List};
 
 use kdl::{KdlDocument, KdlEntry, KdlIdentifier, KdlNode};
 use kdl_text::span::SourceSpan;
@@ -49,21 +51,28 @@ pub(crate) fn nodes_at(
 ) -> Result<Vec<Site<'_>>, AllocError> {
     let mut sites = Vec::new(alloc);
     let mut nodes = document.nodes();
-    for _ in 0..u64::MAX {
-        let Some(site) = site_in(nodes, offset) else {
-            break;
-        };
-        nodes = match site.node.children() {
-            Some(block) => block.nodes(),
-            None => &[],
-        };
+    while let Some(site) = site_in(nodes, offset) {
+        nodes = nodes_in(site.node);
         sites.push(site)?;
     }
     Ok(sites)
 }
 
+/// Returns the nodes in the block of a node, or none if it has no block.
+fn nodes_in(node: &KdlNode) -> &[KdlNode]
+    ensures { result.now ≡ child_nodes node.now }
+{
+    match node.children() {
+        Some(block) => block.nodes(),
+        None => &[],
+    }
+}
+
 /// Returns the node of a block that is at a place: no later one begins before it.
-fn site_in(nodes: &[KdlNode], offset: usize) -> Option<Site<'_>> {
+fn site_in(nodes: &[KdlNode], offset: usize) -> Option<Site<'_>>
+    ensures { IfSome result (λ site. (after : List KdlNode)
+        × (nodes.now ≡ site.before.now ++ (site.node.now ∷ after))) }
+{
     let count = nodes
         .iter()
         .take_while(|node| node.span().offset <= offset)

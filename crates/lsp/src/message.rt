@@ -1,21 +1,23 @@
 //! One message of a client.
 #![tactic(auto, using(crate::proofs::Rules::sending))]
 
-ghost use Rattle.json.specs.Json.{Json, document};
+ghost use Rattle.json.specs.Json.{Json, document, null};
 ghost use Rattle.json.specs.Value.{value_view};
-ghost use Rattle.lsp.specs.Messages.{Asks, AsksIn, IsIgnored, IsQuiet, Names, TellsIn, TextTells, method_of, params_of};
-ghost use Rattle.lsp.specs.Replies.{IsReplyTo, Logs, Replies};
+ghost use Rattle.lsp.specs.Messages.{Asks, AsksIn, Exits, IsIgnored, IsQuiet, Names, Starts, StartsIn, TellsIn, TextTells, method_of, params_of};
+ghost use Rattle.lsp.specs.Replies.{Fails, Greets, IsGreeting, IsReplyTo, IsReplyWith, Logs, Replies};
+ghost use Rattle.lsp.specs.Turns.{Marks, Publishes, Takes, sent_of};
 ghost use Rattle.lsp_documents.specs.Notes.{Agrees, Changed, Note, Tells, Texts, after};
-ghost use Rattle.lsp_documents.specs.Outcomes.{IsTaken, StaysOpen, UnnamedStay};
-ghost use Rattle.lsp_documents.specs.States.{SessionStays, document_at, is_down};
+ghost use Rattle.lsp_documents.specs.Outcomes.{IsTaken, MarksDue, StaysOpen, UnnamedStay};
+ghost use Rattle.lsp_documents.specs.States.{SessionStays, document_at, is_down, is_over};
 ghost use Rattle.lsp_text.specs.Positions.{Text};
 ghost use Rattle.lsp_text.specs.declared.position.Range.{Range};
-ghost use Rattle.std.specs.Prelude.{◌≡◌, ℕ, List, Option, false, IfOk, IfSome, None, OnErr, OnOk, codes};
+ghost use Rattle.std.specs.BTreeMap.{IsEmpty};
+ghost use Rattle.std.specs.Prelude.{◌≡◌, ◌⊎◌, ℕ, List, Option, IfOk, IfSome, IsSome, None, Some, OnErr, OnOk, codes};
 
 use crate::faults::no_faults_notice;
 use crate::publish::{Notices, log_unknown, publish, publish_due};
 use crate::request::reply;
-use crate::write::{Wrong, reply_to};
+use crate::write::{Wrong, log_notice, reply_to};
 use json::{Error, Scratch, Value};
 use lsp_documents::{Outcome, Phase, State};
 use std::alloc::{AllocError, Global};
@@ -23,48 +25,50 @@ use std::alloc::{AllocError, Global};
 /// How many messages the server sends for one, in most cases.
 const FEW: usize = 4;
 
-/// Takes a message of the client, and returns the messages that the server sends for it, in order.
+/// What the log tells after a message that is not JSON.
+const UNREAD: &str = "kdl: a message is not JSON: open the documents again";
+
+/// Takes a message of the client, and returns the messages that the server sends for it, in order, and then those with the
+/// faults of the documents that are due.
 ///
-/// Returns an error if there is no memory for the message, which may have changed a document: no document is open then, up
-/// to the next `didOpen`. Returns an error also if there is no memory for the messages that the server sends.
+/// A message that is not JSON may have changed a document: no document is open then, up to the next `didOpen`.
+///
+/// Returns an error if there is no memory for the message. No document is open then either. Returns an error also if there
+/// is no memory for the messages that the server sends.
 pub fn step(alloc: Global, state: &mut State, message: &str) -> Result<Vec<String>, AllocError>
-    // A text that is not JSON changes nothing.
-    ensures refused { document message.now ≡ None → IfOk result (λ _. state.new ≡ state.old) }
+    ensures { Takes state.old message.now (sent_of result) state.new }
+{
+    let mut out = replies(alloc, state, message)?;
+    out.append(&mut faults(alloc, state)?)?;
+    Ok(out)
+}
 
-    // In a session, each text that the server knows is the client's, after each message.
-    ensures told { state.old.phase ≡ Phase.Running → (note : Note) (texts : Texts) → TextTells message.now note
-        → Agrees state.old texts → Agrees state.new (after state.old.client.encoding note texts) }
-    ensures untold { ((note : Note) → TextTells message.now note → ⊥)
-        → (texts : Texts) → Agrees state.old texts → Agrees state.new texts }
-    ensures session { (note : Note) → TextTells message.now note → SessionStays state.old state.new }
-
-    // A change closes and opens no document. Other documents than the one that the message names stay as they were, and all
-    // do unless it is a notification about documents.
-    ensures stays { (uri : List ℕ) (changes : List (Option Range × Text)) → TextTells message.now (Changed uri changes)
-        → IfOk result (λ _. StaysOpen state.old state.new uri) }
-    ensures others { IfOk result (λ _. (uri : List ℕ) → (Names message.now uri → ⊥)
-        → document_at state.new uri ≡ document_at state.old uri) }
-    ensures all { IsQuiet message.now → IfOk result (λ _. state.new.open ≡ state.old.open) }
-
-    // After `didOpen` and `didChange` in a session the text is known, or a message for the log tells that it is not.
-    ensures taken { state.old.phase ≡ Phase.Running → (note : Note) → TextTells message.now note
-        → IfOk result (λ out. IsTaken state.old state.new (Logs out.items) note) }
-
-    // A request gets a reply with its identifier.
-    ensures replied { (id : Json) → Asks message.now id → IfOk result (λ out. Replies id out.items) }
+/// Takes a message of the client, and returns the messages that the server sends for it but for faults.
+pub(crate) fn replies(
+    alloc: Global,
+    state: &mut State,
+    message: &str,
+) -> Result<Notices, AllocError>
+    ensures takes { Takes state.old message.now (sent_of result) state.new }
+    ensures marks { Marks state.old message.now (sent_of result) state.new }
 {
     let mut out = room(alloc, state)?;
-    let is_json = receive(alloc, state, message, &mut out)?;
-    if !is_json {
-        return Ok(out);
-    }
+    receive(alloc, state, message, &mut out)?;
+    Ok(out)
+}
+
+/// Returns the messages with the faults of the documents that are due. They are no longer due, unless memory is short.
+pub(crate) fn faults(alloc: Global, state: &mut State) -> Result<Notices, AllocError>
+    ensures { Publishes state.old (sent_of result) state.new }
+{
+    let mut out = Vec::new(alloc);
     publish_due(alloc, state, &mut out)?;
     Ok(out)
 }
 
 /// Returns a list with room for the messages that the server sends for one, in most cases. If there is no memory for it, the
 /// message is lost, and so all documents are closed.
-pub(crate) fn room(alloc: Global, state: &mut State) -> Result<Notices, AllocError>
+fn room(alloc: Global, state: &mut State) -> Result<Notices, AllocError>
     ensures room { OnOk result (state.new ≡ state.old) }
     ensures lost { OnErr result ((texts : Texts) → Agrees state.new texts) }
     ensures session { SessionStays state.old state.new }
@@ -78,45 +82,58 @@ pub(crate) fn room(alloc: Global, state: &mut State) -> Result<Notices, AllocErr
     }
 }
 
-/// Takes a message of the client, and sends the messages for it but for the faults of the documents that are due. Returns
-/// whether the message is JSON.
-pub(crate) fn receive(
+/// Takes a message of the client, and sends the messages for it but for the faults of the documents that are due.
+fn receive(
     alloc: Global,
     state: &mut State,
     message: &str,
     out: &mut Notices,
-) -> Result<bool, AllocError>
-    ensures refused { document message.now ≡ None → IfOk result (λ _. state.new ≡ state.old) }
-    ensures json { document message.now ≡ None → IfOk result (λ is_json. is_json ≡ false) }
+) -> Result<(), AllocError>
+    ensures refused { document message.now ≡ None
+        → OnOk result (IsEmpty state.new.open × SessionStays state.old state.new × Replies null out.new.items × Logs out.new.items) }
     ensures told { state.old.phase ≡ Phase.Running → (note : Note) (texts : Texts) → TextTells message.now note
         → Agrees state.old texts → Agrees state.new (after state.old.client.encoding note texts) }
     ensures untold { ((note : Note) → TextTells message.now note → ⊥)
         → (texts : Texts) → Agrees state.old texts → Agrees state.new texts }
     ensures session { (note : Note) → TextTells message.now note → SessionStays state.old state.new }
     ensures stays { (uri : List ℕ) (changes : List (Option Range × Text)) → TextTells message.now (Changed uri changes)
-        → IfOk result (λ _. StaysOpen state.old state.new uri) }
-    ensures others { IfOk result (λ _. (uri : List ℕ) → (Names message.now uri → ⊥)
+        → OnOk result (StaysOpen state.old state.new uri) }
+    ensures others { IsSome (document message.now) → OnOk result ((uri : List ℕ) → (Names message.now uri → ⊥)
         → document_at state.new uri ≡ document_at state.old uri) }
-    ensures all { IsQuiet message.now → IfOk result (λ _. state.new.open ≡ state.old.open) }
+    ensures all { IsQuiet message.now → OnOk result (state.new.open ≡ state.old.open) }
     ensures taken { state.old.phase ≡ Phase.Running → (note : Note) → TextTells message.now note
-        → IfOk result (λ _. IsTaken state.old state.new (Logs out.new.items) note) }
-    ensures replied { (id : Json) → Asks message.now id → IfOk result (λ _. Replies id out.new.items) }
+        → OnOk result (IsTaken state.old state.new (Logs out.new.items) note) }
+    ensures due { state.old.phase ≡ Phase.Running → (note : Note) → TextTells message.now note
+        → OnOk result ((Logs out.new.items → ⊥) → MarksDue state.old state.new note) }
+    ensures replied { (id : Json) → Asks message.now id → OnOk result (Replies id out.new.items) }
+    ensures started { state.old.phase ≡ Phase.New → (id : Json) → Starts message.now id
+        → OnOk result (Fails id out.new.items ⊎ ((state.new.phase ≡ Phase.Running) × Greets id state.new.client.encoding out.new.items)) }
+    ensures client { (state.new.client ≡ state.old.client) ⊎ ((state.old.phase ≡ Phase.New) × (state.new.phase ≡ Phase.Running)) }
+    ensures exited { Exits message.now → OnOk result (state.new.phase ≡ Phase.Over (is_down state.old.phase)) }
+    ensures goes_on { (Exits message.now → ⊥) → is_over state.new.phase ≡ is_over state.old.phase }
 {
     let mut scratch = Scratch::new(alloc);
     match Value::parse(alloc, message, &mut scratch) {
-        Ok(value) => {
-            take(alloc, state, &value, out)?;
-            Ok(true)
-        }
+        Ok(value) => take(alloc, state, &value, out),
         Err(Error::OutOfMemory) => {
             state.close_all();
             Err(AllocError)
         }
-        Err(_) => {
-            out.push(reply_to(alloc, &Value::Null, Err(Wrong::Parse))?)?;
-            Ok(false)
-        }
+        Err(_) => refuse(alloc, state, out),
     }
+}
+
+/// Closes all documents after a message that is not JSON, and tells the client.
+fn refuse(alloc: Global, state: &mut State, out: &mut Notices) -> Result<(), AllocError>
+    ensures closed { IsEmpty state.new.open }
+    ensures agrees { (texts : Texts) → Agrees state.new texts }
+    ensures session { SessionStays state.old state.new }
+    ensures replied { OnOk result (Replies null out.new.items) }
+    ensures logged { OnOk result (Logs out.new.items) }
+{
+    state.close_all();
+    out.push(reply_to(alloc, &Value::Null, Err(Wrong::Parse))?)?;
+    Ok(out.push(log_notice(alloc, UNREAD)?)?)
 }
 
 /// Takes a message: a request, a notification, or a reply to the server, which is ignored.
@@ -137,7 +154,14 @@ fn take(
     ensures all { IfSome (method_of (value_view message.now)) IsIgnored → state.new.open ≡ state.old.open }
     ensures taken { state.old.phase ≡ Phase.Running → (note : Note) → TellsIn (value_view message.now) note
         → OnOk result (IsTaken state.old state.new (Logs out.new.items) note) }
+    ensures due { state.old.phase ≡ Phase.Running → (note : Note) → TellsIn (value_view message.now) note
+        → OnOk result ((Logs out.new.items → ⊥) → MarksDue state.old state.new note) }
     ensures replied { (id : Json) → AsksIn (value_view message.now) id → OnOk result (Replies id out.new.items) }
+    ensures started { state.old.phase ≡ Phase.New → (id : Json) → StartsIn (value_view message.now) id
+        → OnOk result (Fails id out.new.items ⊎ ((state.new.phase ≡ Phase.Running) × Greets id state.new.client.encoding out.new.items)) }
+    ensures client { (state.new.client ≡ state.old.client) ⊎ ((state.old.phase ≡ Phase.New) × (state.new.phase ≡ Phase.Running)) }
+    ensures exited { method_of (value_view message.now) ≡ Some (codes "exit") → state.new.phase ≡ Phase.Over (is_down state.old.phase) }
+    ensures goes_on { (method_of (value_view message.now) ≡ Some (codes "exit") → ⊥) → is_over state.new.phase ≡ is_over state.old.phase }
 {
     let params = message.get("params").unwrap_or(&Value::Null);
     let method = message.get("method").and_then(Value::as_str);
@@ -165,6 +189,10 @@ fn request(
 ) -> Result<(), AllocError>
     ensures open { state.new.open ≡ state.old.open }
     ensures replied { OnOk result (Replies (value_view id.now) out.new.items) }
+    ensures started { state.old.phase ≡ Phase.New → method.now ≡ codes "initialize"
+        → OnOk result (Fails (value_view id.now) out.new.items ⊎ ((state.new.phase ≡ Phase.Running) × Greets (value_view id.now) state.new.client.encoding out.new.items)) }
+    ensures client { (state.new.client ≡ state.old.client) ⊎ ((state.old.phase ≡ Phase.New) × (state.new.phase ≡ Phase.Running)) }
+    ensures over { is_over state.new.phase ≡ is_over state.old.phase }
 {
     if method == "shutdown" {
         publish_due(alloc, state, out)?;
@@ -183,6 +211,10 @@ fn any_reply(
 ) -> Result<String, AllocError>
     ensures open { state.new.open ≡ state.old.open }
     ensures replied { IfOk result (IsReplyTo (value_view id.now)) }
+    ensures started { state.old.phase ≡ Phase.New → method.now ≡ codes "initialize"
+        → IfOk result (λ m. IsReplyWith (codes "error") (value_view id.now) m ⊎ ((state.new.phase ≡ Phase.Running) × IsGreeting (value_view id.now) state.new.client.encoding m)) }
+    ensures client { (state.new.client ≡ state.old.client) ⊎ ((state.old.phase ≡ Phase.New) × (state.new.phase ≡ Phase.Running)) }
+    ensures over { is_over state.new.phase ≡ is_over state.old.phase }
 {
     match reply(alloc, state, method, id, params) {
         Ok(reply) => Ok(reply),
@@ -212,6 +244,8 @@ fn notification(
     ensures others { UnnamedStay state.old state.new (value_view params.now) }
     ensures taken { state.old.phase ≡ Phase.Running → (note : Note) → Tells method.now (value_view params.now) note
         → OnOk result (IsTaken state.old state.new (Logs out.new.items) note) }
+    ensures due { state.old.phase ≡ Phase.Running → (note : Note) → Tells method.now (value_view params.now) note
+        → OnOk result ((Logs out.new.items → ⊥) → MarksDue state.old state.new note) }
 {
     match state.notify(alloc, method, params) {
         Outcome::Nothing => Ok(()),

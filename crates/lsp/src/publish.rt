@@ -1,8 +1,10 @@
 //! Notifications of the server.
 #![tactic(auto, using(crate::proofs::Rules::sending))]
 
+ghost use Rattle.lsp.specs.Faults.{PublishEach, PublishOne};
 ghost use Rattle.lsp.specs.Replies.{AreIn, Logs};
-ghost use Rattle.std.specs.Prelude.{◌≡◌, OnErr, OnOk};
+ghost use Rattle.std.specs.Global.{Global};
+ghost use Rattle.std.specs.Prelude.{◌≡◌, ◌⊎◌, ◌++◌, [], List, String, OnErr, OnOk};
 
 use crate::faults::faults_notice;
 use crate::write::log_notice;
@@ -23,6 +25,8 @@ pub(crate) fn publish_due(
     ensures open { state.new.open ≡ state.old.open }
     ensures err { OnErr result (state.new ≡ state.old) }
     ensures kept { AreIn out.old.items out.new.items }
+    ensures published { OnOk result (((ms : List (String Global)) × (out.new.items ≡ out.old.items ++ ms) × PublishEach state.old state.old.due.items ms × (state.new.due.items ≡ []))
+        ⊎ ((state.new ≡ state.old) × Logs out.new.items)) }
 {
     match put_due(alloc, state, out) {
         Ok(()) => {
@@ -35,18 +39,28 @@ pub(crate) fn publish_due(
 
 /// Sends the faults of the documents that are due, and whose text is known.
 fn put_due(alloc: Global, state: &State, out: &mut Notices) -> Result<(), AllocError>
-    ensures { AreIn out.old.items out.new.items }
+    ensures kept { AreIn out.old.items out.new.items }
+    ensures published { OnOk result ((ms : List (String Global)) × (out.new.items ≡ out.old.items ++ ms) × PublishEach state.now state.now.due.items ms) }
 {
     for uri in &state.due {
-        let Some(document) = state.open.get(uri.as_str()) else {
-            continue;
-        };
-        if let Some(text) = &document.text {
-            let uri = uri.as_str();
-            out.push(faults_notice(alloc, uri, document.version, text, state.client)?)?;
-        }
+        put_one(alloc, state, uri, out)?;
     }
     Ok(())
+}
+
+/// Sends the faults of a document, if its text is known.
+fn put_one(alloc: Global, state: &State, uri: &str, out: &mut Notices) -> Result<(), AllocError>
+    ensures kept { AreIn out.old.items out.new.items }
+    ensures published { OnOk result ((ms : List (String Global)) × (out.new.items ≡ out.old.items ++ ms) × PublishOne state.now uri.now ms) }
+{
+    let Some(document) = state.open.get(uri) else {
+        return Ok(());
+    };
+    let Some(text) = &document.text else {
+        return Ok(());
+    };
+    let notice = faults_notice(alloc, uri, document.version, text, state.client)?;
+    Ok(out.push(notice)?)
 }
 
 /// Sends a notification, or a message for the log if memory was short.
@@ -63,7 +77,8 @@ pub(crate) fn publish(
 
 /// Sends that memory was short.
 fn log_memory(alloc: Global, out: &mut Notices) -> Result<(), AllocError>
-    ensures { AreIn out.old.items out.new.items }
+    ensures kept { AreIn out.old.items out.new.items }
+    ensures logged { OnOk result (Logs out.new.items) }
 {
     out.push(log_notice(alloc, "kdl: out of memory")?)?;
     Ok(())

@@ -1,9 +1,11 @@
 //! Requests.
 
+ghost use Rattle.json.specs.Print.{print};
 ghost use Rattle.json.specs.Value.{value_view};
 ghost use Rattle.lsp.specs.Messages.{encoding_name};
-ghost use Rattle.lsp.specs.Replies.{IsReplyTo};
-ghost use Rattle.std.specs.Prelude.{◌≡◌, IfOk, OnErr, OnOk, codes};
+ghost use Rattle.lsp.specs.Replies.{Grows, IsGreeting, IsReplyTo, IsWritten, greeting_head};
+ghost use Rattle.lsp_documents.specs.States.{is_over};
+ghost use Rattle.std.specs.Prelude.{◌≡◌, ◌⊎◌, ◌++◌, ℕ, List, IfOk, OnErr, OnOk, codes, string_bytes};
 
 use crate::complete::completion;
 use crate::fix::actions;
@@ -35,7 +37,10 @@ pub(crate) fn reply(
     ensures err { OnErr result (state.new ≡ state.old) }
     ensures open { state.new.open ≡ state.old.open }
     ensures replied { IfOk result (IsReplyTo (value_view id.now)) }
-
+    ensures client { (state.new.client ≡ state.old.client) ⊎ ((state.old.phase ≡ Phase.New) × (state.new.phase ≡ Phase.Running)) }
+    ensures over { is_over state.new.phase ≡ is_over state.old.phase }
+    ensures greeting { state.old.phase ≡ Phase.New → method.now ≡ codes "initialize"
+        → IfOk result (IsGreeting (value_view id.now) state.new.client.encoding) }
     ensures initialize { state.old.phase ≡ Phase.New → method.now ≡ codes "initialize"
         → OnOk result (state.new ≡ record state.old { phase = Phase.Running; client = state.new.client }) }
     ensures shutdown { state.old.phase ≡ Phase.Running → method.now ≡ codes "shutdown"
@@ -63,73 +68,131 @@ fn initialize(
     ensures ok { OnOk result (state.new ≡ record state.old { phase = Phase.Running; client = state.new.client }) }
     ensures err { OnErr result (state.new ≡ state.old) }
     ensures replied { IfOk result (IsReplyTo (value_view id.now)) }
+    ensures greeting { IfOk result (IsGreeting (value_view id.now) state.new.client.encoding) }
 {
     let client = Client {
         encoding: encoding(params),
         has_related: has_related(params),
     };
-    let mut out = begin(alloc);
-    out.begin_object()?;
-    put_capabilities(&mut out, client.encoding)?;
-    out.key("serverInfo")?;
-    out.begin_object()?;
-    put_text(&mut out, "name", "kdl")?;
-    out.end_object()?;
-    out.end_object()?;
-    let reply = reply_to(alloc, id, Ok(end(alloc, out)))?;
+    let content = greeting(alloc, client.encoding)?;
+    let reply = reply_to(alloc, id, Ok(content))?;
     state.client = client;
     state.phase = Phase::Running;
     Ok(reply)
 }
 
-/// Writes what the server can do.
-fn put_capabilities(out: &mut Out, encoding: Encoding) -> Result<(), AllocError> {
+/// Returns the result of `initialize`: what the server can do, and its name.
+fn greeting(alloc: Global, encoding: Encoding) -> Result<String, AllocError>
+    ensures { IfOk result (λ text. (rest : List ℕ) × (string_bytes text ≡ print (greeting_head encoding) ++ rest)) }
+{
+    let mut out = begin_greeting(alloc, encoding)?;
+    put_capabilities(&mut out)?;
+    put_server(&mut out)?;
+    Ok(end(alloc, out))
+}
+
+/// Begins the result of `initialize`, with what positions count.
+fn begin_greeting(alloc: Global, encoding: Encoding) -> Result<Out, AllocError>
+    ensures { IfOk result (λ out. IsWritten out (greeting_head encoding)) }
+{
+    let mut out = begin(alloc);
+    out.begin_object()?;
     out.key("capabilities")?;
     out.begin_object()?;
-    put_text(out, "positionEncoding", encoding_name(encoding))?;
+    put_text(&mut out, "positionEncoding", encoding_name(encoding))?;
+    Ok(out)
+}
+
+/// Writes what the server can do.
+fn put_capabilities(out: &mut Out) -> Result<(), AllocError>
+    ensures { OnOk result (Grows out.old out.new) }
+{
+    put_sync(out)?;
+    put_providers(out)?;
+    out.key("completionProvider")?;
+    out.begin_object()?;
+    out.end_object()?;
+    put_fixes(out)?;
+    put_token_provider(out)?;
+    out.end_object()
+}
+
+/// Writes which notifications about documents the server takes.
+fn put_sync(out: &mut Out) -> Result<(), AllocError>
+    ensures { OnOk result (Grows out.old out.new) }
+{
     out.key("textDocumentSync")?;
     out.begin_object()?;
     put_true(out, "openClose")?;
     put_number(out, "change", 2)?;
-    out.end_object()?;
+    out.end_object()
+}
+
+/// Writes which requests the server takes, but for those with options.
+fn put_providers(out: &mut Out) -> Result<(), AllocError>
+    ensures { OnOk result (Grows out.old out.new) }
+{
     put_true(out, "documentFormattingProvider")?;
     put_true(out, "documentRangeFormattingProvider")?;
     put_true(out, "documentSymbolProvider")?;
     put_true(out, "foldingRangeProvider")?;
     put_true(out, "hoverProvider")?;
-    put_true(out, "selectionRangeProvider")?;
-    out.key("completionProvider")?;
-    out.begin_object()?;
-    out.end_object()?;
+    put_true(out, "selectionRangeProvider")
+}
+
+/// Writes that there are fixes.
+fn put_fixes(out: &mut Out) -> Result<(), AllocError>
+    ensures { OnOk result (Grows out.old out.new) }
+{
     out.key("codeActionProvider")?;
     out.begin_object()?;
     put_names(out, "codeActionKinds", &["quickfix"])?;
-    out.end_object()?;
-    put_token_provider(out)?;
     out.end_object()
 }
 
 /// Writes that there are tokens for highlighting, and their classes.
-fn put_token_provider(out: &mut Out) -> Result<(), AllocError> {
+fn put_token_provider(out: &mut Out) -> Result<(), AllocError>
+    ensures { OnOk result (Grows out.old out.new) }
+{
     out.key("semanticTokensProvider")?;
     out.begin_object()?;
-    out.key("legend")?;
-    out.begin_object()?;
-    put_names(out, "tokenTypes", &LEGEND)?;
-    put_names(out, "tokenModifiers", &[])?;
-    out.end_object()?;
+    put_legend(out)?;
     put_true(out, "full")?;
     out.end_object()
 }
 
+/// Writes the classes of tokens.
+fn put_legend(out: &mut Out) -> Result<(), AllocError>
+    ensures { OnOk result (Grows out.old out.new) }
+{
+    out.key("legend")?;
+    out.begin_object()?;
+    put_names(out, "tokenTypes", &LEGEND)?;
+    put_names(out, "tokenModifiers", &[])?;
+    out.end_object()
+}
+
 /// Writes a member that is a list of names.
-fn put_names(out: &mut Out, key: &str, names: &[&str]) -> Result<(), AllocError> {
+fn put_names(out: &mut Out, key: &str, names: &[&str]) -> Result<(), AllocError>
+    ensures { OnOk result (Grows out.old out.new) }
+{
     out.key(key)?;
     out.begin_array()?;
     for name in names {
         out.string(name)?;
     }
     out.end_array()
+}
+
+/// Writes the name of the server, and ends the result of `initialize`.
+fn put_server(out: &mut Out) -> Result<(), AllocError>
+    ensures { OnOk result (Grows out.old out.new) }
+{
+    out.key("serverInfo")?;
+    out.begin_object()?;
+    put_text(out, "name", "kdl")?;
+    out.end_object()?;
+    out.end_object()
 }
 
 /// Returns whether the client of `initialize` shows what is related to a fault.

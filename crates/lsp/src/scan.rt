@@ -1,5 +1,7 @@
 //! The tokens of a text that may have faults.
 
+ghost use Rattle.std.specs.Prelude.{◌≡◌, ◌<◌, ◌≤◌, [], IfOk, IsTrue, MatchOption, length};
+
 use kdl_syntax::{Control, Event, LexFailure, Phase, Token, TokenKind, lexer};
 use kdl_text::chars::is_newline_char;
 use kdl_text::cursor::{Cursor, Steps};
@@ -39,14 +41,18 @@ impl<'a> Scanner<'a> {
         self.control.phase()
     }
 
-    /// Returns what comes next, or `None` at the end of the text.
-    pub(crate) fn next(&mut self, alloc: Global) -> Result<Option<Lexeme<'a>>, AllocError> {
+    /// Returns what comes next, which has at least one character, or `None` at the end of the text.
+    pub(crate) fn next(&mut self, alloc: Global) -> Result<Option<Lexeme<'a>>, AllocError>
+        ensures { IfOk result (λ o. MatchOption o (self.old.cursor.rest ≡ [])
+            (λ _. length self.new.cursor.rest < length self.old.cursor.rest)) }
+    {
+        let start = self.cursor.at();
         let token = match lexer::next(&mut self.cursor, alloc) {
             Ok(Some(token)) => token,
             Ok(None) => return Ok(None),
             Err(LexFailure::Faulty) => {
                 let is_unclosed = self.cursor.at() >= self.text.len();
-                let ends_line = self.skip_line();
+                let ends_line = self.skip_line(start);
                 let ends_text = is_unclosed || !ends_line;
                 return Ok(Some(Lexeme::Fault { ends_text }));
             }
@@ -57,27 +63,38 @@ impl<'a> Scanner<'a> {
         match event {
             Some(event) if is_taken => Ok(Some(Lexeme::Token(token, event))),
             _ => {
-                let ends_text = !self.skip_line();
+                let ends_text = !self.skip_line(start);
                 Ok(Some(Lexeme::Fault { ends_text }))
             }
         }
     }
 
-    /// Goes on at the next line. Returns whether a newline is before it.
-    fn skip_line(&mut self) -> bool {
+    /// Goes on at the next line after what was read from `start` on. Returns whether a newline is before it.
+    fn skip_line(&mut self, start: usize) -> bool
+        ensures left { length self.new.cursor.rest ≤ length self.old.cursor.rest }
+        // Where nothing was read, it takes a character, if there is one.
+        ensures taken { self.old.cursor.at ≤ start → 0 < length self.old.cursor.rest
+            → length self.new.cursor.rest < length self.old.cursor.rest }
+    {
         self.control.go_to(Phase::Gap);
-        let read = self.text.get(..self.cursor.at()).unwrap_or("");
-        if read.ends_with(is_newline_char) {
+        if self.ends_line(start) {
             return true;
         }
-        for _ in 0..u64::MAX {
-            match self.cursor.take() {
-                Some(c) if is_newline_char(c) => return true,
-                Some(_) => {}
-                None => break,
+        while let Some(c) = self.cursor.take() {
+            if is_newline_char(c) {
+                return true;
             }
         }
         false
+    }
+
+    /// Returns whether something was read from `start` on, and ends with a newline.
+    fn ends_line(&self, start: usize) -> bool
+        ensures { IsTrue result → start < self.now.cursor.at }
+    {
+        let end = self.cursor.at();
+        let read = self.text.get(..end).unwrap_or("");
+        start < end && read.ends_with(is_newline_char)
     }
 }
 
@@ -94,7 +111,7 @@ pub(crate) fn is_block_comment(kind: &TokenKind, text: &str) -> bool {
 /// Returns whether a string at the end of which a text begins is a key: whether `=` follows, perhaps after spaces.
 pub(crate) fn is_key(alloc: Global, text: &str) -> Result<bool, AllocError> {
     let mut cursor = Cursor::new(text, Steps::new());
-    for _ in 0..u64::MAX {
+    loop {
         match lexer::next(&mut cursor, alloc) {
             Ok(Some(token)) => match token.kind {
                 TokenKind::Space => {}
@@ -105,5 +122,4 @@ pub(crate) fn is_key(alloc: Global, text: &str) -> Result<bool, AllocError> {
             Err(LexFailure::Memory) => return Err(AllocError),
         }
     }
-    Ok(false)
 }

@@ -1,5 +1,9 @@
 //! The nodes of a document as symbols.
 
+ghost use Rattle.kdl.specs.Internal.Count.{count_nodes};
+ghost use Rattle.std.specs.List.{sum_by};
+ghost use Rattle.std.specs.Prelude.{◌+◌, ◌<◌, OnOk};
+
 use crate::layout::document_of;
 use crate::write::{Out, Wrong, begin, end, put_number, put_range, put_text};
 use kdl::{KdlDocument, KdlNode};
@@ -39,10 +43,7 @@ fn put_nodes(
         left: document.nodes(),
         owner: None,
     })?;
-    for _ in 0..u64::MAX {
-        let Some(level) = levels.pop() else {
-            break;
-        };
+    while let Some(level) = levels.pop() {
         put_next(out, cursor, level, &mut levels)?;
     }
     Ok(())
@@ -54,7 +55,11 @@ fn put_next<'d>(
     cursor: &mut Cursor<'_>,
     level: Level<'d>,
     levels: &mut Vec<Level<'d>>,
-) -> Result<(), AllocError> {
+) -> Result<(), AllocError>
+    // Less is left to be written, where the end of a list counts as a node does.
+    ensures { OnOk result (sum_by (λ l. 1 + count_nodes l.left.now) levels.new.items
+        < 1 + count_nodes level.entry.left.now + sum_by (λ l. 1 + count_nodes l.left.now) levels.old.items) }
+{
     let Some((node, left)) = level.left.split_first() else {
         out.end_array()?;
         return match level.owner {

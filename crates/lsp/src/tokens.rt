@@ -85,11 +85,10 @@ pub(crate) fn tokens(alloc: Global, text: &str, encoding: Encoding) -> Result<St
         dropped: Dropped::Nothing,
     };
     let mut scanner = Scanner::new(alloc, text);
-    for _ in 0..u64::MAX {
-        match scanner.next(alloc)? {
-            Some(Lexeme::Token(token, event)) => tokens.take(alloc, &mut out, &token, event)?,
-            Some(Lexeme::Fault { .. }) => tokens.dropped = Dropped::Nothing,
-            None => break,
+    while let Some(lexeme) = scanner.next(alloc)? {
+        match lexeme {
+            Lexeme::Token(token, event) => tokens.take(alloc, &mut out, &token, event)?,
+            Lexeme::Fault { .. } => tokens.dropped = Dropped::Nothing,
         }
     }
     out.end_array()?;
@@ -180,10 +179,7 @@ impl<'a> TokenWriter<'a> {
         offset: usize,
     ) -> Result<(), AllocError> {
         let mut scanner = Scanner::new(alloc, text);
-        for _ in 0..u64::MAX {
-            let Some(Lexeme::Token(token, _)) = scanner.next(alloc)? else {
-                break;
-            };
+        while let Some(Lexeme::Token(token, _)) = scanner.next(alloc)? {
             let (start, end) = (token.at.start.at(), token.at.end.at());
             let text = text.get(start..end).unwrap_or("");
             if let Some(class) = comment_class(&token.kind, text) {

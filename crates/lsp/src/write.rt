@@ -3,8 +3,10 @@
 ghost use Rattle.json.specs.Print.{IsNumber, print};
 ghost use Rattle.json.specs.Token.{Token, end_object, key, number, string};
 ghost use Rattle.json.specs.Value.{value_view};
-ghost use Rattle.lsp.specs.Replies.{IsId, IsLog, IsReplyTo, IsReplyWith, IsWritten, message_head, notice_head};
-ghost use Rattle.std.specs.Prelude.{◌≡◌, ◌++◌, ◌∷◌, [], IfOk, OnOk, codes, decimal, string_bytes};
+ghost use Rattle.lsp.specs.Faults.{position_tokens, range_tokens};
+ghost use Rattle.lsp.specs.Formatting.{edit_tokens};
+ghost use Rattle.lsp.specs.Replies.{Grows, IsId, IsLog, IsReplyOf, IsReplyTo, IsReplyWith, IsWritten, message_head, notice_head};
+ghost use Rattle.std.specs.Prelude.{◌≡◌, ◌++◌, ◌∷◌, [], IfOk, OnErr, OnOk, codes, decimal, string_bytes};
 
 use json::{Value, Writer, is_number};
 use lsp_text::{Position, Range};
@@ -130,7 +132,9 @@ pub(crate) fn reply_to(
     id: &Value<'_>,
     content: Result<String, Wrong>,
 ) -> Result<String, AllocError>
-    ensures { IfOk result (IsReplyTo (value_view id.now)) }
+    ensures reply { IfOk result (IsReplyTo (value_view id.now)) }
+    ensures ok { IfOk content (λ text. IfOk result (IsReplyOf (codes "result") (value_view id.now) (string_bytes text))) }
+    ensures error { OnErr content (IfOk result (IsReplyWith (codes "error") (value_view id.now))) }
 {
     match content {
         Ok(content) => reply_with(alloc, id, "result", &content),
@@ -145,14 +149,14 @@ fn reply_with(
     name: &str,
     content: &str,
 ) -> Result<String, AllocError>
-    ensures { IfOk result (IsReplyWith name.now (value_view id.now)) }
+    ensures { IfOk result (IsReplyOf name.now (value_view id.now) content.now) }
 {
     let mut out = begin_message(alloc)?;
     put_id(&mut out, id)?;
     out.key(name)?;
     let mut reply = end(alloc, out);
     reply.push_str(content)?;
-    reply.push('}')?;
+    reply.push_str("}")?;
     Ok(reply)
 }
 
@@ -214,14 +218,19 @@ pub(crate) fn put_number(out: &mut Out, name: &str, n: usize) -> Result<(), Allo
 }
 
 /// Writes a member that is true.
-pub(crate) fn put_true(out: &mut Out, key: &str) -> Result<(), AllocError> {
+pub(crate) fn put_true(out: &mut Out, key: &str) -> Result<(), AllocError>
+    ensures { OnOk result (Grows out.old out.new) }
+{
     out.key(key)?;
     out.boolean(true)
 }
 
 /// Writes a member that is a position.
-fn put_position(out: &mut Out, key: &str, position: Position) -> Result<(), AllocError> {
-    out.key(key)?;
+fn put_position(out: &mut Out, name: &str, position: Position) -> Result<(), AllocError>
+    ensures before { OnOk result (out.new.before ≡ out.old.before) }
+    ensures written { OnOk result (out.new.tokens ≡ out.old.tokens ++ key name.now ∷ position_tokens position) }
+{
+    out.key(name)?;
     out.begin_object()?;
     put_number(out, "line", position.line)?;
     put_number(out, "character", position.character)?;
@@ -229,8 +238,11 @@ fn put_position(out: &mut Out, key: &str, position: Position) -> Result<(), Allo
 }
 
 /// Writes a member that is a range.
-pub(crate) fn put_range(out: &mut Out, key: &str, range: Range) -> Result<(), AllocError> {
-    out.key(key)?;
+pub(crate) fn put_range(out: &mut Out, name: &str, range: Range) -> Result<(), AllocError>
+    ensures before { OnOk result (out.new.before ≡ out.old.before) }
+    ensures written { OnOk result (out.new.tokens ≡ out.old.tokens ++ key name.now ∷ range_tokens range) }
+{
+    out.key(name)?;
     out.begin_object()?;
     put_position(out, "start", range.start)?;
     put_position(out, "end", range.end)?;
@@ -238,7 +250,10 @@ pub(crate) fn put_range(out: &mut Out, key: &str, range: Range) -> Result<(), Al
 }
 
 /// Writes an edit of a text.
-pub(crate) fn put_edit(out: &mut Out, range: Range, new: &str) -> Result<(), AllocError> {
+pub(crate) fn put_edit(out: &mut Out, range: Range, new: &str) -> Result<(), AllocError>
+    ensures before { OnOk result (out.new.before ≡ out.old.before) }
+    ensures written { OnOk result (out.new.tokens ≡ out.old.tokens ++ edit_tokens range new.now) }
+{
     out.begin_object()?;
     put_range(out, "range", range)?;
     put_text(out, "newText", new)?;

@@ -2,3 +2,5 @@
 pub mod Values
 -- Documents of the server that are those of the client.
 pub mod Agreeing
+-- Documents whose faults are to be published.
+pub mod Due

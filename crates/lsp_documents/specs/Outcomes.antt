@@ -1,5 +1,6 @@
 -- What becomes of the documents of a server after a notification.
-use Rattle.std.specs.Prelude.{◌≡◌, ◌≢◌, ℕ, List, Some, IsNone, IsSome, MatchOption}
+use Rattle.std.specs.Prelude.{◌≡◌, ◌≢◌, ℕ, List, Contains, Some, String, IsNone, IsSome, MatchOption, string_bytes}
+use Rattle.std.specs.Global.{Global}
 use Rattle.json.specs.Json.{Json}
 use Rattle.lsp_documents.specs.declared.notify.Outcome.{Outcome}
 use Rattle.lsp_documents.specs.declared.notify.Outcome.TheVariants as outcome
@@ -26,6 +27,16 @@ abbrev pub IsTaken : State → State → Type 0 → Note → Type 0
 IsTaken old new says (Opened uri text) = (says → ⊥) → IsKnown new uri
 IsTaken old new says (Changed uri changes) = (says → ⊥) → IsSome (document_at old uri) → IsKnown new uri
 IsTaken old new says (Closed uri) = IsNone (document_at new uri)
+
+-- the faults of the document of a URI are to be published
+unfoldable pub IsDue : State → List ℕ → Type 0
+IsDue s uri = (u : String Global) × Contains s.due.items u × (string_bytes u ≡ uri)
+
+-- so are those of a document that is opened, and of an open one that changes
+abbrev pub MarksDue : State → State → Note → Type 0
+MarksDue old new (Opened uri text) = IsDue new uri
+MarksDue old new (Changed uri changes) = IsSome (document_at old uri) → IsDue new uri
+MarksDue old new (Closed uri) = Unit {0}
 
 -- what a server has to say is so: the text of the document that parameters name is not known, or it is not open
 abbrev pub IsSo : Outcome → Json → State → Type 0

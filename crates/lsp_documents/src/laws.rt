@@ -2,7 +2,7 @@
 
 ghost use Rattle.json.specs.Json.{Json, null, number, string, array, object, Items, no_items, item, no_members, member};
 ghost use Rattle.lsp_documents.specs.Notes.{Agrees, AreChanges, Changed, Closed, IsRangeIf, Note, Opened, Tells, Texts};
-ghost use Rattle.lsp_documents.specs.Outcomes.{IsSo, IsTaken, SaysUnknown, StaysOpen, UnnamedStay};
+ghost use Rattle.lsp_documents.specs.Outcomes.{IsDue, IsSo, IsTaken, MarksDue, SaysUnknown, StaysOpen, UnnamedStay};
 ghost use Rattle.lsp_documents.specs.States.{IsKnown, document_at};
 ghost use Rattle.lsp_documents.specs.declared.notify.Outcome.{Outcome};
 ghost use Rattle.lsp_documents.specs.declared.notify.Outcome.TheVariants as outcome;
@@ -63,4 +63,10 @@ pub fn outcomes_are_not_so()
     ensures unknown { (s : State) (uri : Bor (List ℕ)) (params : Json) → IsKnown s uri.now → IsSo (outcome.Unknown uri) params s → ⊥ }
     ensures none { (s : State) (uri : Bor (List ℕ)) (params : Json) → IsSome (document_at s uri.now) → IsSo (outcome.Closed uri) params s → ⊥ }
     ensures null { (s : State) (uri : Bor (List ℕ)) → IsSo (outcome.Unknown uri) null s → ⊥ }
+{}
+
+/// Where no document is due, none is marked as due.
+pub fn due_documents_are_not_so()
+    ensures none { (s : State) (uri : List ℕ) → s.due.items ≡ [] → IsDue s uri → ⊥ }
+    ensures opened { (old new : State) (uri : List ℕ) (text : Text) → new.due.items ≡ [] → MarksDue old new (Opened uri text) → ⊥ }
 {}

@@ -2,11 +2,11 @@
 
 ghost use Rattle.json.specs.Value.{value_view};
 ghost use Rattle.lsp_documents.specs.Notes.{Agrees, Changed, HasChanges, Note, Tells, Texts, after, text_of, uri_of, with_text};
-ghost use Rattle.lsp_documents.specs.Outcomes.{IsSo, IsTaken, SaysUnknown, StaysOpen, UnnamedStay};
+ghost use Rattle.lsp_documents.specs.Outcomes.{IsDue, IsSo, IsTaken, MarksDue, SaysUnknown, StaysOpen, UnnamedStay};
 ghost use Rattle.lsp_documents.specs.States.{IsKnown, OthersStay, SessionStays, document_at, is_down};
 ghost use Rattle.lsp_text.specs.Positions.{Text, all_changed, change_of};
 ghost use Rattle.lsp_text.specs.declared.position.Range.{Range};
-ghost use Rattle.std.specs.Prelude.{◌≡◌, ℕ, ◌⊎◌, List, Option, None, Some, IfSome, IsNone, IsSome, IsSomeAnd, OnOk, chars, codes, map, string_bytes};
+ghost use Rattle.std.specs.Prelude.{◌≡◌, ℕ, ◌⊎◌, List, Option, None, Some, IfSome, IsNone, IsSome, IsSomeAnd, IsTrue, OnOk, OnSome, chars, codes, map, string_bytes};
 
 use crate::params::{changes, text, uri, version};
 use crate::state::{Phase, State};
@@ -42,6 +42,8 @@ impl State {
         // A notification changes the document that it names, and no other one.
         ensures taken { self.old.phase ≡ Phase.Running → (note : Note) → Tells method.now (value_view params.now) note
             → IsTaken self.old self.new (SaysUnknown result) note }
+        ensures due { self.old.phase ≡ Phase.Running → (note : Note) → Tells method.now (value_view params.now) note
+            → (SaysUnknown result → ⊥) → MarksDue self.old self.new note }
         ensures stays { (uri : List ℕ) (changes : List (Option Range × Text)) → Tells method.now (value_view params.now) (Changed uri changes)
             → StaysOpen self.old self.new uri }
         ensures others { UnnamedStay self.old self.new (value_view params.now) }
@@ -74,6 +76,8 @@ impl State {
         ensures session { SessionStays self.old self.new }
         ensures known { (uri : List ℕ) → uri_of (value_view params.now) ≡ Some uri → IsSome (text_of (value_view params.now))
             → (SaysUnknown result → ⊥) → IsKnown self.new uri }
+        ensures due { (uri : List ℕ) → uri_of (value_view params.now) ≡ Some uri → IsSome (text_of (value_view params.now))
+            → (SaysUnknown result → ⊥) → IsDue self.new uri }
         ensures others { UnnamedStay self.old self.new (value_view params.now) }
         ensures outcome { IsSo result (value_view params.now) self.new }
     {
@@ -97,6 +101,7 @@ impl State {
     ) -> Result<(), AllocError>
         ensures kept { OnOk result (IsSomeAnd (document_at self.new uri.now)
             (λ document. IsSomeAnd document.text (λ kept. string_bytes kept ≡ text.now))) }
+        ensures due { OnOk result (IsDue self.new uri.now) }
         ensures others { OthersStay self.old self.new uri.now }
         ensures session { SessionStays self.old self.new }
     {
@@ -115,6 +120,8 @@ impl State {
         ensures stays { (uri : List ℕ) → uri_of (value_view params.now) ≡ Some uri → StaysOpen self.old self.new uri }
         ensures known { (uri : List ℕ) → uri_of (value_view params.now) ≡ Some uri → (SaysUnknown result → ⊥)
             → IsSome (document_at self.old uri) → IsKnown self.new uri }
+        ensures due { (uri : List ℕ) → uri_of (value_view params.now) ≡ Some uri → (SaysUnknown result → ⊥)
+            → IsSome (document_at self.old uri) → IsDue self.new uri }
         ensures others { UnnamedStay self.old self.new (value_view params.now) }
         ensures outcome { IsSo result (value_view params.now) self.new }
     {
@@ -139,6 +146,7 @@ impl State {
             → Agrees self.new (with_text texts uri.now (all_changed self.old.client.encoding changes (texts uri.now))) }
         ensures untold { ((changes : List (Option Range × Text)) → HasChanges (value_view params.now) changes → ⊥)
             → (texts : Texts) → Agrees self.old texts → Agrees self.new texts }
+        ensures due { IsKnown self.new uri.now → IsDue self.new uri.now }
         ensures stays { StaysOpen self.old self.new uri.now }
         ensures others { OthersStay self.old self.new uri.now }
         ensures session { SessionStays self.old self.new }
@@ -153,6 +161,7 @@ impl State {
     /// change.
     fn due_changes(&mut self, alloc: Global, uri: &str, params: &Value<'_>) -> Option<Vec<Change>>
         ensures found { IfSome result (λ changes. HasChanges (value_view params.now) (map change_of changes.items)) }
+        ensures due { OnSome result (IsDue self.new uri.now) }
         ensures open { self.new.open ≡ self.old.open }
         ensures session { SessionStays self.old self.new }
     {
@@ -177,12 +186,25 @@ impl State {
 
     /// Marks that the faults of a document are to be published.
     fn mark_due(&mut self, alloc: Global, uri: &str) -> Result<(), AllocError>
+        ensures due { OnOk result (IsDue self.new uri.now) }
         ensures open { self.new.open ≡ self.old.open }
         ensures session { SessionStays self.old self.new }
     {
-        if self.due.iter().all(|other| other.as_str() != uri) {
-            self.due.push(String::from_str(alloc, uri)?)?;
+        if self.is_due(uri) {
+            return Ok(());
         }
-        Ok(())
+        Ok(self.due.push(String::from_str(alloc, uri)?)?)
+    }
+
+    /// Returns whether the faults of a document are to be published.
+    fn is_due(&self, uri: &str) -> bool
+        ensures { IsTrue result → IsDue self.now uri.now }
+    {
+        for other in &self.due {
+            if other.as_str() == uri {
+                return true;
+            }
+        }
+        false
     }
 }

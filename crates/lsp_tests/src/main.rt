@@ -1,7 +1,8 @@
 //! A session with the language server.
 //!
 //! `lsp_tests` sends the messages of the session one by one, and then messages that come at once, and writes how many
-//! exchanges failed, what the server sends for those that come at once, and the text of a document after messages about it.
+//! exchanges failed, what the server sends for those that come at once, the text of a document after messages about it, and
+//! how many requests about lines of one character have a result.
 //!
 //! `lsp_tests refused` sends a message again if the exchange failed, and so prints the same if any one allocation fails
 //! (`checks/refused`).
@@ -9,6 +10,7 @@
 
 mod exchange;
 pub mod laws;
+mod lines;
 mod session;
 mod told;
 
@@ -47,5 +49,6 @@ fn main(rt: HostRuntime) -> io::Result<ExitCode> {
     println!(rt; "{failed} exchanges failed")?;
     session::take_at_once(&rt, rt.alloc())?;
     told::write_text(&rt, rt.alloc())?;
+    lines::write_count(&rt, rt.alloc())?;
     Ok(ExitCode::SUCCESS)
 }

@@ -17,7 +17,7 @@ pub returns-clause-names : goal.returns-clause-names
 returns-clause-names c uri names = let h = subst (λ o. IsSomeAnd o (λ j. uri_of (params_of j) ≡ Some uri)) braces_are_object names in absurd (cc (h))
 
 pub returns-clause-exit : goal.returns-clause-exit
-returns-clause-exit c quiet = let h : IsIgnored (codes "exit") = subst (λ o. IfSome o (λ j. IfSome (method_of j) IsIgnored)) exit_is_object quiet in h.0 refl
+returns-clause-exit c quiet = let h : IsIgnored (codes "exit") = subst (λ o. IsSomeAnd o (λ j. IfSome (method_of j) IsIgnored)) exit_is_object quiet in h.0 refl
 
 pub returns-clause-other : goal.returns-clause-other
 returns-clause-other c names =
@@ -29,3 +29,6 @@ returns-clause-other c names =
 
 pub returns-clause-asks : goal.returns-clause-asks
 returns-clause-asks c id asks = let h = subst (λ o. IsSomeAnd o (λ j. AsksIn j id)) exit_is_object asks in absurd (cc (h.0))
+
+pub returns-clause-quiet : goal.returns-clause-quiet
+returns-clause-quiet c quiet = subst (λ o. IsSomeAnd o (λ j. IfSome (method_of j) IsIgnored)) empty_is_none quiet

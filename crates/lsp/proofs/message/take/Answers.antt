@@ -1,17 +1,10 @@
 use Rattle.std.proofs.Common.{rules, ◌≡◌, ◌∙◌, IsSomeAnd, Option, None, Some, ap, option_map, subst, sym, unwrap_or}
-use Rattle.std.specs.Global.{Global}
-use Rattle.json.specs.declared.value.Value.{fold-roll-Value}
-use Rattle.json.specs.declared.value.Value.TheOpen.{Value-F}
-use Rattle.json.specs.declared.value.Value.TheVariants.{Null, rolls-Null}
-use Rattle.json.specs.Json.{Json, null}
-use Rattle.json.specs.Value.{value_view, view_step}
+use Rattle.json.specs.Json.{null}
+use Rattle.json.specs.Value.{value_view}
 use Rattle.lsp.specs.Messages.{method_of, params_of}
 use Rattle.lsp_documents.specs.Notes.{Changed, Tells}
+use Rattle.lsp.proofs.Sending.{null_is_null}
 use Rattle.lsp.proofs.message.take.Goals as goal
-
--- `null` as JSON
-null_is_null : value_view {A = Global} Null ≡ null
-null_is_null = ap (value_view {A = Global}) (sym rolls-Null) ∙ fold-roll-Value Global Json view_step Value-F.Null
 
 -- what a function gives of a value, or of another one in its place
 of_either : {A B : Type 0} (f : A → B) (o : Option A) (d r : A) (g : Option B) (n : B) → r ≡ unwrap_or o d → option_map f o ≡ g → f d ≡ n → f r ≡ unwrap_or g n
@@ -38,3 +31,12 @@ returns-in-Some-None-clause-stays c uri changes tells =
     of_either (λ p. value_view p.now) c.get.result _ c.unwrap_or-params.result _ null c.unwrap_or-params.ensures c.get.ensures null_is_null in
     c.notification.ensures.stays uri changes
     (subst (λ p. Tells c.in-Some-None.method.now p (Changed uri changes)) (sym params) (subst (λ m. IsSomeAnd m (λ name. Tells name (params_of j) (Changed uri changes))) method tells))
+
+pub returns-in-Some-None-clause-due : goal.returns-in-Some-None-clause-due
+returns-in-Some-None-clause-due c running note tells =
+    let j = value_view c.args.message.now in
+    let method : method_of j ≡ Some c.in-Some-None.method.now = search rules in
+    let params : value_view c.unwrap_or-params.result.now ≡ params_of j =
+    of_either (λ p. value_view p.now) c.get.result _ c.unwrap_or-params.result _ null c.unwrap_or-params.ensures c.get.ensures null_is_null in
+    c.notification.ensures.due running note
+    (subst (λ p. Tells c.in-Some-None.method.now p note) (sym params) (subst (λ m. IsSomeAnd m (λ name. Tells name (params_of j) note)) method tells))

@@ -1,7 +1,8 @@
-use Rattle.lsp_frames.proofs.Taken.{given, given_shorter}
+use Rattle.lsp.proofs.Sending.{on_ok}
+use Rattle.lsp.proofs.Steps.{served}
 use Rattle.lsp.proofs.session.serve_frames.Goals as goal
 
-pub loop-message-smaller : goal.loop-message-smaller
-loop-message-smaller g c =
-    let f = c.next_message.follows in
-    given_shorter c.loop-message.frames f.lender-at-none c.in-Some.message.now (given _ _ _ c.in-Some.ensures.message f.holds-at-none)
+pub returns : goal.returns
+returns g c =
+    on_ok c.flush-2.result
+    (served _ _ _ _ _ _ _ _ _ _ _ c.in_ok-take_frames.ensures c.in_ok-flush.ensures.bytes c.faults.ensures c.in_ok-write_sent.ensures c.flush-2.ensures.bytes c.faults.ensures.session.0)

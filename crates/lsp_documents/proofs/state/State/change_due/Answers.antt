@@ -2,6 +2,7 @@ use Rattle.std.proofs.Common.{rules, ◌≡◌, ◌∙◌, ap, map, subst, sym}
 use Rattle.json.specs.Value.{value_view}
 use Rattle.lsp_documents.specs.Notes.{Agrees, with_text}
 use Rattle.lsp_documents.proofs.Agreeing.{agrees_changed, agrees_open}
+use Rattle.lsp_documents.proofs.Due.{due_kept}
 use Rattle.lsp_documents.proofs.Values.{one_list_of_changes}
 use Rattle.lsp_text.specs.Positions.{all_changed, change_of}
 use Rattle.lsp_documents.proofs.state.State.change_due.Goals as goal
@@ -24,3 +25,6 @@ returns-in-Some-clause-told c changes texts has agrees =
 
 pub returns-in-Some-clause-untold : goal.returns-in-Some-clause-untold
 returns-in-Some-clause-untold c none texts agrees = absurd (none (map change_of c.in-Some.changes.items) c.in-Some.ensures.found)
+
+pub returns-in-Some-clause-due : goal.returns-in-Some-clause-due
+returns-in-Some-clause-due c known = due_kept c.due_changes.new.self c.change.new.self _ c.change.ensures.only.due c.in-Some.ensures.due

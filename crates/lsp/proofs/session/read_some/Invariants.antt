@@ -1,0 +1,6 @@
+-- Nothing is read so far.
+use Rattle.std.specs.Io.KnownBytes.{Keeps}
+use Rattle.lsp.proofs.session.read_some.Given as goal
+
+abbrev pub invariant-loop : goal.invariant-loop
+invariant-loop g l = Keeps (g.R.Read.remaining l.initial.input) (g.R.Read.remaining l.input)
