@@ -1,5 +1,11 @@
 //! What a text is read as, in lines like those of a row.
 
+ghost use Rattle.kdl.specs.DocumentLookups.{nodes_of};
+ghost use Rattle.kdl.specs.Fields.{block_of};
+ghost use Rattle.kdl.specs.Internal.Count.{count_doc, count_node, count_option};
+ghost use Rattle.std.specs.List.{sum_by};
+ghost use Rattle.std.specs.Prelude.{◌+◌, ◌≤◌};
+
 use crate::line::Line;
 use kdl::{
     KdlDiagnostic, KdlDocument, KdlDocumentFormat, KdlEntry, KdlEntryFormat, KdlIdentifier,
@@ -230,7 +236,11 @@ impl Dump {
     }
 
     /// Adds the lines of a node, except those in its block, which is added to `waiting`.
-    fn outer<'a>(&mut self, prefix: &str, node: &'a KdlNode, waiting: &mut Vec<Waiting<'a>>) {
+    fn outer<'a>(&mut self, prefix: &str, node: &'a KdlNode, waiting: &mut Vec<Waiting<'a>>)
+        // No more waits than before, and the block.
+        ensures { sum_by (λ w. count_doc w.document.now) waiting.new.items
+            ≤ sum_by (λ w. count_doc w.document.now) waiting.old.items + count_option (block_of node.now) }
+    {
         self.own(prefix, node);
         for (index, entry) in node.entries().iter().enumerate() {
             let number = index.saturating_add(1);
@@ -251,12 +261,11 @@ impl Dump {
     }
 
     /// Adds the lines of a document, except those in the blocks of its nodes, which are added to `waiting`.
-    fn level<'a>(
-        &mut self,
-        prefix: &str,
-        document: &'a KdlDocument,
-        waiting: &mut Vec<Waiting<'a>>,
-    ) {
+    fn level<'a>(&mut self, prefix: &str, document: &'a KdlDocument, waiting: &mut Vec<Waiting<'a>>)
+        // No more waits than before, and what is in the nodes.
+        ensures { sum_by (λ w. count_doc w.document.now) waiting.new.items
+            ≤ sum_by (λ w. count_doc w.document.now) waiting.old.items + sum_by count_node (nodes_of document.now) }
+    {
         self.margins(prefix, document);
         for (index, node) in document.nodes().iter().enumerate() {
             let number = index.saturating_add(1);
@@ -268,10 +277,7 @@ impl Dump {
 
     /// Adds the lines of the waiting documents, and of all documents in them.
     fn all(&mut self, waiting: &mut Vec<Waiting<'_>>) {
-        for _ in 0..usize::MAX {
-            let Some(next) = waiting.pop() else {
-                break;
-            };
+        while let Some(next) = waiting.pop() {
             self.level(&next.prefix, next.document, waiting);
         }
     }

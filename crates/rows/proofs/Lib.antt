@@ -1,0 +1,2 @@
+-- How many nodes and documents wait.
+pub mod Counts
