@@ -6,8 +6,7 @@ use std::alloc::Global;
 use std::io::ErrorKind;
 use std::process::ExitCode;
 use std::{env, io};
-use tool::watched::Watched;
-use tool::{Outcome, run};
+use tool::{Outcome, Watched, run};
 
 /// Runs the tool with the arguments, standard input and standard output, and writes to standard error why it stopped.
 fn main(rt: HostRuntime) -> ExitCode {

@@ -4,7 +4,3 @@ pub mod Commands
 pub mod Reports
 -- What a run of the tool reads, writes and returns.
 pub mod Runs
--- What calls of a reader or a writer do to the flags on it.
-pub mod Flags
--- What a writing function writes, by what it returns.
-pub mod Writing

@@ -1,24 +1,22 @@
 //! The tool itself, over any reader and any writer.
 #![tactic(auto)]
 
-ghost use Rattle.std.specs.Prelude.{◌≡◌, ◌↔◌, ◌||◌, ◌++◌, true, IfOk, IfSome, IsTrue, MatchOption, SomeIff, OnOk, ◌≤◌, chars, length, map, take, flat_map, decimal, encode_utf8_all, option_map, string_bytes};
+ghost use Rattle.std.specs.Prelude.{◌≡◌, ◌↔◌, ◌||◌, ◌++◌, true, IfOk, MatchOption, OnOk, ◌≤◌, chars, length, map, take, decimal, encode_utf8_all, option_map, string_bytes, IsOk};
 ghost use Rattle.kdl_text.specs.Failures.{IsSyntax, TellsOnSyntax};
 ghost use Rattle.kdl.specs.Said.{said_arg};
 ghost use Rattle.kdl.specs.Tree.{document_prints, document_says};
 ghost use Rattle.tool.specs.Commands.{AreOther, asked_by, value_line, words_of};
 ghost use Rattle.tool.specs.Runs.{IsUsage, IsInput, Output, Ran, WritesNothing, Flagged, Answered, AreNoDocument, IsDone, is_read_failed, is_write_failed, is_unread_failed};
 ghost use Rattle.tool.specs.Reports.{status_of, report_of, line, diagnostic_line, lines_of};
-ghost use Rattle.tool.specs.Flags.{StopsAtFailure};
-ghost use Rattle.tool.specs.Writing.{Writes};
+ghost use Rattle.watched.specs.Flags.{StopsAtFailure};
+ghost use Rattle.watched.specs.Writing.{Writes};
 
-pub mod watched;
-
-use crate::watched::Watched;
 use kdl::{KdlDiagnostic, KdlDocument, KdlError, ParseFailure};
 use std::alloc::{AllocError, Global};
 use std::fmt::Write as _;
 use std::io::{Read, Write};
-use std::mem;
+use std::{io, mem};
+pub use watched::Watched;
 
 /// The number of bytes requested at a time.
 const READ_SIZE: usize = 65_536;
@@ -29,9 +27,6 @@ const INPUT_SIZE: usize = 262_144;
 
 /// The greatest number of decimal digits of a `usize`.
 const MOST_DIGITS: usize = 20;
-
-/// The greatest size of a line that is written by one `write`.
-const LINE_SIZE: usize = 512;
 
 /// The outcome of a run.
 #[derive(Debug, Drop)]
@@ -187,13 +182,10 @@ fn answer<W: Write>(
         return Outcome::NotUtf8;
     };
     match output(alloc, command, text) {
-        Ok(Some(output)) => {
-            if write_whole(output.as_bytes(), writer) {
-                Outcome::Done
-            } else {
-                Outcome::WriteFailed
-            }
-        }
+        Ok(Some(output)) => match writer.write_whole(output.as_bytes()) {
+            Ok(()) => Outcome::Done,
+            Err(_) => Outcome::WriteFailed,
+        },
         Ok(None) => Outcome::NoValue,
         Err(ParseFailure::Syntax(error)) => Outcome::Refused(error),
         Err(ParseFailure::Memory) => Outcome::Memory,
@@ -258,66 +250,6 @@ fn value_line(
     Ok(Some(line))
 }
 
-/// Writes the bytes, and returns whether all were written. Stops at the first error, and at the first write that writes
-/// no byte.
-#[tactic(auto, using(crate::proofs::LoopSteps::written_more))]
-fn write_whole<W: Write>(bytes: &[u8], writer: &mut Watched<W>) -> bool
-    ensures { Writes W.contents writer.old writer.new bytes.now result }
-{
-    let mut done = 0;
-    while done < bytes.len() {
-        match writer.write(&bytes[done..]) {
-            Ok(0) | Err(_) => return false,
-            Ok(n) => done += n,
-        }
-    }
-    true
-}
-
-/// Writes the pieces one after another, and returns whether all were written.
-fn write_pieces<W: Write>(pieces: &[&[u8]], writer: &mut Watched<W>) -> bool
-    ensures { Writes W.contents writer.old writer.new (flat_map (λ p. p.now) pieces.now) result }
-{
-    for piece in pieces {
-        if !write_whole(piece, writer) {
-            return false;
-        }
-    }
-    true
-}
-
-/// Writes a line of these pieces, and returns whether all of it was written. A line of at most `LINE_SIZE` bytes is given
-/// to one `write`, so that it is not mixed with what others write there.
-fn write_line<W: Write>(pieces: &[&[u8]], writer: &mut Watched<W>) -> bool
-    ensures { Writes W.contents writer.old writer.new (flat_map (λ p. p.now) pieces.now) result }
-{
-    let mut line = [0u8; LINE_SIZE];
-    match put_pieces(pieces, &mut line) {
-        Some(end) => write_whole(&line[..end], writer),
-        None => write_pieces(pieces, writer),
-    }
-}
-
-/// Copies the pieces one after another to the front of the buffer, and returns where they end, or `None` if they do not
-/// fit.
-fn put_pieces(pieces: &[&[u8]], buffer: &mut [u8]) -> Option<usize>
-    ensures end { SomeIff result (length (flat_map (λ p. p.now) pieces.now) ≤ length buffer.old)
-        (length (flat_map (λ p. p.now) pieces.now)) }
-    ensures put { IfSome result
-        (λ end. take end buffer.new ≡ flat_map (λ p. p.now) pieces.now) }
-{
-    let mut end = 0;
-    for piece in pieces {
-        if piece.len() > buffer.len() - end {
-            return None;
-        }
-        let next = end + piece.len();
-        buffer[end..next].copy_from_slice(piece);
-        end = next;
-    }
-    Some(end)
-}
-
 /// Writes the decimal digits of the number to the front of the buffer, and returns how many there are.
 fn put_decimal(number: usize, buffer: &mut [u8]) -> usize
     requires { length (decimal number) ≤ length buffer.old }
@@ -347,17 +279,17 @@ impl Outcome {
         }
     }
 
-    /// Writes a line for each fault, and returns whether all lines were written; if not, a write failed. Stops at the
-    /// first error, even an interrupted one, and at the first write that writes no byte.
+    /// Writes a line for each fault. Stops at the first write that fails, even an interrupted one, and at the first that
+    /// writes no byte, and returns an error then.
     ///
     /// A line of a refused input is `offset..end message`, in bytes of the input. Each line of up to 512 bytes is given to
     /// one `write`.
-    pub fn report<W: Write>(&self, writer: &mut Watched<W>) -> bool
+    pub fn report<W: Write>(&self, writer: &mut Watched<W>) -> io::Result<()>
         ensures written { Writes W.contents writer.old writer.new (report_of self.now) result }
-        ensures done { IsDone self.now → (IsTrue result × writer.new ≡ writer.old) }
+        ensures done { IsDone self.now → (IsOk result × writer.new ≡ writer.old) }
     {
         match self {
-            Outcome::Done => true,
+            Outcome::Done => Ok(()),
             Outcome::Refused(error) => report_error(error, writer),
             Outcome::NotUtf8 => report_line("0..0 Input is not UTF-8", writer),
             Outcome::NoValue => report_line("0..0 No such value", writer),
@@ -369,27 +301,28 @@ impl Outcome {
     }
 }
 
-/// Writes a line, and returns whether all of it was written.
-fn report_line<W: Write>(text: &str, writer: &mut Watched<W>) -> bool
+/// Writes a line.
+fn report_line<W: Write>(text: &str, writer: &mut Watched<W>) -> io::Result<()>
     ensures { Writes W.contents writer.old writer.new (line text.now) result }
 {
-    write_line(&[text.as_bytes(), b"\n"], writer)
+    writer.write_line(&[text.as_bytes(), b"\n"])
 }
 
-/// Writes a line for each diagnostic, and returns whether all were written.
-fn report_error<W: Write>(error: &KdlError, writer: &mut Watched<W>) -> bool
+/// Writes a line for each diagnostic.
+fn report_error<W: Write>(error: &KdlError, writer: &mut Watched<W>) -> io::Result<()>
     ensures { Writes W.contents writer.old writer.new (lines_of error.now) result }
 {
     for diagnostic in &error.diagnostics {
-        if !report_diagnostic(diagnostic, writer) {
-            return false;
-        }
+        report_diagnostic(diagnostic, writer)?;
     }
-    true
+    Ok(())
 }
 
-/// Writes the line of a diagnostic, and returns whether all of it was written.
-fn report_diagnostic<W: Write>(diagnostic: &KdlDiagnostic, writer: &mut Watched<W>) -> bool
+/// Writes the line of a diagnostic.
+fn report_diagnostic<W: Write>(
+    diagnostic: &KdlDiagnostic,
+    writer: &mut Watched<W>,
+) -> io::Result<()>
     ensures { Writes W.contents writer.old writer.new (diagnostic_line diagnostic.now) result }
 {
     let start = diagnostic.span.offset;
@@ -410,5 +343,5 @@ fn report_diagnostic<W: Write>(diagnostic: &KdlDiagnostic, writer: &mut Watched<
         message.as_bytes(),
         b"\n",
     ];
-    write_line(&pieces, writer)
+    writer.write_line(&pieces)
 }

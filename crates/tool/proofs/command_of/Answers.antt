@@ -1,5 +1,5 @@
 use Rattle.std.proofs.Common.{[], ◌∷◌, ◌∙◌, ap, sym, arith, codes, string_bytes}
-use Rattle.tool.proofs.LoopSteps.{alone, same_word, two}
+use Rattle.tool.proofs.Commands.{alone, same_word, two}
 use Rattle.tool.proofs.command_of.Goals as goal
 
 pub returns-then-eq : goal.returns-then-eq

@@ -2,7 +2,7 @@ use Rattle.std.proofs.Common.{◌≡◌, ℕ, List, [], ◌++◌, Some, ◌∙�
 use Rattle.std.specs.Prelude.{encode_utf8_all}
 use Rattle.std.proofs.lemmas.Str.{encodes-chars}
 use Rattle.tool.specs.Commands.{asked_by}
-use Rattle.tool.proofs.LoopSteps.{laid_out_is, written_is}
+use Rattle.tool.proofs.Commands.{laid_out_is, written_is}
 use Rattle.tool.proofs.output.Goals as goal
 
 -- what is appended to no bytes

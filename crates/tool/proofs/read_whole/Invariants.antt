@@ -1,6 +1,6 @@
 use Rattle.std.proofs.Common.{◌≡◌, ◌-◌, ◌^◌, vec_len}
 use Rattle.std.specs.Io.KnownBytes.{Consumes}
-use Rattle.tool.specs.Flags.{StopsAtFailure}
+use Rattle.watched.specs.Flags.{StopsAtFailure}
 use Rattle.tool.proofs.read_whole.Given as goal
 
 abbrev pub invariant-loop-input : goal.invariant-loop-input

@@ -1,6 +1,6 @@
 use Rattle.std.proofs.Common.{[], get_or, rules, arith}
-use Rattle.tool.proofs.LoopSteps.{too_long}
-use Rattle.tool.proofs.put_pieces.Goals as goal
+use Rattle.watched.proofs.WriteSteps.{too_long}
+use Rattle.watched.proofs.writing.put_pieces.Goals as goal
 
 pub returns-then-piece-buffer-clause-end : goal.returns-then-piece-buffer-clause-end
 returns-then-piece-buffer-clause-end c =

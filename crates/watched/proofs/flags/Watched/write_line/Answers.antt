@@ -1,5 +1,5 @@
 use Rattle.std.proofs.Common.{arith}
-use Rattle.tool.proofs.write_line.Goals as goal
+use Rattle.watched.proofs.flags.Watched.write_line.Goals as goal
 
 pub slice_bounds-line-end : goal.slice_bounds-line-end
 slice_bounds-line-end g c =

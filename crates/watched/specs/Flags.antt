@@ -1,6 +1,6 @@
 -- What calls of a reader or a writer do to the flags on it.
 use Rattle.std.specs.Prelude.{◌≡◌, ℕ, Bool, true, false, not, ◌&&◌, ◌==◌, Result, Ok, Err}
-use Rattle.tool.specs.declared.watched.Watched.{Watched}
+use Rattle.watched.specs.declared.flags.Watched.{Watched}
 
 -- the read returned no byte
 abbrev pub gave_none : {E : Type 0} → Result ℕ E → Bool

@@ -6,7 +6,7 @@
 ghost use Rattle.std.specs.Prelude.{◌≡◌, ◌||◌, ◌==◌, false, length, is_err, if◌then◌else◌};
 ghost use Rattle.std.specs.Io.{ReadsAtMost, WritesAtMost};
 ghost use Rattle.std.specs.Io.KnownBytes.{Keeps, ReadConsumes, WriteAppends};
-ghost use Rattle.tool.specs.Flags.{gave_none, is_refused};
+ghost use Rattle.watched.specs.Flags.{gave_none, is_refused};
 
 use std::io;
 use std::io::{Read, Write};
