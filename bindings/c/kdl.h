@@ -56,13 +56,26 @@ enum {
     KDL_OK = 0,
     KDL_FAULTS = 1,        /* the text has faults: kdl_faults and kdl_reports list them; of a value,
                               entry or node: kdl_faults_of */
-    KDL_NOT_UTF8 = 2,      /* the text is not UTF-8, or the name, key or type */
+    KDL_NOT_UTF8 = 2,      /* the text is not UTF-8, or the name, key, type or indent */
     KDL_OUT_OF_MEMORY = 3, /* an allocation failed */
     KDL_TOO_SMALL = 4,     /* a buffer has too little room; the counts say how much is needed */
     KDL_NO_DOCUMENT = 5,   /* the struct has no document */
     KDL_NOT_FOUND = 6      /* what the call names is not there: a node, block, entry, index, offset
                               or kind */
 };
+
+/* The statuses that a call can return, besides KDL_OK:
+ *
+ *     KDL_FAULTS         each call that takes a document, node, entry or value in KDL, a query, a PATH
+ *                        or an indent
+ *     KDL_NOT_UTF8       each call that takes a text
+ *     KDL_OUT_OF_MEMORY  each call but kdl_position, kdl_node_count, kdl_node, kdl_find and
+ *                        kdl_find_entry
+ *     KDL_TOO_SMALL      each call that takes `room` or `strings_room`, but kdl_faults, kdl_faults_of
+ *                        and kdl_reports
+ *     KDL_NO_DOCUMENT    each call that takes a document struct, but kdl_parse
+ *     KDL_NOT_FOUND      each call that takes a path or a PATH, kdl_get, kdl_position, kdl_faults_of
+ */
 
 /* The text of a status, as "out of memory"; of another number, "unknown status". It ends in a NUL,
  * and lasts as long as the program. */
@@ -93,9 +106,10 @@ void kdl_free(struct kdl_document *document);
 /* Writes the text of the document. If it was only parsed, that is the text that was read. */
 uint32_t kdl_print(struct kdl_document *document, uint8_t *out, size_t room, size_t *needed);
 
-/* Lays the document out, with its comments and without empty lines. Its data do not change. If an
- * allocation fails, a part of the document may already be laid out; if the text that it printed
- * had its data, that still has. A document without nodes gets one newline after its comments. */
+/* Lays the document out, with its comments and without empty lines. Its data do not change, and the
+ * text that it then prints has its data. If an allocation fails, a part of the document may already
+ * be laid out; if the text that it printed had its data, that still has. A document without nodes
+ * gets one newline after its comments. */
 uint32_t kdl_format(struct kdl_document *document);
 
 /* Lays the document out, without its comments. Two documents then print the same text if and only

@@ -1,12 +1,12 @@
 //! Changes to the node at a path.
 
 ghost use Rattle.kdl.specs.Words.{nodes_of};
-ghost use Rattle.c_calls.specs.Answers.{Each};
+ghost use Rattle.c_calls.specs.Answers.{Each, IsAmong};
 ghost use Rattle.c_calls.specs.Changes.{AtNode, SameTree};
 ghost use Rattle.c_calls.specs.Internal.Done.{IsDone, IsDoneIn, Lacks};
 ghost use Rattle.c_calls.specs.Paths.{node_at};
 ghost use Rattle.c_calls.specs.declared.status.Refused.TheVariants.{NotFound};
-ghost use Rattle.std.specs.Prelude.{◌≡◌, IfErr, IfSome, IsNone, OnErr, OnOk, slice_get};
+ghost use Rattle.std.specs.Prelude.{◌≡◌, ◌∷◌, [], IfErr, IfSome, IsNone, OnErr, OnOk, slice_get};
 
 use crate::held::Handle;
 use crate::node_change::NodeChange;
@@ -80,8 +80,7 @@ pub fn change_held(alloc: Global, document: &mut Handle, path: &[usize], change:
     ensures kept { (result ≡ 0 → ⊥)
         → Each SameTree document.old.held.document document.new.held.document }
     ensures missing { result ≡ 5 → IsNone document.old.held.document }
-    ensures read { result ≡ 1 → ⊥ }
-    ensures utf8 { result ≡ 2 → ⊥ }
+    ensures statuses { IsAmong (0 ∷ 3 ∷ 5 ∷ 6 ∷ []) result }
     ensures absent { result ≡ 6 → IfSome document.old.held.document (λ d.
         IfSome (node_at path.now (nodes_of d)) (Lacks change)) }
 {

@@ -1,12 +1,12 @@
 //! Nodes that are inserted into the document itself, and removed from it.
 
 ghost use Rattle.kdl.specs.Words.{nodes_of};
-ghost use Rattle.c_calls.specs.Answers.{Each};
+ghost use Rattle.c_calls.specs.Answers.{Each, IsAmong};
 ghost use Rattle.c_calls.specs.Changes.{SameTree};
 ghost use Rattle.c_calls.specs.Edits.{FirstRemoved};
 ghost use Rattle.c_calls.specs.Internal.Done.{NodePut};
 ghost use Rattle.c_calls.specs.declared.status.Refused.TheVariants.{NotFound};
-ghost use Rattle.std.specs.Prelude.{◌≡◌, ◌<◌, ◌≤◌, IfErr, IfSome, IsNone, OnErr, OnOk, length};
+ghost use Rattle.std.specs.Prelude.{◌≡◌, ◌<◌, ◌≤◌, ◌∷◌, [], IfErr, IfSome, IsNone, OnErr, OnOk, length};
 
 use crate::held::Handle;
 use crate::status::{NO_DOCUMENT, OK, Refused};
@@ -25,8 +25,7 @@ pub fn insert_first(alloc: Global, document: &mut Handle, index: usize, node: Kd
     ensures missing { result ≡ 5 → IsNone document.old.held.document }
     ensures absent { result ≡ 6 → IfSome document.old.held.document (λ d.
         length (nodes_of d) < index) }
-    ensures read { result ≡ 1 → ⊥ }
-    ensures utf8 { result ≡ 2 → ⊥ }
+    ensures statuses { IsAmong (0 ∷ 3 ∷ 5 ∷ 6 ∷ []) result }
 {
     let Some(mut held) = document.take(alloc) else {
         drop(node);
@@ -72,7 +71,7 @@ pub fn remove_first(alloc: Global, document: &mut Handle, index: usize) -> u32
     ensures missing { result ≡ 5 → IsNone document.old.held.document }
     ensures absent { result ≡ 6 → IfSome document.old.held.document (λ d.
         length (nodes_of d) ≤ index) }
-    ensures parses_nothing { result ≡ 1 → ⊥ }
+    ensures statuses { IsAmong (0 ∷ 3 ∷ 5 ∷ 6 ∷ []) result }
 {
     let Some(mut held) = document.take(alloc) else {
         return NO_DOCUMENT;

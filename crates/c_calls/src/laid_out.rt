@@ -1,8 +1,9 @@
 //! Formatting of documents.
 
 ghost use Rattle.kdl.specs.Words.{CommentsStay, DocumentKeepsNoForm, DocumentKeepsReading, DocumentLaidOut, DocumentReadsBack, IsDocument, Text, canonical_text, defaults, document_prints, document_says, document_tree, without_comments};
-ghost use Rattle.c_calls.specs.LaidOut.{AreSpaces, IsLaidOut, IsLaidOutAs};
-ghost use Rattle.std.specs.Prelude.{◌≡◌, IfOk, string_bytes};
+ghost use Rattle.c_calls.specs.Answers.{IsAmong};
+ghost use Rattle.c_calls.specs.LaidOut.{AreSpaces, IsLaidOut, IsLaidOutAs, settings_of};
+ghost use Rattle.std.specs.Prelude.{◌≡◌, ◌∷◌, [], IfOk, string_bytes};
 ghost use Rattle.std.specs.Str.{chars, encode_utf8_all};
 
 use crate::status::{FAULTS, OK, OUT_OF_MEMORY};
@@ -22,7 +23,7 @@ pub fn format(document: &mut KdlDocument) -> u32
         → IsDocument (document_prints document.new) (document_says document.old) }
     ensures comments { result ≡ 0 → DocumentKeepsNoForm document.old
         → CommentsStay (document_tree document.old) (document_prints document.new) }
-    ensures parses_nothing { result ≡ 1 → ⊥ }
+    ensures statuses { IsAmong (0 ∷ 3 ∷ []) result }
 {
     match document.autoformat() {
         Err(_) => OUT_OF_MEMORY,
@@ -38,9 +39,11 @@ pub fn strip(document: &mut KdlDocument) -> u32
     ensures data { document_says document.new ≡ document_says document.old }
     ensures reads_back { DocumentKeepsReading without_comments document.old
         → DocumentReadsBack document.old → DocumentReadsBack document.new }
+    ensures derived { result ≡ 0 → DocumentKeepsNoForm document.old
+        → IsDocument (document_prints document.new) (document_says document.old) }
     ensures prints { result ≡ 0 → DocumentKeepsNoForm document.old
         → document_prints document.new ≡ canonical_text (document_says document.old) }
-    ensures parses_nothing { result ≡ 1 → ⊥ }
+    ensures statuses { IsAmong (0 ∷ 3 ∷ []) result }
 {
     match document.autoformat_no_comments() {
         Err(_) => OUT_OF_MEMORY,
@@ -66,9 +69,11 @@ pub struct KdlLayout {
 ///
 /// Returns `FAULTS` if the indent has another character than the spaces of KDL, and leaves the document unchanged.
 /// Returns `OUT_OF_MEMORY` if an allocation fails. The data of the document is then unchanged, and some of it may be laid
-/// out.
+/// out. It still prints a text with the same data if it did before.
 pub fn lay_out(document: &mut KdlDocument, layout: &KdlLayout, indent: &str) -> u32
     ensures data { document_says document.new ≡ document_says document.old }
+    ensures reads_back { DocumentKeepsReading (settings_of layout.now (chars indent.now)) document.old
+        → DocumentReadsBack document.old → DocumentReadsBack document.new }
     ensures laid { result ≡ 0
         → IsLaidOutAs layout.now (chars indent.now) document.old document.new }
     ensures derived { result ≡ 0 → DocumentKeepsNoForm document.old
@@ -78,8 +83,7 @@ pub fn lay_out(document: &mut KdlDocument, layout: &KdlLayout, indent: &str) -> 
         → CommentsStay (document_tree document.old) (document_prints document.new) }
     ensures refused { result ≡ 1 → AreSpaces (chars indent.now) → ⊥ }
     ensures kept { (result ≡ 0 → ⊥) → (result ≡ 3 → ⊥) → document.new ≡ document.old }
-    ensures utf8 { result ≡ 2 → ⊥ }
-    ensures held { result ≡ 5 → ⊥ }
+    ensures statuses { IsAmong (0 ∷ 1 ∷ 3 ∷ []) result }
 {
     if !is_kdl_space(indent) {
         return FAULTS;

@@ -2,8 +2,9 @@
 
 ghost use Rattle.kdl.specs.Words.{entry_data, entry_tree, node_says, said_type, value_tree};
 ghost use Rattle.kdl.specs.declared.node.KdlNode.{out-KdlNode};
+ghost use Rattle.c_calls.specs.Answers.{IsAmong};
 ghost use Rattle.c_calls.specs.Says.{IsWithin, Grown, SaysEntry, SaysInteger, SaysKey, SaysNode, SaysType, SaysValue, flag_of};
-ghost use Rattle.std.specs.Prelude.{◌≡◌, ◌≤◌, ◌+◌, IfOk, is_some, length, take};
+ghost use Rattle.std.specs.Prelude.{◌≡◌, ◌≤◌, ◌<◌, ◌+◌, ◌∷◌, [], IfOk, is_some, length, take};
 
 use crate::status::{OUT_OF_MEMORY, room};
 use crate::text::{Place, put_string};
@@ -325,11 +326,10 @@ pub fn put_found(
 ) -> u32
     ensures within { result ≡ 0 → IsWithin string_len.new row.new }
     ensures strings { result ≡ 0 → string_len.new ≤ length strings.old }
+    ensures small { result ≡ 4 → length strings.old < string_len.new }
     ensures says { result ≡ 0 → SaysEntry (take string_len.new strings.new) row.new
         (entry_data (entry_tree entry.now)) }
-    ensures there { result ≡ 6 → ⊥ }
-    ensures held { result ≡ 5 → ⊥ }
-    ensures parses_nothing { result ≡ 1 → ⊥ }
+    ensures statuses { IsAmong (0 ∷ 3 ∷ 4 ∷ []) result }
 {
     match put_entry(alloc, entry, strings, string_len) {
         Err(_) => OUT_OF_MEMORY,

@@ -1,9 +1,9 @@
 //! The statuses that the calls return.
 
-ghost use Rattle.c_calls.specs.Answers.{failure_status};
+ghost use Rattle.c_calls.specs.Answers.{IsAmong, failure_status};
 ghost use Rattle.c_calls.specs.declared.status.Refused.TheVariants.{NotFound};
 ghost use Rattle.c_calls.specs.declared.status.Unread.TheVariants.{Faults, NotUtf8};
-ghost use Rattle.std.specs.Prelude.{◌≡◌, ◌≤◌};
+ghost use Rattle.std.specs.Prelude.{◌≡◌, ◌≤◌, ◌∷◌, []};
 
 use kdl::ParseFailure;
 
@@ -67,9 +67,7 @@ pub enum Unread {
 impl Unread {
     /// Returns the status for a text that was not read.
     pub fn status(self) -> u32
-        ensures not_done { result ≡ 0 → ⊥ }
-        ensures held { result ≡ 5 → ⊥ }
-        ensures found { result ≡ 6 → ⊥ }
+        ensures statuses { IsAmong (1 ∷ 2 ∷ 3 ∷ []) result }
         ensures faults { result ≡ 1 → self ≡ Faults }
         ensures utf8 { result ≡ 2 → self ≡ NotUtf8 }
     {
@@ -93,10 +91,7 @@ pub enum Refused {
 impl Refused {
     /// Returns the status of an edit that was not made.
     pub fn status(self) -> u32
-        ensures not_done { result ≡ 0 → ⊥ }
-        ensures held { result ≡ 5 → ⊥ }
-        ensures read { result ≡ 1 → ⊥ }
-        ensures utf8 { result ≡ 2 → ⊥ }
+        ensures statuses { IsAmong (3 ∷ 6 ∷ []) result }
         ensures absent { result ≡ 6 → self ≡ NotFound }
     {
         match self {

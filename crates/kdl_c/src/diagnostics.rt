@@ -1,11 +1,12 @@
 //! Lists of the faults of a text.
 
 ghost use Rattle.kdl.specs.Words.{IsDocument, Nodes};
+ghost use Rattle.c_calls.specs.Answers.{IsAmong};
 ghost use Rattle.c_calls.specs.Listed.{AreFaultsOf, AreListed, AreReportsListed, Fault, ListsNothing};
 ghost use Rattle.kdl_c.specs.Queries.{AreFaultsOfKind, IsOfKind};
 ghost use Rattle.c_calls.specs.Reports.{AreReported};
 ghost use Rattle.c_calls.specs.Rows.{AreTold};
-ghost use Rattle.std.specs.Prelude.{◌≡◌, ◌<◌, ◌≤◌, List};
+ghost use Rattle.std.specs.Prelude.{◌≡◌, ◌<◌, ◌≤◌, ◌∷◌, [], List};
 ghost use Rattle.std.specs.Str.{IsUtf8, chars};
 
 use crate::selection::put_query_faults;
@@ -43,6 +44,7 @@ pub extern "C" fn kdl_faults(
     ensures utf8 { result ≡ 2 → IsUtf8 text.now → ⊥ }
     ensures refused { result ≡ 1 → (x : Nodes) → IsDocument (chars text.now) x → ⊥ }
     ensures accepted { result ≡ 0 → (x : Nodes) × IsDocument (chars text.now) x }
+    ensures statuses { IsAmong (0 ∷ 1 ∷ 2 ∷ 3 ∷ []) result }
 {
     *count = 0;
     *string_len = 0;
@@ -85,6 +87,7 @@ pub extern "C" fn kdl_faults_of(
     ensures refused { result ≡ 1 → IsOfKind kind (chars text.now) → ⊥ }
     ensures accepted { result ≡ 0 → IsOfKind kind (chars text.now) }
     ensures kinds { result ≡ 6 → 5 ≤ kind }
+    ensures statuses { IsAmong (0 ∷ 1 ∷ 2 ∷ 3 ∷ 6 ∷ []) result }
 {
     *count = 0;
     *string_len = 0;
@@ -135,6 +138,7 @@ pub extern "C" fn kdl_reports(
     ensures utf8 { result ≡ 2 → IsUtf8 text.now → ⊥ }
     ensures refused { result ≡ 1 → (x : Nodes) → IsDocument (chars text.now) x → ⊥ }
     ensures accepted { result ≡ 0 → (x : Nodes) × IsDocument (chars text.now) x }
+    ensures statuses { IsAmong (0 ∷ 1 ∷ 2 ∷ 3 ∷ []) result }
 {
     *count = 0;
     *string_len = 0;

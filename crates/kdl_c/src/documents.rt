@@ -1,8 +1,7 @@
 //! Documents: parsing, freeing and printing.
 
 ghost use Rattle.kdl.specs.Words.{IsDocument, LaidDocument, Nodes, document_prints, document_says, document_tree};
-ghost use Rattle.kdl_c.specs.Statuses.{IsAmong};
-ghost use Rattle.c_calls.specs.Answers.{printed_bytes};
+ghost use Rattle.c_calls.specs.Answers.{IsAmong, printed_bytes};
 ghost use Rattle.std.specs.Prelude.{◌≡◌, ◌++◌, ◌<◌, ◌∷◌, [], IfSome, IsNone, IsSome, IsSomeAnd, None, drop, length};
 ghost use Rattle.std.specs.Str.{IsUtf8, chars};
 

@@ -1,9 +1,9 @@
 //! Layout of documents and texts.
 
-ghost use Rattle.kdl.specs.Words.{CommentsStay, DocumentKeepsNoForm, DocumentLaidOut, IsDocument, Nodes, Text, canonical_text, defaults, document_prints, document_says, document_tree};
-ghost use Rattle.c_calls.specs.Answers.{Each};
-ghost use Rattle.c_calls.specs.LaidOut.{AreSpaces, IsLaidOutAs, IsTextLaidOut};
-ghost use Rattle.std.specs.Prelude.{◌≡◌, ◌++◌, IsNone, drop, length};
+ghost use Rattle.kdl.specs.Words.{CommentsStay, DocumentKeepsNoForm, DocumentKeepsReading, DocumentLaidOut, DocumentReadsBack, IsDocument, Nodes, Text, canonical_text, defaults, document_prints, document_says, document_tree, without_comments};
+ghost use Rattle.c_calls.specs.Answers.{Each, IsAmong};
+ghost use Rattle.c_calls.specs.LaidOut.{AreSpaces, IsLaidOutAs, IsTextLaidOut, settings_of};
+ghost use Rattle.std.specs.Prelude.{◌≡◌, ◌++◌, ◌<◌, ◌∷◌, [], IsNone, drop, length};
 ghost use Rattle.std.specs.Str.{IsUtf8, chars, encode_utf8_all};
 
 use c_calls::held::Handle;
@@ -14,10 +14,13 @@ use kdl::KdlDocument;
 use std::alloc::Global;
 
 /// Lays the document out, with its comments. Its data do not change. If an allocation fails, a part of the document may
-/// already be laid out.
+/// already be laid out. It still prints a text with the same data if it did before.
 #[unsafe(no_mangle)]
 pub extern "C" fn kdl_format(alloc: Global, document: &mut Handle) -> u32
     ensures data { Each (λ d e. document_says e ≡ document_says d)
+        document.old.held.document document.new.held.document }
+    ensures reads_back { Each (λ d e. DocumentKeepsReading defaults d
+        → DocumentReadsBack d → DocumentReadsBack e)
         document.old.held.document document.new.held.document }
     ensures formatted { result ≡ 0 → Each (λ d e. DocumentLaidOut defaults d e)
         document.old.held.document document.new.held.document }
@@ -27,7 +30,8 @@ pub extern "C" fn kdl_format(alloc: Global, document: &mut Handle) -> u32
     ensures comments { result ≡ 0 → Each (λ d e. DocumentKeepsNoForm d
         → CommentsStay (document_tree d) (document_prints e))
         document.old.held.document document.new.held.document }
-    ensures parses_nothing { result ≡ 1 → ⊥ }
+    ensures missing { result ≡ 5 → IsNone document.old.held.document }
+    ensures statuses { IsAmong (0 ∷ 3 ∷ 5 ∷ []) result }
 {
     let Some(mut held) = document.take(alloc) else {
         return NO_DOCUMENT;
@@ -38,15 +42,22 @@ pub extern "C" fn kdl_format(alloc: Global, document: &mut Handle) -> u32
 }
 
 /// Lays the document out, without its comments. Its data do not change. If an allocation fails, a part of the document
-/// may already be laid out.
+/// may already be laid out. It still prints a text with the same data if it did before.
 #[unsafe(no_mangle)]
 pub extern "C" fn kdl_strip(alloc: Global, document: &mut Handle) -> u32
     ensures data { Each (λ d e. document_says e ≡ document_says d)
         document.old.held.document document.new.held.document }
+    ensures reads_back { Each (λ d e. DocumentKeepsReading without_comments d
+        → DocumentReadsBack d → DocumentReadsBack e)
+        document.old.held.document document.new.held.document }
+    ensures derived { result ≡ 0 → Each (λ d e. DocumentKeepsNoForm d
+        → IsDocument (document_prints e) (document_says d))
+        document.old.held.document document.new.held.document }
     ensures prints { result ≡ 0 → Each (λ d e. DocumentKeepsNoForm d
         → document_prints e ≡ canonical_text (document_says d))
         document.old.held.document document.new.held.document }
-    ensures parses_nothing { result ≡ 1 → ⊥ }
+    ensures missing { result ≡ 5 → IsNone document.old.held.document }
+    ensures statuses { IsAmong (0 ∷ 3 ∷ 5 ∷ []) result }
 {
     let Some(mut held) = document.take(alloc) else {
         return NO_DOCUMENT;
@@ -57,7 +68,8 @@ pub extern "C" fn kdl_strip(alloc: Global, document: &mut Handle) -> u32
 }
 
 /// Lays the document out with the indent once for each level. Its data do not change. Returns `FAULTS` if the indent has
-/// another character than the spaces of KDL. If an allocation fails, a part of the document may already be laid out.
+/// another character than the spaces of KDL. If an allocation fails, a part of the document may already be laid out. It
+/// still prints a text with the same data if it did before.
 #[unsafe(no_mangle)]
 pub extern "C" fn kdl_layout(
     alloc: Global,
@@ -66,6 +78,10 @@ pub extern "C" fn kdl_layout(
     indent: &[u8],
 ) -> u32
     ensures data { Each (λ d e. document_says e ≡ document_says d)
+        document.old.held.document document.new.held.document }
+    ensures reads_back { Each (λ d e.
+        DocumentKeepsReading (settings_of layout.now (chars indent.now)) d
+        → DocumentReadsBack d → DocumentReadsBack e)
         document.old.held.document document.new.held.document }
     ensures laid { result ≡ 0 → Each (λ d e. IsLaidOutAs layout.now (chars indent.now) d e)
         document.old.held.document document.new.held.document }
@@ -81,6 +97,7 @@ pub extern "C" fn kdl_layout(
     ensures kept { (result ≡ 0 → ⊥) → (result ≡ 3 → ⊥)
         → document.new.held.document ≡ document.old.held.document }
     ensures missing { result ≡ 5 → IsNone document.old.held.document }
+    ensures statuses { IsAmong (0 ∷ 1 ∷ 2 ∷ 3 ∷ 5 ∷ []) result }
 {
     let Ok(indent) = std::str::from_utf8(indent) else {
         return NOT_UTF8;
@@ -110,6 +127,8 @@ pub extern "C" fn kdl_format_text(
         × (needed.new ≡ length (encode_utf8_all p)) }
     ensures small { result ≡ 4 → (p : Text) × IsTextLaidOut (chars text.now) p
         × (needed.new ≡ length (encode_utf8_all p)) }
+    ensures room { result ≡ 4 → length out.old < needed.new }
+    ensures statuses { IsAmong (0 ∷ 1 ∷ 2 ∷ 3 ∷ 4 ∷ []) result }
 {
     *needed = 0;
     let Ok(text) = std::str::from_utf8(text) else {

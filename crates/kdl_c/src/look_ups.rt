@@ -1,10 +1,10 @@
 //! Look-ups of nodes by name, and of entries by key.
 
 ghost use Rattle.kdl.specs.Words.{argument, argument_named, entry_data, entry_tree, is_node_named, node_says, nodes_of, property_place, said_entry};
-ghost use Rattle.kdl_c.specs.Statuses.{IsAmong};
+ghost use Rattle.c_calls.specs.Answers.{IsAmong};
 ghost use Rattle.c_calls.specs.Paths.{node_at, nodes_at};
 ghost use Rattle.c_calls.specs.Says.{IsWithin, SaysEntry};
-ghost use Rattle.std.specs.Prelude.{◌≡◌, ◌≤◌, ◌∷◌, [], IfSome, IsNone, IsSome, IsSomeAnd, None, Some, length, option_and_then, position, take};
+ghost use Rattle.std.specs.Prelude.{◌≡◌, ◌≤◌, ◌<◌, ◌∷◌, [], IfSome, IsNone, IsSome, IsSomeAnd, None, Some, length, option_and_then, position, take};
 ghost use Rattle.std.specs.Str.{IsUtf8};
 
 use c_calls::entries::last_property;
@@ -36,9 +36,11 @@ pub extern "C" fn kdl_get(
         SaysEntry (take string_len.new strings.new) row.new (entry_data (entry_tree e)))) }
     ensures within { result ≡ 0 → IsWithin string_len.new row.new }
     ensures strings { result ≡ 0 → string_len.new ≤ length strings.old }
+    ensures small { result ≡ 4 → length strings.old < string_len.new }
     ensures same { document.new.held.document ≡ document.old.held.document }
     ensures missing { result ≡ 5 → IsNone document.old.held.document }
-    ensures parses_nothing { result ≡ 1 → ⊥ }
+    ensures utf8 { result ≡ 2 → IsUtf8 name.now → ⊥ }
+    ensures statuses { IsAmong (0 ∷ 2 ∷ 3 ∷ 4 ∷ 5 ∷ 6 ∷ []) result }
 {
     *string_len = 0;
     let Ok(name) = std::str::from_utf8(name) else {
@@ -78,9 +80,10 @@ pub extern "C" fn kdl_argument(
         IsNone (said_entry (argument number) (node_says n)))) }
     ensures within { result ≡ 0 → IsWithin string_len.new row.new }
     ensures strings { result ≡ 0 → string_len.new ≤ length strings.old }
+    ensures small { result ≡ 4 → length strings.old < string_len.new }
     ensures same { document.new.held.document ≡ document.old.held.document }
     ensures missing { result ≡ 5 → IsNone document.old.held.document }
-    ensures parses_nothing { result ≡ 1 → ⊥ }
+    ensures statuses { IsAmong (0 ∷ 3 ∷ 4 ∷ 5 ∷ 6 ∷ []) result }
 {
     *string_len = 0;
     let Some(held) = document.take(alloc) else {

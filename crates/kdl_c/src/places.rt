@@ -1,7 +1,7 @@
 //! The nodes and entries that PATHs name.
 
 ghost use Rattle.kdl.specs.Words.{document_says, said_nodes};
-ghost use Rattle.kdl_c.specs.Statuses.{IsAmong};
+ghost use Rattle.c_calls.specs.Answers.{IsAmong};
 ghost use Rattle.c_calls.specs.Says.{IsWithin, SaysEntry};
 ghost use Rattle.kdl_path.specs.PathText.{IsPath, PathData, path_says};
 ghost use Rattle.kdl_path.specs.Paths.{AreIndices, entry_at, node_at};
@@ -22,11 +22,8 @@ use std::alloc::Global;
 fn path_of(alloc: Global, place: &[u8]) -> Result<Path, u32>
     ensures path { IfOk result (λ p. IsPath (chars place.now) (path_says p)) }
     ensures refused { IfErr result (λ s. s ≡ 1 → (x : PathData) → IsPath (chars place.now) x → ⊥) }
-    ensures not_done { IfErr result (λ s. s ≡ 0 → ⊥) }
-    ensures room { IfErr result (λ s. s ≡ 4 → ⊥) }
-    ensures held { IfErr result (λ s. s ≡ 5 → ⊥) }
-    ensures found { IfErr result (λ s. s ≡ 6 → ⊥) }
     ensures utf8 { IfErr result (λ s. s ≡ 2 → IsUtf8 place.now → ⊥) }
+    ensures statuses { IfErr result (IsAmong (1 ∷ 2 ∷ 3 ∷ [])) }
 {
     let Ok(text) = std::str::from_utf8(place) else {
         return Err(NOT_UTF8);
@@ -59,7 +56,6 @@ fn put_place(
     ensures kept { (result ≡ 0 → ⊥) → indices.new ≡ indices.old }
     ensures uncounted { IsAmong (3 ∷ 6 ∷ []) result → needed.new ≡ needed.old }
     ensures statuses { IsAmong (0 ∷ 3 ∷ 4 ∷ 6 ∷ []) result }
-    ensures parses_nothing { result ≡ 1 → ⊥ }
 {
     match find(alloc, document, path) {
         Err(_) => OUT_OF_MEMORY,
@@ -85,8 +81,8 @@ fn put_entry_at(
     ensures absent { result ≡ 6 → entry_at path.now (document_says document.now) ≡ None }
     ensures within { result ≡ 0 → IsWithin string_len.new row.new }
     ensures strings { result ≡ 0 → string_len.new ≤ length strings.old }
-    ensures held { result ≡ 5 → ⊥ }
-    ensures parses_nothing { result ≡ 1 → ⊥ }
+    ensures small { result ≡ 4 → length strings.old < string_len.new }
+    ensures statuses { IsAmong (0 ∷ 3 ∷ 4 ∷ 6 ∷ []) result }
 {
     match find_entry(alloc, document, path) {
         Err(_) => OUT_OF_MEMORY,
@@ -121,6 +117,7 @@ pub extern "C" fn kdl_find_path(
     ensures same { document.new.held.document ≡ document.old.held.document }
     ensures utf8 { result ≡ 2 → IsUtf8 place.now → ⊥ }
     ensures missing { result ≡ 5 → IsNone document.old.held.document }
+    ensures statuses { IsAmong (0 ∷ 1 ∷ 2 ∷ 3 ∷ 4 ∷ 5 ∷ 6 ∷ []) result }
 {
     *needed = 0;
     let path = match path_of(alloc, place) {
@@ -157,8 +154,11 @@ pub extern "C" fn kdl_get_path(
     ensures refused { result ≡ 1 → (x : PathData) → IsPath (chars place.now) x → ⊥ }
     ensures within { result ≡ 0 → IsWithin string_len.new row.new }
     ensures strings { result ≡ 0 → string_len.new ≤ length strings.old }
+    ensures small { result ≡ 4 → length strings.old < string_len.new }
     ensures same { document.new.held.document ≡ document.old.held.document }
+    ensures utf8 { result ≡ 2 → IsUtf8 place.now → ⊥ }
     ensures missing { result ≡ 5 → IsNone document.old.held.document }
+    ensures statuses { IsAmong (0 ∷ 1 ∷ 2 ∷ 3 ∷ 4 ∷ 5 ∷ 6 ∷ []) result }
 {
     *string_len = 0;
     let path = match path_of(alloc, place) {

@@ -1,6 +1,6 @@
 //! Lines and columns of a text.
 
-ghost use Rattle.kdl_c.specs.Statuses.{IsAmong};
+ghost use Rattle.c_calls.specs.Answers.{IsAmong};
 ghost use Rattle.c_calls.specs.Positions.{IsNoPosition, IsPosition};
 ghost use Rattle.std.specs.Prelude.{◌≡◌, ◌∷◌, []};
 ghost use Rattle.std.specs.Str.{IsUtf8, chars};

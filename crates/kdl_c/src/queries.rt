@@ -1,8 +1,8 @@
 //! Queries.
 
+ghost use Rattle.c_calls.specs.Answers.{IsAmong};
 ghost use Rattle.kdl.specs.Words.{document_says};
 ghost use Rattle.kdl_c.specs.Queries.{AreSelectedBy, flat};
-ghost use Rattle.kdl_c.specs.Statuses.{IsAmong};
 ghost use Rattle.kdl_query.specs.Data.{Query as QueryData};
 ghost use Rattle.kdl_query.specs.QueryText.{IsQuery};
 ghost use Rattle.kdl_query.specs.Selects.{Path};

@@ -1,7 +1,7 @@
 //! The rows of a document, all at once and one at a time.
 
 ghost use Rattle.kdl.specs.Words.{document_says, entries_of, entry_data, entry_tree, node_says, node_span_of, nodes_of};
-ghost use Rattle.kdl_c.specs.Statuses.{IsAmong};
+ghost use Rattle.c_calls.specs.Answers.{IsAmong};
 ghost use Rattle.c_calls.specs.Flat.{SayAll, flattened, node_items};
 ghost use Rattle.c_calls.specs.Paths.{node_at, nodes_at};
 ghost use Rattle.c_calls.specs.Says.{IsWithin, SaysEntry, SaysNode};
@@ -32,6 +32,8 @@ pub extern "C" fn kdl_tree(
     ensures rows { result ≡ 0 → row_count.new ≤ length rows.old }
     ensures within { result ≡ 0 → All (IsWithin string_len.new) (take row_count.new rows.new) }
     ensures strings { result ≡ 0 → string_len.new ≤ length strings.old }
+    ensures small { result ≡ 4 → row_count.new ≤ length rows.old
+        → string_len.new ≤ length strings.old → ⊥ }
     ensures says { result ≡ 0 → IfSome document.old.held.document (λ d.
         SayAll (take string_len.new strings.new) (take row_count.new rows.new)
         (flattened (document_says d))) }
@@ -67,6 +69,8 @@ pub extern "C" fn kdl_node_tree(
     ensures rows { result ≡ 0 → row_count.new ≤ length rows.old }
     ensures within { result ≡ 0 → All (IsWithin string_len.new) (take row_count.new rows.new) }
     ensures strings { result ≡ 0 → string_len.new ≤ length strings.old }
+    ensures small { result ≡ 4 → row_count.new ≤ length rows.old
+        → string_len.new ≤ length strings.old → ⊥ }
     ensures says { result ≡ 0 → IfSome document.old.held.document (λ d.
         IfSome (node_at path.now (nodes_of d)) (λ n. SayAll (take string_len.new strings.new)
         (take row_count.new rows.new) (node_items (node_says n)))) }
@@ -149,6 +153,7 @@ pub extern "C" fn kdl_node(
         SaysNode (take string_len.new strings.new) row.new (node_says n))) }
     ensures same { document.new.held.document ≡ document.old.held.document }
     ensures strings { result ≡ 0 → string_len.new ≤ length strings.old }
+    ensures small { result ≡ 4 → length strings.old < string_len.new }
     ensures missing { result ≡ 5 → IsNone document.old.held.document }
     ensures statuses { IsAmong (0 ∷ 4 ∷ 5 ∷ 6 ∷ []) result }
 {
@@ -190,8 +195,9 @@ pub extern "C" fn kdl_entry(
         IfSome (node_at path.now (nodes_of d)) (λ n. length (entries_of n) ≤ index)) }
     ensures same { document.new.held.document ≡ document.old.held.document }
     ensures strings { result ≡ 0 → string_len.new ≤ length strings.old }
+    ensures small { result ≡ 4 → length strings.old < string_len.new }
     ensures missing { result ≡ 5 → IsNone document.old.held.document }
-    ensures parses_nothing { result ≡ 1 → ⊥ }
+    ensures statuses { IsAmong (0 ∷ 3 ∷ 4 ∷ 5 ∷ 6 ∷ []) result }
 {
     *string_len = 0;
     let Some(held) = document.take(alloc) else {

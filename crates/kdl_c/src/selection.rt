@@ -1,7 +1,7 @@
 //! The paths that a query selects, and the fault of a text that is not a query.
 
 ghost use Rattle.kdl_c.specs.Queries.{flat, IsQueryFault};
-ghost use Rattle.kdl_c.specs.Statuses.{IsAmong};
+ghost use Rattle.c_calls.specs.Answers.{IsAmong};
 ghost use Rattle.c_calls.specs.Listed.{AreListed, Fault, ListsNothing};
 ghost use Rattle.c_calls.specs.Rows.{AreTold};
 ghost use Rattle.kdl.specs.Words.{InText};

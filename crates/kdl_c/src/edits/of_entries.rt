@@ -1,12 +1,12 @@
 //! Edits of the entries of a node.
 
 ghost use Rattle.kdl.specs.Words.{EntryData, IsEntryText, Value, entries_of, nodes_of};
-ghost use Rattle.c_calls.specs.Answers.{Each};
+ghost use Rattle.c_calls.specs.Answers.{Each, IsAmong};
 ghost use Rattle.c_calls.specs.Changes.{AtEntry, AtNode, SameTree};
 ghost use Rattle.c_calls.specs.Entries.{EntryRemoved, IsValueText};
 ghost use Rattle.c_calls.specs.Edits.{EntryInserted, KeySet, TypeSetAt, ValueSet, text_if};
 ghost use Rattle.c_calls.specs.Paths.{node_at};
-ghost use Rattle.std.specs.Prelude.{◌≡◌, ◌<◌, ◌≤◌, ◌-◌, ◌^◌, IfSome, IsNone, length};
+ghost use Rattle.std.specs.Prelude.{◌≡◌, ◌<◌, ◌≤◌, ◌-◌, ◌^◌, ◌∷◌, [], IfSome, IsNone, length};
 ghost use Rattle.std.specs.Str.{IsUtf8, chars};
 
 use c_calls::at_path::change_held;
@@ -38,6 +38,7 @@ pub extern "C" fn kdl_set_value(
     ensures missing { result ≡ 5 → IsNone document.old.held.document }
     ensures absent { result ≡ 6 → IfSome document.old.held.document (λ d.
         IfSome (node_at path.now (nodes_of d)) (λ n. length (entries_of n) ≤ index)) }
+    ensures statuses { IsAmong (0 ∷ 1 ∷ 2 ∷ 3 ∷ 5 ∷ 6 ∷ []) result }
 {
     let (value, spelling) = match given::value(alloc, value) {
         Ok(value) => value,
@@ -67,7 +68,7 @@ pub extern "C" fn kdl_set_key(
     ensures missing { result ≡ 5 → IsNone document.old.held.document }
     ensures absent { result ≡ 6 → IfSome document.old.held.document (λ d.
         IfSome (node_at path.now (nodes_of d)) (λ n. length (entries_of n) ≤ index)) }
-    ensures parses_nothing { result ≡ 1 → ⊥ }
+    ensures statuses { IsAmong (0 ∷ 2 ∷ 3 ∷ 5 ∷ 6 ∷ []) result }
 {
     let key = match given::identifier_if(alloc, has_key, key) {
         Ok(key) => key,
@@ -97,7 +98,7 @@ pub extern "C" fn kdl_set_type(
     ensures missing { result ≡ 5 → IsNone document.old.held.document }
     ensures absent { result ≡ 6 → IfSome document.old.held.document (λ d.
         IfSome (node_at path.now (nodes_of d)) (λ n. (index ≡ 2 ^ 64 - 1 → ⊥) × (length (entries_of n) ≤ index))) }
-    ensures parses_nothing { result ≡ 1 → ⊥ }
+    ensures statuses { IsAmong (0 ∷ 2 ∷ 3 ∷ 5 ∷ 6 ∷ []) result }
 {
     let ty = match given::identifier_if(alloc, has_type, ty) {
         Ok(ty) => ty,
@@ -131,6 +132,7 @@ pub extern "C" fn kdl_insert_entry(
     ensures missing { result ≡ 5 → IsNone document.old.held.document }
     ensures absent { result ≡ 6 → IfSome document.old.held.document (λ d.
         IfSome (node_at path.now (nodes_of d)) (λ n. length (entries_of n) < index)) }
+    ensures statuses { IsAmong (0 ∷ 1 ∷ 2 ∷ 3 ∷ 5 ∷ 6 ∷ []) result }
 {
     let entry = match given::plain_entry(alloc, entry) {
         Ok(entry) => entry,
@@ -154,7 +156,7 @@ pub extern "C" fn kdl_remove_entry(
     ensures missing { result ≡ 5 → IsNone document.old.held.document }
     ensures absent { result ≡ 6 → IfSome document.old.held.document (λ d.
         IfSome (node_at path.now (nodes_of d)) (λ n. length (entries_of n) ≤ index)) }
-    ensures parses_nothing { result ≡ 1 → ⊥ }
+    ensures statuses { IsAmong (0 ∷ 3 ∷ 5 ∷ 6 ∷ []) result }
 {
     change_held(alloc, document, path, NodeChange::RemoveEntry(index))
 }

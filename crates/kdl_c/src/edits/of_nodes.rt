@@ -1,11 +1,11 @@
 //! Edits of nodes: names, insertion and removal.
 
 ghost use Rattle.kdl.specs.Words.{IsNodeText, NodeData, nodes_of};
-ghost use Rattle.c_calls.specs.Answers.{Each};
+ghost use Rattle.c_calls.specs.Answers.{Each, IsAmong};
 ghost use Rattle.c_calls.specs.Changes.{AtNode, SameTree};
 ghost use Rattle.c_calls.specs.Edits.{NoPlaceFor, NodeAbsent, NodeInserted, NodeNamed, NodeRemoved};
 ghost use Rattle.c_calls.specs.Paths.{node_at};
-ghost use Rattle.std.specs.Prelude.{◌≡◌, IfSome, IsNone};
+ghost use Rattle.std.specs.Prelude.{◌≡◌, ◌∷◌, [], IfSome, IsNone};
 ghost use Rattle.std.specs.Str.{IsUtf8, chars};
 
 use c_calls::at_path::change_held;
@@ -31,7 +31,7 @@ pub extern "C" fn kdl_set_name(
     ensures missing { result ≡ 5 → IsNone document.old.held.document }
     ensures absent { result ≡ 6 → IfSome document.old.held.document (λ d.
         IsNone (node_at path.now (nodes_of d))) }
-    ensures parses_nothing { result ≡ 1 → ⊥ }
+    ensures statuses { IsAmong (0 ∷ 2 ∷ 3 ∷ 5 ∷ 6 ∷ []) result }
 {
     let name = match given::identifier(alloc, name) {
         Ok(name) => name,
@@ -63,6 +63,7 @@ pub extern "C" fn kdl_insert_node(
     ensures missing { result ≡ 5 → IsNone document.old.held.document }
     ensures absent { result ≡ 6 → IfSome document.old.held.document
         (NoPlaceFor path.now index) }
+    ensures statuses { IsAmong (0 ∷ 1 ∷ 2 ∷ 3 ∷ 5 ∷ 6 ∷ []) result }
 {
     let node = match given::node(alloc, node) {
         Ok(node) => node,
@@ -90,7 +91,7 @@ pub extern "C" fn kdl_remove_node(
     ensures missing { result ≡ 5 → IsNone document.old.held.document }
     ensures absent { result ≡ 6 → IfSome document.old.held.document
         (NodeAbsent path.now index) }
-    ensures parses_nothing { result ≡ 1 → ⊥ }
+    ensures statuses { IsAmong (0 ∷ 3 ∷ 5 ∷ 6 ∷ []) result }
 {
     if path.is_empty() {
         remove_first(alloc, document, index)

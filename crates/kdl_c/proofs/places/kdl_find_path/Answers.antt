@@ -7,9 +7,6 @@ use Rattle.kdl_path.specs.PathText.{IsPath, path_says}
 use Rattle.kdl_path.specs.declared.path.Path.{Path}
 use Rattle.kdl_c.proofs.places.kdl_find_path.Goals as goal
 
-pub returns-in-Err-clause-found : goal.returns-in-Err-clause-found
-returns-in-Err-clause-found c = λ r. absurd (r c.in-Err.ensures.not_done c.in-Err.ensures.room)
-
 pub returns-clause-found : goal.returns-clause-found
 returns-clause-found c = λ r.
     let s = c.put_place-status in
