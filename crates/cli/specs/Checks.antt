@@ -1,52 +1,76 @@
--- What a check finds in files.
-use Rattle.std.specs.Prelude.{◌≡◌, ◌<◌, ℕ, max, List, [], ◌∷◌, ◌++◌, IsUtf8, Some, chars}
+-- What is done with files that are checked.
+use Rattle.std.specs.Prelude.{◌≡◌, ◌⊎◌, ◌++◌, ◌∷◌, ◌==◌, [], List, chars, codes, count_by, decimal, if◌then◌else◌, length, max, min, nat_lt, sum_by, ℕ, ◌^◌, ◌-◌}
 use Rattle.kdl.specs.Words.{IsDocument, Nodes}
-use Rattle.cli_world.specs.Files.{Files}
+use Rattle.kdl_text.specs.declared.error.KdlError.{KdlError}
+use Rattle.cli_world.specs.Acts.{Acts, Does, Each, Effect}
+use Rattle.cli_world.specs.Acts.Effect.{prints}
+use Rattle.cli_world.specs.Seen.{Seen}
 use Rattle.cli_world.specs.Statuses.{code_of}
-use Rattle.cli.specs.declared.check.Checked.{Checked}
-use Rattle.cli.specs.declared.check.Checked.TheVariants.{Sound, Faulty, NotUtf8, ReadFailed, WriteFailed, Memory}
+use Rattle.cli_world.specs.Tallies.{plain, worst}
 use Rattle.cli_world.specs.declared.status.Status.{Status}
-use Rattle.cli_world.specs.declared.status.Status.TheVariants.{Done, Found, Failed}
+use Rattle.cli_world.specs.declared.status.Status.TheVariants.{Done, Found}
+use Rattle.cli_world.specs.declared.tally.Tally.{Tally}
+use Rattle.cli.specs.Reports.{IsFaulty, faults_report}
+use Rattle.cli.specs.declared.report.Form.{Form}
+use Rattle.cli.specs.declared.report.Form.TheVariants.{Json}
+use Rattle.cli.specs.declared.report.Style.{Style}
 
--- the status of a run on one file
-abbrev pub status_found : Checked → Status
-status_found Sound = Done
-status_found (Faulty n) = Found
-status_found NotUtf8 = Found
-status_found ReadFailed = Failed
-status_found WriteFailed = Failed
-status_found Memory = Failed
+-- the text is a document
+abbrev pub IsSound : List ℕ → Type 0
+IsSound text = (x : Nodes) × IsDocument (chars text) x
 
--- what is found in a file with these bytes; nothing is said if that failed
-abbrev pub IsCheck : List ℕ → Checked → Type 0
-IsCheck bytes Sound = IsUtf8 bytes × ((x : Nodes) × IsDocument (chars bytes) x)
-IsCheck bytes (Faulty n) = IsUtf8 bytes × (0 < n) × ((x : Nodes) → IsDocument (chars bytes) x → ⊥)
-IsCheck bytes NotUtf8 = IsUtf8 bytes → ⊥
-IsCheck bytes _ = Unit {0}
+-- the faults of the text are printed, and counted
+abbrev pub PrintsFaults : Style → (name text : List ℕ) → Effect → Type 0
+PrintsFaults style name text e = (error : KdlError) × IsFaulty text error
+    × (e ≡ prints (faults_report style name text error.diagnostics.items) (record { status = Found; count = length error.diagnostics.items }))
 
--- the same of the file of that name, where its bytes are known
-abbrev pub IsCheckOf : Files → List ℕ → Checked → Type 0
-IsCheckOf files name c = (b : List ℕ) → files name ≡ Some b → IsCheck b c
+-- what is done with the text of a file: nothing if it is a document, and else its faults are printed
+abbrev pub Checks : Style → (name text : List ℕ) → Effect → Type 0
+Checks style name text e = (IsSound text × (e ≡ prints [] (plain Done))) ⊎ PrintsFaults style name text e
 
--- so many faults, unless they were not written
-abbrev pub IsFault : ℕ → Checked → Type 0
-IsFault n (Faulty m) = m ≡ n
-IsFault n WriteFailed = Unit {0}
-IsFault n _ = ⊥
+-- a file is checked
+abbrev pub ChecksFile : Style → (name : List ℕ) → (old new : Seen) → Tally → Type 0
+ChecksFile style name old new t = Acts (Checks style name) name old new t
 
--- what is found in each of some files
-pub data Checks (files : Files) : List (List ℕ) → List Checked → Type 0 where
-  none : Checks files [] []
-  more : {names : List (List ℕ)} {cs : List Checked} → Checks files names cs
-      → (name : List ℕ) (c : Checked) → IsCheckOf files name c → Checks files (names ++ (name ∷ [])) (cs ++ (c ∷ []))
+-- the number of faults of a file with that status, in which so many are counted: one that is not UTF-8 has one
+abbrev pub faults_in : Status → ℕ → ℕ
+faults_in Found n = max n 1
+faults_in _ n = 0
 
--- the greatest number of their statuses, 0 if there are none
-abbrev pub worst_found : List Checked → ℕ
-worst_found [] = 0
-worst_found (c ∷ cs) = max (code_of (status_found c)) (worst_found cs)
+-- the number of faults of a file
+abbrev pub fault_count : Tally → ℕ
+fault_count t = faults_in t.status t.count
 
--- the status is the worst of what is found in each file
-pub record ChecksFiles (files : Files) (names : List (List ℕ)) (status : Status) : Type 0 where
-  pub found : List Checked
-  pub each : Checks files names found
-  pub worst : code_of status ≡ worst_found found
+-- the number of faults of files, or the greatest that a machine can count
+abbrev pub all_faults : List Tally → ℕ
+all_faults ts = min (sum_by fault_count ts) (2 ^ 64 - 1)
+
+-- the number of files that have a fault
+abbrev pub faulty_files : List Tally → ℕ
+faulty_files ts = count_by (λ t. nat_lt 0 (fault_count t)) ts
+
+-- the words for so many
+abbrev pub noun : ℕ → (one more : List ℕ) → List ℕ
+noun n one more = if n == 1 then one else more
+
+-- the line on all faults, as `2 faults in 1 file`
+abbrev pub totals_line : (faults files : ℕ) → List ℕ
+totals_line faults files = decimal faults ++ noun faults (codes " fault in ") (codes " faults in ") ++ decimal files ++ noun files (codes " file\n") (codes " files\n")
+
+-- what is printed on all faults: nothing if each is an object, or if no file has one
+abbrev pub totals : Form → (faults files : ℕ) → List ℕ
+totals Json faults files = []
+totals _ faults files = if files == 0 then [] else totals_line faults files
+
+-- the same as an effect
+abbrev pub PrintsTotals : Form → (faults files : ℕ) → Effect → Type 0
+PrintsTotals form faults files e = e ≡ prints (totals form faults files) (plain Done)
+
+-- files are checked one after another, then the line on all faults is printed, and the status is the worst
+pub record ChecksFiles (style : Style) (names : List (List ℕ)) (old new : Seen) (status : Status) : Type 0 where
+  pub tallies : List Tally
+  pub between : Seen
+  pub each : Each (ChecksFile style) names old between tallies
+  pub last : Tally
+  pub ends : Does (PrintsTotals style.form (all_faults tallies) (faulty_files tallies)) (codes "output") between new last
+  pub worst_of : code_of status ≡ worst (tallies ++ (last ∷ []))

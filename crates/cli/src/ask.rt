@@ -1,15 +1,19 @@
 //! What is done with one text: one of its values, another form of it, or the text with a part of it changed.
 
-ghost use Rattle.cli.specs.Asks.{ActsOnFile, Applies, IsDelivered, IsStatusOf, IsUnedited, ShowsAt};
+ghost use Rattle.cli.specs.Asks.{Asks, AsksFile, delivery};
+ghost use Rattle.cli.specs.Internal.Applied.{Applies, IsUnedited, ShowsAt};
+ghost use Rattle.cli.specs.Named.{IsReadEntry, IsReadPath, fault_message};
 ghost use Rattle.cli.specs.declared.ask.Action.TheVariants.{FromJson, Get, Insert, Json, Remove, RemoveEach, Set, SetEach};
+ghost use Rattle.cli_world.specs.Acts.{Does, Happens};
 ghost use Rattle.kdl.specs.Words.{document_says};
-ghost use Rattle.std.specs.Prelude.{◌≡◌, ◌⊎◌, List, Some, ℕ};
+ghost use Rattle.std.specs.Prelude.{◌≡◌, IfOk, Ok, string_bytes};
 
 use crate::report::{Style, report_faults};
 use cli_shown::{lines_of, push_value};
+use cli_world::effects;
 use cli_world::status::Status;
-use cli_world::store::Store;
-use cli_world::world::{Unread, World};
+use cli_world::tally::Tally;
+use cli_world::world::World;
 use kdl::{KdlDocument, ParseFailure};
 use kdl_json::{JsonFailure, from_json, to_json};
 pub use kdl_path::Path;
@@ -20,7 +24,6 @@ use kdl_path::{
 use kdl_query::Query;
 use kdl_report::Lines;
 use std::alloc::{AllocError, Global};
-use std::io::Write;
 use std::mem::ManuallyDrop;
 
 /// What is done with a text.
@@ -86,28 +89,55 @@ pub enum Applied {
 }
 
 /// Returns the path that a text is, or what is wrong with it.
-pub fn read_path(alloc: Global, text: &str) -> Result<Result<Path, String>, AllocError> {
+pub fn read_path(alloc: Global, text: &str) -> Result<Result<Path, String>, AllocError>
+    ensures { IfOk result (IsReadPath text.now) }
+{
     match Path::parse(alloc, text) {
         Ok(path) => Ok(Ok(path)),
         Err(PathFailure::Syntax(fault, at)) => {
-            Ok(Err(format!(in alloc; "PATH `{text}`, byte {at}: {fault}")?))
+            let fault = fault.to_string(alloc)?;
+            Ok(Err(fault_message(alloc, "PATH `", text, at, &fault)?))
         }
         Err(PathFailure::Memory) => Err(AllocError),
     }
 }
 
 /// Returns the path of what an entry names of each node, `#N` or `@KEY`, or what is wrong with it.
-pub fn read_entry(alloc: Global, text: &str) -> Result<Result<Path, String>, AllocError> {
+pub fn read_entry(alloc: Global, text: &str) -> Result<Result<Path, String>, AllocError>
+    ensures { IfOk result (IsReadEntry text.now) }
+{
     match Target::parse(alloc, text) {
         Ok(target) => Ok(Ok(Path {
             steps: Vec::new(alloc),
             target,
         })),
         Err(PathFailure::Syntax(fault, at)) => {
-            Ok(Err(format!(in alloc; "`--entry {text}`, byte {at}: {fault}")?))
+            let fault = fault.to_string(alloc)?;
+            Ok(Err(fault_message(alloc, "`--entry ", text, at, &fault)?))
         }
         Err(PathFailure::Memory) => Err(AllocError),
     }
+}
+
+/// Returns the message on a fault at a byte of a text, after what the text is for.
+fn fault_message(
+    alloc: Global,
+    before: &str,
+    text: &str,
+    byte: usize,
+    fault: &str,
+) -> Result<String, AllocError>
+    ensures { IfOk result (λ s. string_bytes s
+        ≡ fault_message before.now text.now byte fault.now) }
+{
+    let place = byte.to_string(alloc)?;
+    let mut message = String::from_str(alloc, before)?;
+    message.push_str(text)?;
+    message.push_str("`, byte ")?;
+    message.push_str(&place)?;
+    message.push_str(": ")?;
+    message.push_str(fault)?;
+    Ok(message)
 }
 
 /// Applies the action to a text.
@@ -293,7 +323,7 @@ fn document_of(alloc: Global, text: &str) -> Result<Applied, ParseFailure>
         Ok(document) => {
             // The end of the process frees the document, which is faster.
             let mut document = ManuallyDrop::new(document);
-            document.autoformat()?;
+            document.autoformat_no_comments()?;
             Ok(Applied::Text(document.to_string(alloc)?))
         }
         Err(JsonFailure::Unexpected { at, expected }) => {
@@ -308,85 +338,62 @@ fn document_of(alloc: Global, text: &str) -> Result<Applied, ParseFailure>
     }
 }
 
-/// Applies an action to a file: writes the result to the output, or replaces the file by it.
-pub fn ask_file<S: Store, O: Write, E: Write>(
-    alloc: Global,
-    world: &mut World<S, O, E>,
-    ask: &Ask<'_>,
-) -> Status
-    // Only this file changes, to what is asked for, and only if it is to be replaced.
-    ensures changes { ActsOnFile ask.now (S.known world.old.files) (S.known world.new.files) }
-    // The status is what the action makes of the file's bytes, or `Failed`.
-    ensures status { (bytes : List ℕ) → S.known world.old.files ask.now.name.now ≡ Some bytes
-        → IsStatusOf ask.now.action bytes result }
+/// Applies an action to a file: prints the result, or replaces the file by it.
+///
+/// If the text of the file is refused, or if it does not have what is asked for, reports that, and returns `Found`. If
+/// VALUE, NODE or the path does not fit, reports that, and returns `Usage`.
+pub fn ask_file<W: World>(alloc: Global, world: &mut W, ask: &Ask<'_>) -> Tally
+    ensures { AsksFile ask.now (W.seen world.old) (W.seen world.new) result }
 {
-    let text = match world.text(alloc, ask.name) {
-        Ok(text) => text,
-        Err(unread) => {
-            world.report_unread(ask.name, &unread);
-            return match unread {
-                Unread::NotUtf8(_) => Status::Found,
-                Unread::Failed(_) => Status::Failed,
-            };
-        }
-    };
-    match apply(alloc, &text, ask.action) {
-        Ok(Applied::Text(new)) => deliver(world, ask, &text, &new),
-        Ok(Applied::NotFound(message)) => {
-            world.report(ask.name, message);
-            Status::Found
-        }
-        Ok(Applied::Usage(message)) => {
-            world.report_usage(&message);
-            Status::Usage
-        }
-        Err(ParseFailure::Syntax(error)) => {
-            match report_faults(alloc, world, ask.name, &text, &error, ask.style) {
-                Ok(()) => Status::Found,
-                Err(AllocError) => report_memory(world, ask.name),
-            }
-        }
-        Err(ParseFailure::Memory) => report_memory(world, ask.name),
+    match world.text(alloc, ask.name) {
+        Ok(text) => ask_text(alloc, world, ask, &text),
+        Err(status) => Tally::plain(status),
     }
 }
 
-/// Reports that an allocation failed.
-fn report_memory<S, O, E: Write>(world: &mut World<S, O, E>, name: &str) -> Status
-    ensures files { world.new.files ≡ world.old.files }
-    ensures status { result ≡ Status.Failed }
+/// Applies an action to the text of a file.
+fn ask_text<W: World>(alloc: Global, world: &mut W, ask: &Ask<'_>, text: &str) -> Tally
+    ensures { Does (Asks ask.now text.now) ask.now.name.now
+        (W.seen world.old) (W.seen world.new) result }
 {
-    world.report_memory(name);
-    Status::Failed
+    match apply(alloc, text, ask.action) {
+        Ok(applied) => put(alloc, world, ask, text, &applied),
+        Err(ParseFailure::Syntax(error)) => {
+            report_faults(alloc, world, ask.name, text, &error, ask.style)
+        }
+        Err(ParseFailure::Memory) => effects::report_memory(world, ask.name),
+    }
 }
 
-/// Writes the result to the output, or replaces the file if it differs.
-fn deliver<S: Store, O: Write, E: Write>(
-    world: &mut World<S, O, E>,
+/// Delivers what an action gives, or reports what is missing or wrong.
+fn put<W: World>(
+    alloc: Global,
+    world: &mut W,
     ask: &Ask<'_>,
-    old: &str,
-    new: &str,
-) -> Status
-    ensures files { IsDelivered ask.now new.now
-        (S.known world.old.files) (S.known world.new.files) }
-    ensures status { (result ≡ Status.Done) ⊎ (result ≡ Status.Failed) }
+    text: &str,
+    applied: &Applied,
+) -> Tally
+    ensures { Applies ask.now.action text.now (Ok applied.now)
+        → Does (Asks ask.now text.now) ask.now.name.now
+        (W.seen world.old) (W.seen world.new) result }
+{
+    match applied {
+        Applied::Text(new) => deliver(alloc, world, ask, text, new),
+        Applied::NotFound(why) => effects::report_problem(world, ask.name, why, Status::Found),
+        Applied::Usage(why) => effects::report_complaint(world, ask.name, why, Status::Usage),
+    }
+}
+
+/// Prints what an action gives, or replaces the file by it, if it differs from the text of the file.
+fn deliver<W: World>(alloc: Global, world: &mut W, ask: &Ask<'_>, text: &str, new: &str) -> Tally
+    ensures { Happens ask.now.name.now (W.seen world.old) (W.seen world.new)
+        (delivery ask.now.replace text.now new.now) result }
 {
     if !ask.replace {
-        return match world.print(new) {
-            Ok(_) => Status::Done,
-            Err(error) => {
-                world.report(ask.name, error);
-                Status::Failed
-            }
-        };
+        return effects::print(alloc, world, ask.name, new, Tally::plain(Status::Done));
     }
-    if old == new {
-        return Status::Done;
+    if text == new {
+        return Tally::plain(Status::Done);
     }
-    match world.files.replace(ask.name, new) {
-        Ok(()) => Status::Done,
-        Err(error) => {
-            world.report(ask.name, error);
-            Status::Failed
-        }
-    }
+    effects::replace(alloc, world, ask.name, new)
 }

@@ -1,83 +1,58 @@
 //! Files that are checked.
 
-ghost use Rattle.cli.specs.Checks.{ChecksFiles, IsCheckOf, IsFault, status_found};
-ghost use Rattle.std.specs.Prelude.{◌≡◌, map};
+ghost use Rattle.cli.specs.Checks.{Checks, ChecksFile, ChecksFiles, PrintsFaults, PrintsTotals, fault_count, noun, totals_line};
+ghost use Rattle.cli.specs.Reports.{IsFaulty};
+ghost use Rattle.cli_world.specs.Acts.{Does};
+ghost use Rattle.std.specs.Prelude.{◌≡◌, ◌+◌, ◌<◌, IfOk, map, min, nat_lt, if◌then◌else◌, string_bytes};
 
 use crate::report::{Form, Style, faults};
+use cli_world::effects;
 use cli_world::status::Status;
-use cli_world::store::Store;
-use cli_world::world::{Unread, World};
-use kdl::{KdlDocument, ParseFailure};
+use cli_world::tally::Tally;
+use cli_world::world::World;
+use itoa::Buffer;
+use kdl::{KdlDocument, KdlError, ParseFailure};
 use std::alloc::{AllocError, Global};
-use std::io::Write;
-
-/// What a check finds in a file.
-#[derive(Clone, Copy)]
-pub enum Checked {
-    /// Its text is a document.
-    Sound,
-    /// Its text is not a document: the number of its faults.
-    Faulty(usize),
-    /// It is not UTF-8.
-    NotUtf8,
-    /// It was not read.
-    ReadFailed,
-    /// The output was not written.
-    WriteFailed,
-    /// An allocation failed.
-    Memory,
-}
 
 /// The faults that were found so far.
 #[derive(Clone, Copy)]
 struct Totals {
+    /// Their number, or `usize::MAX` if there are more.
     faults: usize,
+    /// The number of files that have some.
     files: usize,
-}
-
-impl Checked {
-    /// Returns the status of a run on one file in which this is found.
-    pub fn status(self) -> Status
-        ensures { result ≡ status_found self }
-    {
-        match self {
-            Checked::Sound => Status::Done,
-            Checked::Faulty(_) | Checked::NotUtf8 => Status::Found,
-            Checked::ReadFailed | Checked::WriteFailed | Checked::Memory => Status::Failed,
-        }
-    }
-
-    /// Returns the number of faults.
-    fn faults(self) -> usize {
-        match self {
-            Checked::Faulty(faults) => faults,
-            Checked::NotUtf8 => 1,
-            _ => 0,
-        }
-    }
 }
 
 impl Totals {
     /// Counts the faults of one more file.
-    fn count(&mut self, checked: Checked) {
-        let faults = checked.faults();
+    fn count(&mut self, tally: Tally)
+        requires { self.old.files < usize.MAX }
+        ensures faults { self.new.faults ≡ min (self.old.faults + fault_count tally) usize.MAX }
+        ensures files { self.new.files
+            ≡ (if nat_lt 0 (fault_count tally) then self.old.files + 1 else self.old.files) }
+    {
+        let faults = fault_count(tally);
         if faults > 0 {
             self.faults = self.faults.saturating_add(faults);
-            self.files = self.files.saturating_add(1);
+            self.files += 1;
         }
     }
 }
 
-/// Writes the faults of each of the files, and how many there are, and returns the worst of the statuses of the files.
-pub fn check_files<S: Store, O: Write, E: Write>(
-    alloc: Global,
-    world: &mut World<S, O, E>,
-    style: Style,
-    names: &[&str],
-) -> Status
-    // Each file is checked as if alone, and the status is the worst of their statuses.
-    ensures found { ChecksFiles (S.known world.old.files) (map (λ n. n.now) names.now) result }
-    ensures files { world.new.files ≡ world.old.files }
+/// Returns the number of faults of a file. A file that is not UTF-8 has one.
+fn fault_count(tally: Tally) -> usize
+    ensures { result ≡ fault_count tally }
+{
+    match tally.status {
+        Status::Found => tally.count.max(1),
+        _ => 0,
+    }
+}
+
+/// Writes the faults of each of the files, and how many there are, and returns the worst of the statuses.
+pub fn check_files<W: World>(alloc: Global, world: &mut W, style: Style, names: &[&str]) -> Status
+    ensures { ChecksFiles style (map (λ n. n.now) names.now)
+        (W.seen world.old) (W.seen world.new) result }
 {
     let mut status = Status::Done;
     let mut totals = Totals {
@@ -85,82 +60,96 @@ pub fn check_files<S: Store, O: Write, E: Write>(
         files: 0,
     };
     for name in names {
-        let checked = check_file(alloc, world, style, name);
-        totals.count(checked);
-        status = status.worst(checked.status());
+        let tally = check_file(alloc, world, style, name);
+        totals.count(tally);
+        status = status.worst(tally.status);
     }
-    if totals.faults > 0 && !matches!(style.form, Form::Json) {
-        print_totals(world, totals);
-    }
-    status
+    let end = print_totals(alloc, world, "output", style.form, totals);
+    status.worst(end.status)
 }
 
 /// Writes the faults of a file.
-pub fn check_file<S: Store, O: Write, E: Write>(
+pub fn check_file<W: World>(alloc: Global, world: &mut W, style: Style, name: &str) -> Tally
+    ensures { ChecksFile style name.now (W.seen world.old) (W.seen world.new) result }
+{
+    match world.text(alloc, name) {
+        Ok(text) => check_text(alloc, world, style, name, &text),
+        Err(status) => Tally::plain(status),
+    }
+}
+
+/// Writes the faults of the text of a file.
+fn check_text<W: World>(alloc: Global, world: &mut W, style: Style, name: &str, text: &str) -> Tally
+    ensures { Does (Checks style name.now text.now) name.now (W.seen world.old) (W.seen world.new) result }
+{
+    match KdlDocument::check(alloc, text) {
+        Ok(()) => Tally::plain(Status::Done),
+        Err(ParseFailure::Syntax(error)) => print_faults(alloc, world, style, name, text, &error),
+        Err(ParseFailure::Memory) => effects::report_memory(world, name),
+    }
+}
+
+/// Writes these faults of the text of a file.
+fn print_faults<W: World>(
     alloc: Global,
-    world: &mut World<S, O, E>,
+    world: &mut W,
     style: Style,
     name: &str,
-) -> Checked
-    ensures found { IsCheckOf (S.known world.old.files) name.now result }
-    ensures files { world.new.files ≡ world.old.files }
+    text: &str,
+    error: &KdlError,
+) -> Tally
+    ensures { IsFaulty text.now error.now
+        → Does (PrintsFaults style name.now text.now) name.now (W.seen world.old) (W.seen world.new) result }
 {
-    let text = match world.text(alloc, name) {
-        Ok(text) => text,
-        Err(unread) => {
-            world.report_unread(name, &unread);
-            return match unread {
-                Unread::NotUtf8(_) => Checked::NotUtf8,
-                Unread::Failed(_) => Checked::ReadFailed,
+    match faults(alloc, name, text, error, style) {
+        Ok(report) => {
+            let tally = Tally {
+                status: Status::Found,
+                count: error.diagnostics.as_slice().len(),
             };
+            effects::print(alloc, world, name, &report, tally)
         }
-    };
-    match KdlDocument::check(alloc, &text) {
-        Ok(()) => Checked::Sound,
-        Err(ParseFailure::Syntax(error)) => {
-            match faults(alloc, name, &text, &error, style) {
-                Ok(faults) => print(world, name, &faults, error.diagnostics.len()),
-                Err(AllocError) => report_memory(world, name),
-            }
-        }
-        Err(ParseFailure::Memory) => report_memory(world, name),
+        Err(AllocError) => effects::report_memory(world, name),
     }
 }
 
-/// Writes the faults of a text, of which there are so many.
-fn print<S, O: Write, E: Write>(
-    world: &mut World<S, O, E>,
+/// Writes how many faults there are, in how many files, unless there are none or each is an object.
+fn print_totals<W: World>(
+    alloc: Global,
+    world: &mut W,
     name: &str,
-    faults: &str,
-    count: usize,
-) -> Checked
-    ensures found { IsFault count result }
-    ensures files { world.new.files ≡ world.old.files }
+    form: Form,
+    totals: Totals,
+) -> Tally
+    ensures { Does (PrintsTotals form totals.faults totals.files) name.now
+        (W.seen world.old) (W.seen world.new) result }
 {
-    match world.print(faults) {
-        Ok(_) => Checked::Faulty(count),
-        Err(error) => {
-            world.report(name, error);
-            Checked::WriteFailed
-        }
+    if totals.files == 0 || matches!(form, Form::Json) {
+        return Tally::plain(Status::Done);
+    }
+    match totals_line(alloc, totals) {
+        Ok(line) => effects::print(alloc, world, name, &line, Tally::plain(Status::Done)),
+        Err(AllocError) => effects::report_memory(world, name),
     }
 }
 
-/// Reports that an allocation failed.
-fn report_memory<S, O, E: Write>(world: &mut World<S, O, E>, name: &str) -> Checked
-    ensures found { result ≡ Checked.Memory }
-    ensures files { world.new.files ≡ world.old.files }
-{
-    world.report_memory(name);
-    Checked::Memory
-}
-
-/// Writes how many faults there are, in how many files.
-fn print_totals<S, O: Write, E>(world: &mut World<S, O, E>, totals: Totals)
-    ensures { world.new.files ≡ world.old.files }
+/// Returns the line on how many faults there are, in how many files.
+fn totals_line(alloc: Global, totals: Totals) -> Result<String, AllocError>
+    ensures { IfOk result (λ line. string_bytes line ≡ totals_line totals.faults totals.files) }
 {
     let Totals { faults, files } = totals;
-    let fault_noun = if faults == 1 { "fault" } else { "faults" };
-    let file_noun = if files == 1 { "file" } else { "files" };
-    let _ = writeln!(world.out, "{faults} {fault_noun} in {files} {file_noun}");
+    let mut line = String::new(alloc);
+    let mut buffer = Buffer::new();
+    line.push_str(buffer.format(faults))?;
+    line.push_str(noun(faults, " fault in ", " faults in "))?;
+    line.push_str(buffer.format(files))?;
+    line.push_str(noun(files, " file\n", " files\n"))?;
+    Ok(line)
+}
+
+/// Returns the words for so many.
+fn noun(count: usize, one: &'static str, more: &'static str) -> &'static str
+    ensures { result.now ≡ noun count one.now more.now }
+{
+    if count == 1 { one } else { more }
 }

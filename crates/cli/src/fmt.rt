@@ -2,7 +2,7 @@
 
 ghost use Rattle.cli.specs.Formatted.{IsFormatted};
 ghost use Rattle.kdl.specs.Words.{IsDocument, IsSyntax, Nodes, TellsOnSyntax, text_of};
-ghost use Rattle.std.specs.Prelude.{◌≡◌, ◌↔◌, IfOk, IsTrue, List, chars, ℕ};
+ghost use Rattle.std.specs.Prelude.{IfOk, chars};
 
 use crate::disposal::Disposal;
 use crate::settings::Settings;
@@ -43,17 +43,4 @@ pub fn formatted(
     let out = document.to_string(alloc)?;
     disposal.dispose(document);
     Ok(out)
-}
-
-/// Returns whether layout changes the text.
-///
-/// Returns errors as `formatted` does.
-pub fn would_change(alloc: Global, text: &str, settings: &Settings) -> Result<bool, ParseFailure>
-    ensures changes { IfOk result (λ b. (out : List ℕ)
-        × IsFormatted settings.now (chars text.now) (chars out) × (IsTrue b ↔ (out ≡ text.now → ⊥))) }
-    ensures refused { IsSyntax result → (x : Nodes) → IsDocument (chars text.now) x → ⊥ }
-    ensures told { TellsOnSyntax text.now result }
-{
-    let out = formatted(alloc, text, settings, Disposal::Free)?;
-    Ok(out.as_str() != text)
 }

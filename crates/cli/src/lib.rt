@@ -2,7 +2,9 @@
 #![tactic(auto)]
 
 pub mod ask;
+pub mod ask_laws;
 pub mod check;
+pub mod check_laws;
 pub mod config;
 pub mod disposal;
 pub mod files;
@@ -13,4 +15,4 @@ pub mod request;
 pub mod settings;
 
 pub use cli_words::{completions, words};
-pub use cli_world::{status, store, world};
+pub use cli_world::{process, status, store, world};

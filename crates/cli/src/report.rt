@@ -1,12 +1,16 @@
 //! How faults are reported.
 
-ghost use Rattle.std.specs.Prelude.{◌≡◌};
+ghost use Rattle.cli.specs.Reports.{IsFaulty, ReportsFaults, fault_report, faults_report};
+ghost use Rattle.cli_world.specs.Acts.{Does};
+ghost use Rattle.std.specs.Prelude.{◌≡◌, IfOk, List, chars, string_bytes, ℕ};
 
+use cli_world::effects;
+use cli_world::status::Status;
+use cli_world::tally::Tally;
 use cli_world::world::{World, shown_name};
-use kdl::KdlError;
+use kdl::{KdlDiagnostic, KdlError};
 use kdl_report::{Lines, json, render, short};
 use std::alloc::{AllocError, Global};
-use std::io::Write;
 
 /// The form in which faults are reported.
 #[derive(Clone, Copy)]
@@ -34,37 +38,70 @@ pub fn faults(
     text: &str,
     error: &KdlError,
     style: Style,
-) -> Result<String, AllocError> {
+) -> Result<String, AllocError>
+    ensures { IfOk result (λ out. string_bytes out
+        ≡ faults_report style name.now text.now error.now.diagnostics.items) }
+{
     let name = shown_name(name);
     let lines = Lines::new(alloc, text)?;
     let mut out = String::new(alloc);
     for fault in &error.diagnostics {
-        let report = match style.form {
-            Form::Human => render(alloc, name, &lines, fault, style.color)?,
-            Form::Short => short(alloc, name, &lines, fault)?,
-            Form::Json => json(alloc, name, &lines, fault)?,
-        };
-        out.push_str(report.as_str())?;
-        if matches!(style.form, Form::Human) {
-            out.push('\n')?;
-        }
+        let report = report_of(alloc, name, &lines, fault, style)?;
+        out.push_str(&report)?;
     }
     Ok(out)
 }
 
-/// Reports the faults of a text.
-pub fn report_faults<S, O, E: Write>(
+/// Returns the report of a fault in a text with these lines.
+fn report_of(
     alloc: Global,
-    world: &mut World<S, O, E>,
+    name: &str,
+    lines: &Lines<'_>,
+    fault: &KdlDiagnostic,
+    style: Style,
+) -> Result<String, AllocError>
+    ensures { IfOk result (λ out. (text : List ℕ) → lines.now ≡ chars text
+        → string_bytes out ≡ fault_report style.form style.color name.now text fault.now) }
+{
+    match style.form {
+        Form::Human => picture(alloc, name, lines, fault, style.color),
+        Form::Short => short(alloc, name, lines, fault),
+        Form::Json => json(alloc, name, lines, fault),
+    }
+}
+
+/// Returns the picture of a fault, with an empty line after it.
+fn picture(
+    alloc: Global,
+    name: &str,
+    lines: &Lines<'_>,
+    fault: &KdlDiagnostic,
+    color: bool,
+) -> Result<String, AllocError>
+    ensures { IfOk result (λ out. (text : List ℕ) → lines.now ≡ chars text
+        → string_bytes out ≡ fault_report Form.Human color name.now text fault.now) }
+{
+    let mut out = render(alloc, name, lines, fault, color)?;
+    out.push('\n')?;
+    Ok(out)
+}
+
+/// Reports the faults of a text. Returns `Found`.
+///
+/// If an allocation fails, reports that, and returns `Failed`.
+pub fn report_faults<W: World>(
+    alloc: Global,
+    world: &mut W,
     name: &str,
     text: &str,
     error: &KdlError,
     style: Style,
-) -> Result<(), AllocError>
-    ensures files { world.new.files ≡ world.old.files }
-    ensures out { world.new.out ≡ world.old.out }
+) -> Tally
+    ensures { IsFaulty text.now error.now
+        → Does (ReportsFaults style name.now text.now) name.now (W.seen world.old) (W.seen world.new) result }
 {
-    let faults = faults(alloc, name, text, error, style)?;
-    let _ = world.err.write_all(faults.as_bytes());
-    Ok(())
+    match faults(alloc, name, text, error, style) {
+        Ok(report) => effects::report(world, name, &report, Status::Found),
+        Err(AllocError) => effects::report_memory(world, name),
+    }
 }

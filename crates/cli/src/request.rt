@@ -1,27 +1,28 @@
 //! What a command line asks for.
 
-ghost use Rattle.cli.specs.Asks.{ActsOnFile};
-ghost use Rattle.cli.specs.Outcomes.{ChangesNamed};
-ghost use Rattle.cli.specs.Requests.{MayReplace};
-ghost use Rattle.std.specs.Prelude.{◌≡◌, ◌<◌, [], IsTrue, length, map};
+ghost use Rattle.cli.specs.Config.{Configures};
+ghost use Rattle.cli.specs.Formats.{FormatsFiles};
+ghost use Rattle.cli.specs.Requests.{AsksInput, GivesSettings, IsUnsettled, IsUnusable, Runs, RunsAsk, RunsCheck, RunsFormat, RunsSearch, Settles, Shows, has_input_twice, job_of, misfit_line, names_of, or_input, replaces_input, times_input, unfit_report, unread_status};
+ghost use Rattle.cli_world.specs.Files.{Has};
+ghost use Rattle.cli_world.specs.Seen.{shown_name};
+ghost use Rattle.std.specs.Prelude.{◌≡◌, ◌↔◌, ◌++◌, Err, IfErr, IfOk, IsTrue, Ok, OnOk, chars, flat_map, string_bytes};
 
 use crate::ask::{Ask, ask_file};
 use crate::check::check_files;
 use crate::config::{Misfit, Unfit, given};
 use crate::files::{Job, Mode, format_files};
 use crate::query::{Search, search_files};
-use crate::report::{Style, report_faults};
+use crate::report::{Style, faults};
 use crate::settings::{Given, Settings};
 use cli_words::completions::{Shell, completions};
 use cli_words::manual::manual;
+use cli_world::effects;
 use cli_world::status::Status;
-use cli_world::store::Store;
-use cli_world::world::{Unread, World, shown_name};
+use cli_world::tally::Tally;
+use cli_world::world::{World, shown_name};
+use itoa::Buffer;
 use kdl_report::Lines;
 use std::alloc::{AllocError, Global};
-use std::fmt::Display;
-use std::io;
-use std::io::{ErrorKind, Write};
 
 /// The name of the standard input.
 static STDIN: [&str; 1] = ["-"];
@@ -59,266 +60,302 @@ pub enum Request<'a> {
     Manual,
 }
 
-/// Does what is asked for: writes results to the output, and reports what goes wrong. Returns the status.
-pub fn run<S: Store, O: Write, E: Write>(
-    alloc: Global,
-    request: &Request<'_>,
-    world: &mut World<S, O, E>,
-) -> Status
-    // Each file is as before, or the request names it and says that it is replaced.
-    ensures { MayReplace request.now (S.known world.old.files) (S.known world.new.files) }
+/// Does what is asked for: writes results to the output, replaces files, and reports what goes wrong. Returns the status.
+pub fn run<W: World>(alloc: Global, request: &Request<'_>, world: &mut W) -> Status
+    ensures { Runs request.now (W.seen world.old) (W.seen world.new) result }
 {
     match *request {
         Request::Format(format) => format_named(alloc, world, &format),
         Request::Check { names, style } => check_named(alloc, world, style, names),
         Request::Ask(ask) => ask_named(alloc, world, &ask),
         Request::Search { names, search } => search_named(alloc, world, &search, names),
-        Request::Completions(shell) => show(world, completions(alloc, shell)),
-        Request::Manual => show(world, manual(alloc)),
+        Request::Completions(shell) => show(alloc, world, completions(alloc, shell)),
+        Request::Manual => show(alloc, world, manual(alloc)),
     }
 }
 
 /// Checks files.
-fn check_named<S: Store, O: Write, E: Write>(
-    alloc: Global,
-    world: &mut World<S, O, E>,
-    style: Style,
-    names: &[&str],
-) -> Status
-    ensures { world.new.files ≡ world.old.files }
+fn check_named<W: World>(alloc: Global, world: &mut W, style: Style, names: &[&str]) -> Status
+    ensures { RunsCheck style (names_of names.now) (W.seen world.old) (W.seen world.new) result }
 {
     if has_input_twice(names) {
-        return report_usage(world, READ_ONCE);
+        return report_unusable(world, READ_ONCE);
     }
     check_files(alloc, world, style, or_input(names))
 }
 
 /// Shows the nodes of files that a query selects.
-fn search_named<S: Store, O: Write, E: Write>(
+fn search_named<W: World>(
     alloc: Global,
-    world: &mut World<S, O, E>,
+    world: &mut W,
     search: &Search<'_>,
     names: &[&str],
 ) -> Status
-    ensures { world.new.files ≡ world.old.files }
+    ensures { RunsSearch search.now (names_of names.now) (W.seen world.old) (W.seen world.new) result }
 {
     if has_input_twice(names) {
-        return report_usage(world, READ_ONCE);
+        return report_unusable(world, READ_ONCE);
     }
     search_files(alloc, world, search, or_input(names))
 }
 
 /// Applies an action to a file.
-fn ask_named<S: Store, O: Write, E: Write>(
-    alloc: Global,
-    world: &mut World<S, O, E>,
-    ask: &Ask<'_>,
-) -> Status
-    ensures { ActsOnFile ask.now (S.known world.old.files) (S.known world.new.files) }
+fn ask_named<W: World>(alloc: Global, world: &mut W, ask: &Ask<'_>) -> Status
+    ensures { RunsAsk ask.now (W.seen world.old) (W.seen world.new) result }
 {
-    if ask.replace && ask.name == "-" {
-        return report_usage(world, NOT_WRITABLE);
+    if asks_input(ask) {
+        return report_unusable(world, NOT_WRITABLE);
     }
-    ask_file(alloc, world, ask)
+    ask_file(alloc, world, ask).status
+}
+
+/// Returns whether the standard input is to be replaced by what an action gives.
+fn asks_input(ask: &Ask<'_>) -> bool
+    ensures { IsTrue result ↔ AsksInput ask.now }
+{
+    ask.replace && ask.name == "-"
 }
 
 /// Formats files.
-fn format_named<S: Store, O: Write, E: Write>(
-    alloc: Global,
-    world: &mut World<S, O, E>,
-    format: &Format<'_>,
-) -> Status
-    ensures { ChangesNamed format.now.mode (map (λ n. n.now) format.now.names.now)
-        (S.known world.old.files) (S.known world.new.files) }
+fn format_named<W: World>(alloc: Global, world: &mut W, format: &Format<'_>) -> Status
+    ensures { RunsFormat format.now (W.seen world.old) (W.seen world.new) result }
 {
-    let Format {
-        names,
-        mode,
-        given,
-        config,
-        style,
-    } = *format;
-    if writes_input(mode, names) {
-        return report_usage(world, NOT_WRITABLE);
+    if replaces_input(format.mode, format.names) {
+        return report_unusable(world, NOT_WRITABLE);
     }
-    if has_input_twice(names) {
-        return report_usage(world, READ_ONCE);
+    if has_input_twice(format.names) {
+        return report_unusable(world, READ_ONCE);
     }
-    let settings = match settings_of(alloc, world, config, given, style) {
-        Ok(settings) => settings,
-        Err(status) => return status,
-    };
-    let job = Job {
-        settings,
-        mode,
-        style,
-    };
-    format_or_input(alloc, world, &job, names)
+    match settings_of(alloc, world, format) {
+        Ok(settings) => format_with(alloc, world, format, settings),
+        Err(status) => status,
+    }
 }
 
-/// Formats the files, or the standard input if there are none.
-fn format_or_input<S: Store, O: Write, E: Write>(
+/// Formats files with these settings.
+fn format_with<W: World>(
     alloc: Global,
-    world: &mut World<S, O, E>,
-    job: &Job,
-    names: &[&str],
+    world: &mut W,
+    format: &Format<'_>,
+    settings: Settings,
 ) -> Status
-    requires { names.now ≡ [] → job.now.mode ≡ Mode.Replace → ⊥ }
-    ensures { ChangesNamed job.now.mode (map (λ n. n.now) names.now)
-        (S.known world.old.files) (S.known world.new.files) }
+    ensures { FormatsFiles (job_of format.now settings) (or_input (names_of format.now.names.now)) (W.seen world.old) (W.seen world.new) result }
 {
-    format_files(alloc, world, job, or_input(names))
+    let job = Job {
+        settings,
+        mode: format.mode,
+        style: format.style,
+    };
+    format_files(alloc, world, &job, or_input(format.names))
 }
 
 /// Returns the names, or that of the standard input if there are none.
 fn or_input<'a>(names: &'a [&'a str]) -> &'a [&'a str]
-    ensures { 0 < length names.now → result.now ≡ names.now }
+    ensures { names_of result.now ≡ or_input (names_of names.now) }
 {
     if names.is_empty() { &STDIN } else { names }
 }
 
-/// Whether the standard input is to be replaced.
-fn writes_input(mode: Mode, names: &[&str]) -> bool
-    ensures { names.now ≡ [] → mode ≡ Mode.Replace → IsTrue result }
+/// Returns whether the standard input is to be replaced.
+fn replaces_input(mode: Mode, names: &[&str]) -> bool
+    ensures { result ≡ replaces_input mode (names_of names.now) }
 {
     match mode {
-        Mode::Replace => names.is_empty() || names.iter().any(|name| *name == "-"),
+        Mode::Replace => count_input(or_input(names)) > 0,
         _ => false,
     }
 }
 
-/// Whether the standard input is among the files more than once.
-fn has_input_twice(names: &[&str]) -> bool {
-    names.iter().filter(|name| **name == "-").count() > 1
+/// Returns whether the standard input is among the files more than once.
+fn has_input_twice(names: &[&str]) -> bool
+    ensures { result ≡ has_input_twice (names_of names.now) }
+{
+    count_input(names) > 1
+}
+
+/// Returns how often the standard input is among the files.
+fn count_input(names: &[&str]) -> usize
+    ensures { result ≡ times_input (names_of names.now) }
+{
+    names.iter().filter(|name| **name == "-").count()
 }
 
 const NOT_WRITABLE: &str = "standard input can't be written: give the files to write";
 
 const READ_ONCE: &str = "standard input is read once: give `-` at most once";
 
-/// Reports what is wrong with the command line.
-fn report_usage<S, O, E: Write>(world: &mut World<S, O, E>, why: &str) -> Status
-    ensures files { world.new.files ≡ world.old.files }
-    ensures status { result ≡ Status.Usage }
+/// Reports that the command line can't be followed.
+fn report_unusable<W: World>(world: &mut W, why: &str) -> Status
+    ensures { IsUnusable (W.seen world.old) (W.seen world.new) result }
 {
-    world.report_usage(why);
+    world.report_complaint(why);
     Status::Usage
 }
 
-/// Writes a text to the output.
-fn show<S, O: Write, E: Write>(
-    world: &mut World<S, O, E>,
-    text: Result<String, AllocError>,
-) -> Status
-    ensures { world.new.files ≡ world.old.files }
+/// Writes a text of the program itself to the output.
+fn show<W: World>(alloc: Global, world: &mut W, text: Result<String, AllocError>) -> Status
+    ensures { Shows (W.seen world.old) (W.seen world.new) result }
 {
-    let shown = match &text {
-        Ok(text) => world.print(text),
-        Err(AllocError) => Err(io::Error::from(ErrorKind::OutOfMemory)),
+    let tally = match text {
+        Ok(text) => effects::print(alloc, world, "output", &text, Tally::plain(Status::Done)),
+        Err(AllocError) => effects::report_memory(world, "output"),
     };
-    match shown {
-        Ok(_) => Status::Done,
-        Err(error) => failed(world, "output", error),
-    }
+    tally.status
 }
 
-/// Reports why the run fails.
-fn failed<S, O, E: Write, T: Display + Drop>(
-    world: &mut World<S, O, E>,
-    name: &str,
-    why: T,
-) -> Status
-    ensures { world.new.files ≡ world.old.files }
-{
-    world.report(name, why);
-    Status::Failed
-}
-
-/// Returns the settings that are given on the command line, by the file, or else by default, or the status if the file
-/// gives none.
-fn settings_of<S: Store, O, E: Write>(
+/// Returns the settings that are given on the command line, by the file, or else by default. If the file gives none,
+/// reports why, and returns the status.
+fn settings_of<W: World>(
     alloc: Global,
-    world: &mut World<S, O, E>,
-    config: Option<&str>,
-    over: Given,
-    style: Style,
+    world: &mut W,
+    format: &Format<'_>,
 ) -> Result<Settings, Status>
-    ensures { world.new.files ≡ world.old.files }
+    ensures { Settles format.now (W.seen world.old) (W.seen world.new) result }
 {
-    let Some(name) = config else {
-        return Ok(Settings::new().with(over));
-    };
-    let text = match world.text(alloc, name) {
-        Ok(text) => text,
-        Err(unread) => {
-            world.report_unread(name, &unread);
-            return match unread {
-                Unread::NotUtf8(_) => Err(Status::Usage),
-                Unread::Failed(_) => Err(Status::Failed),
-            };
-        }
-    };
-    match given(alloc, &text) {
-        Ok(given) => Ok(Settings::new().with(given).with(over)),
-        Err(unfit) => Err(report_unfit(alloc, world, name, &text, &unfit, style)),
+    match format.config {
+        Some(name) => match given_by(alloc, world, name, format.style) {
+            Ok(given) => Ok(Settings::new().with(given).with(format.given)),
+            Err(status) => Err(status),
+        },
+        None => Ok(Settings::new().with(format.given)),
     }
 }
 
-/// Reports why a text has no settings.
-fn report_unfit<S, O, E: Write>(
+/// Returns the settings that a file gives. If it gives none, reports why, and returns the status.
+fn given_by<W: World>(
     alloc: Global,
-    world: &mut World<S, O, E>,
+    world: &mut W,
+    name: &str,
+    style: Style,
+) -> Result<Given, Status>
+    ensures given { IfOk result (GivesSettings name.now (W.seen world.old).files) }
+    ensures seen { OnOk result (W.seen world.new ≡ W.seen world.old) }
+    ensures unsettled { IfErr result (IsUnsettled style name.now (W.seen world.old) (W.seen world.new)) }
+{
+    match world.text(alloc, name) {
+        Ok(text) => given_in(alloc, world, name, &text, style),
+        Err(status) => Err(unread_status(status)),
+    }
+}
+
+/// Returns the status if a file has no text, and so no settings.
+fn unread_status(status: Status) -> Status
+    ensures { result ≡ unread_status status }
+{
+    match status {
+        Status::Found => Status::Usage,
+        other => other,
+    }
+}
+
+/// Returns the settings that the text of a file gives. If it gives none, reports why, and returns the status.
+fn given_in<W: World>(
+    alloc: Global,
+    world: &mut W,
+    name: &str,
+    text: &str,
+    style: Style,
+) -> Result<Given, Status>
+    ensures given { IfOk result (λ given. Configures text.now (Ok given)) }
+    ensures seen { OnOk result (W.seen world.new ≡ W.seen world.old) }
+    ensures unsettled { IfErr result (λ s. Has (W.seen world.old).files name.now text.now
+        → IsUnsettled style name.now (W.seen world.old) (W.seen world.new) s) }
+{
+    match given(alloc, text) {
+        Ok(given) => Ok(given),
+        Err(unfit) => Err(report_unfit(alloc, world, name, text, &unfit, style)),
+    }
+}
+
+/// Reports why a text has no settings, and returns the status.
+fn report_unfit<W: World>(
+    alloc: Global,
+    world: &mut W,
     name: &str,
     text: &str,
     unfit: &Unfit,
     style: Style,
 ) -> Status
-    ensures { world.new.files ≡ world.old.files }
+    ensures { Has (W.seen world.old).files name.now text.now → Configures text.now (Err unfit.now)
+        → IsUnsettled style name.now (W.seen world.old) (W.seen world.new) result }
 {
-    match unfit {
-        Unfit::Syntax(error) => match report_faults(alloc, world, name, text, error, style) {
-            Ok(()) => Status::Usage,
-            Err(AllocError) => failed(world, name, "out of memory"),
-        },
-        Unfit::Misfits(misfits) => match Lines::new(alloc, text) {
-            Ok(lines) => {
-                report_misfits(world, name, &lines, misfits);
-                Status::Usage
-            }
-            Err(AllocError) => failed(world, name, "out of memory"),
-        },
-        Unfit::Memory => failed(world, name, "out of memory"),
+    match unfit_report(alloc, name, text, unfit, style) {
+        Ok(report) => {
+            world.report(&report);
+            Status::Usage
+        }
+        Err(AllocError) => effects::report_memory(world, name).status,
     }
 }
 
-/// Reports why nodes are no settings.
-fn report_misfits<S, O, E: Write>(
-    world: &mut World<S, O, E>,
+/// Returns the report of why a text has no settings.
+fn unfit_report(
+    alloc: Global,
+    name: &str,
+    text: &str,
+    unfit: &Unfit,
+    style: Style,
+) -> Result<String, AllocError>
+    ensures report { IfOk result (λ out. string_bytes out ≡ unfit_report style name.now text.now unfit.now) }
+    ensures memory { OnOk result (unfit.now ≡ Unfit.Memory → ⊥) }
+{
+    match unfit {
+        Unfit::Syntax(error) => faults(alloc, name, text, error, style),
+        Unfit::Misfits(misfits) => misfit_lines(alloc, name, text, misfits),
+        Unfit::Memory => Err(AllocError),
+    }
+}
+
+/// Returns a line for each node that is no setting.
+fn misfit_lines(
+    alloc: Global,
+    name: &str,
+    text: &str,
+    misfits: &[Misfit],
+) -> Result<String, AllocError>
+    ensures { IfOk result (λ out. string_bytes out
+        ≡ flat_map (misfit_line (shown_name name.now) (chars text.now)) misfits.now) }
+{
+    let mut out = String::new(alloc);
+    let lines = Lines::new(alloc, text)?;
+    push_misfits(&mut out, shown_name(name), &lines, misfits)?;
+    Ok(out)
+}
+
+/// Appends a line for each node that is no setting.
+fn push_misfits(
+    out: &mut String,
     name: &str,
     lines: &Lines<'_>,
     misfits: &[Misfit],
-)
-    ensures { world.new.files ≡ world.old.files }
+) -> Result<(), AllocError>
+    ensures { OnOk result (string_bytes out.new
+        ≡ string_bytes out.old ++ flat_map (misfit_line name.now lines.now) misfits.now) }
 {
     for misfit in misfits {
-        report_misfit(world, name, lines, misfit);
+        push_misfit(out, name, lines, misfit)?;
     }
+    Ok(())
 }
 
-/// Reports why a node is no setting.
-fn report_misfit<S, O, E: Write>(
-    world: &mut World<S, O, E>,
+/// Appends the line on a node that is no setting.
+fn push_misfit(
+    out: &mut String,
     name: &str,
     lines: &Lines<'_>,
     misfit: &Misfit,
-)
-    ensures { world.new.files ≡ world.old.files }
+) -> Result<(), AllocError>
+    ensures { OnOk result (string_bytes out.new ≡ string_bytes out.old ++ misfit_line name.now lines.now misfit.now) }
 {
     let place = lines.place(misfit.span.offset);
-    let name = shown_name(name);
-    let _ = writeln!(
-        world.err,
-        "{name}:{}:{}: error: {}",
-        place.line, place.column, misfit.why
-    );
+    let mut line = Buffer::new();
+    let mut column = Buffer::new();
+    out.push_str(name)?;
+    out.push_str(":")?;
+    out.push_str(line.format(place.line))?;
+    out.push_str(":")?;
+    out.push_str(column.format(place.column))?;
+    out.push_str(": error: ")?;
+    out.push_str(misfit.why.text())?;
+    out.push_str("\n")
 }

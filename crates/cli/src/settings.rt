@@ -1,8 +1,9 @@
 //! How a file is laid out.
 
 ghost use Rattle.cli.specs.Formatted.{indent_text};
+ghost use Rattle.cli.specs.Settings.{IsNamed, default_settings, none_given, with_given};
 ghost use Rattle.kdl.specs.Words.{text_of};
-ghost use Rattle.std.specs.Prelude.{◌≡◌, IfOk, codes, false, unwrap_or};
+ghost use Rattle.std.specs.Prelude.{◌≡◌, IfOk};
 
 use kdl_laws::reading_back::printed_is_text;
 use std::alloc::{AllocError, Global};
@@ -41,7 +42,7 @@ pub struct Given {
 impl Indent {
     /// Returns the indent that is called so: `tab`, or a number of spaces in decimal.
     pub fn named(name: &str) -> Option<Indent>
-        ensures tab { name.now ≡ codes "tab" → result ≡ Some Indent.Tab }
+        ensures { IsNamed name.now result }
     {
         if name == "tab" {
             return Some(Indent::Tab);
@@ -64,10 +65,7 @@ impl Indent {
 impl Settings {
     /// Four spaces, and one blank line; spellings and blocks on one line stay.
     pub fn new() -> Settings
-        ensures indent { result.indent ≡ Indent.Spaces 4 }
-        ensures blank_lines { result.blank_lines ≡ 1 }
-        ensures respell { result.respell ≡ false }
-        ensures expand { result.expand ≡ false }
+        ensures { result ≡ default_settings }
     {
         Settings {
             indent: Indent::Spaces(4),
@@ -79,10 +77,7 @@ impl Settings {
 
     /// Returns the settings with those that are given in their place.
     pub fn with(self, given: Given) -> Settings
-        ensures indent { result.indent ≡ unwrap_or given.indent self.indent }
-        ensures blank_lines { result.blank_lines ≡ unwrap_or given.blank_lines self.blank_lines }
-        ensures respell { result.respell ≡ unwrap_or given.respell self.respell }
-        ensures expand { result.expand ≡ unwrap_or given.expand self.expand }
+        ensures { result ≡ with_given self given }
     {
         Settings {
             indent: given.indent.unwrap_or(self.indent),
@@ -96,10 +91,7 @@ impl Settings {
 impl Given {
     /// No setting is given.
     pub fn none() -> Given
-        ensures indent { result.indent ≡ None }
-        ensures blank_lines { result.blank_lines ≡ None }
-        ensures respell { result.respell ≡ None }
-        ensures expand { result.expand ≡ None }
+        ensures { result ≡ none_given }
     {
         Given {
             indent: None,

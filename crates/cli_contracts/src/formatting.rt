@@ -2,7 +2,7 @@
 
 ghost use Rattle.cli.specs.Formatted.{IsFormatted};
 ghost use Rattle.kdl.specs.Words.{text_of};
-ghost use Rattle.std.specs.Prelude.{◌≡◌, ◌↔◌, IfOk, IsTrue, List, chars, ℕ};
+ghost use Rattle.std.specs.Prelude.{IfOk, chars};
 
 use cli::disposal::Disposal;
 use cli::fmt;
@@ -15,12 +15,4 @@ pub fn formatted(alloc: Global, text: &str, settings: &Settings) -> Result<Strin
     ensures laid_out { IfOk result (λ out. IsFormatted settings.now (chars text.now) (text_of out)) }
 {
     fmt::formatted(alloc, text, settings, Disposal::Free)
-}
-
-/// Returns whether layout changes the text.
-pub fn would_change(alloc: Global, text: &str, settings: &Settings) -> Result<bool, ParseFailure>
-    ensures changes { IfOk result (λ b. (out : List ℕ)
-        × IsFormatted settings.now (chars text.now) (chars out) × (IsTrue b ↔ (out ≡ text.now → ⊥))) }
-{
-    fmt::would_change(alloc, text, settings)
 }

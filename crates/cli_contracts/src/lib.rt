@@ -6,3 +6,5 @@ pub mod entries;
 pub mod formatting;
 pub mod paths;
 pub mod queries;
+pub mod runs;
+pub mod settings;

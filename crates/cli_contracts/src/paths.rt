@@ -1,15 +1,18 @@
 //! Values at a PATH.
 
 ghost use Rattle.kdl.specs.Words.{IsDocument, Nodes, document_says, value_tree};
+ghost use Rattle.kdl_path.specs.Each.{IsSetAtEach, SetEachFails};
 ghost use Rattle.kdl_path.specs.Edits.{IsSetAt};
 ghost use Rattle.kdl_path.specs.Failures.{IsMissing, SetFails};
 ghost use Rattle.kdl_path.specs.Paths.{at_path};
+ghost use Rattle.kdl_query.specs.Tree.{query_says};
 ghost use Rattle.kdl_value.specs.Tree.{text_of};
 ghost use Rattle.std.specs.Prelude.{◌≡◌, IfErr, IfOk, IsSome, None, Some, false};
 ghost use Rattle.std.specs.Str.{chars};
 
 use kdl::{KdlDocument, KdlValue};
-use kdl_path::{EditFailure, GetFailure, Path};
+use kdl_path::{EditFailure, GetFailure, Path, Target};
+use kdl_query::Query;
 use std::alloc::Global;
 
 /// Returns the value at the PATH.
@@ -32,7 +35,24 @@ pub fn set(alloc: Global, text: &str, path: &Path, value: &str) -> Result<String
         → IsSome (at_path path.now x)
         → IsSetAt path.now (chars value.now) (chars text.now) (text_of out)) }
     ensures fails { IfErr result
-        (SetFails path.now (chars value.now) (chars text.now) false) }
+        (SetFails path.now value.now text.now false) }
 {
     kdl_path::set(alloc, text, path, value, false)
+}
+
+/// Returns the text with VALUE in place of the value that the target names in each node that the query selects.
+pub fn set_each(
+    alloc: Global,
+    text: &str,
+    query: &Query,
+    target: &Target,
+    value: &str,
+) -> Result<String, EditFailure>
+    ensures set { IfOk result (λ out. (x : Nodes) × IsDocument (chars text.now) x
+        × IsSetAtEach x (query_says query.now) target.now (chars value.now) (chars text.now)
+        (text_of out)) }
+    ensures fails { IfErr result
+        (SetEachFails (query_says query.now) target.now value.now text.now) }
+{
+    kdl_path::set_each(alloc, text, query, target, value)
 }

@@ -1,8 +1,5 @@
 -- What is known of files, by their names.
-use Rattle.std.specs.Prelude.{◌≡◌, ◌⊎◌, List, ℕ, Option, Some, IsUtf8}
-use Rattle.std.specs.Str.Lossy.{utf8_valid_len}
-use Rattle.cli_world.specs.declared.world.Unread.{Unread}
-use Rattle.cli_world.specs.declared.world.Unread.TheVariants.{NotUtf8, Failed}
+use Rattle.std.specs.Prelude.{◌≡◌, ◌⊎◌, List, ℕ, Option, Some}
 
 -- the bytes of each file, where they are known
 abbrev pub Files : Type 0
@@ -20,8 +17,3 @@ Kept old new = (p : List ℕ) → new p ≡ old p
 pub record Replaced (name bytes : List ℕ) (old new : Files) : Type 0 where
   pub others : (p : List ℕ) → (new p ≡ old p) ⊎ ((p ≡ name) × (new p ≡ Some bytes))
   pub this : (b : List ℕ) → old name ≡ Some b → new name ≡ Some bytes
-
--- the file of that name is not UTF-8, from that byte on; nothing is said of one that was not read
-abbrev pub IsNoText : Files → List ℕ → Unread → Type 0
-IsNoText files name (NotUtf8 n) = (b : List ℕ) → files name ≡ Some b → (IsUtf8 b → ⊥) × (n ≡ utf8_valid_len b)
-IsNoText files name (Failed e) = Unit {0}

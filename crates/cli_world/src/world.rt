@@ -1,122 +1,55 @@
 //! What a run reads and writes.
 
-ghost use Rattle.cli_world.specs.Files.{Has, IsNoText};
-ghost use Rattle.std.specs.Prelude.{◌≡◌, IfErr, IfOk, Ok, codes, string_bytes};
-ghost use Rattle.std.specs.Io.KnownBytes.{Appends};
+ghost use Rattle.cli_world.specs.Acts.{IsUnprinted, Prints, Replaces};
+ghost use Rattle.cli_world.specs.Files.{Has};
+ghost use Rattle.cli_world.specs.Seen.{IsLost, IsUnread, Reports, Seen, complaint, problem, shown_name};
+ghost use Rattle.std.specs.Prelude.{◌≡◌, IfErr, IfOk, OnOk, string_bytes};
 
-use crate::store::Store;
+use crate::status::Status;
 use std::alloc::Global;
-use std::fmt::Display;
-use std::io;
-use std::io::{ErrorKind, Write};
 
-/// Files, and the writers of the output and of what goes wrong.
-#[derive(Drop)]
-pub struct World<S, O, E> {
-    pub files: S,
-    pub out: O,
-    pub err: E,
+/// Files, an output and standard error, as a run reads and writes them.
+pub trait World {
+    ghost seen: { Self → Seen };
+
+    /// Returns the text of a file.
+    ///
+    /// If the file is not UTF-8 or is not read, reports why, and returns the status for that.
+    fn text(&mut self, alloc: Global, name: &str) -> Result<String, Status>
+        ensures text { IfOk result (λ s. Has (seen self.old).files name.now (string_bytes s)) }
+        ensures seen { OnOk result (seen self.new ≡ seen self.old) }
+        ensures unread { IfErr result (IsUnread name.now (seen self.old) (seen self.new)) };
+
+    /// Writes the text for a file to the output. That no one reads the output is no error.
+    ///
+    /// If a write fails otherwise, reports why, and returns `Failed`.
+    fn print(&mut self, alloc: Global, name: &str, text: &str) -> Result<(), Status>
+        ensures printed { OnOk result (Prints text.now (seen self.old) (seen self.new)) }
+        ensures unprinted { IfErr result (λ s. (s ≡ Status.Failed) × IsUnprinted name.now text.now (seen self.old) (seen self.new)) };
+
+    /// Replaces the bytes of a file by the text, as a whole.
+    ///
+    /// If that fails, reports why, and returns `Failed`.
+    fn replace(&mut self, alloc: Global, name: &str, text: &str) -> Result<(), Status>
+        ensures replaced { OnOk result (Replaces name.now text.now (seen self.old) (seen self.new)) }
+        ensures unreplaced { IfErr result (λ s. (s ≡ Status.Failed) × IsLost name.now (seen self.old) (seen self.new)) };
+
+    /// Writes the text to standard error. If that fails, the run goes on.
+    fn report(&mut self, text: &str)
+        ensures { Reports text.now (seen self.old) (seen self.new) };
+
+    /// Reports what is wrong with a file, on a line.
+    fn report_problem(&mut self, name: &str, what: &str)
+        ensures { Reports (problem name.now what.now) (seen self.old) (seen self.new) };
+
+    /// Reports what is wrong with the command line, on a line.
+    fn report_complaint(&mut self, why: &str)
+        ensures { Reports (complaint why.now) (seen self.old) (seen self.new) };
 }
 
-/// Why a file has no text.
-#[derive(Drop)]
-pub enum Unread {
-    /// It is not UTF-8: the first byte that is not of a character.
-    NotUtf8(usize),
-    /// It was not read.
-    Failed(io::Error),
-}
-
-/// What became of the output.
-#[derive(Clone, Copy)]
-pub enum Output {
-    /// All of it was written.
-    Written,
-    /// Its reader went away.
-    Closed,
-}
-
-/// The name of a file as it is shown.
+/// Returns the name of a file as it is shown.
 pub fn shown_name(name: &str) -> &str
-    ensures input { name.now ≡ codes "-" → result.now ≡ codes "<stdin>" }
-    ensures other { (name.now ≡ codes "-" → ⊥) → result.now ≡ name.now }
+    ensures { result.now ≡ shown_name name.now }
 {
     if name == "-" { "<stdin>" } else { name }
-}
-
-impl<S: Store, O, E> World<S, O, E> {
-    /// Returns the text of a file.
-    pub fn text(&self, alloc: Global, name: &str) -> Result<String, Unread>
-        ensures text { IfOk result (λ s. Has (S.known self.now.files) name.now (string_bytes s)) }
-        ensures not_utf8 { IfErr result (IsNoText (S.known self.now.files) name.now) }
-    {
-        let bytes = self.files.read(alloc, name)?;
-        match String::from_utf8(bytes) {
-            Ok(text) => Ok(text),
-            Err(error) => Err(Unread::NotUtf8(error.utf8_error().valid_up_to())),
-        }
-    }
-}
-
-impl From<io::Error> for Unread {
-    ghost use Rattle.cli_world.specs.declared.world.Unread.{Unread};
-
-    ghost from_gives = { λ error unread. unread ≡ Unread.Failed error };
-
-    fn from(error: io::Error) -> Unread {
-        Unread::Failed(error)
-    }
-}
-
-impl<S, O: Write, E> World<S, O, E> {
-    /// Writes a text to the output. Returns `Closed`, and no error, if nothing reads it any more.
-    pub fn print(&mut self, text: &str) -> io::Result<Output>
-        ensures files { self.new.files ≡ self.old.files }
-        ensures written { result ≡ Ok Output.Written →
-            Appends (O.contents self.old.out) (O.contents self.new.out) text.now }
-    {
-        match self.out.write_all(text.as_bytes()) {
-            Ok(()) => Ok(Output::Written),
-            Err(error) if error.kind() == ErrorKind::BrokenPipe => Ok(Output::Closed),
-            Err(error) => Err(error),
-        }
-    }
-}
-
-impl<S, O, E: Write> World<S, O, E> {
-    /// Reports what is wrong with a file.
-    pub fn report<T: Display + Drop>(&mut self, name: &str, what: T)
-        ensures files { self.new.files ≡ self.old.files }
-        ensures out { self.new.out ≡ self.old.out }
-    {
-        let name = shown_name(name);
-        let _ = writeln!(self.err, "kdl: {name}: {what}");
-    }
-
-    /// Reports what is wrong with the command line.
-    pub fn report_usage(&mut self, why: &str)
-        ensures files { self.new.files ≡ self.old.files }
-        ensures out { self.new.out ≡ self.old.out }
-    {
-        let _ = writeln!(self.err, "kdl: {why}");
-    }
-
-    /// Reports why a file has no text.
-    pub fn report_unread(&mut self, name: &str, unread: &Unread)
-        ensures files { self.new.files ≡ self.old.files }
-        ensures out { self.new.out ≡ self.old.out }
-    {
-        match unread {
-            Unread::NotUtf8(byte) => self.report(name, format_args!("not UTF-8 at byte {byte}")),
-            Unread::Failed(error) => self.report(name, error),
-        }
-    }
-
-    /// Reports that memory ran out.
-    pub fn report_memory(&mut self, name: &str)
-        ensures files { self.new.files ≡ self.old.files }
-        ensures out { self.new.out ≡ self.old.out }
-    {
-        self.report(name, "out of memory");
-    }
 }

@@ -12,12 +12,14 @@ use crate::command::command;
 use crate::requests::{path_of, query_of, request_of};
 use crate::system::System;
 use clap::ArgMatches;
+use cli::process::Process;
 use cli::request::run;
 use cli::world::World;
 use lsp::serve;
-use std::io::{BufWriter, ErrorKind, Write};
+use std::io::{BufWriter, ErrorKind};
 use std::process::ExitCode;
 use std::{env, io};
+use watched::{Retrying, Watched};
 
 fn main(rt: HostRuntime) -> ExitCode {
     match run_words(&rt) {
@@ -61,29 +63,29 @@ fn run_matches(rt: &HostRuntime, matches: &ArgMatches<'_>) -> io::Result<u8> {
     if let Some(("lsp", _)) = matches.subcommand() {
         return serve_editor(rt);
     }
-    let mut world = World {
+    let mut world = Process {
         files: System::new(rt),
-        out: rt.stdout(),
-        err: rt.stderr(),
+        out: Watched::new(Retrying::new(rt.stdout())),
+        err: Watched::new(Retrying::new(rt.stderr())),
     };
     let path = match path_of(rt, matches)? {
         Ok(path) => path,
         Err(why) => {
-            world.report_usage(&why);
+            world.report_complaint(&why);
             return Ok(2);
         }
     };
     let query = match query_of(rt, matches)? {
         Ok(query) => query,
         Err(fault) => {
-            let _ = world.err.write_all(fault.as_bytes());
+            world.report(&fault);
             return Ok(2);
         }
     };
     match request_of(rt, matches, &path, query.as_ref()) {
         Ok(request) => Ok(run(rt.alloc(), &request, &mut world).code()),
         Err(why) => {
-            world.report_usage(why);
+            world.report_complaint(why);
             Ok(2)
         }
     }

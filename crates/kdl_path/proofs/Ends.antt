@@ -28,7 +28,7 @@ use Rattle.kdl_value.specs.Tree.{text_of}
 use Rattle.kdl_path.specs.Edits.{with_block, with_nth}
 use Rattle.kdl_path.specs.Internal.Laid.{EndsLine, IsBlockLaid, IsEnd, IsIndented, IsLaid, IsSpaces}
 use Rattle.kdl_path.specs.declared.laid.Ends.{Ends}
-use Rattle.kdl_path.proofs.Lifting.{block_set_says, node_set_says}
+use Rattle.kdl_path.proofs.Trees.{block_set_says, node_set_says}
 
 -- spaces
 spaces_gap : (u r : Text) {t : Text} → IsSpaces u → Gap true r t → Gap true (u ++ r) t

@@ -1,13 +1,15 @@
 -- What failures mean.
-use Rattle.std.proofs.Common.{◌≡◌, Bool, true, false, ◌&&◌, Option, None, Some, IsSome, IfErr, IfOk, IsErr, IsErrAnd, Result, Ok, Err, ◌∙◌, sym, subst}
+use Rattle.std.proofs.Common.{◌≡◌, ℕ, List, Bool, true, false, ◌&&◌, Option, None, Some, IsSome, IfErr, IfOk, IsErr, IsErrAnd, Result, Ok, Err, ◌∙◌, sym, subst}
 use Rattle.std.proofs.lemmas.Option.{none-some}
-use Rattle.kdl.specs.Words.{IsDocument, IsNodeText, NodeData, Nodes, Text, Value}
-use Rattle.kdl_text.specs.Failures.{IsSyntax}
+use Rattle.std.specs.Str.{chars}
+use Rattle.kdl.specs.Words.{IsDocument, IsNodeText, NodeData, Nodes, Value}
+use Rattle.kdl_text.specs.Failures.{IsSyntax, TellsOf}
+use Rattle.kdl_text.specs.declared.error.KdlError.{KdlError}
 use Rattle.kdl_text.specs.declared.error.ParseFailure.{ParseFailure}
 use Rattle.kdl_text.specs.declared.error.ParseFailure.TheVariants as parse
 use Rattle.c_calls.specs.Entries.{IsValueText}
 use Rattle.kdl_path.specs.Edits.{HasPlace, named_at}
-use Rattle.kdl_path.specs.Failures.{InsertFails, IsUnset, RemoveFails, SetFails, edit_of}
+use Rattle.kdl_path.specs.Failures.{InsertFails, IsUnset, RemoveFails, SetFails, TextFails, edit_of}
 use Rattle.kdl_path.specs.Internal.Failing.{MissesIf, NoNodeIf, NoValueIf}
 use Rattle.kdl_path.specs.declared.failure.EditFailure.{EditFailure}
 use Rattle.kdl_path.specs.declared.failure.EditFailure.TheVariants as edit
@@ -51,8 +53,13 @@ misses edit.NotNode f h = h
 pub memory_misses : (Q : Type 0) (e : EditFailure) → e ≡ edit.Memory → MissesIf Q e
 memory_misses Q e h = subst (MissesIf Q) (sym h) tt
 
+-- a text that is no document
+pub text_fails : (A : Type 0) (P : EditFailure → Type 0) (text : List ℕ) (f : ParseFailure) → (IsSyntax {A = A} (Err f) → (x : Nodes) → IsDocument (chars text) x → ⊥) → TellsOf text f → ((e : KdlError) → TextFails text e → P (edit.Text e)) → P edit.Memory → P (edit_of f)
+text_fails A P text (parse.Syntax e) h k with_faults memory = with_faults e (h tt, k)
+text_fails A P text parse.Memory h k with_faults memory = memory
+
 -- those of `set`
-pub value_set : (p : Path) (given text : Text) (create : Bool) (e : EditFailure) → NoValueIf ((v : Value) → IsValueText given v → ⊥) e → SetFails p given text create e
+pub value_set : (p : Path) (given text : List ℕ) (create : Bool) (e : EditFailure) → NoValueIf ((v : Value) → IsValueText (chars given) v → ⊥) e → SetFails p given text create e
 value_set p given text create edit.Value h = h
 value_set p given text create edit.Memory h = tt
 value_set p given text create (edit.Text x) h = absurd h
@@ -60,11 +67,7 @@ value_set p given text create (edit.Node x) h = absurd h
 value_set p given text create edit.NotNode h = absurd h
 value_set p given text create (edit.Missing m) h = absurd h
 
-pub text_set : (A : Type 0) (p : Path) (given text : Text) (create : Bool) (f : ParseFailure) → (IsSyntax {A = A} (Err f) → (x : Nodes) → IsDocument text x → ⊥) → SetFails p given text create (edit_of f)
-text_set A p given text create (parse.Syntax e) h = h tt
-text_set A p given text create parse.Memory h = tt
-
-pub missing_set : (p : Path) (given text : Text) (create : Bool) (x : Nodes) (e : EditFailure) → IsDocument text x → MissesIf (IsUnset p create x) e → SetFails p given text create e
+pub missing_set : (p : Path) (given text : List ℕ) (create : Bool) (x : Nodes) (e : EditFailure) → IsDocument (chars text) x → MissesIf (IsUnset p create x) e → SetFails p given text create e
 missing_set p given text create x (edit.Missing m) d h = (x, d, h)
 missing_set p given text create x edit.Memory d h = tt
 missing_set p given text create x (edit.Text y) d h = absurd h
@@ -73,11 +76,7 @@ missing_set p given text create x (edit.Node y) d h = absurd h
 missing_set p given text create x edit.NotNode d h = absurd h
 
 -- those of `remove`
-pub text_remove : (A : Type 0) (p : Path) (text : Text) (f : ParseFailure) → (IsSyntax {A = A} (Err f) → (x : Nodes) → IsDocument text x → ⊥) → RemoveFails p text (edit_of f)
-text_remove A p text (parse.Syntax e) h = h tt
-text_remove A p text parse.Memory h = tt
-
-pub missing_remove : (p : Path) (text : Text) (x : Nodes) (e : EditFailure) → IsDocument text x → MissesIf (named_at p x ≡ None) e → RemoveFails p text e
+pub missing_remove : (p : Path) (text : List ℕ) (x : Nodes) (e : EditFailure) → IsDocument (chars text) x → MissesIf (named_at p x ≡ None) e → RemoveFails p text e
 missing_remove p text x (edit.Missing m) d h = (x, d, h)
 missing_remove p text x edit.Memory d h = tt
 missing_remove p text x (edit.Text y) d h = absurd h
@@ -86,7 +85,7 @@ missing_remove p text x (edit.Node y) d h = absurd h
 missing_remove p text x edit.NotNode d h = absurd h
 
 -- those of `insert`
-pub node_insert : (p : Path) (given text : Text) (e : EditFailure) → NoNodeIf ((y : NodeData) → IsNodeText given y → ⊥) e → InsertFails p given text e
+pub node_insert : (p : Path) (given text : List ℕ) (e : EditFailure) → NoNodeIf ((y : NodeData) → IsNodeText (chars given) y → ⊥) e → InsertFails p given text e
 node_insert p given text (edit.Node x) h = h
 node_insert p given text edit.Memory h = tt
 node_insert p given text (edit.Text x) h = absurd h
@@ -94,11 +93,7 @@ node_insert p given text edit.Value h = absurd h
 node_insert p given text edit.NotNode h = absurd h
 node_insert p given text (edit.Missing m) h = absurd h
 
-pub text_insert : (A : Type 0) (p : Path) (given text : Text) (f : ParseFailure) → (IsSyntax {A = A} (Err f) → (x : Nodes) → IsDocument text x → ⊥) → InsertFails p given text (edit_of f)
-text_insert A p given text (parse.Syntax e) h = h tt
-text_insert A p given text parse.Memory h = tt
-
-pub missing_insert : (p : Path) (given text : Text) (x : Nodes) (e : EditFailure) → IsDocument text x → MissesIf (HasPlace p.steps.items x → ⊥) e → InsertFails p given text e
+pub missing_insert : (p : Path) (given text : List ℕ) (x : Nodes) (e : EditFailure) → IsDocument (chars text) x → MissesIf (HasPlace p.steps.items x → ⊥) e → InsertFails p given text e
 missing_insert p given text x (edit.Missing m) d h = (x, d, h)
 missing_insert p given text x edit.Memory d h = tt
 missing_insert p given text x (edit.Text y) d h = absurd h

@@ -6,8 +6,8 @@ pub mod PathReads
 pub mod Rules
 -- What a PATH names in memory, and in the data.
 pub mod Places
--- A document with the node at the end of a path of indices changed.
-pub mod Lifting
+-- The tree of a document with the node at a path changed.
+pub mod Trees
 -- A value that is set.
 pub mod Values
 -- A change to the node at the end of a path of indices.
@@ -38,3 +38,5 @@ pub mod Everywhere
 pub mod Selected
 -- The data of a document after edits at paths.
 pub mod Examples
+-- A value is set in its own place.
+pub mod Elsewhere

@@ -35,7 +35,7 @@ use Rattle.kdl_path.specs.Internal.Located.{Leads, place_of_step, place_of_targe
 use Rattle.kdl_path.specs.Paths.{step_place}
 use Rattle.kdl_path.specs.declared.path.Step.{Step}
 use Rattle.kdl_path.specs.declared.path.Target.{Target}
-use Rattle.kdl_path.proofs.Lifting.{block_set_says}
+use Rattle.kdl_path.proofs.Trees.{block_set_says}
 use Rattle.kdl_path.proofs.Places.{step_said, target_said}
 use Rattle.kdl.specs.Nodes.{said_without}
 

@@ -3,25 +3,29 @@ use Rattle.std.proofs.Common.{◌≡◌, ◌≤◌, ◌==◌, ℕ, zero, suc, Bo
 use Rattle.std.proofs.lemmas.Option.{none-some}
 use Rattle.kdl_grammar.specs.Data as data'
 use Rattle.kdl_grammar.specs.ReadsBack.{DocumentReads}
+use Rattle.kdl_grammar.specs.Tree as tree
 use Rattle.kdl_grammar.specs.Tree.{document_data, nodes_data}
 use Rattle.kdl.specs.DocumentLookups.{nodes_of}
 use Rattle.kdl.specs.Lookups.{entries_of}
 use Rattle.kdl.specs.ReadsBack.{DocumentReadsBack, NodeReadsBack, ReadsAs}
 use Rattle.kdl.specs.Nodes.{said_without}
-use Rattle.kdl.specs.Tree.{document_says, document_tree, node_says, nodes_tree}
+use Rattle.kdl.specs.Tree.{document_says, document_tree, node_says, node_tree, nodes_tree}
 use Rattle.kdl.proofs.Trees.{document_tree_out}
 use Rattle.kdl.specs.declared.document.KdlDocument.{KdlDocument}
 use Rattle.kdl.specs.declared.node.KdlNode.{KdlNode}
 use Rattle.c_calls.specs.Changes.{AtNode}
 use Rattle.c_calls.specs.Entries.{EntryRemoved}
-use Rattle.kdl_path.specs.Edits.{changed_at, node_with_child, node_without_entry, with_block, without_node, without_target, without_there}
+use Rattle.c_calls.specs.Paths.{node_at}
+use Rattle.kdl_path.specs.Edits.{changed_at, node_with_child, node_without_entry, with_block, with_nth, without_node, without_target, without_there}
 use Rattle.kdl_path.specs.Internal.Changed.{IsChildPushed, IsChildRemoved}
 use Rattle.kdl_path.specs.Internal.Done.{IsNodeRemoved, IsPutAt, IsRemovedAt}
 use Rattle.kdl_path.specs.Internal.Located.{Leads, place_of_target}
+use Rattle.kdl_path.specs.Internal.OnEach.{Edit}
 use Rattle.kdl_path.specs.declared.path.Step.{Step}
 use Rattle.kdl_path.specs.declared.path.Target.{Target}
 use Rattle.kdl_path.specs.declared.path.Target.TheVariants.{Node, Argument, Property}
-use Rattle.kdl_path.proofs.Lifting.{Lifted, lift}
+use Rattle.kdl_path.proofs.Along.{changed_along}
+use Rattle.kdl_path.proofs.Trees.{IsAt, at_tree, reads_at, says_at}
 use Rattle.kdl_path.proofs.Places.{leads_at, step_said}
 use Rattle.kdl_path.proofs.Removals.{Parent, changed_without, child_removed_reads, child_removed_says, parent, removed_reads, removed_says}
 use Rattle.std.proofs.lemmas.Bool.{eqb-true}
@@ -37,11 +41,15 @@ pub record NodeChanged (ss : List Step) (g : data'.Node → data'.Node) (d e : K
 pub node_changed : (ss : List Step) (is : List ℕ) (d e : KdlDocument) (n : KdlNode) (R : KdlNode → KdlNode → Type 0) (g : data'.Node → data'.Node) → Leads ss is (nodes_of d) None n → AtNode is R d e
     → ((m : KdlNode) → R n m → ReadsAs n m) → ((m : KdlNode) → R n m → node_says m ≡ g (node_says n)) → DocumentReadsBack d → NodeChanged ss g d e
 node_changed ss is d e n R g leads h reads says r =
-    let same : h.old ≡ n = same_node h.old n _ h.there (leads_at ss is (nodes_of d) n leads) in
-    let s : R n h.new = subst (λ (k : KdlNode). R k h.new) same h.related in
-    let x : Lifted ss is d n h.new g = lift ss is d n h.new g (says h.new s) leads in
-    let tree : document_tree e ≡ document_tree x.whole = h.rest ∙ sym x.tree in
-    record { reads = subst DocumentReads (sym tree) (x.document_reads (reads h.new s) r); says = ap document_data tree ∙ x.says }
+    let at : node_at is (nodes_of d) ≡ Some n = leads_at ss is (nodes_of d) n leads in
+    let s : R n h.new = subst (λ (k : KdlNode). R k h.new) (same_node h.old n _ h.there at) h.related in
+    let there : IsAt is (document_tree d) (node_tree n) = at_tree is d n at in
+    let m : tree.Node → tree.Node = λ _. node_tree h.new in
+    let edit : Edit = λ i x. with_nth i g x in
+    record {
+      reads = subst DocumentReads (sym h.rest) ((reads_at is (document_tree d) (node_tree n) there r).changed m (reads h.new s));
+      says = ap document_data h.rest ∙ says_at m g edit is (document_tree d) (node_tree n) (says h.new s) (λ i x. refl) there ∙ sym (changed_along g edit (λ i x. refl) ss is d n leads);
+    }
 
 -- an entry removed
 without_entry : (t : Target) (ss : List Step) (x : data'.Nodes) → (t ≡ Node → ⊥) → changed_at ss (node_without_entry t) x ≡ without_target t ss x

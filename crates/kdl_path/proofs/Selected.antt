@@ -3,7 +3,7 @@ use Rattle.std.proofs.Common.{◌≡◌, ◌<◌, inr, ℕ, zero, suc, Bool, tru
 use Rattle.std.proofs.lemmas.List.{map-append}
 use Rattle.std.proofs.lemmas.List.Elements.{Contains-append_right}
 use Rattle.std.proofs.lemmas.Option.{none-some}
-use Rattle.std.specs.Str.{encode_utf8_all}
+use Rattle.std.specs.Str.{chars, encode_utf8_all}
 use Rattle.std.specs.List.{AllByRecursion, AllPairs}
 use Rattle.kdl_entry.specs.Data.{Entry}
 use Rattle.kdl_grammar.specs.Data as data'
@@ -17,7 +17,7 @@ use Rattle.c_calls.specs.Entries.{IsValueText}
 use Rattle.kdl.specs.DocumentLookups.{nodes_of}
 use Rattle.kdl.specs.Lookups.{entries_of}
 use Rattle.kdl.specs.ReadsBack.{DocumentReadsBack}
-use Rattle.kdl.specs.Said.{said_entries, said_nodes}
+use Rattle.kdl.specs.Said.{said_entries}
 use Rattle.kdl.specs.Tree.{document_prints, document_says, node_says}
 use Rattle.kdl.specs.declared.document.KdlDocument.{KdlDocument}
 use Rattle.kdl.specs.declared.node.KdlNode.{KdlNode}
@@ -26,14 +26,13 @@ use Rattle.kdl_query.specs.Selects as query
 use Rattle.kdl_query.specs.Data.{Query}
 use Rattle.kdl_query.specs.Selects.{IsBefore, IsSelected, IsSelection, Path}
 use Rattle.kdl_query.proofs.Holds.{held_says}
-use Rattle.kdl_path.specs.Each.{AreExchanged, IsRemovedAtEach, IsSetAtEach, RemoveEachFails, SetEachFails, edited_at, named_node, removed, value_at}
+use Rattle.kdl_path.specs.Each.{AreExchanged, IsRemovedAtEach, IsSetAtEach, RemoveEachFails, SetEachFails, edited_at, named_node, removed, value_at, with_value_at}
 use Rattle.kdl_path.specs.Edits.{entry_place, node_with_value, node_without_entry, with_target, without_target}
 use Rattle.kdl_path.specs.Internal.Changed.{IsValueSet}
-use Rattle.kdl_path.specs.Internal.Done.{IsDoneAt, IsNamed, IsRemovedAt}
+use Rattle.kdl_path.specs.Internal.Done.{IsNamed, IsRemovedAt}
 use Rattle.kdl_path.specs.Internal.Failing.{MissesIf}
 use Rattle.kdl_path.specs.Internal.Located.{Leads, place_of_target}
-use Rattle.kdl_path.specs.Internal.OnEach.{IsRemovedOnEach, IsSetOnEach, edited, edited_each, paths_of, removing, setting}
-use Rattle.kdl_path.specs.Paths as path
+use Rattle.kdl_path.specs.Internal.OnEach.{IsRemovedOnEach, IsSetOn, IsSetOnEach, edited, edited_each, paths_of, removing, setting}
 use Rattle.kdl_path.specs.Paths.{value_in}
 use Rattle.kdl_path.specs.declared.failure.EditFailure.{EditFailure}
 use Rattle.kdl_path.specs.declared.failure.EditFailure.TheVariants as edit
@@ -45,8 +44,8 @@ use Rattle.kdl_path.proofs.Along.{changed_along, steps_to, without_along}
 use Rattle.kdl_path.proofs.Apart.{KeepsBefore, kept_before_each, nth_before, without_before}
 use Rattle.kdl_path.proofs.Edited.{out_says, target_missing, target_named}
 use Rattle.kdl_path.proofs.Everywhere.{Ascends, Replaces, everywhere}
-use Rattle.kdl_path.proofs.Places.{leads_said, value_is_there, value_missing}
-use Rattle.kdl_path.proofs.Values.{value_done}
+use Rattle.kdl_path.proofs.Places.{leads_at, value_is_there, value_missing}
+use Rattle.kdl_path.proofs.Values.{IsValueDone, exchanged_as, value_done}
 
 -- what a target names depends on the entries alone
 abbrev value_of : Target → List Entry → Option Value
@@ -118,20 +117,24 @@ contains_each {A = A} P p ps h f q c = go c.0 c.1 c.2
 contains_nothing : {A : Type 0} (q : A) → Contains {X = A} [] q → ⊥
 contains_nothing q c = absurd (omega (arith, c.1))
 
-exchanged_next : {x y : data'.Nodes} {t : Target} {given : Text} {p : Path} {ps : List Path} {a b c : Text} → value_at t y p ≡ value_at t x p → AreExchanged x t given ps a b → AreExchanged y t given (p ∷ []) b c → AreExchanged x t given (p ∷ ps) a c
-exchanged_next same done (AreExchanged.exchange was former AreExchanged.nothing e) = AreExchanged.exchange was (λ v h. former v (same ∙ h)) done e
-
 pub set_none : (t : Target) (v : Value) (given : Text) (d : KdlDocument) → DocumentReadsBack d → IsSetOnEach [] t v given d d
 set_none t v given d r = record { reads = r; says = refl; bytes = AreExchanged.nothing; there = λ p c. absurd (contains_nothing p c) }
 
-set_next : (t : Target) (v : Value) (given : Text) (p : Path) (ps : List Path) (d e f : KdlDocument) → AllByRecursion (IsBefore p) ps → IsSetOnEach ps t v given d e → IsSetOnEach (p ∷ []) t v given e f → IsSetOnEach (p ∷ ps) t v given d f
+setting_replaces : (t : Target) (v : Value) → Replaces (setting t v) (λ n. Some (node_with_value t v n))
+setting_replaces t v = record { none = λ i. refl; zero = λ n x. refl; suc = λ i n x. refl }
+
+all_set : (t : Target) (v : Value) (ps : List Path) → Ascends ps → (x : data'.Nodes) → edited_each (setting t v) ps x ≡ with_value_at ps t v x
+all_set t v ps h x = everywhere (setting t v) (λ n. Some (node_with_value t v n)) (setting_replaces t v) ps h x
+
+set_next : (t : Target) (v : Value) (given : Text) (p : Path) (ps : List Path) (d e f : KdlDocument) → Ascends (p ∷ ps) → IsSetOnEach ps t v given d e → IsSetOn p t v given e f → IsSetOnEach (p ∷ ps) t v given d f
 set_next t v given p ps d e f b done one =
-    let same = value_kept t v given p ps d e b done in
+    let same = value_kept t v given p ps d e b.0 done in
     record {
       reads = one.reads;
       says = one.says ∙ ap (edited (setting t v) p) done.says;
-      bytes = exchanged_next same done.bytes one.bytes;
-      there = contains_each (λ q. IsSome (value_at t (document_says d) q)) p ps (subst (λ (o : Option Value). IsSome o) same (one.there p (contains_first p []))) done.there;
+      bytes = AreExchanged.exchange one.was (λ w h. one.former w (same ∙ h)) done.bytes
+          (exchanged_as (λ w. all_set t w (p ∷ []) (tt, tt) (document_says e) ∙ ap (with_value_at (p ∷ []) t w) (done.says ∙ all_set t v ps b.1 (document_says d))) one.bytes);
+      there = contains_each (λ q. IsSome (value_at t (document_says d) q)) p ps (subst (λ (o : Option Value). IsSome o) same one.there) done.there;
     }
 
 pub removed_none : (t : Target) (d : KdlDocument) → DocumentReadsBack d → IsRemovedOnEach [] t d d
@@ -149,19 +152,23 @@ each_after : (p : Path) (ps : List Path) → ((k : ℕ) (d : Path) → k < lengt
 each_after p [] f = tt
 each_after p (q ∷ ps) f = (f 0 q (omega arith), each_after p ps (λ k d l. f (suc k) d (omega (arith, l))))
 
-after_these : (before : List Path) (p : Path) (ps : List Path) → AllPairs IsBefore (before ++ p ∷ ps) → AllByRecursion (IsBefore p) ps
-after_these [] p ps h = each_after p ps (λ k d l. h 0 (suc k) d (omega arith) (omega (arith, l)))
-after_these (q ∷ before) p ps h = after_these before p ps (λ i j d l m. h (suc i) (suc j) d (omega (arith, l)) (omega (arith, m)))
+after_these : (before ps : List Path) → AllPairs IsBefore (before ++ ps) → AllPairs IsBefore ps
+after_these [] ps h = h
+after_these (q ∷ before) ps h = after_these before ps (λ i j d l m. h (suc i) (suc j) d (omega (arith, l)) (omega (arith, m)))
+
+ascends : (ps : List Path) → AllPairs IsBefore ps → Ascends ps
+ascends [] h = tt
+ascends (p ∷ ps) h = (each_after p ps (λ k d l. h 0 (suc k) d (omega arith) (omega (arith, l))), ascends ps (λ i j d l m. h (suc i) (suc j) d (omega (arith, l)) (omega (arith, m))))
 
 -- the paths before the next one, and those that are done
 record Next (all before : List Path) (p : Path) (done : List Path) : Type 0 where
   pub paths : all ≡ before ++ p ∷ done
-  pub ordered : AllByRecursion (IsBefore p) done
+  pub ordered : Ascends (p ∷ done)
 
 next : (all rest before : List Path) (p : Path) (done : List Path) → AllPairs IsBefore all → all ≡ rest ++ done → rest ≡ before ++ p ∷ [] → Next all before p done
 next all rest before p done o h k =
     let e : all ≡ before ++ p ∷ done = h ∙ ap (λ l. l ++ done) k ∙ append_assoc before (p ∷ []) done in
-    record { paths = e; ordered = after_these before p done (subst (AllPairs IsBefore) e o) }
+    record { paths = e; ordered = ascends (p ∷ done) (after_these before (p ∷ done) (subst (AllPairs IsBefore) e o)) }
 
 pub split_paths : (rest before : List (Vec ℕ Global)) (v : Vec ℕ Global) (p : Path) → rest ≡ before ++ v ∷ [] → p ≡ v.items → paths_of rest ≡ paths_of before ++ p ∷ []
 split_paths rest before v p h e = ap paths_of h ∙ map-append (λ (u : Vec ℕ Global). u.items) before (v ∷ []) ∙ ap (λ i. paths_of before ++ i ∷ []) (sym e)
@@ -175,7 +182,7 @@ pub record IsSetSo (all rest : List Path) (t : Target) (v : Value) (given : Text
 pub set_begins : (all rest : List Path) (t : Target) (v : Value) (given : Text) (d : KdlDocument) → all ≡ rest → DocumentReadsBack d → IsSetSo all rest t v given d d
 set_begins all rest t v given d h r = record { done = []; paths = h ∙ sym (append-nil rest); set = set_none t v given d r }
 
-pub set_goes : (all rest before : List Path) (p : Path) (t : Target) (v : Value) (given : Text) (d e f : KdlDocument) → AllPairs IsBefore all → rest ≡ before ++ p ∷ [] → IsSetSo all rest t v given d e → IsSetOnEach (p ∷ []) t v given e f → IsSetSo all before t v given d f
+pub set_goes : (all rest before : List Path) (p : Path) (t : Target) (v : Value) (given : Text) (d e f : KdlDocument) → AllPairs IsBefore all → rest ≡ before ++ p ∷ [] → IsSetSo all rest t v given d e → IsSetOn p t v given e f → IsSetSo all before t v given d f
 set_goes all rest before p t v given d e f o k so one =
     let n = next all rest before p so.done o so.paths k in
     record { done = p ∷ so.done; paths = n.paths; set = set_next t v given p so.done d e f n.ordered so.set one }
@@ -184,7 +191,7 @@ pub set_misses : (all rest before : List Path) (p : Path) (t : Target) (v : Valu
     → (q : Path) × Contains all q × (value_at t (document_says d) q ≡ None)
 set_misses all rest before p t v given d e o k so none =
     let n = next all rest before p so.done o so.paths k in
-    (p, subst (λ l. Contains l p) (sym n.paths) (Contains-append_right before (p ∷ so.done) p (contains_first p so.done)), sym (value_kept t v given p so.done d e n.ordered so.set) ∙ none)
+    (p, subst (λ l. Contains l p) (sym n.paths) (Contains-append_right before (p ∷ so.done) p (contains_first p so.done)), sym (value_kept t v given p so.done d e n.ordered.0 so.set) ∙ none)
 
 -- the same of `remove_at_paths`
 pub record IsRemovedSo (all rest : List Path) (t : Target) (d e : KdlDocument) : Type 0 where
@@ -198,30 +205,31 @@ removal_begins all rest t d h r = record { done = []; paths = h ∙ sym (append-
 pub removal_goes : (all rest before : List Path) (p : Path) (t : Target) (d e f : KdlDocument) → AllPairs IsBefore all → rest ≡ before ++ p ∷ [] → IsRemovedSo all rest t d e → IsRemovedOnEach (p ∷ []) t e f → IsRemovedSo all before t d f
 removal_goes all rest before p t d e f o k so one =
     let n = next all rest before p so.done o so.paths k in
-    record { done = p ∷ so.done; paths = n.paths; removed = removed_next t p so.done d e f n.ordered so.removed one }
+    record { done = p ∷ so.done; paths = n.paths; removed = removed_next t p so.done d e f n.ordered.0 so.removed one }
 
 pub removal_misses : (all rest before : List Path) (p : Path) (t : Target) (d e : KdlDocument) → AllPairs IsBefore all → rest ≡ before ++ p ∷ [] → IsRemovedSo all rest t d e → named_node t (document_says e) p ≡ None
     → (q : Path) × Contains all q × (named_node t (document_says d) q ≡ None)
 removal_misses all rest before p t d e o k so none =
     let n = next all rest before p so.done o so.paths k in
-    (p, subst (λ l. Contains l p) (sym n.paths) (Contains-append_right before (p ∷ so.done) p (contains_first p so.done)), none_as (named_node t (document_says e) p) (named_node t (document_says d) p) (named_kept t p so.done d e n.ordered so.removed) none)
+    (p, subst (λ l. Contains l p) (sym n.paths) (Contains-append_right before (p ∷ so.done) p (contains_first p so.done)), none_as (named_node t (document_says e) p) (named_node t (document_says d) p) (named_kept t p so.done d e n.ordered.0 so.removed) none)
 
 -- one path
 held_said : (p : Path) (d : KdlDocument) (n : KdlNode) → held_at p d ≡ Some n → query.node_at p (document_says d) ≡ Some (node_says n)
 held_said p d n h = sym (held_says p d) ∙ ap (option_map node_says) h
 
 pub set_on : (t : Target) (v : Value) (given : Text) (p : Path) (d e : KdlDocument) (n : KdlNode) (i : ℕ) → held_at p d ≡ Some n → place_of_target t (entries_of n) ≡ Some i → IsValueText given v → AtNode p (IsValueSet i v given) d e → DocumentReadsBack d
-    → IsSetOnEach (p ∷ []) t v given d e
+    → IsSetOn p t v given d e
 set_on t v given p d e n i h place ok at r =
     let (ss, leads) = steps_to p d n h in
-    let x : IsDoneAt ss t v given d e = value_done ss t p d e n i v given leads place ok at r in
+    let x : IsValueDone p t v given d e n = value_done p t v given d e n i (leads_at ss p (nodes_of d) n leads) place ok at r in
     let here : value_at t (document_says d) p ≡ value_in t (node_says n) = ap (option_and_then (value_in t)) (held_said p d n h) in
-    let there : option_and_then (value_in t) (path.node_at ss (said_nodes (document_says d))) ≡ value_in t (node_says n) = ap (option_and_then (value_in t)) (leads_said ss p d n leads) in
     record {
       reads = x.reads;
-      says = x.says ∙ changed_along (node_with_value t v) (setting t v) (λ i y. refl) ss p d n leads;
-      bytes = AreExchanged.exchange x.was (λ w k. x.former w (there ∙ sym here ∙ k)) AreExchanged.nothing x.bytes;
-      there = contains_each (λ q. IsSome (value_at t (document_says d) q)) p [] (subst (λ (o : Option Value). IsSome o) (sym here) (value_is_there t n i (sym place))) (λ q c. absurd (contains_nothing q c));
+      says = x.says;
+      was = x.was;
+      former = λ w k. x.former w (sym here ∙ k);
+      bytes = x.bytes;
+      there = subst (λ (o : Option Value). IsSome o) (sym here) (value_is_there t n i (sym place));
     }
 
 removed_along : (t : Target) (ss : List Step) (p : Path) (d : KdlDocument) (n : KdlNode) → Leads ss p (nodes_of d) None n → without_target t ss (document_says d) ≡ edited (removing t) p (document_says d)
@@ -255,20 +263,13 @@ pub name_missing_at : (t : Target) (p : Path) (d : KdlDocument) (n : KdlNode) �
 name_missing_at t p d n h e = sym (ap (option_and_then (with_target t)) h) ∙ target_missing t n e.0 e.1
 
 -- the edits of all paths
-setting_replaces : (t : Target) (v : Value) → Replaces (setting t v) (λ n. Some (node_with_value t v n))
-setting_replaces t v = record { none = λ i. refl; zero = λ n x. refl; suc = λ i n x. refl }
-
 removing_replaces : (t : Target) → Replaces (removing t) (removed t)
 removing_replaces Node = record { none = λ i. refl; zero = λ n x. refl; suc = λ i n x. refl }
 removing_replaces (Argument k) = record { none = λ i. refl; zero = λ n x. refl; suc = λ i n x. refl }
 removing_replaces (Property s) = record { none = λ i. refl; zero = λ n x. refl; suc = λ i n x. refl }
 
-ascends : (ps : List Path) → AllPairs IsBefore ps → Ascends ps
-ascends [] h = tt
-ascends (p ∷ ps) h = (after_these [] p ps h, ascends ps (λ i j d l m. h (suc i) (suc j) d (omega (arith, l)) (omega (arith, m))))
-
 -- failures at a path that is selected
-pub set_each_missing : (q : Query) (t : Target) (given text : Text) (x : data'.Nodes) (ps : List Path) (e : EditFailure) → IsDocument text x → IsSelection x q ps → MissesIf ((p : Path) × Contains ps p × (value_at t x p ≡ None)) e
+pub set_each_missing : (q : Query) (t : Target) (given text : List ℕ) (x : data'.Nodes) (ps : List Path) (e : EditFailure) → IsDocument (chars text) x → IsSelection x q ps → MissesIf ((p : Path) × Contains ps p × (value_at t x p ≡ None)) e
     → SetEachFails q t given text e
 set_each_missing q t given text x ps (edit.Missing m) d s (p, c, h) = (x, d, inr (p, (s.each p).0 c, h))
 set_each_missing q t given text x ps edit.Memory d s h = tt
@@ -277,7 +278,7 @@ set_each_missing q t given text x ps edit.Value d s h = absurd h
 set_each_missing q t given text x ps (edit.Node y) d s h = absurd h
 set_each_missing q t given text x ps edit.NotNode d s h = absurd h
 
-pub remove_each_missing : (q : Query) (t : Target) (text : Text) (x : data'.Nodes) (ps : List Path) (e : EditFailure) → IsDocument text x → IsSelection x q ps → MissesIf ((p : Path) × Contains ps p × (named_node t x p ≡ None)) e → RemoveEachFails q t text e
+pub remove_each_missing : (q : Query) (t : Target) (text : List ℕ) (x : data'.Nodes) (ps : List Path) (e : EditFailure) → IsDocument (chars text) x → IsSelection x q ps → MissesIf ((p : Path) × Contains ps p × (named_node t x p ≡ None)) e → RemoveEachFails q t text e
 remove_each_missing q t text x ps (edit.Missing m) d s (p, c, h) = (x, d, inr (p, (s.each p).0 c, h))
 remove_each_missing q t text x ps edit.Memory d s h = tt
 remove_each_missing q t text x ps (edit.Text y) d s h = absurd h
@@ -292,15 +293,16 @@ pub set_each_ends : (q : Query) (t : Target) (s : Spelled) (given text : Text) (
 set_each_ends q t s given text ps d e out x is spelled ok only prints selection some set bytes =
     let printed : text_of out ≡ document_prints e = printed_text {E = Unit {0}} (Ok out) (document_prints e) bytes in
     let y = document_says d in
-    let chain : AreExchanged y t given ps text (text_of out) =
-    subst (λ (u : Text). AreExchanged y t u ps text (text_of out)) spelled
-    (subst (λ (u : Text). AreExchanged y t (text_of s.spelling) ps u (text_of out)) prints (subst (λ (u : Text). AreExchanged y t (text_of s.spelling) ps (document_prints d) u) (sym printed) set.bytes)) in
+    let v = value_tree s.value in
+    let chain : AreExchanged y t v given ps text (text_of out) =
+    subst (λ (u : Text). AreExchanged y t v u ps text (text_of out)) spelled
+    (subst (λ (u : Text). AreExchanged y t v (text_of s.spelling) ps u (text_of out)) prints (subst (λ (u : Text). AreExchanged y t v (text_of s.spelling) ps (document_prints d) u) (sym printed) set.bytes)) in
     subst (λ (z : data'.Nodes). IsSetAtEach z q t given text (text_of out)) (sym (only x is)) (record {
       paths = ps;
       found = record { selection = selection; some = some; each = λ p k. set.there p ((selection.each p).1 k) };
-      value = value_tree s.value;
+      value = v;
       reads = ok;
-      says = out_says e out (edited_at ps (λ n. Some (node_with_value t (value_tree s.value) n)) y) bytes set.reads (set.says ∙ everywhere (setting t (value_tree s.value)) (λ n. Some (node_with_value t (value_tree s.value) n)) (setting_replaces t (value_tree s.value)) ps (ascends ps selection.ordered) y);
+      says = out_says e out (with_value_at ps t v y) bytes set.reads (set.says ∙ all_set t v ps (ascends ps selection.ordered) y);
       bytes = chain;
     })
 

@@ -2,13 +2,14 @@
 use Rattle.std.specs.Cmp.Lexicographic.{pointwise}
 use Rattle.std.specs.List.{list_any}
 use Rattle.std.specs.Prelude.{◌≡◌, ◌==◌, ◌⊎◌, ℕ, suc, Bool, true, false, List, [], ◌∷◌, Option, Some, None, IsSome, option_and_then}
-use Rattle.kdl.specs.Words.{IsDocument, IsExchanged, NodeData, Nodes, Text, Value}
+use Rattle.std.specs.Str.{chars}
+use Rattle.kdl.specs.Words.{IsDocument, NodeData, Nodes, Text, Value}
 use Rattle.kdl_grammar.specs.Data as data'
 use Rattle.c_calls.specs.Entries.{IsValueText}
 use Rattle.kdl_query.specs.Data.{Query}
 use Rattle.kdl_query.specs.Selects.{IsSelected, IsSelection, Path, node_at}
-use Rattle.kdl_path.specs.Edits.{node_with_value, node_without_entry, with_target}
-use Rattle.kdl_path.specs.Failures.{IsNoDocument}
+use Rattle.kdl_path.specs.Edits.{IsExchangedAt, node_with_value, node_without_entry, with_target}
+use Rattle.kdl_path.specs.Failures.{TextFails}
 use Rattle.kdl_path.specs.Paths.{value_in}
 use Rattle.kdl_path.specs.declared.failure.EditFailure.{EditFailure}
 use Rattle.kdl_path.specs.declared.failure.EditFailure.TheVariants as edit
@@ -43,6 +44,10 @@ is_among ps p = list_any (pointwise ◌==◌ p) ps
 abbrev pub edited_at : List Path → (NodeData → Option NodeData) → Nodes → Nodes
 edited_at ps f x = edited_where (is_among ps) f 0 x
 
+-- the nodes of a document with another value for the entry that a target names in each node at the paths
+abbrev pub with_value_at : List Path → Target → Value → Nodes → Nodes
+with_value_at ps t v x = edited_at ps (λ n. Some (node_with_value t v n)) x
+
 -- a node without the entry that a target names, or no node
 abbrev pub removed : Target → NodeData → Option NodeData
 removed Node n = None
@@ -66,21 +71,21 @@ pub record FindsAtEach {A : Type 0} (x : Nodes) (q : Query) (find : Path → Opt
 abbrev pub FindsNone : {A : Type 0} → Nodes → Query → (Path → Option A) → Type 0
 FindsNone x q find = ((p : Path) → ¬ IsSelected x q p) ⊎ ((p : Path) × IsSelected x q p × (find p ≡ None))
 
--- the text after exchanges: at each of the paths, from the last to the first, one spelling of the value there for the text `given`
-pub data AreExchanged (x : Nodes) (t : Target) (given : Text) : List Path → Text → Text → Type 0 where
-  nothing : {text : Text} → AreExchanged x t given [] text text
-  exchange : {p : Path} {ps : List Path} {text between out : Text} (was : Text) → ((v : Value) → value_at t x p ≡ Some v → IsValueText was v)
-      → AreExchanged x t given ps text between → IsExchanged was given between out → AreExchanged x t given (p ∷ ps) text out
+-- the text after exchanges: at each of the paths, from the last to the first, the text `given`, which represents v, in place of the bytes of the value there
+pub data AreExchanged (x : Nodes) (t : Target) (v : Value) (given : Text) : List Path → Text → Text → Type 0 where
+  nothing : {text : Text} → AreExchanged x t v given [] text text
+  exchange : {p : Path} {ps : List Path} {text between out : Text} (was : Text) → ((w : Value) → value_at t x p ≡ Some w → IsValueText was w)
+      → AreExchanged x t v given ps text between → IsExchangedAt (λ w. with_value_at (p ∷ []) t w (with_value_at ps t v x)) was given between out → AreExchanged x t v given (p ∷ ps) text out
 
--- out is the text with VALUE in place of the value that the target names in each node that the query selects: a spelling of each is exchanged, all other bytes
--- are unchanged, and its data are x, those of the text, with the new value there
+-- out is the text with VALUE in place of the bytes of the value that the target names in each node that the query selects, and its data are x, those of the
+-- text, with the new value there
 pub record IsSetAtEach (x : Nodes) (q : Query) (t : Target) (given text out : Text) : Type 0 where
   pub paths : List Path
   pub found : FindsAtEach x q (value_at t x) paths
   pub value : Value
   pub reads : IsValueText given value
-  pub says : IsDocument out (edited_at paths (λ n. Some (node_with_value t value n)) x)
-  pub bytes : AreExchanged x t given paths text out
+  pub says : IsDocument out (with_value_at paths t value x)
+  pub bytes : AreExchanged x t value given paths text out
 
 -- the data of out are x without each node that the query selects, or without the entry that the target names in each
 pub record IsRemovedAtEach (x : Nodes) (q : Query) (t : Target) (out : Text) : Type 0 where
@@ -89,16 +94,16 @@ pub record IsRemovedAtEach (x : Nodes) (q : Query) (t : Target) (out : Text) : T
   pub says : IsDocument out (edited_at paths (removed t) x)
 
 -- `set_each` fails: VALUE is no value, the text is no document, or the query selects nothing in it, or a node without the value; or memory runs out
-abbrev pub SetEachFails : Query → Target → Text → Text → EditFailure → Type 0
-SetEachFails q t given text edit.Value = (v : Value) → IsValueText given v → ⊥
-SetEachFails q t given text (edit.Text e) = IsNoDocument text
-SetEachFails q t given text (edit.Missing m) = (x : Nodes) × IsDocument text x × FindsNone x q (value_at t x)
+abbrev pub SetEachFails : Query → Target → List ℕ → List ℕ → EditFailure → Type 0
+SetEachFails q t given text edit.Value = (v : Value) → IsValueText (chars given) v → ⊥
+SetEachFails q t given text (edit.Text e) = TextFails text e
+SetEachFails q t given text (edit.Missing m) = (x : Nodes) × IsDocument (chars text) x × FindsNone x q (value_at t x)
 SetEachFails q t given text edit.Memory = Unit {0}
 SetEachFails q t given text _ = ⊥
 
 -- `remove_each` fails: the text is no document, or the query selects nothing in it, or a node without the entry; or memory runs out
-abbrev pub RemoveEachFails : Query → Target → Text → EditFailure → Type 0
-RemoveEachFails q t text (edit.Text e) = IsNoDocument text
-RemoveEachFails q t text (edit.Missing m) = (x : Nodes) × IsDocument text x × FindsNone x q (named_node t x)
+abbrev pub RemoveEachFails : Query → Target → List ℕ → EditFailure → Type 0
+RemoveEachFails q t text (edit.Text e) = TextFails text e
+RemoveEachFails q t text (edit.Missing m) = (x : Nodes) × IsDocument (chars text) x × FindsNone x q (named_node t x)
 RemoveEachFails q t text edit.Memory = Unit {0}
 RemoveEachFails q t text _ = ⊥

@@ -1,7 +1,7 @@
 -- The data of a document, and its text, after an edit at a PATH.
 use Rattle.std.specs.List.{remove}
-use Rattle.std.specs.Prelude.{◌≡◌, ℕ, zero, suc, List, [], ◌∷◌, Option, Some, None, IsSome, option_and_then, option_map}
-use Rattle.kdl.specs.Words.{EntryData, IsDocument, IsExchanged, IsNodeText, NodeData, Nodes, Text, Value, said_entries, said_nodes, said_without}
+use Rattle.std.specs.Prelude.{◌≡◌, ℕ, zero, suc, List, [], ◌∷◌, ◌++◌, Option, Some, None, IsSome, option_and_then, option_map}
+use Rattle.kdl.specs.Words.{EntryData, IsDocument, IsNodeText, NodeData, Nodes, Text, Value, said_entries, said_nodes, said_without}
 use Rattle.kdl.specs.Said.{has_key, has_no_key}
 use Rattle.c_calls.specs.Entries.{IsValueText}
 use Rattle.kdl_grammar.specs.Data as data'
@@ -62,15 +62,25 @@ node_with_value t v (data'.node ty name es k) = data'.node ty name (with_value_t
 abbrev pub with_value : Path → Value → Nodes → Nodes
 with_value p v x = changed_at p.steps.items (node_with_value p.target v) x
 
--- out is the text with VALUE in place of the value at the PATH: a spelling of that value is exchanged, all other bytes are unchanged, and its data are those
--- of the text with the new value there
+-- between the two texts is the place of one value: with any value written there, in any spelling, the text is the document that f gives for it
+abbrev pub IsPlaceOf : (Value → Nodes) → Text → Text → Type 0
+IsPlaceOf f before after = (w : Text) (v : Value) → IsValueText w v → IsDocument (before ++ w ++ after) (f v)
+
+-- out is the text with `given` in place of `was`, in the place of that value; all other bytes are unchanged
+pub record IsExchangedAt (f : Value → Nodes) (was given text out : Text) : Type 0 where
+  pub before : Text
+  pub after : Text
+  pub place : IsPlaceOf f before after
+  pub old : text ≡ before ++ was ++ after
+  pub new : out ≡ before ++ given ++ after
+
+-- out is the text with VALUE in place of the bytes of the value at the PATH
 pub record IsSetAt (p : Path) (given text out : Text) : Type 0 where
   pub value : Value
   pub reads : IsValueText given value
-  pub says : (x : Nodes) → IsDocument text x → IsDocument out (with_value p value x)
   pub was : Text
   pub former : (x : Nodes) → IsDocument text x → (v : Value) → at_path p x ≡ Some v → IsValueText was v
-  pub bytes : IsExchanged was given text out
+  pub bytes : (x : Nodes) → IsDocument text x → IsExchangedAt (λ v. with_value p v x) was given text out
 
 -- nodes with one more at their end
 abbrev pub with_last : NodeData → Nodes → Nodes

@@ -1,11 +1,13 @@
 -- What failures mean, and when an edit at a PATH fails.
 use Rattle.std.specs.List.{list_all}
 use Rattle.std.specs.Prelude.{◌≡◌, ◌==◌, ◌&&◌, ℕ, zero, suc, Bool, true, false, List, [], ◌∷◌, Option, Some, None, is_some, unwrap_or}
-use Rattle.kdl.specs.Words.{EntryData, IsDocument, IsNodeText, NodeData, Nodes, Text, Value, said_child_nodes, said_entries, said_nodes}
+use Rattle.std.specs.Str.{chars}
+use Rattle.kdl.specs.Words.{EntryData, IsDocument, IsNodeText, NodeData, Nodes, Tells, Text, Value, said_child_nodes, said_entries, said_nodes}
 use Rattle.kdl.specs.Said.{has_no_key, is_called}
 use Rattle.c_calls.specs.Entries.{IsValueText}
 use Rattle.kdl_parts.specs.EntryLists.{nth_place}
 use Rattle.kdl_value.specs.Tree.{text_of}
+use Rattle.kdl_text.specs.declared.error.KdlError.{KdlError}
 use Rattle.kdl_text.specs.declared.error.ParseFailure.{ParseFailure}
 use Rattle.kdl_text.specs.declared.error.ParseFailure.TheVariants as parse
 use Rattle.kdl_path.specs.Edits.{HasPlace, named_at}
@@ -69,26 +71,30 @@ IsNoDocument text = (x : Nodes) → IsDocument text x → ⊥
 abbrev pub IsUnset : Path → Bool → Nodes → Type 0
 IsUnset p create x = (at_path p x ≡ None) × (create ≡ true → makes_at p.steps.items p.target (said_nodes x) ≡ false)
 
+-- the text, a list of bytes, is no document, and the error tells its faults
+abbrev pub TextFails : List ℕ → KdlError → Type 0
+TextFails text e = IsNoDocument (chars text) × Tells text e
+
 -- `set` fails: VALUE is no value, the text is no document, or its document has no value at the PATH, and with `create` none can be made there; or memory runs out
-abbrev pub SetFails : Path → Text → Text → Bool → EditFailure → Type 0
-SetFails p given text create edit.Value = (v : Value) → IsValueText given v → ⊥
-SetFails p given text create (edit.Text e) = IsNoDocument text
-SetFails p given text create (edit.Missing m) = (x : Nodes) × IsDocument text x × IsUnset p create x
+abbrev pub SetFails : Path → List ℕ → List ℕ → Bool → EditFailure → Type 0
+SetFails p given text create edit.Value = (v : Value) → IsValueText (chars given) v → ⊥
+SetFails p given text create (edit.Text e) = TextFails text e
+SetFails p given text create (edit.Missing m) = (x : Nodes) × IsDocument (chars text) x × IsUnset p create x
 SetFails p given text create edit.Memory = Unit {0}
 SetFails p given text create _ = ⊥
 
 -- `remove` fails: the text is no document, or its document does not have what the PATH names; or memory runs out
-abbrev pub RemoveFails : Path → Text → EditFailure → Type 0
-RemoveFails p text (edit.Text e) = IsNoDocument text
-RemoveFails p text (edit.Missing m) = (x : Nodes) × IsDocument text x × (named_at p x ≡ None)
+abbrev pub RemoveFails : Path → List ℕ → EditFailure → Type 0
+RemoveFails p text (edit.Text e) = TextFails text e
+RemoveFails p text (edit.Missing m) = (x : Nodes) × IsDocument (chars text) x × (named_at p x ≡ None)
 RemoveFails p text edit.Memory = Unit {0}
 RemoveFails p text _ = ⊥
 
 -- `insert` fails: the PATH names an argument or a property, NODE is no node, the text is no document, or its document has no node at the PATH; or memory runs out
-abbrev pub InsertFails : Path → Text → Text → EditFailure → Type 0
+abbrev pub InsertFails : Path → List ℕ → List ℕ → EditFailure → Type 0
 InsertFails p given text edit.NotNode = p.target ≡ Node → ⊥
-InsertFails p given text (edit.Node e) = (y : NodeData) → IsNodeText given y → ⊥
-InsertFails p given text (edit.Text e) = IsNoDocument text
-InsertFails p given text (edit.Missing m) = (x : Nodes) × IsDocument text x × (HasPlace p.steps.items x → ⊥)
+InsertFails p given text (edit.Node e) = (y : NodeData) → IsNodeText (chars given) y → ⊥
+InsertFails p given text (edit.Text e) = TextFails text e
+InsertFails p given text (edit.Missing m) = (x : Nodes) × IsDocument (chars text) x × (HasPlace p.steps.items x → ⊥)
 InsertFails p given text edit.Memory = Unit {0}
 InsertFails p given text _ = ⊥

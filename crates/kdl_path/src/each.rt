@@ -10,7 +10,7 @@ ghost use Rattle.kdl_path.specs.Each.{IsRemovedAtEach, IsSetAtEach, RemoveEachFa
 ghost use Rattle.kdl_path.specs.Internal.Done.{IsNamed};
 ghost use Rattle.kdl_path.specs.Internal.Failing.{MissesIf};
 ghost use Rattle.kdl_path.specs.Internal.Located.{place_of_target};
-ghost use Rattle.kdl_path.specs.Internal.OnEach.{IsRemovedOnEach, IsSetOnEach, paths_of};
+ghost use Rattle.kdl_path.specs.Internal.OnEach.{IsRemovedOnEach, IsSetOn, IsSetOnEach, paths_of};
 ghost use Rattle.kdl_value.specs.Tree.{text_of};
 ghost use Rattle.std.specs.List.{AllPairs};
 ghost use Rattle.std.specs.Prelude.{◌≡◌, [], ◌∷◌, Contains, IfErr, IfOk, None, Some};
@@ -46,13 +46,13 @@ pub fn set_each(
     value: &str,
 ) -> Result<String, EditFailure>
     // The values in the nodes that the query selects, one at least, are replaced, and no other byte.
-    ensures set { IfOk result (λ out. (x : Nodes) → IsDocument (chars text.now) x
-        → IsSetAtEach x (query_says query.now) target.now (chars value.now) (chars text.now)
+    ensures set { IfOk result (λ out. (x : Nodes) × IsDocument (chars text.now) x
+        × IsSetAtEach x (query_says query.now) target.now (chars value.now) (chars text.now)
         (text_of out)) }
-    // A failure is `Value` only if VALUE is not a value, `Text` only if the text is not a document, `Missing` only if the
-    // query selects nothing in it, or a node without the value, or else `Memory`.
-    ensures fails { IfErr result (SetEachFails (query_says query.now) target.now (chars value.now)
-        (chars text.now)) }
+    // A failure is `Value` only if VALUE is not a value, `Text` with the faults of the text only if it is not a document,
+    // `Missing` only if the query selects nothing in it, or a node without the value, or else `Memory`.
+    ensures fails { IfErr result
+        (SetEachFails (query_says query.now) target.now value.now text.now) }
 {
     let value = read_value(alloc, value)?;
     let document = KdlDocument::parse(alloc, text)?;
@@ -79,11 +79,11 @@ pub fn remove_each(
 ) -> Result<String, EditFailure>
     // The result is a document with the data of the text, without what the target names in the nodes that the query
     // selects, which are one at least.
-    ensures removed { IfOk result (λ out. (x : Nodes) → IsDocument (chars text.now) x
-        → IsRemovedAtEach x (query_says query.now) target.now (text_of out)) }
-    // A failure is `Text` only if the text is not a document, `Missing` only if the query selects nothing in it, or a node
-    // without what the target names, or else `Memory`.
-    ensures fails { IfErr result (RemoveEachFails (query_says query.now) target.now (chars text.now)) }
+    ensures removed { IfOk result (λ out. (x : Nodes) × IsDocument (chars text.now) x
+        × IsRemovedAtEach x (query_says query.now) target.now (text_of out)) }
+    // A failure is `Text` with the faults of the text only if it is not a document, `Missing` only if the query selects
+    // nothing in it, or a node without what the target names, or else `Memory`.
+    ensures fails { IfErr result (RemoveEachFails (query_says query.now) target.now text.now) }
 {
     let document = KdlDocument::parse(alloc, text)?;
     let paths = selected(alloc, &document, query)?;
@@ -145,7 +145,7 @@ fn set_at(
 ) -> Result<KdlDocument, EditFailure>
     requires reads { DocumentReadsBack document }
     requires value { IsValueText (text_of value.now.spelling) (value_tree value.now.value) }
-    ensures set { IfOk result (λ e. IsSetOnEach (path.now ∷ []) target.now
+    ensures set { IfOk result (λ e. IsSetOn path.now target.now
         (value_tree value.now.value) (text_of value.now.spelling) document e) }
     ensures missing { IfErr result (λ e.
         MissesIf (value_at target.now (document_says document) path.now ≡ None) e) }

@@ -40,12 +40,12 @@ pub fn insert(alloc: Global, text: &str, path: &Path, node: &str) -> Result<Stri
     ensures inserted { IfOk result (λ out.
         IsInsertedAt path.now (chars node.now) (chars text.now) (text_of out)) }
     // which is there.
-    ensures found { IfOk result (λ out. (x : Nodes) → IsDocument (chars text.now) x
-        → HasPlace path.now.steps.items x) }
+    ensures found { IfOk result (λ out. (x : Nodes) × IsDocument (chars text.now) x
+        × HasPlace path.now.steps.items x) }
     // A failure is `NotNode` only if the PATH names an argument or a property, `Node` only if NODE is not a node, `Text`
-    // only if the text is not a document, `Missing` only if it is one without a node at the PATH, or else `Memory`.
-    ensures fails { IfErr result
-        (InsertFails path.now (chars node.now) (chars text.now)) }
+    // with the faults of the text only if it is not a document, `Missing` only if it is one without a node at the PATH, or
+    // else `Memory`.
+    ensures fails { IfErr result (InsertFails path.now node.now text.now) }
 {
     if !is_node(&path.target) {
         return Err(EditFailure::NotNode);

@@ -28,6 +28,7 @@ mod each;
 mod failure;
 mod insertion;
 mod laid;
+pub mod laws;
 mod layout;
 mod locate;
 mod lookup;

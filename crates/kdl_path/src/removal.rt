@@ -37,11 +37,11 @@ pub fn remove(alloc: Global, text: &str, path: &Path) -> Result<String, EditFail
     ensures removed { IfOk result (λ out. (x : Nodes) → IsDocument (chars text.now) x
         → IsDocument (text_of out) (without path.now x)) }
     // which is there.
-    ensures found { IfOk result (λ out. (x : Nodes) → IsDocument (chars text.now) x
-        → IsSome (named_at path.now x)) }
-    // A failure is `Text` only if the text is not a document, `Missing` only if it is one without what the PATH names,
-    // or else `Memory`.
-    ensures fails { IfErr result (RemoveFails path.now (chars text.now)) }
+    ensures found { IfOk result (λ out. (x : Nodes) × IsDocument (chars text.now) x
+        × IsSome (named_at path.now x)) }
+    // A failure is `Text` with the faults of the text only if it is not a document, `Missing` only if it is one without
+    // what the PATH names, or else `Memory`.
+    ensures fails { IfErr result (RemoveFails path.now text.now) }
 {
     let document = KdlDocument::parse(alloc, text)?;
     let changed = remove_in(alloc, document, path)?;

@@ -48,12 +48,12 @@ pub fn set(
     ensures set { IfOk result (λ out. (x : Nodes) → IsDocument (chars text.now) x
         → IsSome (at_path path.now x)
         → IsSetAt path.now (chars value.now) (chars text.now) (text_of out)) }
-    // Without `create`, there is one.
-    ensures found { create ≡ false → IfOk result (λ out. (x : Nodes)
-        → IsDocument (chars text.now) x → IsSome (at_path path.now x)) }
-    // A failure is `Value` only if VALUE is not a value, `Text` only if the text is not a document, `Missing` only if it
-    // is one without a value at the PATH, and with `create` none can be made there, or else `Memory`.
-    ensures fails { IfErr result (SetFails path.now (chars value.now) (chars text.now) create) }
+    // The text is a document, and without `create` it has one.
+    ensures found { IfOk result (λ out. (x : Nodes) × IsDocument (chars text.now) x
+        × (create ≡ false → IsSome (at_path path.now x))) }
+    // A failure is `Value` only if VALUE is not a value, `Text` with the faults of the text only if it is not a document,
+    // `Missing` only if it is one without a value at the PATH, and with `create` none can be made there, or else `Memory`.
+    ensures fails { IfErr result (SetFails path.now value.now text.now create) }
 {
     let value = read_value(alloc, value)?;
     let document = KdlDocument::parse(alloc, text)?;
@@ -72,8 +72,7 @@ fn set_in(
     ensures set { IfOk result (λ d. DocumentReadsBack document
         → IsValueText (text_of value.spelling) (value_tree value.value)
         → IsSome (at_path path.now (document_says document))
-        → IsDoneAt path.now.steps.items path.now.target (value_tree value.value)
-        (text_of value.spelling) document d) }
+        → IsDoneAt path.now.steps.items path.now.target (text_of value.spelling) document d) }
     ensures found { create ≡ false → IfOk result (λ d.
         IsSome (at_path path.now (document_says document))) }
     ensures missing { IfErr result (λ e.

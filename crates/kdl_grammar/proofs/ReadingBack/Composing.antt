@@ -1,6 +1,5 @@
 -- What reads back, put together and taken apart.
 use Rattle.std.proofs.Common.{ℕ, zero, suc, ◌+◌, ◌<◌, List, [], ◌∷◌, ◌++◌, length, take, drop, arith}
-use Rattle.std.proofs.lemmas.List.Elements.{All-cons, All-nil}
 use Rattle.std.specs.List.{All}
 use Rattle.kdl_text.specs.Chars.{Text}
 use Rattle.kdl_entry.specs.Tree.{Entry}
@@ -62,9 +61,3 @@ nodes_take zero ns h x = no_node
 nodes_take (suc k) [] h x = no_node
 nodes_take (suc k) (n ∷ []) h x = absurd (omega arith)
 nodes_take (suc k) (n ∷ m ∷ ns) h (next_node x xs) = node_before x (nodes_take k (m ∷ ns) (omega arith) xs)
-
--- each node, before the rests of the last one
-pub each_reads : {P : Rests} (ns : List Node) → NodesRead P (listed_nodes ns) → All (NodeReads P) ns
-each_reads [] x = λ k d h. absurd (omega arith)
-each_reads {P = P} (n ∷ []) (last_node x) = All-cons (NodeReads P) n [] x (All-nil (NodeReads P))
-each_reads {P = P} (n ∷ m ∷ ns) (next_node x xs) = All-cons (NodeReads P) n (m ∷ ns) (ends_before P x) (each_reads (m ∷ ns) xs)

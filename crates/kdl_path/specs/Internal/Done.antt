@@ -1,11 +1,11 @@
 -- A document in which a value is set.
 use Rattle.std.specs.Prelude.{◌≡◌, ℕ, List, [], ◌∷◌, Option, None, Some, option_and_then}
-use Rattle.kdl.specs.Words.{DocumentReadsBack, IsExchanged, NodeData, Text, Value, document_prints, document_says, entries_of, said_nodes}
+use Rattle.kdl.specs.Words.{DocumentReadsBack, NodeData, Text, Value, document_prints, document_says, entries_of, said_nodes}
 use Rattle.kdl.specs.declared.document.KdlDocument.{KdlDocument}
 use Rattle.kdl.specs.declared.node.KdlNode.{KdlNode}
 use Rattle.c_calls.specs.Entries.{IsValueText}
 use Rattle.kdl_entry.specs.declared.entry.KdlEntry.{KdlEntry}
-use Rattle.kdl_path.specs.Edits.{changed_at, node_with_value, with_node, without_node, without_target}
+use Rattle.kdl_path.specs.Edits.{IsExchangedAt, changed_at, node_with_value, with_node, without_node, without_target}
 use Rattle.kdl_path.specs.Internal.Located.{Leads, place_of_target}
 use Rattle.kdl_path.specs.Paths.{node_at, value_in}
 use Rattle.kdl_path.specs.declared.change.Change.{Change}
@@ -15,13 +15,11 @@ use Rattle.kdl_path.specs.declared.path.Target.{Target}
 use Rattle.kdl_path.specs.declared.path.Target.TheVariants.{Node}
 use Rattle.kdl_path.specs.declared.value.Spelled.{Spelled}
 
--- e reads back, and is d with another value for the entry of a target in the node at the end of the steps: in its data, and in its text, in that spelling
-pub record IsDoneAt (ss : List Step) (t : Target) (v : Value) (given : Text) (d e : KdlDocument) : Type 0 where
-  pub reads : DocumentReadsBack e
-  pub says : document_says e ≡ changed_at ss (node_with_value t v) (document_says d)
+-- e prints what d prints, with the text `given` in place of the bytes of the value of a target in the node at the end of the steps
+pub record IsDoneAt (ss : List Step) (t : Target) (given : Text) (d e : KdlDocument) : Type 0 where
   pub was : Text
   pub former : (x : Value) → option_and_then (value_in t) (node_at ss (said_nodes (document_says d))) ≡ Some x → IsValueText was x
-  pub bytes : IsExchanged was given (document_prints d) (document_prints e)
+  pub bytes : IsExchangedAt (λ v. changed_at ss (node_with_value t v) (document_says d)) was given (document_prints d) (document_prints e)
 
 -- the change sets the value of the entry that the target names
 pub record SetsOrMakes (t : Target) (s : Spelled) (es : List KdlEntry) (c : Change) : Type 0 where

@@ -1,11 +1,12 @@
 -- A document after an edit at each of some paths of indices.
-use Rattle.std.specs.Prelude.{◌≡◌, ℕ, List, [], ◌∷◌, Contains, IsSome, map, Vec}
+use Rattle.std.specs.Prelude.{◌≡◌, ℕ, List, [], ◌∷◌, Contains, IsSome, Some, map, Vec}
 use Rattle.std.specs.declared.alloc.Global.{Global}
 use Rattle.kdl.specs.Words.{DocumentReadsBack, Nodes, Text, Value, document_prints, document_says, said_without}
 use Rattle.kdl.specs.declared.document.KdlDocument.{KdlDocument}
+use Rattle.c_calls.specs.Entries.{IsValueText}
 use Rattle.kdl_query.specs.Selects.{Path}
 use Rattle.kdl_path.specs.Each.{AreExchanged, named_node, value_at}
-use Rattle.kdl_path.specs.Edits.{node_with_value, node_without_entry, with_block, with_nth}
+use Rattle.kdl_path.specs.Edits.{IsExchangedAt, node_with_value, node_without_entry, with_block, with_nth}
 use Rattle.kdl_path.specs.declared.path.Target.{Target}
 use Rattle.kdl_path.specs.declared.path.Target.TheVariants.{Node, Argument, Property}
 
@@ -38,11 +39,20 @@ edited_each f (p ∷ ps) x = edited f p (edited_each f ps x)
 abbrev pub paths_of : List (Vec ℕ Global) → List Path
 paths_of ps = map (λ p. p.items) ps
 
--- e reads back, and is d with another value for the entry of a target in the node at each path: in its data, and in its text, in that spelling
+-- e reads back, and is d with another value for the entry of a target in the node at a path: in its data, and in its text, in that spelling
+pub record IsSetOn (p : Path) (t : Target) (v : Value) (given : Text) (d e : KdlDocument) : Type 0 where
+  pub reads : DocumentReadsBack e
+  pub says : document_says e ≡ edited (setting t v) p (document_says d)
+  pub was : Text
+  pub former : (w : Value) → value_at t (document_says d) p ≡ Some w → IsValueText was w
+  pub bytes : IsExchangedAt (λ w. edited (setting t w) p (document_says d)) was given (document_prints d) (document_prints e)
+  pub there : IsSome (value_at t (document_says d) p)
+
+-- the same at each of the paths
 pub record IsSetOnEach (ps : List Path) (t : Target) (v : Value) (given : Text) (d e : KdlDocument) : Type 0 where
   pub reads : DocumentReadsBack e
   pub says : document_says e ≡ edited_each (setting t v) ps (document_says d)
-  pub bytes : AreExchanged (document_says d) t given ps (document_prints d) (document_prints e)
+  pub bytes : AreExchanged (document_says d) t v given ps (document_prints d) (document_prints e)
   pub there : (p : Path) → Contains ps p → IsSome (value_at t (document_says d) p)
 
 -- e reads back, and its data are those of d without what a target names at each path, which is there

@@ -1,6 +1,9 @@
-use Rattle.cli.proofs.Applying.{no_text_status}
+use Rattle.cli_world.proofs.Acting.{acts_on, unread_is}
+use Rattle.cli.specs.Asks.{Asks}
 use Rattle.cli.proofs.ask.ask_file.Goals as goal
 
-pub returns-in-NotUtf8-clause-status : goal.returns-in-NotUtf8-clause-status
-returns-in-NotUtf8-clause-status g c = λ bytes e.
-    no_text_status (g.S.Store.known c.args.world.now.files) c.args.ask.now.name.now bytes c.args.ask.now.action c.in-Err.unread c.in-NotUtf8.field-0 c.in-NotUtf8.is c.in-Err.ensures.not_utf8 e
+pub returns-in-Ok : goal.returns-in-Ok
+returns-in-Ok g c = acts_on (Asks c.args.ask.now) _ _ _ _ c.in-Ok.text _ _ c.in-Ok.ensures.text c.in-Ok.ensures.seen c.deref.ensures c.ask_text.ensures
+
+pub returns-in-Err : goal.returns-in-Err
+returns-in-Err g c = unread_is (Asks c.args.ask.now) _ _ _ c.in-Err.status _ c.in-Err.ensures.unread c.plain.ensures

@@ -2,7 +2,7 @@ use Rattle.std.proofs.Common.{map, sym, ap, subst, ◌∙◌}
 use Rattle.kdl.specs.Words.{document_says, value_tree}
 use Rattle.kdl.specs.declared.document.KdlDocument.{KdlDocument}
 use Rattle.kdl_path.specs.Paths.{all_at}
-use Rattle.cli.specs.Asks.{ShowsAt}
+use Rattle.cli.specs.Internal.Applied.{ShowsAt}
 use Rattle.cli.proofs.Applying.{no_items, none_shown, one_shown}
 use Rattle.cli.proofs.ask.values_at.Goals as goal
 
@@ -18,4 +18,4 @@ returns-then-is_empty c =
 pub returns-then-not-all : goal.returns-then-not-all
 returns-then-not-all c =
     let shows = subst (λ (d : KdlDocument). ShowsAt c.args.path.now c.args.raw (document_says d) c.one_value.result) (c.deref.ensures ∙ c.new-document.ensures) c.one_value.ensures in
-    one_shown c.args.path c.args.raw c.args.all c.args.text.now (document_says c.in_ok-parse.field-0) _ c.if-not-all.true c.in_ok-parse.ensures.found c.in_ok-parse.ensures.only shows
+    one_shown c.args.path c.args.raw c.args.all c.args.text.now (document_says c.in_ok-parse.field-0) _ c.if-not-all.true c.in_ok-parse.ensures.found shows

@@ -1,19 +1,21 @@
-use Rattle.std.proofs.Common.{◌∙◌, ℕ, List, [], max, ap, refl, Bor}
-use Rattle.std.proofs.lemmas.List.{map_more}
-use Rattle.cli_world.specs.Statuses.{code_of}
-use Rattle.cli_world.specs.declared.status.Status.{Status}
-use Rattle.cli.specs.Checks.Checks.{none}
-use Rattle.cli.proofs.CheckSteps.{checks_more}
+use Rattle.std.proofs.Common.{ℕ, List, Bor, ap, arith, map, sym}
+use Rattle.std.proofs.lemmas.List.{map_more, take_all}
+use Rattle.cli.proofs.CheckSteps.{all_checked, more_checked, none_checked}
 use Rattle.cli.proofs.check.check_files.Goals as goal
 
 pub loop-name-init : goal.loop-name-init
-loop-name-init g c = record { found = record { found = []; each = none; worst = refl }; files = refl }
+loop-name-init g c = record { checked = none_checked c.args.style (g.W.World.seen c.args.world.now); few = omega arith }
+
+pub count-requires : goal.count-requires
+count-requires g c = omega arith
 
 pub loop-name-preserved : goal.loop-name-preserved
-loop-name-preserved g c =
-    let worst = c.worst-status.ensures ∙ ap (λ (s : Status). max (code_of c.loop-name.status) (code_of s)) c.status.ensures in
-    let more = map_more (λ (n : Bor (List ℕ)). n.now) c.args.names.now c.loop-name.name-index _ c.loop-name-test.true in
-    record {
-      found = checks_more (g.S.Store.known c.args.world.now.files) (g.S.Store.known c.loop-name.world.files) _ _ _ c.check_file-checked.result c.loop-name.status c.worst-status.result (ap g.S.Store.known c.loop-name.invariant.files) c.loop-name.invariant.found c.check_file-checked.ensures.found more worst;
-      files = c.check_file-checked.ensures.files ∙ c.loop-name.invariant.files;
-    }
+loop-name-preserved g c = record {
+  checked = more_checked c.args.style _ _ _ (g.W.World.seen c.args.world.now) (g.W.World.seen c.loop-name.world) (g.W.World.seen c.check_file-tally.new.world) c.loop-name.status c.worst-status.result c.loop-name.totals c.count.new.self
+      c.check_file-tally.result c.loop-name.invariant.checked c.check_file-tally.ensures (map_more (λ (n : Bor (List ℕ)). n.now) c.args.names.now c.loop-name.name-index _ c.loop-name-test.true) c.worst-status.ensures c.count.ensures.faults c.count.ensures.files;
+  few = grind (arith);
+}
+
+pub returns : goal.returns
+returns g c = all_checked c.args.style _ _ (g.W.World.seen c.args.world.now) (g.W.World.seen c.loop-name.world) (g.W.World.seen c.print_totals-end.new.world) c.loop-name.status c.worst.result c.loop-name.totals c.print_totals-end.result
+    c.loop-name.invariant.checked (ap (map (λ (n : Bor (List ℕ)). n.now)) (sym (take_all c.loop-name.name-index c.args.names.now c.loop-name-test.false))) c.print_totals-end.ensures c.worst.ensures

@@ -1,6 +1,9 @@
-use Rattle.std.proofs.Common.{ap}
-use Rattle.cli.proofs.FileSteps.{formats_no_text}
+use Rattle.cli_world.proofs.Acting.{acts_on, unread_is}
+use Rattle.cli.specs.Formats.{Formats}
 use Rattle.cli.proofs.files.format_file.Goals as goal
 
-pub returns-in-NotUtf8-clause-formats : goal.returns-in-NotUtf8-clause-formats
-returns-in-NotUtf8-clause-formats g c = formats_no_text c.args.job.now c.args.name.now c.in-Err.unread c.in-NotUtf8.field-0 _ _ (ap g.S.Store.known c.report_unread.ensures.files) c.in-NotUtf8.is c.in-Err.ensures.not_utf8
+pub returns-in-Ok : goal.returns-in-Ok
+returns-in-Ok g c = acts_on (Formats c.args.job.now c.args.name.now) _ _ _ _ c.in-Ok.text _ _ c.in-Ok.ensures.text c.in-Ok.ensures.seen c.deref.ensures c.format_text.ensures
+
+pub returns-in-Err : goal.returns-in-Err
+returns-in-Err g c = unread_is _ _ _ _ _ _ c.in-Err.ensures.unread c.plain.ensures

@@ -1,8 +1,7 @@
 use Rattle.std.proofs.Common.{map, take}
-use Rattle.cli.specs.Outcomes.{FormatsFiles}
+use Rattle.cli.specs.Formats.{FormatsFiles}
 use Rattle.cli.proofs.files.format_files.Given as goal
 
+-- the files so far are formatted
 abbrev pub invariant-loop-name : goal.invariant-loop-name
-invariant-loop-name g l = record {
-  runs : FormatsFiles l.job (map (λ n. n.now) (take l.name-index l.names)) l.status (g.S.Store.known l.initial.world.files) (g.S.Store.known l.world.files);
-}
+invariant-loop-name g l = FormatsFiles l.job (map (λ n. n.now) (take l.name-index l.names)) (g.W.World.seen l.initial.world) (g.W.World.seen l.world) l.status

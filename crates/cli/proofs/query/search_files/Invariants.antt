@@ -1,9 +1,8 @@
-use Rattle.std.proofs.Common.{◌≡◌, map, take}
+use Rattle.std.proofs.Common.{map, take}
 use Rattle.cli.proofs.SearchSteps.{SearchedSoFar}
 use Rattle.cli.proofs.query.search_files.Given as goal
 
 abbrev pub invariant-loop-name : goal.invariant-loop-name
 invariant-loop-name g l = record {
-  found : SearchedSoFar (g.S.Store.known l.initial.world.files) l.search (map (λ n. n.now) (take l.name-index l.names)) l.status l.is_hit;
-  files : l.world.files ≡ l.initial.world.files;
+  found : SearchedSoFar l.search (map (λ n. n.now) (take l.name-index l.names)) (g.W.World.seen l.initial.world) (g.W.World.seen l.world) l.status l.is_hit;
 }

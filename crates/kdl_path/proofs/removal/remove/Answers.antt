@@ -1,10 +1,10 @@
-use Rattle.std.proofs.Common.{rules, ◌≡◌, IsSome, string_bytes, subst, sym}
+use Rattle.std.proofs.Common.{rules, ◌≡◌, string_bytes}
 use Rattle.std.specs.Str.{chars, encode_utf8_all}
-use Rattle.kdl.specs.Words.{Nodes, document_prints}
+use Rattle.kdl.specs.Words.{document_prints, document_says}
 use Rattle.kdl.specs.declared.document.KdlDocument.{KdlDocument}
-use Rattle.kdl_path.specs.Edits.{named_at}
+use Rattle.kdl_path.specs.Failures.{RemoveFails}
 use Rattle.kdl_path.proofs.Edited.{removed_text}
-use Rattle.kdl_path.proofs.Failing.{err_is, missing_remove, no_ok, text_remove}
+use Rattle.kdl_path.proofs.Failing.{err_is, missing_remove, no_ok, text_fails}
 use Rattle.kdl_path.proofs.removal.remove.Goals as goal
 
 pub returns-in_err-document-clause-removed : goal.returns-in_err-document-clause-removed
@@ -14,7 +14,7 @@ pub returns-in_err-document-clause-found : goal.returns-in_err-document-clause-f
 returns-in_err-document-clause-found c = no_ok c.from_residual.result _ c.from_residual.ensures.0
 
 pub returns-in_err-document-clause-fails : goal.returns-in_err-document-clause-fails
-returns-in_err-document-clause-fails c = err_is c.from_residual.result _ _ c.from_residual.ensures.1 (text_remove KdlDocument c.args.path.now _ _ c.in_err-document.ensures.refused)
+returns-in_err-document-clause-fails c = err_is c.from_residual.result _ _ c.from_residual.ensures.1 (text_fails KdlDocument (RemoveFails c.args.path.now c.args.text.now) c.args.text.now _ c.in_err-document.ensures.refused c.in_err-document.ensures.told (λ e h. h) tt)
 
 pub returns-in_err-changed-clause-removed : goal.returns-in_err-changed-clause-removed
 returns-in_err-changed-clause-removed c = no_ok c.from_residual-in_err-changed.result _ c.from_residual-in_err-changed.ensures.0
@@ -23,7 +23,7 @@ pub returns-in_err-changed-clause-found : goal.returns-in_err-changed-clause-fou
 returns-in_err-changed-clause-found c = no_ok c.from_residual-in_err-changed.result _ c.from_residual-in_err-changed.ensures.0
 
 pub returns-in_err-changed-clause-fails : goal.returns-in_err-changed-clause-fails
-returns-in_err-changed-clause-fails c = err_is c.from_residual-in_err-changed.result _ _ c.from_residual-in_err-changed.ensures.1 (missing_remove c.args.path.now _ _ _ c.in_ok-document.ensures.found c.in_err-changed.ensures.missing)
+returns-in_err-changed-clause-fails c = err_is c.from_residual-in_err-changed.result _ _ c.from_residual-in_err-changed.ensures.1 (missing_remove c.args.path.now c.args.text.now _ _ c.in_ok-document.ensures.found c.in_err-changed.ensures.missing)
 
 pub returns-in_err-to_string-clause-fails : goal.returns-in_err-to_string-clause-fails
 returns-in_err-to_string-clause-fails c = err_is c.from_residual-in_err-to_string.result _ _ c.from_residual-in_err-to_string.ensures.1 tt
@@ -37,4 +37,4 @@ returns-clause-removed c =
     removed_text c.args.path.now (chars c.args.text.now) c.in_ok-document.document e out document.only document.reads c.in_ok-changed.ensures.removed bytes
 
 pub returns-clause-found : goal.returns-clause-found
-returns-clause-found c = λ x d. subst (λ (z : Nodes). IsSome (named_at c.args.path.now z)) (sym (c.in_ok-document.ensures.only x d)) c.in_ok-changed.ensures.found
+returns-clause-found c = (document_says c.in_ok-document.document, c.in_ok-document.ensures.found, c.in_ok-changed.ensures.found)

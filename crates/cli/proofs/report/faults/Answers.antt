@@ -1,0 +1,4 @@
+use Rattle.cli.proofs.report.faults.Goals as goal
+
+pub loop-fault-init : goal.loop-fault-init
+loop-fault-init c = c.new-out.ensures.bytes

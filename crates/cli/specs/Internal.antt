@@ -1,0 +1,2 @@
+-- What an action makes of a text.
+pub mod Applied
