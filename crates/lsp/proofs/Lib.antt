@@ -20,3 +20,7 @@ pub mod Growing
 pub mod Publishing
 -- Edits that are written.
 pub mod Edits
+-- Replies to requests in a session.
+pub mod Answering
+-- Replies to requests to format that are refused.
+pub mod Refused

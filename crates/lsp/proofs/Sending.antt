@@ -14,6 +14,7 @@ use Rattle.lsp_documents.specs.States.{SessionStays, is_over}
 use Rattle.lsp_documents.specs.declared.state.Phase.TheVariants.{New, Running}
 use Rattle.lsp_documents.specs.declared.state.State.{State}
 use Rattle.lsp_text.specs.declared.position.Encoding.{Encoding}
+use Rattle.lsp.specs.Contents.{Answers, IsAnswer}
 use Rattle.lsp.specs.Replies.{AreIn, Fails, Greets, IsGreeting, IsLog, IsReplyTo, IsReplyWith, Logs, Replies}
 use Rattle.lsp.specs.Turns.{Takes, sent_of}
 
@@ -46,6 +47,10 @@ pub logs_pushed : (ms ns : List (String Global)) (m : String Global) → ns ≡ 
 unfolding Logs
 logs_pushed ms ns m e r = (m, subst (λ l. Contains l m) (sym e) (Contains-push ms m), r)
 
+pub answers_pushed : (s : State) (id : Json) (method : List ℕ) (params : Json) (ms ns : List (String Global)) (m : String Global) → ns ≡ ms ++ m ∷ [] → IsAnswer s id method params m → Answers s id method params ns
+unfolding Answers
+answers_pushed s id method params ms ns m e r = (m, subst (λ l. Contains l m) (sym e) (Contains-push ms m), r)
+
 -- some messages, and then others
 pub sent_next : (ks ls cs us vs : List (String Global)) → ls ≡ ks ++ us → cs ≡ ls ++ vs → cs ≡ ks ++ (us ++ vs)
 sent_next ks ls cs us vs p q = q ∙ ap (λ xs. xs ++ vs) p ∙ append_assoc ks us vs
@@ -62,6 +67,10 @@ replies_on id ms ns a r = (r.0, a r.0 r.1, r.2)
 pub logs_on : (ms ns : List (String Global)) → AreIn ms ns → Logs ms → Logs ns
 unfolding AreIn Logs
 logs_on ms ns a r = (r.0, a r.0 r.1, r.2)
+
+answers_on : (s : State) (id : Json) (method : List ℕ) (params : Json) (ms ns : List (String Global)) → AreIn ms ns → Answers s id method params ms → Answers s id method params ns
+unfolding AreIn Answers
+answers_on s id method params ms ns a r = (r.0, a r.0 r.1, r.2)
 
 -- the same documents, where it is told as well that a text is not known
 pub taken_on : (old new other : State) (P Q : Type 0) (note : Note) → other.open ≡ new.open → (P → Q) → IsTaken old new P note → IsTaken old other Q note
@@ -113,6 +122,7 @@ takes_on old new other message ms ns e (p, k) a t = record {
   all = λ quiet. e ∙ t.all quiet;
   taken = λ running note tells. taken_on old new other (Logs ms) (Logs ns) note e (logs_on ms ns a) (t.taken running note tells);
   replied = λ id asks. replies_on id ms ns a (t.replied id asks);
+  answered = λ running id method params asks. answers_on old id method params ms ns a (t.answered running id method params asks);
   started = λ early id starts. started_on id ms ns new other p k a (t.started early id starts);
   client = client_on old new other p k t.client;
   exited = λ exits. p ∙ t.exited exits;
@@ -138,6 +148,7 @@ takes_lost old new other message ms r same (p, k) t is =
       all = λ u. tt;
       taken = λ running note tells. tt;
       replied = λ id asks. tt;
+      answered = λ running id method params asks. tt;
       started = λ early id starts. tt;
       client = client_on old new other p k t.client;
       exited = λ exits. tt;

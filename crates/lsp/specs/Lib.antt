@@ -8,3 +8,5 @@ pub mod Turns
 pub mod Faults
 -- What formatting makes of a text.
 pub mod Formatting
+-- What a server returns for a request in a session.
+pub mod Contents

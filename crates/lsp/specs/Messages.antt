@@ -1,5 +1,7 @@
 -- Messages of a client.
-use Rattle.std.specs.Prelude.{◌≡◌, ◌≢◌, ℕ, List, Option, None, Some, IfSome, IsSome, IsSomeAnd, codes, is_none, option_and_then, unwrap_or, if◌then◌else◌}
+use Rattle.std.specs.Prelude.{◌≡◌, ◌≢◌, ◌∷◌, [], ℕ, Bool, List, Option, None, Some, IfSome, IsSome, IsSomeAnd, codes, is_none, option_and_then, unwrap_or, if◌then◌else◌}
+use Rattle.std.specs.List.{list_any}
+use Rattle.std.specs.Str.{bytes_eq}
 use Rattle.json.specs.Find.{get, as_str}
 use Rattle.json.specs.Json.{Json, document, null}
 use Rattle.kdl_text.specs.declared.span.Severity.{Severity}
@@ -55,12 +57,36 @@ AsksIn j id = (get (codes "id") j ≡ Some id) × IsSome (option_and_then as_str
 abbrev pub Asks : List ℕ → Json → Type 0
 Asks text id = IsSomeAnd (document text) (λ j. AsksIn j id)
 
+-- a message is a request with the identifier, the method and the parameters; a text is such a message
+abbrev pub AsksForIn : Json → Json → List ℕ → Json → Type 0
+AsksForIn j id method params = (get (codes "id") j ≡ Some id) × (option_and_then as_str (get (codes "method") j) ≡ Some method) × (params_of j ≡ params)
+
+abbrev pub AsksFor : List ℕ → Json → List ℕ → Json → Type 0
+AsksFor text id method params = IsSomeAnd (document text) (λ j. AsksForIn j id method params)
+
 -- a message is the request `initialize` with the identifier; a text is such a message
 abbrev pub StartsIn : Json → Json → Type 0
 StartsIn j id = (get (codes "id") j ≡ Some id) × (option_and_then as_str (get (codes "method") j) ≡ Some (codes "initialize"))
 
 abbrev pub Starts : List ℕ → Json → Type 0
 Starts text id = IsSomeAnd (document text) (λ j. StartsIn j id)
+
+-- the methods of requests about a document; a method is one of them
+abbrev pub methods : List (List ℕ)
+methods =
+    codes "textDocument/formatting"
+    ∷ codes "textDocument/rangeFormatting"
+    ∷ codes "textDocument/documentSymbol"
+    ∷ codes "textDocument/foldingRange"
+    ∷ codes "textDocument/hover"
+    ∷ codes "textDocument/selectionRange"
+    ∷ codes "textDocument/completion"
+    ∷ codes "textDocument/codeAction"
+    ∷ codes "textDocument/semanticTokens/full"
+    ∷ []
+
+abbrev pub is_known : List ℕ → Bool
+is_known method = list_any (bytes_eq method) methods
 
 -- a text is the notification `exit`
 abbrev pub Exits : List ℕ → Type 0

@@ -1,5 +1,6 @@
 -- Messages of the server.
-use Rattle.std.specs.Prelude.{◌≡◌, ◌⊎◌, ◌++◌, ◌∷◌, [], ℕ, List, Contains, String, codes, string_bytes}
+use Rattle.std.specs.Prelude.{◌≡◌, ◌⊎◌, ◌++◌, ◌∷◌, [], ℕ, ℤ, List, Contains, Result, Ok, Err, String, codes, neg_ℤ, pos, string_bytes}
+use Rattle.std.specs.Fmt.{signed_decimal}
 use Rattle.std.specs.Global.{Global}
 use Rattle.json.specs.Json as json
 use Rattle.json.specs.Json.{Json}
@@ -7,6 +8,8 @@ use Rattle.json.specs.Print.{IsNumber, print}
 use Rattle.json.specs.Token.{Token, begin_object, end_object, key, null, number, string}
 use Rattle.json.specs.Written.{Written}
 use Rattle.lsp.specs.Messages.{encoding_name}
+use Rattle.lsp.specs.declared.write.Wrong.{Wrong}
+use Rattle.lsp.specs.declared.write.Wrong.TheVariants.{Parse, Invalid, Method, Params, Memory, Early, Unknown}
 use Rattle.lsp_text.specs.declared.position.Encoding.{Encoding}
 
 -- a writer has written these tokens
@@ -37,6 +40,29 @@ IsReplyWith name id m = (t : Token) × IsId id t × (rest : List ℕ) × (string
 -- a message is a reply with that content
 abbrev pub IsReplyOf : List ℕ → Json → List ℕ → String Global → Type 0
 IsReplyOf name id content m = (t : Token) × IsId id t × (string_bytes m ≡ print (message_head ++ key (codes "id") ∷ t ∷ key name ∷ []) ++ (content ++ 125 ∷ []))
+
+-- the number of what is wrong, as `ErrorCodes` and `LSPErrorCodes` of the protocol
+abbrev pub error_code : Wrong → ℤ
+error_code Parse = neg_ℤ (pos 32700)
+error_code Invalid = neg_ℤ (pos 32600)
+error_code Method = neg_ℤ (pos 32601)
+error_code Params = neg_ℤ (pos 32602)
+error_code Memory = neg_ℤ (pos 32603)
+error_code Early = neg_ℤ (pos 32002)
+error_code Unknown = neg_ℤ (pos 32803)
+
+-- an error as JSON: its number, and what people read
+abbrev pub error_tokens : ℤ → List ℕ → List Token
+error_tokens code text = begin_object ∷ key (codes "code") ∷ number (signed_decimal code) ∷ key (codes "message") ∷ string text ∷ end_object ∷ []
+
+-- what a server returns for a request: a result as JSON, or what is wrong
+abbrev pub Content : Type 0
+Content = Result (String Global) Wrong
+
+-- a message is the reply with that content
+abbrev pub IsReplyFor : Json → Content → String Global → Type 0
+IsReplyFor id (Ok out) m = IsReplyOf (codes "result") id (string_bytes out) m
+IsReplyFor id (Err wrong) m = (text : List ℕ) × IsReplyOf (codes "error") id (print (error_tokens (error_code wrong) text)) m
 
 -- the tokens with which the result of `initialize` begins: what positions count
 abbrev pub greeting_head : Encoding → List Token

@@ -4,8 +4,9 @@ use Rattle.std.specs.BTreeMap.{IsEmpty}
 use Rattle.std.specs.Global.{Global}
 use Rattle.std.specs.Io.KnownBytes.{Appends, Consumes, IsAtEnd}
 use Rattle.json.specs.Json.{Json, document, null}
+use Rattle.lsp.specs.Contents.{Answers}
 use Rattle.lsp.specs.Faults.{PublishEach}
-use Rattle.lsp.specs.Messages.{Asks, Exits, IsQuiet, Names, Starts, TextTells}
+use Rattle.lsp.specs.Messages.{Asks, AsksFor, Exits, IsQuiet, Names, Starts, TextTells}
 use Rattle.lsp.specs.Replies.{Fails, Greets, Logs, Replies}
 use Rattle.lsp_documents.specs.Notes.{Agrees, Changed, Note, Texts, after}
 use Rattle.lsp_documents.specs.Outcomes.{IsTaken, MarksDue, StaysOpen}
@@ -42,6 +43,8 @@ pub record Takes (old : State) (message : List ℕ) (sent : Sent) (new : State) 
   pub taken : old.phase ≡ Running → (note : Note) → TextTells message note → IfSome sent (λ ms. IsTaken old new (Logs ms) note)
   -- a request gets a reply with its identifier
   pub replied : (id : Json) → Asks message id → IfSome sent (Replies id)
+  -- in a session, its content is that of the method and the parameters
+  pub answered : old.phase ≡ Running → (id : Json) (method : List ℕ) (params : Json) → AsksFor message id method params → IfSome sent (Answers old id method params)
   -- the reply to `initialize` says what positions count from then on, or that it failed; no other message changes that
   pub started : old.phase ≡ New → (id : Json) → Starts message id → IfSome sent (λ ms. Fails id ms ⊎ ((new.phase ≡ Running) × Greets id new.client.encoding ms))
   pub client : (new.client ≡ old.client) ⊎ ((old.phase ≡ New) × (new.phase ≡ Running))

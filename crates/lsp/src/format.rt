@@ -2,8 +2,10 @@
 
 ghost use Rattle.json.specs.Print.{print};
 ghost use Rattle.json.specs.Token.{null};
-ghost use Rattle.lsp.specs.Formatting.{IsFormatting, edits_tokens};
-ghost use Rattle.std.specs.Prelude.{◌≡◌, ◌++◌, ◌∷◌, [], IfOk, OnOk, string_bytes};
+ghost use Rattle.json.specs.Value.{value_view};
+ghost use Rattle.lsp.specs.Contents.{IsFormatted, IsRangeFormatted};
+ghost use Rattle.lsp.specs.Formatting.{HasSize, IsFormatting, IsIndent, IsLaidOut, IsLaidOutOtherwise, IsLinesFormatting, IsPartTo, edits_tokens};
+ghost use Rattle.std.specs.Prelude.{◌≡◌, ◌⊎◌, ◌++◌, ◌∷◌, [], ℕ, Err, IfOk, IfSome, MatchBool, OnOk, Some, string_bytes};
 
 use crate::layout::laid_out;
 use crate::write::{Out, Wrong, begin, end, put_edit};
@@ -13,15 +15,25 @@ use lsp_text::{Edit, Encoding, Lines, edits, edits_within};
 use std::alloc::{AllocError, Global};
 
 /// Returns how many spaces a level is indented by, or `None` for a tab: as the options of the client say, or 4.
-fn indent(params: &Value<'_>) -> Option<usize> {
+fn indent(params: &Value<'_>) -> Option<usize>
+    ensures { IsIndent (value_view params.now) result }
+{
     let spaces = at(params, "options", "insertSpaces").and_then(Value::as_bool);
     if spaces == Some(false) {
         return None;
     }
-    let size = params
-        .get("options")
-        .and_then(|options| number(options, "tabSize"));
-    Some(size.unwrap_or(4).min(64))
+    match tab_size(params) {
+        Some(size) => Some(size.min(64)),
+        None => Some(4),
+    }
+}
+
+/// Returns the size of a tab that the options of the client have.
+fn tab_size(params: &Value<'_>) -> Option<usize>
+    ensures size { IfSome result (HasSize (value_view params.now)) }
+    ensures each { (size : ℕ) → HasSize (value_view params.now) size → result ≡ Some size }
+{
+    number(params.get("options")?, "tabSize")
 }
 
 /// Returns the edits that lay a text out, as the options of the client say.
@@ -30,7 +42,9 @@ pub(crate) fn formatting(
     params: &Value<'_>,
     text: &str,
     encoding: Encoding,
-) -> Result<String, Wrong> {
+) -> Result<String, Wrong>
+    ensures { (result ≡ Err Wrong.Memory) ⊎ IsFormatted encoding (value_view params.now) text.now result }
+{
     Ok(layout_edits(alloc, text, indent(params), encoding)?)
 }
 
@@ -56,18 +70,67 @@ pub(crate) fn range_formatting(
     params: &Value<'_>,
     text: &str,
     encoding: Encoding,
-) -> Result<String, Wrong> {
-    let Some(range) = range(params) else {
-        return Err(Wrong::Params);
-    };
-    let Some(new) = laid_out(alloc, text, indent(params))? else {
-        return Ok(null_json(alloc)?);
-    };
-    let part = edits_within(alloc, text, &new, Lines::of(range), encoding)?;
-    if laid_out(alloc, &part.text, indent(params))?.as_deref() == Some(new.as_str()) {
-        Ok(edits_json(alloc, &part.edits)?)
+) -> Result<String, Wrong>
+    ensures { (result ≡ Err Wrong.Memory) ⊎ IsRangeFormatted encoding (value_view params.now) text.now result }
+{
+    match range(params) {
+        Some(range) => {
+            let within = Lines::of(range);
+            Ok(lines_edits(alloc, text, indent(params), within, encoding)?)
+        }
+        None => Err(Wrong::Params),
+    }
+}
+
+/// Returns those of the edits that lay a text out that are within some lines: none if the text after them would be laid out
+/// otherwise, and null if the text is no document.
+fn lines_edits(
+    alloc: Global,
+    text: &str,
+    indent: Option<usize>,
+    within: Lines,
+    encoding: Encoding,
+) -> Result<String, AllocError>
+    ensures { IfOk result (λ out. IsLinesFormatting encoding indent within text.now (string_bytes out)) }
+{
+    match laid_out(alloc, text, indent)? {
+        Some(new) => part_edits(alloc, text, &new, indent, within, encoding),
+        None => null_json(alloc),
+    }
+}
+
+/// Returns those of the edits that make a text the new one that are within some lines, or none if the text after them would
+/// be laid out otherwise.
+fn part_edits(
+    alloc: Global,
+    text: &str,
+    new: &str,
+    indent: Option<usize>,
+    within: Lines,
+    encoding: Encoding,
+) -> Result<String, AllocError>
+    ensures { IfOk result (λ out. IsPartTo encoding indent within text.now new.now (string_bytes out)) }
+{
+    let part = edits_within(alloc, text, new, within, encoding)?;
+    if is_layout(alloc, &part.text, new, indent)? {
+        edits_json(alloc, &part.edits)
     } else {
-        Ok(edits_json(alloc, &[])?)
+        edits_json(alloc, &[])
+    }
+}
+
+/// Returns whether the new text is the layout of a text.
+fn is_layout(
+    alloc: Global,
+    text: &str,
+    new: &str,
+    indent: Option<usize>,
+) -> Result<bool, AllocError>
+    ensures { IfOk result (λ same. MatchBool same (IsLaidOut indent text.now new.now) (IsLaidOutOtherwise indent text.now new.now)) }
+{
+    match laid_out(alloc, text, indent)? {
+        Some(other) => Ok(other.as_str() == new),
+        None => Ok(false),
     }
 }
 

@@ -2,10 +2,11 @@
 
 ghost use Rattle.json.specs.Json.{Json, string};
 ghost use Rattle.kdl_text.specs.declared.error.KdlDiagnostic.{KdlDiagnostic};
+ghost use Rattle.lsp.specs.Contents.{text_in};
 ghost use Rattle.lsp.specs.Faults.{AreDiagnostics, IsFaultsNotice, PublishEach, known_at};
-ghost use Rattle.lsp.specs.Formatting.{IsEditsTo, IsFormatting};
-ghost use Rattle.lsp.specs.Messages.{Asks, IsQuiet, Names, TextTells};
-ghost use Rattle.lsp.specs.Replies.{AreIn, IsGreeting, IsLog, IsReplyTo, Logs, Replies};
+ghost use Rattle.lsp.specs.Formatting.{IsEditsTo, IsFormatting, IsIndent, IsLaidOut};
+ghost use Rattle.lsp.specs.Messages.{Asks, AsksFor, IsQuiet, Names, TextTells};
+ghost use Rattle.lsp.specs.Replies.{AreIn, IsGreeting, IsLog, IsReplyOf, IsReplyTo, Logs, Replies};
 ghost use Rattle.lsp.specs.Turns.{ArePublished, IsNew, IsOver, IsText, Sent, Takes, Took};
 ghost use Rattle.lsp_documents.specs.Notes.{Note};
 ghost use Rattle.lsp_documents.specs.declared.state.Phase.TheVariants as Phase;
@@ -13,7 +14,7 @@ ghost use Rattle.lsp_documents.specs.declared.state.State.{State};
 ghost use Rattle.lsp_text.specs.declared.position.Encoding.{Encoding};
 ghost use Rattle.lsp_text.specs.declared.position.Encoding.TheVariants.{Utf8, Utf32};
 ghost use Rattle.std.specs.Global.{Global};
-ghost use Rattle.std.specs.Prelude.{◌≡◌, ◌∷◌, ℕ, ℤ, List, [], Option, Some, String, chars, codes, string_bytes};
+ghost use Rattle.std.specs.Prelude.{◌≡◌, ◌∷◌, ℕ, ℤ, List, [], Ok, Option, Some, String, chars, codes, string_bytes};
 
 /// What texts are not: the empty text and an object without members tell nothing and name no document, a message that names
 /// a document names no other one, and neither the empty text nor `exit` is ignored.
@@ -63,8 +64,14 @@ pub fn faults_are_not_so()
     ensures fewer { (e : Encoding) (text : List ℕ) (d : KdlDiagnostic) (ds : List KdlDiagnostic) → AreDiagnostics e text (d ∷ ds) [] → ⊥ }
 {}
 
-/// What formatting does not give: no text at all, and no edits for a text that changes.
+/// What formatting does not give: no text at all, and no edits for a text that changes, also as the reply to a request. A
+/// request asks for no other indent than one.
 pub fn formatting_is_not_so()
     ensures silent { (e : Encoding) (indent : Option ℕ) (text : List ℕ) → IsFormatting e indent text [] → ⊥ }
     ensures unedited { (e : Encoding) (text new : List ℕ) → (chars text ≡ chars new → ⊥) → IsEditsTo e text new (codes "[]") → ⊥ }
+    ensures unformatted { (old new : State) (message text : List ℕ) (params : Json) (m : String Global) → old.phase ≡ Phase.Running
+        → AsksFor message (string (codes "a")) (codes "textDocument/formatting") params → text_in old params ≡ Ok text
+        → ((indent : Option ℕ) (laid : List ℕ) → IsLaidOut indent text laid → chars text ≡ chars laid → ⊥)
+        → IsReplyOf (codes "result") (string (codes "a")) (codes "[]") m → Takes old message (Some (m ∷ [])) new → ⊥ }
+    ensures indent { (params : Json) (i j : Option ℕ) → IsIndent params i → IsIndent params j → i ≡ j }
 {}

@@ -3,7 +3,8 @@
 
 ghost use Rattle.json.specs.Json.{Json, document, null};
 ghost use Rattle.json.specs.Value.{value_view};
-ghost use Rattle.lsp.specs.Messages.{Asks, AsksIn, Exits, IsIgnored, IsQuiet, Names, Starts, StartsIn, TellsIn, TextTells, method_of, params_of};
+ghost use Rattle.lsp.specs.Contents.{Answers, IsAnswer};
+ghost use Rattle.lsp.specs.Messages.{Asks, AsksFor, AsksForIn, AsksIn, Exits, IsIgnored, IsQuiet, Names, Starts, StartsIn, TellsIn, TextTells, method_of, params_of};
 ghost use Rattle.lsp.specs.Replies.{Fails, Greets, IsGreeting, IsReplyTo, IsReplyWith, Logs, Replies};
 ghost use Rattle.lsp.specs.Turns.{Marks, Publishes, Takes, sent_of};
 ghost use Rattle.lsp_documents.specs.Notes.{Agrees, Changed, Note, Tells, Texts, after};
@@ -106,6 +107,8 @@ fn receive(
     ensures due { state.old.phase ≡ Phase.Running → (note : Note) → TextTells message.now note
         → OnOk result ((Logs out.new.items → ⊥) → MarksDue state.old state.new note) }
     ensures replied { (id : Json) → Asks message.now id → OnOk result (Replies id out.new.items) }
+    ensures answered { state.old.phase ≡ Phase.Running → (id : Json) (method : List ℕ) (params : Json) → AsksFor message.now id method params
+        → OnOk result (Answers state.old id method params out.new.items) }
     ensures started { state.old.phase ≡ Phase.New → (id : Json) → Starts message.now id
         → OnOk result (Fails id out.new.items ⊎ ((state.new.phase ≡ Phase.Running) × Greets id state.new.client.encoding out.new.items)) }
     ensures client { (state.new.client ≡ state.old.client) ⊎ ((state.old.phase ≡ Phase.New) × (state.new.phase ≡ Phase.Running)) }
@@ -157,6 +160,8 @@ fn take(
     ensures due { state.old.phase ≡ Phase.Running → (note : Note) → TellsIn (value_view message.now) note
         → OnOk result ((Logs out.new.items → ⊥) → MarksDue state.old state.new note) }
     ensures replied { (id : Json) → AsksIn (value_view message.now) id → OnOk result (Replies id out.new.items) }
+    ensures answered { state.old.phase ≡ Phase.Running → (id : Json) (method : List ℕ) (params : Json) → AsksForIn (value_view message.now) id method params
+        → OnOk result (Answers state.old id method params out.new.items) }
     ensures started { state.old.phase ≡ Phase.New → (id : Json) → StartsIn (value_view message.now) id
         → OnOk result (Fails id out.new.items ⊎ ((state.new.phase ≡ Phase.Running) × Greets id state.new.client.encoding out.new.items)) }
     ensures client { (state.new.client ≡ state.old.client) ⊎ ((state.old.phase ≡ Phase.New) × (state.new.phase ≡ Phase.Running)) }
@@ -189,6 +194,7 @@ fn request(
 ) -> Result<(), AllocError>
     ensures open { state.new.open ≡ state.old.open }
     ensures replied { OnOk result (Replies (value_view id.now) out.new.items) }
+    ensures answered { state.old.phase ≡ Phase.Running → OnOk result (Answers state.old (value_view id.now) method.now (value_view params.now) out.new.items) }
     ensures started { state.old.phase ≡ Phase.New → method.now ≡ codes "initialize"
         → OnOk result (Fails (value_view id.now) out.new.items ⊎ ((state.new.phase ≡ Phase.Running) × Greets (value_view id.now) state.new.client.encoding out.new.items)) }
     ensures client { (state.new.client ≡ state.old.client) ⊎ ((state.old.phase ≡ Phase.New) × (state.new.phase ≡ Phase.Running)) }
@@ -211,6 +217,7 @@ fn any_reply(
 ) -> Result<String, AllocError>
     ensures open { state.new.open ≡ state.old.open }
     ensures replied { IfOk result (IsReplyTo (value_view id.now)) }
+    ensures answered { state.old.phase ≡ Phase.Running → IfOk result (IsAnswer state.old (value_view id.now) method.now (value_view params.now)) }
     ensures started { state.old.phase ≡ Phase.New → method.now ≡ codes "initialize"
         → IfOk result (λ m. IsReplyWith (codes "error") (value_view id.now) m ⊎ ((state.new.phase ≡ Phase.Running) × IsGreeting (value_view id.now) state.new.client.encoding m)) }
     ensures client { (state.new.client ≡ state.old.client) ⊎ ((state.old.phase ≡ Phase.New) × (state.new.phase ≡ Phase.Running)) }

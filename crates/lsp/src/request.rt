@@ -2,10 +2,11 @@
 
 ghost use Rattle.json.specs.Print.{print};
 ghost use Rattle.json.specs.Value.{value_view};
-ghost use Rattle.lsp.specs.Messages.{encoding_name};
+ghost use Rattle.lsp.specs.Contents.{IsAnswer, IsContent, IsFormatted, IsRangeFormatted, text_in};
+ghost use Rattle.lsp.specs.Messages.{encoding_name, is_known};
 ghost use Rattle.lsp.specs.Replies.{Grows, IsGreeting, IsReplyTo, IsWritten, greeting_head};
 ghost use Rattle.lsp_documents.specs.States.{is_over};
-ghost use Rattle.std.specs.Prelude.{◌≡◌, ◌⊎◌, ◌++◌, ℕ, List, IfOk, OnErr, OnOk, codes, string_bytes};
+ghost use Rattle.std.specs.Prelude.{◌≡◌, ◌⊎◌, ◌++◌, ℕ, List, Err, IfErr, IfOk, Ok, OnErr, OnOk, codes, string_bytes};
 
 use crate::complete::completion;
 use crate::fix::actions;
@@ -37,6 +38,7 @@ pub(crate) fn reply(
     ensures err { OnErr result (state.new ≡ state.old) }
     ensures open { state.new.open ≡ state.old.open }
     ensures replied { IfOk result (IsReplyTo (value_view id.now)) }
+    ensures answered { state.old.phase ≡ Phase.Running → IfOk result (IsAnswer state.old (value_view id.now) method.now (value_view params.now)) }
     ensures client { (state.new.client ≡ state.old.client) ⊎ ((state.old.phase ≡ Phase.New) × (state.new.phase ≡ Phase.Running)) }
     ensures over { is_over state.new.phase ≡ is_over state.old.phase }
     ensures greeting { state.old.phase ≡ Phase.New → method.now ≡ codes "initialize"
@@ -219,12 +221,9 @@ fn encoding_name(encoding: Encoding) -> &'static str
 }
 
 /// Returns the result of a request that leaves the state as it is.
-fn content(
-    alloc: Global,
-    state: &State,
-    method: &str,
-    params: &Value<'_>,
-) -> Result<String, Wrong> {
+fn content(alloc: Global, state: &State, method: &str, params: &Value<'_>) -> Result<String, Wrong>
+    ensures { state.now.phase ≡ Phase.Running → IsContent state.now method.now (value_view params.now) result }
+{
     match state.phase {
         Phase::New => Err(Wrong::Early),
         Phase::Running if method == "initialize" => Err(Wrong::Invalid),
@@ -240,11 +239,43 @@ fn document_content(
     state: &State,
     method: &str,
     params: &Value<'_>,
-) -> Result<String, Wrong> {
-    let uri = uri(params).ok_or(Wrong::Params)?;
-    let document = state.open.get(uri).ok_or(Wrong::Params)?;
-    let text = document.text.as_ref().ok_or(Wrong::Unknown)?;
-    let client = state.client;
+) -> Result<String, Wrong>
+    ensures { IsContent state.now method.now (value_view params.now) result }
+{
+    let text = text_in(state, params)?;
+    text_content(alloc, state.client, method, params, text)
+}
+
+/// Returns the text of the document that parameters name.
+fn text_in<'s>(state: &'s State, params: &Value<'_>) -> Result<&'s str, Wrong>
+    ensures ok { IfOk result (λ text. text_in state.now (value_view params.now) ≡ Ok text.now) }
+    ensures err { IfErr result (λ wrong. text_in state.now (value_view params.now) ≡ Err wrong) }
+{
+    let Some(uri) = uri(params) else {
+        return Err(Wrong::Params);
+    };
+    let Some(document) = state.open.get(uri) else {
+        return Err(Wrong::Params);
+    };
+    match &document.text {
+        Some(text) => Ok(text),
+        None => Err(Wrong::Unknown),
+    }
+}
+
+/// Returns the result of a request about a text.
+fn text_content(
+    alloc: Global,
+    client: Client,
+    method: &str,
+    params: &Value<'_>,
+    text: &str,
+) -> Result<String, Wrong>
+    ensures formatting { method.now ≡ codes "textDocument/formatting"
+        → (result ≡ Err Wrong.Memory) ⊎ IsFormatted client.encoding (value_view params.now) text.now result }
+    ensures range_formatting { method.now ≡ codes "textDocument/rangeFormatting"
+        → (result ≡ Err Wrong.Memory) ⊎ IsRangeFormatted client.encoding (value_view params.now) text.now result }
+{
     let encoding = client.encoding;
     match method {
         "textDocument/formatting" => formatting(alloc, params, text, encoding),
@@ -260,7 +291,9 @@ fn document_content(
 }
 
 /// Returns whether there is such a request about a document.
-fn is_known(method: &str) -> bool {
+fn is_known(method: &str) -> bool
+    ensures { result ≡ is_known method.now }
+{
     matches!(
         method,
         "textDocument/formatting"

@@ -5,8 +5,9 @@ ghost use Rattle.json.specs.Token.{Token, end_object, key, number, string};
 ghost use Rattle.json.specs.Value.{value_view};
 ghost use Rattle.lsp.specs.Faults.{position_tokens, range_tokens};
 ghost use Rattle.lsp.specs.Formatting.{edit_tokens};
-ghost use Rattle.lsp.specs.Replies.{Grows, IsId, IsLog, IsReplyOf, IsReplyTo, IsReplyWith, IsWritten, message_head, notice_head};
-ghost use Rattle.std.specs.Prelude.{◌≡◌, ◌++◌, ◌∷◌, [], IfOk, OnErr, OnOk, codes, decimal, string_bytes};
+ghost use Rattle.lsp.specs.Replies.{Grows, IsId, IsLog, IsReplyFor, IsReplyOf, IsReplyTo, IsReplyWith, IsWritten, error_code, error_tokens, message_head, notice_head};
+ghost use Rattle.lsp.specs.declared.write.Wrong.TheVariants.{Memory};
+ghost use Rattle.std.specs.Prelude.{◌≡◌, ◌++◌, ◌∷◌, [], ℕ, List, IfOk, OnErr, OnOk, codes, decimal, string_bytes};
 
 use json::{Value, Writer, is_number};
 use lsp_text::{Position, Range};
@@ -36,7 +37,9 @@ pub(crate) enum Wrong {
 
 impl Wrong {
     /// Returns the number of the error.
-    fn code(self) -> i64 {
+    fn code(self) -> i64
+        ensures { result ≡ error_code self }
+    {
         match self {
             Wrong::Parse => -32700,
             Wrong::Invalid => -32600,
@@ -62,7 +65,9 @@ impl Wrong {
     }
 
     /// Returns the error of a reply as JSON.
-    fn to_json(self, alloc: Global) -> Result<String, AllocError> {
+    fn to_json(self, alloc: Global) -> Result<String, AllocError>
+        ensures { IfOk result (λ out. (text : List ℕ) × (string_bytes out ≡ print (error_tokens (error_code self) text))) }
+    {
         let mut out = begin(alloc);
         out.begin_object()?;
         out.key("code")?;
@@ -74,6 +79,8 @@ impl Wrong {
 }
 
 impl From<AllocError> for Wrong {
+    ghost from_gives = { λ _ e. e ≡ Memory };
+
     fn from(_: AllocError) -> Wrong {
         Wrong::Memory
     }
@@ -132,8 +139,8 @@ pub(crate) fn reply_to(
     id: &Value<'_>,
     content: Result<String, Wrong>,
 ) -> Result<String, AllocError>
+    ensures content { IfOk result (IsReplyFor (value_view id.now) content) }
     ensures reply { IfOk result (IsReplyTo (value_view id.now)) }
-    ensures ok { IfOk content (λ text. IfOk result (IsReplyOf (codes "result") (value_view id.now) (string_bytes text))) }
     ensures error { OnErr content (IfOk result (IsReplyWith (codes "error") (value_view id.now))) }
 {
     match content {

@@ -1,0 +1,90 @@
+-- Replies to requests to format that are refused.
+use Rattle.std.proofs.Common.{arith, ◌≡◌, ◌++◌, ◌∷◌, ◌∙◌, [], ℕ, zero, suc, List, Option, None, Some, Result, Ok, Err, String, Global, Contains, IsSomeAnd, MatchResult, ap, chars, codes, get_or, inl, inr, min, refl, string_bytes, subst, sym}
+use Rattle.std.proofs.lemmas.List.{append_cancel_left, append_cancel_right}
+use Rattle.std.specs.Str.Parse.{ParsesUnsigned}
+use Rattle.json.specs.Find.{get}
+use Rattle.json.specs.Json as json
+use Rattle.json.specs.Json.{Json}
+use Rattle.json.specs.Print.{print, print_from, escape_byte}
+use Rattle.json.specs.Token.{Token, key, string}
+use Rattle.lsp.specs.Contents.{Answers, IsAbout, IsFormatted, text_in}
+use Rattle.lsp.specs.Formatting.{HasSize, IsFormatting, IsIndent, IsLaidOut}
+use Rattle.lsp.specs.Messages.{AsksFor}
+use Rattle.lsp.specs.Replies.{Content, IsReplyFor, IsReplyOf, message_head}
+use Rattle.lsp.specs.Turns.{Takes}
+use Rattle.lsp.specs.declared.write.Wrong.{Wrong}
+use Rattle.lsp_documents.specs.Notes.{IsNumber}
+use Rattle.lsp_documents.specs.declared.state.Phase.TheVariants.{Running}
+use Rattle.lsp_documents.specs.declared.state.State.{State}
+use Rattle.lsp_text.specs.declared.position.Encoding.{Encoding}
+use Rattle.lsp.proofs.Edits.{some_edits}
+
+-- a reply up to its content
+abbrev front : List ℕ → Token → List ℕ
+front name t = print (message_head ++ key (codes "id") ∷ t ∷ key name ∷ [])
+
+whole : (name content : List ℕ) (m : String Global) → IsReplyOf name (json.string (codes "a")) content m → string_bytes m ≡ front name (string (codes "a")) ++ (content ++ 125 ∷ [])
+whole name content m (t, is, e) = let P : Token → Type 0 = λ u. string_bytes m ≡ front name u ++ (content ++ 125 ∷ []) in subst P is e
+
+-- the result of a reply is one
+same_result : (out other : List ℕ) (m : String Global) → IsReplyOf (codes "result") (json.string (codes "a")) out m → IsReplyOf (codes "result") (json.string (codes "a")) other m → out ≡ other
+same_result out other m p q =
+    append_cancel_right out other (125 ∷ []) (append_cancel_left (front (codes "result") (string (codes "a"))) _ _ (sym (whole (codes "result") out m p) ∙ whole (codes "result") other m q))
+
+result_byte : (content : List ℕ) (m : String Global) → IsReplyOf (codes "result") (json.string (codes "a")) content m → get_or (string_bytes m) 27 0 ≡ 114
+unfolding print_from escape_byte
+result_byte content m r = ap (λ b. get_or b 27 0) (whole (codes "result") content m r)
+
+error_byte : (content : List ℕ) (m : String Global) → IsReplyOf (codes "error") (json.string (codes "a")) content m → get_or (string_bytes m) 27 0 ≡ 101
+unfolding print_from escape_byte
+error_byte content m r = ap (λ b. get_or b 27 0) (whole (codes "error") content m r)
+
+-- no edits are the formatting of no text whose layout differs
+pub no_edits : (e : Encoding) (indent : Option ℕ) (text : List ℕ) → ((new : List ℕ) → IsLaidOut indent text new → chars text ≡ chars new → ⊥) → IsFormatting e indent text (codes "[]") → ⊥
+unfolding print_from
+no_edits e indent text other (inl n) = let h : 91 ≡ 110 = ap (λ b. get_or b 0 0) n.1 in absurd (omega (arith, h))
+no_edits e indent text other (inr (new, laid, edits)) = some_edits e text new (other new laid) edits
+
+no_content : (s : State) (params : Json) (text : List ℕ) (content : Content) (m : String Global) → text_in s params ≡ Ok text
+    → ((indent : Option ℕ) (new : List ℕ) → IsLaidOut indent text new → chars text ≡ chars new → ⊥)
+    → IsAbout s params (IsFormatted s.client.encoding params) content → IsReplyFor (json.string (codes "a")) content m → IsReplyOf (codes "result") (json.string (codes "a")) (codes "[]") m → ⊥
+no_content s params text (Err wrong) m is other about reply empty = let h : 114 ≡ 101 = sym (result_byte (codes "[]") m empty) ∙ error_byte _ m reply.1 in absurd (omega (arith, h))
+no_content s params text (Ok out) m is other (inl short) reply empty = absurd (cc (short))
+no_content s params text (Ok out) m is other (inr about) reply empty =
+    let P : Result (List ℕ) Wrong → Type 0 = λ r. MatchResult r (λ t. IsFormatted s.client.encoding params t (Ok out)) (λ w. Ok out ≡ Err w) in
+    let f : IsFormatted s.client.encoding params text (Ok out) = subst P is about in
+    no_edits s.client.encoding f.0 text (other f.0) (subst (λ b. IsFormatting s.client.encoding f.0 text b) (same_result (string_bytes out) (codes "[]") m reply empty) f.2)
+
+only : (m n : String Global) → Contains (m ∷ []) n → m ≡ n
+only m n (zero, inside, is) = is
+only m n (suc k, inside, is) = absurd (omega (arith, inside))
+
+-- a server does not reply so to a request to format a text whose layout differs
+pub not_unformatted : (old new : State) (message text : List ℕ) (params : Json) (m : String Global) → old.phase ≡ Running → AsksFor message (json.string (codes "a")) (codes "textDocument/formatting") params
+    → text_in old params ≡ Ok text → ((indent : Option ℕ) (laid : List ℕ) → IsLaidOut indent text laid → chars text ≡ chars laid → ⊥)
+    → IsReplyOf (codes "result") (json.string (codes "a")) (codes "[]") m → Takes old message (Some (m ∷ [])) new → ⊥
+unfolding Answers
+not_unformatted old new message text params m running asks is other empty takes =
+    let a = takes.answered running (json.string (codes "a")) (codes "textDocument/formatting") params asks in
+    no_content old params text a.2.0 m is other (a.2.1.formatting refl) (subst (λ n. IsReplyFor (json.string (codes "a")) a.2.0 n) (sym (only m a.0 a.1)) a.2.2) empty
+
+-- ---- a request has one indent
+
+one_of : {A B : Type 0} (o : Option A) (P Q : A → Type 0) (x y : B) → ((a : A) → P a → Q a → x ≡ y) → IsSomeAnd o P → IsSomeAnd o Q → x ≡ y
+one_of None P Q x y each p q = elim p [ ]
+one_of (Some a) P Q x y each p q = each a p q
+
+one_number : (name : List ℕ) (j : Json) (m n : ℕ) → IsNumber name j m → IsNumber name j n → m ≡ n
+one_number name j m n = one_of _ (λ s. ParsesUnsigned {E = List ℕ} 64 10 s (Ok m)) (λ s. ParsesUnsigned {E = List ℕ} 64 10 s (Ok n)) m n (λ s p q. p.1 ∙ sym q.1)
+
+one_size : (params : Json) (m n : ℕ) → HasSize params m → HasSize params n → m ≡ n
+one_size params m n = one_of (get (codes "options") params) (λ j. IsNumber (codes "tabSize") j m) (λ j. IsNumber (codes "tabSize") j n) m n (λ j. one_number (codes "tabSize") j m n)
+
+pub one_indent : (params : Json) (i j : Option ℕ) → IsIndent params i → IsIndent params j → i ≡ j
+one_indent params None None a b = refl
+one_indent params None (Some n) a b = absurd (b.0 a)
+one_indent params (Some m) None a b = absurd (a.0 b)
+one_indent params (Some m) (Some n) (p, inl (size, has, is)) (q, inl (other, holds, so)) = ap Some (is ∙ ap (λ k. min k 64) (one_size params size other has holds) ∙ sym so)
+one_indent params (Some m) (Some n) (p, inl (size, has, is)) (q, inr (none, so)) = absurd (none size has)
+one_indent params (Some m) (Some n) (p, inr (none, is)) (q, inl (size, has, so)) = absurd (none size has)
+one_indent params (Some m) (Some n) (p, inr (none, is)) (q, inr (other, so)) = ap Some (is ∙ sym so)
