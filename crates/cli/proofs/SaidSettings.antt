@@ -160,7 +160,7 @@ or_before : {A : Type 0} (o : Option A) → option_or o None ≡ o
 or_before None = refl
 or_before (Some x) = refl
 
--- in each case the node is n, and it stands among the others
+-- in each case the node is n, and it is among the others
 with_indent : (g : Given) (n : NodeData) (i : Indent) → g.indent ≡ None → n ≡ setting_node (codes "indent") (value_of_indent i) → IsPermutation (n ∷ nodes_for g) (nodes_for (merged g (record none_given { indent = Some i })))
 with_indent g n i absent is =
     rw (absent, or_before g.blank_lines, or_before g.respell, or_before g.expand, is) (IsPermutation-refl _)
