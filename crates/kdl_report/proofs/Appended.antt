@@ -1,11 +1,12 @@
 -- What is appended to a string.
-use Rattle.std.proofs.Common.{◌≡◌, ℕ, zero, suc, ◌+◌, Bool, cond, List, [], ◌∷◌, ◌++◌, Result, Ok, Err, chars, is_ok, nat_eq, ◌&&◌, refl, sym, ap, ◌∙◌, append_assoc, arith, zero-add}
+use Rattle.std.proofs.Common.{◌≡◌, ℕ, zero, suc, ◌+◌, Bool, cond, List, [], ◌∷◌, ◌++◌, Result, Ok, Err, chars, is_ok, length, length-append, nat_eq, ◌&&◌, refl, sym, ap, ◌∙◌, append_assoc, arith, zero-add}
 use Rattle.std.specs.Result.{OnOk}
 use Rattle.std.proofs.lemmas.Bool.{and_left, ne_eqb}
 use Rattle.std.proofs.lemmas.Result.{on_ok_weaker}
 use Rattle.std.specs.Str.{IsUtf8}
-use Rattle.std.proofs.lemmas.Str.{chars-append}
-use Rattle.std.proofs.lemmas.List.{append-nil}
+use Rattle.std.proofs.lemmas.Str.{chars-append, chars-nil, encodes-chars}
+use lib.Utf8.{encodes}
+use Rattle.std.proofs.lemmas.List.{append-nil, nil_from_length}
 use Rattle.std.proofs.lemmas.List.Concat.{flat_map-append}
 use Rattle.std.proofs.lemmas.List.Sums.{sum_by-append}
 use Rattle.kdl_text.specs.Chars.{Text, times}
@@ -34,9 +35,33 @@ shown_push t c = flat_map-append shown_char t (c ∷ []) ∙ ap (λ z. shown t +
 pub columns_push : (t : Text) (c : ℕ) → columns (shown (t ++ c ∷ [])) ≡ columns (shown t) + columns (shown_char c)
 columns_push t c = ap columns (shown_push t c) ∙ sum_by-append width (shown t) (shown_char c)
 
+pub columns_add : (a b : Text) (c : ℕ) → times (columns (shown a)) c ++ times (columns (shown b)) c ≡ times (columns (shown (a ++ b))) c
+columns_add a b c =
+    sym (times_add (columns (shown a)) (columns (shown b)) c) ∙ ap (λ z. times z c) (sym (sum_by-append width (shown a) (shown b)) ∙ ap columns (sym (flat_map-append shown_char a b)))
+
+-- a line of four parts
+pub line_shown : (x a b d e : Text) → (((x ++ shown a) ++ shown b) ++ shown d) ++ shown e ≡ x ++ shown ((a ++ b) ++ (d ++ e))
+line_shown x a b d e =
+    let parts : shown ((a ++ b) ++ (d ++ e)) ≡ (shown a ++ shown b) ++ (shown d ++ shown e) =
+    flat_map-append shown_char (a ++ b) (d ++ e) ∙ ap (λ z. z ++ shown (d ++ e)) (flat_map-append shown_char a b) ∙ ap (λ z. (shown a ++ shown b) ++ z) (flat_map-append shown_char d e) in
+    regroup x (shown a) (shown b) (shown d) (shown e) ∙ ap (λ z. x ++ z) (sym parts)
+  where
+    regroup : (x a b d e : Text) → (((x ++ a) ++ b) ++ d) ++ e ≡ x ++ ((a ++ b) ++ (d ++ e))
+    regroup x a b d e = simp append_assoc
+
 zero_sum : (m n : ℕ) → nat_eq (m + n) 0 ≡ (nat_eq m 0 && nat_eq n 0)
 zero_sum zero n = ap (λ z. nat_eq z 0) (zero-add n)
 zero_sum (suc m) n = ne_eqb (suc m + n) 0 (λ h. omega (arith, h)) ∙ sym (and_left _ _ (ne_eqb (suc m) 0 (λ h. omega (arith, h))))
+
+pub both_empty : (a b : Text) → (nat_eq (length a) 0 && nat_eq (length b) 0) ≡ nat_eq (length (a ++ b)) 0
+both_empty a b = sym (zero_sum (length a) (length b)) ∙ ap (λ z. nat_eq z 0) (sym (length-append a b))
+
+-- a text without characters has no bytes
+pub empty_chars : (bs : List ℕ) → IsUtf8 bs → nat_eq (length bs) 0 ≡ nat_eq (length (chars bs)) 0
+empty_chars [] u = ap (λ z. nat_eq (length z) 0) (sym chars-nil)
+empty_chars (b ∷ bs) u =
+    let some : chars (b ∷ bs) ≡ [] → ⊥ = λ h. let none : b ∷ bs ≡ [] = sym (encodes-chars (b ∷ bs) u) ∙ ap encodes h in (cc) in
+    ne_eqb (suc (length bs)) 0 (λ h. omega (arith, h)) ∙ sym (ne_eqb (length (chars (b ∷ bs))) 0 (λ h. some (nil_from_length (chars (b ∷ bs)) h)))
 
 pub bare_push : (t : Text) (c n : ℕ) (b : Bool) → b ≡ nat_eq (columns (shown t)) 0 → n ≡ columns (shown_char c) → (b && nat_eq n 0) ≡ nat_eq (columns (shown (t ++ c ∷ []))) 0
 bare_push t c n b h k =

@@ -4,6 +4,10 @@ pub mod PlaceSteps
 pub mod SpotSteps
 -- The lines that are shown for a span.
 pub mod RowSteps
+-- The part of a line that is shown, when a character is read.
+pub mod WindowSteps
+-- What is shown of a line that is cut.
+pub mod WindowLaws
 -- What is appended to a string.
 pub mod Appended
 -- The line of a byte is a line of the text.

@@ -1,6 +1,6 @@
 -- The text before a byte, and its newlines and last line, when a unit is read.
 use Rattle.std.proofs.Common.{◌≡◌, ℕ, suc, ◌+◌, ◌-◌, ◌<◌, ◌≤◌, Bool, true, false, not, cond, ◌&&◌, ◌||◌, nat_eq, [], ◌∷◌, ◌++◌, length, refl, sym, ap, ◌∙◌, zero-add, arith, inl, inr}
-use Rattle.std.proofs.lemmas.Bool.{le-leb, lt-leb, eqb-true, cases_lt, cond-true, cond-false, cond_both, and_from, and_left, and_right, cases_Bool}
+use Rattle.std.proofs.lemmas.Bool.{le-leb, lt-leb, eqb-true, cases_lt, cond-true, cond-false, cond_both, and_from, and_left, and_right, cases_Bool, or_parts}
 use Rattle.std.proofs.lemmas.Str.{len_utf8_bounds}
 use Rattle.std.proofs.lemmas.List.Folds.{list_any-append}
 use Rattle.std.specs.Char.{len_utf8}
@@ -196,11 +196,16 @@ pub unit_length : (x r : Text) (newline : Bool) → IsUnit x r newline → newli
 unit_length _ _ _ (cr_lf {r = r}) e = absurd (cc e)
 unit_length _ _ _ (one {c = c} {r = r} {newline = newline} plain class) e = refl
 
-pub first_line_newline : (x r : Text) (newline : Bool) → IsUnit x r newline → newline ≡ true → first_line (x ++ r) ≡ []
-unfolding is_newline_char
-first_line_newline _ _ _ (cr_lf {r = r}) e = refl
-first_line_newline _ _ _ (one {c = c} {r = r} {newline = newline} plain class) e = cond-true _ _ _ (class ∙ e)
+-- the last line of a text has no newline
+pub last_line_single : (t : Text) → list_any is_newline_char (last_line t) ≡ false
+last_line_single [] = refl
+last_line_single (c ∷ s) = elim (cases_Bool (list_any is_newline_char (c ∷ s))) [
+  | inl does ↦ ap (list_any is_newline_char) (cond-true _ _ _ does) ∙ last_line_single s
+  | inr none ↦ ap (list_any is_newline_char) (cond-false _ _ _ none) ∙ none
+]
 
-pub first_line_plain : (x r : Text) (newline : Bool) → IsUnit x r newline → newline ≡ false → first_line (x ++ r) ≡ x ++ first_line r
-first_line_plain _ _ _ (cr_lf {r = r}) e = absurd (cc e)
-first_line_plain _ _ _ (one {c = c} {r = r} {newline = newline} plain class) e = cond-false _ _ _ (class ∙ e)
+pub first_line_single : (x y : Text) → list_any is_newline_char x ≡ false → first_line (x ++ y) ≡ x ++ first_line y
+first_line_single [] y h = refl
+first_line_single (c ∷ x) y h =
+    let parts = or_parts (is_newline_char c) (list_any is_newline_char x) h in
+    cond-false _ _ _ parts.0 ∙ ap (λ z. c ∷ z) (first_line_single x y parts.1)

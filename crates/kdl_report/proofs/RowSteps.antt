@@ -1,5 +1,5 @@
 -- The lines that are shown for a span: what two spots have of them.
-use Rattle.std.proofs.Common.{◌≡◌, ℕ, suc, ◌+◌, ◌-◌, ◌^◌, ◌<◌, ◌≤◌, true, ◌&&◌, nat_lt, min, [], ◌∷◌, ◌++◌, chars, length, refl, sym, ap, ◌∙◌, subst, arith, inl, inr}
+use Rattle.std.proofs.Common.{◌≡◌, ℕ, suc, ◌+◌, ◌-◌, ◌^◌, ◌<◌, ◌≤◌, true, ◌&&◌, nat_lt, min, [], ◌∷◌, ◌++◌, chars, length, refl, sym, ap, ◌∙◌, subst, append-nil, arith, inl, inr}
 use Rattle.std.proofs.lemmas.Bool.{cases_lt, cond_both, and_parts}
 use Rattle.std.proofs.lemmas.List.{append_cancel_right}
 use Rattle.std.proofs.lemmas.Str.{len_utf8_bounds}
@@ -11,7 +11,7 @@ use Rattle.kdl_text.specs.declared.span.SourceSpan.{SourceSpan}
 use Rattle.kdl_report.specs.Rows.{Row, end_of, first_row, has_last_row, last_row}
 use Rattle.kdl_report.specs.Spots.{IsSpotAt, spot_text}
 use Rattle.kdl_report.specs.declared.places.Spot.{Spot}
-use Rattle.kdl_report.proofs.PlaceSteps.{before-from, before_fits, before_stops, from_fits, from_stops}
+use Rattle.kdl_report.proofs.PlaceSteps.{before-from, before_fits, before_stops, first_line_single, from_fits, from_stops, last_line_single}
 
 pub spot_line : (n : ℕ) (t : Text) (s : Spot) → IsSpotAt n t s → s.line ≡ line_number n t
 spot_line n t s is = is.is.line ∙ ap (λ z. line_number s.at z) is.text ∙ ap (λ z. suc (newlines z)) is.before
@@ -74,22 +74,19 @@ between_splits m n (c ∷ s) h = elim (cases_lt m (first_bytes c s)) [
       (between_splits (m - len_utf8 c) (n - len_utf8 c) s (omega arith))
 ]
 
--- a start, and an end that is sought from there
+-- a start and an end
 pub record Ends (span : SourceSpan) (e : ℕ) (t : Text) (a b : Spot) : Type 0 where
   pub starts : IsSpotAt span.offset t a
-  pub ends : IsSpotAt e (spot_text a) b
+  pub ends : IsSpotAt e t b
   pub cap : e ≡ min (end_of span) (2 ^ 64 - 1)
 
 pub end_at : (span : SourceSpan) (e : ℕ) (t : Text) (a b : Spot) → Ends span e t a b → SamePlace e (end_of span) t
 end_at span e t a b is = capped e (end_of span) t (subst (λ z. bytes z < 2 ^ 63) is.starts.text is.starts.is.small) is.cap
 
-pub end_spot : (span : SourceSpan) (e : ℕ) (t : Text) (a b : Spot) → Ends span e t a b → IsSpotAt e t b
-end_spot span e t a b is = subst (λ z. IsSpotAt e z b) is.starts.text is.ends
-
 pub rest_splits : (span : SourceSpan) (e : ℕ) (t : Text) (a b : Spot) → Ends span e t a b → chars a.rest.now ≡ between span.offset (end_of span) t ++ chars b.rest.now
 rest_splits span e t a b is =
     let same = end_at span e t a b is in
-    let tail : from (end_of span) t ≡ chars b.rest.now = sym same.back ∙ sym (spot_rest e t b (end_spot span e t a b is)) in
+    let tail : from (end_of span) t ≡ chars b.rest.now = sym same.back ∙ sym (spot_rest e t b is.ends) in
     spot_rest span.offset t a is.starts ∙ between_splits span.offset (end_of span) t (omega arith) ∙ ap (λ z. between span.offset (end_of span) t ++ z) tail
 
 -- ---- the rows
@@ -100,25 +97,31 @@ row number line left marked = record { number = number; line = line; left = left
 same_row : (m n : ℕ) (a b c d e f : Text) → m ≡ n → a ≡ b → c ≡ d → e ≡ f → row m a c e ≡ row n b d f
 same_row m n a b c d e f p q r s = rw (p, q, r, s) refl
 
-pub first_row_is : (span : SourceSpan) (e : ℕ) (t : Text) (a b : Spot) (line left piece marked : Text) → Ends span e t a b → line ≡ line_at a.at (spot_text a) → left ≡ last_line (before a.at (spot_text a)) → chars a.rest.now ≡ piece ++ chars b.rest.now → marked ≡ first_line piece → row a.line line left marked ≡ first_row span t
-first_row_is span e t a b line left piece marked is is_line is_left cut is_marked =
+pub first_row_is : (span : SourceSpan) (e : ℕ) (t : Text) (a b : Spot) (left piece : Text) → Ends span e t a b → left ≡ last_line (before a.at (spot_text a)) → chars a.rest.now ≡ piece ++ chars b.rest.now
+    → row a.line (left ++ first_line (chars a.rest.now)) left (first_line piece) ≡ first_row span t
+first_row_is span e t a b left piece is is_left cut =
     let s = is.starts in
     let whole : piece ≡ between span.offset (end_of span) t = append_cancel_right piece (between span.offset (end_of span) t) (chars b.rest.now) (sym cut ∙ rest_splits span e t a b is) in
-    same_row _ _ _ _ _ _ _ _ (spot_line span.offset t a s) (is_line ∙ spot_line_at span.offset t a s) (is_left ∙ spot_left span.offset t a s) (is_marked ∙ ap first_line whole)
+    let so : left ≡ last_line (before span.offset t) = is_left ∙ spot_left span.offset t a s in
+    let line : left ++ first_line (chars a.rest.now) ≡ line_at span.offset t = ap (λ z. z ++ first_line (chars a.rest.now)) so ∙ ap (λ z. last_line (before span.offset t) ++ first_line z) (spot_rest span.offset t a s) in
+    same_row _ _ _ _ _ _ _ _ (spot_line span.offset t a s) line so (ap first_line whole)
 
-pub last_row_is : (span : SourceSpan) (e : ℕ) (t : Text) (a b : Spot) (line left marked : Text) → Ends span e t a b → line ≡ line_at b.at (spot_text b) → left ≡ [] → marked ≡ last_line (before b.at (spot_text b)) → row b.line line left marked ≡ last_row span t
-last_row_is span e t a b line left marked is is_line is_left is_marked =
-    let s = end_spot span e t a b is in
+pub last_row_is : (span : SourceSpan) (e : ℕ) (t : Text) (a b : Spot) (none left : Text) → Ends span e t a b → none ≡ [] → left ≡ last_line (before b.at (spot_text b))
+    → row b.line (none ++ first_line (chars b.line_text.now)) none (first_line left) ≡ last_row span t
+last_row_is span e t a b none left is is_none is_left =
+    let s = is.ends in
     let same = end_at span e t a b is in
-    same_row _ _ _ _ _ _ _ _
-    (spot_line e t b s ∙ ap (λ z. suc (newlines z)) same.front)
-    (is_line ∙ spot_line_at e t b s ∙ rw (same.front, same.back) refl)
-    is_left
-    (is_marked ∙ spot_left e t b s ∙ ap last_line same.front)
+    let last = last_line (before b.at (spot_text b)) in
+    let single = last_line_single (before b.at (spot_text b)) in
+    let line : none ++ first_line (chars b.line_text.now) ≡ line_at (end_of span) t =
+    ap (λ z. z ++ first_line (chars b.line_text.now)) is_none ∙ ap first_line s.is.line_text ∙ first_line_single last (from b.at (spot_text b)) single ∙ spot_line_at e t b s ∙ rw (same.front, same.back) refl in
+    let mark : first_line left ≡ last_line (before (end_of span) t) =
+    ap first_line (is_left ∙ sym (append-nil last)) ∙ first_line_single last [] single ∙ append-nil last ∙ spot_left e t b s ∙ ap last_line same.front in
+    same_row _ _ _ _ _ _ _ _ (spot_line e t b s ∙ ap (λ z. suc (newlines z)) same.front) line is_none mark
 
 pub goes_on_is : (span : SourceSpan) (e : ℕ) (t : Text) (a b : Spot) → Ends span e t a b → (nat_lt a.line b.line && nat_lt 1 b.column) ≡ has_last_row span t
 goes_on_is span e t a b is =
-    let s = end_spot span e t a b is in
+    let s = is.ends in
     let same = end_at span e t a b is in
     let line : b.line ≡ line_number (end_of span) t = spot_line e t b s ∙ ap (λ z. suc (newlines z)) same.front in
     let last : b.column ≡ column (end_of span) t = spot_column e t b s ∙ ap (λ z. suc (length (last_line z))) same.front in

@@ -6,6 +6,8 @@ pub mod Rows
 pub mod Spots
 -- How text is shown in a terminal.
 pub mod Shown
+-- The part of a line that is shown.
+pub mod Windows
 -- What a diagnostic says.
 pub mod Said
 -- The hint on a fault.

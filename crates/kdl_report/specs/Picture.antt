@@ -4,12 +4,12 @@ use Rattle.kdl_text.specs.Chars.{Text, times}
 use Rattle.kdl_text.specs.declared.error.KdlDiagnostic.{KdlDiagnostic}
 use Rattle.kdl_text.specs.declared.span.Severity.{Severity}
 use Rattle.kdl_text.specs.declared.span.Severity.TheVariants.{Advice, Warning, Error}
-use Rattle.kdl_text.specs.declared.span.SourceSpan.{SourceSpan}
 use Rattle.kdl_report.specs.declared.places.Place.{Place}
 use Rattle.kdl_report.specs.Places.{column, line_number}
-use Rattle.kdl_report.specs.Rows.{Row, first_row, has_last_row, last_row}
+use Rattle.kdl_report.specs.Rows.{Row}
 use Rattle.kdl_report.specs.Said.{label_of, message_of, optional, word_of}
 use Rattle.kdl_report.specs.Shown.{carets, columns, shown}
+use Rattle.kdl_report.specs.Windows.{first_shown, last_shown}
 
 -- an escape that sets a style of the terminal, if the picture has colours
 abbrev pub paint : Bool → List ℕ → Text
@@ -82,10 +82,6 @@ marked_line color w severity row label = source_line color w row ++ caret_line c
 abbrev pub gap : Row → Row → Text
 gap first last = if nat_lt 1 (last.number - first.number) then chars (codes "...\n") else []
 
--- the line in which the span ends, if it is shown
-abbrev pub row_after : SourceSpan → Text → Option Row
-row_after span t = if has_last_row span t then Some (last_row span t) else None
-
 -- the line in which the span begins, and that in which it ends; the label is at the last mark
 abbrev pub marked_lines : Bool → ℕ → KdlDiagnostic → Row → Option Row → Text
 marked_lines color w fault first None = marked_line color w fault.severity first (label_of fault)
@@ -111,11 +107,11 @@ notes color w help hint =
 abbrev pub drawn : Bool → ℕ → Text → Text → KdlDiagnostic → Option Text → Text
 drawn color w name t fault hint =
     head color fault ++ arrow color w name (place_at fault.span.offset t) ++ empty_line color w
-    ++ marked_lines color w fault (first_row fault.span t) (row_after fault.span t) ++ notes color w (optional fault.help) hint
+    ++ marked_lines color w fault (first_shown fault.span t) (last_shown fault.span t) ++ notes color w (optional fault.help) hint
 
 -- the picture of a fault in the text t of the file with that name
 unfoldable pub picture : Bool → Text → Text → KdlDiagnostic → Option Text → Text
-picture color name t fault hint = drawn color (margin_width (first_row fault.span t) (row_after fault.span t)) name t fault hint
+picture color name t fault hint = drawn color (margin_width (first_shown fault.span t) (last_shown fault.span t)) name t fault hint
 
 -- `: a label`
 abbrev pub labelled : Option Text → Text

@@ -1,11 +1,13 @@
 -- A place that is reached from left to right. Only contracts of private functions mention these definitions.
-use Rattle.std.specs.Prelude.{◌≡◌, ℕ, ◌^◌, ◌<◌, ◌≤◌, Bool, true, false, [], ◌∷◌, ◌++◌, chars}
+use Rattle.std.specs.Prelude.{◌≡◌, ℕ, ◌^◌, ◌<◌, ◌≤◌, Bool, true, false, List, [], ◌∷◌, ◌++◌, chars}
+use Rattle.std.specs.Prelude.{encode_utf8}
 use Rattle.std.specs.Str.{IsUtf8}
 use Rattle.kdl_text.specs.Chars.{Text, is_newline_char}
 use Rattle.kdl_text.specs.Spans.{bytes}
 use Rattle.kdl_report.specs.Places.{is_cr_lf, before, from, last_line, line_number, column}
 use Rattle.kdl_report.specs.Rows.{Row}
-use Rattle.kdl_report.specs.declared.places.Excerpt.{Excerpt}
+use Rattle.kdl_report.specs.Windows.{room}
+use Rattle.kdl_report.specs.declared.window.Excerpt.{Excerpt}
 use Rattle.kdl_report.specs.declared.places.Spot.{Spot}
 use Rattle.kdl_report.specs.declared.places.Unit.{Unit as UnitRow}
 
@@ -54,5 +56,34 @@ pub record IsNext (n : ℕ) (old new : Spot) : Type 0 where
   pub further : old.at < new.at
   pub within : new.at ≤ n
 
+-- the line at the front of the text t goes on with a character that has room in n columns: its room, and the text after it
+pub record TakesFirst (n : ℕ) (t : Text) (size : ℕ) (rest : List ℕ) : Type 0 where
+  pub c : ℕ
+  pub whole : t ≡ c ∷ chars rest
+  pub plain : is_newline_char c ≡ false
+  pub columns : room c ≡ size
+  pub fits : size ≤ n
+  pub utf8 : IsUtf8 rest
+
+-- the text ends with a character that has room in n columns: its room, and the text before it
+pub record TakesLast (n : ℕ) (text : List ℕ) (size : ℕ) (rest : List ℕ) : Type 0 where
+  pub c : ℕ
+  pub bytes : text ≡ rest ++ encode_utf8 c
+  pub whole : chars text ≡ chars rest ++ c ∷ []
+  pub columns : room c ≡ size
+  pub fits : size ≤ n
+  pub utf8 : IsUtf8 rest
+
+-- the text is empty, or ends with a character that has no room in n columns
+pub data HasNoRoom (n : ℕ) : Text → Type 0 where
+  empty : HasNoRoom n []
+  full : (t : Text) (c : ℕ) → n < room c → HasNoRoom n (t ++ c ∷ [])
+
+-- what is shown of a line, and what is marked there
 abbrev pub excerpt_row : Excerpt → Row
-excerpt_row e = record { number = e.number; line = chars e.line.now; left = chars e.left.now; marked = chars e.marked.now }
+excerpt_row e = record {
+  number = e.number;
+  line = (chars e.before.now ++ chars e.left.now) ++ (chars e.right.now ++ chars e.after.now);
+  left = chars e.before.now ++ chars e.left.now;
+  marked = chars e.marked.now;
+}

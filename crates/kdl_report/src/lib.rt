@@ -38,6 +38,7 @@ mod picture;
 mod places;
 mod script;
 mod shown;
+mod window;
 mod words;
 
 pub use diff::unified;

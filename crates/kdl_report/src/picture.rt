@@ -5,13 +5,14 @@ ghost use Rattle.kdl_report.specs.Picture as picture;
 ghost use Rattle.kdl_report.specs.Picture.{arrow, caret_line, empty_line, gap, head, location, marked_line, marked_lines, notes, paint, source_line, spaced};
 ghost use Rattle.kdl_report.specs.Shown.{Appends, text_of};
 ghost use Rattle.kdl_report.specs.Spots.{excerpt_row};
-ghost use Rattle.std.specs.Prelude.{◌≡◌, IfOk, None, chars, option_map};
+ghost use Rattle.std.specs.Prelude.{◌≡◌, ◌==◌, ◌++◌, IfOk, None, chars, length, option_map};
 
 use crate::hints::hint_on;
-use crate::places::{Excerpt, Lines, Place};
+use crate::places::{Lines, Place};
 use crate::shown::{
     digits, put, put_carets, put_char, put_columns, put_number, put_shown, put_times,
 };
+use crate::window::Excerpt;
 use crate::words::{label_of, message_of, optional, word_of};
 use kdl_text::error::KdlDiagnostic;
 use kdl_text::span::Severity;
@@ -35,8 +36,9 @@ struct Margin {
 
 /// Draws a fault of the text, in lines that each end with a newline.
 ///
-/// It shows the line in which the span begins and, if it ends in another one, that line too. Carets mark the characters
-/// of the span in them, and an empty span by one caret. A tab is shown as four spaces, and a control character, like any
+/// It shows the line in which the span begins and, if it ends in another one, that line too: at most 200 columns around
+/// the start of the span, with `…` where the line is cut. Carets mark the characters of the span in them, and an empty
+/// span by one caret. A tab is shown as four spaces, and a control character, like any
 /// other that KDL bans, as U+FFFD, in the text, the name and the messages. Columns are those of `unicode_width`, by
 /// character. The help of the diagnostic and a `hint` follow. With `color`, the picture has escapes for a terminal.
 pub fn render(
@@ -191,6 +193,34 @@ fn put_spaced(out: &mut String, text: &str) -> Result<(), AllocError>
     put_shown(out, text)
 }
 
+/// Appends what is shown of a line after a space, and nothing for an empty line.
+fn put_line(out: &mut String, excerpt: &Excerpt<'_>) -> Result<(), AllocError>
+    ensures { Appends result out.old out.new (spaced (excerpt_row excerpt.now).line) }
+{
+    if is_blank(excerpt) {
+        return Ok(());
+    }
+    put_char(out, ' ')?;
+    put_shown(out, excerpt.before)?;
+    put_shown(out, excerpt.left)?;
+    put_shown(out, excerpt.right)?;
+    put_shown(out, excerpt.after)
+}
+
+/// Whether nothing is shown of a line.
+fn is_blank(excerpt: &Excerpt<'_>) -> bool
+    ensures { result ≡ (length (excerpt_row excerpt.now).line == 0) }
+{
+    are_empty(excerpt.before, excerpt.left) & are_empty(excerpt.right, excerpt.after)
+}
+
+/// Whether both texts are empty.
+fn are_empty(a: &str, b: &str) -> bool
+    ensures { result ≡ (length (chars a.now ++ chars b.now) == 0) }
+{
+    a.is_empty() & b.is_empty()
+}
+
 /// Appends a line of the text, with its number.
 fn put_source(out: &mut String, margin: Margin, excerpt: &Excerpt<'_>) -> Result<(), AllocError>
     ensures { Appends result out.old out.new (source_line margin.color margin.width (excerpt_row excerpt.now)) }
@@ -201,7 +231,7 @@ fn put_source(out: &mut String, margin: Margin, excerpt: &Excerpt<'_>) -> Result
     put_times(out, blanks, ' ')?;
     put(out, " |")?;
     put_paint(out, margin.color, PLAIN)?;
-    put_spaced(out, excerpt.line)?;
+    put_line(out, excerpt)?;
     put_char(out, '\n')
 }
 
@@ -218,6 +248,7 @@ fn put_marks(
 {
     put_margin(out, margin, '|')?;
     put_char(out, ' ')?;
+    let _ = put_columns(out, excerpt.before, ' ')?;
     let _ = put_columns(out, excerpt.left, ' ')?;
     put_paint(out, margin.color, style_of(severity))?;
     put_carets(out, excerpt.marked)?;

@@ -5,12 +5,12 @@
 
 ghost use Rattle.kdl_text.specs.Chars.{Text, begins};
 ghost use Rattle.kdl_report.specs.Spots.{BeginsWith, IsNext, IsSpot, IsSpotAt, IsSpotOf, excerpt_row, spot_text};
-ghost use Rattle.kdl_report.specs.Places as places;
-ghost use Rattle.kdl_report.specs.Places.{before, column, from, last_line, line_at, line_number};
-ghost use Rattle.kdl_report.specs.Rows.{first_row, has_last_row, last_row};
-ghost use Rattle.std.specs.Prelude.{◌≡◌, ◌-◌, ◌≤◌, ◌++◌, ◌∷◌, [], false, chars, nat_lt, ◌&&◌, option_map, if◌then◌else◌, IfOk, IfSome, MatchOption};
+ghost use Rattle.kdl_report.specs.Places.{before, column, from, last_line, line_number};
+ghost use Rattle.kdl_report.specs.Windows.{first_shown, last_shown};
+ghost use Rattle.std.specs.Prelude.{◌≡◌, ◌-◌, ◌≤◌, ◌++◌, ◌∷◌, [], false, chars, nat_lt, ◌&&◌, option_map, IfOk, IfSome, MatchOption};
 ghost use Rattle.std.specs.Str.{IsUtf8};
 
+use crate::window::{Excerpt, excerpt_of};
 use kdl_text::chars::is_newline_char;
 use kdl_text::span::SourceSpan;
 use std::alloc::{AllocError, Global};
@@ -100,20 +100,6 @@ pub(crate) fn cut<'a>(text: &'a str, rest: &str) -> &'a str
     &text[..text.len() - rest.len()]
 }
 
-/// The text from its first newline on.
-fn after_line(text: &str) -> &str
-    ensures { chars text.now ≡ places.first_line (chars text.now) ++ chars result.now }
-{
-    let mut rest = text;
-    while let Some(unit) = first_unit(rest) {
-        if unit.is_newline {
-            break;
-        }
-        rest = unit.rest;
-    }
-    rest
-}
-
 /// The spot at the start of the text.
 fn start(text: &str) -> Spot<'_>
     ensures { IsSpotAt 0 (chars text.now) result }
@@ -174,22 +160,12 @@ pub(crate) fn rest_at(text: &str, offset: usize) -> &str
     seek(start(text), offset).rest
 }
 
-/// The line of the spot, and the part of it before the spot.
-fn line_and_left<'a>(spot: &Spot<'a>) -> (&'a str, &'a str)
+/// The part of the spot's line before the spot.
+fn left_of<'a>(spot: &Spot<'a>) -> &'a str
     requires { IsSpot spot.now }
-    ensures line { chars result.0.now ≡ line_at spot.now.at (spot_text spot.now) }
-    ensures left { chars result.1.now ≡ last_line (before spot.now.at (spot_text spot.now)) }
+    ensures { chars result.now ≡ last_line (before spot.now.at (spot_text spot.now)) }
 {
-    let line = cut(spot.line_text, after_line(spot.rest));
-    let left = cut(spot.line_text, spot.rest);
-    (line, left)
-}
-
-/// The front of the text before its first newline.
-fn first_line(text: &str) -> &str
-    ensures { chars result.now ≡ places.first_line (chars text.now) }
-{
-    cut(text, after_line(text))
+    cut(spot.line_text, spot.rest)
 }
 
 /// Whether the end is in a later line than the start, and not at its start.
@@ -197,17 +173,6 @@ fn goes_on(start: &Spot<'_>, end: &Spot<'_>) -> bool
     ensures { result ≡ (nat_lt start.now.line end.now.line && nat_lt 1 end.now.column) }
 {
     start.line < end.line && 1 < end.column
-}
-
-/// A line of a text, and the part of it that a span marks.
-#[derive(Clone, Copy)]
-pub(crate) struct Excerpt<'a> {
-    /// The number of the line, from 1.
-    pub(crate) number: usize,
-    pub(crate) line: &'a str,
-    /// The part of the line before the marked one.
-    pub(crate) left: &'a str,
-    pub(crate) marked: &'a str,
 }
 
 /// How many bytes lie between two kept spots.
@@ -246,13 +211,6 @@ impl<'a> Lines<'a> {
             spots.push(spot)?;
         }
         Ok(Lines { text, spots })
-    }
-
-    /// Returns the text.
-    pub fn text(&self) -> &'a str
-        ensures { chars result.now ≡ self.now }
-    {
-        self.text
     }
 
     /// Returns the line and the column of a byte of the text. An offset inside a character or a CR LF counts as its
@@ -297,31 +255,19 @@ impl<'a> Lines<'a> {
         }
     }
 
-    /// The line in which the span begins, and that in which it ends if it is a later one.
+    /// What is shown of the line in which the span begins, and of that in which it ends if it is a later one.
     pub(crate) fn excerpts(&self, span: SourceSpan) -> (Excerpt<'a>, Option<Excerpt<'a>>)
-        ensures first { excerpt_row result.0 ≡ first_row span self.now }
-        ensures last { option_map excerpt_row result.1
-            ≡ (if has_last_row span self.now then Some (last_row span self.now) else None) }
+        ensures first { excerpt_row result.0 ≡ first_shown span self.now }
+        ensures last { option_map excerpt_row result.1 ≡ last_shown span self.now }
     {
         let start = self.seek(span.offset);
-        let end = seek(start, span.offset.saturating_add(span.len));
-        let (line, left) = line_and_left(&start);
-        let first = Excerpt {
-            number: start.line,
-            line,
-            left,
-            marked: first_line(cut(start.rest, end.rest)),
-        };
+        let end = self.seek(span.offset.saturating_add(span.len));
+        let marked = cut(start.rest, end.rest);
+        let first = excerpt_of(start.line, left_of(&start), start.rest, marked);
         if !goes_on(&start, &end) {
             return (first, None);
         }
-        let (line, marked) = line_and_left(&end);
-        let last = Excerpt {
-            number: end.line,
-            line,
-            left: "",
-            marked,
-        };
+        let last = excerpt_of(end.line, "", end.line_text, left_of(&end));
         (first, Some(last))
     }
 }

@@ -1,6 +1,7 @@
 //! How text is shown in a terminal, and how many columns it takes there.
 
 ghost use Rattle.kdl_report.specs.Shown.{Appends, carets, columns, is_hidden, shown, shown_char, visible};
+ghost use Rattle.kdl_report.specs.Windows.{room};
 ghost use Rattle.kdl_text.specs.Chars.{times};
 ghost use Rattle.std.specs.Prelude.{◌≡◌, ◌==◌, ◌≤◌, ◌∷◌, [], IfOk, chars, decimal, length};
 
@@ -39,6 +40,13 @@ fn columns_of(c: char) -> usize
         return TAB_COLUMNS;
     }
     visible(c).width().unwrap_or(0)
+}
+
+/// The columns that a character takes in a line that is cut: at least one.
+pub(crate) fn room_of(c: char) -> usize
+    ensures { result ≡ room c }
+{
+    columns_of(c).max(1)
 }
 
 /// Appends the text as it is.

@@ -3,7 +3,7 @@ use Rattle.std.proofs.lemmas.Str.{chars-nil}
 use Rattle.kdl_report.specs.Picture.{marked_line, marked_lines}
 use Rattle.kdl_report.specs.Shown.{Appends}
 use Rattle.kdl_report.specs.Spots.{excerpt_row}
-use Rattle.kdl_report.specs.declared.places.Excerpt.{Excerpt}
+use Rattle.kdl_report.specs.declared.window.Excerpt.{Excerpt}
 use Rattle.kdl_report.proofs.Appended.{and_last, and_then, as_last, as_piece}
 use Rattle.kdl_report.proofs.picture.put_excerpts.Goals as goal
 

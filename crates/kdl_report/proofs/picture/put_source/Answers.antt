@@ -10,5 +10,5 @@ returns c =
     let b = and_then _ _ _ _ _ a (as_piece _ _ _ _ c.in_ok-put_times.ensures (ap (λ z. times z 32) blanks)) in
     let d = and_then _ _ _ _ _ b c.in_ok-put.ensures in
     let e = and_then _ _ _ _ _ d c.in_ok-put_paint-2.ensures in
-    let f = and_then _ _ _ _ _ e c.in_ok-put_spaced.ensures in
+    let f = and_then _ _ _ _ _ e c.in_ok-put_line.ensures in
     and_last c.put_char.result _ _ _ _ _ f c.put_char.ensures

@@ -1,6 +1,0 @@
-use Rattle.std.proofs.Common.{sym, ◌∙◌}
-use Rattle.std.proofs.lemmas.List.{append_cancel_right}
-use Rattle.kdl_report.proofs.places.first_line.Goals as goal
-
-pub returns : goal.returns
-returns c = append_cancel_right _ _ _ (sym c.cut.ensures ∙ c.after_line.ensures)

@@ -1,0 +1,11 @@
+use Rattle.std.proofs.Common.{chars, length}
+use denote.Text.{Utf8}
+use denote.Shadow.{shadow}
+use Rattle.kdl_report.proofs.WindowSteps.{FrontSoFar}
+use Rattle.kdl_report.proofs.window.front.Given as goal
+
+abbrev pub invariant-loop-room : goal.invariant-loop-room
+invariant-loop-room l = shadow (Utf8 l.rest) × FrontSoFar l.columns (chars l.text) (chars l.rest) l.taken
+
+abbrev pub decreases-loop-room : goal.decreases-loop-room
+decreases-loop-room l = length (chars l.rest)
