@@ -108,8 +108,8 @@ uint32_t kdl_print(struct kdl_document *document, uint8_t *out, size_t room, siz
 
 /* Lays the document out, with its comments and without empty lines. Its data do not change, and the
  * text that it then prints has its data. If an allocation fails, a part of the document may already
- * be laid out; if the text that it printed had its data, that still has. A document without nodes
- * gets one newline after its comments. */
+ * be laid out; if each piece of the text that it printed was read as that piece, as after kdl_parse,
+ * that is still so. A document without nodes gets one newline after its comments. */
 uint32_t kdl_format(struct kdl_document *document);
 
 /* Lays the document out, without its comments. Two documents then print the same text if and only
