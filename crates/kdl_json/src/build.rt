@@ -6,8 +6,8 @@ ghost use Rattle.kdl_grammar.specs.Data.{no_children, node};
 ghost use Rattle.kdl_json.specs.Heads.{with_block, with_more};
 ghost use Rattle.kdl_json.specs.Reading.{EntryKeepsNoForm};
 ghost use Rattle.kdl_json.specs.Values.{IsFloatOf, IsNumberOf, IsTextOf};
-ghost use Rattle.kdl_json.specs.declared.failure.JsonFailure.TheVariants.{Memory};
-ghost use Rattle.std.specs.Prelude.{◌≡◌, [], ◌∷◌, ◌++◌, IfOk, MatchResult, option_map};
+ghost use Rattle.kdl_json.specs.declared.failure.JsonFailure.TheVariants.{Memory, Unexpected};
+ghost use Rattle.std.specs.Prelude.{◌≡◌, ◌⊎◌, [], ◌∷◌, ◌++◌, IfErr, IfOk, MatchResult, option_map};
 ghost use Rattle.std.specs.Str.{encode_utf8_all};
 
 use crate::failure::{Expected, JsonFailure};
@@ -35,6 +35,7 @@ pub fn number_value(alloc: Global, text: &str, at: usize) -> Result<KdlValue, Js
     ensures written { IfOk result (λ v. IsNumberOf text.now (value_tree v)) }
     ensures found { (x : Value) → IsWellFormed x → IsNumberOf text.now x
         → MatchResult result (λ v. value_tree v ≡ x) (λ e. e ≡ Memory) }
+    ensures refused { IfErr result (λ e. (e ≡ Memory) ⊎ (e ≡ Unexpected at Expected.Number)) }
 {
     match number(alloc, text)? {
         Some(value) => Ok(value),
@@ -50,6 +51,7 @@ pub fn float_value(alloc: Global, text: &str, at: usize) -> Result<KdlValue, Jso
     ensures written { IfOk result (λ v. IsFloatOf text.now (value_tree v)) }
     ensures found { (x : Value) → IsWellFormed x → IsFloatOf text.now x
         → MatchResult result (λ v. value_tree v ≡ x) (λ e. e ≡ Memory) }
+    ensures refused { IfErr result (λ e. (e ≡ Memory) ⊎ (e ≡ Unexpected at Expected.Float)) }
 {
     match other_float(alloc, text)? {
         Some(value) => Ok(value),

@@ -3,6 +3,7 @@
 ghost use Rattle.json.specs.Reads.{token_of};
 ghost use Rattle.json.specs.Token.{Token as Spec, begin_array, begin_object, end_array, end_object, key, string};
 ghost use Rattle.kdl_json.specs.Reading.{left};
+ghost use Rattle.kdl_json.specs.declared.failure.JsonFailure.TheVariants.{Unexpected};
 ghost use Rattle.std.specs.Bool.{MatchBool};
 ghost use Rattle.std.specs.Prelude.{◌≡◌, ◌≢◌, [], ◌∷◌, List, MatchOption, MatchResult, ℕ};
 
@@ -40,12 +41,16 @@ impl<'a> Source<'a> {
     }
 
     /// Where the next token begins in the text, in bytes.
-    pub fn at(&self) -> usize {
+    pub fn at(&self) -> usize
+        ensures { result ≡ self.now.at }
+    {
         self.at
     }
 
     /// The failure that the next token is not what is expected.
-    pub fn unexpected(&self, expected: Expected) -> JsonFailure {
+    pub fn unexpected(&self, expected: Expected) -> JsonFailure
+        ensures { result ≡ Unexpected self.now.at expected }
+    {
         JsonFailure::Unexpected {
             at: self.at,
             expected,
@@ -71,7 +76,8 @@ impl<'a> Source<'a> {
     /// Takes a `[`.
     pub fn begin_array(&mut self, expected: Expected) -> Result<(), JsonFailure>
         ensures { MatchResult result (λ _. left self.old ≡ begin_array ∷ left self.new)
-            (λ _. (ts : List Spec) → left self.old ≢ begin_array ∷ ts) }
+            (λ e. (e ≡ Unexpected self.old.at expected)
+            × ((ts : List Spec) → left self.old ≢ begin_array ∷ ts)) }
     {
         match self.next {
             Some(Token::BeginArray) => {
@@ -100,7 +106,8 @@ impl<'a> Source<'a> {
     /// Takes a `{`.
     pub fn begin_object(&mut self, expected: Expected) -> Result<(), JsonFailure>
         ensures { MatchResult result (λ _. left self.old ≡ begin_object ∷ left self.new)
-            (λ _. (ts : List Spec) → left self.old ≢ begin_object ∷ ts) }
+            (λ e. (e ≡ Unexpected self.old.at expected)
+            × ((ts : List Spec) → left self.old ≢ begin_object ∷ ts)) }
     {
         match self.next {
             Some(Token::BeginObject) => {
@@ -114,7 +121,8 @@ impl<'a> Source<'a> {
     /// Takes a `}`.
     pub fn end_object(&mut self, expected: Expected) -> Result<(), JsonFailure>
         ensures { MatchResult result (λ _. left self.old ≡ end_object ∷ left self.new)
-            (λ _. (ts : List Spec) → left self.old ≢ end_object ∷ ts) }
+            (λ e. (e ≡ Unexpected self.old.at expected)
+            × ((ts : List Spec) → left self.old ≢ end_object ∷ ts)) }
     {
         match self.next {
             Some(Token::EndObject) => {
@@ -128,7 +136,8 @@ impl<'a> Source<'a> {
     /// Takes a string.
     pub fn string(&mut self, expected: Expected) -> Result<&'a str, JsonFailure>
         ensures { MatchResult result (λ s. left self.old ≡ string s.now ∷ left self.new)
-            (λ _. (s : List ℕ) (ts : List Spec) → left self.old ≢ string s ∷ ts) }
+            (λ e. (e ≡ Unexpected self.old.at expected)
+            × ((s : List ℕ) (ts : List Spec) → left self.old ≢ string s ∷ ts)) }
     {
         match self.next {
             Some(Token::String(text)) => {
@@ -141,7 +150,8 @@ impl<'a> Source<'a> {
 
     /// Fails unless all tokens were taken.
     pub fn end(&self) -> Result<(), JsonFailure>
-        ensures { MatchResult result (λ _. left self.now ≡ []) (λ _. left self.now ≢ []) }
+        ensures { MatchResult result (λ _. left self.now ≡ [])
+            (λ e. (e ≡ Unexpected self.now.at Expected.EndOfText) × (left self.now ≢ [])) }
     {
         match self.next {
             None => Ok(()),

@@ -30,7 +30,7 @@ same_entry x name ty value n t v =
     ap (λ (k : Option Text). entry_of k ty value) n ∙ ap (λ (u : Option Text). entry_of x.key u value) t ∙ ap (entry_of x.key x.ty) v
 
 pub returns-in_err-begin_object-clause-reads : goal.returns-in_err-begin_object-clause-reads
-returns-in_err-begin_object-clause-reads c = λ x rest w e. absurd (c.in_err-begin_object.ensures _ e)
+returns-in_err-begin_object-clause-reads c = λ x rest w e. absurd (c.in_err-begin_object.ensures.1 _ e)
 
 pub returns-in_err-name-clause-reads : goal.returns-in_err-name-clause-reads
 returns-in_err-name-clause-reads c = λ x rest w e.
@@ -61,7 +61,7 @@ returns-in_err-end_object-clause-reads c = λ x rest w e.
     let n = c.in_ok-name.ensures.reads x.key (typed x rest) (no_name x.ty (valued x rest)) (after_first c.in_ok-begin_object.ensures e) in
     let t = c.in_ok-ty.ensures.reads x.ty (keyed x rest) (other_key (codes "value") (codes "type") (valued x rest) type_value) n.1 in
     let v = c.in_ok-value.ensures.reads x.value (end_object ∷ rest) w.2 (after_first c.if-not-take_key.ensures t.1) in
-    absurd (c.in_err-end_object.ensures rest v.1)
+    absurd (c.in_err-end_object.ensures.1 rest v.1)
 
 pub returns-clause-reads : goal.returns-clause-reads
 returns-clause-reads c = λ x rest w e.

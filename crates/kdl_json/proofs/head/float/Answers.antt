@@ -17,7 +17,7 @@ returns-then-not-take_key-clause-reads c = λ x rest w e.
 pub returns-in_err-text-clause-reads : goal.returns-in_err-text-clause-reads
 returns-in_err-text-clause-reads c = λ x rest w e.
     let b = value_boxed x (left c.args.source.now) rest e in
-    absurd (c.in_err-text.ensures _ _ (after_first c.if-not-take_key.ensures b.rest))
+    absurd (c.in_err-text.ensures.1 _ _ (after_first c.if-not-take_key.ensures b.rest))
 
 pub returns-in_err-value-clause-reads : goal.returns-in_err-value-clause-reads
 returns-in_err-value-clause-reads c = λ x rest w e.
@@ -30,7 +30,7 @@ pub returns-in_err-end_object-clause-reads : goal.returns-in_err-end_object-clau
 returns-in_err-end_object-clause-reads c = λ x rest w e.
     let b = value_boxed x (left c.args.source.now) rest e in
     let s = same_string c.in_ok-text.ensures (after_first c.if-not-take_key.ensures b.rest) in
-    absurd (c.in_err-end_object.ensures rest s.1)
+    absurd (c.in_err-end_object.ensures.1 rest s.1)
 
 pub returns-clause-sound : goal.returns-clause-sound
 returns-clause-sound c =

@@ -23,7 +23,7 @@ abbrev keyed : List Entry → List Token → List Token
 keyed es rest = key (codes "entries") ∷ begin_array ∷ listed es rest
 
 pub returns-in_err-begin_object-clause-reads : goal.returns-in_err-begin_object-clause-reads
-returns-in_err-begin_object-clause-reads c = λ ty name es rest w e. absurd (c.in_err-begin_object.ensures _ e)
+returns-in_err-begin_object-clause-reads c = λ ty name es rest w e. absurd (c.in_err-begin_object.ensures.1 _ e)
 
 pub returns-in_err-node-clause-reads : goal.returns-in_err-node-clause-reads
 returns-in_err-node-clause-reads c = λ ty name es rest w e.
@@ -38,7 +38,7 @@ returns-then-not-take_key-clause-reads c = λ ty name es rest w e.
 pub returns-in_err-begin_array-clause-reads : goal.returns-in_err-begin_array-clause-reads
 returns-in_err-begin_array-clause-reads c = λ ty name es rest w e.
     let n = c.in_ok-node.ensures.reads ty name (keyed es rest) (other_key (codes "entries") (codes "type") _ type_entries) (after_first c.in_ok-begin_object.ensures e) in
-    absurd (c.in_err-begin_array.ensures _ (after_first c.if-not-take_key.ensures n.1))
+    absurd (c.in_err-begin_array.ensures.1 _ (after_first c.if-not-take_key.ensures n.1))
 
 -- a named node with the entries that were taken
 head_taken : (n m : Node) (old o a b d new : List Token) → old ≡ begin_object ∷ o → IsNamed n o a → a ≡ key (codes "entries") ∷ b → b ≡ begin_array ∷ d → HasTaken n m d (end_array ∷ new) → IsHead m old new

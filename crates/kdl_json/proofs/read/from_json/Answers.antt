@@ -11,7 +11,7 @@ use Rattle.kdl_json.proofs.Tokens.{after_first}
 use Rattle.kdl_json.proofs.read.from_json.Goals as goal
 
 pub returns-in_err-begin_array-clause-reads : goal.returns-in_err-begin_array-clause-reads
-returns-in_err-begin_array-clause-reads c = λ x fit e. absurd (c.in_err-begin_array.ensures _ (c.new-source.ensures ∙ c.in_ok-reader.ensures.ok ∙ e))
+returns-in_err-begin_array-clause-reads c = λ x fit e. absurd (c.in_err-begin_array.ensures.1 _ (c.new-source.ensures ∙ c.in_ok-reader.ensures.ok ∙ e))
 
 document_sound : (r : Result KdlDocument JsonFailure) (all ts : List Token) → all ≡ begin_array ∷ ts → IfOk r (λ d. ts ≡ nodes_tokens (document_says d) (end_array ∷ [])) → IfOk r (λ d. all ≡ document_tokens (document_says d))
 document_sound (Ok d) all ts s h = s ∙ ap (λ (us : List Token). begin_array ∷ us) h

@@ -27,7 +27,7 @@ returns-in_err-end-clause-reads c = λ x fit e.
     let now = left l.source in
     let gone : length l.open.items ≡ 0 = search rules in
     let h = subst (λ (fs : List Frame). Going fs acc now x []) (frames_none l.open.items gone) (l.invariant.reached.reads x fit e) in
-    absurd (c.in_err-end.ensures (ends acc now (left c.take_end_array.new.self) x [] c.if-take_end_array.ensures h).left)
+    absurd (c.in_err-end.ensures.1 (ends acc now (left c.take_end_array.new.self) x [] c.if-take_end_array.ensures h).left)
 
 pub returns-in_default-clause-sound : goal.returns-in_default-clause-sound
 returns-in_default-clause-sound c =
@@ -55,7 +55,7 @@ returns-in_err-end_object-clause-reads c = λ x fit e.
     let f = frame c.in-Some.field-0 in
     let h = subst (λ (fs : List Frame). Going fs acc now x []) (frames_push os l.open.items c.in-Some.field-0 c.in-Some.ensures.items) (l.invariant.reached.reads x fit e) in
     let i = innermost (frames os) (f ∷ []) acc now x [] h in
-    absurd (object_ends f acc now (left c.take_end_array.new.self) c.if-take_end_array.ensures c.in_err-end_object.ensures i.nodes i.rest i.is)
+    absurd (object_ends f acc now (left c.take_end_array.new.self) c.if-take_end_array.ensures c.in_err-end_object.ensures.1 i.nodes i.rest i.is)
 
 pub returns-in_err-nodes-clause-reads : goal.returns-in_err-nodes-clause-reads
 returns-in_err-nodes-clause-reads c = λ x fit e.
@@ -78,7 +78,7 @@ returns-in_err-begin_array-clause-reads c = λ x fit e.
     let mid = left c.head.new.source in
     let i = innermost_block (frames l.open.items) acc (left l.source) x [] (l.invariant.reached.reads x fit e) in
     let p = past acc n (left l.source) mid c.if-take_end_array.ensures.1 (λ ty name es rest w t. c.in_ok-node.ensures.reads ty name es rest w (c.if-take_end_array.ensures.0 ∙ t)) i.nodes i.rest i.is in
-    absurd (block_begins acc n mid (left c.take_key.new.self) c.if-take_key.ensures c.in_err-begin_array.ensures i.nodes i.rest p)
+    absurd (block_begins acc n mid (left c.take_key.new.self) c.if-take_key.ensures c.in_err-begin_array.ensures.1 i.nodes i.rest p)
 
 pub returns-in_err-end_object-2-clause-reads : goal.returns-in_err-end_object-2-clause-reads
 returns-in_err-end_object-2-clause-reads c = λ x fit e.
@@ -88,7 +88,7 @@ returns-in_err-end_object-2-clause-reads c = λ x fit e.
     let mid = left c.head.new.source in
     let i = innermost_block (frames l.open.items) acc (left l.source) x [] (l.invariant.reached.reads x fit e) in
     let p = past acc n (left l.source) mid c.if-take_end_array.ensures.1 (λ ty name es rest w t. c.in_ok-node.ensures.reads ty name es rest w (c.if-take_end_array.ensures.0 ∙ t)) i.nodes i.rest i.is in
-    absurd (node_ends acc n mid c.if-take_key.ensures.1 (λ ts t. c.in_err-end_object-2.ensures ts (c.if-take_key.ensures.0 ∙ t)) i.nodes i.rest p)
+    absurd (node_ends acc n mid c.if-take_key.ensures.1 (λ ts t. c.in_err-end_object-2.ensures.1 ts (c.if-take_key.ensures.0 ∙ t)) i.nodes i.rest p)
 
 pub returns-in_err-nodes-2-clause-reads : goal.returns-in_err-nodes-2-clause-reads
 returns-in_err-nodes-2-clause-reads c = λ x fit e.
