@@ -1,6 +1,6 @@
 //! Documents: parsing, freeing and printing.
 
-ghost use Rattle.kdl.specs.Words.{IsDocument, LaidDocument, Nodes, document_prints, document_says, document_tree};
+ghost use Rattle.kdl.specs.Words.{DocumentKeepsNoForm, DocumentReadsBack, IsDocument, LaidDocument, Nodes, document_prints, document_says, document_tree};
 ghost use Rattle.c_calls.specs.Answers.{IsAmong, printed_bytes};
 ghost use Rattle.std.specs.Prelude.{◌≡◌, ◌++◌, ◌<◌, ◌∷◌, [], IfSome, IsNone, IsSome, IsSomeAnd, None, drop, length};
 ghost use Rattle.std.specs.Str.{IsUtf8, chars};
@@ -24,6 +24,8 @@ pub extern "C" fn kdl_parse(alloc: Global, text: &[u8], document: &mut Handle) -
         LaidDocument (document_tree d) (chars text.now)) }
     ensures prints { result ≡ 0 → IfSome document.new.held.document (λ d.
         document_prints d ≡ chars text.now) }
+    ensures keeps_none { result ≡ 0 → IfSome document.new.held.document DocumentKeepsNoForm }
+    ensures reads { result ≡ 0 → IfSome document.new.held.document DocumentReadsBack }
     ensures utf8 { result ≡ 2 → IsUtf8 text.now → ⊥ }
     ensures refused { result ≡ 1 → (x : Nodes) → IsDocument (chars text.now) x → ⊥ }
     ensures kept { (result ≡ 0 → ⊥) → document.new.held.document ≡ document.old.held.document }

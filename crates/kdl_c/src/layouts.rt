@@ -14,7 +14,7 @@ use kdl::KdlDocument;
 use std::alloc::Global;
 
 /// Lays the document out, with its comments. Its data do not change. If an allocation fails, a part of the document may
-/// already be laid out. It still prints a text with the same data if it did before.
+/// already be laid out. It still reads back if it did before.
 #[unsafe(no_mangle)]
 pub extern "C" fn kdl_format(alloc: Global, document: &mut Handle) -> u32
     ensures data { Each (λ d e. document_says e ≡ document_says d)
@@ -42,7 +42,7 @@ pub extern "C" fn kdl_format(alloc: Global, document: &mut Handle) -> u32
 }
 
 /// Lays the document out, without its comments. Its data do not change. If an allocation fails, a part of the document
-/// may already be laid out. It still prints a text with the same data if it did before.
+/// may already be laid out. It still reads back if it did before.
 #[unsafe(no_mangle)]
 pub extern "C" fn kdl_strip(alloc: Global, document: &mut Handle) -> u32
     ensures data { Each (λ d e. document_says e ≡ document_says d)
@@ -69,7 +69,7 @@ pub extern "C" fn kdl_strip(alloc: Global, document: &mut Handle) -> u32
 
 /// Lays the document out with the indent once for each level. Its data do not change. Returns `FAULTS` if the indent has
 /// another character than the spaces of KDL. If an allocation fails, a part of the document may already be laid out. It
-/// still prints a text with the same data if it did before.
+/// still reads back if it did before.
 #[unsafe(no_mangle)]
 pub extern "C" fn kdl_layout(
     alloc: Global,
