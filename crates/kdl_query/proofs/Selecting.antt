@@ -9,11 +9,10 @@ use Rattle.kdl_text.specs.Chars.{Text, begins, begins_two}
 use Rattle.kdl_text.specs.Chars.Star.{none}
 use Rattle.kdl_text.specs.Internal.Here.{Ate, Here, first}
 use Rattle.kdl_text.specs.Internal.Reading.{Moves}
-use Rattle.kdl_text.specs.Trivia.{LineSpace}
 use Rattle.kdl_text.proofs.Looking.MovesJoin.{moves_one, moves_stayed, stayed_looked}
 use Rattle.kdl_query.specs.Data as data'
 use Rattle.kdl_query.specs.Data.{NodeTest, Query}
-use Rattle.kdl_query.specs.QueryText.{After, IsFirst, IsNode, IsOperator, IsQuery, Spaces, without_bom}
+use Rattle.kdl_query.specs.QueryText.{After, IsFirst, IsNode, IsOperator, IsQuery, QuerySpace, Spaces, without_bom}
 use Rattle.kdl_query.specs.Internal.QueryReading.{NoStep, ReadsPiece, ReadsSelector, ReadsSteps, Same, Selectors, selectors}
 use Rattle.kdl_query.specs.Tree.{first_says, node_test_says, selector_says, step_says}
 use Rattle.kdl_query.specs.declared.error.Refusal.{Refusal}
@@ -29,7 +28,7 @@ pub same_then : {P Q R : Query → Type 0} → Same P Q → Same Q R → Same P 
 same_then a b = record { on = λ q h. b.on q (a.on q h); back = λ q h. a.back q (b.back q h) }
 
 -- no spaces are where none begins
-pub no_spaces : {s : Text} → ((t : Text) → LineSpace s t → ⊥) → Spaces s s
+pub no_spaces : {s : Text} → ((t : Text) → QuerySpace s t → ⊥) → Spaces s s
 no_spaces h = record { run = none; stops = h }
 
 -- spaces that were skipped change nothing
@@ -47,7 +46,7 @@ pub skipped : (x : data'.Selector) (s t : Text) → Spaces s t → Same (After x
 skipped x s t p = record { on = λ q h. skipped_on p h; back = λ q h. skipped_back p h }
 
 -- a step, where no space begins
-step_on : {x : data'.Selector} {s v w r : Text} {c : Combinator} {n : NodeTest} {q : Query} → ((t : Text) → LineSpace s t → ⊥) → IsOperator s v c → Spaces v w → IsNode w r n → After x s q → After (data'.then x c n) r q
+step_on : {x : data'.Selector} {s v w r : Text} {c : Combinator} {n : NodeTest} {q : Query} → ((t : Text) → QuerySpace s t → ⊥) → IsOperator s v c → Spaces v w → IsNode w r n → After x s q → After (data'.then x c n) r q
 step_on h o b m (After.ends a) = absurd (no_operator_end _ _ _ (sym (spaces_det (no_spaces h) a)) o)
 step_on {x = x} {s = s} {v = v} {w = w} {r = r} {c = c} {n = n} {q = q} h o b m (After.step {u = u} {v = v'} {w = w'} {r = r'} {c = c'} {n = n'} a o' b' m' f') =
     let (e, g) = same_at IsOperator operator_det s u v v' c c' (spaces_det (no_spaces h) a) o o' in
@@ -55,11 +54,11 @@ step_on {x = x} {s = s} {v = v} {w = w} {r = r} {c = c} {n = n} {q = q} h o b m 
     subst (λ z. After (data'.then x c n) z q) (sym i) (subst (λ z. After (data'.then x z n) r' q) (sym g) (subst (λ z. After (data'.then x c' z) r' q) (sym k) f'))
 step_on h o b m (After.or a g i f) = absurd (no_operator_or _ _ _ _ (sym (spaces_det (no_spaces h) a)) o)
 
-pub stepped : (x : data'.Selector) (s v w r : Text) (c : Combinator) (n : NodeTest) → ((t : Text) → LineSpace s t → ⊥) → IsOperator s v c → Spaces v w → IsNode w r n → Same (After x s) (After (data'.then x c n) r)
+pub stepped : (x : data'.Selector) (s v w r : Text) (c : Combinator) (n : NodeTest) → ((t : Text) → QuerySpace s t → ⊥) → IsOperator s v c → Spaces v w → IsNode w r n → Same (After x s) (After (data'.then x c n) r)
 stepped x s v w r c n h o b m = record { on = λ q f. step_on h o b m f; back = λ q f. After.step (no_spaces h) o b m f }
 
 -- an operator, and no node after it
-pub no_step_node : (x : data'.Selector) (s v w : Text) (c : Combinator) (q : Query) → ((t : Text) → LineSpace s t → ⊥) → IsOperator s v c → Spaces v w → ((r : Text) (n : NodeTest) → IsNode w r n → ⊥) → After x s q → ⊥
+pub no_step_node : (x : data'.Selector) (s v w : Text) (c : Combinator) (q : Query) → ((t : Text) → QuerySpace s t → ⊥) → IsOperator s v c → Spaces v w → ((r : Text) (n : NodeTest) → IsNode w r n → ⊥) → After x s q → ⊥
 no_step_node x s v w c q h o b m (After.ends a) = no_operator_end _ _ _ (sym (spaces_det (no_spaces h) a)) o
 no_step_node x s v w c q h o b m (After.step {u = u} {v = v'} {w = w'} {r = r'} {c = c'} {n = n'} a o' b' m' f') =
     let (e, g) = same_at IsOperator operator_det s u v v' c c' (spaces_det (no_spaces h) a) o o' in
@@ -69,7 +68,7 @@ no_step_node x s v w c q h o b m (After.or a g i f) = no_operator_or _ _ _ _ (sy
 -- how far steps were read
 pub record StepsSoFar (f a : Text) (ts : List Step) : Type 0 where
   pub same : (x : data'.Selector) → Same (After x f) (After (fold step_says x ts) a)
-  pub space : (t : Text) → LineSpace a t → ⊥
+  pub space : (t : Text) → QuerySpace a t → ⊥
 
 fold_snoc : (x : data'.Selector) (ts : List Step) (t : Step) → fold step_says x (ts ++ t ∷ []) ≡ step_says (fold step_says x ts) t
 fold_snoc x [] t = refl

@@ -5,38 +5,39 @@ use Rattle.std.specs.Prelude.{Some, None}
 use Rattle.kdl_text.specs.Bare.{bare, is_bare}
 use Rattle.kdl_text.specs.Chars.{Text, Star, is_space, is_newline_char, is_banned, is_punctuation, is_identifier_char}
 use Rattle.kdl_text.specs.Chars.Space.{space as space_char}
-use Rattle.kdl_text.specs.Trivia.{BlockComment, LineComment, Escline, LineSpace}
+use Rattle.kdl_text.specs.Trivia.{BlockComment, Escline}
 use Rattle.kdl_text.specs.Trivia.Ws.{space as ws_space, comment as ws_comment}
 use Rattle.kdl_text.specs.Trivia.NodeSpace.{ws, escline}
-use Rattle.kdl_text.specs.Trivia.Break.{newline as break_newline, comment as break_comment}
-use Rattle.kdl_text.specs.Trivia.LineSpace.{space as line_space, «break» as line_break}
-use Rattle.kdl_text.proofs.Spacing.SpaceUnique.{newline_begins}
+use Rattle.kdl_text.proofs.Spacing.SpaceUnique.{block_begins, newline_begins}
 use Rattle.kdl_syntax.specs.Pieces as piece
 use Rattle.kdl_syntax.proofs.Lexing.StringUnique.{string_begins}
 use Rattle.kdl_query.specs.Data.{Query, Selector, argument, compares, has, name, of_type, property, some_type, start, then, top, value}
 use Rattle.kdl_query.specs.Printed.{print_name, print_query}
-use Rattle.kdl_query.specs.QueryText.{After, AreTests, IsComparison, IsFirst, IsKey, IsName, IsNode, IsQuery, Spaces, is_allowed}
+use Rattle.kdl_query.specs.QueryText.{After, AreTests, IsComparison, IsFirst, IsKey, IsName, IsNode, IsQuery, QuerySpace, Spaces, is_allowed}
 use Rattle.kdl_value.specs.Data.{text, integer, null}
 use Rattle.kdl_value.specs.Spelled.{spelled}
 use Rattle.kdl_query.specs.declared.tree.Combinator.TheVariants.{Child}
 use Rattle.kdl_query.specs.declared.tree.Comparison.TheVariants.{Equal, Greater, NotEqual, StartsWith}
+use Rattle.kdl_query.proofs.Spacing.{at_slash}
 use Rattle.kdl_query.proofs.Unique.{query_det, spaces_det}
 
--- no line-space begins with an identifier character, or at the end of the text
-no_space_at : (c : ℕ) (s t : Text) → is_identifier_char c ≡ true → LineSpace (c ∷ s) t → ⊥
+-- no space begins with an identifier character, or at the end of the text
+no_space_at : (c : ℕ) (s t : Text) → is_identifier_char c ≡ true → QuerySpace (c ∷ s) t → ⊥
 unfolding is_identifier_char is_space is_newline_char is_banned is_punctuation
-no_space_at c s t h (line_space (ws (ws_space (space_char x)))) = grind (arith, nat_tests)
-no_space_at c s t h (line_space (ws (ws_comment (BlockComment.block b)))) = cc
-no_space_at c s t h (line_space (escline (Escline.escline a b))) = cc
-no_space_at c s t h (line_break (break_newline n)) = let x = newline_begins n in grind (arith, nat_tests)
-no_space_at c s t h (line_break (break_comment (LineComment.line l))) = cc
+no_space_at c s t h (QuerySpace.space (ws (ws_space (space_char x)))) = grind (arith, nat_tests)
+no_space_at c s t h (QuerySpace.space (ws (ws_comment (BlockComment.block b)))) = cc
+no_space_at c s t h (QuerySpace.space (escline (Escline.escline a b))) = cc
+no_space_at c s t h (QuerySpace.newline n) = let x = newline_begins n in grind (arith, nat_tests)
 
-no_space_end : (t : Text) → LineSpace [] t → ⊥
-no_space_end t (line_space (ws (ws_space x))) = elim x [ ]
-no_space_end t (line_space (ws (ws_comment b))) = elim b [ ]
-no_space_end t (line_space (escline e)) = elim e [ ]
-no_space_end t (line_break (break_newline n)) = elim n [ ]
-no_space_end t (line_break (break_comment l)) = elim l [ ]
+no_space_end : (t : Text) → QuerySpace [] t → ⊥
+no_space_end t (QuerySpace.space (ws (ws_space x))) = elim x [ ]
+no_space_end t (QuerySpace.space (ws (ws_comment b))) = elim b [ ]
+no_space_end t (QuerySpace.space (escline e)) = elim e [ ]
+no_space_end t (QuerySpace.newline n) = elim n [ ]
+
+-- no space begins with `//`
+pub no_line_comment : (s t : Text) → QuerySpace (47 ∷ 47 ∷ s) t → ⊥
+no_line_comment s t p = at_slash p (λ b. let h = block_begins b in cc)
 
 at_end : Spaces [] []
 at_end = record { run = Star.none; stops = no_space_end }

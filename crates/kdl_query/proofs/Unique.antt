@@ -8,13 +8,15 @@ use Rattle.kdl_text.proofs.Looking.Stars.{longest_det}
 use Rattle.kdl_text.proofs.Quoted.StringUnique.{is_quoted_begins, is_raw_begins}
 use Rattle.kdl_text.proofs.Quoted.UnitUnique.{run_det}
 use Rattle.kdl_text.proofs.Numeric.NumberUnique.{whole_number_det}
-use Rattle.kdl_text.proofs.Spacing.SpaceUnique.{line_space_dets}
+use Rattle.kdl_text.specs.Trivia.Break.{newline as break_newline}
+use Rattle.kdl_text.proofs.Spacing.NewlineUnique.{newline_det}
+use Rattle.kdl_text.proofs.Spacing.SpaceUnique.{node_space_det, space_or_break}
 use Rattle.kdl_value.specs.Data.{Value, text}
 use Rattle.kdl_syntax.specs.Pieces as piece
 use Rattle.kdl_syntax.specs.Pieces.{StringPiece, PlainPiece}
 use Rattle.kdl_syntax.proofs.Lexing.StringUnique.{begins_piece, string_det, string_begins, string_or_plain, plain_det, plain_begins, quote_identifier, sign_identifier}
 use Rattle.kdl_query.specs.Data.{Accessor, NodeTest, Query, Selector, Test, TypeTest, argument, of_type, property, start, then, value, type_named}
-use Rattle.kdl_query.specs.QueryText.{After, AfterAccessor, AreTests, IsAccessor, IsComparison, IsFirst, IsIndex, IsKey, IsLiteral, IsName, IsNode, IsOperator, IsQuery, IsTest, IsType, Spaces, ends_type}
+use Rattle.kdl_query.specs.QueryText.{After, AfterAccessor, AreTests, IsAccessor, IsComparison, IsFirst, IsIndex, IsKey, IsLiteral, IsName, IsNode, IsOperator, IsQuery, IsTest, IsType, QuerySpace, Spaces, ends_type}
 use Rattle.kdl_query.specs.declared.tree.Combinator.{Combinator}
 use Rattle.kdl_query.specs.declared.tree.Comparison.{Comparison}
 
@@ -26,8 +28,15 @@ Det {A = A} X = (s r t : Text) (x y : A) → X s r x → X s t y → (r ≡ t) �
 pub same_at : {A : Type 0} (X : Text → Text → A → Type 0) → Det X → (s t u v : Text) (x y : A) → s ≡ t → X s u x → X t v y → (u ≡ v) × (x ≡ y)
 same_at X d s t u v x y e a b = d s u v x y a (subst (λ z. X z v y) (sym e) b)
 
+-- spaces
+pub query_space_det : {s r t : Text} → QuerySpace s r → QuerySpace s t → r ≡ t
+query_space_det (QuerySpace.space p) (QuerySpace.space q) = node_space_det p q
+query_space_det (QuerySpace.space p) (QuerySpace.newline n) = absurd (space_or_break p (break_newline n))
+query_space_det (QuerySpace.newline n) (QuerySpace.space p) = absurd (space_or_break p (break_newline n))
+query_space_det (QuerySpace.newline n) (QuerySpace.newline m) = newline_det n m
+
 pub spaces_det : {s r t : Text} → Spaces s r → Spaces s t → r ≡ t
-spaces_det a b = longest_det line_space_dets a.run a.stops b.run b.stops
+spaces_det a b = longest_det (λ s r t p q. query_space_det p q) a.run a.stops b.run b.stops
 
 pub spaces_at : (s t u v : Text) → s ≡ t → Spaces s u → Spaces t v → u ≡ v
 spaces_at s t u v e a b = spaces_det a (subst (λ z. Spaces z v) (sym e) b)

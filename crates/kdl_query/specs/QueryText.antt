@@ -1,9 +1,9 @@
 -- The text of a query. `X t r x`: an X begins the text t, leaves r, and represents x.
 use Rattle.std.specs.Prelude.{◌≡◌, ◌⊎◌, ℕ, ◌<◌, ◌^◌, pos, Bool, true, false, not, ◌&&◌, ◌||◌, ◌==◌, cond, List, [], ◌∷◌, ◌++◌, Some, None, codes}
 use Rattle.kdl_text.specs.Bare.{BareString}
-use Rattle.kdl_text.specs.Chars.{Text, Star, begins, begins_two, starts, is_digit, is_identifier_char}
+use Rattle.kdl_text.specs.Chars.{Newline, Text, Star, begins, begins_two, starts, is_digit, is_identifier_char}
 use Rattle.kdl_text.specs.Numbers.{WholeNumber, base_prefix}
-use Rattle.kdl_text.specs.Trivia.{LineSpace}
+use Rattle.kdl_text.specs.Trivia.{NodeSpace}
 use Rattle.kdl_value.specs.Data.{Value, text, integer, float}
 use Rattle.kdl_syntax.specs.Pieces.{StringPiece, PlainPiece}
 use Rattle.kdl_query.specs.Data.{Accessor, Literal, NodeTest, Query, Selector, Test, TypeTest, always, argument, arguments, compares, has, name, of_type, properties, property, some_type, start, then, top, ty, type_named, value}
@@ -12,10 +12,15 @@ use Rattle.kdl_query.specs.declared.tree.Combinator.TheVariants.{Child, Descenda
 use Rattle.kdl_query.specs.declared.tree.Comparison.{Comparison}
 use Rattle.kdl_query.specs.declared.tree.Comparison.TheVariants.{Equal, NotEqual, Greater, GreaterOrEqual, Less, LessOrEqual, StartsWith, EndsWith, Contains}
 
--- as many line-spaces as are here: spaces, newlines and comments
+-- what may be between the parts of a query: a space, a block comment or an escline, or a newline; `//` begins none of these
+pub data QuerySpace : Text → Text → Type 0 where
+  space : {s r : Text} → NodeSpace s r → QuerySpace s r
+  newline : {s r : Text} → Newline s r → QuerySpace s r
+
+-- as many of these as are here
 pub record Spaces (s r : Text) : Type 0 where
-  pub run : Star LineSpace s r
-  pub stops : (t : Text) → LineSpace r t → ⊥
+  pub run : Star QuerySpace s r
+  pub stops : (t : Text) → QuerySpace r t → ⊥
 
 -- a word that is no name unless it is quoted
 abbrev pub IsOperatorWord : Text → Type 0

@@ -59,6 +59,8 @@ pub(crate) enum Fault {
     Operator,
     /// The same, after a name with the characters of an operator in it.
     JoinedOperator,
+    /// `//` is there.
+    Slashes,
     /// An operator is there as a name.
     OperatorName,
     /// The name there has a `(` after it, and is not that of a function.
@@ -91,6 +93,7 @@ impl Fault {
         match self {
             Fault::Node => "Expected a node",
             Fault::Operator | Fault::JoinedOperator => "Expected an operator",
+            Fault::Slashes => "Unexpected `//`",
             Fault::OperatorName => "Unexpected operator",
             Fault::Function => "Unknown function",
             Fault::Type => "Expected a type or `)`",
@@ -120,6 +123,9 @@ impl Fault {
             Fault::JoinedOperator => {
                 Some("A bare name may contain `>`, `+` and `|`: write a space before an operator")
             }
+            Fault::Slashes => Some(
+                "Write `>>` before a descendant; a query has no line comments, but has `/* */`",
+            ),
             Fault::OperatorName => Some("As a name, write it between quotes"),
             Fault::Function => Some(
                 "`top()` begins a selector; tests have `val()`, `prop()`, `name()`, `tag()`, `values()` and `props()`",

@@ -2,8 +2,9 @@
 #![tactic(auto, using(crate::proofs::Rules::parse))]
 
 ghost use Rattle.kdl_text.specs.Internal.Here.{Ahead};
+ghost use Rattle.kdl_text.specs.Chars.{Text};
 ghost use Rattle.kdl_text.specs.Spans.{InText};
-ghost use Rattle.std.specs.Prelude.{◌≡◌};
+ghost use Rattle.std.specs.Prelude.{◌≡◌, ◌++◌};
 
 mod literals;
 mod names;
@@ -17,16 +18,28 @@ use kdl_text::cursor::{Checkpoint, Cursor, Steps};
 use selectors::read_selectors;
 use std::alloc::Global;
 
-/// The error of a fault where the cursor is. Its span is the word or the character there.
+/// Advances past the `//`, the word or else the character here, and returns the fault, or that of `//`.
+fn at_fault(fault: Fault, cursor: &mut Cursor) -> Fault
+    ensures { (p : Text) × (cursor.old.rest ≡ p ++ cursor.new.rest) }
+{
+    if cursor.eat_two('/', '/') {
+        return Fault::Slashes;
+    }
+    let from = cursor.at();
+    cursor.skip(Class::Identifier);
+    if cursor.at() == from {
+        cursor.step();
+    }
+    fault
+}
+
+/// The error of a fault where the cursor is. Its span is the word or the character there, or `//`.
 fn error_at<'a>(fault: Fault, start: &Checkpoint<'a>, cursor: &mut Cursor<'a>) -> QueryError
     requires { Ahead start.now record { rest = cursor.old.rest; at = cursor.old.at } }
     ensures { InText start.now.rest result.span }
 {
     let from = cursor.checkpoint();
-    cursor.skip(Class::Identifier);
-    if cursor.at() == from.at() {
-        cursor.step();
-    }
+    let fault = at_fault(fault, cursor);
     QueryError {
         span: start.span_between(&from, &cursor.checkpoint()),
         message: fault.message(),

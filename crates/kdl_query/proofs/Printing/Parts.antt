@@ -12,11 +12,9 @@ use Rattle.kdl_text.specs.Chars.Space.{space as space_char}
 use Rattle.kdl_text.specs.Numbers.{WholeNumber, base_of, base_prefix, decimal_text, fits as number_fits, is_decimal, is_whole, signed, whole, whole_value}
 use Rattle.kdl_text.specs.declared.numbers.Keyword.{Keyword}
 use Rattle.kdl_text.specs.declared.numbers.Keyword.TheVariants.{True, False, Null, Infinity, NegativeInfinity, NotANumber}
-use Rattle.kdl_text.specs.Trivia.{BlockComment, Escline, LineComment, LineSpace, ValueEnd}
+use Rattle.kdl_text.specs.Trivia.{BlockComment, Escline, ValueEnd}
 use Rattle.kdl_text.specs.Trivia.Ws.{space as ws_space, comment as ws_comment}
 use Rattle.kdl_text.specs.Trivia.NodeSpace.{ws, escline}
-use Rattle.kdl_text.specs.Trivia.Break.{newline as break_newline, comment as break_comment}
-use Rattle.kdl_text.specs.Trivia.LineSpace.{space as line_space, «break» as line_break}
 use Rattle.kdl_text.proofs.Spacing.SpaceUnique.{newline_begins}
 use Rattle.kdl_value.specs.Data.{Value, text, integer, float, truth, null}
 use Rattle.kdl_value.specs.Print.{print_value}
@@ -30,26 +28,25 @@ use Rattle.kdl_entry.specs.Entries.{IsPlainValue, a_string, a_plain}
 use Rattle.kdl_entry.proofs.Laying.ValueReadsBack.{printed_value}
 use Rattle.kdl_query.specs.Data.{Accessor, Literal, Test, TypeTest, always, argument, arguments, compares, has, name, properties, property, some_type, ty, type_named, value}
 use Rattle.kdl_query.specs.Printed.{print_accessor, print_compared, print_comparison, print_literal, print_name, print_test, print_type}
-use Rattle.kdl_query.specs.QueryText.{AfterAccessor, AreTests, IsAccessor, IsComparison, IsIndex, IsLiteral, IsTest, IsType, Spaces, is_allowed}
+use Rattle.kdl_query.specs.QueryText.{AfterAccessor, AreTests, IsAccessor, IsComparison, IsIndex, IsLiteral, IsTest, IsType, QuerySpace, Spaces, is_allowed}
 use Rattle.kdl_query.specs.declared.tree.Comparison.{Comparison}
 use Rattle.kdl_query.specs.declared.tree.Comparison.TheVariants.{Equal, NotEqual, Greater, GreaterOrEqual, Less, LessOrEqual, StartsWith, EndsWith, Contains}
 use Rattle.kdl_query.proofs.Printing.Held.{AccessorHeld, LiteralHeld, NameHeld, TestHeld, TypeHeld, ValueHeld}
 use Rattle.kdl_query.proofs.Printing.Names.{Ends, ends_at, is_front, name_front, name_is}
 
--- a character with which a line-space may begin
+-- a character with which a space may begin
 abbrev pub is_spacing : ℕ → Bool
 is_spacing c = (is_space c || is_newline_char c) || (c == 47 || c == 92)
 
-no_space_here : (s t : Text) → starts is_spacing s ≡ false → LineSpace s t → ⊥
-no_space_here s t h (line_space (ws (ws_space (space_char x)))) = grind (arith, nat_tests)
-no_space_here s t h (line_space (ws (ws_comment (BlockComment.block b)))) = grind (arith, nat_tests)
-no_space_here s t h (line_space (escline (Escline.escline a b))) = grind (arith, nat_tests)
-no_space_here s t h (line_break (break_newline n)) = go s h (newline_begins n)
+no_space_here : (s t : Text) → starts is_spacing s ≡ false → QuerySpace s t → ⊥
+no_space_here s t h (QuerySpace.space (ws (ws_space (space_char x)))) = grind (arith, nat_tests)
+no_space_here s t h (QuerySpace.space (ws (ws_comment (BlockComment.block b)))) = grind (arith, nat_tests)
+no_space_here s t h (QuerySpace.space (escline (Escline.escline a b))) = grind (arith, nat_tests)
+no_space_here s t h (QuerySpace.newline n) = go s h (newline_begins n)
   where
     go : (s : Text) → starts is_spacing s ≡ false → starts is_newline_char s ≡ true → ⊥
     go [] h k = cc
     go (c ∷ s) h k = grind (arith, nat_tests)
-no_space_here s t h (line_break (break_comment (LineComment.line l))) = grind (arith, nat_tests)
 
 -- no spaces, and one space
 pub none_here : (s : Text) → starts is_spacing s ≡ false → Spaces s s
@@ -57,7 +54,7 @@ none_here s h = record { run = Star.none; stops = λ t p. no_space_here s t h p 
 
 pub one_here : (s : Text) → starts is_spacing s ≡ false → Spaces (32 ∷ s) s
 unfolding is_space
-one_here s h = record { run = Star.more (line_space (ws (ws_space (space_char refl)))) Star.none; stops = λ t p. no_space_here s t h p }
+one_here s h = record { run = Star.more (QuerySpace.space (ws (ws_space (space_char refl)))) Star.none; stops = λ t p. no_space_here s t h p }
 
 front_no_space : (c : ℕ) → is_front c ≡ true → is_spacing c ≡ false
 unfolding is_identifier_char is_space is_newline_char is_banned is_punctuation

@@ -6,12 +6,11 @@ use Rattle.kdl_text.specs.Chars.{Text, begins, starts}
 use Rattle.kdl_text.specs.Internal.Here.{Here, tail}
 use Rattle.kdl_text.specs.Internal.Reading.{Moves}
 use Rattle.kdl_text.specs.Numbers.{NumberValue, whole_value}
-use Rattle.kdl_text.specs.Trivia.{LineSpace}
 use Rattle.kdl_value.specs.Data.{Value}
 use Rattle.kdl_syntax.specs.Pieces.{StringPiece}
 use Rattle.kdl_query.specs.Data as data'
 use Rattle.kdl_query.specs.Data.{Accessor, Literal, NodeTest, Query, Test, TypeTest, property, value}
-use Rattle.kdl_query.specs.QueryText.{After, IsAccessor, IsFirst, IsKey, IsLiteral, IsName, IsNode, IsOperator, IsOperatorWord, IsQuery, IsTest, IsType, Spaces, begins_comparison, ends_type, is_allowed}
+use Rattle.kdl_query.specs.QueryText.{After, IsAccessor, IsFirst, IsKey, IsLiteral, IsName, IsNode, IsOperator, IsOperatorWord, IsQuery, IsTest, IsType, QuerySpace, Spaces, begins_comparison, ends_type, is_allowed}
 use Rattle.kdl_query.specs.Tree.{selector_says, step_says}
 use Rattle.kdl_query.specs.declared.error.Refusal.{Refusal}
 use Rattle.kdl_query.specs.declared.error.Refusal.TheVariants.{Fault, Memory}
@@ -117,7 +116,7 @@ pub record Same (P Q : Query → Type 0) : Type 0 where
 
 -- no space and no operator begins here
 pub record NoStep (s : Text) : Type 0 where
-  pub space : (t : Text) → LineSpace s t → ⊥
+  pub space : (t : Text) → QuerySpace s t → ⊥
   pub operator : (t : Text) (c : Combinator) → IsOperator s t c → ⊥
 
 -- steps were read after a selector: the same queries follow these steps and the text r

@@ -2,12 +2,11 @@
 #![tactic(auto, using(crate::proofs::Rules::parse))]
 
 ghost use Rattle.kdl_query.specs.Internal.QueryReading.{AteText, Closes, IsWord, OneChar, ReadsPiece, TypeRest};
-ghost use Rattle.kdl_query.specs.QueryText.{IsName, IsOperatorWord, Spaces};
+ghost use Rattle.kdl_query.specs.QueryText.{IsName, IsOperatorWord, QuerySpace, Spaces};
 ghost use Rattle.kdl_query.specs.Tree.{type_test_says};
 ghost use Rattle.kdl_text.specs.Chars.{starts};
 ghost use Rattle.kdl_text.specs.Internal.Here.{IsPart};
 ghost use Rattle.kdl_text.specs.Internal.Reading.{Moves, Reads};
-ghost use Rattle.kdl_text.specs.Trivia.{LineSpace};
 ghost use Rattle.kdl_value.specs.Tree.{text_of};
 ghost use Rattle.std.specs.Prelude.{◌≡◌, ◌||◌, ◌==◌, ◌↔◌, IsTrue, false};
 
@@ -57,15 +56,15 @@ pub(super) fn eat_text(text: &str, cursor: &mut Cursor) -> bool
     true
 }
 
-/// Advances past what may be a line-space that begins here, and returns whether it is one.
+/// Advances past what may be a space that begins here, and returns whether it is one. `//` is none.
 fn passes_space(cursor: &mut Cursor) -> bool
-    ensures reads { Reads LineSpace result cursor.old.rest cursor.new.rest }
+    ensures reads { Reads QuerySpace result cursor.old.rest cursor.new.rest }
     ensures moves { Moves cursor.old cursor.new }
 {
     match cursor.look() {
         Some('/') => match slash(cursor) {
-            SlashRead::Block | SlashRead::Line => true,
-            SlashRead::Dash | SlashRead::Unclosed | SlashRead::Other => false,
+            SlashRead::Block => true,
+            SlashRead::Line | SlashRead::Dash | SlashRead::Unclosed | SlashRead::Other => false,
         },
         Some('\\') => escline(cursor),
         Some(c) if is_space(c) => {
@@ -76,9 +75,9 @@ fn passes_space(cursor: &mut Cursor) -> bool
     }
 }
 
-/// Advances past a line-space if one begins here, and returns whether it does.
+/// Advances past a space if one begins here, and returns whether it does.
 fn eat_space(cursor: &mut Cursor) -> bool
-    ensures reads { Reads LineSpace result cursor.old.rest cursor.new.rest }
+    ensures reads { Reads QuerySpace result cursor.old.rest cursor.new.rest }
     ensures stays { result ≡ false → cursor.new.rest ≡ cursor.old.rest }
     ensures moves { Moves cursor.old cursor.new }
 {
@@ -90,7 +89,7 @@ fn eat_space(cursor: &mut Cursor) -> bool
     is_space
 }
 
-/// Advances past all line-spaces here.
+/// Advances past all spaces here.
 pub(super) fn skip_spaces(cursor: &mut Cursor)
     ensures spaces { Spaces cursor.old.rest cursor.new.rest }
     ensures moves { Moves cursor.old cursor.new }

@@ -8,9 +8,9 @@ use Rattle.kdl_query.proofs.parse.names.passes_space.Goals.{in_default-via-in-So
 pub returns-in-Block-clause-reads : goal.returns-in-Block-clause-reads
 returns-in-Block-clause-reads c = slash_is _ _ _ _ c.look.ensures.moved c.in-Block.is c.slash.ensures.reads
 
-pub returns-in-Dash : goal.returns-in-Dash
-returns-in-Dash c = record {
-  reads = slash_not _ _ _ _ (sym c.look.ensures.result ∙ c.in-Some-eq47.is ∙ ap Some c.in-Some-eq47.field-0-test) c.look.ensures.moved c.in-Dash.is c.slash.ensures.reads;
+pub returns-in-Line : goal.returns-in-Line
+returns-in-Line c = record {
+  reads = slash_not _ _ _ _ (sym c.look.ensures.result ∙ c.in-Some-eq47.is ∙ ap Some c.in-Some-eq47.field-0-test) c.look.ensures.moved c.in-Line.is c.slash.ensures.reads;
   moves = moves_then (moves_stayed (stayed_looked _ _ c.look.ensures.moved)) c.slash.ensures.moves;
 }
 
