@@ -4,7 +4,7 @@ use Rattle.std.proofs.lemmas.List.{append-nil}
 use Rattle.std.specs.List.{AllByRecursion, AllPairs, Contains}
 use Rattle.kdl_grammar.specs.Data.{Node, Nodes}
 use Rattle.kdl_query.specs.Data.{Query, Selector, start, then, top}
-use Rattle.kdl_query.specs.Selects.{AreSelected, IsBefore, IsFirstSelected, IsSelected, IsSelection, Path, Selects, node_at}
+use Rattle.kdl_query.specs.Selects.{IsBefore, IsFirstSelected, IsSelected, IsSelection, Path, Selects, node_at}
 use Rattle.kdl_query.specs.Internal.Parts.{query_parts}
 use Rattle.kdl_query.specs.Internal.Visits.{Passes, Visited, all_visits, chosen, chosen_nodes, chosen_paths}
 use Rattle.kdl_query.proofs.Passing.{passed_chosen}
@@ -101,9 +101,6 @@ chosen_there x S (v ∷ vs) t =
     if_kept (λ l. map (λ p. node_at p x) (paths l) ≡ map Some (map (λ (w : Visited). w.said) l)) v.is_selected (v ∷ chosen vs) (chosen vs)
     (λ _. ap (λ o. o ∷ map (λ p. node_at p x) (chosen_paths vs)) t.0.there ∙ ap (λ l. Some v.said ∷ l) (chosen_there x S vs t.1)) (λ _. chosen_there x S vs t.1)
 
-pub are_selected : (x : Nodes) (q : Query) → AreSelected x q (chosen_nodes (all_visits q x))
-are_selected x q = record { paths = chosen_paths (all_visits q x); selection = are_selection x q; nodes = chosen_there x (IsSelected x q) (all_visits q x) (told x q) }
-
 -- the first of them, and none
 pub none_selected : (x : Nodes) (q : Query) → chosen_paths (all_visits q x) ≡ [] → (p : Path) → IsSelected x q p → ⊥
 none_selected x q e p h = let P : List Path → Type 0 = λ l. In l p in subst P e (is_chosen x q p h)
@@ -139,11 +136,6 @@ pub paths_found : (x : Nodes) (q : Query) (found : List Path) (due : List Visite
 paths_found x q found due e f =
     let P : List Path → Type 0 = λ ps. IsSelection x q ps in
     subst P (sym f ∙ ap (λ vs. found ++ paths vs) (passed_chosen due [] e) ∙ append-nil found) (are_selection x q)
-
-pub nodes_found : (x : Nodes) (q : Query) (found : List Node) (due : List Visited) → Passes due [] → found ++ chosen_nodes due ≡ chosen_nodes (all_visits q x) → AreSelected x q found
-nodes_found x q found due e f =
-    let P : List Node → Type 0 = λ ns. AreSelected x q ns in
-    subst P (sym f ∙ ap (λ vs. found ++ map (λ (v : Visited). v.said) vs) (passed_chosen due [] e) ∙ append-nil found) (are_selected x q)
 
 pub none_found : (x : Nodes) (q : Query) (due : List Visited) → Passes due [] → chosen due ≡ chosen (all_visits q x) → (p : Path) → IsSelected x q p → ⊥
 none_found x q due e f = none_selected x q (ap paths (sym f ∙ passed_chosen due [] e))

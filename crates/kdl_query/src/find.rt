@@ -2,6 +2,7 @@
 
 ghost use Rattle.kdl.specs.Tree.{document_says, node_says};
 ghost use Rattle.kdl_query.specs.Counts.{node_count, part_count};
+ghost use Rattle.kdl_query.specs.Held.{AreHeld};
 ghost use Rattle.kdl_query.specs.Selects.{AreSelected, IsFirstSelected, IsSelected, IsSelection, Path};
 ghost use Rattle.kdl_query.specs.Tree.{query_says};
 ghost use Rattle.kdl_text.specs.Spans.{raise};
@@ -60,13 +61,16 @@ pub fn query_paths_counted(
     Ok(found)
 }
 
-/// Returns the nodes that the query selects, in the order of the document, or an error if an allocation fails.
+/// Returns the nodes that the query selects, in the order of the document, or an error if an allocation fails. Takes less
+/// memory than their paths.
 pub fn query_all<'a>(
     alloc: Global,
     document: &'a KdlDocument,
     query: &Query,
 ) -> Result<Vec<&'a KdlNode>, AllocError>
-    ensures { IfOk result (λ ns. AreSelected (document_says document.entry.now)
+    ensures held { IfOk result (λ ns. AreHeld document.entry.now (query_says query.now)
+        (map (λ n. n.now) ns.items)) }
+    ensures selected { IfOk result (λ ns. AreSelected (document_says document.entry.now)
         (query_says query.now) (map (λ n. node_says n.now) ns.items)) }
 {
     let mut found = Vec::new(alloc);

@@ -1,13 +1,15 @@
 //! One walk over the nodes of a document, in its order.
 
 ghost use Rattle.kdl.specs.Tree.{document_says, node_says};
+ghost use Rattle.kdl.specs.declared.document.KdlDocument.{KdlDocument};
+ghost use Rattle.kdl_query.specs.Held.{held_at};
 ghost use Rattle.kdl_query.specs.Internal.Parts.{ends, part_says};
-ghost use Rattle.kdl_query.specs.Internal.Visits.{Passes, all_visits, came_to, inside_last, level_at, level_due, level_left, level_says, levels_of, looks_of, next_parts, path_of, walk_due, walk_left};
+ghost use Rattle.kdl_query.specs.Internal.Visits.{IsOver, Passes, all_visits, came_to, inside_last, level_at, level_due, level_left, level_says, levels_of, looks_of, next_parts, path_of, walk_due, walk_left};
 ghost use Rattle.kdl_query.specs.Selects.{Path};
 ghost use Rattle.kdl_query.specs.Tree.{query_says};
 ghost use Rattle.kdl_text.specs.Spans.{raise};
 ghost use Rattle.std.specs.Option.{option_map_or};
-ghost use Rattle.std.specs.Prelude.{◌≡◌, ◌++◌, ◌∷◌, [], ◌<◌, IfOk, IsSome, MatchOption, OnOk, false, length, map, option_map, slice_get, suc, take, ◌-◌};
+ghost use Rattle.std.specs.Prelude.{◌≡◌, ◌++◌, ◌∷◌, [], ◌<◌, IfOk, IsSome, MatchOption, OnOk, Some, false, length, map, option_map, slice_get, suc, take, ◌-◌};
 
 use crate::part::{Part, enter, has_block, parts_of, visit};
 use crate::tree::Query;
@@ -43,12 +45,13 @@ pub(crate) struct Visit<'a> {
 impl<'a, 'q> Level<'a, 'q> {
     /// Before the first of the nodes.
     fn new(nodes: &'a [KdlNode], parts: Vec<Part<'q>>) -> Level<'a, 'q>
-        ensures { level_says result ≡ record {
+        ensures says { level_says result ≡ record {
           nodes = map node_says nodes.entry.now;
           next = 0;
           current = 0;
           parts = map part_says parts.entry.items;
         } }
+        ensures nodes { result.nodes.now ≡ nodes.entry.now }
     {
         Level {
             nodes,
@@ -62,6 +65,7 @@ impl<'a, 'q> Level<'a, 'q> {
     fn next_node(&self) -> Option<&'a KdlNode>
         ensures node { option_map (λ n. node_says n.now) result
             ≡ slice_get (level_says self.now).nodes self.now.next }
+        ensures value { option_map (λ n. n.now) result ≡ slice_get self.now.nodes.now self.now.next }
         ensures bound { IsSome result → self.now.next < length self.now.nodes.now }
     {
         self.nodes.get(self.next)
@@ -76,6 +80,7 @@ impl<'a, 'q> Level<'a, 'q> {
           current = self.old.next;
           parts = next_parts (node_says node.now) (level_says self.old).parts;
         } }
+        ensures kept { self.new.nodes ≡ self.old.nodes }
         ensures ends { result ≡ ends (node_says node.now) false (level_says self.old).parts }
         ensures counted { raise count.new 0 ≡ raise count.old (length (level_says self.old).parts) }
     {
@@ -90,6 +95,9 @@ impl<'a, 'q> Level<'a, 'q> {
     fn advance(&mut self, count: &mut u64) -> Option<Visit<'a>>
         ensures due { (q : Path) → MatchOption result (Passes (level_due q (level_says self.old)) []) (λ v.
             Passes (level_due q (level_says self.old)) (level_at q v (level_says self.new) ∷ level_left q v (level_says self.new))) }
+        ensures kept { self.new.nodes ≡ self.old.nodes }
+        ensures node { MatchOption result (Unit {0}) (λ v.
+            slice_get self.new.nodes.now self.new.current ≡ Some v.node.now) }
         ensures counted { (q : Path) → raise count.new (looks_of (option_map_or (λ v. level_left q v (level_says self.new)) result []))
             ≡ raise count.old (looks_of (level_due q (level_says self.old))) }
     {
@@ -117,8 +125,9 @@ impl<'a, 'q> Walk<'a, 'q> {
         document: &'a KdlDocument,
         query: &'q Query,
     ) -> Result<Walk<'a, 'q>, AllocError>
-        ensures { IfOk result (λ w.
+        ensures due { IfOk result (λ w.
             walk_due w ≡ all_visits (query_says query.now) (document_says document.now)) }
+        ensures over { IfOk result (IsOver document.now) }
     {
         let mut levels = Vec::new(alloc);
         let parts = parts_of(alloc, query)?;
@@ -134,6 +143,9 @@ impl<'a, 'q> Walk<'a, 'q> {
     pub(crate) fn visit(&mut self, count: &mut u64) -> Result<Option<Visit<'a>>, AllocError>
         ensures due { IfOk result (λ o. MatchOption o (Passes (walk_due self.old) []) (λ v.
             Passes (walk_due self.old) (came_to v self.new ∷ walk_left v self.new))) }
+        ensures over { IfOk result (λ o. (d : KdlDocument) → IsOver d self.old → IsOver d self.new) }
+        ensures held { IfOk result (λ o. (d : KdlDocument) → IsOver d self.old → MatchOption o (Unit {0}) (λ v.
+            held_at (path_of (levels_of self.new)) d ≡ Some v.node.now)) }
         ensures counted { IfOk result (λ o. raise count.new (looks_of (option_map_or (λ v. walk_left v self.new) o []))
             ≡ raise count.old (looks_of (walk_due self.old))) }
     {
@@ -159,8 +171,10 @@ impl<'a, 'q> Walk<'a, 'q> {
 
     /// Enters the block of the node that was visited last.
     pub(crate) fn enter(&mut self, alloc: Global, node: &'a KdlNode) -> Result<(), AllocError>
-        ensures { OnOk result (walk_due self.new
+        ensures due { OnOk result (walk_due self.new
             ≡ inside_last (levels_of self.old) (node_says node.entry.now) ++ walk_due self.old) }
+        ensures over { OnOk result ((d : KdlDocument) → IsOver d self.old
+            → held_at (path_of (levels_of self.old)) d ≡ Some node.entry.now → IsOver d self.new) }
     {
         let Some(block) = node.children() else {
             return Ok(());

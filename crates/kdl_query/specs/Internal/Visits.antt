@@ -1,10 +1,12 @@
 -- The nodes of a document in the order in which a walk visits them.
 use Rattle.std.specs.List.{filter, last_or}
 use Rattle.std.specs.Option.{option_map_or}
-use Rattle.std.specs.Prelude.{◌≡◌, ℕ, suc, ◌+◌, Bool, List, [], ◌∷◌, ◌++◌, length, None, map, drop}
+use Rattle.std.specs.Prelude.{◌≡◌, ℕ, suc, ◌+◌, Bool, List, [], ◌∷◌, ◌++◌, length, None, map, drop, slice_get}
 use Rattle.kdl.specs.Tree.{node_says}
+use Rattle.kdl.specs.declared.document.KdlDocument.{KdlDocument}
 use Rattle.kdl_grammar.specs.Data.{Node, node, Children, no_children, children, Nodes, none, first}
 use Rattle.kdl_query.specs.Data.{Query}
+use Rattle.kdl_query.specs.Held.{held_at}
 use Rattle.kdl_query.specs.Selects.{Path}
 use Rattle.kdl_query.specs.Internal.Parts.{PartSays, ends, entered, part_says, query_parts, visited}
 use Rattle.kdl_query.specs.declared.walk.Level.{Level}
@@ -67,6 +69,15 @@ path_of ls = map (λ l. l.current) ls
 
 abbrev pub level_due : Path → LevelSays → List Visited
 level_due q l = visits_of q l.next l.parts (drop l.next l.nodes)
+
+-- each level has the nodes in memory at the path of the levels around it
+abbrev pub HeldLevels : KdlDocument → Path → List Level → Type 0
+HeldLevels d q [] = Unit {0}
+HeldLevels d q (l ∷ ls) = ((i : ℕ) → held_at (q ++ i ∷ []) d ≡ slice_get l.nodes.now i) × HeldLevels d (q ++ l.current ∷ []) ls
+
+-- the walk is over the document in memory
+abbrev pub IsOver : KdlDocument → Walk → Type 0
+IsOver d w = HeldLevels d [] w.levels.items
 
 -- the nodes that are still to be visited, those of the innermost level first
 abbrev pub due : Path → List LevelSays → List Visited

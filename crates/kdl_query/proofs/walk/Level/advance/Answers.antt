@@ -1,4 +1,4 @@
-use Rattle.std.proofs.Common.{◌≡◌, [], ◌∷◌, ◌++◌, length, ◌∙◌, ap, sym, subst, List}
+use Rattle.std.proofs.Common.{◌≡◌, [], ◌∷◌, ◌++◌, length, ◌∙◌, ap, slice_get, sym, subst, List}
 use Rattle.kdl.specs.Tree.{node_says}
 use Rattle.kdl_text.specs.Spans.{raise}
 use Rattle.kdl_query.specs.Internal.Visits.{LevelSays, Passes, Visited, level_at, level_due, level_left, level_says, looks_of}
@@ -27,6 +27,12 @@ returns-then-is_selected-clause-counted c = λ q.
     raised_by c.loop-node.count c.visit-is_selected.new.count (length k.parts) (looks_of (level_left q v k)) (c.visit-is_selected.ensures.counted ∙ ap (raise c.loop-node.count) (sym looks))
     ∙ ap (λ vs. raise c.loop-node.count (looks_of vs)) (sym came) ∙ c.loop-node.invariant.counted q
 
+pub returns-then-is_selected-clause-node : goal.returns-then-is_selected-clause-node
+returns-then-is_selected-clause-node c =
+    let l = c.loop-node.self in
+    let k = c.visit-is_selected.new.self in
+    ap (λ b. slice_get b.now k.current) c.visit-is_selected.ensures.kept ∙ ap (slice_get l.nodes.now) (ap (λ (m : LevelSays). m.current) c.visit-is_selected.ensures.level) ∙ sym c.in-Some.ensures.value
+
 pub loop-node-preserved : goal.loop-node-preserved
 loop-node-preserved c =
     let l = level_says c.loop-node.self in
@@ -39,6 +45,7 @@ loop-node-preserved c =
     record {
       due = λ q. let P : List Visited → Type 0 = λ vs. Passes vs (level_due q k) in
           passes_on (level_due q (level_says c.args.self.now)) (level_due q l) (level_due q k) (c.loop-node.invariant.due q) (subst P (sym (came q)) (passes_one (level_at q v k) (level_due q k) c.if-is_selected.false));
+      kept = c.visit-is_selected.ensures.kept ∙ c.loop-node.invariant.kept;
       counted = λ q. raised_by c.loop-node.count c.visit-is_selected.new.count (length k.parts) (looks_of (level_due q k)) (c.visit-is_selected.ensures.counted ∙ ap (raise c.loop-node.count) (sym looks))
           ∙ ap (λ vs. raise c.loop-node.count (looks_of vs)) (sym (came q)) ∙ c.loop-node.invariant.counted q;
     }

@@ -7,6 +7,7 @@ use Rattle.kdl_query.proofs.walk.Level.advance.Given as goal
 abbrev pub invariant-loop-node : goal.invariant-loop-node
 invariant-loop-node l = record {
   due : (q : Path) → Passes (level_due q (level_says l.fn.self)) (level_due q (level_says l.self));
+  kept : l.self.nodes ≡ l.fn.self.nodes;
   counted : (q : Path) → raise l.count (looks_of (level_due q (level_says l.self))) ≡ raise l.fn.count (looks_of (level_due q (level_says l.fn.self)));
 }
 

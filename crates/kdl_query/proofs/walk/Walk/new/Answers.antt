@@ -3,12 +3,18 @@ use Rattle.kdl.specs.Tree.{document_says}
 use Rattle.kdl_query.specs.Tree.{query_says}
 use Rattle.kdl_query.specs.Internal.Parts.{query_parts}
 use Rattle.kdl_query.specs.Internal.Visits.{LevelSays, due, level_says}
+use Rattle.kdl_query.proofs.HeldWalk.{held_new}
 use Rattle.kdl_query.proofs.Walking.{due_new}
 use Rattle.kdl_query.proofs.walk.Walk.new.Goals as goal
 
-pub returns : goal.returns
-returns c =
+pub returns-clause-due : goal.returns-clause-due
+returns-clause-due c =
     let items : c.push.new.self.items ≡ c.new.result ∷ [] = search rules in
     ap (λ ls. due [] (map level_says ls)) items
-    ∙ due_new (level_says c.new.result) (document_says c.args.document.now) (query_parts (query_says c.args.query.now)) (ap (λ (k : LevelSays). k.next) c.new.ensures)
-    (ap (λ (k : LevelSays). k.parts) c.new.ensures ∙ c.in_ok-parts.ensures) (ap (λ (k : LevelSays). k.nodes) c.new.ensures ∙ c.nodes.ensures.said)
+    ∙ due_new (level_says c.new.result) (document_says c.args.document.now) (query_parts (query_says c.args.query.now)) (ap (λ (k : LevelSays). k.next) c.new.ensures.says)
+    (ap (λ (k : LevelSays). k.parts) c.new.ensures.says ∙ c.in_ok-parts.ensures) (ap (λ (k : LevelSays). k.nodes) c.new.ensures.says ∙ c.nodes.ensures.said)
+
+pub returns-clause-over : goal.returns-clause-over
+returns-clause-over c =
+    let items : c.push.new.self.items ≡ c.new.result ∷ [] = search rules in
+    held_new c.args.document.now c.new.result _ items (c.new.ensures.nodes ∙ c.nodes.ensures.value)

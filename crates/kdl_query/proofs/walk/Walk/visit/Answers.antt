@@ -1,9 +1,10 @@
-use Rattle.std.proofs.Common.{◌≡◌, ◌-◌, ◌<◌, List, [], ◌∷◌, ◌++◌, ◌∙◌, ap, map, sym, take, slice_set, rules}
+use Rattle.std.proofs.Common.{◌≡◌, ◌-◌, ◌<◌, List, [], ◌∷◌, ◌++◌, ◌∙◌, ap, map, sym, take, slice_set, subst, rules}
 use Rattle.std.proofs.lemmas.List.{map-append}
 use Rattle.kdl_text.specs.Spans.{raise}
-use Rattle.kdl_query.specs.Internal.Visits.{LevelSays, due, level_at, level_due, level_left, level_says, looks_of, path_of, walk_due}
+use Rattle.kdl_query.specs.Internal.Visits.{HeldLevels, LevelSays, due, level_at, level_due, level_left, level_says, looks_of, path_of, walk_due}
 use Rattle.kdl_query.specs.declared.walk.Level.{Level}
 use Rattle.kdl_query.proofs.Counting.{looks_append, raised_more}
+use Rattle.kdl_query.proofs.HeldWalk.{held_came, held_left, held_on}
 use Rattle.kdl_query.proofs.Levels.{ends_in, front_kept, set_last}
 use Rattle.kdl_query.proofs.Passing.{passes_before, passes_on, passes_to}
 use Rattle.kdl_query.proofs.Walking.{due_last, walk_came, walk_left_is}
@@ -50,6 +51,21 @@ returns-in-Some-advance-clause-counted c =
     ∙ raised_more c.loop-level.count c.advance.new.count (looks_of (level_left (path_of ls) visit k)) (looks_of (level_due (path_of ls) l)) (looks_of (due [] ls)) (c.in-Some-advance.ensures.counted (path_of ls))
     ∙ ap (raise c.loop-level.count) (sym (looks_append (level_due (path_of ls) l) (due [] ls))) ∙ ap (λ vs. raise c.loop-level.count (looks_of vs)) (sym now) ∙ c.loop-level.invariant.counted
 
+pub returns-in-Some-advance-clause-over : goal.returns-in-Some-advance-clause-over
+returns-in-Some-advance-clause-over c =
+    let v = c.loop-level.self.levels in
+    let front : List Level = take (v.len - 1) v.items in
+    let some : 0 < v.len = search rules in
+    let before : v.items ≡ front ++ c.in-Some.level.now ∷ [] = ends_in v.len v.items c.in-Some.level.now v.ok.0 some c.in-Some.ensures.value in
+    λ d h. held_on d front c.in-Some.level.now c.advance.new.self _ c.in-Some-advance.ensures.kept (set_last v.len v.items c.advance.new.self v.ok.0 some) (subst (HeldLevels d []) before (c.loop-level.invariant.over d h))
+
+pub returns-in-Some-advance-clause-held : goal.returns-in-Some-advance-clause-held
+returns-in-Some-advance-clause-held c =
+    let v = c.loop-level.self.levels in
+    let front : List Level = take (v.len - 1) v.items in
+    let some : 0 < v.len = search rules in
+    λ d h. held_came d front c.advance.new.self _ c.in-Some-advance.visit.node.now (set_last v.len v.items c.advance.new.self v.ok.0 some) (returns-in-Some-advance-clause-over c d h) c.in-Some-advance.ensures.node
+
 pub loop-level-preserved : goal.loop-level-preserved
 loop-level-preserved c =
     let v = c.loop-level.self.levels in
@@ -67,6 +83,7 @@ loop-level-preserved c =
           (passes_on (walk_due c.args.self.now) (level_due (path_of ls) l ++ due [] ls) (due [] ls)
           (passes_to (walk_due c.args.self.now) (walk_due c.loop-level.self) (level_due (path_of ls) l ++ due [] ls) c.loop-level.invariant.due now)
           (passes_before (level_due (path_of ls) l) [] (due [] ls) (c.in_default-advance.ensures.due (path_of ls)))) rest;
+      over = λ d h. held_left d front c.in-Some.level.now v.items _ before left (c.loop-level.invariant.over d h);
       counted = ap (λ vs. raise c.advance.new.count (looks_of vs)) (sym rest) ∙ ap (raise c.advance.new.count) (looks_append [] (due [] ls))
           ∙ raised_more c.loop-level.count c.advance.new.count 0 (looks_of (level_due (path_of ls) l)) (looks_of (due [] ls)) (c.in_default-advance.ensures.counted (path_of ls))
           ∙ ap (raise c.loop-level.count) (sym (looks_append (level_due (path_of ls) l) (due [] ls))) ∙ ap (λ vs. raise c.loop-level.count (looks_of vs)) (sym now) ∙ c.loop-level.invariant.counted;
