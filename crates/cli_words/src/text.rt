@@ -1,36 +1,38 @@
-//! Texts that are written piece by piece.
+//! Pieces that several texts have.
 
+ghost use Rattle.cli_words.specs.Pieces.{short_name, spaced};
+ghost use Rattle.std.specs.Prelude.{◌≡◌, ◌++◌, OnOk, flat_map, string_bytes};
+
+use crate::words::Flag;
 use std::alloc::AllocError;
 
-/// Writes the texts one after the other.
-pub(crate) fn push_all(out: &mut String, texts: &[&str]) -> Result<(), AllocError> {
+/// Appends the texts, each with a space after it.
+pub(crate) fn push_spaced(out: &mut String, texts: &[&str]) -> Result<(), AllocError>
+    ensures { OnOk result (string_bytes out.new ≡ string_bytes out.old ++ flat_map spaced texts.now) }
+{
     for text in texts {
         out.push_str(text)?;
+        out.push_str(" ")?;
     }
     Ok(())
 }
 
-/// Returns what is written instead of the character, if it has an escape.
-fn escape_of(escapes: &[(char, &'static str)], c: char) -> Option<&'static str> {
-    for (escaped, escape) in escapes {
-        if *escaped == c {
-            return Some(*escape);
-        }
-    }
-    None
-}
-
-/// Writes the text, with an escape for each character that has one.
-pub(crate) fn push_escaped(
+/// Appends the short name of a flag between two texts, if it has one.
+pub(crate) fn push_short(
     out: &mut String,
-    text: &str,
-    escapes: &[(char, &'static str)],
-) -> Result<(), AllocError> {
-    for c in text.chars() {
-        match escape_of(escapes, c) {
-            Some(escape) => out.push_str(escape)?,
-            None => out.push(c)?,
+    flag: &Flag,
+    before: &str,
+    after: &str,
+) -> Result<(), AllocError>
+    ensures { OnOk result (string_bytes out.new
+        ≡ string_bytes out.old ++ short_name flag.now before.now after.now) }
+{
+    match flag.short {
+        Some(short) => {
+            out.push_str(before)?;
+            out.push(short)?;
+            out.push_str(after)
         }
+        None => Ok(()),
     }
-    Ok(())
 }

@@ -1,5 +1,7 @@
 //! The words of the program, with their flags: its help, manual page and completions are made from this table.
 
+ghost use Rattle.cli_words.specs.Words.{AreWords};
+
 /// The version of the program.
 pub const VERSION: &str = "1.0.0";
 
@@ -153,7 +155,9 @@ A name is any KDL string. It is in quotes if it is no bare name, holds one of `/
 `remove` takes away the node if the path has neither `#` nor `@`. `insert` adds to the block of the node.";
 
 /// Returns the words.
-pub fn words() -> &'static [Word] {
+pub fn words() -> &'static [Word]
+    ensures { AreWords result.now }
+{
     &WORDS
 }
 
