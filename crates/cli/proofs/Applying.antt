@@ -1,8 +1,9 @@
 -- The results of actions.
-use Rattle.std.proofs.Common.{Bor, [], ◌∷◌, ◌==◌, true, false, length, ◌∙◌, ap, append-nil, refl, ◌≡◌, List, ℕ, Bool, Global, IsSome, Option, encode_utf8_all, Ok, Err, Result, String, chars, inl, inr, string_bytes, subst, sym}
+use Rattle.std.proofs.Common.{Bor, [], ◌==◌, true, false, length, ◌∙◌, ap, append-nil, refl, ◌≡◌, List, ℕ, Bool, Global, IsSome, Option, encode_utf8_all, Ok, Err, Result, String, chars, inl, inr, string_bytes, subst, sym}
 use Rattle.std.specs.List.{flat_map}
 use Rattle.std.specs.Option.{option_to_list}
 use Rattle.std.proofs.lemmas.Bool.{eqb-true}
+use Rattle.std.proofs.lemmas.List.{nil_from_length}
 use Rattle.std.proofs.lemmas.Option.{none-some}
 use Rattle.kdl.specs.Words.{DocumentKeepsNoForm, IsDocument, Nodes, Value, FormatsDocument, RereadsDocument, document_prints, document_says, without_comments}
 use Rattle.kdl.specs.declared.document.KdlDocument.{KdlDocument}
@@ -12,7 +13,7 @@ use Rattle.kdl_path.specs.Paths.{all_at, at_path}
 use Rattle.kdl_path.proofs.Reached.{none_there}
 use Rattle.kdl_path.specs.Each.{RemoveEachFails, SetEachFails}
 use Rattle.kdl_path.specs.Edits.{HasPlace, IsInsertedAt, IsSetAt, named_at, without}
-use Rattle.kdl_path.specs.Failures.{InsertFails, RemoveFails, SetFails}
+use Rattle.kdl_path.specs.Failures.{InsertFails, RemoveFails, SetFails, TextFails}
 use Rattle.kdl_path.specs.declared.failure.EditFailure.{EditFailure}
 use Rattle.kdl_path.specs.declared.failure.EditFailure.TheVariants as edit
 use Rattle.kdl_path.specs.declared.path.Path.{Path}
@@ -25,7 +26,6 @@ use Rattle.cli_shown.specs.Values.{line_of}
 use Rattle.cli.specs.Asks.{IsMisused, IsNotThere, IsOnDocument}
 use Rattle.cli.specs.Edits.{IsInserted, IsRemoved, IsSet}
 use Rattle.cli.specs.Internal.Applied.{Applies, IsUnedited, ShowsAt}
-use Rattle.cli.specs.Reports.{IsFaulty}
 use Rattle.cli.specs.declared.ask.Action.{Action}
 use Rattle.cli.specs.declared.ask.Action.TheVariants.{FromJson, Get, Insert, Remove, RemoveEach, Set, SetEach}
 use Rattle.cli.specs.declared.ask.Applied.{Applied}
@@ -33,7 +33,7 @@ use Rattle.cli.specs.declared.ask.Applied.TheVariants.{Text, NotFound, Usage}
 
 -- what a failed edit says of an action and a text
 abbrev Fails : Action → List ℕ → EditFailure → Type 0
-Fails a text (edit.Text e) = IsOnDocument a × IsFaulty text e
+Fails a text (edit.Text e) = IsOnDocument a × TextFails text e
 Fails a text (edit.Missing m) = IsNotThere a text
 Fails a text edit.Memory = Unit {0}
 Fails a text _ = IsMisused a
@@ -144,8 +144,7 @@ one_shown p raw false text x (Err Memory) a d h = tt
 
 -- no value is at the path
 pub no_items : {A : Type 0} (xs : List A) (n : ℕ) → n ≡ length xs → true ≡ (n == 0) → xs ≡ []
-no_items [] n l e = refl
-no_items (x ∷ xs) n l e = let z : n ≡ 0 = eqb-true n 0 (sym e) in absurd cc
+no_items xs n l e = nil_from_length xs (sym l ∙ eqb-true n 0 (sym e))
 
 pub none_shown : (p : Bor Path) (raw all : Bool) (text : List ℕ) (x : Nodes) (r : Result Applied ParseFailure) → all ≡ true → IsDocument (chars text) x → all_at p.now x ≡ [] → ShowsAt p.now raw x r → Applies (Get p raw all) text r
 none_shown p raw all text x (Ok (Text s)) a d e (v, f, g) = absurd (none-some v (sym (none_there p.now x e) ∙ f))

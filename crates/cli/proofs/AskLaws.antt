@@ -30,10 +30,10 @@ use Rattle.cli.specs.declared.ask.Action.{Action}
 use Rattle.cli.specs.declared.ask.Action.TheVariants.{Get, Json, Set}
 use Rattle.cli.specs.declared.ask.Ask.{Ask}
 
-some_same : {A : Type 0} {a b : A} → Some a ≡ Some b → a ≡ b
+pub some_same : {A : Type 0} {a b : A} → Some a ≡ Some b → a ≡ b
 some_same e = cc
 
-nothing_appended : (before out : List ℕ) → before ≡ before ++ out → out ≡ []
+pub nothing_appended : (before out : List ℕ) → before ≡ before ++ out → out ≡ []
 nothing_appended before out e = append_cancel_left before out [] (sym e ∙ sym (append-nil before))
 
 no_line : (a b : List ℕ) → [] ≡ (a ++ (10 ∷ [])) ++ b → ⊥
@@ -41,11 +41,11 @@ no_line [] b e = absurd cc
 no_line (x ∷ a) b e = absurd cc
 
 -- a report with another status than `Done`
-report_not_done : (name b : List ℕ) (old new : Seen) (s : Status) (t : Tally) → (s ≡ Done → ⊥) → Happens name old new (reports b s) t → t.status ≡ Done → ⊥
+pub report_not_done : (name b : List ℕ) (old new : Seen) (s : Status) (t : Tally) → (s ≡ Done → ⊥) → Happens name old new (reports b s) t → t.status ≡ Done → ⊥
 report_not_done name b old new s t n (reported r) d = n d
 
 -- a file that has no text
-unread_not_done : (name : List ℕ) (old new : Seen) (s : Status) → s ≡ Done → IsUnread name old new s → ⊥
+pub unread_not_done : (name : List ℕ) (old new : Seen) (s : Status) → s ≡ Done → IsUnread name old new s → ⊥
 unread_not_done name old new Done e u = u
 unread_not_done name old new Found e u = cc
 unread_not_done name old new Usage e u = cc
@@ -71,11 +71,11 @@ file_given ask old new _ text (acts {text = text'} {t} has u done) d f =
 file_given ask old new _ text (unread {s} u) d f = absurd (unread_not_done ask.name.now old new s d u)
 
 -- what is printed, and what is replaced, with `Done`
-done_printed : (name out : List ℕ) (old new : Seen) (t : Tally) → Happens name old new (prints out (plain Done)) t → t.status ≡ Done → Prints out old new
+pub done_printed : (name out : List ℕ) (old new : Seen) (t : Tally) → Happens name old new (prints out (plain Done)) t → t.status ≡ Done → Prints out old new
 done_printed name out old new _ (printed p) d = p
 done_printed name out old new _ (unprinted u) d = absurd cc
 
-done_replaced : (name out : List ℕ) (old new : Seen) (t : Tally) → Happens name old new (replaces out) t → t.status ≡ Done → Replaces name out old new
+pub done_replaced : (name out : List ℕ) (old new : Seen) (t : Tally) → Happens name old new (replaces out) t → t.status ≡ Done → Replaces name out old new
 done_replaced name out old new _ (replaced p) d = p
 done_replaced name out old new _ (unreplaced u) d = absurd cc
 
@@ -98,7 +98,7 @@ appended (Some xs) (Some ys) before out e h = ap Some (h ∙ ap (λ (l : List �
 appended (Some xs) None before out e h = absurd h
 appended None b before out e h = absurd cc
 
-got : (out before : List ℕ) (old new : Seen) → Gets out old.out new.out → old.out.bytes ≡ Some before → new.out.failed ≡ false → new.out.bytes ≡ Some (before ++ out)
+pub got : (out before : List ℕ) (old new : Seen) → Gets out old.out new.out → old.out.bytes ≡ Some before → new.out.failed ≡ false → new.out.bytes ≡ Some (before ++ out)
 got out before old new (inl (grows, same)) e f = appended old.out.bytes new.out.bytes before out e grows
 got out before old new (inr (cut, failed)) e f = absurd cc
 

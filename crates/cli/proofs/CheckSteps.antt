@@ -1,5 +1,5 @@
 -- Files that are checked, one after another.
-use Rattle.std.proofs.Common.{◌≡◌, ◌∙◌, ℕ, ◌+◌, ◌-◌, ◌^◌, max, min, List, [], ◌∷◌, ◌++◌, Result, Err, Bool, true, false, cond, if◌then◌else◌, ap, arith, codes, inl, inr, length, nat_lt, refl, subst, sym}
+use Rattle.std.proofs.Common.{◌≡◌, ◌∙◌, ℕ, ◌+◌, ◌-◌, ◌^◌, max, min, List, [], ◌∷◌, ◌++◌, Bool, true, false, cond, if◌then◌else◌, ap, arith, codes, inl, inr, length, nat_lt, refl, subst, sym}
 use Rattle.std.proofs.lemmas.List.Sums.{sum_by-append}
 use Rattle.cli_world.proofs.Acting.{Does-map, does_this, each_more, nothing_happens, worst-push}
 use Rattle.cli_world.specs.Acts.{Does, Each, Happens}
@@ -11,14 +11,10 @@ use Rattle.cli_world.specs.Tallies.{plain, worst}
 use Rattle.cli_world.specs.declared.status.Status.{Status}
 use Rattle.cli_world.specs.declared.status.Status.TheVariants.{Done, Found}
 use Rattle.cli_world.specs.declared.tally.Tally.{Tally}
-use Rattle.kdl.specs.Words.{IsDocument, Nodes}
-use Rattle.kdl_text.specs.Failures.{IsSyntax, TellsOnSyntax}
 use Rattle.kdl_text.specs.declared.error.KdlError.{KdlError}
-use Rattle.kdl_text.specs.declared.error.ParseFailure.{ParseFailure}
-use Rattle.kdl_text.specs.declared.error.ParseFailure.TheVariants.{Syntax}
-use Rattle.std.specs.Str.{chars}
 use Rattle.cli.specs.Checks.{Checks, ChecksFile, ChecksFiles, IsSound, PrintsFaults, PrintsTotals, all_faults, fault_count, faulty_files, totals, totals_line}
-use Rattle.cli.specs.Reports.{IsFaulty, faults_report}
+use Rattle.kdl_path.specs.Failures.{TextFails}
+use Rattle.cli.specs.Reports.{faults_report}
 use Rattle.cli.specs.declared.check.Totals.{Totals}
 use Rattle.cli.specs.declared.report.Form.{Form}
 use Rattle.cli.specs.declared.report.Form.TheVariants.{Human, Short, Json}
@@ -26,7 +22,7 @@ use Rattle.cli.specs.declared.report.Style.{Style}
 
 -- the faults of a text are printed
 pub faults_printed : (style : Style) (name text out : List ℕ) (error : KdlError) (count : ℕ) (old new : Seen) (t : Tally) → out ≡ faults_report style name text error.diagnostics.items
-    → count ≡ length error.diagnostics.items → Happens name old new (prints out (record { status = Found; count = count })) t → IsFaulty text error → Does (PrintsFaults style name text) name old new t
+    → count ≡ length error.diagnostics.items → Happens name old new (prints out (record { status = Found; count = count })) t → TextFails text error → Does (PrintsFaults style name text) name old new t
 faults_printed style name text out error count old new t e n h f =
     does_this (PrintsFaults style name text) name old new (prints out (record { status = Found; count = count })) t (error, f, rw (e, n) refl) h
 
@@ -38,13 +34,6 @@ sound_checked style name text s t x e =
 -- the faults of a text that is no document are printed
 pub faulty_checked : (style : Style) (name text : List ℕ) (old new : Seen) (t : Tally) → Does (PrintsFaults style name text) name old new t → Does (Checks style name text) name old new t
 faulty_checked style name text old new t d = Does-map (PrintsFaults style name text) (Checks style name text) (λ e p. inr p) name old new t d
-
--- a text that is refused is no document, and its error tells its faults
-pub is_faulty : {A : Type 0} (text : List ℕ) (r : Result A ParseFailure) (f : ParseFailure) (error : KdlError) → r ≡ Err f → f ≡ Syntax error → (IsSyntax r → (x : Nodes) → IsDocument (chars text) x → ⊥) → TellsOnSyntax text r
-    → IsFaulty text error
-is_faulty text r f error is e refused tells =
-    let same = is ∙ ap Err e in
-    (subst (λ q. IsSyntax q → (x : Nodes) → IsDocument (chars text) x → ⊥) same refused tt, subst (λ q. TellsOnSyntax text q) same tells)
 
 -- nothing is printed on all faults
 pub no_totals : (form : Form) (faults files : ℕ) (name : List ℕ) (s : Seen) (t : Tally) → totals form faults files ≡ [] → t ≡ plain Done → Does (PrintsTotals form faults files) name s s t

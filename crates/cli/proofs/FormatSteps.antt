@@ -1,11 +1,8 @@
 -- What is done with texts that are formatted, and what becomes of their files.
-use Rattle.std.proofs.Common.{◌≡◌, ◌∙◌, ◌⊎◌, ◌∷◌, [], List, Option, Some, ap, chars, false, inl, inr, lit<, refl, subst, sym, ℕ}
-use Rattle.std.proofs.lemmas.List.{append-nil, append_cancel_left}
+use Rattle.std.proofs.Common.{◌≡◌, ◌∙◌, ◌⊎◌, ◌∷◌, [], List, Some, ap, chars, false, inl, inr, lit<, refl, subst, sym, ℕ}
 use Rattle.std.proofs.lemmas.List.Elements.{Contains-append_left, Contains-append_right}
 use Rattle.std.proofs.lemmas.Str.{chars-nil}
-use Rattle.std.specs.Io.KnownBytes.{Appends}
 use Rattle.kdl_report.specs.Hunks.{IsDiff}
-use Rattle.watched.specs.Streams.{Gets, Stream}
 use Rattle.cli_world.proofs.Acting.{Does-map, nothing_happens}
 use Rattle.cli_world.specs.Acts.{Does, Each, Effect, Happens, tally_of}
 use Rattle.cli_world.specs.Acts.Acts.{acts, unread}
@@ -18,6 +15,7 @@ use Rattle.cli_world.specs.Tallies.{plain}
 use Rattle.cli_world.specs.declared.status.Status.{Status}
 use Rattle.cli_world.specs.declared.status.Status.TheVariants.{Done, Failed, Found, Usage}
 use Rattle.cli_world.specs.declared.tally.Tally.{Tally}
+use Rattle.cli.proofs.AskLaws.{done_printed, done_replaced, got, nothing_appended, some_same, unread_not_done}
 use Rattle.cli.specs.Formats.{ChangesNamed, Formats, FormatsFile, FormatsFiles, IsChange, IsDelivery, IsNoChange, ShowsLines}
 use Rattle.cli.specs.Formatted.{IsFormatted}
 use Rattle.cli.specs.Reports.{ReportsFaults}
@@ -119,28 +117,18 @@ changes_named job names old new status f = each_changes job names old new f.0 f.
 
 -- ---- what formatting is not
 
--- a text that is printed, while the output stays, is empty
-nothing_printed : (old new : Stream) (known out : List ℕ) → Gets out old new → old.bytes ≡ Some known → new.bytes ≡ Some known → new.failed ≡ false → out ≡ []
-nothing_printed old new known out (inl g) was is works =
-    sym (append_cancel_left known [] out (append-nil known ∙ subst (λ (b : Option (List ℕ)). Appends b (Some known) out) was (subst (λ (b : Option (List ℕ)). Appends old.bytes b out) is g.0)))
-nothing_printed old new known out (inr c) was is works = let failed = c.1 in absurd (cc)
-
--- what prints a text, and ends with `Done`, prints it
+-- what prints a text while the output stays, and ends with `Done`, prints nothing
 done_prints : (name text known : List ℕ) (old new : Seen) (e : Effect) (t : Tally) → old.out.bytes ≡ Some known → new.out.bytes ≡ Some known → new.out.failed ≡ false → Happens name old new e t
     → e ≡ prints text (plain Done) → t.status ≡ Done → text ≡ []
-done_prints name text known old new _ _ was is works (printed {bytes} {t} p) e done = let none = nothing_printed old.out new.out known bytes p.out was is works in cc
-done_prints name text known old new _ _ was is works (unprinted u) e done = absurd (cc)
-done_prints name text known old new _ _ was is works (reported r) e done = absurd (cc)
-done_prints name text known old new _ _ was is works (replaced r) e done = absurd (cc)
-done_prints name text known old new _ _ was is works (unreplaced r) e done = absurd (cc)
+done_prints name text known old new e t was is works h e-is done =
+    let p = done_printed name text old new t (subst (λ (x : Effect). Happens name old new x t) e-is h) done in
+    nothing_appended known text (some_same (sym is ∙ got text known old new p.out was works))
 
--- what replaces a file, and ends with `Done`, replaces it
+-- what replaces a file that stays, and ends with `Done`, gives its text
 done_replaces : (name text was : List ℕ) (old new : Seen) (e : Effect) (t : Tally) → old.files name ≡ Some was → new.files name ≡ Some was → Happens name old new e t → e ≡ replaces text → t.status ≡ Done → was ≡ text
-done_replaces name text was old new _ _ before after (printed p) e done = absurd (cc)
-done_replaces name text was old new _ _ before after (unprinted u) e done = absurd (cc)
-done_replaces name text was old new _ _ before after (reported r) e done = absurd (cc)
-done_replaces name text was old new _ _ before after (replaced {bytes} r) e done = let now = r.files.this was before in cc
-done_replaces name text was old new _ _ before after (unreplaced r) e done = absurd (cc)
+done_replaces name text was old new e t before after h e-is done =
+    let p = done_replaced name text old new t (subst (λ (x : Effect). Happens name old new x t) e-is h) done in
+    some_same (sym after ∙ p.files.this was before)
 
 -- what ends with `Done` has that status
 own_status : (name : List ℕ) (old new : Seen) (e : Effect) (t : Tally) → Happens name old new e t → t.status ≡ Done → (tally_of e).status ≡ Done
@@ -154,13 +142,6 @@ own_status name old new _ _ (unreplaced r) done = absurd (cc)
 not_done : (name : List ℕ) (old new : Seen) (e known : Effect) (t : Tally) → Happens name old new e t → e ≡ known → t.status ≡ Done → (tally_of known).status ≡ Done
 not_done name old new e known t h is done = subst (λ (x : Effect). (tally_of x).status ≡ Done) is (own_status name old new e t h done)
 
--- what has no text does not end with `Done`
-not_unread : (name : List ℕ) (old new : Seen) (s : Status) → IsUnread name old new s → s ≡ Done → ⊥
-not_unread name old new Done u done = u
-not_unread name old new Found u done = cc
-not_unread name old new Usage u done = u
-not_unread name old new Failed u done = cc
-
 -- where formatting makes no empty text of a text, and it is to be printed, something is printed
 pub prints_something : (job : Job) (name was known : List ℕ) (old new : Seen) (t : Tally) → job.mode ≡ Print → old.files name ≡ Some was → (IsFormatted job.settings (chars was) [] → ⊥)
     → old.out.bytes ≡ Some known → new.out.bytes ≡ Some known → new.out.failed ≡ false → FormatsFile job name old new t → t.status ≡ Done → ⊥
@@ -171,7 +152,7 @@ prints_something job name was known old new _ mode is never before after works (
     never (subst (λ (x : List ℕ). IsFormatted job.settings (chars x) []) same (subst (λ (x : List ℕ). IsFormatted job.settings (chars text) x) (ap chars empty ∙ chars-nil) f))
 prints_something job name was known old new _ mode is never before after works (acts {text} has utf8 (does {e} {t} (inr r) h)) done = let k = not_done name old new e _ t h r.2 done in cc
 prints_something job name was known old new _ mode is never before after works (acts has utf8 (memory r)) done = absurd (cc)
-prints_something job name was known old new _ mode is never before after works (unread {s} u) done = not_unread name old new s u done
+prints_something job name was known old new _ mode is never before after works (unread {s} u) done = unread_not_done name old new s done u
 
 -- a change that is not printed, and ends with `Done`, is in the file
 done_changes : (mode : Mode) (name was text : List ℕ) (old new : Seen) (e : Effect) (t : Tally) → (mode ≡ Print → ⊥) → old.files name ≡ Some was → new.files name ≡ Some was → IsChange mode name was text e → Happens name old new e t
@@ -192,4 +173,4 @@ changes_something job name was old new _ other before after never (acts {text} h
     never (subst (λ (x : List ℕ). IsFormatted job.settings (chars was) (chars x)) (sym same) f')
 changes_something job name was old new _ other before after never (acts {text} has utf8 (does {e} {t} (inr r) h)) done = let k = not_done name old new e _ t h r.2 done in cc
 changes_something job name was old new _ other before after never (acts has utf8 (memory r)) done = absurd (cc)
-changes_something job name was old new _ other before after never (unread {s} u) done = not_unread name old new s u done
+changes_something job name was old new _ other before after never (unread {s} u) done = unread_not_done name old new s done u

@@ -16,14 +16,14 @@ pub mod Indents
 pub mod QueryFaults
 -- The bytes of reports.
 pub mod ReportSteps
--- Nodes that are settings are the nodes for what they say.
-mod SaidSettings
 -- What is shown of selected nodes is not empty, and only where some are selected is the status of files 0.
 pub mod SearchLaws
 -- Files that are searched one after another.
 pub mod SearchSteps
 -- Texts that are words of ASCII.
 mod Spelled
+-- Texts of the program itself are shown.
+pub mod TextLaws
 -- What a check of a file says of its text.
 pub mod Verdicts
 -- What becomes of the settings of a run, and of the files that are formatted with them.

@@ -2,10 +2,11 @@
 use Rattle.std.proofs.Common.{◌≡◌, ◌∙◌, ◌∷◌, [], ◌++◌, Bool, Global, IfOk, List, Result, Ok, Err, String, ap, chars, option_map, string_bytes, subst, sym, ℕ}
 use Rattle.std.proofs.lemmas.Str.{IsUtf8-string_bytes, encodes-append, encodes-chars}
 use Rattle.std.specs.Str.{encode_utf8_all}
+use Rattle.kdl.specs.Words.{IsDocument, Nodes}
 use Rattle.kdl_report.specs.Hints.{hint_of}
 use Rattle.kdl_report.specs.Picture.{one_line, picture}
 use Rattle.kdl_text.specs.declared.error.KdlDiagnostic.{KdlDiagnostic}
-use Rattle.kdl_text.specs.Failures.{IsSyntax, Tells, TellsOnSyntax}
+use Rattle.kdl_text.specs.Failures.{IsSyntax, TellsOnSyntax}
 use Rattle.kdl_text.specs.declared.error.KdlError.{KdlError}
 use Rattle.kdl_text.specs.declared.error.ParseFailure.{ParseFailure}
 use Rattle.kdl_text.specs.declared.error.ParseFailure.TheVariants.{Syntax}
@@ -15,7 +16,8 @@ use Rattle.cli_world.specs.Acts.Effect.{reports}
 use Rattle.cli_world.specs.Seen.{Seen}
 use Rattle.cli_world.specs.declared.status.Status.TheVariants.{Found}
 use Rattle.cli_world.specs.declared.tally.Tally.{Tally}
-use Rattle.cli.specs.Reports.{IsFaulty, ReportsFaults, fault_report, faults_report}
+use Rattle.kdl_path.specs.Failures.{TextFails}
+use Rattle.cli.specs.Reports.{ReportsFaults, fault_report, faults_report}
 use Rattle.cli.specs.declared.report.Form.{Form}
 use Rattle.cli.specs.declared.report.Form.TheVariants.{Human, Short}
 use Rattle.cli.specs.declared.report.Style.{Style}
@@ -39,12 +41,14 @@ short_is (Ok s) form color name lines fault is short =
     λ text same. bytes_are s _ (short ∙ ap (λ (t : List ℕ). one_line (chars name) t fault) same) ∙ ap (λ (f : Form). fault_report f color name text fault) (sym is)
 short_is (Err e) form color name lines fault is short = short
 
--- what is known of a refused text, by its error
-pub at_syntax : {X : Type 0} (text : List ℕ) (f : ParseFailure) (error : KdlError) → f ≡ Syntax error → (IsSyntax {A = String Global} (Err f) → X) → TellsOnSyntax {A = String Global} text (Err f) → X × Tells text error
-at_syntax {X} text f error is =
-    subst (λ (f : ParseFailure). (IsSyntax {A = String Global} (Err f) → X) → TellsOnSyntax {A = String Global} text (Err f) → X × Tells text error) (sym is) (λ refused told. (refused tt, told))
+-- a text that is refused is no document, and its error tells its faults
+pub is_faulty : {A : Type 0} (text : List ℕ) (r : Result A ParseFailure) (f : ParseFailure) (error : KdlError) → r ≡ Err f → f ≡ Syntax error → (IsSyntax r → (x : Nodes) → IsDocument (chars text) x → ⊥) → TellsOnSyntax text r
+    → TextFails text error
+is_faulty text r f error is e refused tells =
+    let same = is ∙ ap Err e in
+    (subst (λ q. IsSyntax q → (x : Nodes) → IsDocument (chars text) x → ⊥) same refused tt, subst (λ q. TellsOnSyntax text q) same tells)
 
 -- the faults are reported
-pub does_report : (style : Style) (name text bytes : List ℕ) (error : KdlError) (old new : Seen) (t : Tally) → bytes ≡ faults_report style name text error.diagnostics.items → Happens name old new (reports bytes Found) t → IsFaulty text error
+pub does_report : (style : Style) (name text bytes : List ℕ) (error : KdlError) (old new : Seen) (t : Tally) → bytes ≡ faults_report style name text error.diagnostics.items → Happens name old new (reports bytes Found) t → TextFails text error
     → Does (ReportsFaults style name text) name old new t
 does_report style name text bytes error old new t is h faulty = does (error, faulty, ap (λ (b : List ℕ). reports b Found) is) h

@@ -1,14 +1,18 @@
 -- What becomes of the settings of a run, and of the files that are formatted with them.
-use Rattle.std.proofs.Common.{◌≡◌, ◌∙◌, Bool, Bor, Err, List, Some, codes, false, inl, inr, subst, sym, true, ℕ}
+use Rattle.std.proofs.Common.{◌≡◌, ◌∙◌, Bool, Bor, Err, List, Some, ap, codes, false, inl, inr, refl, subst, sym, true, ℕ}
+use Rattle.cli_world.proofs.Acting.{memory_is}
+use Rattle.cli_world.specs.Acts.{Happens}
+use Rattle.cli_world.specs.Acts.Does.{does}
+use Rattle.cli_world.specs.Acts.Effect.{prints}
 use Rattle.cli_world.specs.Files.{Has}
 use Rattle.cli_world.specs.Seen.{Reports, Seen, problem}
 use Rattle.cli_world.specs.Tallies.{plain}
 use Rattle.cli_world.specs.declared.status.Status.{Status}
-use Rattle.cli_world.specs.declared.status.Status.TheVariants.{Failed, Usage}
+use Rattle.cli_world.specs.declared.status.Status.TheVariants.{Done, Failed, Usage}
 use Rattle.cli_world.specs.declared.tally.Tally.{Tally}
 use Rattle.cli.specs.Config.{Configures}
 use Rattle.cli.specs.Formats.{FormatsFiles}
-use Rattle.cli.specs.Requests.{AreSettings, IsUnsettled, IsUnusable, RunsFormat, has_input_twice, job_of, names_of, or_input, replaces_input, unfit_report}
+use Rattle.cli.specs.Requests.{AreSettings, IsUnsettled, IsUnusable, RunsFormat, Shows, has_input_twice, job_of, names_of, or_input, replaces_input, unfit_report}
 use Rattle.cli.specs.Requests.IsUnsettled.{memory, unfit}
 use Rattle.cli.specs.Requests.RunsFormat.{runs, unsettled, unusable}
 use Rattle.cli.specs.declared.config.Unfit.{Unfit}
@@ -43,3 +47,10 @@ pub formatted_with : (f : Format) (settings : Settings) (b c : Bool) (old mid ne
 formatted_with f settings b c old mid new s b-is off c-is once (same, are) r =
     runs {settings = settings} (sym b-is ∙ off) (sym c-is ∙ once) are
     (subst (λ (x : Seen). FormatsFiles (job_of f settings) (or_input (names_of f.names.now)) x new s) same r)
+
+-- a text of the program itself is printed
+pub is_shown : (IsText : List ℕ → Type 0) (bytes text : List ℕ) (old new : Seen) (s : Status) → IsText text → bytes ≡ text → (t : Tally) × Happens (codes "output") old new (prints bytes (plain Done)) t × (s ≡ t.status) → Shows IsText old new s
+is_shown IsText bytes text old new s is same (t, h, e) = (t, does {e = prints bytes (plain Done)} (text, is, ap (λ (b : List ℕ). prints b (plain Done)) same) h, e)
+
+pub is_not_shown : (IsText : List ℕ → Type 0) (t : Tally) (old new : Seen) → Reports (problem (codes "output") (codes "out of memory")) old new → t ≡ plain Failed → Shows IsText old new t.status
+is_not_shown IsText t old new r e = (t, memory_is _ (codes "output") old new t r e, refl)

@@ -22,14 +22,15 @@ use Rattle.cli_world.specs.Acts.{Does, Each, Effect, Happens}
 use Rattle.cli_world.specs.Acts.Acts.{acts, unread}
 use Rattle.cli_world.specs.Acts.Does.{does, memory}
 use Rattle.cli_world.specs.Acts.Each.{none, more}
-use Rattle.cli_world.specs.Acts.Effect.{prints, reports}
-use Rattle.cli_world.specs.Acts.Happens.{printed, unprinted, reported}
-use Rattle.cli_world.specs.Seen.{IsUnread, Seen}
+use Rattle.cli_world.specs.Acts.Effect.{prints}
+use Rattle.cli_world.specs.Acts.Happens.{printed, unprinted}
+use Rattle.cli_world.specs.Seen.{Seen}
 use Rattle.cli_world.specs.Statuses.{code_of}
 use Rattle.cli_world.specs.Tallies.{counted, worst}
 use Rattle.cli_world.specs.declared.status.Status.{Status}
 use Rattle.cli_world.specs.declared.status.Status.TheVariants.{Done, Found, Usage, Failed}
 use Rattle.cli_world.specs.declared.tally.Tally.{Tally}
+use Rattle.cli.proofs.AskLaws.{report_not_done, unread_not_done}
 use Rattle.cli.specs.Searches.{Searches, SearchesFile, SearchesFiles, Shows}
 use Rattle.cli.specs.declared.query.Search.{Search}
 
@@ -94,9 +95,6 @@ happened : (name out : List ℕ) (old new : Seen) (given t : Tally) → Happens 
 happened name out old new given _ (printed p) e = (p.out, refl)
 happened name out old new given _ (unprinted p) e = absurd cc
 
-reported_found : (name out : List ℕ) (old new : Seen) (t : Tally) → Happens name old new (reports out Found) t → t.status ≡ Done → ⊥
-reported_found name out old new _ (reported p) e = cc
-
 -- the nodes that were printed, if all is well
 pub record Printed (s : Search) (text : List ℕ) (old new : Seen) (t : Tally) : Type 0 where
   pub bytes : List ℕ
@@ -108,20 +106,14 @@ pub record Printed (s : Search) (text : List ℕ) (old new : Seen) (t : Tally) :
 text_printed : (s : Search) (name text : List ℕ) (old new : Seen) (t : Tally) → Does (Searches s name text) name old new t → t.status ≡ Done → Printed s text old new t
 text_printed s name text old new _ (memory r) e = absurd cc
 text_printed s name text old new _ (does {e = x} {t} (inr (error, f, is)) h) e =
-    absurd (reported_found name _ old new t (subst (λ (y : Effect). Happens name old new y t) is h) e)
+    absurd (report_not_done name _ old new Found t (λ e. cc) (subst (λ (y : Effect). Happens name old new y t) is h) e)
 text_printed s name text old new _ (does {e = x} {t} (inl (out, count, shows, is)) h) e =
     let so = happened name out old new (record { status = Done; count = count }) t (subst (λ (y : Effect). Happens name old new y t) is h) e in
     record { bytes = out; count = count; shows = shows; gets = so.0; counts = ap (λ (x : Tally). x.count) so.1 }
 
-not_read : (name : List ℕ) (old new : Seen) (s : Status) → IsUnread name old new s → s ≡ Done → ⊥
-not_read name old new Done h e = h
-not_read name old new Found h e = cc
-not_read name old new Usage h e = h
-not_read name old new Failed h e = cc
-
 -- the same of a file with these bytes
 file_printed : (s : Search) (name bytes : List ℕ) (old new : Seen) (t : Tally) → old.files name ≡ Some bytes → SearchesFile s name old new t → t.status ≡ Done → Printed s bytes old new t
-file_printed s name bytes old new _ known (unread {s = x} u) e = absurd (not_read name old new x u e)
+file_printed s name bytes old new _ known (unread {s = x} u) e = absurd (unread_not_done name old new x e u)
 file_printed s name bytes old new _ known (acts {text} {t} has utf8 d) e =
     subst (λ (b : List ℕ). Printed s b old new t) (sym (has bytes known)) (text_printed s name text old new t d e)
 

@@ -1,5 +1,5 @@
 -- Files that are searched one after another.
-use Rattle.std.proofs.Common.{Err, Result, chars, subst, ◌≡◌, ◌∙◌, ◌||◌, ◌+◌, ◌==◌, ℕ, max, zero, suc, Bool, false, nat_lt, List, [], ◌∷◌, ◌++◌, ap, arith, refl, sym}
+use Rattle.std.proofs.Common.{◌≡◌, ◌∙◌, ◌||◌, ◌+◌, ◌==◌, ℕ, max, zero, suc, Bool, false, nat_lt, List, [], ◌∷◌, ◌++◌, ap, arith, refl, sym}
 use Rattle.std.specs.Prelude.{if◌then◌else◌}
 use Rattle.std.proofs.lemmas.Bool.{lt-ltb}
 use Rattle.cli_world.specs.Acts.{Each}
@@ -11,11 +11,6 @@ use Rattle.cli_world.specs.declared.status.Status.{Status}
 use Rattle.cli_world.specs.declared.status.Status.TheVariants.{Done}
 use Rattle.cli_world.specs.declared.tally.Tally.{Tally}
 use Rattle.cli_world.proofs.Acting.{counted-push, each_more, worst-push}
-use Rattle.kdl.specs.Words.{IsDocument, IsSyntax, Nodes, TellsOnSyntax}
-use Rattle.kdl_text.specs.declared.error.KdlError.{KdlError}
-use Rattle.kdl_text.specs.declared.error.ParseFailure.{ParseFailure}
-use Rattle.kdl_text.specs.declared.error.ParseFailure.TheVariants.{Syntax}
-use Rattle.cli.specs.Reports.{IsFaulty}
 use Rattle.cli.specs.Searches.{SearchesFile, SearchesFiles}
 use Rattle.cli.specs.declared.query.Search.{Search}
 
@@ -53,9 +48,3 @@ pub searched_all : (s : Search) (names : List (List ℕ)) (old new : Seen) (stat
 searched_all s names old new status last result hit so l r =
     let one = none_counted (counted so.tallies) (code_of last) (l ∙ ap (λ (b : Bool). if b then 0 else 1) so.hits) in
     (so.tallies, so.each, r ∙ ap (λ (n : ℕ). max n (code_of last)) so.worst ∙ ap (max (worst so.tallies)) one)
-
--- a refused text, with the error of its faults
-pub refused_faulty : {A : Type 0} (text : List ℕ) (r : Result A ParseFailure) (f : ParseFailure) (e : KdlError) → r ≡ Err f → f ≡ Syntax e → (IsSyntax r → (x : Nodes) → IsDocument (chars text) x → ⊥) → TellsOnSyntax text r → IsFaulty text e
-refused_faulty text r f e is is' refused told =
-    let same = is ∙ ap Err is' in
-    (subst (λ (q : Result _ ParseFailure). IsSyntax q → (x : Nodes) → IsDocument (chars text) x → ⊥) same refused tt, subst (TellsOnSyntax text) same told)

@@ -10,6 +10,7 @@ use Rattle.cli_world.specs.Seen.{IsUnread, Seen}
 use Rattle.cli_world.specs.declared.status.Status.{Status}
 use Rattle.cli_world.specs.declared.status.Status.TheVariants.{Done, Found, Usage, Failed}
 use Rattle.cli_world.specs.declared.tally.Tally.{Tally}
+use Rattle.cli.proofs.AskLaws.{unread_not_done}
 use Rattle.cli.specs.Checks.{Checks, ChecksFile, IsSound}
 use Rattle.cli.specs.declared.report.Style.{Style}
 
@@ -18,13 +19,7 @@ printed_status : (name bytes : List ℕ) (old new : Seen) (u t : Tally) → Happ
 printed_status name bytes old new u _ (printed p) = inl refl
 printed_status name bytes old new u _ (unprinted p) = inr refl
 
--- a file that has no text is not done, and is found only if it is not UTF-8
-not_done : (name : List ℕ) (old new : Seen) (s : Status) → IsUnread name old new s → s ≡ Done → ⊥
-not_done name old new Done u e = u
-not_done name old new Found u e = cc
-not_done name old new Usage u e = cc
-not_done name old new Failed u e = cc
-
+-- a file that has no text is found only if it is not UTF-8
 no_text : (name : List ℕ) (old new : Seen) (s : Status) (text : List ℕ) → IsUnread name old new s → s ≡ Found → old.files name ≡ Some text → IsUtf8 text → ⊥
 no_text name old new Found text (bytes, has, bad, r) e is u = bad (subst IsUtf8 (has text is) u)
 no_text name old new Done text u e is utf8 = cc
@@ -48,7 +43,7 @@ faulty style name text old new _ (memory r) is s = cc
 -- if all is well with a file, its text is a document
 pub done_is_sound : (style : Style) (name : List ℕ) (old new : Seen) (t : Tally) → ChecksFile style name old new t → t.status ≡ Done → (text : List ℕ) × Has old.files name text × IsSound text
 done_is_sound style name old new t (acts {text} has u d) is = (text, has, sound style name text old new t d is)
-done_is_sound style name old new _ (unread {s} u) is = absurd (not_done name old new s u is)
+done_is_sound style name old new _ (unread {s} u) is = absurd (unread_not_done name old new s is u)
 
 -- if something is found in a file, its text is no document
 pub found_is_faulty : (style : Style) (name text : List ℕ) (old new : Seen) (t : Tally) → ChecksFile style name old new t → t.status ≡ Found → old.files name ≡ Some text → IsUtf8 text → IsSound text → ⊥

@@ -10,7 +10,8 @@ use Rattle.cli_world.specs.Tallies.{plain, worst}
 use Rattle.cli_world.specs.declared.status.Status.{Status}
 use Rattle.cli_world.specs.declared.status.Status.TheVariants.{Done, Found}
 use Rattle.cli_world.specs.declared.tally.Tally.{Tally}
-use Rattle.cli.specs.Reports.{IsFaulty, faults_report}
+use Rattle.kdl_path.specs.Failures.{TextFails}
+use Rattle.cli.specs.Reports.{faults_report}
 use Rattle.cli.specs.declared.report.Form.{Form}
 use Rattle.cli.specs.declared.report.Form.TheVariants.{Json}
 use Rattle.cli.specs.declared.report.Style.{Style}
@@ -21,7 +22,7 @@ IsSound text = (x : Nodes) × IsDocument (chars text) x
 
 -- the faults of the text are printed, and counted
 abbrev pub PrintsFaults : Style → (name text : List ℕ) → Effect → Type 0
-PrintsFaults style name text e = (error : KdlError) × IsFaulty text error
+PrintsFaults style name text e = (error : KdlError) × TextFails text error
     × (e ≡ prints (faults_report style name text error.diagnostics.items) (record { status = Found; count = length error.diagnostics.items }))
 
 -- what is done with the text of a file: nothing if it is a document, and else its faults are printed

@@ -1,12 +1,11 @@
 -- The settings that a text gives.
 use Rattle.std.specs.Option.{option_map_or, option_or}
-use Rattle.std.specs.Prelude.{◌≡◌, ◌++◌, ◌∷◌, ◌^◌, ◌&&◌, ◌<◌, [], Bool, Err, List, None, Ok, Option, Result, Some, chars, codes, if◌then◌else◌, is_none, is_some, length, map, nat_lt, IsPermutation, option_and_then, option_map, ℕ, ℤ, pos, negsuc}
-use Rattle.kdl.specs.Words.{EntryData, IsDocument, LaidDocument, NodeData, Nodes, Text, Value, integer, integer_value, said_children, said_entries, said_name, said_nodes, said_type, text as string, text_value, truth, truth_value}
-use Rattle.kdl_grammar.specs.Data as data'
+use Rattle.std.specs.Prelude.{◌≡◌, ◌++◌, ◌∷◌, ◌^◌, ◌&&◌, ◌<◌, [], Bool, Err, List, None, Ok, Option, Result, Some, chars, codes, if◌then◌else◌, is_none, is_some, length, map, nat_lt, option_and_then, option_map, ℕ, ℤ, pos, negsuc}
+use Rattle.kdl.specs.Words.{EntryData, LaidDocument, NodeData, Text, Value, integer_value, said_children, said_entries, said_name, said_type, text_value, truth_value}
 use Rattle.kdl_grammar.specs.Tree.{DocumentFormat, Node, document, listed_nodes, node, node_data}
 use Rattle.kdl_parts.specs.EntryLists.{same_text}
 use Rattle.kdl_text.specs.declared.span.SourceSpan.{SourceSpan}
-use Rattle.cli.specs.Reports.{IsFaulty}
+use Rattle.kdl_path.specs.Failures.{TextFails}
 use Rattle.cli.specs.declared.config.Key.{Key}
 use Rattle.cli.specs.declared.config.Key.TheVariants.{BlankLines, Expand, Indent as IndentKey, Respell}
 use Rattle.cli.specs.declared.config.Misfit.{Misfit}
@@ -18,25 +17,6 @@ use Rattle.cli.specs.declared.settings.Given.{Given}
 use Rattle.cli.specs.declared.settings.Indent.{Indent}
 use Rattle.cli.specs.declared.settings.Indent.TheVariants.{Spaces, Tab}
 use Rattle.cli.specs.Settings.{none_given}
-
--- the node of that name with one argument and nothing else
-abbrev pub setting_node : Text → Value → NodeData
-setting_node name v = data'.node None name (record { key = None; ty = None; value = v } ∷ []) data'.no_children
-
--- the node for a setting, if it is given
-abbrev pub node_for : {A : Type 0} → Text → (A → Value) → Option A → List NodeData
-node_for name value_of None = []
-node_for name value_of (Some x) = setting_node name (value_of x) ∷ []
-
--- the value for an indent
-abbrev pub value_of_indent : Indent → Value
-value_of_indent (Spaces n) = integer (pos n)
-value_of_indent Tab = string (codes "tab")
-
--- the nodes for the settings that are given
-abbrev pub nodes_for : Given → List NodeData
-nodes_for g = node_for (codes "indent") value_of_indent g.indent ++ (node_for (codes "blank-lines") (λ n. integer (pos n)) g.blank_lines
-    ++ (node_for (codes "respell") truth g.respell ++ node_for (codes "expand") truth g.expand))
 
 -- the value of an argument without a type
 abbrev pub bare_value : EntryData → Option Value
@@ -140,10 +120,10 @@ pub record IsConfig (text : List ℕ) (given : Given) (misfits : List Misfit) : 
   pub gives : given ≡ given_by (map node_data nodes)
   pub each : AreMisfits nodes misfits
 
--- a text gives settings, whose nodes in some order are its nodes; or it gives none, since it is no document, or since some of its nodes are no settings
+-- a text gives settings, and each of its nodes is one; or it gives none, since it is no document, or since some of its nodes are no settings
 abbrev pub Configures : List ℕ → Result Given Unfit → Type 0
-Configures text (Ok given) = (x : Nodes) × IsDocument (chars text) x × IsPermutation (said_nodes x) (nodes_for given)
-Configures text (Err (Syntax e)) = IsFaulty text e
+Configures text (Ok given) = IsConfig text given []
+Configures text (Err (Syntax e)) = TextFails text e
 Configures text (Err (Misfits ms)) = (0 < length ms.items) × ((given : Given) × IsConfig text given ms.items)
 Configures text (Err Memory) = Unit {0}
 

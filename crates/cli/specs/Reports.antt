@@ -2,11 +2,10 @@
 use Rattle.std.specs.List.{flat_map}
 use Rattle.std.specs.Prelude.{◌≡◌, ◌++◌, ◌∷◌, [], Bool, List, chars, option_map, ℕ}
 use Rattle.std.specs.Str.{encode_utf8_all}
-use Rattle.kdl.specs.Words.{IsDocument, Nodes}
 use Rattle.kdl_report.specs.Hints.{hint_of}
 use Rattle.kdl_report.specs.Object.{fault_json}
 use Rattle.kdl_report.specs.Picture.{one_line, picture}
-use Rattle.kdl_text.specs.Failures.{Tells}
+use Rattle.kdl_path.specs.Failures.{TextFails}
 use Rattle.kdl_text.specs.declared.error.KdlDiagnostic.{KdlDiagnostic}
 use Rattle.kdl_text.specs.declared.error.KdlError.{KdlError}
 use Rattle.cli_world.specs.Acts.{Effect}
@@ -28,11 +27,7 @@ fault_report Json color name text fault = fault_json name (chars text) fault
 abbrev pub faults_report : Style → (name text : List ℕ) → List KdlDiagnostic → List ℕ
 faults_report style name text faults = flat_map (fault_report style.form style.color (shown_name name) text) faults
 
--- the text is no document, and the error tells its faults
-abbrev pub IsFaulty : List ℕ → KdlError → Type 0
-IsFaulty text error = ((x : Nodes) → IsDocument (chars text) x → ⊥) × Tells text error
-
 -- the faults of the text are reported
 abbrev pub ReportsFaults : Style → (name text : List ℕ) → Effect → Type 0
-ReportsFaults style name text e = (error : KdlError) × IsFaulty text error
+ReportsFaults style name text e = (error : KdlError) × TextFails text error
     × (e ≡ reports (faults_report style name text error.diagnostics.items) Found)

@@ -5,6 +5,8 @@ use Rattle.std.specs.Prelude.{◌≡◌, ◌⊎◌, ◌++◌, ◌∷◌, [], Boo
 use Rattle.std.specs.Str.{bytes_eq}
 use Rattle.kdl_report.specs.Places.{column, line_number}
 use Rattle.kdl_text.specs.Chars.{Text}
+use Rattle.cli_words.specs.Completions.{IsScript}
+use Rattle.cli_words.specs.Manual.{IsManual}
 use Rattle.cli_world.specs.Acts.{Does}
 use Rattle.cli_world.specs.Acts.Effect.{prints}
 use Rattle.cli_world.specs.Files.{Files, Has}
@@ -133,9 +135,9 @@ AsksInput a = (a.replace ≡ true) × (a.name.now ≡ codes "-")
 abbrev pub RunsAsk : Ask → Seen → Seen → Status → Type 0
 RunsAsk a old new s = (AsksInput a × IsUnusable old new s) ⊎ ((AsksInput a → ⊥) × ((t : Tally) × AsksFile a old new t × (s ≡ t.status)))
 
--- a text of the program itself is printed
-abbrev pub Shows : Seen → Seen → Status → Type 0
-Shows old new s = (t : Tally) × Does (λ e. (out : List ℕ) × (e ≡ prints out (plain Done))) (codes "output") old new t × (s ≡ t.status)
+-- such a text of the program itself is printed
+abbrev pub Shows : (IsText : List ℕ → Type 0) → Seen → Seen → Status → Type 0
+Shows IsText old new s = (t : Tally) × Does (λ e. (out : List ℕ) × IsText out × (e ≡ prints out (plain Done))) (codes "output") old new t × (s ≡ t.status)
 
 -- what is asked for is done, from the files and the standard input before, to the files, the output and the errors after, and the status
 abbrev pub Runs : Request → Seen → Seen → Status → Type 0
@@ -143,5 +145,5 @@ Runs (request.Format f) old new s = RunsFormat f old new s
 Runs (request.Check names style) old new s = RunsCheck style (names_of names.now) old new s
 Runs (request.Ask a) old new s = RunsAsk a old new s
 Runs (request.Search names search) old new s = RunsSearch search (names_of names.now) old new s
-Runs (request.Completions shell) old new s = Shows old new s
-Runs request.Manual old new s = Shows old new s
+Runs (request.Completions shell) old new s = Shows (IsScript shell) old new s
+Runs request.Manual old new s = Shows IsManual old new s

@@ -1,7 +1,7 @@
 //! Files that are checked.
 
 ghost use Rattle.cli.specs.Checks.{Checks, ChecksFile, ChecksFiles, PrintsFaults, PrintsTotals, fault_count, noun, totals_line};
-ghost use Rattle.cli.specs.Reports.{IsFaulty};
+ghost use Rattle.kdl_path.specs.Failures.{TextFails};
 ghost use Rattle.cli_world.specs.Acts.{Does};
 ghost use Rattle.std.specs.Prelude.{◌≡◌, ◌+◌, ◌<◌, IfOk, map, min, nat_lt, if◌then◌else◌, string_bytes};
 
@@ -98,7 +98,7 @@ fn print_faults<W: World>(
     text: &str,
     error: &KdlError,
 ) -> Tally
-    ensures { IsFaulty text.now error.now
+    ensures { TextFails text.now error.now
         → Does (PrintsFaults style name.now text.now) name.now (W.seen world.old) (W.seen world.new) result }
 {
     match faults(alloc, name, text, error, style) {

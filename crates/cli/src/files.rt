@@ -1,12 +1,10 @@
 //! Files that are formatted.
 
-ghost use Rattle.cli.specs.Formatted.{IsFormatted};
-ghost use Rattle.cli.specs.Formats.{ChangesNamed, Formats, FormatsFile, FormatsFiles, IsChange, IsDelivery, IsNoChange, ShowsLines, name_line};
+ghost use Rattle.cli.specs.Formats.{Formats, FormatsFile, FormatsFiles, IsChange, IsDelivery, IsNoChange, ShowsLines, name_line};
 ghost use Rattle.cli_world.specs.Acts.{Does};
 ghost use Rattle.cli_world.specs.Acts.Effect.{prints};
-ghost use Rattle.cli_world.specs.Seen.{Seen};
 ghost use Rattle.cli_world.specs.Tallies.{plain};
-ghost use Rattle.std.specs.Prelude.{◌≡◌, [], List, Some, chars, false, map, ℕ};
+ghost use Rattle.std.specs.Prelude.{◌≡◌, map};
 
 use crate::disposal::Disposal;
 use crate::fmt::formatted;
@@ -157,21 +155,3 @@ fn show_lines<W: World>(alloc: Global, world: &mut W, name: &str, old: &str, new
         Err(AllocError) => effects::report_memory(world, name),
     }
 }
-
-/// Files that are formatted are as before, but for those that are named and replaced.
-pub fn formats_change_named()
-    ensures { (job : Job) (names : List (List ℕ)) (old new : Seen) (status : Status) → FormatsFiles job names old new status
-        → ChangesNamed job.mode names old.files new.files }
-{}
-
-/// What formatting a file is not: `Done`, with nothing printed where its text is to be printed, or else with the file as
-/// before where formatting changes its text.
-pub fn formats_are_not_so()
-    ensures print { (job : Job) (name text out : List ℕ) (old new : Seen) (t : Tally) → job.mode ≡ Mode.Print
-        → old.files name ≡ Some text → (IsFormatted job.settings (chars text) [] → ⊥)
-        → old.out.bytes ≡ Some out → new.out.bytes ≡ Some out → new.out.failed ≡ false
-        → FormatsFile job name old new t → t.status ≡ Status.Done → ⊥ }
-    ensures others { (job : Job) (name text : List ℕ) (old new : Seen) (t : Tally) → (job.mode ≡ Mode.Print → ⊥)
-        → old.files name ≡ Some text → new.files name ≡ Some text → (IsFormatted job.settings (chars text) (chars text) → ⊥)
-        → FormatsFile job name old new t → t.status ≡ Status.Done → ⊥ }
-{}

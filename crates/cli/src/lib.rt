@@ -4,11 +4,11 @@
 pub mod ask;
 pub mod ask_laws;
 pub mod check;
-pub mod check_laws;
 pub mod config;
 pub mod disposal;
 pub mod files;
 pub mod fmt;
+pub mod laws;
 pub mod query;
 pub mod report;
 pub mod request;

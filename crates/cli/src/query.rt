@@ -6,8 +6,6 @@ ghost use Rattle.cli_world.specs.Statuses.{code_of};
 ghost use Rattle.kdl.specs.Words.{IsDocument, IsSyntax, Nodes, TellsOnSyntax};
 ghost use Rattle.std.specs.Prelude.{◌≡◌, if◌then◌else◌, IfOk, chars, map, option_map, string_bytes};
 
-pub mod laws;
-
 use crate::disposal::Disposal;
 use crate::report::{Style, report_faults};
 pub use cli_shown::View;

@@ -1,6 +1,7 @@
 //! How faults are reported.
 
-ghost use Rattle.cli.specs.Reports.{IsFaulty, ReportsFaults, fault_report, faults_report};
+ghost use Rattle.kdl_path.specs.Failures.{TextFails};
+ghost use Rattle.cli.specs.Reports.{ReportsFaults, fault_report, faults_report};
 ghost use Rattle.cli_world.specs.Acts.{Does};
 ghost use Rattle.std.specs.Prelude.{◌≡◌, IfOk, List, chars, string_bytes, ℕ};
 
@@ -97,7 +98,7 @@ pub fn report_faults<W: World>(
     error: &KdlError,
     style: Style,
 ) -> Tally
-    ensures { IsFaulty text.now error.now
+    ensures { TextFails text.now error.now
         → Does (ReportsFaults style name.now text.now) name.now (W.seen world.old) (W.seen world.new) result }
 {
     match faults(alloc, name, text, error, style) {

@@ -3,9 +3,14 @@
 ghost use Rattle.cli.specs.Config.{Configures};
 ghost use Rattle.cli.specs.Formats.{FormatsFiles};
 ghost use Rattle.cli.specs.Requests.{AsksInput, GivesSettings, IsUnsettled, IsUnusable, Runs, RunsAsk, RunsCheck, RunsFormat, RunsSearch, Settles, Shows, has_input_twice, job_of, misfit_line, names_of, or_input, replaces_input, times_input, unfit_report, unread_status};
+ghost use Rattle.cli_words.specs.Completions.{IsScript};
+ghost use Rattle.cli_words.specs.Manual.{IsManual};
+ghost use Rattle.cli_world.specs.Acts.{Happens};
+ghost use Rattle.cli_world.specs.Acts.Effect.{prints};
 ghost use Rattle.cli_world.specs.Files.{Has};
 ghost use Rattle.cli_world.specs.Seen.{shown_name};
-ghost use Rattle.std.specs.Prelude.{◌≡◌, ◌↔◌, ◌++◌, Err, IfErr, IfOk, IsTrue, Ok, OnOk, chars, flat_map, string_bytes};
+ghost use Rattle.cli_world.specs.Tallies.{plain};
+ghost use Rattle.std.specs.Prelude.{◌≡◌, ◌↔◌, ◌++◌, Err, IfErr, IfOk, IsTrue, Ok, OnOk, chars, codes, flat_map, string_bytes};
 
 use crate::ask::{Ask, ask_file};
 use crate::check::check_files;
@@ -69,8 +74,8 @@ pub fn run<W: World>(alloc: Global, request: &Request<'_>, world: &mut W) -> Sta
         Request::Check { names, style } => check_named(alloc, world, style, names),
         Request::Ask(ask) => ask_named(alloc, world, &ask),
         Request::Search { names, search } => search_named(alloc, world, &search, names),
-        Request::Completions(shell) => show(alloc, world, completions(alloc, shell)),
-        Request::Manual => show(alloc, world, manual(alloc)),
+        Request::Completions(shell) => show_completions(alloc, world, shell),
+        Request::Manual => show_manual(alloc, world),
     }
 }
 
@@ -192,15 +197,32 @@ fn report_unusable<W: World>(world: &mut W, why: &str) -> Status
     Status::Usage
 }
 
-/// Writes a text of the program itself to the output.
-fn show<W: World>(alloc: Global, world: &mut W, text: Result<String, AllocError>) -> Status
-    ensures { Shows (W.seen world.old) (W.seen world.new) result }
+/// Writes the completions of a shell to the output.
+fn show_completions<W: World>(alloc: Global, world: &mut W, shell: Shell) -> Status
+    ensures { Shows (IsScript shell) (W.seen world.old) (W.seen world.new) result }
 {
-    let tally = match text {
-        Ok(text) => effects::print(alloc, world, "output", &text, Tally::plain(Status::Done)),
-        Err(AllocError) => effects::report_memory(world, "output"),
-    };
-    tally.status
+    match completions(alloc, shell) {
+        Ok(script) => show(alloc, world, &script),
+        Err(AllocError) => effects::report_memory(world, "output").status,
+    }
+}
+
+/// Writes the manual page to the output.
+fn show_manual<W: World>(alloc: Global, world: &mut W) -> Status
+    ensures { Shows IsManual (W.seen world.old) (W.seen world.new) result }
+{
+    match manual(alloc) {
+        Ok(page) => show(alloc, world, &page),
+        Err(AllocError) => effects::report_memory(world, "output").status,
+    }
+}
+
+/// Writes a text of the program itself to the output.
+fn show<W: World>(alloc: Global, world: &mut W, text: &str) -> Status
+    ensures { (t : Tally) × Happens (codes "output") (W.seen world.old) (W.seen world.new)
+        (prints text.now (plain Status.Done)) t × (result ≡ t.status) }
+{
+    effects::print(alloc, world, "output", text, Tally::plain(Status::Done)).status
 }
 
 /// Returns the settings that are given on the command line, by the file, or else by default. If the file gives none,

@@ -9,7 +9,7 @@ use Rattle.kdl_text.specs.declared.error.ParseFailure.{ParseFailure}
 use Rattle.kdl_text.specs.declared.error.ParseFailure.TheVariants.{Memory, Syntax}
 use Rattle.cli_shown.specs.Values.{line_of}
 use Rattle.cli.specs.Asks.{Gives, IsMisused, IsNotThere, IsOnDocument}
-use Rattle.cli.specs.Reports.{IsFaulty}
+use Rattle.kdl_path.specs.Failures.{TextFails}
 use Rattle.cli.specs.declared.ask.Action.{Action}
 use Rattle.cli.specs.declared.ask.Applied.{Applied}
 use Rattle.cli.specs.declared.ask.Applied.TheVariants.{NotFound, Text, Usage}
@@ -19,7 +19,7 @@ abbrev pub Applies : Action → List ℕ → Result Applied ParseFailure → Typ
 Applies a text (Ok (Text s)) = Gives a text (string_bytes s)
 Applies a text (Ok (NotFound s)) = IsNotThere a text
 Applies a text (Ok (Usage s)) = IsMisused a
-Applies a text (Err (Syntax e)) = IsOnDocument a × IsFaulty text e
+Applies a text (Err (Syntax e)) = IsOnDocument a × TextFails text e
 Applies a text (Err Memory) = Unit {0}
 
 -- the result of `get` for one value: a line with the value at the path, or none is there

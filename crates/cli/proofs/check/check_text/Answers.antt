@@ -1,6 +1,7 @@
 use Rattle.cli_world.proofs.Acting.{memory_is}
 use Rattle.cli.specs.Checks.{Checks}
-use Rattle.cli.proofs.CheckSteps.{faulty_checked, is_faulty, sound_checked}
+use Rattle.cli.proofs.CheckSteps.{faulty_checked, sound_checked}
+use Rattle.cli.proofs.ReportSteps.{is_faulty}
 use Rattle.cli.proofs.check.check_text.Goals as goal
 
 pub returns-in-Ok : goal.returns-in-Ok
