@@ -219,10 +219,6 @@ ate_all f a w l h e = h.on a.rest (ap (λ z. z ++ a.rest) (sym e))
 pub ate_not : (f a b : Here) (w l m : Text) (c : ℕ) → AteSoFar f a w l → l ≡ c ∷ m → begins c a.rest ≡ false → b.rest ≡ f.rest → AteText w false f b
 ate_not f a b w l m c h e n k = (λ r i. no_char c a.rest (m ++ r) n (h.back r i ∙ ap (λ z. z ++ r) e), k)
 
--- past a run, and one character more
-pub ahead_run : (p : ℕ → Bool) (a b d : Here) → Skips p a b → d ≡ b → (q : Text) × (a.rest ≡ q ++ d.rest)
-ahead_run p a b d (q, r) e = (q, r.text ∙ ap (λ z. q ++ z.rest) (sym e))
-
 pub ahead_step : (p : ℕ → Bool) (a b d : Here) → Skips p a b → d ≡ stepped b → (q : Text) × (a.rest ≡ q ++ d.rest)
 ahead_step p a b d (q, r) e = let (k, f) = go b.rest in (q ++ k, r.text ∙ ap (λ z. q ++ z) (f ∙ ap (λ z. k ++ z.rest) (sym e)) ∙ sym (append_assoc q k d.rest))
   where
