@@ -1,5 +1,5 @@
 -- The results of actions.
-use Rattle.std.proofs.Common.{Bor, [], ◌==◌, true, false, length, ◌∙◌, ap, append-nil, refl, ◌≡◌, List, ℕ, Bool, Global, IsSome, Option, encode_utf8_all, Ok, Err, Result, String, chars, inl, inr, string_bytes, subst, sym}
+use Rattle.std.proofs.Common.{Bor, None, [], ◌==◌, true, false, length, ◌∙◌, ap, append-nil, refl, ◌≡◌, List, ℕ, Bool, Global, IsSome, Option, encode_utf8_all, Ok, Err, Result, String, chars, inl, inr, string_bytes, subst, sym}
 use Rattle.std.specs.List.{flat_map}
 use Rattle.std.specs.Option.{option_to_list}
 use Rattle.std.proofs.lemmas.Bool.{eqb-true}
@@ -12,7 +12,7 @@ use Rattle.kdl_layout.proofs.Texts.{printed_text}
 use Rattle.kdl_path.specs.Paths.{all_at, at_path}
 use Rattle.kdl_path.proofs.Reached.{none_there}
 use Rattle.kdl_path.specs.Each.{RemoveEachFails, SetEachFails}
-use Rattle.kdl_path.specs.Edits.{HasPlace, IsInsertedAt, IsSetAt, named_at, without}
+use Rattle.kdl_path.specs.Edits.{HasPlace, IsInsertedAt, IsMadeAt, IsSetAt, named_at, without}
 use Rattle.kdl_path.specs.Failures.{InsertFails, RemoveFails, SetFails, TextFails}
 use Rattle.kdl_path.specs.declared.failure.EditFailure.{EditFailure}
 use Rattle.kdl_path.specs.declared.failure.EditFailure.TheVariants as edit
@@ -120,8 +120,9 @@ uninserted p n text f r h k = unmade (Insert p n) text f r (go f h) k
 
 -- an edit that was made, of a document
 pub set_found : (p : Path) (value : List ℕ) (create : Bool) (text new : List ℕ) → ((x : Nodes) → IsDocument (chars text) x → IsSome (at_path p x) → IsSetAt p (chars value) (chars text) (chars new))
+    → ((x : Nodes) → IsDocument (chars text) x → at_path p x ≡ None → IsMadeAt p (chars value) (chars text) (chars new))
     → (x : Nodes) × IsDocument (chars text) x × (create ≡ false → IsSome (at_path p x)) → IsSet p value create text new
-set_found p value create text new s (x, d, n) = (x, d, s x d, n)
+set_found p value create text new s m (x, d, n) = (x, d, s x d, m x d, n)
 
 pub removed_found : (p : Path) (text new : List ℕ) → ((x : Nodes) → IsDocument (chars text) x → IsDocument (chars new) (without p x))
     → (x : Nodes) × IsDocument (chars text) x × IsSome (named_at p x) → IsRemoved p text new

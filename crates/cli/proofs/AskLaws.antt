@@ -1,5 +1,5 @@
 -- What is in a file, or on the output, after an action.
-use Rattle.std.proofs.Common.{Bor, ◌≡◌, ◌∙◌, ◌++◌, ◌∷◌, [], Bool, List, Option, Some, None, ap, append-nil, encode_utf8_all, false, if◌then◌else◌, inl, inr, refl, subst, sym, true, ℕ}
+use Rattle.std.proofs.Common.{Bor, IsSome, chars, ◌≡◌, ◌∙◌, ◌++◌, ◌∷◌, [], Bool, List, Option, Some, None, ap, append-nil, encode_utf8_all, false, if◌then◌else◌, inl, inr, refl, subst, sym, true, ℕ}
 use Rattle.std.specs.Str.{bytes_eq}
 use Rattle.std.specs.Io.KnownBytes.{Appends}
 use Rattle.std.proofs.lemmas.List.{append_cancel_left}
@@ -23,7 +23,10 @@ use Rattle.cli.specs.Edits.{SetsFile}
 use Rattle.cli.specs.Requests.{RunsAsk}
 use Rattle.cli.specs.Shown.{asked}
 use Rattle.cli_shown.specs.Values.{line_of, shown_value}
-use Rattle.kdl.specs.Words.{Value}
+use Rattle.kdl.specs.Words.{IsDocument, Nodes, Value}
+use Rattle.kdl_grammar.proofs.Reading.Erased.{one_document}
+use Rattle.kdl_path.proofs.Made.{made_found}
+use Rattle.kdl_path.specs.Paths.{at_path}
 use Rattle.kdl_json.specs.Form.{json_text}
 use Rattle.std.specs.List.{flat_map}
 use Rattle.cli.specs.declared.ask.Action.{Action}
@@ -114,6 +117,12 @@ pub set_in_file : (path : Bor Path) (value : Bor (List ℕ)) (create : Bool) (as
     → ask.action ≡ Set path value create → SetsFile path.now value.now create ask.name.now old new
 set_in_file path value create ask old new t a d r is text f =
     subst (λ (x : Action). (out : List ℕ) × Gives x text out × (new.files ask.name.now ≡ Some out)) is (left_in_file ask old new t text a d r f)
+
+pub made_there : (path : Bor Path) (value : Bor (List ℕ)) (create : Bool) (text out : List ℕ) (x y : Nodes) → Gives (Set path value create) text out → IsDocument (chars text) x → at_path path.now x ≡ None
+    → IsDocument (chars out) y → IsSome (at_path path.now y)
+made_there path value create text out x y (z, d, set, made, found) e none f =
+    let (v, reads, at) = made_found path.now (chars value.now) (chars text) (chars out) x y (made (ap (at_path path.now) (one_document (chars text) z x d e) ∙ none)) e f in
+    subst (λ (o : Option Value). IsSome o) (sym at) refl
 
 -- nothing is done
 pub unchanged : (ask : Ask) (s : Seen) (t : Tally) (text : List ℕ) → AsksFile ask s s t → t.status ≡ Done → ask.replace ≡ true → s.files ask.name.now ≡ Some text → Gives ask.action text text

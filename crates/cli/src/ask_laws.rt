@@ -10,9 +10,11 @@ ghost use Rattle.cli_world.specs.Seen.{FilesStay, Seen};
 ghost use Rattle.cli_world.specs.declared.status.Status.{Status};
 ghost use Rattle.cli_world.specs.declared.status.Status.TheVariants.{Done};
 ghost use Rattle.cli_world.specs.declared.tally.Tally.{Tally};
+ghost use Rattle.kdl.specs.Words.{IsDocument, Nodes};
+ghost use Rattle.kdl_path.specs.Paths.{at_path};
 ghost use Rattle.kdl_path.specs.declared.path.Path.{Path};
 ghost use Rattle.std.specs.Borrow.{Bor};
-ghost use Rattle.std.specs.Prelude.{◌≡◌, ◌++◌, [], Bool, List, Some, false, true, ℕ};
+ghost use Rattle.std.specs.Prelude.{◌≡◌, ◌++◌, [], Bool, IsSome, List, None, Some, chars, false, true, ℕ};
 
 /// An action that replaces its file leaves what it gives in the file, if it ends with `Done`.
 pub fn result_is_in_the_file()
@@ -51,6 +53,13 @@ pub fn nothing_is_done_only_for_no_change()
 pub fn something_is_shown()
     ensures get { (path : Bor Path) (raw all : Bool) (text : List ℕ) → Gives (Get path raw all) text [] → ⊥ }
     ensures json { (text : List ℕ) → Gives Json text [] → ⊥ }
+{}
+
+/// The value that `set` makes, if it was missing, is found in what it gives.
+pub fn missing_value_is_made()
+    ensures { (path : Bor Path) (value : Bor (List ℕ)) (create : Bool) (text out : List ℕ) (x y : Nodes)
+        → Gives (Set path value create) text out → IsDocument (chars text) x → at_path path.now x ≡ None
+        → IsDocument (chars out) y → IsSome (at_path path.now y) }
 {}
 
 /// A run of an action changes no other file, and none at all unless it ends with `Done`.

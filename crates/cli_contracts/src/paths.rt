@@ -2,12 +2,12 @@
 
 ghost use Rattle.kdl.specs.Words.{IsDocument, Nodes, document_says, value_tree};
 ghost use Rattle.kdl_path.specs.Each.{IsSetAtEach, SetEachFails};
-ghost use Rattle.kdl_path.specs.Edits.{IsSetAt};
+ghost use Rattle.kdl_path.specs.Edits.{IsMadeAt, IsSetAt};
 ghost use Rattle.kdl_path.specs.Failures.{IsMissing, SetFails};
 ghost use Rattle.kdl_path.specs.Paths.{at_path};
 ghost use Rattle.kdl_query.specs.Tree.{query_says};
 ghost use Rattle.kdl_value.specs.Tree.{text_of};
-ghost use Rattle.std.specs.Prelude.{◌≡◌, IfErr, IfOk, IsSome, None, Some, false};
+ghost use Rattle.std.specs.Prelude.{◌≡◌, IfErr, IfOk, IsSome, None, Some};
 ghost use Rattle.std.specs.Str.{chars};
 
 use kdl::{KdlDocument, KdlValue};
@@ -29,15 +29,23 @@ pub fn get<'a>(
     kdl_path::get(alloc, document, path)
 }
 
-/// Returns the text with VALUE in place of the value at the PATH.
-pub fn set(alloc: Global, text: &str, path: &Path, value: &str) -> Result<String, EditFailure>
+/// Returns the text with VALUE in place of the value at the PATH, or, with `create`, made there if it is missing.
+pub fn set(
+    alloc: Global,
+    text: &str,
+    path: &Path,
+    value: &str,
+    create: bool,
+) -> Result<String, EditFailure>
     ensures set { IfOk result (λ out. (x : Nodes) → IsDocument (chars text.now) x
         → IsSome (at_path path.now x)
         → IsSetAt path.now (chars value.now) (chars text.now) (text_of out)) }
-    ensures fails { IfErr result
-        (SetFails path.now value.now text.now false) }
+    ensures made { IfOk result (λ out. (x : Nodes) → IsDocument (chars text.now) x
+        → at_path path.now x ≡ None
+        → IsMadeAt path.now (chars value.now) (chars text.now) (text_of out)) }
+    ensures fails { IfErr result (SetFails path.now value.now text.now create) }
 {
-    kdl_path::set(alloc, text, path, value, false)
+    kdl_path::set(alloc, text, path, value, create)
 }
 
 /// Returns the text with VALUE in place of the value that the target names in each node that the query selects.

@@ -62,7 +62,7 @@ steps_to [] d n h = absurd (none-some n h)
 steps_to (i ∷ p) d n h = steps_from p i (nodes_of d) None n h
 
 -- changes that agree where they are made
-nth_there : (i : ℕ) (f g : data'.Node → data'.Node) (x : data'.Nodes) (n : data'.Node) → slice_get (said_nodes x) i ≡ Some n → f n ≡ g n → with_nth i f x ≡ with_nth i g x
+pub nth_there : (i : ℕ) (f g : data'.Node → data'.Node) (x : data'.Nodes) (n : data'.Node) → slice_get (said_nodes x) i ≡ Some n → f n ≡ g n → with_nth i f x ≡ with_nth i g x
 nth_there i f g data'.none n h e = refl
 nth_there zero f g (data'.first m x) n h e = let same : m ≡ n = cc in ap (λ z. data'.first z x) (ap f same ∙ e ∙ sym (ap g same))
 nth_there (suc i) f g (data'.first m x) n h e = ap (data'.first m) (nth_there i f g x n h e)

@@ -10,13 +10,16 @@ use Rattle.kdl_layout.proofs.Texts.{ascii_text, newline_text, space_text}
 use Rattle.kdl_grammar.specs.Data as nodes'
 use Rattle.kdl_grammar.specs.Grammar.{AreNodes, Gap, Terminator, last_gap, line_space, node_then}
 use Rattle.kdl_grammar.specs.Places.{BeforeChildren, after, before}
-use Rattle.kdl_grammar.specs.ReadsBack.{BeforeTerminator, BlockReads, ChildrenRead, EndReads, HeadReads, NodeReads, Rests, a_block, name_text, no_block, reads}
+use Rattle.kdl_grammar.specs.ReadsBack.{Anything, BeforeTerminator, BlockReads, ChildrenRead, EndReads, HeadReads, NodeReads, Rests, TextEnd, a_block, name_text, no_block, reads}
 use Rattle.kdl_grammar.specs.Tree.{Children, Head, Node, NodeFormat, children, children_of, document_data, no_children, node, node_data}
-use Rattle.kdl_parts.specs.Formats.{node_format_tree}
+use Rattle.kdl_entry.specs.Tree.{Identifier}
+use Rattle.kdl_parts.specs.Formats.{empty_node_format, ended_format, node_format_tree}
 use Rattle.kdl_parts.specs.declared.format.KdlNodeFormat.{KdlNodeFormat}
 use Rattle.kdl.specs.Change.{with_children, with_format, with_node, with_nodes}
+use Rattle.kdl.specs.Cleared.{new_node}
 use Rattle.kdl.specs.DocumentLookups.{nodes_of}
 use Rattle.kdl.specs.Fields.{block_of, held_nodes, node_format_of}
+use Rattle.kdl.specs.ReadsBack.{NodeEnds, NodeReadsBack}
 use Rattle.kdl.specs.Tree.{document_says, document_tree, head_tree, node_says, node_tree}
 use Rattle.kdl.specs.declared.document.KdlDocument.{KdlDocument}
 use Rattle.kdl.specs.declared.document.KdlDocument.TheViews.{out-KdlDocument, out-KdlNode}
@@ -169,6 +172,25 @@ end_laid n f e own h = record { says = formatted_says n (Some F); reads = λ P x
     go P (inr i) x =
         formatted P P n f F (with_end 10) own (ap (λ (t : Text). record (node_format_tree f) { before_terminator = text_of e.before; terminator = t; trailing = text_of e.after }) i)
         (λ d k c a y. ended_reads 10 a_newline k (text_of e.before) (text_of e.after) h.before h.after a y) x
+
+-- a new node with empty texts around its parts
+abbrev with_no_texts : Node → Node
+with_no_texts (node h k) = node (record h { format = Some empty_node_format }) k
+
+bare_reads : (i : Identifier) → NodeReads Anything (new_node i) → NodeReads TextEnd (with_no_texts (new_node i))
+bare_reads i (reads {f = g} e head kids end) =
+    let same : g ≡ ended_format = cc in
+    let head' = subst (HeadReads _) same head in
+    reads refl (record { leading = head'.leading; name = λ v d. head'.name v d; entries = head'.entries }) no_block
+    (record { place = λ r p t. before_end no_children [] r refl; terminator = λ r s xs p z d. (r, subst (λ (t : Text). Terminator t t) (sym p) Terminator.at_end, d) })
+
+pub bare_node : (n : KdlNode) (i : Identifier) (F : KdlNodeFormat) → node_tree n ≡ new_node i → node_format_tree F ≡ empty_node_format → NodeEnds n → NodeReadsBack (with_format n (Some F))
+bare_node n i F own is x =
+    let X = out-KdlNode n in
+    let k = children_of (option_map document_tree X.children) in
+    let same : node_tree (with_format n (Some F)) ≡ with_no_texts (new_node i) =
+    node_tree_roll (record X { format = Some F }) ∙ ap (λ (y : NodeFormat). node (record (head_tree X) { format = Some y }) k) is ∙ sym (ap with_no_texts (node_tree_out n)) ∙ ap with_no_texts own in
+    subst (λ (y : Node). NodeReads TextEnd y) (sym same) (bare_reads i (subst (λ (y : Node). NodeReads Anything y) own x))
 
 -- the texts that end a node
 pub newline_ends : EndsLine (chars (10 ∷ []))

@@ -33,9 +33,9 @@ none_is_some None h s = absurd (cc)
 none_is_some (Some x) h s = absurd (none-some x (sym h))
 
 -- both tests
-pub first_true : (b c r : Bool) → r ≡ (b && c) → r ≡ true → b ≡ true
-first_true true c r e h = cc
-first_true false c r e h = absurd (cc)
+pub second_true : (b c r : Bool) → r ≡ (b && c) → r ≡ true → c ≡ true
+second_true true c r e h = sym e ∙ h
+second_true false c r e h = absurd (cc)
 
 pub second_false : (b c r : Bool) → r ≡ (b && c) → r ≡ false → b ≡ true → c ≡ false
 second_false true c r e h k = sym e ∙ h

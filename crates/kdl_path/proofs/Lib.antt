@@ -12,7 +12,7 @@ pub mod Trees
 pub mod Values
 -- A change to the node at the end of a path of indices.
 pub mod Changes
--- An entry, and a node in a block, that is removed.
+-- An entry that is appended or removed, and a node in a block that is removed.
 pub mod Removals
 -- A node after spaces, and with an end.
 pub mod Ends
@@ -22,6 +22,10 @@ pub mod Inserts
 pub mod Removed
 -- The texts after an edit, and what they had to have before.
 pub mod Edited
+-- A value that is missing is made at a PATH.
+pub mod Made
+-- A value that is made at a PATH is there.
+pub mod There
 -- What failures mean.
 pub mod Failing
 -- What can be made at a PATH, in memory and in the data.

@@ -1,5 +1,5 @@
 -- What a PATH names in memory, and in the data.
-use Rattle.std.proofs.Common.{◌≡◌, IsSomeAnd, ℕ, zero, suc, Bool, true, false, List, [], ◌∷◌, map, Option, None, Some, IsSome, is_none, option_and_then, option_map, slice_get, string_bytes, refl, ap, ◌∙◌, sym, subst}
+use Rattle.std.proofs.Common.{◌≡◌, IsSomeAnd, ℕ, zero, suc, Bool, true, false, List, [], ◌∷◌, ◌++◌, drop, length, map, take, Option, None, Some, IsSome, is_none, option_and_then, option_map, slice_get, string_bytes, refl, ap, ◌∙◌, sym, subst}
 use Rattle.std.proofs.lemmas.Option.{none-some, slice_get-map}
 use Rattle.std.proofs.lemmas.Str.{IsUtf8-string_bytes}
 use Rattle.std.specs.Option.{option_map_or}
@@ -23,7 +23,7 @@ use Rattle.kdl.proofs.Finding.SaidLookups.{argument_said, entry_says, got_child_
 use Rattle.c_calls.specs.Paths as paths
 use Rattle.c_calls.specs.Paths.{block_nodes}
 use Rattle.kdl_path.specs.Edits.{entry_place}
-use Rattle.kdl_path.specs.Internal.Located.{Leads, place_of_step, place_of_target, walk}
+use Rattle.kdl_path.specs.Internal.Located.{Leads, LeadsAmong, StopsAt, place_of_step, place_of_target, walk}
 use Rattle.kdl_path.specs.Paths.{AreIndices, at_path, entry_in, node_at, node_below, step_node, step_place, value_in}
 use Rattle.kdl_path.specs.declared.path.Path.{Path}
 use Rattle.kdl_path.specs.declared.path.Step.{Step}
@@ -165,9 +165,48 @@ step_walks ss rest s ns o i k e p at =
     let next = λ (k : KdlNode). walk rest (Some k) (child_nodes k) in
     sym (ap (λ l. walk l o ns) e ∙ ap (λ q. option_and_then next (there q ns)) p ∙ ap (option_and_then next) at)
 
-pub step_leads : (ss rest : List Step) (s : Step) (is : List ℕ) (ns : List KdlNode) (o : Option KdlNode) (i : ℕ) (k n : KdlNode) → ss ≡ s ∷ rest → place_of_step s ns ≡ Some i → slice_get ns i ≡ Some k → Leads rest is (child_nodes k) (Some k) n
-    → Leads ss (i ∷ is) ns o n
-step_leads ss rest s is ns o i k n e p at h = subst (λ (l : List Step). Leads l (i ∷ is) ns o n) (sym e) (k, p, at, h)
+-- where steps and indices lead from the nodes `all`: to those nodes themselves, or to a node, with the nodes ns in its block
+abbrev pub IsReached : Option KdlNode → List Step → List ℕ → (all ns : List KdlNode) → Type 0
+IsReached None ss is all ns = (ss ≡ []) × (is ≡ []) × (ns ≡ all)
+IsReached (Some n) ss is all ns = Leads ss is all None n × (ns ≡ child_nodes n)
+
+more_below : (ss : List Step) (is : List ℕ) (m n : KdlNode) (s : Step) (i : ℕ) (k : KdlNode) → Leads ss is (child_nodes m) (Some m) n → place_of_step s (child_nodes n) ≡ Some i → slice_get (child_nodes n) i ≡ Some k
+    → Leads (ss ++ (s ∷ [])) (is ++ (i ∷ [])) (child_nodes m) (Some m) k
+more_below [] [] m n s i k h p at =
+    let same : n ≡ m = cc in
+    (k, subst (λ (x : KdlNode). place_of_step s (child_nodes x) ≡ Some i) same p, subst (λ (x : KdlNode). slice_get (child_nodes x) i ≡ Some k) same at, refl)
+more_below [] (j ∷ is) m n s i k h p at = absurd h
+more_below (t ∷ ss) [] m n s i k h p at = absurd h
+more_below (t ∷ ss) (j ∷ is) m n s i k h p at = (h.0, h.1, h.2, more_below ss is h.0 n s i k h.3 p at)
+
+leads_more : (ss : List Step) (is : List ℕ) (all : List KdlNode) (n : KdlNode) (s : Step) (i : ℕ) (k : KdlNode) → Leads ss is all None n → place_of_step s (child_nodes n) ≡ Some i → slice_get (child_nodes n) i ≡ Some k → Leads (ss ++ (s ∷ [])) (is ++ (i ∷ [])) all None k
+leads_more [] [] all n s i k h p at = absurd (none-some n h)
+leads_more [] (j ∷ is) all n s i k h p at = absurd h
+leads_more (t ∷ ss) [] all n s i k h p at = absurd h
+leads_more (t ∷ ss) (j ∷ is) all n s i k h p at = (h.0, h.1, h.2, more_below ss is h.0 n s i k h.3 p at)
+
+pub reached_more : (o : Option KdlNode) (ss : List Step) (is : List ℕ) (all ns : List KdlNode) (s : Step) (i : ℕ) (k : KdlNode) → IsReached o ss is all ns → place_of_step s ns ≡ Some i → slice_get ns i ≡ Some k → Leads (ss ++ (s ∷ [])) (is ++ (i ∷ [])) all None k
+reached_more None ss is all ns s i k (e, f, g) p at =
+    subst (λ (l : List Step). Leads (l ++ (s ∷ [])) (is ++ (i ∷ [])) all None k) (sym e)
+    (subst (λ (l : List ℕ). Leads (s ∷ []) (l ++ (i ∷ [])) all None k) (sym f)
+    (k, subst (λ (l : List KdlNode). place_of_step s l ≡ Some i) g p, subst (λ (l : List KdlNode). slice_get l i ≡ Some k) g at, refl))
+reached_more (Some n) ss is all ns s i k (l, e) p at =
+    leads_more ss is all n s i k l (subst (λ (l : List KdlNode). place_of_step s l ≡ Some i) e p) (subst (λ (l : List KdlNode). slice_get l i ≡ Some k) e at)
+
+reached_among : (o : Option KdlNode) (ss : List Step) (is : List ℕ) (all ns : List KdlNode) → IsReached o ss is all ns → LeadsAmong ss is all ns
+reached_among None ss is all ns (e, f, g) = subst (λ (l : List Step). LeadsAmong l is all ns) (sym e) (f, g)
+reached_among (Some n) [] [] all ns (l, e) = absurd (none-some n l)
+reached_among (Some n) [] (i ∷ is) all ns (l, e) = absurd l
+reached_among (Some n) (s ∷ ss) is all ns (l, e) = (n, l, e)
+
+pub step_stops : (ss rest : List Step) (s : Step) (i : ℕ) (o : Option KdlNode) (is : List ℕ) (all ns : List KdlNode) → length is ≡ i → IsReached o (take i ss) is all ns → drop i ss ≡ s ∷ rest → there (place_of_step s ns) ns ≡ None → StopsAt ss is all ns
+step_stops ss rest s i o is all ns count reached e none = record {
+  next = s;
+  rest = rest;
+  steps = ap (λ n. drop n ss) count ∙ e;
+  leads = subst (λ (n : ℕ). LeadsAmong (take n ss) is all ns) (sym count) (reached_among o (take i ss) is all ns reached);
+  none = none;
+}
 
 -- a step that leads nowhere
 pub step_lost : (ss rest : List Step) (s : Step) (d : KdlDocument) (all : List Step) (ns : List KdlNode) (o : Option KdlNode) → ss ≡ s ∷ rest → there (place_of_step s ns) ns ≡ None → walk ss o ns ≡ walk all None (nodes_of d)
@@ -218,7 +257,7 @@ some_shifted x xs None i e h = absurd (none-some i e)
 some_shifted x xs (Some j) zero e h = absurd (cc)
 some_shifted x xs (Some j) (suc i) e h = let same : j ≡ i = cc in subst (λ (k : ℕ). IsSome (slice_get xs k)) same (h j refl)
 
-nth_there : {A : Type 0} (p : A → Bool) (xs : List A) (n i : ℕ) → nth_place p xs n ≡ Some i → IsSome (slice_get xs i)
+pub nth_there : {A : Type 0} (p : A → Bool) (xs : List A) (n i : ℕ) → nth_place p xs n ≡ Some i → IsSome (slice_get xs i)
 nth_there p [] n i e = absurd (none-some i e)
 nth_there {A = A} p (x ∷ xs) n i e = go (p x) n (λ m j. nth_there p xs m j) e
   where

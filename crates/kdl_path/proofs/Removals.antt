@@ -1,5 +1,6 @@
--- An entry, and a node in a block, that is removed.
+-- An entry that is appended or removed, and a node in a block that is removed.
 use Rattle.std.proofs.Common.{◌≡◌, ℕ, zero, suc, ◌<◌, length, List, [], ◌∷◌, ◌++◌, map, take, drop, Option, None, Some, option_map, refl, ap, ◌∙◌, sym, subst, arith}
+use Rattle.std.proofs.lemmas.List.{map-append}
 use Rattle.std.proofs.lemmas.List.Elements.{All-append, All-drop, All-take}
 use Rattle.std.specs.List.{All, remove}
 use Rattle.kdl_text.specs.Chars.{Text}
@@ -13,7 +14,7 @@ use Rattle.kdl_grammar.specs.Tree.{DocumentFormat, Node, children_data, children
 use Rattle.kdl_grammar.proofs.ReadingBack.Composing.{nodes_append, nodes_drop, nodes_take}
 use Rattle.kdl_parts.specs.Formats.{document_format_tree}
 use Rattle.kdl_text.specs.declared.span.SourceSpan.{SourceSpan}
-use Rattle.kdl.specs.Change.{with_nodes}
+use Rattle.kdl.specs.Change.{with_entries, with_nodes}
 use Rattle.kdl.specs.DocumentLookups.{nodes_of}
 use Rattle.kdl.specs.Fields.{held_entries, held_nodes}
 use Rattle.kdl.specs.Iterators.{child_nodes, nodes_in}
@@ -29,7 +30,7 @@ use Rattle.kdl.proofs.Putting.Puts.{remove_trees, taken_says}
 use Rattle.kdl.proofs.ReadingBack.{block_exchanged, entries_exchanged}
 use Rattle.kdl.proofs.Trees.{document_tree_out, document_tree_roll, node_tree_out, node_tree_roll}
 use Rattle.c_calls.specs.Entries.{EntryRemoved}
-use Rattle.kdl_path.specs.Edits.{changed_at, changed_below, entry_place, node_without_entry, with_block, with_nth, with_there, without_node, without_nth, without_there}
+use Rattle.kdl_path.specs.Edits.{changed_at, changed_below, entry_place, node_with_entry, node_without_entry, with_block, with_nth, with_there, without_node, without_nth, without_there}
 use Rattle.kdl_path.specs.Internal.Changed.{IsChildRemoved}
 use Rattle.kdl_path.specs.Internal.Located.{Leads, place_of_step, place_of_target}
 use Rattle.kdl_path.specs.Paths.{step_place}
@@ -65,6 +66,17 @@ removed_says t n m i p h =
     ∙ ap with (sym (map_twice entry_tree entry_data (entries_of m)) ∙ ap (map entry_says) h.entries ∙ map_removed entry_says es i ∙ ap (λ o. without_nth o (map entry_says es)) (sym p ∙ target_said t es))
     ∙ ap (λ l. with (without_nth (entry_place t l) l)) (map_twice entry_tree entry_data es)
     ∙ sym (ap (node_without_entry t) (ap node_data (node_tree_out n)))
+
+pub pushed_says : (e : KdlEntry) (n m : KdlNode) → entries_of m ≡ entries_of n ++ (e ∷ []) → m ≡ with_entries n (held_entries m) → node_says m ≡ node_with_entry (entry_says e) (node_says n)
+pushed_says e n m items rest =
+    let X = out-KdlNode n in
+    let with = λ (l : List data'.Entry). nodes'.node (option_map (λ i. i.value) (option_map identifier_tree X.ty)) (identifier_tree X.name).value l (children_data (children_of (option_map document_tree X.children))) in
+    let es = entries_of n in
+    ap node_says rest
+    ∙ ap node_data (node_tree_roll _)
+    ∙ ap with (sym (map_twice entry_tree entry_data (entries_of m)) ∙ ap (map entry_says) items ∙ map-append entry_says es (e ∷ []))
+    ∙ ap (λ l. with (l ++ (entry_says e ∷ []))) (map_twice entry_tree entry_data es)
+    ∙ sym (ap (node_with_entry (entry_says e)) (ap node_data (node_tree_out n)))
 
 -- a node of a block
 content_of : (P : Rests) (l t : Text) (ms : List Node) → AddsNothing l → NodesRead (last_rests t P) (listed_nodes ms) → IsGapBefore P t → ContentReads P l t (listed_nodes ms)

@@ -38,7 +38,7 @@ use Rattle.c_calls.specs.Changes.{AtNode, changed_at}
 use Rattle.c_calls.specs.Entries.{IsValueText}
 use Rattle.c_calls.specs.Paths.{node_at}
 use Rattle.kdl_path.specs.Edits.{IsExchangedAt, IsSetAt, entry_place, node_with_value, with_value, with_value_nth, with_value_there}
-use Rattle.kdl_path.specs.Internal.Done.{IsDoneAt, SetsOrMakes}
+use Rattle.kdl_path.specs.Internal.Done.{IsDoneAt, SetsValue}
 use Rattle.kdl_path.specs.Internal.Changed.{IsMade, IsValueSet, spaced_format, with_format, with_spelled}
 use Rattle.kdl_path.specs.Internal.Located.{Leads, place_of_target}
 use Rattle.kdl_path.specs.Internal.OnEach.{edited, setting}
@@ -62,7 +62,7 @@ value_before t v d r e =
 front_moved : {q q' r u t : Text} {v : Value} {x : data'.Entry} {es : List data'.Entry} {k : nodes'.Children} → q ≡ q' → IsPlainValue true r u v → AfterName true (q ++ r) t (x ∷ es) k → AfterName true (q' ++ r) t (x ∷ es) k
 front_moved {r = r} {t = t} {x = x} {es = es} {k = k} a p d = subst (λ (y : Text). AfterName true (y ++ r) t (x ∷ es) k) a d
 
-spelled_reads : (e : Entry) (v : Value) (t : Text) (o : Option EntryFormat) → IsValueText t v → EntryReads (record e { format = o }) → EntryReads (with_spelled v t (record e { format = o }))
+pub spelled_reads : (e : Entry) (v : Value) (t : Text) (o : Option EntryFormat) → IsValueText t v → EntryReads (record e { format = o }) → EntryReads (with_spelled v t (record e { format = o }))
 spelled_reads e v t (Some f) d E = record { begins = λ r. E.begins r; front = λ p k. E.front p k; value = λ x. value_before t v d _ x; trailing = E.trailing }
 spelled_reads e v t None d E =
     let same : front_text e None ≡ 32 ∷ print_key e.name [] [] ++ print_type e.ty [] [] ++ [] = ap (λ (z : Text). 32 ∷ z) (sym (append-nil (print_key e.name [] [] ++ print_type e.ty [] []))) in
@@ -236,7 +236,7 @@ pub exchanged_as : {f g : Value → nodes'.Nodes} {was given text out : Text} �
 exchanged_as e x = record { before = x.before; after = x.after; place = λ w v d. subst (λ (y : nodes'.Nodes). IsDocument (x.before ++ w ++ x.after) y) (e v) (x.place w v d); old = x.old; new = x.new }
 
 -- the change that sets it, made at the end of the steps
-pub set_done : (ss : List Step) (t : Target) (is : List ℕ) (d e : KdlDocument) (n : KdlNode) (s : Spelled) (c : Change) → Leads ss is (nodes_of d) None n → SetsOrMakes t s (entries_of n) c → AtNode is (IsMade c) d e → DocumentReadsBack d
+pub set_done : (ss : List Step) (t : Target) (is : List ℕ) (d e : KdlDocument) (n : KdlNode) (s : Spelled) (c : Change) → Leads ss is (nodes_of d) None n → SetsValue t s (entries_of n) c → AtNode is (IsMade c) d e → DocumentReadsBack d
     → IsValueText (text_of s.spelling) (value_tree s.value) → IsDoneAt ss t (text_of s.spelling) d e
 set_done ss t is d e n s c leads m at r ok =
     let made = subst (λ (k : Change). AtNode is (IsMade k) d e) m.change at in

@@ -87,10 +87,52 @@ abbrev pub with_last : NodeData → Nodes → Nodes
 with_last y data'.none = data'.first y data'.none
 with_last y (data'.first n x) = data'.first n (with_last y x)
 
--- a node with one more node at the end of its block, which is new if it has none
+-- a node with the nodes in its block changed, which is new if it has none
+abbrev pub with_own_block : (Nodes → Nodes) → NodeData → NodeData
+with_own_block f (data'.node ty name es data'.no_children) = data'.node ty name es (data'.children (f data'.none))
+with_own_block f (data'.node ty name es (data'.children x)) = data'.node ty name es (data'.children (f x))
+
+-- a node with one more node at the end of its block, or one more entry after the others
 abbrev pub node_with_child : NodeData → NodeData → NodeData
-node_with_child y (data'.node ty name es data'.no_children) = data'.node ty name es (data'.children (data'.first y data'.none))
-node_with_child y (data'.node ty name es (data'.children x)) = data'.node ty name es (data'.children (with_last y x))
+node_with_child y n = with_own_block (with_last y) n
+
+abbrev pub node_with_entry : EntryData → NodeData → NodeData
+node_with_entry e (data'.node ty name es k) = data'.node ty name (es ++ (e ∷ [])) k
+
+-- the entry that is made for a target: a property of its name, or an argument
+abbrev pub new_entry : Target → Value → EntryData
+new_entry (Property s) v = record { key = Some (text_of s); ty = None; value = v }
+new_entry _ v = record { key = None; ty = None; value = v }
+
+-- the node that is made for a step, with nothing in it
+abbrev pub new_node : Step → NodeData
+new_node s = data'.node None (text_of s.name) [] data'.no_children
+
+-- nodes with the one at a place changed, or, where there is no place, with the new node y, changed, at their end
+abbrev pub made_there : Option ℕ → NodeData → (NodeData → NodeData) → Nodes → Nodes
+made_there None y f x = with_last (f y) x
+made_there (Some i) y f x = with_nth i f x
+
+-- a node with the one changed to which steps lead from it; the nodes that are missing are made
+abbrev pub made_below : List Step → (NodeData → NodeData) → NodeData → NodeData
+made_below [] f n = f n
+made_below (s ∷ ss) f n = with_own_block (λ x. made_there (step_place s (said_nodes x)) (new_node s) (made_below ss f) x) n
+
+-- the nodes of a document with the one changed to which steps lead; the nodes that are missing are made
+abbrev pub made_at : List Step → (NodeData → NodeData) → Nodes → Nodes
+made_at [] f x = x
+made_at (s ∷ ss) f x = made_there (step_place s (said_nodes x)) (new_node s) (made_below ss f) x
+
+-- the data of a document with a value, which is missing, made at a PATH
+abbrev pub with_made : Path → Value → Nodes → Nodes
+with_made p v x = made_at p.steps.items (node_with_entry (new_entry p.target v)) x
+
+-- the data of out are those of the text with VALUE, which is missing, made at the PATH, where it is found then
+pub record IsMadeAt (p : Path) (given text out : Text) : Type 0 where
+  pub value : Value
+  pub reads : IsValueText given value
+  pub says : (x : Nodes) → IsDocument text x → IsDocument out (with_made p value x)
+  pub found : (x : Nodes) → IsDocument text x → at_path p (with_made p value x) ≡ Some value
 
 -- a node without the entry that a target names
 abbrev pub without_nth : Option ℕ → List EntryData → List EntryData

@@ -14,3 +14,5 @@ pub mod Laid
 pub mod Every
 -- A document after an edit at each of some paths of indices.
 pub mod OnEach
+-- What is made for a value that is missing.
+pub mod Made

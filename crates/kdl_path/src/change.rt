@@ -2,7 +2,7 @@
 
 ghost use Rattle.kdl.specs.Words.{ChildPut, NodeReadsBack, ReadsAs, child_nodes, entry_tree, value_tree};
 ghost use Rattle.c_calls.specs.Changes.{AtNode};
-ghost use Rattle.kdl_path.specs.Internal.Changed.{IsChildPushed, IsChildRemoved, IsMade, IsMadeIn, IsTaken, IsTakenFrom, IsValueSet, with_format, with_spelled};
+ghost use Rattle.kdl_path.specs.Internal.Changed.{IsChildPushed, IsChildRemoved, IsEntryPushed, IsMade, IsMadeIn, IsTaken, IsTakenFrom, IsValueSet, with_format, with_spelled};
 ghost use Rattle.kdl_path.specs.Internal.Laid.{IsBlockLaid, IsLaid};
 ghost use Rattle.kdl_value.specs.Tree.{text_of};
 ghost use Rattle.std.specs.Prelude.{◌≡◌, IfOk, OnOk, length};
@@ -39,10 +39,7 @@ impl Change {
     {
         match self {
             Change::SetValue(at, value) => set_value_at(alloc, node, at, value),
-            Change::PushEntry(entry) => match node.push(entry) {
-                Ok(()) => Ok(()),
-                Err(_) => Err(Refused::Memory),
-            },
+            Change::PushEntry(entry) => push_entry(node, entry),
             Change::RemoveEntry(at) => remove_entry(node, at),
             Change::PushChild(child) => push_child(alloc, node, child),
             Change::RemoveChild(at) => remove_child(alloc, node, at),
@@ -95,8 +92,21 @@ fn give_format(alloc: Global, entry: &mut KdlEntry) -> Result<(), AllocError>
     Ok(())
 }
 
+/// Appends the entry.
+pub(crate) fn push_entry(node: &mut KdlNode, entry: KdlEntry) -> Result<(), Refused>
+    ensures { OnOk result (IsEntryPushed entry node.old node.new) }
+{
+    match node.push(entry) {
+        Ok(()) => Ok(()),
+        Err((entry, _)) => {
+            drop(entry);
+            Err(Refused::Memory)
+        }
+    }
+}
+
 /// Appends the node to the block, which is made if there is none.
-fn push_child(alloc: Global, node: &mut KdlNode, child: KdlNode) -> Result<(), Refused>
+pub(crate) fn push_child(alloc: Global, node: &mut KdlNode, child: KdlNode) -> Result<(), Refused>
     ensures { OnOk result (IsChildPushed child node.old node.new) }
 {
     match make_room(alloc, node) {

@@ -1,18 +1,24 @@
 //! Entries and nodes that are made for a value.
 
+ghost use Rattle.kdl.specs.Words.{EntryReadsBack, NodeReadsBack, entry_data, entry_tree, node_says, value_tree};
+ghost use Rattle.c_calls.specs.Entries.{IsValueText};
+ghost use Rattle.kdl_path.specs.Edits.{new_node, node_with_child, node_with_entry};
 ghost use Rattle.kdl_path.specs.Failures.{is_first};
 ghost use Rattle.kdl_path.specs.Internal.Located.{makes_new};
+ghost use Rattle.kdl_path.specs.Internal.Made.{IsNewEntry, IsNewNode, IsNullEntry};
+ghost use Rattle.kdl_path.specs.declared.failure.EditFailure.TheVariants.{Memory};
+ghost use Rattle.kdl_value.specs.Tree.{text_of};
 ghost use Rattle.std.specs.List.{list_all};
-ghost use Rattle.std.specs.Prelude.{◌≡◌};
+ghost use Rattle.std.specs.Prelude.{◌≡◌, ◌∷◌, ◌++◌, [], IfErr, IfOk};
 
-use crate::change::set_spelled;
-use crate::layout::push_indent;
+use crate::change::{push_child, push_entry, set_spelled};
+use crate::failure::EditFailure;
+use crate::laid::laid;
+use crate::layout::line_at;
 use crate::locate::{is_next_entry, is_next_node};
 use crate::path::{Step, Target};
 use crate::value::Spelled;
-use kdl::{
-    KdlDocument, KdlDocumentFormat, KdlEntry, KdlIdentifier, KdlNode, KdlNodeFormat, KdlValue,
-};
+use kdl::{KdlEntry, KdlIdentifier, KdlNode, KdlNodeFormat, KdlValue};
 use std::alloc::{AllocError, Global};
 
 /// Returns the entry that the target names, with the value.
@@ -20,15 +26,27 @@ pub(crate) fn new_entry(
     alloc: Global,
     target: &Target,
     value: Spelled,
-) -> Result<KdlEntry, AllocError> {
-    let mut entry = match target {
-        Target::Property(name) => {
-            KdlEntry::new_prop(KdlIdentifier::from_text(alloc, name)?, KdlValue::Null)
-        }
-        _ => KdlEntry::new(KdlValue::Null),
-    };
+) -> Result<KdlEntry, AllocError>
+    ensures { IfOk result (λ e. IsValueText (text_of value.spelling) (value_tree value.value)
+        → IsNewEntry target.now (value_tree value.value) e) }
+{
+    let mut entry = null_entry(alloc, target)?;
     set_spelled(alloc, &mut entry, value)?;
     Ok(entry)
+}
+
+/// Returns the entry that the target names, with the value `#null` and no format.
+fn null_entry(alloc: Global, target: &Target) -> Result<KdlEntry, AllocError>
+    ensures { IfOk result (λ e. IsNullEntry target.now e) }
+{
+    match target {
+        Target::Property(name) => {
+            let name = KdlIdentifier::from_text(alloc, name)?;
+            Ok(KdlEntry::new_prop(name, KdlValue::Null))
+        }
+        Target::Node => Ok(KdlEntry::new(KdlValue::Null)),
+        Target::Argument(_) => Ok(KdlEntry::new(KdlValue::Null)),
+    }
 }
 
 /// Whether the node of the first step, which is missing, can be made after the nodes: it is the next one of its name,
@@ -60,91 +78,65 @@ fn are_first(steps: &[Step]) -> bool
     true
 }
 
-/// Returns the node of the first step, with a node for each other step in its block, and the value in the last one. The
-/// node is at that depth.
+/// Returns the node of the first step, which is at that depth, with a node for each other step in its block. The entry is
+/// in the node of the last step, which is given apart from those above it.
 pub(crate) fn new_node(
     alloc: Global,
-    steps: &[Step],
-    target: &Target,
-    value: Spelled,
+    above: &[Step],
+    last: &Step,
+    entry: KdlEntry,
     depth: usize,
-) -> Result<KdlNode, AllocError> {
-    let mut left = steps.len().saturating_sub(1);
-    let mut node = new_named(alloc, steps, left)?;
-    push_entry(&mut node, new_entry(alloc, target, value)?)?;
-    for _above in 0..left {
-        left = left.saturating_sub(1);
-        node = with_child(
-            alloc,
-            new_named(alloc, steps, left)?,
-            node,
-            depth.saturating_add(left),
-        )?;
+) -> Result<KdlNode, EditFailure>
+    ensures made { IfOk result (λ n. EntryReadsBack entry
+        → IsNewNode [] (above.now ++ last.now ∷ []) (node_with_entry (entry_data (entry_tree entry))) n) }
+    ensures memory { IfErr result (λ e. e ≡ Memory) }
+{
+    let mut node = with_entry(alloc, last, entry)?;
+    let mut left = above;
+    'steps: while let Some((step, rest)) = left.split_last() {
+        node = with_child(alloc, step, node, depth.saturating_add(left.len()))?;
+        left = rest;
     }
     Ok(node)
 }
 
-/// Returns a node of the name of the step at that index, with empty texts around its parts.
-fn new_named(alloc: Global, steps: &[Step], index: usize) -> Result<KdlNode, AllocError> {
-    let name = match steps.get(index) {
-        Some(step) => step.name.as_str(),
-        None => "",
-    };
-    let mut node = KdlNode::new(KdlIdentifier::from_text(alloc, name)?)?;
-    node.set_format(KdlNodeFormat::new(alloc));
+/// Returns a node of the name of the step, with the entry.
+fn with_entry(alloc: Global, step: &Step, entry: KdlEntry) -> Result<KdlNode, EditFailure>
+    ensures says { IfOk result (λ n. node_says n
+        ≡ node_with_entry (entry_data (entry_tree entry)) (new_node step.now)) }
+    ensures reads { IfOk result (λ n. EntryReadsBack entry → NodeReadsBack n) }
+    ensures memory { IfErr result (λ e. e ≡ Memory) }
+{
+    let mut node = new_named(alloc, step)?;
+    push_entry(&mut node, entry)?;
     Ok(node)
 }
 
-/// Appends the entry.
-fn push_entry(node: &mut KdlNode, entry: KdlEntry) -> Result<(), AllocError> {
-    match node.push(entry) {
-        Ok(()) => Ok(()),
-        Err((entry, error)) => {
-            drop(entry);
-            Err(error)
-        }
-    }
-}
-
-/// Returns the node, which is at that depth, with a block that has the child on a line of its own.
+/// Returns a node of the name of the step, with the child, which is at that depth, on a line of its own in its block.
 fn with_child(
     alloc: Global,
-    mut node: KdlNode,
+    step: &Step,
     child: KdlNode,
     depth: usize,
-) -> Result<KdlNode, AllocError> {
-    let block = block_of(child, lines_around(alloc, depth)?)?;
-    node.set_format(before_block(alloc)?);
-    node.set_children(block);
+) -> Result<KdlNode, EditFailure>
+    ensures says { IfOk result (λ n.
+        node_says n ≡ node_with_child (node_says child) (new_node step.now)) }
+    ensures reads { IfOk result (λ n. NodeReadsBack child → NodeReadsBack n) }
+    ensures memory { IfErr result (λ e. e ≡ Memory) }
+{
+    let mut node = new_named(alloc, step)?;
+    let child = laid(alloc, child, line_at(depth))?;
+    push_child(alloc, &mut node, child)?;
     Ok(node)
 }
 
-/// Returns the texts before and after the nodes of a block, which is that of a node at that depth.
-fn lines_around(alloc: Global, depth: usize) -> Result<KdlDocumentFormat, AllocError> {
-    let mut around = KdlDocumentFormat::new(alloc);
-    around.leading = line_start(alloc, depth.saturating_add(1))?;
-    around.trailing = line_start(alloc, depth)?;
-    Ok(around)
-}
-
-/// Returns a block with the child and the texts around it.
-fn block_of(child: KdlNode, around: KdlDocumentFormat) -> Result<KdlDocument, AllocError> {
-    let mut block = KdlDocument::new(*around.leading.allocator());
-    block.nodes_mut().push(child)?;
-    block.set_format(around);
-    Ok(block)
-}
-
-/// Returns the format of a node with a space before its block, and no other text.
-fn before_block(alloc: Global) -> Result<KdlNodeFormat, AllocError> {
-    let mut format = KdlNodeFormat::new(alloc);
-    format.before_children = String::from_str(alloc, " ")?;
-    Ok(format)
-}
-
-/// Returns a newline, and four spaces for each level.
-fn line_start(alloc: Global, depth: usize) -> Result<String, AllocError> {
-    let mut text = String::from_str(alloc, "\n")?;
-    push_indent(&mut text, depth)?;
-    Ok(text)
+/// Returns a node of the name of the step, with empty texts around its parts.
+fn new_named(alloc: Global, step: &Step) -> Result<KdlNode, AllocError>
+    ensures says { IfOk result (λ n. node_says n ≡ new_node step.now) }
+    ensures reads { IfOk result (λ n. NodeReadsBack n) }
+{
+    let mut node = KdlNode::new(KdlIdentifier::from_text(alloc, &step.name)?)?;
+    let format = KdlNodeFormat::new(alloc);
+    node.set_format(format);
+    Ok(node)
 }

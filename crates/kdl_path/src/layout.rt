@@ -1,7 +1,6 @@
 //! Where a node that is put into a block goes.
 
 use kdl::{KdlDocument, KdlNode, KdlNodeFormat};
-use std::alloc::AllocError;
 
 /// What ends a new node.
 #[derive(Clone, Copy)]
@@ -25,14 +24,6 @@ pub(crate) struct Layout {
     pub(crate) is_tab: bool,
     /// What ends the node.
     pub(crate) end: End,
-}
-
-/// Appends four spaces for each level.
-pub(crate) fn push_indent(text: &mut String, depth: usize) -> Result<(), AllocError> {
-    for _level in 0..depth {
-        text.push_str("    ")?;
-    }
-    Ok(())
 }
 
 /// The block of the node at the end of the path, if it has one. For the empty path, the document.
@@ -106,7 +97,7 @@ fn line_after(first: &KdlNode, last: &KdlNode, depth: usize) -> Layout {
 }
 
 /// A line of its own, after four spaces for each level.
-fn line_at(depth: usize) -> Layout {
+pub(crate) fn line_at(depth: usize) -> Layout {
     Layout {
         indent: depth.saturating_mul(4),
         is_tab: false,

@@ -4,7 +4,7 @@ ghost use Rattle.kdl.specs.Words.{child_nodes, document_says, entries_of, is_arg
 ghost use Rattle.kdl_parts.specs.EntryLists.{nth_place};
 ghost use Rattle.kdl_path.specs.Internal.Failing.{MissesIf};
 ghost use Rattle.kdl_path.specs.Failures.{is_next, makes_at};
-ghost use Rattle.kdl_path.specs.Internal.Located.{IsNowhere, Leads, Loses, makes_named, makes_there, place_of_step, place_of_target};
+ghost use Rattle.kdl_path.specs.Internal.Located.{IsNowhere, Leads, Loses, Stops, makes_named, makes_there, place_of_step, place_of_target};
 ghost use Rattle.kdl_path.specs.Paths.{node_at};
 ghost use Rattle.kdl_path.specs.declared.locate.Lost.TheVariants.{Memory};
 ghost use Rattle.kdl_path.specs.declared.path.Target.{Target};
@@ -112,6 +112,7 @@ pub(crate) fn locate<'a>(
         → makes_at steps.now t (said_nodes (document_says document.now))
         ≡ makes_there t (entries_of l.node.now)) }
     ensures loses { IfErr result (Loses steps.now (document_says document.now)) }
+    ensures stops { IfErr result (Stops steps.now (nodes_of document.now)) }
 {
     let mut nodes = document.nodes();
     let mut located = None;

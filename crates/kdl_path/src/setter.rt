@@ -2,14 +2,15 @@
 
 ghost use Rattle.kdl.specs.Words.{DocumentReadsBack, IsDocument, Nodes, document_says, entries_of, node_says, value_tree};
 ghost use Rattle.c_calls.specs.Entries.{IsValueText};
-ghost use Rattle.kdl_path.specs.Edits.{IsSetAt};
+ghost use Rattle.kdl_path.specs.Edits.{IsMadeAt, IsSetAt, new_entry, node_with_entry};
 ghost use Rattle.kdl_path.specs.Internal.Failing.{MissesIf};
 ghost use Rattle.kdl_path.specs.Failures.{IsUnset, SetFails};
-ghost use Rattle.kdl_path.specs.Internal.Done.{IsDoneAt, SetsOrMakes};
+ghost use Rattle.kdl_path.specs.Internal.Done.{IsDoneAt, SetsValue};
 ghost use Rattle.kdl_path.specs.Internal.Located.{makes_new, makes_there};
+ghost use Rattle.kdl_path.specs.Internal.Made.{IsNewNode, IsValueMade, PushesNew};
 ghost use Rattle.kdl_path.specs.Paths.{at_path, value_in};
 ghost use Rattle.kdl_value.specs.Tree.{text_of};
-ghost use Rattle.std.specs.Prelude.{◌≡◌, ◌&&◌, IfErr, IfOk, IsSome, None, drop, false, true};
+ghost use Rattle.std.specs.Prelude.{◌≡◌, ◌&&◌, ◌∷◌, ◌++◌, [], IfErr, IfNone, IfOk, IfSome, IsSome, None, drop, false, true};
 ghost use Rattle.std.specs.Str.{chars};
 
 use crate::change::{Change, change_at};
@@ -48,7 +49,11 @@ pub fn set(
     ensures set { IfOk result (λ out. (x : Nodes) → IsDocument (chars text.now) x
         → IsSome (at_path path.now x)
         → IsSetAt path.now (chars value.now) (chars text.now) (text_of out)) }
-    // The text is a document, and without `create` it has one.
+    // A value that is missing is made at the PATH, and all other data are those of the text.
+    ensures made { IfOk result (λ out. (x : Nodes) → IsDocument (chars text.now) x
+        → at_path path.now x ≡ None
+        → IsMadeAt path.now (chars value.now) (chars text.now) (text_of out)) }
+    // The text is a document, and without `create` it has a value there.
     ensures found { IfOk result (λ out. (x : Nodes) × IsDocument (chars text.now) x
         × (create ≡ false → IsSome (at_path path.now x))) }
     // A failure is `Value` only if VALUE is not a value, `Text` with the faults of the text only if it is not a document,
@@ -73,6 +78,10 @@ fn set_in(
         → IsValueText (text_of value.spelling) (value_tree value.value)
         → IsSome (at_path path.now (document_says document))
         → IsDoneAt path.now.steps.items path.now.target (text_of value.spelling) document d) }
+    ensures made { IfOk result (λ d. DocumentReadsBack document
+        → IsValueText (text_of value.spelling) (value_tree value.value)
+        → at_path path.now (document_says document) ≡ None
+        → IsValueMade path.now (value_tree value.value) document d) }
     ensures found { create ≡ false → IfOk result (λ d.
         IsSome (at_path path.now (document_says document))) }
     ensures missing { IfErr result (λ e.
@@ -102,25 +111,37 @@ fn made_node(
     value: Spelled,
     create: bool,
 ) -> Result<KdlNode, EditFailure>
-    ensures created { IfOk result (λ n. create ≡ true) }
+    ensures created { IfOk result (λ n. (create ≡ true)
+        × (makes_new (drop number path.now.steps.items) path.now.target nodes.now ≡ true)) }
+    ensures made { IfOk result (λ n. IsValueText (text_of value.spelling) (value_tree value.value)
+        → IsNewNode [] (drop number path.now.steps.items)
+        (node_with_entry (new_entry path.now.target (value_tree value.value))) n) }
     ensures missing { IfErr result (λ e. MissesIf (create ≡ true
         → makes_new (drop number path.now.steps.items) path.now.target nodes.now ≡ false) e) }
 {
     let rest = steps_from(&path.steps, number);
-    if !may_make_node(create, nodes, rest, &path.target) {
+    let Some((last, above)) = steps_to_make(create, nodes, rest, &path.target) else {
         return Err(EditFailure::Missing(missing_node(alloc, nodes, path, number)?));
-    }
-    Ok(new_node(alloc, rest, &path.target, value, number)?)
+    };
+    let entry = new_entry(alloc, &path.target, value)?;
+    new_node(alloc, above, last, entry, number)
 }
 
-/// Whether the node of the first step, which is missing, is made after the nodes.
-fn may_make_node(create: bool, nodes: &[KdlNode], steps: &[Step], target: &Target) -> bool
-    ensures { result ≡ (create && makes_new steps.now target.now nodes.now) }
+/// The last of the steps and those above it, if the node of the first one, which is missing, is made after the nodes.
+fn steps_to_make<'a>(
+    create: bool,
+    nodes: &[KdlNode],
+    steps: &'a [Step],
+    target: &Target,
+) -> Option<(&'a Step, &'a [Step])>
+    ensures some { IfSome result (λ (last, above). (create ≡ true)
+        × (makes_new steps.now target.now nodes.now ≡ true) × (steps.now ≡ above.now ++ last.now ∷ [])) }
+    ensures none { IfNone result (create ≡ true → makes_new steps.now target.now nodes.now ≡ false) }
 {
-    if create {
-        is_next(nodes, steps, target)
+    if create && is_next(nodes, steps, target) {
+        steps.split_last()
     } else {
-        false
+        None
     }
 }
 
@@ -144,7 +165,10 @@ fn entry_change(
     create: bool,
 ) -> Result<Change, EditFailure>
     ensures set { IfOk result (λ c. IsSome (value_in target.now (node_says node.now))
-        → SetsOrMakes target.now value (entries_of node.now) c) }
+        → SetsValue target.now value (entries_of node.now) c) }
+    ensures made { IfOk result (λ c. value_in target.now (node_says node.now) ≡ None
+        → IsValueText (text_of value.spelling) (value_tree value.value)
+        → PushesNew target.now (value_tree value.value) (entries_of node.now) c) }
     ensures found { create ≡ false → IfOk result (λ c.
         IsSome (value_in target.now (node_says node.now))) }
     ensures missing { IfErr result (λ e.

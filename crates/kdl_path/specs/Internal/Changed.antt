@@ -1,7 +1,7 @@
 -- A node after a change.
 use Rattle.std.specs.List.{remove}
-use Rattle.std.specs.Prelude.{◌≡◌, ◌<◌, ℕ, [], ◌∷◌, ◌++◌, Option, Some, None, length, slice_get}
-use Rattle.kdl.specs.Words.{Entry, EntryFormat, NodeReadsBack, ReadsAs, Text, Value, block_of, document_tree, empty_format, entries_of, entry_tree, held_entries, held_nodes, node_says, node_tree, nodes_of, value_tree, with_children, with_entries, with_nodes}
+use Rattle.std.specs.Prelude.{◌≡◌, ◌<◌, ℕ, [], ◌∷◌, Option, Some, None, length, slice_get}
+use Rattle.kdl.specs.Words.{Entry, EntryFormat, EntryReadsBack, NodeReadsBack, ReadsAs, Text, Value, block_of, document_tree, empty_format, entries_of, entry_data, entry_tree, held_nodes, node_says, node_tree, nodes_of, value_tree, with_children, with_nodes}
 use Rattle.kdl.specs.Lookups.{with_entry_there}
 use Rattle.kdl.specs.declared.document.KdlDocument.{KdlDocument}
 use Rattle.kdl.specs.declared.node.KdlNode.{KdlNode}
@@ -9,7 +9,7 @@ use Rattle.c_calls.specs.Changes.{changed_at}
 use Rattle.c_calls.specs.Entries.{EntryRemoved}
 use Rattle.kdl_entry.specs.declared.entry.KdlEntry.{KdlEntry}
 use Rattle.kdl_value.specs.Tree.{text_of}
-use Rattle.kdl_path.specs.Edits.{node_with_child}
+use Rattle.kdl_path.specs.Edits.{node_with_child, node_with_entry}
 use Rattle.kdl_path.specs.Internal.Laid.{IsBlockLaid}
 use Rattle.kdl_path.specs.declared.change.Change.{Change}
 use Rattle.kdl_path.specs.declared.change.Change.TheVariants.{SetValue, PushEntry, RemoveEntry, PushChild, RemoveChild}
@@ -35,10 +35,10 @@ pub record IsValueSet (at : ℕ) (v : Value) (t : Text) (n m : KdlNode) : Type 0
   pub tree : entry_tree new ≡ with_spelled v t (entry_tree old)
   pub rest : m ≡ with_entry_there (Some at) n new
 
--- m is n with the entry after the others
+-- m reads back as n does if the entry e reads back, and its data are those of n with those of e after its entries
 pub record IsEntryPushed (e : KdlEntry) (n m : KdlNode) : Type 0 where
-  pub entries : entries_of m ≡ entries_of n ++ (e ∷ [])
-  pub rest : m ≡ with_entries n (held_entries m)
+  pub says : node_says m ≡ node_with_entry (entry_data (entry_tree e)) (node_says n)
+  pub reads : EntryReadsBack e → ReadsAs n m
 
 -- m reads back as n does if the node c reads back, and its data are those of n with those of c last in its block
 pub record IsChildPushed (c n m : KdlNode) : Type 0 where

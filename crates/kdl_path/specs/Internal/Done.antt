@@ -22,7 +22,7 @@ pub record IsDoneAt (ss : List Step) (t : Target) (given : Text) (d e : KdlDocum
   pub bytes : IsExchangedAt (λ v. changed_at ss (node_with_value t v) (document_says d)) was given (document_prints d) (document_prints e)
 
 -- the change sets the value of the entry that the target names
-pub record SetsOrMakes (t : Target) (s : Spelled) (es : List KdlEntry) (c : Change) : Type 0 where
+pub record SetsValue (t : Target) (s : Spelled) (es : List KdlEntry) (c : Change) : Type 0 where
   pub at : ℕ
   pub place : place_of_target t es ≡ Some at
   pub change : c ≡ SetValue at s

@@ -1,7 +1,7 @@
 -- Nodes and entries in memory that a PATH names.
 use Rattle.std.specs.List.{filter, flat_map, list_all}
 use Rattle.std.specs.Option.{option_to_list}
-use Rattle.std.specs.Prelude.{◌≡◌, ◌&&◌, ℕ, Bool, true, false, List, [], ◌∷◌, Option, None, Some, drop, length, option_and_then, slice_get, string_bytes, unwrap_or}
+use Rattle.std.specs.Prelude.{◌≡◌, ◌&&◌, ℕ, Bool, true, false, List, [], ◌∷◌, Option, None, Some, drop, length, option_and_then, slice_get, string_bytes, take, unwrap_or}
 use Rattle.kdl.specs.Words.{Nodes, child_nodes, has_name, is_argument, is_node_named, said_nodes, there}
 use Rattle.kdl.specs.declared.node.KdlNode.{KdlNode}
 use Rattle.kdl_entry.specs.declared.entry.KdlEntry.{KdlEntry}
@@ -74,3 +74,20 @@ abbrev pub Loses : List Step → Nodes → Lost → Type 0
 Loses ss x lost.Document = (t : Target) → makes_at ss t (said_nodes x) ≡ false
 Loses ss x (lost.Step is ns) = (t : Target) → makes_at ss t (said_nodes x) ≡ makes_new (drop (length is.items) ss) t ns.now
 Loses ss x lost.Memory = Unit {0}
+
+-- steps and indices lead to the nodes ns: those of the document, or those in the block of a node
+abbrev pub LeadsAmong : List Step → List ℕ → (all ns : List KdlNode) → Type 0
+LeadsAmong [] is all ns = (is ≡ []) × (ns ≡ all)
+LeadsAmong (s ∷ ss) is all ns = (n : KdlNode) × Leads (s ∷ ss) is all None n × (ns ≡ child_nodes n)
+
+-- the first steps and the indices lead to the nodes ns, and the next step names none of them
+pub record StopsAt (ss : List Step) (is : List ℕ) (all ns : List KdlNode) : Type 0 where
+  pub next : Step
+  pub rest : List Step
+  pub steps : drop (length is) ss ≡ next ∷ rest
+  pub leads : LeadsAmong (take (length is) ss) is all ns
+  pub none : there (place_of_step next ns) ns ≡ None
+
+abbrev pub Stops : List Step → List KdlNode → Lost → Type 0
+Stops ss all (lost.Step is ns) = StopsAt ss is.items all ns.now
+Stops ss all _ = Unit {0}

@@ -1,5 +1,5 @@
-use Rattle.std.proofs.Common.{rules, ◌≡◌, ◌≤◌, ◌+◌, ℕ, arith, length, length-append, List, [], ◌∷◌, ◌++◌, None, Some, option_map, slice_get, drop, refl, ap, ◌∙◌, sym, subst, append_assoc, append-nil}
-use Rattle.std.proofs.lemmas.List.{drop_all, drop_more}
+use Rattle.std.proofs.Common.{rules, ◌≡◌, ◌≤◌, ◌+◌, ℕ, arith, length, length-append, List, [], ◌∷◌, ◌++◌, None, Some, Option, option_map, slice_get, drop, take, refl, ap, ◌∙◌, sym, subst}
+use Rattle.std.proofs.lemmas.List.{drop_all, drop_more, take_all, take_more}
 use Rattle.std.proofs.lemmas.Option.{slice_get_past, slice_get_read}
 use Rattle.kdl.specs.Words.{nodes_of}
 use Rattle.kdl.specs.declared.node.KdlNode.{KdlNode}
@@ -7,7 +7,7 @@ use Rattle.kdl_parts.specs.EntryLists.{there}
 use Rattle.kdl_path.specs.Internal.Located.{Leads, makes_new, walk}
 use Rattle.kdl_path.specs.declared.path.Step.{Step}
 use Rattle.kdl_path.proofs.Making.{made_first, made_from, made_last, made_lost, made_next, made_none}
-use Rattle.kdl_path.proofs.Places.{none_lost, step_leads, step_lost, step_walks}
+use Rattle.kdl_path.proofs.Places.{IsReached, none_lost, reached_more, step_lost, step_stops, step_walks}
 use Rattle.kdl_path.proofs.locate.locate.Goals as goal
 
 pub returns-in_default-clause-nowhere : goal.returns-in_default-clause-nowhere
@@ -28,6 +28,16 @@ returns-in_default-clause-loses c = λ t.
     let o = option_map (λ n. n.now) c.loop-step.located in
     let e : drop i ss ≡ s ∷ drop (i + 1) ss = drop_more ss i s c.loop-step-test.true ∙ ap (λ x. x ∷ drop (i + 1) ss) (sym c.step-item.is) in
     sym (c.loop-step.invariant.makes t) ∙ made_lost (drop i ss) (drop (i + 1) ss) s t ns o e (ap (λ q. there q ns) (sym c.in_default.ensures)) ∙ ap (λ n. makes_new (drop n ss) t ns) (sym c.loop-step.invariant.count)
+
+pub returns-in_default-clause-stops : goal.returns-in_default-clause-stops
+returns-in_default-clause-stops c =
+    let ss = c.args.steps.now in
+    let i = c.loop-step.step-index in
+    let s = c.step-item.result in
+    let ns = c.loop-step.nodes.now in
+    let o = option_map (λ n. n.now) c.loop-step.located in
+    let e : drop i ss ≡ s ∷ drop (i + 1) ss = drop_more ss i s c.loop-step-test.true ∙ ap (λ x. x ∷ drop (i + 1) ss) (sym c.step-item.is) in
+    step_stops ss (drop (i + 1) ss) s i o c.loop-step.indices.items (nodes_of c.args.document.now) ns c.loop-step.invariant.count c.loop-step.invariant.reached e (ap (λ q. there q ns) (sym c.in_default.ensures))
 
 pub returns-in_default-get-clause-nowhere : goal.returns-in_default-get-clause-nowhere
 returns-in_default-get-clause-nowhere c = λ u.
@@ -50,6 +60,17 @@ returns-in_default-get-clause-loses c = λ t.
     let past : slice_get ns c.in-Some.index ≡ None = slice_get_past ns c.in-Some.index (search rules) in
     sym (c.loop-step.invariant.makes t) ∙ made_lost (drop i ss) (drop (i + 1) ss) s t ns o e (ap (λ q. there q ns) (sym c.in-Some.ensures) ∙ past) ∙ ap (λ n. makes_new (drop n ss) t ns) (sym c.loop-step.invariant.count)
 
+pub returns-in_default-get-clause-stops : goal.returns-in_default-get-clause-stops
+returns-in_default-get-clause-stops c =
+    let ss = c.args.steps.now in
+    let i = c.loop-step.step-index in
+    let s = c.step-item.result in
+    let ns = c.loop-step.nodes.now in
+    let o = option_map (λ n. n.now) c.loop-step.located in
+    let e : drop i ss ≡ s ∷ drop (i + 1) ss = drop_more ss i s c.loop-step-test.true ∙ ap (λ x. x ∷ drop (i + 1) ss) (sym c.step-item.is) in
+    let past : slice_get ns c.in-Some.index ≡ None = slice_get_past ns c.in-Some.index (search rules) in
+    step_stops ss (drop (i + 1) ss) s i o c.loop-step.indices.items (nodes_of c.args.document.now) ns c.loop-step.invariant.count c.loop-step.invariant.reached e (ap (λ q. there q ns) (sym c.in-Some.ensures) ∙ past)
+
 pub loop-step-init : goal.loop-step-init
 loop-step-init c =
     let ss = c.args.steps.now in
@@ -58,7 +79,7 @@ loop-step-init c =
     let none : c.new-indices.result.items ≡ [] = search rules in
     record {
       walks = ap (walk ss None) same;
-      leads = λ is n h. subst (λ (l : List ℕ). Leads ss (l ++ is) (nodes_of d) None n) (sym none) (subst (λ (l : List KdlNode). Leads ss is l None n) same h);
+      reached = (refl, none, same);
       count = ap length none;
       makes = λ t. ap (made_from ss t None) same ∙ made_first ss t d;
     }
@@ -77,13 +98,15 @@ loop-step-preserved c =
     let e : drop i ss ≡ s ∷ rest = drop_more ss i s c.loop-step-test.true ∙ ap (λ x. x ∷ rest) (sym c.step-item.is) in
     let there : slice_get ns at ≡ Some k = slice_get_read ns (length ns) at k refl (search rules) (search rules) in
     let items : c.push.new.self.items ≡ before ++ (at ∷ []) = search rules in
+    let more : take (i + 1) ss ≡ take i ss ++ (s ∷ []) = take_more ss i s c.loop-step-test.true ∙ ap (λ x. take i ss ++ (x ∷ [])) (sym c.step-item.is) in
     record {
       walks = ap (walk rest (Some k)) c.child_nodes-nodes.ensures ∙ step_walks (drop i ss) rest s ns o at k e (sym c.in-Some.ensures) there ∙ c.loop-step.invariant.walks;
-      leads = λ is n h.
-          subst (λ l. Leads ss (l ++ is) (nodes_of c.args.document.now) None n) (sym items)
-          (subst (λ l. Leads ss l (nodes_of c.args.document.now) None n) (sym (append_assoc before (at ∷ []) is))
-          (c.loop-step.invariant.leads (at ∷ is) n
-          (step_leads (drop i ss) rest s is ns o at k n e (sym c.in-Some.ensures) there (subst (λ (l : List KdlNode). Leads rest is l (Some k) n) c.child_nodes-nodes.ensures h))));
+      reached = (
+        subst (λ (l : List Step). Leads l c.push.new.self.items (nodes_of c.args.document.now) None k) (sym more)
+            (subst (λ (l : List ℕ). Leads (take i ss ++ (s ∷ [])) l (nodes_of c.args.document.now) None k) (sym items)
+            (reached_more o (take i ss) before (nodes_of c.args.document.now) ns s at k c.loop-step.invariant.reached (sym c.in-Some.ensures) there)),
+        c.child_nodes-nodes.ensures,
+      );
       count = ap length items ∙ omega (arith, length-append before (at ∷ []), c.loop-step.invariant.count);
       makes = λ t. ap (made_from rest t (Some k)) c.child_nodes-nodes.ensures ∙ made_next (drop i ss) rest s t ns o at k e (sym c.in-Some.ensures) there ∙ c.loop-step.invariant.makes t;
     }
@@ -96,8 +119,8 @@ returns-in-Some-located-clause-leads c =
     let o = option_map (λ n. n.now) c.loop-step.located in
     let found : o ≡ Some n = search rules in
     let past : length ss ≤ i = search rules in
-    subst (λ l. Leads ss l (nodes_of c.args.document.now) None n) (append-nil c.loop-step.indices.items)
-    (c.loop-step.invariant.leads [] n (subst (λ (l : List Step). Leads l [] c.loop-step.nodes.now o n) (sym (drop_all i ss past)) found))
+    let reached : IsReached (Some n) (take i ss) c.loop-step.indices.items (nodes_of c.args.document.now) c.loop-step.nodes.now = subst (λ (q : Option KdlNode). IsReached q (take i ss) c.loop-step.indices.items (nodes_of c.args.document.now) c.loop-step.nodes.now) found c.loop-step.invariant.reached in
+    subst (λ (l : List Step). Leads l c.loop-step.indices.items (nodes_of c.args.document.now) None n) (take_all i ss past) reached.0
 
 pub returns-in-Some-located-clause-makes : goal.returns-in-Some-located-clause-makes
 returns-in-Some-located-clause-makes c = λ t.
