@@ -1,10 +1,11 @@
 -- Edits that are written.
-use Rattle.std.proofs.Common.{arith, ◌≡◌, ◌++◌, ◌∷◌, ◌∙◌, ◌+◌, ◌<◌, ◌≤◌, [], ℕ, List, Option, ap, chars, codes, flat_map, get_or, inl, inr, length, map, sym, take}
+use Rattle.std.proofs.Common.{arith, ◌≡◌, ◌++◌, ◌∷◌, ◌∙◌, ◌+◌, ◌<◌, ◌≤◌, [], ℕ, List, Option, ap, chars, codes, flat_map, fold, get_or, inl, inr, length, map, refl, sym, take}
 use Rattle.std.proofs.lemmas.Grind.{flat_map-append}
 use Rattle.std.proofs.lemmas.List.{append-nil, append_assoc, take_all, take_more}
 use Rattle.json.specs.Token.{Token, begin_array, end_array}
 use Rattle.json.specs.Print.{print, print_from, escape_byte}
 use Rattle.lsp.specs.Formatting.{IsEditsTo, IsFormatting, edit_tokens, edits_tokens}
+use Rattle.lsp.specs.Internal.Nesting.{End, Items, Nesting, Start, after_token}
 use Rattle.lsp_text.specs.Lines.{all_edited, edit_of}
 use Rattle.lsp_text.specs.Positions.{Text}
 use Rattle.lsp_text.specs.declared.edit.Edit.{Edit}
@@ -27,6 +28,14 @@ all_written a b c e ds i begins ends old new =
     let all : flat_map one (take i ds) ≡ flat_map one ds = ap (flat_map one) (take_all i ds ends) in
     new ∙ ap (λ t. t ++ end_array ∷ []) (old ∙ ap (λ t. t ++ flat_map one (take i ds)) begins ∙ append_assoc a (begin_array ∷ []) (flat_map one (take i ds)) ∙ ap (λ t. a ++ begin_array ∷ t) all)
     ∙ append_assoc a (begin_array ∷ flat_map one ds) (end_array ∷ [])
+
+-- edits are a value
+edits_items : (n : Nesting) (ds : List Edit) → fold after_token (Items n) (flat_map one ds ++ end_array ∷ []) ≡ n
+edits_items n [] = refl
+edits_items n (d ∷ ds) = edits_items n ds
+
+pub edits_end : (ds : List Edit) → fold after_token Start (edits_tokens ds) ≡ End
+edits_end ds = edits_items End ds
 
 -- ---- what formatting does not give
 

@@ -1,11 +1,7 @@
 -- Writers that write more.
-use Rattle.std.proofs.Common.{◌≡◌, ◌++◌, ◌∙◌, ℕ, List, ap, false, true}
+use Rattle.std.proofs.Common.{◌≡◌, ◌++◌, ◌∙◌, ℕ, List, ap}
 use Rattle.std.proofs.lemmas.List.{append_assoc}
 use Rattle.json.specs.Token.{Token}
-use Rattle.json.proofs.Printed.Tokens.{print_from-append}
-use Rattle.json.specs.Print.{print, print_from}
-use Rattle.lsp.specs.Replies.{greeting_head}
-use Rattle.lsp_text.specs.declared.position.Encoding.{Encoding}
 
 -- some tokens more
 pub grown : (a b : List ℕ) (ss ts us : List Token) → b ≡ a → ts ≡ ss ++ us → (b ≡ a) × ((more : List Token) × (ts ≡ ss ++ more))
@@ -14,13 +10,6 @@ grown a b ss ts us before is = (before, (us, is))
 -- and more again
 pub grows_on : (a b c : List ℕ) (ss ts us : List Token) → (b ≡ a) × ((more : List Token) × (ts ≡ ss ++ more)) → (c ≡ b) × ((more : List Token) × (us ≡ ts ++ more)) → (c ≡ a) × ((more : List Token) × (us ≡ ss ++ more))
 grows_on a b c ss ts us p q = (q.0 ∙ p.0, (p.1.0 ++ q.1.0, q.1.1 ∙ ap (λ xs. xs ++ q.1.0) p.1.1 ∙ append_assoc ss p.1.0 q.1.0))
-
--- the bytes of the first tokens, and others
-print_front : (e : Encoding) (ts : List Token) → print (greeting_head e ++ ts) ≡ print (greeting_head e) ++ print_from true ts
-print_front e ts = print_from-append false (greeting_head e) ts
-
-pub greeted : (e : Encoding) (bytes : List ℕ) (ss ts us : List Token) → ss ≡ greeting_head e → ts ≡ ss ++ us → bytes ≡ print ts → bytes ≡ print (greeting_head e) ++ print_from true us
-greeted e bytes ss ts us h f is = is ∙ ap print (f ∙ ap (λ xs. xs ++ us) h) ∙ print_front e us
 
 -- some tokens, and then others
 pub next : (a b c us vs : List Token) → b ≡ a ++ us → c ≡ b ++ vs → c ≡ a ++ (us ++ vs)

@@ -24,3 +24,5 @@ pub mod Edits
 pub mod Answering
 -- Replies to requests to format that are refused.
 pub mod Refused
+-- Where writers of JSON are.
+pub mod Nesting

@@ -4,13 +4,13 @@ use Rattle.std.proofs.lemmas.List.{append_cancel_left, append_cancel_right}
 use Rattle.std.specs.Str.Parse.{ParsesUnsigned}
 use Rattle.json.specs.Find.{get}
 use Rattle.json.specs.Json as json
-use Rattle.json.specs.Json.{Json}
+use Rattle.json.specs.Json.{Json, no_items}
 use Rattle.json.specs.Print.{print, print_from, escape_byte}
-use Rattle.json.specs.Token.{Token, key, string}
+use Rattle.json.specs.Tree.{json_tokens}
 use Rattle.lsp.specs.Contents.{Answers, IsAbout, IsFormatted, text_in}
 use Rattle.lsp.specs.Formatting.{HasSize, IsFormatting, IsIndent, IsLaidOut}
 use Rattle.lsp.specs.Messages.{AsksFor}
-use Rattle.lsp.specs.Replies.{Content, IsReplyFor, IsReplyOf, message_head}
+use Rattle.lsp.specs.Replies.{Content, IsReplyFor, IsReplyWith, error_code, error_json, reply_json}
 use Rattle.lsp.specs.Turns.{Takes}
 use Rattle.lsp.specs.declared.write.Wrong.{Wrong}
 use Rattle.lsp_documents.specs.Notes.{IsNumber}
@@ -18,26 +18,29 @@ use Rattle.lsp_documents.specs.declared.state.Phase.TheVariants.{Running}
 use Rattle.lsp_documents.specs.declared.state.State.{State}
 use Rattle.lsp_text.specs.declared.position.Encoding.{Encoding}
 use Rattle.lsp.proofs.Edits.{some_edits}
+use Rattle.lsp.proofs.Replying.{reply_front, reply_print}
 
--- a reply up to its content
-abbrev front : List ℕ → Token → List ℕ
-front name t = print (message_head ++ key (codes "id") ∷ t ∷ key name ∷ [])
-
-whole : (name content : List ℕ) (m : String Global) → IsReplyOf name (json.string (codes "a")) content m → string_bytes m ≡ front name (string (codes "a")) ++ (content ++ 125 ∷ [])
-whole name content m (t, is, e) = let P : Token → Type 0 = λ u. string_bytes m ≡ front name u ++ (content ++ 125 ∷ []) in subst P is e
+whole : (name : List ℕ) (j : Json) (m : String Global) → IsReplyWith name j (json.string (codes "a")) m → string_bytes m ≡ print (reply_front (json.string (codes "a")) name) ++ (print (json_tokens j) ++ 125 ∷ [])
+whole name j m (i, is, (numbers, e)) =
+    let P : Json → Type 0 = λ u. string_bytes m ≡ print (json_tokens (reply_json u name j)) in subst P is e ∙ reply_print (json.string (codes "a")) name j
 
 -- the result of a reply is one
-same_result : (out other : List ℕ) (m : String Global) → IsReplyOf (codes "result") (json.string (codes "a")) out m → IsReplyOf (codes "result") (json.string (codes "a")) other m → out ≡ other
-same_result out other m p q =
-    append_cancel_right out other (125 ∷ []) (append_cancel_left (front (codes "result") (string (codes "a"))) _ _ (sym (whole (codes "result") out m p) ∙ whole (codes "result") other m q))
+same_result : (i j : Json) (m : String Global) → IsReplyWith (codes "result") i (json.string (codes "a")) m → IsReplyWith (codes "result") j (json.string (codes "a")) m → print (json_tokens i) ≡ print (json_tokens j)
+same_result i j m p q =
+    append_cancel_right (print (json_tokens i)) (print (json_tokens j)) (125 ∷ [])
+    (append_cancel_left (print (reply_front (json.string (codes "a")) (codes "result"))) _ _ (sym (whole (codes "result") i m p) ∙ whole (codes "result") j m q))
 
-result_byte : (content : List ℕ) (m : String Global) → IsReplyOf (codes "result") (json.string (codes "a")) content m → get_or (string_bytes m) 27 0 ≡ 114
+result_byte : (j : Json) (m : String Global) → IsReplyWith (codes "result") j (json.string (codes "a")) m → get_or (string_bytes m) 27 0 ≡ 114
 unfolding print_from escape_byte
-result_byte content m r = ap (λ b. get_or b 27 0) (whole (codes "result") content m r)
+result_byte j m r = ap (λ b. get_or b 27 0) (whole (codes "result") j m r)
 
-error_byte : (content : List ℕ) (m : String Global) → IsReplyOf (codes "error") (json.string (codes "a")) content m → get_or (string_bytes m) 27 0 ≡ 101
+error_byte : (j : Json) (m : String Global) → IsReplyWith (codes "error") j (json.string (codes "a")) m → get_or (string_bytes m) 27 0 ≡ 101
 unfolding print_from escape_byte
-error_byte content m r = ap (λ b. get_or b 27 0) (whole (codes "error") content m r)
+error_byte j m r = ap (λ b. get_or b 27 0) (whole (codes "error") j m r)
+
+none_print : print (json_tokens (json.array no_items)) ≡ codes "[]"
+unfolding print_from
+none_print = refl
 
 -- no edits are the formatting of no text whose layout differs
 pub no_edits : (e : Encoding) (indent : Option ℕ) (text : List ℕ) → ((new : List ℕ) → IsLaidOut indent text new → chars text ≡ chars new → ⊥) → IsFormatting e indent text (codes "[]") → ⊥
@@ -47,13 +50,13 @@ no_edits e indent text other (inr (new, laid, edits)) = some_edits e text new (o
 
 no_content : (s : State) (params : Json) (text : List ℕ) (content : Content) (m : String Global) → text_in s params ≡ Ok text
     → ((indent : Option ℕ) (new : List ℕ) → IsLaidOut indent text new → chars text ≡ chars new → ⊥)
-    → IsAbout s params (IsFormatted s.client.encoding params) content → IsReplyFor (json.string (codes "a")) content m → IsReplyOf (codes "result") (json.string (codes "a")) (codes "[]") m → ⊥
-no_content s params text (Err wrong) m is other about reply empty = let h : 114 ≡ 101 = sym (result_byte (codes "[]") m empty) ∙ error_byte _ m reply.1 in absurd (omega (arith, h))
+    → IsAbout s params (IsFormatted s.client.encoding params) content → IsReplyFor (json.string (codes "a")) content m → IsReplyWith (codes "result") (json.array no_items) (json.string (codes "a")) m → ⊥
+no_content s params text (Err wrong) m is other about reply empty = let h : 114 ≡ 101 = sym (result_byte (json.array no_items) m empty) ∙ error_byte (error_json (error_code wrong) reply.0) m reply.1 in absurd (omega (arith, h))
 no_content s params text (Ok out) m is other (inl short) reply empty = absurd (cc (short))
 no_content s params text (Ok out) m is other (inr about) reply empty =
     let P : Result (List ℕ) Wrong → Type 0 = λ r. MatchResult r (λ t. IsFormatted s.client.encoding params t (Ok out)) (λ w. Ok out ≡ Err w) in
     let f : IsFormatted s.client.encoding params text (Ok out) = subst P is about in
-    no_edits s.client.encoding f.0 text (other f.0) (subst (λ b. IsFormatting s.client.encoding f.0 text b) (same_result (string_bytes out) (codes "[]") m reply empty) f.2)
+    no_edits s.client.encoding f.0 text (other f.0) (subst (λ b. IsFormatting s.client.encoding f.0 text b) (reply.1.1 ∙ same_result reply.0 (json.array no_items) m reply.2 empty ∙ none_print) f.2)
 
 only : (m n : String Global) → Contains (m ∷ []) n → m ≡ n
 only m n (zero, inside, is) = is
@@ -62,7 +65,7 @@ only m n (suc k, inside, is) = absurd (omega (arith, inside))
 -- a server does not reply so to a request to format a text whose layout differs
 pub not_unformatted : (old new : State) (message text : List ℕ) (params : Json) (m : String Global) → old.phase ≡ Running → AsksFor message (json.string (codes "a")) (codes "textDocument/formatting") params
     → text_in old params ≡ Ok text → ((indent : Option ℕ) (laid : List ℕ) → IsLaidOut indent text laid → chars text ≡ chars laid → ⊥)
-    → IsReplyOf (codes "result") (json.string (codes "a")) (codes "[]") m → Takes old message (Some (m ∷ [])) new → ⊥
+    → IsReplyWith (codes "result") (json.array no_items) (json.string (codes "a")) m → Takes old message (Some (m ∷ [])) new → ⊥
 unfolding Answers
 not_unformatted old new message text params m running asks is other empty takes =
     let a = takes.answered running (json.string (codes "a")) (codes "textDocument/formatting") params asks in

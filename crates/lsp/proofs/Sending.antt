@@ -1,5 +1,5 @@
 -- Messages that are sent.
-use Rattle.std.proofs.Common.{arith, ◌≡◌, ◌⊎◌, ◌++◌, ◌∷◌, ◌<◌, ◌∙◌, [], ℕ, List, None, Some, String, Vec, Global, Contains, IfSome, IsNone, IsSome, IsSomeAnd, MatchOption, OnOk, Result, Ok, Err, ap, IsErr, codes, inl, inr, refl, subst, sym}
+use Rattle.std.proofs.Common.{arith, ◌≡◌, ◌⊎◌, ◌++◌, ◌∷◌, ◌<◌, ◌∙◌, [], ℕ, List, None, Some, String, Vec, Global, Contains, IfSome, IsNone, IsSome, IsSomeAnd, MatchOption, OnOk, Result, Ok, Err, ap, IsErr, inl, inr, refl, subst, sym}
 use Rattle.std.specs.BTreeMap.{IsEmpty, get_by_text}
 use Rattle.std.proofs.lemmas.List.{append_assoc}
 use Rattle.std.proofs.lemmas.List.Elements.{Contains-append_left, Contains-push}
@@ -15,7 +15,7 @@ use Rattle.lsp_documents.specs.declared.state.Phase.TheVariants.{New, Running}
 use Rattle.lsp_documents.specs.declared.state.State.{State}
 use Rattle.lsp_text.specs.declared.position.Encoding.{Encoding}
 use Rattle.lsp.specs.Contents.{Answers, IsAnswer}
-use Rattle.lsp.specs.Replies.{AreIn, Fails, Greets, IsGreeting, IsLog, IsReplyTo, IsReplyWith, Logs, Replies}
+use Rattle.lsp.specs.Replies.{AreIn, Fails, Greets, IsFailure, IsGreeting, IsLog, IsReplyTo, Logs, Replies}
 use Rattle.lsp.specs.Turns.{Takes, sent_of}
 
 -- `null` as JSON
@@ -102,7 +102,7 @@ client_on : (old new other : State) → other.phase ≡ new.phase → other.clie
 client_on old new other p k (inl same) = inl (k ∙ same)
 client_on old new other p k (inr (early, running)) = inr (early, p ∙ running)
 
-pub fails_pushed : (id : Json) (ms ns : List (String Global)) (m : String Global) → ns ≡ ms ++ m ∷ [] → IsReplyWith (codes "error") id m → Fails id ns
+pub fails_pushed : (id : Json) (ms ns : List (String Global)) (m : String Global) → ns ≡ ms ++ m ∷ [] → IsFailure id m → Fails id ns
 unfolding Fails
 fails_pushed id ms ns m e r = (m, subst (λ l. Contains l m) (sym e) (Contains-push ms m), r)
 
@@ -156,7 +156,7 @@ takes_lost old new other message ms r same (p, k) t is =
     })
 
 -- a reply to `initialize` is sent
-pub started_pushed : (id : Json) (ms ns : List (String Global)) (m : String Global) (s : State) → ns ≡ ms ++ m ∷ [] → IsReplyWith (codes "error") id m ⊎ ((s.phase ≡ Running) × IsGreeting id s.client.encoding m)
+pub started_pushed : (id : Json) (ms ns : List (String Global)) (m : String Global) (s : State) → ns ≡ ms ++ m ∷ [] → IsFailure id m ⊎ ((s.phase ≡ Running) × IsGreeting id s.client.encoding m)
     → Fails id ns ⊎ ((s.phase ≡ Running) × Greets id s.client.encoding ns)
 started_pushed id ms ns m s e (inl fails) = inl (fails_pushed id ms ns m e fails)
 started_pushed id ms ns m s e (inr (running, greets)) = inr (running, greets_pushed id s.client.encoding ms ns m e greets)

@@ -1,6 +1,7 @@
 -- Nodes in their blocks.
-use Rattle.std.proofs.Common.{arith, ◌≡◌, ℕ, ◌+◌, ◌<◌, List, [], ◌∷◌, ◌++◌, Bool, true, false, IfSome, OnOk, Option, Some, None, Result, Ok, Err, ap, append_assoc, sym, ◌∙◌}
+use Rattle.std.proofs.Common.{arith, ◌≡◌, ℕ, ◌+◌, ◌<◌, List, [], ◌∷◌, ◌++◌, Bool, true, false, IfSome, OnOk, Option, Some, None, Result, Ok, Err, ap, append_assoc, length, refl, sym, ◌∙◌}
 use Rattle.std.specs.List.{IsSplitAt, IsLastAndRest, sum_by}
+use Rattle.std.proofs.lemmas.Grind.{fold-append}
 use Rattle.std.proofs.lemmas.List.{take-append-drop}
 use Rattle.std.proofs.lemmas.List.Sums.{sum_by_push}
 use Rattle.std.specs.Bool.{then_some}
@@ -9,6 +10,9 @@ use Rattle.kdl.specs.DocumentLookups.{nodes_of}
 use Rattle.kdl.specs.Iterators.{child_nodes, nodes_in}
 use Rattle.kdl.specs.declared.document.KdlDocument.{KdlDocument}
 use Rattle.kdl.specs.declared.node.KdlNode.{KdlNode, out-KdlNode}
+use Rattle.lsp.specs.Internal.Levels.{in_level, in_levels, in_owner}
+use Rattle.lsp.specs.Internal.Nesting.{Items, Nesting, after_value}
+use Rattle.lsp.specs.declared.symbols.Level.{Level}
 use Rattle.kdl.proofs.NodeCounts.{count_doc_out, count_node_out, count_nodes-append}
 
 -- what is there only if a test holds
@@ -60,3 +64,19 @@ less_in left old mid new nodes rest n d a b e f same block g in_it =
       sum_by_push (λ l. 1 + count_nodes (left l)) mid b,
       ap count_nodes in_it,
     )
+
+-- ---- lists of symbols, each in the one before it
+
+pub pushed : (n : Nesting) (ls ms : List Level) (l : Level) → ms ≡ ls ++ l ∷ [] → in_levels n ms ≡ in_level (in_levels n ls) l
+pushed n ls ms l e = ap (in_levels n) e ∙ fold-append in_level n ls (l ∷ [])
+
+pub item_stays : {A : Type 0} (n : Nesting) (o : Option A) → after_value (in_owner n o) ≡ in_owner n o
+item_stays n None = refl
+item_stays n (Some owner) = refl
+
+pub first_level : (n : Nesting) (ls ms : List Level) (l : Level) → ls ≡ [] → ms ≡ ls ++ l ∷ [] → l.owner ≡ None → Items n ≡ in_levels n ms
+first_level n ls ms l none more owner = sym (pushed n ls ms l more ∙ ap (λ x. in_level (in_levels n x) l) none ∙ ap (in_owner n) owner)
+
+pub none_left : (n : Nesting) (ls : List Level) → length ls ≡ 0 → in_levels n ls ≡ n
+none_left n [] e = refl
+none_left n (l ∷ ls) e = absurd (omega (arith, e))

@@ -10,3 +10,5 @@ pub mod Faults
 pub mod Formatting
 -- What a server returns for a request in a session.
 pub mod Contents
+-- Definitions that only contracts inside the crate use.
+pub mod Internal

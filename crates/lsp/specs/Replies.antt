@@ -1,11 +1,12 @@
 -- Messages of the server.
-use Rattle.std.specs.Prelude.{◌≡◌, ◌⊎◌, ◌++◌, ◌∷◌, [], ℕ, ℤ, List, Contains, Result, Ok, Err, String, codes, neg_ℤ, pos, string_bytes}
+use Rattle.std.specs.Prelude.{◌≡◌, ◌++◌, ◌∷◌, [], ℕ, ℤ, List, Contains, Result, Ok, Err, String, codes, neg_ℤ, pos, string_bytes}
 use Rattle.std.specs.Fmt.{signed_decimal}
 use Rattle.std.specs.Global.{Global}
 use Rattle.json.specs.Json as json
-use Rattle.json.specs.Json.{Json}
+use Rattle.json.specs.Json.{Json, Members, member, no_members, object}
 use Rattle.json.specs.Print.{IsNumber, print}
-use Rattle.json.specs.Token.{Token, begin_object, end_object, key, null, number, string}
+use Rattle.json.specs.Token.{Token, begin_object, end_object, key, number, string}
+use Rattle.json.specs.Tree.{HasNumbers, json_tokens}
 use Rattle.json.specs.Written.{Written}
 use Rattle.lsp.specs.Messages.{encoding_name}
 use Rattle.lsp.specs.declared.write.Wrong.{Wrong}
@@ -16,10 +17,6 @@ use Rattle.lsp_text.specs.declared.position.Encoding.{Encoding}
 abbrev pub IsWritten : Written → List Token → Type 0
 IsWritten out ts = (out.before ≡ []) × (out.tokens ≡ ts)
 
--- a writer has written more
-abbrev pub Grows : Written → Written → Type 0
-Grows old new = (new.before ≡ old.before) × ((more : List Token) × (new.tokens ≡ old.tokens ++ more))
-
 -- the tokens with which each message begins, and those of a notification up to its parameters
 abbrev pub message_head : List Token
 message_head = begin_object ∷ key (codes "jsonrpc") ∷ string (codes "2.0") ∷ []
@@ -27,19 +24,33 @@ message_head = begin_object ∷ key (codes "jsonrpc") ∷ string (codes "2.0") �
 abbrev pub notice_head : List ℕ → List Token
 notice_head method = message_head ++ key (codes "method") ∷ string method ∷ key (codes "params") ∷ []
 
--- the token of an identifier: the same string or number, or null
-abbrev pub IsId : Json → Token → Type 0
-IsId (json.string s) t = t ≡ string s
-IsId (json.number s) t = IsNumber s → t ≡ number s
-IsId _ t = t ≡ null
+-- a text is a value as JSON, and nothing else
+abbrev pub IsJson : Json → List ℕ → Type 0
+IsJson j text = HasNumbers j × (text ≡ print (json_tokens j))
 
--- a message begins as a reply to the request of an identifier, up to the member of that name
-abbrev pub IsReplyWith : List ℕ → Json → String Global → Type 0
-IsReplyWith name id m = (t : Token) × IsId id t × (rest : List ℕ) × (string_bytes m ≡ print (message_head ++ key (codes "id") ∷ t ∷ key name ∷ []) ++ rest)
+-- a text is some value as JSON
+abbrev pub IsSomeJson : String Global → Type 0
+IsSomeJson text = (j : Json) × IsJson j (string_bytes text)
 
--- a message is a reply with that content
-abbrev pub IsReplyOf : List ℕ → Json → List ℕ → String Global → Type 0
-IsReplyOf name id content m = (t : Token) × IsId id t × (string_bytes m ≡ print (message_head ++ key (codes "id") ∷ t ∷ key name ∷ []) ++ (content ++ 125 ∷ []))
+-- the identifier in a reply: the same number or string, or null
+abbrev pub IsLiteral : List ℕ → Json → Type 0
+IsLiteral s i = IsNumber s → i ≡ json.number s
+
+abbrev pub IsNumberId : Json → Json → Type 0
+IsNumberId (json.number s) i = IsLiteral s i
+IsNumberId _ i = i ≡ json.null
+
+abbrev pub IsId : Json → Json → Type 0
+IsId (json.string s) i = i ≡ json.string s
+IsId id i = IsNumberId id i
+
+-- a reply: an identifier, and a member of some name
+abbrev pub reply_json : Json → List ℕ → Json → Json
+reply_json i name j = object (member (codes "jsonrpc") (json.string (codes "2.0")) (member (codes "id") i (member name j no_members)))
+
+-- a message is a reply to the request of an identifier, with a member of that name and value
+abbrev pub IsReplyWith : List ℕ → Json → Json → String Global → Type 0
+IsReplyWith name j id m = (i : Json) × IsId id i × IsJson (reply_json i name j) (string_bytes m)
 
 -- the number of what is wrong, as `ErrorCodes` and `LSPErrorCodes` of the protocol
 abbrev pub error_code : Wrong → ℤ
@@ -52,29 +63,32 @@ error_code Early = neg_ℤ (pos 32002)
 error_code Unknown = neg_ℤ (pos 32803)
 
 -- an error as JSON: its number, and what people read
-abbrev pub error_tokens : ℤ → List ℕ → List Token
-error_tokens code text = begin_object ∷ key (codes "code") ∷ number (signed_decimal code) ∷ key (codes "message") ∷ string text ∷ end_object ∷ []
+abbrev pub error_json : ℤ → List ℕ → Json
+error_json code text = object (member (codes "code") (json.number (signed_decimal code)) (member (codes "message") (json.string text) no_members))
 
 -- what a server returns for a request: a result as JSON, or what is wrong
 abbrev pub Content : Type 0
 Content = Result (String Global) Wrong
 
--- a message is the reply with that content
+-- a message is the reply with that content: with the result, or with the error
 abbrev pub IsReplyFor : Json → Content → String Global → Type 0
-IsReplyFor id (Ok out) m = IsReplyOf (codes "result") id (string_bytes out) m
-IsReplyFor id (Err wrong) m = (text : List ℕ) × IsReplyOf (codes "error") id (print (error_tokens (error_code wrong) text)) m
-
--- the tokens with which the result of `initialize` begins: what positions count
-abbrev pub greeting_head : Encoding → List Token
-greeting_head e = begin_object ∷ key (codes "capabilities") ∷ begin_object ∷ key (codes "positionEncoding") ∷ string (encoding_name e) ∷ []
-
--- a message is the reply to `initialize`, with the encoding
-abbrev pub IsGreeting : Json → Encoding → String Global → Type 0
-IsGreeting id e m = (t : Token) × IsId id t × (rest : List ℕ) × (string_bytes m ≡ print (message_head ++ key (codes "id") ∷ t ∷ key (codes "result") ∷ []) ++ (print (greeting_head e) ++ rest))
+IsReplyFor id (Ok out) m = (j : Json) × IsJson j (string_bytes out) × IsReplyWith (codes "result") j id m
+IsReplyFor id (Err wrong) m = (text : List ℕ) × IsReplyWith (codes "error") (error_json (error_code wrong) text) id m
 
 -- a message is a reply to the request: with a result, or an error
 abbrev pub IsReplyTo : Json → String Global → Type 0
-IsReplyTo id m = IsReplyWith (codes "result") id m ⊎ IsReplyWith (codes "error") id m
+IsReplyTo id m = (content : Content) × IsReplyFor id content m
+
+abbrev pub IsFailure : Json → String Global → Type 0
+IsFailure id m = (wrong : Wrong) × IsReplyFor id (Err wrong) m
+
+-- the result of `initialize`: what positions count, what else the server can do, and its name
+abbrev pub greeting_json : Encoding → Members → Members → Json
+greeting_json e more rest = object (member (codes "capabilities") (object (member (codes "positionEncoding") (json.string (encoding_name e)) more)) rest)
+
+-- a message is the reply to `initialize`, with the encoding
+abbrev pub IsGreeting : Json → Encoding → String Global → Type 0
+IsGreeting id e m = (more : Members) × (rest : Members) × IsReplyWith (codes "result") (greeting_json e more rest) id m
 
 -- a message is one for the log of the client
 abbrev pub IsLog : String Global → Type 0
@@ -92,7 +106,7 @@ unfoldable pub Greets : Json → Encoding → List (String Global) → Type 0
 Greets id e ms = (m : String Global) × Contains ms m × IsGreeting id e m
 
 unfoldable pub Fails : Json → List (String Global) → Type 0
-Fails id ms = (m : String Global) × Contains ms m × IsReplyWith (codes "error") id m
+Fails id ms = (m : String Global) × Contains ms m × IsFailure id m
 
 -- each of the messages is one of the others
 unfoldable pub AreIn : List (String Global) → List (String Global) → Type 0

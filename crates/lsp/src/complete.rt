@@ -1,6 +1,8 @@
 //! Names and keys that may come at a place: those of the nodes in the same block.
 
-ghost use Rattle.std.specs.Prelude.{◌≡◌, ◌<◌, [], IfOk, MatchOption, length};
+ghost use Rattle.lsp.specs.Internal.Nesting.{WritesItems};
+ghost use Rattle.lsp.specs.Replies.{IsSomeJson};
+ghost use Rattle.std.specs.Prelude.{◌≡◌, ◌<◌, [], IfOk, MatchOption, OnOk, length};
 
 use crate::place::{place, range_of};
 use crate::scan::{Lexeme, Scanner, is_key, is_line_comment};
@@ -61,7 +63,9 @@ pub(crate) fn completion(
     params: &Value<'_>,
     text: &str,
     encoding: Encoding,
-) -> Result<String, Wrong> {
+) -> Result<String, Wrong>
+    ensures { IfOk result IsSomeJson }
+{
     let Some(offset) = place(params, text, encoding) else {
         return Err(Wrong::Params);
     };
@@ -86,7 +90,9 @@ fn put_items(
     text: &str,
     front: &str,
     range: Range,
-) -> Result<(), AllocError> {
+) -> Result<(), AllocError>
+    ensures { OnOk result (WritesItems out.old out.new) }
+{
     let mut reader = Reader::new(alloc, front);
     while let Some(_read) = reader.read(alloc)? {}
     let block = reader.block();
@@ -208,7 +214,9 @@ impl<'a> Reader<'a> {
 }
 
 /// Writes a name or a key as it is spelled.
-fn put_item(alloc: Global, out: &mut Out, word: &str, form: Form) -> Result<(), AllocError> {
+fn put_item(alloc: Global, out: &mut Out, word: &str, form: Form) -> Result<(), AllocError>
+    ensures { OnOk result (WritesItems out.old out.new) }
+{
     let Form { kind, end, range } = form;
     let label = KdlIdentifier::from_text(alloc, word)?.to_string(alloc)?;
     let new = format!(in alloc; "{label}{end}")?;

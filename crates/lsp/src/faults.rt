@@ -4,7 +4,8 @@ ghost use Rattle.json.specs.Print.{print};
 ghost use Rattle.json.specs.Token.{Token, key, string};
 ghost use Rattle.lsp.specs.Faults.{AreDiagnostics, AreFaultsOf, IsDiagnostic, IsFaultsNotice, found_in, message_in, notice_end, notice_front, notice_tokens, version_tokens};
 ghost use Rattle.lsp.specs.Messages.{severity_number};
-ghost use Rattle.lsp.specs.Replies.{Grows, IsWritten};
+ghost use Rattle.lsp.specs.Internal.Nesting.{Grows, WritesItems, WritesMembers};
+ghost use Rattle.lsp.specs.Replies.{IsWritten};
 ghost use Rattle.std.specs.Prelude.{◌≡◌, ◌++◌, ◌∷◌, [], ℕ, List, Some, IfOk, OnOk, codes, string_bytes};
 
 use crate::write::{Out, begin_notice, finish, put_number, put_range, put_text};
@@ -152,6 +153,7 @@ impl<'a> Report<'a> {
         ensures encoding { self.new.cursor.encoding ≡ self.old.cursor.encoding }
         ensures written { OnOk result ((out.new.before ≡ out.old.before)
             × ((ts : List Token) × IsDiagnostic self.old.cursor.encoding self.old.cursor.text.now fault.now ts × (out.new.tokens ≡ out.old.tokens ++ ts))) }
+        ensures items { OnOk result (WritesItems out.old out.new) }
     {
         let range = self.cursor.range(fault.span.offset, fault.span.len);
         out.begin_object()?;
@@ -170,8 +172,9 @@ impl<'a> Report<'a> {
         range: Range,
         fault: &KdlDiagnostic,
     ) -> Result<(), AllocError>
-        ensures { OnOk result ((out.new.before ≡ out.old.before)
+        ensures written { OnOk result ((out.new.before ≡ out.old.before)
             × ((help : List ℕ) × (more : List Token) × (out.new.tokens ≡ out.old.tokens ++ key (codes "message") ∷ string (message_in fault.now ++ help) ∷ more))) }
+        ensures members { OnOk result (WritesMembers out.old out.new) }
     {
         let message = message_of(fault);
         match &fault.help {
@@ -189,7 +192,8 @@ impl<'a> Report<'a> {
 
     /// Writes what may help at a fault.
     fn put_related(&self, out: &mut Out, range: Range, help: &str) -> Result<(), AllocError>
-        ensures { OnOk result (Grows out.old out.new) }
+        ensures grows { OnOk result (Grows out.old out.new) }
+        ensures members { OnOk result (WritesMembers out.old out.new) }
     {
         out.key("relatedInformation")?;
         out.begin_array()?;
@@ -202,7 +206,8 @@ impl<'a> Report<'a> {
 
     /// Writes the place of a fault.
     fn put_location(&self, out: &mut Out, range: Range) -> Result<(), AllocError>
-        ensures { OnOk result (Grows out.old out.new) }
+        ensures grows { OnOk result (Grows out.old out.new) }
+        ensures members { OnOk result (WritesMembers out.old out.new) }
     {
         out.key("location")?;
         out.begin_object()?;

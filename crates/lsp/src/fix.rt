@@ -1,5 +1,9 @@
 //! Quick fixes of faults that have one answer.
 
+ghost use Rattle.lsp.specs.Internal.Nesting.{WritesItems};
+ghost use Rattle.lsp.specs.Replies.{IsSomeJson};
+ghost use Rattle.std.specs.Prelude.{IfOk, OnOk};
+
 use crate::faults::{Report, faults_of};
 use crate::locate::end_of;
 use crate::place::{range_of, span};
@@ -39,23 +43,27 @@ pub(crate) fn actions(
     params: &Value<'_>,
     text: &str,
     client: Client,
-) -> Result<String, Wrong> {
+) -> Result<String, Wrong>
+    ensures { IfOk result IsSomeJson }
+{
     let uri = uri(params);
     let span = span(params, text, client.encoding);
     let (Some(uri), Some(span)) = (uri, span) else {
         return Err(Wrong::Params);
     };
+    let faulty = Faulty {
+        uri,
+        text,
+        client,
+        faults: if wants_fixes(params) {
+            faults_of(alloc, text)?
+        } else {
+            Vec::new(alloc)
+        },
+    };
     let mut out = begin(alloc);
     out.begin_array()?;
-    if wants_fixes(params) {
-        let faulty = Faulty {
-            uri,
-            text,
-            client,
-            faults: faults_of(alloc, text)?,
-        };
-        faulty.put_fixes(alloc, &mut out, span)?;
-    }
+    faulty.put_fixes(alloc, &mut out, span)?;
     out.end_array()?;
     Ok(end(alloc, out))
 }
@@ -75,7 +83,9 @@ fn wants_fixes(params: &Value<'_>) -> bool {
 
 impl<'a> Faulty<'a> {
     /// Writes the fixes of the faults in a part of the text.
-    fn put_fixes(&self, alloc: Global, out: &mut Out, span: SourceSpan) -> Result<(), AllocError> {
+    fn put_fixes(&self, alloc: Global, out: &mut Out, span: SourceSpan) -> Result<(), AllocError>
+        ensures { OnOk result (WritesItems out.old out.new) }
+    {
         let mut tried = 0usize;
         for fault in &self.faults {
             if fault.span.offset > end_of(span) || span.offset > end_of(fault.span) {
@@ -88,11 +98,26 @@ impl<'a> Faulty<'a> {
                 break;
             }
             tried = tried.saturating_add(1);
-            if self.is_mended(alloc, fault, &fix)? {
-                self.put_action(alloc, out, fault, &fix)?;
-            }
+            self.put_mended(alloc, out, fault, &fix)?;
         }
         Ok(())
+    }
+
+    /// Writes a fix of a fault, if it mends that.
+    fn put_mended(
+        &self,
+        alloc: Global,
+        out: &mut Out,
+        fault: &KdlDiagnostic,
+        fix: &Fix,
+    ) -> Result<(), AllocError>
+        ensures { OnOk result (WritesItems out.old out.new) }
+    {
+        if self.is_mended(alloc, fault, fix)? {
+            self.put_action(alloc, out, fault, fix)
+        } else {
+            Ok(())
+        }
     }
 
     /// Returns whether the text has fewer faults after a fix, and not this one.
@@ -118,7 +143,9 @@ impl<'a> Faulty<'a> {
         out: &mut Out,
         fault: &KdlDiagnostic,
         fix: &Fix,
-    ) -> Result<(), AllocError> {
+    ) -> Result<(), AllocError>
+        ensures { OnOk result (WritesItems out.old out.new) }
+    {
         let mut report = Report::new(self.uri, self.text, self.client);
         out.begin_object()?;
         put_text(out, "title", &fix.title)?;

@@ -1,5 +1,9 @@
 //! Blocks, block comments and runs of line comments, over several lines, as folding ranges.
 
+ghost use Rattle.lsp.specs.Internal.Nesting.{WritesItems, WritesMembers};
+ghost use Rattle.lsp.specs.Replies.{IsSomeJson};
+ghost use Rattle.std.specs.Prelude.{IfOk, OnOk};
+
 use crate::scan::{Lexeme, Scanner, is_block_comment, is_line_comment};
 use crate::write::{Out, Wrong, begin, end, put_number, put_text};
 use kdl_syntax::{Event, Token, TokenKind};
@@ -29,7 +33,9 @@ struct FoldWriter<'a> {
 }
 
 /// Returns what folds in a text. In a text with faults, a block that is not closed does not fold.
-pub(crate) fn folds(alloc: Global, text: &str) -> Result<String, Wrong> {
+pub(crate) fn folds(alloc: Global, text: &str) -> Result<String, Wrong>
+    ensures { IfOk result IsSomeJson }
+{
     let mut out = begin(alloc);
     out.begin_array()?;
     let mut folds = FoldWriter {
@@ -42,10 +48,7 @@ pub(crate) fn folds(alloc: Global, text: &str) -> Result<String, Wrong> {
     };
     let mut scanner = Scanner::new(alloc, text);
     while let Some(lexeme) = scanner.next(alloc)? {
-        match lexeme {
-            Lexeme::Token(token, event) => folds.take(&mut out, &token, event)?,
-            Lexeme::Fault { .. } => folds.is_blank = true,
-        }
+        folds.read(&mut out, lexeme)?;
     }
     put_run(&mut out, folds.run)?;
     out.end_array()?;
@@ -53,15 +56,24 @@ pub(crate) fn folds(alloc: Global, text: &str) -> Result<String, Wrong> {
 }
 
 impl<'a> FoldWriter<'a> {
-    /// Takes a token, and writes what ends with it.
-    fn take(&mut self, out: &mut Out, token: &Token<'_>, event: Event) -> Result<(), AllocError> {
-        let start = token.at.start.at();
-        match event {
-            Event::Name | Event::TypedName => self.name = self.cursor.position(start).line,
-            Event::Opening(_) => self.open.push(self.name)?,
-            Event::GapClosing | Event::NodeClosing | Event::KeptClosing => self.close(out, start)?,
-            _ => self.comment(out, token)?,
+    /// Takes a token or a fault, and writes what ends with it.
+    fn read(&mut self, out: &mut Out, lexeme: Lexeme<'_>) -> Result<(), AllocError>
+        ensures { OnOk result (WritesItems out.old out.new) }
+    {
+        match lexeme {
+            Lexeme::Token(token, event) => self.take(out, &token, event),
+            Lexeme::Fault { .. } => {
+                self.is_blank = true;
+                Ok(())
+            }
         }
+    }
+
+    /// Takes a token, and writes what ends with it.
+    fn take(&mut self, out: &mut Out, token: &Token<'_>, event: Event) -> Result<(), AllocError>
+        ensures { OnOk result (WritesItems out.old out.new) }
+    {
+        self.put_ended(out, token, event)?;
         self.is_blank = match token.kind {
             TokenKind::Space => self.is_blank,
             TokenKind::Newline => true,
@@ -70,8 +82,31 @@ impl<'a> FoldWriter<'a> {
         Ok(())
     }
 
+    /// Writes what ends with a token.
+    fn put_ended(
+        &mut self,
+        out: &mut Out,
+        token: &Token<'_>,
+        event: Event,
+    ) -> Result<(), AllocError>
+        ensures { OnOk result (WritesItems out.old out.new) }
+    {
+        let start = token.at.start.at();
+        match event {
+            Event::Name | Event::TypedName => {
+                self.name = self.cursor.position(start).line;
+                Ok(())
+            }
+            Event::Opening(_) => Ok(self.open.push(self.name)?),
+            Event::GapClosing | Event::NodeClosing | Event::KeptClosing => self.close(out, start),
+            _ => self.comment(out, token),
+        }
+    }
+
     /// Writes the block that ends with a `}`, from the line of its node to the line before, if these differ.
-    fn close(&mut self, out: &mut Out, end: usize) -> Result<(), AllocError> {
+    fn close(&mut self, out: &mut Out, end: usize) -> Result<(), AllocError>
+        ensures { OnOk result (WritesItems out.old out.new) }
+    {
         let Some(first) = self.open.pop() else {
             return Ok(());
         };
@@ -81,7 +116,9 @@ impl<'a> FoldWriter<'a> {
     }
 
     /// Takes a token that may be a comment.
-    fn comment(&mut self, out: &mut Out, token: &Token<'_>) -> Result<(), AllocError> {
+    fn comment(&mut self, out: &mut Out, token: &Token<'_>) -> Result<(), AllocError>
+        ensures { OnOk result (WritesItems out.old out.new) }
+    {
         let (start, end) = (token.at.start.at(), token.at.end.at());
         let text = self.text.get(start..end).unwrap_or("");
         if is_block_comment(&token.kind, text) {
@@ -107,7 +144,9 @@ impl<'a> FoldWriter<'a> {
 }
 
 /// Writes line comments, if there are some on more than one line.
-fn put_run(out: &mut Out, run: Option<Run>) -> Result<(), AllocError> {
+fn put_run(out: &mut Out, run: Option<Run>) -> Result<(), AllocError>
+    ensures { OnOk result (WritesItems out.old out.new) }
+{
     match run {
         Some(run) => put_fold(out, run, Some("comment")),
         None => Ok(()),
@@ -115,15 +154,25 @@ fn put_run(out: &mut Out, run: Option<Run>) -> Result<(), AllocError> {
 }
 
 /// Writes lines that fold, if there is more than one.
-fn put_fold(out: &mut Out, lines: Run, kind: Option<&str>) -> Result<(), AllocError> {
+fn put_fold(out: &mut Out, lines: Run, kind: Option<&str>) -> Result<(), AllocError>
+    ensures { OnOk result (WritesItems out.old out.new) }
+{
     if lines.last <= lines.first {
         return Ok(());
     }
     out.begin_object()?;
     put_number(out, "startLine", lines.first)?;
     put_number(out, "endLine", lines.last)?;
-    if let Some(kind) = kind {
-        put_text(out, "kind", kind)?;
-    }
+    put_kind(out, kind)?;
     out.end_object()
+}
+
+/// Writes the kind of lines that fold, if they have one.
+fn put_kind(out: &mut Out, kind: Option<&str>) -> Result<(), AllocError>
+    ensures { OnOk result (WritesMembers out.old out.new) }
+{
+    match kind {
+        Some(kind) => put_text(out, "kind", kind),
+        None => Ok(()),
+    }
 }

@@ -1,14 +1,14 @@
 //! Formatting.
 
 ghost use Rattle.json.specs.Print.{print};
-ghost use Rattle.json.specs.Token.{null};
 ghost use Rattle.json.specs.Value.{value_view};
 ghost use Rattle.lsp.specs.Contents.{IsFormatted, IsRangeFormatted};
 ghost use Rattle.lsp.specs.Formatting.{HasSize, IsFormatting, IsIndent, IsLaidOut, IsLaidOutOtherwise, IsLinesFormatting, IsPartTo, edits_tokens};
-ghost use Rattle.std.specs.Prelude.{◌≡◌, ◌⊎◌, ◌++◌, ◌∷◌, [], ℕ, Err, IfOk, IfSome, MatchBool, OnOk, Some, string_bytes};
+ghost use Rattle.lsp.specs.Replies.{IsSomeJson};
+ghost use Rattle.std.specs.Prelude.{◌≡◌, ◌⊎◌, ◌++◌, [], ℕ, Err, IfOk, IfSome, MatchBool, OnOk, Some, string_bytes};
 
 use crate::layout::laid_out;
-use crate::write::{Out, Wrong, begin, end, put_edit};
+use crate::write::{Out, Wrong, begin, end, null_json, put_edit};
 use json::Value;
 use lsp_documents::params::{at, number, range};
 use lsp_text::{Edit, Encoding, Lines, edits, edits_within};
@@ -43,7 +43,8 @@ pub(crate) fn formatting(
     text: &str,
     encoding: Encoding,
 ) -> Result<String, Wrong>
-    ensures { (result ≡ Err Wrong.Memory) ⊎ IsFormatted encoding (value_view params.now) text.now result }
+    ensures edits { (result ≡ Err Wrong.Memory) ⊎ IsFormatted encoding (value_view params.now) text.now result }
+    ensures json { IfOk result IsSomeJson }
 {
     Ok(layout_edits(alloc, text, indent(params), encoding)?)
 }
@@ -55,7 +56,8 @@ fn layout_edits(
     indent: Option<usize>,
     encoding: Encoding,
 ) -> Result<String, AllocError>
-    ensures { IfOk result (λ out. IsFormatting encoding indent text.now (string_bytes out)) }
+    ensures edits { IfOk result (λ out. IsFormatting encoding indent text.now (string_bytes out)) }
+    ensures json { IfOk result IsSomeJson }
 {
     match laid_out(alloc, text, indent)? {
         Some(new) => edits_json(alloc, &edits(alloc, text, &new, encoding)?),
@@ -71,7 +73,8 @@ pub(crate) fn range_formatting(
     text: &str,
     encoding: Encoding,
 ) -> Result<String, Wrong>
-    ensures { (result ≡ Err Wrong.Memory) ⊎ IsRangeFormatted encoding (value_view params.now) text.now result }
+    ensures edits { (result ≡ Err Wrong.Memory) ⊎ IsRangeFormatted encoding (value_view params.now) text.now result }
+    ensures json { IfOk result IsSomeJson }
 {
     match range(params) {
         Some(range) => {
@@ -91,7 +94,8 @@ fn lines_edits(
     within: Lines,
     encoding: Encoding,
 ) -> Result<String, AllocError>
-    ensures { IfOk result (λ out. IsLinesFormatting encoding indent within text.now (string_bytes out)) }
+    ensures edits { IfOk result (λ out. IsLinesFormatting encoding indent within text.now (string_bytes out)) }
+    ensures json { IfOk result IsSomeJson }
 {
     match laid_out(alloc, text, indent)? {
         Some(new) => part_edits(alloc, text, &new, indent, within, encoding),
@@ -109,7 +113,8 @@ fn part_edits(
     within: Lines,
     encoding: Encoding,
 ) -> Result<String, AllocError>
-    ensures { IfOk result (λ out. IsPartTo encoding indent within text.now new.now (string_bytes out)) }
+    ensures edits { IfOk result (λ out. IsPartTo encoding indent within text.now new.now (string_bytes out)) }
+    ensures json { IfOk result IsSomeJson }
 {
     let part = edits_within(alloc, text, new, within, encoding)?;
     if is_layout(alloc, &part.text, new, indent)? {
@@ -134,18 +139,10 @@ fn is_layout(
     }
 }
 
-/// Returns null.
-fn null_json(alloc: Global) -> Result<String, AllocError>
-    ensures { IfOk result (λ out. string_bytes out ≡ print (null ∷ [])) }
-{
-    let mut out = begin(alloc);
-    out.null()?;
-    Ok(end(alloc, out))
-}
-
 /// Returns edits as JSON.
 fn edits_json(alloc: Global, edits: &[Edit<'_>]) -> Result<String, AllocError>
-    ensures { IfOk result (λ out. string_bytes out ≡ print (edits_tokens edits.now)) }
+    ensures edits { IfOk result (λ out. string_bytes out ≡ print (edits_tokens edits.now)) }
+    ensures json { IfOk result IsSomeJson }
 {
     let mut out = begin(alloc);
     put_edits(&mut out, edits)?;

@@ -1,10 +1,14 @@
 //! What is at a place: a value, a key, a type or a node, and its PATH.
 
+ghost use Rattle.lsp.specs.Internal.Nesting.{WritesMembers};
+ghost use Rattle.lsp.specs.Replies.{IsSomeJson};
+ghost use Rattle.std.specs.Prelude.{IfOk, OnOk};
+
 use crate::layout::document_of;
 use crate::locate::{Part, nodes_at, part_at};
 use crate::path::{Target, path_to};
 use crate::place::{place, range_of};
-use crate::write::{Out, Wrong, begin, end, put_range, put_text};
+use crate::write::{Out, Wrong, begin, end, null_json, put_range, put_text};
 use json::Value;
 use kdl::{KdlDocument, KdlEntry, KdlNode, KdlValue};
 use kdl_text::span::SourceSpan;
@@ -18,25 +22,27 @@ pub(crate) fn hover(
     params: &Value<'_>,
     text: &str,
     encoding: Encoding,
-) -> Result<String, Wrong> {
+) -> Result<String, Wrong>
+    ensures { IfOk result IsSomeJson }
+{
     let Some(offset) = place(params, text, encoding) else {
         return Err(Wrong::Params);
     };
+    let Some((content, span)) = told(alloc, text, offset)? else {
+        return Ok(null_json(alloc)?);
+    };
     let mut out = begin(alloc);
-    match told(alloc, text, offset)? {
-        Some((content, span)) => {
-            out.begin_object()?;
-            put_content(&mut out, &content)?;
-            put_range(&mut out, "range", range_of(text, span, encoding))?;
-            out.end_object()?;
-        }
-        None => out.null()?,
-    }
+    out.begin_object()?;
+    put_content(&mut out, &content)?;
+    put_range(&mut out, "range", range_of(text, span, encoding))?;
+    out.end_object()?;
     Ok(end(alloc, out))
 }
 
 /// Writes a text in Markdown.
-fn put_content(out: &mut Out, content: &str) -> Result<(), AllocError> {
+fn put_content(out: &mut Out, content: &str) -> Result<(), AllocError>
+    ensures { OnOk result (WritesMembers out.old out.new) }
+{
     out.key("contents")?;
     out.begin_object()?;
     put_text(out, "kind", "markdown")?;

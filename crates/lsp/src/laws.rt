@@ -1,12 +1,12 @@
 //! Laws of messages, for proofs of callers.
 
-ghost use Rattle.json.specs.Json.{Json, string};
+ghost use Rattle.json.specs.Json.{Json, array, no_items, string};
 ghost use Rattle.kdl_text.specs.declared.error.KdlDiagnostic.{KdlDiagnostic};
 ghost use Rattle.lsp.specs.Contents.{text_in};
 ghost use Rattle.lsp.specs.Faults.{AreDiagnostics, IsFaultsNotice, PublishEach, known_at};
 ghost use Rattle.lsp.specs.Formatting.{IsEditsTo, IsFormatting, IsIndent, IsLaidOut};
 ghost use Rattle.lsp.specs.Messages.{Asks, AsksFor, IsQuiet, Names, TextTells};
-ghost use Rattle.lsp.specs.Replies.{AreIn, IsGreeting, IsLog, IsReplyOf, IsReplyTo, Logs, Replies};
+ghost use Rattle.lsp.specs.Replies.{AreIn, IsGreeting, IsLog, IsReplyTo, IsReplyWith, Logs, Replies};
 ghost use Rattle.lsp.specs.Turns.{ArePublished, IsNew, IsOver, IsText, Sent, Takes, Took};
 ghost use Rattle.lsp_documents.specs.Notes.{Note};
 ghost use Rattle.lsp_documents.specs.declared.state.Phase.TheVariants as Phase;
@@ -14,7 +14,7 @@ ghost use Rattle.lsp_documents.specs.declared.state.State.{State};
 ghost use Rattle.lsp_text.specs.declared.position.Encoding.{Encoding};
 ghost use Rattle.lsp_text.specs.declared.position.Encoding.TheVariants.{Utf8, Utf32};
 ghost use Rattle.std.specs.Global.{Global};
-ghost use Rattle.std.specs.Prelude.{◌≡◌, ◌∷◌, ℕ, ℤ, List, [], Ok, Option, Some, String, chars, codes, string_bytes};
+ghost use Rattle.std.specs.Prelude.{◌≡◌, ◌++◌, ◌∷◌, ℕ, ℤ, List, [], Ok, Option, Some, String, chars, codes, string_bytes};
 
 /// What texts are not: the empty text and an object without members tell nothing and name no document, a message that names
 /// a document names no other one, and neither the empty text nor `exit` is ignored.
@@ -34,10 +34,11 @@ pub fn saving_is_quiet()
     ensures { IsQuiet (codes "{\"method\":\"textDocument/didSave\"}") }
 {}
 
-/// What messages of the server are not: the empty text is no reply, a reply to one request is none to another, and a message
-/// for the log is none. Among no messages is none of these.
+/// What messages of the server are not: the empty text is no reply, nor is a reply without its last bracket, a reply to one
+/// request is none to another, and a message for the log is none. Among no messages is none of these.
 pub fn replies_are_not_so()
     ensures empty { (id : Json) (m : String Global) → string_bytes m ≡ [] → IsReplyTo id m → ⊥ }
+    ensures cut { (id : Json) (m n : String Global) → string_bytes m ≡ string_bytes n ++ 125 ∷ [] → IsReplyTo id m → IsReplyTo id n → ⊥ }
     ensures other { (m : String Global) → IsReplyTo (string (codes "a")) m → IsReplyTo (string (codes "b")) m → ⊥ }
     ensures log { (id : Json) (m : String Global) → IsLog m → IsReplyTo id m → ⊥ }
     ensures unsent { (id : Json) → Replies id [] → ⊥ }
@@ -72,6 +73,6 @@ pub fn formatting_is_not_so()
     ensures unformatted { (old new : State) (message text : List ℕ) (params : Json) (m : String Global) → old.phase ≡ Phase.Running
         → AsksFor message (string (codes "a")) (codes "textDocument/formatting") params → text_in old params ≡ Ok text
         → ((indent : Option ℕ) (laid : List ℕ) → IsLaidOut indent text laid → chars text ≡ chars laid → ⊥)
-        → IsReplyOf (codes "result") (string (codes "a")) (codes "[]") m → Takes old message (Some (m ∷ [])) new → ⊥ }
+        → IsReplyWith (codes "result") (array no_items) (string (codes "a")) m → Takes old message (Some (m ∷ [])) new → ⊥ }
     ensures indent { (params : Json) (i j : Option ℕ) → IsIndent params i → IsIndent params j → i ≡ j }
 {}

@@ -5,7 +5,7 @@ ghost use Rattle.json.specs.Json.{Json, document, null};
 ghost use Rattle.json.specs.Value.{value_view};
 ghost use Rattle.lsp.specs.Contents.{Answers, IsAnswer};
 ghost use Rattle.lsp.specs.Messages.{Asks, AsksFor, AsksForIn, AsksIn, Exits, IsIgnored, IsQuiet, Names, Starts, StartsIn, TellsIn, TextTells, method_of, params_of};
-ghost use Rattle.lsp.specs.Replies.{Fails, Greets, IsGreeting, IsReplyTo, IsReplyWith, Logs, Replies};
+ghost use Rattle.lsp.specs.Replies.{Fails, Greets, IsFailure, IsGreeting, IsReplyTo, Logs, Replies};
 ghost use Rattle.lsp.specs.Turns.{Marks, Publishes, Takes, sent_of};
 ghost use Rattle.lsp_documents.specs.Notes.{Agrees, Changed, Note, Tells, Texts, after};
 ghost use Rattle.lsp_documents.specs.Outcomes.{IsTaken, MarksDue, StaysOpen, UnnamedStay};
@@ -219,7 +219,7 @@ fn any_reply(
     ensures replied { IfOk result (IsReplyTo (value_view id.now)) }
     ensures answered { state.old.phase ≡ Phase.Running → IfOk result (IsAnswer state.old (value_view id.now) method.now (value_view params.now)) }
     ensures started { state.old.phase ≡ Phase.New → method.now ≡ codes "initialize"
-        → IfOk result (λ m. IsReplyWith (codes "error") (value_view id.now) m ⊎ ((state.new.phase ≡ Phase.Running) × IsGreeting (value_view id.now) state.new.client.encoding m)) }
+        → IfOk result (λ m. IsFailure (value_view id.now) m ⊎ ((state.new.phase ≡ Phase.Running) × IsGreeting (value_view id.now) state.new.client.encoding m)) }
     ensures client { (state.new.client ≡ state.old.client) ⊎ ((state.old.phase ≡ Phase.New) × (state.new.phase ≡ Phase.Running)) }
     ensures over { is_over state.new.phase ≡ is_over state.old.phase }
 {

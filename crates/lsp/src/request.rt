@@ -1,12 +1,13 @@
 //! Requests.
 
-ghost use Rattle.json.specs.Print.{print};
+ghost use Rattle.json.specs.Json.{Members as JsonMembers};
 ghost use Rattle.json.specs.Value.{value_view};
 ghost use Rattle.lsp.specs.Contents.{IsAnswer, IsContent, IsFormatted, IsRangeFormatted, text_in};
 ghost use Rattle.lsp.specs.Messages.{encoding_name, is_known};
-ghost use Rattle.lsp.specs.Replies.{Grows, IsGreeting, IsReplyTo, IsWritten, greeting_head};
+ghost use Rattle.lsp.specs.Internal.Nesting.{Grows, WritesMembers, greeting_head};
+ghost use Rattle.lsp.specs.Replies.{IsGreeting, IsJson, IsReplyTo, IsSomeJson, IsWritten, greeting_json};
 ghost use Rattle.lsp_documents.specs.States.{is_over};
-ghost use Rattle.std.specs.Prelude.{◌≡◌, ◌⊎◌, ◌++◌, ℕ, List, Err, IfErr, IfOk, Ok, OnErr, OnOk, codes, string_bytes};
+ghost use Rattle.std.specs.Prelude.{◌≡◌, ◌⊎◌, Err, IfErr, IfOk, Ok, OnErr, OnOk, codes, string_bytes};
 
 use crate::complete::completion;
 use crate::fix::actions;
@@ -16,7 +17,7 @@ use crate::hover::hover;
 use crate::selection::selections;
 use crate::symbols::symbols;
 use crate::tokens::{LEGEND, tokens};
-use crate::write::{Out, Wrong, begin, end, put_number, put_text, put_true, reply_to};
+use crate::write::{Out, Wrong, begin, end, null_json, put_number, put_text, put_true, reply_to};
 use json::Value;
 use lsp_documents::params::{encoding, uri};
 use lsp_documents::{Client, Phase, State};
@@ -51,7 +52,7 @@ pub(crate) fn reply(
     match state.phase {
         Phase::New if method == "initialize" => initialize(alloc, state, id, params),
         Phase::Running if method == "shutdown" => {
-            let null = String::from_str(alloc, "null")?;
+            let null = null_json(alloc)?;
             let reply = reply_to(alloc, id, Ok(null))?;
             state.phase = Phase::Down;
             Ok(reply)
@@ -85,11 +86,13 @@ fn initialize(
 
 /// Returns the result of `initialize`: what the server can do, and its name.
 fn greeting(alloc: Global, encoding: Encoding) -> Result<String, AllocError>
-    ensures { IfOk result (λ text. (rest : List ℕ) × (string_bytes text ≡ print (greeting_head encoding) ++ rest)) }
+    ensures { IfOk result (λ text. (more rest : JsonMembers) × IsJson (greeting_json encoding more rest) (string_bytes text)) }
 {
     let mut out = begin_greeting(alloc, encoding)?;
     put_capabilities(&mut out)?;
+    out.end_object()?;
     put_server(&mut out)?;
+    out.end_object()?;
     Ok(end(alloc, out))
 }
 
@@ -107,7 +110,8 @@ fn begin_greeting(alloc: Global, encoding: Encoding) -> Result<Out, AllocError>
 
 /// Writes what the server can do.
 fn put_capabilities(out: &mut Out) -> Result<(), AllocError>
-    ensures { OnOk result (Grows out.old out.new) }
+    ensures grows { OnOk result (Grows out.old out.new) }
+    ensures members { OnOk result (WritesMembers out.old out.new) }
 {
     put_sync(out)?;
     put_providers(out)?;
@@ -115,13 +119,13 @@ fn put_capabilities(out: &mut Out) -> Result<(), AllocError>
     out.begin_object()?;
     out.end_object()?;
     put_fixes(out)?;
-    put_token_provider(out)?;
-    out.end_object()
+    put_token_provider(out)
 }
 
 /// Writes which notifications about documents the server takes.
 fn put_sync(out: &mut Out) -> Result<(), AllocError>
-    ensures { OnOk result (Grows out.old out.new) }
+    ensures grows { OnOk result (Grows out.old out.new) }
+    ensures members { OnOk result (WritesMembers out.old out.new) }
 {
     out.key("textDocumentSync")?;
     out.begin_object()?;
@@ -132,7 +136,8 @@ fn put_sync(out: &mut Out) -> Result<(), AllocError>
 
 /// Writes which requests the server takes, but for those with options.
 fn put_providers(out: &mut Out) -> Result<(), AllocError>
-    ensures { OnOk result (Grows out.old out.new) }
+    ensures grows { OnOk result (Grows out.old out.new) }
+    ensures members { OnOk result (WritesMembers out.old out.new) }
 {
     put_true(out, "documentFormattingProvider")?;
     put_true(out, "documentRangeFormattingProvider")?;
@@ -144,7 +149,8 @@ fn put_providers(out: &mut Out) -> Result<(), AllocError>
 
 /// Writes that there are fixes.
 fn put_fixes(out: &mut Out) -> Result<(), AllocError>
-    ensures { OnOk result (Grows out.old out.new) }
+    ensures grows { OnOk result (Grows out.old out.new) }
+    ensures members { OnOk result (WritesMembers out.old out.new) }
 {
     out.key("codeActionProvider")?;
     out.begin_object()?;
@@ -154,7 +160,8 @@ fn put_fixes(out: &mut Out) -> Result<(), AllocError>
 
 /// Writes that there are tokens for highlighting, and their classes.
 fn put_token_provider(out: &mut Out) -> Result<(), AllocError>
-    ensures { OnOk result (Grows out.old out.new) }
+    ensures grows { OnOk result (Grows out.old out.new) }
+    ensures members { OnOk result (WritesMembers out.old out.new) }
 {
     out.key("semanticTokensProvider")?;
     out.begin_object()?;
@@ -165,7 +172,8 @@ fn put_token_provider(out: &mut Out) -> Result<(), AllocError>
 
 /// Writes the classes of tokens.
 fn put_legend(out: &mut Out) -> Result<(), AllocError>
-    ensures { OnOk result (Grows out.old out.new) }
+    ensures grows { OnOk result (Grows out.old out.new) }
+    ensures members { OnOk result (WritesMembers out.old out.new) }
 {
     out.key("legend")?;
     out.begin_object()?;
@@ -176,7 +184,8 @@ fn put_legend(out: &mut Out) -> Result<(), AllocError>
 
 /// Writes a member that is a list of names.
 fn put_names(out: &mut Out, key: &str, names: &[&str]) -> Result<(), AllocError>
-    ensures { OnOk result (Grows out.old out.new) }
+    ensures grows { OnOk result (Grows out.old out.new) }
+    ensures members { OnOk result (WritesMembers out.old out.new) }
 {
     out.key(key)?;
     out.begin_array()?;
@@ -186,14 +195,14 @@ fn put_names(out: &mut Out, key: &str, names: &[&str]) -> Result<(), AllocError>
     out.end_array()
 }
 
-/// Writes the name of the server, and ends the result of `initialize`.
+/// Writes the name of the server.
 fn put_server(out: &mut Out) -> Result<(), AllocError>
-    ensures { OnOk result (Grows out.old out.new) }
+    ensures grows { OnOk result (Grows out.old out.new) }
+    ensures members { OnOk result (WritesMembers out.old out.new) }
 {
     out.key("serverInfo")?;
     out.begin_object()?;
     put_text(out, "name", "kdl")?;
-    out.end_object()?;
     out.end_object()
 }
 
@@ -222,7 +231,8 @@ fn encoding_name(encoding: Encoding) -> &'static str
 
 /// Returns the result of a request that leaves the state as it is.
 fn content(alloc: Global, state: &State, method: &str, params: &Value<'_>) -> Result<String, Wrong>
-    ensures { state.now.phase ≡ Phase.Running → IsContent state.now method.now (value_view params.now) result }
+    ensures content { state.now.phase ≡ Phase.Running → IsContent state.now method.now (value_view params.now) result }
+    ensures json { IfOk result IsSomeJson }
 {
     match state.phase {
         Phase::New => Err(Wrong::Early),
@@ -240,7 +250,8 @@ fn document_content(
     method: &str,
     params: &Value<'_>,
 ) -> Result<String, Wrong>
-    ensures { IsContent state.now method.now (value_view params.now) result }
+    ensures content { IsContent state.now method.now (value_view params.now) result }
+    ensures json { IfOk result IsSomeJson }
 {
     let text = text_in(state, params)?;
     text_content(alloc, state.client, method, params, text)
@@ -275,6 +286,7 @@ fn text_content(
         → (result ≡ Err Wrong.Memory) ⊎ IsFormatted client.encoding (value_view params.now) text.now result }
     ensures range_formatting { method.now ≡ codes "textDocument/rangeFormatting"
         → (result ≡ Err Wrong.Memory) ⊎ IsRangeFormatted client.encoding (value_view params.now) text.now result }
+    ensures json { IfOk result IsSomeJson }
 {
     let encoding = client.encoding;
     match method {

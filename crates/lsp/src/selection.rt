@@ -1,11 +1,13 @@
 //! The ranges around a place: value, entry, node, block, document.
 
-ghost use Rattle.std.specs.Prelude.{◌+◌, ◌≤◌, IsTrue};
+ghost use Rattle.lsp.specs.Internal.Nesting.{Members, Nesting, WritesItems, in_objects, nesting};
+ghost use Rattle.lsp.specs.Replies.{IsSomeJson};
+ghost use Rattle.std.specs.Prelude.{◌≡◌, ◌+◌, ◌≤◌, IfOk, IsTrue, OnOk};
 
 use crate::layout::document_of;
 use crate::locate::{block_span, end_of, entry_at, nodes_at, part_at, touches};
 use crate::place::offset_at;
-use crate::write::{Out, Wrong, begin, end, put_range};
+use crate::write::{Out, Wrong, begin, end, null_json, put_range};
 use json::Value;
 use kdl::KdlDocument;
 use kdl_text::span::SourceSpan;
@@ -18,15 +20,16 @@ pub(crate) fn selections(
     params: &Value<'_>,
     text: &str,
     encoding: Encoding,
-) -> Result<String, Wrong> {
+) -> Result<String, Wrong>
+    ensures { IfOk result IsSomeJson }
+{
     let Some(Value::Array(places)) = params.get("positions") else {
         return Err(Wrong::Params);
     };
-    let mut out = begin(alloc);
     let Some(document) = document_of(alloc, text)? else {
-        out.null()?;
-        return Ok(end(alloc, out));
+        return Ok(null_json(alloc)?);
     };
+    let mut out = begin(alloc);
     out.begin_array()?;
     for place in places {
         let Some(offset) = offset_at(place, text, encoding) else {
@@ -96,24 +99,47 @@ fn put_selection(
     out: &mut Out,
     spans: &[SourceSpan],
     cursor: Cursor<'_>,
-) -> Result<(), AllocError> {
+) -> Result<(), AllocError>
+    ensures { OnOk result (WritesItems out.old out.new) }
+{
     // Starts grow from the first span to the last, and ends from the last to the first.
-    let mut starts = cursor;
     let mut ends = cursor;
-    let mut around: Vec<Position> = Vec::with_capacity(alloc, spans.len())?;
-    for span in spans {
-        around.push(starts.position(span.offset))?;
+    let mut around = with_starts(alloc, spans, cursor)?;
+    let mut depth = 0usize;
+    while let Some((span, start)) = around.pop() {
+        let end = ends.position(end_of(span));
+        begin_range(out, depth)?;
+        put_range(out, "range", Range { start, end })?;
+        depth += 1;
     }
-    for (i, (span, start)) in spans.iter().zip(&around).rev().enumerate() {
-        if i > 0 {
-            out.key("parent")?;
-        }
-        let end = ends.position(end_of(*span));
-        out.begin_object()?;
-        put_range(out, "range", Range { start: *start, end })?;
-    }
-    for _ in spans {
+    while depth > 0 {
         out.end_object()?;
+        depth -= 1;
     }
     Ok(())
+}
+
+/// Begins a range: the first one, or the parent of the last one.
+fn begin_range(out: &mut Out, depth: usize) -> Result<(), AllocError>
+    ensures { (n : Nesting) → nesting out.old ≡ in_objects depth n → OnOk result (nesting out.new ≡ Members (in_objects depth n)) }
+{
+    if depth == 0 {
+        return out.begin_object();
+    }
+    out.key("parent")?;
+    out.begin_object()
+}
+
+/// Returns spans with their starts, which grow.
+fn with_starts(
+    alloc: Global,
+    spans: &[SourceSpan],
+    cursor: Cursor<'_>,
+) -> Result<Vec<(SourceSpan, Position)>, AllocError> {
+    let mut starts = cursor;
+    let mut around = Vec::with_capacity(alloc, spans.len())?;
+    for span in spans {
+        around.push((*span, starts.position(span.offset)))?;
+    }
+    Ok(around)
 }

@@ -1,11 +1,14 @@
 //! The nodes of a document as symbols.
 
 ghost use Rattle.kdl.specs.Internal.Count.{count_nodes};
+ghost use Rattle.lsp.specs.Internal.Nesting.{Members, Nesting, WritesValue, after_value, nesting};
+ghost use Rattle.lsp.specs.Internal.Levels.{in_level, in_levels, in_owner};
+ghost use Rattle.lsp.specs.Replies.{IsSomeJson};
 ghost use Rattle.std.specs.List.{sum_by};
-ghost use Rattle.std.specs.Prelude.{◌+◌, ◌<◌, OnOk};
+ghost use Rattle.std.specs.Prelude.{◌≡◌, ◌+◌, ◌<◌, IfOk, OnOk};
 
 use crate::layout::document_of;
-use crate::write::{Out, Wrong, begin, end, put_number, put_range, put_text};
+use crate::write::{Out, Wrong, begin, end, null_json, put_number, put_range, put_text};
 use kdl::{KdlDocument, KdlNode};
 use lsp_text::{Cursor, Encoding, Position, Range};
 use std::alloc::{AllocError, Global};
@@ -18,15 +21,15 @@ struct Level<'d> {
 }
 
 /// Returns the nodes of a text as a tree: null if the text is no document.
-pub(crate) fn symbols(alloc: Global, text: &str, encoding: Encoding) -> Result<String, Wrong> {
+pub(crate) fn symbols(alloc: Global, text: &str, encoding: Encoding) -> Result<String, Wrong>
+    ensures { IfOk result IsSomeJson }
+{
+    let Some(document) = document_of(alloc, text)? else {
+        return Ok(null_json(alloc)?);
+    };
     let mut out = begin(alloc);
-    match document_of(alloc, text)? {
-        Some(document) => {
-            let mut cursor = Cursor::new(text, encoding);
-            put_nodes(alloc, &mut out, &mut cursor, &document)?;
-        }
-        None => out.null()?,
-    }
+    let mut cursor = Cursor::new(text, encoding);
+    put_nodes(alloc, &mut out, &mut cursor, &document)?;
     Ok(end(alloc, out))
 }
 
@@ -36,7 +39,9 @@ fn put_nodes(
     out: &mut Out,
     cursor: &mut Cursor<'_>,
     document: &KdlDocument,
-) -> Result<(), AllocError> {
+) -> Result<(), AllocError>
+    ensures { OnOk result (WritesValue out.old out.new) }
+{
     let mut levels: Vec<Level<'_>> = Vec::new(alloc);
     out.begin_array()?;
     levels.push(Level {
@@ -57,15 +62,13 @@ fn put_next<'d>(
     levels: &mut Vec<Level<'d>>,
 ) -> Result<(), AllocError>
     // Less is left to be written, where the end of a list counts as a node does.
-    ensures { OnOk result (sum_by (λ l. 1 + count_nodes l.left.now) levels.new.items
+    ensures less { OnOk result (sum_by (λ l. 1 + count_nodes l.left.now) levels.new.items
         < 1 + count_nodes level.entry.left.now + sum_by (λ l. 1 + count_nodes l.left.now) levels.old.items) }
+    ensures nesting { (n : Nesting) → nesting out.old ≡ in_level (in_levels n levels.old.items) level.entry
+        → OnOk result (nesting out.new ≡ in_levels n levels.new.items) }
 {
     let Some((node, left)) = level.left.split_first() else {
-        out.end_array()?;
-        return match level.owner {
-            Some((node, start)) => put_end(out, cursor, node, start),
-            None => Ok(()),
-        };
+        return put_list_end(out, cursor, level.owner);
     };
     levels.push(Level {
         left,
@@ -87,8 +90,25 @@ fn put_next<'d>(
     }
 }
 
+/// Writes the end of a list of nodes, and of the node whose block it is.
+fn put_list_end(
+    out: &mut Out,
+    cursor: &mut Cursor<'_>,
+    owner: Option<(&KdlNode, Position)>,
+) -> Result<(), AllocError>
+    ensures { (n : Nesting) → nesting out.old ≡ in_owner n owner.entry → OnOk result (nesting out.new ≡ n) }
+{
+    out.end_array()?;
+    match owner {
+        Some((node, start)) => put_end(out, cursor, node, start),
+        None => Ok(()),
+    }
+}
+
 /// Writes a node up to its block.
-fn put_head(out: &mut Out, cursor: &mut Cursor<'_>, node: &KdlNode) -> Result<(), AllocError> {
+fn put_head(out: &mut Out, cursor: &mut Cursor<'_>, node: &KdlNode) -> Result<(), AllocError>
+    ensures { OnOk result (nesting out.new ≡ Members (after_value (nesting out.old))) }
+{
     let name = node.name().value();
     out.begin_object()?;
     put_text(out, "name", if name.is_empty() { "\"\"" } else { name })?;
@@ -108,7 +128,9 @@ fn put_end(
     cursor: &mut Cursor<'_>,
     node: &KdlNode,
     start: Position,
-) -> Result<(), AllocError> {
+) -> Result<(), AllocError>
+    ensures { OnOk result ((n : Nesting) → nesting out.old ≡ Members n → nesting out.new ≡ n) }
+{
     let span = node.span();
     let end = cursor.position(span.offset.saturating_add(span.len));
     put_range(out, "range", Range { start, end })?;

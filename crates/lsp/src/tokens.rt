@@ -1,5 +1,9 @@
 //! The tokens of a text for highlighting.
 
+ghost use Rattle.lsp.specs.Internal.Nesting.{WritesItems};
+ghost use Rattle.lsp.specs.Replies.{IsSomeJson};
+ghost use Rattle.std.specs.Prelude.{IfOk, OnOk};
+
 use crate::scan::{Lexeme, Scanner, is_block_comment, is_key, is_line_comment};
 use crate::write::{Out, Wrong, begin, end};
 use kdl_syntax::{Event, Phase, Token, TokenKind};
@@ -69,7 +73,9 @@ struct TokenWriter<'a> {
 }
 
 /// Returns the tokens of a text. A line with a fault has tokens up to the fault.
-pub(crate) fn tokens(alloc: Global, text: &str, encoding: Encoding) -> Result<String, Wrong> {
+pub(crate) fn tokens(alloc: Global, text: &str, encoding: Encoding) -> Result<String, Wrong>
+    ensures { IfOk result IsSomeJson }
+{
     let mut out = begin(alloc);
     out.begin_object()?;
     out.key("data")?;
@@ -86,10 +92,7 @@ pub(crate) fn tokens(alloc: Global, text: &str, encoding: Encoding) -> Result<St
     };
     let mut scanner = Scanner::new(alloc, text);
     while let Some(lexeme) = scanner.next(alloc)? {
-        match lexeme {
-            Lexeme::Token(token, event) => tokens.take(alloc, &mut out, &token, event)?,
-            Lexeme::Fault { .. } => tokens.dropped = Dropped::Nothing,
-        }
+        tokens.read(alloc, &mut out, lexeme)?;
     }
     out.end_array()?;
     out.end_object()?;
@@ -97,6 +100,19 @@ pub(crate) fn tokens(alloc: Global, text: &str, encoding: Encoding) -> Result<St
 }
 
 impl<'a> TokenWriter<'a> {
+    /// Takes a token, which it writes, or a fault.
+    fn read(&mut self, alloc: Global, out: &mut Out, lexeme: Lexeme<'_>) -> Result<(), AllocError>
+        ensures { OnOk result (WritesItems out.old out.new) }
+    {
+        match lexeme {
+            Lexeme::Token(token, event) => self.take(alloc, out, &token, event),
+            Lexeme::Fault { .. } => {
+                self.dropped = Dropped::Nothing;
+                Ok(())
+            }
+        }
+    }
+
     /// Takes a token, and writes it.
     fn take(
         &mut self,
@@ -104,7 +120,9 @@ impl<'a> TokenWriter<'a> {
         out: &mut Out,
         token: &Token<'_>,
         event: Event,
-    ) -> Result<(), AllocError> {
+    ) -> Result<(), AllocError>
+        ensures { OnOk result (WritesItems out.old out.new) }
+    {
         let (start, end) = (token.at.start.at(), token.at.end.at());
         let text = self.text.get(start..end).unwrap_or("");
         if matches!(token.kind, TokenKind::Space) && text.starts_with('\\') {
@@ -121,10 +139,7 @@ impl<'a> TokenWriter<'a> {
             _ => dropped_class(&token.kind, text),
         };
         self.leave(event, is_key);
-        match class {
-            Some(class) => self.put_lines(out, text, start, class),
-            None => Ok(()),
-        }
+        self.put_token(out, text, start, class)
     }
 
     /// Notes a `/-`, and the end of a block before its `}`.
@@ -177,16 +192,33 @@ impl<'a> TokenWriter<'a> {
         out: &mut Out,
         text: &str,
         offset: usize,
-    ) -> Result<(), AllocError> {
+    ) -> Result<(), AllocError>
+        ensures { OnOk result (WritesItems out.old out.new) }
+    {
         let mut scanner = Scanner::new(alloc, text);
         while let Some(Lexeme::Token(token, _)) = scanner.next(alloc)? {
             let (start, end) = (token.at.start.at(), token.at.end.at());
             let text = text.get(start..end).unwrap_or("");
-            if let Some(class) = comment_class(&token.kind, text) {
-                self.put_lines(out, text, offset.saturating_add(start), class)?;
-            }
+            let class = comment_class(&token.kind, text);
+            self.put_token(out, text, offset.saturating_add(start), class)?;
         }
         Ok(())
+    }
+
+    /// Writes a token, if it has a class.
+    fn put_token(
+        &mut self,
+        out: &mut Out,
+        text: &str,
+        offset: usize,
+        class: Option<Class>,
+    ) -> Result<(), AllocError>
+        ensures { OnOk result (WritesItems out.old out.new) }
+    {
+        match class {
+            Some(class) => self.put_lines(out, text, offset, class),
+            None => Ok(()),
+        }
     }
 
     /// Writes a token, once for each of its lines.
@@ -196,26 +228,31 @@ impl<'a> TokenWriter<'a> {
         text: &str,
         offset: usize,
         class: Class,
-    ) -> Result<(), AllocError> {
+    ) -> Result<(), AllocError>
+        ensures { OnOk result (WritesItems out.old out.new) }
+    {
         let mut start = offset;
         for line in text.trim_end_matches(is_newline_char).split(is_line_end) {
             let end = start.saturating_add(line.len());
-            if !line.is_empty() {
-                self.put(out, start, end, class)?;
-            }
+            self.put(out, start, end, class)?;
             start = end.saturating_add(1);
         }
         Ok(())
     }
 
-    /// Writes a token of one line: its place after the last one, its length and its class.
+    /// Writes a token of one line, unless it is empty: its place after the last one, its length and its class.
     fn put(
         &mut self,
         out: &mut Out,
         start: usize,
         end: usize,
         class: Class,
-    ) -> Result<(), AllocError> {
+    ) -> Result<(), AllocError>
+        ensures { OnOk result (WritesItems out.old out.new) }
+    {
+        if end <= start {
+            return Ok(());
+        }
         let start = self.cursor.position(start);
         let end = self.cursor.position(end);
         let lines = start.line.saturating_sub(self.last.line);

@@ -1,13 +1,16 @@
 //! Messages of the server.
 
-ghost use Rattle.json.specs.Print.{IsNumber, print};
-ghost use Rattle.json.specs.Token.{Token, end_object, key, number, string};
+ghost use Rattle.json.specs.Json.{Json};
+ghost use Rattle.json.specs.Print.{print};
+ghost use Rattle.json.specs.Token.{boolean, end_object, key, null, number, string};
+ghost use Rattle.json.specs.Tree.{HasNumbers, json_tokens};
 ghost use Rattle.json.specs.Value.{value_view};
 ghost use Rattle.lsp.specs.Faults.{position_tokens, range_tokens};
 ghost use Rattle.lsp.specs.Formatting.{edit_tokens};
-ghost use Rattle.lsp.specs.Replies.{Grows, IsId, IsLog, IsReplyFor, IsReplyOf, IsReplyTo, IsReplyWith, IsWritten, error_code, error_tokens, message_head, notice_head};
+ghost use Rattle.lsp.specs.Internal.Nesting.{WritesMembers, WritesValue};
+ghost use Rattle.lsp.specs.Replies.{IsFailure, IsId, IsJson, IsLiteral, IsLog, IsNumberId, IsReplyFor, IsReplyTo, IsReplyWith, IsSomeJson, IsWritten, error_code, error_json, message_head, notice_head};
 ghost use Rattle.lsp.specs.declared.write.Wrong.TheVariants.{Memory};
-ghost use Rattle.std.specs.Prelude.{◌≡◌, ◌++◌, ◌∷◌, [], ℕ, List, IfOk, OnErr, OnOk, codes, decimal, string_bytes};
+ghost use Rattle.std.specs.Prelude.{◌≡◌, ◌++◌, ◌∷◌, [], ℕ, List, IfOk, OnErr, OnOk, codes, decimal, string_bytes, true};
 
 use json::{Value, Writer, is_number};
 use lsp_text::{Position, Range};
@@ -66,7 +69,7 @@ impl Wrong {
 
     /// Returns the error of a reply as JSON.
     fn to_json(self, alloc: Global) -> Result<String, AllocError>
-        ensures { IfOk result (λ out. (text : List ℕ) × (string_bytes out ≡ print (error_tokens (error_code self) text))) }
+        ensures { IfOk result (λ out. (text : List ℕ) × IsJson (error_json (error_code self) text) (string_bytes out)) }
     {
         let mut out = begin(alloc);
         out.begin_object()?;
@@ -96,12 +99,23 @@ pub(crate) fn begin(alloc: Global) -> Out
 
 /// Ends a JSON text.
 pub(crate) fn end(alloc: Global, out: Out) -> String
-    ensures { out.before ≡ [] → string_bytes result ≡ print out.tokens }
+    ensures text { out.before ≡ [] → string_bytes result ≡ print out.tokens }
+    ensures value { (j : Json) → IsWritten out (json_tokens j) → IsJson j (string_bytes result) }
 {
     match String::from_utf8(out.into_inner()) {
         Ok(text) => text,
         Err(_) => String::new(alloc),
     }
+}
+
+/// Returns null as JSON.
+pub(crate) fn null_json(alloc: Global) -> Result<String, AllocError>
+    ensures null { IfOk result (λ out. string_bytes out ≡ print (null ∷ [])) }
+    ensures json { IfOk result IsSomeJson }
+{
+    let mut out = begin(alloc);
+    out.null()?;
+    Ok(end(alloc, out))
 }
 
 /// Begins a message.
@@ -139,9 +153,10 @@ pub(crate) fn reply_to(
     id: &Value<'_>,
     content: Result<String, Wrong>,
 ) -> Result<String, AllocError>
+    requires { IfOk content IsSomeJson }
     ensures content { IfOk result (IsReplyFor (value_view id.now) content) }
     ensures reply { IfOk result (IsReplyTo (value_view id.now)) }
-    ensures error { OnErr content (IfOk result (IsReplyWith (codes "error") (value_view id.now))) }
+    ensures error { OnErr content (IfOk result (IsFailure (value_view id.now))) }
 {
     match content {
         Ok(content) => reply_with(alloc, id, "result", &content),
@@ -149,14 +164,14 @@ pub(crate) fn reply_to(
     }
 }
 
-/// Returns the reply to the request of an identifier with a member, which is JSON.
+/// Returns the reply to the request of an identifier with a member, whose value is JSON.
 fn reply_with(
     alloc: Global,
     id: &Value<'_>,
     name: &str,
     content: &str,
 ) -> Result<String, AllocError>
-    ensures { IfOk result (IsReplyOf name.now (value_view id.now) content.now) }
+    ensures { (j : Json) → IsJson j content.now → IfOk result (IsReplyWith name.now j (value_view id.now)) }
 {
     let mut out = begin_message(alloc)?;
     put_id(&mut out, id)?;
@@ -182,22 +197,33 @@ pub(crate) fn log_notice(alloc: Global, text: &str) -> Result<String, AllocError
 /// Writes the identifier of a request: a number, a string or null.
 fn put_id(out: &mut Out, id: &Value<'_>) -> Result<(), AllocError>
     ensures before { out.new.before ≡ out.old.before }
-    ensures written { OnOk result ((t : Token) × IsId (value_view id.now) t
-        × (out.new.tokens ≡ out.old.tokens ++ key (codes "id") ∷ t ∷ [])) }
+    ensures written { OnOk result ((i : Json) × HasNumbers i × IsId (value_view id.now) i
+        × (out.new.tokens ≡ out.old.tokens ++ key (codes "id") ∷ json_tokens i)) }
 {
     out.key("id")?;
-    match id {
-        Value::String(text) => out.string(text),
-        Value::Number(text) => put_literal(out, text),
-        _ => out.null(),
+    match id.as_str() {
+        Some(text) => out.string(text),
+        None => put_number_id(out, id),
     }
 }
 
-/// Writes a number with the same text.
+/// Writes an identifier that is no string: a number with the same text, or null.
+fn put_number_id(out: &mut Out, id: &Value<'_>) -> Result<(), AllocError>
+    ensures before { out.new.before ≡ out.old.before }
+    ensures written { OnOk result ((i : Json) × HasNumbers i × IsNumberId (value_view id.now) i
+        × (out.new.tokens ≡ out.old.tokens ++ json_tokens i)) }
+{
+    match id.as_number() {
+        Some(text) => put_literal(out, text),
+        None => out.null(),
+    }
+}
+
+/// Writes a number with the same text, or null if it is no number of JSON.
 fn put_literal(out: &mut Out, text: &str) -> Result<(), AllocError>
     ensures before { out.new.before ≡ out.old.before }
-    ensures written { OnOk result ((t : Token) × (IsNumber text.now → t ≡ number text.now)
-        × (out.new.tokens ≡ out.old.tokens ++ t ∷ [])) }
+    ensures written { OnOk result ((i : Json) × HasNumbers i × IsLiteral text.now i
+        × (out.new.tokens ≡ out.old.tokens ++ json_tokens i)) }
 {
     if is_number(text) {
         out.number(text)
@@ -210,6 +236,7 @@ fn put_literal(out: &mut Out, text: &str) -> Result<(), AllocError>
 pub(crate) fn put_text(out: &mut Out, name: &str, text: &str) -> Result<(), AllocError>
     ensures before { out.new.before ≡ out.old.before }
     ensures written { OnOk result (out.new.tokens ≡ out.old.tokens ++ key name.now ∷ string text.now ∷ []) }
+    ensures members { OnOk result (WritesMembers out.old out.new) }
 {
     out.key(name)?;
     out.string(text)
@@ -219,16 +246,19 @@ pub(crate) fn put_text(out: &mut Out, name: &str, text: &str) -> Result<(), Allo
 pub(crate) fn put_number(out: &mut Out, name: &str, n: usize) -> Result<(), AllocError>
     ensures before { out.new.before ≡ out.old.before }
     ensures written { OnOk result (out.new.tokens ≡ out.old.tokens ++ key name.now ∷ number (decimal n) ∷ []) }
+    ensures members { OnOk result (WritesMembers out.old out.new) }
 {
     out.key(name)?;
     out.u64(n as u64)
 }
 
 /// Writes a member that is true.
-pub(crate) fn put_true(out: &mut Out, key: &str) -> Result<(), AllocError>
-    ensures { OnOk result (Grows out.old out.new) }
+pub(crate) fn put_true(out: &mut Out, name: &str) -> Result<(), AllocError>
+    ensures before { out.new.before ≡ out.old.before }
+    ensures written { OnOk result (out.new.tokens ≡ out.old.tokens ++ key name.now ∷ boolean true ∷ []) }
+    ensures members { OnOk result (WritesMembers out.old out.new) }
 {
-    out.key(key)?;
+    out.key(name)?;
     out.boolean(true)
 }
 
@@ -236,6 +266,7 @@ pub(crate) fn put_true(out: &mut Out, key: &str) -> Result<(), AllocError>
 fn put_position(out: &mut Out, name: &str, position: Position) -> Result<(), AllocError>
     ensures before { OnOk result (out.new.before ≡ out.old.before) }
     ensures written { OnOk result (out.new.tokens ≡ out.old.tokens ++ key name.now ∷ position_tokens position) }
+    ensures members { OnOk result (WritesMembers out.old out.new) }
 {
     out.key(name)?;
     out.begin_object()?;
@@ -248,6 +279,7 @@ fn put_position(out: &mut Out, name: &str, position: Position) -> Result<(), All
 pub(crate) fn put_range(out: &mut Out, name: &str, range: Range) -> Result<(), AllocError>
     ensures before { OnOk result (out.new.before ≡ out.old.before) }
     ensures written { OnOk result (out.new.tokens ≡ out.old.tokens ++ key name.now ∷ range_tokens range) }
+    ensures members { OnOk result (WritesMembers out.old out.new) }
 {
     out.key(name)?;
     out.begin_object()?;
@@ -260,6 +292,7 @@ pub(crate) fn put_range(out: &mut Out, name: &str, range: Range) -> Result<(), A
 pub(crate) fn put_edit(out: &mut Out, range: Range, new: &str) -> Result<(), AllocError>
     ensures before { OnOk result (out.new.before ≡ out.old.before) }
     ensures written { OnOk result (out.new.tokens ≡ out.old.tokens ++ edit_tokens range new.now) }
+    ensures value { OnOk result (WritesValue out.old out.new) }
 {
     out.begin_object()?;
     put_range(out, "range", range)?;

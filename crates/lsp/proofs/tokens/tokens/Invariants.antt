@@ -1,5 +1,10 @@
-use Rattle.std.proofs.Common.{length}
+-- An array is open.
+use Rattle.std.proofs.Common.{◌≡◌, length}
+use Rattle.lsp.specs.Internal.Nesting.{End, Items, Members, nesting}
 use Rattle.lsp.proofs.tokens.tokens.Given as goal
 
 abbrev pub decreases-loop-scanner : goal.decreases-loop-scanner
 decreases-loop-scanner l = length l.scanner.cursor.rest
+
+abbrev pub invariant-loop-scanner : goal.invariant-loop-scanner
+invariant-loop-scanner l = nesting l.out ≡ Items (Members End)

@@ -2,6 +2,7 @@ use Rattle.std.proofs.Common.{◌∷◌, ◌++◌, [], codes, decimal}
 use Rattle.std.proofs.lemmas.Result.{on_ok_weaker}
 use Rattle.json.specs.Token.{begin_object, end_object, key, number}
 use Rattle.lsp.proofs.Growing.{next}
+use Rattle.lsp.proofs.Nesting.{wrote, wrote_last}
 use Rattle.lsp.proofs.write.put_position.Goals as goal
 
 pub returns-clause-written : goal.returns-clause-written
@@ -14,3 +15,14 @@ returns-clause-written c =
     let two = next old _ _ (front ++ begin_object ∷ []) line one c.in_ok-put_number.ensures.written in
     let three = next old _ _ (front ++ begin_object ∷ line) character two c.in_ok-put_number-2.ensures.written in
     on_ok_weaker c.end_object.result (next old _ _ (front ++ begin_object ∷ line ++ character) (end_object ∷ []) three) c.end_object.ensures.ok
+
+pub returns-clause-members : goal.returns-clause-members
+returns-clause-members c =
+    on_ok_weaker c.end_object.result
+    (λ e n is. (
+    let one = wrote _ _ _ _ _ c.in_ok-key.ensures is in
+    let two = wrote _ _ _ _ _ c.in_ok-begin_object.ensures one in
+    let three = c.in_ok-put_number.ensures.members _ two in
+    let four = c.in_ok-put_number-2.ensures.members _ three in
+    e _ four))
+    (wrote_last _ _ _ _ c.end_object.ensures)
