@@ -9,13 +9,14 @@ mod requests;
 mod system;
 
 use crate::command::command;
-use crate::requests::{path_of, query_of, request_of};
-use crate::system::System;
+use crate::requests::{path_of, query_of, replaced_names, request_of};
+use crate::system::{Lock, System};
 use clap::ArgMatches;
 use cli::process::Process;
-use cli::request::run;
-use cli::world::World;
+use cli::request::{Request, run};
+use cli::status::Status;
 use lsp::serve;
+use std::cell::RefCell;
 use std::io::{BufWriter, ErrorKind};
 use std::process::ExitCode;
 use std::{env, io};
@@ -40,8 +41,9 @@ fn main(rt: HostRuntime) -> ExitCode {
 fn run_words(rt: &HostRuntime) -> io::Result<u8> {
     let alloc = rt.alloc();
     let words: Vec<String> = env::args(rt)?.collect(alloc)?;
+    let lock = RefCell::new(None);
     match command(alloc)?.try_get_matches_from(words.as_slice()) {
-        Ok(matches) => run_matches(rt, &matches),
+        Ok(matches) => run_matches(rt, &matches, &lock),
         Err(error) => show(rt, &error),
     }
 }
@@ -59,36 +61,38 @@ fn show(rt: &HostRuntime, error: &clap::Error) -> io::Result<u8> {
 }
 
 /// Does what is asked for, and returns the exit status.
-fn run_matches(rt: &HostRuntime, matches: &ArgMatches<'_>) -> io::Result<u8> {
+fn run_matches(rt: &HostRuntime, matches: &ArgMatches<'_>, lock: &Lock) -> io::Result<u8> {
     if let Some(("lsp", _)) = matches.subcommand() {
         return serve_editor(rt);
     }
-    let mut world = Process {
-        files: System::new(rt),
-        out: Watched::new(Retrying::new(rt.stdout())),
-        err: Watched::new(Retrying::new(rt.stderr())),
-    };
     let path = match path_of(rt, matches)? {
         Ok(path) => path,
-        Err(why) => {
-            world.report_complaint(&why);
-            return Ok(2);
-        }
+        Err(why) => return Ok(refuse(rt, &[b"kdl: ", why.as_bytes(), b"\n"])),
     };
     let query = match query_of(rt, matches)? {
         Ok(query) => query,
-        Err(fault) => {
-            world.report(&fault);
-            return Ok(2);
-        }
+        Err(fault) => return Ok(refuse(rt, &[fault.as_bytes()])),
     };
     match request_of(rt, matches, &path, query.as_ref()) {
-        Ok(request) => Ok(run(rt.alloc(), &request, &mut world).code()),
-        Err(why) => {
-            world.report_complaint(why);
-            Ok(2)
-        }
+        Ok(request) => Ok(run_request(rt, &request, replaced_names(rt, matches)?, lock)),
+        Err(why) => Ok(refuse(rt, &[b"kdl: ", why.as_bytes(), b"\n"])),
     }
+}
+
+/// Reports what is wrong with the command line, in these pieces, and returns the exit status.
+fn refuse(rt: &HostRuntime, pieces: &[&[u8]]) -> u8 {
+    let _ = Watched::new(Retrying::new(rt.stderr())).write_line(pieces);
+    Status::Usage.code()
+}
+
+/// Does what is asked for with files, of which those with these names may be replaced, and returns the exit status.
+fn run_request(rt: &HostRuntime, request: &Request<'_>, replaced: Vec<String>, lock: &Lock) -> u8 {
+    let mut world = Process {
+        files: System::new(rt, replaced, lock),
+        out: Watched::new(Retrying::new(rt.stdout())),
+        err: Watched::new(Retrying::new(rt.stderr())),
+    };
+    run(rt.alloc(), request, &mut world).code()
 }
 
 /// Serves an editor over the standard input and output, and returns the exit status.

@@ -12,6 +12,26 @@ use std::alloc::AllocError;
 use std::env;
 use std::io::IsTerminal;
 
+/// Returns the names of the files that the words say are to be replaced.
+pub fn replaced_names(
+    rt: &HostRuntime,
+    matches: &ArgMatches<'_>,
+) -> Result<Vec<String>, AllocError> {
+    let mut names = Vec::new(rt.alloc());
+    let Some((_, matches)) = matches.subcommand() else {
+        return Ok(names);
+    };
+    if !matches.get_flag("write") {
+        return Ok(names);
+    }
+    if let Some(files) = matches.get_strs("FILE") {
+        for name in files {
+            names.push(String::from_str(rt.alloc(), name)?)?;
+        }
+    }
+    Ok(names)
+}
+
 /// Returns the path among the words, or what is wrong with it. Without one, returns that of the document. Beside a query, the
 /// path is that of the entry that the words name.
 pub fn path_of(
